@@ -1,0 +1,27 @@
+-- What making and changing a value gives: none where that must be refused.
+use Rattle.std.specs.Prelude.{ℕ, Bool, not, ◌&&◌, List, [], ◌++◌, Option, Some, option_map, nat_eq, if◌then◌else◌}
+use Rattle.compact_repr.specs.Text.{size}
+use Rattle.compact_repr.specs.Value.{PlacedText, placed}
+use Rattle.compact_repr.specs.Capacity.{Growth, fresh, kept, room, room_asks}
+
+-- a new value with the text t
+abbrev pub made : Growth → List ℕ → Option PlacedText
+made g t = option_map (placed t) (fresh g t)
+
+-- v with s joined at its end; an empty s changes nothing, even the place of a static value
+abbrev pub pushed : Growth → PlacedText → List ℕ → Option PlacedText
+pushed g v s =
+    if nat_eq (size s) 0 then Some v
+    else option_map (placed (v.text ++ s)) (room g v (size s))
+
+-- `pushed` asks for a heap buffer
+abbrev pub push_asks : PlacedText → List ℕ → Bool
+push_asks v s = not (nat_eq (size s) 0) && room_asks v (size s)
+
+-- v with no text, in its place
+abbrev pub cleared : PlacedText → PlacedText
+cleared v = placed [] (kept v [])
+
+-- v with room for n more bytes
+abbrev pub reserved : Growth → PlacedText → ℕ → Option PlacedText
+reserved g v n = option_map (placed v.text) (room g v n)

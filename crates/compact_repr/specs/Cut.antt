@@ -1,0 +1,27 @@
+-- Where a text is cut: between two characters, at a position that is counted in bytes of UTF-8.
+use Rattle.std.specs.Prelude.{◌≡◌, ℕ, ◌-◌, List, [], ◌∷◌, ◌++◌, if◌then◌else◌, nat_le}
+use Rattle.std.specs.Char.{len_utf8}
+use Rattle.compact_repr.specs.Text.{size}
+
+-- t is cut at p into a and b
+pub record IsCut (t : List ℕ) (p : ℕ) (a b : List ℕ) : Type 0 where
+  pub parts : t ≡ a ++ b
+  pub position : size a ≡ p
+
+-- t can be cut at p
+abbrev pub IsBoundary : List ℕ → ℕ → Type 0
+IsBoundary t p = (a : List ℕ) × (b : List ℕ) × IsCut t p a b
+
+-- the characters of t within its first p bytes
+abbrev pub before : List ℕ → ℕ → List ℕ
+before [] p = []
+before (c ∷ cs) p = if nat_le (len_utf8 c) p then c ∷ before cs (p - len_utf8 c) else []
+
+-- the characters of t after those
+abbrev pub after : List ℕ → ℕ → List ℕ
+after [] p = []
+after (c ∷ cs) p = if nat_le (len_utf8 c) p then after cs (p - len_utf8 c) else c ∷ cs
+
+-- t with what stands from one position to another replaced by s
+abbrev pub spliced : List ℕ → ℕ → ℕ → List ℕ → List ℕ
+spliced t start end s = before t start ++ s ++ after t end

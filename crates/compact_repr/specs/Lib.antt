@@ -1,0 +1,7 @@
+pub mod Text
+pub mod Cut
+pub mod Value
+pub mod Capacity
+pub mod Change
+pub mod HeapText
+pub mod Stored

@@ -1,0 +1,42 @@
+-- A value is a text with a place and a capacity.
+use Rattle.std.specs.Prelude.{◌≡◌, ℕ, ◌≤◌, Bool, true, false, List}
+use Rattle.compact_repr.specs.Text.{size, IsText}
+
+-- where the bytes are: in the value itself, in a buffer on the heap, or in the program
+pub data Place : Type 0 where
+  inline : Place
+  heap : Place
+  static : Place
+
+abbrev pub is_heap : Place → Bool
+is_heap inline = false
+is_heap heap = true
+is_heap static = false
+
+abbrev pub is_static : Place → Bool
+is_static inline = false
+is_static heap = false
+is_static static = true
+
+-- a place with how many bytes it has room for
+pub record Placement : Type 0 where
+  pub place : Place
+  pub capacity : ℕ
+
+pub record PlacedText : Type 0 where
+  pub text : List ℕ
+  pub placement : Placement
+
+abbrev pub placed : List ℕ → Placement → PlacedText
+placed t p = record { text = t; placement = p }
+
+-- a place with a capacity may hold so many bytes
+abbrev pub Holds : Place → ℕ → ℕ → Type 0
+Holds inline capacity bytes = (capacity ≡ 24) × (bytes ≤ 24)
+Holds heap capacity bytes = bytes ≤ capacity
+Holds static capacity bytes = capacity ≡ bytes
+
+-- what is true of every value: an inline one has capacity 24, a static one just its size
+pub record IsSound (v : PlacedText) : Type 0 where
+  pub text : IsText v.text
+  pub fits : Holds v.placement.place v.placement.capacity (size v.text)

@@ -1,0 +1,116 @@
+//! A text in a vector of bytes on the heap, beside a capacity that the vector has reserved.
+ghost use Rattle.std.specs.Prelude.{◌≡◌, ◌+◌, ◌≤◌, ◌<◌, ◌^◌, [], ◌++◌, length, IfOk, OnOk, OnErr, IsTrue, ◌↔◌};
+ghost use Rattle.std.specs.Vec.{vec_len, vec_capacity};
+ghost use Rattle.compact_repr.specs.Text.{size, utf8, text_of, IsText};
+
+use std::alloc::{AllocError, Global};
+use std::marker::Model;
+
+/// The stated capacity is at most what the vector has reserved, since a vector may be given more than it asked for.
+#[derive(Drop)]
+pub struct HeapBuffer {
+    bytes: Vec<u8>,
+    capacity: usize,
+}
+
+impl Model for HeapBuffer {
+    ghost use Rattle.std.specs.Prelude.{◌≤◌, length};
+    ghost use Rattle.std.specs.Str.{IsUtf8};
+    ghost use Rattle.std.specs.Vec.{vec_capacity};
+    ghost use Rattle.compact_repr.specs.Text.{text_of};
+    ghost use Rattle.compact_repr.specs.HeapText.{HeapText};
+
+    ghost Value = { HeapText };
+
+    ghost view = { λ b. record { text = text_of b.bytes.items; capacity = b.capacity } };
+
+    ghost invariant = { λ b. IsUtf8 b.bytes.items × (length b.bytes.items ≤ b.capacity) × (b.capacity ≤ vec_capacity b.bytes) };
+}
+
+impl HeapBuffer {
+    /// The empty text with room for `capacity` bytes.
+    pub fn with_capacity(alloc: Global, capacity: usize) -> Result<Self, AllocError>
+        ensures { IfOk result (λ b. b ≡ record { text = []; capacity = capacity }) }
+    {
+        Ok(HeapBuffer {
+            bytes: Vec::with_capacity(alloc, capacity)?,
+            capacity,
+        })
+    }
+
+    /// The length in bytes.
+    #[inline]
+    pub fn len(&self) -> usize
+        ensures value { result ≡ size self.now.text }
+        ensures fits { size self.now.text ≤ self.now.capacity }
+        ensures small { result < 2 ^ 63 }
+        ensures text { IsText self.now.text }
+    {
+        self.bytes.len()
+    }
+
+    /// How many bytes have room.
+    #[inline]
+    pub fn capacity(&self) -> usize
+        ensures { result ≡ self.now.capacity }
+    {
+        self.capacity
+    }
+
+    /// Whether `more` bytes fit after the text.
+    #[inline]
+    pub fn has_room(&self, more: usize) -> bool
+        ensures { IsTrue result ↔ (size self.now.text + more ≤ self.now.capacity) }
+    {
+        more <= self.capacity - self.bytes.len()
+    }
+
+    /// The text.
+    #[inline]
+    pub fn as_str(&self) -> &str
+        ensures bytes { result.now ≡ utf8 self.now.text }
+        ensures text { text_of result.now ≡ self.now.text }
+    {
+        unsafe { std::str::from_utf8_unchecked(self.bytes.as_slice()) }
+    }
+
+    /// Makes room for `capacity` bytes in all. An error changes nothing.
+    pub fn grow(&mut self, capacity: usize) -> Result<(), AllocError>
+        requires { self.old.capacity ≤ capacity }
+        ensures ok { OnOk result (self.new ≡ record { text = self.old.text; capacity = capacity }) }
+        ensures err { OnErr result (self.new ≡ self.old) }
+    {
+        self.bytes.reserve_exact(capacity - self.bytes.len())?;
+        self.capacity = capacity;
+        Ok(())
+    }
+
+    /// Appends `text`, which fits, and takes no memory.
+    #[inline]
+    pub fn push_str(&mut self, text: &str)
+        requires { size self.old.text + length text.now ≤ self.old.capacity }
+        ensures { self.new ≡ record { text = self.old.text ++ text_of text.now; capacity = self.old.capacity } }
+    {
+        append(&mut self.bytes, text.as_bytes());
+    }
+
+    /// Leaves the empty text, with the same capacity.
+    #[inline]
+    pub fn clear(&mut self)
+        ensures { self.new ≡ record { text = []; capacity = self.old.capacity } }
+    {
+        self.bytes.clear();
+    }
+}
+
+/// Appends `source`, for which the vector has room.
+#[inline]
+fn append(bytes: &mut Vec<u8>, source: &[u8])
+    requires { vec_len bytes.old + length source.now ≤ vec_capacity bytes.old }
+    ensures items { bytes.new.items ≡ bytes.old.items ++ source.now }
+    ensures capacity { vec_capacity bytes.old ≤ vec_capacity bytes.new }
+{
+    if bytes.extend_from_slice(source).is_err() {
+        unreachable!();
+    }
+}

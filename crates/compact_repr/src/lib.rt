@@ -1,0 +1,17 @@
+//! The representation of a compact string: a text with a place and a capacity.
+//!
+//! A text of at most 24 bytes stands in the value itself, a longer one in a buffer on the heap, and a text of the
+//! program is borrowed for ever. This crate makes such a representation, reads it, makes room in it and changes its
+//! text; what a contract sees of it is a `PlacedText` of `specs/Value.antt`.
+#![tactic(auto, using(crate::proofs::TextFacts::text_facts))]
+
+mod buffer;
+mod error;
+mod heap;
+mod inline;
+mod policy;
+mod repr;
+
+pub use error::ReserveError;
+pub use policy::{Policy, Standard};
+pub use repr::{GREATEST_CAPACITY, INLINE_CAPACITY, Repr};

@@ -1,0 +1,55 @@
+//! How the capacity of a heap buffer grows.
+ghost use Rattle.std.specs.Prelude.{◌≡◌, ℕ};
+ghost use Rattle.compact_repr.specs.Capacity.{Growth, IsLawful};
+
+/// The least capacity of a heap buffer, and the ratio of a growth, `NUM / DEN`.
+///
+/// Each implementation proves the law: `MIN_HEAP` is from 25 to 2^56 - 2, `DEN` is at least 1 and below `NUM`, and
+/// `NUM + DEN` is at most 255.
+pub trait Policy {
+    /// The least capacity of a heap buffer, in bytes.
+    const MIN_HEAP: usize;
+
+    /// The numerator of the growth.
+    const NUM: usize;
+
+    /// The denominator of the growth.
+    const DEN: usize;
+
+    ghost MIN_HEAP: { ℕ };
+
+    ghost NUM: { ℕ };
+
+    ghost DEN: { ℕ };
+
+    ghost growth: { Growth };
+
+    ghost is_growth: { growth ≡ record { least = MIN_HEAP; numerator = NUM; denominator = DEN } };
+
+    ghost lawful: { IsLawful growth };
+}
+
+/// The policy of `CompactString`: at least 32 bytes, and half as much again at each growth.
+pub struct Standard;
+
+impl Policy for Standard {
+    ghost use Rattle.std.proofs.Common.{refl, lit≤, lit<};
+
+    const MIN_HEAP: usize = 32;
+
+    const NUM: usize = 3;
+
+    const DEN: usize = 2;
+
+    ghost MIN_HEAP = { 32 };
+
+    ghost NUM = { 3 };
+
+    ghost DEN = { 2 };
+
+    ghost growth = { record { least = 32; numerator = 3; denominator = 2 } };
+
+    ghost is_growth = { refl };
+
+    ghost lawful = { record { above_inline = lit≤ tt; below_limit = lit≤ tt; divides = lit≤ tt; grows = lit< tt; small = lit≤ tt } };
+}
