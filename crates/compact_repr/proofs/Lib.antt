@@ -1,3 +1,4 @@
 pub mod Texts
 pub mod TextFacts
 pub mod Examples
+pub mod Strings

@@ -1,7 +1,7 @@
 -- Place and capacity by a text and a growth policy, and when a heap buffer is asked for.
-use Rattle.std.specs.Prelude.{ℕ, ◌+◌, ◌*◌, ◌/◌, ◌<◌, ◌≤◌, Bool, ◌&&◌, not, List, Option, Some, None, max, nat_le, if◌then◌else◌}
+use Rattle.std.specs.Prelude.{ℕ, ◌+◌, ◌*◌, ◌/◌, ◌<◌, ◌≤◌, Bool, ◌&&◌, not, List, Option, Some, None, max, min, nat_le, nat_lt, if◌then◌else◌}
 use Rattle.compact_repr.specs.Text.{size}
-use Rattle.compact_repr.specs.Value.{Place, inline, heap, static, is_static, Placement, PlacedText}
+use Rattle.compact_repr.specs.Value.{inline, heap, static, is_heap, is_static, Placement, PlacedText}
 
 -- how a heap capacity grows: the least one, and the ratio of a growth
 pub record Growth : Type 0 where
@@ -81,3 +81,34 @@ own_asks v = is_static v.placement.place && held_asks (size v.text)
 
 abbrev pub room_asks : PlacedText → ℕ → Bool
 room_asks v n = not (has_room v n) && held_asks (size v.text + n)
+
+-- a text of the program: in the value itself where it fits, else borrowed for ever
+abbrev pub lasting : List ℕ → Placement
+lasting t = if nat_le (size t) 24 then inlined else borrowed t
+
+-- t taken over with a heap buffer of `capacity` bytes: in the value itself where it fits
+abbrev pub taken_over : List ℕ → ℕ → Placement
+taken_over t capacity = if nat_le (size t) 24 then inlined else on_heap capacity
+
+-- v's placement as a copy has it: a heap buffer is made anew
+abbrev pub copied : Growth → PlacedText → Option Placement
+copied g v = if is_heap v.placement.place then fresh g v.text else Some v.placement
+
+abbrev pub copy_asks : PlacedText → Bool
+copy_asks v = is_heap v.placement.place && held_asks (size v.text)
+
+-- how many bytes v keeps room for when it is shrunk to n
+abbrev pub shrink_goal : PlacedText → ℕ → ℕ
+shrink_goal v n = max (size v.text) n
+
+-- a shrink to n makes a new heap buffer: the goal does not fit inline, and its capacity is below the present one
+abbrev pub shrink_asks : Growth → PlacedText → ℕ → Bool
+shrink_asks g v n =
+    is_heap v.placement.place && held_asks (shrink_goal v n) && nat_lt (max g.least (shrink_goal v n)) v.placement.capacity
+
+-- v's placement shrunk to n, where memory is found: never a greater capacity, and only a heap buffer changes
+abbrev pub shrunk : Growth → PlacedText → ℕ → Placement
+shrunk g v n =
+    if not (is_heap v.placement.place) then v.placement
+    else if nat_le (shrink_goal v n) 24 then inlined
+    else on_heap (min (max g.least (shrink_goal v n)) v.placement.capacity)

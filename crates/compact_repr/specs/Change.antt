@@ -1,8 +1,8 @@
 -- What making and changing a value gives: none where that must be refused.
-use Rattle.std.specs.Prelude.{ℕ, Bool, not, ◌&&◌, List, [], ◌++◌, Option, Some, option_map, nat_eq, if◌then◌else◌}
+use Rattle.std.specs.Prelude.{◌≡◌, ◌⊎◌, ℕ, Bool, not, ◌&&◌, IsTrue, List, [], ◌++◌, Option, Some, option_map, nat_eq, if◌then◌else◌}
 use Rattle.compact_repr.specs.Text.{size}
 use Rattle.compact_repr.specs.Value.{PlacedText, placed}
-use Rattle.compact_repr.specs.Capacity.{Growth, fresh, kept, room, room_asks}
+use Rattle.compact_repr.specs.Capacity.{Growth, fresh, held, owned, kept, room, room_asks, copied, shrunk, shrink_asks}
 
 -- a new value with the text t
 abbrev pub made : Growth → List ℕ → Option PlacedText
@@ -25,3 +25,19 @@ cleared v = placed [] (kept v [])
 -- v with room for n more bytes
 abbrev pub reserved : Growth → PlacedText → ℕ → Option PlacedText
 reserved g v n = option_map (placed v.text) (room g v n)
+
+-- an empty value with room for c bytes
+abbrev pub with_room : Growth → ℕ → Option PlacedText
+with_room g c = option_map (placed []) (held g c)
+
+-- v with a text of its own
+abbrev pub made_owned : Growth → PlacedText → Option PlacedText
+made_owned g v = option_map (placed v.text) (owned g v)
+
+-- a copy of v
+abbrev pub copy_of : Growth → PlacedText → Option PlacedText
+copy_of g v = option_map (placed v.text) (copied g v)
+
+-- v after a shrink to n: shrunk, or as it was where the new buffer that this takes was refused
+abbrev pub Shrinks : Growth → PlacedText → ℕ → PlacedText → Type 0
+Shrinks g v n w = (w ≡ placed v.text (shrunk g v n)) ⊎ ((w ≡ v) × IsTrue (shrink_asks g v n))

@@ -1,5 +1,5 @@
 -- The value that each kind of buffer stands for.
-use Rattle.std.specs.Prelude.{ℕ, ◌≤◌}
+use Rattle.std.specs.Prelude.{◌≤◌}
 use Rattle.std.specs.Str.{IsUtf8}
 use Rattle.compact_repr.specs.declared.buffer.Buffer.{Buffer}
 use Rattle.compact_repr.specs.declared.buffer.Buffer.TheVariants.{Inline, Heap, Static}

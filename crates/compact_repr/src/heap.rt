@@ -1,6 +1,7 @@
 //! A text in a vector of bytes on the heap, beside a capacity that the vector has reserved.
 ghost use Rattle.std.specs.Prelude.{◌≡◌, ◌+◌, ◌≤◌, ◌<◌, ◌^◌, [], ◌++◌, length, IfOk, OnOk, OnErr, IsTrue, ◌↔◌};
 ghost use Rattle.std.specs.Vec.{vec_len, vec_capacity};
+ghost use Rattle.std.specs.String.{string_bytes, string_capacity};
 ghost use Rattle.compact_repr.specs.Text.{size, utf8, text_of, IsText};
 
 use std::alloc::{AllocError, Global};
@@ -36,6 +37,26 @@ impl HeapBuffer {
             bytes: Vec::with_capacity(alloc, capacity)?,
             capacity,
         })
+    }
+
+    /// Takes `text` over, with its capacity.
+    pub fn from_string(text: String) -> Self
+        ensures value { result ≡ record { text = text_of (string_bytes text); capacity = string_capacity text } }
+        ensures fits { size result.text ≤ result.capacity }
+    {
+        let bytes = text.into_bytes();
+        let capacity = bytes.capacity();
+        HeapBuffer { bytes, capacity }
+    }
+
+    /// The same text in a new buffer with room for `capacity` bytes, at least as many as the text has.
+    pub fn copy_with_capacity(&self, alloc: Global, capacity: usize) -> Result<Self, AllocError>
+        requires { size self.now.text ≤ capacity }
+        ensures { IfOk result (λ b. b ≡ record { text = self.now.text; capacity = capacity }) }
+    {
+        let mut copy = HeapBuffer::with_capacity(alloc, capacity)?;
+        copy.push_str(self.as_str());
+        Ok(copy)
     }
 
     /// The length in bytes.

@@ -49,6 +49,17 @@ impl InlineBuffer {
         buffer
     }
 
+    /// The same text.
+    #[inline]
+    pub fn duplicate(&self) -> Self
+        ensures { result ≡ self.now }
+    {
+        InlineBuffer {
+            bytes: self.bytes,
+            len: self.len,
+        }
+    }
+
     /// The length in bytes.
     #[inline]
     pub fn len(&self) -> usize

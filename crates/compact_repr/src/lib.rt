@@ -14,4 +14,6 @@ mod repr;
 
 pub use error::ReserveError;
 pub use policy::{Policy, Standard};
-pub use repr::{GREATEST_CAPACITY, INLINE_CAPACITY, Repr};
+pub use inline::INLINE_CAPACITY;
+pub use repr::Repr;
+pub use repr::room::GREATEST_CAPACITY;

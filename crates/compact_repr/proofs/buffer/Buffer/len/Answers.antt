@@ -1,10 +1,8 @@
-use Rattle.std.proofs.Common.{◌≡◌, ap, refl, subst}
+use Rattle.std.proofs.Common.{refl, subst}
 use Rattle.std.specs.Str.{IsUtf8}
 use Rattle.std.proofs.lemmas.Str.{scalars-chars}
-use Rattle.compact_repr.specs.Value.{IsSound}
-use Rattle.compact_repr.specs.Stored.{value_of, IsStored}
+use Rattle.compact_repr.specs.Stored.{IsStored}
 use Rattle.compact_repr.specs.declared.buffer.Buffer.{Buffer}
-use Rattle.compact_repr.specs.declared.buffer.Buffer.TheVariants.{Static}
 use Rattle.compact_repr.proofs.buffer.Buffer.len.Goals as goal
 
 pub returns-in-Static-clause-sound : goal.returns-in-Static-clause-sound

@@ -1,5 +1,5 @@
 -- The stated length is that of the bytes, and so the size of the text that they spell.
-use Rattle.std.proofs.Common.{◌≡◌, sym, arith, subst, List, ℕ}
+use Rattle.std.proofs.Common.{sym, arith, subst, List, ℕ}
 use Rattle.std.proofs.lemmas.Str.{scalars-chars}
 use Rattle.compact_repr.specs.Text.{IsText}
 use Rattle.compact_repr.proofs.Texts.{size-front}

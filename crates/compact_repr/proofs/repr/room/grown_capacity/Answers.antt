@@ -3,7 +3,7 @@ use Rattle.std.proofs.Common.{◌≡◌, ℕ, ◌*◌, ◌/◌, max, sym, ap, �
 use Rattle.std.proofs.Math.Nat.{mul_comm}
 use Rattle.std.proofs.lemmas.Bool.{cond-true, le-leb}
 use Rattle.compact_repr.specs.Capacity.{Growth}
-use Rattle.compact_repr.proofs.repr.grown_capacity.Goals as goal
+use Rattle.compact_repr.proofs.repr.room.grown_capacity.Goals as goal
 
 pub returns : goal.returns
 returns g c =

@@ -1,0 +1,101 @@
+//! How a representation is made.
+ghost use Rattle.std.specs.Prelude.{◌≡◌, ◌≤◌, length, nat_eq, if◌then◌else◌, [], Some, IfOk, OnErr, IsOk, IsTrue, string_bytes};
+ghost use Rattle.std.specs.String.{string_capacity};
+ghost use Rattle.compact_repr.specs.Text.{text_of};
+ghost use Rattle.compact_repr.specs.Value.{placed};
+ghost use Rattle.compact_repr.specs.Capacity.{inlined, on_heap, held_asks, lasting, taken_over, copy_asks};
+ghost use Rattle.compact_repr.specs.Change.{made, with_room, copy_of};
+
+use crate::buffer::Buffer;
+use crate::error::ReserveError;
+use crate::heap::HeapBuffer;
+use crate::inline::{INLINE_CAPACITY, InlineBuffer};
+use crate::policy::Policy;
+use crate::repr::Repr;
+use crate::repr::room::GREATEST_CAPACITY;
+use std::alloc::Global;
+
+impl<P: Policy> Repr<P> {
+    /// The empty text, inline.
+    #[inline]
+    pub fn empty(alloc: Global) -> Self
+        ensures { result ≡ placed [] inlined }
+    {
+        Self::of(alloc, Buffer::Inline(InlineBuffer::empty()))
+    }
+
+    /// A copy of `text`: inline up to 24 bytes, which is never refused, else in a new heap buffer.
+    #[inline]
+    pub fn new(alloc: Global, text: &str) -> Result<Self, ReserveError>
+        ensures ok { IfOk result (λ r. made P.growth (text_of text.now) ≡ Some r) }
+        ensures err { OnErr result (IsTrue (held_asks (length text.now))) }
+    {
+        if text.len() <= INLINE_CAPACITY {
+            let inline = InlineBuffer::new(text);
+            return Ok(Self::of(alloc, Buffer::Inline(inline)));
+        }
+        let mut heap = Self::new_heap(alloc, text.len())?;
+        heap.push_str(text);
+        Ok(Self::of(alloc, Buffer::Heap(heap)))
+    }
+
+    /// A text of the program, which is not copied if it is longer than 24 bytes.
+    #[inline]
+    pub fn from_static(alloc: Global, text: &'static str) -> Self
+        ensures { let t = text_of text.now in result ≡ placed t (lasting t) }
+    {
+        if text.len() <= INLINE_CAPACITY {
+            let inline = InlineBuffer::new(text);
+            return Self::of(alloc, Buffer::Inline(inline));
+        }
+        Self::of(alloc, Buffer::Static(text))
+    }
+
+    /// The empty text with room for `capacity` bytes: inline up to 24, which is never refused, else on the heap.
+    pub fn with_capacity(alloc: Global, capacity: usize) -> Result<Self, ReserveError>
+        ensures ok { IfOk result (λ r. with_room P.growth capacity ≡ Some r) }
+        ensures err { OnErr result (IsTrue (held_asks capacity)) }
+    {
+        if capacity <= INLINE_CAPACITY {
+            return Ok(Self::empty(alloc));
+        }
+        let heap = Self::new_heap(alloc, capacity)?;
+        Ok(Self::of(alloc, Buffer::Heap(heap)))
+    }
+
+    /// Takes `text` over: up to 24 bytes inline, else with its buffer, of which nothing is copied.
+    pub fn from_string(text: String) -> Self
+        ensures { let t = text_of (string_bytes text) in result ≡ placed t (taken_over t (string_capacity text)) }
+    {
+        let alloc = *text.allocator();
+        if text.len() <= INLINE_CAPACITY {
+            let inline = InlineBuffer::new(text.as_str());
+            return Self::of(alloc, Buffer::Inline(inline));
+        }
+        Self::of(alloc, Buffer::Heap(HeapBuffer::from_string(text)))
+    }
+
+    /// Takes `text` over with its buffer, of which nothing is copied. One with no buffer is inline and empty.
+    pub fn from_string_buffer(text: String) -> Self
+        ensures { let t = text_of (string_bytes text) in result ≡ placed t (if nat_eq (string_capacity text) 0 then inlined else on_heap (string_capacity text)) }
+    {
+        let alloc = *text.allocator();
+        if text.capacity() == 0 {
+            return Self::empty(alloc);
+        }
+        Self::of(alloc, Buffer::Heap(HeapBuffer::from_string(text)))
+    }
+
+    /// A copy: of a heap text with a buffer made anew, else as it stands, which is never refused.
+    #[inline]
+    pub fn try_clone(&self) -> Result<Self, ReserveError>
+        ensures ok { IfOk result (λ r. copy_of P.growth self.now ≡ Some r) }
+        ensures err { OnErr result (IsTrue (copy_asks self.now)) }
+    {
+        match &self.buffer {
+            Buffer::Inline(inline) => Ok(Self::of(self.alloc, Buffer::Inline(inline.duplicate()))),
+            Buffer::Heap(heap) => Self::new(self.alloc, heap.as_str()),
+            Buffer::Static(text) => Ok(Self::of(self.alloc, Buffer::Static(text))),
+        }
+    }
+}
