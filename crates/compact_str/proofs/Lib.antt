@@ -1,0 +1,2 @@
+pub mod TextFacts
+pub mod ChangeFacts

@@ -1,0 +1,14 @@
+//! A small-string type: texts of at most 24 bytes in the value itself, longer ones on the heap, and texts of the
+//! program borrowed for ever.
+//!
+//! `CompactString` stands where a `String` would. It takes no memory for short texts, answers a `Result` where memory
+//! may be refused, and leaves text, place and capacity as they were where it is. A contract sees a value as a text, a
+//! list of characters, with a place and a capacity: the `PlacedText` of `specs/`.
+#![tactic(auto, using(crate::proofs::TextFacts::text_facts))]
+
+mod refused;
+mod string;
+
+pub use compact_repr::{GREATEST_CAPACITY, INLINE_CAPACITY, Policy, ReserveError, Standard};
+pub use refused::Refused;
+pub use string::{CompactString, PolicyString};

@@ -1,0 +1,31 @@
+//! The string type.
+
+mod clones;
+mod edit;
+mod look;
+mod make;
+mod room;
+
+use compact_repr::{Policy, Repr, Standard};
+use std::marker::Model;
+
+/// A text with a place and a capacity, whose heap buffers grow by the policy `P`.
+///
+/// A contract sees the text, as a list of characters, the place (inline, heap or static) and the capacity in bytes.
+/// An inline value has capacity 24 and at most 24 bytes, a static value has just the capacity of its text, and a heap
+/// value has at most its capacity.
+#[derive(Drop)]
+pub struct PolicyString<P: Policy> {
+    repr: Repr<P>,
+}
+
+/// The string type: heap buffers of at least 32 bytes that grow by half.
+pub type CompactString = PolicyString<Standard>;
+
+impl<P: Policy> Model for PolicyString<P> {
+    ghost use Rattle.compact_repr.specs.Value.{PlacedText};
+
+    ghost Value = { PlacedText };
+
+    ghost view = { λ s. s.repr };
+}

@@ -1,0 +1,49 @@
+//! How a value is copied.
+ghost use Rattle.std.specs.Prelude.{◌≡◌, ◌≤◌, Some, OnOk, OnErr, IsOk, IsTrue, not};
+ghost use Rattle.compact_repr.specs.Text.{size};
+ghost use Rattle.compact_repr.specs.Value.{is_heap, is_static};
+ghost use Rattle.compact_repr.specs.Capacity.{copy_asks};
+ghost use Rattle.compact_repr.specs.Change.{copy_of};
+ghost use Rattle.compact_str.specs.Clones.{cloned_from, clone_from_asks};
+
+use crate::string::PolicyString;
+use compact_repr::{Policy, ReserveError};
+use std::alloc::AllocError;
+
+impl<P: Policy> Clone for PolicyString<P> {
+    ghost is_clone = { λ v w. copy_of P.growth v ≡ Some w };
+
+    ghost is_infallible = { λ v. IsTrue (not (copy_asks v)) };
+
+    /// A copy with the same text: of an inline or static value as it stands, which takes no memory, and of a heap
+    /// value as `new` makes it.
+    #[inline]
+    fn clone(&self) -> Result<Self, AllocError> {
+        match self.repr.try_clone() {
+            Ok(repr) => Ok(PolicyString { repr }),
+            Err(ReserveError) => Err(AllocError),
+        }
+    }
+}
+
+impl<P: Policy> PolicyString<P> {
+    /// Makes this value a clone of `source`: of an inline or static one with its place and capacity. The text of a
+    /// heap one goes where this value's text stood, if it has that capacity, else as `new` places it.
+    ///
+    /// An error says that no memory was found, or that the capacity would be past 2^56 - 2; then nothing has changed.
+    pub fn clone_from(&mut self, source: &Self) -> Result<(), ReserveError>
+        ensures ok { OnOk result (cloned_from P.growth self.old source.now ≡ Some self.new) }
+        ensures text { OnOk result (self.new.text ≡ source.now.text) }
+        ensures err { OnErr result ((self.new ≡ self.old) × IsTrue (clone_from_asks self.old source.now)) }
+    {
+        let len = source.len();
+        let stays = self.as_static_str().is_none() && len <= self.capacity();
+        if source.is_heap_allocated() && (len == 0 || stays) {
+            self.clear();
+            return self.push_str(source.as_str());
+        }
+        let copy = source.repr.try_clone()?;
+        self.repr = copy;
+        Ok(())
+    }
+}

@@ -1,0 +1,82 @@
+//! How a value is looked at.
+ghost use Rattle.std.specs.Prelude.{◌≡◌, ◌<◌, ◌^◌, ◌↔◌, [], IsTrue, IsSome, IfSome};
+ghost use Rattle.compact_repr.specs.Text.{size, utf8, text_of};
+ghost use Rattle.compact_repr.specs.Value.{is_heap, is_static, IsSound};
+
+use crate::string::PolicyString;
+use compact_repr::Policy;
+
+impl<P: Policy> PolicyString<P> {
+    /// The text.
+    ///
+    /// `CompactString::new(alloc, "abc")?.as_str()` is `"abc"`.
+    #[inline]
+    pub fn as_str(&self) -> &str
+        ensures bytes { result.now ≡ utf8 self.now.text }
+        ensures text { text_of result.now ≡ self.now.text }
+    {
+        self.repr.as_str()
+    }
+
+    /// The bytes of the text in UTF-8.
+    ///
+    /// Of `"é"` they are C3 and A9.
+    #[inline]
+    pub fn as_bytes(&self) -> &[u8]
+        ensures bytes { result.now ≡ utf8 self.now.text }
+        ensures text { text_of result.now ≡ self.now.text }
+    {
+        self.repr.as_str().as_bytes()
+    }
+
+    /// The text of a static value, which outlives the value; `None` of every other.
+    ///
+    /// `CompactString::const_new(alloc, text).as_static_str()` is `Some(text)` for a `text` of more than 24 bytes.
+    #[inline]
+    pub fn as_static_str(&self) -> Option<&'static str>
+        ensures place { IsSome result ↔ IsTrue (is_static self.now.placement.place) }
+        ensures bytes { IfSome result (λ s. s.now ≡ utf8 self.now.text) }
+        ensures text { IfSome result (λ s. text_of s.now ≡ self.now.text) }
+    {
+        self.repr.as_static_str()
+    }
+
+    /// The length of the text in bytes.
+    ///
+    /// Of `"é"` it is 2. Every value is sound: its text fits its place.
+    #[inline]
+    pub fn len(&self) -> usize
+        ensures value { result ≡ size self.now.text }
+        ensures small { result < 2 ^ 63 }
+        ensures sound { IsSound self.now }
+    {
+        self.repr.len()
+    }
+
+    /// Whether the text has no character.
+    #[inline]
+    #[tactic(auto, using(crate::proofs::ChangeFacts::change_facts))]
+    pub fn is_empty(&self) -> bool
+        ensures { IsTrue result ↔ (self.now.text ≡ []) }
+    {
+        self.repr.len() == 0
+    }
+
+    /// How many bytes have room with no new buffer: 24 of an inline value, the length of a static one.
+    #[inline]
+    pub fn capacity(&self) -> usize
+        ensures { result ≡ self.now.placement.capacity }
+    {
+        self.repr.capacity()
+    }
+
+    /// Whether the text stands in a buffer on the heap.
+    ///
+    /// It does of a new text of 25 bytes, and does not of one of 24.
+    #[inline]
+    pub fn is_heap_allocated(&self) -> bool
+        ensures { result ≡ is_heap self.now.placement.place }
+    {
+        self.repr.is_heap_allocated()
+    }
+}

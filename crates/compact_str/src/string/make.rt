@@ -1,0 +1,158 @@
+//! How a value is made.
+ghost use Rattle.std.specs.Prelude.{◌≡◌, ◌≤◌, [], length, nat_eq, if◌then◌else◌, Some, IfOk, IfErr, OnErr, IsOk, IsTrue, string_bytes};
+ghost use Rattle.std.specs.String.{string_capacity};
+ghost use Rattle.std.specs.Box.{boxed_str_bytes};
+ghost use Rattle.std.specs.Cow.{cow_str_bytes};
+ghost use Rattle.compact_repr.specs.Text.{text_of};
+ghost use Rattle.compact_repr.specs.Value.{placed};
+ghost use Rattle.compact_repr.specs.Capacity.{inlined, on_heap, held_asks, lasting, taken_over};
+ghost use Rattle.compact_repr.specs.Change.{made, with_room};
+ghost use Rattle.compact_str.specs.Room.{HasRoomFor};
+ghost use Rattle.compact_str.specs.Cows.{TakesCow};
+
+use crate::refused::Refused;
+use crate::string::PolicyString;
+use compact_repr::{Policy, Repr, ReserveError};
+use std::alloc::Global;
+use std::borrow::CowStr;
+use std::boxed::BoxedStr;
+
+impl<P: Policy> PolicyString<P> {
+    /// The empty text, inline.
+    ///
+    /// It is a plain function, since the trait `Default` hands in no allocator.
+    #[inline]
+    pub fn default(alloc: Global) -> Self
+        ensures { result ≡ placed [] inlined }
+    {
+        PolicyString {
+            repr: Repr::empty(alloc),
+        }
+    }
+
+    /// A copy of `text`: inline up to 24 bytes, which is never refused, else in a heap buffer of 32 bytes or as many
+    /// as the text has.
+    ///
+    /// An error says that no memory was found, or that the text is longer than 2^56 - 2 bytes.
+    /// `CompactString::new(alloc, "abc")?` is inline.
+    #[inline]
+    pub fn new(alloc: Global, text: &str) -> Result<Self, ReserveError>
+        ensures ok { IfOk result (λ v. made P.growth (text_of text.now) ≡ Some v) }
+        ensures text { IfOk result (λ v. v.text ≡ text_of text.now) }
+        ensures succeeds { length text.now ≤ 24 → IsOk result }
+        ensures err { OnErr result (IsTrue (held_asks (length text.now))) }
+    {
+        match Repr::new(alloc, text) {
+            Ok(repr) => Ok(PolicyString { repr }),
+            Err(error) => Err(error),
+        }
+    }
+
+    /// `new` under its other name.
+    #[inline]
+    pub fn try_new(alloc: Global, text: &str) -> Result<Self, ReserveError>
+        ensures ok { IfOk result (λ v. made P.growth (text_of text.now) ≡ Some v) }
+        ensures text { IfOk result (λ v. v.text ≡ text_of text.now) }
+        ensures succeeds { length text.now ≤ 24 → IsOk result }
+        ensures err { OnErr result (IsTrue (held_asks (length text.now))) }
+    {
+        Self::new(alloc, text)
+    }
+
+    /// `new` under the name of the trait `FromStr`, which hands in no allocator.
+    #[inline]
+    pub fn from_str(alloc: Global, text: &str) -> Result<Self, ReserveError>
+        ensures ok { IfOk result (λ v. made P.growth (text_of text.now) ≡ Some v) }
+        ensures text { IfOk result (λ v. v.text ≡ text_of text.now) }
+        ensures succeeds { length text.now ≤ 24 → IsOk result }
+        ensures err { OnErr result (IsTrue (held_asks (length text.now))) }
+    {
+        Self::new(alloc, text)
+    }
+
+    /// A text of the program: inline up to 24 bytes, else static, borrowed for ever and not copied.
+    ///
+    /// It is never refused.
+    #[inline]
+    pub fn const_new(alloc: Global, text: &'static str) -> Self
+        ensures { let t = text_of text.now in result ≡ placed t (lasting t) }
+    {
+        PolicyString {
+            repr: Repr::from_static(alloc, text),
+        }
+    }
+
+    /// The empty text with room for `capacity` bytes: inline up to 24, which is never refused, else in a heap buffer
+    /// of at least 32.
+    ///
+    /// An error says that no memory was found, or that `capacity` is past 2^56 - 2.
+    pub fn with_capacity(alloc: Global, capacity: usize) -> Result<Self, ReserveError>
+        ensures ok { IfOk result (λ v. with_room P.growth capacity ≡ Some v) }
+        ensures text { IfOk result (λ v. v.text ≡ []) }
+        ensures room { IfOk result (λ v. HasRoomFor v capacity) }
+        ensures succeeds { capacity ≤ 24 → IsOk result }
+        ensures err { OnErr result (IsTrue (held_asks capacity)) }
+    {
+        match Repr::with_capacity(alloc, capacity) {
+            Ok(repr) => Ok(PolicyString { repr }),
+            Err(error) => Err(error),
+        }
+    }
+
+    /// `with_capacity` under its other name.
+    pub fn try_with_capacity(alloc: Global, capacity: usize) -> Result<Self, ReserveError>
+        ensures ok { IfOk result (λ v. with_room P.growth capacity ≡ Some v) }
+        ensures text { IfOk result (λ v. v.text ≡ []) }
+        ensures room { IfOk result (λ v. HasRoomFor v capacity) }
+        ensures succeeds { capacity ≤ 24 → IsOk result }
+        ensures err { OnErr result (IsTrue (held_asks capacity)) }
+    {
+        Self::with_capacity(alloc, capacity)
+    }
+
+    /// Takes `text` over with its buffer and capacity, of which nothing is copied, a short text too.
+    ///
+    /// It is never refused. A string that has no buffer is inline and empty.
+    pub fn from_string_buffer(text: String) -> Self
+        ensures { let t = text_of (string_bytes text) in result ≡ placed t (if nat_eq (string_capacity text) 0 then inlined else on_heap (string_capacity text)) }
+    {
+        PolicyString {
+            repr: Repr::from_string_buffer(text),
+        }
+    }
+
+    /// A borrowed text as `new`, an owned one as `From<String>`, which is never refused.
+    pub fn from_cow(alloc: Global, text: CowStr<'_>) -> Result<Self, ReserveError>
+        ensures takes { TakesCow P.growth text.entry result }
+        ensures text { IfOk result (λ v. v.text ≡ text_of (cow_str_bytes text.entry)) }
+    {
+        match text {
+            CowStr::Borrowed(text) => Self::new(alloc, text),
+            CowStr::Owned(text) => Ok(Self::from(text)),
+        }
+    }
+
+    /// A copy of `text` as `new` makes it, which hands `text` back where it is refused.
+    pub fn from_boxed_str(alloc: Global, text: BoxedStr) -> Result<Self, Refused<BoxedStr>>
+        ensures ok { IfOk result (λ v. made P.growth (text_of (boxed_str_bytes text)) ≡ Some v) }
+        ensures text { IfOk result (λ v. v.text ≡ text_of (boxed_str_bytes text)) }
+        ensures succeeds { length (boxed_str_bytes text) ≤ 24 → IsOk result }
+        ensures err { IfErr result (λ e. (e.value ≡ text) × IsTrue (held_asks (length (boxed_str_bytes text)))) }
+    {
+        match Self::new(alloc, text.as_str()) {
+            Ok(value) => Ok(value),
+            Err(error) => Err(Refused { error, value: text }),
+        }
+    }
+}
+
+impl<P: Policy> From<String> for PolicyString<P> {
+    ghost from_gives = { λ s v. let t = text_of (string_bytes s) in v ≡ placed t (taken_over t (string_capacity s)) };
+
+    /// Takes `text` over: inline up to 24 bytes, else with its buffer and capacity, of which nothing is copied.
+    fn from(text: String) -> Self {
+        PolicyString {
+            repr: Repr::from_string(text),
+        }
+    }
+}

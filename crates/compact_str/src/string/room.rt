@@ -1,0 +1,58 @@
+//! How room is made and given back.
+ghost use Rattle.std.specs.Prelude.{◌≡◌, Some, OnOk, OnErr, IsOk, IsTrue};
+ghost use Rattle.compact_repr.specs.Capacity.{room_asks};
+ghost use Rattle.compact_repr.specs.Change.{reserved, Shrinks};
+ghost use Rattle.compact_str.specs.Room.{HasRoomFor};
+
+use crate::string::PolicyString;
+use compact_repr::{Policy, ReserveError};
+
+impl<P: Policy> PolicyString<P> {
+    /// Makes room for `additional` more bytes.
+    ///
+    /// An owned value with that room stays as it is. Else the text stands inline where it then fits in 24 bytes, or in
+    /// a heap buffer of as many bytes as are needed, or half as much again as the text has, or 32, whichever is most.
+    /// An error says that no memory was found, or that the capacity would be past 2^56 - 2; then nothing has changed.
+    #[inline]
+    pub fn reserve(&mut self, additional: usize) -> Result<(), ReserveError>
+        ensures ok { OnOk result (reserved P.growth self.old additional ≡ Some self.new) }
+        ensures text { self.new.text ≡ self.old.text }
+        ensures room { OnOk result (HasRoomFor self.new additional) }
+        ensures succeeds { HasRoomFor self.old additional → IsOk result }
+        ensures err { OnErr result ((self.new ≡ self.old) × IsTrue (room_asks self.old additional)) }
+    {
+        self.repr.reserve(additional)
+    }
+
+    /// `reserve` under its other name.
+    #[inline]
+    pub fn try_reserve(&mut self, additional: usize) -> Result<(), ReserveError>
+        ensures ok { OnOk result (reserved P.growth self.old additional ≡ Some self.new) }
+        ensures text { self.new.text ≡ self.old.text }
+        ensures room { OnOk result (HasRoomFor self.new additional) }
+        ensures succeeds { HasRoomFor self.old additional → IsOk result }
+        ensures err { OnErr result ((self.new ≡ self.old) × IsTrue (room_asks self.old additional)) }
+    {
+        self.reserve(additional)
+    }
+
+    /// Gives room back: a heap value keeps room for its text and for `min_capacity` bytes.
+    ///
+    /// Where that fits in 24 bytes the text moves inline. Else a lower capacity is a new buffer of at least 32 bytes,
+    /// and where no memory is found for it all stays as it was. The capacity never rises, and an inline or static
+    /// value stays as it is.
+    pub fn shrink_to(&mut self, min_capacity: usize)
+        ensures shrinks { Shrinks P.growth self.old min_capacity self.new }
+        ensures text { self.new.text ≡ self.old.text }
+    {
+        self.repr.shrink_to(min_capacity);
+    }
+
+    /// `shrink_to(0)`: keeps room for the text alone.
+    pub fn shrink_to_fit(&mut self)
+        ensures shrinks { Shrinks P.growth self.old 0 self.new }
+        ensures text { self.new.text ≡ self.old.text }
+    {
+        self.repr.shrink_to(0);
+    }
+}
