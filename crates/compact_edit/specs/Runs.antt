@@ -1,0 +1,18 @@
+-- What a list of edits does to a value.
+use Rattle.std.specs.Prelude.{◌≡◌, List, [], ◌∷◌, ◌++◌}
+use Rattle.compact_str.specs.Value.{PlacedText}
+use Rattle.compact_str.specs.Capacity.{Growth}
+use Rattle.compact_edit.specs.declared.edit.Edit.{Edit}
+use Rattle.compact_edit.specs.declared.edit.Reply.{Reply}
+use Rattle.compact_edit.specs.Steps.{Step}
+
+-- one reply for each edit, and a step from value to value
+abbrev pub Run : {P : Type 0} → Growth → PlacedText → List (Edit P) → List Reply → PlacedText → Type 0
+Run g v [] [] w = w ≡ v
+Run g v (edit ∷ edits) (reply ∷ replies) w = (u : PlacedText) × Step g v edit reply u × Run g u edits replies w
+Run g v [] (reply ∷ replies) w = ⊥
+Run g v (edit ∷ edits) [] w = ⊥
+
+-- the replies after those that stood are a run
+abbrev pub RunsTo : {P : Type 0} → Growth → PlacedText → List (Edit P) → List Reply → List Reply → PlacedText → Type 0
+RunsTo g v edits before after w = (replies : List Reply) × (after ≡ before ++ replies) × Run g v edits replies w

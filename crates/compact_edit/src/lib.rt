@@ -1,0 +1,12 @@
+//! Lists of edits, run on a value.
+//!
+//! `run` is where this library's main promise stands: for every list of edits run on any value, each answer and the
+//! text after it are those of a plain list of characters, place and capacity follow the rules of `specs/`, and an edit
+//! that is refused leaves text, place and capacity as they were.
+#![tactic(auto)]
+
+mod edit;
+mod runs;
+
+pub use edit::{Edit, Reply};
+pub use runs::run;
