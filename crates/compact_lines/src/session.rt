@@ -1,0 +1,74 @@
+//! The one value that the commands work on.
+ghost use Rattle.std.specs.Prelude.{◌≡◌, IfOk, OnErr};
+ghost use Rattle.compact_edit.specs.Steps.{Step};
+ghost use Rattle.compact_lines.specs.Sessions.{standard};
+
+use crate::command::Command;
+use compact_edit::{Edit, Reply, run};
+use compact_str::{CompactString, ReserveError, Standard};
+use std::alloc::Global;
+
+/// What the command `static` makes a value of.
+const LETTERS: &str = "aaaaaaaaaaaaaaaaaaaaaaaaaaaaaa";
+
+/// A value, and room for the reply to one edit.
+#[derive(Drop)]
+pub struct Session {
+    alloc: Global,
+    value: CompactString,
+    replies: Vec<Reply>,
+}
+
+impl Session {
+    /// Begins with the empty value.
+    pub fn new(alloc: Global) -> Self {
+        Session {
+            alloc,
+            value: CompactString::default(alloc),
+            replies: Vec::new(alloc),
+        }
+    }
+
+    /// The value as it is now.
+    pub fn value(&self) -> &CompactString
+        ensures { result.now ≡ self.now.value }
+    {
+        &self.value
+    }
+
+    /// Does what `command` asks for. An error says that room was refused, and the value is as it was.
+    pub fn execute(&mut self, command: Command) -> Result<Reply, ReserveError>
+        ensures err { OnErr result (self.new.value ≡ self.old.value) }
+    {
+        match command {
+            Command::New(text) => {
+                let value = CompactString::new(self.alloc, text)?;
+                self.value = value;
+            }
+            Command::Static => self.value = CompactString::const_new(self.alloc, LETTERS),
+            Command::WithCapacity(capacity) => {
+                let value = CompactString::with_capacity(self.alloc, capacity)?;
+                self.value = value;
+            }
+            Command::CloneFrom(text) => {
+                let source = CompactString::new(self.alloc, text)?;
+                return self.edit(Edit::CloneFrom(&source));
+            }
+            Command::Edit(edit) => return self.edit(edit),
+        }
+        Ok(Reply::Done)
+    }
+
+    /// Runs one edit.
+    fn edit(&mut self, edit: Edit<Standard>) -> Result<Reply, ReserveError>
+        ensures ok { IfOk result (λ reply. Step standard self.old.value edit.entry reply self.new.value) }
+        ensures err { OnErr result (self.new.value ≡ self.old.value) }
+    {
+        self.replies.clear();
+        run(&mut self.value, &[edit], &mut self.replies)?;
+        match self.replies.pop() {
+            Some(reply) => Ok(reply),
+            None => unreachable!(),
+        }
+    }
+}
