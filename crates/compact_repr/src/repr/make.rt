@@ -1,5 +1,5 @@
 //! How a representation is made.
-ghost use Rattle.std.specs.Prelude.{◌≡◌, ◌≤◌, length, nat_eq, if◌then◌else◌, [], Some, IfOk, OnErr, IsOk, IsTrue, string_bytes};
+ghost use Rattle.std.specs.Prelude.{◌≡◌, ◌<◌, length, nat_eq, if◌then◌else◌, [], Some, IfOk, OnErr, IsOk, IsTrue, string_bytes};
 ghost use Rattle.std.specs.String.{string_capacity};
 ghost use Rattle.compact_repr.specs.Text.{text_of};
 ghost use Rattle.compact_repr.specs.Value.{placed};
@@ -30,10 +30,18 @@ impl<P: Policy> Repr<P> {
         ensures ok { IfOk result (λ r. made P.growth (text_of text.now) ≡ Some r) }
         ensures err { OnErr result (IsTrue (held_asks (length text.now))) }
     {
-        if text.len() <= INLINE_CAPACITY {
-            let inline = InlineBuffer::new(text);
-            return Ok(Self::of(alloc, Buffer::Inline(inline)));
+        if text.len() > INLINE_CAPACITY {
+            return Self::new_long(alloc, text);
         }
+        let inline = InlineBuffer::new(text);
+        Ok(Self::of(alloc, Buffer::Inline(inline)))
+    }
+
+    /// A copy of a `text` of more than 24 bytes.
+    fn new_long(alloc: Global, text: &str) -> Result<Self, ReserveError>
+        requires { 24 < length text.now }
+        ensures { IfOk result (λ r. made P.growth (text_of text.now) ≡ Some r) }
+    {
         let mut heap = Self::new_heap(alloc, text.len())?;
         heap.push_str(text);
         Ok(Self::of(alloc, Buffer::Heap(heap)))
@@ -44,11 +52,11 @@ impl<P: Policy> Repr<P> {
     pub fn from_static(alloc: Global, text: &'static str) -> Self
         ensures { let t = text_of text.now in result ≡ placed t (lasting t) }
     {
-        if text.len() <= INLINE_CAPACITY {
-            let inline = InlineBuffer::new(text);
-            return Self::of(alloc, Buffer::Inline(inline));
+        if INLINE_CAPACITY < text.len() {
+            return Self::of(alloc, Buffer::Static(text));
         }
-        Self::of(alloc, Buffer::Static(text))
+        let inline = InlineBuffer::new(text);
+        Self::of(alloc, Buffer::Inline(inline))
     }
 
     /// The empty text with room for `capacity` bytes: inline up to 24, which is never refused, else on the heap.

@@ -1,0 +1,43 @@
+//! Functions as the writers of tokenizers, record readers and reports write them. Each is proved from the contracts of
+//! the calls alone, with no proof of its own.
+ghost use Rattle.std.specs.Prelude.{◌≡◌, ◌+◌, ◌≤◌, [], ◌∷◌, ◌++◌, length, IfOk, OnOk, OnErr, IsOk, codes};
+ghost use Rattle.compact_str.specs.Text.{text_of, size};
+
+use compact_str::{CompactString, ReserveError};
+use std::alloc::Global;
+
+/// A keyword of a grammar, which is short and so takes no memory.
+pub fn keyword(alloc: Global, word: &str) -> Result<CompactString, ReserveError>
+    ensures text { IfOk result (λ v. v.text ≡ text_of word.now) }
+    ensures succeeds { length word.now ≤ 24 → IsOk result }
+{
+    CompactString::new(alloc, word)
+}
+
+/// Appends a field of a record.
+pub fn append_field(line: &mut CompactString, field: &str) -> Result<(), ReserveError>
+    ensures text { OnOk result (line.new.text ≡ line.old.text ++ text_of field.now) }
+    ensures unchanged { OnErr result (line.new ≡ line.old) }
+    ensures succeeds { size line.old.text + length field.now ≤ 24 → IsOk result }
+{
+    line.push_str(field)
+}
+
+/// A line of a report: a name, a colon and a value.
+pub fn label(alloc: Global, name: &str, value: &str) -> Result<CompactString, ReserveError>
+    ensures text { IfOk result (λ v. v.text ≡ text_of name.now ++ text_of (codes ":") ++ text_of value.now) }
+{
+    let mut line = CompactString::new(alloc, name)?;
+    line.push_str(":")?;
+    line.push_str(value)?;
+    Ok(line)
+}
+
+/// A record of two fields in the buffer of an earlier one.
+pub fn record_line(line: &mut CompactString, first: &str, second: &str) -> Result<(), ReserveError>
+    ensures text { OnOk result (line.new.text ≡ text_of first.now ++ text_of second.now) }
+{
+    line.clear();
+    line.push_str(first)?;
+    line.push_str(second)
+}

@@ -1,0 +1,51 @@
+//! A process with no memory left.
+
+use std::alloc::{AllocError, Global};
+
+/// All memory that this process can get, so that each request is refused until this is dropped.
+#[derive(Drop)]
+pub struct Hog {
+    blocks: Vec<Vec<u8>>,
+}
+
+impl Hog {
+    pub fn block_count(&self) -> usize {
+        self.blocks.len()
+    }
+}
+
+/// Takes the whole address space, in ever smaller blocks that nothing writes to.
+pub fn take_all(alloc: Global) -> Result<Hog, AllocError> {
+    let mut blocks = Vec::with_capacity(alloc, 60_000)?;
+    let mut size = 1usize << 46;
+    for _ in 0..100_000 {
+        match Vec::with_capacity(alloc, size) {
+            Ok(block) => {
+                if blocks.push(block).is_err() {
+                    return Err(AllocError);
+                }
+            }
+            Err(_) => {
+                if size <= 8 {
+                    break;
+                }
+                size /= 2;
+            }
+        }
+    }
+    Ok(Hog { blocks })
+}
+
+/// A block that is given back once a hog stands, so that just one request of its size is granted.
+pub fn spare(alloc: Global, size: usize) -> Result<Vec<u8>, AllocError> {
+    Vec::with_capacity(alloc, size)
+}
+
+#[test]
+fn each_request_is_refused_until_the_hog_is_dropped(rt: HostRuntime) {
+    let hog = take_all(rt.alloc()).expect(&rt, "a hog");
+    assert!(rt; hog.block_count() > 0);
+    assert!(rt; spare(rt.alloc(), 1).is_err());
+    drop(hog);
+    assert!(rt; spare(rt.alloc(), 1).is_ok());
+}
