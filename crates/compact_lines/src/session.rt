@@ -1,7 +1,7 @@
 //! The one value that the commands work on.
 ghost use Rattle.std.specs.Prelude.{◌≡◌, IfOk, OnErr};
 ghost use Rattle.compact_edit.specs.Steps.{Step};
-ghost use Rattle.compact_lines.specs.Sessions.{standard};
+ghost use Rattle.compact_lines.specs.Sessions.{standard, Executes};
 
 use crate::command::Command;
 use compact_edit::{Edit, Reply, run};
@@ -38,6 +38,7 @@ impl Session {
 
     /// Does what `command` asks for. An error says that room was refused, and the value is as it was.
     pub fn execute(&mut self, command: Command) -> Result<Reply, ReserveError>
+        ensures ok { IfOk result (λ reply. Executes self.old.value command.entry reply self.new.value) }
         ensures err { OnErr result (self.new.value ≡ self.old.value) }
     {
         match command {

@@ -30,8 +30,9 @@ pub fn assert_seen<P: Policy>(
     assert!(rt; value.is_empty() == text.is_empty());
 }
 
-/// Thirty letters.
-pub const A30: &str = "aaaaaaaaaaaaaaaaaaaaaaaaaaaaaa";
-
-/// Sixty letters.
-pub const A60: &str = "aaaaaaaaaaaaaaaaaaaaaaaaaaaaaaaaaaaaaaaaaaaaaaaaaaaaaaaaaaaa";
+/// So many letters `a`, at most 80. It is a function so that a proof need not carry each letter.
+pub fn letters(count: usize) -> &'static str {
+    const LETTERS: &str =
+        "aaaaaaaaaaaaaaaaaaaaaaaaaaaaaaaaaaaaaaaaaaaaaaaaaaaaaaaaaaaaaaaaaaaaaaaaaaaaaaaa";
+    LETTERS.get(..count).unwrap_or("")
+}

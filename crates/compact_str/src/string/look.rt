@@ -26,7 +26,7 @@ impl<P: Policy> PolicyString<P> {
         ensures bytes { result.now ≡ utf8 self.now.text }
         ensures text { text_of result.now ≡ self.now.text }
     {
-        self.repr.as_str().as_bytes()
+        self.as_str().as_bytes()
     }
 
     /// The text of a static value, which outlives the value; `None` of every other.
@@ -59,7 +59,7 @@ impl<P: Policy> PolicyString<P> {
     pub fn is_empty(&self) -> bool
         ensures { IsTrue result ↔ (self.now.text ≡ []) }
     {
-        self.repr.len() == 0
+        self.len() == 0
     }
 
     /// How many bytes have room with no new buffer: 24 of an inline value, the length of a static one.

@@ -67,7 +67,7 @@ impl<P: Policy> PolicyString<P> {
         ensures succeeds { length text.now ≤ 24 → IsOk result }
         ensures err { OnErr result (IsTrue (held_asks (length text.now))) }
     {
-        Self::new(alloc, text)
+        Self::try_new(alloc, text)
     }
 
     /// A text of the program: inline up to 24 bytes, else static, borrowed for ever and not copied.
@@ -127,8 +127,8 @@ impl<P: Policy> PolicyString<P> {
         ensures text { IfOk result (λ v. v.text ≡ text_of (cow_str_bytes text.entry)) }
     {
         match text {
-            CowStr::Borrowed(text) => Self::new(alloc, text),
-            CowStr::Owned(text) => Ok(Self::from(text)),
+            CowStr::Borrowed(borrowed) => Self::new(alloc, borrowed),
+            CowStr::Owned(owned) => Ok(Self::from(owned)),
         }
     }
 

@@ -1,0 +1,8 @@
+-- The 30 letters, read as characters.
+use Rattle.std.proofs.Common.{refl}
+use Rattle.std.specs.Str.{chars}
+use Rattle.compact_lines.proofs.session.Session.execute.Goals as goal
+
+pub returns-in-Static-clause-ok : goal.returns-in-Static-clause-ok
+unfolding chars
+returns-in-Static-clause-ok c = rw (c.in-Static.is, c.const_new.ensures) (refl, refl, refl)
