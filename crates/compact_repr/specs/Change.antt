@@ -1,6 +1,7 @@
 -- What making and changing a value gives: none where that must be refused.
-use Rattle.std.specs.Prelude.{ℕ, Bool, not, ◌&&◌, List, [], ◌++◌, Option, Some, option_map, nat_eq, if◌then◌else◌}
+use Rattle.std.specs.Prelude.{ℕ, Bool, not, ◌&&◌, List, [], ◌++◌, Option, Some, option_map, nat_eq, nat_le, if◌then◌else◌}
 use Rattle.compact_repr.specs.Text.{size}
+use Rattle.compact_repr.specs.Cut.{before}
 use Rattle.compact_repr.specs.Value.{PlacedText, placed}
 use Rattle.compact_repr.specs.Capacity.{Growth, fresh, kept, room, room_asks}
 
@@ -25,3 +26,9 @@ cleared v = placed [] (kept v [])
 -- v with room for n more bytes
 abbrev pub reserved : Growth → PlacedText → ℕ → Option PlacedText
 reserved g v n = option_map (placed v.text) (room g v n)
+
+-- v with its text cut at a position, in its place; one past the end changes nothing
+abbrev pub truncated : PlacedText → ℕ → PlacedText
+truncated v p =
+    let t = if nat_le (size v.text) p then v.text else before v.text p in
+    placed t (kept v t)

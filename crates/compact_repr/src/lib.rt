@@ -9,9 +9,11 @@ mod buffer;
 mod error;
 mod heap;
 mod inline;
+mod law;
 mod policy;
 mod repr;
 
 pub use error::ReserveError;
+pub use law::cut_is_before_and_after;
 pub use policy::{Policy, Standard};
 pub use repr::{GREATEST_CAPACITY, INLINE_CAPACITY, Repr};

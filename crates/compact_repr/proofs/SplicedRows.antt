@@ -1,0 +1,1 @@
+-- A row of bytes after a part of it is replaced.
