@@ -1,13 +1,13 @@
 -- Where a text is cut, and where its bytes are.
-use Rattle.std.proofs.Common.{◌≡◌, ℕ, ◌+◌, ◌-◌, ◌<◌, ◌≤◌, List, [], ◌∷◌, ◌++◌, length, take, drop, refl, ap, sym, ◌∙◌, subst, arith, true, ⊎_elim, append_assoc}
-use Rattle.std.proofs.lemmas.List.{length-take-le, take-append-drop}
+use Rattle.std.proofs.Common.{◌≡◌, ℕ, ◌+◌, ◌-◌, ◌<◌, ◌≤◌, List, [], ◌∷◌, ◌++◌, length, take, drop, refl, ap, sym, ◌∙◌, subst, arith, length-append, true, ⊎_elim, append_assoc}
+use Rattle.std.proofs.lemmas.List.{append-nil, length-drop, length-take-le, take-append-drop}
 use Rattle.std.proofs.lemmas.Bool.{cases_Bool, cond-true, cond-false, le-leb, lt-leb, and_parts}
-use Rattle.std.proofs.lemmas.Str.{IsUtf8-append, IsUtf8-take, IsUtf8-drop, chars-append, scalars-chars, encodes-chars, encodes-append, len_utf8_bounds, IsCharBoundary-at_seam}
+use Rattle.std.proofs.lemmas.Str.{IsUtf8-append, IsUtf8-take, IsUtf8-drop, chars-append, scalars-chars, encodes-chars, encodes-append, encodes_same, chars_past_char, len_utf8_bounds, IsCharBoundary-at_seam}
 use Rattle.std.specs.Char.{len_utf8}
 use Rattle.std.specs.List.{replace_range}
 use Rattle.std.specs.Str.{IsUtf8, IsCharBoundary}
 use lib.Dec.{leb}
-use lib.Utf8.{encodes, scalar, scalars}
+use lib.Utf8.{encode, encodes, scalar, scalars}
 use Rattle.compact_repr.specs.Text.{size, text_of}
 use Rattle.compact_repr.specs.Cut.{IsCut, IsBoundary, before, after, spliced, CutIsBeforeAndAfter}
 use Rattle.compact_repr.proofs.Texts.{length-utf8, size-text_of, size-append}
@@ -76,6 +76,11 @@ size-spliced t s start end h k order =
     let back = size-after t end k in
     omega (arith, whole, front, back)
 
+pub length-spliced : (bytes s : List ℕ) (start end : ℕ) → start ≤ end → end ≤ length bytes → length (replace_range bytes start end s) ≡ length bytes - (end - start) + length s
+length-spliced bytes s start end order within =
+    let front = length-take-le start bytes (omega arith) in
+    simp (length-append, length-drop) (omega (arith, front))
+
 -- the bytes may be cut where the text may
 
 text_of-parts : (bytes : List ℕ) (p : ℕ) → IsUtf8 bytes → IsCharBoundary bytes p → IsCut (text_of bytes) p (text_of (take p bytes)) (text_of (drop p bytes))
@@ -127,3 +132,15 @@ text_of-spliced bytes s start end e u v h k =
     chars-append (take start bytes ++ s) (drop end bytes) (IsUtf8-append _ _ front v)
     ∙ ap (λ x. x ++ text_of (drop end bytes)) (chars-append (take start bytes) s front)
     ∙ rw (text_of-take bytes start e u h, text_of-drop bytes end e u k) refl
+
+-- the character that the last bytes encode is the last one of the text
+pub text_of-last : (bytes front : List ℕ) (c : ℕ) → IsUtf8 bytes → IsUtf8 front → bytes ≡ front ++ encode c → text_of bytes ≡ text_of front ++ c ∷ []
+text_of-last bytes front c u v e =
+    let spelled : encodes (text_of front ++ c ∷ []) ≡ front ++ encode c =
+    encodes-append (text_of front) (c ∷ []) ∙ ap (λ x. x ++ encodes (c ∷ [])) (encodes-chars front v) ∙ ap (λ x. front ++ x) (append-nil (encode c)) in
+    encodes_same _ _ (encodes-chars bytes u ∙ e ∙ sym spelled)
+
+-- the character that the first bytes after a boundary encode is the first one after it
+pub text_of-next : (bytes rest : List ℕ) (p c : ℕ) → IsUtf8 bytes → IsBoundary (text_of bytes) p → drop p bytes ≡ encode c ++ rest → after (text_of bytes) p ≡ c ∷ text_of rest
+text_of-next bytes rest p c u h e =
+    sym (text_of-drop bytes p refl u h) ∙ chars_past_char (drop p bytes) rest c (IsUtf8-drop bytes p u (boundary-bytes bytes p refl u h)) e

@@ -15,6 +15,8 @@ use crate::policy::Policy;
 use std::alloc::Global;
 use std::marker::{Model, PhantomData};
 
+mod edit;
+
 /// The greatest capacity that may be asked for, 2^56 - 2 bytes.
 pub const GREATEST_CAPACITY: usize = 72057594037927934;
 
