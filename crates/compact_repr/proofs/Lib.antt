@@ -1,5 +1,6 @@
 pub mod Texts
 pub mod Cuts
+pub mod Shifts
 pub mod SplicedRows
 pub mod TextFacts
 pub mod Examples
