@@ -62,3 +62,13 @@ pub shifted-down : (row now : List ℕ) (from to n k later_from later_to all : �
 shifted-down row now from to n k later_from later_to all downward within e f g h =
     let at : paste now later_to (drop later_from now) k ≡ paste (paste row to (drop from row) n) (to + n) (drop (from + n) (paste row to (drop from row) n)) k = cc in
     at ∙ down-one row from to n k downward (omega arith) ∙ ap (λ (j : ℕ). paste row to (drop from row) j) (sym g)
+
+pub unmoved : (row : List ℕ) (from to n : ℕ) → from ≡ to → row ≡ paste row to (drop from row) n
+unmoved row from to n e =
+    let b : List ℕ = take n (drop to row) in
+    let rest : take to row ++ b ++ drop (to + n) row ≡ row =
+    append_assoc (take to row) b (drop (to + n) row)
+    ∙ ap (λ x. take to row ++ (b ++ x)) (sym (drop-drop n to row))
+    ∙ ap (λ x. take to row ++ x) (take-append-drop n (drop to row))
+    ∙ take-append-drop to row in
+    sym rest ∙ ap (λ (j : ℕ). paste row to (drop j row) n) (sym e)

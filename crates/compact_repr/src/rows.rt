@@ -3,20 +3,17 @@ ghost use Rattle.std.specs.Prelude.{◌≡◌, ◌+◌, ◌-◌, ◌≤◌, leng
 ghost use Rattle.std.specs.List.{replace_range};
 ghost use lib.Seq.{paste};
 
-/// Of the first `len` bytes of `row` replaces those from `start` to `end` by `source`.
-///
-/// The tail moves once, from a copy of the row, since its old and new places may overlap.
+/// Of the first `len` bytes of `row` replaces those from `start` to `end` by `source`. The tail moves once.
 #[inline]
-pub fn splice(row: &mut [u8; 24], len: usize, start: usize, end: usize, source: &[u8])
+pub fn splice(row: &mut [u8], len: usize, start: usize, end: usize, source: &[u8])
     requires order { start ≤ end }
     requires within { end ≤ len }
-    requires held { len ≤ 24 }
-    requires room { len + length source.now ≤ 24 + (end - start) }
+    requires held { len ≤ length row.old }
+    requires room { len + length source.now ≤ length row.old + (end - start) }
     ensures { take (len - (end - start) + length source.now) row.new ≡ replace_range (take len row.old) start end source.now }
 {
-    let old = *row;
     let tail = start + source.len();
-    row[tail..tail + (len - end)].copy_from_slice(&old[end..len]);
+    shift(row, end, tail, len - end);
     row[start..tail].copy_from_slice(source);
 }
 
@@ -25,14 +22,15 @@ const BLOCK: usize = 64;
 
 /// Moves `count` bytes of `row` from one place to another, which may overlap.
 #[inline]
-pub fn shift(row: &mut [u8], from: usize, to: usize, count: usize)
+#[tactic(auto, using(crate::proofs::Shifts::unmoved))]
+fn shift(row: &mut [u8], from: usize, to: usize, count: usize)
     requires source { from + count ≤ length row.old }
     requires target { to + count ≤ length row.old }
     ensures { row.new ≡ paste row.old to (drop from row.old) count }
 {
     if from < to {
         shift_up(row, from, to, count);
-    } else {
+    } else if to < from {
         shift_down(row, from, to, count);
     }
 }
