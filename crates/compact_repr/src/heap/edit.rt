@@ -35,9 +35,31 @@ impl HeapBuffer {
 
 /// Replaces the bytes from `start` to `end` by others, for which there is room.
 ///
-/// Where more bytes come than go, the vector first grows by as many, whatever they are; where fewer, it is cut at last.
+/// One byte that comes or goes has a way of its own, on which the tail moves by one.
 #[inline]
 fn replace(bytes: &mut Vec<u8>, start: usize, end: usize, source: &[u8])
+    requires order { start ≤ end }
+    requires within { end ≤ vec_len bytes.old }
+    requires room { vec_len bytes.old + length source.now ≤ vec_capacity bytes.old + (end - start) }
+    ensures items { bytes.new.items ≡ replace_range bytes.old.items start end source.now }
+    ensures capacity { vec_capacity bytes.old ≤ vec_capacity bytes.new }
+{
+    if source.len() == 1 && start == end {
+        if bytes.insert(start, source[0]).is_err() {
+            unreachable!();
+        }
+    } else if source.is_empty() && end - start == 1 {
+        bytes.remove(start);
+    } else {
+        replace_any(bytes, start, end, source);
+    }
+}
+
+/// Replaces the bytes from `start` to `end` by others, for which there is room.
+///
+/// Where more bytes come than go, the vector first grows by as many, whatever they are; where fewer, it is cut at last.
+#[inline]
+fn replace_any(bytes: &mut Vec<u8>, start: usize, end: usize, source: &[u8])
     requires order { start ≤ end }
     requires within { end ≤ vec_len bytes.old }
     requires room { vec_len bytes.old + length source.now ≤ vec_capacity bytes.old + (end - start) }
