@@ -1,5 +1,5 @@
 -- Where a text is cut, and where its bytes are.
-use Rattle.std.proofs.Common.{◌≡◌, ℕ, ◌+◌, ◌-◌, ◌<◌, ◌≤◌, List, [], ◌∷◌, ◌++◌, length, take, drop, refl, ap, sym, ◌∙◌, subst, arith, length-append, true, ⊎_elim, append_assoc}
+use Rattle.std.proofs.Common.{◌≡◌, ℕ, ◌+◌, ◌-◌, ◌<◌, ◌≤◌, List, [], ◌∷◌, ◌++◌, length, take, drop, refl, ap, sym, ◌∙◌, subst, arith, length-append, true, ⊎_elim}
 use Rattle.std.proofs.lemmas.List.{append-nil, length-drop, length-take-le, take-append-drop}
 use Rattle.std.proofs.lemmas.Bool.{cases_Bool, cond-true, cond-false, le-leb, lt-leb, and_parts}
 use Rattle.std.proofs.lemmas.Str.{IsUtf8-append, IsUtf8-take, IsUtf8-drop, chars-append, scalars-chars, encodes-chars, encodes-append, encodes_same, chars_past_char, len_utf8_bounds, IsCharBoundary-at_seam}
@@ -48,12 +48,12 @@ boundary-from_size t p e = (before t p, after t p, record { parts = before-after
 pub cut_is_before_and_after : CutIsBeforeAndAfter
 cut_is_before_and_after t p a b = (
   (λ h.
-    let front : before t p ≡ a = ap (λ x. before x p) h.parts ∙ before-cut a b p h.position in
-    let back : after t p ≡ b = ap (λ x. after x p) h.parts ∙ after-cut a b p h.position in
-    (sym front, sym back, ap size front ∙ h.position)),
+      let front : before t p ≡ a = ap (λ x. before x p) h.parts ∙ before-cut a b p h.position in
+      let back : after t p ≡ b = ap (λ x. after x p) h.parts ∙ after-cut a b p h.position in
+      (sym front, sym back, ap size front ∙ h.position)),
   (λ h.
-    let parts : t ≡ a ++ b = rw (h.0, h.1) (before-after t p) in
-    record { parts = parts; position = ap size h.0 ∙ h.2 }),
+      let parts : t ≡ a ++ b = rw (h.0, h.1) (before-after t p) in
+      record { parts = parts; position = ap size h.0 ∙ h.2 }),
 )
 
 pub boundary-within : (t : List ℕ) (p : ℕ) → IsBoundary t p → p ≤ size t

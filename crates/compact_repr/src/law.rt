@@ -5,5 +5,4 @@ ghost use Rattle.compact_repr.specs.Cut.{CutIsBeforeAndAfter};
 /// just where the characters within the first bytes take up all of them.
 pub fn cut_is_before_and_after()
     ensures { CutIsBeforeAndAfter }
-{
-}
+{}

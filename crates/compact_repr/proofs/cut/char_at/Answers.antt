@@ -8,7 +8,8 @@ range_from-requires c = λ _. boundary-bytes _ _ refl c.utf8.text c.requires.bou
 
 pub returns : goal.returns
 returns c =
-    let next = c.in-Some.ensures in
-    (text_of c.next.new.self.rest.now,
+    let next = c.in-Some.ensures in (
+      text_of c.next.new.self.rest.now,
       text_of-next c.args.text.now _ c.args.index _ c.utf8.text c.requires.boundary
-      (sym c.range_from.ensures.value ∙ sym c.chars.ensures.rest ∙ next.steps.0))
+          (sym c.range_from.ensures.value ∙ sym c.chars.ensures.rest ∙ next.steps.0),
+    )

@@ -10,8 +10,8 @@ pub moves-preserved : goal.moves-preserved
 moves-preserved c = (
   omega arith,
   c.carry.ensures
-  ∙ shifted-down c.args.row.now c.moves.row c.args.from c.args.to c.moves.done 64 (c.args.from + c.moves.done) (c.args.to + c.moves.done) (c.moves.done + 64)
-  (omega arith) (omega arith) (omega arith) (omega arith) (omega arith) c.moves.invariant.1,
+      ∙ shifted-down c.args.row.now c.moves.row c.args.from c.args.to c.moves.done 64 (c.args.from + c.moves.done) (c.args.to + c.moves.done) (c.moves.done + 64)
+      (omega arith) (omega arith) (omega arith) (omega arith) (omega arith) c.moves.invariant.1,
 )
 
 pub returns : goal.returns

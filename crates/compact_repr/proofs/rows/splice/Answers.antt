@@ -1,4 +1,3 @@
-use Rattle.std.proofs.Common.{arith}
 use Rattle.compact_repr.proofs.SplicedRows.{spliced-moved}
 use Rattle.compact_repr.proofs.rows.splice.Goals as goal
 

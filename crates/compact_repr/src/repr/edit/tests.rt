@@ -32,7 +32,11 @@ fn char_at(rt: &impl Abort, text: &Repr<Standard>, index: usize) -> char {
 fn inline(rt: HostRuntime) -> Result<(), Fail> {
     let mut text: Repr<Standard> = Repr::new(rt.alloc(), "äb𝄞")?;
     for index in 0..9 {
-        assert_eq!(rt; text.is_char_boundary(index), matches!(index, 0 | 2 | 3 | 7), "at {index}");
+        assert_eq!(rt;
+            text.is_char_boundary(index),
+            matches!(index, 0 | 2 | 3 | 7),
+            "at {index}"
+        );
     }
     assert_eq!(rt; char_at(&rt, &text, 0), 'ä');
     assert_eq!(rt; char_at(&rt, &text, 2), 'b');
@@ -72,11 +76,38 @@ fn heap(rt: HostRuntime) -> Result<(), Fail> {
     Ok(())
 }
 
+/// The tail is longer than a block, and its old and new places overlap.
+#[test]
+fn long_tail(rt: HostRuntime) -> Result<(), Fail> {
+    let digits =
+        "012345678901234567890123456789012345678901234567890123456789012345678901234567890123456789012345678901234567890123456789012345678901234567890123456789";
+    let more =
+        "ab012345678901234567890123456789012345678901234567890123456789012345678901234567890123456789012345678901234567890123456789012345678901234567890123456789";
+    let mut text: Repr<Standard> = Repr::new(rt.alloc(), digits)?;
+    text.reserve(2)?;
+    replace(&rt, &mut text, 0, 0, "ab");
+    assert_eq!(rt; text.as_str(), more);
+    replace(&rt, &mut text, 1, 2, "");
+    replace(&rt, &mut text, 0, 1, "");
+    assert_eq!(rt; text.as_str(), digits);
+    replace(&rt, &mut text, 0, 0, "b");
+    replace(&rt, &mut text, 0, 0, "a");
+    replace(&rt, &mut text, 0, 2, "");
+    assert_eq!(rt; text.as_str(), digits);
+    Ok(())
+}
+
 #[test]
 fn of_the_program(rt: HostRuntime) -> Result<(), Fail> {
-    let mut text: Repr<Standard> = Repr::of(Buffer::Static("äb𝄞 and so on, past the inline capacity"), rt.alloc());
+    let mut text: Repr<Standard> = Repr::of(
+        Buffer::Static("äb𝄞 and so on, past the inline capacity"),
+        rt.alloc(),
+    );
     assert!(rt; text.is_char_boundary(3));
-    assert_eq!(rt; text.static_tail(3), Some("𝄞 and so on, past the inline capacity"));
+    assert_eq!(rt;
+        text.static_tail(3),
+        Some("𝄞 and so on, past the inline capacity")
+    );
     assert_eq!(rt; text.last_char(), Some('y'));
     truncate(&rt, &mut text, 7);
     assert_eq!(rt; text.as_str(), "äb𝄞");

@@ -1,4 +1,4 @@
-use Rattle.std.proofs.Common.{◌≡◌, ℕ, ◌+◌, ◌-◌, length, refl, ap, sym, ◌∙◌, arith}
+use Rattle.std.proofs.Common.{◌≡◌, ◌+◌, ◌-◌, length, refl, ap, sym, ◌∙◌, arith}
 use Rattle.compact_repr.specs.HeapText.{HeapText}
 use Rattle.compact_repr.specs.Text.{size, text_of}
 use Rattle.compact_repr.proofs.Texts.{size-text_of}

@@ -29,7 +29,7 @@ invariant_of-self c =
     let within = boundary-within c.args.self.now c.args.end c.requires.last in (
       omega (arith, stands, within),
       rw (← c.as_bytes.ensures.value, c.splice.ensures)
-      (utf8-spliced _ _ _ _ c.self.view_is c.self.invariant.1 c.as_bytes.ensures.utf8 c.requires.first c.requires.last),
+          (utf8-spliced _ _ _ _ c.self.view_is c.self.invariant.1 c.as_bytes.ensures.utf8 c.requires.first c.requires.last),
     )
 
 pub returns-clause-text : goal.returns-clause-text
