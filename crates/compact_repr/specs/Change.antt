@@ -1,6 +1,7 @@
 -- What making and changing a value gives: none where that must be refused.
-use Rattle.std.specs.Prelude.{◌≡◌, ◌⊎◌, ℕ, Bool, not, ◌&&◌, IsTrue, List, [], ◌++◌, Option, Some, option_map, nat_eq, if◌then◌else◌}
+use Rattle.std.specs.Prelude.{◌≡◌, ◌⊎◌, ℕ, Bool, not, ◌&&◌, IsTrue, List, [], ◌++◌, Option, Some, option_map, nat_eq, nat_le, if◌then◌else◌}
 use Rattle.compact_repr.specs.Text.{size}
+use Rattle.compact_repr.specs.Cut.{before}
 use Rattle.compact_repr.specs.Value.{PlacedText, placed}
 use Rattle.compact_repr.specs.Capacity.{Growth, fresh, held, owned, kept, room, room_asks, copied, shrunk, shrink_asks}
 
@@ -41,3 +42,9 @@ copy_of g v = option_map (placed v.text) (copied g v)
 -- v after a shrink to n: shrunk, or as it was where the new buffer that this takes was refused
 abbrev pub Shrinks : Growth → PlacedText → ℕ → PlacedText → Type 0
 Shrinks g v n w = (w ≡ placed v.text (shrunk g v n)) ⊎ ((w ≡ v) × IsTrue (shrink_asks g v n))
+
+-- v with its text cut at a position, in its place; one past the end changes nothing
+abbrev pub truncated : PlacedText → ℕ → PlacedText
+truncated v p =
+    let t = if nat_le (size v.text) p then v.text else before v.text p in
+    placed t (kept v t)

@@ -1,5 +1,5 @@
 -- Where a text is cut: between two characters, at a position that is counted in bytes of UTF-8.
-use Rattle.std.specs.Prelude.{◌≡◌, ℕ, ◌-◌, List, [], ◌∷◌, ◌++◌, if◌then◌else◌, nat_le}
+use Rattle.std.specs.Prelude.{◌≡◌, ℕ, ◌-◌, List, [], ◌∷◌, ◌++◌, if◌then◌else◌, nat_le, ◌↔◌}
 use Rattle.std.specs.Char.{len_utf8}
 use Rattle.compact_repr.specs.Text.{size}
 
@@ -25,3 +25,8 @@ after (c ∷ cs) p = if nat_le (len_utf8 c) p then after cs (p - len_utf8 c) els
 -- t with what stands from one position to another replaced by s
 abbrev pub spliced : List ℕ → ℕ → ℕ → List ℕ → List ℕ
 spliced t start end s = before t start ++ s ++ after t end
+
+-- `before` and `after` are the two parts of every cut, and there is a cut at p just where what is before p takes p bytes
+abbrev pub CutIsBeforeAndAfter : Type 0
+CutIsBeforeAndAfter =
+    (t : List ℕ) (p : ℕ) (a b : List ℕ) → (IsCut t p a b ↔ ((a ≡ before t p) × (b ≡ after t p) × (size (before t p) ≡ p)))

@@ -11,6 +11,8 @@ use crate::heap::HeapBuffer;
 use crate::inline::{INLINE_CAPACITY, InlineBuffer};
 use std::alloc::Global;
 
+mod edit;
+
 /// Where a text stands.
 #[derive(Drop)]
 pub enum Buffer {

@@ -7,6 +7,8 @@ ghost use Rattle.compact_repr.specs.Text.{size, utf8, text_of, IsText};
 use std::alloc::{AllocError, Global};
 use std::marker::Model;
 
+mod edit;
+
 /// The stated capacity is at most what the vector has reserved, since a vector may be given more than it asked for.
 #[derive(Drop)]
 pub struct HeapBuffer {

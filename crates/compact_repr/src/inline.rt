@@ -4,6 +4,8 @@ ghost use Rattle.compact_repr.specs.Text.{size, utf8, text_of, IsText};
 
 use std::marker::Model;
 
+mod edit;
+
 /// The most bytes that stand inline.
 pub const INLINE_CAPACITY: usize = 24;
 

@@ -6,13 +6,17 @@
 #![tactic(auto, using(crate::proofs::TextFacts::text_facts))]
 
 mod buffer;
+mod cut;
 mod error;
 mod heap;
 mod inline;
+mod law;
 mod policy;
 mod repr;
+mod rows;
 
 pub use error::ReserveError;
+pub use law::cut_is_before_and_after;
 pub use policy::{Policy, Standard};
 pub use inline::INLINE_CAPACITY;
 pub use repr::Repr;

@@ -5,6 +5,7 @@ ghost use Rattle.compact_repr.specs.Value.{is_heap, is_static, IsSound};
 ghost use Rattle.compact_repr.specs.Change.{pushed, push_asks, cleared};
 ghost use Rattle.compact_repr.specs.Stored.{value_of, IsStored};
 
+mod edit;
 mod make;
 pub mod room;
 

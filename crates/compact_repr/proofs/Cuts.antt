@@ -1,0 +1,146 @@
+-- Where a text is cut, and where its bytes are.
+use Rattle.std.proofs.Common.{◌≡◌, ℕ, ◌+◌, ◌-◌, ◌<◌, ◌≤◌, List, [], ◌∷◌, ◌++◌, length, take, drop, refl, ap, sym, ◌∙◌, subst, arith, length-append, true, ⊎_elim}
+use Rattle.std.proofs.lemmas.List.{append-nil, length-drop, length-take-le, take-append-drop}
+use Rattle.std.proofs.lemmas.Bool.{cases_Bool, cond-true, cond-false, le-leb, lt-leb, and_parts}
+use Rattle.std.proofs.lemmas.Str.{IsUtf8-append, IsUtf8-take, IsUtf8-drop, chars-append, scalars-chars, encodes-chars, encodes-append, encodes_same, chars_past_char, len_utf8_bounds, IsCharBoundary-at_seam}
+use Rattle.std.specs.Char.{len_utf8}
+use Rattle.std.specs.List.{replace_range}
+use Rattle.std.specs.Str.{IsUtf8, IsCharBoundary}
+use lib.Dec.{leb}
+use lib.Utf8.{encode, encodes, scalar, scalars}
+use Rattle.compact_repr.specs.Text.{size, text_of}
+use Rattle.compact_repr.specs.Cut.{IsCut, IsBoundary, before, after, spliced, CutIsBeforeAndAfter}
+use Rattle.compact_repr.proofs.Texts.{length-utf8, size-text_of, size-append}
+
+-- a text is what stands before a position and what stands after it
+pub before-after : (t : List ℕ) (p : ℕ) → t ≡ before t p ++ after t p
+before-after [] p = refl
+before-after (c ∷ cs) p =
+    ⊎_elim
+    (λ e. rw e (ap (λ x. c ∷ x) (before-after cs (p - len_utf8 c))))
+    (λ e. rw e refl)
+    (cases_Bool (leb (len_utf8 c) p))
+
+-- each character has a byte
+past-start : (c p : ℕ) → 0 ≡ p → p < len_utf8 c
+past-start c p e = let w = len_utf8_bounds c in omega (arith, w.0, e)
+
+pub before-cut : (a b : List ℕ) (p : ℕ) → size a ≡ p → before (a ++ b) p ≡ a
+before-cut [] [] p e = refl
+before-cut [] (c ∷ cs) p e = cond-false _ _ _ (lt-leb (len_utf8 c) p (past-start c p e))
+before-cut (c ∷ cs) b p e =
+    cond-true _ _ _ (le-leb (len_utf8 c) p (omega (arith, e)))
+    ∙ ap (λ x. c ∷ x) (before-cut cs b (p - len_utf8 c) (omega (arith, e)))
+
+pub after-cut : (a b : List ℕ) (p : ℕ) → size a ≡ p → after (a ++ b) p ≡ b
+after-cut [] [] p e = refl
+after-cut [] (c ∷ cs) p e = cond-false _ _ _ (lt-leb (len_utf8 c) p (past-start c p e))
+after-cut (c ∷ cs) b p e =
+    cond-true _ _ _ (le-leb (len_utf8 c) p (omega (arith, e)))
+    ∙ after-cut cs b (p - len_utf8 c) (omega (arith, e))
+
+pub size-before : (t : List ℕ) (p : ℕ) → IsBoundary t p → size (before t p) ≡ p
+size-before t p h = ap (λ x. size (before x p)) h.2.parts ∙ ap size (before-cut h.0 h.1 p h.2.position) ∙ h.2.position
+
+pub boundary-from_size : (t : List ℕ) (p : ℕ) → size (before t p) ≡ p → IsBoundary t p
+boundary-from_size t p e = (before t p, after t p, record { parts = before-after t p; position = e })
+
+pub cut_is_before_and_after : CutIsBeforeAndAfter
+cut_is_before_and_after t p a b = (
+  (λ h.
+      let front : before t p ≡ a = ap (λ x. before x p) h.parts ∙ before-cut a b p h.position in
+      let back : after t p ≡ b = ap (λ x. after x p) h.parts ∙ after-cut a b p h.position in
+      (sym front, sym back, ap size front ∙ h.position)),
+  (λ h.
+      let parts : t ≡ a ++ b = rw (h.0, h.1) (before-after t p) in
+      record { parts = parts; position = ap size h.0 ∙ h.2 }),
+)
+
+pub boundary-within : (t : List ℕ) (p : ℕ) → IsBoundary t p → p ≤ size t
+boundary-within t p h =
+    let whole : size t ≡ size h.0 + size h.1 = ap size h.2.parts ∙ size-append h.0 h.1 in
+    let front : size h.0 ≡ p = h.2.position in
+    omega (arith, whole, front)
+
+pub size-after : (t : List ℕ) (p : ℕ) → IsBoundary t p → size (after t p) + p ≡ size t
+size-after t p h =
+    let whole : size t ≡ size (before t p) + size (after t p) = ap size (before-after t p) ∙ size-append (before t p) (after t p) in
+    let front = size-before t p h in
+    omega (arith, whole, front)
+
+pub size-spliced : (t s : List ℕ) (start end : ℕ) → IsBoundary t start → IsBoundary t end → start ≤ end → size (spliced t start end s) + (end - start) ≡ size t + size s
+size-spliced t s start end h k order =
+    let whole : size (spliced t start end s) ≡ size (before t start) + size s + size (after t end) =
+    size-append (before t start ++ s) (after t end) ∙ ap (λ (n : ℕ). n + size (after t end)) (size-append (before t start) s) in
+    let front = size-before t start h in
+    let back = size-after t end k in
+    omega (arith, whole, front, back)
+
+pub length-spliced : (bytes s : List ℕ) (start end : ℕ) → start ≤ end → end ≤ length bytes → length (replace_range bytes start end s) ≡ length bytes - (end - start) + length s
+length-spliced bytes s start end order within =
+    let front = length-take-le start bytes (omega arith) in
+    simp (length-append, length-drop) (omega (arith, front))
+
+-- the bytes may be cut where the text may
+
+text_of-parts : (bytes : List ℕ) (p : ℕ) → IsUtf8 bytes → IsCharBoundary bytes p → IsCut (text_of bytes) p (text_of (take p bytes)) (text_of (drop p bytes))
+text_of-parts bytes p u h =
+    let front : IsUtf8 (take p bytes) = IsUtf8-take bytes p u h in
+    record {
+      parts = ap text_of (sym (take-append-drop p bytes)) ∙ chars-append (take p bytes) (drop p bytes) front;
+      position = size-text_of (take p bytes) front ∙ length-take-le p bytes h.0;
+    }
+
+pub boundary-text : {t : List ℕ} (bytes : List ℕ) (p : ℕ) → text_of bytes ≡ t → IsUtf8 bytes → IsCharBoundary bytes p → IsBoundary t p
+boundary-text bytes p e u h = subst (λ (t : List ℕ). IsBoundary t p) e (text_of (take p bytes), text_of (drop p bytes), text_of-parts bytes p u h)
+
+scalars-back : (a b : List ℕ) → scalars (a ++ b) ≡ true → scalars b ≡ true
+scalars-back [] b e = e
+scalars-back (c ∷ cs) b e = scalars-back cs b ((and_parts (scalar c) (scalars (cs ++ b)) e).1)
+
+boundary-encoded : (bytes : List ℕ) (p : ℕ) → IsUtf8 bytes → IsBoundary (text_of bytes) p → IsCharBoundary bytes p
+boundary-encoded bytes p u h =
+    let back : IsUtf8 (encodes h.1) = (h.1, (scalars-back h.0 h.1 (ap scalars (sym h.2.parts) ∙ scalars-chars bytes u), refl)) in
+    let parts : bytes ≡ encodes h.0 ++ encodes h.1 = sym (encodes-chars bytes u) ∙ ap encodes h.2.parts ∙ encodes-append h.0 h.1 in
+    subst (λ (n : ℕ). IsCharBoundary bytes n) (length-utf8 h.0 ∙ h.2.position) (IsCharBoundary-at_seam bytes (encodes h.0) (encodes h.1) parts back)
+
+pub boundary-bytes : {t : List ℕ} (bytes : List ℕ) (p : ℕ) → text_of bytes ≡ t → IsUtf8 bytes → IsBoundary t p → IsCharBoundary bytes p
+boundary-bytes bytes p e u h = boundary-encoded bytes p u (subst (λ (t : List ℕ). IsBoundary t p) (sym e) h)
+
+-- what the parts of the bytes spell
+
+pub text_of-take : {t : List ℕ} (bytes : List ℕ) (p : ℕ) → text_of bytes ≡ t → IsUtf8 bytes → IsBoundary t p → text_of (take p bytes) ≡ before t p
+text_of-take bytes p e u h =
+    let cut = text_of-parts bytes p u (boundary-bytes bytes p e u h) in
+    ((cut_is_before_and_after _ _ _ _).0 cut).0 ∙ ap (λ t. before t p) e
+
+pub text_of-drop : {t : List ℕ} (bytes : List ℕ) (p : ℕ) → text_of bytes ≡ t → IsUtf8 bytes → IsBoundary t p → text_of (drop p bytes) ≡ after t p
+text_of-drop bytes p e u h =
+    let cut = text_of-parts bytes p u (boundary-bytes bytes p e u h) in
+    ((cut_is_before_and_after _ _ _ _).0 cut).1 ∙ ap (λ t. after t p) e
+
+pub utf8-take : {t : List ℕ} (bytes : List ℕ) (p : ℕ) → text_of bytes ≡ t → IsUtf8 bytes → IsBoundary t p → IsUtf8 (take p bytes)
+utf8-take bytes p e u h = IsUtf8-take bytes p u (boundary-bytes bytes p e u h)
+
+pub utf8-spliced : {t : List ℕ} (bytes s : List ℕ) (start end : ℕ) → text_of bytes ≡ t → IsUtf8 bytes → IsUtf8 s → IsBoundary t start → IsBoundary t end → IsUtf8 (replace_range bytes start end s)
+utf8-spliced bytes s start end e u v h k =
+    IsUtf8-append _ _ (IsUtf8-append _ _ (utf8-take bytes start e u h) v) (IsUtf8-drop bytes end u (boundary-bytes bytes end e u k))
+
+pub text_of-spliced : {t : List ℕ} (bytes s : List ℕ) (start end : ℕ) → text_of bytes ≡ t → IsUtf8 bytes → IsUtf8 s → IsBoundary t start → IsBoundary t end → text_of (replace_range bytes start end s) ≡ spliced t start end (text_of s)
+text_of-spliced bytes s start end e u v h k =
+    let front = utf8-take bytes start e u h in
+    chars-append (take start bytes ++ s) (drop end bytes) (IsUtf8-append _ _ front v)
+    ∙ ap (λ x. x ++ text_of (drop end bytes)) (chars-append (take start bytes) s front)
+    ∙ rw (text_of-take bytes start e u h, text_of-drop bytes end e u k) refl
+
+-- the character that the last bytes encode is the last one of the text
+pub text_of-last : (bytes front : List ℕ) (c : ℕ) → IsUtf8 bytes → IsUtf8 front → bytes ≡ front ++ encode c → text_of bytes ≡ text_of front ++ c ∷ []
+text_of-last bytes front c u v e =
+    let spelled : encodes (text_of front ++ c ∷ []) ≡ front ++ encode c =
+    encodes-append (text_of front) (c ∷ []) ∙ ap (λ x. x ++ encodes (c ∷ [])) (encodes-chars front v) ∙ ap (λ x. front ++ x) (append-nil (encode c)) in
+    encodes_same _ _ (encodes-chars bytes u ∙ e ∙ sym spelled)
+
+-- the character that the first bytes after a boundary encode is the first one after it
+pub text_of-next : (bytes rest : List ℕ) (p c : ℕ) → IsUtf8 bytes → IsBoundary (text_of bytes) p → drop p bytes ≡ encode c ++ rest → after (text_of bytes) p ≡ c ∷ text_of rest
+text_of-next bytes rest p c u h e =
+    sym (text_of-drop bytes p refl u h) ∙ chars_past_char (drop p bytes) rest c (IsUtf8-drop bytes p u (boundary-bytes bytes p refl u h)) e

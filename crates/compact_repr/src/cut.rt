@@ -1,0 +1,52 @@
+//! Parts and characters of a borrowed text, by byte position.
+ghost use Rattle.std.specs.Prelude.{◌≡◌, ◌<◌, List, ℕ, [], ◌∷◌, ◌++◌, length, MatchOption};
+ghost use Rattle.compact_repr.specs.Text.{text_of};
+ghost use Rattle.compact_repr.specs.Cut.{IsBoundary, before, after};
+
+/// What stands before a boundary.
+#[inline]
+pub fn front(text: &str, index: usize) -> &str
+    requires { IsBoundary (text_of text.now) index }
+    ensures text { text_of result.now ≡ before (text_of text.now) index }
+    ensures len { length result.now ≡ index }
+{
+    &text[..index]
+}
+
+/// What stands after a boundary.
+#[inline]
+pub fn tail(text: &str, index: usize) -> &str
+    requires { IsBoundary (text_of text.now) index }
+    ensures { text_of result.now ≡ after (text_of text.now) index }
+{
+    &text[index..]
+}
+
+/// The character that begins at a boundary before the end.
+#[inline]
+pub fn char_at(text: &str, index: usize) -> char
+    requires boundary { IsBoundary (text_of text.now) index }
+    requires within { index < length text.now }
+    ensures { (rest : List ℕ) × (after (text_of text.now) index ≡ result ∷ rest) }
+{
+    match text[index..].chars().next() {
+        Some(character) => character,
+        None => unreachable!(),
+    }
+}
+
+/// The last character, found from the end; `None` of the empty text.
+#[inline]
+pub fn last_char(text: &str) -> Option<char>
+    ensures { MatchOption result (text_of text.now ≡ []) (λ c. (front : List ℕ) × (text_of text.now ≡ front ++ c ∷ [])) }
+{
+    let mut chars = text.chars();
+    match chars.next_back() {
+        Some(character) => {
+            // It tells the proof that what is left is a text.
+            let _front = chars.as_str();
+            Some(character)
+        }
+        None => None,
+    }
+}

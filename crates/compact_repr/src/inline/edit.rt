@@ -1,0 +1,51 @@
+//! Edits of an inline text by byte position.
+ghost use Rattle.std.specs.Prelude.{◌≡◌, ◌+◌, ◌-◌, ◌≤◌, length, take};
+ghost use Rattle.std.specs.List.{replace_range};
+ghost use Rattle.compact_repr.specs.Text.{size, text_of};
+ghost use Rattle.compact_repr.specs.Cut.{IsBoundary, before, spliced};
+
+use super::InlineBuffer;
+
+impl InlineBuffer {
+    /// Replaces what stands from one boundary to another by `text`, for which there is room. Positions are in bytes.
+    #[inline]
+    pub fn replace_range(&mut self, start: usize, end: usize, text: &str)
+        requires order { start ≤ end }
+        requires first { IsBoundary self.old start }
+        requires last { IsBoundary self.old end }
+        requires room { size self.old + length text.now ≤ 24 + (end - start) }
+        ensures text { self.new ≡ spliced self.old start end (text_of text.now) }
+        ensures fits { size self.new ≤ 24 }
+    {
+        let len = self.len - (end - start) + text.len();
+        splice(&mut self.bytes, self.len, start, end, text.as_bytes());
+        self.len = len;
+    }
+
+    /// Keeps the first `len` bytes, which end at a boundary.
+    #[inline]
+    pub fn truncate(&mut self, len: usize)
+        requires { IsBoundary self.old len }
+        ensures text { self.new ≡ before self.old len }
+        ensures fits { size self.new ≤ 24 }
+    {
+        self.len = len;
+    }
+}
+
+/// Of the first `len` bytes of `row` replaces those from `start` to `end` by `source`.
+///
+/// The tail moves once, from a copy of the row, since its old and new places may overlap.
+#[inline]
+fn splice(row: &mut [u8; 24], len: usize, start: usize, end: usize, source: &[u8])
+    requires order { start ≤ end }
+    requires within { end ≤ len }
+    requires held { len ≤ 24 }
+    requires room { len + length source.now ≤ 24 + (end - start) }
+    ensures { take (len - (end - start) + length source.now) row.new ≡ replace_range (take len row.old) start end source.now }
+{
+    let old = *row;
+    let tail = start + source.len();
+    row[tail..tail + (len - end)].copy_from_slice(&old[end..len]);
+    row[start..tail].copy_from_slice(source);
+}

@@ -1,0 +1,81 @@
+//! Edits of a representation by byte position, and what stands at a position.
+ghost use Rattle.std.specs.Prelude.{◌≡◌, ◌+◌, ◌-◌, ◌≤◌, ◌<◌, ℕ, List, [], ◌∷◌, ◌++◌, length, true, false, IsTrue, ◌↔◌, MatchOption};
+ghost use Rattle.compact_repr.specs.Text.{size, text_of};
+ghost use Rattle.compact_repr.specs.Cut.{IsBoundary, after, spliced};
+ghost use Rattle.compact_repr.specs.Value.{placed, is_static};
+ghost use Rattle.compact_repr.specs.Change.{truncated};
+
+use super::Repr;
+use crate::buffer::Buffer;
+use crate::cut;
+use crate::policy::Policy;
+
+#[cfg(test)]
+mod tests;
+
+impl<P: Policy> Repr<P> {
+    /// Replaces what stands from one position to another by `text`, in an owned value that has room for the outcome.
+    /// Positions are in bytes, between two characters. The place and the capacity stay, and no memory is taken.
+    #[inline]
+    pub fn replace_range(&mut self, start: usize, end: usize, text: &str)
+        requires owned { is_static self.old.placement.place ≡ false }
+        requires order { start ≤ end }
+        requires first { IsBoundary self.old.text start }
+        requires last { IsBoundary self.old.text end }
+        requires room { size self.old.text + length text.now ≤ self.old.placement.capacity + (end - start) }
+        ensures { self.new ≡ placed (spliced self.old.text start end (text_of text.now)) self.old.placement }
+    {
+        self.buffer.replace_range(start, end, text);
+    }
+
+    /// Keeps the first `len` bytes, which end between two characters; from the end on, `len` changes nothing. The place
+    /// stays, and so does an owned capacity: a static text becomes the front of the same static text.
+    #[inline]
+    pub fn truncate(&mut self, len: usize)
+        requires { len < size self.old.text → IsBoundary self.old.text len }
+        ensures { self.new ≡ truncated self.old len }
+    {
+        if len < self.buffer.len() {
+            self.buffer.truncate(len);
+        }
+    }
+
+    /// Whether `index`, in bytes, is between two characters, or at the start or the end.
+    #[inline]
+    pub fn is_char_boundary(&self, index: usize) -> bool
+        ensures boundary { IsTrue result ↔ IsBoundary self.now.text index }
+    {
+        self.as_str().is_char_boundary(index)
+    }
+
+    /// The character that begins at `index`, in bytes.
+    #[inline]
+    pub fn char_at(&self, index: usize) -> char
+        requires boundary { IsBoundary self.now.text index }
+        requires within { index < size self.now.text }
+        ensures { (rest : List ℕ) × (after self.now.text index ≡ result ∷ rest) }
+    {
+        cut::char_at(self.as_str(), index)
+    }
+
+    /// The last character, found from the end; `None` of the empty text.
+    #[inline]
+    pub fn last_char(&self) -> Option<char>
+        ensures { MatchOption result (self.now.text ≡ []) (λ c. (front : List ℕ) × (self.now.text ≡ front ++ c ∷ [])) }
+    {
+        cut::last_char(self.as_str())
+    }
+
+    /// What stands after `index`, in bytes, where the text is a static one; `None` of any other.
+    #[inline]
+    pub fn static_tail(&self, index: usize) -> Option<&'static str>
+        requires { IsBoundary self.now.text index }
+        ensures { MatchOption result (is_static self.now.placement.place ≡ false) (λ s. (is_static self.now.placement.place ≡ true) × (text_of s.now ≡ after self.now.text index)) }
+    {
+        match &self.buffer {
+            Buffer::Inline(_) => None,
+            Buffer::Heap(_) => None,
+            Buffer::Static(text) => Some(cut::tail(text, index)),
+        }
+    }
+}

@@ -1,0 +1,114 @@
+//! Each call once in each place. The texts and positions are written by hand: `ä`, `b` and the clef take 2, 1 and 4 bytes.
+use super::Repr;
+use crate::policy::Standard;
+use std::process::Abort;
+use std::test::Fail;
+
+/// Replaces a range, once all that the call asks for is seen to hold.
+fn replace(rt: &impl Abort, text: &mut Repr<Standard>, start: usize, end: usize, with: &str) {
+    assert!(rt; start <= end);
+    assert!(rt; text.is_char_boundary(start));
+    assert!(rt; text.is_char_boundary(end));
+    assert!(rt; end - start <= text.len());
+    assert!(rt; text.len() - (end - start) + with.len() <= text.capacity());
+    assert!(rt; text.is_char_boundary(0));
+    assert!(rt; text.static_tail(0).is_none());
+    text.replace_range(start, end, with);
+}
+
+fn truncate(rt: &impl Abort, text: &mut Repr<Standard>, len: usize) {
+    assert!(rt; len >= text.len() || text.is_char_boundary(len));
+    text.truncate(len);
+}
+
+fn char_at(rt: &impl Abort, text: &Repr<Standard>, index: usize) -> char {
+    assert!(rt; text.is_char_boundary(index));
+    assert!(rt; index < text.len());
+    text.char_at(index)
+}
+
+#[test]
+fn inline(rt: HostRuntime) -> Result<(), Fail> {
+    let mut text: Repr<Standard> = Repr::new(rt.alloc(), "äb𝄞")?;
+    for index in 0..9 {
+        assert_eq!(rt;
+            text.is_char_boundary(index),
+            matches!(index, 0 | 2 | 3 | 7),
+            "at {index}"
+        );
+    }
+    assert_eq!(rt; char_at(&rt, &text, 0), 'ä');
+    assert_eq!(rt; char_at(&rt, &text, 2), 'b');
+    assert_eq!(rt; char_at(&rt, &text, 3), '𝄞');
+    assert_eq!(rt; text.last_char(), Some('𝄞'));
+    replace(&rt, &mut text, 2, 3, "xyz");
+    assert_eq!(rt; text.as_str(), "äxyz𝄞");
+    replace(&rt, &mut text, 0, 3, "");
+    assert_eq!(rt; text.as_str(), "yz𝄞");
+    replace(&rt, &mut text, 6, 6, "end of a long tex");
+    assert_eq!(rt; text.as_str(), "yz𝄞end of a long tex");
+    truncate(&rt, &mut text, 24);
+    assert_eq!(rt; text.len(), 23);
+    truncate(&rt, &mut text, 2);
+    assert_eq!(rt; text.as_str(), "yz");
+    truncate(&rt, &mut text, 0);
+    assert_eq!(rt; text.last_char(), None);
+    Ok(())
+}
+
+#[test]
+fn heap(rt: HostRuntime) -> Result<(), Fail> {
+    let mut text: Repr<Standard> = Repr::new(rt.alloc(), "äb𝄞0123456789012345678901234")?;
+    assert_eq!(rt; text.capacity(), 32);
+    replace(&rt, &mut text, 3, 7, "xyz");
+    assert_eq!(rt; text.as_str(), "äbxyz0123456789012345678901234");
+    replace(&rt, &mut text, 2, 3, "c");
+    assert_eq!(rt; text.as_str(), "äcxyz0123456789012345678901234");
+    replace(&rt, &mut text, 2, 4, "");
+    assert_eq!(rt; text.as_str(), "äyz0123456789012345678901234");
+    replace(&rt, &mut text, 29, 29, "ß");
+    assert_eq!(rt; text.last_char(), Some('ß'));
+    assert_eq!(rt; char_at(&rt, &text, 2), 'y');
+    truncate(&rt, &mut text, 4);
+    assert_eq!(rt; text.as_str(), "äyz");
+    assert_eq!(rt; text.capacity(), 32);
+    Ok(())
+}
+
+/// The tail is longer than a block, and its old and new places overlap.
+#[test]
+fn long_tail(rt: HostRuntime) -> Result<(), Fail> {
+    let digits =
+        "012345678901234567890123456789012345678901234567890123456789012345678901234567890123456789012345678901234567890123456789012345678901234567890123456789";
+    let more =
+        "ab012345678901234567890123456789012345678901234567890123456789012345678901234567890123456789012345678901234567890123456789012345678901234567890123456789";
+    let mut text: Repr<Standard> = Repr::new(rt.alloc(), digits)?;
+    text.reserve(2)?;
+    replace(&rt, &mut text, 0, 0, "ab");
+    assert_eq!(rt; text.as_str(), more);
+    replace(&rt, &mut text, 1, 2, "");
+    replace(&rt, &mut text, 0, 1, "");
+    assert_eq!(rt; text.as_str(), digits);
+    replace(&rt, &mut text, 0, 0, "b");
+    replace(&rt, &mut text, 0, 0, "a");
+    replace(&rt, &mut text, 0, 2, "");
+    assert_eq!(rt; text.as_str(), digits);
+    Ok(())
+}
+
+#[test]
+fn of_the_program(rt: HostRuntime) -> Result<(), Fail> {
+    let mut text: Repr<Standard> = Repr::from_static(rt.alloc(), "äb𝄞 and so on, past the inline capacity");
+    assert!(rt; text.is_char_boundary(3));
+    assert_eq!(rt;
+        text.static_tail(3),
+        Some("𝄞 and so on, past the inline capacity")
+    );
+    assert_eq!(rt; text.last_char(), Some('y'));
+    truncate(&rt, &mut text, 7);
+    assert_eq!(rt; text.as_str(), "äb𝄞");
+    assert_eq!(rt; text.capacity(), 7);
+    assert!(rt; text.is_char_boundary(0));
+    assert_eq!(rt; text.static_tail(0), Some("äb𝄞"));
+    Ok(())
+}
