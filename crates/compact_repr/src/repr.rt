@@ -48,6 +48,12 @@ impl<P: Policy> Repr<P> {
         }
     }
 
+    /// The allocator that gives a heap buffer.
+    #[inline]
+    pub fn allocator(&self) -> Global {
+        self.alloc
+    }
+
     /// The length in bytes.
     #[inline]
     pub fn len(&self) -> usize

@@ -1,2 +1,4 @@
 pub mod TextFacts
 pub mod ChangeFacts
+pub mod Positions
+pub mod PositionFacts

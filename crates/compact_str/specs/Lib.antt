@@ -6,3 +6,5 @@ pub use Rattle.compact_repr.specs.Change
 pub mod Room
 pub mod Clones
 pub mod Cows
+pub mod Edits
+pub mod Ranges

@@ -1,9 +1,10 @@
 //! The string type.
 
 mod clones;
-mod edit;
+pub mod edit;
 mod look;
 mod make;
+mod position;
 mod room;
 
 use compact_repr::{Policy, Repr, Standard};

@@ -66,6 +66,16 @@ impl<P: Policy> Repr<P> {
         cut::last_char(self.as_str())
     }
 
+    /// What stands after `index`, in bytes.
+    #[inline]
+    pub fn tail(&self, index: usize) -> &str
+        requires { IsBoundary self.now.text index }
+        ensures text { text_of result.now ≡ after self.now.text index }
+        ensures len { length result.now ≡ size (after self.now.text index) }
+    {
+        cut::tail(self.as_str(), index)
+    }
+
     /// What stands after `index`, in bytes, where the text is a static one; `None` of any other.
     #[inline]
     pub fn static_tail(&self, index: usize) -> Option<&'static str>

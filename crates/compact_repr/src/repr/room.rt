@@ -21,6 +21,7 @@ impl<P: Policy> Repr<P> {
     #[inline]
     pub fn reserve(&mut self, additional: usize) -> Result<(), ReserveError>
         ensures ok { OnOk result (reserved P.growth self.old additional ≡ Some self.new) }
+        ensures room { OnOk result (IsTrue (has_room self.new additional)) }
         ensures err { OnErr result ((self.new ≡ self.old) × IsTrue (room_asks self.old additional)) }
     {
         if self.buffer.has_room(additional) {
@@ -53,6 +54,7 @@ impl<P: Policy> Repr<P> {
     /// Makes the text of a static value its own; every other stays as it is. An error changes nothing.
     pub fn make_owned(&mut self) -> Result<(), ReserveError>
         ensures ok { OnOk result (made_owned P.growth self.old ≡ Some self.new) }
+        ensures room { OnOk result (IsTrue (has_room self.new 0)) }
         ensures err { OnErr result ((self.new ≡ self.old) × IsTrue (own_asks self.old)) }
     {
         let Buffer::Static(text) = &self.buffer else {

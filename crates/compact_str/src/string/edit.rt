@@ -1,11 +1,16 @@
-//! How the text is changed.
-ghost use Rattle.std.specs.Prelude.{◌≡◌, ◌++◌, [], length, Some, OnOk, OnErr, IsOk, IsTrue};
-ghost use Rattle.compact_repr.specs.Text.{text_of};
-ghost use Rattle.compact_repr.specs.Change.{pushed, push_asks, cleared};
+//! How the text is changed at its end.
+ghost use Rattle.std.specs.Prelude.{◌≡◌, ◌<◌, ◌++◌, ◌∷◌, [], length, Some, IfOk, IfErr, OnOk, OnErr, IsOk, IsTrue};
+ghost use Rattle.std.specs.Char.{len_utf8};
+ghost use Rattle.compact_repr.specs.Text.{size, text_of};
+ghost use Rattle.compact_repr.specs.Cut.{IsBoundary};
+ghost use Rattle.compact_repr.specs.Change.{pushed, push_asks, cleared, truncated};
 ghost use Rattle.compact_str.specs.Room.{HasRoomFor};
+ghost use Rattle.compact_str.specs.Edits.{Pops};
 
+use crate::refused::Refused;
 use crate::string::PolicyString;
 use compact_repr::{Policy, ReserveError};
+use std::fmt;
 
 impl<P: Policy> PolicyString<P> {
     /// Appends `text`. An empty one changes nothing, and for any other room is made as `reserve` makes it.
@@ -22,6 +27,59 @@ impl<P: Policy> PolicyString<P> {
         self.repr.push_str(text)
     }
 
+    /// Appends a character, as `push_str` appends its text.
+    ///
+    /// An error says that no memory was found, or that the capacity would be past 2^56 - 2; then nothing has changed.
+    #[inline]
+    pub fn push(&mut self, character: char) -> Result<(), ReserveError>
+        ensures ok { OnOk result (pushed P.growth self.old (character ∷ []) ≡ Some self.new) }
+        ensures text { OnOk result (self.new.text ≡ self.old.text ++ character ∷ []) }
+        ensures succeeds { HasRoomFor self.old (len_utf8 character) → IsOk result }
+        ensures err { OnErr result ((self.new ≡ self.old) × IsTrue (push_asks self.old (character ∷ []))) }
+    {
+        let mut bytes = [0; 4];
+        self.push_str(encoded(character, &mut bytes))
+    }
+
+    /// Appends `text` to a value that is handed in, and hands it out again; where `push_str` is refused the value comes
+    /// back in the error, as it was.
+    pub fn add_str(mut self, text: &str) -> Result<Self, Refused<Self>>
+        ensures ok { IfOk result (λ v. pushed P.growth self (text_of text.now) ≡ Some v) }
+        ensures text { IfOk result (λ v. v.text ≡ self.text ++ text_of text.now) }
+        ensures succeeds { HasRoomFor self (length text.now) → IsOk result }
+        ensures err { IfErr result (λ e. (e.value ≡ self) × IsTrue (push_asks self (text_of text.now))) }
+    {
+        match self.push_str(text) {
+            Ok(()) => Ok(self),
+            Err(error) => Err(Refused { error, value: self }),
+        }
+    }
+
+    /// Takes the last character off and answers it; `None` of the empty text.
+    ///
+    /// The place stays, and so does the capacity of an inline or heap value.
+    #[inline]
+    #[tactic(auto, using(crate::proofs::TextFacts::text_facts, crate::proofs::PositionFacts::position_facts))]
+    pub fn pop(&mut self) -> Option<char>
+        ensures { Pops self.old result self.new }
+    {
+        let character = self.repr.last_char()?;
+        self.repr.truncate(self.repr.len() - character.len_utf8());
+        Some(character)
+    }
+
+    /// Keeps the first `len` bytes, which end between two characters; from the length on nothing changes.
+    ///
+    /// The place stays, and so does the capacity of an inline or heap value. Whether `len` is such a position,
+    /// `is_char_boundary` tells.
+    #[inline]
+    pub fn truncate(&mut self, len: usize)
+        requires { len < size self.old.text → IsBoundary self.old.text len }
+        ensures { self.new ≡ truncated self.old len }
+    {
+        self.repr.truncate(len);
+    }
+
     /// Leaves the empty text. The place stays, and so does the capacity of an inline or heap value.
     #[inline]
     pub fn clear(&mut self)
@@ -29,4 +87,29 @@ impl<P: Policy> PolicyString<P> {
     {
         self.repr.clear();
     }
+}
+
+impl<P: Policy> fmt::Write for PolicyString<P> {
+    ghost write_str_gives = { λ v bytes w. pushed P.growth v (text_of bytes) ≡ Some w };
+
+    /// Appends `text` as `push_str` does; a refusal is an error of `fmt`, and nothing has changed.
+    fn write_str(&mut self, text: &str) -> fmt::Result
+        ensures ok { IsOk result → (pushed P.growth self.old (text_of text.now) ≡ Some self.new) }
+        ensures succeeds { HasRoomFor self.old (length text.now) → IsOk result }
+        ensures err { OnErr result ((self.new ≡ self.old) × IsTrue (push_asks self.old (text_of text.now))) }
+    {
+        match self.push_str(text) {
+            Ok(()) => Ok(()),
+            Err(ReserveError) => Err(fmt::Error),
+        }
+    }
+}
+
+/// The text of one character.
+#[inline]
+pub fn encoded(character: char, bytes: &mut [u8; 4]) -> &str
+    ensures text { text_of result.now ≡ character ∷ [] }
+    ensures len { length result.now ≡ len_utf8 character }
+{
+    character.encode_utf8(bytes)
 }

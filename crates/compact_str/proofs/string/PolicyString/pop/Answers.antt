@@ -1,0 +1,13 @@
+use Rattle.std.proofs.Common.{◌≡◌, ◌∷◌, [], ◌++◌, ap, sym, ◌∙◌, refl}
+use Rattle.compact_repr.specs.Value.{PlacedText}
+use Rattle.compact_str.proofs.Positions.{truncated-last}
+use Rattle.compact_str.proofs.string.PolicyString.pop.Goals as goal
+
+pub returns : goal.returns
+returns g c =
+    let last = c.in_ok-character.ensures in
+    let text : c.args.self.now.text ≡ last.0 ++ c.in_ok-character.character ∷ [] = ap (λ (v : PlacedText). v.text) (sym c.self.view_is) ∙ last.1 in (
+      last.0,
+      text,
+      c.truncate.ensures ∙ rw (c.len.ensures.value, c.len_utf8.ensures.value, c.self.view_is) (truncated-last c.args.self.now last.0 c.in_ok-character.character text),
+    )

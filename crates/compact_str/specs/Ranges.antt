@@ -1,0 +1,20 @@
+-- Ranges of a text by two bounds.
+use Rattle.std.specs.Prelude.{◌≡◌, ℕ, ◌≤◌, List}
+use Rattle.std.specs.declared.ops.Bound.{Bound}
+use Rattle.std.specs.Range.Bound.{start_index, end_index}
+use Rattle.compact_repr.specs.Text.{size}
+use Rattle.compact_repr.specs.Cut.{IsBoundary}
+
+-- where a range of t begins and ends, in bytes: an included start is there and an excluded one a byte after, an
+-- excluded end is there and an included one a byte after, and an open end is that of t
+abbrev pub range_start : Bound ℕ → ℕ
+range_start start = start_index start
+
+abbrev pub range_end : List ℕ → Bound ℕ → ℕ
+range_end t end = end_index end (size t)
+
+-- the range does not end before it starts, and both of its ends are boundaries of t
+pub record IsRange (t : List ℕ) (start end : Bound ℕ) : Type 0 where
+  pub order : range_start start ≤ range_end t end
+  pub first : IsBoundary t (range_start start)
+  pub last : IsBoundary t (range_end t end)

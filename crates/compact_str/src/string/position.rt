@@ -1,0 +1,160 @@
+//! How the text is changed by byte position.
+ghost use Rattle.std.specs.Prelude.{◌≡◌, ◌+◌, ◌-◌, ◌<◌, ◌≤◌, ◌↔◌, ◌∷◌, [], length, Some, None, IfOk, OnOk, OnErr, IsOk, IsTrue, MatchOption};
+ghost use Rattle.std.specs.Char.{len_utf8};
+ghost use Rattle.compact_repr.specs.Text.{size, text_of};
+ghost use Rattle.compact_repr.specs.Cut.{IsBoundary, before, after, spliced};
+ghost use Rattle.compact_repr.specs.Value.{placed};
+ghost use Rattle.compact_repr.specs.Capacity.{room_asks, own_asks, kept};
+ghost use Rattle.compact_str.specs.Room.{IsOwned, HasRoomFor};
+ghost use Rattle.compact_str.specs.Edits.{inserted, Removes, split_tail, split_asks, replaced, replace_asks};
+ghost use Rattle.compact_str.specs.Ranges.{IsRange, range_start, range_end};
+
+use crate::string::PolicyString;
+use crate::string::edit::encoded;
+use compact_repr::{Policy, Repr, ReserveError};
+use std::ops::Bound;
+
+impl<P: Policy> PolicyString<P> {
+    /// Whether `index`, in bytes, is a boundary: 0, the length, or where a character begins.
+    ///
+    /// In `"äb"` 0, 2 and 3 are.
+    #[inline]
+    pub fn is_char_boundary(&self, index: usize) -> bool
+        ensures { IsTrue result ↔ IsBoundary self.now.text index }
+    {
+        self.repr.is_char_boundary(index)
+    }
+
+    /// Where a range of the text begins and ends, in bytes; `None` exactly of one that ends before it starts, or of which
+    /// an end is no boundary.
+    #[tactic(auto, using(crate::proofs::TextFacts::text_facts, crate::proofs::PositionFacts::position_facts))]
+    pub fn check_range(&self, start: Bound<usize>, end: Bound<usize>) -> Option<(usize, usize)>
+        ensures { MatchOption result (¬ IsRange self.now.text start end) (λ range. IsRange self.now.text start end × (range.0 ≡ range_start start) × (range.1 ≡ range_end self.now.text end)) }
+    {
+        let len = self.len();
+        let first = match start {
+            Bound::Included(index) => index,
+            Bound::Excluded(index) => index.checked_add(1)?,
+            Bound::Unbounded => 0,
+        };
+        let last = match end {
+            Bound::Included(index) => index.checked_add(1)?,
+            Bound::Excluded(index) => index,
+            Bound::Unbounded => len,
+        };
+        if first <= last && self.is_char_boundary(first) && self.is_char_boundary(last) {
+            Some((first, last))
+        } else {
+            None
+        }
+    }
+
+    /// Puts `text` in at the boundary `index`, in bytes, once there is room for it; a static value becomes its own even for
+    /// an empty text.
+    ///
+    /// An error says that no memory was found, or that the capacity would be past 2^56 - 2; then nothing has changed.
+    #[inline]
+    pub fn insert_str(&mut self, index: usize, text: &str) -> Result<(), ReserveError>
+        requires { IsBoundary self.old.text index }
+        ensures ok { OnOk result (inserted P.growth self.old index (text_of text.now) ≡ Some self.new) }
+        ensures text { OnOk result (self.new.text ≡ spliced self.old.text index index (text_of text.now)) }
+        ensures succeeds { HasRoomFor self.old (length text.now) → IsOk result }
+        ensures err { OnErr result ((self.new ≡ self.old) × IsTrue (room_asks self.old (length text.now))) }
+    {
+        self.repr.reserve(text.len())?;
+        self.repr.replace_range(index, index, text);
+        Ok(())
+    }
+
+    /// Puts a character in at the boundary `index`, in bytes, as `insert_str` puts its text in.
+    ///
+    /// An error says that no memory was found, or that the capacity would be past 2^56 - 2; then nothing has changed.
+    #[inline]
+    pub fn insert(&mut self, index: usize, character: char) -> Result<(), ReserveError>
+        requires { IsBoundary self.old.text index }
+        ensures ok { OnOk result (inserted P.growth self.old index (character ∷ []) ≡ Some self.new) }
+        ensures text { OnOk result (self.new.text ≡ spliced self.old.text index index (character ∷ [])) }
+        ensures succeeds { HasRoomFor self.old (len_utf8 character) → IsOk result }
+        ensures err { OnErr result ((self.new ≡ self.old) × IsTrue (room_asks self.old (len_utf8 character))) }
+    {
+        let mut bytes = [0; 4];
+        self.insert_str(index, encoded(character, &mut bytes))
+    }
+
+    /// Takes out the character that begins at the boundary `index`, in bytes, and answers it. A static value becomes its
+    /// own first.
+    ///
+    /// An error says that no memory was found for that; then nothing has changed. An owned value is never refused.
+    #[inline]
+    #[tactic(auto, using(crate::proofs::TextFacts::text_facts, crate::proofs::PositionFacts::position_facts))]
+    pub fn remove(&mut self, index: usize) -> Result<char, ReserveError>
+        requires boundary { IsBoundary self.old.text index }
+        requires within { index < size self.old.text }
+        ensures ok { IfOk result (λ c. Removes P.growth self.old index c self.new) }
+        ensures succeeds { IsOwned self.old → IsOk result }
+        ensures err { OnErr result ((self.new ≡ self.old) × IsTrue (own_asks self.old)) }
+    {
+        let len = self.repr.len();
+        // The position is in the text, so that what follows the character is too.
+        prove!(index < len);
+        let character = self.repr.char_at(index);
+        self.repr.make_owned()?;
+        self.repr.replace_range(index, index + character.len_utf8(), "");
+        Ok(character)
+    }
+
+    /// Replaces a range of the text. A static value becomes its own; one that grows makes room for the difference.
+    ///
+    /// Whether the bounds are a range of the text, `check_range` tells. An error says that no memory was found, or that
+    /// the capacity would be past 2^56 - 2; then nothing has changed.
+    pub fn replace_range(&mut self, start: Bound<usize>, end: Bound<usize>, text: &str) -> Result<(), ReserveError>
+        requires { IsRange self.old.text start end }
+        ensures ok { OnOk result (replaced P.growth self.old (range_start start) (range_end self.old.text end) (text_of text.now) ≡ Some self.new) }
+        ensures text { OnOk result (self.new.text ≡ spliced self.old.text (range_start start) (range_end self.old.text end) (text_of text.now)) }
+        ensures err { OnErr result ((self.new ≡ self.old) × IsTrue (replace_asks self.old (range_start start) (range_end self.old.text end) (text_of text.now))) }
+    {
+        match self.check_range(start, end) {
+            Some((first, last)) => self.replace_between(first, last, text),
+            None => unreachable!(),
+        }
+    }
+
+    /// Replaces what stands between two boundaries, in bytes.
+    fn replace_between(&mut self, first: usize, last: usize, text: &str) -> Result<(), ReserveError>
+        requires order { first ≤ last }
+        requires first { IsBoundary self.old.text first }
+        requires last { IsBoundary self.old.text last }
+        ensures ok { OnOk result (replaced P.growth self.old first last (text_of text.now) ≡ Some self.new) }
+        ensures text { OnOk result (self.new.text ≡ spliced self.old.text first last (text_of text.now)) }
+        ensures err { OnErr result ((self.new ≡ self.old) × IsTrue (replace_asks self.old first last (text_of text.now))) }
+    {
+        let replaced = last - first;
+        if text.len() <= replaced {
+            self.repr.make_owned()?;
+        } else {
+            self.repr.reserve(text.len() - replaced)?;
+        }
+        self.repr.replace_range(first, last, text);
+        Ok(())
+    }
+
+    /// Splits the text at the boundary `index`, in bytes: keeps what stands before it, in its place, and answers the rest. Of a
+    /// static value the rest is static too where it is longer than 24 bytes, and not copied.
+    ///
+    /// An error says that no memory was found for the rest; then nothing has changed.
+    #[tactic(auto, using(crate::proofs::TextFacts::text_facts, crate::proofs::PositionFacts::position_facts))]
+    pub fn split_off(&mut self, index: usize) -> Result<Self, ReserveError>
+        requires { IsBoundary self.old.text index }
+        ensures ok { IfOk result (λ tail. (split_tail P.growth self.old index ≡ Some tail) × (let front = before self.old.text index in self.new ≡ placed front (kept self.old front))) }
+        ensures text { IfOk result (λ tail. (self.new.text ≡ before self.old.text index) × (tail.text ≡ after self.old.text index)) }
+        ensures err { OnErr result ((self.new ≡ self.old) × IsTrue (split_asks self.old index)) }
+    {
+        let alloc = self.repr.allocator();
+        let repr = match self.repr.static_tail(index) {
+            Some(tail) => Repr::from_static(alloc, tail),
+            None => Repr::new(alloc, self.repr.tail(index))?,
+        };
+        self.repr.truncate(index);
+        Ok(PolicyString { repr })
+    }
+}
