@@ -2,3 +2,5 @@ pub mod TextFacts
 pub mod ChangeFacts
 pub mod Positions
 pub mod PositionFacts
+pub mod Repeats
+pub mod RepeatFacts

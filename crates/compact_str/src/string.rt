@@ -5,6 +5,7 @@ pub mod edit;
 mod look;
 mod make;
 mod position;
+mod repeat;
 mod room;
 
 use compact_repr::{Policy, Repr, Standard};

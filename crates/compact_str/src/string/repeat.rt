@@ -1,0 +1,53 @@
+//! How a text is repeated.
+ghost use Rattle.std.specs.Prelude.{◌≡◌, ◌*◌, [], Some, IfOk, OnErr, IsTrue};
+ghost use Rattle.compact_repr.specs.Text.{size};
+ghost use Rattle.compact_repr.specs.Value.{placed};
+ghost use Rattle.compact_repr.specs.Capacity.{held};
+ghost use Rattle.compact_str.specs.Edits.{repeated, repeat_asks, times};
+
+use crate::string::PolicyString;
+use compact_repr::{Policy, ReserveError};
+
+impl<P: Policy> PolicyString<P> {
+    /// The text `count` times, one after another, in one buffer: 0 times it is empty and inline, once it is a clone.
+    ///
+    /// An error says that no memory was found, or that the length would be past 2^56 - 2.
+    /// `"abc"` three times is `"abcabcabc"`.
+    #[tactic(auto, using(crate::proofs::TextFacts::text_facts, crate::proofs::RepeatFacts::repeat_facts))]
+    pub fn repeat(&self, count: usize) -> Result<Self, ReserveError>
+        ensures ok { IfOk result (λ v. repeated P.growth self.now count ≡ Some v) }
+        ensures text { IfOk result (λ v. v.text ≡ times count self.now.text) }
+        ensures err { OnErr result (IsTrue (repeat_asks self.now count)) }
+    {
+        if count == 1 {
+            return match self.repr.try_clone() {
+                Ok(repr) => Ok(PolicyString { repr }),
+                Err(error) => Err(error),
+            };
+        }
+        let Some(total) = self.len().checked_mul(count) else {
+            return Err(ReserveError);
+        };
+        let mut all = Self::with_capacity(self.repr.allocator(), total)?;
+        // An empty text is done, however often it is wanted.
+        if total == 0 {
+            return Ok(all);
+        }
+        all.fill(self, count);
+        Ok(all)
+    }
+
+    /// Appends the text of `piece` so many times to the empty text, which has room for them all.
+    fn fill(&mut self, piece: &Self, count: usize)
+        requires empty { self.old.text ≡ [] }
+        requires room { held P.growth (size piece.now.text * count) ≡ Some self.old.placement }
+        ensures { self.new ≡ placed (times count piece.now.text) self.old.placement }
+    {
+        for _done in 0..count {
+            match self.push_str(piece.as_str()) {
+                Ok(()) => {}
+                Err(_) => unreachable!(),
+            }
+        }
+    }
+}
