@@ -4,3 +4,4 @@ pub mod Positions
 pub mod PositionFacts
 pub mod Repeats
 pub mod RepeatFacts
+pub mod LawLemmas

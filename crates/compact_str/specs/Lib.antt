@@ -8,3 +8,4 @@ pub mod Clones
 pub mod Cows
 pub mod Edits
 pub mod Ranges
+pub mod Laws

@@ -6,9 +6,11 @@
 //! list of characters, with a place and a capacity: the `PlacedText` of `specs/`.
 #![tactic(auto, using(crate::proofs::TextFacts::text_facts))]
 
+mod laws;
 mod refused;
 mod string;
 
 pub use compact_repr::{GREATEST_CAPACITY, INLINE_CAPACITY, Policy, ReserveError, Standard};
+pub use laws::{append_undoes_split, clone_is_equal, removal_undoes_insertion};
 pub use refused::Refused;
 pub use string::{CompactString, PolicyString};

@@ -1,0 +1,41 @@
+-- Proofs of the laws of the edits.
+use Rattle.std.proofs.Common.{◌≡◌, Some, ℕ, ◌+◌, List, [], ◌∷◌, ◌++◌, false, refl, ap, sym, ◌∙◌, arith, append_assoc}
+use Rattle.std.proofs.lemmas.Grind.{common_steps}
+use Rattle.compact_repr.specs.Cut.{IsBoundary, before, after, spliced}
+use Rattle.compact_repr.specs.Value.{PlacedText, placed}
+use Rattle.compact_repr.specs.Capacity.{Growth, kept, own_asks, room}
+use Rattle.compact_repr.specs.Change.{pushed, copy_of}
+use Rattle.compact_str.specs.Edits.{inserted, Removes, split_tail}
+use Rattle.compact_str.specs.Laws.{RemovalUndoesInsertion, AppendUndoesSplit, CloneIsEqual}
+use Rattle.compact_repr.proofs.Changes.{pushed-text}
+use Rattle.compact_repr.proofs.Cuts.{before-after, before-cut, after-cut, size-before}
+
+inserted-text : (g : Growth) (v w : PlacedText) (p : ℕ) (s : List ℕ) → inserted g v p s ≡ Some w → w.text ≡ spliced v.text p p s
+inserted-text g v w p s e = grind (arith, common_steps)
+
+inserted-owned : (g : Growth) (v w : PlacedText) (p : ℕ) (s : List ℕ) → inserted g v p s ≡ Some w → own_asks w ≡ false
+inserted-owned g v w p s e = grind (arith, common_steps)
+
+removes-text : (g : Growth) (w u : PlacedText) (p d : ℕ) (r : Removes g w p d u) → u.text ≡ before w.text p ++ r.0
+removes-text g w u p d r = let e = r.2 in grind (arith, common_steps)
+
+pub removal_undoes_insertion : RemovalUndoesInsertion
+removal_undoes_insertion g v w p c h e =
+    let text : w.text ≡ before v.text p ++ (c ∷ after v.text p) = inserted-text g v w p (c ∷ []) e ∙ append_assoc (before v.text p) (c ∷ []) (after v.text p) in
+    let front : before w.text p ≡ before v.text p = ap (λ t. before t p) text ∙ before-cut (before v.text p) _ p (size-before v.text p h) in
+    let rest : after w.text p ≡ c ∷ after v.text p = ap (λ t. after t p) text ∙ after-cut (before v.text p) _ p (size-before v.text p h) in
+    (inserted-owned g v w p (c ∷ []) e, λ d u r.
+      let same : d ∷ r.0 ≡ c ∷ after v.text p = sym r.1 ∙ rest in
+      let first : d ≡ c = cc in
+      let others : r.0 ≡ after v.text p = cc in
+      (first, removes-text g w u p d r ∙ rw (front, others) (sym (before-after v.text p))))
+
+split-text : (g : Growth) (v tail : PlacedText) (p : ℕ) → split_tail g v p ≡ Some tail → tail.text ≡ after v.text p
+split-text g v tail p e = grind (arith, common_steps)
+
+pub append_undoes_split : AppendUndoesSplit
+append_undoes_split g v tail w p e k =
+    pushed-text g _ w tail.text k ∙ rw (split-text g v tail p e) (sym (before-after v.text p))
+
+pub clone_is_equal : CloneIsEqual
+clone_is_equal g v w e = grind (arith, common_steps)
