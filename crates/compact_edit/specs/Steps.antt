@@ -1,34 +1,68 @@
--- What one edit does to a value.
-use Rattle.std.specs.Prelude.{◌≡◌, ℕ, Bool, false, Some, IsTrue}
-use Rattle.compact_str.specs.Text.{text_of}
-use Rattle.compact_str.specs.Value.{PlacedText}
-use Rattle.compact_str.specs.Capacity.{Growth, room_asks}
-use Rattle.compact_str.specs.Change.{pushed, push_asks, cleared, reserved, Shrinks}
+-- What one edit does to a value, and what it answers.
+use Rattle.std.specs.Prelude.{◌≡◌, ℕ, ◌<◌, Bool, false, Option, Some, IsTrue, [], ◌∷◌}
+use Rattle.std.specs.Char.{len_utf8}
+use Rattle.compact_str.specs.Text.{text_of, size}
+use Rattle.compact_str.specs.Cut.{IsBoundary, before}
+use Rattle.compact_str.specs.Value.{PlacedText, placed}
+use Rattle.compact_str.specs.Capacity.{Growth, kept, room_asks, own_asks}
+use Rattle.compact_str.specs.Change.{pushed, push_asks, cleared, reserved, truncated, Shrinks}
 use Rattle.compact_str.specs.Clones.{cloned_from, clone_from_asks}
+use Rattle.compact_str.specs.Edits.{inserted, Removes, Pops, split_tail, split_asks, replaced, replace_asks, repeated, repeat_asks}
+use Rattle.compact_str.specs.Ranges.{IsRange, range_start, range_end}
 use Rattle.compact_edit.specs.declared.edit.Edit.{Edit}
-use Rattle.compact_edit.specs.declared.edit.Edit.TheVariants.{PushStr, Clear, Reserve, ShrinkTo, ShrinkToFit, CloneFrom}
+use Rattle.compact_edit.specs.declared.edit.Edit.TheVariants.{Push, PushStr, Pop, Insert, InsertStr, Remove, Truncate, Clear, SplitOff, ReplaceRange, Reserve, ShrinkTo, ShrinkToFit, Repeat, CloneFrom}
 use Rattle.compact_edit.specs.declared.edit.Reply.{Reply}
-use Rattle.compact_edit.specs.declared.edit.Reply.TheVariants.{Done, Refused}
+use Rattle.compact_edit.specs.declared.edit.Reply.TheVariants.{Done, Char, Text, BadPosition, Refused}
+
+-- the positions that the edit needs are boundaries of v
+abbrev pub IsLegal : {P : Type 0} → PlacedText → Edit P → Type 0
+IsLegal v (Insert p c) = IsBoundary v.text p
+IsLegal v (InsertStr p s) = IsBoundary v.text p
+IsLegal v (Remove p) = (p < size v.text) × IsBoundary v.text p
+IsLegal v (Truncate n) = n < size v.text → IsBoundary v.text n
+IsLegal v (SplitOff p) = IsBoundary v.text p
+IsLegal v (ReplaceRange start end s) = IsRange v.text start end
+IsLegal v edit = Unit {0}
 
 -- the edit asks for a heap buffer, so that it may be refused
 abbrev pub asks : {P : Type 0} → PlacedText → Edit P → Bool
+asks v (Push c) = push_asks v (c ∷ [])
 asks v (PushStr s) = push_asks v (text_of s.now)
-asks v Clear = false
+asks v (Insert p c) = room_asks v (len_utf8 c)
+asks v (InsertStr p s) = room_asks v (size (text_of s.now))
+asks v (Remove p) = own_asks v
+asks v (SplitOff p) = split_asks v p
+asks v (ReplaceRange start end s) = replace_asks v (range_start start) (range_end v.text end) (text_of s.now)
 asks v (Reserve n) = room_asks v n
-asks v (ShrinkTo n) = false
-asks v ShrinkToFit = false
+asks v (Repeat n) = repeat_asks v n
 asks v (CloneFrom source) = clone_from_asks v source.now
+asks v edit = false
 
--- what the edit leaves where it is done
-abbrev pub Does : {P : Type 0} → Growth → PlacedText → Edit P → PlacedText → Type 0
-Does g v (PushStr s) w = pushed g v (text_of s.now) ≡ Some w
-Does g v Clear w = w ≡ cleared v
-Does g v (Reserve n) w = reserved g v n ≡ Some w
-Does g v (ShrinkTo n) w = Shrinks g v n w
-Does g v ShrinkToFit w = Shrinks g v 0 w
-Does g v (CloneFrom source) w = cloned_from g v source.now ≡ Some w
+-- what the edit answers and leaves where it is done
+abbrev pub Does : {P : Type 0} → Growth → PlacedText → Edit P → Reply P → PlacedText → Type 0
+Does g v (Push c) reply w = (reply ≡ Done) × (pushed g v (c ∷ []) ≡ Some w)
+Does g v (PushStr s) reply w = (reply ≡ Done) × (pushed g v (text_of s.now) ≡ Some w)
+Does g v Pop reply w = (c : Option ℕ) × (reply ≡ Char c) × Pops v c w
+Does g v (Insert p c) reply w = (reply ≡ Done) × (inserted g v p (c ∷ []) ≡ Some w)
+Does g v (InsertStr p s) reply w = (reply ≡ Done) × (inserted g v p (text_of s.now) ≡ Some w)
+Does g v (Remove p) reply w = (c : ℕ) × (reply ≡ Char (Some c)) × Removes g v p c w
+Does g v (Truncate n) reply w = (reply ≡ Done) × (w ≡ truncated v n)
+Does g v Clear reply w = (reply ≡ Done) × (w ≡ cleared v)
+Does g v (SplitOff p) reply w =
+    (tail : PlacedText) × (reply ≡ Text tail) × (split_tail g v p ≡ Some tail)
+    × (w ≡ placed (before v.text p) (kept v (before v.text p)))
+Does g v (ReplaceRange start end s) reply w =
+    (reply ≡ Done) × (replaced g v (range_start start) (range_end v.text end) (text_of s.now) ≡ Some w)
+Does g v (Reserve n) reply w = (reply ≡ Done) × (reserved g v n ≡ Some w)
+Does g v (ShrinkTo n) reply w = (reply ≡ Done) × Shrinks g v n w
+Does g v ShrinkToFit reply w = (reply ≡ Done) × Shrinks g v 0 w
+Does g v (Repeat n) reply w = (all : PlacedText) × (reply ≡ Text all) × (repeated g v n ≡ Some all) × (w ≡ v)
+Does g v (CloneFrom source) reply w = (reply ≡ Done) × (cloned_from g v source.now ≡ Some w)
 
 -- from v the edit may get this reply and leave w
-abbrev pub Step : {P : Type 0} → Growth → PlacedText → Edit P → Reply → PlacedText → Type 0
-Step g v edit Done w = Does g v edit w
-Step g v edit (Refused e) w = (w ≡ v) × IsTrue (asks v edit)
+abbrev pub Step : {P : Type 0} → Growth → PlacedText → Edit P → Reply P → PlacedText → Type 0
+Step g v edit BadPosition w = (w ≡ v) × ¬ (IsLegal v edit)
+Step g v edit (Refused e) w = (w ≡ v) × IsLegal v edit × IsTrue (asks v edit)
+Step g v edit Done w = IsLegal v edit × Does g v edit Done w
+Step g v edit (Char c) w = IsLegal v edit × Does g v edit (Char c) w
+Step g v edit (Text t) w = IsLegal v edit × Does g v edit (Text t) w

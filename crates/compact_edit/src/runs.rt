@@ -5,16 +5,17 @@ ghost use Rattle.compact_edit.specs.Runs.{RunsTo};
 
 use crate::edit::{Edit, Reply};
 use compact_str::{Policy, PolicyString, ReserveError};
+use std::ops::Bound;
 
 /// Runs each edit on `value`, in order, and puts one reply for each after those that stand in `replies`.
 ///
 /// Room for all replies is made first. Where that is refused the call answers the error, nothing is run, and value and
-/// replies are as they were; an empty list is never refused. An edit that is refused leaves the value as it was, its
-/// reply says so, and the edits after it are run.
+/// replies are as they were; an empty list is never refused. An edit that is refused, or whose position is no boundary,
+/// leaves the value as it was, its reply says so, and the edits after it are run.
 pub fn run<P: Policy>(
     value: &mut PolicyString<P>,
     edits: &[Edit<P>],
-    replies: &mut Vec<Reply>,
+    replies: &mut Vec<Reply<P>>,
 ) -> Result<(), ReserveError>
     ensures run { OnOk result (RunsTo P.growth value.old edits.now replies.old.items replies.new.items value.new) }
     ensures err { OnErr result ((value.new ≡ value.old) × (replies.new.items ≡ replies.old.items)) }
@@ -29,15 +30,23 @@ pub fn run<P: Policy>(
 }
 
 /// Runs one edit.
-fn apply<P: Policy>(value: &mut PolicyString<P>, edit: &Edit<P>) -> Reply
+fn apply<P: Policy>(value: &mut PolicyString<P>, edit: &Edit<P>) -> Reply<P>
     ensures { Step P.growth value.old edit.now result value.new }
 {
     match edit {
+        Edit::Push(character) => reply_to(value.push(*character)),
         Edit::PushStr(text) => reply_to(value.push_str(text)),
+        Edit::Pop => Reply::Char(value.pop()),
+        Edit::Insert(index, character) => insert(value, *index, *character),
+        Edit::InsertStr(index, text) => insert_str(value, *index, text),
+        Edit::Remove(index) => remove(value, *index),
+        Edit::Truncate(len) => truncate(value, *len),
         Edit::Clear => {
             value.clear();
             Reply::Done
         }
+        Edit::SplitOff(index) => split_off(value, *index),
+        Edit::ReplaceRange(start, end, text) => replace_range(value, *start, *end, text),
         Edit::Reserve(additional) => reply_to(value.reserve(*additional)),
         Edit::ShrinkTo(min_capacity) => {
             value.shrink_to(*min_capacity);
@@ -47,16 +56,90 @@ fn apply<P: Policy>(value: &mut PolicyString<P>, edit: &Edit<P>) -> Reply
             value.shrink_to_fit();
             Reply::Done
         }
+        Edit::Repeat(count) => reply_with(value.repeat(*count)),
         Edit::CloneFrom(source) => reply_to(value.clone_from(source)),
     }
 }
 
+fn insert<P: Policy>(value: &mut PolicyString<P>, index: usize, character: char) -> Reply<P>
+    ensures { Step P.growth value.old (Edit.Insert index character) result value.new }
+{
+    if !value.is_char_boundary(index) {
+        return Reply::BadPosition;
+    }
+    reply_to(value.insert(index, character))
+}
+
+fn insert_str<P: Policy>(value: &mut PolicyString<P>, index: usize, text: &str) -> Reply<P>
+    ensures { Step P.growth value.old (Edit.InsertStr index text.entry) result value.new }
+{
+    if !value.is_char_boundary(index) {
+        return Reply::BadPosition;
+    }
+    reply_to(value.insert_str(index, text))
+}
+
+fn remove<P: Policy>(value: &mut PolicyString<P>, index: usize) -> Reply<P>
+    ensures { Step P.growth value.old (Edit.Remove index) result value.new }
+{
+    if index >= value.len() || !value.is_char_boundary(index) {
+        return Reply::BadPosition;
+    }
+    match value.remove(index) {
+        Ok(character) => Reply::Char(Some(character)),
+        Err(error) => Reply::Refused(error),
+    }
+}
+
+fn truncate<P: Policy>(value: &mut PolicyString<P>, len: usize) -> Reply<P>
+    ensures { Step P.growth value.old (Edit.Truncate len) result value.new }
+{
+    if len < value.len() && !value.is_char_boundary(len) {
+        return Reply::BadPosition;
+    }
+    value.truncate(len);
+    Reply::Done
+}
+
+fn split_off<P: Policy>(value: &mut PolicyString<P>, index: usize) -> Reply<P>
+    ensures { Step P.growth value.old (Edit.SplitOff index) result value.new }
+{
+    if !value.is_char_boundary(index) {
+        return Reply::BadPosition;
+    }
+    reply_with(value.split_off(index))
+}
+
+fn replace_range<P: Policy>(
+    value: &mut PolicyString<P>,
+    start: Bound<usize>,
+    end: Bound<usize>,
+    text: &str,
+) -> Reply<P>
+    ensures { Step P.growth value.old (Edit.ReplaceRange start end text.entry) result value.new }
+{
+    if value.check_range(start, end).is_none() {
+        return Reply::BadPosition;
+    }
+    reply_to(value.replace_range(start, end, text))
+}
+
 /// The reply to an edit that answers nothing else.
-fn reply_to(outcome: Result<(), ReserveError>) -> Reply
+fn reply_to<P: Policy>(outcome: Result<(), ReserveError>) -> Reply<P>
     ensures { MatchResult outcome (λ _. result ≡ Reply.Done) (λ e. result ≡ Reply.Refused e) }
 {
     match outcome {
         Ok(()) => Reply::Done,
+        Err(error) => Reply::Refused(error),
+    }
+}
+
+/// The reply to an edit that answers a text.
+fn reply_with<P: Policy>(outcome: Result<PolicyString<P>, ReserveError>) -> Reply<P>
+    ensures { MatchResult outcome (λ t. result ≡ Reply.Text t) (λ e. result ≡ Reply.Refused e) }
+{
+    match outcome {
+        Ok(text) => Reply::Text(text),
         Err(error) => Reply::Refused(error),
     }
 }

@@ -59,7 +59,7 @@ impl<P: Policy> PolicyString<P> {
         ensures ok { OnOk result (inserted P.growth self.old index (text_of text.now) ≡ Some self.new) }
         ensures text { OnOk result (self.new.text ≡ spliced self.old.text index index (text_of text.now)) }
         ensures succeeds { HasRoomFor self.old (length text.now) → IsOk result }
-        ensures err { OnErr result ((self.new ≡ self.old) × IsTrue (room_asks self.old (length text.now))) }
+        ensures err { OnErr result ((self.new ≡ self.old) × IsTrue (room_asks self.old (size (text_of text.now)))) }
     {
         self.repr.reserve(text.len())?;
         self.repr.replace_range(index, index, text);
