@@ -2,6 +2,7 @@
 
 use compact_edit::Edit;
 use compact_str::Standard;
+use std::ops::Bound;
 
 /// What a line asks for.
 pub enum Command<'a> {
@@ -19,28 +20,70 @@ pub enum Command<'a> {
 
 /// Reads a line: a word, and after one space what belongs to it. `None` is a line that fits no command.
 pub fn parse(line: &str) -> Option<Command<'_>> {
-    let (word, rest) = match line.split_once(' ') {
-        Some((word, rest)) => (word, Some(rest)),
-        None => (line, None),
-    };
+    let (word, rest) = first_word(line);
     match word {
         "new" => Some(Command::New(rest.unwrap_or(""))),
         "static" if rest.is_none() => Some(Command::Static),
         "cap" => Some(Command::WithCapacity(number(rest?)?)),
         "clonefrom" => Some(Command::CloneFrom(rest.unwrap_or(""))),
-        _ => parse_edit(word, rest).map(Command::Edit),
+        "pop" | "clear" | "shrinktofit" if rest.is_none() => parse_bare(word).map(Command::Edit),
+        "push" | "pushstr" | "insert" | "insertstr" | "replace" => {
+            parse_with_text(word, rest).map(Command::Edit)
+        }
+        _ => parse_with_number(word, number(rest?)?).map(Command::Edit),
     }
 }
 
-/// Reads an edit, of its first word and what follows one space after it.
-fn parse_edit<'a>(word: &str, rest: Option<&'a str>) -> Option<Edit<'a, Standard>> {
+/// Reads an edit of one word.
+fn parse_bare<'a>(word: &str) -> Option<Edit<'a, Standard>> {
     match word {
-        "pushstr" => Some(Edit::PushStr(rest.unwrap_or(""))),
-        "clear" if rest.is_none() => Some(Edit::Clear),
-        "reserve" => Some(Edit::Reserve(number(rest?)?)),
-        "shrinkto" => Some(Edit::ShrinkTo(number(rest?)?)),
-        "shrinktofit" if rest.is_none() => Some(Edit::ShrinkToFit),
+        "pop" => Some(Edit::Pop),
+        "clear" => Some(Edit::Clear),
+        "shrinktofit" => Some(Edit::ShrinkToFit),
         _ => None,
+    }
+}
+
+/// Reads an edit of a word and a number.
+fn parse_with_number<'a>(word: &str, number: usize) -> Option<Edit<'a, Standard>> {
+    match word {
+        "remove" => Some(Edit::Remove(number)),
+        "truncate" => Some(Edit::Truncate(number)),
+        "splitoff" => Some(Edit::SplitOff(number)),
+        "reserve" => Some(Edit::Reserve(number)),
+        "shrinkto" => Some(Edit::ShrinkTo(number)),
+        "repeat" => Some(Edit::Repeat(number)),
+        _ => None,
+    }
+}
+
+/// Reads an edit that ends with a text, which is empty where nothing stands in its place.
+fn parse_with_text<'a>(word: &str, rest: Option<&'a str>) -> Option<Edit<'a, Standard>> {
+    match word {
+        "push" => Some(Edit::Push(character(rest?)?)),
+        "pushstr" => Some(Edit::PushStr(rest.unwrap_or(""))),
+        "insert" => {
+            let (index, text) = first_word(rest?);
+            Some(Edit::Insert(number(index)?, character(text?)?))
+        }
+        "insertstr" => {
+            let (index, text) = first_word(rest?);
+            Some(Edit::InsertStr(number(index)?, text.unwrap_or("")))
+        }
+        "replace" => {
+            let (start, ends) = first_word(rest?);
+            let (end, text) = first_word(ends?);
+            Some(Edit::ReplaceRange(range_start(start)?, range_end(end)?, text.unwrap_or("")))
+        }
+        _ => None,
+    }
+}
+
+/// The text before the first space, and what follows that space.
+fn first_word(text: &str) -> (&str, Option<&str>) {
+    match text.split_once(' ') {
+        Some((word, rest)) => (word, Some(rest)),
+        None => (text, None),
     }
 }
 
@@ -49,6 +92,33 @@ fn number(word: &str) -> Option<usize> {
     // `parse` alone would take a sign too.
     if word.bytes().all(|byte| byte.is_ascii_digit()) {
         word.parse().ok()
+    } else {
+        None
+    }
+}
+
+/// Reads where a range starts: at a number, or at the start of the text for `-`.
+fn range_start(word: &str) -> Option<Bound<usize>> {
+    if word == "-" {
+        return Some(Bound::Unbounded);
+    }
+    number(word).map(Bound::Included)
+}
+
+/// Reads where a range ends: before a number, or at the end of the text for `-`.
+fn range_end(word: &str) -> Option<Bound<usize>> {
+    if word == "-" {
+        return Some(Bound::Unbounded);
+    }
+    number(word).map(Bound::Excluded)
+}
+
+/// Reads a text of just one character.
+fn character(text: &str) -> Option<char> {
+    let mut characters = text.chars();
+    let character = characters.next()?;
+    if characters.next().is_none() {
+        Some(character)
     } else {
         None
     }

@@ -4,7 +4,7 @@ ghost use Rattle.std.specs.Prelude.{◌≤◌};
 use crate::command::parse;
 use crate::session::Session;
 use compact_edit::Reply;
-use compact_str::CompactString;
+use compact_str::{CompactString, Standard};
 use std::alloc::Global;
 use std::io;
 use std::io::{BufRead, BufReader, BufWriter, Read, Write};
@@ -51,9 +51,13 @@ fn answer_line<W: Write>(session: &mut Session, line: &[u8], writer: &mut W) -> 
     write_value(session.value(), writer)
 }
 
-fn write_reply<W: Write>(reply: &Reply, writer: &mut W) -> io::Result<()> {
+fn write_reply<W: Write>(reply: &Reply<Standard>, writer: &mut W) -> io::Result<()> {
     match reply {
         Reply::Done => writer.write_all(b"done\n"),
+        Reply::Char(Some(character)) => writeln!(writer, "char {character}"),
+        Reply::Char(None) => writer.write_all(b"none\n"),
+        Reply::Text(text) => writeln!(writer, "text {}", text.as_str()),
+        Reply::BadPosition => writer.write_all(b"bad position\n"),
         Reply::Refused(_) => writer.write_all(b"refused\n"),
     }
 }

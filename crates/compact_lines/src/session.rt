@@ -16,7 +16,7 @@ const LETTERS: &str = "aaaaaaaaaaaaaaaaaaaaaaaaaaaaaa";
 pub struct Session {
     alloc: Global,
     value: CompactString,
-    replies: Vec<Reply>,
+    replies: Vec<Reply<Standard>>,
 }
 
 impl Session {
@@ -37,31 +37,33 @@ impl Session {
     }
 
     /// Does what `command` asks for. An error says that room was refused, and the value is as it was.
-    pub fn execute(&mut self, command: Command) -> Result<Reply, ReserveError>
+    pub fn execute(&mut self, command: Command) -> Result<Reply<Standard>, ReserveError>
         ensures ok { IfOk result (λ reply. Executes self.old.value command.entry reply self.new.value) }
         ensures err { OnErr result (self.new.value ≡ self.old.value) }
     {
         match command {
             Command::New(text) => {
-                let value = CompactString::new(self.alloc, text)?;
-                self.value = value;
+                self.value = CompactString::new(self.alloc, text)?;
+                Ok(Reply::Done)
             }
-            Command::Static => self.value = CompactString::const_new(self.alloc, LETTERS),
+            Command::Static => {
+                self.value = CompactString::const_new(self.alloc, LETTERS);
+                Ok(Reply::Done)
+            }
             Command::WithCapacity(capacity) => {
-                let value = CompactString::with_capacity(self.alloc, capacity)?;
-                self.value = value;
+                self.value = CompactString::with_capacity(self.alloc, capacity)?;
+                Ok(Reply::Done)
             }
             Command::CloneFrom(text) => {
                 let source = CompactString::new(self.alloc, text)?;
-                return self.edit(Edit::CloneFrom(&source));
+                self.edit(Edit::CloneFrom(&source))
             }
-            Command::Edit(edit) => return self.edit(edit),
+            Command::Edit(edit) => self.edit(edit),
         }
-        Ok(Reply::Done)
     }
 
     /// Runs one edit.
-    fn edit(&mut self, edit: Edit<Standard>) -> Result<Reply, ReserveError>
+    fn edit(&mut self, edit: Edit<Standard>) -> Result<Reply<Standard>, ReserveError>
         ensures ok { IfOk result (λ reply. Step standard self.old.value edit.entry reply self.new.value) }
         ensures err { OnErr result (self.new.value ≡ self.old.value) }
     {

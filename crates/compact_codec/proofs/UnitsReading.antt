@@ -1,0 +1,378 @@
+-- Units of UTF-16, and the characters and lone units that they fall into.
+use Rattle.std.proofs.Common.{rules, ◌≡◌, ℕ, zero, suc, ◌+◌, ◌-◌, ◌*◌, ◌/◌, ◌%◌, ◌^◌, ◌<◌, ◌≤◌, ◌⊎◌, Bool, true, false, not, List, [], ◌∷◌, ◌++◌, map, length, take, drop, get_or, Option, Some, None, refl, sym, ap, subst, ◌∙◌, arith, inl, inr, ⊎_elim, append_assoc, append-nil, length-append, length-drop, take_all, take-append-drop, take-add, drop_at, get_or-drop, Bor}
+use Rattle.std.specs.Prelude.{unwrap_or, is_some, IfNone, slice_get, slice_index}
+use Rattle.std.specs.Char.{IsScalar}
+use Rattle.std.specs.Char.Escape.{encode_utf16}
+use Rattle.std.specs.Char.Utf16.{utf16_chars, lone_unit_char, surrogate_pair_char, has_unpaired_surrogate}
+use Rattle.std.specs.List.{flat_map, list_any}
+use Rattle.std.specs.Str.{all_scalars}
+use Rattle.std.proofs.str.Utf16.{IsPair, one_unit, two_units, lone_unit_char_low, lone_unit_char_high, lone_unit_char_surrogate}
+use Rattle.std.proofs.lemmas.Bool.{cases_lt, and_parts, and_from, true≢false, false≢true, ltb-true, ltb-false}
+use Rattle.std.proofs.lemmas.Option.{slice_get_past, slice_get_read}
+use Rattle.std.specs.Option.{option_copied}
+use Rattle.std.specs.Slice.{IsItemAt}
+use Rattle.std.proofs.lemmas.Str.{utf16_chars-nil, utf16_chars_lone, utf16_chars_pair}
+use lib.Utf8.{scalar, scalar_cases, low_scalar}
+use Rattle.compact_codec.specs.Utf8Text.{replacement}
+use Rattle.compact_codec.specs.Utf16Text.{AreUnits, IsHighSurrogate, IsLowSurrogate, EncodesUnits, IsUtf16, BeginsLow, IsLone, IsLossyUnits, lossy_units, IsFirstStep, IsUnitsFault, UnitsEncodeOneText, Utf16IsThePaired, LossyUnitsIsTheOne, LossyUnitsOfText}
+use Rattle.compact_codec.proofs.Rows.{high_scalar}
+
+scalar_top : (c : ℕ) → IsScalar c → c < 0x11_0000
+scalar_top c is = ⊎_elim (λ low. omega arith) (λ high. high.1) (scalar_cases c is)
+
+scalar_apart : (c : ℕ) → IsScalar c → (c < 0xD800) ⊎ (0xE000 ≤ c)
+scalar_apart c is = ⊎_elim (λ low. inl low) (λ high. inr high.0) (scalar_cases c is)
+
+-- two characters whose units begin the same units are one
+one_one : (c d : ℕ) (r t : List ℕ) → c ∷ r ≡ d ∷ t → (c ≡ d) × (r ≡ t)
+one_one c d r t e = (ap (λ l. get_or l 0 0) e, ap (drop 1) e)
+
+pub encode_utf16_same : (c d : ℕ) (r t : List ℕ) → IsScalar c → IsScalar d → encode_utf16 c ++ r ≡ encode_utf16 d ++ t → (c ≡ d) × (r ≡ t)
+encode_utf16_same c d r t c_is d_is same =
+    let c_top = scalar_top c c_is in
+    let d_top = scalar_top d d_is in
+    let c_apart = scalar_apart c c_is in
+    let d_apart = scalar_apart d d_is in
+    ⊎_elim
+    (λ c_one. ⊎_elim
+    (λ d_one. one_one c d r t (sym (ap (λ l. l ++ r) (one_unit c c_one)) ∙ same ∙ ap (λ l. l ++ t) (one_unit d d_one)))
+    (λ d_two.
+    let units = sym (ap (λ l. l ++ r) (one_unit c c_one)) ∙ same ∙ ap (λ l. l ++ t) (two_units d d_two) in
+    let first : c ≡ 0xD800 + (d - 0x1_0000) / 0x400 = ap (λ l. get_or l 0 0) units in
+    absurd (omega arith))
+    (cases_lt d 0x1_0000))
+    (λ c_two. ⊎_elim
+    (λ d_one.
+    let units = sym (ap (λ l. l ++ r) (two_units c c_two)) ∙ same ∙ ap (λ l. l ++ t) (one_unit d d_one) in
+    let first : 0xD800 + (c - 0x1_0000) / 0x400 ≡ d = ap (λ l. get_or l 0 0) units in
+    absurd (omega arith))
+    (λ d_two.
+    let units = sym (ap (λ l. l ++ r) (two_units c c_two)) ∙ same ∙ ap (λ l. l ++ t) (two_units d d_two) in
+    let first : 0xD800 + (c - 0x1_0000) / 0x400 ≡ 0xD800 + (d - 0x1_0000) / 0x400 = ap (λ l. get_or l 0 0) units in
+    let second : 0xDC00 + (c - 0x1_0000) % 0x400 ≡ 0xDC00 + (d - 0x1_0000) % 0x400 = ap (λ l. get_or l 1 0) units in
+    (omega arith, ap (drop 2) units))
+    (cases_lt d 0x1_0000))
+    (cases_lt c 0x1_0000)
+
+pub length-encode_utf16 : (c : ℕ) → (1 ≤ length (encode_utf16 c)) × (length (encode_utf16 c) ≤ 2)
+length-encode_utf16 c = ⊎_elim
+    (λ one. let e = ap length (one_unit c one) in (omega arith, omega arith))
+    (λ two. let e = ap length (two_units c two) in (omega arith, omega arith))
+    (cases_lt c 0x1_0000)
+
+pub units_encode_one_text : UnitsEncodeOneText
+units_encode_one_text units text other is is_too = one_text text other is.0 is_too.0 (is.1 ∙ sym is_too.1)
+  where
+    none_left : (c : ℕ) (more : List ℕ) → [] ≡ encode_utf16 c ++ more → ⊥
+    none_left c more e = omega (arith, ap length e, length-append (encode_utf16 c) more, (length-encode_utf16 c).0)
+
+    one_text : (cs ds : List ℕ) → all_scalars cs ≡ true → all_scalars ds ≡ true → flat_map encode_utf16 cs ≡ flat_map encode_utf16 ds → cs ≡ ds
+    one_text [] [] p q same = refl
+    one_text [] (d ∷ ds) p q same = absurd (none_left d (flat_map encode_utf16 ds) same)
+    one_text (c ∷ cs) [] p q same = absurd (none_left c (flat_map encode_utf16 cs) (sym same))
+    one_text (c ∷ cs) (d ∷ ds) p q same =
+        let c_all = and_parts _ _ p in
+        let d_all = and_parts _ _ q in
+        let both = encode_utf16_same c d (flat_map encode_utf16 cs) (flat_map encode_utf16 ds) c_all.0 d_all.0 same in
+        λ i. both.0 i ∷ one_text cs ds c_all.1 d_all.1 both.1 i
+
+-- a lone unit begins no character
+pub lone_begins_none : (units : List ℕ) (c : ℕ) (rest : List ℕ) → IsLone units → IsScalar c → units ≡ encode_utf16 c ++ rest → ⊥
+lone_begins_none [] c rest lone is same = absurd lone
+lone_begins_none (u ∷ units) c rest lone is same =
+    let top = scalar_top c is in
+    let apart = scalar_apart c is in
+    ⊎_elim
+    (λ one.
+    let parts = same ∙ ap (λ l. l ++ rest) (one_unit c one) in
+    let first : u ≡ c = ap (λ l. get_or l 0 0) parts in
+    ⊎_elim (λ low. absurd (omega arith)) (λ high. let high_is = high.0 in absurd (omega arith)) lone)
+    (λ two.
+    let parts = same ∙ ap (λ l. l ++ rest) (two_units c two) in
+    let first : u ≡ 0xD800 + (c - 0x1_0000) / 0x400 = ap (λ l. get_or l 0 0) parts in
+    let after : units ≡ (0xDC00 + (c - 0x1_0000) % 0x400) ∷ rest = ap (drop 1) parts in
+    ⊎_elim (λ low. absurd (omega arith)) (λ high. high.1 (subst BeginsLow (sym after) (omega arith, omega arith))) lone)
+    (cases_lt c 0x1_0000)
+
+-- what std reads at a step
+pub chars_at_character : (c : ℕ) (rest : List ℕ) → IsScalar c → utf16_chars (encode_utf16 c ++ rest) ≡ Some c ∷ utf16_chars rest
+chars_at_character c rest is =
+    let top = scalar_top c is in
+    ⊎_elim
+    (λ one.
+    let no_pair : ¬ (IsPair c (get_or rest 0 0)) = λ pair. let low = pair.0 in let high = pair.1 in ⊎_elim (λ below. absurd (omega arith)) (λ from. absurd (omega arith)) (scalar_apart c is) in
+    let own : lone_unit_char c ≡ Some c = ⊎_elim (λ below. lone_unit_char_low c below) (λ from. lone_unit_char_high c from) (scalar_apart c is) in
+    ap (λ l. utf16_chars (l ++ rest)) (one_unit c one) ∙ utf16_chars_lone c rest no_pair ∙ ap (λ o. o ∷ utf16_chars rest) own)
+    (λ two.
+    let u = 0xD800 + (c - 0x1_0000) / 0x400 in
+    let v = 0xDC00 + (c - 0x1_0000) % 0x400 in
+    let pair : IsPair u v = (omega arith, omega arith, omega arith, omega arith) in
+    let value : surrogate_pair_char u v ≡ c = omega arith in
+    ap (λ l. utf16_chars (l ++ rest)) (two_units c two) ∙ utf16_chars_pair u v rest pair ∙ ap (λ d. Some d ∷ utf16_chars rest) value)
+    (cases_lt c 0x1_0000)
+
+pub chars_at_lone : (units : List ℕ) → IsLone units → utf16_chars units ≡ None ∷ utf16_chars (drop 1 units)
+chars_at_lone [] lone = absurd lone
+chars_at_lone (u ∷ []) lone =
+    let in_range : (0xD800 ≤ u) × (u < 0xE000) = ⊎_elim (λ low. (omega arith, omega arith)) (λ high. let is = high.0 in (omega arith, omega arith)) lone in
+    utf16_chars_lone u [] (λ pair. let low = pair.2 in absurd (omega arith)) ∙ ap (λ o. o ∷ utf16_chars []) (lone_unit_char_surrogate u in_range.0 in_range.1)
+chars_at_lone (u ∷ v ∷ rest) lone =
+    let in_range : (0xD800 ≤ u) × (u < 0xE000) = ⊎_elim (λ low. (omega arith, omega arith)) (λ high. let is = high.0 in (omega arith, omega arith)) lone in
+    utf16_chars_lone u (v ∷ rest)
+    (λ pair. ⊎_elim (λ low. let below = pair.1 in absurd (omega arith)) (λ high. let from = pair.2 in let to = pair.3 in high.1 (omega arith, omega arith)) lone)
+    ∙ ap (λ o. o ∷ utf16_chars (v ∷ rest)) (lone_unit_char_surrogate u in_range.0 in_range.1)
+
+-- one step, and the text that is read
+pub first_step_within : (units : List ℕ) (o : Option ℕ) (n : ℕ) → IsFirstStep units o n → (0 < n) × (n ≤ length units)
+first_step_within units (Some c) zero is = absurd (omega (arith, ap length is.2, (length-encode_utf16 c).0))
+first_step_within units (Some c) (suc n) is = (omega arith, is.1)
+first_step_within [] None n is = absurd is.0
+first_step_within (u ∷ units) None n is = let one = is.1 in (omega arith, omega arith)
+
+pub lossy_units-step : (units : List ℕ) (o : Option ℕ) (n : ℕ) → IsFirstStep units o n → lossy_units units ≡ unwrap_or o replacement ∷ lossy_units (drop n units)
+lossy_units-step units (Some c) n is =
+    let parts : units ≡ encode_utf16 c ++ drop n units = sym (take-append-drop n units) ∙ ap (λ l. l ++ drop n units) is.2 in
+    ap (map (λ o. unwrap_or o 0xFFFD)) (ap utf16_chars parts ∙ chars_at_character c (drop n units) is.0)
+lossy_units-step units None n is =
+    ap (map (λ o. unwrap_or o 0xFFFD)) (chars_at_lone units is.0) ∙ ap (λ k. replacement ∷ lossy_units (drop k units)) (sym is.1)
+
+-- units begin with a character or with a lone unit
+module _ (u : ℕ) (units : List ℕ) where
+  abbrev pub BeginsCharacter : Type 0
+  BeginsCharacter = (c : ℕ) × (rest : List ℕ) × IsScalar c × (u ∷ units ≡ encode_utf16 c ++ rest)
+
+  own_character : (scalar u ≡ true) → u < 0x1_0000 → BeginsCharacter
+  own_character is one = (u, units, is, ap (λ l. l ++ units) (sym (one_unit u one)))
+
+pair_units_of : (u v c : ℕ) (rest : List ℕ) → c ≡ 0x1_0000 + (u - 0xD800) * 0x400 + (v - 0xDC00) → IsHighSurrogate u → IsLowSurrogate v → u ∷ v ∷ rest ≡ encode_utf16 c ++ rest
+pair_units_of u v c rest is high low =
+    let first : u ≡ 0xD800 + (c - 0x1_0000) / 0x400 = omega arith in
+    let second : v ≡ 0xDC00 + (c - 0x1_0000) % 0x400 = omega arith in
+    (λ i. first i ∷ second i ∷ rest) ∙ ap (λ l. l ++ rest) (sym (two_units c (omega arith)))
+
+pub begins_or_lone : (u : ℕ) (units : List ℕ) → u < 2 ^ 16 → BeginsCharacter u units ⊎ IsLone (u ∷ units)
+begins_or_lone u units fits = ⊎_elim
+    (λ (below : u < 0xD800). inl (own_character u units (low_scalar u below) (omega arith)))
+    (λ (from : 0xD800 ≤ u). ⊎_elim
+    (λ (surrogate : u < 0xE000). ⊎_elim
+    (λ (high : u < 0xDC00). by_second units (from, omega arith))
+    (λ (low : 0xDC00 ≤ u). inr (inl (low, omega arith)))
+    (cases_lt u 0xDC00))
+    (λ (above : 0xE000 ≤ u). inl (own_character u units (high_scalar u above (omega arith)) (omega arith)))
+    (cases_lt u 0xE000))
+    (cases_lt u 0xD800)
+  where
+    by_second : (units : List ℕ) → IsHighSurrogate u → BeginsCharacter u units ⊎ IsLone (u ∷ units)
+    by_second [] high = inr (inr (high, λ none. none))
+    by_second (v ∷ rest) high = ⊎_elim
+        (λ (below : v < 0xDC00). inr (inr (high, λ low. let low_from = low.0 in absurd (omega arith))))
+        (λ (from : 0xDC00 ≤ v). ⊎_elim
+        (λ (low : v < 0xE000).
+        let c = 0x1_0000 + (u - 0xD800) * 0x400 + (v - 0xDC00) in
+        inl (c, rest, high_scalar c (omega arith) (omega arith), pair_units_of u v c rest refl high (from, omega arith)))
+        (λ (above : 0xE000 ≤ v). inr (inr (high, λ low. let low_to = low.1 in absurd (omega arith))))
+        (cases_lt v 0xE000))
+        (cases_lt v 0xDC00)
+
+AreUnits-first : (u : ℕ) (units : List ℕ) → AreUnits (u ∷ units) → u < 2 ^ 16
+AreUnits-first u units all = all 0 0 (omega arith)
+
+AreUnits-drop : (units : List ℕ) (n : ℕ) → AreUnits units → AreUnits (drop n units)
+AreUnits-drop units n all k d within =
+    rw get_or-drop (all (n + k) d (omega (arith, length-drop n units)))
+
+rest_is_drop : (units : List ℕ) (c : ℕ) (rest : List ℕ) → units ≡ encode_utf16 c ++ rest → rest ≡ drop (length (encode_utf16 c)) units
+rest_is_drop units c rest parts = sym (ap (drop (length (encode_utf16 c))) parts ∙ drop_at (encode_utf16 c) rest _ refl)
+
+shorter_after : (fuel : ℕ) (units : List ℕ) (c : ℕ) (rest : List ℕ) → units ≡ encode_utf16 c ++ rest → length units ≤ suc fuel → length rest ≤ fuel
+shorter_after fuel units c rest parts le = omega (arith, ap length parts, length-append (encode_utf16 c) rest, (length-encode_utf16 c).0)
+
+lossy_within : (fuel : ℕ) (units : List ℕ) → length units ≤ fuel → AreUnits units → IsLossyUnits units (lossy_units units)
+lossy_within fuel [] le all = subst (λ os. IsLossyUnits [] (map (λ o. unwrap_or o 0xFFFD) os)) (sym utf16_chars-nil) refl
+lossy_within zero (u ∷ units) le all = absurd (omega arith)
+lossy_within (suc fuel) (u ∷ units) le all = ⊎_elim
+    (λ p.
+    let c = p.0 in
+    let rest = p.1 in
+    let later = lossy_within fuel rest (shorter_after fuel (u ∷ units) c rest p.3 le) (subst AreUnits (sym (rest_is_drop (u ∷ units) c rest p.3)) (AreUnits-drop (u ∷ units) (length (encode_utf16 c)) all)) in
+    let text_is : c ∷ lossy_units rest ≡ lossy_units (u ∷ units) =
+    sym (ap (map (λ o. unwrap_or o 0xFFFD)) (ap utf16_chars p.3 ∙ chars_at_character c rest p.2)) in
+    subst (IsLossyUnits (u ∷ units)) text_is (inl (rest, p.2, p.3, later)))
+    (λ lone.
+    let later = lossy_within fuel units (omega arith) (AreUnits-drop (u ∷ units) 1 all) in
+    let text_is : replacement ∷ lossy_units units ≡ lossy_units (u ∷ units) = sym (ap (map (λ o. unwrap_or o 0xFFFD)) (chars_at_lone (u ∷ units) lone)) in
+    subst (IsLossyUnits (u ∷ units)) text_is (inr (refl, lone, later)))
+    (begins_or_lone u units (AreUnits-first u units all))
+
+one_lossy : (units other text more : List ℕ) → units ≡ other → IsLossyUnits units text → IsLossyUnits other more → text ≡ more
+one_lossy units other [] [] same is is_too = refl
+one_lossy units other [] (d ∷ more) same is is_too = absurd (some_left other d more is_too (sym same ∙ is))
+  where
+    some_left : (units : List ℕ) (c : ℕ) (text : List ℕ) → IsLossyUnits units (c ∷ text) → units ≡ [] → ⊥
+    some_left units c text is none = ⊎_elim
+        (λ p. omega (arith, ap length (sym p.2 ∙ none), length-append (encode_utf16 c) p.0, (length-encode_utf16 c).0))
+        (λ p. subst IsLone none p.1)
+        is
+one_lossy units other (c ∷ text) [] same is is_too = ⊎_elim
+    (λ p. absurd (omega (arith, ap length (sym p.2 ∙ same ∙ is_too), length-append (encode_utf16 c) p.0, (length-encode_utf16 c).0)))
+    (λ p. absurd (subst IsLone (same ∙ is_too) p.1))
+    is
+one_lossy units other (c ∷ text) (d ∷ more) same is is_too = ⊎_elim
+    (λ p. ⊎_elim
+    (λ q.
+    let both = encode_utf16_same c d p.0 q.0 p.1 q.1 (sym p.2 ∙ same ∙ q.2) in
+    λ i. both.0 i ∷ one_lossy p.0 q.0 text more both.1 p.3 q.3 i)
+    (λ q. absurd (lone_begins_none other c p.0 q.1 p.1 (sym same ∙ p.2)))
+    is_too)
+    (λ p. ⊎_elim
+    (λ q. absurd (lone_begins_none units d q.0 p.1 q.1 (same ∙ q.2)))
+    (λ q.
+    let first : c ≡ d = p.0 ∙ sym q.0 in
+    λ i. first i ∷ one_lossy (drop 1 units) (drop 1 other) text more (ap (drop 1) same) p.2 q.2 i)
+    is_too)
+    is
+
+pub lossy_units_is : LossyUnitsIsTheOne
+lossy_units_is units text all =
+    let std = lossy_within (length units) units (omega arith) all in
+    (λ is. one_lossy units units text (lossy_units units) refl is std, λ same. subst (IsLossyUnits units) (sym same) std)
+
+-- units that are text
+
+pub lone_is_no_text : (units : List ℕ) → IsLone units → ¬ (IsUtf16 units)
+lone_is_no_text units lone (text, is) = by_text text is
+  where
+    by_text : (text : List ℕ) → EncodesUnits units text → ⊥
+    by_text [] is = subst IsLone (sym is.1) lone
+    by_text (c ∷ text) is = lone_begins_none units c (flat_map encode_utf16 text) lone (and_parts _ _ is.0).0 (sym is.1)
+
+pub rest_is_text : (xs ys : List ℕ) → IsUtf16 xs → IsUtf16 (xs ++ ys) → IsUtf16 ys
+rest_is_text xs ys (text, is) (whole, are) = by_text text whole xs is.0 is.1 are.0 are.1
+  where
+    by_text : (text whole xs : List ℕ) → all_scalars text ≡ true → flat_map encode_utf16 text ≡ xs → all_scalars whole ≡ true → flat_map encode_utf16 whole ≡ xs ++ ys → IsUtf16 ys
+    by_text [] whole xs p e q f = (whole, (q, f ∙ ap (λ l. l ++ ys) (sym e)))
+    by_text (c ∷ text) [] xs p e q f =
+        absurd (omega (arith, ap length f, ap length e, length-append xs ys, length-append (encode_utf16 c) (flat_map encode_utf16 text), (length-encode_utf16 c).0))
+    by_text (c ∷ text) (d ∷ whole) xs p e q f =
+        let p_all = and_parts _ _ p in
+        let q_all = and_parts _ _ q in
+        let both = encode_utf16_same d c (flat_map encode_utf16 whole) (flat_map encode_utf16 text ++ ys) q_all.0 p_all.0
+        (f ∙ ap (λ l. l ++ ys) (sym e) ∙ append_assoc (encode_utf16 c) (flat_map encode_utf16 text) ys) in
+        by_text text whole (flat_map encode_utf16 text) p_all.1 refl q_all.1 both.1
+
+pub longer_is_text : (xs ys : List ℕ) (c : ℕ) → IsUtf16 xs → IsScalar c → ys ≡ encode_utf16 c → IsUtf16 (xs ++ ys)
+longer_is_text xs ys c (text, is) c_is ys_is = (text ++ c ∷ [], (all_of text is.0, parts_of text ∙ (λ i. is.1 i ++ sym ys_is i)))
+  where
+    all_of : (text : List ℕ) → all_scalars text ≡ true → all_scalars (text ++ c ∷ []) ≡ true
+    all_of [] all = and_from _ true c_is refl
+    all_of (d ∷ text) all = let both = and_parts _ _ all in and_from _ _ both.0 (all_of text both.1)
+
+    parts_of : (text : List ℕ) → flat_map encode_utf16 (text ++ c ∷ []) ≡ flat_map encode_utf16 text ++ encode_utf16 c
+    parts_of [] = append-nil (encode_utf16 c)
+    parts_of (d ∷ text) = ap (λ l. encode_utf16 d ++ l) (parts_of text) ∙ sym (append_assoc (encode_utf16 d) (flat_map encode_utf16 text) (encode_utf16 c))
+
+pub lone_front : (units : List ℕ) (k : ℕ) → 1 ≤ k → IsLone units → IsLone (take k units)
+lone_front [] k some lone = absurd lone
+lone_front (u ∷ units) zero some lone = absurd (omega arith)
+lone_front (u ∷ []) (suc k) some lone = ⊎_elim (λ low. inl low) (λ high. inr (high.0, λ begins. begins_none k begins)) lone
+  where
+    begins_none : (k : ℕ) → BeginsLow (take k []) → ⊥
+    begins_none zero begins = begins
+    begins_none (suc k) begins = begins
+lone_front (u ∷ v ∷ units) (suc zero) some lone = ⊎_elim (λ low. inl low) (λ high. inr (high.0, λ begins. begins)) lone
+lone_front (u ∷ v ∷ units) (suc (suc k)) some lone = ⊎_elim (λ low. inl low) (λ high. inr (high.0, high.1)) lone
+
+pub units_fault : (units : List ℕ) (n : ℕ) → IsUtf16 (take n units) → n ≤ length units → IsLone (drop n units) → IsUnitsFault units n × ¬ (IsUtf16 units)
+units_fault units n front within lone =
+    let longest : (m : ℕ) → n < m → m ≤ length units → ¬ (IsUtf16 (take m units)) = λ m above m_within text.
+    let k = m - n in
+    let m_is : m ≡ n + k = omega arith in
+    let parts : take m units ≡ take n units ++ take k (drop n units) = ap (λ j. take j units) m_is ∙ take-add n k units in
+    lone_is_no_text (take k (drop n units)) (lone_front (drop n units) k (omega arith) lone) (rest_is_text (take n units) (take k (drop n units)) front (subst IsUtf16 parts text))
+    in (
+      (record { within = within; front = front; longest = longest }, lone),
+      λ whole. lone_is_no_text (drop n units) lone (rest_is_text (take n units) (drop n units) front (subst IsUtf16 (sym (take-append-drop n units)) whole)),
+    )
+
+pub broken_step : (units : List ℕ) (o : Option ℕ) (n : ℕ) → IsFirstStep units o n → IfNone o (¬ (IsUtf16 units))
+broken_step units (Some c) n is = search rules
+broken_step units None n is = lone_is_no_text units is.0
+
+-- a step of a judge, over the units from `at` on
+pub from_at : (units : List ℕ) (at : ℕ) → take (length units - at) (drop at units) ≡ drop at units
+from_at units at = take_all (length units - at) (drop at units) (omega (arith, length-drop at units))
+
+pub passed_step : (units : List ℕ) (at n : ℕ) (o : Option ℕ) → IsUtf16 (take at units) → is_some o ≡ true → IsFirstStep (take (length units - at) (drop at units)) o n
+    → IsUtf16 (take (at + n) units)
+passed_step units at n None front some is = absurd (false≢true some)
+passed_step units at n (Some c) front some is =
+    let step = subst (λ l. IsFirstStep l (Some c) n) (from_at units at) is in
+    subst IsUtf16 (sym (take-add at n units)) (longer_is_text (take at units) (take n (drop at units)) c front step.0 step.2)
+
+pub stopped_step : (units : List ℕ) (at n : ℕ) (o : Option ℕ) → IsUtf16 (take at units) → at ≤ length units → is_some o ≡ false
+    → IsFirstStep (take (length units - at) (drop at units)) o n → IsUnitsFault units at × ¬ (IsUtf16 units)
+stopped_step units at n None front within none is = units_fault units at front within (subst IsLone (from_at units at) is.0)
+stopped_step units at n (Some c) front within none is = absurd (true≢false none)
+
+-- what `get` gives, copied
+pub copied_item : (units : List ℕ) (i : ℕ) (r : Option (Bor ℕ)) → IsItemAt units i r → option_copied r ≡ slice_get units i
+copied_item units i None is = sym (slice_get_past units i (ltb-false _ _ (sym is.0)))
+copied_item units i (Some x) is = sym (slice_get_read units (length units) i x.now refl (ltb-true _ _ (sym is.0)) is.1)
+
+-- the step at the front, from the first unit and what the second may be
+pub front_step : (units : List ℕ) (second o : Option ℕ) (n : ℕ) → 0 < length units → second ≡ slice_get units 1
+    → ((rest : List ℕ) → slice_get rest 0 ≡ second → IsFirstStep (slice_index units 0 ∷ rest) o n) → IsFirstStep units o n
+front_step [] second o n some is known = absurd (omega arith)
+front_step (u ∷ units) second o n some is known = known units (sym is)
+
+-- and std's test for them
+
+abbrev is_unpaired : Option ℕ → Bool
+is_unpaired o = not (is_some o)
+
+has_none : (text rest : List ℕ) → all_scalars text ≡ true → utf16_chars (flat_map encode_utf16 text ++ rest) ≡ map (λ c. Some c) text ++ utf16_chars rest
+has_none [] rest all = refl
+has_none (c ∷ text) rest all =
+    let both = and_parts _ _ all in
+    ap utf16_chars (append_assoc (encode_utf16 c) (flat_map encode_utf16 text) rest)
+    ∙ chars_at_character c (flat_map encode_utf16 text ++ rest) both.0 ∙ ap (λ os. Some c ∷ os) (has_none text rest both.1)
+
+none_unpaired : (text : List ℕ) → list_any is_unpaired (map (λ c. Some c) text ++ []) ≡ false
+none_unpaired [] = refl
+none_unpaired (c ∷ text) = none_unpaired text
+
+paired_within : (fuel : ℕ) (units : List ℕ) → length units ≤ fuel → AreUnits units → has_unpaired_surrogate units ≡ false → IsUtf16 units
+paired_within fuel [] le all paired = ([], (refl, refl))
+paired_within zero (u ∷ units) le all paired = absurd (omega arith)
+paired_within (suc fuel) (u ∷ units) le all paired = ⊎_elim
+    (λ p.
+    let c = p.0 in
+    let rest = p.1 in
+    let chars_are = ap utf16_chars p.3 ∙ chars_at_character c rest p.2 in
+    let later = paired_within fuel rest (shorter_after fuel (u ∷ units) c rest p.3 le) (subst AreUnits (sym (rest_is_drop (u ∷ units) c rest p.3)) (AreUnits-drop (u ∷ units) (length (encode_utf16 c)) all))
+    (sym (ap (list_any is_unpaired) chars_are) ∙ paired) in
+    (c ∷ later.0, (and_from _ _ p.2 later.1.0, ap (λ l. encode_utf16 c ++ l) later.1.1 ∙ sym p.3)))
+    (λ lone. absurd (true≢false (sym (ap (list_any is_unpaired) (chars_at_lone (u ∷ units) lone)) ∙ paired)))
+    (begins_or_lone u units (AreUnits-first u units all))
+
+pub paired_is : Utf16IsThePaired
+paired_is units all = (
+  λ (text, is). ap has_unpaired_surrogate (sym is.1 ∙ sym (append-nil (flat_map encode_utf16 text)))
+      ∙ ap (list_any is_unpaired) (has_none text [] is.0 ∙ ap (λ os. map (λ c. Some c) text ++ os) utf16_chars-nil) ∙ none_unpaired text,
+  paired_within (length units) units (omega arith) all,
+)
+
+-- a text's own units
+
+own_text : (text : List ℕ) → map (λ o. unwrap_or o 0xFFFD) (map (λ c. Some c) text ++ []) ≡ text
+own_text [] = refl
+own_text (c ∷ text) = ap (λ l. c ∷ l) (own_text text)
+
+pub lossy_units_of_text : LossyUnitsOfText
+lossy_units_of_text units text is =
+    ap lossy_units (sym is.1 ∙ sym (append-nil (flat_map encode_utf16 text)))
+    ∙ ap (map (λ o. unwrap_or o 0xFFFD)) (has_none text [] is.0 ∙ ap (λ os. map (λ c. Some c) text ++ os) utf16_chars-nil) ∙ own_text text
+
+pub lossy_units-empty : (units : List ℕ) → length units ≡ 0 → lossy_units units ≡ []
+lossy_units-empty [] none = lossy_units_of_text [] [] (refl, refl)
+lossy_units-empty (u ∷ units) none = absurd (omega arith)

@@ -1,0 +1,77 @@
+use super::{Utf16Fault, first_character, judge};
+use std::process::Abort;
+
+// The units are read in these steps: a character, or `None` for a lone unit, and how many units it takes.
+fn assert_steps(rt: &impl Abort, units: &[u16], steps: &[(Option<char>, usize)]) {
+    let mut rest = units;
+    for (character, taken) in steps {
+        assert!(rt; !rest.is_empty());
+        let step = first_character(rest);
+        assert!(rt; step.character == *character, "{units:?}");
+        assert_eq!(rt; step.taken, *taken);
+        rest = &rest[step.taken..];
+    }
+    assert!(rt; rest.is_empty());
+}
+
+#[test]
+fn lone_units_are_steps_of_their_own(rt: HostRuntime) {
+    assert_steps(&rt, &[], &[]);
+    assert_steps(&rt, &[0xDC00, 0xD800], &[(None, 1), (None, 1)]);
+    assert_steps(
+        &rt,
+        &[0xD800, 0xD834, 0xDD1E],
+        &[(None, 1), (Some('\u{1D11E}'), 2)],
+    );
+    assert_steps(
+        &rt,
+        &[
+            0xD834, 0xDD1E, 0x006D, 0x0075, 0x0073, 0xDD1E, 0x0069, 0x0063, 0xD834,
+        ],
+        &[
+            (Some('\u{1D11E}'), 2),
+            (Some('m'), 1),
+            (Some('u'), 1),
+            (Some('s'), 1),
+            (None, 1),
+            (Some('i'), 1),
+            (Some('c'), 1),
+            (None, 1),
+        ],
+    );
+    assert_steps(
+        &rt,
+        &[0x00E4, 0x0204, 0x20AC, 0xFFFD, 0xD83D, 0xDC6F],
+        &[
+            (Some('\u{E4}'), 1),
+            (Some('\u{204}'), 1),
+            (Some('\u{20AC}'), 1),
+            (Some('\u{FFFD}'), 1),
+            (Some('\u{1F46F}'), 2),
+        ],
+    );
+}
+
+#[test]
+fn faults_are_placed(rt: HostRuntime) {
+    assert!(rt; judge(&[]) == Ok(()));
+    assert!(rt; judge(&[0x0061; 30]) == Ok(()));
+    assert!(rt; judge(&[0xD834, 0xDD1E, 0xFFFD]) == Ok(()));
+    assert!(rt; judge(&[0xDC00, 0xD800]) == Err(Utf16Fault { valid_up_to: 0 }));
+    assert!(rt; judge(&[0xD834, 0xDD1E, 0x0073, 0xDD1E]) == Err(Utf16Fault { valid_up_to: 3 }));
+    assert!(rt; judge(&[0x0061, 0xD834]) == Err(Utf16Fault { valid_up_to: 1 }));
+}
+
+#[test]
+fn pairs_of_units_at_the_edges(rt: HostRuntime) {
+    let edges = [0xD7FF, 0xD800, 0xDBFF, 0xDC00, 0xDFFF, 0xE000];
+    let mut texts = 0u32;
+    for first in edges {
+        for second in edges {
+            if judge(&[first, second]).is_ok() {
+                texts = texts.saturating_add(1);
+            }
+        }
+    }
+    assert_eq!(rt; texts, 8);
+}

@@ -1,0 +1,181 @@
+//! Bytes read as UTF-8 (Unicode Standard, 3.9).
+ghost use Rattle.std.specs.Prelude.{◌≡◌, ◌↔◌, ◌+◌, ◌<◌, ◌≤◌, ◌++◌, take, length, IfOk, IfErr, OnErr, IsOk, IsUtf8};
+ghost use Rattle.std.specs.Str.{chars};
+ghost use Rattle.compact_codec.specs.Utf8Table.{TableIsTheEncodings};
+ghost use Rattle.compact_codec.specs.BrokenPart.{IsFault, FaultIsTheOne};
+ghost use Rattle.compact_codec.specs.Utf8Text.{lossy_text, mark, IsFirstChunk, EncodesOneText, LossyTextIsTheOne, LossyTextOfText};
+
+/// Where bytes stop being UTF-8.
+#[derive(Clone, Copy, Debug, PartialEq, Eq)]
+pub struct Utf8Fault {
+    /// How many bytes the longest front has that encodes a text.
+    pub valid_up_to: usize,
+    /// How many bytes the broken part after it has, from 1 to 3, or `None` where the input ends inside a
+    /// sequence that more bytes could complete.
+    pub error_len: Option<usize>,
+}
+
+// From this many bytes on, a judge of whole blocks is faster than one that goes in order.
+const LONG: usize = 64;
+
+// How many bytes that judge takes at a time: where they are no text, so many at most are judged once more.
+const WINDOW: usize = 8192;
+
+/// The text that the bytes encode, or where they stop being one.
+///
+/// `[0x61, 0xE2, 0x82]` is at fault after 1 byte, with an open end: one byte more could make it `a€`.
+/// `[0xE1, 0x80, 0x41]` is at fault at its start, with a broken part of 2 bytes.
+#[inline]
+pub fn judge(bytes: &[u8]) -> Result<&str, Utf8Fault>
+    ensures exact { IsOk result ↔ IsUtf8 bytes.now }
+    ensures text { IfOk result (λ text. (text.now ≡ bytes.now) × IsUtf8 bytes.now) }
+    ensures fault { IfErr result (λ fault. IsFault bytes.now fault.valid_up_to fault.error_len) }
+    ensures broken { OnErr result (¬ (IsUtf8 bytes.now)) }
+{
+    if bytes.len() < LONG {
+        return judge_in_order(bytes);
+    }
+    judge_from(bytes, text_in_windows(bytes))
+}
+
+// How many bytes at the front are text, as whole windows show it.
+fn text_in_windows(bytes: &[u8]) -> usize
+    ensures within { result ≤ length bytes.now }
+    ensures text { IsUtf8 (take result bytes.now) }
+{
+    let mut at = 0;
+    while bytes.len() - at >= LONG {
+        let end = window_end(bytes, at);
+        if !simdutf8::is_utf8(&bytes[at..end]) {
+            break;
+        }
+        at = end;
+    }
+    at
+}
+
+// Where the window from `at` on ends: with the bytes, or before a byte that can begin a character.
+fn window_end(bytes: &[u8], at: usize) -> usize
+    requires { at + 64 ≤ length bytes.now }
+    ensures within { result ≤ length bytes.now }
+    ensures some { at < result }
+{
+    if bytes.len() - at <= WINDOW {
+        return bytes.len();
+    }
+    let end = back_in_character(bytes, at + WINDOW);
+    back_in_character(bytes, back_in_character(bytes, end))
+}
+
+// One byte back, where no character can begin at this one.
+fn back_in_character(bytes: &[u8], at: usize) -> usize
+    requires { (0 < at) × (at < length bytes.now) }
+    ensures { (result ≤ at) × (at ≤ result + 1) }
+{
+    if bytes[at] & 0xC0 == 0x80 { at - 1 } else { at }
+}
+
+// The same as `judge`, where the bytes before `at` are known to be text.
+fn judge_from(bytes: &[u8], at: usize) -> Result<&str, Utf8Fault>
+    requires within { at ≤ length bytes.now }
+    requires text { IsUtf8 (take at bytes.now) }
+    ensures exact { IsOk result ↔ IsUtf8 bytes.now }
+    ensures text { IfOk result (λ text. (text.now ≡ bytes.now) × IsUtf8 bytes.now) }
+    ensures fault { IfErr result (λ fault. IsFault bytes.now fault.valid_up_to fault.error_len) }
+    ensures broken { OnErr result (¬ (IsUtf8 bytes.now)) }
+{
+    match judge_in_order(&bytes[at..]) {
+        Ok(_) => Ok(unsafe { std::str::from_utf8_unchecked(bytes) }),
+        Err(fault) => Err(Utf8Fault {
+            valid_up_to: at + fault.valid_up_to,
+            error_len: fault.error_len,
+        }),
+    }
+}
+
+// The same, from the first byte to the fault and no further: no byte is judged twice, also where a reader
+// goes on after the fault.
+fn judge_in_order(bytes: &[u8]) -> Result<&str, Utf8Fault>
+    ensures exact { IsOk result ↔ IsUtf8 bytes.now }
+    ensures text { IfOk result (λ text. (text.now ≡ bytes.now) × IsUtf8 bytes.now) }
+    ensures fault { IfErr result (λ fault. IsFault bytes.now fault.valid_up_to fault.error_len) }
+    ensures broken { OnErr result (¬ (IsUtf8 bytes.now)) }
+{
+    match std::str::from_utf8(bytes) {
+        Ok(text) => Ok(text),
+        Err(error) => Err(Utf8Fault {
+            valid_up_to: error.valid_up_to(),
+            error_len: error.error_len(),
+        }),
+    }
+}
+
+/// What a lossy reader takes from bytes in one step, and what is left.
+#[derive(Clone, Copy, Debug, PartialEq, Eq)]
+pub struct Chunk<'a> {
+    /// The longest front that encodes a text.
+    pub text: &'a str,
+    /// The broken part after it, for which one U+FFFD stands; empty only where nothing follows the front.
+    pub broken: &'a [u8],
+    /// The bytes after both, which are read next.
+    pub rest: &'a [u8],
+}
+
+/// The first chunk of the bytes. No bytes are the chunk of three empty parts.
+///
+/// `[0x61, 0xC0, 0x80]` is `a`, the broken byte C0 and the rest 80, whose chunk is no text and the broken
+/// byte 80: the lossy text is `a` and two U+FFFD.
+#[inline]
+pub fn first_chunk(bytes: &[u8]) -> Chunk<'_>
+    ensures chunk { IsFirstChunk bytes.now result.text.now result.broken.now result.rest.now }
+    ensures lossy { lossy_text bytes.now
+        ≡ chars result.text.now ++ (mark result.broken.now ++ lossy_text result.rest.now) }
+    ensures shorter { 0 < length bytes.now → length result.rest.now < length bytes.now }
+{
+    match judge_in_order(bytes) {
+        Ok(text) => Chunk {
+            text,
+            broken: &[],
+            rest: &[],
+        },
+        Err(fault) => {
+            let (front, after) = bytes.split_at(fault.valid_up_to);
+            let broken_len = fault.error_len.unwrap_or(after.len());
+            let (broken, rest) = after.split_at(broken_len);
+            Chunk {
+                text: unsafe { std::str::from_utf8_unchecked(front) },
+                broken,
+                rest,
+            }
+        }
+    }
+}
+
+/// A law: the rows of the Standard's table hold the bytes of the characters, each of one character and
+/// each in one row, and nothing else.
+pub fn well_formed_sequences_are_the_encodings()
+    ensures { TableIsTheEncodings }
+{}
+
+/// A law: bytes encode one text at most.
+pub fn bytes_encode_one_text()
+    ensures { EncodesOneText }
+{}
+
+/// A law: bytes that are no text have one fault, and std's words for its place and its length tell it.
+pub fn bytes_have_one_fault()
+    ensures { FaultIsTheOne }
+{}
+
+/// A law: bytes have one lossy text, and it is the one that std's word tells.
+pub fn bytes_have_one_lossy_text()
+    ensures { LossyTextIsTheOne }
+{}
+
+/// A law: a text's own bytes have that text as their lossy text.
+pub fn a_text_is_its_own_lossy_text()
+    ensures { LossyTextOfText }
+{}
+
+#[cfg(test)]
+mod tests;

@@ -1,0 +1,137 @@
+use super::{Utf8Fault, first_chunk, judge};
+use std::process::Abort;
+
+// The bytes fall into these chunks: a text, and how many bytes are broken after it.
+fn assert_chunks(rt: &impl Abort, bytes: &[u8], chunks: &[(&str, usize)]) {
+    let mut rest = bytes;
+    for (text, broken) in chunks {
+        let chunk = first_chunk(rest);
+        assert!(rt; chunk.text == *text);
+        assert_eq!(rt; chunk.broken.len(), *broken);
+        rest = chunk.rest;
+    }
+    assert!(rt; rest.is_empty());
+}
+
+fn assert_fault(rt: &impl Abort, bytes: &[u8], valid_up_to: usize, error_len: Option<usize>) {
+    let fault = judge(bytes).err();
+    assert!(rt;
+        fault
+            == Some(Utf8Fault {
+                valid_up_to,
+                error_len
+            }),
+        "{bytes:?}: {fault:?}"
+    );
+}
+
+#[test]
+fn texts_are_taken(rt: HostRuntime) {
+    for (bytes, text) in [
+        (b"".as_slice(), ""),
+        (b"\xC3\xA4".as_slice(), "\u{E4}"),
+        (b"\xC8\x84".as_slice(), "\u{204}"),
+        (b"\xE2\x82\xAC".as_slice(), "\u{20AC}"),
+        (b"\xEF\xBF\xBD".as_slice(), "\u{FFFD}"),
+        (b"\xF0\x9D\x84\x9E".as_slice(), "\u{1D11E}"),
+        (b"\xF0\x9F\x91\xAF".as_slice(), "\u{1F46F}"),
+    ] {
+        assert!(rt; judge(bytes) == Ok(text), "{bytes:?}");
+    }
+}
+
+#[test]
+fn faults_are_placed(rt: HostRuntime) {
+    assert_fault(&rt, b"\xC0\x80", 0, Some(1));
+    assert_fault(&rt, b"\xF4\x90\x80\x80", 0, Some(1));
+    assert_fault(&rt, b"\xE1\x80\x41", 0, Some(2));
+    assert_fault(&rt, b"\x61\xE2\x82", 1, None);
+    assert_fault(&rt, b"\xF0\x9F", 0, None);
+    assert_fault(&rt, b"\xED\xA0\x80", 0, Some(1));
+    assert_fault(&rt, b"\xF0\x9F\xC8\x84", 0, Some(2));
+    assert_fault(&rt, b"\xF0\x9F\x91\x41", 0, Some(3));
+    assert_fault(&rt, b"\xE2\x82\xAC\xFF", 3, Some(1));
+    assert_fault(
+        &rt,
+        b"\0\0\0\0\0\0\0\0\0\0\0\0\0\0\0\0\0\0\0\0\0\0\0\xC0",
+        23,
+        Some(1),
+    );
+}
+
+#[test]
+fn long_input_is_judged_as_short(rt: HostRuntime) {
+    let mut bytes = [b'a'; 20000];
+    assert!(rt; judge(&bytes).is_ok());
+    // A character across the end of the first 8192 bytes.
+    bytes[8190] = 0xE2;
+    bytes[8191] = 0x82;
+    bytes[8192] = 0xAC;
+    assert!(rt; judge(&bytes).is_ok());
+    bytes[19999] = 0xE2;
+    assert_fault(&rt, &bytes, 19999, None);
+    bytes[15000] = 0xF4;
+    bytes[15001] = 0x90;
+    assert_fault(&rt, &bytes, 15000, Some(1));
+    bytes[64] = 0xE1;
+    bytes[65] = 0x80;
+    assert_fault(&rt, &bytes, 64, Some(2));
+}
+
+#[test]
+fn each_broken_part_is_one_chunk(rt: HostRuntime) {
+    assert_chunks(&rt, b"", &[("", 0)]);
+    assert_chunks(&rt, b"\xC0\x80", &[("", 1), ("", 1)]);
+    assert_chunks(
+        &rt,
+        b"\xF4\x90\x80\x80",
+        &[("", 1), ("", 1), ("", 1), ("", 1)],
+    );
+    assert_chunks(&rt, b"\xED\xA0\x80", &[("", 1), ("", 1), ("", 1)]);
+    assert_chunks(&rt, b"\xE1\x80\x41", &[("", 2), ("A", 0)]);
+    assert_chunks(&rt, b"\x61\xE2\x82", &[("a", 2)]);
+    assert_chunks(&rt, b"\xF0\x9F", &[("", 2)]);
+    assert_chunks(&rt, b"\xF0\x9F\xC8\x84", &[("", 2), ("\u{204}", 0)]);
+    // An example of the Standard's (3.9, Table 3-8).
+    assert_chunks(
+        &rt,
+        b"\x61\xF1\x80\x80\xE1\x80\xC2\x62\x80\x63\x80\xBF\x64",
+        &[
+            ("a", 3),
+            ("", 2),
+            ("", 1),
+            ("b", 1),
+            ("c", 1),
+            ("", 1),
+            ("d", 0),
+        ],
+    );
+}
+
+// How many of all inputs of two bytes are texts, and how many have each fault; by another decoder.
+#[test]
+fn all_inputs_of_two_bytes(rt: HostRuntime) {
+    let mut texts = 0u32;
+    let mut broken_at_first = 0u32;
+    let mut broken_at_second = 0u32;
+    let mut open_at_first = 0u32;
+    let mut open_at_second = 0u32;
+    for first in 0..=255u8 {
+        for second in 0..=255u8 {
+            match judge(&[first, second]) {
+                Ok(_) => texts = texts.saturating_add(1),
+                Err(fault) => match (fault.valid_up_to, fault.error_len) {
+                    (0, Some(_)) => broken_at_first = broken_at_first.saturating_add(1),
+                    (0, None) => open_at_first = open_at_first.saturating_add(1),
+                    (_, Some(_)) => broken_at_second = broken_at_second.saturating_add(1),
+                    (_, None) => open_at_second = open_at_second.saturating_add(1),
+                },
+            }
+        }
+    }
+    assert_eq!(rt; texts, 18304);
+    assert_eq!(rt; broken_at_first, 29632);
+    assert_eq!(rt; broken_at_second, 9856);
+    assert_eq!(rt; open_at_first, 1216);
+    assert_eq!(rt; open_at_second, 6528);
+}
