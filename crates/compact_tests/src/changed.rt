@@ -5,6 +5,7 @@ use crate::seen::{
 };
 use compact_edit::{Edit, Reply, run};
 use compact_str::{CompactString, Standard};
+use std::alloc::Global;
 use std::process::Abort;
 
 #[test]
@@ -95,7 +96,7 @@ fn room_is_given_back(rt: HostRuntime) {
 /// Runs edits, for whose replies there is memory, and asserts that each is done.
 fn all_are_done(
     rt: &impl Abort,
-    alloc: std::alloc::Global,
+    alloc: Global,
     value: &mut CompactString,
     edits: &[Edit<Standard>],
 ) {

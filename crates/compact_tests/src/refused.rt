@@ -225,6 +225,8 @@ fn a_shrink_with_no_memory_leaves_the_capacity(rt: HostRuntime) {
     let hog = take_all(&rt, rt.alloc());
     value.shrink_to(50);
     assert_heap(&rt, &value, 100, 30);
+    value.shrink_to_fit();
+    assert_heap(&rt, &value, 100, 30);
     drop(hog);
     value.shrink_to(50);
     assert_heap(&rt, &value, 50, 30);

@@ -77,17 +77,22 @@ fn an_empty_list_is_run_with_no_room(rt: HostRuntime) {
     assert_eq!(rt; replies.len(), 1);
 }
 
+/// Edits that ask for memory, and a shrink that does not need it.
+fn wanting_memory<'a>(text: &'a str, source: &'a CompactString) -> [Edit<'a, Standard>; 4] {
+    [
+        Edit::PushStr(text),
+        Edit::Reserve(100),
+        Edit::CloneFrom(source),
+        Edit::ShrinkTo(50),
+    ]
+}
+
 #[test]
 fn refused_edits_are_told_and_leave_the_value(rt: HostRuntime) {
     let source = copied(&rt, rt.alloc(), letters(60));
     let mut value = copied(&rt, rt.alloc(), "abc");
     let mut replies = room_for(&rt, rt.alloc(), 4);
-    let edits = [
-        Edit::PushStr(letters(40)),
-        Edit::Reserve(100),
-        Edit::CloneFrom(&source),
-        Edit::ShrinkTo(50),
-    ];
+    let edits = wanting_memory(letters(40), &source);
     let hog = take_all(&rt, rt.alloc());
     run_all(&rt, &mut value, &edits, &mut replies);
     drop(hog);
