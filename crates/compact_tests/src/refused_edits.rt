@@ -7,11 +7,12 @@ use compact_str::{CompactString, Standard};
 use std::alloc::Global;
 use std::process::Abort;
 
-/// A list of replies that has just one, and no room.
-fn one_reply(rt: &impl Abort, alloc: Global) -> Vec<Reply> {
-    let mut replies = Vec::with_capacity(alloc, 1).expect(rt, "memory");
-    replies.push(Reply::Done).expect(rt, "memory");
-    replies.shrink_to(1);
+/// A list of 40 replies and no room for nine more, even where an allocator rounds a request up.
+fn forty_replies(rt: &impl Abort, alloc: Global) -> Vec<Reply> {
+    let mut replies = Vec::with_capacity(alloc, 40).expect(rt, "memory");
+    for _ in 0..40 {
+        replies.push(Reply::Done).expect(rt, "memory");
+    }
     replies
 }
 
@@ -57,24 +58,24 @@ fn is_not_begun(rt: &impl Abort, value: &mut CompactString, replies: &mut Vec<Re
 #[test]
 fn a_run_with_no_room_for_replies_runs_nothing(rt: HostRuntime) {
     let mut value = copied(&rt, rt.alloc(), "abc");
-    let mut replies = one_reply(&rt, rt.alloc());
+    let mut replies = forty_replies(&rt, rt.alloc());
     let hog = take_all(&rt, rt.alloc());
     is_not_begun(&rt, &mut value, &mut replies);
     drop(hog);
     assert_inline(&rt, &value, "abc");
-    assert_eq!(rt; replies.len(), 1);
-    was_refused(&rt, replies.as_slice(), 0, false);
+    assert_eq!(rt; replies.len(), 40);
+    was_refused(&rt, replies.as_slice(), 39, false);
 }
 
 #[test]
 fn an_empty_list_is_run_with_no_room(rt: HostRuntime) {
     let mut value = copied(&rt, rt.alloc(), "abc");
-    let mut replies = one_reply(&rt, rt.alloc());
+    let mut replies = forty_replies(&rt, rt.alloc());
     let hog = take_all(&rt, rt.alloc());
     run_all(&rt, &mut value, &[], &mut replies);
     drop(hog);
     assert_inline(&rt, &value, "abc");
-    assert_eq!(rt; replies.len(), 1);
+    assert_eq!(rt; replies.len(), 40);
 }
 
 /// Edits that ask for memory, and a shrink that does not need it.
