@@ -1,15 +1,11 @@
 //! Values as they are copied, with ample memory.
 
 use crate::seen::{
-    append, assert_heap, assert_inline, assert_static, buffered, copied, empty, lasting, letters,
+    append, assert_heap, assert_inline, assert_static, buffered, clone_of, copied, empty, lasting,
+    letters,
 };
 use compact_str::CompactString;
 use std::process::Abort;
-
-/// A clone, for which there is memory.
-fn clone_of(rt: &impl Abort, value: &CompactString) -> CompactString {
-    value.clone().expect(rt, "memory")
-}
 
 /// Makes `target` a clone of `source`, for which there is memory.
 fn copy_into(rt: &impl Abort, target: &mut CompactString, source: &CompactString) {

@@ -61,7 +61,7 @@ fn growth_counts_from_the_text_and_not_from_the_room(rt: HostRuntime) {
 }
 
 #[test]
-fn reserving_makes_a_static_text_owned(rt: HostRuntime) {
+fn a_static_text_is_owned_once_room_is_reserved(rt: HostRuntime) {
     assert_prints(
         &rt,
         rt.alloc(),

@@ -1,6 +1,8 @@
 //! Callers of the library as its users write them, and the tests that cross its crates.
 #![tactic(auto)]
 
+#[cfg(test)]
+mod called;
 mod callers;
 #[cfg(test)]
 mod changed;

@@ -2,7 +2,8 @@
 
 use crate::memory::{spare, take_all};
 use crate::seen::{
-    append, assert_heap, assert_inline, assert_static, buffered, copied, empty, lasting, letters,
+    append, assert_heap, assert_inline, assert_static, buffered, clone_of, copied, empty, lasting,
+    letters,
 };
 use compact_str::{CompactString, ReserveError};
 use std::alloc::Global;
@@ -105,10 +106,9 @@ fn capacities_past_24_bytes_are_not_made(rt: HostRuntime) {
 
 /// Asserts that a boxed text of 30 letters is handed back.
 fn is_handed_back(rt: &impl Abort, alloc: Global, boxed: BoxedStr) {
-    match CompactString::from_boxed_str(alloc, boxed) {
-        Ok(_) => assert!(rt; false),
-        Err(refused) => assert_eq!(rt; refused.value.as_str(), letters(30)),
-    }
+    let made = CompactString::from_boxed_str(alloc, boxed);
+    let refused = made.err().expect(rt, "a refusal");
+    assert_eq!(rt; refused.value.as_str(), letters(30));
 }
 
 #[test]
@@ -154,11 +154,6 @@ fn owned_texts_are_taken_over_with_no_memory(rt: HostRuntime) {
     let value = CompactString::from_cow(rt.alloc(), text);
     assert_heap(&rt, &value.expect(&rt, "no request"), 31, 30);
     drop(hog);
-}
-
-/// A clone, for which no memory is needed or there is some.
-fn clone_of(rt: &impl Abort, value: &CompactString) -> CompactString {
-    value.clone().expect(rt, "memory")
 }
 
 #[test]

@@ -33,10 +33,8 @@ fn run_all(
 
 /// Asserts what an edit answered: whether it was refused.
 fn was_refused(rt: &impl Abort, replies: &[Reply], place: usize, refused: bool) {
-    match replies.get(place) {
-        Some(reply) => assert_eq!(rt; matches!(reply, Reply::Refused(_)), refused),
-        None => assert!(rt; false),
-    }
+    let reply = replies.get(place).expect(rt, "a reply");
+    assert_eq!(rt; matches!(reply, Reply::Refused(_)), refused);
 }
 
 /// Asserts that a list of nine edits is not begun.

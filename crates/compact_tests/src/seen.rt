@@ -40,8 +40,13 @@ pub fn append<P: Policy>(rt: &impl Abort, value: &mut PolicyString<P>, text: &st
     value.push_str(text).expect(rt, "memory");
 }
 
+/// A clone, for which no memory is needed or there is some.
+pub fn clone_of(rt: &impl Abort, value: &CompactString) -> CompactString {
+    value.clone().expect(rt, "memory")
+}
+
 /// The name of a value's place.
-pub fn place_of<P: Policy>(value: &PolicyString<P>) -> &'static str {
+fn place_of<P: Policy>(value: &PolicyString<P>) -> &'static str {
     if value.is_heap_allocated() {
         "heap"
     } else if value.as_static_str().is_some() {
