@@ -1,16 +1,26 @@
 //! Callers of the library as its users write them, and the tests that cross its crates.
 #![tactic(auto)]
 
+#[cfg(test)]
+mod called;
 mod callers;
 #[cfg(test)]
+mod changed;
+#[cfg(test)]
+mod cloned;
+#[cfg(test)]
+mod growth;
+#[cfg(test)]
 mod lines;
+#[cfg(test)]
+mod made;
 #[cfg(test)]
 mod memory;
 #[cfg(test)]
 mod refused;
 #[cfg(test)]
-mod seen;
+mod refused_edits;
 #[cfg(test)]
-mod values;
+mod seen;
 
 pub use callers::{append_field, keyword, label, record_line};

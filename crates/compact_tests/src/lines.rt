@@ -6,7 +6,6 @@ use std::alloc::Global;
 use std::io;
 use std::io::{Read, Write};
 use std::process::Abort;
-use std::test::Fail;
 
 /// A reader and a writer that fail at once.
 #[derive(Drop)]
@@ -29,7 +28,7 @@ impl Write for Broken {
 }
 
 /// Asserts what the program prints for an input, and that it ends well.
-fn assert_prints(rt: &impl Abort, alloc: Global, mut input: &[u8], printed: &[u8]) {
+pub fn assert_prints(rt: &impl Abort, alloc: Global, mut input: &[u8], printed: &[u8]) {
     let mut output = Vec::new(alloc);
     assert_eq!(rt; run_lines(alloc, &mut input, &mut output), 0);
     assert_eq!(rt; output.as_slice(), printed);
@@ -115,47 +114,59 @@ fn the_last_line_may_lack_its_end(rt: HostRuntime) {
     assert_prints(&rt, rt.alloc(), b"", b"");
 }
 
-#[test]
-fn a_line_of_a_million_bytes_is_read(rt: HostRuntime) -> Result<(), Fail> {
-    let mut input = Vec::new(rt.alloc());
-    input.extend_from_slice(b"pushstr ")?;
+/// The line `pushstr` with a million letters.
+fn a_million_letters(rt: &impl Abort, alloc: Global) -> Vec<u8> {
+    let mut line = Vec::with_capacity(alloc, 1_000_009).expect(rt, "memory");
+    line.extend_from_slice(b"pushstr ").expect(rt, "memory");
     for _ in 0..1_000_000 {
-        input.push(b'z')?;
+        line.push(b'z').expect(rt, "memory");
     }
-    input.push(b'\n')?;
+    line.push(b'\n').expect(rt, "memory");
+    line
+}
+
+#[test]
+fn a_line_of_a_million_bytes_is_read(rt: HostRuntime) {
+    let input = a_million_letters(&rt, rt.alloc());
     let mut output = Vec::new(rt.alloc());
     assert_eq!(rt;
         run_lines(rt.alloc(), &mut input.as_slice(), &mut output),
         0
     );
-    assert_eq!(rt; output.len(), 1_000_026);
+    // `done`, then place, length and capacity are 26 bytes; the letters and the end of the line follow.
+    assert_eq!(rt; output.len(), 26 + 1_000_000 + 1);
     assert!(rt;
         output
             .as_slice()
             .starts_with(b"done\nheap 1000000 1000000 zzz")
     );
-    Ok(())
 }
 
 #[test]
-fn a_failing_reader_or_writer_is_told(rt: HostRuntime) -> Result<(), Fail> {
+fn a_failing_reader_is_told(rt: HostRuntime) {
     let mut output = Vec::new(rt.alloc());
     assert_eq!(rt; run_lines(rt.alloc(), &mut Broken, &mut output), 1);
     assert_eq!(rt; output.len(), 0);
-    let mut input: &[u8] = b"clear\n";
-    assert_eq!(rt; run_lines(rt.alloc(), &mut input, &mut Broken), 1);
-    let mut nothing: &[u8] = b"";
-    assert_eq!(rt; run_lines(rt.alloc(), &mut nothing, &mut Broken), 0);
-    Ok(())
+}
+
+/// What is answered for an input where nothing can be written.
+fn status_of_unwritten(alloc: Global, mut input: &[u8]) -> u8 {
+    run_lines(alloc, &mut input, &mut Broken)
 }
 
 #[test]
-fn no_memory_for_a_line_is_told(rt: HostRuntime) -> Result<(), Fail> {
-    let mut output = Vec::with_capacity(rt.alloc(), 1000)?;
+fn a_failing_writer_is_told_where_it_is_written_to(rt: HostRuntime) {
+    assert_eq!(rt; status_of_unwritten(rt.alloc(), b"clear\n"), 1);
+    assert_eq!(rt; status_of_unwritten(rt.alloc(), b"foo\n"), 1);
+    assert_eq!(rt; status_of_unwritten(rt.alloc(), b""), 0);
+}
+
+#[test]
+fn no_memory_for_a_line_is_told(rt: HostRuntime) {
+    let mut output = Vec::with_capacity(rt.alloc(), 1000).expect(&rt, "memory");
     let mut input: &[u8] = b"clear\n";
-    let hog = take_all(rt.alloc())?;
+    let hog = take_all(&rt, rt.alloc());
     assert_eq!(rt; run_lines(rt.alloc(), &mut input, &mut output), 1);
     drop(hog);
     assert_eq!(rt; output.len(), 0);
-    Ok(())
 }
