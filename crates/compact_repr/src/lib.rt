@@ -16,8 +16,8 @@ mod repr;
 mod rows;
 
 pub use error::ReserveError;
+pub use inline::INLINE_CAPACITY;
 pub use law::cut_is_before_and_after;
 pub use policy::{Policy, Standard};
-pub use inline::INLINE_CAPACITY;
 pub use repr::Repr;
 pub use repr::room::GREATEST_CAPACITY;

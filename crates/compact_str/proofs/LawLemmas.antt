@@ -23,12 +23,14 @@ pub removal_undoes_insertion : RemovalUndoesInsertion
 removal_undoes_insertion g v w p c h e =
     let text : w.text ≡ before v.text p ++ (c ∷ after v.text p) = inserted-text g v w p (c ∷ []) e ∙ append_assoc (before v.text p) (c ∷ []) (after v.text p) in
     let front : before w.text p ≡ before v.text p = ap (λ t. before t p) text ∙ before-cut (before v.text p) _ p (size-before v.text p h) in
-    let rest : after w.text p ≡ c ∷ after v.text p = ap (λ t. after t p) text ∙ after-cut (before v.text p) _ p (size-before v.text p h) in
-    (inserted-owned g v w p (c ∷ []) e, λ d u r.
-      let same : d ∷ r.0 ≡ c ∷ after v.text p = sym r.1 ∙ rest in
-      let first : d ≡ c = cc in
-      let others : r.0 ≡ after v.text p = cc in
-      (first, removes-text g w u p d r ∙ rw (front, others) (sym (before-after v.text p))))
+    let rest : after w.text p ≡ c ∷ after v.text p = ap (λ t. after t p) text ∙ after-cut (before v.text p) _ p (size-before v.text p h) in (
+      inserted-owned g v w p (c ∷ []) e,
+      λ d u r.
+          let same : d ∷ r.0 ≡ c ∷ after v.text p = sym r.1 ∙ rest in
+          let first : d ≡ c = cc in
+          let others : r.0 ≡ after v.text p = cc in
+          (first, removes-text g w u p d r ∙ rw (front, others) (sym (before-after v.text p))),
+    )
 
 split-text : (g : Growth) (v tail : PlacedText) (p : ℕ) → split_tail g v p ≡ Some tail → tail.text ≡ after v.text p
 split-text g v tail p e = grind (arith, common_steps)

@@ -99,7 +99,8 @@ impl<P: Policy> PolicyString<P> {
         prove!(index < len);
         let character = self.repr.char_at(index);
         self.repr.make_owned()?;
-        self.repr.replace_range(index, index + character.len_utf8(), "");
+        self.repr
+            .replace_range(index, index + character.len_utf8(), "");
         Ok(character)
     }
 
@@ -107,7 +108,12 @@ impl<P: Policy> PolicyString<P> {
     ///
     /// Whether the bounds are a range of the text, `check_range` tells. An error says that no memory was found, or that
     /// the capacity would be past 2^56 - 2; then nothing has changed.
-    pub fn replace_range(&mut self, start: Bound<usize>, end: Bound<usize>, text: &str) -> Result<(), ReserveError>
+    pub fn replace_range(
+        &mut self,
+        start: Bound<usize>,
+        end: Bound<usize>,
+        text: &str,
+    ) -> Result<(), ReserveError>
         requires { IsRange self.old.text start end }
         ensures ok { OnOk result (replaced P.growth self.old (range_start start) (range_end self.old.text end) (text_of text.now) ≡ Some self.new) }
         ensures text { OnOk result (self.new.text ≡ spliced self.old.text (range_start start) (range_end self.old.text end) (text_of text.now)) }

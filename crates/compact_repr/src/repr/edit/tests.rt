@@ -98,7 +98,10 @@ fn long_tail(rt: HostRuntime) -> Result<(), Fail> {
 
 #[test]
 fn of_the_program(rt: HostRuntime) -> Result<(), Fail> {
-    let mut text: Repr<Standard> = Repr::from_static(rt.alloc(), "äb𝄞 and so on, past the inline capacity");
+    let mut text: Repr<Standard> = Repr::from_static(
+        rt.alloc(),
+        "äb𝄞 and so on, past the inline capacity",
+    );
     assert!(rt; text.is_char_boundary(3));
     assert_eq!(rt;
         text.static_tail(3),
