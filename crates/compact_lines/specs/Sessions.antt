@@ -1,7 +1,7 @@
 -- What a command does to the program's value.
 use Rattle.std.specs.Prelude.{◌≡◌, Some, replicate}
 use Rattle.compact_str.specs.Text.{text_of}
-use Rattle.compact_str.specs.Value.{PlacedText, placed}
+use Rattle.compact_str.specs.Value.{PlacedText}
 use Rattle.compact_str.specs.Capacity.{Growth, borrowed}
 use Rattle.compact_str.specs.Change.{made, with_room}
 use Rattle.compact_str.specs.Clones.{cloned_from}

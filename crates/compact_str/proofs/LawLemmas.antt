@@ -1,10 +1,9 @@
 -- Proofs of the laws of the edits.
-use Rattle.std.proofs.Common.{◌≡◌, Some, ℕ, ◌+◌, List, [], ◌∷◌, ◌++◌, false, refl, ap, sym, ◌∙◌, arith, append_assoc}
+use Rattle.std.proofs.Common.{◌≡◌, Some, ℕ, List, [], ◌∷◌, ◌++◌, false, ap, sym, ◌∙◌, arith, append_assoc}
 use Rattle.std.proofs.lemmas.Grind.{common_steps}
-use Rattle.compact_repr.specs.Cut.{IsBoundary, before, after, spliced}
-use Rattle.compact_repr.specs.Value.{PlacedText, placed}
-use Rattle.compact_repr.specs.Capacity.{Growth, kept, own_asks, room}
-use Rattle.compact_repr.specs.Change.{pushed, copy_of}
+use Rattle.compact_repr.specs.Cut.{before, after, spliced}
+use Rattle.compact_repr.specs.Value.{PlacedText}
+use Rattle.compact_repr.specs.Capacity.{Growth, own_asks}
 use Rattle.compact_str.specs.Edits.{inserted, Removes, split_tail}
 use Rattle.compact_str.specs.Laws.{RemovalUndoesInsertion, AppendUndoesSplit, CloneIsEqual}
 use Rattle.compact_repr.proofs.Changes.{pushed-text}

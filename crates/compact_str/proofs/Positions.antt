@@ -5,7 +5,7 @@ use Rattle.std.proofs.lemmas.Bool.{cond-false, lt-leb}
 use Rattle.std.proofs.lemmas.Str.{len_utf8_bounds}
 use Rattle.std.specs.Char.{len_utf8}
 use Rattle.compact_repr.specs.Text.{size}
-use Rattle.compact_repr.specs.Cut.{IsCut, IsBoundary, before, after, spliced}
+use Rattle.compact_repr.specs.Cut.{IsBoundary, before, after, spliced}
 use Rattle.compact_repr.specs.Value.{PlacedText, placed}
 use Rattle.compact_repr.specs.Capacity.{Growth, kept, owned}
 use Rattle.compact_repr.specs.Change.{truncated, made_owned}

@@ -1,5 +1,5 @@
 -- What a text gives that may be borrowed or owned.
-use Rattle.std.specs.Prelude.{◌≡◌, ◌≤◌, length, Result, MatchResult, IsOkAnd, IsOk, OnErr, Some, IsTrue, string_bytes}
+use Rattle.std.specs.Prelude.{◌≡◌, length, Result, MatchResult, IsOkAnd, Some, IsTrue, string_bytes}
 use Rattle.std.specs.String.{string_capacity}
 use Rattle.std.specs.declared.borrow.CowStr.{CowStr}
 use Rattle.std.specs.declared.borrow.CowStr.TheVariants.{Borrowed, Owned}

@@ -1,5 +1,5 @@
 -- Ranges of a text by two bounds.
-use Rattle.std.specs.Prelude.{◌≡◌, ℕ, ◌≤◌, List}
+use Rattle.std.specs.Prelude.{ℕ, ◌≤◌, List}
 use Rattle.std.specs.declared.ops.Bound.{Bound}
 use Rattle.std.specs.Range.Bound.{start_index, end_index}
 use Rattle.compact_repr.specs.Text.{size}

@@ -1,4 +1,4 @@
-use Rattle.std.proofs.Common.{◌≡◌, ◌∷◌, [], ◌++◌, ap, sym, ◌∙◌, refl}
+use Rattle.std.proofs.Common.{◌≡◌, ◌∷◌, [], ◌++◌, ap, sym, ◌∙◌}
 use Rattle.compact_repr.specs.Value.{PlacedText}
 use Rattle.compact_str.proofs.Positions.{truncated-last}
 use Rattle.compact_str.proofs.string.PolicyString.pop.Goals as goal

@@ -1,9 +1,8 @@
 -- The character that begins at the position, and what stands after it.
-use Rattle.std.proofs.Common.{◌≡◌, ◌∷◌, ◌≤◌, ◌+◌, sym, ap, ◌∙◌, arith, subst, List, ℕ, Some}
-use Rattle.std.specs.Char.{len_utf8}
+use Rattle.std.proofs.Common.{◌≡◌, ◌∷◌, sym, ap, ◌∙◌, arith, Some}
 use Rattle.std.proofs.lemmas.Str.{chars-nil}
 use Rattle.compact_repr.specs.Text.{size}
-use Rattle.compact_repr.specs.Cut.{after, IsBoundary}
+use Rattle.compact_repr.specs.Cut.{after}
 use Rattle.compact_repr.specs.Value.{PlacedText}
 use Rattle.compact_repr.specs.Change.{made_owned}
 use Rattle.compact_repr.proofs.Cuts.{boundary-within}
