@@ -22,5 +22,7 @@ mod refused;
 mod refused_edits;
 #[cfg(test)]
 mod seen;
+#[cfg(test)]
+mod sessions;
 
 pub use callers::{append_field, keyword, label, record_line};
