@@ -17,6 +17,8 @@ mod made;
 #[cfg(test)]
 mod memory;
 #[cfg(test)]
+mod positions;
+#[cfg(test)]
 mod refused;
 #[cfg(test)]
 mod refused_edits;
