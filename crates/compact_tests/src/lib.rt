@@ -23,6 +23,8 @@ mod refused;
 #[cfg(test)]
 mod refused_edits;
 #[cfg(test)]
+mod refused_positions;
+#[cfg(test)]
 mod seen;
 #[cfg(test)]
 mod sessions;

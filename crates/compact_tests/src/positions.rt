@@ -5,6 +5,7 @@ use compact_str::{CompactString, Policy, PolicyString};
 use std::fmt;
 use std::fmt::Write;
 use std::ops::Bound;
+use std::ops::Bound::{Excluded, Included, Unbounded};
 use std::process::Abort;
 
 /// Appends a character, which is granted.
@@ -13,7 +14,12 @@ fn push(rt: &impl Abort, value: &mut CompactString, character: char) {
 }
 
 /// Puts a character in at a position that is tested first.
-fn insert<P: Policy>(rt: &impl Abort, value: &mut PolicyString<P>, index: usize, character: char) {
+pub fn insert<P: Policy>(
+    rt: &impl Abort,
+    value: &mut PolicyString<P>,
+    index: usize,
+    character: char,
+) {
     assert!(rt; value.is_char_boundary(index));
     value.insert(index, character).expect(rt, "memory");
 }
@@ -25,26 +31,26 @@ fn insert_str(rt: &impl Abort, value: &mut CompactString, index: usize, text: &s
 }
 
 /// Takes a character out at a position that is tested first.
-fn remove<P: Policy>(rt: &impl Abort, value: &mut PolicyString<P>, index: usize) -> char {
+pub fn remove<P: Policy>(rt: &impl Abort, value: &mut PolicyString<P>, index: usize) -> char {
     assert!(rt; index < value.len());
     assert!(rt; value.is_char_boundary(index));
     value.remove(index).expect(rt, "memory")
 }
 
 /// Keeps the first bytes, up to a position that is tested first.
-fn truncate(rt: &impl Abort, value: &mut CompactString, len: usize) {
+pub fn truncate(rt: &impl Abort, value: &mut CompactString, len: usize) {
     assert!(rt; len >= value.len() || value.is_char_boundary(len));
     value.truncate(len);
 }
 
 /// Splits at a position that is tested first.
-fn split(rt: &impl Abort, value: &mut CompactString, index: usize) -> CompactString {
+pub fn split(rt: &impl Abort, value: &mut CompactString, index: usize) -> CompactString {
     assert!(rt; value.is_char_boundary(index));
     value.split_off(index).expect(rt, "memory")
 }
 
 /// Replaces a range that is tested first.
-fn replace(
+pub fn replace(
     rt: &impl Abort,
     value: &mut CompactString,
     start: Bound<usize>,
@@ -56,7 +62,7 @@ fn replace(
 }
 
 /// The text of a value so many times, which is granted.
-fn repeated(rt: &impl Abort, value: &CompactString, count: usize) -> CompactString {
+pub fn repeated(rt: &impl Abort, value: &CompactString, count: usize) -> CompactString {
     value.repeat(count).expect(rt, "memory")
 }
 
@@ -191,52 +197,40 @@ fn a_heap_text_is_split_and_keeps_its_buffer(rt: HostRuntime) {
 #[test]
 fn ranges_with_an_included_start_are_replaced(rt: HostRuntime) {
     let mut value = copied(&rt, rt.alloc(), "abcdef");
-    replace(
-        &rt,
-        &mut value,
-        Bound::Included(1),
-        Bound::Included(2),
-        "XYZ",
-    );
+    replace(&rt, &mut value, Included(1), Included(2), "XYZ");
     assert_inline(&rt, &value, "aXYZdef");
-    replace(&rt, &mut value, Bound::Included(1), Bound::Excluded(4), "");
+    replace(&rt, &mut value, Included(1), Excluded(4), "");
     assert_inline(&rt, &value, "adef");
-    replace(&rt, &mut value, Bound::Included(3), Bound::Unbounded, "gh");
+    replace(&rt, &mut value, Included(3), Unbounded, "gh");
     assert_inline(&rt, &value, "adegh");
 }
 
 #[test]
 fn ranges_with_an_excluded_start_are_replaced(rt: HostRuntime) {
     let mut value = copied(&rt, rt.alloc(), "abcdef");
-    replace(&rt, &mut value, Bound::Excluded(0), Bound::Included(2), "X");
+    replace(&rt, &mut value, Excluded(0), Included(2), "X");
     assert_inline(&rt, &value, "aXdef");
-    replace(
-        &rt,
-        &mut value,
-        Bound::Excluded(1),
-        Bound::Excluded(3),
-        "YZ",
-    );
+    replace(&rt, &mut value, Excluded(1), Excluded(3), "YZ");
     assert_inline(&rt, &value, "aXYZef");
-    replace(&rt, &mut value, Bound::Excluded(3), Bound::Unbounded, "");
+    replace(&rt, &mut value, Excluded(3), Unbounded, "");
     assert_inline(&rt, &value, "aXYZ");
 }
 
 #[test]
 fn ranges_with_an_open_start_are_replaced(rt: HostRuntime) {
     let mut value = copied(&rt, rt.alloc(), "abcdef");
-    replace(&rt, &mut value, Bound::Unbounded, Bound::Included(1), "X");
+    replace(&rt, &mut value, Unbounded, Included(1), "X");
     assert_inline(&rt, &value, "Xcdef");
-    replace(&rt, &mut value, Bound::Unbounded, Bound::Excluded(1), "YZ");
+    replace(&rt, &mut value, Unbounded, Excluded(1), "YZ");
     assert_inline(&rt, &value, "YZcdef");
-    replace(&rt, &mut value, Bound::Unbounded, Bound::Unbounded, "ä");
+    replace(&rt, &mut value, Unbounded, Unbounded, "ä");
     assert_inline(&rt, &value, "ä");
 }
 
 #[test]
 fn an_empty_replacement_makes_a_static_text_owned(rt: HostRuntime) {
     let mut value = lasting(rt.alloc(), 30);
-    replace(&rt, &mut value, Bound::Included(0), Bound::Excluded(0), "");
+    replace(&rt, &mut value, Included(0), Excluded(0), "");
     assert_heap(&rt, &value, 32, 30);
 }
 
@@ -338,7 +332,6 @@ fn is_range(
 
 #[test]
 fn bounds_make_a_range(rt: HostRuntime) {
-    use std::ops::Bound::{Excluded, Included, Unbounded};
     let value = copied(&rt, rt.alloc(), "äb");
     is_range(&rt, &value, Excluded(1), Excluded(3), Some((2, 3)));
     is_range(&rt, &value, Unbounded, Included(2), Some((0, 3)));
@@ -348,7 +341,6 @@ fn bounds_make_a_range(rt: HostRuntime) {
 
 #[test]
 fn bounds_make_no_range(rt: HostRuntime) {
-    use std::ops::Bound::{Excluded, Included, Unbounded};
     let value = copied(&rt, rt.alloc(), "äb");
     is_range(&rt, &value, Included(1), Unbounded, None);
     is_range(&rt, &value, Included(3), Excluded(2), None);

@@ -17,12 +17,12 @@ fn forty_replies(rt: &impl Abort, alloc: Global) -> Vec<Reply<Standard>> {
 }
 
 /// Room for so many replies.
-fn room_for(rt: &impl Abort, alloc: Global, count: usize) -> Vec<Reply<Standard>> {
+pub fn room_for(rt: &impl Abort, alloc: Global, count: usize) -> Vec<Reply<Standard>> {
     Vec::with_capacity(alloc, count).expect(rt, "memory")
 }
 
 /// Runs edits, for whose replies there is room.
-fn run_all(
+pub fn run_all(
     rt: &impl Abort,
     value: &mut CompactString,
     edits: &[Edit<Standard>],
