@@ -17,10 +17,16 @@ mod made;
 #[cfg(test)]
 mod memory;
 #[cfg(test)]
+mod positions;
+#[cfg(test)]
 mod refused;
 #[cfg(test)]
 mod refused_edits;
 #[cfg(test)]
+mod refused_positions;
+#[cfg(test)]
 mod seen;
+#[cfg(test)]
+mod sessions;
 
 pub use callers::{append_field, keyword, label, record_line};

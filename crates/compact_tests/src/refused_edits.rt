@@ -8,7 +8,7 @@ use std::alloc::Global;
 use std::process::Abort;
 
 /// A list of 40 replies and no room for nine more, even where an allocator rounds a request up.
-fn forty_replies(rt: &impl Abort, alloc: Global) -> Vec<Reply> {
+fn forty_replies(rt: &impl Abort, alloc: Global) -> Vec<Reply<Standard>> {
     let mut replies = Vec::with_capacity(alloc, 40).expect(rt, "memory");
     for _ in 0..40 {
         replies.push(Reply::Done).expect(rt, "memory");
@@ -17,28 +17,28 @@ fn forty_replies(rt: &impl Abort, alloc: Global) -> Vec<Reply> {
 }
 
 /// Room for so many replies.
-fn room_for(rt: &impl Abort, alloc: Global, count: usize) -> Vec<Reply> {
+pub fn room_for(rt: &impl Abort, alloc: Global, count: usize) -> Vec<Reply<Standard>> {
     Vec::with_capacity(alloc, count).expect(rt, "memory")
 }
 
 /// Runs edits, for whose replies there is room.
-fn run_all(
+pub fn run_all(
     rt: &impl Abort,
     value: &mut CompactString,
     edits: &[Edit<Standard>],
-    replies: &mut Vec<Reply>,
+    replies: &mut Vec<Reply<Standard>>,
 ) {
     run(value, edits, replies).expect(rt, "room for the replies");
 }
 
 /// Asserts what an edit answered: whether it was refused.
-fn was_refused(rt: &impl Abort, replies: &[Reply], place: usize, refused: bool) {
+fn was_refused(rt: &impl Abort, replies: &[Reply<Standard>], place: usize, refused: bool) {
     let reply = replies.get(place).expect(rt, "a reply");
     assert_eq!(rt; matches!(reply, Reply::Refused(_)), refused);
 }
 
 /// Asserts that a list of nine edits is not begun.
-fn is_not_begun(rt: &impl Abort, value: &mut CompactString, replies: &mut Vec<Reply>) {
+fn is_not_begun(rt: &impl Abort, value: &mut CompactString, replies: &mut Vec<Reply<Standard>>) {
     let edits: [Edit<Standard>; 9] = [
         Edit::Clear,
         Edit::Clear,
