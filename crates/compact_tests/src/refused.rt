@@ -247,3 +247,12 @@ fn the_second_request_is_refused(rt: HostRuntime) {
     drop(hog);
     assert_heap(&rt, &first, 60, 60);
 }
+
+#[test]
+fn a_refusal_is_shown_in_words(rt: HostRuntime) {
+    let shown = format!(in rt.alloc(); "{}", ReserveError).expect(&rt, "memory");
+    assert_eq!(rt;
+        shown.as_str(),
+        "Cannot allocate memory to hold CompactString"
+    );
+}
