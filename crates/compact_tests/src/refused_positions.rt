@@ -276,6 +276,31 @@ fn a_bad_position_is_told_before_a_refusal(rt: HostRuntime) {
     answered(&rt, replies.as_slice(), 3, "refused");
 }
 
+/// Edits within the first character of a text.
+fn within_a_character() -> [Edit<'static, Standard>; 4] {
+    [
+        Edit::Insert(1, 'b'),
+        Edit::InsertStr(1, ""),
+        Edit::Remove(1),
+        Edit::ReplaceRange(Included(1), Excluded(2), ""),
+    ]
+}
+
+#[test]
+fn a_position_within_a_character_is_told_before_a_refusal(rt: HostRuntime) {
+    let mut value = CompactString::const_new(rt.alloc(), "äaaaaaaaaaaaaaaaaaaaaaaaaaaa");
+    let mut replies = room_for(&rt, rt.alloc(), 4);
+    let hog = take_all(&rt, rt.alloc());
+    run_all(&rt, &mut value, &within_a_character(), &mut replies);
+    drop(hog);
+    assert!(rt; value.as_static_str().is_some());
+    assert_eq!(rt; value.len(), 29);
+    answered(&rt, replies.as_slice(), 0, "bad position");
+    answered(&rt, replies.as_slice(), 1, "bad position");
+    answered(&rt, replies.as_slice(), 2, "bad position");
+    answered(&rt, replies.as_slice(), 3, "bad position");
+}
+
 #[test]
 fn a_refused_split_leaves_a_heap_text(rt: HostRuntime) {
     let mut value = copied(&rt, rt.alloc(), letters(60));
