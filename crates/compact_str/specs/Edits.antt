@@ -43,10 +43,14 @@ abbrev pub times : ℕ → List ℕ → List ℕ
 times zero t = []
 times (suc n) t = t ++ times n t
 
--- v's text n times: a copy where n is 1, and else with room made anew
+-- v is copied when it is repeated n times: once, and not empty
+abbrev pub is_copied : PlacedText → ℕ → Bool
+is_copied v n = nat_eq n 1 && not (nat_eq (size v.text) 0)
+
+-- v's text n times: a copy, or with room made anew, which is inline where the outcome is empty
 abbrev pub repeated : Growth → PlacedText → ℕ → Option PlacedText
 repeated g v n =
-    option_map (placed (times n v.text)) (if nat_eq n 1 then copied g v else held g (size v.text * n))
+    option_map (placed (times n v.text)) (if is_copied v n then copied g v else held g (size v.text * n))
 
 abbrev pub repeat_asks : PlacedText → ℕ → Bool
-repeat_asks v n = if nat_eq n 1 then copy_asks v else held_asks (size v.text * n)
+repeat_asks v n = if is_copied v n then copy_asks v else held_asks (size v.text * n)

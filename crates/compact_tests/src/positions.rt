@@ -254,6 +254,14 @@ fn a_static_text_repeated_once_is_static(rt: HostRuntime) {
 }
 
 #[test]
+fn an_empty_static_text_repeated_once_is_inline(rt: HostRuntime) {
+    let mut value = lasting(rt.alloc(), 30);
+    value.clear();
+    assert_static(&rt, &value, 0);
+    assert_inline(&rt, &repeated(&rt, &value, 1), "");
+}
+
+#[test]
 fn a_repetition_past_the_limit_is_refused(rt: HostRuntime) {
     let value = copied(&rt, rt.alloc(), "ab");
     assert!(rt; value.repeat(usize::MAX).is_err());

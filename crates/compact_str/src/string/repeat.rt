@@ -9,7 +9,7 @@ use crate::string::PolicyString;
 use compact_repr::{Policy, ReserveError};
 
 impl<P: Policy> PolicyString<P> {
-    /// The text `count` times, one after another, in one buffer: 0 times it is empty and inline, once it is a clone.
+    /// The text `count` times, one after another, in one buffer: once it is a clone, and an empty outcome is inline.
     ///
     /// An error says that no memory was found, or that the length would be past 2^56 - 2.
     /// `"abc"` three times is `"abcabcabc"`.
@@ -19,7 +19,7 @@ impl<P: Policy> PolicyString<P> {
         ensures text { IfOk result (λ v. v.text ≡ times count self.now.text) }
         ensures err { OnErr result (IsTrue (repeat_asks self.now count)) }
     {
-        if count == 1 {
+        if count == 1 && !self.is_empty() {
             return match self.repr.try_clone() {
                 Ok(repr) => Ok(PolicyString { repr }),
                 Err(error) => Err(error),
