@@ -1,8 +1,10 @@
 pub mod Texts
 pub mod Cuts
 pub mod Shifts
+pub mod Ends
 pub mod SplicedRows
 pub mod TextFacts
 pub mod Examples
+pub mod HeapTexts
 pub mod Strings
 pub mod Changes

@@ -3,7 +3,8 @@ use Rattle.std.proofs.Common.{◌≡◌, ℕ, ◌+◌, ◌-◌, ◌≤◌, List,
 use Rattle.std.proofs.lemmas.List.{length-drop, length-take-le, take-append-drop, take-append-le, take-take, take_at, drop_at, drop-drop, drop-take}
 use lib.Seq.{paste}
 
-take-add : (xs : List ℕ) (m n : ℕ) → take (m + n) xs ≡ take m xs ++ take n (drop m xs)
+-- the first m + n are the first m and then the first n of the others
+pub take-add : (xs : List ℕ) (m n : ℕ) → take (m + n) xs ≡ take m xs ++ take n (drop m xs)
 take-add xs m n =
     let front : take m (take (m + n) xs) ≡ take m xs = take-take m (m + n) xs (omega arith) in
     sym (take-append-drop m (take (m + n) xs)) ∙ rw (front, drop-take m n xs) refl

@@ -1,23 +1,28 @@
-//! A text in a vector of bytes on the heap, beside a capacity that the vector has reserved.
-ghost use Rattle.std.specs.Prelude.{◌≡◌, ◌+◌, ◌≤◌, ◌<◌, ◌^◌, [], ◌++◌, length, IfOk, OnOk, OnErr, IsTrue, ◌↔◌};
+//! A text in a vector of bytes on the heap, beside its length and a capacity that the vector has reserved.
+ghost use Rattle.std.specs.Prelude.{◌≡◌, ◌+◌, ◌≤◌, ◌<◌, ◌^◌, [], ◌++◌, length, take, max, IfOk, OnOk, OnErr, IsTrue, ◌↔◌};
 ghost use Rattle.std.specs.Vec.{vec_len, vec_capacity};
 ghost use Rattle.std.specs.String.{string_bytes, string_capacity};
 ghost use Rattle.compact_repr.specs.Text.{size, utf8, text_of, IsText};
 
+use crate::rows;
 use std::alloc::{AllocError, Global};
 use std::marker::Model;
 
 mod edit;
 
+/// The text is the first `len` bytes of the vector. What stands behind them was text once and may be written over, so
+/// that an edit within what the vector has held only moves bytes.
+///
 /// The stated capacity is at most what the vector has reserved, since a vector may be given more than it asked for.
 #[derive(Drop)]
 pub struct HeapBuffer {
     bytes: Vec<u8>,
+    len: usize,
     capacity: usize,
 }
 
 impl Model for HeapBuffer {
-    ghost use Rattle.std.specs.Prelude.{◌≤◌, length};
+    ghost use Rattle.std.specs.Prelude.{◌≤◌, length, take};
     ghost use Rattle.std.specs.Str.{IsUtf8};
     ghost use Rattle.std.specs.Vec.{vec_capacity};
     ghost use Rattle.compact_repr.specs.Text.{text_of};
@@ -25,9 +30,9 @@ impl Model for HeapBuffer {
 
     ghost Value = { HeapText };
 
-    ghost view = { λ b. record { text = text_of b.bytes.items; capacity = b.capacity } };
+    ghost view = { λ b. record { text = text_of (take b.len b.bytes.items); capacity = b.capacity } };
 
-    ghost invariant = { λ b. IsUtf8 b.bytes.items × (length b.bytes.items ≤ b.capacity) × (b.capacity ≤ vec_capacity b.bytes) };
+    ghost invariant = { λ b. IsUtf8 (take b.len b.bytes.items) × (b.len ≤ length b.bytes.items) × (length b.bytes.items ≤ b.capacity) × (b.capacity ≤ vec_capacity b.bytes) };
 }
 
 impl HeapBuffer {
@@ -37,6 +42,7 @@ impl HeapBuffer {
     {
         Ok(HeapBuffer {
             bytes: Vec::with_capacity(alloc, capacity)?,
+            len: 0,
             capacity,
         })
     }
@@ -47,8 +53,12 @@ impl HeapBuffer {
         ensures fits { size result.text ≤ result.capacity }
     {
         let bytes = text.into_bytes();
-        let capacity = bytes.capacity();
-        HeapBuffer { bytes, capacity }
+        let (len, capacity) = (bytes.len(), bytes.capacity());
+        HeapBuffer {
+            bytes,
+            len,
+            capacity,
+        }
     }
 
     /// The same text in a new buffer with room for `capacity` bytes, at least as many as the text has.
@@ -69,7 +79,7 @@ impl HeapBuffer {
         ensures small { result < 2 ^ 63 }
         ensures text { IsText self.now.text }
     {
-        self.bytes.len()
+        self.len
     }
 
     /// How many bytes have room.
@@ -85,7 +95,7 @@ impl HeapBuffer {
     pub fn has_room(&self, more: usize) -> bool
         ensures { IsTrue result ↔ (size self.now.text + more ≤ self.now.capacity) }
     {
-        more <= self.capacity - self.bytes.len()
+        more <= self.capacity - self.len
     }
 
     /// The text.
@@ -94,7 +104,7 @@ impl HeapBuffer {
         ensures bytes { result.now ≡ utf8 self.now.text }
         ensures text { text_of result.now ≡ self.now.text }
     {
-        unsafe { std::str::from_utf8_unchecked(self.bytes.as_slice()) }
+        unsafe { std::str::from_utf8_unchecked(&self.bytes.as_slice()[..self.len]) }
     }
 
     /// Makes room for `capacity` bytes in all. An error changes nothing.
@@ -114,7 +124,9 @@ impl HeapBuffer {
         requires { size self.old.text + length text.now ≤ self.old.capacity }
         ensures { self.new ≡ record { text = self.old.text ++ text_of text.now; capacity = self.old.capacity } }
     {
-        append(&mut self.bytes, text.as_bytes());
+        let end = self.len + text.len();
+        append(&mut self.bytes, self.len, text.as_bytes());
+        self.len = end;
     }
 
     /// Leaves the empty text, with the same capacity.
@@ -122,17 +134,25 @@ impl HeapBuffer {
     pub fn clear(&mut self)
         ensures { self.new ≡ record { text = []; capacity = self.old.capacity } }
     {
-        self.bytes.clear();
+        self.len = 0;
     }
 }
 
-/// Appends `source`, for which the vector has room.
+/// Writes `source` behind the first `len` bytes, for which the vector has room.
 #[inline]
-fn append(bytes: &mut Vec<u8>, source: &[u8])
-    requires { vec_len bytes.old + length source.now ≤ vec_capacity bytes.old }
-    ensures items { bytes.new.items ≡ bytes.old.items ++ source.now }
+fn append(bytes: &mut Vec<u8>, len: usize, source: &[u8])
+    requires held { len ≤ vec_len bytes.old }
+    requires room { len + length source.now ≤ vec_capacity bytes.old }
+    ensures items { take (len + length source.now) bytes.new.items ≡ take len bytes.old.items ++ source.now }
+    ensures long { len + length source.now ≤ vec_len bytes.new }
+    ensures most { vec_len bytes.new ≤ max (vec_len bytes.old) (len + length source.now) }
     ensures capacity { vec_capacity bytes.old ≤ vec_capacity bytes.new }
 {
+    if len + source.len() <= bytes.len() {
+        rows::append(bytes.as_mut_slice(), len, source);
+        return;
+    }
+    bytes.truncate(len);
     if bytes.extend_from_slice(source).is_err() {
         unreachable!();
     }

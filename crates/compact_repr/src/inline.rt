@@ -1,7 +1,8 @@
 //! A text of at most 24 bytes that stands in the value itself.
-ghost use Rattle.std.specs.Prelude.{◌≡◌, ◌+◌, ◌≤◌, [], ◌++◌, length, take};
+ghost use Rattle.std.specs.Prelude.{◌≡◌, ◌+◌, ◌≤◌, [], ◌++◌, length};
 ghost use Rattle.compact_repr.specs.Text.{size, utf8, text_of, IsText};
 
+use crate::rows::append;
 use std::marker::Model;
 
 mod edit;
@@ -88,7 +89,7 @@ impl InlineBuffer {
         ensures { self.new ≡ self.old ++ text_of text.now }
     {
         let end = self.len + text.len();
-        put(&mut self.bytes, self.len, text.as_bytes());
+        append(&mut self.bytes, self.len, text.as_bytes());
         self.len = end;
     }
 
@@ -99,13 +100,4 @@ impl InlineBuffer {
     {
         self.len = 0;
     }
-}
-
-/// Writes `source` at a place of `bytes`; what stands before it stays.
-#[inline]
-fn put(bytes: &mut [u8], at: usize, source: &[u8])
-    requires { at + length source.now ≤ length bytes.old }
-    ensures { take (at + length source.now) bytes.new ≡ take at bytes.old ++ source.now }
-{
-    bytes[at..at + source.len()].copy_from_slice(source);
 }

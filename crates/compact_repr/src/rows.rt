@@ -1,11 +1,34 @@
 //! Work on rows of bytes.
-ghost use Rattle.std.specs.Prelude.{◌≡◌, ◌+◌, ◌-◌, ◌≤◌, length, take, drop};
+//!
+//! What is long moves in blocks of 64 bytes, what is short by its two ends. Either way all is read before it is written,
+//! in few wide moves.
+ghost use Rattle.std.specs.Prelude.{◌≡◌, ◌+◌, ◌-◌, ◌≤◌, ◌++◌, length, take, drop};
 ghost use Rattle.std.specs.List.{replace_range};
 ghost use lib.Seq.{paste};
 
 /// Of the first `len` bytes of `row` replaces those from `start` to `end` by `source`. The tail moves once.
-#[inline]
+///
+/// Where one byte comes or goes, the tail moves by one place, which the compiler knows how to do in wide moves.
+#[inline(always)]
 pub fn splice(row: &mut [u8], len: usize, start: usize, end: usize, source: &[u8])
+    requires order { start ≤ end }
+    requires within { end ≤ len }
+    requires held { len ≤ length row.old }
+    requires room { len + length source.now ≤ length row.old + (end - start) }
+    ensures { take (len - (end - start) + length source.now) row.new ≡ replace_range (take len row.old) start end source.now }
+{
+    if start == end && source.len() == 1 {
+        row.copy_within(start..len, start + 1);
+        put_ends::<1>(row, start, source);
+    } else if end - start == 1 && source.is_empty() {
+        row.copy_within(start + 1..len, start);
+    } else {
+        replace(row, len, start, end, source);
+    }
+}
+
+/// `splice` for any number of bytes.
+fn replace(row: &mut [u8], len: usize, start: usize, end: usize, source: &[u8])
     requires order { start ≤ end }
     requires within { end ≤ len }
     requires held { len ≤ length row.old }
@@ -14,7 +37,39 @@ pub fn splice(row: &mut [u8], len: usize, start: usize, end: usize, source: &[u8
 {
     let tail = start + source.len();
     shift(row, end, tail, len - end);
-    row[start..tail].copy_from_slice(source);
+    put(row, start, source);
+}
+
+/// Writes `source` behind the first `len` bytes of `row`.
+#[inline]
+#[tactic(auto, using(crate::proofs::SplicedRows::appended))]
+pub fn append(row: &mut [u8], len: usize, source: &[u8])
+    requires { len + length source.now ≤ length row.old }
+    ensures { take (len + length source.now) row.new ≡ take len row.old ++ source.now }
+{
+    put(row, len, source);
+}
+
+/// Writes `source` at a place of `row`.
+#[inline]
+fn put(row: &mut [u8], at: usize, source: &[u8])
+    requires { at + length source.now ≤ length row.old }
+    ensures { row.new ≡ paste row.old at source.now (length source.now) }
+{
+    let count = source.len();
+    if count > 32 {
+        row[at..at + count].copy_from_slice(source);
+    } else if count >= 16 {
+        put_ends::<16>(row, at, source);
+    } else if count >= 8 {
+        put_ends::<8>(row, at, source);
+    } else if count >= 4 {
+        put_ends::<4>(row, at, source);
+    } else if count >= 2 {
+        put_ends::<2>(row, at, source);
+    } else if count == 1 {
+        put_ends::<1>(row, at, source);
+    }
 }
 
 /// As many bytes move at once.
@@ -44,7 +99,7 @@ fn shift_up(row: &mut [u8], from: usize, to: usize, count: usize)
     let mut left = count;
     'moves: while BLOCK < left {
         left -= BLOCK;
-        carry(row, from + left, to + left, BLOCK);
+        carry_ends::<BLOCK>(row, from + left, to + left, BLOCK);
     }
     carry(row, from, to, left);
 }
@@ -57,21 +112,94 @@ fn shift_down(row: &mut [u8], from: usize, to: usize, count: usize)
 {
     let mut done = 0;
     'moves: while BLOCK < count - done {
-        carry(row, from + done, to + done, BLOCK);
+        carry_ends::<BLOCK>(row, from + done, to + done, BLOCK);
         done += BLOCK;
     }
     carry(row, from + done, to + done, count - done);
 }
 
-/// Moves at most a block of bytes by way of a copy, so that the places may overlap.
-#[inline(always)]
+/// Moves at most a block of bytes.
+#[inline]
 fn carry(row: &mut [u8], from: usize, to: usize, count: usize)
     requires one_block { count ≤ 64 }
     requires source { from + count ≤ length row.old }
     requires target { to + count ≤ length row.old }
     ensures { row.new ≡ paste row.old to (drop from row.old) count }
 {
-    let mut block = [0; BLOCK];
-    block[..count].copy_from_slice(&row[from..from + count]);
-    row[to..to + count].copy_from_slice(&block[..count]);
+    if count >= 32 {
+        carry_ends::<32>(row, from, to, count);
+    } else if count >= 16 {
+        carry_ends::<16>(row, from, to, count);
+    } else if count >= 8 {
+        carry_ends::<8>(row, from, to, count);
+    } else if count >= 4 {
+        carry_ends::<4>(row, from, to, count);
+    } else if count >= 2 {
+        carry_ends::<2>(row, from, to, count);
+    } else if count == 1 {
+        carry_ends::<1>(row, from, to, count);
+    }
+}
+
+/// Moves `count` bytes, which are at least `N` and at most twice as many, as the first `N` and the last `N` of them.
+#[inline(always)]
+fn carry_ends<const N: usize>(row: &mut [u8], from: usize, to: usize, count: usize)
+    requires least { N ≤ count }
+    requires most { count ≤ N + N }
+    requires source { from + count ≤ length row.old }
+    requires target { to + count ≤ length row.old }
+    ensures { row.new ≡ paste row.old to (drop from row.old) count }
+{
+    let first = chunk::<N>(row, from);
+    let last = chunk::<N>(row, from + (count - N));
+    set_chunk(row, to, first);
+    set_chunk(row, to + (count - N), last);
+}
+
+/// Writes the bytes of `source`, which are at least `N` and at most twice as many, as the first `N` and the last `N` of them.
+#[inline(always)]
+fn put_ends<const N: usize>(row: &mut [u8], at: usize, source: &[u8])
+    requires least { N ≤ length source.now }
+    requires most { length source.now ≤ N + N }
+    requires target { at + length source.now ≤ length row.old }
+    ensures { row.new ≡ paste row.old at source.now (length source.now) }
+{
+    let count = source.len();
+    let first = chunk::<N>(source, 0);
+    let last = chunk::<N>(source, count - N);
+    set_chunk(row, at, first);
+    set_chunk(row, at + (count - N), last);
+}
+
+/// The `N` bytes from a place on.
+#[inline(always)]
+fn chunk<const N: usize>(row: &[u8], at: usize) -> [u8; N]
+    requires { at + N ≤ length row.now }
+    ensures { result ≡ take N (drop at row.now) }
+{
+    match row[at..].first_chunk::<N>() {
+        Some(chunk) => *chunk,
+        None => unreachable!(),
+    }
+}
+
+/// Writes `N` bytes from a place on.
+#[inline(always)]
+fn set_chunk<const N: usize>(row: &mut [u8], at: usize, chunk: [u8; N])
+    requires { at + N ≤ length row.old }
+    ensures { row.new ≡ paste row.old at chunk.entry N }
+{
+    set_first_chunk(&mut row[at..], chunk);
+}
+
+/// Writes the first `N` bytes.
+#[inline(always)]
+fn set_first_chunk<const N: usize>(row: &mut [u8], chunk: [u8; N])
+    requires { N ≤ length row.old }
+    ensures { row.new ≡ chunk.entry ++ drop N row.old }
+{
+    match row.first_chunk_mut::<N>() {
+        Some(place) => *place = chunk,
+        None => unreachable!(),
+    }
 }

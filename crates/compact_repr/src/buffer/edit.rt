@@ -11,7 +11,7 @@ use crate::cut::front;
 
 impl Buffer {
     /// Replaces what stands from one boundary to another by `text`, for which there is room. Positions are in bytes.
-    #[inline]
+    #[inline(always)]
     pub fn replace_range(&mut self, start: usize, end: usize, text: &str)
         requires stored { IsStored self.old }
         requires owned { is_static (value_of self.old).placement.place ≡ false }

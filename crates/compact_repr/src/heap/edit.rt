@@ -1,5 +1,5 @@
 //! Edits of a text on the heap by byte position. None takes memory.
-ghost use Rattle.std.specs.Prelude.{◌≡◌, ◌+◌, ◌-◌, ◌≤◌, length};
+ghost use Rattle.std.specs.Prelude.{◌≡◌, ◌+◌, ◌-◌, ◌≤◌, length, take, max};
 ghost use Rattle.std.specs.List.{replace_range};
 ghost use Rattle.std.specs.Vec.{vec_len, vec_capacity};
 ghost use Rattle.compact_repr.specs.Text.{size, text_of};
@@ -10,7 +10,7 @@ use crate::rows::splice;
 
 impl HeapBuffer {
     /// Replaces what stands from one boundary to another by `text`, for which there is room. Positions are in bytes.
-    #[inline]
+    #[inline(always)]
     pub fn replace_range(&mut self, start: usize, end: usize, text: &str)
         requires order { start ≤ end }
         requires first { IsBoundary self.old.text start }
@@ -19,7 +19,9 @@ impl HeapBuffer {
         ensures value { self.new ≡ record { text = spliced self.old.text start end (text_of text.now); capacity = self.old.capacity } }
         ensures fits { size self.new.text ≤ self.old.capacity }
     {
-        replace(&mut self.bytes, start, end, text.as_bytes());
+        let len = self.len - (end - start) + text.len();
+        replace(&mut self.bytes, self.len, start, end, text.as_bytes());
+        self.len = len;
     }
 
     /// Keeps the first `len` bytes, which end at a boundary, and the capacity.
@@ -29,48 +31,37 @@ impl HeapBuffer {
         ensures value { self.new ≡ record { text = before self.old.text len; capacity = self.old.capacity } }
         ensures fits { size self.new.text ≤ self.old.capacity }
     {
-        self.bytes.truncate(len);
+        self.len = len;
     }
 }
 
-/// Replaces the bytes from `start` to `end` by others, for which there is room.
-///
-/// One byte that comes or goes has a way of its own, on which the tail moves by one.
-#[inline]
-fn replace(bytes: &mut Vec<u8>, start: usize, end: usize, source: &[u8])
+/// Of the first `len` bytes replaces those from `start` to `end` by `source`, for which the vector has room.
+#[inline(always)]
+fn replace(bytes: &mut Vec<u8>, len: usize, start: usize, end: usize, source: &[u8])
     requires order { start ≤ end }
-    requires within { end ≤ vec_len bytes.old }
-    requires room { vec_len bytes.old + length source.now ≤ vec_capacity bytes.old + (end - start) }
-    ensures items { bytes.new.items ≡ replace_range bytes.old.items start end source.now }
+    requires within { end ≤ len }
+    requires held { len ≤ vec_len bytes.old }
+    requires room { len + length source.now ≤ vec_capacity bytes.old + (end - start) }
+    ensures items { take (len - (end - start) + length source.now) bytes.new.items ≡ replace_range (take len bytes.old.items) start end source.now }
+    ensures long { len - (end - start) + length source.now ≤ vec_len bytes.new }
+    ensures most { vec_len bytes.new ≤ max (vec_len bytes.old) (len - (end - start) + length source.now) }
     ensures capacity { vec_capacity bytes.old ≤ vec_capacity bytes.new }
 {
-    if source.len() == 1 && start == end {
-        if bytes.insert(start, source[0]).is_err() {
-            unreachable!();
-        }
-    } else if source.is_empty() && end - start == 1 {
-        bytes.remove(start);
-    } else {
-        replace_any(bytes, start, end, source);
-    }
+    lengthen(bytes, len - (end - start) + source.len(), source);
+    splice(bytes.as_mut_slice(), len, start, end, source);
 }
 
-/// Replaces the bytes from `start` to `end` by others, for which there is room.
-///
-/// Where more bytes come than go, the vector first grows by as many, whatever they are; where fewer, it is cut at last.
-#[inline]
-fn replace_any(bytes: &mut Vec<u8>, start: usize, end: usize, source: &[u8])
-    requires order { start ≤ end }
-    requires within { end ≤ vec_len bytes.old }
-    requires room { vec_len bytes.old + length source.now ≤ vec_capacity bytes.old + (end - start) }
-    ensures items { bytes.new.items ≡ replace_range bytes.old.items start end source.now }
+/// Makes the vector `len` bytes long at least, by bytes of `source`, which are enough.
+#[inline(always)]
+fn lengthen(bytes: &mut Vec<u8>, len: usize, source: &[u8])
+    requires enough { len ≤ vec_len bytes.old + length source.now }
+    requires room { len ≤ vec_capacity bytes.old }
+    ensures items { take (vec_len bytes.old) bytes.new.items ≡ bytes.old.items }
+    ensures len { vec_len bytes.new ≡ max (vec_len bytes.old) len }
     ensures capacity { vec_capacity bytes.old ≤ vec_capacity bytes.new }
 {
-    let len = bytes.len();
-    let outcome = len - (end - start) + source.len();
-    if len < outcome && bytes.extend_from_slice(&source[..outcome - len]).is_err() {
+    let held = bytes.len();
+    if held < len && bytes.extend_from_slice(&source[..len - held]).is_err() {
         unreachable!();
     }
-    splice(bytes.as_mut_slice(), len, start, end, source);
-    bytes.truncate(outcome);
 }

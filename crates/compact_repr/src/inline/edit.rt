@@ -1,14 +1,14 @@
 //! Edits of an inline text by byte position.
-ghost use Rattle.std.specs.Prelude.{◌≡◌, ◌+◌, ◌-◌, ◌≤◌, length, take};
-ghost use Rattle.std.specs.List.{replace_range};
+ghost use Rattle.std.specs.Prelude.{◌≡◌, ◌+◌, ◌-◌, ◌≤◌, length};
 ghost use Rattle.compact_repr.specs.Text.{size, text_of};
 ghost use Rattle.compact_repr.specs.Cut.{IsBoundary, before, spliced};
 
 use super::InlineBuffer;
+use crate::rows::splice;
 
 impl InlineBuffer {
     /// Replaces what stands from one boundary to another by `text`, for which there is room. Positions are in bytes.
-    #[inline]
+    #[inline(always)]
     pub fn replace_range(&mut self, start: usize, end: usize, text: &str)
         requires order { start ≤ end }
         requires first { IsBoundary self.old start }
@@ -31,21 +31,4 @@ impl InlineBuffer {
     {
         self.len = len;
     }
-}
-
-/// Of the first `len` bytes of `row` replaces those from `start` to `end` by `source`.
-///
-/// The tail moves once, from a copy of the row, since its old and new places may overlap.
-#[inline]
-fn splice(row: &mut [u8; 24], len: usize, start: usize, end: usize, source: &[u8])
-    requires order { start ≤ end }
-    requires within { end ≤ len }
-    requires held { len ≤ 24 }
-    requires room { len + length source.now ≤ 24 + (end - start) }
-    ensures { take (len - (end - start) + length source.now) row.new ≡ replace_range (take len row.old) start end source.now }
-{
-    let old = *row;
-    let tail = start + source.len();
-    row[tail..tail + (len - end)].copy_from_slice(&old[end..len]);
-    row[start..tail].copy_from_slice(source);
 }

@@ -16,7 +16,7 @@ mod tests;
 impl<P: Policy> Repr<P> {
     /// Replaces what stands from one position to another by `text`, in an owned value that has room for the outcome.
     /// Positions are in bytes, between two characters. The place and the capacity stay, and no memory is taken.
-    #[inline]
+    #[inline(always)]
     pub fn replace_range(&mut self, start: usize, end: usize, text: &str)
         requires owned { is_static self.old.placement.place ≡ false }
         requires order { start ≤ end }

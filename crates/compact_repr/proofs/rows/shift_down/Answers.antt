@@ -9,13 +9,13 @@ moves-init c = (omega arith, paste_none c.args.row.now c.args.to (drop c.args.fr
 pub moves-preserved : goal.moves-preserved
 moves-preserved c = (
   omega arith,
-  c.carry.ensures
+  c.carry_ends.ensures
       ∙ shifted-down c.args.row.now c.moves.row c.args.from c.args.to c.moves.done 64 (c.args.from + c.moves.done) (c.args.to + c.moves.done) (c.moves.done + 64)
       (omega arith) (omega arith) (omega arith) (omega arith) (omega arith) c.moves.invariant.1,
 )
 
 pub returns : goal.returns
 returns c =
-    c.carry-2.ensures
+    c.carry.ensures
     ∙ shifted-down c.args.row.now c.moves.row c.args.from c.args.to c.moves.done (c.args.count - c.moves.done) (c.args.from + c.moves.done) (c.args.to + c.moves.done) c.args.count
     (omega arith) (omega arith) (omega arith) (omega arith) (omega arith) c.moves.invariant.1

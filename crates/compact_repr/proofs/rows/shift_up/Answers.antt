@@ -15,13 +15,13 @@ moves-init c =
 pub moves-preserved : goal.moves-preserved
 moves-preserved c = (
   omega arith,
-  c.carry.ensures
+  c.carry_ends.ensures
       ∙ shifted-up c.args.row.now c.moves.row (c.args.from + (c.moves.left - 64)) (c.args.to + (c.moves.left - 64)) 64 (c.args.count - c.moves.left) (c.args.from + c.moves.left) (c.args.to + c.moves.left) (c.args.count - (c.moves.left - 64))
       (omega arith) (omega arith) (omega arith) (omega arith) (omega arith) c.moves.invariant.1,
 )
 
 pub returns : goal.returns
 returns c =
-    c.carry-2.ensures
+    c.carry.ensures
     ∙ shifted-up c.args.row.now c.moves.row c.args.from c.args.to c.moves.left (c.args.count - c.moves.left) (c.args.from + c.moves.left) (c.args.to + c.moves.left) c.args.count
     (omega arith) (omega arith) (omega arith) (omega arith) (omega arith) c.moves.invariant.1

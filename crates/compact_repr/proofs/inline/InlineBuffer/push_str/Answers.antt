@@ -3,8 +3,8 @@ use Rattle.std.proofs.lemmas.Str.{IsUtf8-append}
 use Rattle.compact_repr.proofs.Texts.{size-front}
 use Rattle.compact_repr.proofs.inline.InlineBuffer.push_str.Goals as goal
 
-pub put-requires : goal.put-requires
-put-requires c =
+pub append-requires : goal.append-requires
+append-requires c =
     let e = size-front _ _ c.self.view_is c.self.invariant.1 (omega arith) in
     omega (arith, e)
 
@@ -12,5 +12,5 @@ pub invariant_of-self : goal.invariant_of-self
 invariant_of-self c =
     let e = size-front _ _ c.self.view_is c.self.invariant.1 (omega arith) in (
       omega (arith, e),
-      rw (← c.as_bytes.ensures.value, c.put.ensures) (IsUtf8-append _ _ c.self.invariant.1 c.as_bytes.ensures.utf8),
+      rw (← c.as_bytes.ensures.value, c.append.ensures) (IsUtf8-append _ _ c.self.invariant.1 c.as_bytes.ensures.utf8),
     )
