@@ -10,6 +10,8 @@ mod generator;
 mod hidden;
 mod inputs;
 mod ring;
+#[cfg(test)]
+mod tests;
 mod workloads;
 
 use std::alloc::Global;
