@@ -4,7 +4,8 @@
 #   bench/run.sh [FOLDER]
 #
 # It needs `rt` and `rustc`, proves and builds what it times (from a clean clone that takes some two minutes), and prints
-# a line for each workload and then a table. The status is 1 if two types differ in a checksum.
+# a line for each workload and then a table. A ratio is this library's time over that of the other type: below 1 this
+# library is faster. The status is 1 if two types differ in a checksum.
 #
 # FOLDER holds the source of the Rust crate compact_str, as a cargo package. With it the table has a column for that crate
 # too, and `cargo` is needed. Cargo runs in FOLDER, so that the settings of a `.cargo/config.toml` in or above it hold, as
@@ -19,6 +20,7 @@ built=$bench/out
 mkdir -p "$built"
 
 # The static library, and the functions of the kit by which it allocates.
+echo 'proving and building the static library' >&2
 if ! (cd "$bench/../crates/compact_bench" && rt lib) >"$built/rt.log" 2>&1; then
     cat "$built/rt.log" >&2
     exit 1
@@ -36,6 +38,7 @@ crate=$(cd "$1" && pwd)
 cat >"$built/Cargo.toml" <<END
 [package]
 name = "bench"
+version = "0.0.0"
 edition = "2024"
 
 [[bin]]

@@ -1,38 +1,30 @@
 //! The ring of the latest values.
+ghost use Rattle.std.specs.Prelude.{◌≡◌, vec_len};
 
 use crate::checksum::{mix, probe};
 use compact_str::CompactString;
 use std::alloc::{AllocError, Global};
 
-/// How many values the ring has.
-const LEN: usize = 64;
-
-/// The latest values, each in the place of its number, and the checksum of what has been seen of them.
+/// The latest 64 values, each in the place of its number, and the checksum of what has been seen of them.
 #[derive(Drop)]
 pub struct Ring {
     values: Vec<CompactString>,
     sum: u64,
+    ghost full: { vec_len values ≡ 64 },
 }
 
 impl Ring {
     /// The ring with empty values.
     pub fn new(alloc: Global) -> Result<Self, AllocError> {
-        let mut values = Vec::with_capacity(alloc, LEN)?;
-        for _ in 0..LEN {
-            values.push(CompactString::default(alloc))?;
-        }
+        let values = Vec::from_elem(alloc, CompactString::default(alloc), 64)?;
         Ok(Ring { values, sum: 0 })
     }
 
     /// Puts the value with the number `i` in its place, and takes up into the checksum an earlier one.
     #[inline]
     pub fn put(&mut self, i: usize, value: CompactString) {
-        if let Some(place) = self.values.get_mut(i % LEN) {
-            *place = value;
-        }
-        if let Some(earlier) = self.values.get(i.wrapping_add(57) % LEN) {
-            self.sum = mix(self.sum, probe(earlier));
-        }
+        self.values[i % 64] = value;
+        self.sum = mix(self.sum, probe(&self.values[i.wrapping_add(57) % 64]));
     }
 
     /// The checksum.
