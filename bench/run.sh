@@ -17,6 +17,7 @@ set -eu
 
 bench=$(cd "$(dirname "$0")" && pwd)
 built=$bench/out
+crate=${1:+$(cd "$1" && pwd)}
 mkdir -p "$built"
 
 # The static library, and the functions of the kit by which it allocates.
@@ -29,12 +30,11 @@ library=$bench/../crates/compact_bench/out/libcompact_bench.a
 allocator=$(dirname "$(rt doc)")/c/liblibc_c.a
 link=(-C "link-arg=$library" -C "link-arg=$allocator")
 
-if [ $# -eq 0 ]; then
+if [ -z "$crate" ]; then
     rustc --edition 2024 -C opt-level=3 -C codegen-units=1 -C lto=fat "${link[@]}" -o "$built/bench" "$bench/main.rs"
     exec "$built/bench"
 fi
 
-crate=$(cd "$1" && pwd)
 cat >"$built/Cargo.toml" <<END
 [package]
 name = "bench"
