@@ -1,0 +1,63 @@
+#!/usr/bin/env bash
+# Times this library's CompactString beside the String of Rust.
+#
+#   bench/run.sh [FOLDER]
+#
+# It needs `rt` and `rustc`, proves and builds what it times (from a clean clone that takes some two minutes), and prints
+# a line for each workload and then a table. A ratio is this library's time over that of the other type: below 1 this
+# library is faster. The status is 1 if two types differ in a checksum.
+#
+# FOLDER holds the source of the Rust crate compact_str, as a cargo package. With it the table has a column for that crate
+# too, and `cargo` is needed. Cargo runs in FOLDER, so that the settings of a `.cargo/config.toml` in or above it hold, as
+# of a folder with the packages that it depends on; with no such settings cargo fetches them as it does for any package.
+# Nothing is written there.
+#
+# What is built lies in bench/out and in the out/ folders of the crates.
+set -eu
+
+bench=$(cd "$(dirname "$0")" && pwd)
+built=$bench/out
+crate=${1:+$(cd "$1" && pwd)}
+mkdir -p "$built"
+
+# The static library, and the functions of the kit by which it allocates.
+echo 'proving and building the static library' >&2
+if ! (cd "$bench/../crates/compact_bench" && rt lib) >"$built/rt.log" 2>&1; then
+    cat "$built/rt.log" >&2
+    exit 1
+fi
+library=$bench/../crates/compact_bench/out/libcompact_bench.a
+allocator=$(dirname "$(rt doc)")/c/liblibc_c.a
+link=(-C "link-arg=$library" -C "link-arg=$allocator")
+
+if [ -z "$crate" ]; then
+    rustc --edition 2024 -C opt-level=3 -C codegen-units=1 -C lto=fat "${link[@]}" -o "$built/bench" "$bench/main.rs"
+    exec "$built/bench"
+fi
+
+cat >"$built/Cargo.toml" <<END
+[package]
+name = "bench"
+version = "0.0.0"
+edition = "2024"
+
+[[bin]]
+name = "bench"
+path = "../main.rs"
+
+[features]
+peer = []
+
+[dependencies]
+compact_str = { path = "$crate" }
+
+[profile.release]
+opt-level = 3
+codegen-units = 1
+lto = "fat"
+
+[workspace]
+END
+cd "$crate"
+cargo rustc -q --release --features peer --manifest-path "$built/Cargo.toml" --target-dir "$built/target" -- "${link[@]}"
+exec "$built/target/release/bench"

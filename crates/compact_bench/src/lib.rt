@@ -1,0 +1,65 @@
+//! Workloads over `CompactString`, as C functions for a benchmark: `bench/main.rs` times them beside the same workloads
+//! over the `String` of Rust.
+//!
+//! Each function makes its inputs, does `n` operations and answers a checksum, or `u64::MAX` where memory is refused. It
+//! keeps nothing between calls.
+#![tactic(auto)]
+
+mod checksum;
+mod generator;
+mod hidden;
+mod inputs;
+mod ring;
+#[cfg(test)]
+mod tests;
+mod workloads;
+
+use std::alloc::Global;
+
+/// Makes values of texts of at most 24 bytes.
+#[unsafe(no_mangle)]
+pub extern "C" fn cs_bench_new_short(alloc: Global, n: u64) -> u64 {
+    workloads::make::short(alloc, n).unwrap_or(u64::MAX)
+}
+
+/// Makes values of texts of 25 to 200 bytes.
+#[unsafe(no_mangle)]
+pub extern "C" fn cs_bench_new_long(alloc: Global, n: u64) -> u64 {
+    workloads::make::long(alloc, n).unwrap_or(u64::MAX)
+}
+
+/// Clones values of at most 24 bytes.
+#[unsafe(no_mangle)]
+pub extern "C" fn cs_bench_clone_short(alloc: Global, n: u64) -> u64 {
+    workloads::copy::short(alloc, n).unwrap_or(u64::MAX)
+}
+
+/// Clones values of 25 to 200 bytes.
+#[unsafe(no_mangle)]
+pub extern "C" fn cs_bench_clone_long(alloc: Global, n: u64) -> u64 {
+    workloads::copy::long(alloc, n).unwrap_or(u64::MAX)
+}
+
+/// Appends pieces of 1 to 16 bytes to a value until it has 1000000 bytes, and then begins a new one.
+#[unsafe(no_mangle)]
+pub extern "C" fn cs_bench_push_build(alloc: Global, n: u64) -> u64 {
+    workloads::append::build(alloc, n).unwrap_or(u64::MAX)
+}
+
+/// Inserts a letter in the middle of 12 bytes, and removes it.
+#[unsafe(no_mangle)]
+pub extern "C" fn cs_bench_insert_remove_short(alloc: Global, n: u64) -> u64 {
+    workloads::edit::insert_remove(alloc, n, 12, 6).unwrap_or(u64::MAX)
+}
+
+/// Inserts a letter in the middle of 1000 bytes, and removes it.
+#[unsafe(no_mangle)]
+pub extern "C" fn cs_bench_insert_remove_long(alloc: Global, n: u64) -> u64 {
+    workloads::edit::insert_remove(alloc, n, 1000, 500).unwrap_or(u64::MAX)
+}
+
+/// Replaces 4 bytes in the middle of 200 by 8 and these by 4.
+#[unsafe(no_mangle)]
+pub extern "C" fn cs_bench_replace_range(alloc: Global, n: u64) -> u64 {
+    workloads::edit::replace_range(alloc, n).unwrap_or(u64::MAX)
+}

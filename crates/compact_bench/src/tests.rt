@@ -1,0 +1,43 @@
+//! The generator at its start, and checksums that the same workloads over the Rust crate compact_str gave.
+
+use crate::generator::Generator;
+use crate::inputs::word;
+use crate::*;
+
+#[test]
+fn the_generator_begins_with_these(rt: HostRuntime) {
+    let mut generator = Generator::new();
+    for number in [
+        0xdc1b_77ae_0bf3_4dad,
+        0x64f0_eeb9_026e_6076,
+        0x7b07_ce91_e590_6136,
+    ] {
+        assert_eq!(rt; generator.next(), number);
+    }
+    let word = word(rt.alloc(), &mut Generator::new(), 12).expect(&rt, "memory");
+    assert_eq!(rt; word.as_str(), "wkmeeppwwoae");
+}
+
+#[test]
+fn values_and_clones_have_these_checksums(rt: HostRuntime) {
+    let alloc = rt.alloc();
+    assert_eq!(rt; cs_bench_new_short(alloc, 10_000), 0x3975_5129_ee56_d356);
+    assert_eq!(rt; cs_bench_clone_short(alloc, 10_000), 0x3975_5129_ee56_d356);
+    assert_eq!(rt; cs_bench_new_long(alloc, 4_000), 0x7e7a_2456_2d6b_e8cf);
+    assert_eq!(rt; cs_bench_clone_long(alloc, 4_000), 0x7e7a_2456_2d6b_e8cf);
+}
+
+#[test]
+fn edits_have_these_checksums(rt: HostRuntime) {
+    let alloc = rt.alloc();
+    assert_eq!(rt; cs_bench_push_build(alloc, 10_000), 0x0148_a665);
+    assert_eq!(rt;
+        cs_bench_insert_remove_short(alloc, 10_000),
+        0xf8e6_61f9_5abe_78dd
+    );
+    assert_eq!(rt;
+        cs_bench_insert_remove_long(alloc, 5_000),
+        0x0a9f_1360_bd4b_3ea5
+    );
+    assert_eq!(rt; cs_bench_replace_range(alloc, 5_000), 0xee61_ca13_f328_4980);
+}

@@ -1,0 +1,6 @@
+//! The workloads.
+
+pub mod append;
+pub mod copy;
+pub mod edit;
+pub mod make;

@@ -1,0 +1,45 @@
+//! Clones of values.
+ghost use Rattle.std.specs.Prelude.{◌<◌};
+
+use crate::inputs::{LONG_TEXTS, SHORT_TEXTS, long_texts, short_texts};
+use crate::ring::Ring;
+use compact_str::{CompactString, ReserveError};
+use std::alloc::{AllocError, Global};
+
+/// Clones values of short texts.
+pub fn short(alloc: Global, n: u64) -> Result<u64, ReserveError> {
+    cloned::<SHORT_TEXTS>(alloc, n, short_texts(alloc)?)
+}
+
+/// Clones values of long texts.
+pub fn long(alloc: Global, n: u64) -> Result<u64, ReserveError> {
+    cloned::<LONG_TEXTS>(alloc, n, long_texts(alloc)?)
+}
+
+/// A value of each text.
+fn values(alloc: Global, texts: &[String]) -> Result<Vec<CompactString>, AllocError> {
+    let mut values = Vec::with_capacity(alloc, texts.len())?;
+    for text in texts {
+        let value = CompactString::new(alloc, text.as_str()).map_err(|_| AllocError)?;
+        values.push(value)?;
+    }
+    Ok(values)
+}
+
+/// Clones the value of each text in turn.
+fn cloned<const COUNT: usize>(
+    alloc: Global,
+    n: u64,
+    texts: Vec<String>,
+) -> Result<u64, ReserveError>
+    requires { 0 < COUNT }
+{
+    let values = values(alloc, &texts)?;
+    let mut ring = Ring::new(alloc)?;
+    for i in 0..n as usize {
+        if let Some(value) = values.get(i % COUNT) {
+            ring.put(i, value.clone()?);
+        }
+    }
+    Ok(ring.sum())
+}
