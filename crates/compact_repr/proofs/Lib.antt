@@ -2,6 +2,7 @@ pub mod Texts
 pub mod Cuts
 pub mod Shifts
 pub mod Ends
+pub mod Parts
 pub mod SplicedRows
 pub mod TextFacts
 pub mod Examples

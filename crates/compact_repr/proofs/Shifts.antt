@@ -1,5 +1,5 @@
 -- A row of bytes of which a part is moved to another place, block by block.
-use Rattle.std.proofs.Common.{◌≡◌, ℕ, ◌+◌, ◌-◌, ◌≤◌, List, ◌++◌, length, take, drop, refl, ap, sym, ◌∙◌, subst, arith, length-append, append_assoc, add_assoc}
+use Rattle.std.proofs.Common.{◌≡◌, ℕ, ◌+◌, ◌-◌, ◌<◌, ◌≤◌, List, ◌++◌, length, take, drop, refl, ap, sym, ◌∙◌, subst, arith, length-append, append_assoc, add_assoc}
 use Rattle.std.proofs.lemmas.List.{length-drop, length-take-le, take-append-drop, take-append-le, take-take, take_at, drop_at, drop-drop, drop-take}
 use lib.Seq.{paste}
 
@@ -73,3 +73,16 @@ unmoved row from to n e =
     ∙ ap (λ x. take to row ++ x) (take-append-drop n (drop to row))
     ∙ take-append-drop to row in
     sym rest ∙ ap (λ (j : ℕ). paste row to (drop j row) n) (sym e)
+
+-- a move by a known distance
+pub moved-up : (row now : List ℕ) (from to count distance : ℕ) → to - from ≡ distance → from < to → now ≡ paste row (from + distance) (drop from row) count → now ≡ paste row to (drop from row) count
+moved-up row now from to count distance d up e =
+    let at : from + distance ≡ to = omega arith in
+    e ∙ ap (λ (j : ℕ). paste row j (drop from row) count) at
+
+pub moved-down : (row now : List ℕ) (from to count distance : ℕ) → from - to ≡ distance → to < from → now ≡ paste row to (drop (to + distance) row) count → now ≡ paste row to (drop from row) count
+moved-down row now from to count distance d down e =
+    let at : to + distance ≡ from = omega arith in
+    e ∙ ap (λ (j : ℕ). paste row to (drop j row) count) at
+
+pub ruleset shifts = (unmoved, moved-up, moved-down)

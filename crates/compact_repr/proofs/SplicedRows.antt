@@ -40,14 +40,13 @@ spliced-in row s moved len start end same one within room e =
 
 -- one byte goes: the tail moves one place down
 pub spliced-out : (row s moved : List ℕ) (len start end : ℕ) → end - start ≡ 1 → s ≡ [] → end ≤ len → len ≤ length row
-    → moved ≡ paste row start (drop (start + 1) row) (len - (start + 1))
+    → moved ≡ paste row start (drop (start + 1) row) (len - end)
     → take (len - (end - start) + length s) moved ≡ replace_range (take len row) start end s
 spliced-out row s moved len start end one none within held e =
     let zero : length s ≡ 0 = ap length none in
     let unwritten : paste moved start s (length s) ≡ moved = ap (λ (n : ℕ). paste moved start s n) zero ∙ sym (paste_none moved start s) in
     let to : start ≡ start + length s = omega arith in
     let from : start + 1 ≡ end = omega arith in
-    let count : len - (start + 1) ≡ len - end = omega arith in
     let at : moved ≡ paste row (start + length s) (drop end row) (len - end) = cc in
     ap (take (len - (end - start) + length s)) (sym unwritten ∙ ap (λ x. paste x start s (length s)) at)
     ∙ spliced-moved row s len start end (omega arith) within held (omega arith)

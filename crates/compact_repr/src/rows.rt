@@ -8,7 +8,7 @@ ghost use lib.Seq.{paste};
 
 /// Of the first `len` bytes of `row` replaces those from `start` to `end` by `source`. The tail moves once.
 ///
-/// Where one byte comes or goes, the tail moves by one place, which the compiler knows how to do in wide moves.
+/// One byte that comes or goes has a way of its own.
 #[inline(always)]
 pub fn splice(row: &mut [u8], len: usize, start: usize, end: usize, source: &[u8])
     requires order { start ≤ end }
@@ -18,10 +18,10 @@ pub fn splice(row: &mut [u8], len: usize, start: usize, end: usize, source: &[u8
     ensures { take (len - (end - start) + length source.now) row.new ≡ replace_range (take len row.old) start end source.now }
 {
     if start == end && source.len() == 1 {
-        row.copy_within(start..len, start + 1);
+        move_up::<1>(row, start, len - start);
         put_ends::<1>(row, start, source);
     } else if end - start == 1 && source.is_empty() {
-        row.copy_within(start + 1..len, start);
+        move_down::<1>(row, start, len - end);
     } else {
         replace(row, len, start, end, source);
     }
@@ -72,23 +72,77 @@ fn put(row: &mut [u8], at: usize, source: &[u8])
     }
 }
 
-/// As many bytes move at once.
-const BLOCK: usize = 64;
-
 /// Moves `count` bytes of `row` from one place to another, which may overlap.
 #[inline]
-#[tactic(auto, using(crate::proofs::Shifts::unmoved))]
+#[tactic(auto, using(crate::proofs::Shifts::shifts))]
 fn shift(row: &mut [u8], from: usize, to: usize, count: usize)
     requires source { from + count ≤ length row.old }
     requires target { to + count ≤ length row.old }
     ensures { row.new ≡ paste row.old to (drop from row.old) count }
 {
     if from < to {
-        shift_up(row, from, to, count);
+        match to - from {
+            1 => move_up::<1>(row, from, count),
+            2 => move_up::<2>(row, from, count),
+            3 => move_up::<3>(row, from, count),
+            4 => move_up::<4>(row, from, count),
+            _ => shift_up(row, from, to, count),
+        }
     } else if to < from {
-        shift_down(row, from, to, count);
+        match from - to {
+            1 => move_down::<1>(row, to, count),
+            2 => move_down::<2>(row, to, count),
+            3 => move_down::<3>(row, to, count),
+            4 => move_down::<4>(row, to, count),
+            _ => shift_down(row, from, to, count),
+        }
     }
 }
+
+/// Moves `count` bytes up by `DISTANCE` places.
+#[inline(always)]
+fn move_up<const DISTANCE: usize>(row: &mut [u8], from: usize, count: usize)
+    requires { from + DISTANCE + count ≤ length row.old }
+    ensures { row.new ≡ paste row.old (from + DISTANCE) (drop from row.old) count }
+{
+    open::<DISTANCE>(&mut row[from..from + DISTANCE + count]);
+}
+
+/// Moves `count` bytes down by `DISTANCE` places.
+#[inline(always)]
+fn move_down<const DISTANCE: usize>(row: &mut [u8], to: usize, count: usize)
+    requires { to + DISTANCE + count ≤ length row.old }
+    ensures { row.new ≡ paste row.old to (drop (to + DISTANCE) row.old) count }
+{
+    close::<DISTANCE>(&mut row[to..to + DISTANCE + count]);
+}
+
+/// Moves all but the last `DISTANCE` bytes up by as many places.
+///
+/// It stands alone, with the distance known, so that the compiler makes one `memmove` of it.
+#[inline(never)]
+fn open<const DISTANCE: usize>(part: &mut [u8])
+    requires { DISTANCE ≤ length part.old }
+    ensures { part.new ≡ paste part.old DISTANCE part.old (length part.old - DISTANCE) }
+{
+    let count = part.len() - DISTANCE;
+    part.copy_within(0..count, DISTANCE);
+}
+
+/// Moves all but the first `DISTANCE` bytes down by as many places.
+///
+/// It stands alone, with the distance known, so that the compiler makes one `memmove` of it.
+#[inline(never)]
+fn close<const DISTANCE: usize>(part: &mut [u8])
+    requires { DISTANCE ≤ length part.old }
+    ensures { part.new ≡ paste part.old 0 (drop DISTANCE part.old) (length part.old - DISTANCE) }
+{
+    let len = part.len();
+    part.copy_within(DISTANCE..len, 0);
+}
+
+/// As many bytes move at once.
+const BLOCK: usize = 64;
 
 /// Moves bytes to a later place, the last ones first.
 fn shift_up(row: &mut [u8], from: usize, to: usize, count: usize)

@@ -1,0 +1,7 @@
+use Rattle.std.proofs.Common.{◌≡◌, ◌+◌, ◌-◌, refl, arith}
+use Rattle.compact_repr.proofs.Parts.{part-up}
+use Rattle.compact_repr.proofs.rows.move_up.Goals as goal
+
+pub returns : goal.returns
+returns g c =
+    rw c.open.ensures (part-up c.args.row.now _ c.args.from g.row.DISTANCE c.args.count (c.args.from + g.row.DISTANCE + c.args.count - c.args.from) (omega arith) c.requires refl)
