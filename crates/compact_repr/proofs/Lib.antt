@@ -6,3 +6,5 @@ pub mod TextFacts
 pub mod Examples
 pub mod Strings
 pub mod Changes
+pub mod Numbers
+pub mod WordRows

@@ -1,0 +1,103 @@
+//! Rows of 24 bytes as three words.
+#![tactic(auto)]
+
+ghost use Rattle.std.specs.Prelude.{◌≡◌, ◌+◌, ◌-◌, ◌*◌, ◌^◌, ◌≤◌, ◌<◌, [], ◌∷◌, ◌++◌, length, take, drop, replicate};
+ghost use Rattle.compact_repr.specs.Words.{number, bytes_of};
+
+/// The eight bytes from a place on, as a word.
+#[inline(always)]
+fn load8(bytes: &[u8], at: usize) -> u64
+    requires { at + 8 ≤ length bytes.now }
+    ensures value { result ≡ number (take 8 (drop at bytes.now)) }
+    ensures bytes { bytes_of result ≡ take 8 (drop at bytes.now) }
+{
+    match bytes[at..].first_chunk::<8>() {
+        Some(chunk) => u64::from_le_bytes(*chunk),
+        None => unreachable!(),
+    }
+}
+
+/// The four bytes from a place on, as a number.
+#[inline(always)]
+fn load4(bytes: &[u8], at: usize) -> u64
+    requires { at + 4 ≤ length bytes.now }
+    ensures { result ≡ number (take 4 (drop at bytes.now)) }
+{
+    match bytes[at..].first_chunk::<4>() {
+        Some(chunk) => u64::from(u32::from_le_bytes(*chunk)),
+        None => unreachable!(),
+    }
+}
+
+/// The two bytes from a place on, as a number.
+#[inline(always)]
+fn load2(bytes: &[u8], at: usize) -> u64
+    requires { at + 2 ≤ length bytes.now }
+    ensures { result ≡ number (take 2 (drop at bytes.now)) }
+{
+    match bytes[at..].first_chunk::<2>() {
+        Some(chunk) => u64::from(u16::from_le_bytes(*chunk)),
+        None => unreachable!(),
+    }
+}
+
+/// Three words as a row.
+#[inline(always)]
+#[tactic(auto, unfolding(crate::specs::Words::bytes_of))]
+fn row_of_words(first: u64, second: u64, third: u64) -> [u8; 24]
+    ensures { result ≡ bytes_of first ++ bytes_of second ++ bytes_of third }
+{
+    let mut row = [0u8; 24];
+    row[..8].copy_from_slice(&first.to_le_bytes());
+    row[8..16].copy_from_slice(&second.to_le_bytes());
+    row[16..].copy_from_slice(&third.to_le_bytes());
+    row
+}
+
+/// The bytes from a place on, at most eight, as a number: the last eight are read, and those before the place leave.
+#[inline(always)]
+fn tail(text: &[u8], from: usize) -> u64
+    requires held { 8 ≤ length text.now }
+    requires some { from < length text.now }
+    requires most { length text.now ≤ from + 8 }
+    ensures { result ≡ number (drop from text.now) }
+{
+    let len = text.len();
+    load8(text, len - 8) >> (8 * (from + 8 - len))
+}
+
+/// At most eight bytes as a number, of two reads that meet in the middle.
+#[inline(always)]
+fn short(text: &[u8]) -> u64
+    requires { length text.now ≤ 8 }
+    ensures { result ≡ number text.now }
+{
+    let len = text.len();
+    if len >= 4 {
+        let high = load4(text, len - 4) >> (8 * (8 - len));
+        load4(text, 0) + high * 0x1_0000_0000
+    } else if len >= 2 {
+        let high = load2(text, len - 2) >> (8 * (4 - len));
+        load2(text, 0) + high * 0x1_0000
+    } else if len == 1 {
+        u64::from(text[0])
+    } else {
+        0
+    }
+}
+
+/// A row that begins with `text` and ends with zeros.
+#[inline]
+pub fn row_of(text: &[u8]) -> [u8; 24]
+    requires { length text.now ≤ 24 }
+    ensures { result ≡ text.now ++ replicate (24 - length text.now) 0 }
+{
+    let len = text.len();
+    if len > 16 {
+        row_of_words(load8(text, 0), load8(text, 8), tail(text, 16))
+    } else if len > 8 {
+        row_of_words(load8(text, 0), tail(text, 8), 0)
+    } else {
+        row_of_words(short(text), 0, 0)
+    }
+}
