@@ -8,3 +8,5 @@ pub mod Strings
 pub mod Changes
 pub mod Numbers
 pub mod WordRows
+pub mod ChangedWords
+pub mod ChangedRows

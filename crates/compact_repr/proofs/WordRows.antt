@@ -1,9 +1,9 @@
 -- A row of 24 bytes as three words of eight.
-use Rattle.std.proofs.Common.{◌≡◌, ℕ, ◌+◌, ◌-◌, ◌*◌, ◌/◌, ◌%◌, ◌^◌, ◌<◌, ◌≤◌, List, [], ◌∷◌, ◌++◌, length, take, drop, get_or, refl, ap, sym, ◌∙◌, subst, arith, length-append, append_assoc}
+use Rattle.std.proofs.Common.{◌≡◌, ℕ, ◌+◌, ◌-◌, ◌≤◌, List, ◌++◌, length, take, drop, refl, ap, sym, ◌∙◌, arith, append_assoc}
 use Rattle.std.specs.Prelude.{replicate}
-use Rattle.std.proofs.lemmas.List.{length-take-le, length-drop, take-append-drop, take_all, drop-drop, replicate-append-replicate}
+use Rattle.std.proofs.lemmas.List.{length-drop, take-append-drop, drop-drop, replicate-append-replicate}
 use Rattle.compact_repr.specs.Words.{number, bytes_of}
-use Rattle.compact_repr.proofs.Numbers.{AllBytes, AllBytes-take, AllBytes-drop, bytes_of-number, bytes_of-number_short}
+use Rattle.compact_repr.proofs.Numbers.{AllBytes, AllBytes-drop, bytes_of-number_short}
 
 abbrev zeros : ℕ → List ℕ
 zeros n = replicate n 0

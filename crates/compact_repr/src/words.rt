@@ -86,6 +86,48 @@ fn short(text: &[u8]) -> u64
     }
 }
 
+/// What a one in the byte at a place counts for in a word.
+#[inline(always)]
+fn unit(at: usize) -> u64
+    requires { at < 8 }
+    ensures { result ≡ 2 ^ (8 * at) }
+{
+    1 << (8 * at)
+}
+
+/// The last byte of a word.
+#[inline(always)]
+fn last_byte(word: u64) -> u8
+    ensures { drop 7 (bytes_of word) ≡ result ∷ [] }
+{
+    (word >> 56) as u8
+}
+
+/// The word with `byte` put in at a place; what stands from there on moves one place up, and the last byte goes.
+#[inline(always)]
+fn word_opened(word: u64, at: usize, byte: u8) -> u64
+    requires { at < 8 }
+    ensures { bytes_of result ≡ take at (bytes_of word) ++ byte ∷ take (7 - at) (drop at (bytes_of word)) }
+{
+    let before = word % unit(at);
+    before
+        .wrapping_add(u64::from(byte) << (8 * at))
+        .wrapping_add((word - before) << 8)
+}
+
+/// The word without the byte at a place; what stands after it moves one place down, and the first byte of the next word comes last.
+#[inline(always)]
+fn word_closed(word: u64, at: usize, next: u64) -> u64
+    requires { at < 8 }
+    ensures { bytes_of result ≡ take at (bytes_of word) ++ drop (at + 1) (bytes_of word) ++ take 1 (bytes_of next) }
+{
+    let unit = unit(at);
+    let down = word >> 8;
+    (word % unit)
+        .wrapping_add(down - down % unit)
+        .wrapping_add(next << 56)
+}
+
 /// A row that begins with `text` and ends with zeros.
 #[inline]
 pub fn row_of(text: &[u8]) -> [u8; 24]
@@ -99,5 +141,53 @@ pub fn row_of(text: &[u8]) -> [u8; 24]
         row_of_words(load8(text, 0), tail(text, 8), 0)
     } else {
         row_of_words(short(text), 0, 0)
+    }
+}
+
+/// The row with `byte` put in at a place; what stands from there on moves one place up, and the last byte goes.
+#[inline]
+pub fn opened(row: &[u8; 24], at: usize, byte: u8) -> [u8; 24]
+    requires { at < 24 }
+    ensures { result ≡ take at row.now ++ byte ∷ take (23 - at) (drop at row.now) }
+{
+    let first = load8(row, 0);
+    let second = load8(row, 8);
+    let third = load8(row, 16);
+    match at / 8 {
+        0 => row_of_words(
+            word_opened(first, at, byte),
+            word_opened(second, 0, last_byte(first)),
+            word_opened(third, 0, last_byte(second)),
+        ),
+        1 => row_of_words(
+            first,
+            word_opened(second, at - 8, byte),
+            word_opened(third, 0, last_byte(second)),
+        ),
+        _ => row_of_words(first, second, word_opened(third, at - 16, byte)),
+    }
+}
+
+/// The row without the byte at a place; what stands after it moves one place down, and a zero comes last.
+#[inline]
+pub fn closed(row: &[u8; 24], at: usize) -> [u8; 24]
+    requires { at < 24 }
+    ensures { result ≡ take at row.now ++ drop (at + 1) row.now ++ 0 ∷ [] }
+{
+    let first = load8(row, 0);
+    let second = load8(row, 8);
+    let third = load8(row, 16);
+    match at / 8 {
+        0 => row_of_words(
+            word_closed(first, at, second),
+            word_closed(second, 0, third),
+            word_closed(third, 0, 0),
+        ),
+        1 => row_of_words(
+            first,
+            word_closed(second, at - 8, third),
+            word_closed(third, 0, 0),
+        ),
+        _ => row_of_words(first, second, word_closed(third, at - 16, 0)),
     }
 }

@@ -1,4 +1,4 @@
-use Rattle.std.proofs.Common.{ℕ, ◌<◌, ◌*◌, ◌+◌, ◌-◌, ◌/◌, ◌^◌, length, arith}
+use Rattle.std.proofs.Common.{ℕ, ◌*◌, ◌-◌, length, arith}
 use Rattle.compact_repr.proofs.Numbers.{halves, upper_half-lt, lower_half-lt}
 use Rattle.compact_repr.proofs.words.short.Goals as goal
 
