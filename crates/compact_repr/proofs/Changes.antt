@@ -1,8 +1,9 @@
 -- What a change gives, in plain facts.
-use Rattle.std.proofs.Common.{◌≡◌, ℕ, List, ◌++◌, Some, arith, append-nil}
+use Rattle.std.proofs.Common.{◌≡◌, ℕ, ◌+◌, ◌≤◌, List, [], ◌∷◌, ◌++◌, Option, Some, None, true, false, refl, sym, ap, ◌∙◌, arith, append-nil}
 use Rattle.std.proofs.lemmas.Grind.{common_steps}
-use Rattle.compact_repr.specs.Value.{PlacedText}
-use Rattle.compact_repr.specs.Capacity.{Growth}
+use Rattle.compact_repr.specs.Text.{size}
+use Rattle.compact_repr.specs.Value.{PlacedText, Placement, placed}
+use Rattle.compact_repr.specs.Capacity.{Growth, room}
 use Rattle.compact_repr.specs.Change.{pushed}
 use Rattle.compact_repr.proofs.Texts.{empty_text}
 
