@@ -108,10 +108,6 @@ bytes_of-number_short xs all most =
     ap bytes_of (sym (number-append-zeros xs (8 - length xs)))
     ∙ bytes_of-number (xs ++ gap) (AllBytes-append xs gap all (AllBytes-zeros (8 - length xs))) eight
 
-pub bytes_of-read : (xs : List ℕ) (word : ℕ) → AllBytes xs → length xs ≡ 8 → word ≡ from_le_bytes w64 xs → bytes_of word ≡ xs
-unfolding bytes_of
-bytes_of-read xs word all eight read = le_bytes_8 xs word eight all read
-
 pub length-bytes_of : (word : ℕ) → length (bytes_of word) ≡ 8
 unfolding bytes_of
 length-bytes_of word = refl

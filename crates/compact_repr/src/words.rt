@@ -1,4 +1,4 @@
-//! Rows of 24 bytes as three words.
+//! Rows of 24 bytes as three words: each read and each write is of a whole word, and no loop goes over bytes.
 #![tactic(auto)]
 
 ghost use Rattle.std.specs.Prelude.{◌≡◌, ◌+◌, ◌-◌, ◌*◌, ◌^◌, ◌≤◌, ◌<◌, [], ◌∷◌, ◌++◌, length, take, drop, replicate};
@@ -57,7 +57,8 @@ fn row_of_words(first: u64, second: u64, third: u64) -> [u8; 24]
     row
 }
 
-/// The bytes from a place on, at most eight, as a number: the last eight are read, and those before the place leave.
+/// The bytes from a place on, at most eight, as a number. The last eight of the text are read, and those before the place
+/// are shifted out.
 #[inline(always)]
 fn tail(text: &[u8], from: usize) -> u64
     requires held { 8 ≤ length text.now }
@@ -69,7 +70,7 @@ fn tail(text: &[u8], from: usize) -> u64
     load8(text, len - 8) >> (8 * (from + 8 - len))
 }
 
-/// At most eight bytes as a number, of two reads that meet in the middle.
+/// At most eight bytes as a number. Of two reads, the second ends at the end, and what the first has too is shifted out.
 #[inline(always)]
 fn short(text: &[u8]) -> u64
     requires { length text.now ≤ 8 }
@@ -89,7 +90,7 @@ fn short(text: &[u8]) -> u64
     }
 }
 
-/// What a one in the byte at a place counts for in a word.
+/// What a byte at a place of a word is multiplied by.
 #[inline(always)]
 fn unit(at: usize) -> u64
     requires { at < 8 }
@@ -107,6 +108,7 @@ fn last_byte(word: u64) -> u8
 }
 
 /// The word with `byte` put in at a place; what stands from there on moves one place up, and the last byte goes.
+/// The three parts share no byte, so no sum wraps.
 #[inline(always)]
 fn word_opened(word: u64, at: usize, byte: u8) -> u64
     requires { at < 8 }
@@ -118,7 +120,8 @@ fn word_opened(word: u64, at: usize, byte: u8) -> u64
         .wrapping_add((word - before) << 8)
 }
 
-/// The word without the byte at a place; what stands after it moves one place down, and the first byte of the next word comes last.
+/// The word without the byte at a place; what stands after it moves one place down, and the first byte of the next word
+/// comes last. The three parts share no byte, so no sum wraps.
 #[inline(always)]
 fn word_closed(word: u64, at: usize, next: u64) -> u64
     requires { at < 8 }
