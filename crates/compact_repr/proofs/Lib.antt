@@ -9,3 +9,7 @@ pub mod Examples
 pub mod HeapTexts
 pub mod Strings
 pub mod Changes
+pub mod Numbers
+pub mod WordRows
+pub mod ChangedWords
+pub mod ChangedRows

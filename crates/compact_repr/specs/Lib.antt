@@ -5,3 +5,4 @@ pub mod Capacity
 pub mod Change
 pub mod HeapText
 pub mod Stored
+pub mod Words

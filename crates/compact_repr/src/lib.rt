@@ -14,6 +14,7 @@ mod law;
 mod policy;
 mod repr;
 mod rows;
+mod words;
 
 pub use error::ReserveError;
 pub use inline::INLINE_CAPACITY;

@@ -1,0 +1,199 @@
+//! Rows of 24 bytes as three words: each read and each write is of a whole word, and no loop goes over bytes.
+#![tactic(auto)]
+
+ghost use Rattle.std.specs.Prelude.{◌≡◌, ◌+◌, ◌-◌, ◌*◌, ◌^◌, ◌≤◌, ◌<◌, [], ◌∷◌, ◌++◌, length, take, drop, replicate};
+ghost use Rattle.compact_repr.specs.Words.{number, bytes_of};
+
+#[cfg(test)]
+mod tests;
+
+/// The eight bytes from a place on, as a word.
+#[inline(always)]
+fn load8(bytes: &[u8], at: usize) -> u64
+    requires { at + 8 ≤ length bytes.now }
+    ensures value { result ≡ number (take 8 (drop at bytes.now)) }
+    ensures bytes { bytes_of result ≡ take 8 (drop at bytes.now) }
+{
+    match bytes[at..].first_chunk::<8>() {
+        Some(chunk) => u64::from_le_bytes(*chunk),
+        None => unreachable!(),
+    }
+}
+
+/// The four bytes from a place on, as a number.
+#[inline(always)]
+fn load4(bytes: &[u8], at: usize) -> u64
+    requires { at + 4 ≤ length bytes.now }
+    ensures { result ≡ number (take 4 (drop at bytes.now)) }
+{
+    match bytes[at..].first_chunk::<4>() {
+        Some(chunk) => u64::from(u32::from_le_bytes(*chunk)),
+        None => unreachable!(),
+    }
+}
+
+/// The two bytes from a place on, as a number.
+#[inline(always)]
+fn load2(bytes: &[u8], at: usize) -> u64
+    requires { at + 2 ≤ length bytes.now }
+    ensures { result ≡ number (take 2 (drop at bytes.now)) }
+{
+    match bytes[at..].first_chunk::<2>() {
+        Some(chunk) => u64::from(u16::from_le_bytes(*chunk)),
+        None => unreachable!(),
+    }
+}
+
+/// Three words as a row.
+#[inline(always)]
+#[tactic(auto, unfolding(crate::specs::Words::bytes_of))]
+fn row_of_words(first: u64, second: u64, third: u64) -> [u8; 24]
+    ensures { result ≡ bytes_of first ++ bytes_of second ++ bytes_of third }
+{
+    let mut row = [0u8; 24];
+    row[..8].copy_from_slice(&first.to_le_bytes());
+    row[8..16].copy_from_slice(&second.to_le_bytes());
+    row[16..].copy_from_slice(&third.to_le_bytes());
+    row
+}
+
+/// The bytes from a place on, at most eight, as a number. The last eight of the text are read, and those before the place
+/// are shifted out.
+#[inline(always)]
+fn tail(text: &[u8], from: usize) -> u64
+    requires held { 8 ≤ length text.now }
+    requires some { from < length text.now }
+    requires most { length text.now ≤ from + 8 }
+    ensures { result ≡ number (drop from text.now) }
+{
+    let len = text.len();
+    load8(text, len - 8) >> (8 * (from + 8 - len))
+}
+
+/// At most eight bytes as a number. Of two reads, the second ends at the end, and what the first has too is shifted out.
+#[inline(always)]
+fn short(text: &[u8]) -> u64
+    requires { length text.now ≤ 8 }
+    ensures { result ≡ number text.now }
+{
+    let len = text.len();
+    if len >= 4 {
+        let high = load4(text, len - 4) >> (8 * (8 - len));
+        load4(text, 0) + high * 0x1_0000_0000
+    } else if len >= 2 {
+        let high = load2(text, len - 2) >> (8 * (4 - len));
+        load2(text, 0) + high * 0x1_0000
+    } else if len == 1 {
+        u64::from(text[0])
+    } else {
+        0
+    }
+}
+
+/// What a byte at a place of a word is multiplied by.
+#[inline(always)]
+fn unit(at: usize) -> u64
+    requires { at < 8 }
+    ensures { result ≡ 2 ^ (8 * at) }
+{
+    1 << (8 * at)
+}
+
+/// The last byte of a word.
+#[inline(always)]
+fn last_byte(word: u64) -> u8
+    ensures { drop 7 (bytes_of word) ≡ result ∷ [] }
+{
+    (word >> 56) as u8
+}
+
+/// The word with `byte` put in at a place; what stands from there on moves one place up, and the last byte goes.
+/// The three parts share no byte, so no sum wraps.
+#[inline(always)]
+fn word_opened(word: u64, at: usize, byte: u8) -> u64
+    requires { at < 8 }
+    ensures { bytes_of result ≡ take at (bytes_of word) ++ byte ∷ take (7 - at) (drop at (bytes_of word)) }
+{
+    let before = word % unit(at);
+    before
+        .wrapping_add(u64::from(byte) << (8 * at))
+        .wrapping_add((word - before) << 8)
+}
+
+/// The word without the byte at a place; what stands after it moves one place down, and the first byte of the next word
+/// comes last. The three parts share no byte, so no sum wraps.
+#[inline(always)]
+fn word_closed(word: u64, at: usize, next: u64) -> u64
+    requires { at < 8 }
+    ensures { bytes_of result ≡ take at (bytes_of word) ++ drop (at + 1) (bytes_of word) ++ take 1 (bytes_of next) }
+{
+    let unit = unit(at);
+    let down = word >> 8;
+    (word % unit)
+        .wrapping_add(down - down % unit)
+        .wrapping_add(next << 56)
+}
+
+/// A row that begins with `text` and ends with zeros.
+#[inline]
+pub fn row_of(text: &[u8]) -> [u8; 24]
+    requires { length text.now ≤ 24 }
+    ensures { result ≡ text.now ++ replicate (24 - length text.now) 0 }
+{
+    let len = text.len();
+    if len > 16 {
+        row_of_words(load8(text, 0), load8(text, 8), tail(text, 16))
+    } else if len > 8 {
+        row_of_words(load8(text, 0), tail(text, 8), 0)
+    } else {
+        row_of_words(short(text), 0, 0)
+    }
+}
+
+/// The row with `byte` put in at a place; what stands from there on moves one place up, and the last byte goes.
+#[inline]
+pub fn opened(row: &[u8; 24], at: usize, byte: u8) -> [u8; 24]
+    requires { at < 24 }
+    ensures { result ≡ take at row.now ++ byte ∷ take (23 - at) (drop at row.now) }
+{
+    let first = load8(row, 0);
+    let second = load8(row, 8);
+    let third = load8(row, 16);
+    match at / 8 {
+        0 => row_of_words(
+            word_opened(first, at, byte),
+            word_opened(second, 0, last_byte(first)),
+            word_opened(third, 0, last_byte(second)),
+        ),
+        1 => row_of_words(
+            first,
+            word_opened(second, at - 8, byte),
+            word_opened(third, 0, last_byte(second)),
+        ),
+        _ => row_of_words(first, second, word_opened(third, at - 16, byte)),
+    }
+}
+
+/// The row without the byte at a place; what stands after it moves one place down, and a zero comes last.
+#[inline]
+pub fn closed(row: &[u8; 24], at: usize) -> [u8; 24]
+    requires { at < 24 }
+    ensures { result ≡ take at row.now ++ drop (at + 1) row.now ++ 0 ∷ [] }
+{
+    let first = load8(row, 0);
+    let second = load8(row, 8);
+    let third = load8(row, 16);
+    match at / 8 {
+        0 => row_of_words(
+            word_closed(first, at, second),
+            word_closed(second, 0, third),
+            word_closed(third, 0, 0),
+        ),
+        1 => row_of_words(
+            first,
+            word_closed(second, at - 8, third),
+            word_closed(third, 0, 0),
+        ),
+        _ => row_of_words(first, second, word_closed(third, at - 16, 0)),
+    }
+}
