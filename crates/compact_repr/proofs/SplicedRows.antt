@@ -1,6 +1,6 @@
 -- A row of bytes, of which the first hold a text, once a part of them is replaced.
-use Rattle.std.proofs.Common.{◌≡◌, ℕ, ◌+◌, ◌-◌, ◌<◌, ◌≤◌, List, [], ◌++◌, length, take, drop, ap, sym, ◌∙◌, arith, length-append, append_assoc}
-use Rattle.std.proofs.lemmas.List.{length-take-le, take-append-le, take-take, take_all, take_at, drop_at}
+use Rattle.std.proofs.Common.{◌≡◌, ℕ, ◌+◌, ◌-◌, ◌<◌, ◌≤◌, List, [], ◌∷◌, ◌++◌, length, take, drop, get_or, refl, ap, sym, ◌∙◌, arith, length-append, append_assoc}
+use Rattle.std.proofs.lemmas.List.{append-nil, length-drop, length-take-le, take-append-drop, drop-take, take-append-le, take-take, take_all, take_at, drop_at}
 use Rattle.std.proofs.lemmas.List.Edits.{length-between, paste_none}
 use Rattle.std.proofs.lemmas.Slice.{between_is}
 use Rattle.std.specs.List.{between, replace_range}
@@ -58,3 +58,57 @@ appended row s len held =
     let length_front : length (take len row) ≡ len = length-take-le len row held in
     ap (λ x. take (len + length s) ((take len row ++ x) ++ drop (len + length s) row)) written
     ∙ take_at (take len row ++ s) (drop (len + length s) row) (len + length s) (length-append (take len row) s ∙ omega (arith, length_front))
+
+-- what stands from the end of the replaced part on
+tail-is : (row : List ℕ) (len end : ℕ) → end ≤ len → take (len - end) (drop end row) ≡ drop end (take len row)
+tail-is row len end within =
+    let all : end + (len - end) ≡ len = omega arith in
+    sym (drop-take end (len - end) row) ∙ ap (λ (n : ℕ). drop end (take n row)) all
+
+pub one-byte : (s : List ℕ) → length s ≡ 1 → s ≡ get_or s 0 0 ∷ []
+one-byte [] e = absurd (omega arith)
+one-byte (byte ∷ []) e = refl
+one-byte (byte ∷ next ∷ s) e = absurd (omega arith)
+
+-- one byte comes into a row of 24: what stands from its place on has moved one place up
+pub spliced-word-in : (row s now : List ℕ) (byte len start end : ℕ) → start ≡ end → s ≡ byte ∷ [] → end ≤ len → len < 24 → length row ≡ 24
+    → now ≡ take start row ++ byte ∷ take (23 - start) (drop start row) → take (len - (end - start) + length s) now ≡ replace_range (take len row) start end s
+spliced-word-in row s now byte len start end same one within room full e =
+    let front : List ℕ = take start row in
+    let moved : List ℕ = take (23 - start) (drop start row) in
+    let k : ℕ = len - start in
+    let kept : List ℕ = take k moved in
+    let parts : now ≡ front ++ (s ++ moved) = e ∙ ap (λ (x : List ℕ). front ++ (x ++ moved)) (sym one) in
+    let whole : front ++ (s ++ moved) ≡ (front ++ s ++ kept) ++ drop k moved = ap (λ (x : List ℕ). front ++ (s ++ x)) (sym (take-append-drop k moved)) ∙ simp append_assoc in
+    let length_front : length front ≡ start = length-take-le start row (omega arith) in
+    let length_moved : length moved ≡ 23 - start = length-take-le (23 - start) (drop start row) (omega (arith, length-drop start row)) in
+    let length_kept : length kept ≡ k = length-take-le k moved (omega (arith, length_moved)) in
+    let length_whole : length (front ++ s ++ kept) ≡ len - (end - start) + length s = simp length-append (omega (arith, length_front, length_kept)) in
+    let tail : kept ≡ drop end (take len row) =
+    take-take k (23 - start) (drop start row) (omega arith) ∙ ap (λ (n : ℕ). take (len - n) (drop n row)) same ∙ tail-is row len end within in
+    ap (take (len - (end - start) + length s)) (parts ∙ whole)
+    ∙ take_at (front ++ s ++ kept) (drop k moved) _ length_whole
+    ∙ ap (λ x. front ++ s ++ x) tail
+    ∙ ap (λ x. x ++ s ++ drop end (take len row)) (sym (take-take start len row (omega arith)))
+
+-- one byte goes from a row of 24: what stands behind it has moved one place down
+pub spliced-word-out : (row s now : List ℕ) (len start end : ℕ) → end - start ≡ 1 → s ≡ [] → end ≤ len → len ≤ 24 → length row ≡ 24
+    → now ≡ take start row ++ drop (start + 1) row ++ 0 ∷ [] → take (len - (end - start) + length s) now ≡ replace_range (take len row) start end s
+spliced-word-out row s now len start end one none within room full e =
+    let front : List ℕ = take start row in
+    let moved : List ℕ = drop end row in
+    let k : ℕ = len - end in
+    let past : start + 1 ≡ end = omega arith in
+    let parts : now ≡ front ++ moved ++ 0 ∷ [] = e ∙ ap (λ (n : ℕ). front ++ drop n row ++ 0 ∷ []) past in
+    let whole : front ++ moved ++ 0 ∷ [] ≡ (front ++ take k moved) ++ (drop k moved ++ 0 ∷ []) =
+    ap (λ (x : List ℕ). front ++ x ++ 0 ∷ []) (sym (take-append-drop k moved)) ∙ simp append_assoc in
+    let length_front : length front ≡ start = length-take-le start row (omega arith) in
+    let length_kept : length (take k moved) ≡ k = length-take-le k moved (omega (arith, length-drop end row)) in
+    let zero : length s ≡ 0 = ap length none in
+    let length_whole : length (front ++ take k moved) ≡ len - (end - start) + length s = simp length-append (omega (arith, length_front, length_kept, zero)) in
+    let empty : front ≡ front ++ s = sym (append-nil front) ∙ ap (λ (x : List ℕ). front ++ x) (sym none) in
+    ap (take (len - (end - start) + length s)) (parts ∙ whole)
+    ∙ take_at (front ++ take k moved) (drop k moved ++ 0 ∷ []) _ length_whole
+    ∙ ap (λ x. x ++ take k moved) empty
+    ∙ ap (λ x. front ++ s ++ x) (tail-is row len end within)
+    ∙ ap (λ x. x ++ s ++ drop end (take len row)) (sym (take-take start len row (omega arith)))

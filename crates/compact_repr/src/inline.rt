@@ -3,6 +3,7 @@ ghost use Rattle.std.specs.Prelude.{◌≡◌, ◌+◌, ◌≤◌, [], ◌++◌,
 ghost use Rattle.compact_repr.specs.Text.{size, utf8, text_of, IsText};
 
 use crate::rows::append;
+use crate::words::row_of;
 use std::marker::Model;
 
 mod edit;
@@ -47,9 +48,10 @@ impl InlineBuffer {
         requires { length text.now ≤ 24 }
         ensures { result ≡ text_of text.now }
     {
-        let mut buffer = InlineBuffer::empty();
-        buffer.push_str(text);
-        buffer
+        InlineBuffer {
+            bytes: row_of(text.as_bytes()),
+            len: text.len(),
+        }
     }
 
     /// The same text.

@@ -28,7 +28,7 @@ pub fn splice(row: &mut [u8], len: usize, start: usize, end: usize, source: &[u8
 }
 
 /// `splice` for any number of bytes.
-fn replace(row: &mut [u8], len: usize, start: usize, end: usize, source: &[u8])
+pub fn replace(row: &mut [u8], len: usize, start: usize, end: usize, source: &[u8])
     requires order { start ≤ end }
     requires within { end ≤ len }
     requires held { len ≤ length row.old }

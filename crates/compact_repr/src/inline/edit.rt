@@ -1,10 +1,12 @@
 //! Edits of an inline text by byte position.
-ghost use Rattle.std.specs.Prelude.{◌≡◌, ◌+◌, ◌-◌, ◌≤◌, length};
+ghost use Rattle.std.specs.Prelude.{◌≡◌, ◌+◌, ◌-◌, ◌≤◌, length, take};
+ghost use Rattle.std.specs.List.{replace_range};
 ghost use Rattle.compact_repr.specs.Text.{size, text_of};
 ghost use Rattle.compact_repr.specs.Cut.{IsBoundary, before, spliced};
 
 use super::InlineBuffer;
-use crate::rows::splice;
+use crate::rows;
+use crate::words::{closed, opened};
 
 impl InlineBuffer {
     /// Replaces what stands from one boundary to another by `text`, for which there is room. Positions are in bytes.
@@ -30,5 +32,25 @@ impl InlineBuffer {
         ensures fits { size self.new ≤ 24 }
     {
         self.len = len;
+    }
+}
+
+/// Of the first `len` bytes of `row` replaces those from `start` to `end` by `source`.
+///
+/// One byte that comes or goes shifts the row by words.
+#[inline(always)]
+fn splice(row: &mut [u8; 24], len: usize, start: usize, end: usize, source: &[u8])
+    requires order { start ≤ end }
+    requires within { end ≤ len }
+    requires held { len ≤ 24 }
+    requires room { len + length source.now ≤ 24 + (end - start) }
+    ensures { take (len - (end - start) + length source.now) row.new ≡ replace_range (take len row.old) start end source.now }
+{
+    if start == end && source.len() == 1 {
+        *row = opened(row, start, source[0]);
+    } else if end - start == 1 && source.is_empty() {
+        *row = closed(row, start);
+    } else {
+        rows::replace(row, len, start, end, source);
     }
 }

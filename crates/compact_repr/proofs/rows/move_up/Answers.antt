@@ -1,4 +1,4 @@
-use Rattle.std.proofs.Common.{◌≡◌, ◌+◌, ◌-◌, refl, arith}
+use Rattle.std.proofs.Common.{◌+◌, ◌-◌, refl, arith}
 use Rattle.compact_repr.proofs.Parts.{part-up}
 use Rattle.compact_repr.proofs.rows.move_up.Goals as goal
 
