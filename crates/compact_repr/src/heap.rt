@@ -37,6 +37,7 @@ impl Model for HeapBuffer {
 
 impl HeapBuffer {
     /// The empty text with room for `capacity` bytes.
+    #[inline]
     pub fn with_capacity(alloc: Global, capacity: usize) -> Result<Self, AllocError>
         ensures { IfOk result (λ b. b ≡ record { text = []; capacity = capacity }) }
     {

@@ -103,11 +103,19 @@ impl<P: Policy> Repr<P> {
     }
 
     /// Appends `text`; an empty one changes nothing. An error changes nothing.
+    ///
+    /// The heap with room comes first: that is how a long text is built.
     #[inline]
     pub fn push_str(&mut self, text: &str) -> Result<(), ReserveError>
         ensures ok { OnOk result (pushed P.growth self.old (text_of text.now) ≡ Some self.new) }
         ensures err { OnErr result ((self.new ≡ self.old) × IsTrue (push_asks self.old (text_of text.now))) }
     {
+        if let Buffer::Heap(heap) = &mut self.buffer
+            && heap.has_room(text.len())
+        {
+            heap.push_str(text);
+            return Ok(());
+        }
         if text.is_empty() {
             return Ok(());
         }

@@ -1,7 +1,7 @@
 //! How a representation is made.
 ghost use Rattle.std.specs.Prelude.{◌≡◌, ◌<◌, length, nat_eq, if◌then◌else◌, [], Some, IfOk, OnErr, IsOk, IsTrue, string_bytes};
 ghost use Rattle.std.specs.String.{string_capacity};
-ghost use Rattle.compact_repr.specs.Text.{text_of};
+ghost use Rattle.compact_repr.specs.Text.{size, text_of};
 ghost use Rattle.compact_repr.specs.Value.{placed};
 ghost use Rattle.compact_repr.specs.Capacity.{inlined, on_heap, held_asks, lasting, taken_over, copy_asks};
 ghost use Rattle.compact_repr.specs.Change.{made, with_room, copy_of};
@@ -38,6 +38,7 @@ impl<P: Policy> Repr<P> {
     }
 
     /// A copy of a `text` of more than 24 bytes.
+    #[inline]
     fn new_long(alloc: Global, text: &str) -> Result<Self, ReserveError>
         requires { 24 < length text.now }
         ensures { IfOk result (λ r. made P.growth (text_of text.now) ≡ Some r) }
@@ -95,15 +96,26 @@ impl<P: Policy> Repr<P> {
     }
 
     /// A copy: of a heap text with a buffer made anew, else as it stands, which is never refused.
-    #[inline]
+    ///
+    /// An inline value is copied where the call stands, with no call.
+    #[inline(always)]
     pub fn try_clone(&self) -> Result<Self, ReserveError>
         ensures ok { IfOk result (λ r. copy_of P.growth self.now ≡ Some r) }
         ensures err { OnErr result (IsTrue (copy_asks self.now)) }
     {
         match &self.buffer {
             Buffer::Inline(inline) => Ok(Self::of(self.alloc, Buffer::Inline(inline.duplicate()))),
-            Buffer::Heap(heap) => Self::new(self.alloc, heap.as_str()),
+            Buffer::Heap(heap) => Self::copy_of_heap(self.alloc, heap),
             Buffer::Static(text) => Ok(Self::of(self.alloc, Buffer::Static(text))),
         }
+    }
+
+    /// A copy of a heap text, with a buffer made anew.
+    #[inline]
+    fn copy_of_heap(alloc: Global, heap: &HeapBuffer) -> Result<Self, ReserveError>
+        ensures ok { IfOk result (λ r. made P.growth heap.now.text ≡ Some r) }
+        ensures err { OnErr result (IsTrue (held_asks (size heap.now.text))) }
+    {
+        Self::new(alloc, heap.as_str())
     }
 }

@@ -87,6 +87,7 @@ impl<P: Policy> Repr<P> {
     }
 
     /// An empty heap buffer with room for `capacity` bytes.
+    #[inline]
     pub(super) fn new_heap(alloc: Global, capacity: usize) -> Result<HeapBuffer, ReserveError>
         ensures { IfOk result (λ h. (h.text ≡ []) × (allowed (max P.growth.least capacity) ≡ Some (on_heap h.capacity))) }
     {

@@ -17,7 +17,7 @@ impl<P: Policy> Clone for PolicyString<P> {
 
     /// A copy with the same text: of an inline or static value as it stands, which takes no memory, and of a heap
     /// value as `new` makes it.
-    #[inline]
+    #[inline(always)]
     fn clone(&self) -> Result<Self, AllocError> {
         match self.repr.try_clone() {
             Ok(repr) => Ok(PolicyString { repr }),

@@ -119,13 +119,33 @@ impl<P: Policy> PolicyString<P> {
         ensures text { OnOk result (self.new.text ≡ spliced self.old.text (range_start start) (range_end self.old.text end) (text_of text.now)) }
         ensures err { OnErr result ((self.new ≡ self.old) × IsTrue (replace_asks self.old (range_start start) (range_end self.old.text end) (text_of text.now))) }
     {
-        match self.check_range(start, end) {
-            Some((first, last)) => self.replace_between(first, last, text),
-            None => unreachable!(),
-        }
+        let (first, last) = self.range_ends(start, end);
+        self.replace_between(first, last, text)
+    }
+
+    /// Where a range of the text begins and ends, in bytes.
+    #[inline]
+    fn range_ends(&self, start: Bound<usize>, end: Bound<usize>) -> (usize, usize)
+        requires { IsRange self.now.text start end }
+        ensures first { result.0 ≡ range_start start }
+        ensures last { result.1 ≡ range_end self.now.text end }
+    {
+        let len = self.len();
+        let first = match start {
+            Bound::Included(index) => index,
+            Bound::Excluded(index) => index + 1,
+            Bound::Unbounded => 0,
+        };
+        let last = match end {
+            Bound::Included(index) => index + 1,
+            Bound::Excluded(index) => index,
+            Bound::Unbounded => len,
+        };
+        (first, last)
     }
 
     /// Replaces what stands between two boundaries, in bytes.
+    #[inline]
     fn replace_between(&mut self, first: usize, last: usize, text: &str) -> Result<(), ReserveError>
         requires order { first ≤ last }
         requires first { IsBoundary self.old.text first }
