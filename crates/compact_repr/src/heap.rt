@@ -149,6 +149,23 @@ fn append(bytes: &mut Vec<u8>, len: usize, source: &[u8])
     ensures most { vec_len bytes.new ≤ max (vec_len bytes.old) (len + length source.now) }
     ensures capacity { vec_capacity bytes.old ≤ vec_capacity bytes.new }
 {
+    if len < bytes.len() {
+        write_over(bytes, len, source);
+    } else if bytes.extend_from_slice(source).is_err() {
+        unreachable!();
+    }
+}
+
+/// `append` where bytes of an earlier text stand behind the first `len`.
+#[inline(never)]
+fn write_over(bytes: &mut Vec<u8>, len: usize, source: &[u8])
+    requires held { len ≤ vec_len bytes.old }
+    requires room { len + length source.now ≤ vec_capacity bytes.old }
+    ensures items { take (len + length source.now) bytes.new.items ≡ take len bytes.old.items ++ source.now }
+    ensures long { len + length source.now ≤ vec_len bytes.new }
+    ensures most { vec_len bytes.new ≤ max (vec_len bytes.old) (len + length source.now) }
+    ensures capacity { vec_capacity bytes.old ≤ vec_capacity bytes.new }
+{
     if len + source.len() <= bytes.len() {
         rows::append(bytes.as_mut_slice(), len, source);
         return;

@@ -51,7 +51,7 @@ pub fn append(row: &mut [u8], len: usize, source: &[u8])
 }
 
 /// Writes `source` at a place of `row`.
-#[inline]
+#[inline(always)]
 fn put(row: &mut [u8], at: usize, source: &[u8])
     requires { at + length source.now ≤ length row.old }
     ensures { row.new ≡ paste row.old at source.now (length source.now) }
@@ -80,7 +80,9 @@ fn shift(row: &mut [u8], from: usize, to: usize, count: usize)
     requires target { to + count ≤ length row.old }
     ensures { row.new ≡ paste row.old to (drop from row.old) count }
 {
-    if from < to {
+    if count <= 2 * BLOCK {
+        carry(row, from, to, count);
+    } else if from < to {
         match to - from {
             1 => move_up::<1>(row, from, count),
             2 => move_up::<2>(row, from, count),
@@ -172,15 +174,17 @@ fn shift_down(row: &mut [u8], from: usize, to: usize, count: usize)
     carry(row, from + done, to + done, count - done);
 }
 
-/// Moves at most a block of bytes.
+/// Moves at most two blocks of bytes.
 #[inline]
 fn carry(row: &mut [u8], from: usize, to: usize, count: usize)
-    requires one_block { count ≤ 64 }
+    requires two_blocks { count ≤ 128 }
     requires source { from + count ≤ length row.old }
     requires target { to + count ≤ length row.old }
     ensures { row.new ≡ paste row.old to (drop from row.old) count }
 {
-    if count >= 32 {
+    if count >= 64 {
+        carry_ends::<64>(row, from, to, count);
+    } else if count >= 32 {
         carry_ends::<32>(row, from, to, count);
     } else if count >= 16 {
         carry_ends::<16>(row, from, to, count);

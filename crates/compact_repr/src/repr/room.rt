@@ -52,7 +52,21 @@ impl<P: Policy> Repr<P> {
     }
 
     /// Makes the text of a static value its own; every other stays as it is. An error changes nothing.
+    #[inline(always)]
     pub fn make_owned(&mut self) -> Result<(), ReserveError>
+        ensures ok { OnOk result (made_owned P.growth self.old ≡ Some self.new) }
+        ensures room { OnOk result (IsTrue (has_room self.new 0)) }
+        ensures err { OnErr result ((self.new ≡ self.old) × IsTrue (own_asks self.old)) }
+    {
+        if let Buffer::Static(_) = &self.buffer {
+            return self.own_static();
+        }
+        Ok(())
+    }
+
+    #[cold]
+    #[inline(never)]
+    fn own_static(&mut self) -> Result<(), ReserveError>
         ensures ok { OnOk result (made_owned P.growth self.old ≡ Some self.new) }
         ensures room { OnOk result (IsTrue (has_room self.new 0)) }
         ensures err { OnErr result ((self.new ≡ self.old) × IsTrue (own_asks self.old)) }
