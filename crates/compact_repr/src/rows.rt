@@ -73,7 +73,7 @@ fn put(row: &mut [u8], at: usize, source: &[u8])
 }
 
 /// Moves `count` bytes of `row` from one place to another, which may overlap.
-#[inline]
+#[inline(always)]
 #[tactic(auto, using(crate::proofs::Shifts::shifts))]
 fn shift(row: &mut [u8], from: usize, to: usize, count: usize)
     requires source { from + count ≤ length row.old }
@@ -147,6 +147,7 @@ fn close<const DISTANCE: usize>(part: &mut [u8])
 const BLOCK: usize = 64;
 
 /// Moves bytes to a later place, the last ones first.
+#[inline(never)]
 fn shift_up(row: &mut [u8], from: usize, to: usize, count: usize)
     requires upward { from ≤ to }
     requires target { to + count ≤ length row.old }
@@ -161,6 +162,7 @@ fn shift_up(row: &mut [u8], from: usize, to: usize, count: usize)
 }
 
 /// Moves bytes to an earlier place, the first ones first.
+#[inline(never)]
 fn shift_down(row: &mut [u8], from: usize, to: usize, count: usize)
     requires downward { to ≤ from }
     requires source { from + count ≤ length row.old }
@@ -175,7 +177,7 @@ fn shift_down(row: &mut [u8], from: usize, to: usize, count: usize)
 }
 
 /// Moves at most two blocks of bytes.
-#[inline]
+#[inline(always)]
 fn carry(row: &mut [u8], from: usize, to: usize, count: usize)
     requires two_blocks { count ≤ 128 }
     requires source { from + count ≤ length row.old }

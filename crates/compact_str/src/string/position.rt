@@ -31,7 +31,7 @@ impl<P: Policy> PolicyString<P> {
     pub fn check_range(&self, start: Bound<usize>, end: Bound<usize>) -> Option<(usize, usize)>
         ensures { MatchOption result (¬ IsRange self.now.text start end) (λ range. IsRange self.now.text start end × (range.0 ≡ range_start start) × (range.1 ≡ range_end self.now.text end)) }
     {
-        let len = self.len();
+        let text = self.as_str();
         let first = match start {
             Bound::Included(index) => index,
             Bound::Excluded(index) => index.checked_add(1)?,
@@ -40,9 +40,9 @@ impl<P: Policy> PolicyString<P> {
         let last = match end {
             Bound::Included(index) => index.checked_add(1)?,
             Bound::Excluded(index) => index,
-            Bound::Unbounded => len,
+            Bound::Unbounded => text.len(),
         };
-        if first <= last && self.is_char_boundary(first) && self.is_char_boundary(last) {
+        if first <= last && is_boundary(text, first) && is_boundary(text, last) {
             Some((first, last))
         } else {
             None
@@ -183,4 +183,12 @@ impl<P: Policy> PolicyString<P> {
         self.repr.truncate(index);
         Ok(PolicyString { repr })
     }
+}
+
+/// Whether `index`, in bytes, is a boundary of `text`.
+#[inline]
+fn is_boundary(text: &str, index: usize) -> bool
+    ensures { IsTrue result ↔ IsBoundary (text_of text.now) index }
+{
+    text.is_char_boundary(index)
 }
