@@ -6,6 +6,9 @@ ghost use Rattle.std.specs.Prelude.{◌≡◌, ◌+◌, ◌-◌, ◌≤◌, ◌+
 ghost use Rattle.std.specs.List.{replace_range};
 ghost use lib.Seq.{paste};
 
+#[cfg(test)]
+mod tests;
+
 /// Of the first `len` bytes of `row` replaces those from `start` to `end` by `source`. The tail moves once.
 ///
 /// One byte that comes or goes has a way of its own.
