@@ -1,10 +1,10 @@
 //! Times this library's `CompactString` beside the `String` of Rust, and beside the `CompactString` of the Rust crate
 //! where the feature `peer` is on. `run.sh` builds and runs it.
 //!
-//! The workloads of this library are the C functions of `crates/compact_bench`. Those over Rust's types stand here, and
-//! do the same with the same inputs: each makes its inputs, does `n` operations and answers a checksum. The time for one
-//! operation is (T(n) - T(0)) / n, so that what makes the inputs doesn't count, and the figure is the median of `TURNS`
-//! turns, in which the types take turns after one that warms up.
+//! The workloads of this library are the C functions of `crates/compact_bench`. Those here do the same to Rust's types, on
+//! the same inputs: `n` operations and a checksum. To make the inputs is no part of an operation, so a workload is run once
+//! with no operation and once with `n`, and the difference counts. In each of `TURNS` turns all types are measured, one
+//! after another, and the table has the median of the turns.
 //!
 //! The status is 1 if two types differ in a checksum.
 
@@ -308,11 +308,18 @@ fn workloads() -> Vec<Workload> {
     ]
 }
 
-/// The nanoseconds that a run takes, and its checksum.
-fn timed(run: fn(u64) -> u64, n: u64) -> (f64, u64) {
-    let start = Instant::now();
-    let sum = black_box(run)(black_box(n));
-    (start.elapsed().as_nanos() as f64, sum)
+/// The nanoseconds for one of `n` operations, and the checksum of them all.
+fn measure(run: fn(u64) -> u64, n: u64) -> (f64, u64) {
+    let begun = Instant::now();
+    black_box(run(black_box(0)));
+    let idle = begun.elapsed();
+    let begun = Instant::now();
+    let sum = run(black_box(n));
+    let spent = begun.elapsed();
+    (
+        (spent.as_secs_f64() - idle.as_secs_f64()) * 1e9 / n as f64,
+        sum,
+    )
 }
 
 /// What was measured of a workload: for each type the nanoseconds for one operation, and the checksum.
@@ -332,12 +339,11 @@ impl Measured {
             // move depends on whether the text lies across two pages.
             kept.extend((0..3).map(|_| black_box(vec![0u8; 1000])));
             for (place, &run) in workload.runs.iter().enumerate() {
-                let (inputs, _) = timed(run, 0);
-                let (all, sum) = timed(run, workload.n);
+                let (time, sum) = measure(run, workload.n);
                 sums[place] = sum;
-                // The first turn warms up.
+                // One turn more goes ahead, in which the processor gets to know the work.
                 if turn > 0 {
-                    times[place].push((all - inputs) / workload.n as f64);
+                    times[place].push(time);
                 }
             }
         }

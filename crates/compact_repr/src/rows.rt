@@ -1,7 +1,8 @@
-//! Work on rows of bytes.
+//! Work on rows of bytes, in few wide reads and writes.
 //!
-//! What is long moves in blocks of 64 bytes, what is short by its two ends. Either way all is read before it is written,
-//! in few wide moves.
+//! A tail moves within its row, and its old and new places may overlap. Up to 128 bytes move by their two ends, which are
+//! both read before either is written. More of them move at once where they go by one to four places, and else in blocks
+//! of 64, from the end where the new place is the later one.
 ghost use Rattle.std.specs.Prelude.{◌≡◌, ◌+◌, ◌-◌, ◌≤◌, ◌++◌, length, take, drop};
 ghost use Rattle.std.specs.List.{replace_range};
 ghost use lib.Seq.{paste};

@@ -28,5 +28,7 @@ mod refused_positions;
 mod seen;
 #[cfg(test)]
 mod sessions;
+#[cfg(test)]
+mod shortened;
 
 pub use callers::{append_field, keyword, label, record_line};
