@@ -57,7 +57,7 @@ fn place_of<P: Policy>(value: &PolicyString<P>) -> &'static str {
 }
 
 /// Asserts place, length, capacity and text of a value.
-fn assert_seen<P: Policy>(
+pub fn assert_seen<P: Policy>(
     rt: &impl Abort,
     value: &PolicyString<P>,
     place: &str,

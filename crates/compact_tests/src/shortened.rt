@@ -1,6 +1,6 @@
 //! Heap texts that were longer before: what is appended or put in then stands where bytes of the longer text stood.
 
-use crate::seen::{append, assert_heap, copied, letters};
+use crate::seen::{append, assert_heap, assert_seen, copied, letters};
 use compact_str::CompactString;
 use std::process::Abort;
 
@@ -21,8 +21,7 @@ fn an_append_writes_over_what_was_cut(rt: HostRuntime) {
     let mut value = copied(&rt, rt.alloc(), letters(49));
     truncate(&rt, &mut value, 3);
     append(&rt, &mut value, "bc");
-    assert_heap(&rt, &value, 49, 5);
-    assert_eq!(rt; value.as_str(), "aaabc");
+    assert_seen(&rt, &value, "heap", 49, "aaabc");
 }
 
 #[test]
@@ -30,8 +29,7 @@ fn an_append_goes_on_past_what_was_cut(rt: HostRuntime) {
     let mut value = copied(&rt, rt.alloc(), letters(30));
     truncate(&rt, &mut value, 3);
     append(&rt, &mut value, "0123456789 0123456789 0123456");
-    assert_heap(&rt, &value, 32, 32);
-    assert_eq!(rt; value.as_str(), "aaa0123456789 0123456789 0123456");
+    assert_seen(&rt, &value, "heap", 32, "aaa0123456789 0123456789 0123456");
 }
 
 #[test]
@@ -39,11 +37,12 @@ fn a_growth_keeps_the_text_and_not_what_was_cut(rt: HostRuntime) {
     let mut value = copied(&rt, rt.alloc(), letters(49));
     truncate(&rt, &mut value, 2);
     append(&rt, &mut value, letters(48));
-    append(&rt, &mut value, "b");
+    assert_heap(&rt, &value, 50, 50);
+    append(&rt, &mut value, "a");
     assert_heap(&rt, &value, 75, 51);
     truncate(&rt, &mut value, 1);
     insert(&rt, &mut value, 0, "xy");
-    assert_eq!(rt; value.as_str(), "xya");
+    assert_seen(&rt, &value, "heap", 75, "xya");
 }
 
 #[test]
@@ -52,6 +51,5 @@ fn a_text_is_put_in_before_what_was_cut(rt: HostRuntime) {
     truncate(&rt, &mut value, 4);
     insert(&rt, &mut value, 2, "-+-");
     insert(&rt, &mut value, 3, "0");
-    assert_heap(&rt, &value, 49, 8);
-    assert_eq!(rt; value.as_str(), "aa-0+-aa");
+    assert_seen(&rt, &value, "heap", 49, "aa-0+-aa");
 }
