@@ -1,39 +1,61 @@
 //! The generator of the inputs.
-ghost use Rattle.std.specs.Prelude.{◌<◌, ◌≤◌};
+ghost use Rattle.std.specs.Prelude.{◌≡◌, ◌+◌, ◌<◌};
+ghost use Rattle.compact_bench.specs.Xorshift.{start, after, scaled};
 
-/// A generator of numbers by xorshift.
+use std::marker::Model;
+
+/// A generator of numbers by xorshift. A contract sees the latest number.
 #[derive(Drop)]
 pub struct Generator {
     state: u64,
 }
 
+impl Model for Generator {
+    ghost use Rattle.std.specs.Prelude.{ℕ};
+
+    ghost Value = { ℕ };
+
+    ghost view = { λ g. g.state };
+}
+
 impl Generator {
     /// The generator at its start, which is always the same.
-    pub fn new() -> Self {
+    pub fn new() -> Self
+        ensures { result ≡ start }
+    {
         Generator {
             state: 0x9e37_79b9_7f4a_7c15,
         }
     }
 
     /// The next number.
-    pub fn next(&mut self) -> u64 {
+    #[tactic(auto, unfolding(crate::specs::Xorshift::after))]
+    pub fn next(&mut self) -> u64
+        ensures next { self.new ≡ after self.old }
+        ensures value { result ≡ self.new }
+    {
         self.state ^= self.state << 13;
         self.state ^= self.state >> 7;
         self.state ^= self.state << 17;
         self.state
     }
 
-    /// A number below `limit`.
+    /// A number below `limit`: the next one, scaled.
     pub fn below(&mut self, limit: u32) -> u32
         requires { 0 < limit }
-        ensures { result < limit }
+        ensures next { self.new ≡ after self.old }
+        ensures value { result ≡ scaled self.new limit }
+        ensures below { result < limit }
     {
         let high = self.next() >> 32;
         ((high * u64::from(limit)) >> 32) as u32
     }
 
     /// A letter from `a` to `z`.
-    pub fn letter(&mut self) -> char {
+    pub fn letter(&mut self) -> char
+        ensures next { self.new ≡ after self.old }
+        ensures value { result ≡ 97 + scaled self.new 26 }
+    {
         letter(self.below(26))
     }
 }
@@ -42,6 +64,7 @@ impl Generator {
 #[inline]
 pub fn letter(place: u32) -> char
     requires { place < 26 }
+    ensures { result ≡ 97 + place }
 {
     (b'a' + place as u8) as char
 }
