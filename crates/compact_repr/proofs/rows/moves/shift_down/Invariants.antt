@@ -1,6 +1,6 @@
 use Rattle.std.proofs.Common.{◌≡◌, ◌-◌, ◌≤◌, drop}
 use lib.Seq.{paste}
-use Rattle.compact_repr.proofs.rows.shift_down.Given as goal
+use Rattle.compact_repr.proofs.rows.moves.shift_down.Given as goal
 
 -- the first `done` bytes have moved
 abbrev pub invariant-moves : goal.invariant-moves

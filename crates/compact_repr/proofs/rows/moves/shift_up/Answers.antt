@@ -2,7 +2,7 @@ use Rattle.std.proofs.Common.{◌≡◌, ℕ, ◌-◌, ◌+◌, drop, ap, ◌∙
 use Rattle.std.proofs.lemmas.List.Edits.{paste_none}
 use lib.Seq.{paste}
 use Rattle.compact_repr.proofs.Shifts.{shifted-up}
-use Rattle.compact_repr.proofs.rows.shift_up.Goals as goal
+use Rattle.compact_repr.proofs.rows.moves.shift_up.Goals as goal
 
 pub moves-init : goal.moves-init
 moves-init c =

@@ -1,6 +1,6 @@
 use Rattle.std.proofs.Common.{◌+◌, ◌-◌, refl, arith}
 use Rattle.compact_repr.proofs.Parts.{part-up}
-use Rattle.compact_repr.proofs.rows.move_up.Goals as goal
+use Rattle.compact_repr.proofs.rows.moves.move_up.Goals as goal
 
 pub returns : goal.returns
 returns g c =

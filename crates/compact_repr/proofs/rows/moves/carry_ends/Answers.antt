@@ -1,7 +1,7 @@
 use Rattle.std.proofs.Common.{◌-◌, take, drop, ap, sym, ◌∙◌, arith}
 use Rattle.std.proofs.lemmas.List.{length-drop, drop-drop}
 use Rattle.compact_repr.proofs.Ends.{ends}
-use Rattle.compact_repr.proofs.rows.carry_ends.Goals as goal
+use Rattle.compact_repr.proofs.rows.moves.carry_ends.Goals as goal
 
 pub returns : goal.returns
 returns g c =

@@ -1,7 +1,7 @@
 use Rattle.std.proofs.Common.{◌∙◌, ◌+◌, ◌-◌, drop, arith}
 use Rattle.std.proofs.lemmas.List.Edits.{paste_none}
 use Rattle.compact_repr.proofs.Shifts.{shifted-down}
-use Rattle.compact_repr.proofs.rows.shift_down.Goals as goal
+use Rattle.compact_repr.proofs.rows.moves.shift_down.Goals as goal
 
 pub moves-init : goal.moves-init
 moves-init c = (omega arith, paste_none c.args.row.now c.args.to (drop c.args.from c.args.row.now))
