@@ -7,5 +7,5 @@ returns g c =
     let source = c.args.source.now in
     rw (c.set_chunk-2.ensures, c.set_chunk.ensures)
     (ends c.args.row.now source c.chunk-first.result c.chunk-last.result c.args.at g.row.N (length source - g.row.N) (length source) (omega arith) (omega arith) (omega arith) (omega arith)
-    c.chunk-first.ensures
-    c.chunk-last.ensures)
+    c.chunk-first.ensures.bytes
+    c.chunk-last.ensures.bytes)

@@ -9,5 +9,5 @@ returns g c =
     let k = c.args.count - g.row.N in
     rw (c.set_chunk-2.ensures, c.set_chunk.ensures)
     (ends row (drop c.args.from row) c.chunk-first.result c.chunk-last.result c.args.to g.row.N k c.args.count (omega arith) (omega arith) (omega (arith, length-drop c.args.from row)) (omega arith)
-    c.chunk-first.ensures
-    (c.chunk-last.ensures ∙ ap (take g.row.N) (sym (drop-drop k c.args.from row))))
+    c.chunk-first.ensures.bytes
+    (c.chunk-last.ensures.bytes ∙ ap (take g.row.N) (sym (drop-drop k c.args.from row))))
