@@ -49,17 +49,17 @@ pub extern "C" fn cs_bench_push_build(alloc: Global, n: u64) -> u64 {
 /// Inserts a letter in the middle of 12 bytes, and removes it.
 #[unsafe(no_mangle)]
 pub extern "C" fn cs_bench_insert_remove_short(alloc: Global, n: u64) -> u64 {
-    workloads::edit::insert_remove(alloc, n, 12, 6).unwrap_or(u64::MAX)
+    workloads::position::insert_remove(alloc, n, 12, 6).unwrap_or(u64::MAX)
 }
 
 /// Inserts a letter in the middle of 1000 bytes, and removes it.
 #[unsafe(no_mangle)]
 pub extern "C" fn cs_bench_insert_remove_long(alloc: Global, n: u64) -> u64 {
-    workloads::edit::insert_remove(alloc, n, 1000, 500).unwrap_or(u64::MAX)
+    workloads::position::insert_remove(alloc, n, 1000, 500).unwrap_or(u64::MAX)
 }
 
 /// Replaces 4 bytes in the middle of 200 by 8 and these by 4.
 #[unsafe(no_mangle)]
 pub extern "C" fn cs_bench_replace_range(alloc: Global, n: u64) -> u64 {
-    workloads::edit::replace_range(alloc, n).unwrap_or(u64::MAX)
+    workloads::position::replace_range(alloc, n).unwrap_or(u64::MAX)
 }

@@ -2,5 +2,5 @@
 
 pub mod append;
 pub mod copy;
-pub mod edit;
 pub mod make;
+pub mod position;

@@ -25,44 +25,44 @@ IsLegal v (ReplaceRange start end s) = IsRange v.text start end
 IsLegal v edit = Unit {0}
 
 -- the edit asks for a heap buffer, so that it may be refused
-abbrev pub asks : {P : Type 0} → PlacedText → Edit P → Bool
-asks v (Push c) = push_asks v (c ∷ [])
-asks v (PushStr s) = push_asks v (text_of s.now)
-asks v (Insert p c) = room_asks v (len_utf8 c)
-asks v (InsertStr p s) = room_asks v (size (text_of s.now))
-asks v (Remove p) = own_asks v
-asks v (SplitOff p) = split_asks v p
-asks v (ReplaceRange start end s) = replace_asks v (range_start start) (range_end v.text end) (text_of s.now)
-asks v (Reserve n) = room_asks v n
-asks v (Repeat n) = repeat_asks v n
-asks v (CloneFrom source) = clone_from_asks v source.now
-asks v edit = false
+abbrev pub edit_asks : {P : Type 0} → PlacedText → Edit P → Bool
+edit_asks v (Push c) = push_asks v (c ∷ [])
+edit_asks v (PushStr s) = push_asks v (text_of s.now)
+edit_asks v (Insert p c) = room_asks v (len_utf8 c)
+edit_asks v (InsertStr p s) = room_asks v (size (text_of s.now))
+edit_asks v (Remove p) = own_asks v
+edit_asks v (SplitOff p) = split_asks v p
+edit_asks v (ReplaceRange start end s) = replace_asks v (range_start start) (range_end v.text end) (text_of s.now)
+edit_asks v (Reserve n) = room_asks v n
+edit_asks v (Repeat n) = repeat_asks v n
+edit_asks v (CloneFrom source) = clone_from_asks v source.now
+edit_asks v edit = false
 
 -- what the edit answers and leaves where it is done
-abbrev pub Does : {P : Type 0} → Growth → PlacedText → Edit P → Reply P → PlacedText → Type 0
-Does g v (Push c) reply w = (reply ≡ Done) × (pushed g v (c ∷ []) ≡ Some w)
-Does g v (PushStr s) reply w = (reply ≡ Done) × (pushed g v (text_of s.now) ≡ Some w)
-Does g v Pop reply w = (c : Option ℕ) × (reply ≡ Char c) × Pops v c w
-Does g v (Insert p c) reply w = (reply ≡ Done) × (inserted g v p (c ∷ []) ≡ Some w)
-Does g v (InsertStr p s) reply w = (reply ≡ Done) × (inserted g v p (text_of s.now) ≡ Some w)
-Does g v (Remove p) reply w = (c : ℕ) × (reply ≡ Char (Some c)) × Removes g v p c w
-Does g v (Truncate n) reply w = (reply ≡ Done) × (w ≡ truncated v n)
-Does g v Clear reply w = (reply ≡ Done) × (w ≡ cleared v)
-Does g v (SplitOff p) reply w =
+abbrev pub EditDoes : {P : Type 0} → Growth → PlacedText → Edit P → Reply P → PlacedText → Type 0
+EditDoes g v (Push c) reply w = (reply ≡ Done) × (pushed g v (c ∷ []) ≡ Some w)
+EditDoes g v (PushStr s) reply w = (reply ≡ Done) × (pushed g v (text_of s.now) ≡ Some w)
+EditDoes g v Pop reply w = (c : Option ℕ) × (reply ≡ Char c) × Pops v c w
+EditDoes g v (Insert p c) reply w = (reply ≡ Done) × (inserted g v p (c ∷ []) ≡ Some w)
+EditDoes g v (InsertStr p s) reply w = (reply ≡ Done) × (inserted g v p (text_of s.now) ≡ Some w)
+EditDoes g v (Remove p) reply w = (c : ℕ) × (reply ≡ Char (Some c)) × Removes g v p c w
+EditDoes g v (Truncate n) reply w = (reply ≡ Done) × (w ≡ truncated v n)
+EditDoes g v Clear reply w = (reply ≡ Done) × (w ≡ cleared v)
+EditDoes g v (SplitOff p) reply w =
     (tail : PlacedText) × (reply ≡ Text tail) × (split_tail g v p ≡ Some tail)
     × (w ≡ placed (before v.text p) (kept v (before v.text p)))
-Does g v (ReplaceRange start end s) reply w =
+EditDoes g v (ReplaceRange start end s) reply w =
     (reply ≡ Done) × (replaced g v (range_start start) (range_end v.text end) (text_of s.now) ≡ Some w)
-Does g v (Reserve n) reply w = (reply ≡ Done) × (reserved g v n ≡ Some w)
-Does g v (ShrinkTo n) reply w = (reply ≡ Done) × Shrinks g v n w
-Does g v ShrinkToFit reply w = (reply ≡ Done) × Shrinks g v 0 w
-Does g v (Repeat n) reply w = (all : PlacedText) × (reply ≡ Text all) × (repeated g v n ≡ Some all) × (w ≡ v)
-Does g v (CloneFrom source) reply w = (reply ≡ Done) × (cloned_from g v source.now ≡ Some w)
+EditDoes g v (Reserve n) reply w = (reply ≡ Done) × (reserved g v n ≡ Some w)
+EditDoes g v (ShrinkTo n) reply w = (reply ≡ Done) × Shrinks g v n w
+EditDoes g v ShrinkToFit reply w = (reply ≡ Done) × Shrinks g v 0 w
+EditDoes g v (Repeat n) reply w = (all : PlacedText) × (reply ≡ Text all) × (repeated g v n ≡ Some all) × (w ≡ v)
+EditDoes g v (CloneFrom source) reply w = (reply ≡ Done) × (cloned_from g v source.now ≡ Some w)
 
 -- from v the edit may get this reply and leave w
 abbrev pub Step : {P : Type 0} → Growth → PlacedText → Edit P → Reply P → PlacedText → Type 0
 Step g v edit BadPosition w = (w ≡ v) × ¬ (IsLegal v edit)
-Step g v edit (Refused e) w = (w ≡ v) × IsLegal v edit × IsTrue (asks v edit)
-Step g v edit Done w = IsLegal v edit × Does g v edit Done w
-Step g v edit (Char c) w = IsLegal v edit × Does g v edit (Char c) w
-Step g v edit (Text t) w = IsLegal v edit × Does g v edit (Text t) w
+Step g v edit (Refused e) w = (w ≡ v) × IsLegal v edit × IsTrue (edit_asks v edit)
+Step g v edit Done w = IsLegal v edit × EditDoes g v edit Done w
+Step g v edit (Char c) w = IsLegal v edit × EditDoes g v edit (Char c) w
+Step g v edit (Text t) w = IsLegal v edit × EditDoes g v edit (Text t) w

@@ -70,13 +70,13 @@ fn insert<P: Policy>(value: &mut PolicyString<P>, index: usize, character: char)
     reply_to(value.insert(index, character))
 }
 
-fn insert_str<P: Policy>(value: &mut PolicyString<P>, position: usize, text: &str) -> Reply<P>
-    ensures { Step P.growth value.old (Edit.InsertStr position text.entry) result value.new }
+fn insert_str<P: Policy>(value: &mut PolicyString<P>, index: usize, text: &str) -> Reply<P>
+    ensures { Step P.growth value.old (Edit.InsertStr index text.entry) result value.new }
 {
-    if !value.is_char_boundary(position) {
+    if !value.is_char_boundary(index) {
         return Reply::BadPosition;
     }
-    reply_to(value.insert_str(position, text))
+    reply_to(value.insert_str(index, text))
 }
 
 fn remove<P: Policy>(value: &mut PolicyString<P>, index: usize) -> Reply<P>

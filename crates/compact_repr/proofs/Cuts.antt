@@ -9,7 +9,7 @@ use Rattle.std.specs.Str.{IsUtf8, IsCharBoundary}
 use lib.Dec.{leb}
 use lib.Utf8.{encode, encodes, scalar, scalars}
 use Rattle.compact_repr.specs.Text.{size, text_of}
-use Rattle.compact_repr.specs.Cut.{IsCut, IsBoundary, before, after, spliced, CutIsBeforeAndAfter}
+use Rattle.compact_repr.specs.Cut.{IsCut, IsBoundary, before, after, replaced_text, CutIsBeforeAndAfter}
 use Rattle.compact_repr.proofs.Texts.{length-utf8, size-text_of, size-append}
 
 -- a text is what stands before a position and what stands after it
@@ -68,16 +68,16 @@ size-after t p h =
     let front = size-before t p h in
     omega (arith, whole, front)
 
-pub size-spliced : (t s : List ℕ) (start end : ℕ) → IsBoundary t start → IsBoundary t end → start ≤ end → size (spliced t start end s) + (end - start) ≡ size t + size s
-size-spliced t s start end h k order =
-    let whole : size (spliced t start end s) ≡ size (before t start) + size s + size (after t end) =
+pub size-replaced : (t s : List ℕ) (start end : ℕ) → IsBoundary t start → IsBoundary t end → start ≤ end → size (replaced_text t start end s) + (end - start) ≡ size t + size s
+size-replaced t s start end h k order =
+    let whole : size (replaced_text t start end s) ≡ size (before t start) + size s + size (after t end) =
     size-append (before t start ++ s) (after t end) ∙ ap (λ (n : ℕ). n + size (after t end)) (size-append (before t start) s) in
     let front = size-before t start h in
     let back = size-after t end k in
     omega (arith, whole, front, back)
 
-pub length-spliced : (bytes s : List ℕ) (start end : ℕ) → start ≤ end → end ≤ length bytes → length (replace_range bytes start end s) ≡ length bytes - (end - start) + length s
-length-spliced bytes s start end order within =
+pub length-replaced : (bytes s : List ℕ) (start end : ℕ) → start ≤ end → end ≤ length bytes → length (replace_range bytes start end s) ≡ length bytes - (end - start) + length s
+length-replaced bytes s start end order within =
     let front = length-take-le start bytes (omega arith) in
     simp (length-append, length-drop) (omega (arith, front))
 
@@ -122,12 +122,12 @@ text_of-drop bytes p e u h =
 pub utf8-take : {t : List ℕ} (bytes : List ℕ) (p : ℕ) → text_of bytes ≡ t → IsUtf8 bytes → IsBoundary t p → IsUtf8 (take p bytes)
 utf8-take bytes p e u h = IsUtf8-take bytes p u (boundary-bytes bytes p e u h)
 
-pub utf8-spliced : {t : List ℕ} (bytes s : List ℕ) (start end : ℕ) → text_of bytes ≡ t → IsUtf8 bytes → IsUtf8 s → IsBoundary t start → IsBoundary t end → IsUtf8 (replace_range bytes start end s)
-utf8-spliced bytes s start end e u v h k =
+pub utf8-replaced : {t : List ℕ} (bytes s : List ℕ) (start end : ℕ) → text_of bytes ≡ t → IsUtf8 bytes → IsUtf8 s → IsBoundary t start → IsBoundary t end → IsUtf8 (replace_range bytes start end s)
+utf8-replaced bytes s start end e u v h k =
     IsUtf8-append _ _ (IsUtf8-append _ _ (utf8-take bytes start e u h) v) (IsUtf8-drop bytes end u (boundary-bytes bytes end e u k))
 
-pub text_of-spliced : {t : List ℕ} (bytes s : List ℕ) (start end : ℕ) → text_of bytes ≡ t → IsUtf8 bytes → IsUtf8 s → IsBoundary t start → IsBoundary t end → text_of (replace_range bytes start end s) ≡ spliced t start end (text_of s)
-text_of-spliced bytes s start end e u v h k =
+pub text_of-replaced : {t : List ℕ} (bytes s : List ℕ) (start end : ℕ) → text_of bytes ≡ t → IsUtf8 bytes → IsUtf8 s → IsBoundary t start → IsBoundary t end → text_of (replace_range bytes start end s) ≡ replaced_text t start end (text_of s)
+text_of-replaced bytes s start end e u v h k =
     let front = utf8-take bytes start e u h in
     chars-append (take start bytes ++ s) (drop end bytes) (IsUtf8-append _ _ front v)
     ∙ ap (λ x. x ++ text_of (drop end bytes)) (chars-append (take start bytes) s front)

@@ -1,9 +1,9 @@
 -- Worked examples of the definitions, each computed. The numbers come from the Rust crate and from the Unicode Standard.
 use Rattle.std.specs.Prelude.{◌≡◌, ℕ, List, [], ◌∷◌, replicate, Some, None, true, false, refl}
 use Rattle.compact_repr.specs.Text.{size}
-use Rattle.compact_repr.specs.Cut.{before, after, spliced}
+use Rattle.compact_repr.specs.Cut.{before, after, replaced_text}
 use Rattle.compact_repr.specs.Value.{placed}
-use Rattle.compact_repr.specs.Capacity.{Growth, inlined, on_heap, borrowed, allowed, held, held_asks}
+use Rattle.compact_repr.specs.Capacity.{Growth, inlined, on_heap, borrowed, allowed, new_room, new_room_asks}
 use Rattle.compact_repr.specs.Change.{made, pushed, push_asks, cleared, reserved}
 
 abbrev standard : Growth
@@ -26,7 +26,7 @@ mixed_is_cut_after_two_bytes = refl
 mixed_is_cut_before_the_rest : after mixed 2 ≡ 0x62 ∷ 0x1D11E ∷ []
 mixed_is_cut_before_the_rest = refl
 
-mixed_with_b_replaced : spliced mixed 2 3 (letters 2) ≡ 0xE4 ∷ 0x61 ∷ 0x61 ∷ 0x1D11E ∷ []
+mixed_with_b_replaced : replaced_text mixed 2 3 (letters 2) ≡ 0xE4 ∷ 0x61 ∷ 0x61 ∷ 0x1D11E ∷ []
 mixed_with_b_replaced = refl
 
 a_text_of_24_bytes_is_inline : made standard (letters 24) ≡ Some (placed (letters 24) inlined)
@@ -68,10 +68,10 @@ the_greatest_capacity_is_allowed = refl
 one_more_is_not : allowed 72057594037927935 ≡ None
 one_more_is_not = refl
 
-nor_is_it_held : held standard 72057594037927935 ≡ None
+nor_is_it_held : new_room standard 72057594037927935 ≡ None
 nor_is_it_held = refl
 
-holding_24_bytes_asks_for_nothing : held_asks 24 ≡ false
+holding_24_bytes_asks_for_nothing : new_room_asks 24 ≡ false
 holding_24_bytes_asks_for_nothing = refl
 
 one_byte_more_than_24_asks : push_asks (placed (letters 24) inlined) (letters 1) ≡ true

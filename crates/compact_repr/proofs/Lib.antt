@@ -3,7 +3,7 @@ pub mod Cuts
 pub mod Shifts
 pub mod Ends
 pub mod Parts
-pub mod SplicedRows
+pub mod ReplacedRows
 pub mod TextFacts
 pub mod Examples
 pub mod HeapTexts

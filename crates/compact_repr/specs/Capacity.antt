@@ -38,12 +38,12 @@ abbrev pub allowed : ℕ → Option Placement
 allowed c = if nat_le c greatest then Some (on_heap c) else None
 
 -- room for c bytes, made anew: in the value itself where they fit, else on the heap
-abbrev pub held : Growth → ℕ → Option Placement
-held g c = if nat_le c 24 then Some inlined else allowed (max g.least c)
+abbrev pub new_room : Growth → ℕ → Option Placement
+new_room g c = if nat_le c 24 then Some inlined else allowed (max g.least c)
 
 -- room for t and no more, made anew
 abbrev pub fresh : Growth → List ℕ → Option Placement
-fresh g t = held g (size t)
+fresh g t = new_room g (size t)
 
 -- v's placement once a shorter text t stands in it: the place stays, and so does an owned capacity
 abbrev pub kept : PlacedText → List ℕ → Placement
@@ -58,8 +58,8 @@ abbrev pub owned : Growth → PlacedText → Option Placement
 owned g v = if is_static v.placement.place then fresh g v.text else Some v.placement
 
 -- n more bytes fit v as it stands
-abbrev pub has_room : PlacedText → ℕ → Bool
-has_room v n = not (is_static v.placement.place) && nat_le (size v.text + n) v.placement.capacity
+abbrev pub fits_in_place : PlacedText → ℕ → Bool
+fits_in_place v n = not (is_static v.placement.place) && nat_le (size v.text + n) v.placement.capacity
 
 -- the heap capacity for n more bytes: as many as are needed, or the growth of what stands, or the least
 abbrev pub grown : Growth → PlacedText → ℕ → ℕ
@@ -68,19 +68,19 @@ grown g v n = max g.least (max (size v.text + n) (g.numerator * size v.text / g.
 -- v's placement once n more bytes have room; none where that must be refused
 abbrev pub room : Growth → PlacedText → ℕ → Option Placement
 room g v n =
-    if has_room v n then Some v.placement
+    if fits_in_place v n then Some v.placement
     else if nat_le (size v.text + n) 24 then Some inlined
     else allowed (grown g v n)
 
--- `held`, `owned` and `room` ask for a heap buffer; where they do not, they are never refused
-abbrev pub held_asks : ℕ → Bool
-held_asks c = not (nat_le c 24)
+-- `new_room`, `owned` and `room` ask for a heap buffer; where they do not, they are never refused
+abbrev pub new_room_asks : ℕ → Bool
+new_room_asks c = not (nat_le c 24)
 
 abbrev pub own_asks : PlacedText → Bool
-own_asks v = is_static v.placement.place && held_asks (size v.text)
+own_asks v = is_static v.placement.place && new_room_asks (size v.text)
 
 abbrev pub room_asks : PlacedText → ℕ → Bool
-room_asks v n = not (has_room v n) && held_asks (size v.text + n)
+room_asks v n = not (fits_in_place v n) && new_room_asks (size v.text + n)
 
 -- a text of the program: in the value itself where it fits, else borrowed for ever
 abbrev pub lasting : List ℕ → Placement
@@ -95,7 +95,7 @@ abbrev pub copied : Growth → PlacedText → Option Placement
 copied g v = if is_heap v.placement.place then fresh g v.text else Some v.placement
 
 abbrev pub copy_asks : PlacedText → Bool
-copy_asks v = is_heap v.placement.place && held_asks (size v.text)
+copy_asks v = is_heap v.placement.place && new_room_asks (size v.text)
 
 -- how many bytes v keeps room for when it is shrunk to n
 abbrev pub shrink_goal : PlacedText → ℕ → ℕ
@@ -104,7 +104,7 @@ shrink_goal v n = max (size v.text) n
 -- a shrink to n makes a new heap buffer: the goal does not fit inline, and its capacity is below the present one
 abbrev pub shrink_asks : Growth → PlacedText → ℕ → Bool
 shrink_asks g v n =
-    is_heap v.placement.place && held_asks (shrink_goal v n) && nat_lt (max g.least (shrink_goal v n)) v.placement.capacity
+    is_heap v.placement.place && new_room_asks (shrink_goal v n) && nat_lt (max g.least (shrink_goal v n)) v.placement.capacity
 
 -- v's placement shrunk to n, where memory is found: never a greater capacity, and only a heap buffer changes
 abbrev pub shrunk : Growth → PlacedText → ℕ → Placement

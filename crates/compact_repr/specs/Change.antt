@@ -3,7 +3,7 @@ use Rattle.std.specs.Prelude.{◌≡◌, ◌⊎◌, ℕ, Bool, not, ◌&&◌, Is
 use Rattle.compact_repr.specs.Text.{size}
 use Rattle.compact_repr.specs.Cut.{before}
 use Rattle.compact_repr.specs.Value.{PlacedText, placed}
-use Rattle.compact_repr.specs.Capacity.{Growth, fresh, held, owned, kept, room, room_asks, copied, shrunk, shrink_asks}
+use Rattle.compact_repr.specs.Capacity.{Growth, fresh, new_room, owned, kept, room, room_asks, copied, shrunk, shrink_asks}
 
 -- a new value with the text t
 abbrev pub made : Growth → List ℕ → Option PlacedText
@@ -29,7 +29,7 @@ reserved g v n = option_map (placed v.text) (room g v n)
 
 -- an empty value with room for c bytes
 abbrev pub with_room : Growth → ℕ → Option PlacedText
-with_room g c = option_map (placed []) (held g c)
+with_room g c = option_map (placed []) (new_room g c)
 
 -- v with a text of its own
 abbrev pub made_owned : Growth → PlacedText → Option PlacedText

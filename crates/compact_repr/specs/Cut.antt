@@ -23,8 +23,8 @@ after [] p = []
 after (c ∷ cs) p = if nat_le (len_utf8 c) p then after cs (p - len_utf8 c) else c ∷ cs
 
 -- t with what stands from one position to another replaced by s
-abbrev pub spliced : List ℕ → ℕ → ℕ → List ℕ → List ℕ
-spliced t start end s = before t start ++ s ++ after t end
+abbrev pub replaced_text : List ℕ → ℕ → ℕ → List ℕ → List ℕ
+replaced_text t start end s = before t start ++ s ++ after t end
 
 -- `before` and `after` are the two parts of every cut, and there is a cut at p just where what is before p takes p bytes
 abbrev pub CutIsBeforeAndAfter : Type 0

@@ -31,12 +31,12 @@ abbrev pub placed : List ℕ → Placement → PlacedText
 placed t p = record { text = t; placement = p }
 
 -- a place with a capacity may hold so many bytes
-abbrev pub Holds : Place → ℕ → ℕ → Type 0
-Holds inline capacity bytes = (capacity ≡ 24) × (bytes ≤ 24)
-Holds heap capacity bytes = bytes ≤ capacity
-Holds static capacity bytes = capacity ≡ bytes
+abbrev pub IsCapacityOf : Place → ℕ → ℕ → Type 0
+IsCapacityOf inline capacity bytes = (capacity ≡ 24) × (bytes ≤ 24)
+IsCapacityOf heap capacity bytes = bytes ≤ capacity
+IsCapacityOf static capacity bytes = capacity ≡ bytes
 
 -- what is true of every value: an inline one has capacity 24, a static one just its size
 pub record IsSound (v : PlacedText) : Type 0 where
   pub text : IsText v.text
-  pub fits : Holds v.placement.place v.placement.capacity (size v.text)
+  pub fits : IsCapacityOf v.placement.place v.placement.capacity (size v.text)

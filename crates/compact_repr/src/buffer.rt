@@ -2,7 +2,7 @@
 ghost use Rattle.std.specs.Prelude.{◌≡◌, ◌+◌, ◌≤◌, ◌<◌, ◌^◌, ◌++◌, [], length, OnOk, OnErr, IsTrue};
 ghost use Rattle.compact_repr.specs.Text.{size, utf8, text_of};
 ghost use Rattle.compact_repr.specs.Value.{placed, is_heap, is_static, IsSound};
-ghost use Rattle.compact_repr.specs.Capacity.{inlined, on_heap, has_room};
+ghost use Rattle.compact_repr.specs.Capacity.{inlined, on_heap, fits_in_place};
 ghost use Rattle.compact_repr.specs.Change.{cleared};
 ghost use Rattle.compact_repr.specs.Stored.{value_of, IsStored};
 
@@ -68,7 +68,7 @@ impl Buffer {
     #[inline]
     pub fn has_room(&self, more: usize) -> bool
         requires { IsStored self.now }
-        ensures { result ≡ has_room (value_of self.now) more }
+        ensures { result ≡ fits_in_place (value_of self.now) more }
     {
         match self {
             Buffer::Inline(inline) => more <= INLINE_CAPACITY - inline.len(),
@@ -81,7 +81,7 @@ impl Buffer {
     #[inline]
     pub fn append(&mut self, text: &str)
         requires stored { IsStored self.old }
-        requires room { IsTrue (has_room (value_of self.old) (length text.now)) }
+        requires room { IsTrue (fits_in_place (value_of self.old) (length text.now)) }
         ensures value { value_of self.new ≡ placed ((value_of self.old).text ++ text_of text.now) (value_of self.old).placement }
         ensures stored { IsStored self.new }
     {

@@ -142,7 +142,7 @@ impl HeapBuffer {
 /// Writes `source` behind the first `len` bytes, for which the vector has room.
 #[inline]
 fn append(bytes: &mut Vec<u8>, len: usize, source: &[u8])
-    requires held { len ≤ vec_len bytes.old }
+    requires long_enough { len ≤ vec_len bytes.old }
     requires room { len + length source.now ≤ vec_capacity bytes.old }
     ensures items { take (len + length source.now) bytes.new.items ≡ take len bytes.old.items ++ source.now }
     ensures long { len + length source.now ≤ vec_len bytes.new }
@@ -159,7 +159,7 @@ fn append(bytes: &mut Vec<u8>, len: usize, source: &[u8])
 /// `append` where bytes of an earlier text stand behind the first `len`.
 #[inline(never)]
 fn write_over(bytes: &mut Vec<u8>, len: usize, source: &[u8])
-    requires held { len ≤ vec_len bytes.old }
+    requires long_enough { len ≤ vec_len bytes.old }
     requires room { len + length source.now ≤ vec_capacity bytes.old }
     ensures items { take (len + length source.now) bytes.new.items ≡ take len bytes.old.items ++ source.now }
     ensures long { len + length source.now ≤ vec_len bytes.new }

@@ -18,7 +18,7 @@ use moves::{move_down, move_up, shift};
 pub fn splice(row: &mut [u8], len: usize, start: usize, end: usize, source: &[u8])
     requires order { start ≤ end }
     requires within { end ≤ len }
-    requires held { len ≤ length row.old }
+    requires long_enough { len ≤ length row.old }
     requires room { len + length source.now ≤ length row.old + (end - start) }
     ensures { take (len - (end - start) + length source.now) row.new ≡ replace_range (take len row.old) start end source.now }
 {
@@ -36,7 +36,7 @@ pub fn splice(row: &mut [u8], len: usize, start: usize, end: usize, source: &[u8
 pub fn replace(row: &mut [u8], len: usize, start: usize, end: usize, source: &[u8])
     requires order { start ≤ end }
     requires within { end ≤ len }
-    requires held { len ≤ length row.old }
+    requires long_enough { len ≤ length row.old }
     requires room { len + length source.now ≤ length row.old + (end - start) }
     ensures { take (len - (end - start) + length source.now) row.new ≡ replace_range (take len row.old) start end source.now }
 {
@@ -47,7 +47,7 @@ pub fn replace(row: &mut [u8], len: usize, start: usize, end: usize, source: &[u
 
 /// Writes `source` behind the first `len` bytes of `row`.
 #[inline]
-#[tactic(auto, using(crate::proofs::SplicedRows::appended))]
+#[tactic(auto, using(crate::proofs::ReplacedRows::appended))]
 pub fn append(row: &mut [u8], len: usize, source: &[u8])
     requires { len + length source.now ≤ length row.old }
     ensures { take (len + length source.now) row.new ≡ take len row.old ++ source.now }

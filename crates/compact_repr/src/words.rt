@@ -61,7 +61,7 @@ fn row_of_words(first: u64, second: u64, third: u64) -> [u8; 24]
 /// are shifted out.
 #[inline(always)]
 fn tail(text: &[u8], from: usize) -> u64
-    requires held { 8 ≤ length text.now }
+    requires long_enough { 8 ≤ length text.now }
     requires some { from < length text.now }
     requires most { length text.now ≤ from + 8 }
     ensures { result ≡ number (drop from text.now) }

@@ -1,7 +1,7 @@
 -- Proofs of the laws of the edits.
 use Rattle.std.proofs.Common.{◌≡◌, Some, ℕ, List, [], ◌∷◌, ◌++◌, false, ap, sym, ◌∙◌, arith, append_assoc}
 use Rattle.std.proofs.lemmas.Grind.{common_steps}
-use Rattle.compact_repr.specs.Cut.{before, after, spliced}
+use Rattle.compact_repr.specs.Cut.{before, after, replaced_text}
 use Rattle.compact_repr.specs.Value.{PlacedText}
 use Rattle.compact_repr.specs.Capacity.{Growth, own_asks}
 use Rattle.compact_str.specs.Edits.{inserted, Removes, split_tail}
@@ -9,7 +9,7 @@ use Rattle.compact_str.specs.Laws.{RemovalUndoesInsertion, AppendUndoesSplit, Cl
 use Rattle.compact_repr.proofs.Changes.{pushed-text}
 use Rattle.compact_repr.proofs.Cuts.{before-after, before-cut, after-cut, size-before}
 
-inserted-text : (g : Growth) (v w : PlacedText) (p : ℕ) (s : List ℕ) → inserted g v p s ≡ Some w → w.text ≡ spliced v.text p p s
+inserted-text : (g : Growth) (v w : PlacedText) (p : ℕ) (s : List ℕ) → inserted g v p s ≡ Some w → w.text ≡ replaced_text v.text p p s
 inserted-text g v w p s e = grind (arith, common_steps)
 
 inserted-owned : (g : Growth) (v w : PlacedText) (p : ℕ) (s : List ℕ) → inserted g v p s ≡ Some w → own_asks w ≡ false

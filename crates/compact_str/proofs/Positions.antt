@@ -5,7 +5,7 @@ use Rattle.std.proofs.lemmas.Bool.{cond-false, lt-leb}
 use Rattle.std.proofs.lemmas.Str.{len_utf8_bounds}
 use Rattle.std.specs.Char.{len_utf8}
 use Rattle.compact_repr.specs.Text.{size}
-use Rattle.compact_repr.specs.Cut.{IsBoundary, before, after, spliced}
+use Rattle.compact_repr.specs.Cut.{IsBoundary, before, after, replaced_text}
 use Rattle.compact_repr.specs.Value.{PlacedText, placed}
 use Rattle.compact_repr.specs.Capacity.{Growth, kept, owned}
 use Rattle.compact_repr.specs.Change.{truncated, made_owned}
@@ -53,8 +53,8 @@ pub made_owned-placement : (g : Growth) (v w : PlacedText) → made_owned g v �
 made_owned-placement g v w e = grind (arith, common_steps)
 
 -- a value that is made owned and cut round a character
-pub removed : (g : Growth) (v u w : PlacedText) (rest : List ℕ) (p c n : ℕ) → IsBoundary v.text p → after v.text p ≡ c ∷ rest → n ≡ len_utf8 c → made_owned g v ≡ Some u → w ≡ placed (spliced u.text p (p + n) []) u.placement → Removes g v p c w
+pub removed : (g : Growth) (v u w : PlacedText) (rest : List ℕ) (p c n : ℕ) → IsBoundary v.text p → after v.text p ≡ c ∷ rest → n ≡ len_utf8 c → made_owned g v ≡ Some u → w ≡ placed (replaced_text u.text p (p + n) []) u.placement → Removes g v p c w
 removed g v u w rest p c n h e k o s =
     let text = made_owned-text g v u o in
-    let cut : spliced u.text p (p + n) [] ≡ before v.text p ++ rest = rw (text, k, after-next v.text rest p c h e, append-nil) refl in
+    let cut : replaced_text u.text p (p + n) [] ≡ before v.text p ++ rest = rw (text, k, after-next v.text rest p c h e, append-nil) refl in
     (rest, e, rw (made_owned-placement g v u o) (rw (s, cut) refl))

@@ -5,7 +5,7 @@ use Rattle.std.proofs.lemmas.Grind.{common_steps}
 use Rattle.std.specs.Prelude.{IsTrue, not, ◌&&◌, nat_le}
 use Rattle.compact_repr.specs.Text.{size}
 use Rattle.compact_repr.specs.Value.{Placement, PlacedText, placed, is_static}
-use Rattle.compact_repr.specs.Capacity.{Growth, held, has_room}
+use Rattle.compact_repr.specs.Capacity.{Growth, new_room, fits_in_place}
 use Rattle.compact_repr.specs.Change.{pushed, push_asks}
 use Rattle.compact_str.specs.Edits.{times}
 use Rattle.compact_repr.proofs.Texts.{size-append, empty_text}
@@ -22,22 +22,22 @@ size-times zero t = omega arith
 size-times (suc n) t = size-append t (times n t) ∙ ap (λ (k : ℕ). size t + k) (size-times n t) ∙ omega arith
 
 -- what is held for so many bytes has room for as many
-pub held-room : (g : Growth) (p : Placement) (m k : ℕ) → held g m ≡ Some p → k ≤ m → IsTrue (not (is_static p.place) && nat_le k p.capacity)
-held-room g p m k e h = grind (arith, common_steps)
+pub new_room-room : (g : Growth) (p : Placement) (m k : ℕ) → new_room g m ≡ Some p → k ≤ m → IsTrue (not (is_static p.place) && nat_le k p.capacity)
+new_room-room g p m k e h = grind (arith, common_steps)
 
 -- a value that is filled so far has room for one more piece
-pub room_to_fill : (g : Growth) (v : PlacedText) (t : List ℕ) (i n : ℕ) → held g (size t * n) ≡ Some v.placement → v.text ≡ times i t → i < n → IsTrue (has_room v (size t))
+pub room_to_fill : (g : Growth) (v : PlacedText) (t : List ℕ) (i n : ℕ) → new_room g (size t * n) ≡ Some v.placement → v.text ≡ times i t → i < n → IsTrue (fits_in_place v (size t))
 room_to_fill g v t i n e is h =
     let more : size t * suc i ≤ size t * n = mul-le-mul_left (size t) (omega arith) in
     let filled : size v.text ≡ size t * i = ap size is ∙ size-times i t in
-    held-room g v.placement (size t * n) (size v.text + size t) e (omega (arith, more, filled, mul-suc (size t) i))
+    new_room-room g v.placement (size t * n) (size v.text + size t) e (omega (arith, more, filled, mul-suc (size t) i))
 
 -- an append that has room stays in place
-pub pushed-in_place : (g : Growth) (v w : PlacedText) (s : List ℕ) → pushed g v s ≡ Some w → IsTrue (has_room v (size s)) → w ≡ placed (v.text ++ s) v.placement
+pub pushed-in_place : (g : Growth) (v w : PlacedText) (s : List ℕ) → pushed g v s ≡ Some w → IsTrue (fits_in_place v (size s)) → w ≡ placed (v.text ++ s) v.placement
 pushed-in_place g v w s e k = grind (arith, common_steps, empty_text, append-nil)
 
 -- and is never refused
-pub push-never_asks : (v : PlacedText) (s : List ℕ) → IsTrue (has_room v (size s)) → IsTrue (push_asks v s) → ⊥
+pub push-never_asks : (v : PlacedText) (s : List ℕ) → IsTrue (fits_in_place v (size s)) → IsTrue (push_asks v s) → ⊥
 push-never_asks v s h k = grind (arith, common_steps)
 
 pub times-none : (n : ℕ) (t : List ℕ) → size t * n ≡ 0 → times n t ≡ []

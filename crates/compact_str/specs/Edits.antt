@@ -1,13 +1,13 @@
 -- What an edit by byte position gives: none where it must be refused.
 use Rattle.std.specs.Prelude.{◌≡◌, ℕ, ◌-◌, ◌*◌, Bool, not, ◌&&◌, List, [], ◌∷◌, ◌++◌, Option, Some, None, option_map, nat_eq, nat_le, zero, suc, if◌then◌else◌}
 use Rattle.compact_repr.specs.Text.{size}
-use Rattle.compact_repr.specs.Cut.{before, after, spliced}
+use Rattle.compact_repr.specs.Cut.{before, after, replaced_text}
 use Rattle.compact_repr.specs.Value.{Placement, PlacedText, placed, is_static}
-use Rattle.compact_repr.specs.Capacity.{Growth, fresh, held, held_asks, kept, owned, own_asks, room, room_asks, lasting, copied, copy_asks}
+use Rattle.compact_repr.specs.Capacity.{Growth, fresh, new_room, new_room_asks, kept, owned, own_asks, room, room_asks, lasting, copied, copy_asks}
 
 -- v with s put in at p, once there is room for s; for an empty s too
 abbrev pub inserted : Growth → PlacedText → ℕ → List ℕ → Option PlacedText
-inserted g v p s = option_map (placed (spliced v.text p p s)) (room g v (size s))
+inserted g v p s = option_map (placed (replaced_text v.text p p s)) (room g v (size s))
 
 -- v made owned, without the character at p, which is c
 abbrev pub Removes : Growth → PlacedText → ℕ → ℕ → PlacedText → Type 0
@@ -28,12 +28,12 @@ abbrev pub split_tail : Growth → PlacedText → ℕ → Option PlacedText
 split_tail g v p = let tail = after v.text p in option_map (placed tail) (tail_placement g v tail)
 
 abbrev pub split_asks : PlacedText → ℕ → Bool
-split_asks v p = not (is_static v.placement.place) && held_asks (size (after v.text p))
+split_asks v p = not (is_static v.placement.place) && new_room_asks (size (after v.text p))
 
 -- v with what stands from i to j replaced by s: owned where s is no longer than that, else with room for the difference
 abbrev pub replaced : Growth → PlacedText → ℕ → ℕ → List ℕ → Option PlacedText
 replaced g v i j s =
-    option_map (placed (spliced v.text i j s)) (if nat_le (size s) (j - i) then owned g v else room g v (size s - (j - i)))
+    option_map (placed (replaced_text v.text i j s)) (if nat_le (size s) (j - i) then owned g v else room g v (size s - (j - i)))
 
 abbrev pub replace_asks : PlacedText → ℕ → ℕ → List ℕ → Bool
 replace_asks v i j s = if nat_le (size s) (j - i) then own_asks v else room_asks v (size s - (j - i))
@@ -50,7 +50,7 @@ is_copied v n = nat_eq n 1 && not (nat_eq (size v.text) 0)
 -- v's text n times: a copy, or with room made anew, which is inline where the outcome is empty
 abbrev pub repeated : Growth → PlacedText → ℕ → Option PlacedText
 repeated g v n =
-    option_map (placed (times n v.text)) (if is_copied v n then copied g v else held g (size v.text * n))
+    option_map (placed (times n v.text)) (if is_copied v n then copied g v else new_room g (size v.text * n))
 
 abbrev pub repeat_asks : PlacedText → ℕ → Bool
-repeat_asks v n = if is_copied v n then copy_asks v else held_asks (size v.text * n)
+repeat_asks v n = if is_copied v n then copy_asks v else new_room_asks (size v.text * n)

@@ -1,7 +1,7 @@
 //! The string type.
 
 mod clones;
-pub mod edit;
+pub mod end;
 mod look;
 mod make;
 mod position;

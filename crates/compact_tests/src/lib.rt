@@ -25,10 +25,10 @@ mod refused_edits;
 #[cfg(test)]
 mod refused_positions;
 #[cfg(test)]
-mod seen;
-#[cfg(test)]
 mod sessions;
 #[cfg(test)]
 mod shortened;
+#[cfg(test)]
+mod support;
 
 pub use callers::{append_field, keyword, label, record_line};

@@ -1,7 +1,7 @@
 //! Edits of a stored text by byte position.
 ghost use Rattle.std.specs.Prelude.{◌≡◌, ◌+◌, ◌-◌, ◌≤◌, length, false};
 ghost use Rattle.compact_repr.specs.Text.{size, text_of};
-ghost use Rattle.compact_repr.specs.Cut.{IsBoundary, before, spliced};
+ghost use Rattle.compact_repr.specs.Cut.{IsBoundary, before, replaced_text};
 ghost use Rattle.compact_repr.specs.Value.{placed, is_static};
 ghost use Rattle.compact_repr.specs.Capacity.{kept};
 ghost use Rattle.compact_repr.specs.Stored.{value_of, IsStored};
@@ -19,7 +19,7 @@ impl Buffer {
         requires first { IsBoundary (value_of self.old).text start }
         requires last { IsBoundary (value_of self.old).text end }
         requires room { size (value_of self.old).text + length text.now ≤ (value_of self.old).placement.capacity + (end - start) }
-        ensures value { value_of self.new ≡ placed (spliced (value_of self.old).text start end (text_of text.now)) (value_of self.old).placement }
+        ensures value { value_of self.new ≡ placed (replaced_text (value_of self.old).text start end (text_of text.now)) (value_of self.old).placement }
         ensures stored { IsStored self.new }
     {
         match self {

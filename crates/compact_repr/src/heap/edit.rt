@@ -3,7 +3,7 @@ ghost use Rattle.std.specs.Prelude.{◌≡◌, ◌+◌, ◌-◌, ◌≤◌, leng
 ghost use Rattle.std.specs.List.{replace_range};
 ghost use Rattle.std.specs.Vec.{vec_len, vec_capacity};
 ghost use Rattle.compact_repr.specs.Text.{size, text_of};
-ghost use Rattle.compact_repr.specs.Cut.{IsBoundary, before, spliced};
+ghost use Rattle.compact_repr.specs.Cut.{IsBoundary, before, replaced_text};
 
 use super::HeapBuffer;
 use crate::rows::splice;
@@ -16,7 +16,7 @@ impl HeapBuffer {
         requires first { IsBoundary self.old.text start }
         requires last { IsBoundary self.old.text end }
         requires room { size self.old.text + length text.now ≤ self.old.capacity + (end - start) }
-        ensures value { self.new ≡ record { text = spliced self.old.text start end (text_of text.now); capacity = self.old.capacity } }
+        ensures value { self.new ≡ record { text = replaced_text self.old.text start end (text_of text.now); capacity = self.old.capacity } }
         ensures fits { size self.new.text ≤ self.old.capacity }
     {
         let len = self.len - (end - start) + text.len();
@@ -40,7 +40,7 @@ impl HeapBuffer {
 fn replace(bytes: &mut Vec<u8>, len: usize, start: usize, end: usize, source: &[u8])
     requires order { start ≤ end }
     requires within { end ≤ len }
-    requires held { len ≤ vec_len bytes.old }
+    requires long_enough { len ≤ vec_len bytes.old }
     requires room { len + length source.now ≤ vec_capacity bytes.old + (end - start) }
     ensures items { take (len - (end - start) + length source.now) bytes.new.items ≡ replace_range (take len bytes.old.items) start end source.now }
     ensures long { len - (end - start) + length source.now ≤ vec_len bytes.new }

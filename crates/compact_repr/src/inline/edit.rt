@@ -2,7 +2,7 @@
 ghost use Rattle.std.specs.Prelude.{◌≡◌, ◌+◌, ◌-◌, ◌≤◌, length, take};
 ghost use Rattle.std.specs.List.{replace_range};
 ghost use Rattle.compact_repr.specs.Text.{size, text_of};
-ghost use Rattle.compact_repr.specs.Cut.{IsBoundary, before, spliced};
+ghost use Rattle.compact_repr.specs.Cut.{IsBoundary, before, replaced_text};
 
 use super::InlineBuffer;
 use crate::rows;
@@ -16,7 +16,7 @@ impl InlineBuffer {
         requires first { IsBoundary self.old start }
         requires last { IsBoundary self.old end }
         requires room { size self.old + length text.now ≤ 24 + (end - start) }
-        ensures text { self.new ≡ spliced self.old start end (text_of text.now) }
+        ensures text { self.new ≡ replaced_text self.old start end (text_of text.now) }
         ensures fits { size self.new ≤ 24 }
     {
         let len = self.len - (end - start) + text.len();
@@ -42,7 +42,7 @@ impl InlineBuffer {
 fn splice(row: &mut [u8; 24], len: usize, start: usize, end: usize, source: &[u8])
     requires order { start ≤ end }
     requires within { end ≤ len }
-    requires held { len ≤ 24 }
+    requires long_enough { len ≤ 24 }
     requires room { len + length source.now ≤ 24 + (end - start) }
     ensures { take (len - (end - start) + length source.now) row.new ≡ replace_range (take len row.old) start end source.now }
 {

@@ -1,7 +1,7 @@
 //! Edits of a representation by byte position, and what stands at a position.
 ghost use Rattle.std.specs.Prelude.{◌≡◌, ◌+◌, ◌-◌, ◌≤◌, ◌<◌, ℕ, List, [], ◌∷◌, ◌++◌, length, true, false, IsTrue, ◌↔◌, MatchOption};
 ghost use Rattle.compact_repr.specs.Text.{size, text_of};
-ghost use Rattle.compact_repr.specs.Cut.{IsBoundary, after, spliced};
+ghost use Rattle.compact_repr.specs.Cut.{IsBoundary, after, replaced_text};
 ghost use Rattle.compact_repr.specs.Value.{placed, is_static};
 ghost use Rattle.compact_repr.specs.Change.{truncated};
 
@@ -23,7 +23,7 @@ impl<P: Policy> Repr<P> {
         requires first { IsBoundary self.old.text start }
         requires last { IsBoundary self.old.text end }
         requires room { size self.old.text + length text.now ≤ self.old.placement.capacity + (end - start) }
-        ensures { self.new ≡ placed (spliced self.old.text start end (text_of text.now)) self.old.placement }
+        ensures { self.new ≡ placed (replaced_text self.old.text start end (text_of text.now)) self.old.placement }
     {
         self.buffer.replace_range(start, end, text);
     }

@@ -3,7 +3,7 @@ ghost use Rattle.std.specs.Prelude.{◌≡◌, ◌<◌, length, nat_eq, if◌the
 ghost use Rattle.std.specs.String.{string_capacity};
 ghost use Rattle.compact_repr.specs.Text.{size, text_of};
 ghost use Rattle.compact_repr.specs.Value.{placed};
-ghost use Rattle.compact_repr.specs.Capacity.{inlined, on_heap, held_asks, lasting, taken_over, copy_asks};
+ghost use Rattle.compact_repr.specs.Capacity.{inlined, on_heap, new_room_asks, lasting, taken_over, copy_asks};
 ghost use Rattle.compact_repr.specs.Change.{made, with_room, copy_of};
 
 use crate::buffer::Buffer;
@@ -28,7 +28,7 @@ impl<P: Policy> Repr<P> {
     #[inline]
     pub fn new(alloc: Global, text: &str) -> Result<Self, ReserveError>
         ensures ok { IfOk result (λ r. made P.growth (text_of text.now) ≡ Some r) }
-        ensures err { OnErr result (IsTrue (held_asks (length text.now))) }
+        ensures err { OnErr result (IsTrue (new_room_asks (length text.now))) }
     {
         if text.len() > INLINE_CAPACITY {
             return Self::new_long(alloc, text);
@@ -63,7 +63,7 @@ impl<P: Policy> Repr<P> {
     /// The empty text with room for `capacity` bytes: inline up to 24, which is never refused, else on the heap.
     pub fn with_capacity(alloc: Global, capacity: usize) -> Result<Self, ReserveError>
         ensures ok { IfOk result (λ r. with_room P.growth capacity ≡ Some r) }
-        ensures err { OnErr result (IsTrue (held_asks capacity)) }
+        ensures err { OnErr result (IsTrue (new_room_asks capacity)) }
     {
         if capacity <= INLINE_CAPACITY {
             return Ok(Self::empty(alloc));
@@ -114,7 +114,7 @@ impl<P: Policy> Repr<P> {
     #[inline]
     fn copy_of_heap(alloc: Global, heap: &HeapBuffer) -> Result<Self, ReserveError>
         ensures ok { IfOk result (λ r. made P.growth heap.now.text ≡ Some r) }
-        ensures err { OnErr result (IsTrue (held_asks (size heap.now.text))) }
+        ensures err { OnErr result (IsTrue (new_room_asks (size heap.now.text))) }
     {
         Self::new(alloc, heap.as_str())
     }

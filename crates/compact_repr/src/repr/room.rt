@@ -2,7 +2,7 @@
 ghost use Rattle.std.specs.Prelude.{◌≡◌, ◌*◌, ◌/◌, ◌<◌, ◌^◌, [], max, nat_le, if◌then◌else◌, Some, None, IfOk, OnOk, OnErr, IsOk, IsTrue};
 ghost use Rattle.compact_repr.specs.Text.{text_of};
 ghost use Rattle.compact_repr.specs.Value.{is_static};
-ghost use Rattle.compact_repr.specs.Capacity.{held_asks, has_room, room_asks, own_asks, allowed, on_heap, greatest};
+ghost use Rattle.compact_repr.specs.Capacity.{new_room_asks, fits_in_place, room_asks, own_asks, allowed, on_heap, greatest};
 ghost use Rattle.compact_repr.specs.Change.{reserved, made_owned, Shrinks};
 
 use crate::buffer::Buffer;
@@ -21,7 +21,7 @@ impl<P: Policy> Repr<P> {
     #[inline]
     pub fn reserve(&mut self, additional: usize) -> Result<(), ReserveError>
         ensures ok { OnOk result (reserved P.growth self.old additional ≡ Some self.new) }
-        ensures room { OnOk result (IsTrue (has_room self.new additional)) }
+        ensures room { OnOk result (IsTrue (fits_in_place self.new additional)) }
         ensures err { OnErr result ((self.new ≡ self.old) × IsTrue (room_asks self.old additional)) }
     {
         if self.buffer.has_room(additional) {
@@ -33,7 +33,7 @@ impl<P: Policy> Repr<P> {
     #[cold]
     #[inline(never)]
     fn make_room(&mut self, additional: usize) -> Result<(), ReserveError>
-        requires { ¬ IsTrue (has_room self.old additional) }
+        requires { ¬ IsTrue (fits_in_place self.old additional) }
         ensures ok { OnOk result (reserved P.growth self.old additional ≡ Some self.new) }
         ensures err { OnErr result ((self.new ≡ self.old) × IsTrue (room_asks self.old additional)) }
     {
@@ -55,7 +55,7 @@ impl<P: Policy> Repr<P> {
     #[inline(always)]
     pub fn make_owned(&mut self) -> Result<(), ReserveError>
         ensures ok { OnOk result (made_owned P.growth self.old ≡ Some self.new) }
-        ensures room { OnOk result (IsTrue (has_room self.new 0)) }
+        ensures room { OnOk result (IsTrue (fits_in_place self.new 0)) }
         ensures err { OnErr result ((self.new ≡ self.old) × IsTrue (own_asks self.old)) }
     {
         if let Buffer::Static(_) = &self.buffer {
@@ -68,7 +68,7 @@ impl<P: Policy> Repr<P> {
     #[inline(never)]
     fn own_static(&mut self) -> Result<(), ReserveError>
         ensures ok { OnOk result (made_owned P.growth self.old ≡ Some self.new) }
-        ensures room { OnOk result (IsTrue (has_room self.new 0)) }
+        ensures room { OnOk result (IsTrue (fits_in_place self.new 0)) }
         ensures err { OnErr result ((self.new ≡ self.old) × IsTrue (own_asks self.old)) }
     {
         let Buffer::Static(text) = &self.buffer else {

@@ -17,7 +17,7 @@ pub fn chunk<const N: usize>(row: &[u8], at: usize) -> Simd<u8, N>
 /// Writes `N` bytes from a place on.
 #[inline(always)]
 pub fn set_chunk<const N: usize>(row: &mut [u8], at: usize, chunk: Simd<u8, N>)
-    requires held { at + N ≤ length row.old }
+    requires long_enough { at + N ≤ length row.old }
     requires lanes { length chunk ≡ N }
     ensures { row.new ≡ paste row.old at chunk.entry N }
 {
@@ -27,7 +27,7 @@ pub fn set_chunk<const N: usize>(row: &mut [u8], at: usize, chunk: Simd<u8, N>)
 /// Writes the first `N` bytes.
 #[inline(always)]
 fn set_first_chunk<const N: usize>(row: &mut [u8], chunk: Simd<u8, N>)
-    requires held { N ≤ length row.old }
+    requires long_enough { N ≤ length row.old }
     requires lanes { length chunk ≡ N }
     ensures { row.new ≡ chunk.entry ++ drop N row.old }
 {

@@ -5,7 +5,7 @@ ghost use Rattle.std.specs.Box.{boxed_str_bytes};
 ghost use Rattle.std.specs.Cow.{cow_str_bytes};
 ghost use Rattle.compact_repr.specs.Text.{text_of};
 ghost use Rattle.compact_repr.specs.Value.{placed};
-ghost use Rattle.compact_repr.specs.Capacity.{inlined, on_heap, held_asks, lasting, taken_over};
+ghost use Rattle.compact_repr.specs.Capacity.{inlined, on_heap, new_room_asks, lasting, taken_over};
 ghost use Rattle.compact_repr.specs.Change.{made, with_room};
 ghost use Rattle.compact_str.specs.Room.{HasRoomFor};
 ghost use Rattle.compact_str.specs.Cows.{TakesCow};
@@ -40,7 +40,7 @@ impl<P: Policy> PolicyString<P> {
         ensures ok { IfOk result (λ v. made P.growth (text_of text.now) ≡ Some v) }
         ensures text { IfOk result (λ v. v.text ≡ text_of text.now) }
         ensures succeeds { length text.now ≤ 24 → IsOk result }
-        ensures err { OnErr result (IsTrue (held_asks (length text.now))) }
+        ensures err { OnErr result (IsTrue (new_room_asks (length text.now))) }
     {
         match Repr::new(alloc, text) {
             Ok(repr) => Ok(PolicyString { repr }),
@@ -54,7 +54,7 @@ impl<P: Policy> PolicyString<P> {
         ensures ok { IfOk result (λ v. made P.growth (text_of text.now) ≡ Some v) }
         ensures text { IfOk result (λ v. v.text ≡ text_of text.now) }
         ensures succeeds { length text.now ≤ 24 → IsOk result }
-        ensures err { OnErr result (IsTrue (held_asks (length text.now))) }
+        ensures err { OnErr result (IsTrue (new_room_asks (length text.now))) }
     {
         Self::new(alloc, text)
     }
@@ -65,7 +65,7 @@ impl<P: Policy> PolicyString<P> {
         ensures ok { IfOk result (λ v. made P.growth (text_of text.now) ≡ Some v) }
         ensures text { IfOk result (λ v. v.text ≡ text_of text.now) }
         ensures succeeds { length text.now ≤ 24 → IsOk result }
-        ensures err { OnErr result (IsTrue (held_asks (length text.now))) }
+        ensures err { OnErr result (IsTrue (new_room_asks (length text.now))) }
     {
         Self::try_new(alloc, text)
     }
@@ -91,7 +91,7 @@ impl<P: Policy> PolicyString<P> {
         ensures text { IfOk result (λ v. v.text ≡ []) }
         ensures room { IfOk result (λ v. HasRoomFor v capacity) }
         ensures succeeds { capacity ≤ 24 → IsOk result }
-        ensures err { OnErr result (IsTrue (held_asks capacity)) }
+        ensures err { OnErr result (IsTrue (new_room_asks capacity)) }
     {
         match Repr::with_capacity(alloc, capacity) {
             Ok(repr) => Ok(PolicyString { repr }),
@@ -105,7 +105,7 @@ impl<P: Policy> PolicyString<P> {
         ensures text { IfOk result (λ v. v.text ≡ []) }
         ensures room { IfOk result (λ v. HasRoomFor v capacity) }
         ensures succeeds { capacity ≤ 24 → IsOk result }
-        ensures err { OnErr result (IsTrue (held_asks capacity)) }
+        ensures err { OnErr result (IsTrue (new_room_asks capacity)) }
     {
         Self::with_capacity(alloc, capacity)
     }
@@ -137,7 +137,7 @@ impl<P: Policy> PolicyString<P> {
         ensures ok { IfOk result (λ v. made P.growth (text_of (boxed_str_bytes text)) ≡ Some v) }
         ensures text { IfOk result (λ v. v.text ≡ text_of (boxed_str_bytes text)) }
         ensures succeeds { length (boxed_str_bytes text) ≤ 24 → IsOk result }
-        ensures err { IfErr result (λ e. (e.value ≡ text) × IsTrue (held_asks (length (boxed_str_bytes text)))) }
+        ensures err { IfErr result (λ e. (e.value ≡ text) × IsTrue (new_room_asks (length (boxed_str_bytes text)))) }
     {
         match Self::new(alloc, text.as_str()) {
             Ok(value) => Ok(value),

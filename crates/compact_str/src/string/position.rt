@@ -2,7 +2,7 @@
 ghost use Rattle.std.specs.Prelude.{◌≡◌, ◌+◌, ◌-◌, ◌<◌, ◌≤◌, ◌↔◌, ◌∷◌, [], length, Some, None, IfOk, OnOk, OnErr, IsOk, IsTrue, MatchOption};
 ghost use Rattle.std.specs.Char.{len_utf8};
 ghost use Rattle.compact_repr.specs.Text.{size, text_of};
-ghost use Rattle.compact_repr.specs.Cut.{IsBoundary, before, after, spliced};
+ghost use Rattle.compact_repr.specs.Cut.{IsBoundary, before, after, replaced_text};
 ghost use Rattle.compact_repr.specs.Value.{placed};
 ghost use Rattle.compact_repr.specs.Capacity.{room_asks, own_asks, kept};
 ghost use Rattle.compact_str.specs.Room.{IsOwned, HasRoomFor};
@@ -10,7 +10,7 @@ ghost use Rattle.compact_str.specs.Edits.{inserted, Removes, split_tail, split_a
 ghost use Rattle.compact_str.specs.Ranges.{IsRange, range_start, range_end};
 
 use crate::string::PolicyString;
-use crate::string::edit::encoded;
+use crate::string::end::encoded;
 use compact_repr::{Policy, Repr, ReserveError};
 use std::ops::Bound;
 
@@ -57,7 +57,7 @@ impl<P: Policy> PolicyString<P> {
     pub fn insert_str(&mut self, index: usize, text: &str) -> Result<(), ReserveError>
         requires { IsBoundary self.old.text index }
         ensures ok { OnOk result (inserted P.growth self.old index (text_of text.now) ≡ Some self.new) }
-        ensures text { OnOk result (self.new.text ≡ spliced self.old.text index index (text_of text.now)) }
+        ensures text { OnOk result (self.new.text ≡ replaced_text self.old.text index index (text_of text.now)) }
         ensures succeeds { HasRoomFor self.old (length text.now) → IsOk result }
         ensures err { OnErr result ((self.new ≡ self.old) × IsTrue (room_asks self.old (size (text_of text.now)))) }
     {
@@ -73,7 +73,7 @@ impl<P: Policy> PolicyString<P> {
     pub fn insert(&mut self, index: usize, character: char) -> Result<(), ReserveError>
         requires { IsBoundary self.old.text index }
         ensures ok { OnOk result (inserted P.growth self.old index (character ∷ []) ≡ Some self.new) }
-        ensures text { OnOk result (self.new.text ≡ spliced self.old.text index index (character ∷ [])) }
+        ensures text { OnOk result (self.new.text ≡ replaced_text self.old.text index index (character ∷ [])) }
         ensures succeeds { HasRoomFor self.old (len_utf8 character) → IsOk result }
         ensures err { OnErr result ((self.new ≡ self.old) × IsTrue (room_asks self.old (len_utf8 character))) }
     {
@@ -116,7 +116,7 @@ impl<P: Policy> PolicyString<P> {
     ) -> Result<(), ReserveError>
         requires { IsRange self.old.text start end }
         ensures ok { OnOk result (replaced P.growth self.old (range_start start) (range_end self.old.text end) (text_of text.now) ≡ Some self.new) }
-        ensures text { OnOk result (self.new.text ≡ spliced self.old.text (range_start start) (range_end self.old.text end) (text_of text.now)) }
+        ensures text { OnOk result (self.new.text ≡ replaced_text self.old.text (range_start start) (range_end self.old.text end) (text_of text.now)) }
         ensures err { OnErr result ((self.new ≡ self.old) × IsTrue (replace_asks self.old (range_start start) (range_end self.old.text end) (text_of text.now))) }
     {
         let (first, last) = self.range_ends(start, end);
@@ -151,7 +151,7 @@ impl<P: Policy> PolicyString<P> {
         requires first { IsBoundary self.old.text first }
         requires last { IsBoundary self.old.text last }
         ensures ok { OnOk result (replaced P.growth self.old first last (text_of text.now) ≡ Some self.new) }
-        ensures text { OnOk result (self.new.text ≡ spliced self.old.text first last (text_of text.now)) }
+        ensures text { OnOk result (self.new.text ≡ replaced_text self.old.text first last (text_of text.now)) }
         ensures err { OnErr result ((self.new ≡ self.old) × IsTrue (replace_asks self.old first last (text_of text.now))) }
     {
         let replaced = last - first;

@@ -2,7 +2,7 @@
 ghost use Rattle.std.specs.Prelude.{◌≡◌, ◌*◌, [], Some, IfOk, OnErr, IsTrue};
 ghost use Rattle.compact_repr.specs.Text.{size};
 ghost use Rattle.compact_repr.specs.Value.{placed};
-ghost use Rattle.compact_repr.specs.Capacity.{held};
+ghost use Rattle.compact_repr.specs.Capacity.{new_room};
 ghost use Rattle.compact_str.specs.Edits.{repeated, repeat_asks, times};
 
 use crate::string::PolicyString;
@@ -40,7 +40,7 @@ impl<P: Policy> PolicyString<P> {
     /// Appends the text of `piece` so many times to the empty text, which has room for them all.
     fn fill(&mut self, piece: &Self, count: usize)
         requires empty { self.old.text ≡ [] }
-        requires room { held P.growth (size piece.now.text * count) ≡ Some self.old.placement }
+        requires room { new_room P.growth (size piece.now.text * count) ≡ Some self.old.placement }
         ensures { self.new ≡ placed (times count piece.now.text) self.old.placement }
     {
         for _done in 0..count {

@@ -1,8 +1,8 @@
--- The first bytes spell the text, and so the bytes are spliced where the text is.
+-- The first bytes spell the text, and so the bytes are replaced_text where the text is.
 use Rattle.std.proofs.Common.{◌≡◌, length, refl, ap, arith}
 use Rattle.compact_repr.specs.Text.{size, text_of}
 use Rattle.compact_repr.proofs.Texts.{size-text_of}
-use Rattle.compact_repr.proofs.Cuts.{boundary-within, size-spliced, text_of-spliced, utf8-spliced}
+use Rattle.compact_repr.proofs.Cuts.{boundary-within, size-replaced, text_of-replaced, utf8-replaced}
 use Rattle.compact_repr.proofs.HeapTexts.{shown-text, shown-capacity, shown-size}
 use Rattle.compact_repr.proofs.heap.HeapBuffer.replace_range.Goals as goal
 
@@ -31,7 +31,7 @@ invariant_of-self c =
     let added : length c.as_bytes.result.now ≡ length c.args.text.now = ap length c.as_bytes.ensures.value in
     let capacity = shown-capacity _ c.self.view_is in (
       rw (← added, c.replace.ensures.items)
-          (utf8-spliced _ _ _ _ (shown-text _ _ c.self.view_is) c.self.invariant.0 c.as_bytes.ensures.utf8 c.requires.first c.requires.last),
+          (utf8-replaced _ _ _ _ (shown-text _ _ c.self.view_is) c.self.invariant.0 c.as_bytes.ensures.utf8 c.requires.first c.requires.last),
       omega (arith, added, c.replace.ensures.long, c.replace.new.bytes.ok.0),
       omega (arith, stands, within, added, capacity, c.replace.ensures.most, c.self.invariant.2),
       omega (arith, c.replace.ensures.capacity, c.self.invariant.3),
@@ -40,13 +40,13 @@ invariant_of-self c =
 pub returns-clause-value : goal.returns-clause-value
 returns-clause-value c =
     let added : length c.as_bytes.result.now ≡ length c.args.text.now = ap length c.as_bytes.ensures.value in
-    let spelled = text_of-spliced _ _ _ _ (shown-text _ _ c.self.view_is) c.self.invariant.0 c.as_bytes.ensures.utf8 c.requires.first c.requires.last in
+    let spelled = text_of-replaced _ _ _ _ (shown-text _ _ c.self.view_is) c.self.invariant.0 c.as_bytes.ensures.utf8 c.requires.first c.requires.last in
     rw (← added, c.replace.ensures.items, spelled, shown-capacity _ c.self.view_is, c.as_bytes.ensures.value) refl
 
 pub returns-clause-fits : goal.returns-clause-fits
 returns-clause-fits c =
     let added : length c.as_bytes.result.now ≡ length c.args.text.now = ap length c.as_bytes.ensures.value in
-    let spelled = text_of-spliced _ _ _ _ (shown-text _ _ c.self.view_is) c.self.invariant.0 c.as_bytes.ensures.utf8 c.requires.first c.requires.last in
-    let whole = size-spliced c.args.self.now.text (text_of c.as_bytes.result.now) c.args.start c.args.end c.requires.first c.requires.last c.requires.order in
+    let spelled = text_of-replaced _ _ _ _ (shown-text _ _ c.self.view_is) c.self.invariant.0 c.as_bytes.ensures.utf8 c.requires.first c.requires.last in
+    let whole = size-replaced c.args.self.now.text (text_of c.as_bytes.result.now) c.args.start c.args.end c.requires.first c.requires.last c.requires.order in
     let part = size-text_of c.as_bytes.result.now c.as_bytes.ensures.utf8 in
     rw (← added, c.replace.ensures.items, ap size spelled) (omega (arith, whole, part, added))

@@ -1,15 +1,15 @@
 use Rattle.std.proofs.Common.{sym, arith}
 use Rattle.std.proofs.lemmas.Bool.{eqb-true}
 use Rattle.std.proofs.lemmas.List.{nil_from_length}
-use Rattle.compact_repr.proofs.SplicedRows.{one-byte, spliced-word-in, spliced-word-out}
+use Rattle.compact_repr.proofs.ReplacedRows.{one-byte, replaced-word-in, replaced-word-out}
 use Rattle.compact_repr.proofs.inline.edit.splice.Goals as goal
 
 pub returns-then-source-eq1 : goal.returns-then-source-eq1
 returns-then-source-eq1 c =
-    spliced-word-in c.args.row.now c.args.source.now c.opened.result _ c.args.len c.args.start c.args.end c.if-start-end.true (one-byte c.args.source.now c.if-source-eq1.true) c.requires.within (omega arith) c.told-row c.opened.ensures
+    replaced-word-in c.args.row.now c.args.source.now c.opened.result _ c.args.len c.args.start c.args.end c.if-start-end.true (one-byte c.args.source.now c.if-source-eq1.true) c.requires.within (omega arith) c.told-row c.opened.ensures
 
 pub returns-then-is_empty : goal.returns-then-is_empty
 returns-then-is_empty c =
-    spliced-word-out c.args.row.now c.args.source.now c.closed.result c.args.len c.args.start c.args.end c.if-end-start-eq1.true
+    replaced-word-out c.args.row.now c.args.source.now c.closed.result c.args.len c.args.start c.args.end c.if-end-start-eq1.true
     (nil_from_length c.args.source.now (eqb-true _ _ (sym c.if-is_empty.ensures)))
-    c.requires.within c.requires.held c.told-row c.closed.ensures
+    c.requires.within c.requires.long_enough c.told-row c.closed.ensures

@@ -1,7 +1,7 @@
 use Rattle.std.proofs.Common.{◌∙◌, refl, []}
 use Rattle.std.proofs.lemmas.Str.{chars-nil, IsUtf8-nil}
 use Rattle.compact_repr.proofs.Cuts.{text_of-last}
-use Rattle.compact_str.proofs.string.edit.encoded.Goals as goal
+use Rattle.compact_str.proofs.string.end.encoded.Goals as goal
 
 pub returns-clause-text : goal.returns-clause-text
 returns-clause-text c =

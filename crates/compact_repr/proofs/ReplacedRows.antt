@@ -7,10 +7,10 @@ use Rattle.std.specs.List.{between, replace_range}
 use lib.Seq.{paste}
 
 -- the tail stands behind a gap as wide as s, and s is written in the gap
-pub spliced-moved : (row s : List ℕ) (len start end : ℕ) → start ≤ end → end ≤ len → len ≤ length row → len + length s ≤ length row + (end - start)
+pub replaced-moved : (row s : List ℕ) (len start end : ℕ) → start ≤ end → end ≤ len → len ≤ length row → len + length s ≤ length row + (end - start)
     → take (len - (end - start) + length s) (paste (paste row (start + length s) (drop end row) (len - end)) start s (length s))
     ≡ replace_range (take len row) start end s
-spliced-moved row s len start end order within held room =
+replaced-moved row s len start end order within held room =
     let gap : ℕ = start + length s in
     let front : List ℕ = take gap row in
     let tail : List ℕ = between end len row in
@@ -31,25 +31,25 @@ spliced-moved row s len start end order within held room =
     ∙ ap (λ x. x ++ s ++ drop end (take len row)) (sym (take-take start len row (omega arith)))
 
 -- one byte comes: the tail moves one place up
-pub spliced-in : (row s moved : List ℕ) (len start end : ℕ) → start ≡ end → length s ≡ 1 → end ≤ len → len < length row
+pub replaced-in : (row s moved : List ℕ) (len start end : ℕ) → start ≡ end → length s ≡ 1 → end ≤ len → len < length row
     → moved ≡ paste row (start + 1) (drop start row) (len - start)
     → take (len - (end - start) + length s) (paste moved start s (length s)) ≡ replace_range (take len row) start end s
-spliced-in row s moved len start end same one within room e =
+replaced-in row s moved len start end same one within room e =
     let at : moved ≡ paste row (start + length s) (drop end row) (len - end) = rw (← same, one) e in
-    ap (λ x. take (len - (end - start) + length s) (paste x start s (length s))) at ∙ spliced-moved row s len start end (omega arith) within (omega arith) (omega arith)
+    ap (λ x. take (len - (end - start) + length s) (paste x start s (length s))) at ∙ replaced-moved row s len start end (omega arith) within (omega arith) (omega arith)
 
 -- one byte goes: the tail moves one place down
-pub spliced-out : (row s moved : List ℕ) (len start end : ℕ) → end - start ≡ 1 → s ≡ [] → end ≤ len → len ≤ length row
+pub replaced-out : (row s moved : List ℕ) (len start end : ℕ) → end - start ≡ 1 → s ≡ [] → end ≤ len → len ≤ length row
     → moved ≡ paste row start (drop (start + 1) row) (len - end)
     → take (len - (end - start) + length s) moved ≡ replace_range (take len row) start end s
-spliced-out row s moved len start end one none within held e =
+replaced-out row s moved len start end one none within held e =
     let zero : length s ≡ 0 = ap length none in
     let unwritten : paste moved start s (length s) ≡ moved = ap (λ (n : ℕ). paste moved start s n) zero ∙ sym (paste_none moved start s) in
     let to : start ≡ start + length s = omega arith in
     let from : start + 1 ≡ end = omega arith in
     let at : moved ≡ paste row (start + length s) (drop end row) (len - end) = cc in
     ap (take (len - (end - start) + length s)) (sym unwritten ∙ ap (λ x. paste x start s (length s)) at)
-    ∙ spliced-moved row s len start end (omega arith) within held (omega arith)
+    ∙ replaced-moved row s len start end (omega arith) within held (omega arith)
 
 -- what is written behind the first bytes stands there
 pub appended : (row s : List ℕ) (len : ℕ) → len ≤ length row → take (len + length s) (paste row len s (length s)) ≡ take len row ++ s
@@ -71,9 +71,9 @@ one-byte (byte ∷ []) e = refl
 one-byte (byte ∷ next ∷ s) e = absurd (omega arith)
 
 -- one byte comes into a row of 24: what stands from its place on has moved one place up
-pub spliced-word-in : (row s now : List ℕ) (byte len start end : ℕ) → start ≡ end → s ≡ byte ∷ [] → end ≤ len → len < 24 → length row ≡ 24
+pub replaced-word-in : (row s now : List ℕ) (byte len start end : ℕ) → start ≡ end → s ≡ byte ∷ [] → end ≤ len → len < 24 → length row ≡ 24
     → now ≡ take start row ++ byte ∷ take (23 - start) (drop start row) → take (len - (end - start) + length s) now ≡ replace_range (take len row) start end s
-spliced-word-in row s now byte len start end same one within room full e =
+replaced-word-in row s now byte len start end same one within room full e =
     let front : List ℕ = take start row in
     let moved : List ℕ = take (23 - start) (drop start row) in
     let k : ℕ = len - start in
@@ -92,9 +92,9 @@ spliced-word-in row s now byte len start end same one within room full e =
     ∙ ap (λ x. x ++ s ++ drop end (take len row)) (sym (take-take start len row (omega arith)))
 
 -- one byte goes from a row of 24: what stands behind it has moved one place down
-pub spliced-word-out : (row s now : List ℕ) (len start end : ℕ) → end - start ≡ 1 → s ≡ [] → end ≤ len → len ≤ 24 → length row ≡ 24
+pub replaced-word-out : (row s now : List ℕ) (len start end : ℕ) → end - start ≡ 1 → s ≡ [] → end ≤ len → len ≤ 24 → length row ≡ 24
     → now ≡ take start row ++ drop (start + 1) row ++ 0 ∷ [] → take (len - (end - start) + length s) now ≡ replace_range (take len row) start end s
-spliced-word-out row s now len start end one none within room full e =
+replaced-word-out row s now len start end one none within room full e =
     let front : List ℕ = take start row in
     let moved : List ℕ = drop end row in
     let k : ℕ = len - end in
