@@ -44,10 +44,10 @@ with_last xs at last within is =
 regrouped : (a b c d : List ℕ) (k m n : ℕ) → (a ++ k ∷ b) ++ (m ∷ c) ++ (n ∷ d) ≡ a ++ k ∷ ((b ++ m ∷ []) ++ ((c ++ n ∷ []) ++ d))
 regrouped a b c d k m n = simp append_assoc
 
-pub opened_first : (x y z u v w : List ℕ) (at byte m n : ℕ) → length x ≡ 8 → length y ≡ 8 → at ≤ 7
+pub inserted_first : (x y z u v w : List ℕ) (at byte m n : ℕ) → length x ≡ 8 → length y ≡ 8 → at ≤ 7
     → u ≡ take at x ++ byte ∷ take (7 - at) (drop at x) → drop 7 x ≡ m ∷ [] → v ≡ m ∷ take 7 y → drop 7 y ≡ n ∷ [] → w ≡ n ∷ take 7 z
     → u ++ v ++ w ≡ take at (x ++ y ++ z) ++ byte ∷ take (23 - at) (drop at (x ++ y ++ z))
-opened_first x y z u v w at byte m n length_x length_y within first last_x second last_y third =
+inserted_first x y z u v w at byte m n length_x length_y within first last_x second last_y third =
     let words : u ++ v ++ w ≡ (take at x ++ byte ∷ take (7 - at) (drop at x)) ++ (m ∷ take 7 y) ++ (n ∷ take 7 z) = cc in
     let middle : take (7 - at) (drop at x) ++ m ∷ [] ≡ drop at x = with_last x at m within last_x in
     let behind : take 7 y ++ n ∷ [] ≡ y = with_last y 0 n (omega arith) last_y in
@@ -60,10 +60,10 @@ opened_first x y z u v w at byte m n length_x length_y within first last_x secon
     ∙ sym whole
     ∙ ap (λ (ys : List ℕ). take at ys ++ byte ∷ take (23 - at) (drop at ys)) (sym (append_assoc x y z))
 
-pub opened_second : (x y z v w : List ℕ) (at from byte n : ℕ) → length x ≡ 8 → length y ≡ 8 → at ≡ 8 + from → from ≤ 7
+pub inserted_second : (x y z v w : List ℕ) (at from byte n : ℕ) → length x ≡ 8 → length y ≡ 8 → at ≡ 8 + from → from ≤ 7
     → v ≡ take from y ++ byte ∷ take (7 - from) (drop from y) → drop 7 y ≡ n ∷ [] → w ≡ n ∷ take 7 z
     → x ++ v ++ w ≡ take at (x ++ y ++ z) ++ byte ∷ take (23 - at) (drop at (x ++ y ++ z))
-opened_second x y z v w at from byte n length_x length_y place within second last_y third =
+inserted_second x y z v w at from byte n length_x length_y place within second last_y third =
     let words : x ++ v ++ w ≡ x ++ (take from y ++ byte ∷ take (7 - from) (drop from y)) ++ (n ∷ take 7 z) = cc in
     let middle : take (7 - from) (drop from y) ++ n ∷ [] ≡ drop from y = with_last y from n within last_y in
     let both : length (x ++ y) ≡ 16 = length-append x y ∙ omega arith in
@@ -76,10 +76,10 @@ opened_second x y z v w at from byte n length_x length_y place within second las
     ∙ ap (λ (ys : List ℕ). take at (x ++ y) ++ byte ∷ (ys ++ take 7 z)) (sym (drop_past x y at from (omega arith)))
     ∙ sym whole
 
-pub opened_third : (x y z w : List ℕ) (at from byte : ℕ) → length x ≡ 8 → length y ≡ 8 → at ≡ 16 + from
+pub inserted_third : (x y z w : List ℕ) (at from byte : ℕ) → length x ≡ 8 → length y ≡ 8 → at ≡ 16 + from
     → w ≡ take from z ++ byte ∷ take (7 - from) (drop from z)
     → x ++ y ++ w ≡ take at (x ++ y ++ z) ++ byte ∷ take (23 - at) (drop at (x ++ y ++ z))
-opened_third x y z w at from byte length_x length_y place third =
+inserted_third x y z w at from byte length_x length_y place third =
     let both : length (x ++ y) ≡ 16 = length-append x y ∙ omega arith in
     let left : 7 - from ≡ 23 - at = omega arith in
     ap (λ (ys : List ℕ). x ++ y ++ ys) third
@@ -93,10 +93,10 @@ pub zero_follows : take 1 (bytes_of 0) ≡ 0 ∷ []
 unfolding bytes_of
 zero_follows = refl
 
-pub closed_first : (x y z u v w : List ℕ) (at : ℕ) → length x ≡ 8 → at ≤ 7
+pub removed_first : (x y z u v w : List ℕ) (at : ℕ) → length x ≡ 8 → at ≤ 7
     → u ≡ take at x ++ drop (at + 1) x ++ take 1 y → v ≡ drop 1 y ++ take 1 z → w ≡ drop 1 z ++ take 1 (bytes_of 0)
     → u ++ v ++ w ≡ take at (x ++ y ++ z) ++ drop (at + 1) (x ++ y ++ z) ++ 0 ∷ []
-closed_first x y z u v w at length_x within first second third =
+removed_first x y z u v w at length_x within first second third =
     let words : u ++ v ++ w ≡ (take at x ++ drop (at + 1) x ++ take 1 y) ++ (drop 1 y ++ take 1 z) ++ (drop 1 z ++ 0 ∷ []) =
     let last = zero_follows in cc in
     let grouped : (take at x ++ drop (at + 1) x ++ take 1 y) ++ (drop 1 y ++ take 1 z) ++ (drop 1 z ++ 0 ∷ [])
@@ -108,10 +108,10 @@ closed_first x y z u v w at length_x within first second third =
     ∙ ap (λ (ys : List ℕ). ys ++ 0 ∷ []) (sym (taken_out x (y ++ z) at (omega arith)))
     ∙ ap (λ (ys : List ℕ). take at ys ++ drop (at + 1) ys ++ 0 ∷ []) (sym (append_assoc x y z))
 
-pub closed_second : (x y z v w : List ℕ) (at from : ℕ) → length x ≡ 8 → length y ≡ 8 → at ≡ 8 + from → from ≤ 7
+pub removed_second : (x y z v w : List ℕ) (at from : ℕ) → length x ≡ 8 → length y ≡ 8 → at ≡ 8 + from → from ≤ 7
     → v ≡ take from y ++ drop (from + 1) y ++ take 1 z → w ≡ drop 1 z ++ take 1 (bytes_of 0)
     → x ++ v ++ w ≡ take at (x ++ y ++ z) ++ drop (at + 1) (x ++ y ++ z) ++ 0 ∷ []
-closed_second x y z v w at from length_x length_y place within second third =
+removed_second x y z v w at from length_x length_y place within second third =
     let words : x ++ v ++ w ≡ x ++ (take from y ++ drop (from + 1) y ++ take 1 z) ++ (drop 1 z ++ 0 ∷ []) = let last = zero_follows in cc in
     let both : length (x ++ y) ≡ 16 = length-append x y ∙ omega arith in
     let grouped : x ++ (take from y ++ drop (from + 1) y ++ take 1 z) ++ (drop 1 z ++ 0 ∷ [])
@@ -123,10 +123,10 @@ closed_second x y z v w at from length_x length_y place within second third =
     ∙ ap (λ (ys : List ℕ). (take at (x ++ y) ++ (ys ++ z)) ++ 0 ∷ []) (sym (drop_past x y (at + 1) (from + 1) (omega arith)))
     ∙ ap (λ (ys : List ℕ). ys ++ 0 ∷ []) (sym (taken_out (x ++ y) z at (omega arith)))
 
-pub closed_third : (x y z w : List ℕ) (at from : ℕ) → length x ≡ 8 → length y ≡ 8 → at ≡ 16 + from
+pub removed_third : (x y z w : List ℕ) (at from : ℕ) → length x ≡ 8 → length y ≡ 8 → at ≡ 16 + from
     → w ≡ take from z ++ drop (from + 1) z ++ take 1 (bytes_of 0)
     → x ++ y ++ w ≡ take at (x ++ y ++ z) ++ drop (at + 1) (x ++ y ++ z) ++ 0 ∷ []
-closed_third x y z w at from length_x length_y place third =
+removed_third x y z w at from length_x length_y place third =
     let both : length (x ++ y) ≡ 16 = length-append x y ∙ omega arith in
     let words : x ++ y ++ w ≡ x ++ y ++ (take from z ++ drop (from + 1) z ++ 0 ∷ []) = let last = zero_follows in cc in
     let grouped : x ++ y ++ (take from z ++ drop (from + 1) z ++ 0 ∷ []) ≡ (x ++ y ++ take from z) ++ drop (from + 1) z ++ 0 ∷ [] = simp append_assoc in

@@ -18,10 +18,10 @@ kept xs ys all most enough =
     ∙ ap (λ (n : ℕ). take n (xs ++ ys)) (sym eight)
     ∙ take-append-add xs ys (8 - length xs)
 
-opened_word : (word at byte : ℕ) → word < 2 ^ 64 → at < 8 → byte < 256
+inserted_word : (word at byte : ℕ) → word < 2 ^ 64 → at < 8 → byte < 256
     → bytes_of ((word % 2 ^ (8 * at) + byte * 2 ^ (8 * at) + (word - word % 2 ^ (8 * at)) * 256) % 2 ^ 64)
     ≡ take at (bytes_of word) ++ byte ∷ take (7 - at) (drop at (bytes_of word))
-opened_word word at byte fits within byte_fits =
+inserted_word word at byte fits within byte_fits =
     let bytes : List ℕ = bytes_of word in
     let all : AllBytes bytes = AllBytes-bytes_of word in
     let eight : length bytes ≡ 8 = length-bytes_of word in
@@ -42,10 +42,10 @@ opened_word word at byte fits within byte_fits =
     ∙ kept front (byte ∷ back) each (omega arith) (omega arith)
     ∙ ap (λ (n : ℕ). front ++ take n (byte ∷ back)) left
 
-closed_word : (word at next : ℕ) → word < 2 ^ 64 → at < 8 → next < 2 ^ 64
+removed_word : (word at next : ℕ) → word < 2 ^ 64 → at < 8 → next < 2 ^ 64
     → bytes_of ((word % 2 ^ (8 * at) + (word / 2 ^ 8 - word / 2 ^ 8 % 2 ^ (8 * at)) + next * 2 ^ 56) % 2 ^ 64)
     ≡ take at (bytes_of word) ++ drop (at + 1) (bytes_of word) ++ take 1 (bytes_of next)
-closed_word word at next fits within next_fits =
+removed_word word at next fits within next_fits =
     let bytes : List ℕ = bytes_of word in
     let all : AllBytes bytes = AllBytes-bytes_of word in
     let eight : length bytes ≡ 8 = length-bytes_of word in
@@ -81,23 +81,23 @@ closed_word word at next fits within next_fits =
 wrapped : (a b c : ℕ) → ((a + b) % 2 ^ 64 + c % 2 ^ 64) % 2 ^ 64 ≡ (a + b + c) % 2 ^ 64
 wrapped a b c = add-mod-mod ((a + b) % 2 ^ 64) c (2 ^ 64) ∙ mod-add-mod (a + b) (2 ^ 64) c
 
-pub word_opened-bytes : (word at byte unit given : ℕ) → word < 2 ^ 64 → at < 8 → byte < 256 → unit ≡ 2 ^ (8 * at) → given ≡ byte
+pub word_insert_byte-bytes : (word at byte unit given : ℕ) → word < 2 ^ 64 → at < 8 → byte < 256 → unit ≡ 2 ^ (8 * at) → given ≡ byte
     → bytes_of (((word % unit + given * 2 ^ (8 * at) % 2 ^ 64) % 2 ^ 64 + (word - word % unit) * 256 % 2 ^ 64) % 2 ^ 64)
     ≡ take at (bytes_of word) ++ byte ∷ take (7 - at) (drop at (bytes_of word))
-word_opened-bytes word at byte unit given fits within byte_fits unit_is given_is =
+word_insert_byte-bytes word at byte unit given fits within byte_fits unit_is given_is =
     let before : ℕ = word % 2 ^ (8 * at) in
     let put : ℕ = byte * 2 ^ (8 * at) in
     let sum : ((before + put % 2 ^ 64) % 2 ^ 64 + (word - before) * 256 % 2 ^ 64) % 2 ^ 64 ≡ (before + put + (word - before) * 256) % 2 ^ 64 =
     ap (λ (n : ℕ). (n + (word - before) * 256 % 2 ^ 64) % 2 ^ 64) (add-mod-mod before put (2 ^ 64)) ∙ wrapped before put ((word - before) * 256) in
-    rw (unit_is, given_is) (ap bytes_of sum ∙ opened_word word at byte fits within byte_fits)
+    rw (unit_is, given_is) (ap bytes_of sum ∙ inserted_word word at byte fits within byte_fits)
 
-pub word_closed-bytes : (word at next unit : ℕ) → word < 2 ^ 64 → at < 8 → next < 2 ^ 64 → unit ≡ 2 ^ (8 * at)
+pub word_remove_byte-bytes : (word at next unit : ℕ) → word < 2 ^ 64 → at < 8 → next < 2 ^ 64 → unit ≡ 2 ^ (8 * at)
     → bytes_of (((word % unit + (word / 256 - word / 256 % unit)) % 2 ^ 64 + next * 2 ^ 56 % 2 ^ 64) % 2 ^ 64)
     ≡ take at (bytes_of word) ++ drop (at + 1) (bytes_of word) ++ take 1 (bytes_of next)
-word_closed-bytes word at next unit fits within next_fits unit_is =
+word_remove_byte-bytes word at next unit fits within next_fits unit_is =
     let down : ℕ = word / 256 in
     let sum = wrapped (word % 2 ^ (8 * at)) (down - down % 2 ^ (8 * at)) (next * 2 ^ 56) in
-    rw unit_is (ap bytes_of sum ∙ closed_word word at next fits within next_fits)
+    rw unit_is (ap bytes_of sum ∙ removed_word word at next fits within next_fits)
 
 pub last_byte-bytes : (word : ℕ) → word < 2 ^ 64 → drop 7 (bytes_of word) ≡ word / 2 ^ 56 ∷ []
 unfolding bytes_of

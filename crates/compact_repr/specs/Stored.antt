@@ -1,8 +1,8 @@
 -- The value that each kind of buffer stands for.
 use Rattle.std.specs.Prelude.{◌≤◌}
 use Rattle.std.specs.Str.{IsUtf8}
-use Rattle.compact_repr.specs.declared.buffer.Buffer.{Buffer}
-use Rattle.compact_repr.specs.declared.buffer.Buffer.TheVariants.{Inline, Heap, Static}
+use Rattle.compact_repr.specs.declared.repr.Buffer.{Buffer}
+use Rattle.compact_repr.specs.declared.repr.Buffer.TheVariants.{Inline, Heap, Static}
 use Rattle.compact_repr.specs.Text.{size, text_of}
 use Rattle.compact_repr.specs.Value.{PlacedText, placed}
 use Rattle.compact_repr.specs.Capacity.{inlined, on_heap, borrowed}

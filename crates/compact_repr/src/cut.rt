@@ -1,7 +1,7 @@
 //! Parts and characters of a borrowed text, by byte position.
 ghost use Rattle.std.specs.Prelude.{◌≡◌, ◌<◌, List, ℕ, [], ◌∷◌, ◌++◌, length, MatchOption};
 ghost use Rattle.compact_repr.specs.Text.{text_of};
-ghost use Rattle.compact_repr.specs.Cut.{IsBoundary, before, after};
+ghost use Rattle.compact_repr.specs.Cut.{IsBoundary, before, after, CutIsBeforeAndAfter};
 
 /// What stands before a boundary.
 #[inline]
@@ -50,3 +50,9 @@ pub fn last_char(text: &str) -> Option<char>
         None => None,
     }
 }
+
+/// A law, and the function does nothing. Where a text can be cut, the two parts are what stands before and what stands after
+/// the position; and it can be cut just where the characters within the first bytes take up all of them.
+pub fn cut_is_before_and_after()
+    ensures { CutIsBeforeAndAfter }
+{}

@@ -1,17 +1,17 @@
 //! A text in a vector of bytes on the heap, beside its length and a capacity that the vector has reserved.
-ghost use Rattle.std.specs.Prelude.{◌≡◌, ◌+◌, ◌≤◌, ◌<◌, ◌^◌, [], ◌++◌, length, take, max, IfOk, OnOk, OnErr, IsTrue, ◌↔◌};
+ghost use Rattle.std.specs.Prelude.{◌≡◌, ◌+◌, ◌-◌, ◌≤◌, ◌<◌, ◌^◌, [], ◌++◌, length, take, true, false, IfOk, OnOk, OnErr, IsTrue, ◌↔◌};
+ghost use Rattle.std.specs.List.{replace_range};
 ghost use Rattle.std.specs.Vec.{vec_len, vec_capacity};
 ghost use Rattle.std.specs.String.{string_bytes, string_capacity};
 ghost use Rattle.compact_repr.specs.Text.{size, utf8, text_of, IsText};
+ghost use Rattle.compact_repr.specs.Cut.{IsBoundary, before, replaced_text};
 
 use crate::rows;
 use std::alloc::{AllocError, Global};
 use std::marker::Model;
 
-mod edit;
-
-/// The text is the first `len` bytes of the vector. What stands behind them was text once and may be written over, so
-/// that an edit within what the vector has held only moves bytes.
+/// The text is the first `len` bytes of the vector. What stands behind them was text once, or zeros that were written
+/// ahead, and may be written over: so an edit within what the vector has is a write in a slice, and asks for room once.
 ///
 /// The stated capacity is at most what the vector has reserved, since a vector may be given more than it asked for.
 #[derive(Drop)]
@@ -24,7 +24,8 @@ pub struct HeapBuffer {
 impl Model for HeapBuffer {
     ghost use Rattle.std.specs.Prelude.{◌≤◌, length, take};
     ghost use Rattle.std.specs.Str.{IsUtf8};
-    ghost use Rattle.std.specs.Vec.{vec_capacity};
+    ghost use Rattle.std.specs.List.{replace_range};
+ghost use Rattle.std.specs.Vec.{vec_capacity};
     ghost use Rattle.compact_repr.specs.Text.{text_of};
     ghost use Rattle.compact_repr.specs.HeapText.{HeapText};
 
@@ -36,7 +37,7 @@ impl Model for HeapBuffer {
 }
 
 impl HeapBuffer {
-    /// The empty text with room for `capacity` bytes.
+    /// The empty text with room for `capacity` bytes, of which none is touched.
     #[inline]
     pub fn with_capacity(alloc: Global, capacity: usize) -> Result<Self, AllocError>
         ensures { IfOk result (λ b. b ≡ record { text = []; capacity = capacity }) }
@@ -44,6 +45,23 @@ impl HeapBuffer {
         Ok(HeapBuffer {
             bytes: Vec::with_capacity(alloc, capacity)?,
             len: 0,
+            capacity,
+        })
+    }
+
+    /// A copy of `text` in a new buffer with room for `capacity` bytes, at least as many as the text has.
+    #[inline]
+    pub fn copy_of(alloc: Global, text: &str, capacity: usize) -> Result<Self, AllocError>
+        requires { length text.now ≤ capacity }
+        ensures { IfOk result (λ b. b ≡ record { text = text_of text.now; capacity = capacity }) }
+    {
+        let mut bytes = Vec::with_capacity(alloc, capacity)?;
+        if bytes.extend_from_slice(text.as_bytes()).is_err() {
+            unreachable!();
+        }
+        Ok(HeapBuffer {
+            bytes,
+            len: text.len(),
             capacity,
         })
     }
@@ -60,16 +78,6 @@ impl HeapBuffer {
             len,
             capacity,
         }
-    }
-
-    /// The same text in a new buffer with room for `capacity` bytes, at least as many as the text has.
-    pub fn copy_with_capacity(&self, alloc: Global, capacity: usize) -> Result<Self, AllocError>
-        requires { size self.now.text ≤ capacity }
-        ensures { IfOk result (λ b. b ≡ record { text = self.now.text; capacity = capacity }) }
-    {
-        let mut copy = HeapBuffer::with_capacity(alloc, capacity)?;
-        copy.push_str(self.as_str());
-        Ok(copy)
     }
 
     /// The length in bytes.
@@ -91,12 +99,12 @@ impl HeapBuffer {
         self.capacity
     }
 
-    /// Whether `more` bytes fit after the text.
+    /// Whether `additional` bytes fit after the text.
     #[inline]
-    pub fn has_room(&self, more: usize) -> bool
-        ensures { IsTrue result ↔ (size self.now.text + more ≤ self.now.capacity) }
+    pub fn has_room(&self, additional: usize) -> bool
+        ensures { IsTrue result ↔ (size self.now.text + additional ≤ self.now.capacity) }
     {
-        more <= self.capacity - self.len
+        additional <= self.capacity - self.len
     }
 
     /// The text.
@@ -119,15 +127,49 @@ impl HeapBuffer {
         Ok(())
     }
 
-    /// Appends `text`, which fits, and takes no memory.
+    /// Appends `text` where it fits, and takes no memory. Answers whether it fitted; if not, nothing has changed.
     #[inline]
-    pub fn push_str(&mut self, text: &str)
-        requires { size self.old.text + length text.now ≤ self.old.capacity }
-        ensures { self.new ≡ record { text = self.old.text ++ text_of text.now; capacity = self.old.capacity } }
+    pub fn push_str(&mut self, text: &str) -> bool
+        ensures fits { IsTrue result ↔ (size self.old.text + length text.now ≤ self.old.capacity) }
+        ensures pushed { IsTrue result → self.new ≡ record { text = self.old.text ++ text_of text.now; capacity = self.old.capacity } }
+        ensures full { result ≡ false → self.new ≡ self.old }
     {
         let end = self.len + text.len();
-        append(&mut self.bytes, self.len, text.as_bytes());
+        if !write_behind(&mut self.bytes, self.len, text.as_bytes(), self.capacity) {
+            return false;
+        }
         self.len = end;
+        true
+    }
+
+    /// Replaces what stands from one boundary to another by `text` where the outcome fits, and takes no memory. Answers
+    /// whether it fitted; if not, nothing has changed. Positions are in bytes.
+    #[inline(always)]
+    pub fn replace_range(&mut self, start: usize, end: usize, text: &str) -> bool
+        requires order { start ≤ end }
+        requires first { IsBoundary self.old.text start }
+        requires last { IsBoundary self.old.text end }
+        ensures fits { IsTrue result ↔ (size self.old.text + length text.now ≤ self.old.capacity + (end - start)) }
+        ensures replaced { IsTrue result → self.new ≡ record { text = replaced_text self.old.text start end (text_of text.now); capacity = self.old.capacity } }
+        ensures within { size self.new.text ≤ self.old.capacity }
+        ensures full { result ≡ false → self.new ≡ self.old }
+    {
+        let len = self.len - (end - start) + text.len();
+        if !replace_range(&mut self.bytes, self.len, start, end, text.as_bytes(), self.capacity) {
+            return false;
+        }
+        self.len = len;
+        true
+    }
+
+    /// Keeps the first `len` bytes, which end at a boundary, and the capacity.
+    #[inline]
+    pub fn truncate(&mut self, len: usize)
+        requires { IsBoundary self.old.text len }
+        ensures value { self.new ≡ record { text = before self.old.text len; capacity = self.old.capacity } }
+        ensures fits { size self.new.text ≤ self.old.capacity }
+    {
+        self.len = len;
     }
 
     /// Leaves the empty text, with the same capacity.
@@ -139,39 +181,92 @@ impl HeapBuffer {
     }
 }
 
-/// Writes `source` behind the first `len` bytes, for which the vector has room.
-#[inline]
-fn append(bytes: &mut Vec<u8>, len: usize, source: &[u8])
-    requires long_enough { len ≤ vec_len bytes.old }
-    requires room { len + length source.now ≤ vec_capacity bytes.old }
-    ensures items { take (len + length source.now) bytes.new.items ≡ take len bytes.old.items ++ source.now }
-    ensures long { len + length source.now ≤ vec_len bytes.new }
-    ensures most { vec_len bytes.new ≤ max (vec_len bytes.old) (len + length source.now) }
-    ensures capacity { vec_capacity bytes.old ≤ vec_capacity bytes.new }
+/// Writes `source` behind the first `len` bytes, where they fit in `capacity`, which the vector has reserved. Answers
+/// whether they do; if not, nothing has changed.
+#[inline(always)]
+fn write_behind(bytes: &mut Vec<u8>, len: usize, source: &[u8], capacity: usize) -> bool
+    requires stands { len ≤ vec_len bytes.old }
+    requires within { vec_len bytes.old ≤ capacity }
+    requires reserved { capacity ≤ vec_capacity bytes.old }
+    ensures fits { IsTrue result ↔ (len + length source.now ≤ capacity) }
+    ensures written { IsTrue result → take (len + length source.now) bytes.new.items ≡ take len bytes.old.items ++ source.now }
+    ensures full { result ≡ false → take len bytes.new.items ≡ take len bytes.old.items }
+    ensures longer { vec_len bytes.old ≤ vec_len bytes.new }
+    ensures long { IsTrue result → len + length source.now ≤ vec_len bytes.new }
+    ensures within { vec_len bytes.new ≤ capacity }
+    ensures reserved { capacity ≤ vec_capacity bytes.new }
 {
-    if len < bytes.len() {
-        write_over(bytes, len, source);
-    } else if bytes.extend_from_slice(source).is_err() {
-        unreachable!();
+    if !reach(bytes, len + source.len(), capacity) {
+        return false;
     }
+    rows::write(bytes.as_mut_slice(), len, source);
+    true
 }
 
-/// `append` where bytes of an earlier text stand behind the first `len`.
-#[inline(never)]
-fn write_over(bytes: &mut Vec<u8>, len: usize, source: &[u8])
-    requires long_enough { len ≤ vec_len bytes.old }
-    requires room { len + length source.now ≤ vec_capacity bytes.old }
-    ensures items { take (len + length source.now) bytes.new.items ≡ take len bytes.old.items ++ source.now }
-    ensures long { len + length source.now ≤ vec_len bytes.new }
-    ensures most { vec_len bytes.new ≤ max (vec_len bytes.old) (len + length source.now) }
-    ensures capacity { vec_capacity bytes.old ≤ vec_capacity bytes.new }
+/// Of the first `len` bytes replaces those from `start` to `end` by `source`, where the outcome fits in `capacity`, which
+/// the vector has reserved. Answers whether it does; if not, nothing has changed.
+#[inline(always)]
+fn replace_range(bytes: &mut Vec<u8>, len: usize, start: usize, end: usize, source: &[u8], capacity: usize) -> bool
+    requires order { start ≤ end }
+    requires inside { end ≤ len }
+    requires stands { len ≤ vec_len bytes.old }
+    requires within { vec_len bytes.old ≤ capacity }
+    requires reserved { capacity ≤ vec_capacity bytes.old }
+    ensures fits { IsTrue result ↔ (len - (end - start) + length source.now ≤ capacity) }
+    ensures replaced { IsTrue result → take (len - (end - start) + length source.now) bytes.new.items ≡ replace_range (take len bytes.old.items) start end source.now }
+    ensures full { result ≡ false → take len bytes.new.items ≡ take len bytes.old.items }
+    ensures longer { vec_len bytes.old ≤ vec_len bytes.new }
+    ensures long { IsTrue result → len - (end - start) + length source.now ≤ vec_len bytes.new }
+    ensures within { vec_len bytes.new ≤ capacity }
+    ensures reserved { capacity ≤ vec_capacity bytes.new }
 {
-    if len + source.len() <= bytes.len() {
-        rows::append(bytes.as_mut_slice(), len, source);
-        return;
+    if !reach(bytes, len - (end - start) + source.len(), capacity) {
+        return false;
     }
-    bytes.truncate(len);
-    if bytes.extend_from_slice(source).is_err() {
+    rows::replace_range(bytes.as_mut_slice(), len, start, end, source);
+    true
+}
+
+/// Sees to it that the vector has `needed` bytes, if `capacity`, which it has reserved, allows as many. Answers whether it
+/// does. Where the vector has them this is one comparison.
+#[inline(always)]
+fn reach(bytes: &mut Vec<u8>, needed: usize, capacity: usize) -> bool
+    requires within { vec_len bytes.old ≤ capacity }
+    requires reserved { capacity ≤ vec_capacity bytes.old }
+    ensures fits { IsTrue result ↔ (needed ≤ capacity) }
+    ensures same { take (vec_len bytes.old) bytes.new.items ≡ bytes.old.items }
+    ensures longer { vec_len bytes.old ≤ vec_len bytes.new }
+    ensures long { IsTrue result → needed ≤ vec_len bytes.new }
+    ensures within { vec_len bytes.new ≤ capacity }
+    ensures reserved { capacity ≤ vec_capacity bytes.new }
+{
+    needed <= bytes.len() || lengthen(bytes, needed, capacity)
+}
+
+/// How many bytes beyond twice as many as are needed are written ahead.
+const AHEAD: usize = 64;
+
+/// `reach` where the vector has fewer bytes. Zeros are written ahead, so that this is seldom called, yet never all through
+/// a large room of which little is used.
+#[cold]
+#[inline(never)]
+fn lengthen(bytes: &mut Vec<u8>, needed: usize, capacity: usize) -> bool
+    requires shorter { vec_len bytes.old < needed }
+    requires within { vec_len bytes.old ≤ capacity }
+    requires reserved { capacity ≤ vec_capacity bytes.old }
+    ensures fits { IsTrue result ↔ (needed ≤ capacity) }
+    ensures same { take (vec_len bytes.old) bytes.new.items ≡ bytes.old.items }
+    ensures longer { vec_len bytes.old ≤ vec_len bytes.new }
+    ensures long { IsTrue result → needed ≤ vec_len bytes.new }
+    ensures within { vec_len bytes.new ≤ capacity }
+    ensures reserved { capacity ≤ vec_capacity bytes.new }
+{
+    if needed > capacity {
+        return false;
+    }
+    let len = needed.saturating_mul(2).saturating_add(AHEAD).min(capacity);
+    if bytes.resize(len, 0).is_err() {
         unreachable!();
     }
+    true
 }

@@ -1,12 +1,12 @@
 //! A text of at most 24 bytes that stands in the value itself.
-ghost use Rattle.std.specs.Prelude.{◌≡◌, ◌+◌, ◌≤◌, [], ◌++◌, length};
+ghost use Rattle.std.specs.Prelude.{◌≡◌, ◌+◌, ◌-◌, ◌≤◌, [], ◌++◌, length, take, true, false, IsTrue, ◌↔◌};
+ghost use Rattle.std.specs.List.{replace_range};
 ghost use Rattle.compact_repr.specs.Text.{size, utf8, text_of, IsText};
+ghost use Rattle.compact_repr.specs.Cut.{IsBoundary, before, replaced_text};
 
-use crate::rows::append;
-use crate::words::row_of;
+use crate::rows;
+use crate::words::{insert_byte, remove_byte, row_of};
 use std::marker::Model;
-
-mod edit;
 
 /// The most bytes that stand inline.
 pub const INLINE_CAPACITY: usize = 24;
@@ -84,15 +84,51 @@ impl InlineBuffer {
         unsafe { std::str::from_utf8_unchecked(&self.bytes[..self.len]) }
     }
 
-    /// Appends `text`, which fits.
+    /// Appends `text` where it fits. Answers whether it fitted; if not, nothing has changed.
     #[inline]
-    pub fn push_str(&mut self, text: &str)
-        requires { size self.old + length text.now ≤ 24 }
-        ensures { self.new ≡ self.old ++ text_of text.now }
+    pub fn push_str(&mut self, text: &str) -> bool
+        ensures fits { IsTrue result ↔ (size self.old + length text.now ≤ 24) }
+        ensures pushed { IsTrue result → self.new ≡ self.old ++ text_of text.now }
+        ensures full { result ≡ false → self.new ≡ self.old }
     {
+        if text.len() > INLINE_CAPACITY - self.len {
+            return false;
+        }
         let end = self.len + text.len();
-        append(&mut self.bytes, self.len, text.as_bytes());
+        rows::write(&mut self.bytes, self.len, text.as_bytes());
         self.len = end;
+        true
+    }
+
+    /// Replaces what stands from one boundary to another by `text` where the outcome fits. Answers whether it fitted; if
+    /// not, nothing has changed. Positions are in bytes.
+    #[inline(always)]
+    pub fn replace_range(&mut self, start: usize, end: usize, text: &str) -> bool
+        requires order { start ≤ end }
+        requires first { IsBoundary self.old start }
+        requires last { IsBoundary self.old end }
+        ensures fits { IsTrue result ↔ (size self.old + length text.now ≤ 24 + (end - start)) }
+        ensures replaced { IsTrue result → self.new ≡ replaced_text self.old start end (text_of text.now) }
+        ensures within { size self.new ≤ 24 }
+        ensures full { result ≡ false → self.new ≡ self.old }
+    {
+        let len = self.len - (end - start) + text.len();
+        if len > INLINE_CAPACITY {
+            return false;
+        }
+        replace_bytes(&mut self.bytes, self.len, start, end, text.as_bytes());
+        self.len = len;
+        true
+    }
+
+    /// Keeps the first `len` bytes, which end at a boundary.
+    #[inline]
+    pub fn truncate(&mut self, len: usize)
+        requires { IsBoundary self.old len }
+        ensures text { self.new ≡ before self.old len }
+        ensures fits { size self.new ≤ 24 }
+    {
+        self.len = len;
     }
 
     /// Leaves the empty text.
@@ -101,5 +137,25 @@ impl InlineBuffer {
         ensures { self.new ≡ [] }
     {
         self.len = 0;
+    }
+}
+
+/// Of the first `len` bytes of `row` replaces those from `start` to `end` by `source`.
+///
+/// One byte that comes or goes shifts the row by words.
+#[inline(always)]
+fn replace_bytes(row: &mut [u8; 24], len: usize, start: usize, end: usize, source: &[u8])
+    requires order { start ≤ end }
+    requires within { end ≤ len }
+    requires long_enough { len ≤ 24 }
+    requires room { len + length source.now ≤ 24 + (end - start) }
+    ensures { take (len - (end - start) + length source.now) row.new ≡ replace_range (take len row.old) start end source.now }
+{
+    if start == end && source.len() == 1 {
+        *row = insert_byte(row, start, source[0]);
+    } else if end - start == 1 && source.is_empty() {
+        *row = remove_byte(row, start);
+    } else {
+        rows::replace_range(row, len, start, end, source);
     }
 }

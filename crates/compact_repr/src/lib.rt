@@ -5,20 +5,18 @@
 //! text; what a contract sees of it is a `PlacedText` of `specs/Value.antt`.
 #![tactic(auto, using(crate::proofs::TextFacts::text_facts))]
 
-mod buffer;
 mod cut;
 mod error;
 mod heap;
 mod inline;
-mod law;
 mod policy;
 mod repr;
 mod rows;
 mod words;
 
+pub use cut::cut_is_before_and_after;
 pub use error::ReserveError;
 pub use inline::INLINE_CAPACITY;
-pub use law::cut_is_before_and_after;
 pub use policy::{Policy, Standard};
 pub use repr::Repr;
 pub use repr::room::GREATEST_CAPACITY;

@@ -1,19 +1,27 @@
-//! The representation: a buffer with the allocator that its growth asks.
-ghost use Rattle.std.specs.Prelude.{◌≡◌, ◌<◌, ◌^◌, Some, IsSome, IfSome, IsTrue, ◌↔◌, OnOk, OnErr};
+//! The representation: a buffer of one of three kinds, with the allocator that its growth asks.
+ghost use Rattle.std.specs.Prelude.{◌≡◌, ◌<◌, ◌^◌, ◌↔◌, IsSome, IfSome, IsTrue};
 ghost use Rattle.compact_repr.specs.Text.{size, utf8, text_of};
 ghost use Rattle.compact_repr.specs.Value.{is_heap, is_static, IsSound};
-ghost use Rattle.compact_repr.specs.Change.{pushed, push_asks, cleared};
 ghost use Rattle.compact_repr.specs.Stored.{value_of, IsStored};
 
-mod edit;
+mod change;
 mod make;
+mod position;
 pub mod room;
 
-use crate::buffer::Buffer;
-use crate::error::ReserveError;
+use crate::heap::HeapBuffer;
+use crate::inline::{INLINE_CAPACITY, InlineBuffer};
 use crate::policy::Policy;
 use std::alloc::Global;
 use std::marker::{Model, PhantomData};
+
+/// Where a text stands: in the value itself, on the heap, or in the program.
+#[derive(Drop)]
+pub enum Buffer {
+    Inline(InlineBuffer),
+    Heap(HeapBuffer),
+    Static(&'static str),
+}
 
 /// A text with a place and a capacity, whose heap buffers grow by the policy `P`.
 #[derive(Drop)]
@@ -61,7 +69,11 @@ impl<P: Policy> Repr<P> {
         ensures small { result < 2 ^ 63 }
         ensures sound { IsSound self.now }
     {
-        self.buffer.len()
+        match &self.buffer {
+            Buffer::Inline(inline) => inline.len(),
+            Buffer::Heap(heap) => heap.len(),
+            Buffer::Static(text) => text.len(),
+        }
     }
 
     /// The text.
@@ -70,7 +82,11 @@ impl<P: Policy> Repr<P> {
         ensures bytes { result.now ≡ utf8 self.now.text }
         ensures text { text_of result.now ≡ self.now.text }
     {
-        self.buffer.as_str()
+        match &self.buffer {
+            Buffer::Inline(inline) => inline.as_str(),
+            Buffer::Heap(heap) => heap.as_str(),
+            Buffer::Static(text) => text,
+        }
     }
 
     /// The text of a static value, which outlives the value; `None` of every other.
@@ -91,7 +107,11 @@ impl<P: Policy> Repr<P> {
     pub fn capacity(&self) -> usize
         ensures { result ≡ self.now.placement.capacity }
     {
-        self.buffer.capacity()
+        match &self.buffer {
+            Buffer::Inline(_) => INLINE_CAPACITY,
+            Buffer::Heap(heap) => heap.capacity(),
+            Buffer::Static(text) => text.len(),
+        }
     }
 
     /// Whether the text stands in a heap buffer.
@@ -100,35 +120,5 @@ impl<P: Policy> Repr<P> {
         ensures { result ≡ is_heap self.now.placement.place }
     {
         matches!(&self.buffer, Buffer::Heap(_))
-    }
-
-    /// Appends `text`; an empty one changes nothing. An error changes nothing.
-    ///
-    /// The heap with room comes first: that is how a long text is built.
-    #[inline]
-    pub fn push_str(&mut self, text: &str) -> Result<(), ReserveError>
-        ensures ok { OnOk result (pushed P.growth self.old (text_of text.now) ≡ Some self.new) }
-        ensures err { OnErr result ((self.new ≡ self.old) × IsTrue (push_asks self.old (text_of text.now))) }
-    {
-        if let Buffer::Heap(heap) = &mut self.buffer
-            && heap.has_room(text.len())
-        {
-            heap.push_str(text);
-            return Ok(());
-        }
-        if text.is_empty() {
-            return Ok(());
-        }
-        self.reserve(text.len())?;
-        self.buffer.append(text);
-        Ok(())
-    }
-
-    /// Leaves the empty text, in its place.
-    #[inline]
-    pub fn clear(&mut self)
-        ensures { self.new ≡ cleared self.old }
-    {
-        self.buffer.clear();
     }
 }

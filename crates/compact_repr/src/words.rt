@@ -110,7 +110,7 @@ fn last_byte(word: u64) -> u8
 /// The word with `byte` put in at a place; what stands from there on moves one place up, and the last byte goes.
 /// The three parts share no byte, so no sum wraps.
 #[inline(always)]
-fn word_opened(word: u64, at: usize, byte: u8) -> u64
+fn word_insert_byte(word: u64, at: usize, byte: u8) -> u64
     requires { at < 8 }
     ensures { bytes_of result ≡ take at (bytes_of word) ++ byte ∷ take (7 - at) (drop at (bytes_of word)) }
 {
@@ -123,7 +123,7 @@ fn word_opened(word: u64, at: usize, byte: u8) -> u64
 /// The word without the byte at a place; what stands after it moves one place down, and the first byte of the next word
 /// comes last. The three parts share no byte, so no sum wraps.
 #[inline(always)]
-fn word_closed(word: u64, at: usize, next: u64) -> u64
+fn word_remove_byte(word: u64, at: usize, next: u64) -> u64
     requires { at < 8 }
     ensures { bytes_of result ≡ take at (bytes_of word) ++ drop (at + 1) (bytes_of word) ++ take 1 (bytes_of next) }
 {
@@ -152,7 +152,7 @@ pub fn row_of(text: &[u8]) -> [u8; 24]
 
 /// The row with `byte` put in at a place; what stands from there on moves one place up, and the last byte goes.
 #[inline]
-pub fn opened(row: &[u8; 24], at: usize, byte: u8) -> [u8; 24]
+pub fn insert_byte(row: &[u8; 24], at: usize, byte: u8) -> [u8; 24]
     requires { at < 24 }
     ensures { result ≡ take at row.now ++ byte ∷ take (23 - at) (drop at row.now) }
 {
@@ -161,22 +161,22 @@ pub fn opened(row: &[u8; 24], at: usize, byte: u8) -> [u8; 24]
     let third = load8(row, 16);
     match at / 8 {
         0 => row_of_words(
-            word_opened(first, at, byte),
-            word_opened(second, 0, last_byte(first)),
-            word_opened(third, 0, last_byte(second)),
+            word_insert_byte(first, at, byte),
+            word_insert_byte(second, 0, last_byte(first)),
+            word_insert_byte(third, 0, last_byte(second)),
         ),
         1 => row_of_words(
             first,
-            word_opened(second, at - 8, byte),
-            word_opened(third, 0, last_byte(second)),
+            word_insert_byte(second, at - 8, byte),
+            word_insert_byte(third, 0, last_byte(second)),
         ),
-        _ => row_of_words(first, second, word_opened(third, at - 16, byte)),
+        _ => row_of_words(first, second, word_insert_byte(third, at - 16, byte)),
     }
 }
 
 /// The row without the byte at a place; what stands after it moves one place down, and a zero comes last.
 #[inline]
-pub fn closed(row: &[u8; 24], at: usize) -> [u8; 24]
+pub fn remove_byte(row: &[u8; 24], at: usize) -> [u8; 24]
     requires { at < 24 }
     ensures { result ≡ take at row.now ++ drop (at + 1) row.now ++ 0 ∷ [] }
 {
@@ -185,15 +185,15 @@ pub fn closed(row: &[u8; 24], at: usize) -> [u8; 24]
     let third = load8(row, 16);
     match at / 8 {
         0 => row_of_words(
-            word_closed(first, at, second),
-            word_closed(second, 0, third),
-            word_closed(third, 0, 0),
+            word_remove_byte(first, at, second),
+            word_remove_byte(second, 0, third),
+            word_remove_byte(third, 0, 0),
         ),
         1 => row_of_words(
             first,
-            word_closed(second, at - 8, third),
-            word_closed(third, 0, 0),
+            word_remove_byte(second, at - 8, third),
+            word_remove_byte(third, 0, 0),
         ),
-        _ => row_of_words(first, second, word_closed(third, at - 16, 0)),
+        _ => row_of_words(first, second, word_remove_byte(third, at - 16, 0)),
     }
 }

@@ -6,13 +6,12 @@ ghost use Rattle.compact_repr.specs.Value.{placed};
 ghost use Rattle.compact_repr.specs.Capacity.{inlined, on_heap, new_room_asks, lasting, taken_over, copy_asks};
 ghost use Rattle.compact_repr.specs.Change.{made, with_room, copy_of};
 
-use crate::buffer::Buffer;
 use crate::error::ReserveError;
 use crate::heap::HeapBuffer;
 use crate::inline::{INLINE_CAPACITY, InlineBuffer};
 use crate::policy::Policy;
-use crate::repr::Repr;
-use crate::repr::room::GREATEST_CAPACITY;
+use crate::repr::room::allowed_capacity;
+use crate::repr::{Buffer, Repr};
 use std::alloc::Global;
 
 impl<P: Policy> Repr<P> {
@@ -43,8 +42,10 @@ impl<P: Policy> Repr<P> {
         requires { 24 < length text.now }
         ensures { IfOk result (λ r. made P.growth (text_of text.now) ≡ Some r) }
     {
-        let mut heap = Self::new_heap(alloc, text.len())?;
-        heap.push_str(text);
+        let Some(capacity) = allowed_capacity::<P>(text.len()) else {
+            return Err(ReserveError);
+        };
+        let heap = HeapBuffer::copy_of(alloc, text, capacity)?;
         Ok(Self::of(alloc, Buffer::Heap(heap)))
     }
 
@@ -68,7 +69,10 @@ impl<P: Policy> Repr<P> {
         if capacity <= INLINE_CAPACITY {
             return Ok(Self::empty(alloc));
         }
-        let heap = Self::new_heap(alloc, capacity)?;
+        let Some(capacity) = allowed_capacity::<P>(capacity) else {
+            return Err(ReserveError);
+        };
+        let heap = HeapBuffer::with_capacity(alloc, capacity)?;
         Ok(Self::of(alloc, Buffer::Heap(heap)))
     }
 
@@ -105,17 +109,8 @@ impl<P: Policy> Repr<P> {
     {
         match &self.buffer {
             Buffer::Inline(inline) => Ok(Self::of(self.alloc, Buffer::Inline(inline.duplicate()))),
-            Buffer::Heap(heap) => Self::copy_of_heap(self.alloc, heap),
+            Buffer::Heap(heap) => Self::new(self.alloc, heap.as_str()),
             Buffer::Static(text) => Ok(Self::of(self.alloc, Buffer::Static(text))),
         }
-    }
-
-    /// A copy of a heap text, with a buffer made anew.
-    #[inline]
-    fn copy_of_heap(alloc: Global, heap: &HeapBuffer) -> Result<Self, ReserveError>
-        ensures ok { IfOk result (λ r. made P.growth heap.now.text ≡ Some r) }
-        ensures err { OnErr result (IsTrue (new_room_asks (size heap.now.text))) }
-    {
-        Self::new(alloc, heap.as_str())
     }
 }

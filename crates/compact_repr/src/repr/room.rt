@@ -1,16 +1,15 @@
 //! How room is made and given back.
-ghost use Rattle.std.specs.Prelude.{◌≡◌, ◌*◌, ◌/◌, ◌<◌, ◌^◌, [], max, nat_le, if◌then◌else◌, Some, None, IfOk, OnOk, OnErr, IsOk, IsTrue};
-ghost use Rattle.compact_repr.specs.Text.{text_of};
-ghost use Rattle.compact_repr.specs.Value.{is_static};
-ghost use Rattle.compact_repr.specs.Capacity.{new_room_asks, fits_in_place, room_asks, own_asks, allowed, on_heap, greatest};
+ghost use Rattle.std.specs.Prelude.{◌≡◌, ◌*◌, ◌/◌, ◌<◌, ◌≤◌, ◌^◌, [], false, max, nat_le, if◌then◌else◌, Some, None, IfOk, OnOk, OnErr, IsOk, IsTrue};
+ghost use Rattle.compact_repr.specs.Text.{size, text_of};
+ghost use Rattle.compact_repr.specs.Value.{placed, is_heap, is_static};
+ghost use Rattle.compact_repr.specs.Capacity.{new_room_asks, fits_in_place, room_asks, own_asks, inlined, on_heap, greatest};
 ghost use Rattle.compact_repr.specs.Change.{reserved, made_owned, Shrinks};
 
-use crate::buffer::Buffer;
 use crate::error::ReserveError;
 use crate::heap::HeapBuffer;
-use crate::inline::INLINE_CAPACITY;
+use crate::inline::{INLINE_CAPACITY, InlineBuffer};
 use crate::policy::Policy;
-use crate::repr::Repr;
+use crate::repr::{Buffer, Repr};
 use std::alloc::Global;
 
 /// The greatest capacity that may be asked for, 2^56 - 2 bytes.
@@ -24,31 +23,45 @@ impl<P: Policy> Repr<P> {
         ensures room { OnOk result (IsTrue (fits_in_place self.new additional)) }
         ensures err { OnErr result ((self.new ≡ self.old) × IsTrue (room_asks self.old additional)) }
     {
-        if self.buffer.has_room(additional) {
+        if self.fits_in_place(additional) {
             return Ok(());
         }
         self.make_room(additional)
     }
 
+    /// Whether `additional` more bytes fit as the text stands: its bytes are its own, and have that room.
+    #[inline]
+    fn fits_in_place(&self, additional: usize) -> bool
+        ensures { result ≡ fits_in_place self.now additional }
+    {
+        match &self.buffer {
+            Buffer::Inline(inline) => additional <= INLINE_CAPACITY - inline.len(),
+            Buffer::Heap(heap) => heap.has_room(additional),
+            Buffer::Static(_) => false,
+        }
+    }
+
+    /// Makes room that is not there: moves a short text inline, and any other to a greater heap buffer.
     #[cold]
     #[inline(never)]
-    fn make_room(&mut self, additional: usize) -> Result<(), ReserveError>
-        requires { ¬ IsTrue (fits_in_place self.old additional) }
+    pub(super) fn make_room(&mut self, additional: usize) -> Result<(), ReserveError>
+        requires { fits_in_place self.old additional ≡ false }
         ensures ok { OnOk result (reserved P.growth self.old additional ≡ Some self.new) }
+        ensures room { OnOk result (IsTrue (fits_in_place self.new additional)) }
         ensures err { OnErr result ((self.new ≡ self.old) × IsTrue (room_asks self.old additional)) }
     {
-        let len = self.buffer.len();
+        let len = self.len();
         let Some(needed) = len.checked_add(additional) else {
             return Err(ReserveError);
         };
         if needed <= INLINE_CAPACITY {
-            self.buffer.move_inline();
+            self.move_inline();
             return Ok(());
         }
         let Some(capacity) = grown_capacity::<P>(len, needed) else {
             return Err(ReserveError);
         };
-        self.buffer.move_to_heap(self.alloc, capacity)
+        self.move_to_heap(capacity)
     }
 
     /// Makes the text of a static value its own; every other stays as it is. An error changes nothing.
@@ -89,27 +102,39 @@ impl<P: Policy> Repr<P> {
         };
         let goal = heap.len().max(min_capacity);
         if goal <= INLINE_CAPACITY {
-            self.buffer.move_inline();
+            self.move_inline();
             return;
         }
         let capacity = goal.max(P::MIN_HEAP);
         if capacity < heap.capacity()
-            && let Ok(smaller) = heap.copy_with_capacity(self.alloc, capacity)
+            && let Ok(smaller) = HeapBuffer::copy_of(self.alloc, heap.as_str(), capacity)
         {
             self.buffer = Buffer::Heap(smaller);
         }
     }
 
-    /// An empty heap buffer with room for `capacity` bytes.
-    #[inline]
-    pub(super) fn new_heap(alloc: Global, capacity: usize) -> Result<HeapBuffer, ReserveError>
-        ensures { IfOk result (λ h. (h.text ≡ []) × (allowed (max P.growth.least capacity) ≡ Some (on_heap h.capacity))) }
+    /// Moves the text, which fits, into the value itself.
+    fn move_inline(&mut self)
+        requires { size self.old.text ≤ 24 }
+        ensures { self.new ≡ placed self.old.text inlined }
     {
-        let capacity = capacity.max(P::MIN_HEAP);
-        if capacity > GREATEST_CAPACITY {
-            return Err(ReserveError);
+        self.buffer = Buffer::Inline(InlineBuffer::new(self.as_str()));
+    }
+
+    /// Moves the text into a heap buffer of `capacity` bytes, at least as many as stand. An error changes nothing.
+    fn move_to_heap(&mut self, capacity: usize) -> Result<(), ReserveError>
+        requires fits { size self.old.text ≤ capacity }
+        requires grows { IsTrue (is_heap self.old.placement.place) → self.old.placement.capacity ≤ capacity }
+        ensures ok { OnOk result (self.new ≡ placed self.old.text (on_heap capacity)) }
+        ensures err { OnErr result (self.new ≡ self.old) }
+    {
+        if let Buffer::Heap(heap) = &mut self.buffer {
+            heap.grow(capacity)?;
+            return Ok(());
         }
-        Ok(HeapBuffer::with_capacity(alloc, capacity)?)
+        let heap = HeapBuffer::copy_of(self.alloc, self.as_str(), capacity)?;
+        self.buffer = Buffer::Heap(heap);
+        Ok(())
     }
 }
 
@@ -121,7 +146,14 @@ fn grown_capacity<P: Policy>(len: usize, needed: usize) -> Option<usize>
     let Some(product) = len.checked_mul(P::NUM) else {
         return None;
     };
-    let capacity = P::MIN_HEAP.max(needed).max(product / P::DEN);
+    allowed_capacity::<P>(needed.max(product / P::DEN))
+}
+
+/// The capacity of a heap buffer for `wanted` bytes, at least that of the policy; `None` is past the greatest.
+pub(super) fn allowed_capacity<P: Policy>(wanted: usize) -> Option<usize>
+    ensures { let c = max P.growth.least wanted in result ≡ (if nat_le c greatest then Some c else None) }
+{
+    let capacity = wanted.max(P::MIN_HEAP);
     if capacity > GREATEST_CAPACITY {
         return None;
     }

@@ -38,27 +38,27 @@ pub fn shift(row: &mut [u8], from: usize, to: usize, count: usize)
 
 /// Moves `count` bytes up by `DISTANCE` places.
 #[inline(always)]
-pub fn move_up<const DISTANCE: usize>(row: &mut [u8], from: usize, count: usize)
+fn move_up<const DISTANCE: usize>(row: &mut [u8], from: usize, count: usize)
     requires { from + DISTANCE + count ≤ length row.old }
     ensures { row.new ≡ paste row.old (from + DISTANCE) (drop from row.old) count }
 {
-    open::<DISTANCE>(&mut row[from..from + DISTANCE + count]);
+    move_part_up::<DISTANCE>(&mut row[from..from + DISTANCE + count]);
 }
 
 /// Moves `count` bytes down by `DISTANCE` places.
 #[inline(always)]
-pub fn move_down<const DISTANCE: usize>(row: &mut [u8], to: usize, count: usize)
+fn move_down<const DISTANCE: usize>(row: &mut [u8], to: usize, count: usize)
     requires { to + DISTANCE + count ≤ length row.old }
     ensures { row.new ≡ paste row.old to (drop (to + DISTANCE) row.old) count }
 {
-    close::<DISTANCE>(&mut row[to..to + DISTANCE + count]);
+    move_part_down::<DISTANCE>(&mut row[to..to + DISTANCE + count]);
 }
 
 /// Moves all but the last `DISTANCE` bytes up by as many places.
 ///
 /// It stands alone, with the distance known, so that the compiler makes one `memmove` of it.
 #[inline(never)]
-fn open<const DISTANCE: usize>(part: &mut [u8])
+fn move_part_up<const DISTANCE: usize>(part: &mut [u8])
     requires { DISTANCE ≤ length part.old }
     ensures { part.new ≡ paste part.old DISTANCE part.old (length part.old - DISTANCE) }
 {
@@ -70,7 +70,7 @@ fn open<const DISTANCE: usize>(part: &mut [u8])
 ///
 /// It stands alone, with the distance known, so that the compiler makes one `memmove` of it.
 #[inline(never)]
-fn close<const DISTANCE: usize>(part: &mut [u8])
+fn move_part_down<const DISTANCE: usize>(part: &mut [u8])
     requires { DISTANCE ≤ length part.old }
     ensures { part.new ≡ paste part.old 0 (drop DISTANCE part.old) (length part.old - DISTANCE) }
 {

@@ -1,6 +1,6 @@
 //! Rows of which a part is replaced, byte by byte beside what a reader would write down: the bytes before the part, the
 //! new ones, and the bytes after it. The lengths lie on both sides of each bound at which the moves take another way.
-use super::splice;
+use super::replace_range;
 use std::alloc::{AllocError, Global};
 use std::process::Abort;
 use std::test::Fail;
@@ -52,7 +52,7 @@ fn replaced(
     let source = source(alloc, come)?;
     assert!(rt; 10 <= end && end <= len && len <= row.len());
     assert!(rt; source.len() <= row.len() - len);
-    splice(row.as_mut_slice(), len, 10, end, source.as_slice());
+    replace_range(row.as_mut_slice(), len, 10, end, source.as_slice());
     for place in 0..10 {
         assert_eq!(rt; row.get(place), Some(&old(place)));
     }

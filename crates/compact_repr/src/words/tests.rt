@@ -1,5 +1,5 @@
 //! Rows by hand, at each length where another read begins or ends, and at each end of each word.
-use super::{closed, opened, row_of};
+use super::{insert_byte, remove_byte, row_of};
 use std::process::Abort;
 use std::test::Fail;
 
@@ -40,22 +40,22 @@ fn rows_of_more_words(rt: HostRuntime) -> Result<(), Fail> {
 
 #[test]
 fn a_byte_is_put_in(rt: HostRuntime) -> Result<(), Fail> {
-    assert_eq!(rt; &opened(ROW, 0, b'-'), b"-abcdefghijklmnopqrstuvw");
-    assert_eq!(rt; &opened(ROW, 7, b'-'), b"abcdefg-hijklmnopqrstuvw");
-    assert_eq!(rt; &opened(ROW, 8, b'-'), b"abcdefgh-ijklmnopqrstuvw");
-    assert_eq!(rt; &opened(ROW, 15, b'-'), b"abcdefghijklmno-pqrstuvw");
-    assert_eq!(rt; &opened(ROW, 16, b'-'), b"abcdefghijklmnop-qrstuvw");
-    assert_eq!(rt; &opened(ROW, 23, b'-'), b"abcdefghijklmnopqrstuvw-");
+    assert_eq!(rt; &insert_byte(ROW, 0, b'-'), b"-abcdefghijklmnopqrstuvw");
+    assert_eq!(rt; &insert_byte(ROW, 7, b'-'), b"abcdefg-hijklmnopqrstuvw");
+    assert_eq!(rt; &insert_byte(ROW, 8, b'-'), b"abcdefgh-ijklmnopqrstuvw");
+    assert_eq!(rt; &insert_byte(ROW, 15, b'-'), b"abcdefghijklmno-pqrstuvw");
+    assert_eq!(rt; &insert_byte(ROW, 16, b'-'), b"abcdefghijklmnop-qrstuvw");
+    assert_eq!(rt; &insert_byte(ROW, 23, b'-'), b"abcdefghijklmnopqrstuvw-");
     Ok(())
 }
 
 #[test]
 fn a_byte_is_taken_out(rt: HostRuntime) -> Result<(), Fail> {
-    assert_eq!(rt; &closed(ROW, 0), b"bcdefghijklmnopqrstuvwx\0");
-    assert_eq!(rt; &closed(ROW, 7), b"abcdefgijklmnopqrstuvwx\0");
-    assert_eq!(rt; &closed(ROW, 8), b"abcdefghjklmnopqrstuvwx\0");
-    assert_eq!(rt; &closed(ROW, 15), b"abcdefghijklmnoqrstuvwx\0");
-    assert_eq!(rt; &closed(ROW, 16), b"abcdefghijklmnoprstuvwx\0");
-    assert_eq!(rt; &closed(ROW, 23), b"abcdefghijklmnopqrstuvw\0");
+    assert_eq!(rt; &remove_byte(ROW, 0), b"bcdefghijklmnopqrstuvwx\0");
+    assert_eq!(rt; &remove_byte(ROW, 7), b"abcdefgijklmnopqrstuvwx\0");
+    assert_eq!(rt; &remove_byte(ROW, 8), b"abcdefghjklmnopqrstuvwx\0");
+    assert_eq!(rt; &remove_byte(ROW, 15), b"abcdefghijklmnoqrstuvwx\0");
+    assert_eq!(rt; &remove_byte(ROW, 16), b"abcdefghijklmnoprstuvwx\0");
+    assert_eq!(rt; &remove_byte(ROW, 23), b"abcdefghijklmnopqrstuvw\0");
     Ok(())
 }

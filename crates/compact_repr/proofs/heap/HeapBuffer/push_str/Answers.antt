@@ -1,21 +1,31 @@
-use Rattle.std.proofs.Common.{◌≡◌, length, ap, arith}
+use Rattle.std.proofs.Common.{◌≡◌, ℕ, ◌+◌, ◌≤◌, length, refl, ap, arith}
+use Rattle.std.proofs.lemmas.Bool.{false≢true}
 use Rattle.std.proofs.lemmas.Str.{IsUtf8-append}
 use Rattle.compact_repr.proofs.HeapTexts.{shown-capacity, shown-size}
 use Rattle.compact_repr.proofs.heap.HeapBuffer.push_str.Goals as goal
 
-pub append-requires-clause-room : goal.append-requires-clause-room
-append-requires-clause-room c =
+pub returns-then-not-write_behind-clause-fits : goal.returns-then-not-write_behind-clause-fits
+returns-then-not-write_behind-clause-fits c =
     let stands = shown-size _ _ _ c.self.view_is c.self.invariant.0 c.self.invariant.1 in
     let added : length c.as_bytes.result.now ≡ length c.args.text.now = ap length c.as_bytes.ensures.value in
-    omega (arith, stands, added, shown-capacity _ c.self.view_is, c.self.invariant.3)
+    let capacity = shown-capacity _ c.self.view_is in
+    ((λ h. absurd (false≢true h)), (λ h. c.if-not-write_behind.ensures.fits.1 (omega (arith, stands, added, capacity, h))))
 
-pub invariant_of-self : goal.invariant_of-self
-invariant_of-self c =
+pub returns-clause-fits : goal.returns-clause-fits
+returns-clause-fits c =
     let stands = shown-size _ _ _ c.self.view_is c.self.invariant.0 c.self.invariant.1 in
     let added : length c.as_bytes.result.now ≡ length c.args.text.now = ap length c.as_bytes.ensures.value in
-    let capacity = shown-capacity _ c.self.view_is in (
-      rw (← added, c.append.ensures.items) (IsUtf8-append _ _ c.self.invariant.0 c.as_bytes.ensures.utf8),
-      omega (arith, added),
-      omega (arith, added, stands, capacity),
-      omega (arith, added),
+    let capacity = shown-capacity _ c.self.view_is in
+    let fits = c.if-not-write_behind.ensures.fits.0 refl in
+    ((λ _. omega (arith, stands, added, capacity, fits)), (λ _. refl))
+
+pub invariant_of-self-2 : goal.invariant_of-self-2
+invariant_of-self-2 c =
+    let added : length c.as_bytes.result.now ≡ length c.args.text.now = ap length c.as_bytes.ensures.value in
+    let written = c.if-not-write_behind.ensures.written refl in
+    let long = c.if-not-write_behind.ensures.long refl in (
+      rw (← added, written) (IsUtf8-append _ _ c.self.invariant.0 c.as_bytes.ensures.utf8),
+      omega (arith, added, long, c.write_behind.new.bytes.ok.0),
+      omega (arith, c.if-not-write_behind.ensures.within, c.write_behind.new.bytes.ok.0),
+      c.if-not-write_behind.ensures.reserved,
     )

@@ -1,5 +1,6 @@
--- The first bytes spell the text, and so the bytes are replaced_text where the text is.
-use Rattle.std.proofs.Common.{◌≡◌, length, ap, arith}
+-- The first bytes spell the text, and so a part of the bytes is replaced where that part of the text is.
+use Rattle.std.proofs.Common.{◌≡◌, length, refl, ap, arith}
+use Rattle.std.proofs.lemmas.Bool.{false≢true}
 use Rattle.compact_repr.specs.Text.{size, text_of}
 use Rattle.compact_repr.proofs.Texts.{size-front, size-text_of}
 use Rattle.compact_repr.proofs.Cuts.{boundary-within, size-replaced, text_of-replaced, utf8-replaced}
@@ -11,36 +12,46 @@ overflow_sub-len-2 c =
     let within = boundary-within c.args.self.now c.args.end c.requires.last in
     omega (arith, stands, within)
 
-pub splice-requires-clause-within : goal.splice-requires-clause-within
-splice-requires-clause-within c =
+pub replace_bytes-requires-clause-within : goal.replace_bytes-requires-clause-within
+replace_bytes-requires-clause-within c =
     let stands = size-front _ _ c.self.view_is c.self.invariant.1 (omega arith) in
     let within = boundary-within c.args.self.now c.args.end c.requires.last in
     omega (arith, stands, within)
 
-pub splice-requires-clause-room : goal.splice-requires-clause-room
-splice-requires-clause-room c =
+pub returns-then-len-gt-INLINE_CAPACITY-clause-fits : goal.returns-then-len-gt-INLINE_CAPACITY-clause-fits
+returns-then-len-gt-INLINE_CAPACITY-clause-fits c =
     let stands = size-front _ _ c.self.view_is c.self.invariant.1 (omega arith) in
-    let added : length c.as_bytes.result.now ≡ length c.args.text.now = ap length c.as_bytes.ensures.value in
-    omega (arith, stands)
-
-pub invariant_of-self : goal.invariant_of-self
-invariant_of-self c =
-    let stands = size-front _ _ c.self.view_is c.self.invariant.1 (omega arith) in
-    let within = boundary-within c.args.self.now c.args.end c.requires.last in (
-      omega (arith, stands, within),
-      rw (← c.as_bytes.ensures.value, c.splice.ensures)
-          (utf8-replaced _ _ _ _ c.self.view_is c.self.invariant.1 c.as_bytes.ensures.utf8 c.requires.first c.requires.last),
-    )
-
-pub returns-clause-text : goal.returns-clause-text
-returns-clause-text c =
-    let spelled = text_of-replaced _ _ _ _ c.self.view_is c.self.invariant.1 c.as_bytes.ensures.utf8 c.requires.first c.requires.last in
-    rw (← c.as_bytes.ensures.value, c.splice.ensures) spelled
+    let within = boundary-within c.args.self.now c.args.end c.requires.last in
+    ((λ h. absurd (false≢true h)), (λ h. absurd (omega (arith, stands, within, h, c.if-len-gt-INLINE_CAPACITY.true))))
 
 pub returns-clause-fits : goal.returns-clause-fits
 returns-clause-fits c =
+    let stands = size-front _ _ c.self.view_is c.self.invariant.1 (omega arith) in
+    let within = boundary-within c.args.self.now c.args.end c.requires.last in
+    ((λ _. omega (arith, stands, within, c.if-len-gt-INLINE_CAPACITY.false)), (λ _. refl))
+
+pub invariant_of-self : goal.invariant_of-self
+invariant_of-self c = (
+  omega (arith, c.if-len-gt-INLINE_CAPACITY.false),
+  rw (← c.as_bytes.ensures.value, c.replace_bytes.ensures)
+      (utf8-replaced _ _ _ _ c.self.view_is c.self.invariant.1 c.as_bytes.ensures.utf8 c.requires.first c.requires.last),
+)
+
+pub returns-clause-replaced : goal.returns-clause-replaced
+returns-clause-replaced c _ =
+    let spelled = text_of-replaced _ _ _ _ c.self.view_is c.self.invariant.1 c.as_bytes.ensures.utf8 c.requires.first c.requires.last in
+    rw (← c.as_bytes.ensures.value, c.replace_bytes.ensures) spelled
+
+pub returns-clause-within : goal.returns-clause-within
+returns-clause-within c =
     let added : length c.as_bytes.result.now ≡ length c.args.text.now = ap length c.as_bytes.ensures.value in
+    let stands = size-front _ _ c.self.view_is c.self.invariant.1 (omega arith) in
     let spelled = text_of-replaced _ _ _ _ c.self.view_is c.self.invariant.1 c.as_bytes.ensures.utf8 c.requires.first c.requires.last in
     let whole = size-replaced c.args.self.now (text_of c.as_bytes.result.now) c.args.start c.args.end c.requires.first c.requires.last c.requires.order in
     let part = size-text_of c.as_bytes.result.now c.as_bytes.ensures.utf8 in
-    rw (← c.as_bytes.ensures.value, c.splice.ensures, ap size spelled) (omega (arith, whole, part))
+    rw (← c.as_bytes.ensures.value, c.replace_bytes.ensures, ap size spelled) (omega (arith, stands, whole, part, added, c.if-len-gt-INLINE_CAPACITY.false))
+
+pub returns-then-len-gt-INLINE_CAPACITY-clause-within : goal.returns-then-len-gt-INLINE_CAPACITY-clause-within
+returns-then-len-gt-INLINE_CAPACITY-clause-within c =
+    let stands = size-front _ _ c.self.view_is c.self.invariant.1 (omega arith) in
+    omega (arith, stands)

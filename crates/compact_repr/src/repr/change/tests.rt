@@ -9,11 +9,7 @@ fn replace(rt: &impl Abort, text: &mut Repr<Standard>, start: usize, end: usize,
     assert!(rt; start <= end);
     assert!(rt; text.is_char_boundary(start));
     assert!(rt; text.is_char_boundary(end));
-    assert!(rt; end - start <= text.len());
-    assert!(rt; text.len() - (end - start) + with.len() <= text.capacity());
-    assert!(rt; text.is_char_boundary(0));
-    assert!(rt; text.static_tail(0).is_none());
-    text.replace_range(start, end, with);
+    assert!(rt; text.replace_in_place(start, end, with));
 }
 
 fn truncate(rt: &impl Abort, text: &mut Repr<Standard>, len: usize) {

@@ -1,6 +1,6 @@
 use Rattle.std.proofs.Common.{◌-◌, length, arith}
 use Rattle.compact_repr.proofs.Ends.{ends}
-use Rattle.compact_repr.proofs.rows.put_ends.Goals as goal
+use Rattle.compact_repr.proofs.rows.write_ends.Goals as goal
 
 pub returns : goal.returns
 returns g c =

@@ -1,45 +1,14 @@
-//! Edits of a representation by byte position, and what stands at a position.
-ghost use Rattle.std.specs.Prelude.{◌≡◌, ◌+◌, ◌-◌, ◌≤◌, ◌<◌, ℕ, List, [], ◌∷◌, ◌++◌, length, true, false, IsTrue, ◌↔◌, MatchOption};
+//! What stands at a position of a representation's text, in bytes.
+ghost use Rattle.std.specs.Prelude.{◌≡◌, ◌<◌, ℕ, List, [], ◌∷◌, ◌++◌, length, true, false, IsTrue, ◌↔◌, MatchOption};
 ghost use Rattle.compact_repr.specs.Text.{size, text_of};
-ghost use Rattle.compact_repr.specs.Cut.{IsBoundary, after, replaced_text};
-ghost use Rattle.compact_repr.specs.Value.{placed, is_static};
-ghost use Rattle.compact_repr.specs.Change.{truncated};
+ghost use Rattle.compact_repr.specs.Cut.{IsBoundary, after};
+ghost use Rattle.compact_repr.specs.Value.{is_static};
 
-use super::Repr;
-use crate::buffer::Buffer;
 use crate::cut;
 use crate::policy::Policy;
-
-#[cfg(test)]
-mod tests;
+use crate::repr::{Buffer, Repr};
 
 impl<P: Policy> Repr<P> {
-    /// Replaces what stands from one position to another by `text`, in an owned value that has room for the outcome.
-    /// Positions are in bytes, between two characters. The place and the capacity stay, and no memory is taken.
-    #[inline(always)]
-    pub fn replace_range(&mut self, start: usize, end: usize, text: &str)
-        requires owned { is_static self.old.placement.place ≡ false }
-        requires order { start ≤ end }
-        requires first { IsBoundary self.old.text start }
-        requires last { IsBoundary self.old.text end }
-        requires room { size self.old.text + length text.now ≤ self.old.placement.capacity + (end - start) }
-        ensures { self.new ≡ placed (replaced_text self.old.text start end (text_of text.now)) self.old.placement }
-    {
-        self.buffer.replace_range(start, end, text);
-    }
-
-    /// Keeps the first `len` bytes, which end between two characters; from the end on, `len` changes nothing. The place
-    /// stays, and so does an owned capacity: a static text becomes the front of the same static text.
-    #[inline]
-    pub fn truncate(&mut self, len: usize)
-        requires { len < size self.old.text → IsBoundary self.old.text len }
-        ensures { self.new ≡ truncated self.old len }
-    {
-        if len < self.buffer.len() {
-            self.buffer.truncate(len);
-        }
-    }
-
     /// Whether `index`, in bytes, is between two characters, or at the start or the end.
     #[inline]
     pub fn is_char_boundary(&self, index: usize) -> bool

@@ -1,8 +1,8 @@
 use Rattle.std.proofs.Common.{ℕ, List, ◌≡◌, ◌-◌, ◌++◌, ◌∷◌, take, drop, ap, ◌∙◌, arith}
 use Rattle.compact_repr.specs.Words.{bytes_of}
 use Rattle.compact_repr.proofs.Numbers.{length-bytes_of}
-use Rattle.compact_repr.proofs.ChangedRows.{row_is_three, opened_first, opened_second, opened_third}
-use Rattle.compact_repr.proofs.words.opened.Goals as goal
+use Rattle.compact_repr.proofs.ChangedRows.{row_is_three, inserted_first, inserted_second, inserted_third}
+use Rattle.compact_repr.proofs.words.insert_byte.Goals as goal
 
 pub returns-in-0 : goal.returns-in-0
 returns-in-0 c =
@@ -11,8 +11,8 @@ returns-in-0 c =
     let third : List ℕ = bytes_of c.load8-third.result in
     let row : first ++ second ++ third ≡ c.args.row.now = row_is_three c.args.row.now first second third (omega arith) c.load8-first.ensures.bytes c.load8-second.ensures.bytes c.load8-third.ensures.bytes in
     c.row_of_words.ensures
-    ∙ opened_first first second third _ _ _ c.args.at c.args.byte c.last_byte.result c.last_byte-in-0.result (length-bytes_of c.load8-first.result) (length-bytes_of c.load8-second.result) (omega arith)
-    c.word_opened.ensures c.last_byte.ensures c.word_opened-in-0.ensures c.last_byte-in-0.ensures c.word_opened-in-0-2.ensures
+    ∙ inserted_first first second third _ _ _ c.args.at c.args.byte c.last_byte.result c.last_byte-in-0.result (length-bytes_of c.load8-first.result) (length-bytes_of c.load8-second.result) (omega arith)
+    c.word_insert_byte.ensures c.last_byte.ensures c.word_insert_byte-in-0.ensures c.last_byte-in-0.ensures c.word_insert_byte-in-0-2.ensures
     ∙ ap (λ (ys : List ℕ). take c.args.at ys ++ c.args.byte ∷ take (23 - c.args.at) (drop c.args.at ys)) row
 
 pub returns-in-1 : goal.returns-in-1
@@ -22,8 +22,8 @@ returns-in-1 c =
     let third : List ℕ = bytes_of c.load8-third.result in
     let row : first ++ second ++ third ≡ c.args.row.now = row_is_three c.args.row.now first second third (omega arith) c.load8-first.ensures.bytes c.load8-second.ensures.bytes c.load8-third.ensures.bytes in
     c.row_of_words-in-1.ensures
-    ∙ opened_second first second third _ _ c.args.at (c.args.at - 8) c.args.byte c.last_byte-in-1.result (length-bytes_of c.load8-first.result) (length-bytes_of c.load8-second.result) (omega arith) (omega arith)
-    c.word_opened-in-1.ensures c.last_byte-in-1.ensures c.word_opened-in-1-2.ensures
+    ∙ inserted_second first second third _ _ c.args.at (c.args.at - 8) c.args.byte c.last_byte-in-1.result (length-bytes_of c.load8-first.result) (length-bytes_of c.load8-second.result) (omega arith) (omega arith)
+    c.word_insert_byte-in-1.ensures c.last_byte-in-1.ensures c.word_insert_byte-in-1-2.ensures
     ∙ ap (λ (ys : List ℕ). take c.args.at ys ++ c.args.byte ∷ take (23 - c.args.at) (drop c.args.at ys)) row
 
 pub returns-in_default : goal.returns-in_default
@@ -33,5 +33,5 @@ returns-in_default c =
     let third : List ℕ = bytes_of c.load8-third.result in
     let row : first ++ second ++ third ≡ c.args.row.now = row_is_three c.args.row.now first second third (omega arith) c.load8-first.ensures.bytes c.load8-second.ensures.bytes c.load8-third.ensures.bytes in
     c.row_of_words-in_default.ensures
-    ∙ opened_third first second third _ c.args.at (c.args.at - 16) c.args.byte (length-bytes_of c.load8-first.result) (length-bytes_of c.load8-second.result) (omega arith) c.word_opened-in_default.ensures
+    ∙ inserted_third first second third _ c.args.at (c.args.at - 16) c.args.byte (length-bytes_of c.load8-first.result) (length-bytes_of c.load8-second.result) (omega arith) c.word_insert_byte-in_default.ensures
     ∙ ap (λ (ys : List ℕ). take c.args.at ys ++ c.args.byte ∷ take (23 - c.args.at) (drop c.args.at ys)) row

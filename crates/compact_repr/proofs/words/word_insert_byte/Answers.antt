@@ -1,0 +1,6 @@
+use Rattle.compact_repr.proofs.ChangedWords.{word_insert_byte-bytes}
+use Rattle.compact_repr.proofs.words.word_insert_byte.Goals as goal
+
+pub returns : goal.returns
+returns c =
+    word_insert_byte-bytes c.args.word c.args.at c.args.byte c.unit.result c.from.result c.ranges.word.fits c.requires c.ranges.byte.fits c.unit.ensures c.from.ensures

@@ -1,6 +1,0 @@
-use Rattle.compact_repr.proofs.ChangedWords.{word_opened-bytes}
-use Rattle.compact_repr.proofs.words.word_opened.Goals as goal
-
-pub returns : goal.returns
-returns c =
-    word_opened-bytes c.args.word c.args.at c.args.byte c.unit.result c.from.result c.ranges.word.fits c.requires c.ranges.byte.fits c.unit.ensures c.from.ensures

@@ -1,0 +1,135 @@
+//! Changes of a representation's text. Each looks once where the text stands and whether there is room; what then is left to
+//! do, to make room, stands aside.
+ghost use Rattle.std.specs.Prelude.{◌≡◌, ◌+◌, ◌-◌, ◌≤◌, ◌<◌, ◌++◌, length, Some, OnOk, OnErr, IsTrue, true, false, ◌↔◌};
+ghost use Rattle.compact_repr.specs.Text.{size, text_of};
+ghost use Rattle.compact_repr.specs.Cut.{IsBoundary, replaced_text};
+ghost use Rattle.compact_repr.specs.Value.{placed, is_static};
+ghost use Rattle.compact_repr.specs.Capacity.{fits_in_place};
+ghost use Rattle.compact_repr.specs.Change.{pushed, push_asks, cleared, truncated};
+
+use crate::cut::front;
+use crate::error::ReserveError;
+use crate::policy::Policy;
+use crate::repr::{Buffer, Repr};
+
+#[cfg(test)]
+mod tests;
+
+impl<P: Policy> Repr<P> {
+    /// Appends `text`; an empty one changes nothing. An error changes nothing.
+    #[inline]
+    pub fn push_str(&mut self, text: &str) -> Result<(), ReserveError>
+        ensures ok { OnOk result (pushed P.growth self.old (text_of text.now) ≡ Some self.new) }
+        ensures err { OnErr result ((self.new ≡ self.old) × IsTrue (push_asks self.old (text_of text.now))) }
+    {
+        if self.push_in_place(text) {
+            return Ok(());
+        }
+        self.push_with_more_room(text)
+    }
+
+    /// Appends `text` where the bytes are the value's own and have room. Answers whether that was so; if not, nothing has
+    /// changed.
+    #[inline]
+    pub fn push_in_place(&mut self, text: &str) -> bool
+        ensures fits { result ≡ fits_in_place self.old (length text.now) }
+        ensures pushed { IsTrue result → self.new ≡ placed (self.old.text ++ text_of text.now) self.old.placement }
+        ensures full { result ≡ false → self.new ≡ self.old }
+    {
+        match &mut self.buffer {
+            Buffer::Inline(inline) => inline.push_str(text),
+            Buffer::Heap(heap) => heap.push_str(text),
+            Buffer::Static(_) => false,
+        }
+    }
+
+    /// Appends `text` to what has no room for it in place.
+    #[cold]
+    #[inline(never)]
+    pub fn push_with_more_room(&mut self, text: &str) -> Result<(), ReserveError>
+        requires { fits_in_place self.old (length text.now) ≡ false }
+        ensures ok { OnOk result (pushed P.growth self.old (text_of text.now) ≡ Some self.new) }
+        ensures err { OnErr result ((self.new ≡ self.old) × IsTrue (push_asks self.old (text_of text.now))) }
+    {
+        if text.is_empty() {
+            return Ok(());
+        }
+        self.make_room(text.len())?;
+        if !self.push_in_place(text) {
+            unreachable!();
+        }
+        Ok(())
+    }
+
+    /// Replaces what stands from one position to another by `text` where the bytes are the value's own and the outcome
+    /// fits. Answers whether that was so; if not, nothing has changed. Positions are in bytes, between two characters. The
+    /// place and the capacity stay, and no memory is taken.
+    #[inline(always)]
+    pub fn replace_in_place(&mut self, start: usize, end: usize, text: &str) -> bool
+        requires order { start ≤ end }
+        requires first { IsBoundary self.old.text start }
+        requires last { IsBoundary self.old.text end }
+        ensures fits { IsTrue result ↔ ((is_static self.old.placement.place ≡ false) × (size self.old.text + length text.now ≤ self.old.placement.capacity + (end - start))) }
+        ensures replaced { IsTrue result → self.new ≡ placed (replaced_text self.old.text start end (text_of text.now)) self.old.placement }
+        ensures full { result ≡ false → self.new ≡ self.old }
+    {
+        match &mut self.buffer {
+            Buffer::Inline(inline) => inline.replace_range(start, end, text),
+            Buffer::Heap(heap) => heap.replace_range(start, end, text),
+            Buffer::Static(_) => false,
+        }
+    }
+
+    /// `replace_in_place` of an owned value that has room for the outcome.
+    #[inline(always)]
+    pub fn replace_range(&mut self, start: usize, end: usize, text: &str)
+        requires owned { is_static self.old.placement.place ≡ false }
+        requires order { start ≤ end }
+        requires first { IsBoundary self.old.text start }
+        requires last { IsBoundary self.old.text end }
+        requires room { size self.old.text + length text.now ≤ self.old.placement.capacity + (end - start) }
+        ensures { self.new ≡ placed (replaced_text self.old.text start end (text_of text.now)) self.old.placement }
+    {
+        if !self.replace_in_place(start, end, text) {
+            unreachable!();
+        }
+    }
+
+    /// Keeps the first `len` bytes, which end between two characters; from the end on, `len` changes nothing. The place
+    /// stays, and so does an owned capacity: a static text becomes the front of the same static text.
+    #[inline]
+    pub fn truncate(&mut self, len: usize)
+        requires { len < size self.old.text → IsBoundary self.old.text len }
+        ensures { self.new ≡ truncated self.old len }
+    {
+        match &mut self.buffer {
+            Buffer::Inline(inline) => {
+                if len < inline.len() {
+                    inline.truncate(len);
+                }
+            }
+            Buffer::Heap(heap) => {
+                if len < heap.len() {
+                    heap.truncate(len);
+                }
+            }
+            Buffer::Static(text) => {
+                if len < text.len() {
+                    *text = front(text, len);
+                }
+            }
+        }
+    }
+
+    /// Leaves the empty text, in its place.
+    #[inline]
+    pub fn clear(&mut self)
+        ensures { self.new ≡ cleared self.old }
+    {
+        match &mut self.buffer {
+            Buffer::Inline(inline) => inline.clear(),
+            Buffer::Heap(heap) => heap.clear(),
+            Buffer::Static(text) => *text = "",
+        }
+    }
+}
