@@ -12,6 +12,7 @@ mod inline;
 mod policy;
 mod repr;
 mod rows;
+mod static_text;
 mod words;
 
 pub use cut::cut_is_before_and_after;
