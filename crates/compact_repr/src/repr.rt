@@ -12,6 +12,7 @@ pub mod room;
 use crate::heap::HeapBuffer;
 use crate::inline::{INLINE_CAPACITY, InlineBuffer};
 use crate::policy::Policy;
+use crate::static_text::StaticText;
 use std::alloc::Global;
 use std::marker::{Model, PhantomData};
 
@@ -20,7 +21,7 @@ use std::marker::{Model, PhantomData};
 pub enum Buffer {
     Inline(InlineBuffer),
     Heap(HeapBuffer),
-    Static(&'static str),
+    Static(StaticText),
 }
 
 /// A text with a place and a capacity, whose heap buffers grow by the policy `P`.
@@ -85,7 +86,7 @@ impl<P: Policy> Repr<P> {
         match &self.buffer {
             Buffer::Inline(inline) => inline.as_str(),
             Buffer::Heap(heap) => heap.as_str(),
-            Buffer::Static(text) => text,
+            Buffer::Static(text) => text.as_static_str(),
         }
     }
 
@@ -97,7 +98,7 @@ impl<P: Policy> Repr<P> {
         ensures text { IfSome result (λ s. text_of s.now ≡ self.now.text) }
     {
         match &self.buffer {
-            Buffer::Static(text) => Some(*text),
+            Buffer::Static(text) => Some(text.as_static_str()),
             _ => None,
         }
     }

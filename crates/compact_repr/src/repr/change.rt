@@ -7,10 +7,10 @@ ghost use Rattle.compact_repr.specs.Value.{placed, is_static};
 ghost use Rattle.compact_repr.specs.Capacity.{fits_in_place};
 ghost use Rattle.compact_repr.specs.Change.{pushed, push_asks, cleared, truncated};
 
-use crate::cut::front;
 use crate::error::ReserveError;
 use crate::policy::Policy;
 use crate::repr::{Buffer, Repr};
+use crate::static_text::StaticText;
 
 #[cfg(test)]
 mod tests;
@@ -115,7 +115,7 @@ impl<P: Policy> Repr<P> {
             }
             Buffer::Static(text) => {
                 if len < text.len() {
-                    *text = front(text, len);
+                    *text = text.front(len);
                 }
             }
         }
@@ -129,7 +129,7 @@ impl<P: Policy> Repr<P> {
         match &mut self.buffer {
             Buffer::Inline(inline) => inline.clear(),
             Buffer::Heap(heap) => heap.clear(),
-            Buffer::Static(text) => *text = "",
+            Buffer::Static(text) => *text = StaticText::new(""),
         }
     }
 }
