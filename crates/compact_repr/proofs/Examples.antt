@@ -2,9 +2,9 @@
 use Rattle.std.specs.Prelude.{◌≡◌, ℕ, List, [], ◌∷◌, replicate, Some, None, true, false, refl}
 use Rattle.compact_repr.specs.Text.{size}
 use Rattle.compact_repr.specs.Cut.{before, after, replaced_text}
-use Rattle.compact_repr.specs.Value.{placed}
-use Rattle.compact_repr.specs.Capacity.{Growth, inlined, on_heap, borrowed, allowed, new_room, new_room_asks}
-use Rattle.compact_repr.specs.Change.{made, pushed, push_asks, cleared, reserved}
+use Rattle.compact_repr.specs.Value.{PlacedText, placed}
+use Rattle.compact_repr.specs.Capacity.{Growth, inlined, on_heap, borrowed, allowed, new_room, new_room_asks, fits_in_place, room, room_asks, kept, owned, own_asks, lasting, taken_over, copied, copy_asks, shrunk, shrink_asks}
+use Rattle.compact_repr.specs.Change.{made, pushed, push_asks, cleared, reserved, with_room, made_owned, copy_of, truncated}
 
 abbrev standard : Growth
 standard = record { least = 32; numerator = 3; denominator = 2 }
@@ -12,6 +12,14 @@ standard = record { least = 32; numerator = 3; denominator = 2 }
 -- so many letters `a`
 abbrev letters : ℕ → List ℕ
 letters n = replicate n 97
+
+-- so many of them in the program, as `const_new` makes a value of 25 or more
+abbrev static : ℕ → PlacedText
+static n = placed (letters n) (borrowed (letters n))
+
+-- so many of them in a heap buffer
+abbrev heap : ℕ → ℕ → PlacedText
+heap n capacity = placed (letters n) (on_heap capacity)
 
 -- an a with two dots, b, and a musical clef of four bytes
 abbrev mixed : List ℕ
@@ -68,11 +76,119 @@ the_greatest_capacity_is_allowed = refl
 one_more_is_not : allowed 72057594037927935 ≡ None
 one_more_is_not = refl
 
-nor_is_it_held : new_room standard 72057594037927935 ≡ None
-nor_is_it_held = refl
+nor_is_it_made_anew : new_room standard 72057594037927935 ≡ None
+nor_is_it_made_anew = refl
 
-holding_24_bytes_asks_for_nothing : new_room_asks 24 ≡ false
-holding_24_bytes_asks_for_nothing = refl
+room_for_24_bytes_asks_for_nothing : new_room_asks 24 ≡ false
+room_for_24_bytes_asks_for_nothing = refl
 
 one_byte_more_than_24_asks : push_asks (placed (letters 24) inlined) (letters 1) ≡ true
 one_byte_more_than_24_asks = refl
+
+a_static_text_is_owned_in_32_bytes : owned standard (static 30) ≡ Some (on_heap 32)
+a_static_text_is_owned_in_32_bytes = refl
+
+a_short_static_text_is_owned_inline : made_owned standard (static 10) ≡ Some (placed (letters 10) inlined)
+a_short_static_text_is_owned_inline = refl
+
+a_heap_text_is_owned_as_it_is : owned standard (heap 60 100) ≡ Some (on_heap 100)
+a_heap_text_is_owned_as_it_is = refl
+
+owning_a_static_text_of_25_bytes_asks : own_asks (static 25) ≡ true
+owning_a_static_text_of_25_bytes_asks = refl
+
+owning_a_static_text_of_24_bytes_asks_for_nothing : own_asks (static 24) ≡ false
+owning_a_static_text_of_24_bytes_asks_for_nothing = refl
+
+a_heap_text_is_copied_with_a_buffer_of_its_size : copy_of standard (heap 60 100) ≡ Some (heap 60 60)
+a_heap_text_is_copied_with_a_buffer_of_its_size = refl
+
+a_short_heap_text_is_copied_inline : copied standard (heap 11 11) ≡ Some inlined
+a_short_heap_text_is_copied_inline = refl
+
+a_static_text_is_copied_as_it_stands : copied standard (static 30) ≡ Some (borrowed (letters 30))
+a_static_text_is_copied_as_it_stands = refl
+
+an_inline_text_is_copied_as_it_stands : copied standard (placed (letters 3) inlined) ≡ Some inlined
+an_inline_text_is_copied_as_it_stands = refl
+
+copying_a_heap_text_of_25_bytes_asks : copy_asks (heap 25 100) ≡ true
+copying_a_heap_text_of_25_bytes_asks = refl
+
+copying_a_heap_text_of_24_bytes_asks_for_nothing : copy_asks (heap 24 100) ≡ false
+copying_a_heap_text_of_24_bytes_asks_for_nothing = refl
+
+room_of_100_is_shrunk_to_50 : shrunk standard (heap 0 100) 50 ≡ on_heap 50
+room_of_100_is_shrunk_to_50 = refl
+
+room_of_100_is_shrunk_to_32_for_25 : shrunk standard (heap 0 100) 25 ≡ on_heap 32
+room_of_100_is_shrunk_to_32_for_25 = refl
+
+room_of_50_is_shrunk_inline_for_10 : shrunk standard (heap 0 50) 10 ≡ inlined
+room_of_50_is_shrunk_inline_for_10 = refl
+
+room_of_100_stays_for_100 : shrunk standard (heap 0 100) 100 ≡ on_heap 100
+room_of_100_stays_for_100 = refl
+
+a_text_of_60_bytes_is_shrunk_to_60 : shrunk standard (heap 60 100) 0 ≡ on_heap 60
+a_text_of_60_bytes_is_shrunk_to_60 = refl
+
+a_text_of_28_bytes_is_shrunk_to_32 : shrunk standard (heap 28 100) 0 ≡ on_heap 32
+a_text_of_28_bytes_is_shrunk_to_32 = refl
+
+a_shrink_never_raises_a_capacity : shrunk standard (heap 26 26) 0 ≡ on_heap 26
+a_shrink_never_raises_a_capacity = refl
+
+a_static_text_is_not_shrunk : shrunk standard (static 30) 0 ≡ borrowed (letters 30)
+a_static_text_is_not_shrunk = refl
+
+a_shrink_to_a_lower_capacity_asks : shrink_asks standard (heap 28 100) 0 ≡ true
+a_shrink_to_a_lower_capacity_asks = refl
+
+a_shrink_that_lowers_nothing_asks_for_nothing : shrink_asks standard (heap 26 26) 0 ≡ false
+a_shrink_that_lowers_nothing_asks_for_nothing = refl
+
+a_shrink_to_inline_asks_for_nothing : shrink_asks standard (heap 0 100) 10 ≡ false
+a_shrink_to_inline_asks_for_nothing = refl
+
+a_short_string_is_taken_over_inline : taken_over (letters 3) 256 ≡ inlined
+a_short_string_is_taken_over_inline = refl
+
+a_long_string_keeps_its_capacity : taken_over (letters 25) 256 ≡ on_heap 256
+a_long_string_keeps_its_capacity = refl
+
+a_program_text_of_24_bytes_is_inline : lasting (letters 24) ≡ inlined
+a_program_text_of_24_bytes_is_inline = refl
+
+a_program_text_of_25_bytes_is_borrowed : lasting (letters 25) ≡ borrowed (letters 25)
+a_program_text_of_25_bytes_is_borrowed = refl
+
+a_static_text_is_truncated_in_its_place : truncated (static 30) 20 ≡ static 20
+a_static_text_is_truncated_in_its_place = refl
+
+a_heap_text_is_truncated_with_its_capacity : truncated (heap 30 45) 3 ≡ heap 3 45
+a_heap_text_is_truncated_with_its_capacity = refl
+
+truncating_past_the_end_changes_nothing : truncated (heap 30 45) 31 ≡ heap 30 45
+truncating_past_the_end_changes_nothing = refl
+
+a_static_text_of_20_bytes_has_room_inline : room standard (static 20) 1 ≡ Some inlined
+a_static_text_of_20_bytes_has_room_inline = refl
+
+a_static_text_never_fits_in_place : fits_in_place (static 3) 0 ≡ false
+a_static_text_never_fits_in_place = refl
+
+room_for_nothing_in_a_static_text_of_25_bytes_asks : room_asks (static 25) 0 ≡ true
+room_for_nothing_in_a_static_text_of_25_bytes_asks = refl
+
+room_for_200_is_just_that : reserved standard (placed [] inlined) 200 ≡ Some (placed [] (on_heap 200))
+room_for_200_is_just_that = refl
+
+no_room_is_made_past_the_greatest_capacity : room standard (placed (letters 1) inlined) 18446744073709551615 ≡ None
+no_room_is_made_past_the_greatest_capacity = refl
+
+an_empty_value_with_room_for_25_has_32 : with_room standard 25 ≡ Some (placed [] (on_heap 32))
+an_empty_value_with_room_for_25_has_32 = refl
+
+what_is_kept_of_a_heap_text_is_its_capacity : kept (heap 30 45) [] ≡ on_heap 45
+what_is_kept_of_a_heap_text_is_its_capacity = refl

@@ -25,7 +25,7 @@ impl Model for HeapBuffer {
     ghost use Rattle.std.specs.Prelude.{◌≤◌, length, take};
     ghost use Rattle.std.specs.Str.{IsUtf8};
     ghost use Rattle.std.specs.List.{replace_range};
-ghost use Rattle.std.specs.Vec.{vec_capacity};
+    ghost use Rattle.std.specs.Vec.{vec_capacity};
     ghost use Rattle.compact_repr.specs.Text.{text_of};
     ghost use Rattle.compact_repr.specs.HeapText.{HeapText};
 
@@ -155,7 +155,14 @@ impl HeapBuffer {
         ensures full { result ≡ false → self.new ≡ self.old }
     {
         let len = self.len - (end - start) + text.len();
-        if !replace_range(&mut self.bytes, self.len, start, end, text.as_bytes(), self.capacity) {
+        if !replace_range(
+            &mut self.bytes,
+            self.len,
+            start,
+            end,
+            text.as_bytes(),
+            self.capacity,
+        ) {
             return false;
         }
         self.len = len;
@@ -206,7 +213,14 @@ fn write_behind(bytes: &mut Vec<u8>, len: usize, source: &[u8], capacity: usize)
 /// Of the first `len` bytes replaces those from `start` to `end` by `source`, where the outcome fits in `capacity`, which
 /// the vector has reserved. Answers whether it does; if not, nothing has changed.
 #[inline(always)]
-fn replace_range(bytes: &mut Vec<u8>, len: usize, start: usize, end: usize, source: &[u8], capacity: usize) -> bool
+fn replace_range(
+    bytes: &mut Vec<u8>,
+    len: usize,
+    start: usize,
+    end: usize,
+    source: &[u8],
+    capacity: usize,
+) -> bool
     requires order { start ≤ end }
     requires inside { end ≤ len }
     requires stands { len ≤ vec_len bytes.old }

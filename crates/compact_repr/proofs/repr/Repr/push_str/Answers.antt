@@ -1,4 +1,4 @@
-use Rattle.std.proofs.Common.{sym, ◌∙◌, arith}
+use Rattle.std.proofs.Common.{sym, ◌∙◌}
 use Rattle.compact_repr.specs.Text.{text_of}
 use Rattle.compact_repr.proofs.Texts.{size-text_of}
 use Rattle.compact_repr.proofs.Changes.{pushed-in_place}
