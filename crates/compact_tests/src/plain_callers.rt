@@ -9,8 +9,9 @@ use std::fmt;
 use std::fmt::Write;
 
 /// Appends a line of a report: a name, an arrow and a value.
+#[tactic(auto, using(compact_str::proofs::ForCallers::for_callers))]
 pub fn append_report(line: &mut CompactString, name: &str, value: &str) -> fmt::Result
-    ensures { OnOk result (line.new.text ≡ line.old.text ++ text_of name.now ++ text_of (codes " → ") ++ text_of value.now) }
+    ensures { OnOk result (line.new.text ≡ line.old.text ++ text_of name.now ++ codes " → " ++ text_of value.now) }
 {
     write!(line, "{name} → {value}")
 }
