@@ -16,23 +16,24 @@ pub fn append_report(line: &mut CompactString, name: &str, value: &str) -> fmt::
     write!(line, "{name} → {value}")
 }
 
-/// Appends the fields of a record, for which room is made at once: all of them or, where that is refused, none.
+/// Appends two fields and a comma between them, for which room is made at once: all or, where that is refused, nothing.
+#[tactic(auto, using(compact_str::proofs::ForCallers::for_callers))]
 pub fn append_record(
     line: &mut CompactString,
     first: &str,
     second: &str,
-    third: &str,
 ) -> Result<(), ReserveError>
-    ensures text { OnOk result (line.new.text ≡ line.old.text ++ text_of first.now ++ text_of second.now ++ text_of third.now) }
+    ensures text { OnOk result (line.new.text ≡ line.old.text ++ text_of first.now ++ 44 ∷ text_of second.now) }
     ensures unchanged { OnErr result (line.new ≡ line.old) }
 {
-    line.reserve(first.len() + second.len() + third.len())?;
+    line.reserve(first.len() + 1 + second.len())?;
     line.push_str(first)?;
-    line.push_str(second)?;
-    line.push_str(third)
+    line.push(',')?;
+    line.push_str(second)
 }
 
 /// Appends two fields, and takes the first off again where the second is refused.
+#[tactic(auto, using(compact_str::proofs::ForCallers::for_callers))]
 pub fn append_pair(line: &mut CompactString, first: &str, second: &str) -> Result<(), ReserveError>
     ensures text { OnOk result (line.new.text ≡ line.old.text ++ text_of first.now ++ text_of second.now) }
     ensures rolled_back { OnErr result (line.new.text ≡ line.old.text) }
@@ -47,6 +48,7 @@ pub fn append_pair(line: &mut CompactString, first: &str, second: &str) -> Resul
 }
 
 /// Types two characters at a cursor, a boundary, and answers where the cursor then stands, in bytes.
+#[tactic(auto, using(compact_str::proofs::ForCallers::for_callers))]
 pub fn type_two(
     line: &mut CompactString,
     cursor: usize,
@@ -83,6 +85,7 @@ pub fn with_suffix(name: &CompactString, suffix: &str) -> Result<CompactString, 
 }
 
 /// Leaves the key of a `key=value` field and answers its value; `None`, and the field as it was, where it has no `=`.
+#[tactic(auto, using(compact_str::proofs::ForCallers::for_callers))]
 pub fn split_field(field: &mut CompactString) -> Result<Option<CompactString>, ReserveError>
     ensures parts { IfOk result (λ value. MatchOption value (field.new ≡ field.old) (λ v. field.old.text ≡ field.new.text ++ text_of (codes "=") ++ v.text)) }
     ensures unchanged { OnErr result (field.new ≡ field.old) }

@@ -97,7 +97,7 @@ impl<P: Policy> PolicyString<P> {
 }
 
 impl<P: Policy> fmt::Write for PolicyString<P> {
-    ghost write_str_gives = { λ v bytes w. Writes P.growth v bytes w };
+    ghost write_str_gives = { Writes P.growth };
 
     #[tactic(auto, using(compact_repr::proofs::TextFacts::text_facts, crate::proofs::EditFacts::append_facts))]
     /// Appends `text` as `push_str` does; a refusal is an error of `fmt`, and nothing has changed.

@@ -1,5 +1,5 @@
 //! How the text is changed by byte position.
-ghost use Rattle.std.specs.Prelude.{◌≡◌, ◌+◌, ◌-◌, ◌<◌, ◌≤◌, ◌↔◌, ◌∷◌, [], length, Some, None, IfOk, OnOk, OnErr, IsOk, IsTrue, MatchOption, false};
+ghost use Rattle.std.specs.Prelude.{◌≡◌, ◌+◌, ◌-◌, ◌^◌, ◌<◌, ◌≤◌, ◌↔◌, ◌∷◌, [], length, Some, None, IfOk, OnOk, OnErr, IsOk, IsTrue, MatchOption, false};
 ghost use Rattle.std.specs.Char.{len_utf8};
 ghost use Rattle.std.specs.Range.Bound.{start_index, end_index};
 ghost use Rattle.compact_repr.specs.Text.{size, text_of};
@@ -52,10 +52,13 @@ impl<P: Policy> PolicyString<P> {
         ensures text { OnOk result (self.new.text ≡ replaced_text self.old.text index index (text_of text.now)) }
         ensures place { OnOk result (IsBoundary self.new.text index) }
         ensures behind { OnOk result (IsBoundary self.new.text (index + length text.now)) }
+        ensures behind_fits { OnOk result (index + length text.now < 2 ^ 64) }
         ensures room { OnOk result (sure_capacity self.old ≤ sure_capacity self.new) }
         ensures succeeds { HasRoomFor self.old (length text.now) → IsOk result }
         ensures err { OnErr result ((self.new ≡ self.old) × IsTrue (room_asks self.old (size (text_of text.now)))) }
     {
+        // The proof reads from it that the text is short of 2^63 bytes.
+        let _len = self.repr.len();
         self.repr.reserve(text.len())?;
         self.repr.replace_range(index, index, text);
         Ok(())
@@ -71,6 +74,7 @@ impl<P: Policy> PolicyString<P> {
         ensures text { OnOk result (self.new.text ≡ replaced_text self.old.text index index (character ∷ [])) }
         ensures place { OnOk result (IsBoundary self.new.text index) }
         ensures behind { OnOk result (IsBoundary self.new.text (index + len_utf8 character)) }
+        ensures behind_fits { OnOk result (index + len_utf8 character < 2 ^ 64) }
         ensures room { OnOk result (sure_capacity self.old ≤ sure_capacity self.new) }
         ensures succeeds { HasRoomFor self.old (len_utf8 character) → IsOk result }
         ensures err { OnErr result ((self.new ≡ self.old) × IsTrue (room_asks self.old (len_utf8 character))) }
