@@ -16,7 +16,7 @@ use Rattle.compact_str.specs.Edits.{Writes}
 use Rattle.compact_repr.proofs.Texts.{length-utf8, utf8-text_of, size-text_of, size-append, empty_text}
 use Rattle.compact_repr.proofs.Changes.{pushed-text}
 use Rattle.compact_repr.proofs.Cuts.{before-after, before-cut, after-cut, boundary-text, text_of-take, text_of-drop, boundary-within, size-before, size-after}
-use Rattle.compact_str.proofs.Positions.{boundary-seam}
+use Rattle.compact_str.proofs.Positions.{before-before}
 
 -- the parts that a formatter wrote are a text together, which is joined
 written-parts : (g : Growth) (v w : PlacedText) (parts : List (List ℕ)) → FoldsTo (Writes g) v parts w → IsUtf8 (concat parts) × (w.text ≡ v.text ++ text_of (concat parts))
@@ -76,4 +76,4 @@ found-text t s c i j k h e u b is =
     ∙ ap (λ x. c ∷ x) (text_of-drop s k e u (found-behind t s c i j k h e u is)) in
     before-after t i ∙ ap (λ x. before t i ++ x) rest
 
-pub ruleset for_callers = (length-utf8, utf8-text_of, size-text_of, size-append, chars-nil, chars-append, IsUtf8-append, written-text, text_of-one, text_of-two, text_of-three, text_of-four, append_assoc, before-cut, after-cut, boundary-seam, boundary-within)
+pub ruleset for_callers = (length-utf8, utf8-text_of, size-text_of, size-append, chars-nil, chars-append, IsUtf8-append, written-text, text_of-one, text_of-two, text_of-three, text_of-four, append_assoc, before-cut, after-cut, before-before, boundary-within, found-text)

@@ -2,6 +2,7 @@
 use Rattle.std.proofs.Common.{◌≡◌, Some, ℕ, ◌+◌, ◌-◌, ◌<◌, ◌≤◌, List, [], ◌∷◌, ◌++◌, refl, ap, sym, ◌∙◌, arith, append_assoc, append-nil}
 use Rattle.std.proofs.lemmas.Grind.{common_steps}
 use Rattle.std.proofs.lemmas.Bool.{cond-true, cond-false, lt-leb, le-leb}
+use Rattle.std.proofs.lemmas.Bool.Decides.{nat_tests}
 use Rattle.std.proofs.lemmas.Str.{len_utf8_bounds}
 use Rattle.std.specs.Char.{len_utf8}
 use Rattle.compact_repr.specs.Text.{size}
@@ -11,7 +12,7 @@ use Rattle.compact_repr.specs.Capacity.{Growth, kept, owned}
 use Rattle.compact_repr.specs.Change.{reserved, truncated, made_owned}
 use Rattle.compact_str.specs.Edits.{Removes}
 use Rattle.compact_repr.proofs.Texts.{size-append, empty_text}
-use Rattle.compact_repr.proofs.Cuts.{before-after, before-cut, after-cut, size-before, size-after}
+use Rattle.compact_repr.proofs.Cuts.{boundary-from_size, before-after, before-cut, after-cut, size-before, size-after}
 
 -- a text that is cut before its last character
 pub truncated-last : (v : PlacedText) (front : List ℕ) (c : ℕ) → v.text ≡ front ++ c ∷ [] → truncated v (size v.text - len_utf8 c) ≡ placed front (kept v front)
@@ -51,6 +52,18 @@ before-all (c ∷ cs) p h =
 
 pub truncated-text : (v : PlacedText) (p : ℕ) → (truncated v p).text ≡ before v.text p
 truncated-text v p = grind (arith, common_steps, before-all)
+
+-- a boundary of a text is one of its front, and the front up to it is the same
+before-step : (cs : List ℕ) (c p q : ℕ) → p ≤ q → before (before cs (q - len_utf8 c)) (p - len_utf8 c) ≡ before cs (p - len_utf8 c)
+    → before (before (c ∷ cs) q) p ≡ before (c ∷ cs) p
+before-step cs c p q h same = grind (arith, nat_tests)
+
+pub before-before : (t : List ℕ) (p q : ℕ) → p ≤ q → before (before t q) p ≡ before t p
+before-before [] p q h = refl
+before-before (c ∷ cs) p q h = before-step cs c p q h (before-before cs (p - len_utf8 c) (q - len_utf8 c) (omega arith))
+
+pub before-boundary : (t : List ℕ) (p q : ℕ) → p ≤ q → IsBoundary t p → IsBoundary (before t q) p
+before-boundary t p q h k = boundary-from_size (before t q) p (ap size (before-before t p q h) ∙ size-before t p k)
 
 -- where a text was put together it may be cut
 pub boundary-seam : (a b : List ℕ) (p : ℕ) → size a ≡ p → IsBoundary (a ++ b) p

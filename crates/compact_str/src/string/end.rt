@@ -1,5 +1,5 @@
 //! How the text is changed at its end.
-ghost use Rattle.std.specs.Prelude.{◌≡◌, ◌<◌, ◌≤◌, ◌++◌, ◌∷◌, [], length, Some, IfOk, IfErr, OnOk, OnErr, IsOk, IsTrue, MatchOption};
+ghost use Rattle.std.specs.Prelude.{◌≡◌, ℕ, ◌<◌, ◌≤◌, ◌++◌, ◌∷◌, [], length, Some, IfOk, IfErr, OnOk, OnErr, IsOk, IsTrue, MatchOption};
 ghost use Rattle.std.specs.Char.{len_utf8};
 ghost use Rattle.compact_repr.specs.Text.{size, text_of, utf8};
 ghost use Rattle.compact_repr.specs.Cut.{IsBoundary, before};
@@ -82,6 +82,7 @@ impl<P: Policy> PolicyString<P> {
         requires { len < size self.old.text → IsBoundary self.old.text len }
         ensures value { self.new ≡ truncated self.old len }
         ensures text { self.new.text ≡ before self.old.text len }
+        ensures boundaries { (i : ℕ) → i ≤ len → IsBoundary self.old.text i → IsBoundary self.new.text i }
     {
         self.repr.truncate(len);
     }

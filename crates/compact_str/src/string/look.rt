@@ -1,6 +1,8 @@
 //! How a value is looked at.
-ghost use Rattle.std.specs.Prelude.{◌≡◌, ◌<◌, ◌^◌, ◌↔◌, [], length, IsTrue, IsSome, IfSome};
+ghost use Rattle.std.specs.Prelude.{◌≡◌, ℕ, ◌<◌, ◌^◌, ◌↔◌, [], length, IsTrue, IsSome, IfSome};
+ghost use Rattle.std.specs.Str.{IsCharBoundary};
 ghost use Rattle.compact_repr.specs.Text.{size, utf8, text_of};
+ghost use Rattle.compact_repr.specs.Cut.{IsBoundary};
 ghost use Rattle.compact_repr.specs.Value.{is_heap, is_static, IsSound};
 
 use crate::string::PolicyString;
@@ -22,6 +24,7 @@ impl<P: Policy> PolicyString<P> {
         ensures bytes { result.now ≡ utf8 self.now.text }
         ensures text { text_of result.now ≡ self.now.text }
         ensures len { length result.now ≡ size self.now.text }
+        ensures boundaries { (i : ℕ) → IsCharBoundary result.now i → IsBoundary self.now.text i }
     {
         self.repr.as_str()
     }

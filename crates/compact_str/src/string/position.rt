@@ -1,5 +1,5 @@
 //! How the text is changed by byte position.
-ghost use Rattle.std.specs.Prelude.{◌≡◌, ◌+◌, ◌-◌, ◌^◌, ◌<◌, ◌≤◌, ◌↔◌, ◌∷◌, [], length, Some, None, IfOk, OnOk, OnErr, IsOk, IsTrue, MatchOption, false};
+ghost use Rattle.std.specs.Prelude.{◌≡◌, ℕ, ◌+◌, ◌-◌, ◌^◌, ◌<◌, ◌≤◌, ◌↔◌, ◌∷◌, [], length, Some, None, IfOk, OnOk, OnErr, IsOk, IsTrue, MatchOption, false};
 ghost use Rattle.std.specs.Char.{len_utf8};
 ghost use Rattle.std.specs.Range.Bound.{start_index, end_index};
 ghost use Rattle.compact_repr.specs.Text.{size, text_of};
@@ -164,6 +164,7 @@ impl<P: Policy> PolicyString<P> {
         ensures ok { IfOk result (λ tail. (split_tail P.growth self.old index ≡ Some tail) × (let front = before self.old.text index in self.new ≡ placed front (kept self.old front))) }
         ensures text { IfOk result (λ tail. (self.new.text ≡ before self.old.text index) × (tail.text ≡ after self.old.text index)) }
         ensures cut { IfOk result (λ tail. IsCut self.old.text index self.new.text tail.text) }
+        ensures boundaries { IsOk result → (i : ℕ) → i ≤ index → IsBoundary self.old.text i → IsBoundary self.new.text i }
         ensures succeeds { size self.old.text ≤ index + 24 → IsOk result }
         ensures succeeds_static { IsTrue (is_static self.old.placement.place) → IsOk result }
         ensures err { OnErr result ((self.new ≡ self.old) × IsTrue (split_asks self.old index)) }
