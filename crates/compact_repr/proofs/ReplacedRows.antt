@@ -30,26 +30,27 @@ replaced-moved row s len start end order within held room =
     ∙ ap (λ x. take start row ++ s ++ x) (between_is row end len)
     ∙ ap (λ x. x ++ s ++ drop end (take len row)) (sym (take-take start len row (omega arith)))
 
--- one byte comes: the tail moves one place up
-pub replaced-in : (row s moved : List ℕ) (len start end : ℕ) → start ≡ end → length s ≡ 1 → end ≤ len → len < length row
-    → moved ≡ paste row (start + 1) (drop start row) (len - start)
-    → take (len - (end - start) + length s) (paste moved start s (length s)) ≡ replace_range (take len row) start end s
-replaced-in row s moved len start end same one within room e =
-    let at : moved ≡ paste row (start + length s) (drop end row) (len - end) = rw (← same, one) e in
-    ap (λ x. take (len - (end - start) + length s) (paste x start s (length s))) at ∙ replaced-moved row s len start end (omega arith) within (omega arith) (omega arith)
+-- one byte comes: the tail moves one place up, and the byte is written in the gap
+pub byte-in : (row moved : List ℕ) (byte len at : ℕ) → at ≤ len → len < length row → moved ≡ paste row (at + 1) (drop at row) (len - at)
+    → take (len + 1) (paste moved at (byte ∷ []) 1) ≡ replace_range (take len row) at at (byte ∷ [])
+byte-in row moved byte len at within room e =
+    let more : len + 1 ≡ len - (at - at) + 1 = omega arith in
+    ap (λ (n : ℕ). take n (paste moved at (byte ∷ []) 1)) more
+    ∙ ap (λ x. take (len - (at - at) + 1) (paste x at (byte ∷ []) 1)) e
+    ∙ replaced-moved row (byte ∷ []) len at at (omega arith) within (omega arith) (omega arith)
 
 -- one byte goes: the tail moves one place down
-pub replaced-out : (row s moved : List ℕ) (len start end : ℕ) → end - start ≡ 1 → s ≡ [] → end ≤ len → len ≤ length row
-    → moved ≡ paste row start (drop (start + 1) row) (len - end)
-    → take (len - (end - start) + length s) moved ≡ replace_range (take len row) start end s
-replaced-out row s moved len start end one none within held e =
-    let zero : length s ≡ 0 = ap length none in
-    let unwritten : paste moved start s (length s) ≡ moved = ap (λ (n : ℕ). paste moved start s n) zero ∙ sym (paste_none moved start s) in
-    let to : start ≡ start + length s = omega arith in
-    let from : start + 1 ≡ end = omega arith in
-    let at : moved ≡ paste row (start + length s) (drop end row) (len - end) = cc in
-    ap (take (len - (end - start) + length s)) (sym unwritten ∙ ap (λ x. paste x start s (length s)) at)
-    ∙ replaced-moved row s len start end (omega arith) within held (omega arith)
+pub byte-out : (row moved : List ℕ) (len at : ℕ) → at < len → len ≤ length row → moved ≡ paste row at (drop (at + 1) row) (len - at - 1)
+    → take (len - 1) moved ≡ replace_range (take len row) at (at + 1) []
+byte-out row moved len at within held e =
+    let less : len - 1 ≡ len - (at + 1 - at) + 0 = omega arith in
+    let to : at ≡ at + 0 = omega arith in
+    let count : len - at - 1 ≡ len - (at + 1) = omega arith in
+    let whole : moved ≡ paste row (at + 0) (drop (at + 1) row) (len - (at + 1)) =
+    e ∙ ap (λ (n : ℕ). paste row at (drop (at + 1) row) n) count ∙ ap (λ (n : ℕ). paste row n (drop (at + 1) row) (len - (at + 1))) to in
+    ap (λ (n : ℕ). take n moved) less
+    ∙ ap (take (len - (at + 1 - at) + 0)) (paste_none moved at [] ∙ ap (λ x. paste x at [] 0) whole)
+    ∙ replaced-moved row [] len at (at + 1) (omega arith) (omega arith) held (omega arith)
 
 -- what is written behind the first bytes stands there
 pub appended : (row s : List ℕ) (len : ℕ) → len ≤ length row → take (len + length s) (paste row len s (length s)) ≡ take len row ++ s
@@ -65,13 +66,8 @@ tail-is row len end within =
     let all : end + (len - end) ≡ len = omega arith in
     sym (drop-take end (len - end) row) ∙ ap (λ (n : ℕ). drop end (take n row)) all
 
-pub one-byte : (s : List ℕ) → length s ≡ 1 → s ≡ get_or s 0 0 ∷ []
-one-byte [] e = absurd (omega arith)
-one-byte (byte ∷ []) e = refl
-one-byte (byte ∷ next ∷ s) e = absurd (omega arith)
-
 -- one byte comes into a row of 24: what stands from its place on has moved one place up
-pub replaced-word-in : (row s now : List ℕ) (byte len start end : ℕ) → start ≡ end → s ≡ byte ∷ [] → end ≤ len → len < 24 → length row ≡ 24
+replaced-word-in : (row s now : List ℕ) (byte len start end : ℕ) → start ≡ end → s ≡ byte ∷ [] → end ≤ len → len < 24 → length row ≡ 24
     → now ≡ take start row ++ byte ∷ take (23 - start) (drop start row) → take (len - (end - start) + length s) now ≡ replace_range (take len row) start end s
 replaced-word-in row s now byte len start end same one within room full e =
     let front : List ℕ = take start row in
@@ -92,7 +88,7 @@ replaced-word-in row s now byte len start end same one within room full e =
     ∙ ap (λ x. x ++ s ++ drop end (take len row)) (sym (take-take start len row (omega arith)))
 
 -- one byte goes from a row of 24: what stands behind it has moved one place down
-pub replaced-word-out : (row s now : List ℕ) (len start end : ℕ) → end - start ≡ 1 → s ≡ [] → end ≤ len → len ≤ 24 → length row ≡ 24
+replaced-word-out : (row s now : List ℕ) (len start end : ℕ) → end - start ≡ 1 → s ≡ [] → end ≤ len → len ≤ 24 → length row ≡ 24
     → now ≡ take start row ++ drop (start + 1) row ++ 0 ∷ [] → take (len - (end - start) + length s) now ≡ replace_range (take len row) start end s
 replaced-word-out row s now len start end one none within room full e =
     let front : List ℕ = take start row in
@@ -112,3 +108,16 @@ replaced-word-out row s now len start end one none within room full e =
     ∙ ap (λ x. x ++ take k moved) empty
     ∙ ap (λ x. front ++ s ++ x) (tail-is row len end within)
     ∙ ap (λ x. x ++ s ++ drop end (take len row)) (sym (take-take start len row (omega arith)))
+
+-- the same, of one byte at a place
+pub word-byte-in : (row now : List ℕ) (byte len at : ℕ) → at ≤ len → len < 24 → length row ≡ 24 → now ≡ take at row ++ byte ∷ take (23 - at) (drop at row)
+    → take (len + 1) now ≡ replace_range (take len row) at at (byte ∷ [])
+word-byte-in row now byte len at within room full e =
+    let more : len + 1 ≡ len - (at - at) + 1 = omega arith in
+    ap (λ (n : ℕ). take n now) more ∙ replaced-word-in row (byte ∷ []) now byte len at at refl refl within room full e
+
+pub word-byte-out : (row now : List ℕ) (len at : ℕ) → at < len → len ≤ 24 → length row ≡ 24 → now ≡ take at row ++ drop (at + 1) row ++ 0 ∷ []
+    → take (len - 1) now ≡ replace_range (take len row) at (at + 1) []
+word-byte-out row now len at within room full e =
+    let less : len - 1 ≡ len - (at + 1 - at) + 0 = omega arith in
+    ap (λ (n : ℕ). take n now) less ∙ replaced-word-out row [] now len at (at + 1) (omega arith) refl (omega arith) room full e

@@ -1,22 +1,19 @@
 //! The one refusal of the representation.
+ghost use Rattle.std.specs.Prelude.{◌≡◌};
 
 use std::alloc::AllocError;
-use std::error::Error;
-use std::fmt;
+use thiserror::Error;
 
 /// Room was refused: no memory was found, or a capacity past 2^56 - 2 bytes would have been needed.
-#[derive(Clone, Copy, Debug, PartialEq, Eq)]
+///
+/// It shows as `Cannot allocate memory to hold CompactString`.
+#[derive(Clone, Copy, Debug, PartialEq, Eq, Error)]
+#[error("Cannot allocate memory to hold CompactString")]
 pub struct ReserveError;
 
-impl fmt::Display for ReserveError {
-    fn fmt<W: fmt::Write>(&self, f: &mut fmt::Formatter<W>) -> fmt::Result {
-        f.write_str("Cannot allocate memory to hold CompactString")
-    }
-}
-
-impl Error for ReserveError {}
-
 impl From<AllocError> for ReserveError {
+    ghost from_gives = { λ _ error. error ≡ record {} };
+
     fn from(_error: AllocError) -> Self {
         ReserveError
     }

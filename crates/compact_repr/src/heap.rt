@@ -1,5 +1,5 @@
 //! A text in a vector of bytes on the heap, beside its length and a capacity that the vector has reserved.
-ghost use Rattle.std.specs.Prelude.{◌≡◌, ◌+◌, ◌-◌, ◌≤◌, ◌<◌, ◌^◌, [], ◌++◌, length, take, true, false, IfOk, OnOk, OnErr, IsTrue, ◌↔◌};
+ghost use Rattle.std.specs.Prelude.{◌≡◌, ◌+◌, ◌-◌, ◌≤◌, ◌<◌, ◌^◌, [], ◌∷◌, ◌++◌, length, take, true, false, IfOk, OnOk, OnErr, IsTrue, ◌↔◌};
 ghost use Rattle.std.specs.List.{replace_range};
 ghost use Rattle.std.specs.Vec.{vec_len, vec_capacity};
 ghost use Rattle.std.specs.String.{string_bytes, string_capacity};
@@ -169,6 +169,36 @@ impl HeapBuffer {
         true
     }
 
+    /// Puts an ASCII character in at a boundary where it fits, and takes no memory. Answers whether it fitted; if not,
+    /// nothing has changed.
+    #[inline]
+    pub fn insert_ascii(&mut self, index: usize, byte: u8) -> bool
+        requires ascii { byte < 128 }
+        requires boundary { IsBoundary self.old.text index }
+        ensures fits { IsTrue result ↔ (size self.old.text + 1 ≤ self.old.capacity) }
+        ensures inserted { IsTrue result → self.new ≡ record { text = replaced_text self.old.text index index (byte ∷ []); capacity = self.old.capacity } }
+        ensures within { size self.new.text ≤ self.old.capacity }
+        ensures full { result ≡ false → self.new ≡ self.old }
+    {
+        if !insert_byte(&mut self.bytes, self.len, index, byte, self.capacity) {
+            return false;
+        }
+        self.len += 1;
+        true
+    }
+
+    /// Takes the ASCII character out that begins at a boundary.
+    #[inline]
+    pub fn remove_ascii(&mut self, index: usize)
+        requires boundary { IsBoundary self.old.text index }
+        requires next { IsBoundary self.old.text (index + 1) }
+        ensures removed { self.new ≡ record { text = replaced_text self.old.text index (index + 1) []; capacity = self.old.capacity } }
+        ensures within { size self.new.text ≤ self.old.capacity }
+    {
+        remove_byte(&mut self.bytes, self.len, index);
+        self.len -= 1;
+    }
+
     /// Keeps the first `len` bytes, which end at a boundary, and the capacity.
     #[inline]
     pub fn truncate(&mut self, len: usize)
@@ -239,6 +269,41 @@ fn replace_range(
     }
     rows::replace_range(bytes.as_mut_slice(), len, start, end, source);
     true
+}
+
+/// Puts `byte` in at a place of the first `len` bytes, where one more fits in `capacity`, which the vector has reserved.
+/// Answers whether it does; if not, nothing has changed.
+#[inline(always)]
+fn insert_byte(bytes: &mut Vec<u8>, len: usize, index: usize, byte: u8, capacity: usize) -> bool
+    requires inside { index ≤ len }
+    requires stands { len ≤ vec_len bytes.old }
+    requires within { vec_len bytes.old ≤ capacity }
+    requires reserved { capacity ≤ vec_capacity bytes.old }
+    ensures fits { IsTrue result ↔ (len + 1 ≤ capacity) }
+    ensures inserted { IsTrue result → take (len + 1) bytes.new.items ≡ replace_range (take len bytes.old.items) index index (byte ∷ []) }
+    ensures full { result ≡ false → take len bytes.new.items ≡ take len bytes.old.items }
+    ensures longer { vec_len bytes.old ≤ vec_len bytes.new }
+    ensures long { IsTrue result → len + 1 ≤ vec_len bytes.new }
+    ensures within { vec_len bytes.new ≤ capacity }
+    ensures reserved { capacity ≤ vec_capacity bytes.new }
+{
+    if !reach(bytes, len + 1, capacity) {
+        return false;
+    }
+    rows::insert_byte(bytes.as_mut_slice(), len, index, byte);
+    true
+}
+
+/// Takes the byte at a place of the first `len` bytes out.
+#[inline(always)]
+fn remove_byte(bytes: &mut Vec<u8>, len: usize, index: usize)
+    requires inside { index < len }
+    requires stands { len ≤ vec_len bytes.old }
+    ensures removed { take (len - 1) bytes.new.items ≡ replace_range (take len bytes.old.items) index (index + 1) [] }
+    ensures same { vec_len bytes.new ≡ vec_len bytes.old }
+    ensures capacity { vec_capacity bytes.new ≡ vec_capacity bytes.old }
+{
+    rows::remove_byte(bytes.as_mut_slice(), len, index);
 }
 
 /// Sees to it that the vector has `needed` bytes, if `capacity`, which it has reserved, allows as many. Answers whether it

@@ -1,6 +1,5 @@
 //! A text of at most 24 bytes that stands in the value itself.
-ghost use Rattle.std.specs.Prelude.{◌≡◌, ◌+◌, ◌-◌, ◌≤◌, [], ◌++◌, length, take, true, false, IsTrue, ◌↔◌};
-ghost use Rattle.std.specs.List.{replace_range};
+ghost use Rattle.std.specs.Prelude.{◌≡◌, ◌+◌, ◌-◌, ◌≤◌, ◌<◌, [], ◌∷◌, ◌++◌, length, true, false, IsTrue, ◌↔◌};
 ghost use Rattle.compact_repr.specs.Text.{size, utf8, text_of, IsText};
 ghost use Rattle.compact_repr.specs.Cut.{IsBoundary, before, replaced_text};
 
@@ -116,9 +115,40 @@ impl InlineBuffer {
         if len > INLINE_CAPACITY {
             return false;
         }
-        replace_bytes(&mut self.bytes, self.len, start, end, text.as_bytes());
+        rows::replace_range(&mut self.bytes, self.len, start, end, text.as_bytes());
         self.len = len;
         true
+    }
+
+    /// Puts an ASCII character in at a boundary where it fits: the bytes shift by words. Answers whether it fitted; if not,
+    /// nothing has changed.
+    #[inline]
+    pub fn insert_ascii(&mut self, index: usize, byte: u8) -> bool
+        requires ascii { byte < 128 }
+        requires boundary { IsBoundary self.old index }
+        ensures fits { IsTrue result ↔ (size self.old + 1 ≤ 24) }
+        ensures inserted { IsTrue result → self.new ≡ replaced_text self.old index index (byte ∷ []) }
+        ensures within { size self.new ≤ 24 }
+        ensures full { result ≡ false → self.new ≡ self.old }
+    {
+        if self.len >= INLINE_CAPACITY {
+            return false;
+        }
+        self.bytes = insert_byte(&self.bytes, index, byte);
+        self.len += 1;
+        true
+    }
+
+    /// Takes the ASCII character out that begins at a boundary: the bytes shift by words.
+    #[inline]
+    pub fn remove_ascii(&mut self, index: usize)
+        requires boundary { IsBoundary self.old index }
+        requires next { IsBoundary self.old (index + 1) }
+        ensures removed { self.new ≡ replaced_text self.old index (index + 1) [] }
+        ensures within { size self.new ≤ 24 }
+    {
+        self.bytes = remove_byte(&self.bytes, index);
+        self.len -= 1;
     }
 
     /// Keeps the first `len` bytes, which end at a boundary.
@@ -137,25 +167,5 @@ impl InlineBuffer {
         ensures { self.new ≡ [] }
     {
         self.len = 0;
-    }
-}
-
-/// Of the first `len` bytes of `row` replaces those from `start` to `end` by `source`.
-///
-/// One byte that comes or goes shifts the row by words.
-#[inline(always)]
-fn replace_bytes(row: &mut [u8; 24], len: usize, start: usize, end: usize, source: &[u8])
-    requires order { start ≤ end }
-    requires within { end ≤ len }
-    requires long_enough { len ≤ 24 }
-    requires room { len + length source.now ≤ 24 + (end - start) }
-    ensures { take (len - (end - start) + length source.now) row.new ≡ replace_range (take len row.old) start end source.now }
-{
-    if start == end && source.len() == 1 {
-        *row = insert_byte(row, start, source[0]);
-    } else if end - start == 1 && source.is_empty() {
-        *row = remove_byte(row, start);
-    } else {
-        rows::replace_range(row, len, start, end, source);
     }
 }

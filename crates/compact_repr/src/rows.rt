@@ -1,5 +1,5 @@
 //! Work on rows of bytes, in few wide reads and writes.
-ghost use Rattle.std.specs.Prelude.{◌≡◌, ◌+◌, ◌-◌, ◌≤◌, ◌++◌, length, take, drop};
+ghost use Rattle.std.specs.Prelude.{◌≡◌, ◌+◌, ◌-◌, ◌≤◌, ◌<◌, [], ◌∷◌, ◌++◌, length, take, drop};
 ghost use Rattle.std.specs.List.{replace_range};
 ghost use lib.Seq.{paste};
 
@@ -9,7 +9,7 @@ mod moves;
 mod tests;
 
 use chunks::{chunk, set_chunk};
-use moves::shift;
+use moves::{move_down, move_up, shift};
 
 /// Of the first `len` bytes of `row` replaces those from `start` to `end` by `source`. The tail moves once.
 #[inline]
@@ -22,6 +22,27 @@ pub fn replace_range(row: &mut [u8], len: usize, start: usize, end: usize, sourc
 {
     shift(row, end, start + source.len(), len - end);
     write(row, start, source);
+}
+
+/// Puts `byte` in at a place of the first `len` bytes of `row`; what stands from there on moves one place up.
+#[inline(always)]
+pub fn insert_byte(row: &mut [u8], len: usize, index: usize, byte: u8)
+    requires within { index ≤ len }
+    requires long_enough { len < length row.old }
+    ensures { take (len + 1) row.new ≡ replace_range (take len row.old) index index (byte ∷ []) }
+{
+    move_up::<1>(row, index, len - index);
+    write(row, index, &[byte]);
+}
+
+/// Takes the byte at a place of the first `len` bytes of `row` out; what stands behind it moves one place down.
+#[inline(always)]
+pub fn remove_byte(row: &mut [u8], len: usize, index: usize)
+    requires within { index < len }
+    requires long_enough { len ≤ length row.old }
+    ensures { take (len - 1) row.new ≡ replace_range (take len row.old) index (index + 1) [] }
+{
+    move_down::<1>(row, index, len - index - 1);
 }
 
 /// Writes `source` at a place of `row`.

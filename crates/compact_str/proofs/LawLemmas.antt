@@ -1,13 +1,16 @@
 -- Proofs of the laws of the edits.
-use Rattle.std.proofs.Common.{◌≡◌, Some, ℕ, List, [], ◌∷◌, ◌++◌, false, ap, sym, ◌∙◌, arith, append_assoc}
+use Rattle.std.proofs.Common.{◌≡◌, Some, ℕ, ◌+◌, List, [], ◌∷◌, ◌++◌, false, refl, ap, sym, ◌∙◌, subst, arith, append_assoc}
 use Rattle.std.proofs.lemmas.Grind.{common_steps}
-use Rattle.compact_repr.specs.Cut.{before, after, replaced_text}
+use Rattle.std.proofs.lemmas.Str.{len_utf8_bounds}
+use Rattle.compact_repr.specs.Text.{size}
+use Rattle.compact_repr.specs.Cut.{IsBoundary, before, after, replaced_text}
 use Rattle.compact_repr.specs.Value.{PlacedText}
 use Rattle.compact_repr.specs.Capacity.{Growth, own_asks}
 use Rattle.compact_str.specs.Edits.{inserted, Removes, split_tail}
-use Rattle.compact_str.specs.Laws.{RemovalUndoesInsertion, AppendUndoesSplit, CloneIsEqual}
+use Rattle.compact_str.specs.Laws.{RemovalUndoesInsertion, TruncationUndoesAppend, AppendUndoesSplit, CloneIsEqual}
 use Rattle.compact_repr.proofs.Changes.{pushed-text}
-use Rattle.compact_repr.proofs.Cuts.{before-after, before-cut, after-cut, size-before}
+use Rattle.compact_repr.proofs.Cuts.{before-after, before-cut, after-cut, size-before, size-after, boundary-from_size}
+use Rattle.compact_str.proofs.Positions.{boundary-seam, truncated-text}
 
 inserted-text : (g : Growth) (v w : PlacedText) (p : ℕ) (s : List ℕ) → inserted g v p s ≡ Some w → w.text ≡ replaced_text v.text p p s
 inserted-text g v w p s e = grind (arith, common_steps)
@@ -22,13 +25,27 @@ pub removal_undoes_insertion : RemovalUndoesInsertion
 removal_undoes_insertion g v w p c h e =
     let text : w.text ≡ before v.text p ++ (c ∷ after v.text p) = inserted-text g v w p (c ∷ []) e ∙ append_assoc (before v.text p) (c ∷ []) (after v.text p) in
     let front : before w.text p ≡ before v.text p = ap (λ t. before t p) text ∙ before-cut (before v.text p) _ p (size-before v.text p h) in
-    let rest : after w.text p ≡ c ∷ after v.text p = ap (λ t. after t p) text ∙ after-cut (before v.text p) _ p (size-before v.text p h) in (
-      inserted-owned g v w p (c ∷ []) e,
-      λ d u r.
+    let rest : after w.text p ≡ c ∷ after v.text p = ap (λ t. after t p) text ∙ after-cut (before v.text p) _ p (size-before v.text p h) in
+    let boundary : IsBoundary w.text p = boundary-from_size w.text p (ap size front ∙ size-before v.text p h) in
+    let left : size (after w.text p) + p ≡ size w.text = size-after w.text p boundary in
+    let wide = len_utf8_bounds c in
+    record {
+      boundary = boundary;
+      within = omega (arith, left, ap size rest, wide.0);
+      asks_nothing = inserted-owned g v w p (c ∷ []) e;
+      undoes =
+          λ d u r.
           let same : d ∷ r.0 ≡ c ∷ after v.text p = sym r.1 ∙ rest in
           let first : d ≡ c = cc in
           let others : r.0 ≡ after v.text p = cc in
-          (first, removes-text g w u p d r ∙ rw (front, others) (sym (before-after v.text p))),
+          (first, removes-text g w u p d r ∙ rw (front, others) (sym (before-after v.text p)));
+    }
+
+pub truncation_undoes_append : TruncationUndoesAppend
+truncation_undoes_append g v w s e =
+    let text : w.text ≡ v.text ++ s = pushed-text g v w s e in (
+      subst (λ (t : List ℕ). IsBoundary t (size v.text)) (sym text) (boundary-seam v.text s (size v.text) refl),
+      truncated-text w (size v.text) ∙ ap (λ (t : List ℕ). before t (size v.text)) text ∙ before-cut v.text s (size v.text) refl,
     )
 
 split-text : (g : Growth) (v tail : PlacedText) (p : ℕ) → split_tail g v p ≡ Some tail → tail.text ≡ after v.text p

@@ -1,7 +1,6 @@
-pub mod TextFacts
-pub mod ChangeFacts
 pub mod Positions
-pub mod PositionFacts
+pub mod Rooms
 pub mod Repeats
-pub mod RepeatFacts
+pub mod EditFacts
 pub mod LawLemmas
+pub mod ForCallers

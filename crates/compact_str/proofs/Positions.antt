@@ -1,17 +1,18 @@
 -- What stands round a position of a text.
 use Rattle.std.proofs.Common.{◌≡◌, Some, ℕ, ◌+◌, ◌-◌, ◌<◌, ◌≤◌, List, [], ◌∷◌, ◌++◌, refl, ap, sym, ◌∙◌, arith, append_assoc, append-nil}
 use Rattle.std.proofs.lemmas.Grind.{common_steps}
-use Rattle.std.proofs.lemmas.Bool.{cond-false, lt-leb}
+use Rattle.std.proofs.lemmas.Bool.{cond-true, cond-false, lt-leb, le-leb}
+use Rattle.std.proofs.lemmas.Bool.Decides.{nat_tests}
 use Rattle.std.proofs.lemmas.Str.{len_utf8_bounds}
 use Rattle.std.specs.Char.{len_utf8}
 use Rattle.compact_repr.specs.Text.{size}
-use Rattle.compact_repr.specs.Cut.{IsBoundary, before, after, replaced_text}
+use Rattle.compact_repr.specs.Cut.{IsCut, IsBoundary, before, after, replaced_text}
 use Rattle.compact_repr.specs.Value.{PlacedText, placed}
 use Rattle.compact_repr.specs.Capacity.{Growth, kept, owned}
-use Rattle.compact_repr.specs.Change.{truncated, made_owned}
+use Rattle.compact_repr.specs.Change.{reserved, truncated, made_owned}
 use Rattle.compact_str.specs.Edits.{Removes}
 use Rattle.compact_repr.proofs.Texts.{size-append, empty_text}
-use Rattle.compact_repr.proofs.Cuts.{before-after, before-cut, after-cut, size-before, size-after}
+use Rattle.compact_repr.proofs.Cuts.{boundary-from_size, before-after, before-cut, after-cut, size-before, size-after}
 
 -- a text that is cut before its last character
 pub truncated-last : (v : PlacedText) (front : List ℕ) (c : ℕ) → v.text ≡ front ++ c ∷ [] → truncated v (size v.text - len_utf8 c) ≡ placed front (kept v front)
@@ -42,6 +43,56 @@ before-end t p h k =
     let rest = size-after t p h in
     let none : size (after t p) ≡ 0 = omega (arith, rest) in
     sym (before-after t p ∙ ap (λ x. before t p ++ x) (empty_text (after t p) none) ∙ append-nil (before t p))
+
+-- a position past the end cuts nothing off
+pub before-all : (t : List ℕ) (p : ℕ) → size t ≤ p → before t p ≡ t
+before-all [] p h = refl
+before-all (c ∷ cs) p h =
+    cond-true _ _ _ (le-leb (len_utf8 c) p (omega arith)) ∙ ap (λ x. c ∷ x) (before-all cs (p - len_utf8 c) (omega arith))
+
+pub truncated-text : (v : PlacedText) (p : ℕ) → (truncated v p).text ≡ before v.text p
+truncated-text v p = grind (arith, common_steps, before-all)
+
+-- a boundary of a text is one of its front, and the front up to it is the same
+before-step : (cs : List ℕ) (c p q : ℕ) → p ≤ q → before (before cs (q - len_utf8 c)) (p - len_utf8 c) ≡ before cs (p - len_utf8 c)
+    → before (before (c ∷ cs) q) p ≡ before (c ∷ cs) p
+before-step cs c p q h same = grind (arith, nat_tests)
+
+pub before-before : (t : List ℕ) (p q : ℕ) → p ≤ q → before (before t q) p ≡ before t p
+before-before [] p q h = refl
+before-before (c ∷ cs) p q h = before-step cs c p q h (before-before cs (p - len_utf8 c) (q - len_utf8 c) (omega arith))
+
+pub before-boundary : (t : List ℕ) (p q : ℕ) → p ≤ q → IsBoundary t p → IsBoundary (before t q) p
+before-boundary t p q h k = boundary-from_size (before t q) p (ap size (before-before t p q h) ∙ size-before t p k)
+
+-- where a text was put together it may be cut
+pub boundary-seam : (a b : List ℕ) (p : ℕ) → size a ≡ p → IsBoundary (a ++ b) p
+boundary-seam a b p e = (a, b, record { parts = refl; position = e })
+
+-- the two parts of a text at a boundary are the cut
+pub boundary-cut : (t a b : List ℕ) (p : ℕ) → IsBoundary t p → a ≡ before t p → b ≡ after t p → IsCut t p a b
+boundary-cut t a b p h e k = record { parts = before-after t p ∙ rw (e, k) refl; position = ap size e ∙ size-before t p h }
+
+-- what was put in stands between two boundaries, and what stands round it is as before
+pub replaced-start : (t s : List ℕ) (start end : ℕ) → IsBoundary t start → IsBoundary (replaced_text t start end s) start
+replaced-start t s start end h =
+    (before t start, s ++ after t end, record { parts = append_assoc (before t start) s (after t end); position = size-before t start h })
+
+pub replaced-end : (t s : List ℕ) (start end p n : ℕ) → IsBoundary t start → size s ≡ n → p ≡ start + n → IsBoundary (replaced_text t start end s) p
+replaced-end t s start end p n h e k =
+    (before t start ++ s, after t end, record { parts = refl; position = size-append (before t start) s ∙ omega (arith, size-before t start h) })
+
+-- a value that has room and into which a text is put
+pub reserved-text : (g : Growth) (v w : PlacedText) (n : ℕ) → reserved g v n ≡ Some w → w.text ≡ v.text
+reserved-text g v w n e = grind (arith, common_steps)
+
+pub before-replaced : (t s : List ℕ) (start end : ℕ) → IsBoundary t start → before (replaced_text t start end s) start ≡ before t start
+before-replaced t s start end h =
+    ap (λ x. before x start) (append_assoc (before t start) s (after t end)) ∙ before-cut (before t start) (s ++ after t end) start (size-before t start h)
+
+pub after-removed : (t : List ℕ) (start end : ℕ) → IsBoundary t start → after (replaced_text t start end []) start ≡ after t end
+after-removed t start end h =
+    ap (λ x. after (x ++ after t end) start) (append-nil (before t start)) ∙ after-cut (before t start) (after t end) start (size-before t start h)
 
 pub truncated-boundary : (v : PlacedText) (p : ℕ) → IsBoundary v.text p → truncated v p ≡ placed (before v.text p) (kept v (before v.text p))
 truncated-boundary v p h = grind (arith, common_steps, before-end)

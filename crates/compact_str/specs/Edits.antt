@@ -1,9 +1,17 @@
 -- What an edit by byte position gives: none where it must be refused.
 use Rattle.std.specs.Prelude.{◌≡◌, ℕ, ◌-◌, ◌*◌, Bool, not, ◌&&◌, List, [], ◌∷◌, ◌++◌, Option, Some, None, option_map, nat_eq, nat_le, zero, suc, if◌then◌else◌}
-use Rattle.compact_repr.specs.Text.{size}
+use Rattle.std.specs.Str.{IsUtf8}
+use Rattle.compact_repr.specs.Text.{size, text_of, utf8}
 use Rattle.compact_repr.specs.Cut.{before, after, replaced_text}
 use Rattle.compact_repr.specs.Value.{Placement, PlacedText, placed, is_static}
+use Rattle.compact_repr.specs.Change.{pushed}
 use Rattle.compact_repr.specs.Capacity.{Growth, fresh, new_room, new_room_asks, kept, owned, own_asks, room, room_asks, lasting, copied, copy_asks}
+
+-- a formatter's write of some bytes takes v to w: they are those of a text, which is joined to v
+pub record Writes (g : Growth) (v : PlacedText) (bytes : List ℕ) (w : PlacedText) : Type 0 where
+  pub is_text : IsUtf8 bytes
+  pub value : pushed g v (text_of bytes) ≡ Some w
+  pub spells : utf8 w.text ≡ utf8 v.text ++ bytes
 
 -- v with s put in at p, once there is room for s; for an empty s too
 abbrev pub inserted : Growth → PlacedText → ℕ → List ℕ → Option PlacedText

@@ -1,23 +1,36 @@
 -- Laws of the edits, over their definitions alone.
-use Rattle.std.specs.Prelude.{◌≡◌, ℕ, false, [], ◌∷◌, Some}
+use Rattle.std.specs.Prelude.{◌≡◌, ℕ, ◌<◌, List, false, [], ◌∷◌, Some}
+use Rattle.compact_repr.specs.Text.{size}
 use Rattle.compact_repr.specs.Cut.{IsBoundary, before}
 use Rattle.compact_repr.specs.Value.{PlacedText, placed}
 use Rattle.compact_repr.specs.Capacity.{Growth, kept, own_asks}
-use Rattle.compact_repr.specs.Change.{pushed, copy_of}
+use Rattle.compact_repr.specs.Change.{pushed, copy_of, truncated}
 use Rattle.compact_str.specs.Edits.{inserted, Removes, split_tail}
 
--- a character that was put in and is taken out again is that character, the text is as before, and taking it out asks
--- for no memory
+-- where a character was put in one may be taken out, which asks for no memory: it is that character, and the text is as
+-- before
+pub record RemovalUndoes (g : Growth) (v w : PlacedText) (index c : ℕ) : Type 0 where
+  pub boundary : IsBoundary w.text index
+  pub within : index < size w.text
+  pub asks_nothing : own_asks w ≡ false
+  pub undoes : (d : ℕ) (u : PlacedText) → Removes g w index d u → (d ≡ c) × (u.text ≡ v.text)
+
 abbrev pub RemovalUndoesInsertion : Type 0
 RemovalUndoesInsertion =
-    (g : Growth) (v w : PlacedText) (p c : ℕ) → IsBoundary v.text p → inserted g v p (c ∷ []) ≡ Some w
-    → (own_asks w ≡ false) × ((d : ℕ) (u : PlacedText) → Removes g w p d u → (d ≡ c) × (u.text ≡ v.text))
+    (g : Growth) (v w : PlacedText) (index c : ℕ) → IsBoundary v.text index → inserted g v index (c ∷ []) ≡ Some w
+    → RemovalUndoes g v w index c
+
+-- a value to which a text was joined may be cut at its old length, and then has its old text
+abbrev pub TruncationUndoesAppend : Type 0
+TruncationUndoesAppend =
+    (g : Growth) (v w : PlacedText) (s : List ℕ) → pushed g v s ≡ Some w
+    → IsBoundary w.text (size v.text) × ((truncated w (size v.text)).text ≡ v.text)
 
 -- a tail that was split off and is appended again gives the text as before
 abbrev pub AppendUndoesSplit : Type 0
 AppendUndoesSplit =
-    (g : Growth) (v tail w : PlacedText) (p : ℕ) → split_tail g v p ≡ Some tail
-    → pushed g (placed (before v.text p) (kept v (before v.text p))) tail.text ≡ Some w → w.text ≡ v.text
+    (g : Growth) (v tail w : PlacedText) (index : ℕ) → split_tail g v index ≡ Some tail
+    → pushed g (placed (before v.text index) (kept v (before v.text index))) tail.text ≡ Some w → w.text ≡ v.text
 
 -- a clone has the text of its source
 abbrev pub CloneIsEqual : Type 0

@@ -5,7 +5,7 @@ pub use Rattle.compact_repr.specs.Capacity
 pub use Rattle.compact_repr.specs.Change
 pub mod Room
 pub mod Clones
-pub mod Cows
+pub mod Made
 pub mod Edits
 pub mod Ranges
 pub mod Laws

@@ -1,5 +1,5 @@
 -- When a text is sure to fit.
-use Rattle.std.specs.Prelude.{◌≡◌, ◌⊎◌, ℕ, ◌+◌, ◌≤◌, false}
+use Rattle.std.specs.Prelude.{◌≡◌, ℕ, ◌+◌, ◌≤◌, false, max, if◌then◌else◌}
 use Rattle.compact_repr.specs.Text.{size}
 use Rattle.compact_repr.specs.Value.{PlacedText, is_static}
 
@@ -7,6 +7,14 @@ use Rattle.compact_repr.specs.Value.{PlacedText, is_static}
 abbrev pub IsOwned : PlacedText → Type 0
 IsOwned v = is_static v.placement.place ≡ false
 
--- n more bytes fit v with no memory: inline, or in the capacity that it owns
+-- the capacity that v owns
+abbrev pub own_capacity : PlacedText → ℕ
+own_capacity v = if is_static v.placement.place then 0 else v.placement.capacity
+
+-- how many bytes v is sure to have room for with no memory: 24 in the value itself, or what it owns where that is more
+abbrev pub sure_capacity : PlacedText → ℕ
+sure_capacity v = max 24 (own_capacity v)
+
+-- n more bytes fit v with no memory
 abbrev pub HasRoomFor : PlacedText → ℕ → Type 0
-HasRoomFor v n = (size v.text + n ≤ 24) ⊎ (IsOwned v × (size v.text + n ≤ v.placement.capacity))
+HasRoomFor v n = size v.text + n ≤ sure_capacity v

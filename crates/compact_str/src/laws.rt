@@ -1,10 +1,15 @@
 //! Laws of the edits. Each function does nothing; its contract is the law.
-ghost use Rattle.compact_str.specs.Laws.{RemovalUndoesInsertion, AppendUndoesSplit, CloneIsEqual};
+ghost use Rattle.compact_str.specs.Laws.{RemovalUndoesInsertion, TruncationUndoesAppend, AppendUndoesSplit, CloneIsEqual};
 
-/// A character that `insert` put in and `remove` takes out is that character, the text is then as before, and the removal
-/// is never refused.
+/// Where `insert` put a character in, `remove` may be called and is never refused: it takes out that character, and the
+/// text is then as before.
 pub fn removal_undoes_insertion()
     ensures { RemovalUndoesInsertion }
+{}
+
+/// After an append `truncate` may be called at the old length, and the text is then as before.
+pub fn truncation_undoes_append()
+    ensures { TruncationUndoesAppend }
 {}
 
 /// A tail that `split_off` gave and `push_str` appends again gives the text as before.

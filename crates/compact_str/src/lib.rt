@@ -4,13 +4,15 @@
 //! `CompactString` stands where a `String` would. It takes no memory for short texts, answers a `Result` where memory
 //! may be refused, and leaves text, place and capacity as they were where it is. A contract sees a value as a text, a
 //! list of characters, with a place and a capacity: the `PlacedText` of `specs/`.
-#![tactic(auto, using(crate::proofs::TextFacts::text_facts))]
+#![tactic(auto, using(compact_repr::proofs::TextFacts::text_facts))]
 
 mod laws;
 mod refused;
 mod string;
 
 pub use compact_repr::{GREATEST_CAPACITY, INLINE_CAPACITY, Policy, ReserveError, Standard};
-pub use laws::{append_undoes_split, clone_is_equal, removal_undoes_insertion};
+pub use laws::{
+    append_undoes_split, clone_is_equal, removal_undoes_insertion, truncation_undoes_append,
+};
 pub use refused::Refused;
 pub use string::{CompactString, PolicyString};

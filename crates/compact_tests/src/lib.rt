@@ -16,6 +16,7 @@ mod lines;
 mod made;
 #[cfg(test)]
 mod memory;
+mod plain_callers;
 #[cfg(test)]
 mod positions;
 #[cfg(test)]
@@ -32,3 +33,6 @@ mod shortened;
 mod support;
 
 pub use callers::{append_field, keyword, label, record_line};
+pub use plain_callers::{
+    append_pair, append_record, append_report, split_and_join, split_field, type_two, with_suffix,
+};

@@ -1,6 +1,6 @@
 //! Changes of a representation's text. Each looks once where the text stands and whether there is room; what then is left to
 //! do, to make room, stands aside.
-ghost use Rattle.std.specs.Prelude.{◌≡◌, ◌+◌, ◌-◌, ◌≤◌, ◌<◌, ◌++◌, length, Some, OnOk, OnErr, IsTrue, true, false, ◌↔◌};
+ghost use Rattle.std.specs.Prelude.{◌≡◌, ◌+◌, ◌-◌, ◌≤◌, ◌<◌, [], ◌∷◌, ◌++◌, length, Some, OnOk, OnErr, IsTrue, true, false, ◌↔◌};
 ghost use Rattle.compact_repr.specs.Text.{size, text_of};
 ghost use Rattle.compact_repr.specs.Cut.{IsBoundary, replaced_text};
 ghost use Rattle.compact_repr.specs.Value.{placed, is_static};
@@ -76,6 +76,46 @@ impl<P: Policy> Repr<P> {
         match &mut self.buffer {
             Buffer::Inline(inline) => inline.replace_range(start, end, text),
             Buffer::Heap(heap) => heap.replace_range(start, end, text),
+            Buffer::Static(_) => false,
+        }
+    }
+
+    /// Puts an ASCII character in at a boundary, in bytes, where the bytes are the value's own and have room. Answers
+    /// whether that was so; if not, nothing has changed.
+    #[inline]
+    pub fn insert_ascii_in_place(&mut self, index: usize, byte: u8) -> bool
+        requires ascii { byte < 128 }
+        requires boundary { IsBoundary self.old.text index }
+        ensures fits { result ≡ fits_in_place self.old 1 }
+        ensures inserted { IsTrue result → self.new ≡ placed (replaced_text self.old.text index index (byte ∷ [])) self.old.placement }
+        ensures full { result ≡ false → self.new ≡ self.old }
+    {
+        match &mut self.buffer {
+            Buffer::Inline(inline) => inline.insert_ascii(index, byte),
+            Buffer::Heap(heap) => heap.insert_ascii(index, byte),
+            Buffer::Static(_) => false,
+        }
+    }
+
+    /// Takes the ASCII character out that begins at a boundary, in bytes, where the bytes are the value's own. Answers
+    /// whether they are; if not, nothing has changed.
+    #[inline]
+    pub fn remove_ascii_in_place(&mut self, index: usize) -> bool
+        requires boundary { IsBoundary self.old.text index }
+        requires next { IsBoundary self.old.text (index + 1) }
+        ensures owned { IsTrue result ↔ (is_static self.old.placement.place ≡ false) }
+        ensures removed { IsTrue result → self.new ≡ placed (replaced_text self.old.text index (index + 1) []) self.old.placement }
+        ensures full { result ≡ false → self.new ≡ self.old }
+    {
+        match &mut self.buffer {
+            Buffer::Inline(inline) => {
+                inline.remove_ascii(index);
+                true
+            }
+            Buffer::Heap(heap) => {
+                heap.remove_ascii(index);
+                true
+            }
             Buffer::Static(_) => false,
         }
     }

@@ -38,7 +38,7 @@ pub fn shift(row: &mut [u8], from: usize, to: usize, count: usize)
 
 /// Moves `count` bytes up by `DISTANCE` places.
 #[inline(always)]
-fn move_up<const DISTANCE: usize>(row: &mut [u8], from: usize, count: usize)
+pub fn move_up<const DISTANCE: usize>(row: &mut [u8], from: usize, count: usize)
     requires { from + DISTANCE + count ≤ length row.old }
     ensures { row.new ≡ paste row.old (from + DISTANCE) (drop from row.old) count }
 {
@@ -47,7 +47,7 @@ fn move_up<const DISTANCE: usize>(row: &mut [u8], from: usize, count: usize)
 
 /// Moves `count` bytes down by `DISTANCE` places.
 #[inline(always)]
-fn move_down<const DISTANCE: usize>(row: &mut [u8], to: usize, count: usize)
+pub fn move_down<const DISTANCE: usize>(row: &mut [u8], to: usize, count: usize)
     requires { to + DISTANCE + count ≤ length row.old }
     ensures { row.new ≡ paste row.old to (drop (to + DISTANCE) row.old) count }
 {

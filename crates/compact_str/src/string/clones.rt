@@ -1,9 +1,10 @@
 //! How a value is copied.
-ghost use Rattle.std.specs.Prelude.{◌≡◌, ◌≤◌, Some, OnOk, OnErr, IsOk, IsTrue, not};
+ghost use Rattle.std.specs.Prelude.{◌≡◌, ◌≤◌, Some, OnOk, OnErr, IsOk, IsTrue, not, false};
 ghost use Rattle.compact_repr.specs.Text.{size};
 ghost use Rattle.compact_repr.specs.Value.{is_heap, is_static};
 ghost use Rattle.compact_repr.specs.Capacity.{copy_asks};
 ghost use Rattle.compact_repr.specs.Change.{copy_of};
+ghost use Rattle.compact_str.specs.Room.{sure_capacity};
 ghost use Rattle.compact_str.specs.Clones.{cloned_from, clone_from_asks};
 
 use crate::string::PolicyString;
@@ -11,7 +12,7 @@ use compact_repr::{Policy, ReserveError};
 use std::alloc::AllocError;
 
 impl<P: Policy> Clone for PolicyString<P> {
-    ghost is_clone = { λ v w. copy_of P.growth v ≡ Some w };
+    ghost is_clone = { λ v w. (copy_of P.growth v ≡ Some w) × (w.text ≡ v.text) };
 
     ghost is_infallible = { λ v. IsTrue (not (copy_asks v)) };
 
@@ -34,6 +35,8 @@ impl<P: Policy> PolicyString<P> {
     pub fn clone_from(&mut self, source: &Self) -> Result<(), ReserveError>
         ensures ok { OnOk result (cloned_from P.growth self.old source.now ≡ Some self.new) }
         ensures text { OnOk result (self.new.text ≡ source.now.text) }
+        ensures succeeds { size source.now.text ≤ sure_capacity self.old → IsOk result }
+        ensures copies_in_place { is_heap source.now.placement.place ≡ false → IsOk result }
         ensures err { OnErr result ((self.new ≡ self.old) × IsTrue (clone_from_asks self.old source.now)) }
     {
         let len = source.len();

@@ -1,11 +1,11 @@
 //! How the text is changed at its end.
-ghost use Rattle.std.specs.Prelude.{◌≡◌, ◌<◌, ◌++◌, ◌∷◌, [], length, Some, IfOk, IfErr, OnOk, OnErr, IsOk, IsTrue};
+ghost use Rattle.std.specs.Prelude.{◌≡◌, ℕ, ◌<◌, ◌≤◌, ◌++◌, ◌∷◌, [], length, Some, IfOk, IfErr, OnOk, OnErr, IsOk, IsTrue, MatchOption};
 ghost use Rattle.std.specs.Char.{len_utf8};
-ghost use Rattle.compact_repr.specs.Text.{size, text_of};
-ghost use Rattle.compact_repr.specs.Cut.{IsBoundary};
+ghost use Rattle.compact_repr.specs.Text.{size, text_of, utf8};
+ghost use Rattle.compact_repr.specs.Cut.{IsBoundary, before};
 ghost use Rattle.compact_repr.specs.Change.{pushed, push_asks, cleared, truncated};
-ghost use Rattle.compact_str.specs.Room.{HasRoomFor};
-ghost use Rattle.compact_str.specs.Edits.{Pops};
+ghost use Rattle.compact_str.specs.Room.{HasRoomFor, sure_capacity};
+ghost use Rattle.compact_str.specs.Edits.{Pops, Writes};
 
 use crate::refused::Refused;
 use crate::string::PolicyString;
@@ -17,10 +17,11 @@ impl<P: Policy> PolicyString<P> {
     ///
     /// An error says that no memory was found, or that the capacity would be past 2^56 - 2; then nothing has changed.
     #[inline]
-    #[tactic(auto, using(crate::proofs::TextFacts::text_facts, crate::proofs::ChangeFacts::change_facts))]
+    #[tactic(auto, using(compact_repr::proofs::TextFacts::text_facts, crate::proofs::EditFacts::append_facts))]
     pub fn push_str(&mut self, text: &str) -> Result<(), ReserveError>
         ensures ok { OnOk result (pushed P.growth self.old (text_of text.now) ≡ Some self.new) }
         ensures text { OnOk result (self.new.text ≡ self.old.text ++ text_of text.now) }
+        ensures room { OnOk result (sure_capacity self.old ≤ sure_capacity self.new) }
         ensures succeeds { HasRoomFor self.old (length text.now) → IsOk result }
         ensures err { OnErr result ((self.new ≡ self.old) × IsTrue (push_asks self.old (text_of text.now))) }
     {
@@ -34,6 +35,7 @@ impl<P: Policy> PolicyString<P> {
     pub fn push(&mut self, character: char) -> Result<(), ReserveError>
         ensures ok { OnOk result (pushed P.growth self.old (character ∷ []) ≡ Some self.new) }
         ensures text { OnOk result (self.new.text ≡ self.old.text ++ character ∷ []) }
+        ensures room { OnOk result (sure_capacity self.old ≤ sure_capacity self.new) }
         ensures succeeds { HasRoomFor self.old (len_utf8 character) → IsOk result }
         ensures err { OnErr result ((self.new ≡ self.old) × IsTrue (push_asks self.old (character ∷ []))) }
     {
@@ -46,6 +48,7 @@ impl<P: Policy> PolicyString<P> {
     pub fn add_str(mut self, text: &str) -> Result<Self, Refused<Self>>
         ensures ok { IfOk result (λ v. pushed P.growth self (text_of text.now) ≡ Some v) }
         ensures text { IfOk result (λ v. v.text ≡ self.text ++ text_of text.now) }
+        ensures room { IfOk result (λ v. sure_capacity self ≤ sure_capacity v) }
         ensures succeeds { HasRoomFor self (length text.now) → IsOk result }
         ensures err { IfErr result (λ e. (e.value ≡ self) × IsTrue (push_asks self (text_of text.now))) }
     {
@@ -59,9 +62,10 @@ impl<P: Policy> PolicyString<P> {
     ///
     /// The place stays, and so does the capacity of an inline or heap value.
     #[inline]
-    #[tactic(auto, using(crate::proofs::TextFacts::text_facts, crate::proofs::PositionFacts::position_facts))]
+    #[tactic(auto, using(compact_repr::proofs::TextFacts::text_facts, crate::proofs::EditFacts::position_facts))]
     pub fn pop(&mut self) -> Option<char>
-        ensures { Pops self.old result self.new }
+        ensures pops { Pops self.old result self.new }
+        ensures text { MatchOption result (self.old.text ≡ []) (λ c. self.old.text ≡ self.new.text ++ c ∷ []) }
     {
         let character = self.repr.last_char()?;
         self.repr.truncate(self.repr.len() - character.len_utf8());
@@ -73,9 +77,12 @@ impl<P: Policy> PolicyString<P> {
     /// The place stays, and so does the capacity of an inline or heap value. Whether `len` is such a position,
     /// `is_char_boundary` tells.
     #[inline]
+    #[tactic(auto, using(compact_repr::proofs::TextFacts::text_facts, crate::proofs::EditFacts::position_facts))]
     pub fn truncate(&mut self, len: usize)
         requires { len < size self.old.text → IsBoundary self.old.text len }
-        ensures { self.new ≡ truncated self.old len }
+        ensures value { self.new ≡ truncated self.old len }
+        ensures text { self.new.text ≡ before self.old.text len }
+        ensures boundaries { (i : ℕ) → i ≤ len → IsBoundary self.old.text i → IsBoundary self.new.text i }
     {
         self.repr.truncate(len);
     }
@@ -83,18 +90,22 @@ impl<P: Policy> PolicyString<P> {
     /// Leaves the empty text. The place stays, and so does the capacity of an inline or heap value.
     #[inline]
     pub fn clear(&mut self)
-        ensures { self.new ≡ cleared self.old }
+        ensures value { self.new ≡ cleared self.old }
+        ensures text { self.new.text ≡ [] }
     {
         self.repr.clear();
     }
 }
 
 impl<P: Policy> fmt::Write for PolicyString<P> {
-    ghost write_str_gives = { λ v bytes w. pushed P.growth v (text_of bytes) ≡ Some w };
+    ghost write_str_gives = { Writes P.growth };
 
+    #[tactic(auto, using(compact_repr::proofs::TextFacts::text_facts, crate::proofs::EditFacts::append_facts))]
     /// Appends `text` as `push_str` does; a refusal is an error of `fmt`, and nothing has changed.
     fn write_str(&mut self, text: &str) -> fmt::Result
-        ensures ok { IsOk result → (pushed P.growth self.old (text_of text.now) ≡ Some self.new) }
+        ensures ok { IsOk result → Writes P.growth self.old text.now self.new }
+        ensures text { OnOk result (self.new.text ≡ self.old.text ++ text_of text.now) }
+        ensures room { OnOk result (sure_capacity self.old ≤ sure_capacity self.new) }
         ensures succeeds { HasRoomFor self.old (length text.now) → IsOk result }
         ensures err { OnErr result ((self.new ≡ self.old) × IsTrue (push_asks self.old (text_of text.now))) }
     {

@@ -1,12 +1,21 @@
 //! How a value is looked at.
-ghost use Rattle.std.specs.Prelude.{◌≡◌, ◌<◌, ◌^◌, ◌↔◌, [], IsTrue, IsSome, IfSome};
+ghost use Rattle.std.specs.Prelude.{◌≡◌, ℕ, ◌<◌, ◌^◌, ◌↔◌, [], length, IsTrue, IsSome, IfSome};
+ghost use Rattle.std.specs.Str.{IsCharBoundary};
 ghost use Rattle.compact_repr.specs.Text.{size, utf8, text_of};
+ghost use Rattle.compact_repr.specs.Cut.{IsBoundary};
 ghost use Rattle.compact_repr.specs.Value.{is_heap, is_static, IsSound};
 
 use crate::string::PolicyString;
 use compact_repr::Policy;
+use std::alloc::Global;
 
 impl<P: Policy> PolicyString<P> {
+    /// The allocator that gives a heap buffer, as it was handed in when the value was made.
+    #[inline]
+    pub fn allocator(&self) -> Global {
+        self.repr.allocator()
+    }
+
     /// The text.
     ///
     /// `CompactString::new(alloc, "abc")?.as_str()` is `"abc"`.
@@ -14,6 +23,8 @@ impl<P: Policy> PolicyString<P> {
     pub fn as_str(&self) -> &str
         ensures bytes { result.now ≡ utf8 self.now.text }
         ensures text { text_of result.now ≡ self.now.text }
+        ensures len { length result.now ≡ size self.now.text }
+        ensures boundaries { (i : ℕ) → IsCharBoundary result.now i → IsBoundary self.now.text i }
     {
         self.repr.as_str()
     }
@@ -25,6 +36,7 @@ impl<P: Policy> PolicyString<P> {
     pub fn as_bytes(&self) -> &[u8]
         ensures bytes { result.now ≡ utf8 self.now.text }
         ensures text { text_of result.now ≡ self.now.text }
+        ensures len { length result.now ≡ size self.now.text }
     {
         self.as_str().as_bytes()
     }
@@ -55,7 +67,7 @@ impl<P: Policy> PolicyString<P> {
 
     /// Whether the text has no character.
     #[inline]
-    #[tactic(auto, using(crate::proofs::ChangeFacts::change_facts))]
+    #[tactic(auto, using(crate::proofs::EditFacts::append_facts))]
     pub fn is_empty(&self) -> bool
         ensures { IsTrue result ↔ (self.now.text ≡ []) }
     {

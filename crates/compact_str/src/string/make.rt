@@ -1,14 +1,14 @@
 //! How a value is made.
-ghost use Rattle.std.specs.Prelude.{◌≡◌, ◌≤◌, [], length, nat_eq, if◌then◌else◌, Some, IfOk, IfErr, OnErr, IsOk, IsTrue, string_bytes};
+ghost use Rattle.std.specs.Prelude.{◌≡◌, ◌<◌, ◌≤◌, [], length, nat_eq, if◌then◌else◌, Some, IfOk, IfErr, OnErr, IsOk, IsTrue, string_bytes};
 ghost use Rattle.std.specs.String.{string_capacity};
 ghost use Rattle.std.specs.Box.{boxed_str_bytes};
 ghost use Rattle.std.specs.Cow.{cow_str_bytes};
 ghost use Rattle.compact_repr.specs.Text.{text_of};
-ghost use Rattle.compact_repr.specs.Value.{placed};
+ghost use Rattle.compact_repr.specs.Value.{placed, is_heap};
 ghost use Rattle.compact_repr.specs.Capacity.{inlined, on_heap, new_room_asks, lasting, taken_over};
 ghost use Rattle.compact_repr.specs.Change.{made, with_room};
 ghost use Rattle.compact_str.specs.Room.{HasRoomFor};
-ghost use Rattle.compact_str.specs.Cows.{TakesCow};
+ghost use Rattle.compact_str.specs.Made.{IsNewOf, TakesCow, IsFreeCow};
 
 use crate::refused::Refused;
 use crate::string::PolicyString;
@@ -37,10 +37,7 @@ impl<P: Policy> PolicyString<P> {
     /// `CompactString::new(alloc, "abc")?` is inline.
     #[inline]
     pub fn new(alloc: Global, text: &str) -> Result<Self, ReserveError>
-        ensures ok { IfOk result (λ v. made P.growth (text_of text.now) ≡ Some v) }
-        ensures text { IfOk result (λ v. v.text ≡ text_of text.now) }
-        ensures succeeds { length text.now ≤ 24 → IsOk result }
-        ensures err { OnErr result (IsTrue (new_room_asks (length text.now))) }
+        ensures { IsNewOf P.growth text.now result }
     {
         match Repr::new(alloc, text) {
             Ok(repr) => Ok(PolicyString { repr }),
@@ -51,10 +48,7 @@ impl<P: Policy> PolicyString<P> {
     /// `new` under its other name.
     #[inline]
     pub fn try_new(alloc: Global, text: &str) -> Result<Self, ReserveError>
-        ensures ok { IfOk result (λ v. made P.growth (text_of text.now) ≡ Some v) }
-        ensures text { IfOk result (λ v. v.text ≡ text_of text.now) }
-        ensures succeeds { length text.now ≤ 24 → IsOk result }
-        ensures err { OnErr result (IsTrue (new_room_asks (length text.now))) }
+        ensures { IsNewOf P.growth text.now result }
     {
         Self::new(alloc, text)
     }
@@ -62,10 +56,7 @@ impl<P: Policy> PolicyString<P> {
     /// `new` under the name of the trait `FromStr`, which hands in no allocator.
     #[inline]
     pub fn from_str(alloc: Global, text: &str) -> Result<Self, ReserveError>
-        ensures ok { IfOk result (λ v. made P.growth (text_of text.now) ≡ Some v) }
-        ensures text { IfOk result (λ v. v.text ≡ text_of text.now) }
-        ensures succeeds { length text.now ≤ 24 → IsOk result }
-        ensures err { OnErr result (IsTrue (new_room_asks (length text.now))) }
+        ensures { IsNewOf P.growth text.now result }
     {
         Self::try_new(alloc, text)
     }
@@ -114,7 +105,8 @@ impl<P: Policy> PolicyString<P> {
     ///
     /// It is never refused. A string that has no buffer is inline and empty.
     pub fn from_string_buffer(text: String) -> Self
-        ensures { let t = text_of (string_bytes text) in result ≡ placed t (if nat_eq (string_capacity text) 0 then inlined else on_heap (string_capacity text)) }
+        ensures value { let t = text_of (string_bytes text) in result ≡ placed t (if nat_eq (string_capacity text) 0 then inlined else on_heap (string_capacity text)) }
+        ensures place { 0 < length (string_bytes text) → IsTrue (is_heap result.placement.place) }
     {
         PolicyString {
             repr: Repr::from_string_buffer(text),
@@ -125,6 +117,7 @@ impl<P: Policy> PolicyString<P> {
     pub fn from_cow(alloc: Global, text: CowStr<'_>) -> Result<Self, ReserveError>
         ensures takes { TakesCow P.growth text.entry result }
         ensures text { IfOk result (λ v. v.text ≡ text_of (cow_str_bytes text.entry)) }
+        ensures succeeds { IsFreeCow text.entry → IsOk result }
     {
         match text {
             CowStr::Borrowed(borrowed) => Self::new(alloc, borrowed),

@@ -1,11 +1,12 @@
 //! How the text is changed by byte position.
-ghost use Rattle.std.specs.Prelude.{◌≡◌, ◌+◌, ◌-◌, ◌<◌, ◌≤◌, ◌↔◌, ◌∷◌, [], length, Some, None, IfOk, OnOk, OnErr, IsOk, IsTrue, MatchOption};
+ghost use Rattle.std.specs.Prelude.{◌≡◌, ℕ, ◌+◌, ◌-◌, ◌^◌, ◌<◌, ◌≤◌, ◌↔◌, ◌∷◌, [], length, Some, None, IfOk, OnOk, OnErr, IsOk, IsTrue, MatchOption, false};
 ghost use Rattle.std.specs.Char.{len_utf8};
+ghost use Rattle.std.specs.Range.Bound.{start_index, end_index};
 ghost use Rattle.compact_repr.specs.Text.{size, text_of};
-ghost use Rattle.compact_repr.specs.Cut.{IsBoundary, before, after, replaced_text};
-ghost use Rattle.compact_repr.specs.Value.{placed};
+ghost use Rattle.compact_repr.specs.Cut.{IsCut, IsBoundary, before, after, replaced_text};
+ghost use Rattle.compact_repr.specs.Value.{placed, is_static};
 ghost use Rattle.compact_repr.specs.Capacity.{room_asks, own_asks, kept};
-ghost use Rattle.compact_str.specs.Room.{IsOwned, HasRoomFor};
+ghost use Rattle.compact_str.specs.Room.{IsOwned, HasRoomFor, sure_capacity};
 ghost use Rattle.compact_str.specs.Edits.{inserted, Removes, split_tail, split_asks, replaced, replace_asks};
 ghost use Rattle.compact_str.specs.Ranges.{IsRange, range_start, range_end};
 
@@ -27,21 +28,12 @@ impl<P: Policy> PolicyString<P> {
 
     /// Where a range of the text begins and ends, in bytes; `None` exactly of one that ends before it starts, or of which
     /// an end is no boundary.
-    #[tactic(auto, using(crate::proofs::TextFacts::text_facts, crate::proofs::PositionFacts::position_facts))]
+    #[tactic(auto, using(compact_repr::proofs::TextFacts::text_facts, crate::proofs::EditFacts::position_facts))]
     pub fn check_range(&self, start: Bound<usize>, end: Bound<usize>) -> Option<(usize, usize)>
         ensures { MatchOption result (¬ IsRange self.now.text start end) (λ range. IsRange self.now.text start end × (range.0 ≡ range_start start) × (range.1 ≡ range_end self.now.text end)) }
     {
         let text = self.as_str();
-        let first = match start {
-            Bound::Included(index) => index,
-            Bound::Excluded(index) => index.checked_add(1)?,
-            Bound::Unbounded => 0,
-        };
-        let last = match end {
-            Bound::Included(index) => index.checked_add(1)?,
-            Bound::Excluded(index) => index,
-            Bound::Unbounded => text.len(),
-        };
+        let (first, last) = ends(start, end, text.len())?;
         if first <= last && is_boundary(text, first) && is_boundary(text, last) {
             Some((first, last))
         } else {
@@ -58,9 +50,15 @@ impl<P: Policy> PolicyString<P> {
         requires { IsBoundary self.old.text index }
         ensures ok { OnOk result (inserted P.growth self.old index (text_of text.now) ≡ Some self.new) }
         ensures text { OnOk result (self.new.text ≡ replaced_text self.old.text index index (text_of text.now)) }
+        ensures place { OnOk result (IsBoundary self.new.text index) }
+        ensures behind { OnOk result (IsBoundary self.new.text (index + length text.now)) }
+        ensures behind_fits { OnOk result (index + length text.now < 2 ^ 64) }
+        ensures room { OnOk result (sure_capacity self.old ≤ sure_capacity self.new) }
         ensures succeeds { HasRoomFor self.old (length text.now) → IsOk result }
         ensures err { OnErr result ((self.new ≡ self.old) × IsTrue (room_asks self.old (size (text_of text.now)))) }
     {
+        // The proof reads from it that the text is short of 2^63 bytes.
+        let _len = self.repr.len();
         self.repr.reserve(text.len())?;
         self.repr.replace_range(index, index, text);
         Ok(())
@@ -74,6 +72,10 @@ impl<P: Policy> PolicyString<P> {
         requires { IsBoundary self.old.text index }
         ensures ok { OnOk result (inserted P.growth self.old index (character ∷ []) ≡ Some self.new) }
         ensures text { OnOk result (self.new.text ≡ replaced_text self.old.text index index (character ∷ [])) }
+        ensures place { OnOk result (IsBoundary self.new.text index) }
+        ensures behind { OnOk result (IsBoundary self.new.text (index + len_utf8 character)) }
+        ensures behind_fits { OnOk result (index + len_utf8 character < 2 ^ 64) }
+        ensures room { OnOk result (sure_capacity self.old ≤ sure_capacity self.new) }
         ensures succeeds { HasRoomFor self.old (len_utf8 character) → IsOk result }
         ensures err { OnErr result ((self.new ≡ self.old) × IsTrue (room_asks self.old (len_utf8 character))) }
     {
@@ -86,12 +88,15 @@ impl<P: Policy> PolicyString<P> {
     ///
     /// An error says that no memory was found for that; then nothing has changed. An owned value is never refused.
     #[inline]
-    #[tactic(auto, using(crate::proofs::TextFacts::text_facts, crate::proofs::PositionFacts::position_facts))]
+    #[tactic(auto, using(compact_repr::proofs::TextFacts::text_facts, crate::proofs::EditFacts::position_facts))]
     pub fn remove(&mut self, index: usize) -> Result<char, ReserveError>
         requires boundary { IsBoundary self.old.text index }
         requires within { index < size self.old.text }
         ensures ok { IfOk result (λ c. Removes P.growth self.old index c self.new) }
+        ensures text { IfOk result (λ c. self.new.text ≡ replaced_text self.old.text index (index + len_utf8 c) []) }
+        ensures character { IfOk result (λ c. after self.old.text index ≡ c ∷ after self.new.text index) }
         ensures succeeds { IsOwned self.old → IsOk result }
+        ensures succeeds_short { size self.old.text ≤ 24 → IsOk result }
         ensures err { OnErr result ((self.new ≡ self.old) × IsTrue (own_asks self.old)) }
     {
         let len = self.repr.len();
@@ -117,31 +122,14 @@ impl<P: Policy> PolicyString<P> {
         requires { IsRange self.old.text start end }
         ensures ok { OnOk result (replaced P.growth self.old (range_start start) (range_end self.old.text end) (text_of text.now) ≡ Some self.new) }
         ensures text { OnOk result (self.new.text ≡ replaced_text self.old.text (range_start start) (range_end self.old.text end) (text_of text.now)) }
+        ensures succeeds { HasRoomFor self.old (length text.now - (range_end self.old.text end - range_start start)) → IsOk result }
+        ensures succeeds_owned { IsOwned self.old → range_start start + length text.now ≤ range_end self.old.text end → IsOk result }
         ensures err { OnErr result ((self.new ≡ self.old) × IsTrue (replace_asks self.old (range_start start) (range_end self.old.text end) (text_of text.now))) }
     {
-        let (first, last) = self.range_ends(start, end);
+        let Some((first, last)) = ends(start, end, self.len()) else {
+            unreachable!();
+        };
         self.replace_between(first, last, text)
-    }
-
-    /// Where a range of the text begins and ends, in bytes.
-    #[inline]
-    fn range_ends(&self, start: Bound<usize>, end: Bound<usize>) -> (usize, usize)
-        requires { IsRange self.now.text start end }
-        ensures first { result.0 ≡ range_start start }
-        ensures last { result.1 ≡ range_end self.now.text end }
-    {
-        let len = self.len();
-        let first = match start {
-            Bound::Included(index) => index,
-            Bound::Excluded(index) => index + 1,
-            Bound::Unbounded => 0,
-        };
-        let last = match end {
-            Bound::Included(index) => index + 1,
-            Bound::Excluded(index) => index,
-            Bound::Unbounded => len,
-        };
-        (first, last)
     }
 
     /// Replaces what stands between two boundaries, in bytes.
@@ -152,6 +140,8 @@ impl<P: Policy> PolicyString<P> {
         requires last { IsBoundary self.old.text last }
         ensures ok { OnOk result (replaced P.growth self.old first last (text_of text.now) ≡ Some self.new) }
         ensures text { OnOk result (self.new.text ≡ replaced_text self.old.text first last (text_of text.now)) }
+        ensures succeeds { HasRoomFor self.old (length text.now - (last - first)) → IsOk result }
+        ensures succeeds_owned { IsOwned self.old → first + length text.now ≤ last → IsOk result }
         ensures err { OnErr result ((self.new ≡ self.old) × IsTrue (replace_asks self.old first last (text_of text.now))) }
     {
         let replaced = last - first;
@@ -168,11 +158,15 @@ impl<P: Policy> PolicyString<P> {
     /// static value the rest is static too where it is longer than 24 bytes, and not copied.
     ///
     /// An error says that no memory was found for the rest; then nothing has changed.
-    #[tactic(auto, using(crate::proofs::TextFacts::text_facts, crate::proofs::PositionFacts::position_facts))]
+    #[tactic(auto, using(compact_repr::proofs::TextFacts::text_facts, crate::proofs::EditFacts::position_facts))]
     pub fn split_off(&mut self, index: usize) -> Result<Self, ReserveError>
         requires { IsBoundary self.old.text index }
         ensures ok { IfOk result (λ tail. (split_tail P.growth self.old index ≡ Some tail) × (let front = before self.old.text index in self.new ≡ placed front (kept self.old front))) }
         ensures text { IfOk result (λ tail. (self.new.text ≡ before self.old.text index) × (tail.text ≡ after self.old.text index)) }
+        ensures cut { IfOk result (λ tail. IsCut self.old.text index self.new.text tail.text) }
+        ensures boundaries { IsOk result → (i : ℕ) → i ≤ index → IsBoundary self.old.text i → IsBoundary self.new.text i }
+        ensures succeeds { size self.old.text ≤ index + 24 → IsOk result }
+        ensures succeeds_static { IsTrue (is_static self.old.placement.place) → IsOk result }
         ensures err { OnErr result ((self.new ≡ self.old) × IsTrue (split_asks self.old index)) }
     {
         let alloc = self.repr.allocator();
@@ -183,6 +177,24 @@ impl<P: Policy> PolicyString<P> {
         self.repr.truncate(index);
         Ok(PolicyString { repr })
     }
+}
+
+/// Where a range of a text of `len` bytes begins and ends, in bytes; `None` only where an end of it is past the text.
+#[inline]
+fn ends(start: Bound<usize>, end: Bound<usize>, len: usize) -> Option<(usize, usize)>
+    ensures { MatchOption result (¬ ((start_index start ≤ len) × (end_index end len ≤ len))) (λ range. (range.0 ≡ start_index start) × (range.1 ≡ end_index end len)) }
+{
+    let first = match start {
+        Bound::Included(index) => index,
+        Bound::Excluded(index) => index.checked_add(1)?,
+        Bound::Unbounded => 0,
+    };
+    let last = match end {
+        Bound::Included(index) => index.checked_add(1)?,
+        Bound::Excluded(index) => index,
+        Bound::Unbounded => len,
+    };
+    Some((first, last))
 }
 
 /// Whether `index`, in bytes, is a boundary of `text`.

@@ -1,5 +1,5 @@
 //! How a text is repeated.
-ghost use Rattle.std.specs.Prelude.{◌≡◌, ◌*◌, [], Some, IfOk, OnErr, IsTrue};
+ghost use Rattle.std.specs.Prelude.{◌≡◌, ◌≤◌, ◌*◌, [], Some, IfOk, OnErr, IsOk, IsTrue};
 ghost use Rattle.compact_repr.specs.Text.{size};
 ghost use Rattle.compact_repr.specs.Value.{placed};
 ghost use Rattle.compact_repr.specs.Capacity.{new_room};
@@ -13,10 +13,11 @@ impl<P: Policy> PolicyString<P> {
     ///
     /// An error says that no memory was found, or that the length would be past 2^56 - 2.
     /// `"abc"` three times is `"abcabcabc"`.
-    #[tactic(auto, using(crate::proofs::TextFacts::text_facts, crate::proofs::RepeatFacts::repeat_facts))]
+    #[tactic(auto, using(compact_repr::proofs::TextFacts::text_facts, crate::proofs::EditFacts::repeat_facts))]
     pub fn repeat(&self, count: usize) -> Result<Self, ReserveError>
         ensures ok { IfOk result (λ v. repeated P.growth self.now count ≡ Some v) }
         ensures text { IfOk result (λ v. v.text ≡ times count self.now.text) }
+        ensures succeeds { size self.now.text * count ≤ 24 → IsOk result }
         ensures err { OnErr result (IsTrue (repeat_asks self.now count)) }
     {
         if count == 1 && !self.is_empty() {
@@ -28,7 +29,7 @@ impl<P: Policy> PolicyString<P> {
         let Some(total) = self.len().checked_mul(count) else {
             return Err(ReserveError);
         };
-        let mut all = Self::with_capacity(self.repr.allocator(), total)?;
+        let mut all = Self::with_capacity(self.allocator(), total)?;
         // An empty text is done, however often it is wanted.
         if total == 0 {
             return Ok(all);

@@ -23,6 +23,20 @@ fn char_at(rt: &impl Abort, text: &Repr<Standard>, index: usize) -> char {
     text.char_at(index)
 }
 
+/// Puts a dash in, where it fits.
+fn insert_dash(rt: &impl Abort, text: &mut Repr<Standard>, index: usize) -> bool {
+    assert!(rt; text.is_char_boundary(index));
+    text.insert_ascii_in_place(index, b'-')
+}
+
+/// Takes a character of one byte out, of a value that is owned.
+fn remove_byte(rt: &impl Abort, text: &mut Repr<Standard>, index: usize) -> bool {
+    assert!(rt; index < text.len());
+    assert!(rt; text.is_char_boundary(index));
+    assert!(rt; text.is_char_boundary(index + 1));
+    text.remove_ascii_in_place(index)
+}
+
 #[test]
 fn inline(rt: HostRuntime) -> Result<(), Fail> {
     let mut text: Repr<Standard> = Repr::new(rt.alloc(), "äb𝄞")?;
@@ -109,5 +123,70 @@ fn of_the_program(rt: HostRuntime) -> Result<(), Fail> {
     assert_eq!(rt; text.capacity(), 7);
     assert!(rt; text.is_char_boundary(0));
     assert_eq!(rt; text.static_tail(0), Some("äb𝄞"));
+    Ok(())
+}
+
+#[test]
+fn one_character_inline(rt: HostRuntime) -> Result<(), Fail> {
+    let mut text: Repr<Standard> = Repr::new(rt.alloc(), "äb𝄞0123456789012345")?;
+    assert!(rt; insert_dash(&rt, &mut text, 2));
+    assert_eq!(rt; text.as_str(), "ä-b𝄞0123456789012345");
+    assert!(rt; !insert_dash(&rt, &mut text, 24));
+    assert!(rt; remove_byte(&rt, &mut text, 23));
+    assert!(rt; remove_byte(&rt, &mut text, 3));
+    assert_eq!(rt; text.as_str(), "ä-𝄞012345678901234");
+    assert!(rt; insert_dash(&rt, &mut text, 22));
+    assert_eq!(rt; text.as_str(), "ä-𝄞012345678901234-");
+    Ok(())
+}
+
+#[test]
+fn one_character_on_the_heap(rt: HostRuntime) -> Result<(), Fail> {
+    let mut text: Repr<Standard> = Repr::new(rt.alloc(), "äb𝄞0123456789012345678901")?;
+    assert!(rt; insert_dash(&rt, &mut text, 2));
+    assert!(rt; insert_dash(&rt, &mut text, 30));
+    assert!(rt; insert_dash(&rt, &mut text, 0));
+    assert!(rt; !insert_dash(&rt, &mut text, 3));
+    assert_eq!(rt; text.as_str(), "-ä-b𝄞0123456789012345678901-");
+    assert!(rt; remove_byte(&rt, &mut text, 31));
+    assert!(rt; remove_byte(&rt, &mut text, 3));
+    assert!(rt; remove_byte(&rt, &mut text, 0));
+    assert_eq!(rt; text.as_str(), "äb𝄞0123456789012345678901");
+    assert_eq!(rt; text.capacity(), 32);
+    Ok(())
+}
+
+/// A static text is not its own, so nothing is changed in place.
+#[test]
+fn nothing_in_place_of_the_program(rt: HostRuntime) -> Result<(), Fail> {
+    let mut text: Repr<Standard> = Repr::from_static(
+        rt.alloc(),
+        "a text of the program, past 24 bytes",
+    );
+    assert!(rt; !insert_dash(&rt, &mut text, 1));
+    assert!(rt; !remove_byte(&rt, &mut text, 1));
+    assert!(rt; !text.push_in_place(""));
+    assert_eq!(rt; text.as_str(), "a text of the program, past 24 bytes");
+    Ok(())
+}
+
+/// A large room is filled byte by byte, past each place up to which bytes are written ahead.
+#[test]
+fn a_room_is_filled(rt: HostRuntime) -> Result<(), Fail> {
+    let mut text: Repr<Standard> = Repr::with_capacity(rt.alloc(), 1000)?;
+    for _pushed in 0..500 {
+        assert!(rt; text.push_in_place("ab"));
+    }
+    assert!(rt; !text.push_in_place("c"));
+    assert_eq!(rt; text.len(), 1000);
+    assert_eq!(rt; text.capacity(), 1000);
+    assert!(rt; text.as_str().chars().step_by(2).all(|letter| letter == 'a'));
+    assert!(rt;
+        text.as_str()
+            .chars()
+            .skip(1)
+            .step_by(2)
+            .all(|letter| letter == 'b')
+    );
     Ok(())
 }

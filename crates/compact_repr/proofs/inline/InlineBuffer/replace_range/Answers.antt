@@ -12,8 +12,8 @@ overflow_sub-len-2 c =
     let within = boundary-within c.args.self.now c.args.end c.requires.last in
     omega (arith, stands, within)
 
-pub replace_bytes-requires-clause-within : goal.replace_bytes-requires-clause-within
-replace_bytes-requires-clause-within c =
+pub replace_range-requires-clause-within : goal.replace_range-requires-clause-within
+replace_range-requires-clause-within c =
     let stands = size-front _ _ c.self.view_is c.self.invariant.1 (omega arith) in
     let within = boundary-within c.args.self.now c.args.end c.requires.last in
     omega (arith, stands, within)
@@ -33,14 +33,14 @@ returns-clause-fits c =
 pub invariant_of-self : goal.invariant_of-self
 invariant_of-self c = (
   omega (arith, c.if-len-gt-INLINE_CAPACITY.false),
-  rw (← c.as_bytes.ensures.value, c.replace_bytes.ensures)
+  rw (← c.as_bytes.ensures.value, c.replace_range.ensures)
       (utf8-replaced _ _ _ _ c.self.view_is c.self.invariant.1 c.as_bytes.ensures.utf8 c.requires.first c.requires.last),
 )
 
 pub returns-clause-replaced : goal.returns-clause-replaced
 returns-clause-replaced c _ =
     let spelled = text_of-replaced _ _ _ _ c.self.view_is c.self.invariant.1 c.as_bytes.ensures.utf8 c.requires.first c.requires.last in
-    rw (← c.as_bytes.ensures.value, c.replace_bytes.ensures) spelled
+    rw (← c.as_bytes.ensures.value, c.replace_range.ensures) spelled
 
 pub returns-clause-within : goal.returns-clause-within
 returns-clause-within c =
@@ -49,7 +49,7 @@ returns-clause-within c =
     let spelled = text_of-replaced _ _ _ _ c.self.view_is c.self.invariant.1 c.as_bytes.ensures.utf8 c.requires.first c.requires.last in
     let whole = size-replaced c.args.self.now (text_of c.as_bytes.result.now) c.args.start c.args.end c.requires.first c.requires.last c.requires.order in
     let part = size-text_of c.as_bytes.result.now c.as_bytes.ensures.utf8 in
-    rw (← c.as_bytes.ensures.value, c.replace_bytes.ensures, ap size spelled) (omega (arith, stands, whole, part, added, c.if-len-gt-INLINE_CAPACITY.false))
+    rw (← c.as_bytes.ensures.value, c.replace_range.ensures, ap size spelled) (omega (arith, stands, whole, part, added, c.if-len-gt-INLINE_CAPACITY.false))
 
 pub returns-then-len-gt-INLINE_CAPACITY-clause-within : goal.returns-then-len-gt-INLINE_CAPACITY-clause-within
 returns-then-len-gt-INLINE_CAPACITY-clause-within c =

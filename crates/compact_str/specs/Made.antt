@@ -1,5 +1,5 @@
--- What a text gives that may be borrowed or owned.
-use Rattle.std.specs.Prelude.{◌≡◌, length, Result, MatchResult, IsOkAnd, Some, IsTrue, string_bytes}
+-- What a new value is made of.
+use Rattle.std.specs.Prelude.{◌≡◌, ◌≤◌, ℕ, List, length, Result, IfOk, OnErr, IsOk, MatchResult, IsOkAnd, Some, IsTrue, string_bytes, ⊤}
 use Rattle.std.specs.String.{string_capacity}
 use Rattle.std.specs.declared.borrow.CowStr.{CowStr}
 use Rattle.std.specs.declared.borrow.CowStr.TheVariants.{Borrowed, Owned}
@@ -8,7 +8,19 @@ use Rattle.compact_repr.specs.Value.{PlacedText, placed}
 use Rattle.compact_repr.specs.Capacity.{Growth, new_room_asks, taken_over}
 use Rattle.compact_repr.specs.Change.{made}
 
+-- r is a new value with the text of some bytes; up to 24 of them are never refused
+pub record IsNewOf {E : Type 0} (g : Growth) (bytes : List ℕ) (r : Result PlacedText E) : Type 0 where
+  pub ok : IfOk r (λ v. made g (text_of bytes) ≡ Some v)
+  pub text : IfOk r (λ v. v.text ≡ text_of bytes)
+  pub succeeds : length bytes ≤ 24 → IsOk r
+  pub err : OnErr r (IsTrue (new_room_asks (length bytes)))
+
 -- a borrowed text is copied, and refused only where that asks for a heap buffer; an owned one is taken over
 abbrev pub TakesCow : {Z E : Type 0} → Growth → CowStr Z → Result PlacedText E → Type 0
 TakesCow g (Borrowed s) r = MatchResult r (λ v. made g (text_of s.now) ≡ Some v) (λ _. IsTrue (new_room_asks (length s.now)))
 TakesCow g (Owned s) r = IsOkAnd r (λ v. let t = text_of (string_bytes s) in v ≡ placed t (taken_over t (string_capacity s)))
+
+-- taking the text is never refused: it is owned, or has at most 24 bytes
+abbrev pub IsFreeCow : {Z : Type 0} → CowStr Z → Type 0
+IsFreeCow (Borrowed s) = length s.now ≤ 24
+IsFreeCow (Owned s) = ⊤

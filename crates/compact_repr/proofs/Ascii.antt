@@ -1,0 +1,43 @@
+-- An ASCII character that comes into a text or goes from it: one byte that is its own character.
+use Rattle.std.proofs.Common.{◌≡◌, ℕ, ◌+◌, ◌<◌, List, [], ◌∷◌, zero, suc, ap, sym, ◌∙◌, arith}
+use Rattle.std.proofs.lemmas.Str.{IsUtf8-from_ascii, IsUtf8-nil, chars-IsAscii, chars-nil}
+use Rattle.std.specs.List.{replace_range}
+use Rattle.std.specs.Str.{IsUtf8, IsAscii}
+use Rattle.compact_repr.specs.Text.{size, text_of}
+use Rattle.compact_repr.specs.Cut.{IsBoundary, replaced_text}
+use Rattle.compact_repr.proofs.Texts.{size-text_of}
+use Rattle.compact_repr.proofs.Cuts.{size-replaced, text_of-replaced, utf8-replaced}
+
+is_ascii : (byte : ℕ) → byte < 128 → IsAscii (byte ∷ [])
+is_ascii byte h zero = h
+is_ascii byte h (suc i) = omega arith
+
+pub ascii-inserted : {t : List ℕ} (bytes : List ℕ) (index byte : ℕ) → text_of bytes ≡ t → IsUtf8 bytes → byte < 128 → IsBoundary t index
+    → text_of (replace_range bytes index index (byte ∷ [])) ≡ replaced_text t index index (byte ∷ [])
+ascii-inserted {t} bytes index byte e u h b =
+    text_of-replaced bytes (byte ∷ []) index index e u (IsUtf8-from_ascii _ (is_ascii byte h)) b b
+    ∙ ap (λ (s : List ℕ). replaced_text t index index s) (chars-IsAscii _ (is_ascii byte h))
+
+pub utf8-ascii-inserted : {t : List ℕ} (bytes : List ℕ) (index byte : ℕ) → text_of bytes ≡ t → IsUtf8 bytes → byte < 128 → IsBoundary t index
+    → IsUtf8 (replace_range bytes index index (byte ∷ []))
+utf8-ascii-inserted bytes index byte e u h b = utf8-replaced bytes (byte ∷ []) index index e u (IsUtf8-from_ascii _ (is_ascii byte h)) b b
+
+pub size-ascii-inserted : (t : List ℕ) (index byte : ℕ) → byte < 128 → IsBoundary t index → size (replaced_text t index index (byte ∷ [])) ≡ size t + 1
+size-ascii-inserted t index byte h b =
+    let whole = size-replaced t (byte ∷ []) index index b b (omega arith) in
+    let one : size (byte ∷ []) ≡ 1 = ap size (sym (chars-IsAscii _ (is_ascii byte h))) ∙ size-text_of (byte ∷ []) (IsUtf8-from_ascii _ (is_ascii byte h)) in
+    omega (arith, whole, one)
+
+pub ascii-removed : {t : List ℕ} (bytes : List ℕ) (index : ℕ) → text_of bytes ≡ t → IsUtf8 bytes → IsBoundary t index → IsBoundary t (index + 1)
+    → text_of (replace_range bytes index (index + 1) []) ≡ replaced_text t index (index + 1) []
+ascii-removed {t} bytes index e u b n =
+    text_of-replaced bytes [] index (index + 1) e u IsUtf8-nil b n ∙ ap (λ (s : List ℕ). replaced_text t index (index + 1) s) chars-nil
+
+pub utf8-ascii-removed : {t : List ℕ} (bytes : List ℕ) (index : ℕ) → text_of bytes ≡ t → IsUtf8 bytes → IsBoundary t index → IsBoundary t (index + 1)
+    → IsUtf8 (replace_range bytes index (index + 1) [])
+utf8-ascii-removed bytes index e u b n = utf8-replaced bytes [] index (index + 1) e u IsUtf8-nil b n
+
+pub size-ascii-removed : (t : List ℕ) (index : ℕ) → IsBoundary t index → IsBoundary t (index + 1) → size (replaced_text t index (index + 1) []) + 1 ≡ size t
+size-ascii-removed t index b n =
+    let whole = size-replaced t [] index (index + 1) b n (omega arith) in
+    omega (arith, whole)

@@ -1,0 +1,17 @@
+-- The facts that the edits of this crate name where they are proved, in sets by what an edit does.
+use Rattle.compact_repr.proofs.Texts.{empty_text}
+use Rattle.compact_repr.proofs.Changes.{pushed-text}
+use Rattle.compact_repr.proofs.Cuts.{boundary-within, size-after}
+use Rattle.compact_str.proofs.Positions.{truncated-last, boundary-next, after-next, truncated-boundary, truncated-text, boundary-cut, replaced-start, replaced-end}
+use Rattle.compact_str.proofs.Rooms.{pushed-sure, pushed-bytes}
+use Rattle.compact_str.proofs.Repeats.{times-none, times-one}
+
+-- of an append
+pub ruleset append_facts = (empty_text, pushed-text, pushed-sure, pushed-bytes)
+
+-- of an edit at a position
+pub ruleset position_facts =
+    (boundary-within, size-after, truncated-last, boundary-next, after-next, truncated-boundary, truncated-text, boundary-cut, replaced-start, replaced-end)
+
+-- of a repetition
+pub ruleset repeat_facts = (times-none, times-one)

@@ -1,0 +1,79 @@
+-- For crates that call this one: what the clauses of several calls give together. Name it at the caller, as
+-- `#[tactic(auto, using(compact_str::proofs::ForCallers::for_callers))]`.
+use Rattle.std.proofs.Common.{◌≡◌, ℕ, ◌+◌, ◌-◌, ◌*◌, ◌<◌, ◌≤◌, List, [], ◌∷◌, ◌++◌, length, drop, take, refl, ap, sym, subst, ◌∙◌, arith, append_assoc, append-nil}
+use Rattle.std.proofs.lemmas.Str.{chars-nil, chars-append, chars_past_char, IsUtf8-nil, IsUtf8-append, IsUtf8-drop}
+use Rattle.std.proofs.lemmas.Bool.Decides.{nat_tests}
+use Rattle.std.specs.Char.{len_utf8, encode_utf8}
+use Rattle.std.specs.Fmt.{WritesInCalls}
+use Rattle.std.specs.Str.{IsUtf8, IsCharBoundary, chars, chars_after}
+use Rattle.std.specs.List.{FoldsTo, concat}
+use Rattle.std.specs.Str.Pattern.{HasCharAt}
+use Rattle.compact_repr.specs.Text.{size, utf8, text_of}
+use Rattle.compact_repr.specs.Cut.{IsCut, IsBoundary, before, after, replaced_text}
+use Rattle.compact_repr.specs.Value.{PlacedText}
+use Rattle.compact_repr.specs.Capacity.{Growth}
+use Rattle.compact_str.specs.Edits.{Writes}
+use Rattle.compact_repr.proofs.Texts.{length-utf8, utf8-text_of, size-text_of, size-append, empty_text}
+use Rattle.compact_repr.proofs.Changes.{pushed-text}
+use Rattle.compact_repr.proofs.Cuts.{before-after, before-cut, after-cut, boundary-text, text_of-take, text_of-drop, boundary-within, size-before, size-after}
+use Rattle.compact_str.proofs.Positions.{before-before}
+
+-- the parts that a formatter wrote are a text together, which is joined
+written-parts : (g : Growth) (v w : PlacedText) (parts : List (List ℕ)) → FoldsTo (Writes g) v parts w → IsUtf8 (concat parts) × (w.text ≡ v.text ++ text_of (concat parts))
+written-parts g v w [] same = (IsUtf8-nil, rw (chars-nil, append-nil) (ap (λ (x : PlacedText). x.text) (sym same)))
+written-parts g v w (part ∷ parts) (x, first, rest) =
+    let others = written-parts g x w parts rest in (
+      IsUtf8-append part (concat parts) first.is_text others.0,
+      others.1
+      ∙ ap (λ t. t ++ text_of (concat parts)) (pushed-text g v x (text_of part) first.value)
+      ∙ append_assoc v.text (text_of part) (text_of (concat parts))
+      ∙ ap (λ t. v.text ++ t) (sym (chars-append part (concat parts) first.is_text)),
+    )
+
+pub written-text : (g : Growth) (v w : PlacedText) (bytes : List ℕ) → WritesInCalls (Writes g) v bytes w → w.text ≡ v.text ++ text_of bytes
+written-text g v w bytes writes = (written-parts g v w writes.parts writes.calls).1 ∙ ap (λ x. v.text ++ text_of x) writes.whole
+
+-- the characters of bytes that are written out: of one to four bytes
+
+last-byte : (c : ℕ) (bytes : List ℕ) → chars_after 0 c bytes ≡ c ∷ chars bytes
+unfolding chars
+last-byte c [] = refl
+last-byte c (b ∷ bytes) = refl
+
+pub text_of-one : (a : ℕ) (bytes : List ℕ) → a < 128 → text_of (a ∷ bytes) ≡ a ∷ text_of bytes
+unfolding chars
+text_of-one a bytes h = grind (arith, nat_tests, last-byte)
+
+pub text_of-two : (a b : ℕ) (bytes : List ℕ) → 192 ≤ a → a < 224 → text_of (a ∷ b ∷ bytes) ≡ ((a - 192) * 64 + (b - 128)) ∷ text_of bytes
+unfolding chars
+text_of-two a b bytes h k = grind (arith, nat_tests, last-byte)
+
+pub text_of-three : (a b c : ℕ) (bytes : List ℕ) → 224 ≤ a → a < 240 → text_of (a ∷ b ∷ c ∷ bytes) ≡ (((a - 224) * 64 + (b - 128)) * 64 + (c - 128)) ∷ text_of bytes
+unfolding chars
+text_of-three a b c bytes h k = grind (arith, nat_tests, last-byte)
+
+pub text_of-four : (a b c d : ℕ) (bytes : List ℕ) → 240 ≤ a
+    → text_of (a ∷ b ∷ c ∷ d ∷ bytes) ≡ ((((a - 240) * 64 + (b - 128)) * 64 + (c - 128)) * 64 + (d - 128)) ∷ text_of bytes
+unfolding chars
+text_of-four a b c d bytes h = grind (arith, nat_tests, last-byte)
+
+-- where `find` found a character the text may be cut before it and behind it, and what stands from there on is the
+-- character and the rest
+pub found-boundary : (t s : List ℕ) (c i j : ℕ) → HasCharAt c s i j → text_of s ≡ t → IsUtf8 s → IsCharBoundary s i → IsBoundary t i
+found-boundary t s c i j h e u k = boundary-text s i e u k
+
+pub found-behind : (t s : List ℕ) (c i j k : ℕ) → HasCharAt c s i j → text_of s ≡ t → IsUtf8 s → k ≡ i + len_utf8 c → IsBoundary t k
+found-behind t s c i j k h e u is = boundary-text s k e u (subst (λ (n : ℕ). IsCharBoundary s n) (sym is) h.after)
+
+pub found-text : (t s : List ℕ) (c i j k : ℕ) → HasCharAt c s i j → text_of s ≡ t → IsUtf8 s → IsCharBoundary s i → k ≡ i + len_utf8 c
+    → t ≡ before t i ++ c ∷ after t k
+found-text t s c i j k h e u b is =
+    let boundary : IsBoundary t i = boundary-text s i e u b in
+    let next : drop i s ≡ encode_utf8 c ++ drop k s = h.split ∙ ap (λ (n : ℕ). encode_utf8 c ++ drop n s) (h.ends ∙ sym is) in
+    let rest : after t i ≡ c ∷ after t k =
+    sym (text_of-drop s i e u boundary)
+    ∙ chars_past_char (drop i s) (drop k s) c (IsUtf8-drop s i u b) next
+    ∙ ap (λ x. c ∷ x) (text_of-drop s k e u (found-behind t s c i j k h e u is)) in
+    before-after t i ∙ ap (λ x. before t i ++ x) rest
+
+pub ruleset for_callers = (length-utf8, utf8-text_of, size-text_of, size-append, chars-nil, chars-append, IsUtf8-append, written-text, text_of-one, text_of-two, text_of-three, text_of-four, append_assoc, before-cut, after-cut, before-before, boundary-within, found-text)
