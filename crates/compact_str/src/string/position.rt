@@ -79,6 +79,11 @@ impl<P: Policy> PolicyString<P> {
         ensures succeeds { HasRoomFor self.old (len_utf8 character) → IsOk result }
         ensures err { OnErr result ((self.new ≡ self.old) × IsTrue (room_asks self.old (len_utf8 character))) }
     {
+        // The proof reads from it that the text is short of 2^63 bytes.
+        let _len = self.repr.len();
+        if character.is_ascii() && self.repr.insert_ascii_in_place(index, character as u8) {
+            return Ok(());
+        }
         let mut bytes = [0; 4];
         self.insert_str(index, encoded(character, &mut bytes))
     }
@@ -90,6 +95,26 @@ impl<P: Policy> PolicyString<P> {
     #[inline]
     #[tactic(auto, using(compact_repr::proofs::TextFacts::text_facts, crate::proofs::EditFacts::position_facts))]
     pub fn remove(&mut self, index: usize) -> Result<char, ReserveError>
+        requires boundary { IsBoundary self.old.text index }
+        requires within { index < size self.old.text }
+        ensures ok { IfOk result (λ c. Removes P.growth self.old index c self.new) }
+        ensures text { IfOk result (λ c. self.new.text ≡ replaced_text self.old.text index (index + len_utf8 c) []) }
+        ensures character { IfOk result (λ c. after self.old.text index ≡ c ∷ after self.new.text index) }
+        ensures succeeds { IsOwned self.old → IsOk result }
+        ensures succeeds_short { size self.old.text ≤ 24 → IsOk result }
+        ensures err { OnErr result ((self.new ≡ self.old) × IsTrue (own_asks self.old)) }
+    {
+        let character = self.repr.char_at(index);
+        if character.is_ascii() && self.repr.remove_ascii_in_place(index) {
+            return Ok(character);
+        }
+        self.remove_char(index)
+    }
+
+    /// `remove` of any character, in any place.
+    #[inline(never)]
+    #[tactic(auto, using(compact_repr::proofs::TextFacts::text_facts, crate::proofs::EditFacts::position_facts))]
+    fn remove_char(&mut self, index: usize) -> Result<char, ReserveError>
         requires boundary { IsBoundary self.old.text index }
         requires within { index < size self.old.text }
         ensures ok { IfOk result (λ c. Removes P.growth self.old index c self.new) }
