@@ -1,6 +1,6 @@
 use Rattle.std.proofs.Common.{◌-◌, ◌≤◌, length, take}
-use Rattle.compact_codec.specs.PairedBytes.{IsUtf16Bytes}
-use Rattle.compact_codec.proofs.paired_bytes.judge.Given as goal
+use Rattle.compact_codec.specs.Utf16Bytes.{IsUtf16Bytes}
+use Rattle.compact_codec.proofs.utf16_bytes.is_utf16.Given as goal
 
 -- the bytes that were passed are text
 abbrev pub invariant-loop-at : goal.invariant-loop-at

@@ -1,6 +1,6 @@
 use Rattle.std.proofs.Common.{◌-◌, ◌≤◌, length, take}
 use Rattle.compact_codec.specs.Utf16Text.{IsUtf16}
-use Rattle.compact_codec.proofs.utf16.judge.Given as goal
+use Rattle.compact_codec.proofs.utf16.is_utf16.Given as goal
 
 -- the units that were passed are text
 abbrev pub invariant-loop-at : goal.invariant-loop-at

@@ -1,9 +1,9 @@
 //! Bytes read as UTF-16, two bytes a unit (Unicode Standard, 3.10). A byte order mark is a character here.
-ghost use Rattle.std.specs.Prelude.{◌≡◌, ◌↔◌, ◌<◌, ◌≤◌, ◌∷◌, drop, length, unwrap_or, slice_get, IsSome, IfErr, IfNone, OnOk, OnErr, IsOk};
-ghost use Rattle.compact_codec.specs.Utf8Text.{replacement};
-ghost use Rattle.compact_codec.specs.PairedBytes.{unit_of, units_of, IsUtf16Bytes, IsFirstBytesStep, IsBytesFault, lossy_bytes, PairsAreTheUnits, LossyBytesIsTheOne, LossyBytesOfText};
+ghost use Rattle.std.specs.Prelude.{◌≡◌, ◌↔◌, ◌<◌, ◌≤◌, ◌∷◌, drop, length, unwrap_or, slice_get, IsSome, IfNone, IsTrue};
+ghost use Rattle.compact_codec.specs.Text.{replacement_character};
+ghost use Rattle.compact_codec.specs.Utf16Bytes.{unit_of, units_of, IsUtf16Bytes, IsUtf16BytesStep, utf16_bytes_lossy_text, PairsAreTheUnits, Utf16BytesLossyTextIsTheOne, Utf16BytesLossyTextOfText};
 
-use crate::utf16::{Utf16Fault, Utf16Step, step_over};
+use crate::utf16::{Utf16Step, step_over};
 
 /// The order of the two bytes of a unit.
 #[derive(Clone, Copy, Debug, PartialEq, Eq)]
@@ -46,11 +46,11 @@ fn front_unit(order: ByteOrder, bytes: &[u8]) -> Option<u16>
 #[inline]
 pub fn first_character(order: ByteOrder, bytes: &[u8]) -> Utf16Step
     requires { 0 < length bytes.now }
-    ensures step { IsFirstBytesStep order bytes.now result.character result.taken }
+    ensures step { IsUtf16BytesStep order bytes.now result.character result.taken }
     ensures taken { (0 < result.taken) × (result.taken ≤ length bytes.now) }
     ensures few { result.taken ≤ 4 }
-    ensures lossy { lossy_bytes order bytes.now
-        ≡ unwrap_or result.character replacement ∷ lossy_bytes order (drop result.taken bytes.now) }
+    ensures lossy { utf16_bytes_lossy_text order bytes.now
+        ≡ unwrap_or result.character replacement_character ∷ utf16_bytes_lossy_text order (drop result.taken bytes.now) }
     ensures broken { IfNone result.character (¬ (IsUtf16Bytes order bytes.now)) }
 {
     let Some(first) = front_unit(order, bytes) else {
@@ -67,24 +67,21 @@ pub fn first_character(order: ByteOrder, bytes: &[u8]) -> Utf16Step
     }
 }
 
-/// Whether the bytes are those of some text's units, or else where they stop being so.
+/// Whether the bytes are those of some text's units: no surrogate is lone, and no byte is left over.
 ///
-/// In little-endian order `41 00 42` is at fault after 2 bytes.
-pub fn judge(order: ByteOrder, bytes: &[u8]) -> Result<(), Utf16Fault>
-    ensures exact { IsOk result ↔ IsUtf16Bytes order bytes.now }
-    ensures text { OnOk result (IsUtf16Bytes order bytes.now) }
-    ensures fault { IfErr result (λ fault. IsBytesFault order bytes.now fault.valid_up_to) }
-    ensures broken { OnErr result (¬ (IsUtf16Bytes order bytes.now)) }
+/// In little-endian order `41 00` is text, `41 00 42` is none.
+pub fn is_utf16(order: ByteOrder, bytes: &[u8]) -> bool
+    ensures { IsTrue result ↔ IsUtf16Bytes order bytes.now }
 {
     let mut at = 0;
     while at < bytes.len() {
         let step = first_character(order, &bytes[at..]);
         if step.character.is_none() {
-            return Err(Utf16Fault { valid_up_to: at });
+            return false;
         }
         at += step.taken;
     }
-    Ok(())
+    true
 }
 
 /// A law: units written as bytes read back as those units, and pairs of bytes are those of their units.
@@ -94,12 +91,12 @@ pub fn pairs_are_the_units()
 
 /// A law: bytes have one lossy text, that of their units with U+FFFD at the end for an odd last byte.
 pub fn bytes_have_one_lossy_text()
-    ensures { LossyBytesIsTheOne }
+    ensures { Utf16BytesLossyTextIsTheOne }
 {}
 
 /// A law: the bytes of a text's own units have that text as their lossy text.
 pub fn a_text_is_its_own_lossy_text()
-    ensures { LossyBytesOfText }
+    ensures { Utf16BytesLossyTextOfText }
 {}
 
 #[cfg(test)]

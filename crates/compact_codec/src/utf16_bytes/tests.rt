@@ -1,5 +1,4 @@
-use super::{ByteOrder, first_character, judge};
-use crate::utf16::Utf16Fault;
+use super::{ByteOrder, first_character, is_utf16};
 use std::process::Abort;
 
 // The bytes are read in these steps: a character, or `None` for a broken part, and how many bytes it takes.
@@ -53,15 +52,13 @@ fn big_endian_steps(rt: HostRuntime) {
 }
 
 #[test]
-fn faults_are_placed(rt: HostRuntime) {
+fn texts_are_told_from_others(rt: HostRuntime) {
     let little = ByteOrder::LittleEndian;
     let big = ByteOrder::BigEndian;
-    assert!(rt; judge(little, b"") == Ok(()));
-    assert!(rt; judge(little, b"\x41\x00\x3D\xD8\x6F\xDC") == Ok(()));
-    assert!(rt; judge(little, b"\x41\x00\x42") == Err(Utf16Fault { valid_up_to: 2 }));
-    assert!(rt; judge(little, b"\x3D\xD8\x6F") == Err(Utf16Fault { valid_up_to: 0 }));
-    assert!(rt; judge(big, b"\xD8\x3D\xDC\x6F\x20\x0D") == Ok(()));
-    assert!(rt;
-        judge(big, b"\xD8\x3D\xDC\x6F\x20\x0D\xDE\x0F") == Err(Utf16Fault { valid_up_to: 6 })
-    );
+    assert!(rt; is_utf16(little, b""));
+    assert!(rt; is_utf16(little, b"\x41\x00\x3D\xD8\x6F\xDC"));
+    assert!(rt; !is_utf16(little, b"\x41\x00\x42"));
+    assert!(rt; !is_utf16(little, b"\x3D\xD8\x6F"));
+    assert!(rt; is_utf16(big, b"\xD8\x3D\xDC\x6F\x20\x0D"));
+    assert!(rt; !is_utf16(big, b"\xD8\x3D\xDC\x6F\x20\x0D\xDE\x0F"));
 }

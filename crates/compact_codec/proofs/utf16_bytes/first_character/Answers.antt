@@ -1,6 +1,6 @@
 use Rattle.std.proofs.Common.{arith, ◌≡◌, ◌<◌, length}
 use Rattle.compact_codec.proofs.PairsReading.{pair_step, odd_step}
-use Rattle.compact_codec.proofs.paired_bytes.first_character.Goals as goal
+use Rattle.compact_codec.proofs.utf16_bytes.first_character.Goals as goal
 
 pub returns-in_default-clause-lossy : goal.returns-in_default-clause-lossy
 returns-in_default-clause-lossy c =
