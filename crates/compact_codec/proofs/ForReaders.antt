@@ -31,4 +31,4 @@ UnitsEncode-utf16_lossy_text units (text, is) = subst (UnitsEncode units) (sym (
 pub UnitsEncode-utf16_bytes_lossy_text : (order : ByteOrder) (bytes : List ℕ) → IsUtf16Bytes order bytes → UnitsEncode (units_of order bytes) (utf16_bytes_lossy_text order bytes)
 UnitsEncode-utf16_bytes_lossy_text order bytes (pairs, (text, is)) = subst (UnitsEncode (units_of order bytes)) (sym (utf16_bytes_lossy_text_of_text order bytes text pairs is)) is
 
-pub ruleset strict_reading = (reading, BytesEncode-utf8_lossy_text, UnitsEncode-utf16_lossy_text, UnitsEncode-utf16_bytes_lossy_text)
+pub ruleset strict_reading = (reading, utf8_lossy_text_of_text, utf16_lossy_text_of_text, utf16_bytes_lossy_text_of_text, BytesEncode-utf8_lossy_text, UnitsEncode-utf16_lossy_text, UnitsEncode-utf16_bytes_lossy_text)

@@ -6,3 +6,4 @@ pub mod UnitsReading
 pub mod PairsReading
 pub mod WorkedExamples
 pub mod ForReaders
+pub mod StringSink

@@ -66,6 +66,7 @@ AreUnits-units_of order (a ∷ b ∷ bytes) all (suc k) d within =
     AreUnits-units_of order bytes (AreBytes-rest b bytes (AreBytes-rest a (b ∷ bytes) all)) k d (omega arith)
 
 pub utf16_bytes_lossy_text_is : Utf16BytesLossyTextIsTheOne
+unfolding utf16_bytes_lossy_text
 utf16_bytes_lossy_text_is order bytes text all =
     let units = units_of order bytes in
     let fits = AreUnits-units_of order bytes all in (
@@ -130,6 +131,7 @@ none_is_broken order bytes (Some c) n is = search rules
 none_is_broken order bytes None n is = λ text. lone_is_no_text (units_of order bytes) is.0 text.1
 
 pub steps_over : (order : ByteOrder) (bytes : List ℕ) (o : Option ℕ) (n m : ℕ) → m ≡ 2 * n → IsUtf16Step (units_of order bytes) o n → StepsOver order bytes o m
+unfolding utf16_bytes_lossy_text
 steps_over order bytes o n m double is =
     let within = first_step_within (units_of order bytes) o n is in
     let pairs = take_pairs order n m bytes double within.1 in
@@ -158,6 +160,7 @@ utf16_lossy_text-nil : utf16_lossy_text [] ≡ []
 utf16_lossy_text-nil = ap (map (λ o. unwrap_or o 0xFFFD)) utf16_chars-nil
 
 pub odd_step : (order : ByteOrder) (bytes : List ℕ) → length bytes ≡ 1 → StepsOver order bytes None 1
+unfolding utf16_bytes_lossy_text
 odd_step order [] one = absurd (omega arith)
 odd_step order (a ∷ []) one = record {
   step = inr (refl, refl);
@@ -213,6 +216,7 @@ odd_byte_text-pairs (a ∷ []) pairs = absurd pairs
 odd_byte_text-pairs (a ∷ b ∷ bytes) pairs = odd_byte_text-pairs bytes pairs
 
 pub utf16_bytes_lossy_text_of_text : Utf16BytesLossyTextOfText
+unfolding utf16_bytes_lossy_text
 utf16_bytes_lossy_text_of_text order bytes text pairs is =
     ap (λ t. utf16_lossy_text (units_of order bytes) ++ t) (odd_byte_text-pairs bytes pairs) ∙ append-nil _ ∙ utf16_lossy_text_of_text (units_of order bytes) text is
 

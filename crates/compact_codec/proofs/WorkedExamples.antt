@@ -157,13 +157,13 @@ unfolding utf16_chars
 lone_then_pair = refl
 
 odd_byte_last : utf16_bytes_lossy_text LittleEndian (0x41 ∷ 0x00 ∷ 0x42 ∷ []) ≡ 0x41 ∷ 0xFFFD ∷ []
-unfolding utf16_chars
+unfolding utf16_bytes_lossy_text utf16_chars
 odd_byte_last = refl
 
 lone_then_odd : utf16_bytes_lossy_text LittleEndian (0x3D ∷ 0xD8 ∷ 0x6F ∷ []) ≡ 0xFFFD ∷ 0xFFFD ∷ []
-unfolding utf16_chars
+unfolding utf16_bytes_lossy_text utf16_chars
 lone_then_odd = refl
 
 four_characters : utf16_bytes_lossy_text BigEndian (0xD8 ∷ 0x3D ∷ 0xDC ∷ 0x6F ∷ 0x20 ∷ 0x0D ∷ 0x26 ∷ 0x40 ∷ 0xDE ∷ 0x0F ∷ []) ≡ 0x1F46F ∷ 0x200D ∷ 0x2640 ∷ 0xFFFD ∷ []
-unfolding utf16_chars
+unfolding utf16_bytes_lossy_text utf16_chars
 four_characters = refl

@@ -45,7 +45,7 @@ abbrev pub IsUtf16BytesLossyText : ByteOrder → List ℕ → List ℕ → Type 
 IsUtf16BytesLossyText order bytes text = (front : List ℕ) × IsUtf16LossyText (units_of order bytes) front × (text ≡ front ++ odd_byte_text bytes)
 
 -- that text
-abbrev pub utf16_bytes_lossy_text : ByteOrder → List ℕ → List ℕ
+unfoldable pub utf16_bytes_lossy_text : ByteOrder → List ℕ → List ℕ
 utf16_bytes_lossy_text order bytes = utf16_lossy_text (units_of order bytes) ++ odd_byte_text bytes
 
 -- the first n bytes are a lone surrogate, or the odd last byte alone

@@ -12,6 +12,7 @@
 //! The definitions in `specs/` are the Unicode Standard's; docs/MODEL.md tells them in plain words.
 #![tactic(auto)]
 
+pub mod readers;
 pub mod utf16;
 pub mod utf16_bytes;
 pub mod utf8;
