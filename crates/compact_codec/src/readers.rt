@@ -117,3 +117,6 @@ pub fn push_utf16_bytes_lossy<S: TextSink>(made: &mut S, order: ByteOrder, bytes
     }
     Ok(())
 }
+
+#[cfg(test)]
+mod tests;
