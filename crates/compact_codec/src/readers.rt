@@ -106,7 +106,11 @@ pub fn push_utf16<S: TextSink>(made: &mut S, units: &[u16]) -> Result<bool, S::E
 ///
 /// In little-endian order `41 00 42` is put as `A` and U+FFFD.
 #[tactic(auto, using(crate::proofs::ForReaders::reading))]
-pub fn push_utf16_bytes_lossy<S: TextSink>(made: &mut S, order: ByteOrder, bytes: &[u8]) -> Result<(), S::Error>
+pub fn push_utf16_bytes_lossy<S: TextSink>(
+    made: &mut S,
+    order: ByteOrder,
+    bytes: &[u8],
+) -> Result<(), S::Error>
     ensures { OnOk result (S.text made.new ≡ S.text made.old ++ utf16_bytes_lossy_text order bytes.now) }
 {
     let mut rest = bytes;
