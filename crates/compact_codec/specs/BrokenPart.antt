@@ -39,4 +39,5 @@ IsUtf8Fault bs valid_up_to error_len = IsLongestFront bs valid_up_to × IsBroken
 -- bytes that are no text have one fault: the place and the length that the judge tells
 abbrev pub FaultIsTheOne : Type 0
 FaultIsTheOne = (bs : List ℕ) (valid_up_to : ℕ) (error_len : Option ℕ) → ¬ (IsUtf8 bs)
-    → IsUtf8Fault bs valid_up_to error_len ↔ ((valid_up_to ≡ utf8_valid_len bs) × (error_len ≡ utf8_error_len (drop valid_up_to bs)))
+    → IsUtf8Fault bs valid_up_to error_len
+    ↔ ((valid_up_to ≡ utf8_valid_len bs) × (error_len ≡ utf8_error_len (drop valid_up_to bs)))

@@ -42,7 +42,8 @@ IsUtf16Bytes order bytes = ArePairs bytes × IsUtf16 (units_of order bytes)
 
 -- the text of the bytes with one U+FFFD for each lone surrogate, and one at the end for an odd last byte
 abbrev pub IsUtf16BytesLossyText : ByteOrder → List ℕ → List ℕ → Type 0
-IsUtf16BytesLossyText order bytes text = (front : List ℕ) × IsUtf16LossyText (units_of order bytes) front × (text ≡ front ++ odd_byte_text bytes)
+IsUtf16BytesLossyText order bytes text =
+    (front : List ℕ) × IsUtf16LossyText (units_of order bytes) front × (text ≡ front ++ odd_byte_text bytes)
 
 -- that text
 unfoldable pub utf16_bytes_lossy_text : ByteOrder → List ℕ → List ℕ
@@ -50,11 +51,13 @@ utf16_bytes_lossy_text order bytes = utf16_lossy_text (units_of order bytes) ++ 
 
 -- the first n bytes are a lone surrogate, or the odd last byte alone
 abbrev pub BeginsWithBrokenBytes : ByteOrder → List ℕ → ℕ → Type 0
-BeginsWithBrokenBytes order bytes n = (BeginsWithLoneSurrogate (units_of order bytes) × (n ≡ 2)) ⊎ ((length bytes ≡ 1) × (n ≡ 1))
+BeginsWithBrokenBytes order bytes n =
+    (BeginsWithLoneSurrogate (units_of order bytes) × (n ≡ 2)) ⊎ ((length bytes ≡ 1) × (n ≡ 1))
 
 -- at the front of the bytes stands this character in the first n of them, or else n bytes that are broken
 abbrev pub IsUtf16BytesStep : ByteOrder → List ℕ → Option ℕ → ℕ → Type 0
-IsUtf16BytesStep order bytes (Some c) n = IsScalar c × (n ≤ length bytes) × ArePairs (take n bytes) × (units_of order (take n bytes) ≡ encode_utf16 c)
+IsUtf16BytesStep order bytes (Some c) n =
+    IsScalar c × (n ≤ length bytes) × ArePairs (take n bytes) × (units_of order (take n bytes) ≡ encode_utf16 c)
 IsUtf16BytesStep order bytes None n = BeginsWithBrokenBytes order bytes n
 
 -- the numbers are bytes
@@ -63,13 +66,18 @@ AreBytes bytes = All (λ b. b < 256) bytes
 
 -- units written as bytes read back as those units, and pairs of bytes are those of their units
 abbrev pub PairsAreTheUnits : Type 0
-PairsAreTheUnits = ((order : ByteOrder) (units : List ℕ) → (units_of order (flat_map (unit_bytes order) units) ≡ units) × ArePairs (flat_map (unit_bytes order) units))
-    × ((order : ByteOrder) (bytes : List ℕ) → AreBytes bytes → ArePairs bytes → flat_map (unit_bytes order) (units_of order bytes) ≡ bytes)
+PairsAreTheUnits =
+    ((order : ByteOrder) (units : List ℕ)
+    → (units_of order (flat_map (unit_bytes order) units) ≡ units) × ArePairs (flat_map (unit_bytes order) units))
+    × ((order : ByteOrder) (bytes : List ℕ) → AreBytes bytes → ArePairs bytes
+    → flat_map (unit_bytes order) (units_of order bytes) ≡ bytes)
 
 -- bytes have one lossy text and no other
 abbrev pub Utf16BytesLossyTextIsTheOne : Type 0
-Utf16BytesLossyTextIsTheOne = (order : ByteOrder) (bytes text : List ℕ) → AreBytes bytes → IsUtf16BytesLossyText order bytes text ↔ (text ≡ utf16_bytes_lossy_text order bytes)
+Utf16BytesLossyTextIsTheOne = (order : ByteOrder) (bytes text : List ℕ) → AreBytes bytes
+    → IsUtf16BytesLossyText order bytes text ↔ (text ≡ utf16_bytes_lossy_text order bytes)
 
 -- the bytes of a text's units have that text as their lossy text
 abbrev pub Utf16BytesLossyTextOfText : Type 0
-Utf16BytesLossyTextOfText = (order : ByteOrder) (bytes text : List ℕ) → ArePairs bytes → UnitsEncode (units_of order bytes) text → utf16_bytes_lossy_text order bytes ≡ text
+Utf16BytesLossyTextOfText = (order : ByteOrder) (bytes text : List ℕ) → ArePairs bytes
+    → UnitsEncode (units_of order bytes) text → utf16_bytes_lossy_text order bytes ≡ text

@@ -42,7 +42,8 @@ BeginsWithLoneSurrogate (u ∷ units) = IsLowSurrogate u ⊎ (IsHighSurrogate u 
 -- the text is read from the units with one U+FFFD for each lone surrogate
 abbrev pub IsUtf16LossyText : List ℕ → List ℕ → Type 0
 IsUtf16LossyText units [] = units ≡ []
-IsUtf16LossyText units (c ∷ text) = ((rest : List ℕ) × IsScalar c × (units ≡ encode_utf16 c ++ rest) × IsUtf16LossyText rest text)
+IsUtf16LossyText units (c ∷ text) =
+    ((rest : List ℕ) × IsScalar c × (units ≡ encode_utf16 c ++ rest) × IsUtf16LossyText rest text)
     ⊎ ((c ≡ replacement_character) × BeginsWithLoneSurrogate units × IsUtf16LossyText (drop 1 units) text)
 
 -- that text
@@ -64,7 +65,8 @@ Utf16IsThePaired = (units : List ℕ) → AreUnits units → IsUtf16 units ↔ (
 
 -- units have one lossy text and no other
 abbrev pub Utf16LossyTextIsTheOne : Type 0
-Utf16LossyTextIsTheOne = (units text : List ℕ) → AreUnits units → IsUtf16LossyText units text ↔ (text ≡ utf16_lossy_text units)
+Utf16LossyTextIsTheOne = (units text : List ℕ) → AreUnits units
+    → IsUtf16LossyText units text ↔ (text ≡ utf16_lossy_text units)
 
 -- a text's own units have that text as their lossy text
 abbrev pub Utf16LossyTextOfText : Type 0

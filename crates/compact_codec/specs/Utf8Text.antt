@@ -13,7 +13,8 @@ BytesEncode bytes text = IsText text × (utf8 text ≡ bytes)
 -- bytes, and U+FFFD for a maximal subpart where no character's bytes begin
 abbrev pub IsUtf8LossyText : List ℕ → List ℕ → Type 0
 IsUtf8LossyText bytes [] = bytes ≡ []
-IsUtf8LossyText bytes (c ∷ text) = ((rest : List ℕ) × IsScalar c × (bytes ≡ encode_utf8 c ++ rest) × IsUtf8LossyText rest text)
+IsUtf8LossyText bytes (c ∷ text) =
+    ((rest : List ℕ) × IsScalar c × (bytes ≡ encode_utf8 c ++ rest) × IsUtf8LossyText rest text)
     ⊎ ((n : ℕ) × (c ≡ replacement_character) × IsMaximalSubpart bytes n × IsUtf8LossyText (drop n bytes) text)
 
 -- that text

@@ -91,7 +91,8 @@ pub fn push_utf16_lossy<S: TextSink>(made: &mut S, units: &[u16]) -> Result<(), 
 #[tactic(auto, using(crate::proofs::ForReaders::strict_reading))]
 pub fn push_utf16<S: TextSink>(made: &mut S, units: &[u16]) -> Result<bool, S::Error>
     ensures exact { IfOk result (λ is_text. IsTrue is_text ↔ IsUtf16 units.now) }
-    ensures text { (text : List ℕ) → UnitsEncode units.now text → OnOk result (S.text made.new ≡ S.text made.old ++ text) }
+    ensures text { (text : List ℕ) → UnitsEncode units.now text
+        → OnOk result (S.text made.new ≡ S.text made.old ++ text) }
     ensures none { ¬ (IsUtf16 units.now) → IsOk result × (made.new ≡ made.old) }
 {
     if !utf16::is_utf16(units) {
