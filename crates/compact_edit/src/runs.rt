@@ -1,5 +1,5 @@
 //! How edits are run.
-ghost use Rattle.std.specs.Prelude.{◌≡◌, ◌+◌, [], length, vec_len, OnOk, OnErr, IsOk, MatchResult};
+ghost use Rattle.std.specs.Prelude.{◌≡◌, ◌+◌, ◌≤◌, [], length, vec_len, vec_capacity, OnOk, OnErr, IsOk, MatchResult};
 ghost use Rattle.compact_edit.specs.Steps.{Step};
 ghost use Rattle.compact_edit.specs.Runs.{RunsTo};
 
@@ -19,6 +19,7 @@ pub fn run<P: Policy>(
 ) -> Result<(), ReserveError>
     ensures run { OnOk result (RunsTo P.growth value.old edits.now replies.old.items replies.new.items value.new) }
     ensures count { OnOk result (vec_len replies.new ≡ vec_len replies.old + length edits.now) }
+    ensures succeeds { vec_len replies.old + length edits.now ≤ vec_capacity replies.old → IsOk result }
     ensures err { OnErr result ((value.new ≡ value.old) × (replies.new.items ≡ replies.old.items)) }
     ensures empty { edits.now ≡ [] → IsOk result }
 {

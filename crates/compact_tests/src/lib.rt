@@ -24,6 +24,7 @@ mod refused;
 mod refused_edits;
 #[cfg(test)]
 mod refused_positions;
+mod run_callers;
 #[cfg(test)]
 mod sessions;
 #[cfg(test)]
@@ -32,3 +33,4 @@ mod shortened;
 mod support;
 
 pub use callers::{append_field, keyword, label, record_line};
+pub use run_callers::{Doubling, bracket, pop_two};
