@@ -33,4 +33,4 @@ mod shortened;
 mod support;
 
 pub use callers::{append_field, keyword, label, record_line};
-pub use run_callers::{Doubling, bracket, pop_two};
+pub use run_callers::{Doubling, bracket, refill, rewrite};
