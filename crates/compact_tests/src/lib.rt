@@ -25,6 +25,7 @@ mod refused;
 mod refused_edits;
 #[cfg(test)]
 mod refused_positions;
+mod run_callers;
 #[cfg(test)]
 mod sessions;
 #[cfg(test)]
@@ -36,3 +37,4 @@ pub use callers::{append_field, keyword, label, record_line};
 pub use plain_callers::{
     append_pair, append_record, append_report, split_and_join, split_field, type_two, with_suffix,
 };
+pub use run_callers::{Doubling, bracket, refill, rewrite};
