@@ -14,6 +14,7 @@ mod law;
 mod policy;
 mod repr;
 mod rows;
+mod static_text;
 mod words;
 
 pub use error::ReserveError;
