@@ -9,6 +9,7 @@ ghost use Rattle.compact_repr.specs.Stored.{value_of, IsStored};
 use crate::error::ReserveError;
 use crate::heap::HeapBuffer;
 use crate::inline::{INLINE_CAPACITY, InlineBuffer};
+use crate::static_text::StaticText;
 use std::alloc::Global;
 
 mod edit;
@@ -18,7 +19,7 @@ mod edit;
 pub enum Buffer {
     Inline(InlineBuffer),
     Heap(HeapBuffer),
-    Static(&'static str),
+    Static(StaticText),
 }
 
 impl Buffer {
@@ -47,7 +48,7 @@ impl Buffer {
         match self {
             Buffer::Inline(inline) => inline.as_str(),
             Buffer::Heap(heap) => heap.as_str(),
-            Buffer::Static(text) => text,
+            Buffer::Static(text) => text.as_static_str(),
         }
     }
 
@@ -102,7 +103,7 @@ impl Buffer {
         match self {
             Buffer::Inline(inline) => inline.clear(),
             Buffer::Heap(heap) => heap.clear(),
-            Buffer::Static(text) => *text = "",
+            Buffer::Static(text) => *text = StaticText::new(""),
         }
     }
 

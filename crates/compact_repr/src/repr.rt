@@ -81,7 +81,7 @@ impl<P: Policy> Repr<P> {
         ensures text { IfSome result (λ s. text_of s.now ≡ self.now.text) }
     {
         match &self.buffer {
-            Buffer::Static(text) => Some(*text),
+            Buffer::Static(text) => Some(text.as_static_str()),
             _ => None,
         }
     }

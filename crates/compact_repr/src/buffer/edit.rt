@@ -7,7 +7,6 @@ ghost use Rattle.compact_repr.specs.Capacity.{kept};
 ghost use Rattle.compact_repr.specs.Stored.{value_of, IsStored};
 
 use super::Buffer;
-use crate::cut::front;
 
 impl Buffer {
     /// Replaces what stands from one boundary to another by `text`, for which there is room. Positions are in bytes.
@@ -40,7 +39,7 @@ impl Buffer {
         match self {
             Buffer::Inline(inline) => inline.truncate(len),
             Buffer::Heap(heap) => heap.truncate(len),
-            Buffer::Static(text) => *text = front(text, len),
+            Buffer::Static(text) => *text = text.front(len),
         }
     }
 }

@@ -85,7 +85,7 @@ impl<P: Policy> Repr<P> {
         match &self.buffer {
             Buffer::Inline(_) => None,
             Buffer::Heap(_) => None,
-            Buffer::Static(text) => Some(cut::tail(text, index)),
+            Buffer::Static(text) => Some(text.tail(index).as_static_str()),
         }
     }
 }

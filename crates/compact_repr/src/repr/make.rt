@@ -13,6 +13,7 @@ use crate::inline::{INLINE_CAPACITY, InlineBuffer};
 use crate::policy::Policy;
 use crate::repr::Repr;
 use crate::repr::room::GREATEST_CAPACITY;
+use crate::static_text::StaticText;
 use std::alloc::Global;
 
 impl<P: Policy> Repr<P> {
@@ -54,7 +55,7 @@ impl<P: Policy> Repr<P> {
         ensures { let t = text_of text.now in result ≡ placed t (lasting t) }
     {
         if INLINE_CAPACITY < text.len() {
-            return Self::of(alloc, Buffer::Static(text));
+            return Self::of(alloc, Buffer::Static(StaticText::new(text)));
         }
         let inline = InlineBuffer::new(text);
         Self::of(alloc, Buffer::Inline(inline))
@@ -106,7 +107,7 @@ impl<P: Policy> Repr<P> {
         match &self.buffer {
             Buffer::Inline(inline) => Ok(Self::of(self.alloc, Buffer::Inline(inline.duplicate()))),
             Buffer::Heap(heap) => Self::copy_of_heap(self.alloc, heap),
-            Buffer::Static(text) => Ok(Self::of(self.alloc, Buffer::Static(text))),
+            Buffer::Static(text) => Ok(Self::of(self.alloc, Buffer::Static(text.duplicate()))),
         }
     }
 

@@ -74,7 +74,7 @@ impl<P: Policy> Repr<P> {
         let Buffer::Static(text) = &self.buffer else {
             return Ok(());
         };
-        let owned = Self::new(self.alloc, text)?;
+        let owned = Self::new(self.alloc, text.as_static_str())?;
         *self = owned;
         Ok(())
     }
