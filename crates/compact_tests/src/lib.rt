@@ -4,6 +4,8 @@
 #[cfg(test)]
 mod called;
 mod callers;
+mod iterated;
+mod lenders;
 #[cfg(test)]
 mod changed;
 #[cfg(test)]
@@ -32,3 +34,4 @@ mod sessions;
 mod shortened;
 
 pub use callers::{append_field, keyword, label, record_line};
+pub use iterated::{append_fields, names_by_reference, names_of, path, whole};
