@@ -2,10 +2,10 @@
 //!
 //! `Spelled` and the three calls over it stand for what a library offers: each takes any iterator. Those below are the
 //! callers that a user writes first, with a slice's iterator, and each is proved from the contracts alone.
-ghost use Rattle.std.specs.Prelude.{◌≡◌, ℕ, List, ◌++◌, flat_map, IfOk, OnOk, codes};
+ghost use Rattle.std.specs.Prelude.{◌≡◌, ℕ, List, ◌++◌, ◌+◌, flat_map, fold, IfOk, OnOk, codes};
 ghost use Rattle.std.specs.Iterator.{IsFinite};
 ghost use Rattle.std.specs.Iterator.Runs.{WholeRun};
-ghost use Rattle.compact_str.specs.Text.{text_of};
+ghost use Rattle.compact_str.specs.Text.{text_of, size};
 
 use compact_str::{CompactString, ReserveError};
 use std::alloc::Global;
@@ -66,7 +66,8 @@ fn gather<T: Spelled, I: Iterator<Item = T> + Drop>(
 ) -> Result<CompactString, ReserveError>
     requires can { I.can_next parts }
     requires ends { IsFinite (I.remaining parts) }
-    ensures { IfOk result (λ v. WholeRun I.next_gives parts (λ run. v.text ≡ flat_map T.letters run.items)) }
+    ensures text { IfOk result (λ v. WholeRun I.next_gives parts (λ run. v.text ≡ flat_map T.letters run.items)) }
+    ensures size { IfOk result (λ v. WholeRun I.next_gives parts (λ run. size v.text ≡ fold (λ n part. n + size (T.letters part)) 0 run.items)) }
 {
     let mut line = CompactString::default(alloc);
     append_all(&mut line, parts)?;
@@ -114,7 +115,7 @@ pub fn append_fields(line: &mut CompactString, fields: &[&str]) -> Result<(), Re
 
 /// The names as one text.
 pub fn names_of(alloc: Global, names: &[CompactString]) -> Result<CompactString, ReserveError>
-    ensures { IfOk result (λ v. v.text ≡ flat_map (λ name. name.text) names.now) }
+    ensures { IfOk result (λ v. size v.text ≡ fold (λ n name. n + size name.text) 0 names.now) }
 {
     gather(alloc, names.iter().map(|name| name.as_str()))
 }

@@ -4,14 +4,16 @@
 #[cfg(test)]
 mod called;
 mod callers;
-mod iterated;
-mod lenders;
 #[cfg(test)]
 mod changed;
 #[cfg(test)]
 mod cloned;
 #[cfg(test)]
 mod growth;
+mod iterated;
+mod lenders;
+#[cfg(test)]
+mod lent;
 #[cfg(test)]
 mod lines;
 #[cfg(test)]
@@ -35,3 +37,4 @@ mod shortened;
 
 pub use callers::{append_field, keyword, label, record_line};
 pub use iterated::{append_fields, names_by_reference, names_of, path, whole};
+pub use lenders::{TooLong, emptied, start_anew, take_out, try_to_empty};
