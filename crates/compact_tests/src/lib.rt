@@ -10,6 +10,10 @@ mod changed;
 mod cloned;
 #[cfg(test)]
 mod growth;
+mod iterated;
+mod lenders;
+#[cfg(test)]
+mod lent;
 #[cfg(test)]
 mod lines;
 #[cfg(test)]
@@ -38,3 +42,5 @@ pub use plain_callers::{
     append_pair, append_record, append_report, split_and_join, split_field, type_two, with_suffix,
 };
 pub use run_callers::{Doubling, bracket, refill, rewrite};
+pub use iterated::{append_fields, names_by_reference, names_of, path, whole};
+pub use lenders::{TooLong, emptied, start_anew, take_out, try_to_empty};
