@@ -34,5 +34,6 @@ mod support;
 
 pub use callers::{append_field, keyword, label, record_line};
 pub use plain_callers::{
-    append_pair, append_record, append_report, split_and_join, split_field, type_two, with_suffix,
+    append_count, append_pair, append_record, append_report, split_and_join, split_field, type_two,
+    with_suffix,
 };
