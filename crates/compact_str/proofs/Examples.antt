@@ -1,9 +1,7 @@
 -- Worked examples of the definitions, each computed. The numbers come from the Rust crate and from the Unicode Standard.
-use Rattle.std.specs.Prelude.{◌≡◌, ℕ, ◌≤◌, ◌*◌, List, [], ◌∷◌, replicate, Some, None, refl}
+use Rattle.std.specs.Prelude.{◌≡◌, ℕ, ◌*◌, List, [], ◌∷◌, replicate, Some, None, refl}
 use Rattle.std.proofs.Common.{arith}
-use Rattle.std.specs.declared.ops.Bound.{Bound}
 use Rattle.std.specs.declared.ops.Bound.TheVariants.{Included, Excluded, Unbounded}
-use Rattle.compact_repr.specs.Text.{size}
 use Rattle.compact_repr.specs.Cut.{IsBoundary}
 use Rattle.compact_repr.specs.Value.{PlacedText, placed}
 use Rattle.compact_repr.specs.Capacity.{Growth, inlined, on_heap, borrowed, new_room}

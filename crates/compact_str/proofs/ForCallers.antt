@@ -9,8 +9,8 @@ use Rattle.std.specs.Fmt.{WritesInCalls, decimal}
 use Rattle.std.specs.Str.{IsUtf8, IsCharBoundary, chars, chars_after}
 use Rattle.std.specs.List.{FoldsTo, concat}
 use Rattle.std.specs.Str.Pattern.{HasCharAt}
-use Rattle.compact_repr.specs.Text.{size, utf8, text_of}
-use Rattle.compact_repr.specs.Cut.{IsCut, IsBoundary, before, after, replaced_text}
+use Rattle.compact_repr.specs.Text.{text_of}
+use Rattle.compact_repr.specs.Cut.{IsBoundary, before, after}
 use Rattle.compact_repr.specs.Value.{PlacedText}
 use Rattle.compact_repr.specs.Capacity.{Growth}
 use Rattle.compact_str.specs.Edits.{Writes}
@@ -26,9 +26,9 @@ written-parts g v w (part ∷ parts) (x, first, rest) =
     let others = written-parts g x w parts rest in (
       IsUtf8-append part (concat parts) first.is_text others.0,
       others.1
-      ∙ ap (λ t. t ++ text_of (concat parts)) (pushed-text g v x (text_of part) first.value)
-      ∙ append_assoc v.text (text_of part) (text_of (concat parts))
-      ∙ ap (λ t. v.text ++ t) (sym (chars-append part (concat parts) first.is_text)),
+          ∙ ap (λ t. t ++ text_of (concat parts)) (pushed-text g v x (text_of part) first.value)
+          ∙ append_assoc v.text (text_of part) (text_of (concat parts))
+          ∙ ap (λ t. v.text ++ t) (sym (chars-append part (concat parts) first.is_text)),
     )
 
 pub written-text : (g : Growth) (v w : PlacedText) (bytes : List ℕ) → WritesInCalls (Writes g) v bytes w → w.text ≡ v.text ++ text_of bytes
@@ -82,7 +82,25 @@ pub text_of-decimal_append : (n : ℕ) (bytes : List ℕ) → n < 2 ^ 64 → tex
 text_of-decimal_append n bytes h =
     chars-append (decimal n) bytes (IsUtf8-from_ascii (decimal n) (IsAscii-decimal n h)) ∙ ap (λ t. t ++ text_of bytes) (text_of-decimal n h)
 
-pub ruleset for_callers =
-    (length-utf8, utf8-text_of, size-text_of, size-append, chars-nil, chars-append, IsUtf8-append, append_assoc,
-    before-cut, after-cut, before-before, boundary-within, written-text, found-text,
-    text_of-one, text_of-two, text_of-three, text_of-four, text_of-decimal, text_of-decimal_append)
+pub ruleset for_callers = (
+  length-utf8,
+  utf8-text_of,
+  size-text_of,
+  size-append,
+  chars-nil,
+  chars-append,
+  IsUtf8-append,
+  append_assoc,
+  before-cut,
+  after-cut,
+  before-before,
+  boundary-within,
+  written-text,
+  found-text,
+  text_of-one,
+  text_of-two,
+  text_of-three,
+  text_of-four,
+  text_of-decimal,
+  text_of-decimal_append,
+)
