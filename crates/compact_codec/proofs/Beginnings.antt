@@ -4,61 +4,61 @@ use Rattle.std.proofs.lemmas.Bool.{cases_lt}
 use Rattle.std.proofs.lemmas.Bool.Decides.{nat_tests}
 use Rattle.std.specs.Int.{is_in_range}
 use Rattle.std.specs.Str.Lossy.{second_byte_min, second_byte_max}
-use Rattle.compact_codec.specs.Utf8Table.{Row, Fits, FitsOneOf, table, trailing, IsIn, IsWellFormed}
+use Rattle.compact_codec.specs.Utf8Table.{TableRow, FitsRow, FitsSomeRow, sequence_table, trailing_bytes, IsInByteRange, IsWellFormedSequence}
 use Rattle.compact_codec.specs.BrokenPart.{BeginsSequence}
 
 -- the bytes fit the front of a row
-abbrev pub Begins : Row → List ℕ → Type 0
+abbrev pub Begins : TableRow → List ℕ → Type 0
 Begins rs [] = Unit {0}
 Begins [] (b ∷ bs) = ⊥
-Begins (r ∷ rs) (b ∷ bs) = IsIn r b × Begins rs bs
+Begins (r ∷ rs) (b ∷ bs) = IsInByteRange r b × Begins rs bs
 
-abbrev pub BeginsOneOf : List Row → List ℕ → Type 0
+abbrev pub BeginsOneOf : List TableRow → List ℕ → Type 0
 BeginsOneOf [] bs = ⊥
 BeginsOneOf (row ∷ rows) bs = Begins row bs ⊎ BeginsOneOf rows bs
 
 -- each range of the row has a byte in it
-abbrev HasBytes : Row → Type 0
+abbrev HasBytes : TableRow → Type 0
 HasBytes [] = Unit {0}
 HasBytes (r ∷ rs) = (r.least ≤ r.most) × HasBytes rs
 
-abbrev AllHaveBytes : List Row → Type 0
+abbrev AllHaveBytes : List TableRow → Type 0
 AllHaveBytes [] = Unit {0}
 AllHaveBytes (row ∷ rows) = HasBytes row × AllHaveBytes rows
 
-begins_row : (rs : Row) (bs more : List ℕ) → Fits rs (bs ++ more) → Begins rs bs
+begins_row : (rs : TableRow) (bs more : List ℕ) → FitsRow rs (bs ++ more) → Begins rs bs
 begins_row rs [] more f = tt
 begins_row [] (b ∷ bs) more f = absurd f
 begins_row (r ∷ rs) (b ∷ bs) more f = (f.0, begins_row rs bs more f.1)
 
-completed_row : (rs : Row) (bs : List ℕ) → HasBytes rs → Begins rs bs → (more : List ℕ) × Fits rs (bs ++ more)
+completed_row : (rs : TableRow) (bs : List ℕ) → HasBytes rs → Begins rs bs → (more : List ℕ) × FitsRow rs (bs ++ more)
 completed_row [] [] h f = ([], tt)
 completed_row (r ∷ rs) [] h f =
-    let least_is_in : IsIn r r.least = (omega arith, h.0) in
+    let least_is_in : IsInByteRange r r.least = (omega arith, h.0) in
     let rest = completed_row rs [] h.1 tt in
     (r.least ∷ rest.0, (least_is_in, rest.1))
 completed_row [] (b ∷ bs) h f = absurd f
 completed_row (r ∷ rs) (b ∷ bs) h f = let rest = completed_row rs bs h.1 f.1 in (rest.0, (f.0, rest.1))
 
-begins_one : (rows : List Row) (bs more : List ℕ) → FitsOneOf rows (bs ++ more) → BeginsOneOf rows bs
+begins_one : (rows : List TableRow) (bs more : List ℕ) → FitsSomeRow rows (bs ++ more) → BeginsOneOf rows bs
 begins_one [] bs more f = f
 begins_one (row ∷ rows) bs more f = ⊎_elim (λ here. inl (begins_row row bs more here)) (λ later. inr (begins_one rows bs more later)) f
 
-completed_one : (rows : List Row) (bs : List ℕ) → AllHaveBytes rows → BeginsOneOf rows bs → (more : List ℕ) × FitsOneOf rows (bs ++ more)
+completed_one : (rows : List TableRow) (bs : List ℕ) → AllHaveBytes rows → BeginsOneOf rows bs → (more : List ℕ) × FitsSomeRow rows (bs ++ more)
 completed_one [] bs h f = absurd f
 completed_one (row ∷ rows) bs h f = ⊎_elim
     (λ here. let rest = completed_row row bs h.0 here in (rest.0, inl rest.1))
     (λ later. let rest = completed_one rows bs h.1 later in (rest.0, inr rest.1))
     f
 
-pub begins_from : (bs : List ℕ) → BeginsSequence bs → BeginsOneOf table bs
-begins_from bs h = begins_one table bs h.0 h.1
+pub begins_from : (bs : List ℕ) → BeginsSequence bs → BeginsOneOf sequence_table bs
+begins_from bs h = begins_one sequence_table bs h.0 h.1
 
-pub begins_to : (bs : List ℕ) → BeginsOneOf table bs → BeginsSequence bs
+pub begins_to : (bs : List ℕ) → BeginsOneOf sequence_table bs → BeginsSequence bs
 begins_to bs h =
-    let two : HasBytes (trailing ∷ []) = (omega arith, tt) in
-    let three : HasBytes (trailing ∷ trailing ∷ []) = (omega arith, two) in
-    let full : AllHaveBytes table = (
+    let two : HasBytes (trailing_bytes ∷ []) = (omega arith, tt) in
+    let three : HasBytes (trailing_bytes ∷ trailing_bytes ∷ []) = (omega arith, two) in
+    let full : AllHaveBytes sequence_table = (
       (omega arith, tt),
       (
         (omega arith, two),
@@ -77,7 +77,7 @@ begins_to bs h =
         ),
       ),
     ) in
-    completed_one table bs full h
+    completed_one sequence_table bs full h
 
 -- the first byte may begin a sequence of more than one, and the second may follow it
 abbrev pub Leads : ℕ → Type 0
@@ -130,7 +130,7 @@ two_begin a b h f = begins_to (a ∷ b ∷ [])
     ((λ is. let second : (0x80 ≤ b) × (b ≤ 0x8F) = grind (arith, nat_tests) in inr (inr (inr (inr (inr (inr (inr (inr (inl (((omega arith, omega arith), (second, tt)))))))))))))))))))
     (row_cases a h))
 
-pub three_begin : (a b d : ℕ) → 0xE0 ≤ a → Leads a → follows a b ≡ true → IsIn trailing d → BeginsSequence (a ∷ b ∷ d ∷ [])
+pub three_begin : (a b d : ℕ) → 0xE0 ≤ a → Leads a → follows a b ≡ true → IsInByteRange trailing_bytes d → BeginsSequence (a ∷ b ∷ d ∷ [])
 three_begin a b d wide h f id = begins_to (a ∷ b ∷ d ∷ [])
     (⊎_elim (λ is. absurd (omega arith))
     (⊎_elim (λ is. let second : (0xA0 ≤ b) × (b ≤ 0xBF) = grind (arith, nat_tests) in inr (inr (inl (((omega arith, omega arith), (second, (id, tt)))))))
@@ -170,7 +170,7 @@ two_from a b rest h =
     ((λ none. absurd none))))))))))
     (begins_from (a ∷ b ∷ rest) h)
 
-pub three_from : (a b d : ℕ) (rest : List ℕ) → BeginsSequence (a ∷ b ∷ d ∷ rest) → (0xE0 ≤ a) × IsIn trailing d
+pub three_from : (a b d : ℕ) (rest : List ℕ) → BeginsSequence (a ∷ b ∷ d ∷ rest) → (0xE0 ≤ a) × IsInByteRange trailing_bytes d
 three_from a b d rest h =
     ⊎_elim (λ f. absurd f.1)
     (⊎_elim (λ f. absurd f.1.1)
@@ -184,7 +184,7 @@ three_from a b d rest h =
     ((λ none. absurd none))))))))))
     (begins_from (a ∷ b ∷ d ∷ rest) h)
 
-pub four_from : (a b d e : ℕ) (rest : List ℕ) → BeginsSequence (a ∷ b ∷ d ∷ e ∷ rest) → IsWellFormed (a ∷ b ∷ d ∷ e ∷ [])
+pub four_from : (a b d e : ℕ) (rest : List ℕ) → BeginsSequence (a ∷ b ∷ d ∷ e ∷ rest) → IsWellFormedSequence (a ∷ b ∷ d ∷ e ∷ [])
 four_from a b d e rest h =
     ⊎_elim (λ f. absurd f.1)
     (⊎_elim (λ f. absurd f.1.1)
@@ -199,62 +199,5 @@ four_from a b d e rest h =
     (begins_from (a ∷ b ∷ d ∷ e ∷ rest) h)
 
 -- a well-formed sequence begins one
-pub begins_well_formed : (bs : List ℕ) → IsWellFormed bs → BeginsSequence bs
-begins_well_formed bs well = ([], subst IsWellFormed (sym (append-nil bs)) well)
-
--- a well-formed sequence of one to three bytes has a first byte that says so
-pub one_well_formed : (a : ℕ) → IsWellFormed (a ∷ []) → a ≤ 0x7F
-one_well_formed a h =
-    ⊎_elim (λ f. f.0.1)
-    (⊎_elim (λ f. absurd f.1)
-    (⊎_elim (λ f. absurd f.1)
-    (⊎_elim (λ f. absurd f.1)
-    (⊎_elim (λ f. absurd f.1)
-    (⊎_elim (λ f. absurd f.1)
-    (⊎_elim (λ f. absurd f.1)
-    (⊎_elim (λ f. absurd f.1)
-    (⊎_elim (λ f. absurd f.1)
-    ((λ none. absurd none))))))))))
-    h
-
-pub two_well_formed : (a b : ℕ) → IsWellFormed (a ∷ b ∷ []) → a ≤ 0xDF
-two_well_formed a b h =
-    ⊎_elim (λ f. absurd f.1)
-    (⊎_elim (λ f. f.0.1)
-    (⊎_elim (λ f. absurd f.1.1)
-    (⊎_elim (λ f. absurd f.1.1)
-    (⊎_elim (λ f. absurd f.1.1)
-    (⊎_elim (λ f. absurd f.1.1)
-    (⊎_elim (λ f. absurd f.1.1)
-    (⊎_elim (λ f. absurd f.1.1)
-    (⊎_elim (λ f. absurd f.1.1)
-    ((λ none. absurd none))))))))))
-    h
-
-pub three_well_formed : (a b d : ℕ) → IsWellFormed (a ∷ b ∷ d ∷ []) → a ≤ 0xEF
-three_well_formed a b d h =
-    ⊎_elim (λ f. absurd f.1)
-    (⊎_elim (λ f. absurd f.1.1)
-    (⊎_elim (λ f. let first = f.0.1 in omega arith)
-    (⊎_elim (λ f. let first = f.0.1 in omega arith)
-    (⊎_elim (λ f. let first = f.0.1 in omega arith)
-    (⊎_elim (λ f. let first = f.0.1 in omega arith)
-    (⊎_elim (λ f. absurd f.1.1.1)
-    (⊎_elim (λ f. absurd f.1.1.1)
-    (⊎_elim (λ f. absurd f.1.1.1)
-    ((λ none. absurd none))))))))))
-    h
-
-pub four_well_formed : (a b d e : ℕ) → IsWellFormed (a ∷ b ∷ d ∷ e ∷ []) → IsIn trailing e
-four_well_formed a b d e h =
-    ⊎_elim (λ f. absurd f.1)
-    (⊎_elim (λ f. absurd f.1.1)
-    (⊎_elim (λ f. absurd f.1.1.1)
-    (⊎_elim (λ f. absurd f.1.1.1)
-    (⊎_elim (λ f. absurd f.1.1.1)
-    (⊎_elim (λ f. absurd f.1.1.1)
-    (⊎_elim (λ f. f.1.1.1.0)
-    (⊎_elim (λ f. f.1.1.1.0)
-    (⊎_elim (λ f. f.1.1.1.0)
-    ((λ none. absurd none))))))))))
-    h
+pub begins_well_formed : (bs : List ℕ) → IsWellFormedSequence bs → BeginsSequence bs
+begins_well_formed bs well = ([], subst IsWellFormedSequence (sym (append-nil bs)) well)

@@ -4,6 +4,6 @@ pub mod Parts
 pub mod LossyReading
 pub mod UnitsReading
 pub mod PairsReading
-pub mod FrontSequences
 pub mod WorkedExamples
 pub mod ForReaders
+pub mod StringSink

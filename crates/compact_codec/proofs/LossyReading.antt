@@ -8,13 +8,14 @@ use Rattle.std.proofs.lemmas.Bool.{cases_Bool, and_parts, false≢true}
 use Rattle.std.specs.Str.{is_utf8}
 use Rattle.std.proofs.lemmas.Str.{IsUtf8-from_is_utf8, is_utf8-from_IsUtf8, chars-encodes, chars-append, encodes_same, encode_same, length-encode, len_utf8_bounds, utf8_lossy-IsUtf8, utf8_lossy_step}
 use Rattle.std.proofs.lemmas.List.{length-take-le}
-use Rattle.compact_codec.specs.Utf8Table.{IsWellFormed}
-use Rattle.compact_codec.specs.BrokenPart.{IsLongestFront, IsUnconvertible, IsMaximalSubpart, IsFault}
-use Rattle.compact_codec.specs.Utf8Text.{replacement, IsLossyText, lossy_text, EncodesOneText, LossyTextIsTheOne, LossyTextOfText, mark, IsFirstChunk}
-use Rattle.compact_codec.proofs.Rows.{IsWellFormed-encode}
-use Rattle.compact_codec.proofs.Parts.{fault_by_std, same_part, fault_is}
+use Rattle.compact_codec.specs.Utf8Table.{IsWellFormedSequence}
+use Rattle.compact_codec.specs.BrokenPart.{IsLongestFront, IsUnconvertible, IsMaximalSubpart, IsUtf8Fault}
+use Rattle.compact_codec.specs.Text.{replacement_character}
+use Rattle.compact_codec.specs.Utf8Text.{IsUtf8LossyText, utf8_lossy_text, BytesEncodeOneText, Utf8LossyTextIsTheOne, Utf8LossyTextOfText, replacement_text, BeginsWithChunk}
+use Rattle.compact_codec.proofs.Rows.{IsWellFormedSequence-encode}
+use Rattle.compact_codec.proofs.Parts.{fault_by_std, same_part, fault_is, fault_is_no_text}
 
-pub encodes_one_text : EncodesOneText
+pub encodes_one_text : BytesEncodeOneText
 encodes_one_text bytes text other is is_too = encodes_same text other (is.1 ∙ sym is_too.1)
 
 -- text or no text
@@ -26,46 +27,46 @@ text_or_not bs = ⊎_elim
 
 -- std's lossy text, a front and a mark at a time
 
-pub lossy_text-IsUtf8 : (bs : List ℕ) → IsUtf8 bs → lossy_text bs ≡ chars bs
-unfolding lossy_text
-lossy_text-IsUtf8 bs u = ap chars (utf8_lossy-IsUtf8 bs u)
+pub utf8_lossy_text-IsUtf8 : (bs : List ℕ) → IsUtf8 bs → utf8_lossy_text bs ≡ chars bs
+unfolding utf8_lossy_text
+utf8_lossy_text-IsUtf8 bs u = ap chars (utf8_lossy-IsUtf8 bs u)
 
 replacement_is_utf8 : IsUtf8 replacement_bytes
 unfolding encode_utf8
-replacement_is_utf8 = (replacement ∷ [], (refl, refl))
+replacement_is_utf8 = (replacement_character ∷ [], (refl, refl))
 
-chars-replacement : chars replacement_bytes ≡ replacement ∷ []
+chars-replacement_character : chars replacement_bytes ≡ replacement_character ∷ []
 unfolding chars
-chars-replacement = refl
+chars-replacement_character = refl
 
-pub lossy_text-step : (bs : List ℕ) → ¬ (IsUtf8 bs)
-    → lossy_text bs ≡ chars (take (utf8_valid_len bs) bs) ++ replacement ∷ lossy_text (after_first_chunk bs)
-unfolding lossy_text
-lossy_text-step bs bad =
+pub utf8_lossy_text-step : (bs : List ℕ) → ¬ (IsUtf8 bs)
+    → utf8_lossy_text bs ≡ chars (take (utf8_valid_len bs) bs) ++ replacement_character ∷ utf8_lossy_text (after_first_chunk bs)
+unfolding utf8_lossy_text
+utf8_lossy_text-step bs bad =
     let n = utf8_valid_len bs in
     let front = (fault_by_std bs bad).0 in
     let short : ¬ (n ≡ length bs) = λ e. bad (subst IsUtf8 (take_all n bs (omega arith)) front.front) in
     let later = utf8_lossy (after_first_chunk bs) in
     ap chars (utf8_lossy_step bs short)
     ∙ chars-append (take n bs) (replacement_bytes ++ later) front.front
-    ∙ ap (λ t. chars (take n bs) ++ t) (chars-append replacement_bytes later replacement_is_utf8 ∙ ap (λ t. t ++ chars later) chars-replacement)
+    ∙ ap (λ t. chars (take n bs) ++ t) (chars-append replacement_bytes later replacement_is_utf8 ∙ ap (λ t. t ++ chars later) chars-replacement_character)
 
 -- the relation has that text
 
-IsLossyText-front : (cs rest text : List ℕ) → all_scalars cs ≡ true → IsLossyText rest text → IsLossyText (encode_utf8_all cs ++ rest) (cs ++ text)
-IsLossyText-front [] rest text all is = is
-IsLossyText-front (c ∷ cs) rest text all is =
+IsUtf8LossyText-front : (cs rest text : List ℕ) → all_scalars cs ≡ true → IsUtf8LossyText rest text → IsUtf8LossyText (encode_utf8_all cs ++ rest) (cs ++ text)
+IsUtf8LossyText-front [] rest text all is = is
+IsUtf8LossyText-front (c ∷ cs) rest text all is =
     let both = and_parts _ _ all in
-    inl (encode_utf8_all cs ++ rest, both.0, append_assoc (encode_utf8 c) (encode_utf8_all cs) rest, IsLossyText-front cs rest text both.1 is)
+    inl (encode_utf8_all cs ++ rest, both.0, append_assoc (encode_utf8 c) (encode_utf8_all cs) rest, IsUtf8LossyText-front cs rest text both.1 is)
 
-lossy_of_text : (bs : List ℕ) → IsUtf8 bs → IsLossyText bs (lossy_text bs)
+lossy_of_text : (bs : List ℕ) → IsUtf8 bs → IsUtf8LossyText bs (utf8_lossy_text bs)
 lossy_of_text bs u =
-    let whole = IsLossyText-front u.0 [] [] u.1.0 refl in
+    let whole = IsUtf8LossyText-front u.0 [] [] u.1.0 refl in
     let bytes_are : encode_utf8_all u.0 ++ [] ≡ bs = append-nil (encode_utf8_all u.0) ∙ u.1.1 in
-    let text_is : u.0 ++ [] ≡ lossy_text bs = append-nil u.0 ∙ sym (chars-encodes u.0 u.1.0) ∙ ap chars u.1.1 ∙ sym (lossy_text-IsUtf8 bs u) in
-    subst (λ t. IsLossyText bs t) text_is (subst (λ b. IsLossyText b (u.0 ++ [])) bytes_are whole)
+    let text_is : u.0 ++ [] ≡ utf8_lossy_text bs = append-nil u.0 ∙ sym (chars-encodes u.0 u.1.0) ∙ ap chars u.1.1 ∙ sym (utf8_lossy_text-IsUtf8 bs u) in
+    subst (λ t. IsUtf8LossyText bs t) text_is (subst (λ b. IsUtf8LossyText b (u.0 ++ [])) bytes_are whole)
 
-lossy_within : (fuel : ℕ) (bs : List ℕ) → length bs ≤ fuel → IsLossyText bs (lossy_text bs)
+lossy_within : (fuel : ℕ) (bs : List ℕ) → length bs ≤ fuel → IsUtf8LossyText bs (utf8_lossy_text bs)
 lossy_within fuel [] le = lossy_of_text [] ([], (refl, refl))
 lossy_within zero (b ∷ more) le = absurd (omega arith)
 lossy_within (suc fuel) (b ∷ more) le = let bs = b ∷ more in ⊎_elim
@@ -82,13 +83,13 @@ lossy_within (suc fuel) (b ∷ more) le = let bs = b ∷ more in ⊎_elim
     let some = part.some in
     let within = part.within in
     let shorter : length after ≤ fuel = omega (arith, ap length after_is, length-drop k rest, length-drop n bs) in
-    let later : IsLossyText (drop k rest) (lossy_text after) = subst (λ b. IsLossyText b (lossy_text after)) (sym after_is) (lossy_within fuel after shorter) in
-    let broken : IsLossyText rest (replacement ∷ lossy_text after) = inr (k, refl, part, later) in
-    let whole = IsLossyText-front text.0 rest _ text.1.0 broken in
+    let later : IsUtf8LossyText (drop k rest) (utf8_lossy_text after) = subst (λ b. IsUtf8LossyText b (utf8_lossy_text after)) (sym after_is) (lossy_within fuel after shorter) in
+    let broken : IsUtf8LossyText rest (replacement_character ∷ utf8_lossy_text after) = inr (k, refl, part, later) in
+    let whole = IsUtf8LossyText-front text.0 rest _ text.1.0 broken in
     let bytes_are : encode_utf8_all text.0 ++ rest ≡ bs = ap (λ t. t ++ rest) text.1.1 ∙ take-append-drop n bs in
-    let text_is : text.0 ++ replacement ∷ lossy_text after ≡ lossy_text bs =
-    ap (λ t. t ++ replacement ∷ lossy_text after) (sym (chars-encodes text.0 text.1.0) ∙ ap chars text.1.1) ∙ sym (lossy_text-step bs bad) in
-    subst (λ t. IsLossyText bs t) text_is (subst (λ b. IsLossyText b (text.0 ++ replacement ∷ lossy_text after)) bytes_are whole))
+    let text_is : text.0 ++ replacement_character ∷ utf8_lossy_text after ≡ utf8_lossy_text bs =
+    ap (λ t. t ++ replacement_character ∷ utf8_lossy_text after) (sym (chars-encodes text.0 text.1.0) ∙ ap chars text.1.1) ∙ sym (utf8_lossy_text-step bs bad) in
+    subst (λ t. IsUtf8LossyText bs t) text_is (subst (λ b. IsUtf8LossyText b (text.0 ++ replacement_character ∷ utf8_lossy_text after)) bytes_are whole))
     (text_or_not bs)
 
 -- and no other
@@ -96,15 +97,15 @@ lossy_within (suc fuel) (b ∷ more) le = let bs = b ∷ more in ⊎_elim
 no_character : (c : ℕ) (bytes rest : List ℕ) → IsScalar c → bytes ≡ encode_utf8 c ++ rest → IsUnconvertible bytes → ⊥
 no_character c bytes rest is parts un =
     let front : take (length (encode_utf8 c)) bytes ≡ encode_utf8 c = ap (take (length (encode_utf8 c))) parts ∙ take_at (encode_utf8 c) rest _ refl in
-    un (length (encode_utf8 c)) (subst IsWellFormed (sym front) (IsWellFormed-encode c is))
+    un (length (encode_utf8 c)) (subst IsWellFormedSequence (sym front) (IsWellFormedSequence-encode c is))
 
-some_left : (bytes : List ℕ) (c : ℕ) (text : List ℕ) → IsLossyText bytes (c ∷ text) → bytes ≡ [] → ⊥
+some_left : (bytes : List ℕ) (c : ℕ) (text : List ℕ) → IsUtf8LossyText bytes (c ∷ text) → bytes ≡ [] → ⊥
 some_left bytes c text is none = ⊎_elim
     (λ p. let rest = p.0 in omega (arith, ap length (sym p.2 ∙ none), length-append (encode_utf8 c) rest, length-encode c, (len_utf8_bounds c).0))
     (λ p. let some = p.2.some in let within = p.2.within in omega (arith, ap length none))
     is
 
-one_lossy_text : (bytes other : List ℕ) (text more : List ℕ) → bytes ≡ other → IsLossyText bytes text → IsLossyText other more → text ≡ more
+one_lossy_text : (bytes other : List ℕ) (text more : List ℕ) → bytes ≡ other → IsUtf8LossyText bytes text → IsUtf8LossyText other more → text ≡ more
 one_lossy_text bytes other [] [] same is is_too = refl
 one_lossy_text bytes other [] (d ∷ more) same is is_too = absurd (some_left other d more is_too (sym same ∙ is))
 one_lossy_text bytes other (c ∷ text) [] same is is_too = absurd (some_left bytes c text is (same ∙ is_too))
@@ -125,20 +126,20 @@ one_lossy_text bytes other (c ∷ text) (d ∷ more) same is is_too = ⊎_elim
     is_too)
     is
 
-pub lossy_text_is : LossyTextIsTheOne
-lossy_text_is bytes text =
+pub utf8_lossy_text_is : Utf8LossyTextIsTheOne
+utf8_lossy_text_is bytes text =
     let std = lossy_within (length bytes) bytes (omega arith) in
-    (λ is. one_lossy_text bytes bytes text (lossy_text bytes) refl is std, λ same. subst (IsLossyText bytes) (sym same) std)
+    (λ is. one_lossy_text bytes bytes text (utf8_lossy_text bytes) refl is std, λ same. subst (IsUtf8LossyText bytes) (sym same) std)
 
 -- a chunk's part of it
 
-pub mark-some : (bs : List ℕ) → 0 < length bs → mark bs ≡ replacement ∷ []
-mark-some [] some = absurd (omega arith)
-mark-some (b ∷ bs) some = refl
+pub replacement_text-some : (bs : List ℕ) → 0 < length bs → replacement_text bs ≡ replacement_character ∷ []
+replacement_text-some [] some = absurd (omega arith)
+replacement_text-some (b ∷ bs) some = refl
 
 -- where the bytes are text, they are one chunk
 pub whole_chunk : (bytes : List ℕ) → IsUtf8 bytes
-    → IsFirstChunk bytes bytes [] [] × (lossy_text bytes ≡ chars bytes ++ (mark [] ++ lossy_text []))
+    → BeginsWithChunk bytes bytes [] [] × (utf8_lossy_text bytes ≡ chars bytes ++ (replacement_text [] ++ utf8_lossy_text []))
 whole_chunk bytes u = (
   record {
     parts = sym (append-nil bytes);
@@ -150,16 +151,17 @@ whole_chunk bytes u = (
     whole = λ _. refl;
     subpart = λ some. absurd (some refl);
   },
-  lossy_text-IsUtf8 bytes u ∙ sym (append-nil (chars bytes)) ∙ ap (λ t. chars bytes ++ t) (sym (lossy_text-IsUtf8 [] ([], (refl, refl)) ∙ chars-encodes [] refl)),
+  utf8_lossy_text-IsUtf8 bytes u ∙ sym (append-nil (chars bytes)) ∙ ap (λ t. chars bytes ++ t) (sym (utf8_lossy_text-IsUtf8 [] ([], (refl, refl)) ∙ chars-encodes [] refl)),
 )
 
 -- where they are not, the first chunk is cut at the fault
-pub faulty_chunk : (bytes : List ℕ) (n : ℕ) (part : Option ℕ) → ¬ (IsUtf8 bytes) → IsFault bytes n part
+pub faulty_chunk : (bytes : List ℕ) (n : ℕ) (part : Option ℕ) → IsUtf8Fault bytes n part
     → let k = unwrap_or part (length (drop n bytes)) in
-    IsFirstChunk bytes (take n bytes) (take k (drop n bytes)) (drop k (drop n bytes))
-    × (lossy_text bytes ≡ chars (take n bytes) ++ (mark (take k (drop n bytes)) ++ lossy_text (drop k (drop n bytes))))
+    BeginsWithChunk bytes (take n bytes) (take k (drop n bytes)) (drop k (drop n bytes))
+    × (utf8_lossy_text bytes ≡ chars (take n bytes) ++ (replacement_text (take k (drop n bytes)) ++ utf8_lossy_text (drop k (drop n bytes))))
     × (0 < length (take k (drop n bytes)))
-faulty_chunk bytes n part bad fault =
+faulty_chunk bytes n part fault =
+    let bad = fault_is_no_text bytes n part fault in
     let rest = drop n bytes in
     let k = unwrap_or part (length rest) in
     let subpart = fault.1.0 in
@@ -175,13 +177,13 @@ faulty_chunk bytes n part bad fault =
     let end_is : n + k ≡ utf8_valid_len bytes + utf8_invalid_len (drop (utf8_valid_len bytes) bytes) =
     ap (λ j. n + j) k_is ∙ ap (λ j. j + utf8_invalid_len (drop j bytes)) same.0 in
     let after_is : after_first_chunk bytes ≡ after = sym (drop-drop k n bytes ∙ ap (λ j. drop j bytes) end_is) in
-    let marked : mark (take k rest) ≡ replacement ∷ [] = mark-some (take k rest) (omega arith) in
-    let text_is : lossy_text bytes ≡ chars (take n bytes) ++ (mark (take k rest) ++ lossy_text after) =
-    lossy_text-step bytes bad ∙ (λ i. chars (take (sym same.0 i) bytes) ++ replacement ∷ lossy_text (after_is i))
-    ∙ ap (λ m. chars (take n bytes) ++ (m ++ lossy_text after)) (sym marked) in (
+    let marked : replacement_text (take k rest) ≡ replacement_character ∷ [] = replacement_text-some (take k rest) (omega arith) in
+    let text_is : utf8_lossy_text bytes ≡ chars (take n bytes) ++ (replacement_text (take k rest) ++ utf8_lossy_text after) =
+    utf8_lossy_text-step bytes bad ∙ (λ i. chars (take (sym same.0 i) bytes) ++ replacement_character ∷ utf8_lossy_text (after_is i))
+    ∙ ap (λ m. chars (take n bytes) ++ (m ++ utf8_lossy_text after)) (sym marked) in (
       record {
         parts = sym (ap (λ t. take n bytes ++ t) cut ∙ take-append-drop n bytes);
-        front = subst (IsLongestFront IsUtf8 bytes) (sym text_len) fault.0;
+        front = subst (IsLongestFront bytes) (sym text_len) fault.0;
         whole = λ none. absurd (omega (arith, ap length none));
         subpart = λ _. subst (λ j. IsMaximalSubpart (take k rest ++ after) j) (sym broken_len) (subst (λ b. IsMaximalSubpart b k) (sym cut) subpart);
       },
@@ -189,14 +191,14 @@ faulty_chunk bytes n part bad fault =
       omega arith,
     )
 
-pub lossy_text_of_text : LossyTextOfText
-lossy_text_of_text bytes text is = lossy_text-IsUtf8 bytes (text, is) ∙ ap chars (sym is.1) ∙ chars-encodes text is.0
+pub utf8_lossy_text_of_text : Utf8LossyTextOfText
+utf8_lossy_text_of_text bytes text is = utf8_lossy_text-IsUtf8 bytes (text, is) ∙ ap chars (sym is.1) ∙ chars-encodes text is.0
 
 -- where a lossy reader ends
-pub lossy_text-empty : (bytes : List ℕ) → length bytes ≡ 0 → lossy_text bytes ≡ []
-lossy_text-empty [] none = lossy_text_of_text [] [] (refl, refl)
-lossy_text-empty (b ∷ bytes) none = absurd (omega arith)
+pub utf8_lossy_text-empty : (bytes : List ℕ) → length bytes ≡ 0 → utf8_lossy_text bytes ≡ []
+utf8_lossy_text-empty [] none = utf8_lossy_text_of_text [] [] (refl, refl)
+utf8_lossy_text-empty (b ∷ bytes) none = absurd (omega arith)
 
-pub mark-none : (bs : List ℕ) → length bs ≡ 0 → mark bs ≡ []
-mark-none [] none = refl
-mark-none (b ∷ bs) none = absurd (omega arith)
+pub replacement_text-none : (bs : List ℕ) → length bs ≡ 0 → replacement_text bs ≡ []
+replacement_text-none [] none = refl
+replacement_text-none (b ∷ bs) none = absurd (omega arith)

@@ -8,9 +8,9 @@ use Rattle.std.proofs.lemmas.Bool.{cases_Bool, cases_lt, cond-true, cond-false, 
 use Rattle.std.proofs.lemmas.Bool.Decides.{nat_tests}
 use Rattle.std.proofs.lemmas.Str.{IsUtf8-from_is_utf8, is_utf8-from_IsUtf8, IsUtf8-append, IsUtf8-drop, IsCharBoundary-from_take, length-encode, len_utf8_bounds}
 use Rattle.std.proofs.lemmas.List.{length-take, length-take-le, drop-take}
-use Rattle.compact_codec.specs.Utf8Table.{trailing, IsIn, IsWellFormed}
-use Rattle.compact_codec.specs.BrokenPart.{IsLongestFront, BeginsSequence, IsUnconvertible, IsMaximalSubpart, IsBrokenPart, IsFault, FaultIsTheOne}
-use Rattle.compact_codec.proofs.Rows.{character-IsWellFormed}
+use Rattle.compact_codec.specs.Utf8Table.{trailing_bytes, IsInByteRange, IsWellFormedSequence}
+use Rattle.compact_codec.specs.BrokenPart.{IsLongestFront, BeginsSequence, IsUnconvertible, IsMaximalSubpart, IsBrokenPart, IsUtf8Fault, FaultIsTheOne}
+use Rattle.compact_codec.proofs.Rows.{character-IsWellFormedSequence}
 use Rattle.compact_codec.proofs.Beginnings.{Leads, follows, one_begins, two_begin, three_begin, one_from, two_from, three_from, four_from}
 
 -- the longest front
@@ -38,39 +38,39 @@ longest_front_up_to bs (suc m) =
     ))
     (cases_Bool (is_utf8 (take (suc m) bs)))
 
-pub utf8_valid_len-IsLongestFront : (bs : List ℕ) → IsLongestFront IsUtf8 bs (utf8_valid_len bs)
+pub utf8_valid_len-IsLongestFront : (bs : List ℕ) → IsLongestFront bs (utf8_valid_len bs)
 unfolding utf8_valid_len
 utf8_valid_len-IsLongestFront bs =
     let all = longest_front_up_to bs (length bs) in
     record { within = all.2; front = all.0; longest = all.1 }
 
 -- there is one longest front
-pub same_front : (IsText : List ℕ → Type 0) (xs : List ℕ) (n m : ℕ) → IsLongestFront IsText xs n → IsLongestFront IsText xs m → n ≡ m
-same_front IsText xs n m p q =
+pub same_front : (bs : List ℕ) (n m : ℕ) → IsLongestFront bs n → IsLongestFront bs m → n ≡ m
+same_front bs n m p q =
     let n_within = p.within in
     let m_within = q.within in
     ⊎_elim (λ (less : n < m). absurd (p.longest m less q.within q.front))
     (λ (from : m ≤ n). ⊎_elim (λ (less : m < n). absurd (q.longest n less p.within p.front)) (λ (to : n ≤ m). omega arith) (cases_lt m n))
     (cases_lt n m)
 
-pub length-IsWellFormed : (bs : List ℕ) → IsWellFormed bs → 1 ≤ length bs
-length-IsWellFormed bs well =
-    let one = character-IsWellFormed bs well in
+pub length-IsWellFormedSequence : (bs : List ℕ) → IsWellFormedSequence bs → 1 ≤ length bs
+length-IsWellFormedSequence bs well =
+    let one = character-IsWellFormedSequence bs well in
     omega (arith, ap length one.2, length-encode one.0, (len_utf8_bounds one.0).0)
 
-pub IsUtf8-IsWellFormed : (bs : List ℕ) → IsWellFormed bs → IsUtf8 bs
-IsUtf8-IsWellFormed bs well =
-    let one = character-IsWellFormed bs well in
+pub IsUtf8-IsWellFormedSequence : (bs : List ℕ) → IsWellFormedSequence bs → IsUtf8 bs
+IsUtf8-IsWellFormedSequence bs well =
+    let one = character-IsWellFormedSequence bs well in
     (one.0 ∷ [], (and_from _ true one.1 refl, append-nil (encode_utf8 one.0) ∙ one.2))
 
 -- after it, no well-formed sequence stands
-pub unconvertible_after_front : (bs : List ℕ) (n : ℕ) → IsLongestFront IsUtf8 bs n → IsUnconvertible (drop n bs)
+pub unconvertible_after_front : (bs : List ℕ) (n : ℕ) → IsLongestFront bs n → IsUnconvertible (drop n bs)
 unconvertible_after_front bs n f k well =
     let rest = drop n bs in
-    let some = length-IsWellFormed _ well in
+    let some = length-IsWellFormedSequence _ well in
     let left = length-drop n bs in
     let taken : length (take k rest) ≡ min k (length rest) = length-take k rest in
-    let longer : IsUtf8 (take (n + k) bs) = subst IsUtf8 (sym (take-add n k bs)) (IsUtf8-append _ _ f.front (IsUtf8-IsWellFormed _ well)) in
+    let longer : IsUtf8 (take (n + k) bs) = subst IsUtf8 (sym (take-add n k bs)) (IsUtf8-append _ _ f.front (IsUtf8-IsWellFormedSequence _ well)) in
     ⊎_elim
     (λ (past : length bs < n + k).
     let whole : take (n + k) bs ≡ take (length bs) bs = take_all (n + k) bs (omega arith) ∙ sym (take_all (length bs) bs (omega arith)) in
@@ -129,7 +129,7 @@ one_byte (a ∷ b ∷ rest) some un why =
 
 -- two bytes, where the third does not go on
 pub two_bytes : (bs : List ℕ) → 3 ≤ length bs → IsUnconvertible bs → Leads (slice_index bs 0) → follows (slice_index bs 0) (slice_index bs 1) ≡ true
-    → ¬ (IsIn trailing (slice_index bs 2)) → IsBrokenPart bs (Some 2)
+    → ¬ (IsInByteRange trailing_bytes (slice_index bs 2)) → IsBrokenPart bs (Some 2)
 two_bytes [] long un leads second third = absurd (omega arith)
 two_bytes (a ∷ []) long un leads second third = absurd (omega arith)
 two_bytes (a ∷ b ∷ []) long un leads second third = absurd (omega arith)
@@ -154,7 +154,7 @@ wide a b rest un leads second = ⊎_elim
 
 -- three bytes, where a fourth stands
 pub three_bytes : (bs : List ℕ) → 4 ≤ length bs → IsUnconvertible bs → Leads (slice_index bs 0) → follows (slice_index bs 0) (slice_index bs 1) ≡ true
-    → IsIn trailing (slice_index bs 2) → IsBrokenPart bs (Some 3)
+    → IsInByteRange trailing_bytes (slice_index bs 2) → IsBrokenPart bs (Some 3)
 three_bytes [] long un leads second third = absurd (omega arith)
 three_bytes (a ∷ []) long un leads second third = absurd (omega arith)
 three_bytes (a ∷ b ∷ []) long un leads second third = absurd (omega arith)
@@ -184,7 +184,7 @@ ends_after_two (a ∷ b ∷ []) some short un leads second = open_end (a ∷ b �
 ends_after_two (a ∷ b ∷ d ∷ rest) some short un leads second = absurd (omega arith)
 
 pub ends_after_three : (bs : List ℕ) → 3 ≤ length bs → length bs < 4 → IsUnconvertible bs → Leads (slice_index bs 0) → follows (slice_index bs 0) (slice_index bs 1) ≡ true
-    → IsIn trailing (slice_index bs 2) → IsBrokenPart bs None
+    → IsInByteRange trailing_bytes (slice_index bs 2) → IsBrokenPart bs None
 ends_after_three [] some short un leads second third = absurd (omega arith)
 ends_after_three (a ∷ []) some short un leads second third = absurd (omega arith)
 ends_after_three (a ∷ b ∷ []) some short un leads second third = absurd (omega arith)
@@ -198,10 +198,10 @@ leads_from a h = grind (arith, nat_tests)
 not_leads_from : (a : ℕ) → is_in_range 0xC2 0xF4 a ≡ false → ¬ (Leads a)
 not_leads_from a h leads = grind (arith, nat_tests)
 
-trailing_from : (a : ℕ) → is_in_range 0x80 0xBF a ≡ true → IsIn trailing a
+trailing_from : (a : ℕ) → is_in_range 0x80 0xBF a ≡ true → IsInByteRange trailing_bytes a
 trailing_from a h = grind (arith, nat_tests)
 
-not_trailing_from : (a : ℕ) → is_in_range 0x80 0xBF a ≡ false → ¬ (IsIn trailing a)
+not_trailing_from : (a : ℕ) → is_in_range 0x80 0xBF a ≡ false → ¬ (IsInByteRange trailing_bytes a)
 not_trailing_from a h is = grind (arith, nat_tests)
 
 -- std's word for the length of the broken part says the Standard's maximal subpart
@@ -248,7 +248,7 @@ same_part bs n m p q =
     (cases_lt n m)
 
 -- a fault of bytes that are no text, by std's words
-pub fault_by_std : (bs : List ℕ) → ¬ (IsUtf8 bs) → IsFault bs (utf8_valid_len bs) (utf8_error_len (drop (utf8_valid_len bs) bs))
+pub fault_by_std : (bs : List ℕ) → ¬ (IsUtf8 bs) → IsUtf8Fault bs (utf8_valid_len bs) (utf8_error_len (drop (utf8_valid_len bs) bs))
 fault_by_std bs bad =
     let n = utf8_valid_len bs in
     let front = utf8_valid_len-IsLongestFront bs in
@@ -258,6 +258,14 @@ fault_by_std bs bad =
     (λ (from : length bs ≤ n). absurd (bad (subst IsUtf8 (take_all n bs from) front.front)))
     (cases_lt n (length bs)) in
     (front, utf8_error_len-IsBrokenPart (drop n bs) (omega (arith, length-drop n bs)) un)
+
+-- bytes with a fault are no text
+pub fault_is_no_text : (bs : List ℕ) (n : ℕ) (part : Option ℕ) → IsUtf8Fault bs n part → ¬ (IsUtf8 bs)
+fault_is_no_text bs n part fault whole =
+    let some = fault.1.0.some in
+    let within = fault.1.0.within in
+    let left = length-drop n bs in
+    fault.0.longest (length bs) (omega arith) (omega arith) (subst IsUtf8 (sym (take_all (length bs) bs (omega arith))) whole)
 
 none_from : (o : Option ℕ) → IsNone o → o ≡ None
 none_from None h = refl
@@ -272,11 +280,11 @@ pub fault_is : FaultIsTheOne
 fault_is bs n part bad = (
   λ is.
       let std = fault_by_std bs bad in
-      let same : n ≡ utf8_valid_len bs = same_front IsUtf8 bs n (utf8_valid_len bs) is.0 std.0 in
+      let same : n ≡ utf8_valid_len bs = same_front bs n (utf8_valid_len bs) is.0 std.0 in
       (same, same_length (drop n bs) part (utf8_error_len (drop n bs)) is.1 (subst (λ k. IsBrokenPart (drop k bs) (utf8_error_len (drop k bs))) (sym same) std.1)),
   λ are.
       let std = fault_by_std bs bad in
-      let front : IsLongestFront IsUtf8 bs n = subst (IsLongestFront IsUtf8 bs) (sym are.0) std.0 in
+      let front : IsLongestFront bs n = subst (IsLongestFront bs) (sym are.0) std.0 in
       (front, subst (IsBrokenPart (drop n bs)) (sym are.1) (subst (λ k. IsBrokenPart (drop k bs) (utf8_error_len (drop k bs))) (sym are.0) std.1)),
 )
 
@@ -295,7 +303,7 @@ whole_from bs at front rest =
 pub broken_from : (bs : List ℕ) (at : ℕ) → at ≤ length bs → IsUtf8 (take at bs) → ¬ (IsUtf8 (take (length bs - at) (drop at bs))) → ¬ (IsUtf8 bs)
 broken_from bs at within front bad whole = bad (subst IsUtf8 (sym (rest_at bs at)) (text_after bs at whole within front))
 
-front_from : (bs : List ℕ) (at n : ℕ) → at ≤ length bs → IsUtf8 (take at bs) → IsLongestFront IsUtf8 (drop at bs) n → IsLongestFront IsUtf8 bs (at + n)
+front_from : (bs : List ℕ) (at n : ℕ) → at ≤ length bs → IsUtf8 (take at bs) → IsLongestFront (drop at bs) n → IsLongestFront bs (at + n)
 front_from bs at n within front f =
     let f_within = f.within in
     let left = length-drop at bs in
@@ -312,9 +320,9 @@ front_from bs at n within front f =
           (subst IsUtf8 rest (text_after (take m bs) at text (omega arith) (subst IsUtf8 (sym at_front) front)));
     }
 
-pub fault_from : (bs : List ℕ) (at n : ℕ) (part : Option ℕ) → at ≤ length bs → IsUtf8 (take at bs) → IsFault (take (length bs - at) (drop at bs)) n part → IsFault bs (at + n) part
+pub fault_from : (bs : List ℕ) (at n : ℕ) (part : Option ℕ) → at ≤ length bs → IsUtf8 (take at bs) → IsUtf8Fault (take (length bs - at) (drop at bs)) n part → IsUtf8Fault bs (at + n) part
 fault_from bs at n part within front fault =
-    let here = subst (λ l. IsFault l n part) (rest_at bs at) fault in
+    let here = subst (λ l. IsUtf8Fault l n part) (rest_at bs at) fault in
     (front_from bs at n within front here.0, subst (λ l. IsBrokenPart l part) (drop-drop n at bs) here.1)
 
 -- a further window of text

@@ -13,8 +13,8 @@ use Rattle.std.specs.Option.{option_copied}
 use Rattle.std.specs.Slice.{IsItemAt}
 use Rattle.std.proofs.lemmas.Str.{utf16_chars-nil, utf16_chars_lone, utf16_chars_pair}
 use lib.Utf8.{scalar, scalar_cases, low_scalar}
-use Rattle.compact_codec.specs.Utf8Text.{replacement}
-use Rattle.compact_codec.specs.Utf16Text.{AreUnits, IsHighSurrogate, IsLowSurrogate, EncodesUnits, IsUtf16, BeginsLow, IsLone, IsLossyUnits, lossy_units, IsFirstStep, IsUnitsFault, UnitsEncodeOneText, Utf16IsThePaired, LossyUnitsIsTheOne, LossyUnitsOfText}
+use Rattle.compact_codec.specs.Text.{replacement_character}
+use Rattle.compact_codec.specs.Utf16Text.{AreUnits, IsHighSurrogate, IsLowSurrogate, UnitsEncode, IsUtf16, BeginsWithLowSurrogate, BeginsWithLoneSurrogate, IsUtf16LossyText, utf16_lossy_text, IsUtf16Step, UnitsEncodeOneText, Utf16IsThePaired, Utf16LossyTextIsTheOne, Utf16LossyTextOfText}
 use Rattle.compact_codec.proofs.Rows.{high_scalar}
 
 scalar_top : (c : ℕ) → IsScalar c → c < 0x11_0000
@@ -77,7 +77,7 @@ units_encode_one_text units text other is is_too = one_text text other is.0 is_t
         λ i. both.0 i ∷ one_text cs ds c_all.1 d_all.1 both.1 i
 
 -- a lone unit begins no character
-pub lone_begins_none : (units : List ℕ) (c : ℕ) (rest : List ℕ) → IsLone units → IsScalar c → units ≡ encode_utf16 c ++ rest → ⊥
+pub lone_begins_none : (units : List ℕ) (c : ℕ) (rest : List ℕ) → BeginsWithLoneSurrogate units → IsScalar c → units ≡ encode_utf16 c ++ rest → ⊥
 lone_begins_none [] c rest lone is same = absurd lone
 lone_begins_none (u ∷ units) c rest lone is same =
     let top = scalar_top c is in
@@ -91,7 +91,7 @@ lone_begins_none (u ∷ units) c rest lone is same =
     let parts = same ∙ ap (λ l. l ++ rest) (two_units c two) in
     let first : u ≡ 0xD800 + (c - 0x1_0000) / 0x400 = ap (λ l. get_or l 0 0) parts in
     let after : units ≡ (0xDC00 + (c - 0x1_0000) % 0x400) ∷ rest = ap (drop 1) parts in
-    ⊎_elim (λ low. absurd (omega arith)) (λ high. high.1 (subst BeginsLow (sym after) (omega arith, omega arith))) lone)
+    ⊎_elim (λ low. absurd (omega arith)) (λ high. high.1 (subst BeginsWithLowSurrogate (sym after) (omega arith, omega arith))) lone)
     (cases_lt c 0x1_0000)
 
 -- what std reads at a step
@@ -111,7 +111,7 @@ chars_at_character c rest is =
     ap (λ l. utf16_chars (l ++ rest)) (two_units c two) ∙ utf16_chars_pair u v rest pair ∙ ap (λ d. Some d ∷ utf16_chars rest) value)
     (cases_lt c 0x1_0000)
 
-pub chars_at_lone : (units : List ℕ) → IsLone units → utf16_chars units ≡ None ∷ utf16_chars (drop 1 units)
+pub chars_at_lone : (units : List ℕ) → BeginsWithLoneSurrogate units → utf16_chars units ≡ None ∷ utf16_chars (drop 1 units)
 chars_at_lone [] lone = absurd lone
 chars_at_lone (u ∷ []) lone =
     let in_range : (0xD800 ≤ u) × (u < 0xE000) = ⊎_elim (λ low. (omega arith, omega arith)) (λ high. let is = high.0 in (omega arith, omega arith)) lone in
@@ -123,18 +123,18 @@ chars_at_lone (u ∷ v ∷ rest) lone =
     ∙ ap (λ o. o ∷ utf16_chars (v ∷ rest)) (lone_unit_char_surrogate u in_range.0 in_range.1)
 
 -- one step, and the text that is read
-pub first_step_within : (units : List ℕ) (o : Option ℕ) (n : ℕ) → IsFirstStep units o n → (0 < n) × (n ≤ length units)
+pub first_step_within : (units : List ℕ) (o : Option ℕ) (n : ℕ) → IsUtf16Step units o n → (0 < n) × (n ≤ length units)
 first_step_within units (Some c) zero is = absurd (omega (arith, ap length is.2, (length-encode_utf16 c).0))
 first_step_within units (Some c) (suc n) is = (omega arith, is.1)
 first_step_within [] None n is = absurd is.0
 first_step_within (u ∷ units) None n is = let one = is.1 in (omega arith, omega arith)
 
-pub lossy_units-step : (units : List ℕ) (o : Option ℕ) (n : ℕ) → IsFirstStep units o n → lossy_units units ≡ unwrap_or o replacement ∷ lossy_units (drop n units)
-lossy_units-step units (Some c) n is =
+pub utf16_lossy_text-step : (units : List ℕ) (o : Option ℕ) (n : ℕ) → IsUtf16Step units o n → utf16_lossy_text units ≡ unwrap_or o replacement_character ∷ utf16_lossy_text (drop n units)
+utf16_lossy_text-step units (Some c) n is =
     let parts : units ≡ encode_utf16 c ++ drop n units = sym (take-append-drop n units) ∙ ap (λ l. l ++ drop n units) is.2 in
     ap (map (λ o. unwrap_or o 0xFFFD)) (ap utf16_chars parts ∙ chars_at_character c (drop n units) is.0)
-lossy_units-step units None n is =
-    ap (map (λ o. unwrap_or o 0xFFFD)) (chars_at_lone units is.0) ∙ ap (λ k. replacement ∷ lossy_units (drop k units)) (sym is.1)
+utf16_lossy_text-step units None n is =
+    ap (map (λ o. unwrap_or o 0xFFFD)) (chars_at_lone units is.0) ∙ ap (λ k. replacement_character ∷ utf16_lossy_text (drop k units)) (sym is.1)
 
 -- units begin with a character or with a lone unit
 module _ (u : ℕ) (units : List ℕ) where
@@ -150,7 +150,7 @@ pair_units_of u v c rest is high low =
     let second : v ≡ 0xDC00 + (c - 0x1_0000) % 0x400 = omega arith in
     (λ i. first i ∷ second i ∷ rest) ∙ ap (λ l. l ++ rest) (sym (two_units c (omega arith)))
 
-pub begins_or_lone : (u : ℕ) (units : List ℕ) → u < 2 ^ 16 → BeginsCharacter u units ⊎ IsLone (u ∷ units)
+pub begins_or_lone : (u : ℕ) (units : List ℕ) → u < 2 ^ 16 → BeginsCharacter u units ⊎ BeginsWithLoneSurrogate (u ∷ units)
 begins_or_lone u units fits = ⊎_elim
     (λ (below : u < 0xD800). inl (own_character u units (low_scalar u below) (omega arith)))
     (λ (from : 0xD800 ≤ u). ⊎_elim
@@ -162,7 +162,7 @@ begins_or_lone u units fits = ⊎_elim
     (cases_lt u 0xE000))
     (cases_lt u 0xD800)
   where
-    by_second : (units : List ℕ) → IsHighSurrogate u → BeginsCharacter u units ⊎ IsLone (u ∷ units)
+    by_second : (units : List ℕ) → IsHighSurrogate u → BeginsCharacter u units ⊎ BeginsWithLoneSurrogate (u ∷ units)
     by_second [] high = inr (inr (high, λ none. none))
     by_second (v ∷ rest) high = ⊎_elim
         (λ (below : v < 0xDC00). inr (inr (high, λ low. let low_from = low.0 in absurd (omega arith))))
@@ -187,35 +187,35 @@ rest_is_drop units c rest parts = sym (ap (drop (length (encode_utf16 c))) parts
 shorter_after : (fuel : ℕ) (units : List ℕ) (c : ℕ) (rest : List ℕ) → units ≡ encode_utf16 c ++ rest → length units ≤ suc fuel → length rest ≤ fuel
 shorter_after fuel units c rest parts le = omega (arith, ap length parts, length-append (encode_utf16 c) rest, (length-encode_utf16 c).0)
 
-lossy_within : (fuel : ℕ) (units : List ℕ) → length units ≤ fuel → AreUnits units → IsLossyUnits units (lossy_units units)
-lossy_within fuel [] le all = subst (λ os. IsLossyUnits [] (map (λ o. unwrap_or o 0xFFFD) os)) (sym utf16_chars-nil) refl
+lossy_within : (fuel : ℕ) (units : List ℕ) → length units ≤ fuel → AreUnits units → IsUtf16LossyText units (utf16_lossy_text units)
+lossy_within fuel [] le all = subst (λ os. IsUtf16LossyText [] (map (λ o. unwrap_or o 0xFFFD) os)) (sym utf16_chars-nil) refl
 lossy_within zero (u ∷ units) le all = absurd (omega arith)
 lossy_within (suc fuel) (u ∷ units) le all = ⊎_elim
     (λ p.
     let c = p.0 in
     let rest = p.1 in
     let later = lossy_within fuel rest (shorter_after fuel (u ∷ units) c rest p.3 le) (subst AreUnits (sym (rest_is_drop (u ∷ units) c rest p.3)) (AreUnits-drop (u ∷ units) (length (encode_utf16 c)) all)) in
-    let text_is : c ∷ lossy_units rest ≡ lossy_units (u ∷ units) =
+    let text_is : c ∷ utf16_lossy_text rest ≡ utf16_lossy_text (u ∷ units) =
     sym (ap (map (λ o. unwrap_or o 0xFFFD)) (ap utf16_chars p.3 ∙ chars_at_character c rest p.2)) in
-    subst (IsLossyUnits (u ∷ units)) text_is (inl (rest, p.2, p.3, later)))
+    subst (IsUtf16LossyText (u ∷ units)) text_is (inl (rest, p.2, p.3, later)))
     (λ lone.
     let later = lossy_within fuel units (omega arith) (AreUnits-drop (u ∷ units) 1 all) in
-    let text_is : replacement ∷ lossy_units units ≡ lossy_units (u ∷ units) = sym (ap (map (λ o. unwrap_or o 0xFFFD)) (chars_at_lone (u ∷ units) lone)) in
-    subst (IsLossyUnits (u ∷ units)) text_is (inr (refl, lone, later)))
+    let text_is : replacement_character ∷ utf16_lossy_text units ≡ utf16_lossy_text (u ∷ units) = sym (ap (map (λ o. unwrap_or o 0xFFFD)) (chars_at_lone (u ∷ units) lone)) in
+    subst (IsUtf16LossyText (u ∷ units)) text_is (inr (refl, lone, later)))
     (begins_or_lone u units (AreUnits-first u units all))
 
-one_lossy : (units other text more : List ℕ) → units ≡ other → IsLossyUnits units text → IsLossyUnits other more → text ≡ more
+one_lossy : (units other text more : List ℕ) → units ≡ other → IsUtf16LossyText units text → IsUtf16LossyText other more → text ≡ more
 one_lossy units other [] [] same is is_too = refl
 one_lossy units other [] (d ∷ more) same is is_too = absurd (some_left other d more is_too (sym same ∙ is))
   where
-    some_left : (units : List ℕ) (c : ℕ) (text : List ℕ) → IsLossyUnits units (c ∷ text) → units ≡ [] → ⊥
+    some_left : (units : List ℕ) (c : ℕ) (text : List ℕ) → IsUtf16LossyText units (c ∷ text) → units ≡ [] → ⊥
     some_left units c text is none = ⊎_elim
         (λ p. omega (arith, ap length (sym p.2 ∙ none), length-append (encode_utf16 c) p.0, (length-encode_utf16 c).0))
-        (λ p. subst IsLone none p.1)
+        (λ p. subst BeginsWithLoneSurrogate none p.1)
         is
 one_lossy units other (c ∷ text) [] same is is_too = ⊎_elim
     (λ p. absurd (omega (arith, ap length (sym p.2 ∙ same ∙ is_too), length-append (encode_utf16 c) p.0, (length-encode_utf16 c).0)))
-    (λ p. absurd (subst IsLone (same ∙ is_too) p.1))
+    (λ p. absurd (subst BeginsWithLoneSurrogate (same ∙ is_too) p.1))
     is
 one_lossy units other (c ∷ text) (d ∷ more) same is is_too = ⊎_elim
     (λ p. ⊎_elim
@@ -232,18 +232,18 @@ one_lossy units other (c ∷ text) (d ∷ more) same is is_too = ⊎_elim
     is_too)
     is
 
-pub lossy_units_is : LossyUnitsIsTheOne
-lossy_units_is units text all =
+pub utf16_lossy_text_is : Utf16LossyTextIsTheOne
+utf16_lossy_text_is units text all =
     let std = lossy_within (length units) units (omega arith) all in
-    (λ is. one_lossy units units text (lossy_units units) refl is std, λ same. subst (IsLossyUnits units) (sym same) std)
+    (λ is. one_lossy units units text (utf16_lossy_text units) refl is std, λ same. subst (IsUtf16LossyText units) (sym same) std)
 
 -- units that are text
 
-pub lone_is_no_text : (units : List ℕ) → IsLone units → ¬ (IsUtf16 units)
+pub lone_is_no_text : (units : List ℕ) → BeginsWithLoneSurrogate units → ¬ (IsUtf16 units)
 lone_is_no_text units lone (text, is) = by_text text is
   where
-    by_text : (text : List ℕ) → EncodesUnits units text → ⊥
-    by_text [] is = subst IsLone (sym is.1) lone
+    by_text : (text : List ℕ) → UnitsEncode units text → ⊥
+    by_text [] is = subst BeginsWithLoneSurrogate (sym is.1) lone
     by_text (c ∷ text) is = lone_begins_none units c (flat_map encode_utf16 text) lone (and_parts _ _ is.0).0 (sym is.1)
 
 pub rest_is_text : (xs ys : List ℕ) → IsUtf16 xs → IsUtf16 (xs ++ ys) → IsUtf16 ys
@@ -271,30 +271,11 @@ longer_is_text xs ys c (text, is) c_is ys_is = (text ++ c ∷ [], (all_of text i
     parts_of [] = append-nil (encode_utf16 c)
     parts_of (d ∷ text) = ap (λ l. encode_utf16 d ++ l) (parts_of text) ∙ sym (append_assoc (encode_utf16 d) (flat_map encode_utf16 text) (encode_utf16 c))
 
-pub lone_front : (units : List ℕ) (k : ℕ) → 1 ≤ k → IsLone units → IsLone (take k units)
-lone_front [] k some lone = absurd lone
-lone_front (u ∷ units) zero some lone = absurd (omega arith)
-lone_front (u ∷ []) (suc k) some lone = ⊎_elim (λ low. inl low) (λ high. inr (high.0, λ begins. begins_none k begins)) lone
-  where
-    begins_none : (k : ℕ) → BeginsLow (take k []) → ⊥
-    begins_none zero begins = begins
-    begins_none (suc k) begins = begins
-lone_front (u ∷ v ∷ units) (suc zero) some lone = ⊎_elim (λ low. inl low) (λ high. inr (high.0, λ begins. begins)) lone
-lone_front (u ∷ v ∷ units) (suc (suc k)) some lone = ⊎_elim (λ low. inl low) (λ high. inr (high.0, high.1)) lone
+pub lone_after_front : (units : List ℕ) (n : ℕ) → IsUtf16 (take n units) → BeginsWithLoneSurrogate (drop n units) → ¬ (IsUtf16 units)
+lone_after_front units n front lone whole =
+    lone_is_no_text (drop n units) lone (rest_is_text (take n units) (drop n units) front (subst IsUtf16 (sym (take-append-drop n units)) whole))
 
-pub units_fault : (units : List ℕ) (n : ℕ) → IsUtf16 (take n units) → n ≤ length units → IsLone (drop n units) → IsUnitsFault units n × ¬ (IsUtf16 units)
-units_fault units n front within lone =
-    let longest : (m : ℕ) → n < m → m ≤ length units → ¬ (IsUtf16 (take m units)) = λ m above m_within text.
-    let k = m - n in
-    let m_is : m ≡ n + k = omega arith in
-    let parts : take m units ≡ take n units ++ take k (drop n units) = ap (λ j. take j units) m_is ∙ take-add n k units in
-    lone_is_no_text (take k (drop n units)) (lone_front (drop n units) k (omega arith) lone) (rest_is_text (take n units) (take k (drop n units)) front (subst IsUtf16 parts text))
-    in (
-      (record { within = within; front = front; longest = longest }, lone),
-      λ whole. lone_is_no_text (drop n units) lone (rest_is_text (take n units) (drop n units) front (subst IsUtf16 (sym (take-append-drop n units)) whole)),
-    )
-
-pub broken_step : (units : List ℕ) (o : Option ℕ) (n : ℕ) → IsFirstStep units o n → IfNone o (¬ (IsUtf16 units))
+pub broken_step : (units : List ℕ) (o : Option ℕ) (n : ℕ) → IsUtf16Step units o n → IfNone o (¬ (IsUtf16 units))
 broken_step units (Some c) n is = search rules
 broken_step units None n is = lone_is_no_text units is.0
 
@@ -302,17 +283,17 @@ broken_step units None n is = lone_is_no_text units is.0
 pub from_at : (units : List ℕ) (at : ℕ) → take (length units - at) (drop at units) ≡ drop at units
 from_at units at = take_all (length units - at) (drop at units) (omega (arith, length-drop at units))
 
-pub passed_step : (units : List ℕ) (at n : ℕ) (o : Option ℕ) → IsUtf16 (take at units) → is_some o ≡ true → IsFirstStep (take (length units - at) (drop at units)) o n
+pub passed_step : (units : List ℕ) (at n : ℕ) (o : Option ℕ) → IsUtf16 (take at units) → is_some o ≡ true → IsUtf16Step (take (length units - at) (drop at units)) o n
     → IsUtf16 (take (at + n) units)
 passed_step units at n None front some is = absurd (false≢true some)
 passed_step units at n (Some c) front some is =
-    let step = subst (λ l. IsFirstStep l (Some c) n) (from_at units at) is in
+    let step = subst (λ l. IsUtf16Step l (Some c) n) (from_at units at) is in
     subst IsUtf16 (sym (take-add at n units)) (longer_is_text (take at units) (take n (drop at units)) c front step.0 step.2)
 
-pub stopped_step : (units : List ℕ) (at n : ℕ) (o : Option ℕ) → IsUtf16 (take at units) → at ≤ length units → is_some o ≡ false
-    → IsFirstStep (take (length units - at) (drop at units)) o n → IsUnitsFault units at × ¬ (IsUtf16 units)
-stopped_step units at n None front within none is = units_fault units at front within (subst IsLone (from_at units at) is.0)
-stopped_step units at n (Some c) front within none is = absurd (true≢false none)
+pub stopped_step : (units : List ℕ) (at n : ℕ) (o : Option ℕ) → IsUtf16 (take at units) → is_some o ≡ false
+    → IsUtf16Step (take (length units - at) (drop at units)) o n → ¬ (IsUtf16 units)
+stopped_step units at n None front none is = lone_after_front units at front (subst BeginsWithLoneSurrogate (from_at units at) is.0)
+stopped_step units at n (Some c) front none is = absurd (true≢false none)
 
 -- what `get` gives, copied
 pub copied_item : (units : List ℕ) (i : ℕ) (r : Option (Bor ℕ)) → IsItemAt units i r → option_copied r ≡ slice_get units i
@@ -321,7 +302,7 @@ copied_item units i (Some x) is = sym (slice_get_read units (length units) i x.n
 
 -- the step at the front, from the first unit and what the second may be
 pub front_step : (units : List ℕ) (second o : Option ℕ) (n : ℕ) → 0 < length units → second ≡ slice_get units 1
-    → ((rest : List ℕ) → slice_get rest 0 ≡ second → IsFirstStep (slice_index units 0 ∷ rest) o n) → IsFirstStep units o n
+    → ((rest : List ℕ) → slice_get rest 0 ≡ second → IsUtf16Step (slice_index units 0 ∷ rest) o n) → IsUtf16Step units o n
 front_step [] second o n some is known = absurd (omega arith)
 front_step (u ∷ units) second o n some is known = known units (sym is)
 
@@ -368,11 +349,11 @@ own_text : (text : List ℕ) → map (λ o. unwrap_or o 0xFFFD) (map (λ c. Some
 own_text [] = refl
 own_text (c ∷ text) = ap (λ l. c ∷ l) (own_text text)
 
-pub lossy_units_of_text : LossyUnitsOfText
-lossy_units_of_text units text is =
-    ap lossy_units (sym is.1 ∙ sym (append-nil (flat_map encode_utf16 text)))
+pub utf16_lossy_text_of_text : Utf16LossyTextOfText
+utf16_lossy_text_of_text units text is =
+    ap utf16_lossy_text (sym is.1 ∙ sym (append-nil (flat_map encode_utf16 text)))
     ∙ ap (map (λ o. unwrap_or o 0xFFFD)) (has_none text [] is.0 ∙ ap (λ os. map (λ c. Some c) text ++ os) utf16_chars-nil) ∙ own_text text
 
-pub lossy_units-empty : (units : List ℕ) → length units ≡ 0 → lossy_units units ≡ []
-lossy_units-empty [] none = lossy_units_of_text [] [] (refl, refl)
-lossy_units-empty (u ∷ units) none = absurd (omega arith)
+pub utf16_lossy_text-empty : (units : List ℕ) → length units ≡ 0 → utf16_lossy_text units ≡ []
+utf16_lossy_text-empty [] none = utf16_lossy_text_of_text [] [] (refl, refl)
+utf16_lossy_text-empty (u ∷ units) none = absurd (omega arith)

@@ -2,21 +2,21 @@
 use Rattle.std.specs.Prelude.{◌≡◌, ◌↔◌, ◌⊎◌, ℕ, ◌<◌, ◌≤◌, List, ◌++◌, length, take, drop, Option, IsNone, unwrap_or}
 use Rattle.std.specs.Str.{IsUtf8}
 use Rattle.std.specs.Str.Lossy.{utf8_valid_len, utf8_error_len}
-use Rattle.compact_codec.specs.Utf8Table.{IsWellFormed}
+use Rattle.compact_codec.specs.Utf8Table.{IsWellFormedSequence}
 
--- the first n of these are text, and no longer front is
-pub record IsLongestFront (IsText : List ℕ → Type 0) (xs : List ℕ) (n : ℕ) : Type 0 where
-  pub within : n ≤ length xs
-  pub front : IsText (take n xs)
-  pub longest : (m : ℕ) → n < m → m ≤ length xs → ¬ (IsText (take m xs))
+-- the first n of the bytes encode a text, and no longer front does
+pub record IsLongestFront (bs : List ℕ) (n : ℕ) : Type 0 where
+  pub within : n ≤ length bs
+  pub front : IsUtf8 (take n bs)
+  pub longest : (m : ℕ) → n < m → m ≤ length bs → ¬ (IsUtf8 (take m bs))
 
 -- more bytes, or none, make these a well-formed sequence
 abbrev pub BeginsSequence : List ℕ → Type 0
-BeginsSequence bs = (more : List ℕ) × IsWellFormed (bs ++ more)
+BeginsSequence bs = (more : List ℕ) × IsWellFormedSequence (bs ++ more)
 
 -- no well-formed sequence stands at the front (the place is an unconvertible offset, D93a)
 abbrev pub IsUnconvertible : List ℕ → Type 0
-IsUnconvertible bs = (n : ℕ) → ¬ (IsWellFormed (take n bs))
+IsUnconvertible bs = (n : ℕ) → ¬ (IsWellFormedSequence (take n bs))
 
 -- the first n bytes are a maximal subpart (D93b): the longest run that begins a well-formed sequence,
 -- or one byte where no run does
@@ -33,10 +33,11 @@ abbrev pub IsBrokenPart : List ℕ → Option ℕ → Type 0
 IsBrokenPart bs part = IsMaximalSubpart bs (unwrap_or part (length bs)) × (IsNone part ↔ BeginsSequence bs)
 
 -- after the longest front that is text, which is not all of the bytes, comes a broken part of this length
-abbrev pub IsFault : List ℕ → ℕ → Option ℕ → Type 0
-IsFault bs valid_up_to error_len = IsLongestFront IsUtf8 bs valid_up_to × IsBrokenPart (drop valid_up_to bs) error_len
+abbrev pub IsUtf8Fault : List ℕ → ℕ → Option ℕ → Type 0
+IsUtf8Fault bs valid_up_to error_len = IsLongestFront bs valid_up_to × IsBrokenPart (drop valid_up_to bs) error_len
 
 -- bytes that are no text have one fault: the place and the length that the judge tells
 abbrev pub FaultIsTheOne : Type 0
 FaultIsTheOne = (bs : List ℕ) (valid_up_to : ℕ) (error_len : Option ℕ) → ¬ (IsUtf8 bs)
-    → IsFault bs valid_up_to error_len ↔ ((valid_up_to ≡ utf8_valid_len bs) × (error_len ≡ utf8_error_len (drop valid_up_to bs)))
+    → IsUtf8Fault bs valid_up_to error_len
+    ↔ ((valid_up_to ≡ utf8_valid_len bs) × (error_len ≡ utf8_error_len (drop valid_up_to bs)))

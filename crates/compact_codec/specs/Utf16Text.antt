@@ -1,73 +1,73 @@
 -- Characters as units of UTF-16 (Unicode Standard, 3.9, D91 and Table 3-5), and the text of any units.
-use Rattle.std.specs.Prelude.{◌≡◌, ◌↔◌, ◌⊎◌, ℕ, ◌^◌, ◌<◌, ◌≤◌, true, false, List, [], ◌∷◌, ◌++◌, length, take, drop, Option, Some, None, All}
+use Rattle.std.specs.Prelude.{◌≡◌, ◌↔◌, ◌⊎◌, ℕ, ◌^◌, ◌<◌, ◌≤◌, false, List, [], ◌∷◌, ◌++◌, length, take, drop, Option, Some, None, All}
 use Rattle.std.specs.Char.{IsScalar}
 use Rattle.std.specs.Char.Escape.{encode_utf16}
 use Rattle.std.specs.Char.Utf16.{utf16_lossy_chars, has_unpaired_surrogate}
 use Rattle.std.specs.List.{flat_map}
-use Rattle.std.specs.Str.{all_scalars}
-use Rattle.compact_codec.specs.BrokenPart.{IsLongestFront}
-use Rattle.compact_codec.specs.Utf8Text.{replacement}
+use Rattle.compact_codec.specs.Text.{IsText, replacement_character}
+
+-- the units of t in UTF-16: one or two for each character
+abbrev pub utf16 : List ℕ → List ℕ
+utf16 t = flat_map encode_utf16 t
 
 -- the numbers are units of 16 bits
 abbrev pub AreUnits : List ℕ → Type 0
 AreUnits units = All (λ u. u < 2 ^ 16) units
 
--- the first and the second unit of a pair of surrogates (3.8, D71 to D75)
+-- the first and the second unit of a surrogate pair (3.8, D72, D74 and D75)
 abbrev pub IsHighSurrogate : ℕ → Type 0
 IsHighSurrogate u = (0xD800 ≤ u) × (u ≤ 0xDBFF)
 
 abbrev pub IsLowSurrogate : ℕ → Type 0
 IsLowSurrogate u = (0xDC00 ≤ u) × (u ≤ 0xDFFF)
 
--- the units encode this text: one or two for each character
-abbrev pub EncodesUnits : List ℕ → List ℕ → Type 0
-EncodesUnits units text = (all_scalars text ≡ true) × (flat_map encode_utf16 text ≡ units)
+-- the units encode this text
+abbrev pub UnitsEncode : List ℕ → List ℕ → Type 0
+UnitsEncode units text = IsText text × (utf16 text ≡ units)
 
 -- some text gives these units
 abbrev pub IsUtf16 : List ℕ → Type 0
-IsUtf16 units = (text : List ℕ) × EncodesUnits units text
+IsUtf16 units = (text : List ℕ) × UnitsEncode units text
 
 -- the unit at the front is the second of a pair
-abbrev pub BeginsLow : List ℕ → Type 0
-BeginsLow [] = ⊥
-BeginsLow (u ∷ units) = IsLowSurrogate u
+abbrev pub BeginsWithLowSurrogate : List ℕ → Type 0
+BeginsWithLowSurrogate [] = ⊥
+BeginsWithLowSurrogate (u ∷ units) = IsLowSurrogate u
 
 -- the unit at the front is a surrogate that is in no pair
-abbrev pub IsLone : List ℕ → Type 0
-IsLone [] = ⊥
-IsLone (u ∷ units) = IsLowSurrogate u ⊎ (IsHighSurrogate u × ¬ (BeginsLow units))
+abbrev pub BeginsWithLoneSurrogate : List ℕ → Type 0
+BeginsWithLoneSurrogate [] = ⊥
+BeginsWithLoneSurrogate (u ∷ units) = IsLowSurrogate u ⊎ (IsHighSurrogate u × ¬ (BeginsWithLowSurrogate units))
 
--- the text is read from the units with one U+FFFD for each lone unit
-abbrev pub IsLossyUnits : List ℕ → List ℕ → Type 0
-IsLossyUnits units [] = units ≡ []
-IsLossyUnits units (c ∷ text) = ((rest : List ℕ) × IsScalar c × (units ≡ encode_utf16 c ++ rest) × IsLossyUnits rest text)
-    ⊎ ((c ≡ replacement) × IsLone units × IsLossyUnits (drop 1 units) text)
+-- the text is read from the units with one U+FFFD for each lone surrogate
+abbrev pub IsUtf16LossyText : List ℕ → List ℕ → Type 0
+IsUtf16LossyText units [] = units ≡ []
+IsUtf16LossyText units (c ∷ text) =
+    ((rest : List ℕ) × IsScalar c × (units ≡ encode_utf16 c ++ rest) × IsUtf16LossyText rest text)
+    ⊎ ((c ≡ replacement_character) × BeginsWithLoneSurrogate units × IsUtf16LossyText (drop 1 units) text)
 
 -- that text
-abbrev pub lossy_units : List ℕ → List ℕ
-lossy_units units = utf16_lossy_chars units
+abbrev pub utf16_lossy_text : List ℕ → List ℕ
+utf16_lossy_text units = utf16_lossy_chars units
 
--- at the front of the units stands this character in its first n units, or else one lone unit
-abbrev pub IsFirstStep : List ℕ → Option ℕ → ℕ → Type 0
-IsFirstStep units (Some c) n = IsScalar c × (n ≤ length units) × (take n units ≡ encode_utf16 c)
-IsFirstStep units None n = IsLone units × (n ≡ 1)
-
--- the first n units are the longest front that is text, and a lone unit comes next
-abbrev pub IsUnitsFault : List ℕ → ℕ → Type 0
-IsUnitsFault units n = IsLongestFront IsUtf16 units n × IsLone (drop n units)
+-- at the front of the units stands this character in its first n units, or else one lone surrogate
+abbrev pub IsUtf16Step : List ℕ → Option ℕ → ℕ → Type 0
+IsUtf16Step units (Some c) n = IsScalar c × (n ≤ length units) × (take n units ≡ encode_utf16 c)
+IsUtf16Step units None n = BeginsWithLoneSurrogate units × (n ≡ 1)
 
 -- units encode at most one text
 abbrev pub UnitsEncodeOneText : Type 0
-UnitsEncodeOneText = (units text other : List ℕ) → EncodesUnits units text → EncodesUnits units other → text ≡ other
+UnitsEncodeOneText = (units text other : List ℕ) → UnitsEncode units text → UnitsEncode units other → text ≡ other
 
 -- the units that some text gives are those in which no surrogate is unpaired
 abbrev pub Utf16IsThePaired : Type 0
 Utf16IsThePaired = (units : List ℕ) → AreUnits units → IsUtf16 units ↔ (has_unpaired_surrogate units ≡ false)
 
 -- units have one lossy text and no other
-abbrev pub LossyUnitsIsTheOne : Type 0
-LossyUnitsIsTheOne = (units text : List ℕ) → AreUnits units → IsLossyUnits units text ↔ (text ≡ lossy_units units)
+abbrev pub Utf16LossyTextIsTheOne : Type 0
+Utf16LossyTextIsTheOne = (units text : List ℕ) → AreUnits units
+    → IsUtf16LossyText units text ↔ (text ≡ utf16_lossy_text units)
 
 -- a text's own units have that text as their lossy text
-abbrev pub LossyUnitsOfText : Type 0
-LossyUnitsOfText = (units text : List ℕ) → EncodesUnits units text → lossy_units units ≡ text
+abbrev pub Utf16LossyTextOfText : Type 0
+Utf16LossyTextOfText = (units text : List ℕ) → UnitsEncode units text → utf16_lossy_text units ≡ text

@@ -1,19 +1,19 @@
 //! Where bytes or units stop being text.
 //!
-//! Of any bytes read as UTF-8, and of any 16-bit units read as UTF-16, this crate says how long the
-//! longest front is that encodes a text, and what the broken part after it is. A strict decoder asks a
-//! `judge` before it makes room for the text; a lossy one goes on a step at a time, with U+FFFD for each
-//! broken part. No call takes memory, and each returns on every input.
+//! Of any bytes read as UTF-8, and of any 16-bit units read as UTF-16, this crate says whether they encode a
+//! text, and what is broken where they do not. A strict decoder asks before it makes room for the text; a
+//! lossy one goes on a step at a time, with U+FFFD for each broken part. Nothing but a sink takes memory, and
+//! each call returns.
 //!
 //! - `utf8`: a whole slice of bytes at once, or chunk by chunk.
-//! - `sequence`: the one sequence at the front of bytes, for a reader that takes bytes as they come.
 //! - `utf16`: a slice of units at once, or character by character.
-//! - `paired_bytes`: the same over bytes, two a unit, in little- or big-endian order.
+//! - `utf16_bytes`: the same over bytes, two a unit, in little- or big-endian order.
+//! - `readers`: the texts put into something that grows.
 //!
 //! The definitions in `specs/` are the Unicode Standard's; docs/MODEL.md tells them in plain words.
 #![tactic(auto)]
 
-pub mod paired_bytes;
-pub mod sequence;
+pub mod readers;
 pub mod utf16;
+pub mod utf16_bytes;
 pub mod utf8;

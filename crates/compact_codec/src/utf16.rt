@@ -1,7 +1,7 @@
 //! Units of 16 bits read as UTF-16 (Unicode Standard, 3.9).
-ghost use Rattle.std.specs.Prelude.{◌≡◌, ◌↔◌, ◌<◌, ◌≤◌, ◌∷◌, ℕ, List, drop, length, unwrap_or, slice_get, IfErr, IfNone, OnOk, OnErr, IsOk};
-ghost use Rattle.compact_codec.specs.Utf8Text.{replacement};
-ghost use Rattle.compact_codec.specs.Utf16Text.{IsUtf16, IsFirstStep, IsUnitsFault, lossy_units, UnitsEncodeOneText, Utf16IsThePaired, LossyUnitsIsTheOne, LossyUnitsOfText};
+ghost use Rattle.std.specs.Prelude.{◌≡◌, ◌↔◌, ◌<◌, ◌≤◌, ◌∷◌, ℕ, List, drop, length, unwrap_or, slice_get, IfNone, IsTrue};
+ghost use Rattle.compact_codec.specs.Text.{replacement_character};
+ghost use Rattle.compact_codec.specs.Utf16Text.{IsUtf16, IsUtf16Step, utf16_lossy_text, UnitsEncodeOneText, Utf16IsThePaired, Utf16LossyTextIsTheOne, Utf16LossyTextOfText};
 
 /// What a reader takes from units in one step.
 #[derive(Clone, Copy, Debug, PartialEq, Eq)]
@@ -13,18 +13,11 @@ pub struct Utf16Step {
     pub taken: usize,
 }
 
-/// Where units, or the bytes of units, stop being UTF-16.
-#[derive(Clone, Copy, Debug, PartialEq, Eq)]
-pub struct Utf16Fault {
-    /// How many units, or bytes, the longest front has that encodes a text.
-    pub valid_up_to: usize,
-}
-
 // The step at a first unit, where the unit after it is `second`.
 #[inline]
 pub(crate) fn step_over(first: u16, second: Option<u16>) -> Utf16Step
     ensures step { (rest : List ℕ) → slice_get rest 0 ≡ second
-        → IsFirstStep (first ∷ rest) result.character result.taken }
+        → IsUtf16Step (first ∷ rest) result.character result.taken }
     ensures taken { result.taken ≤ 2 }
 {
     if !(0xD800..=0xDFFF).contains(&first) {
@@ -55,34 +48,31 @@ pub(crate) fn step_over(first: u16, second: Option<u16>) -> Utf16Step
 #[inline]
 pub fn first_character(units: &[u16]) -> Utf16Step
     requires { 0 < length units.now }
-    ensures step { IsFirstStep units.now result.character result.taken }
+    ensures step { IsUtf16Step units.now result.character result.taken }
     ensures taken { (0 < result.taken) × (result.taken ≤ length units.now) }
     ensures few { result.taken ≤ 2 }
-    ensures lossy { lossy_units units.now
-        ≡ unwrap_or result.character replacement ∷ lossy_units (drop result.taken units.now) }
+    ensures lossy { utf16_lossy_text units.now
+        ≡ unwrap_or result.character replacement_character ∷ utf16_lossy_text (drop result.taken units.now) }
     ensures broken { IfNone result.character (¬ (IsUtf16 units.now)) }
 {
     step_over(units[0], units.get(1).copied())
 }
 
-/// Whether some text gives the units, or else where they stop being one: at the first lone surrogate.
+/// Whether some text gives the units: no surrogate is lone.
 ///
-/// `[0x0061, 0xDC00]` is at fault after 1 unit.
-pub fn judge(units: &[u16]) -> Result<(), Utf16Fault>
-    ensures exact { IsOk result ↔ IsUtf16 units.now }
-    ensures text { OnOk result (IsUtf16 units.now) }
-    ensures fault { IfErr result (λ fault. IsUnitsFault units.now fault.valid_up_to) }
-    ensures broken { OnErr result (¬ (IsUtf16 units.now)) }
+/// `[0xD834, 0xDD1E]` is text, `[0x0061, 0xDC00]` is none.
+pub fn is_utf16(units: &[u16]) -> bool
+    ensures { IsTrue result ↔ IsUtf16 units.now }
 {
     let mut at = 0;
     while at < units.len() {
         let step = first_character(&units[at..]);
         if step.character.is_none() {
-            return Err(Utf16Fault { valid_up_to: at });
+            return false;
         }
         at += step.taken;
     }
-    Ok(())
+    true
 }
 
 /// A law: units encode one text at most.
@@ -97,12 +87,12 @@ pub fn text_is_the_paired_units()
 
 /// A law: units have one lossy text, and it is the one that std's word tells.
 pub fn units_have_one_lossy_text()
-    ensures { LossyUnitsIsTheOne }
+    ensures { Utf16LossyTextIsTheOne }
 {}
 
 /// A law: a text's own units have that text as their lossy text.
 pub fn a_text_is_its_own_lossy_text()
-    ensures { LossyUnitsOfText }
+    ensures { Utf16LossyTextOfText }
 {}
 
 #[cfg(test)]

@@ -1,9 +1,9 @@
 //! Bytes read as UTF-8 (Unicode Standard, 3.9).
 ghost use Rattle.std.specs.Prelude.{◌≡◌, ◌↔◌, ◌+◌, ◌<◌, ◌≤◌, ◌++◌, take, length, IfOk, IfErr, OnErr, IsOk, IsUtf8};
-ghost use Rattle.std.specs.Str.{chars};
+ghost use Rattle.compact_codec.specs.Text.{text_of};
 ghost use Rattle.compact_codec.specs.Utf8Table.{TableIsTheEncodings};
-ghost use Rattle.compact_codec.specs.BrokenPart.{IsFault, FaultIsTheOne};
-ghost use Rattle.compact_codec.specs.Utf8Text.{lossy_text, mark, IsFirstChunk, EncodesOneText, LossyTextIsTheOne, LossyTextOfText};
+ghost use Rattle.compact_codec.specs.BrokenPart.{IsUtf8Fault, FaultIsTheOne};
+ghost use Rattle.compact_codec.specs.Utf8Text.{utf8_lossy_text, replacement_text, BeginsWithChunk, BytesEncodeOneText, Utf8LossyTextIsTheOne, Utf8LossyTextOfText};
 
 /// Where bytes stop being UTF-8.
 #[derive(Clone, Copy, Debug, PartialEq, Eq)]
@@ -29,7 +29,7 @@ const WINDOW: usize = 8192;
 pub fn judge(bytes: &[u8]) -> Result<&str, Utf8Fault>
     ensures exact { IsOk result ↔ IsUtf8 bytes.now }
     ensures text { IfOk result (λ text. (text.now ≡ bytes.now) × IsUtf8 bytes.now) }
-    ensures fault { IfErr result (λ fault. IsFault bytes.now fault.valid_up_to fault.error_len) }
+    ensures fault { IfErr result (λ fault. IsUtf8Fault bytes.now fault.valid_up_to fault.error_len) }
     ensures broken { OnErr result (¬ (IsUtf8 bytes.now)) }
 {
     if bytes.len() < LONG {
@@ -81,7 +81,7 @@ fn judge_from(bytes: &[u8], at: usize) -> Result<&str, Utf8Fault>
     requires text { IsUtf8 (take at bytes.now) }
     ensures exact { IsOk result ↔ IsUtf8 bytes.now }
     ensures text { IfOk result (λ text. (text.now ≡ bytes.now) × IsUtf8 bytes.now) }
-    ensures fault { IfErr result (λ fault. IsFault bytes.now fault.valid_up_to fault.error_len) }
+    ensures fault { IfErr result (λ fault. IsUtf8Fault bytes.now fault.valid_up_to fault.error_len) }
     ensures broken { OnErr result (¬ (IsUtf8 bytes.now)) }
 {
     match judge_in_order(&bytes[at..]) {
@@ -98,7 +98,7 @@ fn judge_from(bytes: &[u8], at: usize) -> Result<&str, Utf8Fault>
 fn judge_in_order(bytes: &[u8]) -> Result<&str, Utf8Fault>
     ensures exact { IsOk result ↔ IsUtf8 bytes.now }
     ensures text { IfOk result (λ text. (text.now ≡ bytes.now) × IsUtf8 bytes.now) }
-    ensures fault { IfErr result (λ fault. IsFault bytes.now fault.valid_up_to fault.error_len) }
+    ensures fault { IfErr result (λ fault. IsUtf8Fault bytes.now fault.valid_up_to fault.error_len) }
     ensures broken { OnErr result (¬ (IsUtf8 bytes.now)) }
 {
     match std::str::from_utf8(bytes) {
@@ -121,15 +121,44 @@ pub struct Chunk<'a> {
     pub rest: &'a [u8],
 }
 
+/// The first chunk of bytes whose fault is known. It judges nothing again, so that a reader can let `judge`
+/// find the fault.
+///
+/// `[0x61, 0xC0, 0x80]` has its fault after 1 byte, with a broken part of 1 byte: the chunk is `a`, the broken
+/// byte C0 and the rest 80.
+#[inline]
+pub fn chunk_at(bytes: &[u8], fault: Utf8Fault) -> Chunk<'_>
+    requires { IsUtf8Fault bytes.now fault.valid_up_to fault.error_len }
+    ensures chunk { BeginsWithChunk bytes.now result.text.now result.broken.now result.rest.now }
+    ensures lossy { utf8_lossy_text bytes.now
+        ≡ text_of result.text.now ++ (replacement_text result.broken.now ++ utf8_lossy_text result.rest.now) }
+    ensures len { length result.text.now + (length result.broken.now + length result.rest.now) ≡ length bytes.now }
+    ensures broken { 0 < length result.broken.now }
+{
+    let (front, after) = bytes.split_at(fault.valid_up_to);
+    let broken_len = fault.error_len.unwrap_or(after.len());
+    let (broken, rest) = after.split_at(broken_len);
+    Chunk {
+        text: unsafe { std::str::from_utf8_unchecked(front) },
+        broken,
+        rest,
+    }
+}
+
 /// The first chunk of the bytes. No bytes are the chunk of three empty parts.
+///
+/// It goes in order, and no byte is judged twice, also where a reader goes on after a broken part. Of bytes
+/// that are likely to be text, `judge` and `chunk_at` are the faster way.
 ///
 /// `[0x61, 0xC0, 0x80]` is `a`, the broken byte C0 and the rest 80, whose chunk is no text and the broken
 /// byte 80: the lossy text is `a` and two U+FFFD.
 #[inline]
 pub fn first_chunk(bytes: &[u8]) -> Chunk<'_>
-    ensures chunk { IsFirstChunk bytes.now result.text.now result.broken.now result.rest.now }
-    ensures lossy { lossy_text bytes.now
-        ≡ chars result.text.now ++ (mark result.broken.now ++ lossy_text result.rest.now) }
+    ensures chunk { BeginsWithChunk bytes.now result.text.now result.broken.now result.rest.now }
+    ensures lossy { utf8_lossy_text bytes.now
+        ≡ text_of result.text.now ++ (replacement_text result.broken.now ++ utf8_lossy_text result.rest.now) }
+    ensures len { length result.text.now + (length result.broken.now + length result.rest.now) ≡ length bytes.now }
+    ensures whole { length result.broken.now ≡ 0 → length result.rest.now ≡ 0 }
     ensures shorter { 0 < length bytes.now → length result.rest.now < length bytes.now }
 {
     match judge_in_order(bytes) {
@@ -138,16 +167,7 @@ pub fn first_chunk(bytes: &[u8]) -> Chunk<'_>
             broken: &[],
             rest: &[],
         },
-        Err(fault) => {
-            let (front, after) = bytes.split_at(fault.valid_up_to);
-            let broken_len = fault.error_len.unwrap_or(after.len());
-            let (broken, rest) = after.split_at(broken_len);
-            Chunk {
-                text: unsafe { std::str::from_utf8_unchecked(front) },
-                broken,
-                rest,
-            }
-        }
+        Err(fault) => chunk_at(bytes, fault),
     }
 }
 
@@ -159,7 +179,7 @@ pub fn well_formed_sequences_are_the_encodings()
 
 /// A law: bytes encode one text at most.
 pub fn bytes_encode_one_text()
-    ensures { EncodesOneText }
+    ensures { BytesEncodeOneText }
 {}
 
 /// A law: bytes that are no text have one fault, and std's words for its place and its length tell it.
@@ -169,12 +189,12 @@ pub fn bytes_have_one_fault()
 
 /// A law: bytes have one lossy text, and it is the one that std's word tells.
 pub fn bytes_have_one_lossy_text()
-    ensures { LossyTextIsTheOne }
+    ensures { Utf8LossyTextIsTheOne }
 {}
 
 /// A law: a text's own bytes have that text as their lossy text.
 pub fn a_text_is_its_own_lossy_text()
-    ensures { LossyTextOfText }
+    ensures { Utf8LossyTextOfText }
 {}
 
 #[cfg(test)]

@@ -16,27 +16,39 @@ use Rattle.compact_edit.specs.declared.edit.Reply.TheVariants.{Done, Char, Text,
 
 -- the positions that the edit needs are boundaries of v
 abbrev pub IsLegal : {P : Type 0} → PlacedText → Edit P → Type 0
+IsLegal v (Push c) = Unit {0}
+IsLegal v (PushStr s) = Unit {0}
+IsLegal v Pop = Unit {0}
 IsLegal v (Insert p c) = IsBoundary v.text p
 IsLegal v (InsertStr p s) = IsBoundary v.text p
 IsLegal v (Remove p) = (p < size v.text) × IsBoundary v.text p
 IsLegal v (Truncate n) = n < size v.text → IsBoundary v.text n
+IsLegal v Clear = Unit {0}
 IsLegal v (SplitOff p) = IsBoundary v.text p
 IsLegal v (ReplaceRange start end s) = IsRange v.text start end
-IsLegal v edit = Unit {0}
+IsLegal v (Reserve n) = Unit {0}
+IsLegal v (ShrinkTo n) = Unit {0}
+IsLegal v ShrinkToFit = Unit {0}
+IsLegal v (Repeat n) = Unit {0}
+IsLegal v (CloneFrom source) = Unit {0}
 
 -- the edit asks for a heap buffer, so that it may be refused
 abbrev pub edit_asks : {P : Type 0} → PlacedText → Edit P → Bool
 edit_asks v (Push c) = push_asks v (c ∷ [])
 edit_asks v (PushStr s) = push_asks v (text_of s.now)
+edit_asks v Pop = false
 edit_asks v (Insert p c) = room_asks v (len_utf8 c)
 edit_asks v (InsertStr p s) = room_asks v (size (text_of s.now))
 edit_asks v (Remove p) = own_asks v
+edit_asks v (Truncate n) = false
+edit_asks v Clear = false
 edit_asks v (SplitOff p) = split_asks v p
 edit_asks v (ReplaceRange start end s) = replace_asks v (range_start start) (range_end v.text end) (text_of s.now)
 edit_asks v (Reserve n) = room_asks v n
+edit_asks v (ShrinkTo n) = false
+edit_asks v ShrinkToFit = false
 edit_asks v (Repeat n) = repeat_asks v n
 edit_asks v (CloneFrom source) = clone_from_asks v source.now
-edit_asks v edit = false
 
 -- what the edit answers and leaves where it is done
 abbrev pub EditDoes : {P : Type 0} → Growth → PlacedText → Edit P → Reply P → PlacedText → Type 0

@@ -1,5 +1,5 @@
 //! How edits are run.
-ghost use Rattle.std.specs.Prelude.{◌≡◌, [], OnOk, OnErr, IsOk, MatchResult};
+ghost use Rattle.std.specs.Prelude.{◌≡◌, ◌+◌, ◌≤◌, [], length, vec_len, vec_capacity, OnOk, OnErr, IsOk, MatchResult};
 ghost use Rattle.compact_edit.specs.Steps.{Step};
 ghost use Rattle.compact_edit.specs.Runs.{RunsTo};
 
@@ -18,6 +18,8 @@ pub fn run<P: Policy>(
     replies: &mut Vec<Reply<P>>,
 ) -> Result<(), ReserveError>
     ensures run { OnOk result (RunsTo P.growth value.old edits.now replies.old.items replies.new.items value.new) }
+    ensures count { OnOk result (vec_len replies.new ≡ vec_len replies.old + length edits.now) }
+    ensures succeeds { vec_len replies.old + length edits.now ≤ vec_capacity replies.old → IsOk result }
     ensures err { OnErr result ((value.new ≡ value.old) × (replies.new.items ≡ replies.old.items)) }
     ensures empty { edits.now ≡ [] → IsOk result }
 {
@@ -118,10 +120,12 @@ fn replace_range<P: Policy>(
 ) -> Reply<P>
     ensures { Step P.growth value.old (Edit.ReplaceRange start end text.entry) result value.new }
 {
-    if value.check_range(start, end).is_none() {
-        return Reply::BadPosition;
+    match value.check_range(start, end) {
+        Some((first, last)) => {
+            reply_to(value.replace_range(Bound::Included(first), Bound::Excluded(last), text))
+        }
+        None => Reply::BadPosition,
     }
-    reply_to(value.replace_range(start, end, text))
 }
 
 /// The reply to an edit that answers nothing else.

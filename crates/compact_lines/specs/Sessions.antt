@@ -1,31 +1,31 @@
 -- What a command does to the program's value.
-use Rattle.std.specs.Prelude.{◌≡◌, Some, replicate}
+use Rattle.std.specs.Prelude.{◌≡◌, Bool, false, Some, replicate, length}
+use Rattle.std.specs.Borrow.{Bor}
 use Rattle.compact_str.specs.Text.{text_of}
 use Rattle.compact_str.specs.Value.{PlacedText}
-use Rattle.compact_str.specs.Capacity.{Growth, borrowed}
+use Rattle.compact_str.specs.Capacity.{Growth, borrowed, new_room_asks}
 use Rattle.compact_str.specs.Change.{made, with_room}
-use Rattle.compact_str.specs.Clones.{cloned_from}
-use Rattle.compact_edit.specs.declared.edit.Reply.{Reply}
-use Rattle.compact_edit.specs.declared.edit.Reply.TheVariants.{Done, Refused}
-use Rattle.compact_edit.specs.Steps.{Step}
 use Rattle.compact_str.specs.declared.Standard.{Standard}
+use Rattle.compact_edit.specs.declared.edit.Edit.TheVariants as edits
+use Rattle.compact_edit.specs.declared.edit.Reply.{Reply}
+use Rattle.compact_edit.specs.declared.edit.Reply.TheVariants.{Done}
+use Rattle.compact_edit.specs.Steps.{Step}
 use Rattle.compact_lines.specs.declared.command.Command.{Command}
 use Rattle.compact_lines.specs.declared.command.Command.TheVariants.{New, Static, WithCapacity, CloneFrom, Edit}
 
--- the growth of the program's value
-abbrev pub standard : Growth
-standard = record { least = 32; numerator = 3; denominator = 2 }
-
--- from v, a clone of u may be answered so and leave w
-abbrev pub Clones : {P : Type 0} → PlacedText → PlacedText → Reply P → PlacedText → Type 0
-Clones v u Done w = cloned_from standard v u ≡ Some w
-Clones v u (Refused e) w = w ≡ v
-Clones v u reply w = ⊥
-
 -- from v the command may be answered so and leave w
-abbrev pub Executes : PlacedText → Command → Reply Standard → PlacedText → Type 0
-Executes v (New s) reply w = (reply ≡ Done) × (made standard (text_of s.now) ≡ Some w)
-Executes v Static reply w = (reply ≡ Done) × (w.placement ≡ borrowed w.text) × (w.text ≡ replicate 30 97)
-Executes v (WithCapacity n) reply w = (reply ≡ Done) × (with_room standard n ≡ Some w)
-Executes v (CloneFrom s) reply w = (u : PlacedText) × (made standard (text_of s.now) ≡ Some u) × Clones v u reply w
-Executes v (Edit edit) reply w = Step standard v edit reply w
+abbrev pub Executes : Growth → PlacedText → Command → Reply Standard → PlacedText → Type 0
+Executes g v (New s) reply w = (reply ≡ Done) × (made g (text_of s.now) ≡ Some w)
+Executes g v Static reply w = (reply ≡ Done) × (w.placement ≡ borrowed w.text) × (w.text ≡ replicate 30 97)
+Executes g v (WithCapacity n) reply w = (reply ≡ Done) × (with_room g n ≡ Some w)
+Executes g v (CloneFrom s) reply w =
+    (source : Bor PlacedText) × (made g (text_of s.now) ≡ Some source.now) × Step g v (edits.CloneFrom source) reply w
+Executes g v (Edit edit) reply w = Step g v edit reply w
+
+-- the command makes a new value, which asks for a heap buffer, so that it may be refused
+abbrev pub command_asks : Command → Bool
+command_asks (New s) = new_room_asks (length s.now)
+command_asks Static = false
+command_asks (WithCapacity n) = new_room_asks n
+command_asks (CloneFrom s) = new_room_asks (length s.now)
+command_asks (Edit edit) = false

@@ -10,7 +10,7 @@ use std::io;
 use std::io::{BufRead, BufReader, BufWriter, Read, Write};
 
 /// Reads commands from `reader`, one a line, and writes what they answer to `writer`. Answers 0 at the end of the
-/// input, and 1 where reading or writing fails or no memory is found to read a line.
+/// input, and 1 where reading or writing fails or no memory is found to begin or to read a line.
 ///
 /// Each command gives two lines: its answer, and the value as `PLACE LENGTH CAPACITY TEXT`. A line that cannot be read
 /// gives the one line `?` and changes nothing.
@@ -31,7 +31,7 @@ fn answer_lines<R: Read, W: Write>(
 ) -> io::Result<()> {
     let lines = BufReader::new(alloc, reader)?.split(alloc, b'\n');
     let mut writer = BufWriter::new(alloc, writer)?;
-    let mut session = Session::new(alloc);
+    let mut session = Session::new(alloc)?;
     for line in lines {
         answer_line(&mut session, line?.as_slice(), &mut writer)?;
         writer.flush()?;

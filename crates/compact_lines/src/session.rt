@@ -1,14 +1,14 @@
 //! The one value that the commands work on.
-ghost use Rattle.std.specs.Prelude.{◌≡◌, [], IfOk, OnErr};
+ghost use Rattle.std.specs.Prelude.{◌≡◌, [], IfOk, OnErr, IsTrue};
 ghost use Rattle.compact_str.specs.Value.{placed};
 ghost use Rattle.compact_str.specs.Capacity.{inlined};
 ghost use Rattle.compact_edit.specs.Steps.{Step};
-ghost use Rattle.compact_lines.specs.Sessions.{standard, Executes};
+ghost use Rattle.compact_lines.specs.Sessions.{Executes, command_asks};
 
 use crate::command::Command;
 use compact_edit::{Edit, Reply, run};
-use compact_str::{CompactString, ReserveError, Standard};
-use std::alloc::Global;
+use compact_str::{CompactString, Policy, ReserveError, Standard};
+use std::alloc::{AllocError, Global};
 use std::marker::Model;
 
 /// What the command `static` makes a value of.
@@ -23,23 +23,26 @@ pub struct Session {
 }
 
 impl Model for Session {
+    ghost use Rattle.std.specs.Prelude.{◌≡◌, ◌≤◌, [], vec_capacity};
     ghost use Rattle.compact_str.specs.Value.{PlacedText};
 
     ghost Value = { PlacedText };
 
     ghost view = { λ s. s.value };
+
+    ghost invariant = { λ s. (s.replies.items ≡ []) × (1 ≤ vec_capacity s.replies) };
 }
 
 impl Session {
-    /// Begins with the empty value, inline.
-    pub fn new(alloc: Global) -> Self
-        ensures { result ≡ placed [] inlined }
+    /// Begins with the empty value, inline. An error says that no memory was found for a reply.
+    pub fn new(alloc: Global) -> Result<Self, AllocError>
+        ensures { IfOk result (λ session. session ≡ placed [] inlined) }
     {
-        Session {
+        Ok(Session {
             alloc,
             value: CompactString::default(alloc),
-            replies: Vec::new(alloc),
-        }
+            replies: Vec::with_capacity(alloc, 1)?,
+        })
     }
 
     /// The value as it is now.
@@ -49,10 +52,11 @@ impl Session {
         &self.value
     }
 
-    /// Does what `command` asks for. An error says that room was refused, and the value is as it was.
+    /// Does what `command` asks for. An error says that the value it makes was refused, of which only `new`, `cap` and
+    /// `clonefrom` make one, and the session's value is as it was.
     pub fn execute(&mut self, command: Command) -> Result<Reply<Standard>, ReserveError>
-        ensures ok { IfOk result (λ reply. Executes self.old command.entry reply self.new) }
-        ensures err { OnErr result (self.new ≡ self.old) }
+        ensures ok { IfOk result (λ reply. Executes ⟦<Standard as Policy>⟧.growth self.old command.entry reply self.new) }
+        ensures err { OnErr result ((self.new ≡ self.old) × IsTrue (command_asks command.entry)) }
     {
         match command {
             Command::New(text) => {
@@ -69,21 +73,21 @@ impl Session {
             }
             Command::CloneFrom(text) => {
                 let source = CompactString::new(self.alloc, text)?;
-                self.edit(Edit::CloneFrom(&source))
+                Ok(self.edit(Edit::CloneFrom(&source)))
             }
-            Command::Edit(edit) => self.edit(edit),
+            Command::Edit(edit) => Ok(self.edit(edit)),
         }
     }
 
-    /// Runs one edit.
-    fn edit(&mut self, edit: Edit<Standard>) -> Result<Reply<Standard>, ReserveError>
-        ensures ok { IfOk result (λ reply. Step standard self.old edit.entry reply self.new) }
-        ensures err { OnErr result (self.new ≡ self.old) }
+    /// Runs one edit, for whose reply there is room.
+    fn edit(&mut self, edit: Edit<Standard>) -> Reply<Standard>
+        ensures { Step ⟦<Standard as Policy>⟧.growth self.old edit.entry result self.new }
     {
-        self.replies.clear();
-        run(&mut self.value, &[edit], &mut self.replies)?;
+        let Ok(()) = run(&mut self.value, &[edit], &mut self.replies) else {
+            unreachable!()
+        };
         match self.replies.pop() {
-            Some(reply) => Ok(reply),
+            Some(reply) => reply,
             None => unreachable!(),
         }
     }

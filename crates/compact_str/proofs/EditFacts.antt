@@ -4,7 +4,7 @@ use Rattle.compact_repr.proofs.Changes.{pushed-text}
 use Rattle.compact_repr.proofs.Cuts.{boundary-within, size-after}
 use Rattle.compact_str.proofs.Positions.{truncated-last, boundary-next, after-next, truncated-boundary, truncated-text, boundary-cut, replaced-start, replaced-end}
 use Rattle.compact_str.proofs.Rooms.{pushed-sure, pushed-bytes}
-use Rattle.compact_str.proofs.Repeats.{times-none, times-one}
+use Rattle.compact_str.proofs.Repeats.{repeated_text-none, repeated_text-one}
 
 -- of an append
 pub ruleset append_facts = (empty_text, pushed-text, pushed-sure, pushed-bytes)
@@ -14,4 +14,4 @@ pub ruleset position_facts =
     (boundary-within, size-after, truncated-last, boundary-next, after-next, truncated-boundary, truncated-text, boundary-cut, replaced-start, replaced-end)
 
 -- of a repetition
-pub ruleset repeat_facts = (times-none, times-one)
+pub ruleset repeat_facts = (repeated_text-none, repeated_text-one)

@@ -1,22 +1,23 @@
 -- For crates that call this one: what the clauses of several calls give together. Name it at the caller, as
 -- `#[tactic(auto, using(compact_str::proofs::ForCallers::for_callers))]`.
-use Rattle.std.proofs.Common.{◌≡◌, ℕ, ◌+◌, ◌-◌, ◌*◌, ◌<◌, ◌≤◌, List, [], ◌∷◌, ◌++◌, length, drop, take, refl, ap, sym, subst, ◌∙◌, arith, append_assoc, append-nil}
-use Rattle.std.proofs.lemmas.Str.{chars-nil, chars-append, chars_past_char, IsUtf8-nil, IsUtf8-append, IsUtf8-drop}
+use Rattle.std.proofs.Common.{◌≡◌, ℕ, ◌+◌, ◌-◌, ◌*◌, ◌^◌, ◌<◌, ◌≤◌, List, [], ◌∷◌, ◌++◌, length, drop, take, refl, ap, sym, subst, ◌∙◌, arith, append_assoc, append-nil}
+use Rattle.std.proofs.lemmas.Str.{chars-nil, chars-append, chars_past_char, IsUtf8-nil, chars-IsAscii, IsUtf8-append, IsUtf8-drop, IsUtf8-from_ascii}
 use Rattle.std.proofs.lemmas.Bool.Decides.{nat_tests}
 use Rattle.std.specs.Char.{len_utf8, encode_utf8}
-use Rattle.std.specs.Fmt.{WritesInCalls}
+use Rattle.std.proofs.lemmas.Fmt.{IsAscii-decimal}
+use Rattle.std.specs.Fmt.{WritesInCalls, decimal}
 use Rattle.std.specs.Str.{IsUtf8, IsCharBoundary, chars, chars_after}
 use Rattle.std.specs.List.{FoldsTo, concat}
 use Rattle.std.specs.Str.Pattern.{HasCharAt}
-use Rattle.compact_repr.specs.Text.{size, utf8, text_of}
-use Rattle.compact_repr.specs.Cut.{IsCut, IsBoundary, before, after, replaced_text}
+use Rattle.compact_repr.specs.Text.{text_of}
+use Rattle.compact_repr.specs.Cut.{IsBoundary, before, after}
 use Rattle.compact_repr.specs.Value.{PlacedText}
 use Rattle.compact_repr.specs.Capacity.{Growth}
 use Rattle.compact_str.specs.Edits.{Writes}
-use Rattle.compact_repr.proofs.Texts.{length-utf8, utf8-text_of, size-text_of, size-append, empty_text}
-use Rattle.compact_repr.proofs.Changes.{pushed-text}
-use Rattle.compact_repr.proofs.Cuts.{before-after, before-cut, after-cut, boundary-text, text_of-take, text_of-drop, boundary-within, size-before, size-after}
-use Rattle.compact_str.proofs.Positions.{before-before}
+pub use Rattle.compact_repr.proofs.Texts.{length-utf8, utf8-text_of, size-text_of, size-append, empty_text}
+pub use Rattle.compact_repr.proofs.Changes.{pushed-text}
+pub use Rattle.compact_repr.proofs.Cuts.{before-after, before-cut, after-cut, boundary-text, text_of-take, text_of-drop, boundary-within, size-before, size-after}
+pub use Rattle.compact_str.proofs.Positions.{before-before, boundary-seam}
 
 -- the parts that a formatter wrote are a text together, which is joined
 written-parts : (g : Growth) (v w : PlacedText) (parts : List (List ℕ)) → FoldsTo (Writes g) v parts w → IsUtf8 (concat parts) × (w.text ≡ v.text ++ text_of (concat parts))
@@ -25,9 +26,9 @@ written-parts g v w (part ∷ parts) (x, first, rest) =
     let others = written-parts g x w parts rest in (
       IsUtf8-append part (concat parts) first.is_text others.0,
       others.1
-      ∙ ap (λ t. t ++ text_of (concat parts)) (pushed-text g v x (text_of part) first.value)
-      ∙ append_assoc v.text (text_of part) (text_of (concat parts))
-      ∙ ap (λ t. v.text ++ t) (sym (chars-append part (concat parts) first.is_text)),
+          ∙ ap (λ t. t ++ text_of (concat parts)) (pushed-text g v x (text_of part) first.value)
+          ∙ append_assoc v.text (text_of part) (text_of (concat parts))
+          ∙ ap (λ t. v.text ++ t) (sym (chars-append part (concat parts) first.is_text)),
     )
 
 pub written-text : (g : Growth) (v w : PlacedText) (bytes : List ℕ) → WritesInCalls (Writes g) v bytes w → w.text ≡ v.text ++ text_of bytes
@@ -57,12 +58,9 @@ pub text_of-four : (a b c d : ℕ) (bytes : List ℕ) → 240 ≤ a
 unfolding chars
 text_of-four a b c d bytes h = grind (arith, nat_tests, last-byte)
 
--- where `find` found a character the text may be cut before it and behind it, and what stands from there on is the
--- character and the rest
-pub found-boundary : (t s : List ℕ) (c i j : ℕ) → HasCharAt c s i j → text_of s ≡ t → IsUtf8 s → IsCharBoundary s i → IsBoundary t i
-found-boundary t s c i j h e u k = boundary-text s i e u k
-
-pub found-behind : (t s : List ℕ) (c i j k : ℕ) → HasCharAt c s i j → text_of s ≡ t → IsUtf8 s → k ≡ i + len_utf8 c → IsBoundary t k
+-- where `find` found a character, what stands from there on is the character and the rest; that there are boundaries
+-- before and behind it, `as_str` says
+found-behind : (t s : List ℕ) (c i j k : ℕ) → HasCharAt c s i j → text_of s ≡ t → IsUtf8 s → k ≡ i + len_utf8 c → IsBoundary t k
 found-behind t s c i j k h e u is = boundary-text s k e u (subst (λ (n : ℕ). IsCharBoundary s n) (sym is) h.after)
 
 pub found-text : (t s : List ℕ) (c i j k : ℕ) → HasCharAt c s i j → text_of s ≡ t → IsUtf8 s → IsCharBoundary s i → k ≡ i + len_utf8 c
@@ -76,4 +74,33 @@ found-text t s c i j k h e u b is =
     ∙ ap (λ x. c ∷ x) (text_of-drop s k e u (found-behind t s c i j k h e u is)) in
     before-after t i ∙ ap (λ x. before t i ++ x) rest
 
-pub ruleset for_callers = (length-utf8, utf8-text_of, size-text_of, size-append, chars-nil, chars-append, IsUtf8-append, written-text, text_of-one, text_of-two, text_of-three, text_of-four, append_assoc, before-cut, after-cut, before-before, boundary-within, found-text)
+-- a number that is shown is its own text
+pub text_of-decimal : (n : ℕ) → n < 2 ^ 64 → text_of (decimal n) ≡ decimal n
+text_of-decimal n h = chars-IsAscii (decimal n) (IsAscii-decimal n h)
+
+pub text_of-decimal_append : (n : ℕ) (bytes : List ℕ) → n < 2 ^ 64 → text_of (decimal n ++ bytes) ≡ decimal n ++ text_of bytes
+text_of-decimal_append n bytes h =
+    chars-append (decimal n) bytes (IsUtf8-from_ascii (decimal n) (IsAscii-decimal n h)) ∙ ap (λ t. t ++ text_of bytes) (text_of-decimal n h)
+
+pub ruleset for_callers = (
+  length-utf8,
+  utf8-text_of,
+  size-text_of,
+  size-append,
+  chars-nil,
+  chars-append,
+  IsUtf8-append,
+  append_assoc,
+  before-cut,
+  after-cut,
+  before-before,
+  boundary-within,
+  written-text,
+  found-text,
+  text_of-one,
+  text_of-two,
+  text_of-three,
+  text_of-four,
+  text_of-decimal,
+  text_of-decimal_append,
+)

@@ -4,3 +4,4 @@ pub mod Repeats
 pub mod EditFacts
 pub mod LawLemmas
 pub mod ForCallers
+pub mod Examples

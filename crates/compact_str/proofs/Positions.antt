@@ -1,13 +1,13 @@
 -- What stands round a position of a text.
-use Rattle.std.proofs.Common.{◌≡◌, Some, ℕ, ◌+◌, ◌-◌, ◌<◌, ◌≤◌, List, [], ◌∷◌, ◌++◌, refl, ap, sym, ◌∙◌, arith, append_assoc, append-nil}
+use Rattle.std.proofs.Common.{◌≡◌, Some, true, false, ℕ, ◌+◌, ◌-◌, ◌<◌, ◌≤◌, List, [], ◌∷◌, ◌++◌, refl, ap, sym, ◌∙◌, arith, append_assoc, append-nil}
 use Rattle.std.proofs.lemmas.Grind.{common_steps}
 use Rattle.std.proofs.lemmas.Bool.{cond-true, cond-false, lt-leb, le-leb}
 use Rattle.std.proofs.lemmas.Bool.Decides.{nat_tests}
 use Rattle.std.proofs.lemmas.Str.{len_utf8_bounds}
-use Rattle.std.specs.Char.{len_utf8}
+use Rattle.std.specs.Char.{len_utf8, is_ascii}
 use Rattle.compact_repr.specs.Text.{size}
 use Rattle.compact_repr.specs.Cut.{IsCut, IsBoundary, before, after, replaced_text}
-use Rattle.compact_repr.specs.Value.{PlacedText, placed}
+use Rattle.compact_repr.specs.Value.{PlacedText, placed, is_static}
 use Rattle.compact_repr.specs.Capacity.{Growth, kept, owned}
 use Rattle.compact_repr.specs.Change.{reserved, truncated, made_owned}
 use Rattle.compact_str.specs.Edits.{Removes}
@@ -109,3 +109,17 @@ removed g v u w rest p c n h e k o s =
     let text = made_owned-text g v u o in
     let cut : replaced_text u.text p (p + n) [] ≡ before v.text p ++ rest = rw (text, k, after-next v.text rest p c h e, append-nil) refl in
     (rest, e, rw (made_owned-placement g v u o) (rw (s, cut) refl))
+
+-- an ASCII character takes one byte
+ascii-width : (c : ℕ) → is_ascii c ≡ true → len_utf8 c ≡ 1
+ascii-width c e = grind (arith, common_steps)
+
+-- an owned value that is cut round an ASCII character, in place
+pub removed-in_place : (g : Growth) (v w : PlacedText) (rest : List ℕ) (p c : ℕ) → IsBoundary v.text p → after v.text p ≡ c ∷ rest → is_ascii c ≡ true
+    → is_static v.placement.place ≡ false → w ≡ placed (replaced_text v.text p (p + 1) []) v.placement → Removes g v p c w × (after v.text p ≡ c ∷ after w.text p)
+removed-in_place g v w rest p c h e a o s =
+    let next : after v.text (p + 1) ≡ rest = ap (λ (n : ℕ). after v.text (p + n)) (sym (ascii-width c a)) ∙ after-next v.text rest p c h e in
+    let cut : replaced_text v.text p (p + 1) [] ≡ before v.text p ++ rest = rw (next, append-nil) refl in
+    let owned_is : owned g v ≡ Some v.placement = rw o refl in
+    let behind : after w.text p ≡ rest = ap (λ (x : PlacedText). after x.text p) s ∙ after-removed v.text p (p + 1) h ∙ next in
+    ((rest, e, rw (owned_is, s, cut) refl), e ∙ ap (λ x. c ∷ x) (sym behind))

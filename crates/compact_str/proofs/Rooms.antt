@@ -1,10 +1,10 @@
 -- What an append gives besides the text: the room that is left, and the bytes.
-use Rattle.std.proofs.Common.{◌≡◌, Some, ℕ, ◌+◌, ◌≤◌, List, [], ◌++◌, refl, ap, ◌∙◌, arith}
+use Rattle.std.proofs.Common.{◌≡◌, Some, ℕ, ◌≤◌, List, ◌++◌, ap, ◌∙◌, arith}
 use Rattle.std.proofs.lemmas.Grind.{common_steps}
 use Rattle.std.proofs.lemmas.Str.{encodes-append, encodes-chars}
 use Rattle.std.specs.Str.{IsUtf8}
 use Rattle.std.specs.Prelude.{max, if◌then◌else◌}
-use Rattle.compact_repr.specs.Text.{size, utf8, text_of}
+use Rattle.compact_repr.specs.Text.{utf8, text_of}
 use Rattle.compact_repr.specs.Value.{Placement, PlacedText, is_static}
 use Rattle.compact_repr.specs.Capacity.{Growth, room}
 use Rattle.compact_repr.specs.Change.{pushed}

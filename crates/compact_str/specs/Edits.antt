@@ -13,14 +13,14 @@ pub record Writes (g : Growth) (v : PlacedText) (bytes : List ℕ) (w : PlacedTe
   pub value : pushed g v (text_of bytes) ≡ Some w
   pub spells : utf8 w.text ≡ utf8 v.text ++ bytes
 
--- v with s put in at p, once there is room for s; for an empty s too
+-- v with s put in at a position, once there is room for s; for an empty s too
 abbrev pub inserted : Growth → PlacedText → ℕ → List ℕ → Option PlacedText
-inserted g v p s = option_map (placed (replaced_text v.text p p s)) (room g v (size s))
+inserted g v index s = option_map (placed (replaced_text v.text index index s)) (room g v (size s))
 
--- v made owned, without the character at p, which is c
+-- v made owned, without the character at a position, which is c
 abbrev pub Removes : Growth → PlacedText → ℕ → ℕ → PlacedText → Type 0
-Removes g v p c w =
-    (rest : List ℕ) × (after v.text p ≡ c ∷ rest) × (option_map (placed (before v.text p ++ rest)) (owned g v) ≡ Some w)
+Removes g v index c w =
+    (rest : List ℕ) × (after v.text index ≡ c ∷ rest) × (option_map (placed (before v.text index ++ rest)) (owned g v) ≡ Some w)
 
 -- v without its last character, in its place; an empty v has none
 abbrev pub Pops : PlacedText → Option ℕ → PlacedText → Type 0
@@ -31,34 +31,34 @@ Pops v (Some c) w = (front : List ℕ) × (v.text ≡ front ++ c ∷ []) × (w �
 abbrev pub tail_placement : Growth → PlacedText → List ℕ → Option Placement
 tail_placement g v tail = if is_static v.placement.place then Some (lasting tail) else fresh g tail
 
--- the tail that is split off at p
+-- the tail that is split off at a position
 abbrev pub split_tail : Growth → PlacedText → ℕ → Option PlacedText
-split_tail g v p = let tail = after v.text p in option_map (placed tail) (tail_placement g v tail)
+split_tail g v index = let tail = after v.text index in option_map (placed tail) (tail_placement g v tail)
 
 abbrev pub split_asks : PlacedText → ℕ → Bool
-split_asks v p = not (is_static v.placement.place) && new_room_asks (size (after v.text p))
+split_asks v index = not (is_static v.placement.place) && new_room_asks (size (after v.text index))
 
--- v with what stands from i to j replaced by s: owned where s is no longer than that, else with room for the difference
+-- v with what stands from one position to another replaced by s: owned where s is no longer than that, else with room for the difference
 abbrev pub replaced : Growth → PlacedText → ℕ → ℕ → List ℕ → Option PlacedText
-replaced g v i j s =
-    option_map (placed (replaced_text v.text i j s)) (if nat_le (size s) (j - i) then owned g v else room g v (size s - (j - i)))
+replaced g v start end s =
+    option_map (placed (replaced_text v.text start end s)) (if nat_le (size s) (end - start) then owned g v else room g v (size s - (end - start)))
 
 abbrev pub replace_asks : PlacedText → ℕ → ℕ → List ℕ → Bool
-replace_asks v i j s = if nat_le (size s) (j - i) then own_asks v else room_asks v (size s - (j - i))
+replace_asks v start end s = if nat_le (size s) (end - start) then own_asks v else room_asks v (size s - (end - start))
 
 -- t so many times
-abbrev pub times : ℕ → List ℕ → List ℕ
-times zero t = []
-times (suc n) t = t ++ times n t
+abbrev pub repeated_text : ℕ → List ℕ → List ℕ
+repeated_text zero t = []
+repeated_text (suc n) t = t ++ repeated_text n t
 
 -- v is copied when it is repeated n times: once, and not empty
-abbrev pub is_copied : PlacedText → ℕ → Bool
-is_copied v n = nat_eq n 1 && not (nat_eq (size v.text) 0)
+abbrev pub repeats_by_copy : PlacedText → ℕ → Bool
+repeats_by_copy v n = nat_eq n 1 && not (nat_eq (size v.text) 0)
 
 -- v's text n times: a copy, or with room made anew, which is inline where the outcome is empty
 abbrev pub repeated : Growth → PlacedText → ℕ → Option PlacedText
 repeated g v n =
-    option_map (placed (times n v.text)) (if is_copied v n then copied g v else new_room g (size v.text * n))
+    option_map (placed (repeated_text n v.text)) (if repeats_by_copy v n then copied g v else new_room g (size v.text * n))
 
 abbrev pub repeat_asks : PlacedText → ℕ → Bool
-repeat_asks v n = if is_copied v n then copy_asks v else new_room_asks (size v.text * n)
+repeat_asks v n = if repeats_by_copy v n then copy_asks v else new_room_asks (size v.text * n)

@@ -10,6 +10,10 @@ mod changed;
 mod cloned;
 #[cfg(test)]
 mod growth;
+mod iterated;
+mod lenders;
+#[cfg(test)]
+mod lent;
 #[cfg(test)]
 mod lines;
 #[cfg(test)]
@@ -25,6 +29,7 @@ mod refused;
 mod refused_edits;
 #[cfg(test)]
 mod refused_positions;
+mod run_callers;
 #[cfg(test)]
 mod sessions;
 #[cfg(test)]
@@ -34,5 +39,9 @@ mod support;
 
 pub use callers::{append_field, keyword, label, record_line};
 pub use plain_callers::{
-    append_pair, append_record, append_report, split_and_join, split_field, type_two, with_suffix,
+    append_count, append_pair, append_record, append_report, split_and_join, split_field, type_two,
+    with_suffix,
 };
+pub use run_callers::{Doubling, bracket, refill, rewrite};
+pub use iterated::{append_fields, names_by_reference, names_of, path, whole};
+pub use lenders::{TooLong, emptied, start_anew, take_out, try_to_empty};

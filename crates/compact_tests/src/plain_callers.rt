@@ -1,6 +1,6 @@
 //! Callers of the edits as the writers of editors, reports and record readers write them. Each is proved from the
 //! contracts of the calls and the facts for callers alone, with no proof of its own.
-ghost use Rattle.std.specs.Prelude.{◌≡◌, ◌+◌, ◌≤◌, [], ◌∷◌, ◌++◌, length, IfOk, OnOk, OnErr, IsOk, MatchOption, codes};
+ghost use Rattle.std.specs.Prelude.{◌≡◌, ◌+◌, ◌≤◌, [], ◌∷◌, ◌++◌, length, IfOk, OnOk, OnErr, IsOk, MatchOption, codes, decimal};
 ghost use Rattle.compact_str.specs.Text.{text_of, size};
 ghost use Rattle.compact_str.specs.Cut.{IsBoundary, replaced_text};
 
@@ -14,6 +14,14 @@ pub fn append_report(line: &mut CompactString, name: &str, value: &str) -> fmt::
     ensures { OnOk result (line.new.text ≡ line.old.text ++ text_of name.now ++ codes " → " ++ text_of value.now) }
 {
     write!(line, "{name} → {value}")
+}
+
+/// Appends a count to a report: a name, a colon and the number.
+#[tactic(auto, using(compact_str::proofs::ForCallers::for_callers))]
+pub fn append_count(line: &mut CompactString, name: &str, count: u64) -> fmt::Result
+    ensures { OnOk result (line.new.text ≡ line.old.text ++ text_of name.now ++ codes ": " ++ decimal count) }
+{
+    write!(line, "{name}: {count}")
 }
 
 /// Appends two fields and a comma between them, for which room is made at once: all or, where that is refused, nothing.
@@ -96,4 +104,77 @@ pub fn split_field(field: &mut CompactString) -> Result<Option<CompactString>, R
     let value = field.split_off(at + 1)?;
     field.truncate(at);
     Ok(Some(value))
+}
+
+#[cfg(test)]
+mod tests {
+    use super::*;
+    use crate::support::{assert_heap, assert_inline, copied, empty, letters};
+
+    #[test]
+    fn a_report_is_written_past_ascii(rt: HostRuntime) {
+        let mut line = copied(&rt, rt.alloc(), "§ ");
+        append_report(&mut line, "größe", "7 µm").expect(&rt, "memory");
+        assert_inline(&rt, &line, "§ größe → 7 µm");
+    }
+
+    #[test]
+    fn a_count_is_written_as_its_digits(rt: HostRuntime) {
+        let mut line = copied(&rt, rt.alloc(), "");
+        append_count(&mut line, "ü", 1024).expect(&rt, "memory");
+        assert_inline(&rt, &line, "ü: 1024");
+    }
+
+    #[test]
+    fn a_record_is_appended_in_one_piece(rt: HostRuntime) {
+        let mut line = copied(&rt, rt.alloc(), "a;");
+        append_record(&mut line, "b", "c").expect(&rt, "memory");
+        assert_inline(&rt, &line, "a;b,c");
+    }
+
+    #[test]
+    fn a_pair_is_appended(rt: HostRuntime) {
+        let mut line = empty(&rt, rt.alloc(), 40);
+        append_pair(&mut line, letters(12), letters(13)).expect(&rt, "memory");
+        assert_heap(&rt, &line, 40, 25);
+    }
+
+    #[test]
+    fn a_cursor_goes_on_by_what_is_typed(rt: HostRuntime) {
+        let mut line = copied(&rt, rt.alloc(), "ab");
+        let cursor = type_two(&mut line, 1, 'é', 'x').expect(&rt, "memory");
+        assert_eq!(rt; cursor, 4);
+        assert_inline(&rt, &line, "aéxb");
+    }
+
+    #[test]
+    fn a_split_line_is_joined(rt: HostRuntime) {
+        let mut line = copied(&rt, rt.alloc(), "äb");
+        split_and_join(&mut line, 2).expect(&rt, "memory");
+        assert_inline(&rt, &line, "äb");
+    }
+
+    #[test]
+    fn a_name_has_a_suffix(rt: HostRuntime) {
+        let name = copied(&rt, rt.alloc(), "name");
+        let both = with_suffix(&name, "_1").expect(&rt, "memory");
+        assert_inline(&rt, &name, "name");
+        assert_inline(&rt, &both, "name_1");
+    }
+
+    #[test]
+    fn a_field_is_split_at_its_first_sign(rt: HostRuntime) {
+        let mut field = copied(&rt, rt.alloc(), "clé=a=b");
+        let value = split_field(&mut field).expect(&rt, "memory");
+        assert_inline(&rt, &field, "clé");
+        assert_inline(&rt, &value.expect(&rt, "a value"), "a=b");
+    }
+
+    #[test]
+    fn a_field_with_no_sign_stays(rt: HostRuntime) {
+        let mut field = copied(&rt, rt.alloc(), "clé");
+        let value = split_field(&mut field).expect(&rt, "memory");
+        assert!(rt; value.is_none());
+        assert_inline(&rt, &field, "clé");
+    }
 }

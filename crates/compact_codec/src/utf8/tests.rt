@@ -1,4 +1,4 @@
-use super::{Utf8Fault, first_chunk, judge};
+use super::{Utf8Fault, chunk_at, first_chunk, judge};
 use std::process::Abort;
 
 // The bytes fall into these chunks: a text, and how many bytes are broken after it.
@@ -43,6 +43,7 @@ fn texts_are_taken(rt: HostRuntime) {
 #[test]
 fn faults_are_placed(rt: HostRuntime) {
     assert_fault(&rt, b"\xC0\x80", 0, Some(1));
+    assert_fault(&rt, b"\xE0\x80\x80", 0, Some(1));
     assert_fault(&rt, b"\xF4\x90\x80\x80", 0, Some(1));
     assert_fault(&rt, b"\xE1\x80\x41", 0, Some(2));
     assert_fault(&rt, b"\x61\xE2\x82", 1, None);
@@ -92,20 +93,44 @@ fn each_broken_part_is_one_chunk(rt: HostRuntime) {
     assert_chunks(&rt, b"\x61\xE2\x82", &[("a", 2)]);
     assert_chunks(&rt, b"\xF0\x9F", &[("", 2)]);
     assert_chunks(&rt, b"\xF0\x9F\xC8\x84", &[("", 2), ("\u{204}", 0)]);
-    // An example of the Standard's (3.9, Table 3-8).
+}
+
+// The Standard's examples (3.9, Tables 3-8 to 3-11): forms that are too long, surrogates, other bytes that begin
+// no sequence, and sequences cut short.
+#[test]
+fn the_examples_of_the_standard(rt: HostRuntime) {
+    let one = ("", 1);
     assert_chunks(
         &rt,
-        b"\x61\xF1\x80\x80\xE1\x80\xC2\x62\x80\x63\x80\xBF\x64",
-        &[
-            ("a", 3),
-            ("", 2),
-            ("", 1),
-            ("b", 1),
-            ("c", 1),
-            ("", 1),
-            ("d", 0),
-        ],
+        b"\xC0\xAF\xE0\x80\xBF\xF0\x81\x82\x41",
+        &[one, one, one, one, one, one, one, one, ("A", 0)],
     );
+    assert_chunks(
+        &rt,
+        b"\xED\xA0\x80\xED\xBF\xBF\xED\xAF\x41",
+        &[one, one, one, one, one, one, one, one, ("A", 0)],
+    );
+    assert_chunks(
+        &rt,
+        b"\xF4\x91\x92\x93\xFF\x41\x80\xBF\x42",
+        &[one, one, one, one, one, ("A", 1), one, ("B", 0)],
+    );
+    assert_chunks(
+        &rt,
+        b"\xE1\x80\xE2\xF0\x91\x92\xF1\xBF\x41",
+        &[("", 2), ("", 1), ("", 3), ("", 2), ("A", 0)],
+    );
+}
+
+#[test]
+fn a_chunk_is_made_from_its_fault(rt: HostRuntime) {
+    let Err(fault) = judge(b"\x61\xC0\x80") else {
+        panic!(rt; "C0 is no text");
+    };
+    let chunk = chunk_at(b"\x61\xC0\x80", fault);
+    assert!(rt; chunk.text == "a");
+    assert!(rt; chunk.broken == b"\xC0".as_slice());
+    assert!(rt; chunk.rest == b"\x80".as_slice());
 }
 
 // How many of all inputs of two bytes are texts, and how many have each fault; by another decoder.

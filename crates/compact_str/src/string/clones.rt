@@ -17,7 +17,10 @@ impl<P: Policy> Clone for PolicyString<P> {
     ghost is_infallible = { λ v. IsTrue (not (copy_asks v)) };
 
     /// A copy with the same text: of an inline or static value as it stands, which takes no memory, and of a heap
-    /// value as `new` makes it.
+    /// value as `new` makes it, with no room but for the text.
+    ///
+    /// An error says that `new` was refused; it comes only of a heap value of more than 24 bytes. A clone of `"abc"` is
+    /// `"abc"` inline.
     #[inline(always)]
     fn clone(&self) -> Result<Self, AllocError> {
         match self.repr.try_clone() {
@@ -31,7 +34,9 @@ impl<P: Policy> PolicyString<P> {
     /// Makes this value a clone of `source`: of an inline or static one with its place and capacity. The text of a
     /// heap one goes where this value's text stood, if it has that capacity, else as `new` places it.
     ///
-    /// An error says that no memory was found, or that the capacity would be past 2^56 - 2; then nothing has changed.
+    /// An error says that no memory was found, or that the capacity would be past 2^56 - 2; then nothing has changed. It
+    /// comes only of a heap source whose text has neither 24 bytes at most nor room in what this value owns. A target of
+    /// capacity 100 on the heap keeps that for a heap source of 30 bytes.
     pub fn clone_from(&mut self, source: &Self) -> Result<(), ReserveError>
         ensures ok { OnOk result (cloned_from P.growth self.old source.now ≡ Some self.new) }
         ensures text { OnOk result (self.new.text ≡ source.now.text) }

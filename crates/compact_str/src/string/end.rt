@@ -15,7 +15,9 @@ use std::fmt;
 impl<P: Policy> PolicyString<P> {
     /// Appends `text`. An empty one changes nothing, and for any other room is made as `reserve` makes it.
     ///
-    /// An error says that no memory was found, or that the capacity would be past 2^56 - 2; then nothing has changed.
+    /// An error says that no memory was found, or that the capacity would be past 2^56 - 2; then nothing has changed. It
+    /// never comes where there is room, and an append gives no room back: what has room for this text and for more has
+    /// room for the rest. `"ab"` and `"c"` give `"abc"`.
     #[inline]
     #[tactic(auto, using(compact_repr::proofs::TextFacts::text_facts, crate::proofs::EditFacts::append_facts))]
     pub fn push_str(&mut self, text: &str) -> Result<(), ReserveError>
@@ -28,9 +30,10 @@ impl<P: Policy> PolicyString<P> {
         self.repr.push_str(text)
     }
 
-    /// Appends a character, as `push_str` appends its text.
+    /// Appends a character, 1 to 4 bytes, as `push_str` appends its text.
     ///
     /// An error says that no memory was found, or that the capacity would be past 2^56 - 2; then nothing has changed.
+    /// `"caf"` and `'é'` give `"café"`.
     #[inline]
     pub fn push(&mut self, character: char) -> Result<(), ReserveError>
         ensures ok { OnOk result (pushed P.growth self.old (character ∷ []) ≡ Some self.new) }
@@ -43,8 +46,10 @@ impl<P: Policy> PolicyString<P> {
         self.push_str(encoded(character, &mut bytes))
     }
 
-    /// Appends `text` to a value that is handed in, and hands it out again; where `push_str` is refused the value comes
-    /// back in the error, as it was.
+    /// Appends `text` to a value that is handed in, as `push_str` does, and hands it out again.
+    ///
+    /// An error says why `push_str` refused, and hands the value back as it was.
+    /// `CompactString::new(alloc, "ab")?.add_str("c")` is `"abc"`.
     pub fn add_str(mut self, text: &str) -> Result<Self, Refused<Self>>
         ensures ok { IfOk result (λ v. pushed P.growth self (text_of text.now) ≡ Some v) }
         ensures text { IfOk result (λ v. v.text ≡ self.text ++ text_of text.now) }
@@ -58,9 +63,10 @@ impl<P: Policy> PolicyString<P> {
         }
     }
 
-    /// Takes the last character off and answers it; `None` of the empty text.
+    /// Takes the last character off and answers it; `None` of the empty text, which stays.
     ///
-    /// The place stays, and so does the capacity of an inline or heap value.
+    /// The place stays, and so does the capacity of an inline or heap value; a static value stays static, and is shorter.
+    /// Of `"café"` it answers `'é'` and leaves `"caf"`.
     #[inline]
     #[tactic(auto, using(compact_repr::proofs::TextFacts::text_facts, crate::proofs::EditFacts::position_facts))]
     pub fn pop(&mut self) -> Option<char>
@@ -75,7 +81,8 @@ impl<P: Policy> PolicyString<P> {
     /// Keeps the first `len` bytes, which end between two characters; from the length on nothing changes.
     ///
     /// The place stays, and so does the capacity of an inline or heap value. Whether `len` is such a position,
-    /// `is_char_boundary` tells.
+    /// `is_char_boundary` tells; the length that a value had before an append is one, and gives the old text back.
+    /// Of `"café"` the first 3 bytes are `"caf"`.
     #[inline]
     #[tactic(auto, using(compact_repr::proofs::TextFacts::text_facts, crate::proofs::EditFacts::position_facts))]
     pub fn truncate(&mut self, len: usize)
@@ -87,7 +94,8 @@ impl<P: Policy> PolicyString<P> {
         self.repr.truncate(len);
     }
 
-    /// Leaves the empty text. The place stays, and so does the capacity of an inline or heap value.
+    /// Leaves the empty text. The place stays, and so does the capacity of an inline or heap value; a static value is
+    /// static with capacity 0.
     #[inline]
     pub fn clear(&mut self)
         ensures value { self.new ≡ cleared self.old }
@@ -100,8 +108,11 @@ impl<P: Policy> PolicyString<P> {
 impl<P: Policy> fmt::Write for PolicyString<P> {
     ghost write_str_gives = { Writes P.growth };
 
+    /// Appends `text` as `push_str` does, so that `write!` and `writeln!` append what they show.
+    ///
+    /// A refusal is an error of `fmt`; then nothing has changed. `write!` itself may have written some of its parts
+    /// before the one that was refused, and `truncate` at the old length takes them off again.
     #[tactic(auto, using(compact_repr::proofs::TextFacts::text_facts, crate::proofs::EditFacts::append_facts))]
-    /// Appends `text` as `push_str` does; a refusal is an error of `fmt`, and nothing has changed.
     fn write_str(&mut self, text: &str) -> fmt::Result
         ensures ok { IsOk result → Writes P.growth self.old text.now self.new }
         ensures text { OnOk result (self.new.text ≡ self.old.text ++ text_of text.now) }
@@ -116,7 +127,7 @@ impl<P: Policy> fmt::Write for PolicyString<P> {
     }
 }
 
-/// The text of one character.
+/// The text of one character, in the 1 to 4 bytes at the front of `bytes`.
 #[inline]
 pub fn encoded(character: char, bytes: &mut [u8; 4]) -> &str
     ensures text { text_of result.now ≡ character ∷ [] }

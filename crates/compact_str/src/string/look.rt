@@ -10,13 +10,13 @@ use compact_repr::Policy;
 use std::alloc::Global;
 
 impl<P: Policy> PolicyString<P> {
-    /// The allocator that gives a heap buffer, as it was handed in when the value was made.
+    /// The allocator that gives a heap buffer: with it another value may be made beside this one.
     #[inline]
     pub fn allocator(&self) -> Global {
         self.repr.allocator()
     }
 
-    /// The text.
+    /// The text. Where its bytes may be cut, as where `find` found a character, there is a boundary of the text.
     ///
     /// `CompactString::new(alloc, "abc")?.as_str()` is `"abc"`.
     #[inline]
@@ -65,7 +65,7 @@ impl<P: Policy> PolicyString<P> {
         self.repr.len()
     }
 
-    /// Whether the text has no character.
+    /// Whether the text has no character, and so no byte.
     #[inline]
     #[tactic(auto, using(crate::proofs::EditFacts::append_facts))]
     pub fn is_empty(&self) -> bool
@@ -74,7 +74,8 @@ impl<P: Policy> PolicyString<P> {
         self.len() == 0
     }
 
-    /// How many bytes have room with no new buffer: 24 of an inline value, the length of a static one.
+    /// How many bytes have room with no new buffer: 24 of an inline value, the length of a static one, and of a heap one
+    /// those of its buffer, as 32 of a new text of 25.
     #[inline]
     pub fn capacity(&self) -> usize
         ensures { result ≡ self.now.placement.capacity }

@@ -18,7 +18,7 @@ use std::borrow::CowStr;
 use std::boxed::BoxedStr;
 
 impl<P: Policy> PolicyString<P> {
-    /// The empty text, inline.
+    /// The empty text, inline, which takes no memory: `CompactString::default(alloc).as_str()` is `""`.
     ///
     /// It is a plain function, since the trait `Default` hands in no allocator.
     #[inline]
@@ -33,8 +33,8 @@ impl<P: Policy> PolicyString<P> {
     /// A copy of `text`: inline up to 24 bytes, which is never refused, else in a heap buffer of 32 bytes or as many
     /// as the text has.
     ///
-    /// An error says that no memory was found, or that the text is longer than 2^56 - 2 bytes.
-    /// `CompactString::new(alloc, "abc")?` is inline.
+    /// An error says that no memory was found, or that the text is longer than 2^56 - 2 bytes; it never comes up to 24
+    /// bytes. `CompactString::new(alloc, "abc")?` is inline with capacity 24, and a text of 25 bytes has capacity 32.
     #[inline]
     pub fn new(alloc: Global, text: &str) -> Result<Self, ReserveError>
         ensures { IsNewOf P.growth text.now result }
@@ -45,7 +45,7 @@ impl<P: Policy> PolicyString<P> {
         }
     }
 
-    /// `new` under its other name.
+    /// `new` under its other name, with the same value and the same error.
     #[inline]
     pub fn try_new(alloc: Global, text: &str) -> Result<Self, ReserveError>
         ensures { IsNewOf P.growth text.now result }
@@ -53,7 +53,7 @@ impl<P: Policy> PolicyString<P> {
         Self::new(alloc, text)
     }
 
-    /// `new` under the name of the trait `FromStr`, which hands in no allocator.
+    /// `new` under the name of the trait `FromStr`, which hands in no allocator; value and error are those of `new`.
     #[inline]
     pub fn from_str(alloc: Global, text: &str) -> Result<Self, ReserveError>
         ensures { IsNewOf P.growth text.now result }
@@ -63,7 +63,8 @@ impl<P: Policy> PolicyString<P> {
 
     /// A text of the program: inline up to 24 bytes, else static, borrowed for ever and not copied.
     ///
-    /// It is never refused.
+    /// It is never refused. `CompactString::const_new(alloc, "abc")` is inline, and a text of 30 bytes is static with
+    /// capacity 30.
     #[inline]
     pub fn const_new(alloc: Global, text: &'static str) -> Self
         ensures { let t = text_of text.now in result ≡ placed t (lasting t) }
@@ -76,7 +77,8 @@ impl<P: Policy> PolicyString<P> {
     /// The empty text with room for `capacity` bytes: inline up to 24, which is never refused, else in a heap buffer
     /// of at least 32.
     ///
-    /// An error says that no memory was found, or that `capacity` is past 2^56 - 2.
+    /// An error says that no memory was found, or that `capacity` is past 2^56 - 2; it never comes up to 24 bytes.
+    /// `CompactString::with_capacity(alloc, 30)?` has capacity 32, and no append up to that is refused.
     pub fn with_capacity(alloc: Global, capacity: usize) -> Result<Self, ReserveError>
         ensures ok { IfOk result (λ v. with_room P.growth capacity ≡ Some v) }
         ensures text { IfOk result (λ v. v.text ≡ []) }
@@ -90,7 +92,7 @@ impl<P: Policy> PolicyString<P> {
         }
     }
 
-    /// `with_capacity` under its other name.
+    /// `with_capacity` under its other name, with the same value and the same error.
     pub fn try_with_capacity(alloc: Global, capacity: usize) -> Result<Self, ReserveError>
         ensures ok { IfOk result (λ v. with_room P.growth capacity ≡ Some v) }
         ensures text { IfOk result (λ v. v.text ≡ []) }
@@ -103,7 +105,8 @@ impl<P: Policy> PolicyString<P> {
 
     /// Takes `text` over with its buffer and capacity, of which nothing is copied, a short text too.
     ///
-    /// It is never refused. A string that has no buffer is inline and empty.
+    /// It is never refused. A string that has a buffer, as every one that is not empty, is on the heap with the string's
+    /// capacity in bytes, even below 24; one that has none is inline and empty.
     pub fn from_string_buffer(text: String) -> Self
         ensures value { let t = text_of (string_bytes text) in result ≡ placed t (if nat_eq (string_capacity text) 0 then inlined else on_heap (string_capacity text)) }
         ensures place { 0 < length (string_bytes text) → IsTrue (is_heap result.placement.place) }
@@ -113,7 +116,10 @@ impl<P: Policy> PolicyString<P> {
         }
     }
 
-    /// A borrowed text as `new`, an owned one as `From<String>`, which is never refused.
+    /// A borrowed text is copied as by `new`, an owned one taken over as by `From<String>`.
+    ///
+    /// An error says that the copy of a borrowed text was refused, as by `new`; it never comes of an owned one, nor up to
+    /// 24 bytes. `CowStr::Borrowed("abc")` gives `"abc"` inline.
     pub fn from_cow(alloc: Global, text: CowStr<'_>) -> Result<Self, ReserveError>
         ensures takes { TakesCow P.growth text.entry result }
         ensures text { IfOk result (λ v. v.text ≡ text_of (cow_str_bytes text.entry)) }
@@ -125,7 +131,10 @@ impl<P: Policy> PolicyString<P> {
         }
     }
 
-    /// A copy of `text` as `new` makes it, which hands `text` back where it is refused.
+    /// A copy of `text` as `new` makes it.
+    ///
+    /// An error says why `new` refused, and hands `text` back as it was; it never comes up to 24 bytes. A box of `"abc"`
+    /// gives `"abc"` inline, and the box is let go.
     pub fn from_boxed_str(alloc: Global, text: BoxedStr) -> Result<Self, Refused<BoxedStr>>
         ensures ok { IfOk result (λ v. made P.growth (text_of (boxed_str_bytes text)) ≡ Some v) }
         ensures text { IfOk result (λ v. v.text ≡ text_of (boxed_str_bytes text)) }
@@ -142,7 +151,8 @@ impl<P: Policy> PolicyString<P> {
 impl<P: Policy> From<String> for PolicyString<P> {
     ghost from_gives = { λ s v. let t = text_of (string_bytes s) in v ≡ placed t (taken_over t (string_capacity s)) };
 
-    /// Takes `text` over: inline up to 24 bytes, else with its buffer and capacity, of which nothing is copied.
+    /// Takes `text` over: inline up to 24 bytes, and its buffer is let go; else with its buffer and its capacity in
+    /// bytes, of which nothing is copied. It is never refused.
     fn from(text: String) -> Self {
         PolicyString {
             repr: Repr::from_string(text),

@@ -28,6 +28,9 @@ impl<P: Policy> PolicyString<P> {
 
     /// Where a range of the text begins and ends, in bytes; `None` exactly of one that ends before it starts, or of which
     /// an end is no boundary.
+    ///
+    /// An excluded start is a byte after the bound, and so is an included end. Of `"äb"` from `Excluded(1)` to
+    /// `Excluded(3)` it answers 2 and 3. The pair serves `replace_range` as `Included` and `Excluded` bounds.
     #[tactic(auto, using(compact_repr::proofs::TextFacts::text_facts, crate::proofs::EditFacts::position_facts))]
     pub fn check_range(&self, start: Bound<usize>, end: Bound<usize>) -> Option<(usize, usize)>
         ensures { MatchOption result (¬ IsRange self.now.text start end) (λ range. IsRange self.now.text start end × (range.0 ≡ range_start start) × (range.1 ≡ range_end self.now.text end)) }
@@ -44,7 +47,9 @@ impl<P: Policy> PolicyString<P> {
     /// Puts `text` in at the boundary `index`, in bytes, once there is room for it; a static value becomes its own even for
     /// an empty text.
     ///
-    /// An error says that no memory was found, or that the capacity would be past 2^56 - 2; then nothing has changed.
+    /// `index` is a boundary after it too, and so is the place behind what was put in. An error says that no memory was
+    /// found, or that the capacity would be past 2^56 - 2; then nothing has changed. It never comes where there is room,
+    /// and none is given back. `"bc"` put into `"ad"` at 1 gives `"abcd"`.
     #[inline]
     pub fn insert_str(&mut self, index: usize, text: &str) -> Result<(), ReserveError>
         requires { IsBoundary self.old.text index }
@@ -66,7 +71,8 @@ impl<P: Policy> PolicyString<P> {
 
     /// Puts a character in at the boundary `index`, in bytes, as `insert_str` puts its text in.
     ///
-    /// An error says that no memory was found, or that the capacity would be past 2^56 - 2; then nothing has changed.
+    /// A cursor goes on by `character.len_utf8()`. An error says that no memory was found, or that the capacity would be
+    /// past 2^56 - 2; then nothing has changed. `'é'` put into `"ab"` at 1 gives `"aéb"`, and 3 is the place behind it.
     #[inline]
     pub fn insert(&mut self, index: usize, character: char) -> Result<(), ReserveError>
         requires { IsBoundary self.old.text index }
@@ -79,17 +85,44 @@ impl<P: Policy> PolicyString<P> {
         ensures succeeds { HasRoomFor self.old (len_utf8 character) → IsOk result }
         ensures err { OnErr result ((self.new ≡ self.old) × IsTrue (room_asks self.old (len_utf8 character))) }
     {
+        // The proof reads from it that the text is short of 2^63 bytes.
+        let _len = self.repr.len();
+        if character.is_ascii() && self.repr.insert_ascii_in_place(index, character as u8) {
+            return Ok(());
+        }
         let mut bytes = [0; 4];
         self.insert_str(index, encoded(character, &mut bytes))
     }
 
-    /// Takes out the character that begins at the boundary `index`, in bytes, and answers it. A static value becomes its
-    /// own first.
+    /// Takes out the character that begins at the boundary `index`, in bytes and short of the length, and answers it. A
+    /// static value becomes its own first.
     ///
-    /// An error says that no memory was found for that; then nothing has changed. An owned value is never refused.
+    /// An error says that no memory was found for that, or that the text is longer than 2^56 - 2 bytes; then nothing has
+    /// changed. It never comes of an owned value, nor of one of at most 24 bytes. Of `"aéb"` at 1 it answers `'é'` and
+    /// leaves `"ab"`.
     #[inline]
     #[tactic(auto, using(compact_repr::proofs::TextFacts::text_facts, crate::proofs::EditFacts::position_facts))]
     pub fn remove(&mut self, index: usize) -> Result<char, ReserveError>
+        requires boundary { IsBoundary self.old.text index }
+        requires within { index < size self.old.text }
+        ensures ok { IfOk result (λ c. Removes P.growth self.old index c self.new) }
+        ensures text { IfOk result (λ c. self.new.text ≡ replaced_text self.old.text index (index + len_utf8 c) []) }
+        ensures character { IfOk result (λ c. after self.old.text index ≡ c ∷ after self.new.text index) }
+        ensures succeeds { IsOwned self.old → IsOk result }
+        ensures succeeds_short { size self.old.text ≤ 24 → IsOk result }
+        ensures err { OnErr result ((self.new ≡ self.old) × IsTrue (own_asks self.old)) }
+    {
+        let character = self.repr.char_at(index);
+        if character.is_ascii() && self.repr.remove_ascii_in_place(index) {
+            return Ok(character);
+        }
+        self.remove_char(index)
+    }
+
+    /// `remove` of any character, in any place.
+    #[inline(never)]
+    #[tactic(auto, using(compact_repr::proofs::TextFacts::text_facts, crate::proofs::EditFacts::position_facts))]
+    fn remove_char(&mut self, index: usize) -> Result<char, ReserveError>
         requires boundary { IsBoundary self.old.text index }
         requires within { index < size self.old.text }
         ensures ok { IfOk result (λ c. Removes P.growth self.old index c self.new) }
@@ -112,7 +145,9 @@ impl<P: Policy> PolicyString<P> {
     /// Replaces a range of the text. A static value becomes its own; one that grows makes room for the difference.
     ///
     /// Whether the bounds are a range of the text, `check_range` tells. An error says that no memory was found, or that
-    /// the capacity would be past 2^56 - 2; then nothing has changed.
+    /// the capacity would be past 2^56 - 2; then nothing has changed. It never comes where there is room for the
+    /// difference, nor of an owned value for a text that is no longer than the range. `"abc"` from `Included(1)` to
+    /// `Excluded(2)` replaced by `"xy"` gives `"axyc"`.
     pub fn replace_range(
         &mut self,
         start: Bound<usize>,
@@ -132,7 +167,7 @@ impl<P: Policy> PolicyString<P> {
         self.replace_between(first, last, text)
     }
 
-    /// Replaces what stands between two boundaries, in bytes.
+    /// Replaces what stands between two boundaries, in bytes, once there is room for the difference.
     #[inline]
     fn replace_between(&mut self, first: usize, last: usize, text: &str) -> Result<(), ReserveError>
         requires order { first ≤ last }
@@ -154,10 +189,12 @@ impl<P: Policy> PolicyString<P> {
         Ok(())
     }
 
-    /// Splits the text at the boundary `index`, in bytes: keeps what stands before it, in its place, and answers the rest. Of a
-    /// static value the rest is static too where it is longer than 24 bytes, and not copied.
+    /// Splits the text at the boundary `index`, in bytes: keeps what stands before it, in its place, and answers the rest.
+    /// Of a static value the rest is static too where it is longer than 24 bytes, and not copied.
     ///
-    /// An error says that no memory was found for the rest; then nothing has changed.
+    /// An error says that no memory was found for the rest, or that it is longer than 2^56 - 2 bytes; then nothing has
+    /// changed. It never comes of a static value, nor where the rest has at most 24 bytes. `"key=value"` at 4 keeps
+    /// `"key="` and answers `"value"`.
     #[tactic(auto, using(compact_repr::proofs::TextFacts::text_facts, crate::proofs::EditFacts::position_facts))]
     pub fn split_off(&mut self, index: usize) -> Result<Self, ReserveError>
         requires { IsBoundary self.old.text index }

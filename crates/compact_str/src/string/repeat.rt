@@ -3,7 +3,7 @@ ghost use Rattle.std.specs.Prelude.{◌≡◌, ◌≤◌, ◌*◌, [], Some, IfO
 ghost use Rattle.compact_repr.specs.Text.{size};
 ghost use Rattle.compact_repr.specs.Value.{placed};
 ghost use Rattle.compact_repr.specs.Capacity.{new_room};
-ghost use Rattle.compact_str.specs.Edits.{repeated, repeat_asks, times};
+ghost use Rattle.compact_str.specs.Edits.{repeated, repeat_asks, repeated_text};
 
 use crate::string::PolicyString;
 use compact_repr::{Policy, ReserveError};
@@ -11,12 +11,12 @@ use compact_repr::{Policy, ReserveError};
 impl<P: Policy> PolicyString<P> {
     /// The text `count` times, one after another, in one buffer: once it is a clone, and an empty outcome is inline.
     ///
-    /// An error says that no memory was found, or that the length would be past 2^56 - 2.
-    /// `"abc"` three times is `"abcabcabc"`.
+    /// An error says that no memory was found, or that the length in bytes would be past 2^56 - 2; it never comes of an
+    /// outcome of at most 24 bytes. `"abc"` three times is `"abcabcabc"`.
     #[tactic(auto, using(compact_repr::proofs::TextFacts::text_facts, crate::proofs::EditFacts::repeat_facts))]
     pub fn repeat(&self, count: usize) -> Result<Self, ReserveError>
         ensures ok { IfOk result (λ v. repeated P.growth self.now count ≡ Some v) }
-        ensures text { IfOk result (λ v. v.text ≡ times count self.now.text) }
+        ensures text { IfOk result (λ v. v.text ≡ repeated_text count self.now.text) }
         ensures succeeds { size self.now.text * count ≤ 24 → IsOk result }
         ensures err { OnErr result (IsTrue (repeat_asks self.now count)) }
     {
@@ -42,7 +42,7 @@ impl<P: Policy> PolicyString<P> {
     fn fill(&mut self, piece: &Self, count: usize)
         requires empty { self.old.text ≡ [] }
         requires room { new_room P.growth (size piece.now.text * count) ≡ Some self.old.placement }
-        ensures { self.new ≡ placed (times count piece.now.text) self.old.placement }
+        ensures { self.new ≡ placed (repeated_text count piece.now.text) self.old.placement }
     {
         for _done in 0..count {
             match self.push_str(piece.as_str()) {

@@ -13,6 +13,7 @@ impl<P: Policy> PolicyString<P> {
     /// An owned value with that room stays as it is. Else the text stands inline where it then fits in 24 bytes, or in
     /// a heap buffer of as many bytes as are needed, or half as much again as the text has, or 32, whichever is most.
     /// An error says that no memory was found, or that the capacity would be past 2^56 - 2; then nothing has changed.
+    /// After `reserve(100)` no append or insertion is refused until 100 bytes have been put in.
     #[inline]
     pub fn reserve(&mut self, additional: usize) -> Result<(), ReserveError>
         ensures ok { OnOk result (reserved P.growth self.old additional ≡ Some self.new) }
@@ -24,7 +25,7 @@ impl<P: Policy> PolicyString<P> {
         self.repr.reserve(additional)
     }
 
-    /// `reserve` under its other name.
+    /// `reserve` under its other name, with the same outcome and the same error.
     #[inline]
     pub fn try_reserve(&mut self, additional: usize) -> Result<(), ReserveError>
         ensures ok { OnOk result (reserved P.growth self.old additional ≡ Some self.new) }
@@ -40,7 +41,7 @@ impl<P: Policy> PolicyString<P> {
     ///
     /// Where that fits in 24 bytes the text moves inline. Else a lower capacity is a new buffer of at least 32 bytes,
     /// and where no memory is found for it all stays as it was. The capacity never rises, and an inline or static
-    /// value stays as it is.
+    /// value stays as it is. A heap text of 30 bytes with capacity 100 has capacity 40 after `shrink_to(40)`.
     pub fn shrink_to(&mut self, min_capacity: usize)
         ensures shrinks { Shrinks P.growth self.old min_capacity self.new }
         ensures text { self.new.text ≡ self.old.text }
@@ -48,7 +49,7 @@ impl<P: Policy> PolicyString<P> {
         self.repr.shrink_to(min_capacity);
     }
 
-    /// `shrink_to(0)`: keeps room for the text alone.
+    /// `shrink_to(0)`: a heap value keeps room for its text alone, and moves inline up to 24 bytes.
     pub fn shrink_to_fit(&mut self)
         ensures shrinks { Shrinks P.growth self.old 0 self.new }
         ensures text { self.new.text ≡ self.old.text }

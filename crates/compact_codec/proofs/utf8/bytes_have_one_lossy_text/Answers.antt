@@ -1,5 +1,5 @@
-use Rattle.compact_codec.proofs.LossyReading.{lossy_text_is}
+use Rattle.compact_codec.proofs.LossyReading.{utf8_lossy_text_is}
 use Rattle.compact_codec.proofs.utf8.bytes_have_one_lossy_text.Goals as goal
 
 pub returns : goal.returns
-returns c = lossy_text_is
+returns c = utf8_lossy_text_is

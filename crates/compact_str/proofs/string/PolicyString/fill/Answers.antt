@@ -4,7 +4,7 @@ use Rattle.compact_repr.specs.Text.{size}
 use Rattle.compact_repr.specs.Value.{PlacedText}
 use Rattle.compact_repr.specs.Capacity.{fits_in_place}
 use Rattle.compact_repr.specs.Change.{pushed, push_asks}
-use Rattle.compact_str.proofs.Repeats.{room_to_fill, push-never_asks, pushed-in_place, times-more}
+use Rattle.compact_str.proofs.Repeats.{room_to_fill, push-never_asks, pushed-in_place, repeated_text-more}
 use Rattle.compact_str.proofs.string.PolicyString.fill.Goals as goal
 
 pub unreachable-requires : goal.unreachable-requires
@@ -18,6 +18,6 @@ loop-done-preserved g c =
     let appended : pushed g.P.Policy.growth c.loop-done.self c.args.piece.now.text ≡ Some c.push_str.new.self = ap (λ (s : List ℕ). pushed g.P.Policy.growth c.loop-done.self s) (sym c.as_str.ensures.text) ∙ c.in-Ok.ensures.ok in
     let in_place = pushed-in_place g.P.Policy.growth c.loop-done.self c.push_str.new.self c.args.piece.now.text appended room in
     record {
-      text = ap (λ (v : PlacedText). v.text) in_place ∙ rw c.loop-done.invariant.text (times-more c.loop-done._done c.args.piece.now.text);
+      text = ap (λ (v : PlacedText). v.text) in_place ∙ rw c.loop-done.invariant.text (repeated_text-more c.loop-done._done c.args.piece.now.text);
       placement = ap (λ (v : PlacedText). v.placement) in_place ∙ c.loop-done.invariant.placement;
     }

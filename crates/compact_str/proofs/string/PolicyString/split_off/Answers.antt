@@ -13,8 +13,8 @@ returns-clause-cut g c =
     let kept : c.truncate.new.self.text ≡ before c.args.self.now.text c.args.index =
     ap (λ (v : PlacedText). v.text) c.truncate.ensures ∙ truncated-text c.self.inside.repr c.args.index ∙ ap (λ (v : PlacedText). before v.text c.args.index) c.self.view_is in
     let tail : c.match-static_tail.repr.text ≡ after c.args.self.now.text c.args.index = elim c.match-static_tail.branch [
-      in-Some w ↦ grind (arith, text_facts, common_steps)
-    | in-None+in_ok-repr-in-None w ↦ grind (arith, text_facts, common_steps)
+      | in-Some w ↦ grind (arith, text_facts, common_steps)
+      | in-None+in_ok-repr-in-None w ↦ grind (arith, text_facts, common_steps)
     ] in
     boundary-cut c.args.self.now.text _ _ c.args.index c.requires kept tail
 

@@ -1,0 +1,161 @@
+-- Worked examples of a step, one for each edit and more where an edit has cases. The values come from the Rust crate and
+-- from the Unicode Standard.
+use Rattle.std.proofs.Common.{◌≡◌, ◌∙◌, ap, inl, inr, lit≤, ◌-◌, ◌++◌, ℕ, ◌∷◌, [], List, Some, None, replicate, refl, arith, lit<}
+use Rattle.std.specs.Borrow.{Bor}
+use Rattle.std.specs.declared.ops.Bound.TheVariants.{Included, Excluded}
+use Rattle.std.specs.Char.{len_utf8}
+use Rattle.std.proofs.lemmas.Bool.{cond-true, cond-false, le-leb, lt-leb}
+use Rattle.std.proofs.lemmas.Str.{len_utf8_bounds}
+use Rattle.compact_str.specs.Text.{size, text_of}
+use Rattle.compact_str.specs.Cut.{IsBoundary, before}
+use Rattle.compact_str.specs.Value.{PlacedText, placed}
+use Rattle.compact_str.specs.Capacity.{Growth, inlined, on_heap, borrowed}
+use Rattle.compact_str.specs.declared.ReserveError.{ReserveError}
+use Rattle.compact_str.specs.declared.Standard.{Standard}
+use Rattle.compact_edit.specs.declared.edit.Edit.{Edit}
+use Rattle.compact_edit.specs.declared.edit.Reply.{Reply}
+use Rattle.compact_edit.specs.declared.edit.Edit.TheVariants.{Push, PushStr, Pop, Insert, InsertStr, Remove, Truncate, Clear, SplitOff, ReplaceRange, Reserve, ShrinkTo, ShrinkToFit, Repeat, CloneFrom}
+use Rattle.compact_edit.specs.declared.edit.Reply.TheVariants.{Done, Char, Text, BadPosition, Refused}
+use Rattle.compact_edit.specs.Steps.{Step}
+
+-- a heap capacity of at least 32 bytes, half as much again at each growth
+abbrev half_more : Growth
+half_more = record { least = 32; numerator = 3; denominator = 2 }
+
+-- so many letters `a`
+abbrev letters : ℕ → List ℕ
+letters n = replicate n 97
+
+abbrev inline_text : List ℕ → PlacedText
+inline_text t = placed t inlined
+
+abbrev heap_letters : ℕ → ℕ → PlacedText
+heap_letters n capacity = placed (letters n) (on_heap capacity)
+
+abbrev static_letters : ℕ → PlacedText
+static_letters n = placed (letters n) (borrowed (letters n))
+
+-- an a with two dots, of two bytes, and a musical clef, of four
+abbrev dotted : ℕ
+dotted = 0xE4
+
+abbrev clef : ℕ
+clef = 0x1D11E
+
+abbrev mixed : PlacedText
+mixed = inline_text (dotted ∷ 0x62 ∷ clef ∷ [])
+
+abbrev two : PlacedText
+two = inline_text (dotted ∷ clef ∷ [])
+
+-- an edit, its reply and what it leaves, by that growth
+abbrev Steps : PlacedText → Edit Standard → Reply Standard → PlacedText → Type 0
+Steps v edit reply w = Step half_more v edit reply w
+
+-- what stands before a boundary takes up all the bytes before it
+size-before : (a b : List ℕ) (p : ℕ) → size a ≡ p → size (before (a ++ b) p) ≡ p
+size-before [] [] p e = e
+size-before [] (c ∷ cs) p e = let wide = len_utf8_bounds c in rw (cond-false _ _ _ (lt-leb (len_utf8 c) p (omega (arith, wide.0, e)))) e
+size-before (c ∷ cs) b p e =
+    let rest = size-before cs b (p - len_utf8 c) (omega (arith, e)) in
+    rw (cond-true _ _ _ (le-leb (len_utf8 c) p (omega (arith, e)))) (omega (arith, e, rest))
+
+not_boundary : (t : List ℕ) (p : ℕ) → (size (before t p) ≡ p → ⊥) → ¬ (IsBoundary t p)
+not_boundary t p differs h = differs (ap (λ x. size (before x p)) h.2.parts ∙ size-before h.0 h.1 p h.2.position)
+
+-- at the end
+
+a_push_on_24_bytes_takes_36 : Steps (inline_text (letters 24)) (Push 97) Done (heap_letters 25 36)
+a_push_on_24_bytes_takes_36 = (tt, (refl, refl))
+
+an_append_of_25_bytes_takes_32 : (s : Bor (List ℕ)) → text_of s.now ≡ letters 25 → Steps (inline_text []) (PushStr s) Done (heap_letters 25 32)
+an_append_of_25_bytes_takes_32 s is = (tt, (refl, rw is refl))
+
+an_empty_append_leaves_a_static_text : (s : Bor (List ℕ)) → text_of s.now ≡ [] → Steps (static_letters 30) (PushStr s) Done (static_letters 30)
+an_empty_append_leaves_a_static_text s is = (tt, (refl, rw is refl))
+
+a_pop_answers_the_last_character : Steps two Pop (Char (Some clef)) (inline_text (dotted ∷ []))
+a_pop_answers_the_last_character = (tt, (Some clef, refl, (dotted ∷ [], refl, refl)))
+
+a_pop_of_no_text_answers_none : Steps (inline_text []) Pop (Char None) (inline_text [])
+a_pop_of_no_text_answers_none = (tt, (None, refl, (refl, refl)))
+
+-- by position
+
+an_insertion_inside_a_character_is_a_bad_position : Steps mixed (Insert 1 0x78) BadPosition mixed
+an_insertion_inside_a_character_is_a_bad_position = (refl, not_boundary mixed.text 1 (λ e. omega (arith, e)))
+
+a_character_is_put_in : Steps two (Insert 2 0x62) Done mixed
+a_character_is_put_in = ((dotted ∷ [], clef ∷ [], record { parts = refl; position = refl }), (refl, refl))
+
+an_empty_insertion_makes_a_static_text_its_own : (s : Bor (List ℕ)) → text_of s.now ≡ [] → Steps (static_letters 30) (InsertStr 0 s) Done (heap_letters 30 45)
+an_empty_insertion_makes_a_static_text_its_own s is = (([], letters 30, record { parts = refl; position = refl }), (refl, rw is refl))
+
+a_removal_answers_its_character : Steps mixed (Remove 2) (Char (Some 0x62)) two
+a_removal_answers_its_character =
+    ((lit< tt, (dotted ∷ [], 0x62 ∷ clef ∷ [], record { parts = refl; position = refl })), (0x62, refl, (clef ∷ [], refl, refl)))
+
+a_removal_makes_a_static_text_its_own : Steps (static_letters 30) (Remove 0) (Char (Some 97)) (heap_letters 29 32)
+a_removal_makes_a_static_text_its_own =
+    ((lit< tt, ([], letters 30, record { parts = refl; position = refl })), (97, refl, (letters 29, refl, refl)))
+
+a_removal_at_the_end_is_a_bad_position : Steps mixed (Remove 7) BadPosition mixed
+a_removal_at_the_end_is_a_bad_position = (refl, λ legal. let within = legal.0 in omega (arith, within))
+
+a_truncation_inside_a_character_is_a_bad_position : Steps two (Truncate 3) BadPosition two
+a_truncation_inside_a_character_is_a_bad_position = (refl, λ legal. not_boundary two.text 3 (λ e. omega (arith, e)) (legal (lit< tt)))
+
+a_truncation_past_the_end_is_done : Steps two (Truncate 9) Done two
+a_truncation_past_the_end_is_done = ((λ within. absurd (omega (arith, within))), (refl, refl))
+
+a_static_text_is_split_in_place : Steps (static_letters 30) (SplitOff 3) (Text (static_letters 27)) (static_letters 3)
+a_static_text_is_split_in_place = ((letters 3, letters 27, record { parts = refl; position = refl }), (static_letters 27, refl, refl, refl))
+
+a_short_tail_is_inline : Steps (static_letters 30) (SplitOff 6) (Text (inline_text (letters 24))) (static_letters 6)
+a_short_tail_is_inline = ((letters 6, letters 24, record { parts = refl; position = refl }), (inline_text (letters 24), refl, refl, refl))
+
+an_empty_replacement_makes_a_static_text_its_own : (s : Bor (List ℕ)) → text_of s.now ≡ [] → Steps (static_letters 30) (ReplaceRange (Included 0) (Excluded 0) s) Done (heap_letters 30 32)
+an_empty_replacement_makes_a_static_text_its_own s is =
+    let start : IsBoundary (letters 30) 0 = ([], letters 30, record { parts = refl; position = refl }) in
+    (record { order = lit≤ tt; first = start; last = start }, (refl, rw is refl))
+
+a_range_with_its_last_byte_included_is_replaced : (s : Bor (List ℕ)) → text_of s.now ≡ letters 2 → Steps mixed (ReplaceRange (Included 2) (Included 2) s) Done (inline_text (dotted ∷ 97 ∷ 97 ∷ clef ∷ []))
+a_range_with_its_last_byte_included_is_replaced s is =
+    let first : IsBoundary mixed.text 2 = (dotted ∷ [], 0x62 ∷ clef ∷ [], record { parts = refl; position = refl }) in
+    let last : IsBoundary mixed.text 3 = (dotted ∷ 0x62 ∷ [], clef ∷ [], record { parts = refl; position = refl }) in
+    (record { order = lit≤ tt; first = first; last = last }, (refl, rw is refl))
+
+a_range_that_ends_before_its_start_is_a_bad_position : (s : Bor (List ℕ)) → Steps mixed (ReplaceRange (Included 3) (Excluded 2) s) BadPosition mixed
+a_range_that_ends_before_its_start_is_a_bad_position s = (refl, λ range. let order = range.order in omega (arith, order))
+
+-- room, and the whole text
+
+a_truncated_static_text_has_its_size_as_capacity : Steps (static_letters 30) (Truncate 20) Done (static_letters 20)
+a_truncated_static_text_has_its_size_as_capacity = ((λ within. (letters 20, letters 10, record { parts = refl; position = refl })), (refl, refl))
+
+a_cleared_static_text_is_static : Steps (static_letters 30) Clear Done (static_letters 0)
+a_cleared_static_text_is_static = (tt, (refl, refl))
+
+a_cleared_heap_text_keeps_its_capacity : Steps (heap_letters 49 49) Clear Done (heap_letters 0 49)
+a_cleared_heap_text_keeps_its_capacity = (tt, (refl, refl))
+
+an_empty_reserve_makes_a_static_text_its_own : Steps (static_letters 30) (Reserve 0) Done (heap_letters 30 45)
+an_empty_reserve_makes_a_static_text_its_own = (tt, (refl, refl))
+
+room_past_any_memory_is_refused : (e : ReserveError) → Steps (inline_text (letters 1)) (Reserve 18446744073709551615) (Refused e) (inline_text (letters 1))
+room_past_any_memory_is_refused e = (refl, tt, refl)
+
+a_shrink_gives_room_back : Steps (heap_letters 0 100) (ShrinkTo 50) Done (heap_letters 0 50)
+a_shrink_gives_room_back = (tt, (refl, inl refl))
+
+a_refused_shrink_is_done_and_changes_nothing : Steps (heap_letters 0 100) (ShrinkTo 50) Done (heap_letters 0 100)
+a_refused_shrink_is_done_and_changes_nothing = (tt, (refl, inr (refl, refl)))
+
+a_shrink_to_28_bytes_keeps_32 : Steps (heap_letters 28 100) ShrinkToFit Done (heap_letters 28 32)
+a_shrink_to_28_bytes_keeps_32 = (tt, (refl, inl refl))
+
+thirteen_copies_of_two_bytes_take_32 : Steps (inline_text (dotted ∷ [])) (Repeat 13) (Text (placed (replicate 13 dotted) (on_heap 32))) (inline_text (dotted ∷ []))
+thirteen_copies_of_two_bytes_take_32 = (tt, (placed (replicate 13 dotted) (on_heap 32), refl, refl, refl))
+
+a_clone_goes_into_a_buffer_with_room : (source : Bor PlacedText) → source.now ≡ heap_letters 30 32 → Steps (heap_letters 0 100) (CloneFrom source) Done (heap_letters 30 100)
+a_clone_goes_into_a_buffer_with_room source is = (tt, (refl, rw is refl))

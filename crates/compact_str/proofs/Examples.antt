@@ -1,0 +1,153 @@
+-- Worked examples of the definitions, each computed. The numbers come from the Rust crate and from the Unicode Standard.
+use Rattle.std.specs.Prelude.{◌≡◌, ℕ, ◌*◌, List, [], ◌∷◌, replicate, Some, None, refl}
+use Rattle.std.proofs.Common.{arith}
+use Rattle.std.specs.declared.ops.Bound.TheVariants.{Included, Excluded, Unbounded}
+use Rattle.compact_repr.specs.Cut.{IsBoundary}
+use Rattle.compact_repr.specs.Value.{PlacedText, placed}
+use Rattle.compact_repr.specs.Capacity.{Growth, inlined, on_heap, borrowed, new_room}
+use Rattle.compact_repr.specs.Change.{truncated}
+use Rattle.compact_repr.proofs.Cuts.{size-before, boundary-within, boundary-from_size}
+use Rattle.compact_str.specs.Room.{own_capacity, sure_capacity}
+use Rattle.compact_str.specs.Edits.{inserted, Removes, split_tail, replaced, repeated}
+use Rattle.compact_str.specs.Clones.{cloned_from}
+use Rattle.compact_str.specs.Ranges.{IsRange, range_start, range_end}
+
+abbrev standard : Growth
+standard = record { least = 32; numerator = 3; denominator = 2 }
+
+-- so many letters `a`
+abbrev letters : ℕ → List ℕ
+letters n = replicate n 97
+
+-- 30 letters of the program
+abbrev lasting_30 : PlacedText
+lasting_30 = placed (letters 30) (borrowed (letters 30))
+
+abbrev abc : List ℕ
+abc = 97 ∷ 98 ∷ 99 ∷ []
+
+-- an a with two dots, and b
+abbrev mixed : List ℕ
+mixed = 0xE4 ∷ 98 ∷ []
+
+-- insertion and replacement
+
+an_empty_insertion_makes_room_by_growth : inserted standard lasting_30 0 [] ≡ Some (placed (letters 30) (on_heap 45))
+an_empty_insertion_makes_room_by_growth = refl
+
+an_empty_replacement_only_makes_it_owned : replaced standard lasting_30 0 0 [] ≡ Some (placed (letters 30) (on_heap 32))
+an_empty_replacement_only_makes_it_owned = refl
+
+a_longer_replacement_makes_room_for_the_difference : replaced standard (placed (letters 24) inlined) 0 2 (letters 4) ≡ Some (placed (letters 26) (on_heap 36))
+a_longer_replacement_makes_room_for_the_difference = refl
+
+a_replacement_of_equal_size_stays_in_place : replaced standard (placed (letters 30) (on_heap 30)) 0 3 abc ≡ Some (placed (97 ∷ 98 ∷ 99 ∷ letters 27) (on_heap 30))
+a_replacement_of_equal_size_stays_in_place = refl
+
+-- removal
+
+removal_copies_a_static_text : Removes standard lasting_30 0 97 (placed (letters 29) (on_heap 32))
+removal_copies_a_static_text = (letters 29, refl, refl)
+
+-- a split
+
+a_long_tail_stays_static : split_tail standard lasting_30 3 ≡ Some (placed (letters 27) (borrowed (letters 27)))
+a_long_tail_stays_static = refl
+
+a_front_stays_static : truncated lasting_30 3 ≡ placed (letters 3) (borrowed (letters 3))
+a_front_stays_static = refl
+
+a_short_tail_is_inline : split_tail standard lasting_30 6 ≡ Some (placed (letters 24) inlined)
+a_short_tail_is_inline = refl
+
+a_tail_of_a_heap_text_is_made_anew : split_tail standard (placed (letters 40) (on_heap 100)) 10 ≡ Some (placed (letters 30) (on_heap 32))
+a_tail_of_a_heap_text_is_made_anew = refl
+
+-- repetition
+
+abc_nine_times : repeated standard (placed abc inlined) 9 ≡ Some (placed (97 ∷ 98 ∷ 99 ∷ 97 ∷ 98 ∷ 99 ∷ 97 ∷ 98 ∷ 99 ∷ 97 ∷ 98 ∷ 99 ∷ 97 ∷ 98 ∷ 99 ∷ 97 ∷ 98 ∷ 99 ∷ 97 ∷ 98 ∷ 99 ∷ 97 ∷ 98 ∷ 99 ∷ 97 ∷ 98 ∷ 99 ∷ []) (on_heap 32))
+abc_nine_times = refl
+
+no_times_is_empty_and_inline : repeated standard lasting_30 0 ≡ Some (placed [] inlined)
+no_times_is_empty_and_inline = refl
+
+once_is_a_clone : repeated standard lasting_30 1 ≡ Some lasting_30
+once_is_a_clone = refl
+
+once_of_an_empty_text_is_inline : repeated standard (placed [] (on_heap 100)) 1 ≡ Some (placed [] inlined)
+once_of_an_empty_text_is_inline = refl
+
+two_bytes_as_often_as_can_be_counted_are_refused : new_room standard (2 * 18446744073709551615) ≡ None
+two_bytes_as_often_as_can_be_counted_are_refused = refl
+
+-- `clone_from`
+
+an_inline_source_brings_its_place : cloned_from standard (placed (letters 30) (on_heap 100)) (placed abc inlined) ≡ Some (placed abc inlined)
+an_inline_source_brings_its_place = refl
+
+a_static_source_brings_its_place : cloned_from standard (placed (letters 30) (on_heap 100)) lasting_30 ≡ Some lasting_30
+a_static_source_brings_its_place = refl
+
+an_empty_heap_source_clears_a_static_target : cloned_from standard lasting_30 (placed [] (on_heap 100)) ≡ Some (placed [] (borrowed []))
+an_empty_heap_source_clears_a_static_target = refl
+
+a_heap_source_fits_a_heap_target : cloned_from standard (placed abc (on_heap 100)) (placed (letters 30) (on_heap 30)) ≡ Some (placed (letters 30) (on_heap 100))
+a_heap_source_fits_a_heap_target = refl
+
+-- room
+
+a_static_text_owns_no_room : own_capacity lasting_30 ≡ 0
+a_static_text_owns_no_room = refl
+
+but_24_bytes_are_sure : sure_capacity lasting_30 ≡ 24
+but_24_bytes_are_sure = refl
+
+a_heap_buffer_is_sure : sure_capacity (placed abc (on_heap 100)) ≡ 100
+a_heap_buffer_is_sure = refl
+
+a_small_heap_buffer_gives_way_to_24_bytes : sure_capacity (placed abc (on_heap 5)) ≡ 24
+a_small_heap_buffer_gives_way_to_24_bytes = refl
+
+-- ranges of a text of two and one bytes
+
+boundary_0 : IsBoundary mixed 0
+boundary_0 = boundary-from_size mixed 0 refl
+
+boundary_2 : IsBoundary mixed 2
+boundary_2 = boundary-from_size mixed 2 refl
+
+boundary_3 : IsBoundary mixed 3
+boundary_3 = boundary-from_size mixed 3 refl
+
+no_range_starts_within_a_character : ¬ IsRange mixed (Included 1) Unbounded
+no_range_starts_within_a_character range = let within = size-before mixed 1 range.first in omega (arith, within)
+
+an_excluded_start_is_a_byte_after : range_start (Excluded 1) ≡ 2
+an_excluded_start_is_a_byte_after = refl
+
+an_excluded_end_is_there : range_end mixed (Excluded 3) ≡ 3
+an_excluded_end_is_there = refl
+
+both_ends_excluded : IsRange mixed (Excluded 1) (Excluded 3)
+both_ends_excluded = record { order = omega arith; first = boundary_2; last = boundary_3 }
+
+an_open_start_is_0 : range_start Unbounded ≡ 0
+an_open_start_is_0 = refl
+
+an_included_end_is_a_byte_after : range_end mixed (Included 2) ≡ 3
+an_included_end_is_a_byte_after = refl
+
+an_open_start_with_an_included_end : IsRange mixed Unbounded (Included 2)
+an_open_start_with_an_included_end = record { order = omega arith; first = boundary_0; last = boundary_3 }
+
+an_open_end_is_that_of_the_text : range_end mixed Unbounded ≡ 3
+an_open_end_is_that_of_the_text = refl
+
+the_empty_range_at_the_end : IsRange mixed (Included 3) Unbounded
+the_empty_range_at_the_end = record { order = omega arith; first = boundary_3; last = boundary_3 }
+
+no_range_ends_before_it_starts : ¬ IsRange mixed (Included 3) (Excluded 2)
+no_range_ends_before_it_starts range = let order = range.order in omega (arith, order)
+
+no_range_ends_past_the_text : ¬ IsRange mixed Unbounded (Excluded 4)
+no_range_ends_past_the_text range = let within = boundary-within mixed 4 range.last in omega (arith, within)

@@ -1,0 +1,91 @@
+//! A guard over a `CompactString`, which comes out of a call that may be refused, and what the lender is afterwards.
+//!
+//! `Emptying` stands for what a library lends out, as a drain does: its drop changes the value. Those below are its
+//! callers, and each is proved from the contracts alone.
+ghost use Rattle.std.specs.Prelude.{◌≡◌, ◌<◌, [], true, false, Ok, IfOk, OnOk, OnErr};
+ghost use Rattle.std.specs.Borrow.{sem, RestsIfErr};
+ghost use Rattle.compact_str.specs.Text.{text_of, size};
+ghost use Rattle.compact_str.specs.Change.{cleared};
+ghost use Rattle.compact_str.specs.contracts.string.PolicyString.{the_row};
+
+use compact_str::{CompactString, Policy, PolicyString};
+
+/// Shows a text that its drop takes out of the value.
+pub struct Emptying<'a, P: Policy> {
+    value: &'a mut PolicyString<P>,
+}
+
+impl<P: Policy> Drop for Emptying<'_, P> {
+    fn drop(self)
+        ensures { self.exit.0.now ≡ cleared self.entry.value.now }
+    {
+        let Emptying { value } = self;
+        value.clear();
+    }
+}
+
+/// More bytes than were allowed.
+#[derive(Drop)]
+pub struct TooLong {
+    len: usize,
+}
+
+/// Lends `value` out to be emptied; one of more than `most` bytes is refused, and stays.
+fn lend_to_empty<P: Policy>(
+    value: &mut PolicyString<P>,
+    most: usize,
+) -> Result<Emptying<'_, P>, TooLong>
+    ensures* refused { sem 𝓛 (RestsIfErr (the_row P.row P.Policy) value.entry (λ guard. guard.value.ghost_name) result (λ v. v ≡ value.old)) }
+    ensures same_reference { IfOk result (λ guard. guard.value.ghost_name ≡ value.entry.ghost_name) }
+    ensures text { IfOk result (λ guard. guard.value.now ≡ value.old) }
+    ensures len { OnErr result (most < size value.old.text) }
+{
+    let len = value.len();
+    if most < len {
+        return Err(TooLong { len });
+    }
+    Ok(Emptying { value })
+}
+
+/// Takes the text out, by `?`, and says how long it was.
+pub fn take_out(value: &mut CompactString, most: usize) -> Result<usize, TooLong>
+    ensures len { IfOk result (λ len. len ≡ size value.old.text) }
+    ensures cleared { OnOk result (value.new ≡ cleared value.old) }
+    ensures unchanged { OnErr result (value.new ≡ value.old) }
+{
+    let guard = lend_to_empty(value, most)?;
+    let len = guard.value.len();
+    drop(guard);
+    Ok(len)
+}
+
+/// Empties the value with no name for the guard, and then writes into it.
+pub fn start_anew(value: &mut CompactString, text: &str) -> Result<bool, TooLong>
+    ensures { OnOk result (result ≡ Ok true → value.new.text ≡ text_of text.now) }
+{
+    drop(lend_to_empty(value, 100)?);
+    Ok(value.push_str(text).is_ok())
+}
+
+/// The same of a value of its own, by `match`.
+pub fn emptied(mut value: CompactString, most: usize) -> Result<CompactString, TooLong>
+    ensures { IfOk result (λ v. v ≡ cleared value) }
+{
+    match lend_to_empty(&mut value, most) {
+        Ok(guard) => drop(guard),
+        Err(refusal) => return Err(refusal),
+    }
+    Ok(value)
+}
+
+/// The same by `let else`; what is refused stays.
+pub fn try_to_empty(value: &mut CompactString, most: usize) -> bool
+    ensures yes { result ≡ true → value.new.text ≡ [] }
+    ensures no { result ≡ false → value.new ≡ value.old }
+{
+    let Ok(guard) = lend_to_empty(value, most) else {
+        return false;
+    };
+    drop(guard);
+    true
+}

@@ -1,0 +1,65 @@
+//! Each caller that lends a value out, or that hands an iterator over, once.
+
+use crate::iterated::{append_fields, names_by_reference, names_of, path, whole};
+use crate::lenders::{emptied, start_anew, take_out, try_to_empty};
+use compact_str::{CompactString, ReserveError};
+
+#[test]
+fn borrowed_parts_are_joined(rt: HostRuntime) -> Result<(), ReserveError> {
+    let parts = ["usr", "local", "naïve"];
+    let joined = path(rt.alloc(), &parts)?;
+    assert_eq!(rt; joined.as_str(), "usr/local/naïve/");
+    let all = whole(rt.alloc(), &parts)?;
+    assert_eq!(rt; all.as_str(), "usrlocalnaïve");
+    Ok(())
+}
+
+#[test]
+fn fields_are_appended(rt: HostRuntime) -> Result<(), ReserveError> {
+    let mut line = CompactString::const_new(rt.alloc(), "a line of more than 24 bytes: ");
+    append_fields(&mut line, &["one", ",", "two"])?;
+    assert_eq!(rt; line.as_str(), "a line of more than 24 bytes: one,two");
+    Ok(())
+}
+
+#[test]
+fn names_are_gathered(rt: HostRuntime) -> Result<(), ReserveError> {
+    let first = CompactString::const_new(rt.alloc(), "first");
+    let last = CompactString::new(rt.alloc(), " and the last of all the names")?;
+    let names = [first, last];
+    let mapped = names_of(rt.alloc(), &names)?;
+    assert_eq!(rt; mapped.as_str(), "first and the last of all the names");
+    let gathered = names_by_reference(rt.alloc(), &names)?;
+    assert_eq!(rt; gathered.as_str(), "first and the last of all the names");
+    Ok(())
+}
+
+#[test]
+fn a_lent_value_is_emptied(rt: HostRuntime) {
+    let mut value = CompactString::const_new(rt.alloc(), "a line of more than 24 bytes: ");
+    assert!(rt; take_out(&mut value, 29).is_err());
+    assert_eq!(rt; value.as_str(), "a line of more than 24 bytes: ");
+    assert!(rt; matches!(take_out(&mut value, 30), Ok(30)));
+    assert_eq!(rt; value.as_str(), "");
+    assert!(rt; value.as_static_str().is_some());
+}
+
+#[test]
+fn a_lent_value_is_written_anew(rt: HostRuntime) {
+    let mut value = CompactString::const_new(rt.alloc(), "earlier");
+    assert!(rt; matches!(start_anew(&mut value, "later"), Ok(true)));
+    assert_eq!(rt; value.as_str(), "later");
+    assert!(rt; !try_to_empty(&mut value, 4));
+    assert_eq!(rt; value.as_str(), "later");
+    assert!(rt; try_to_empty(&mut value, 5));
+    assert_eq!(rt; value.as_str(), "");
+}
+
+#[test]
+fn an_owned_value_is_emptied(rt: HostRuntime) {
+    let value = CompactString::const_new(rt.alloc(), "earlier");
+    let Ok(value) = emptied(value, 7) else {
+        panic!(rt; "seven bytes are allowed");
+    };
+    assert_eq!(rt; value.as_str(), "");
+}
