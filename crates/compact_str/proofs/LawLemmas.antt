@@ -6,7 +6,8 @@ use Rattle.compact_repr.specs.Text.{size}
 use Rattle.compact_repr.specs.Cut.{IsBoundary, before, after, replaced_text}
 use Rattle.compact_repr.specs.Value.{PlacedText}
 use Rattle.compact_repr.specs.Capacity.{Growth, own_asks}
-use Rattle.compact_str.specs.Edits.{inserted, Removes, split_tail}
+use Rattle.compact_repr.specs.Change.{inserted}
+use Rattle.compact_str.specs.Edits.{Removes, split_tail}
 use Rattle.compact_str.specs.Laws.{RemovalUndoesInsertion, TruncationUndoesAppend, AppendUndoesSplit, CloneIsEqual}
 use Rattle.compact_repr.proofs.Changes.{pushed-text}
 use Rattle.compact_repr.proofs.Cuts.{before-after, before-cut, after-cut, size-before, size-after, boundary-from_size}
