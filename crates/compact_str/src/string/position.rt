@@ -52,6 +52,7 @@ impl<P: Policy> PolicyString<P> {
     /// found, or that the capacity would be past 2^56 - 2; then nothing has changed. It never comes where there is room,
     /// and none is given back. `"bc"` put into `"ad"` at 1 gives `"abcd"`.
     #[inline]
+    #[tactic(auto, using(compact_repr::proofs::TextFacts::text_facts, crate::proofs::EditFacts::insertion_facts))]
     pub fn insert_str(&mut self, index: usize, text: &str) -> Result<(), ReserveError>
         requires { IsBoundary self.old.text index }
         ensures ok { OnOk result (inserted P.growth self.old index (text_of text.now) ≡ Some self.new) }
