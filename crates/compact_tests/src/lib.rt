@@ -36,5 +36,5 @@ mod sessions;
 mod shortened;
 
 pub use callers::{append_field, keyword, label, record_line};
-pub use iterated::{append_fields, names_by_reference, names_of, path, whole};
-pub use lenders::{TooLong, emptied, start_anew, take_out, try_to_empty};
+pub use iterated::{append_fields, long_names, names_by_reference, names_of, path, whole};
+pub use lenders::{TooLong, emptied, start_anew, take_out, try_to_empty, was_emptied};
