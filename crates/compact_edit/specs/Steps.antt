@@ -5,9 +5,9 @@ use Rattle.compact_str.specs.Text.{text_of, size}
 use Rattle.compact_str.specs.Cut.{IsBoundary, before}
 use Rattle.compact_str.specs.Value.{PlacedText, placed}
 use Rattle.compact_str.specs.Capacity.{Growth, kept, room_asks, own_asks}
-use Rattle.compact_str.specs.Change.{pushed, push_asks, cleared, reserved, truncated, Shrinks}
+use Rattle.compact_str.specs.Change.{pushed, push_asks, cleared, reserved, truncated, Shrinks, inserted, replaced, replace_asks}
 use Rattle.compact_str.specs.Clones.{cloned_from, clone_from_asks}
-use Rattle.compact_str.specs.Edits.{inserted, Removes, Pops, split_tail, split_asks, replaced, replace_asks, repeated, repeat_asks}
+use Rattle.compact_str.specs.Edits.{Removes, Pops, split_tail, split_asks, repeated, repeat_asks}
 use Rattle.compact_str.specs.Ranges.{IsRange, range_start, range_end}
 use Rattle.compact_edit.specs.declared.edit.Edit.{Edit}
 use Rattle.compact_edit.specs.declared.edit.Edit.TheVariants.{Push, PushStr, Pop, Insert, InsertStr, Remove, Truncate, Clear, SplitOff, ReplaceRange, Reserve, ShrinkTo, ShrinkToFit, Repeat, CloneFrom}

@@ -1,9 +1,9 @@
 -- What making and changing a value gives: none where that must be refused.
-use Rattle.std.specs.Prelude.{◌≡◌, ◌⊎◌, ℕ, Bool, not, ◌&&◌, IsTrue, List, [], ◌++◌, Option, Some, option_map, nat_eq, nat_le, if◌then◌else◌}
+use Rattle.std.specs.Prelude.{◌≡◌, ◌⊎◌, ℕ, ◌-◌, Bool, not, ◌&&◌, IsTrue, List, [], ◌++◌, Option, Some, option_map, nat_eq, nat_le, if◌then◌else◌}
 use Rattle.compact_repr.specs.Text.{size}
-use Rattle.compact_repr.specs.Cut.{before}
+use Rattle.compact_repr.specs.Cut.{before, replaced_text}
 use Rattle.compact_repr.specs.Value.{PlacedText, placed}
-use Rattle.compact_repr.specs.Capacity.{Growth, fresh, new_room, owned, kept, room, room_asks, copied, shrunk, shrink_asks}
+use Rattle.compact_repr.specs.Capacity.{Growth, fresh, new_room, owned, own_asks, kept, room, room_asks, copied, shrunk, shrink_asks}
 
 -- a new value with the text t
 abbrev pub made : Growth → List ℕ → Option PlacedText
@@ -48,3 +48,15 @@ abbrev pub truncated : PlacedText → ℕ → PlacedText
 truncated v p =
     let t = if nat_le (size v.text) p then v.text else before v.text p in
     placed t (kept v t)
+
+-- v with s put in at a position, once there is room for s; for an empty s too
+abbrev pub inserted : Growth → PlacedText → ℕ → List ℕ → Option PlacedText
+inserted g v index s = option_map (placed (replaced_text v.text index index s)) (room g v (size s))
+
+-- v with what stands from one position to another replaced by s: owned where s is no longer than that, else with room for the difference
+abbrev pub replaced : Growth → PlacedText → ℕ → ℕ → List ℕ → Option PlacedText
+replaced g v start end s =
+    option_map (placed (replaced_text v.text start end s)) (if nat_le (size s) (end - start) then owned g v else room g v (size s - (end - start)))
+
+abbrev pub replace_asks : PlacedText → ℕ → ℕ → List ℕ → Bool
+replace_asks v start end s = if nat_le (size s) (end - start) then own_asks v else room_asks v (size s - (end - start))

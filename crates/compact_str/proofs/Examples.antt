@@ -5,10 +5,10 @@ use Rattle.std.specs.declared.ops.Bound.TheVariants.{Included, Excluded, Unbound
 use Rattle.compact_repr.specs.Cut.{IsBoundary}
 use Rattle.compact_repr.specs.Value.{PlacedText, placed}
 use Rattle.compact_repr.specs.Capacity.{Growth, inlined, on_heap, borrowed, new_room}
-use Rattle.compact_repr.specs.Change.{truncated}
 use Rattle.compact_repr.proofs.Cuts.{size-before, boundary-within, boundary-from_size}
 use Rattle.compact_str.specs.Room.{own_capacity, sure_capacity}
-use Rattle.compact_str.specs.Edits.{inserted, Removes, split_tail, replaced, repeated}
+use Rattle.compact_repr.specs.Change.{truncated, inserted, replaced}
+use Rattle.compact_str.specs.Edits.{Removes, split_tail, repeated}
 use Rattle.compact_str.specs.Clones.{cloned_from}
 use Rattle.compact_str.specs.Ranges.{IsRange, range_start, range_end}
 

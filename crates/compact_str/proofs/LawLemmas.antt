@@ -3,17 +3,15 @@ use Rattle.std.proofs.Common.{◌≡◌, Some, ℕ, ◌+◌, List, [], ◌∷◌
 use Rattle.std.proofs.lemmas.Grind.{common_steps}
 use Rattle.std.proofs.lemmas.Str.{len_utf8_bounds}
 use Rattle.compact_repr.specs.Text.{size}
-use Rattle.compact_repr.specs.Cut.{IsBoundary, before, after, replaced_text}
+use Rattle.compact_repr.specs.Cut.{IsBoundary, before, after}
 use Rattle.compact_repr.specs.Value.{PlacedText}
 use Rattle.compact_repr.specs.Capacity.{Growth, own_asks}
-use Rattle.compact_str.specs.Edits.{inserted, Removes, split_tail}
+use Rattle.compact_repr.specs.Change.{inserted}
+use Rattle.compact_str.specs.Edits.{Removes, split_tail}
 use Rattle.compact_str.specs.Laws.{RemovalUndoesInsertion, TruncationUndoesAppend, AppendUndoesSplit, CloneIsEqual}
 use Rattle.compact_repr.proofs.Changes.{pushed-text}
 use Rattle.compact_repr.proofs.Cuts.{before-after, before-cut, after-cut, size-before, size-after, boundary-from_size}
-use Rattle.compact_str.proofs.Positions.{boundary-seam, truncated-text}
-
-inserted-text : (g : Growth) (v w : PlacedText) (p : ℕ) (s : List ℕ) → inserted g v p s ≡ Some w → w.text ≡ replaced_text v.text p p s
-inserted-text g v w p s e = grind (arith, common_steps)
+use Rattle.compact_str.proofs.Positions.{inserted-text, boundary-seam, truncated-text}
 
 inserted-owned : (g : Growth) (v w : PlacedText) (p : ℕ) (s : List ℕ) → inserted g v p s ≡ Some w → own_asks w ≡ false
 inserted-owned g v w p s e = grind (arith, common_steps)

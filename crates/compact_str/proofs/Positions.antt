@@ -1,15 +1,16 @@
 -- What stands round a position of a text.
-use Rattle.std.proofs.Common.{◌≡◌, Some, true, false, ℕ, ◌+◌, ◌-◌, ◌<◌, ◌≤◌, List, [], ◌∷◌, ◌++◌, refl, ap, sym, ◌∙◌, arith, append_assoc, append-nil}
+use Rattle.std.proofs.Common.{◌≡◌, Some, true, false, ℕ, ◌+◌, ◌-◌, ◌<◌, ◌≤◌, List, [], ◌∷◌, ◌++◌, refl, ap, sym, subst, ◌∙◌, arith, append_assoc, append-nil}
 use Rattle.std.proofs.lemmas.Grind.{common_steps}
 use Rattle.std.proofs.lemmas.Bool.{cond-true, cond-false, lt-leb, le-leb}
 use Rattle.std.proofs.lemmas.Bool.Decides.{nat_tests}
-use Rattle.std.proofs.lemmas.Str.{len_utf8_bounds}
+use Rattle.std.proofs.lemmas.Str.{len_utf8_bounds, chars-nil}
+use Rattle.std.specs.Prelude.{IsTrue, option_map}
 use Rattle.std.specs.Char.{len_utf8, is_ascii}
-use Rattle.compact_repr.specs.Text.{size}
+use Rattle.compact_repr.specs.Text.{size, text_of}
 use Rattle.compact_repr.specs.Cut.{IsCut, IsBoundary, before, after, replaced_text}
 use Rattle.compact_repr.specs.Value.{PlacedText, placed, is_static}
-use Rattle.compact_repr.specs.Capacity.{Growth, kept, owned}
-use Rattle.compact_repr.specs.Change.{reserved, truncated, made_owned}
+use Rattle.compact_repr.specs.Capacity.{Growth, kept, owned, own_asks}
+use Rattle.compact_repr.specs.Change.{truncated, inserted, replaced, replace_asks}
 use Rattle.compact_str.specs.Edits.{Removes}
 use Rattle.compact_repr.proofs.Texts.{size-append, empty_text}
 use Rattle.compact_repr.proofs.Cuts.{boundary-from_size, before-after, before-cut, after-cut, size-before, size-after}
@@ -82,10 +83,6 @@ pub replaced-end : (t s : List ℕ) (start end p n : ℕ) → IsBoundary t start
 replaced-end t s start end p n h e k =
     (before t start ++ s, after t end, record { parts = refl; position = size-append (before t start) s ∙ omega (arith, size-before t start h) })
 
--- a value that has room and into which a text is put
-pub reserved-text : (g : Growth) (v w : PlacedText) (n : ℕ) → reserved g v n ≡ Some w → w.text ≡ v.text
-reserved-text g v w n e = grind (arith, common_steps)
-
 pub before-replaced : (t s : List ℕ) (start end : ℕ) → IsBoundary t start → before (replaced_text t start end s) start ≡ before t start
 before-replaced t s start end h =
     ap (λ x. before x start) (append_assoc (before t start) s (after t end)) ∙ before-cut (before t start) (s ++ after t end) start (size-before t start h)
@@ -96,19 +93,6 @@ after-removed t start end h =
 
 pub truncated-boundary : (v : PlacedText) (p : ℕ) → IsBoundary v.text p → truncated v p ≡ placed (before v.text p) (kept v (before v.text p))
 truncated-boundary v p h = grind (arith, common_steps, before-end)
-
-pub made_owned-text : (g : Growth) (v w : PlacedText) → made_owned g v ≡ Some w → w.text ≡ v.text
-made_owned-text g v w e = grind (arith, common_steps)
-
-pub made_owned-placement : (g : Growth) (v w : PlacedText) → made_owned g v ≡ Some w → owned g v ≡ Some w.placement
-made_owned-placement g v w e = grind (arith, common_steps)
-
--- a value that is made owned and cut round a character
-pub removed : (g : Growth) (v u w : PlacedText) (rest : List ℕ) (p c n : ℕ) → IsBoundary v.text p → after v.text p ≡ c ∷ rest → n ≡ len_utf8 c → made_owned g v ≡ Some u → w ≡ placed (replaced_text u.text p (p + n) []) u.placement → Removes g v p c w
-removed g v u w rest p c n h e k o s =
-    let text = made_owned-text g v u o in
-    let cut : replaced_text u.text p (p + n) [] ≡ before v.text p ++ rest = rw (text, k, after-next v.text rest p c h e, append-nil) refl in
-    (rest, e, rw (made_owned-placement g v u o) (rw (s, cut) refl))
 
 -- an ASCII character takes one byte
 ascii-width : (c : ℕ) → is_ascii c ≡ true → len_utf8 c ≡ 1
@@ -123,3 +107,37 @@ removed-in_place g v w rest p c h e a o s =
     let owned_is : owned g v ≡ Some v.placement = rw o refl in
     let behind : after w.text p ≡ rest = ap (λ (x : PlacedText). after x.text p) s ∙ after-removed v.text p (p + 1) h ∙ next in
     ((rest, e, rw (owned_is, s, cut) refl), e ∙ ap (λ x. c ∷ x) (sym behind))
+
+-- a value into which a text is put
+pub inserted-text : (g : Growth) (v w : PlacedText) (p : ℕ) (s : List ℕ) → inserted g v p s ≡ Some w → w.text ≡ replaced_text v.text p p s
+inserted-text g v w p s e = grind (arith, common_steps)
+
+pub inserted-place : (g : Growth) (v w : PlacedText) (p : ℕ) (s : List ℕ) → inserted g v p s ≡ Some w → IsBoundary v.text p → IsBoundary w.text p
+inserted-place g v w p s e h = subst (λ (t : List ℕ). IsBoundary t p) (sym (inserted-text g v w p s e)) (replaced-start v.text s p p h)
+
+pub inserted-behind : (g : Growth) (v w : PlacedText) (p n : ℕ) (s : List ℕ) → inserted g v p s ≡ Some w → IsBoundary v.text p → size s ≡ n → IsBoundary w.text (p + n)
+inserted-behind g v w p n s e h k = subst (λ (t : List ℕ). IsBoundary t (p + n)) (sym (inserted-text g v w p s e)) (replaced-end v.text s p p (p + n) n h k refl)
+
+-- a value of which a part is replaced
+pub range_replaced-text : (g : Growth) (v w : PlacedText) (i j : ℕ) (s : List ℕ) → replaced g v i j s ≡ Some w → w.text ≡ replaced_text v.text i j s
+range_replaced-text g v w i j s e = grind (arith, common_steps)
+
+replaced-by_nothing : (g : Growth) (v w : PlacedText) (i j : ℕ) → replaced g v i j [] ≡ Some w → option_map (placed (replaced_text v.text i j [])) (owned g v) ≡ Some w
+replaced-by_nothing g v w i j e = grind (arith, common_steps)
+
+-- that asks where owning does
+pub asks-by_nothing : (v : PlacedText) (i j : ℕ) → IsTrue (replace_asks v i j (text_of [])) → IsTrue (own_asks v)
+asks-by_nothing v i j h = let h : IsTrue (replace_asks v i j []) = rw chars-nil at h in grind (arith, common_steps)
+
+-- and owning asks of a long text alone
+pub owning-long : (v : PlacedText) → IsTrue (own_asks v) → 24 < size v.text
+owning-long v h = grind (arith, common_steps)
+
+-- a value of which the character at a boundary is replaced by nothing
+pub replaced-removes : (g : Growth) (v w : PlacedText) (rest : List ℕ) (p c n : ℕ) → IsBoundary v.text p → after v.text p ≡ c ∷ rest → n ≡ len_utf8 c
+    → replaced g v p (p + n) [] ≡ Some w → Removes g v p c w × (after v.text p ≡ c ∷ after w.text p)
+replaced-removes g v w rest p c n h e k o =
+    let next : after v.text (p + n) ≡ rest = ap (λ (m : ℕ). after v.text (p + m)) k ∙ after-next v.text rest p c h e in
+    let cut : replaced_text v.text p (p + n) [] ≡ before v.text p ++ rest = rw (next, append-nil) refl in
+    let behind : after w.text p ≡ rest = ap (λ t. after t p) (range_replaced-text g v w p (p + n) [] o) ∙ after-removed v.text p (p + n) h ∙ next in
+    ((rest, e, ap (λ t. option_map (placed t) (owned g v)) (sym cut) ∙ replaced-by_nothing g v w p (p + n) o), e ∙ ap (λ x. c ∷ x) (sym behind))

@@ -7,10 +7,9 @@ use Rattle.std.specs.Prelude.{max, if◌then◌else◌}
 use Rattle.compact_repr.specs.Text.{utf8, text_of}
 use Rattle.compact_repr.specs.Value.{Placement, PlacedText, is_static}
 use Rattle.compact_repr.specs.Capacity.{Growth, room}
-use Rattle.compact_repr.specs.Change.{pushed}
+use Rattle.compact_repr.specs.Change.{pushed, inserted}
 use Rattle.compact_repr.proofs.Changes.{pushed-text}
 use Rattle.compact_str.specs.Room.{sure_capacity}
-use Rattle.compact_str.specs.Edits.{inserted}
 
 room-sure : (g : Growth) (v : PlacedText) (p : Placement) (n : ℕ) → room g v n ≡ Some p → sure_capacity v ≤ max 24 (if is_static p.place then 0 else p.capacity)
 room-sure g v p n e = grind (arith, common_steps)

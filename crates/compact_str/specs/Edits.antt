@@ -1,21 +1,17 @@
 -- What an edit by byte position gives: none where it must be refused.
-use Rattle.std.specs.Prelude.{◌≡◌, ℕ, ◌-◌, ◌*◌, Bool, not, ◌&&◌, List, [], ◌∷◌, ◌++◌, Option, Some, None, option_map, nat_eq, nat_le, zero, suc, if◌then◌else◌}
+use Rattle.std.specs.Prelude.{◌≡◌, ℕ, ◌*◌, Bool, not, ◌&&◌, List, [], ◌∷◌, ◌++◌, Option, Some, None, option_map, nat_eq, zero, suc, if◌then◌else◌}
 use Rattle.std.specs.Str.{IsUtf8}
 use Rattle.compact_repr.specs.Text.{size, text_of, utf8}
-use Rattle.compact_repr.specs.Cut.{before, after, replaced_text}
+use Rattle.compact_repr.specs.Cut.{before, after}
 use Rattle.compact_repr.specs.Value.{Placement, PlacedText, placed, is_static}
 use Rattle.compact_repr.specs.Change.{pushed}
-use Rattle.compact_repr.specs.Capacity.{Growth, fresh, new_room, new_room_asks, kept, owned, own_asks, room, room_asks, lasting, copied, copy_asks}
+use Rattle.compact_repr.specs.Capacity.{Growth, fresh, new_room, new_room_asks, kept, owned, lasting, copied, copy_asks}
 
 -- a formatter's write of some bytes takes v to w: they are those of a text, which is joined to v
 pub record Writes (g : Growth) (v : PlacedText) (bytes : List ℕ) (w : PlacedText) : Type 0 where
   pub is_text : IsUtf8 bytes
   pub value : pushed g v (text_of bytes) ≡ Some w
   pub spells : utf8 w.text ≡ utf8 v.text ++ bytes
-
--- v with s put in at a position, once there is room for s; for an empty s too
-abbrev pub inserted : Growth → PlacedText → ℕ → List ℕ → Option PlacedText
-inserted g v index s = option_map (placed (replaced_text v.text index index s)) (room g v (size s))
 
 -- v made owned, without the character at a position, which is c
 abbrev pub Removes : Growth → PlacedText → ℕ → ℕ → PlacedText → Type 0
@@ -37,14 +33,6 @@ split_tail g v index = let tail = after v.text index in option_map (placed tail)
 
 abbrev pub split_asks : PlacedText → ℕ → Bool
 split_asks v index = not (is_static v.placement.place) && new_room_asks (size (after v.text index))
-
--- v with what stands from one position to another replaced by s: owned where s is no longer than that, else with room for the difference
-abbrev pub replaced : Growth → PlacedText → ℕ → ℕ → List ℕ → Option PlacedText
-replaced g v start end s =
-    option_map (placed (replaced_text v.text start end s)) (if nat_le (size s) (end - start) then owned g v else room g v (size s - (end - start)))
-
-abbrev pub replace_asks : PlacedText → ℕ → ℕ → List ℕ → Bool
-replace_asks v start end s = if nat_le (size s) (end - start) then own_asks v else room_asks v (size s - (end - start))
 
 -- t so many times
 abbrev pub repeated_text : ℕ → List ℕ → List ℕ

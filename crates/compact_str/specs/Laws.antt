@@ -4,8 +4,8 @@ use Rattle.compact_repr.specs.Text.{size}
 use Rattle.compact_repr.specs.Cut.{IsBoundary, before}
 use Rattle.compact_repr.specs.Value.{PlacedText, placed}
 use Rattle.compact_repr.specs.Capacity.{Growth, kept, own_asks}
-use Rattle.compact_repr.specs.Change.{pushed, copy_of, truncated}
-use Rattle.compact_str.specs.Edits.{inserted, Removes, split_tail}
+use Rattle.compact_repr.specs.Change.{pushed, copy_of, truncated, inserted}
+use Rattle.compact_str.specs.Edits.{Removes, split_tail}
 
 -- where a character was put in one may be taken out, which asks for no memory: it is that character, and the text is as
 -- before

@@ -1,7 +1,7 @@
 //! Iterators of texts, handed to calls whose signature names a `CompactString`.
 //!
-//! `Spelled` and the three calls over it stand for what a library offers: each takes any iterator. Those below are the
-//! callers that a user writes first, with a slice's iterator, and each is proved from the contracts alone.
+//! `Spelled`, `Lines` and the two calls before it stand for what a library offers: each takes any iterator. Those below
+//! are the callers that a user writes first, with a slice's iterator, and each is proved from the contracts alone.
 ghost use Rattle.std.specs.Prelude.{◌≡◌, ℕ, List, ◌++◌, ◌+◌, flat_map, fold, IfOk, OnOk, codes};
 ghost use Rattle.std.specs.Iterator.{IsFinite};
 ghost use Rattle.std.specs.Iterator.Runs.{WholeRun};
@@ -74,29 +74,33 @@ fn gather<T: Spelled, I: Iterator<Item = T> + Drop>(
     Ok(line)
 }
 
-/// The texts of `parts`, with `end` behind each.
-fn join_lines<T: Spelled, I: Iterator<Item = T> + Drop>(
-    alloc: Global,
-    parts: I,
-    end: &str,
-) -> Result<CompactString, ReserveError>
-    requires can { I.can_next parts }
-    requires ends { IsFinite (I.remaining parts) }
-    ensures { IfOk result (λ v. WholeRun I.next_gives parts (λ run. v.text ≡ flat_map (λ part. T.letters part ++ text_of end.now) run.items)) }
-{
-    let mut lines = CompactString::default(alloc);
-    for part in parts {
-        lines.push_str(part.spelled())?;
-        lines.push_str(end)?;
+/// What an iterator of texts can be made into.
+pub trait Lines: Iterator {
+    /// The texts of the items, with `end` behind each.
+    final fn join_lines(self, alloc: Global, end: &str) -> Result<CompactString, ReserveError>
+    where
+        Self: Sized + Drop,
+        Self::Item: Spelled,
+        requires can { Self.can_next self }
+        requires ends { IsFinite (Self.remaining self) }
+        ensures { IfOk result (λ v. WholeRun Self.next_gives self (λ run. v.text ≡ flat_map (λ part. Self.Item.letters part ++ text_of end.now) run.items)) }
+    {
+        let mut lines = CompactString::default(alloc);
+        for part in self {
+            lines.push_str(part.spelled())?;
+            lines.push_str(end)?;
+        }
+        Ok(lines)
     }
-    Ok(lines)
 }
+
+impl<I: Iterator> Lines for I {}
 
 /// A path of parts that are borrowed, by copies.
 pub fn path(alloc: Global, parts: &[&str]) -> Result<CompactString, ReserveError>
     ensures { IfOk result (λ v. v.text ≡ flat_map (λ part. text_of part.now ++ text_of (codes "/")) parts.now) }
 {
-    join_lines(alloc, parts.iter().copied(), "/")
+    parts.iter().copied().join_lines(alloc, "/")
 }
 
 /// The parts as one text, by references to them.
@@ -128,4 +132,13 @@ pub fn names_by_reference(
     ensures { IfOk result (λ v. v.text ≡ flat_map (λ name. name.text) names.now) }
 {
     gather(alloc, names.iter())
+}
+
+/// The names longer than `least` bytes, in their order.
+pub fn long_names(
+    alloc: Global,
+    names: &[CompactString],
+    least: usize,
+) -> Result<CompactString, ReserveError> {
+    gather(alloc, names.iter().filter(|name| name.len() > least))
 }

@@ -2,7 +2,7 @@
 //!
 //! `Emptying` stands for what a library lends out, as a drain does: its drop changes the value. Those below are its
 //! callers, and each is proved from the contracts alone.
-ghost use Rattle.std.specs.Prelude.{◌≡◌, ◌<◌, [], true, false, Ok, IfOk, OnOk, OnErr};
+ghost use Rattle.std.specs.Prelude.{◌≡◌, ◌<◌, [], true, false, Ok, IfOk, OnOk, OnErr, IfSome};
 ghost use Rattle.std.specs.Borrow.{sem, RestsIfErr};
 ghost use Rattle.compact_str.specs.Text.{text_of, size};
 ghost use Rattle.compact_str.specs.Change.{cleared};
@@ -88,4 +88,26 @@ pub fn try_to_empty(value: &mut CompactString, most: usize) -> bool
     };
     drop(guard);
     true
+}
+
+/// Lends `value` out to be emptied, if it has a text.
+fn lend_unless_empty<P: Policy>(value: &mut PolicyString<P>) -> Option<Emptying<'_, P>>
+    ensures same_reference { IfSome result (λ guard. guard.value.ghost_name ≡ value.entry.ghost_name) }
+    ensures text { IfSome result (λ guard. guard.value.now ≡ value.old) }
+{
+    if value.is_empty() {
+        return None;
+    }
+    Some(Emptying { value })
+}
+
+/// Empties what has a text, by `if let`, and says whether it did.
+pub fn was_emptied(value: &mut CompactString) -> bool
+    ensures { result ≡ true → value.new ≡ cleared value.old }
+{
+    if let Some(guard) = lend_unless_empty(value) {
+        drop(guard);
+        return true;
+    }
+    false
 }

@@ -1,7 +1,7 @@
 //! Each caller that lends a value out, or that hands an iterator over, once.
 
-use crate::iterated::{append_fields, names_by_reference, names_of, path, whole};
-use crate::lenders::{emptied, start_anew, take_out, try_to_empty};
+use crate::iterated::{append_fields, long_names, names_by_reference, names_of, path, whole};
+use crate::lenders::{emptied, start_anew, take_out, try_to_empty, was_emptied};
 use compact_str::{CompactString, ReserveError};
 
 #[test]
@@ -31,6 +31,8 @@ fn names_are_gathered(rt: HostRuntime) -> Result<(), ReserveError> {
     assert_eq!(rt; mapped.as_str(), "first and the last of all the names");
     let gathered = names_by_reference(rt.alloc(), &names)?;
     assert_eq!(rt; gathered.as_str(), "first and the last of all the names");
+    let long = long_names(rt.alloc(), &names, 5)?;
+    assert_eq!(rt; long.as_str(), " and the last of all the names");
     Ok(())
 }
 
@@ -53,6 +55,7 @@ fn a_lent_value_is_written_anew(rt: HostRuntime) {
     assert_eq!(rt; value.as_str(), "later");
     assert!(rt; try_to_empty(&mut value, 5));
     assert_eq!(rt; value.as_str(), "");
+    assert!(rt; !was_emptied(&mut value));
 }
 
 #[test]

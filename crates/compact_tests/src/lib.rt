@@ -38,10 +38,10 @@ mod shortened;
 mod support;
 
 pub use callers::{append_field, keyword, label, record_line};
+pub use iterated::{append_fields, long_names, names_by_reference, names_of, path, whole};
+pub use lenders::{TooLong, emptied, start_anew, take_out, try_to_empty, was_emptied};
 pub use plain_callers::{
     append_count, append_pair, append_record, append_report, split_and_join, split_field, type_two,
     with_suffix,
 };
 pub use run_callers::{Doubling, bracket, refill, rewrite};
-pub use iterated::{append_fields, names_by_reference, names_of, path, whole};
-pub use lenders::{TooLong, emptied, start_anew, take_out, try_to_empty};

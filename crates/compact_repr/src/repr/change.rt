@@ -4,8 +4,8 @@ ghost use Rattle.std.specs.Prelude.{◌≡◌, ◌+◌, ◌-◌, ◌≤◌, ◌<
 ghost use Rattle.compact_repr.specs.Text.{size, text_of};
 ghost use Rattle.compact_repr.specs.Cut.{IsBoundary, replaced_text};
 ghost use Rattle.compact_repr.specs.Value.{placed, is_static};
-ghost use Rattle.compact_repr.specs.Capacity.{fits_in_place};
-ghost use Rattle.compact_repr.specs.Change.{pushed, push_asks, cleared, truncated};
+ghost use Rattle.compact_repr.specs.Capacity.{fits_in_place, room_asks};
+ghost use Rattle.compact_repr.specs.Change.{pushed, push_asks, cleared, truncated, inserted, replaced, replace_asks};
 
 use crate::error::ReserveError;
 use crate::policy::Policy;
@@ -16,18 +16,6 @@ use crate::static_text::StaticText;
 mod tests;
 
 impl<P: Policy> Repr<P> {
-    /// Appends `text`; an empty one changes nothing. An error changes nothing.
-    #[inline]
-    pub fn push_str(&mut self, text: &str) -> Result<(), ReserveError>
-        ensures ok { OnOk result (pushed P.growth self.old (text_of text.now) ≡ Some self.new) }
-        ensures err { OnErr result ((self.new ≡ self.old) × IsTrue (push_asks self.old (text_of text.now))) }
-    {
-        if self.push_in_place(text) {
-            return Ok(());
-        }
-        self.push_with_more_room(text)
-    }
-
     /// Appends `text` where the bytes are the value's own and have room. Answers whether that was so; if not, nothing has
     /// changed.
     #[inline]
@@ -120,19 +108,71 @@ impl<P: Policy> Repr<P> {
         }
     }
 
-    /// `replace_in_place` of an owned value that has room for the outcome.
-    #[inline(always)]
-    pub fn replace_range(&mut self, start: usize, end: usize, text: &str)
-        requires owned { is_static self.old.placement.place ≡ false }
+    /// Puts `text` in at a boundary, in bytes, once there is room for it; a static value becomes its own even for an empty
+    /// text. An error changes nothing.
+    #[inline]
+    pub fn insert_str(&mut self, index: usize, text: &str) -> Result<(), ReserveError>
+        requires { IsBoundary self.old.text index }
+        ensures ok { OnOk result (inserted P.growth self.old index (text_of text.now) ≡ Some self.new) }
+        ensures err { OnErr result ((self.new ≡ self.old) × IsTrue (room_asks self.old (length text.now))) }
+    {
+        if self.replace_in_place(index, index, text) {
+            return Ok(());
+        }
+        self.insert_with_more_room(index, text)
+    }
+
+    /// `insert_str` in any place.
+    #[cold]
+    #[inline(never)]
+    fn insert_with_more_room(&mut self, index: usize, text: &str) -> Result<(), ReserveError>
+        requires { IsBoundary self.old.text index }
+        ensures ok { OnOk result (inserted P.growth self.old index (text_of text.now) ≡ Some self.new) }
+        ensures err { OnErr result ((self.new ≡ self.old) × IsTrue (room_asks self.old (length text.now))) }
+    {
+        self.reserve(text.len())?;
+        if !self.replace_in_place(index, index, text) {
+            unreachable!();
+        }
+        Ok(())
+    }
+
+    /// Replaces what stands from one boundary to another, in bytes: in an owned value where `text` is no longer than that,
+    /// else once there is room for the difference. An error changes nothing.
+    #[inline]
+    pub fn replace_range(&mut self, start: usize, end: usize, text: &str) -> Result<(), ReserveError>
         requires order { start ≤ end }
         requires first { IsBoundary self.old.text start }
         requires last { IsBoundary self.old.text end }
-        requires room { size self.old.text + length text.now ≤ self.old.placement.capacity + (end - start) }
-        ensures { self.new ≡ placed (replaced_text self.old.text start end (text_of text.now)) self.old.placement }
+        ensures ok { OnOk result (replaced P.growth self.old start end (text_of text.now) ≡ Some self.new) }
+        ensures err { OnErr result ((self.new ≡ self.old) × IsTrue (replace_asks self.old start end (text_of text.now))) }
     {
+        if self.replace_in_place(start, end, text) {
+            return Ok(());
+        }
+        self.replace_with_more_room(start, end, text)
+    }
+
+    /// `replace_range` in any place.
+    #[cold]
+    #[inline(never)]
+    fn replace_with_more_room(&mut self, start: usize, end: usize, text: &str) -> Result<(), ReserveError>
+        requires order { start ≤ end }
+        requires first { IsBoundary self.old.text start }
+        requires last { IsBoundary self.old.text end }
+        ensures ok { OnOk result (replaced P.growth self.old start end (text_of text.now) ≡ Some self.new) }
+        ensures err { OnErr result ((self.new ≡ self.old) × IsTrue (replace_asks self.old start end (text_of text.now))) }
+    {
+        let replaced = end - start;
+        if text.len() <= replaced {
+            self.make_owned()?;
+        } else {
+            self.reserve(text.len() - replaced)?;
+        }
         if !self.replace_in_place(start, end, text) {
             unreachable!();
         }
+        Ok(())
     }
 
     /// Keeps the first `len` bytes, which end between two characters; from the end on, `len` changes nothing. The place

@@ -1,6 +1,7 @@
 //! A text of 29 bytes with one character of two bytes, at 4 and 5.
 use super::StaticText;
 use std::mem::size_of;
+use std::process::Abort;
 
 const LINE: &str = "a naïve reader of long lines";
 
@@ -29,18 +30,32 @@ fn a_text_is_had_twice(rt: HostRuntime) {
     assert_eq!(rt; shown, "a naïve reader of long lines");
 }
 
+/// What stands before and behind a boundary; `None` where no character begins there.
+fn cut(text: &StaticText, index: usize) -> Option<(StaticText, StaticText)> {
+    if text.as_static_str().is_char_boundary(index) {
+        return Some((text.front(index), text.tail(index)));
+    }
+    None
+}
+
+/// Asserts the two parts, which outlive the text.
+fn assert_cut(rt: &impl Abort, index: usize, front: &str, tail: &str) {
+    let text = StaticText::new(LINE);
+    let parts = cut(&text, index).expect(rt, "a boundary");
+    drop(text);
+    assert_eq!(rt; parts.0.len(), index);
+    assert_eq!(rt; parts.0.as_static_str(), front);
+    assert_eq!(rt; parts.1.as_static_str(), tail);
+}
+
 #[test]
 fn a_text_is_cut(rt: HostRuntime) {
-    let text = StaticText::new(LINE);
-    let front = text.front(6);
-    let tail = text.tail(6);
-    drop(text);
-    assert_eq!(rt; front.as_static_str(), "a naï");
-    assert_eq!(rt; front.len(), 6);
-    assert_eq!(rt; tail.as_static_str(), "ve reader of long lines");
-    assert_eq!(rt; tail.len(), 23);
-    assert_eq!(rt; front.front(0).as_static_str(), "");
-    assert_eq!(rt; tail.tail(23).as_static_str(), "");
+    assert_cut(&rt, 0, "", "a naïve reader of long lines");
+    assert_cut(&rt, 4, "a na", "ïve reader of long lines");
+    assert_cut(&rt, 6, "a naï", "ve reader of long lines");
+    assert_cut(&rt, 29, "a naïve reader of long lines", "");
+    assert!(rt; cut(&StaticText::new(LINE), 5).is_none());
+    assert!(rt; cut(&StaticText::new(LINE), 30).is_none());
 }
 
 /// A pointer and a count, and no more.

@@ -7,7 +7,8 @@ ghost use Rattle.compact_repr.specs.Cut.{IsCut, IsBoundary, before, after, repla
 ghost use Rattle.compact_repr.specs.Value.{placed, is_static};
 ghost use Rattle.compact_repr.specs.Capacity.{room_asks, own_asks, kept};
 ghost use Rattle.compact_str.specs.Room.{IsOwned, HasRoomFor, sure_capacity};
-ghost use Rattle.compact_str.specs.Edits.{inserted, Removes, split_tail, split_asks, replaced, replace_asks};
+ghost use Rattle.compact_repr.specs.Change.{inserted, replaced, replace_asks};
+ghost use Rattle.compact_str.specs.Edits.{Removes, split_tail, split_asks};
 ghost use Rattle.compact_str.specs.Ranges.{IsRange, range_start, range_end};
 
 use crate::string::PolicyString;
@@ -51,6 +52,7 @@ impl<P: Policy> PolicyString<P> {
     /// found, or that the capacity would be past 2^56 - 2; then nothing has changed. It never comes where there is room,
     /// and none is given back. `"bc"` put into `"ad"` at 1 gives `"abcd"`.
     #[inline]
+    #[tactic(auto, using(compact_repr::proofs::TextFacts::text_facts, crate::proofs::EditFacts::insertion_facts))]
     pub fn insert_str(&mut self, index: usize, text: &str) -> Result<(), ReserveError>
         requires { IsBoundary self.old.text index }
         ensures ok { OnOk result (inserted P.growth self.old index (text_of text.now) ≡ Some self.new) }
@@ -64,9 +66,7 @@ impl<P: Policy> PolicyString<P> {
     {
         // The proof reads from it that the text is short of 2^63 bytes.
         let _len = self.repr.len();
-        self.repr.reserve(text.len())?;
-        self.repr.replace_range(index, index, text);
-        Ok(())
+        self.repr.insert_str(index, text)
     }
 
     /// Puts a character in at the boundary `index`, in bytes, as `insert_str` puts its text in.
@@ -136,9 +136,8 @@ impl<P: Policy> PolicyString<P> {
         // The position is in the text, so that what follows the character is too.
         prove!(index < len);
         let character = self.repr.char_at(index);
-        self.repr.make_owned()?;
         self.repr
-            .replace_range(index, index + character.len_utf8(), "");
+            .replace_range(index, index + character.len_utf8(), "")?;
         Ok(character)
     }
 
@@ -164,29 +163,7 @@ impl<P: Policy> PolicyString<P> {
         let Some((first, last)) = ends(start, end, self.len()) else {
             unreachable!();
         };
-        self.replace_between(first, last, text)
-    }
-
-    /// Replaces what stands between two boundaries, in bytes, once there is room for the difference.
-    #[inline]
-    fn replace_between(&mut self, first: usize, last: usize, text: &str) -> Result<(), ReserveError>
-        requires order { first ≤ last }
-        requires first { IsBoundary self.old.text first }
-        requires last { IsBoundary self.old.text last }
-        ensures ok { OnOk result (replaced P.growth self.old first last (text_of text.now) ≡ Some self.new) }
-        ensures text { OnOk result (self.new.text ≡ replaced_text self.old.text first last (text_of text.now)) }
-        ensures succeeds { HasRoomFor self.old (length text.now - (last - first)) → IsOk result }
-        ensures succeeds_owned { IsOwned self.old → first + length text.now ≤ last → IsOk result }
-        ensures err { OnErr result ((self.new ≡ self.old) × IsTrue (replace_asks self.old first last (text_of text.now))) }
-    {
-        let replaced = last - first;
-        if text.len() <= replaced {
-            self.repr.make_owned()?;
-        } else {
-            self.repr.reserve(text.len() - replaced)?;
-        }
-        self.repr.replace_range(first, last, text);
-        Ok(())
+        self.repr.replace_range(first, last, text)
     }
 
     /// Splits the text at the boundary `index`, in bytes: keeps what stands before it, in its place, and answers the rest.

@@ -1,7 +1,7 @@
 -- A character of one byte that was taken out in place.
 use Rattle.std.proofs.Common.{◌≡◌, ◌∷◌, refl, sym, ap, ◌∙◌}
 use Rattle.compact_repr.specs.Cut.{after}
-use Rattle.compact_repr.specs.Value.{PlacedText, is_static}
+use Rattle.compact_repr.specs.Value.{PlacedText}
 use Rattle.compact_str.proofs.Positions.{removed-in_place}
 use Rattle.compact_str.proofs.string.PolicyString.remove.Goals as goal
 

@@ -1,12 +1,15 @@
 -- The character that begins at the position, and what stands after it.
-use Rattle.std.proofs.Common.{◌≡◌, ◌+◌, ◌∷◌, [], refl, sym, ap, ◌∙◌, arith, Some}
+use Rattle.std.proofs.Common.{◌≡◌, ◌+◌, ◌∷◌, [], Some, sym, ap, ◌∙◌, subst, arith}
 use Rattle.std.proofs.lemmas.Str.{chars-nil}
+use Rattle.std.specs.Char.{len_utf8}
 use Rattle.compact_repr.specs.Text.{size}
-use Rattle.compact_repr.specs.Cut.{after, replaced_text}
+use Rattle.compact_repr.specs.Cut.{IsBoundary, after}
 use Rattle.compact_repr.specs.Value.{PlacedText}
-use Rattle.compact_repr.specs.Change.{made_owned}
+use Rattle.std.specs.Prelude.{IsTrue}
+use Rattle.compact_repr.specs.Capacity.{own_asks}
+use Rattle.compact_repr.specs.Change.{replaced}
 use Rattle.compact_repr.proofs.Cuts.{boundary-within}
-use Rattle.compact_str.proofs.Positions.{boundary-next, after-next, after-removed, made_owned-text, removed}
+use Rattle.compact_str.proofs.Positions.{boundary-next, replaced-removes, asks-by_nothing, owning-long}
 use Rattle.compact_str.proofs.string.PolicyString.remove_char.Goals as goal
 
 pub overflow_add-index : goal.overflow_add-index
@@ -21,26 +24,22 @@ pub replace_range-requires-clause-last : goal.replace_range-requires-clause-last
 replace_range-requires-clause-last g c =
     let next = c.char_at-character.ensures in
     let tail : after c.args.self.now.text c.args.index ≡ c.char_at-character.result ∷ next.0 = ap (λ (v : PlacedText). after v.text c.args.index) (sym c.self.view_is) ∙ next.1 in
-    let owned : made_owned g.P.Policy.growth c.args.self.now ≡ Some c.make_owned.new.self = ap (λ (v : PlacedText). made_owned g.P.Policy.growth v) (sym c.self.view_is) ∙ c.in_ok-make_owned.ensures.ok in
-    rw (made_owned-text g.P.Policy.growth c.args.self.now c.make_owned.new.self owned, c.len_utf8.ensures.value) (boundary-next _ next.0 _ _ c.requires.boundary tail)
+    rw c.len_utf8.ensures.value
+    (subst (λ (v : PlacedText). IsBoundary v.text (c.args.index + len_utf8 c.char_at-character.result)) (sym c.self.view_is) (boundary-next _ next.0 _ _ c.requires.boundary tail))
 
 pub returns-clause-ok : goal.returns-clause-ok
 returns-clause-ok g c =
     let next = c.char_at-character.ensures in
     let tail : after c.args.self.now.text c.args.index ≡ c.char_at-character.result ∷ next.0 = ap (λ (v : PlacedText). after v.text c.args.index) (sym c.self.view_is) ∙ next.1 in
-    let owned : made_owned g.P.Policy.growth c.args.self.now ≡ Some c.make_owned.new.self = ap (λ (v : PlacedText). made_owned g.P.Policy.growth v) (sym c.self.view_is) ∙ c.in_ok-make_owned.ensures.ok in
-    removed g.P.Policy.growth c.args.self.now c.make_owned.new.self c.replace_range.new.self next.0 c.args.index c.char_at-character.result c.len_utf8.result c.requires.boundary tail c.len_utf8.ensures.value owned (rw chars-nil at c.replace_range.ensures)
+    (replaced-removes g.P.Policy.growth c.args.self.now c.replace_range.new.self next.0 c.args.index c.char_at-character.result c.len_utf8.result c.requires.boundary tail c.len_utf8.ensures.value (subst (λ (v : PlacedText). replaced g.P.Policy.growth v c.args.index (c.args.index + c.len_utf8.result) [] ≡ Some c.replace_range.new.self) c.self.view_is (rw chars-nil at c.in_ok-replace_range.ensures.ok))).0
 
 pub returns-clause-character : goal.returns-clause-character
 returns-clause-character g c =
     let next = c.char_at-character.ensures in
     let tail : after c.args.self.now.text c.args.index ≡ c.char_at-character.result ∷ next.0 = ap (λ (v : PlacedText). after v.text c.args.index) (sym c.self.view_is) ∙ next.1 in
-    let owned : made_owned g.P.Policy.growth c.args.self.now ≡ Some c.make_owned.new.self = ap (λ (v : PlacedText). made_owned g.P.Policy.growth v) (sym c.self.view_is) ∙ c.in_ok-make_owned.ensures.ok in
-    let text = made_owned-text g.P.Policy.growth c.args.self.now c.make_owned.new.self owned in
-    let cut : c.replace_range.new.self.text ≡ replaced_text c.args.self.now.text c.args.index (c.args.index + c.len_utf8.result) [] =
-    ap (λ (v : PlacedText). v.text) (rw chars-nil at c.replace_range.ensures) ∙ rw text refl in
-    let rest : after c.replace_range.new.self.text c.args.index ≡ next.0 =
-    ap (λ t. after t c.args.index) cut
-    ∙ after-removed c.args.self.now.text c.args.index _ c.requires.boundary
-    ∙ rw c.len_utf8.ensures.value (after-next c.args.self.now.text next.0 c.args.index _ c.requires.boundary tail) in
-    tail ∙ ap (λ x. c.char_at-character.result ∷ x) (sym rest)
+    (replaced-removes g.P.Policy.growth c.args.self.now c.replace_range.new.self next.0 c.args.index c.char_at-character.result c.len_utf8.result c.requires.boundary tail c.len_utf8.ensures.value (subst (λ (v : PlacedText). replaced g.P.Policy.growth v c.args.index (c.args.index + c.len_utf8.result) [] ≡ Some c.replace_range.new.self) c.self.view_is (rw chars-nil at c.in_ok-replace_range.ensures.ok))).1
+
+pub returns-in_err-replace_range-clause-succeeds_short : goal.returns-in_err-replace_range-clause-succeeds_short
+returns-in_err-replace_range-clause-succeeds_short g c h =
+    let asks : IsTrue (own_asks c.args.self.now) = subst (λ (v : PlacedText). IsTrue (own_asks v)) c.self.view_is (asks-by_nothing c.self.inside.repr c.args.index _ c.in_err-replace_range.ensures.err.1) in
+    absurd (let long = owning-long c.args.self.now asks in omega (arith, h, long))
