@@ -1,6 +1,8 @@
 //! Values as they are made, with ample memory.
 
-use crate::support::{append, assert_heap, assert_inline, assert_static, buffered, lasting, letters};
+use crate::support::{
+    append, assert_heap, assert_inline, assert_static, buffered, lasting, letters,
+};
 use compact_str::{CompactString, Policy, PolicyString, ReserveError};
 use std::alloc::Global;
 use std::borrow::CowStr;

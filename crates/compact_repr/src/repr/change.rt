@@ -140,7 +140,12 @@ impl<P: Policy> Repr<P> {
     /// Replaces what stands from one boundary to another, in bytes: in an owned value where `text` is no longer than that,
     /// else once there is room for the difference. An error changes nothing.
     #[inline]
-    pub fn replace_range(&mut self, start: usize, end: usize, text: &str) -> Result<(), ReserveError>
+    pub fn replace_range(
+        &mut self,
+        start: usize,
+        end: usize,
+        text: &str,
+    ) -> Result<(), ReserveError>
         requires order { start ≤ end }
         requires first { IsBoundary self.old.text start }
         requires last { IsBoundary self.old.text end }
@@ -156,7 +161,12 @@ impl<P: Policy> Repr<P> {
     /// `replace_range` in any place.
     #[cold]
     #[inline(never)]
-    fn replace_with_more_room(&mut self, start: usize, end: usize, text: &str) -> Result<(), ReserveError>
+    fn replace_with_more_room(
+        &mut self,
+        start: usize,
+        end: usize,
+        text: &str,
+    ) -> Result<(), ReserveError>
         requires order { start ≤ end }
         requires first { IsBoundary self.old.text start }
         requires last { IsBoundary self.old.text end }
