@@ -2,7 +2,7 @@
 use Rattle.std.proofs.Common.{◌≡◌, ℕ, ◌≤◌, List, length, take, ap}
 use Rattle.std.specs.Str.{IsUtf8}
 use Rattle.compact_repr.specs.Text.{size, text_of}
-use Rattle.compact_repr.specs.HeapText.{HeapText}
+use Rattle.compact_repr.specs.Value.{HeapText}
 use Rattle.compact_repr.proofs.Texts.{size-front}
 
 pub shown-text : {h : HeapText} {capacity : ℕ} (n : ℕ) (bytes : List ℕ) → record { text = text_of (take n bytes); capacity = capacity } ≡ h → text_of (take n bytes) ≡ h.text

@@ -3,7 +3,6 @@ pub mod Cut
 pub mod Value
 pub mod Capacity
 pub mod Change
-pub mod HeapText
 pub mod Stored
 pub mod Words
 pub mod Loan

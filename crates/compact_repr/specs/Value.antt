@@ -40,3 +40,8 @@ IsCapacityOf static capacity bytes = capacity ≡ bytes
 pub record IsSound (v : PlacedText) : Type 0 where
   pub text : IsText v.text
   pub fits : IsCapacityOf v.placement.place v.placement.capacity (size v.text)
+
+-- what a heap buffer is seen as
+pub record HeapText : Type 0 where
+  pub text : List ℕ
+  pub capacity : ℕ

@@ -27,7 +27,7 @@ impl Model for HeapBuffer {
     ghost use Rattle.std.specs.List.{replace_range};
     ghost use Rattle.std.specs.Vec.{vec_capacity};
     ghost use Rattle.compact_repr.specs.Text.{text_of};
-    ghost use Rattle.compact_repr.specs.HeapText.{HeapText};
+    ghost use Rattle.compact_repr.specs.Value.{HeapText};
 
     ghost Value = { HeapText };
 

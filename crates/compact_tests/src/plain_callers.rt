@@ -142,6 +142,7 @@ mod tests {
     #[test]
     fn a_cursor_goes_on_by_what_is_typed(rt: HostRuntime) {
         let mut line = copied(&rt, rt.alloc(), "ab");
+        assert!(rt; line.is_char_boundary(1));
         let cursor = type_two(&mut line, 1, 'é', 'x').expect(&rt, "memory");
         assert_eq!(rt; cursor, 4);
         assert_inline(&rt, &line, "aéxb");
@@ -150,6 +151,7 @@ mod tests {
     #[test]
     fn a_split_line_is_joined(rt: HostRuntime) {
         let mut line = copied(&rt, rt.alloc(), "äb");
+        assert!(rt; line.is_char_boundary(2));
         split_and_join(&mut line, 2).expect(&rt, "memory");
         assert_inline(&rt, &line, "äb");
     }

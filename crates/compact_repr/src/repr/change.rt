@@ -110,22 +110,9 @@ impl<P: Policy> Repr<P> {
 
     /// Puts `text` in at a boundary, in bytes, once there is room for it; a static value becomes its own even for an empty
     /// text. An error changes nothing.
-    #[inline]
-    pub fn insert_str(&mut self, index: usize, text: &str) -> Result<(), ReserveError>
-        requires { IsBoundary self.old.text index }
-        ensures ok { OnOk result (inserted P.growth self.old index (text_of text.now) ≡ Some self.new) }
-        ensures err { OnErr result ((self.new ≡ self.old) × IsTrue (room_asks self.old (length text.now))) }
-    {
-        if self.replace_in_place(index, index, text) {
-            return Ok(());
-        }
-        self.insert_with_more_room(index, text)
-    }
-
-    /// `insert_str` in any place.
     #[cold]
     #[inline(never)]
-    fn insert_with_more_room(&mut self, index: usize, text: &str) -> Result<(), ReserveError>
+    pub fn insert_with_more_room(&mut self, index: usize, text: &str) -> Result<(), ReserveError>
         requires { IsBoundary self.old.text index }
         ensures ok { OnOk result (inserted P.growth self.old index (text_of text.now) ≡ Some self.new) }
         ensures err { OnErr result ((self.new ≡ self.old) × IsTrue (room_asks self.old (length text.now))) }
@@ -139,29 +126,9 @@ impl<P: Policy> Repr<P> {
 
     /// Replaces what stands from one boundary to another, in bytes: in an owned value where `text` is no longer than that,
     /// else once there is room for the difference. An error changes nothing.
-    #[inline]
-    pub fn replace_range(
-        &mut self,
-        start: usize,
-        end: usize,
-        text: &str,
-    ) -> Result<(), ReserveError>
-        requires order { start ≤ end }
-        requires first { IsBoundary self.old.text start }
-        requires last { IsBoundary self.old.text end }
-        ensures ok { OnOk result (replaced P.growth self.old start end (text_of text.now) ≡ Some self.new) }
-        ensures err { OnErr result ((self.new ≡ self.old) × IsTrue (replace_asks self.old start end (text_of text.now))) }
-    {
-        if self.replace_in_place(start, end, text) {
-            return Ok(());
-        }
-        self.replace_with_more_room(start, end, text)
-    }
-
-    /// `replace_range` in any place.
     #[cold]
     #[inline(never)]
-    fn replace_with_more_room(
+    pub fn replace_with_more_room(
         &mut self,
         start: usize,
         end: usize,

@@ -66,7 +66,10 @@ impl<P: Policy> PolicyString<P> {
     {
         // The proof reads from it that the text is short of 2^63 bytes.
         let _len = self.repr.len();
-        self.repr.insert_str(index, text)
+        if self.repr.replace_in_place(index, index, text) {
+            return Ok(());
+        }
+        self.repr.insert_with_more_room(index, text)
     }
 
     /// Puts a character in at the boundary `index`, in bytes, as `insert_str` puts its text in.
@@ -137,7 +140,7 @@ impl<P: Policy> PolicyString<P> {
         prove!(index < len);
         let character = self.repr.char_at(index);
         self.repr
-            .replace_range(index, index + character.len_utf8(), "")?;
+            .replace_with_more_room(index, index + character.len_utf8(), "")?;
         Ok(character)
     }
 
@@ -147,6 +150,7 @@ impl<P: Policy> PolicyString<P> {
     /// the capacity would be past 2^56 - 2; then nothing has changed. It never comes where there is room for the
     /// difference, nor of an owned value for a text that is no longer than the range. `"abc"` from `Included(1)` to
     /// `Excluded(2)` replaced by `"xy"` gives `"axyc"`.
+    #[tactic(auto, using(compact_repr::proofs::TextFacts::text_facts, crate::proofs::EditFacts::replacement_facts))]
     pub fn replace_range(
         &mut self,
         start: Bound<usize>,
@@ -163,7 +167,10 @@ impl<P: Policy> PolicyString<P> {
         let Some((first, last)) = ends(start, end, self.len()) else {
             unreachable!();
         };
-        self.repr.replace_range(first, last, text)
+        if self.repr.replace_in_place(first, last, text) {
+            return Ok(());
+        }
+        self.repr.replace_with_more_room(first, last, text)
     }
 
     /// Splits the text at the boundary `index`, in bytes: keeps what stands before it, in its place, and answers the rest.
