@@ -1,5 +1,5 @@
 -- A row of bytes, of which the first hold a text, once a part of them is replaced.
-use Rattle.std.proofs.Common.{◌≡◌, ℕ, ◌+◌, ◌-◌, ◌<◌, ◌≤◌, List, [], ◌∷◌, ◌++◌, length, take, drop, get_or, refl, ap, sym, ◌∙◌, arith, length-append, append_assoc}
+use Rattle.std.proofs.Common.{◌≡◌, ℕ, ◌+◌, ◌-◌, ◌<◌, ◌≤◌, List, [], ◌∷◌, ◌++◌, length, take, drop, refl, ap, sym, ◌∙◌, arith, length-append, append_assoc}
 use Rattle.std.proofs.lemmas.List.{append-nil, length-drop, length-take-le, take-append-drop, drop-take, take-append-le, take-take, take_all, take_at, drop_at}
 use Rattle.std.proofs.lemmas.List.Edits.{length-between, paste_none}
 use Rattle.std.proofs.lemmas.Slice.{between_is}
