@@ -1,4 +1,4 @@
-//! A text in a vector of bytes on the heap, beside its length and a capacity that the vector has reserved.
+//! A text in a vector of bytes on the heap, beside its length. Its capacity is the vector's.
 ghost use Rattle.std.specs.Prelude.{◌≡◌, ◌+◌, ◌-◌, ◌≤◌, ◌<◌, ◌^◌, [], ◌∷◌, ◌++◌, length, take, true, false, IfOk, OnOk, OnErr, IsTrue, ◌↔◌};
 ghost use Rattle.std.specs.List.{replace_range};
 ghost use Rattle.std.specs.Vec.{vec_len, vec_capacity};
@@ -13,12 +13,11 @@ use std::marker::Model;
 /// The text is the first `len` bytes of the vector. What stands behind them was text once, or zeros that were written
 /// ahead, and may be written over: so an edit within what the vector has is a write in a slice, and asks for room once.
 ///
-/// The stated capacity is at most what the vector has reserved, since a vector may be given more than it asked for.
+/// The vector grows by calls that say exactly what it has reserved afterwards, and so the capacity needs no field.
 #[derive(Drop)]
 pub struct HeapBuffer {
     bytes: Vec<u8>,
     len: usize,
-    capacity: usize,
 }
 
 impl Model for HeapBuffer {
@@ -31,9 +30,9 @@ impl Model for HeapBuffer {
 
     ghost Value = { HeapText };
 
-    ghost view = { λ b. record { text = text_of (take b.len b.bytes.items); capacity = b.capacity } };
+    ghost view = { λ b. record { text = text_of (take b.len b.bytes.items); capacity = vec_capacity b.bytes } };
 
-    ghost invariant = { λ b. IsUtf8 (take b.len b.bytes.items) × (b.len ≤ length b.bytes.items) × (length b.bytes.items ≤ b.capacity) × (b.capacity ≤ vec_capacity b.bytes) };
+    ghost invariant = { λ b. IsUtf8 (take b.len b.bytes.items) × (b.len ≤ length b.bytes.items) };
 }
 
 impl HeapBuffer {
@@ -45,7 +44,6 @@ impl HeapBuffer {
         Ok(HeapBuffer {
             bytes: Vec::with_capacity(alloc, capacity)?,
             len: 0,
-            capacity,
         })
     }
 
@@ -56,13 +54,10 @@ impl HeapBuffer {
         ensures { IfOk result (λ b. b ≡ record { text = text_of text.now; capacity = capacity }) }
     {
         let mut bytes = Vec::with_capacity(alloc, capacity)?;
-        if bytes.extend_from_slice(text.as_bytes()).is_err() {
-            unreachable!();
-        }
+        append(&mut bytes, text.as_bytes());
         Ok(HeapBuffer {
             bytes,
             len: text.len(),
-            capacity,
         })
     }
 
@@ -72,12 +67,8 @@ impl HeapBuffer {
         ensures fits { size result.text ≤ result.capacity }
     {
         let bytes = text.into_bytes();
-        let (len, capacity) = (bytes.len(), bytes.capacity());
-        HeapBuffer {
-            bytes,
-            len,
-            capacity,
-        }
+        let len = bytes.len();
+        HeapBuffer { bytes, len }
     }
 
     /// The length in bytes.
@@ -96,7 +87,7 @@ impl HeapBuffer {
     pub fn capacity(&self) -> usize
         ensures { result ≡ self.now.capacity }
     {
-        self.capacity
+        self.bytes.capacity()
     }
 
     /// Whether `additional` bytes fit after the text.
@@ -104,7 +95,7 @@ impl HeapBuffer {
     pub fn has_room(&self, additional: usize) -> bool
         ensures { IsTrue result ↔ (size self.now.text + additional ≤ self.now.capacity) }
     {
-        additional <= self.capacity - self.len
+        additional <= self.bytes.capacity() - self.len
     }
 
     /// The text.
@@ -122,9 +113,7 @@ impl HeapBuffer {
         ensures ok { OnOk result (self.new ≡ record { text = self.old.text; capacity = capacity }) }
         ensures err { OnErr result (self.new ≡ self.old) }
     {
-        self.bytes.reserve_exact(capacity - self.bytes.len())?;
-        self.capacity = capacity;
-        Ok(())
+        self.bytes.reserve_exact(capacity - self.bytes.len())
     }
 
     /// Appends `text` where it fits, and takes no memory. Answers whether it fitted; if not, nothing has changed.
@@ -135,7 +124,7 @@ impl HeapBuffer {
         ensures full { result ≡ false → self.new ≡ self.old }
     {
         let end = self.len + text.len();
-        if !write_behind(&mut self.bytes, self.len, text.as_bytes(), self.capacity) {
+        if !write_behind(&mut self.bytes, self.len, text.as_bytes()) {
             return false;
         }
         self.len = end;
@@ -161,7 +150,6 @@ impl HeapBuffer {
             start,
             end,
             text.as_bytes(),
-            self.capacity,
         ) {
             return false;
         }
@@ -180,7 +168,7 @@ impl HeapBuffer {
         ensures within { size self.new.text ≤ self.old.capacity }
         ensures full { result ≡ false → self.new ≡ self.old }
     {
-        if !insert_byte(&mut self.bytes, self.len, index, byte, self.capacity) {
+        if !insert_byte(&mut self.bytes, self.len, index, byte) {
             return false;
         }
         self.len += 1;
@@ -218,30 +206,27 @@ impl HeapBuffer {
     }
 }
 
-/// Writes `source` behind the first `len` bytes, where they fit in `capacity`, which the vector has reserved. Answers
-/// whether they do; if not, nothing has changed.
+/// Writes `source` behind the first `len` bytes, where the vector has room for them. Answers whether it has; if not,
+/// nothing has changed.
 #[inline(always)]
-fn write_behind(bytes: &mut Vec<u8>, len: usize, source: &[u8], capacity: usize) -> bool
+fn write_behind(bytes: &mut Vec<u8>, len: usize, source: &[u8]) -> bool
     requires stands { len ≤ vec_len bytes.old }
-    requires within { vec_len bytes.old ≤ capacity }
-    requires reserved { capacity ≤ vec_capacity bytes.old }
-    ensures fits { IsTrue result ↔ (len + length source.now ≤ capacity) }
+    ensures fits { IsTrue result ↔ (len + length source.now ≤ vec_capacity bytes.old) }
     ensures written { IsTrue result → take (len + length source.now) bytes.new.items ≡ take len bytes.old.items ++ source.now }
     ensures full { result ≡ false → take len bytes.new.items ≡ take len bytes.old.items }
     ensures longer { vec_len bytes.old ≤ vec_len bytes.new }
     ensures long { IsTrue result → len + length source.now ≤ vec_len bytes.new }
-    ensures within { vec_len bytes.new ≤ capacity }
-    ensures reserved { capacity ≤ vec_capacity bytes.new }
+    ensures capacity { vec_capacity bytes.new ≡ vec_capacity bytes.old }
 {
-    if !reach(bytes, len + source.len(), capacity) {
+    if !reach(bytes, len + source.len()) {
         return false;
     }
     rows::write(bytes.as_mut_slice(), len, source);
     true
 }
 
-/// Of the first `len` bytes replaces those from `start` to `end` by `source`, where the outcome fits in `capacity`, which
-/// the vector has reserved. Answers whether it does; if not, nothing has changed.
+/// Of the first `len` bytes replaces those from `start` to `end` by `source`, where the vector has room for the outcome.
+/// Answers whether it has; if not, nothing has changed.
 #[inline(always)]
 fn replace_range(
     bytes: &mut Vec<u8>,
@@ -249,45 +234,38 @@ fn replace_range(
     start: usize,
     end: usize,
     source: &[u8],
-    capacity: usize,
 ) -> bool
     requires order { start ≤ end }
     requires inside { end ≤ len }
     requires stands { len ≤ vec_len bytes.old }
-    requires within { vec_len bytes.old ≤ capacity }
-    requires reserved { capacity ≤ vec_capacity bytes.old }
-    ensures fits { IsTrue result ↔ (len - (end - start) + length source.now ≤ capacity) }
+    ensures fits { IsTrue result ↔ (len - (end - start) + length source.now ≤ vec_capacity bytes.old) }
     ensures replaced { IsTrue result → take (len - (end - start) + length source.now) bytes.new.items ≡ replace_range (take len bytes.old.items) start end source.now }
     ensures full { result ≡ false → take len bytes.new.items ≡ take len bytes.old.items }
     ensures longer { vec_len bytes.old ≤ vec_len bytes.new }
     ensures long { IsTrue result → len - (end - start) + length source.now ≤ vec_len bytes.new }
-    ensures within { vec_len bytes.new ≤ capacity }
-    ensures reserved { capacity ≤ vec_capacity bytes.new }
+    ensures capacity { vec_capacity bytes.new ≡ vec_capacity bytes.old }
 {
-    if !reach(bytes, len - (end - start) + source.len(), capacity) {
+    if !reach(bytes, len - (end - start) + source.len()) {
         return false;
     }
     rows::replace_range(bytes.as_mut_slice(), len, start, end, source);
     true
 }
 
-/// Puts `byte` in at a place of the first `len` bytes, where one more fits in `capacity`, which the vector has reserved.
-/// Answers whether it does; if not, nothing has changed.
+/// Puts `byte` in at a place of the first `len` bytes, where the vector has room for one more. Answers whether it has;
+/// if not, nothing has changed.
 #[inline(always)]
-fn insert_byte(bytes: &mut Vec<u8>, len: usize, index: usize, byte: u8, capacity: usize) -> bool
+fn insert_byte(bytes: &mut Vec<u8>, len: usize, index: usize, byte: u8) -> bool
     requires inside { index ≤ len }
     requires stands { len ≤ vec_len bytes.old }
-    requires within { vec_len bytes.old ≤ capacity }
-    requires reserved { capacity ≤ vec_capacity bytes.old }
-    ensures fits { IsTrue result ↔ (len + 1 ≤ capacity) }
+    ensures fits { IsTrue result ↔ (len + 1 ≤ vec_capacity bytes.old) }
     ensures inserted { IsTrue result → take (len + 1) bytes.new.items ≡ replace_range (take len bytes.old.items) index index (byte ∷ []) }
     ensures full { result ≡ false → take len bytes.new.items ≡ take len bytes.old.items }
     ensures longer { vec_len bytes.old ≤ vec_len bytes.new }
     ensures long { IsTrue result → len + 1 ≤ vec_len bytes.new }
-    ensures within { vec_len bytes.new ≤ capacity }
-    ensures reserved { capacity ≤ vec_capacity bytes.new }
+    ensures capacity { vec_capacity bytes.new ≡ vec_capacity bytes.old }
 {
-    if !reach(bytes, len + 1, capacity) {
+    if !reach(bytes, len + 1) {
         return false;
     }
     rows::insert_byte(bytes.as_mut_slice(), len, index, byte);
@@ -306,20 +284,17 @@ fn remove_byte(bytes: &mut Vec<u8>, len: usize, index: usize)
     rows::remove_byte(bytes.as_mut_slice(), len, index);
 }
 
-/// Sees to it that the vector has `needed` bytes, if `capacity`, which it has reserved, allows as many. Answers whether it
-/// does. Where the vector has them this is one comparison.
+/// Sees to it that the vector has `needed` bytes, if it has reserved as many. Answers whether it has. Where they are there
+/// this is one comparison.
 #[inline(always)]
-fn reach(bytes: &mut Vec<u8>, needed: usize, capacity: usize) -> bool
-    requires within { vec_len bytes.old ≤ capacity }
-    requires reserved { capacity ≤ vec_capacity bytes.old }
-    ensures fits { IsTrue result ↔ (needed ≤ capacity) }
+fn reach(bytes: &mut Vec<u8>, needed: usize) -> bool
+    ensures fits { IsTrue result ↔ (needed ≤ vec_capacity bytes.old) }
     ensures same { take (vec_len bytes.old) bytes.new.items ≡ bytes.old.items }
     ensures longer { vec_len bytes.old ≤ vec_len bytes.new }
     ensures long { IsTrue result → needed ≤ vec_len bytes.new }
-    ensures within { vec_len bytes.new ≤ capacity }
-    ensures reserved { capacity ≤ vec_capacity bytes.new }
+    ensures capacity { vec_capacity bytes.new ≡ vec_capacity bytes.old }
 {
-    needed <= bytes.len() || lengthen(bytes, needed, capacity)
+    needed <= bytes.len() || lengthen(bytes, needed)
 }
 
 /// How many bytes beyond twice as many as are needed are written ahead.
@@ -329,23 +304,33 @@ const AHEAD: usize = 64;
 /// a large room of which little is used.
 #[cold]
 #[inline(never)]
-fn lengthen(bytes: &mut Vec<u8>, needed: usize, capacity: usize) -> bool
+fn lengthen(bytes: &mut Vec<u8>, needed: usize) -> bool
     requires shorter { vec_len bytes.old < needed }
-    requires within { vec_len bytes.old ≤ capacity }
-    requires reserved { capacity ≤ vec_capacity bytes.old }
-    ensures fits { IsTrue result ↔ (needed ≤ capacity) }
+    ensures fits { IsTrue result ↔ (needed ≤ vec_capacity bytes.old) }
     ensures same { take (vec_len bytes.old) bytes.new.items ≡ bytes.old.items }
     ensures longer { vec_len bytes.old ≤ vec_len bytes.new }
     ensures long { IsTrue result → needed ≤ vec_len bytes.new }
-    ensures within { vec_len bytes.new ≤ capacity }
-    ensures reserved { capacity ≤ vec_capacity bytes.new }
+    ensures capacity { vec_capacity bytes.new ≡ vec_capacity bytes.old }
 {
+    let capacity = bytes.capacity();
     if needed > capacity {
         return false;
     }
     let len = needed.saturating_mul(2).saturating_add(AHEAD).min(capacity);
-    if bytes.resize(len, 0).is_err() {
-        unreachable!();
+    for _ in bytes.len()..len {
+        bytes.push_reserved(0);
     }
     true
+}
+
+/// Appends `source` in the room that the vector has reserved.
+#[inline(always)]
+fn append(bytes: &mut Vec<u8>, source: &[u8])
+    requires { vec_len bytes.old + length source.now ≤ vec_capacity bytes.old }
+    ensures items { bytes.new.items ≡ bytes.old.items ++ source.now }
+    ensures capacity { vec_capacity bytes.new ≡ vec_capacity bytes.old }
+{
+    for byte in source {
+        bytes.push_reserved(*byte);
+    }
 }

@@ -8,23 +8,19 @@ pub invariant_of-result : goal.invariant_of-result
 invariant_of-result c =
     let k = c.into_bytes-bytes.result.ok in
     let items = c.into_bytes-bytes.result.items in
-    let all : take c.len-len.result items ≡ items = take_all _ items (omega (arith, k.0, c.len-len.ensures)) in (
-      rw (all, c.into_bytes-bytes.ensures.value) (IsUtf8-string_bytes c.args.text),
-      omega (arith, k.0, c.len-len.ensures),
-      omega (arith, k.0, k.1, c.capacity-capacity.ensures),
-      omega (arith, c.capacity-capacity.ensures),
-    )
+    let all : take c.len-len.result items ≡ items = take_all _ items (omega (arith, k.0, c.len-len.ensures)) in
+    (rw (all, c.into_bytes-bytes.ensures.value) (IsUtf8-string_bytes c.args.text), omega (arith, k.0, c.len-len.ensures))
 
 pub returns-clause-value : goal.returns-clause-value
 returns-clause-value c =
     let k = c.into_bytes-bytes.result.ok in
     let items = c.into_bytes-bytes.result.items in
     let all : take c.len-len.result items ≡ items = take_all _ items (omega (arith, k.0, c.len-len.ensures)) in
-    rw (all, c.capacity-capacity.ensures, c.into_bytes-bytes.ensures.value) refl
+    rw (all, c.into_bytes-bytes.ensures.value) refl
 
 pub returns-clause-fits : goal.returns-clause-fits
 returns-clause-fits c =
     let k = c.into_bytes-bytes.result.ok in
     let items = c.into_bytes-bytes.result.items in
     let all : take c.len-len.result items ≡ items = take_all _ items (omega (arith, k.0, c.len-len.ensures)) in
-    rw (all, c.capacity-capacity.ensures, c.into_bytes-bytes.ensures.value) (string_fits c.args.text)
+    rw (all, c.into_bytes-bytes.ensures.value) (string_fits c.args.text)

@@ -8,5 +8,5 @@ returns c =
     let stands = shown-size _ _ _ c.self.view_is c.self.invariant.0 c.self.invariant.1 in
     let capacity = shown-capacity _ c.self.view_is in
     let held = c.self.invariant.1 in
-    let kept = c.self.invariant.2 in
+    let kept = c.self.inside.bytes.ok in
     rw (stands, ← capacity) grind (arith, common_steps)

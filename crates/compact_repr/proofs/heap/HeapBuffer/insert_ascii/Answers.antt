@@ -21,7 +21,7 @@ pub returns-then-not-insert_byte-clause-within : goal.returns-then-not-insert_by
 returns-then-not-insert_byte-clause-within c =
     let stands = shown-size _ _ _ c.self.view_is c.self.invariant.0 c.self.invariant.1 in
     rw (c.if-not-insert_byte.ensures.full refl, shown-text _ _ c.self.view_is)
-    (omega (arith, stands, shown-capacity _ c.self.view_is, c.self.invariant.1, c.self.invariant.2))
+    (omega (arith, stands, shown-capacity _ c.self.view_is, c.self.invariant.1, c.self.inside.bytes.ok.0, c.self.inside.bytes.ok.1))
 
 pub returns-clause-fits : goal.returns-clause-fits
 returns-clause-fits c =
@@ -37,14 +37,12 @@ invariant_of-self-2 c =
       rw inserted
           (utf8-ascii-inserted _ c.args.index c.args.byte (shown-text _ _ c.self.view_is) c.self.invariant.0 c.requires.ascii c.requires.boundary),
       omega (arith, long, c.insert_byte.new.bytes.ok.0),
-      omega (arith, c.if-not-insert_byte.ensures.within, c.insert_byte.new.bytes.ok.0),
-      c.if-not-insert_byte.ensures.reserved,
     )
 
 pub returns-clause-inserted : goal.returns-clause-inserted
 returns-clause-inserted c _ =
     let inserted = c.if-not-insert_byte.ensures.inserted refl in
-    rw (inserted, ascii-inserted _ c.args.index c.args.byte (shown-text _ _ c.self.view_is) c.self.invariant.0 c.requires.ascii c.requires.boundary, shown-capacity _ c.self.view_is) refl
+    rw (inserted, ascii-inserted _ c.args.index c.args.byte (shown-text _ _ c.self.view_is) c.self.invariant.0 c.requires.ascii c.requires.boundary, c.if-not-insert_byte.ensures.capacity, shown-capacity _ c.self.view_is) refl
 
 pub returns-clause-within : goal.returns-clause-within
 returns-clause-within c =

@@ -26,6 +26,4 @@ invariant_of-self-2 c =
     let long = c.if-not-write_behind.ensures.long refl in (
       rw (← added, written) (IsUtf8-append _ _ c.self.invariant.0 c.as_bytes.ensures.utf8),
       omega (arith, added, long, c.write_behind.new.bytes.ok.0),
-      omega (arith, c.if-not-write_behind.ensures.within, c.write_behind.new.bytes.ok.0),
-      c.if-not-write_behind.ensures.reserved,
     )

@@ -21,17 +21,15 @@ invariant_of-self c = (
   rw c.remove_byte.ensures.removed
       (utf8-ascii-removed _ c.args.index (shown-text _ _ c.self.view_is) c.self.invariant.0 c.requires.boundary c.requires.next),
   omega (arith, c.self.invariant.1, c.remove_byte.ensures.same, c.remove_byte.new.bytes.ok.0, c.self.inside.bytes.ok.0),
-  omega (arith, c.self.invariant.2, c.remove_byte.ensures.same, c.remove_byte.new.bytes.ok.0, c.self.inside.bytes.ok.0),
-  omega (arith, c.self.invariant.3, c.remove_byte.ensures.capacity),
 )
 
 pub returns-clause-removed : goal.returns-clause-removed
 returns-clause-removed c =
-    rw (c.remove_byte.ensures.removed, ascii-removed _ c.args.index (shown-text _ _ c.self.view_is) c.self.invariant.0 c.requires.boundary c.requires.next, shown-capacity _ c.self.view_is) refl
+    rw (c.remove_byte.ensures.removed, ascii-removed _ c.args.index (shown-text _ _ c.self.view_is) c.self.invariant.0 c.requires.boundary c.requires.next, c.remove_byte.ensures.capacity, shown-capacity _ c.self.view_is) refl
 
 pub returns-clause-within : goal.returns-clause-within
 returns-clause-within c =
     let stands = shown-size _ _ _ c.self.view_is c.self.invariant.0 c.self.invariant.1 in
     let less = size-ascii-removed c.args.self.now.text c.args.index c.requires.boundary c.requires.next in
     rw (c.remove_byte.ensures.removed, ascii-removed _ c.args.index (shown-text _ _ c.self.view_is) c.self.invariant.0 c.requires.boundary c.requires.next)
-    (omega (arith, stands, less, shown-capacity _ c.self.view_is, c.self.invariant.1, c.self.invariant.2))
+    (omega (arith, stands, less, shown-capacity _ c.self.view_is, c.self.invariant.1, c.self.inside.bytes.ok.0, c.self.inside.bytes.ok.1))

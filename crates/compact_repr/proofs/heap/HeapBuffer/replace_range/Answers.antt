@@ -44,8 +44,6 @@ invariant_of-self-2 c =
       rw (← added, replaced)
           (utf8-replaced _ _ _ _ (shown-text _ _ c.self.view_is) c.self.invariant.0 c.as_bytes.ensures.utf8 c.requires.first c.requires.last),
       omega (arith, added, long, c.replace_range.new.bytes.ok.0),
-      omega (arith, c.if-not-replace_range.ensures.within, c.replace_range.new.bytes.ok.0),
-      c.if-not-replace_range.ensures.reserved,
     )
 
 pub returns-clause-replaced : goal.returns-clause-replaced
@@ -53,7 +51,7 @@ returns-clause-replaced c _ =
     let added : length c.as_bytes.result.now ≡ length c.args.text.now = ap length c.as_bytes.ensures.value in
     let replaced = c.if-not-replace_range.ensures.replaced refl in
     let spelled = text_of-replaced _ _ _ _ (shown-text _ _ c.self.view_is) c.self.invariant.0 c.as_bytes.ensures.utf8 c.requires.first c.requires.last in
-    rw (← added, replaced, spelled, shown-capacity _ c.self.view_is, c.as_bytes.ensures.value) refl
+    rw (← added, replaced, spelled, c.if-not-replace_range.ensures.capacity, shown-capacity _ c.self.view_is, c.as_bytes.ensures.value) refl
 
 pub returns-clause-within : goal.returns-clause-within
 returns-clause-within c =
@@ -70,4 +68,4 @@ pub returns-then-not-replace_range-clause-within : goal.returns-then-not-replace
 returns-then-not-replace_range-clause-within c =
     let stands = shown-size _ _ _ c.self.view_is c.self.invariant.0 c.self.invariant.1 in
     rw (c.if-not-replace_range.ensures.full refl, shown-text _ _ c.self.view_is)
-    (omega (arith, stands, shown-capacity _ c.self.view_is, c.self.invariant.1, c.self.invariant.2))
+    (omega (arith, stands, shown-capacity _ c.self.view_is, c.self.invariant.1, c.self.inside.bytes.ok.0, c.self.inside.bytes.ok.1))

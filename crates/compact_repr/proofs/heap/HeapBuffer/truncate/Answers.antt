@@ -10,7 +10,7 @@ invariant_of-self c =
     let stands = shown-size _ _ _ c.self.view_is c.self.invariant.0 c.self.invariant.1 in
     let within = boundary-within _ _ c.requires in
     let front : take c.args.len (take c.self.inside.len c.self.inside.bytes.items) ≡ take c.args.len c.self.inside.bytes.items = take-take _ _ _ (omega (arith, stands, within)) in
-    (rw (← front) (utf8-take _ _ (shown-text _ _ c.self.view_is) c.self.invariant.0 c.requires), omega (arith, stands, within, c.self.invariant.1), c.self.invariant.2, c.self.invariant.3)
+    (rw (← front) (utf8-take _ _ (shown-text _ _ c.self.view_is) c.self.invariant.0 c.requires), omega (arith, stands, within, c.self.invariant.1))
 
 pub returns-clause-value : goal.returns-clause-value
 returns-clause-value c =
@@ -26,4 +26,4 @@ returns-clause-fits c =
     let front : take c.args.len (take c.self.inside.len c.self.inside.bytes.items) ≡ take c.args.len c.self.inside.bytes.items = take-take _ _ _ (omega (arith, stands, within)) in
     let kept = size-before _ _ c.requires in
     rw (← front, text_of-take _ _ (shown-text _ _ c.self.view_is) c.self.invariant.0 c.requires)
-    (omega (arith, stands, within, kept, shown-capacity _ c.self.view_is, c.self.invariant.1, c.self.invariant.2))
+    (omega (arith, stands, within, kept, shown-capacity _ c.self.view_is, c.self.invariant.1, c.self.inside.bytes.ok.0, c.self.inside.bytes.ok.1))
