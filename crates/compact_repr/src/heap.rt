@@ -9,6 +9,7 @@ ghost use Rattle.compact_repr.specs.Cut.{IsBoundary, before, replaced_text};
 use crate::rows;
 use std::alloc::{AllocError, Global};
 use std::marker::Model;
+use std::mem;
 
 /// The text is the first `len` bytes of the vector. What stands behind them was text once, or zeros that were written
 /// ahead, and may be written over: so an edit within what the vector has is a write in a slice, and asks for room once.
@@ -53,12 +54,17 @@ impl HeapBuffer {
         requires { length text.now ≤ capacity }
         ensures { IfOk result (λ b. b ≡ record { text = text_of text.now; capacity = capacity }) }
     {
+        let len = text.len();
         let mut bytes = Vec::with_capacity(alloc, capacity)?;
-        append(&mut bytes, text.as_bytes());
-        Ok(HeapBuffer {
-            bytes,
-            len: text.len(),
-        })
+        if len > capacity || bytes.extend_from_slice(text.as_bytes()).is_err() {
+            unreachable!();
+        }
+        if bytes.capacity() == capacity {
+            return Ok(HeapBuffer { bytes, len });
+        }
+        // It stays as it was, but `extend_from_slice` does not say so.
+        let bytes = copied_by_bytes(alloc, text.as_bytes(), capacity)?;
+        Ok(HeapBuffer { bytes, len })
     }
 
     /// Takes `text` over, with its capacity.
@@ -144,13 +150,7 @@ impl HeapBuffer {
         ensures full { result ≡ false → self.new ≡ self.old }
     {
         let len = self.len - (end - start) + text.len();
-        if !replace_range(
-            &mut self.bytes,
-            self.len,
-            start,
-            end,
-            text.as_bytes(),
-        ) {
+        if !replace_range(&mut self.bytes, self.len, start, end, text.as_bytes()) {
             return false;
         }
         self.len = len;
@@ -228,13 +228,7 @@ fn write_behind(bytes: &mut Vec<u8>, len: usize, source: &[u8]) -> bool
 /// Of the first `len` bytes replaces those from `start` to `end` by `source`, where the vector has room for the outcome.
 /// Answers whether it has; if not, nothing has changed.
 #[inline(always)]
-fn replace_range(
-    bytes: &mut Vec<u8>,
-    len: usize,
-    start: usize,
-    end: usize,
-    source: &[u8],
-) -> bool
+fn replace_range(bytes: &mut Vec<u8>, len: usize, start: usize, end: usize, source: &[u8]) -> bool
     requires order { start ≤ end }
     requires inside { end ≤ len }
     requires stands { len ≤ vec_len bytes.old }
@@ -317,20 +311,27 @@ fn lengthen(bytes: &mut Vec<u8>, needed: usize) -> bool
         return false;
     }
     let len = needed.saturating_mul(2).saturating_add(AHEAD).min(capacity);
-    for _ in bytes.len()..len {
-        bytes.push_reserved(0);
+    // A vector behind a reference would be looked at again for each byte.
+    let alloc = *bytes.allocator();
+    let mut row = mem::replace(bytes, Vec::new(alloc));
+    for _ in row.len()..len {
+        row.push_reserved(0);
     }
+    *bytes = row;
     true
 }
 
-/// Appends `source` in the room that the vector has reserved.
-#[inline(always)]
-fn append(bytes: &mut Vec<u8>, source: &[u8])
-    requires { vec_len bytes.old + length source.now ≤ vec_capacity bytes.old }
-    ensures items { bytes.new.items ≡ bytes.old.items ++ source.now }
-    ensures capacity { vec_capacity bytes.new ≡ vec_capacity bytes.old }
+/// A copy of `source` in a vector with room for `capacity` bytes and no more.
+#[cold]
+#[inline(never)]
+fn copied_by_bytes(alloc: Global, source: &[u8], capacity: usize) -> Result<Vec<u8>, AllocError>
+    requires { length source.now ≤ capacity }
+    ensures items { IfOk result (λ bytes. bytes.items ≡ source.now) }
+    ensures capacity { IfOk result (λ bytes. vec_capacity bytes ≡ capacity) }
 {
+    let mut bytes = Vec::with_capacity(alloc, capacity)?;
     for byte in source {
         bytes.push_reserved(*byte);
     }
+    Ok(bytes)
 }
