@@ -1,7 +1,8 @@
 //! The representation: a buffer of one of three kinds, with the allocator that its growth asks.
 ghost use Rattle.std.specs.Prelude.{◌≡◌, ◌<◌, ◌^◌, ◌↔◌, IsSome, IfSome, IsTrue};
 ghost use Rattle.compact_repr.specs.Text.{size, utf8, text_of};
-ghost use Rattle.compact_repr.specs.Value.{is_heap, is_static, IsSound};
+ghost use Rattle.compact_repr.specs.Value.{inline, is_heap, is_static, IsSound};
+ghost use Rattle.compact_repr.specs.Packed.{IsPackedFor};
 ghost use Rattle.compact_repr.specs.Stored.{value_of, IsStored};
 
 mod change;
@@ -121,5 +122,17 @@ impl<P: Policy> Repr<P> {
         ensures { result ≡ is_heap self.now.placement.place }
     {
         matches!(&self.buffer, Buffer::Heap(_))
+    }
+
+    /// The 24 bytes of an inline value, which stand for its text; `None` of every other.
+    #[inline]
+    pub fn packed(&self) -> Option<[u8; 24]>
+        ensures place { IsSome result ↔ (self.now.placement.place ≡ inline) }
+        ensures bytes { IfSome result (λ bytes. IsPackedFor bytes self.now.text) }
+    {
+        match &self.buffer {
+            Buffer::Inline(inline) => Some(inline.packed()),
+            _ => None,
+        }
     }
 }

@@ -1,10 +1,11 @@
 //! How a representation is made.
-ghost use Rattle.std.specs.Prelude.{◌≡◌, ◌<◌, length, nat_eq, if◌then◌else◌, [], Some, IfOk, OnErr, IsOk, IsTrue, string_bytes};
+ghost use Rattle.std.specs.Prelude.{◌≡◌, ◌<◌, ℕ, List, length, nat_eq, if◌then◌else◌, [], Some, IfOk, OnErr, IsOk, IsTrue, MatchOption, string_bytes};
 ghost use Rattle.std.specs.String.{string_capacity};
 ghost use Rattle.compact_repr.specs.Text.{size, text_of};
 ghost use Rattle.compact_repr.specs.Value.{placed};
 ghost use Rattle.compact_repr.specs.Capacity.{inlined, on_heap, new_room_asks, lasting, taken_over, copy_asks};
 ghost use Rattle.compact_repr.specs.Change.{made, with_room, copy_of};
+ghost use Rattle.compact_repr.specs.Packed.{IsPackedFor};
 
 use crate::error::ReserveError;
 use crate::heap::HeapBuffer;
@@ -60,6 +61,15 @@ impl<P: Policy> Repr<P> {
         }
         let inline = InlineBuffer::new(text);
         Self::of(alloc, Buffer::Inline(inline))
+    }
+
+    /// The text that 24 bytes stand for, inline; `None` where they stand for none.
+    #[inline]
+    pub fn from_packed(alloc: Global, bytes: &[u8; 24]) -> Option<Self>
+        ensures { MatchOption result ((t : List ℕ) → ¬ (IsPackedFor bytes.now t)) (λ r. IsPackedFor bytes.now r.text × (r.placement ≡ inlined)) }
+    {
+        let inline = InlineBuffer::from_packed(bytes)?;
+        Some(Self::of(alloc, Buffer::Inline(inline)))
     }
 
     /// The empty text with room for `capacity` bytes: inline up to 24, which is never refused, else on the heap.
