@@ -20,7 +20,8 @@ use std::marker::{Model, PhantomData};
 /// Where a text stands: in the value itself, on the heap, or in the program.
 #[derive(Drop)]
 pub enum Buffer {
-    Inline(InlineBuffer),
+    /// The array takes no byte. It has the bytes begin at a whole word, so that they move in words.
+    Inline([u64; 0], InlineBuffer),
     Heap(HeapBuffer),
     Static(StaticText),
 }
@@ -72,7 +73,7 @@ impl<P: Policy> Repr<P> {
         ensures sound { IsSound self.now }
     {
         match &self.buffer {
-            Buffer::Inline(inline) => inline.len(),
+            Buffer::Inline(_, inline) => inline.len(),
             Buffer::Heap(heap) => heap.len(),
             Buffer::Static(text) => text.len(),
         }
@@ -85,7 +86,7 @@ impl<P: Policy> Repr<P> {
         ensures text { text_of result.now ≡ self.now.text }
     {
         match &self.buffer {
-            Buffer::Inline(inline) => inline.as_str(),
+            Buffer::Inline(_, inline) => inline.as_str(),
             Buffer::Heap(heap) => heap.as_str(),
             Buffer::Static(text) => text.as_static_str(),
         }
@@ -110,7 +111,7 @@ impl<P: Policy> Repr<P> {
         ensures { result ≡ self.now.placement.capacity }
     {
         match &self.buffer {
-            Buffer::Inline(_) => INLINE_CAPACITY,
+            Buffer::Inline(_, _) => INLINE_CAPACITY,
             Buffer::Heap(heap) => heap.capacity(),
             Buffer::Static(text) => text.len(),
         }
@@ -131,7 +132,7 @@ impl<P: Policy> Repr<P> {
         ensures bytes { IfSome result (λ bytes. IsPackedFor bytes self.now.text) }
     {
         match &self.buffer {
-            Buffer::Inline(inline) => Some(inline.packed()),
+            Buffer::Inline(_, inline) => Some(inline.packed()),
             _ => None,
         }
     }
