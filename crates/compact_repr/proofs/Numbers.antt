@@ -6,7 +6,7 @@ use Rattle.std.specs.Int.{to_le_bytes, from_le_bytes, w64}
 use Rattle.std.specs.Int.Bits.{or_zero_l, or_zero_r, or_self, or_shifted_r}
 use Rattle.std.proofs.Math.Nat.{mul_assoc, mod-eq_of_lt}
 use Rattle.std.proofs.lemmas.Nat.{pow-add, pow_pos, shr_high, mod_low, or_block, le_bytes_8, from_le_bytes-to_le_bytes_8}
-use Rattle.std.proofs.lemmas.List.{length-take-le, length-drop, length-replicate, take-append-drop, take-take, drop-take, take_all, drop-drop, get_or-drop}
+use Rattle.std.proofs.lemmas.List.{length-take-le, length-drop, length-replicate, take-append-drop, take-take, drop-take, take_all, take_at, drop-drop, get_or-drop}
 use Rattle.compact_repr.specs.Words.{number, bytes_of}
 
 -- what the type of a row of bytes says of its items
@@ -210,3 +210,21 @@ bytes_of-with_last word byte seven small =
     let each : AllBytes (front ++ byte ∷ []) = AllBytes-append front (byte ∷ []) (AllBytes-take 7 bytes all) (AllBytes-cons byte [] small (λ i. omega arith)) in
     let eight : length (front ++ byte ∷ []) ≡ 8 = length-append front (byte ∷ []) ∙ omega (arith, length_front) in
     ap bytes_of (or_shifted_r byte 56 word seven ∙ sym both) ∙ bytes_of-number (front ++ byte ∷ []) each eight
+
+-- a word with another byte as the eighth
+pub bytes_of-other_last : (word byte given : ℕ) → word < 2 ^ 64 → byte < 256 → given ≡ byte
+    → bytes_of (bit_or (word % 2 ^ 56) (given * 2 ^ 56 % 2 ^ 64)) ≡ take 7 (bytes_of word) ++ byte ∷ []
+bytes_of-other_last word byte given fits small is =
+    let kept : given * 2 ^ 56 % 2 ^ 64 ≡ byte * 2 ^ 56 = ap (λ (n : ℕ). n * 2 ^ 56 % 2 ^ 64) is ∙ mod-eq_of_lt (omega arith) in
+    let bytes : List ℕ = bytes_of word in
+    let front : List ℕ = take 7 bytes in
+    let all : AllBytes bytes = AllBytes-bytes_of word in
+    let length_front : length front ≡ 7 = length-take-le 7 bytes (omega (arith, length-bytes_of word)) in
+    let low : word % 2 ^ 56 ≡ number front =
+    ap (λ (n : ℕ). n % 2 ^ 56) (sym (number-bytes_of word fits)) ∙ number-take 7 bytes all (omega (arith, length-bytes_of word)) in
+    let spelled : bytes_of (word % 2 ^ 56) ≡ front ++ replicate (8 - length front) 0 =
+    ap bytes_of low ∙ bytes_of-number_short front (AllBytes-take 7 bytes all) (omega (arith, length_front)) in
+    ap (λ (n : ℕ). bytes_of (bit_or (word % 2 ^ 56) n)) kept
+    ∙ bytes_of-with_last (word % 2 ^ 56) byte (omega arith) small
+    ∙ ap (λ (ys : List ℕ). take 7 ys ++ byte ∷ []) spelled
+    ∙ ap (λ (ys : List ℕ). ys ++ byte ∷ []) (take_at front (replicate (8 - length front) 0) 7 length_front)

@@ -8,6 +8,7 @@ use Rattle.std.proofs.Math.Seq.{take-append-add}
 use Rattle.compact_repr.specs.Words.{number, bytes_of}
 use Rattle.compact_repr.specs.Packed.{packed_bytes}
 use Rattle.compact_repr.proofs.Numbers.{AllBytes, AllBytes-drop, length-bytes_of, number-lt, bytes_of-with_last}
+use Rattle.compact_repr.proofs.ChangedRows.{row_is_three}
 use Rattle.compact_repr.proofs.WordRows.{row_of_three, row_of_two, row_of_one}
 
 -- the third word of such a row
@@ -77,3 +78,15 @@ pub packed_one : (xs : List ℕ) → AllBytes xs → length xs ≤ 8
     → bytes_of (number xs) ++ bytes_of 0 ++ bytes_of (with_length 0 (length xs)) ≡ packed_bytes xs
 packed_one xs all most =
     ended xs (bytes_of (number xs)) (bytes_of 0) 0 (length-bytes_of (number xs)) (length-bytes_of 0) (omega arith) (omega arith) (row_of_one xs all most)
+
+-- a row with another last byte is its first two words and the third with that byte
+pub other_last : (xs x y z : List ℕ) (last : ℕ) → length xs ≡ 24 → x ≡ take 8 xs → y ≡ take 8 (drop 8 xs) → z ≡ take 8 (drop 16 xs)
+    → x ++ y ++ (take 7 z ++ last ∷ []) ≡ take 23 xs ++ last ∷ []
+other_last xs x y z last long first second third =
+    let row : x ++ y ++ z ≡ xs = row_is_three xs x y z long first second third in
+    let length_x : length x ≡ 8 = ap length first ∙ length-take-le 8 xs (omega arith) in
+    let length_y : length y ≡ 8 = ap length second ∙ length-take-le 8 (drop 8 xs) (omega (arith, length-drop 8 xs)) in
+    let two : length (x ++ y) + 7 ≡ 23 = omega (arith, length-append x y) in
+    let front : x ++ y ++ take 7 z ≡ take 23 xs =
+    sym (take-append-add (x ++ y) z 7) ∙ ap (λ (n : ℕ). take n (x ++ y ++ z)) two ∙ ap (take 23) row in
+    sym (append_assoc (x ++ y) (take 7 z) (last ∷ [])) ∙ ap (λ (ys : List ℕ). ys ++ last ∷ []) front

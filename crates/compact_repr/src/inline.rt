@@ -8,11 +8,14 @@ ghost use Rattle.compact_repr.specs.Cut.{IsBoundary, before, replaced_text};
 ghost use Rattle.compact_repr.specs.Packed.{IsPackedFor, packed_len};
 
 use crate::rows;
-use crate::words::{insert_byte, pack, remove_byte};
+use crate::words::{insert_byte, pack, remove_byte, with_last_byte};
 use std::marker::Model;
 
 /// The most bytes that stand inline.
 pub const INLINE_CAPACITY: usize = 24;
+
+/// The greatest last byte: behind a text of 23 bytes.
+const GREATEST_LAST_BYTE: u8 = 215;
 
 /// A contract sees the text. The bytes hold its length too: the last of them is 192 and the length, unless the text has 24
 /// bytes and so ends there, in a byte of at most 191.
@@ -51,6 +54,20 @@ fn mark(bytes: &mut [u8; 24], len: usize)
 {
     if len < INLINE_CAPACITY {
         bytes[INLINE_CAPACITY - 1] = 192 + len as u8;
+    }
+}
+
+/// The row with the length of the text that stands first, written in whole words.
+#[inline(always)]
+fn marked(row: &[u8; 24], len: usize) -> [u8; 24]
+    requires fits { len ≤ 24 }
+    requires text { IsUtf8 (take len row.now) }
+    ensures { IsPackedFor result (text_of (take len row.now)) }
+{
+    if len < INLINE_CAPACITY {
+        with_last_byte(row, 192 + len as u8)
+    } else {
+        *row
     }
 }
 
@@ -156,9 +173,8 @@ impl InlineBuffer {
         if len >= INLINE_CAPACITY {
             return false;
         }
-        let mut bytes = insert_byte(&self.bytes, index, byte);
-        mark(&mut bytes, len + 1);
-        self.bytes = bytes;
+        let row = insert_byte(&self.bytes, index, byte);
+        self.bytes = marked(&row, len + 1);
         true
     }
 
@@ -171,9 +187,8 @@ impl InlineBuffer {
         ensures within { size self.new ≤ 24 }
     {
         let len = length_of(&self.bytes);
-        let mut bytes = remove_byte(&self.bytes, index);
-        mark(&mut bytes, len - 1);
-        self.bytes = bytes;
+        let row = remove_byte(&self.bytes, index);
+        self.bytes = marked(&row, len - 1);
     }
 
     /// Keeps the first `len` bytes, which end at a boundary.
@@ -207,7 +222,7 @@ impl InlineBuffer {
     pub fn from_packed(bytes: &[u8; 24]) -> Option<Self>
         ensures { MatchOption result ((t : List ℕ) → ¬ (IsPackedFor bytes.now t)) (λ t. IsPackedFor bytes.now t) }
     {
-        if bytes[INLINE_CAPACITY - 1] > 215 {
+        if bytes[INLINE_CAPACITY - 1] > GREATEST_LAST_BYTE {
             return None;
         }
         match std::str::from_utf8(&bytes[..length_of(bytes)]) {

@@ -163,6 +163,16 @@ pub fn pack(text: &[u8]) -> [u8; 24]
     }
 }
 
+/// The row with another last byte. It is written in whole words: a word that is read after one of its bytes was written
+/// alone waits for that byte.
+#[inline(always)]
+pub fn with_last_byte(row: &[u8; 24], last: u8) -> [u8; 24]
+    ensures { result ≡ take 23 row.now ++ last ∷ [] }
+{
+    let third = load8(row, 16) % 0x100_0000_0000_0000;
+    row_of_words(load8(row, 0), load8(row, 8), third | (u64::from(last) << 56))
+}
+
 /// The row with `byte` put in at a place; what stands from there on moves one place up, and the last byte goes.
 #[inline]
 pub fn insert_byte(row: &[u8; 24], at: usize, byte: u8) -> [u8; 24]

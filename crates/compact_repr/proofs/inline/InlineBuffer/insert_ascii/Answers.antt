@@ -6,17 +6,17 @@ use Rattle.compact_repr.proofs.PackedTexts.{packed-text}
 use Rattle.compact_repr.proofs.PackedEdits.{len-seen, utf8-seen}
 use Rattle.compact_repr.proofs.inline.InlineBuffer.insert_ascii.Goals as goal
 
-pub mark-requires-clause-text : goal.mark-requires-clause-text
-mark-requires-clause-text c =
+pub marked-self-inside-requires-clause-text : goal.marked-self-inside-requires-clause-text
+marked-self-inside-requires-clause-text c =
     let stands = len-seen _ c.self.view_is c.self.invariant in
     let within = boundary-within c.args.self.now c.args.index c.requires.boundary in
-    let bytes = word-byte-in c.self.inside.bytes c.insert_byte-bytes.result c.args.byte c.length_of-len.result c.args.index (omega (arith, stands, within, c.length_of-len.ensures)) c.if-len-ge-INLINE_CAPACITY.false c.self.told c.insert_byte-bytes.ensures in
+    let bytes = word-byte-in c.self.inside.bytes c.insert_byte-row.result c.args.byte c.length_of-len.result c.args.index (omega (arith, stands, within, c.length_of-len.ensures)) c.if-len-ge-INLINE_CAPACITY.false c.self.told c.insert_byte-row.ensures in
     rw (bytes, c.length_of-len.ensures) (utf8-ascii-inserted _ c.args.index c.args.byte c.self.view_is (utf8-seen _ c.self.invariant) c.requires.ascii c.requires.boundary)
 
 pub returns-clause-inserted : goal.returns-clause-inserted
 returns-clause-inserted c _ =
     let stands = len-seen _ c.self.view_is c.self.invariant in
     let within = boundary-within c.args.self.now c.args.index c.requires.boundary in
-    let bytes = word-byte-in c.self.inside.bytes c.insert_byte-bytes.result c.args.byte c.length_of-len.result c.args.index (omega (arith, stands, within, c.length_of-len.ensures)) c.if-len-ge-INLINE_CAPACITY.false c.self.told c.insert_byte-bytes.ensures in
-    packed-text _ _ c.mark.ensures
+    let bytes = word-byte-in c.self.inside.bytes c.insert_byte-row.result c.args.byte c.length_of-len.result c.args.index (omega (arith, stands, within, c.length_of-len.ensures)) c.if-len-ge-INLINE_CAPACITY.false c.self.told c.insert_byte-row.ensures in
+    packed-text _ _ c.marked-self-inside.ensures
     ∙ rw (bytes, c.length_of-len.ensures) (ascii-inserted _ c.args.index c.args.byte c.self.view_is (utf8-seen _ c.self.invariant) c.requires.ascii c.requires.boundary)
