@@ -1,5 +1,5 @@
 -- A row of three words whose last byte is the length of what it holds.
-use Rattle.std.proofs.Common.{◌≡◌, ℕ, ◌+◌, ◌-◌, ◌*◌, ◌^◌, ◌<◌, ◌≤◌, List, [], ◌∷◌, ◌++◌, length, take, drop, refl, ap, sym, ◌∙◌, subst, arith, length-append, append_assoc, ⊎_elim}
+use Rattle.std.proofs.Common.{◌≡◌, ℕ, ◌+◌, ◌-◌, ◌*◌, ◌^◌, ◌<◌, ◌≤◌, List, [], ◌∷◌, ◌++◌, length, take, drop, ap, sym, ◌∙◌, arith, length-append, append_assoc, ⊎_elim}
 use Rattle.std.specs.Prelude.{replicate, bit_or, nat_lt, if◌then◌else◌}
 use Rattle.std.proofs.lemmas.Bool.{lt-ltb, le-ltb, cond-true, cond-false, cases_lt}
 use Rattle.std.proofs.lemmas.List.{append-nil, length-drop, length-take-le, take-replicate}
@@ -65,7 +65,7 @@ packed_three xs all held most =
     let row = row_of_three xs all held most in
     ⊎_elim
     (λ (short : length xs < 24).
-        ended xs (take 8 xs) (take 8 (drop 8 xs)) (number (drop 16 xs)) first second (seven_bytes (drop 16 xs) (AllBytes-drop 16 xs all) (omega (arith, length-drop 16 xs))) short row)
+    ended xs (take 8 xs) (take 8 (drop 8 xs)) (number (drop 16 xs)) first second (seven_bytes (drop 16 xs) (AllBytes-drop 16 xs all) (omega (arith, length-drop 16 xs))) short row)
     (λ (long : 24 ≤ length xs). full xs (take 8 xs) (take 8 (drop 8 xs)) (number (drop 16 xs)) (omega arith) row)
     (cases_lt (length xs) 24)
 

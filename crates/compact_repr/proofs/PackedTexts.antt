@@ -1,11 +1,11 @@
 -- What 24 bytes stand for.
-use Rattle.std.proofs.Common.{◌≡◌, ℕ, ◌+◌, ◌-◌, ◌*◌, ◌/◌, ◌%◌, ◌<◌, ◌≤◌, List, [], ◌∷◌, ◌++◌, length, take, get_or, refl, ap, sym, ◌∙◌, subst, arith, length-append, append_assoc, inl, inr, ⊎_elim}
-use Prim.Native.Nat.{zero, suc}
+use Rattle.std.proofs.Common.{◌≡◌, ℕ, ◌+◌, ◌-◌, ◌/◌, ◌<◌, ◌≤◌, List, [], ◌∷◌, ◌++◌, length, take, get_or, refl, ap, sym, ◌∙◌, subst, arith, length-append, append_assoc, inl, inr, ⊎_elim}
+use Prim.Native.Nat.{suc}
 use Rattle.std.specs.Prelude.{replicate}
 use Rattle.std.specs.Str.{IsUtf8}
 use Rattle.std.proofs.lemmas.Bool.{lt-ltb, le-ltb, ltb-true, cond-true, cond-false, cond_both, cases_lt}
 use Rattle.std.proofs.lemmas.List.{append-nil, length-take-le, length-replicate, take_all, take_at, take-take, take-append-le, get_or_push, get_or-append-add, get_or-set_same, take-set-le, length-set}
-use Rattle.std.proofs.lemmas.Str.{length-encode, len_utf8_bounds, encodes-chars, scalars-chars, chars-encodes, encodes_same}
+use Rattle.std.proofs.lemmas.Str.{length-encode, len_utf8_bounds, encodes-chars, scalars-chars, chars-encodes}
 use lib.Dec.{ltb}
 use lib.ListN.{set}
 use lib.Utf8.{encode, encodes, next}
@@ -74,7 +74,7 @@ pub packed-len : (bytes t : List ℕ) → IsPackedFor bytes t → packed_len byt
 packed-len bytes t p =
     ⊎_elim
     (λ (h : (size t ≡ 24) × (bytes ≡ utf8 t)).
-        len-full bytes (low-last bytes 23 (t, (p.text, sym h.1)) (ap length h.1 ∙ length-utf8 t ∙ h.0)) ∙ sym h.0)
+    len-full bytes (low-last bytes 23 (t, (p.text, sym h.1)) (ap length h.1 ∙ length-utf8 t ∙ h.0)) ∙ sym h.0)
     (λ (h : (size t ≤ 23) × (take (size t) bytes ≡ utf8 t) × (get_or bytes 23 0 ≡ 192 + size t)). len-short bytes (size t) h.2)
     p.stands
 
@@ -89,7 +89,7 @@ pub packed-last : (bytes t : List ℕ) → IsPackedFor bytes t → get_or bytes 
 packed-last bytes t p =
     ⊎_elim
     (λ (h : (size t ≡ 24) × (bytes ≡ utf8 t)).
-        let low = low-last bytes 23 (t, (p.text, sym h.1)) (ap length h.1 ∙ length-utf8 t ∙ h.0) in omega (arith, low))
+    let low = low-last bytes 23 (t, (p.text, sym h.1)) (ap length h.1 ∙ length-utf8 t ∙ h.0) in omega (arith, low))
     (λ (h : (size t ≤ 23) × (take (size t) bytes ≡ utf8 t) × (get_or bytes 23 0 ≡ 192 + size t)). let most = h.0 in let last = h.2 in omega (arith, most, last))
     p.stands
 
@@ -168,15 +168,15 @@ stands-read bytes all most u =
     ⊎_elim
     (λ (low : last < 192). stands-full bytes n all (len-full bytes low) u)
     (λ (high : 192 ≤ last).
-        let e : n ≡ last - 192 = cond-false _ _ _ (le-ltb last 192 high) in
-        ⊎_elim
-        (λ (short : n < 24). stands-short bytes n all short u (omega (arith, e, high)))
-        (λ (long : 24 ≤ n).
-            let full : n ≡ 24 = omega arith in
-            let whole : take n bytes ≡ bytes = take_all n bytes (omega arith) in
-            let low : last < 192 = low-last bytes 23 (subst IsUtf8 whole u) all in
-            absurd (omega (arith, low, high)))
-        (cases_lt n 24))
+    let e : n ≡ last - 192 = cond-false _ _ _ (le-ltb last 192 high) in
+    ⊎_elim
+    (λ (short : n < 24). stands-short bytes n all short u (omega (arith, e, high)))
+    (λ (long : 24 ≤ n).
+    let full : n ≡ 24 = omega arith in
+    let whole : take n bytes ≡ bytes = take_all n bytes (omega arith) in
+    let low : last < 192 = low-last bytes 23 (subst IsUtf8 whole u) all in
+    absurd (omega (arith, low, high)))
+    (cases_lt n 24))
     (cases_lt last 192)
 
 -- the packed bytes of a text
@@ -186,18 +186,18 @@ stands-packed bytes u most =
     let row : List ℕ = packed_bytes bytes in
     ⊎_elim
     (λ (short : n < 24).
-        let zeros : List ℕ = replicate (23 - n) 0 in
-        let last : ℕ = 192 + n in
-        let begun : length (bytes ++ zeros) ≡ 23 = length-append bytes zeros ∙ ap (λ (k : ℕ). n + k) (length-replicate (23 - n) 0) ∙ omega arith in
-        let is : row ≡ (bytes ++ zeros) ++ last ∷ [] = cond-true _ _ _ (lt-ltb n 24 short) in
-        let all : length row ≡ 24 = ap length is ∙ length-append (bytes ++ zeros) (last ∷ []) ∙ ap (λ (k : ℕ). k + 1) begun in
-        let front : take n row ≡ bytes = ap (take n) (is ∙ append_assoc bytes zeros (last ∷ [])) ∙ take_at bytes (zeros ++ last ∷ []) n refl in
-        let end : get_or row 23 0 ≡ last = ap (λ (ys : List ℕ). get_or ys 23 0) is ∙ get_or_push (bytes ++ zeros) last 0 23 begun in
-        subst (λ (ys : List ℕ). IsPackedFor row (text_of ys)) front (stands-short row n all short (subst IsUtf8 (sym front) u) end))
+    let zeros : List ℕ = replicate (23 - n) 0 in
+    let last : ℕ = 192 + n in
+    let begun : length (bytes ++ zeros) ≡ 23 = length-append bytes zeros ∙ ap (λ (k : ℕ). n + k) (length-replicate (23 - n) 0) ∙ omega arith in
+    let is : row ≡ (bytes ++ zeros) ++ last ∷ [] = cond-true _ _ _ (lt-ltb n 24 short) in
+    let all : length row ≡ 24 = ap length is ∙ length-append (bytes ++ zeros) (last ∷ []) ∙ ap (λ (k : ℕ). k + 1) begun in
+    let front : take n row ≡ bytes = ap (take n) (is ∙ append_assoc bytes zeros (last ∷ [])) ∙ take_at bytes (zeros ++ last ∷ []) n refl in
+    let end : get_or row 23 0 ≡ last = ap (λ (ys : List ℕ). get_or ys 23 0) is ∙ get_or_push (bytes ++ zeros) last 0 23 begun in
+    subst (λ (ys : List ℕ). IsPackedFor row (text_of ys)) front (stands-short row n all short (subst IsUtf8 (sym front) u) end))
     (λ (long : 24 ≤ n).
-        let full : n ≡ 24 = omega arith in
-        let is : row ≡ bytes = cond-false _ _ _ (le-ltb n 24 long) in
-        let front : take n bytes ≡ bytes = take_all n bytes (omega arith) in
-        let stands : IsPackedFor bytes (text_of bytes) = subst (λ (ys : List ℕ). IsPackedFor bytes (text_of ys)) front (stands-full bytes n full full (subst IsUtf8 (sym front) u)) in
-        subst (λ (ys : List ℕ). IsPackedFor ys (text_of bytes)) (sym is) stands)
+    let full : n ≡ 24 = omega arith in
+    let is : row ≡ bytes = cond-false _ _ _ (le-ltb n 24 long) in
+    let front : take n bytes ≡ bytes = take_all n bytes (omega arith) in
+    let stands : IsPackedFor bytes (text_of bytes) = subst (λ (ys : List ℕ). IsPackedFor bytes (text_of ys)) front (stands-full bytes n full full (subst IsUtf8 (sym front) u)) in
+    subst (λ (ys : List ℕ). IsPackedFor ys (text_of bytes)) (sym is) stands)
     (cases_lt n 24)

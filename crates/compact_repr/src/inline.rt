@@ -42,7 +42,11 @@ fn length_of(bytes: &[u8; 24]) -> usize
     ensures { result ≡ packed_len bytes.now }
 {
     let len = bytes[INLINE_CAPACITY - 1].wrapping_sub(192);
-    if len < 24 { len as usize } else { INLINE_CAPACITY }
+    if len < 24 {
+        len as usize
+    } else {
+        INLINE_CAPACITY
+    }
 }
 
 /// Writes the length of the text that stands first. A text of 24 bytes leaves no place for it, and needs none.
@@ -57,7 +61,17 @@ fn mark(bytes: &mut [u8; 24], len: usize)
     }
 }
 
-/// The row with the length of the text that stands first, written in whole words.
+/// The row with the length of the text that stands first, which is shorter than the row, written in whole words.
+#[inline(always)]
+fn ended(row: &[u8; 24], len: usize) -> [u8; 24]
+    requires short { len < 24 }
+    requires text { IsUtf8 (take len row.now) }
+    ensures { IsPackedFor result (text_of (take len row.now)) }
+{
+    with_last_byte(row, 192 + len as u8)
+}
+
+/// The same of a text that may be all of the row, which then stays as it is.
 #[inline(always)]
 fn marked(row: &[u8; 24], len: usize) -> [u8; 24]
     requires fits { len ≤ 24 }
@@ -65,7 +79,7 @@ fn marked(row: &[u8; 24], len: usize) -> [u8; 24]
     ensures { IsPackedFor result (text_of (take len row.now)) }
 {
     if len < INLINE_CAPACITY {
-        with_last_byte(row, 192 + len as u8)
+        ended(row, len)
     } else {
         *row
     }
@@ -188,7 +202,7 @@ impl InlineBuffer {
     {
         let len = length_of(&self.bytes);
         let row = remove_byte(&self.bytes, index);
-        self.bytes = marked(&row, len - 1);
+        self.bytes = ended(&row, len - 1);
     }
 
     /// Keeps the first `len` bytes, which end at a boundary.

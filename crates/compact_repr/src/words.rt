@@ -155,7 +155,11 @@ pub fn pack(text: &[u8]) -> [u8; 24]
 {
     let len = text.len();
     if len > 16 {
-        row_of_words(load8(text, 0), load8(text, 8), with_length(tail(text, 16), len))
+        row_of_words(
+            load8(text, 0),
+            load8(text, 8),
+            with_length(tail(text, 16), len),
+        )
     } else if len > 8 {
         row_of_words(load8(text, 0), tail(text, 8), with_length(0, len))
     } else {
@@ -170,7 +174,11 @@ pub fn with_last_byte(row: &[u8; 24], last: u8) -> [u8; 24]
     ensures { result ≡ take 23 row.now ++ last ∷ [] }
 {
     let third = load8(row, 16) % 0x100_0000_0000_0000;
-    row_of_words(load8(row, 0), load8(row, 8), third | (u64::from(last) << 56))
+    row_of_words(
+        load8(row, 0),
+        load8(row, 8),
+        third | (u64::from(last) << 56),
+    )
 }
 
 /// The row with `byte` put in at a place; what stands from there on moves one place up, and the last byte goes.

@@ -119,7 +119,10 @@ impl<P: Policy> Repr<P> {
         ensures err { OnErr result (IsTrue (copy_asks self.now)) }
     {
         match &self.buffer {
-            Buffer::Inline(_, inline) => Ok(Self::of(self.alloc, Buffer::Inline([], inline.duplicate()))),
+            Buffer::Inline(_, inline) => Ok(Self::of(
+                self.alloc,
+                Buffer::Inline([], inline.duplicate()),
+            )),
             Buffer::Heap(heap) => Self::new(self.alloc, heap.as_str()),
             Buffer::Static(text) => Ok(Self::of(self.alloc, Buffer::Static(text.duplicate()))),
         }

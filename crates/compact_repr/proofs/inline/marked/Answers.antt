@@ -1,9 +1,6 @@
 use Rattle.std.proofs.Common.{arith}
-use Rattle.compact_repr.proofs.PackedTexts.{stands-ended, stands-full}
+use Rattle.compact_repr.proofs.PackedTexts.{stands-full}
 use Rattle.compact_repr.proofs.inline.marked.Goals as goal
-
-pub returns-then-len-lt-INLINE_CAPACITY : goal.returns-then-len-lt-INLINE_CAPACITY
-returns-then-len-lt-INLINE_CAPACITY c = rw c.with_last_byte.ensures (stands-ended c.args.row.now c.args.len (omega arith) (omega arith) c.requires.text)
 
 pub returns-else-len-lt-INLINE_CAPACITY : goal.returns-else-len-lt-INLINE_CAPACITY
 returns-else-len-lt-INLINE_CAPACITY c = stands-full c.args.row.now c.args.len (omega arith) (omega arith) c.requires.text

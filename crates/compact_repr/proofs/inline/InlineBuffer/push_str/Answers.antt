@@ -1,6 +1,5 @@
-use Rattle.std.proofs.Common.{◌∙◌, ap, ◌++◌}
+use Rattle.std.proofs.Common.{◌∙◌}
 use Rattle.std.proofs.lemmas.Str.{IsUtf8-append, chars-append}
-use Rattle.compact_repr.specs.Text.{text_of}
 use Rattle.compact_repr.proofs.PackedTexts.{packed-text, packed-again}
 use Rattle.compact_repr.proofs.PackedEdits.{utf8-seen}
 use Rattle.compact_repr.proofs.inline.InlineBuffer.push_str.Goals as goal

@@ -6,8 +6,8 @@ use Rattle.compact_repr.proofs.PackedTexts.{packed-text, packed-again}
 use Rattle.compact_repr.proofs.PackedEdits.{len-seen, len-fits, utf8-seen}
 use Rattle.compact_repr.proofs.inline.InlineBuffer.remove_ascii.Goals as goal
 
-pub marked-self-inside-requires-clause-text : goal.marked-self-inside-requires-clause-text
-marked-self-inside-requires-clause-text c =
+pub ended-self-inside-requires-clause-text : goal.ended-self-inside-requires-clause-text
+ended-self-inside-requires-clause-text c =
     let stands = len-seen _ c.self.view_is c.self.invariant in
     let most = len-fits _ c.self.view_is c.self.invariant in
     let within = boundary-within _ _ c.requires.next in
@@ -16,7 +16,7 @@ marked-self-inside-requires-clause-text c =
     rw (bytes, e) (utf8-ascii-removed _ c.args.index c.self.view_is (utf8-seen _ c.self.invariant) c.requires.boundary c.requires.next)
 
 pub invariant_of-self : goal.invariant_of-self
-invariant_of-self c = packed-again _ _ c.marked-self-inside.ensures
+invariant_of-self c = packed-again _ _ c.ended-self-inside.ensures
 
 pub returns-clause-removed : goal.returns-clause-removed
 returns-clause-removed c =
@@ -25,5 +25,5 @@ returns-clause-removed c =
     let within = boundary-within _ _ c.requires.next in
     let e = c.length_of-len.ensures in
     let bytes = word-byte-out c.self.inside.bytes c.remove_byte-row.result c.length_of-len.result c.args.index (omega (arith, stands, within, e)) (omega (arith, most, e)) c.self.told c.remove_byte-row.ensures in
-    packed-text _ _ c.marked-self-inside.ensures
+    packed-text _ _ c.ended-self-inside.ensures
     ∙ rw (bytes, e) (ascii-removed _ c.args.index c.self.view_is (utf8-seen _ c.self.invariant) c.requires.boundary c.requires.next)
