@@ -1,9 +1,13 @@
 -- Worked examples of the definitions, each computed. The numbers come from the Rust crate and from the Unicode Standard.
-use Rattle.std.specs.Prelude.{◌≡◌, ℕ, List, [], ◌∷◌, replicate, Some, None, true, false, refl}
+use Rattle.std.specs.Prelude.{◌≡◌, ℕ, List, [], ◌∷◌, ◌++◌, replicate, Some, None, true, false, refl}
+use Rattle.std.proofs.Common.{inl, inr, arith}
+use lib.Utf8.{encode}
 use Rattle.compact_repr.specs.Text.{size}
 use Rattle.compact_repr.specs.Cut.{before, after, replaced_text}
 use Rattle.compact_repr.specs.Value.{PlacedText, placed}
 use Rattle.compact_repr.specs.Capacity.{Growth, inlined, on_heap, borrowed, allowed, new_room, new_room_asks, fits_in_place, room, room_asks, kept, owned, own_asks, lasting, taken_over, copied, copy_asks, shrunk, shrink_asks}
+use Rattle.compact_repr.specs.Packed.{IsPackedFor, packed_len, packed_text, packed_bytes}
+use Rattle.compact_repr.proofs.PackedTexts.{packed-last, packed-text}
 use Rattle.compact_repr.specs.Change.{made, pushed, push_asks, cleared, reserved, with_room, made_owned, copy_of, truncated}
 
 abbrev standard : Growth
@@ -192,3 +196,52 @@ an_empty_value_with_room_for_25_has_32 = refl
 
 what_is_kept_of_a_heap_text_is_its_capacity : kept (heap 30 45) [] ≡ on_heap 45
 what_is_kept_of_a_heap_text_is_its_capacity = refl
+
+-- packed into 24 bytes
+
+the_empty_text_ends_in_192 : packed_bytes [] ≡ replicate 23 0 ++ 0xC0 ∷ []
+the_empty_text_ends_in_192 = refl
+
+-- hello world
+eleven_bytes_end_in_203 :
+    packed_bytes (0x68 ∷ 0x65 ∷ 0x6C ∷ 0x6C ∷ 0x6F ∷ 0x20 ∷ 0x77 ∷ 0x6F ∷ 0x72 ∷ 0x6C ∷ 0x64 ∷ [])
+    ≡ 0x68 ∷ 0x65 ∷ 0x6C ∷ 0x6C ∷ 0x6F ∷ 0x20 ∷ 0x77 ∷ 0x6F ∷ 0x72 ∷ 0x6C ∷ 0x64 ∷ replicate 12 0 ++ 0xCB ∷ []
+eleven_bytes_end_in_203 = refl
+
+sixteen_bytes_end_in_208 : packed_bytes (replicate 16 0x61) ≡ replicate 16 0x61 ++ replicate 7 0 ++ 0xD0 ∷ []
+sixteen_bytes_end_in_208 = refl
+
+twenty_three_bytes_end_in_215 : packed_bytes (replicate 23 0x61) ≡ replicate 23 0x61 ++ 0xD7 ∷ []
+twenty_three_bytes_end_in_215 = refl
+
+twenty_four_bytes_are_all : packed_bytes (replicate 24 0x61) ≡ replicate 24 0x61
+twenty_four_bytes_are_all = refl
+
+a_low_last_byte_means_24 : packed_len (replicate 23 0 ++ 0xBF ∷ []) ≡ 24
+a_low_last_byte_means_24 = refl
+
+the_lowest_length_is_0 : packed_len (replicate 23 0 ++ 0xC0 ∷ []) ≡ 0
+the_lowest_length_is_0 = refl
+
+-- what stands behind the text may be anything
+one_letter_before_rubbish : IsPackedFor (0x61 ∷ replicate 22 0xFF ++ 0xC1 ∷ []) (0x61 ∷ [])
+unfolding encode
+one_letter_before_rubbish = record { text = refl; stands = inr (omega arith, refl, refl) }
+
+one_letter_is_read : packed_text (0x61 ∷ replicate 22 0xFF ++ 0xC1 ∷ []) ≡ 0x61 ∷ []
+one_letter_is_read = packed-text _ (0x61 ∷ []) one_letter_before_rubbish
+
+twenty_four_letters : IsPackedFor (replicate 24 0x61) (letters 24)
+unfolding encode
+twenty_four_letters = record { text = refl; stands = inl (refl, refl) }
+
+-- eight euro signs of three bytes each
+abbrev euro_signs : List ℕ
+euro_signs = 0xE2 ∷ 0x82 ∷ 0xAC ∷ 0xE2 ∷ 0x82 ∷ 0xAC ∷ 0xE2 ∷ 0x82 ∷ 0xAC ∷ 0xE2 ∷ 0x82 ∷ 0xAC ∷ 0xE2 ∷ 0x82 ∷ 0xAC ∷ 0xE2 ∷ 0x82 ∷ 0xAC ∷ 0xE2 ∷ 0x82 ∷ 0xAC ∷ 0xE2 ∷ 0x82 ∷ 0xAC ∷ []
+
+eight_euro_signs : IsPackedFor euro_signs (replicate 8 0x20AC)
+unfolding encode
+eight_euro_signs = record { text = refl; stands = inl (refl, refl) }
+
+a_last_byte_of_216_stands_for_no_text : (t : List ℕ) → ¬ (IsPackedFor (replicate 23 0 ++ 0xD8 ∷ []) t)
+a_last_byte_of_216_stands_for_no_text t p = let last = packed-last _ t p in omega (arith, last)

@@ -6,7 +6,6 @@ pub mod Ends
 pub mod Parts
 pub mod ReplacedRows
 pub mod TextFacts
-pub mod Examples
 pub mod HeapTexts
 pub mod Strings
 pub mod Changes
@@ -14,3 +13,8 @@ pub mod Numbers
 pub mod WordRows
 pub mod ChangedWords
 pub mod ChangedRows
+pub mod PackedRows
+pub mod PackedTexts
+pub mod PackedEdits
+pub mod PackedFacts
+pub mod Examples

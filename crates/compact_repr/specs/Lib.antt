@@ -6,3 +6,4 @@ pub mod Change
 pub mod Stored
 pub mod Words
 pub mod Loan
+pub mod Packed

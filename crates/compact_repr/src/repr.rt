@@ -1,7 +1,8 @@
 //! The representation: a buffer of one of three kinds, with the allocator that its growth asks.
 ghost use Rattle.std.specs.Prelude.{◌≡◌, ◌<◌, ◌^◌, ◌↔◌, IsSome, IfSome, IsTrue};
 ghost use Rattle.compact_repr.specs.Text.{size, utf8, text_of};
-ghost use Rattle.compact_repr.specs.Value.{is_heap, is_static, IsSound};
+ghost use Rattle.compact_repr.specs.Value.{inline, is_heap, is_static, IsSound};
+ghost use Rattle.compact_repr.specs.Packed.{IsPackedFor};
 ghost use Rattle.compact_repr.specs.Stored.{value_of, IsStored};
 
 mod change;
@@ -19,7 +20,8 @@ use std::marker::{Model, PhantomData};
 /// Where a text stands: in the value itself, on the heap, or in the program.
 #[derive(Drop)]
 pub enum Buffer {
-    Inline(InlineBuffer),
+    /// The array takes no byte. It has the bytes begin at a whole word, so that they move in words.
+    Inline([u64; 0], InlineBuffer),
     Heap(HeapBuffer),
     Static(StaticText),
 }
@@ -71,7 +73,7 @@ impl<P: Policy> Repr<P> {
         ensures sound { IsSound self.now }
     {
         match &self.buffer {
-            Buffer::Inline(inline) => inline.len(),
+            Buffer::Inline(_, inline) => inline.len(),
             Buffer::Heap(heap) => heap.len(),
             Buffer::Static(text) => text.len(),
         }
@@ -84,7 +86,7 @@ impl<P: Policy> Repr<P> {
         ensures text { text_of result.now ≡ self.now.text }
     {
         match &self.buffer {
-            Buffer::Inline(inline) => inline.as_str(),
+            Buffer::Inline(_, inline) => inline.as_str(),
             Buffer::Heap(heap) => heap.as_str(),
             Buffer::Static(text) => text.as_static_str(),
         }
@@ -109,7 +111,7 @@ impl<P: Policy> Repr<P> {
         ensures { result ≡ self.now.placement.capacity }
     {
         match &self.buffer {
-            Buffer::Inline(_) => INLINE_CAPACITY,
+            Buffer::Inline(_, _) => INLINE_CAPACITY,
             Buffer::Heap(heap) => heap.capacity(),
             Buffer::Static(text) => text.len(),
         }
@@ -121,5 +123,17 @@ impl<P: Policy> Repr<P> {
         ensures { result ≡ is_heap self.now.placement.place }
     {
         matches!(&self.buffer, Buffer::Heap(_))
+    }
+
+    /// The 24 bytes of an inline value, which stand for its text; `None` of every other.
+    #[inline]
+    pub fn packed(&self) -> Option<[u8; 24]>
+        ensures place { IsSome result ↔ (self.now.placement.place ≡ inline) }
+        ensures bytes { IfSome result (λ bytes. IsPackedFor bytes self.now.text) }
+    {
+        match &self.buffer {
+            Buffer::Inline(_, inline) => Some(inline.packed()),
+            _ => None,
+        }
     }
 }

@@ -17,6 +17,7 @@ use Rattle.compact_str.specs.Edits.{Writes}
 pub use Rattle.compact_repr.proofs.Texts.{length-utf8, utf8-text_of, size-text_of, size-append, empty_text}
 pub use Rattle.compact_repr.proofs.Changes.{pushed-text}
 pub use Rattle.compact_repr.proofs.Cuts.{before-after, before-cut, after-cut, boundary-text, text_of-take, text_of-drop, boundary-within, size-before, size-after}
+pub use Rattle.compact_repr.proofs.PackedTexts.{one_text}
 pub use Rattle.compact_str.proofs.Positions.{before-before, boundary-seam}
 
 -- the parts that a formatter wrote are a text together, which is joined
@@ -103,4 +104,5 @@ pub ruleset for_callers = (
   text_of-four,
   text_of-decimal,
   text_of-decimal_append,
+  one_text,
 )

@@ -1,7 +1,8 @@
--- Laws of the edits, over their definitions alone.
+-- Laws of the edits and of packed bytes, over their definitions alone.
 use Rattle.std.specs.Prelude.{◌≡◌, ℕ, ◌<◌, List, false, [], ◌∷◌, Some}
 use Rattle.compact_repr.specs.Text.{size}
 use Rattle.compact_repr.specs.Cut.{IsBoundary, before}
+use Rattle.compact_repr.specs.Packed.{IsPackedFor}
 use Rattle.compact_repr.specs.Value.{PlacedText, placed}
 use Rattle.compact_repr.specs.Capacity.{Growth, kept, own_asks}
 use Rattle.compact_repr.specs.Change.{pushed, copy_of, truncated, inserted}
@@ -35,3 +36,7 @@ AppendUndoesSplit =
 -- a clone has the text of its source
 abbrev pub CloneIsEqual : Type 0
 CloneIsEqual = (g : Growth) (v w : PlacedText) → copy_of g v ≡ Some w → w.text ≡ v.text
+
+-- 24 bytes stand for one text at most
+abbrev pub PackedBytesStandForOneText : Type 0
+PackedBytesStandForOneText = (bytes t s : List ℕ) → IsPackedFor bytes t → IsPackedFor bytes s → t ≡ s

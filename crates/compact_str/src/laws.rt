@@ -1,5 +1,5 @@
-//! Laws of the edits. Each function does nothing; its contract is the law.
-ghost use Rattle.compact_str.specs.Laws.{RemovalUndoesInsertion, TruncationUndoesAppend, AppendUndoesSplit, CloneIsEqual};
+//! Laws of the edits and of packed bytes. Each function does nothing; its contract is the law.
+ghost use Rattle.compact_str.specs.Laws.{RemovalUndoesInsertion, TruncationUndoesAppend, AppendUndoesSplit, CloneIsEqual, PackedBytesStandForOneText};
 
 /// Where `insert` put a character in, `remove` may be called and is never refused: it takes out that character, and the
 /// text is then as before.
@@ -20,4 +20,9 @@ pub fn append_undoes_split()
 /// A clone has the text of its source.
 pub fn clone_is_equal()
     ensures { CloneIsEqual }
+{}
+
+/// No 24 bytes stand for two texts. So what `from_packed` makes of the bytes that `packed` gave has the text of that value.
+pub fn packed_bytes_stand_for_one_text()
+    ensures { PackedBytesStandForOneText }
 {}

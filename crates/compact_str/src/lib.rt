@@ -12,7 +12,8 @@ mod string;
 
 pub use compact_repr::{GREATEST_CAPACITY, INLINE_CAPACITY, Policy, ReserveError, Standard};
 pub use laws::{
-    append_undoes_split, clone_is_equal, removal_undoes_insertion, truncation_undoes_append,
+    append_undoes_split, clone_is_equal, packed_bytes_stand_for_one_text, removal_undoes_insertion,
+    truncation_undoes_append,
 };
 pub use refused::Refused;
 pub use string::{CompactString, PolicyString};

@@ -20,6 +20,10 @@ mod lines;
 mod made;
 #[cfg(test)]
 mod memory;
+#[cfg(test)]
+mod packed;
+#[cfg(test)]
+mod packed_edits;
 mod plain_callers;
 #[cfg(test)]
 mod positions;

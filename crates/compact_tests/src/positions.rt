@@ -9,7 +9,7 @@ use std::ops::Bound::{Excluded, Included, Unbounded};
 use std::process::Abort;
 
 /// Appends a character, which is granted.
-fn push(rt: &impl Abort, value: &mut CompactString, character: char) {
+pub fn push(rt: &impl Abort, value: &mut CompactString, character: char) {
     value.push(character).expect(rt, "memory");
 }
 
@@ -25,7 +25,7 @@ pub fn insert<P: Policy>(
 }
 
 /// Puts a text in at a position that is tested first.
-fn insert_str(rt: &impl Abort, value: &mut CompactString, index: usize, text: &str) {
+pub fn insert_str(rt: &impl Abort, value: &mut CompactString, index: usize, text: &str) {
     assert!(rt; value.is_char_boundary(index));
     value.insert_str(index, text).expect(rt, "memory");
 }

@@ -3,7 +3,8 @@ ghost use Rattle.std.specs.Prelude.{◌≡◌, ℕ, ◌<◌, ◌^◌, ◌↔◌,
 ghost use Rattle.std.specs.Str.{IsCharBoundary};
 ghost use Rattle.compact_repr.specs.Text.{size, utf8, text_of};
 ghost use Rattle.compact_repr.specs.Cut.{IsBoundary};
-ghost use Rattle.compact_repr.specs.Value.{is_heap, is_static, IsSound};
+ghost use Rattle.compact_repr.specs.Packed.{IsPackedFor};
+ghost use Rattle.compact_repr.specs.Value.{inline, is_heap, is_static, IsSound};
 
 use crate::string::PolicyString;
 use compact_repr::Policy;
@@ -51,6 +52,19 @@ impl<P: Policy> PolicyString<P> {
         ensures text { IfSome result (λ s. text_of s.now ≡ self.now.text) }
     {
         self.repr.as_static_str()
+    }
+
+    /// The 24 bytes of an inline value, `None` of every other.
+    ///
+    /// A text of 24 bytes is all of them. A shorter one is the first of them, and the last is 192 and the length; what
+    /// stands between is open. `PolicyString::from_packed` gives the text back. Of the empty text the last byte is C0, and
+    /// of a static value there are none.
+    #[inline]
+    pub fn packed(&self) -> Option<[u8; 24]>
+        ensures place { IsSome result ↔ (self.now.placement.place ≡ inline) }
+        ensures bytes { IfSome result (λ bytes. IsPackedFor bytes self.now.text) }
+    {
+        self.repr.packed()
     }
 
     /// The length of the text in bytes.

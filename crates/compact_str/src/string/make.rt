@@ -1,9 +1,10 @@
 //! How a value is made.
-ghost use Rattle.std.specs.Prelude.{◌≡◌, ◌<◌, ◌≤◌, [], length, nat_eq, if◌then◌else◌, Some, IfOk, IfErr, OnErr, IsOk, IsTrue, string_bytes};
+ghost use Rattle.std.specs.Prelude.{◌≡◌, ◌<◌, ◌≤◌, ℕ, List, [], length, nat_eq, if◌then◌else◌, Some, IfOk, IfErr, OnErr, IsOk, IsTrue, MatchOption, string_bytes};
 ghost use Rattle.std.specs.String.{string_capacity};
 ghost use Rattle.std.specs.Box.{boxed_str_bytes};
 ghost use Rattle.std.specs.Cow.{cow_str_bytes};
 ghost use Rattle.compact_repr.specs.Text.{text_of};
+ghost use Rattle.compact_repr.specs.Packed.{IsPackedFor};
 ghost use Rattle.compact_repr.specs.Value.{placed, is_heap};
 ghost use Rattle.compact_repr.specs.Capacity.{inlined, on_heap, new_room_asks, lasting, taken_over};
 ghost use Rattle.compact_repr.specs.Change.{made, with_room};
@@ -72,6 +73,20 @@ impl<P: Policy> PolicyString<P> {
         PolicyString {
             repr: Repr::from_static(alloc, text),
         }
+    }
+
+    /// The text that 24 bytes stand for, inline, as `packed` gives them; `None` where they stand for none.
+    ///
+    /// They stand for none where the last byte is above 215, and where the bytes of the text are no UTF-8. What stands
+    /// behind the text is not looked at. It takes no memory. 24 times 61 gives 24 letters `a`, and of a first byte 61 and
+    /// a last byte C1 the text is `"a"`.
+    #[inline]
+    pub fn from_packed(alloc: Global, bytes: &[u8; 24]) -> Option<Self>
+        ensures value { MatchOption result ((t : List ℕ) → ¬ (IsPackedFor bytes.now t)) (λ v. IsPackedFor bytes.now v.text × (v.placement ≡ inlined)) }
+        ensures succeeds { (t : List ℕ) → IsPackedFor bytes.now t → (result ≡ Some (placed t inlined)) }
+    {
+        let repr = Repr::from_packed(alloc, bytes)?;
+        Some(PolicyString { repr })
     }
 
     /// The empty text with room for `capacity` bytes: inline up to 24, which is never refused, else in a heap buffer

@@ -1,0 +1,153 @@
+//! Inline values as their 24 bytes, by rows that are written out.
+
+use crate::positions::truncate;
+use crate::support::{append, assert_inline, copied, empty, lasting, letters};
+use compact_str::CompactString;
+use std::alloc::Global;
+use std::process::Abort;
+
+/// The 24 bytes of a value that is inline.
+fn bytes_of(rt: &impl Abort, value: &CompactString) -> [u8; 24] {
+    value.packed().expect(rt, "an inline value")
+}
+
+/// The text that 24 bytes stand for.
+fn read(rt: &impl Abort, alloc: Global, bytes: &[u8; 24]) -> CompactString {
+    CompactString::from_packed(alloc, bytes).expect(rt, "bytes of a text")
+}
+
+/// Asserts that a value is inline, that its bytes are its text and its length, and that they are read as the same text.
+pub fn is_packed(rt: &impl Abort, alloc: Global, value: &CompactString) {
+    let bytes = bytes_of(rt, value);
+    let text = value.as_str();
+    let len = text.len();
+    assert!(rt; len <= 24);
+    assert_eq!(rt; &bytes[..len], text.as_bytes());
+    assert!(rt; len == 24 || bytes[23] as usize == 192 + len);
+    assert_inline(rt, &read(rt, alloc, &bytes), text);
+}
+
+/// The same of a value that is made of the text at once, where zeros stand between the text and its length.
+fn is_packed_anew(rt: &impl Abort, alloc: Global, value: &CompactString) {
+    is_packed(rt, alloc, value);
+    let made = copied(rt, alloc, value.as_str());
+    is_packed(rt, alloc, &made);
+    let bytes = bytes_of(rt, &made);
+    let len = made.len();
+    assert!(rt; len <= 24);
+    assert!(rt; len == 24 || bytes[len..23].iter().all(|byte| *byte == 0));
+}
+
+#[test]
+fn rows_of_made_values(rt: HostRuntime) {
+    let mut row = [0; 24];
+    row[23] = 0xC0;
+    assert_eq!(rt; bytes_of(&rt, &CompactString::default(rt.alloc())), row);
+    assert_eq!(rt; bytes_of(&rt, &copied(&rt, rt.alloc(), "")), row);
+    assert_eq!(rt;
+        &bytes_of(&rt, &copied(&rt, rt.alloc(), "hello world")),
+        b"hello world\0\0\0\0\0\0\0\0\0\0\0\0\xCB"
+    );
+    assert_eq!(rt;
+        &bytes_of(&rt, &copied(&rt, rt.alloc(), letters(16))),
+        b"aaaaaaaaaaaaaaaa\0\0\0\0\0\0\0\xD0"
+    );
+    assert_eq!(rt;
+        &bytes_of(&rt, &copied(&rt, rt.alloc(), letters(23))),
+        b"aaaaaaaaaaaaaaaaaaaaaaa\xD7"
+    );
+}
+
+#[test]
+fn rows_of_24_bytes(rt: HostRuntime) {
+    let text = "i am 24 characters long!";
+    assert_eq!(rt;
+        &bytes_of(&rt, &copied(&rt, rt.alloc(), text)),
+        b"i am 24 characters long!"
+    );
+    let euros = bytes_of(&rt, &copied(&rt, rt.alloc(), "€€€€€€€€"));
+    assert_eq!(rt; euros[23], 0xAC);
+    let mut cut = copied(&rt, rt.alloc(), letters(24));
+    truncate(&rt, &mut cut, 3);
+    assert_eq!(rt; bytes_of(&rt, &cut)[23], 0xC3);
+    is_packed(&rt, rt.alloc(), &cut);
+}
+
+#[test]
+fn only_inline_values_have_the_bytes(rt: HostRuntime) {
+    assert_eq!(rt; lasting(rt.alloc(), 25).packed(), None);
+    assert_eq!(rt; copied(&rt, rt.alloc(), letters(25)).packed(), None);
+    assert_eq!(rt; empty(&rt, rt.alloc(), 25).packed(), None);
+    assert!(rt; lasting(rt.alloc(), 24).packed().is_some());
+    assert!(rt; copied(&rt, rt.alloc(), letters(24)).packed().is_some());
+}
+
+#[test]
+fn bytes_that_stand_for_a_text_are_read(rt: HostRuntime) {
+    assert_inline(&rt, &read(&rt, rt.alloc(), &[0x61; 24]), letters(24));
+    let mut row = [0xFF; 24];
+    row[0] = 0x61;
+    row[23] = 0xC1;
+    assert_inline(&rt, &read(&rt, rt.alloc(), &row), "a");
+    row[23] = 0xC0;
+    assert_inline(&rt, &read(&rt, rt.alloc(), &row), "");
+}
+
+#[test]
+fn bytes_that_stand_for_no_text_are_refused(rt: HostRuntime) {
+    let mut row = [0; 24];
+    row[23] = 0xD8;
+    assert!(rt; CompactString::from_packed(rt.alloc(), &row).is_none());
+    row[23] = 0xFF;
+    assert!(rt; CompactString::from_packed(rt.alloc(), &row).is_none());
+    row[0] = 0xFF;
+    row[23] = 0xC1;
+    assert!(rt; CompactString::from_packed(rt.alloc(), &row).is_none());
+    assert!(rt; CompactString::from_packed(rt.alloc(), &[0x80; 24]).is_none());
+}
+
+#[test]
+fn each_length_is_packed(rt: HostRuntime) {
+    let mut value = CompactString::default(rt.alloc());
+    is_packed_anew(&rt, rt.alloc(), &value);
+    for count in 0..24u8 {
+        append(
+            &rt,
+            &mut value,
+            "abcdefghijklmnopqrstuvwx"
+                .get(count as usize..count as usize + 1)
+                .unwrap_or(""),
+        );
+        is_packed_anew(&rt, rt.alloc(), &value);
+    }
+    assert_inline(&rt, &value, "abcdefghijklmnopqrstuvwx");
+}
+
+#[test]
+fn each_length_is_cut(rt: HostRuntime) {
+    let mut value = copied(&rt, rt.alloc(), "abcdefghijklmnopqrstuvwx");
+    for _ in 0..24u8 {
+        assert!(rt; value.pop().is_some());
+        is_packed_anew(&rt, rt.alloc(), &value);
+    }
+    assert_inline(&rt, &value, "");
+}
+
+/// So many letters and a character behind them.
+fn ends_in(rt: &impl Abort, alloc: Global, count: usize, last: &str) {
+    let mut value = copied(rt, alloc, letters(count));
+    append(rt, &mut value, last);
+    is_packed_anew(rt, alloc, &value);
+}
+
+#[test]
+fn a_character_ends_at_the_last_byte_or_before_it(rt: HostRuntime) {
+    ends_in(&rt, rt.alloc(), 22, "z");
+    ends_in(&rt, rt.alloc(), 21, "é");
+    ends_in(&rt, rt.alloc(), 20, "€");
+    ends_in(&rt, rt.alloc(), 19, "𝄞");
+    ends_in(&rt, rt.alloc(), 23, "z");
+    ends_in(&rt, rt.alloc(), 22, "é");
+    ends_in(&rt, rt.alloc(), 21, "€");
+    ends_in(&rt, rt.alloc(), 20, "𝄞");
+}
