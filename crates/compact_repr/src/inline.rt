@@ -41,11 +41,25 @@ fn length_of(bytes: &[u8; 24]) -> usize
     requires { packed_len bytes.now ≤ 24 }
     ensures { result ≡ packed_len bytes.now }
 {
-    let len = bytes[INLINE_CAPACITY - 1].wrapping_sub(192);
-    if len < 24 {
-        len as usize
+    let len = usize::from(bytes[INLINE_CAPACITY - 1]).wrapping_sub(192);
+    if len < INLINE_CAPACITY {
+        len
     } else {
         INLINE_CAPACITY
+    }
+}
+
+/// The length of a text that is shorter than the row, and `None` of one that fills it. A branch tells the two apart.
+#[inline(always)]
+fn shorter_length_of(bytes: &[u8; 24]) -> Option<usize>
+    requires { packed_len bytes.now ≤ 24 }
+    ensures { MatchOption result (packed_len bytes.now ≡ 24) (λ len. (len ≡ packed_len bytes.now) × (len < 24)) }
+{
+    let len = usize::from(bytes[INLINE_CAPACITY - 1]).wrapping_sub(192);
+    if len < INLINE_CAPACITY {
+        Some(len)
+    } else {
+        None
     }
 }
 
@@ -183,10 +197,9 @@ impl InlineBuffer {
         ensures within { size self.new ≤ 24 }
         ensures full { result ≡ false → self.new ≡ self.old }
     {
-        let len = length_of(&self.bytes);
-        if len >= INLINE_CAPACITY {
+        let Some(len) = shorter_length_of(&self.bytes) else {
             return false;
-        }
+        };
         let row = insert_byte(&self.bytes, index, byte);
         self.bytes = marked(&row, len + 1);
         true

@@ -10,13 +10,13 @@ pub marked-self-inside-requires-clause-text : goal.marked-self-inside-requires-c
 marked-self-inside-requires-clause-text c =
     let stands = len-seen _ c.self.view_is c.self.invariant in
     let within = boundary-within c.args.self.now c.args.index c.requires.boundary in
-    let bytes = word-byte-in c.self.inside.bytes c.insert_byte-row.result c.args.byte c.length_of-len.result c.args.index (omega (arith, stands, within, c.length_of-len.ensures)) c.if-len-ge-INLINE_CAPACITY.false c.self.told c.insert_byte-row.ensures in
-    rw (bytes, c.length_of-len.ensures) (utf8-ascii-inserted _ c.args.index c.args.byte c.self.view_is (utf8-seen _ c.self.invariant) c.requires.ascii c.requires.boundary)
+    let bytes = word-byte-in c.self.inside.bytes c.insert_byte-row.result c.args.byte c.in-Some.len c.args.index (omega (arith, stands, within, c.in-Some.ensures.0)) c.in-Some.ensures.1 c.self.told c.insert_byte-row.ensures in
+    rw (bytes, c.in-Some.ensures.0) (utf8-ascii-inserted _ c.args.index c.args.byte c.self.view_is (utf8-seen _ c.self.invariant) c.requires.ascii c.requires.boundary)
 
 pub returns-clause-inserted : goal.returns-clause-inserted
 returns-clause-inserted c _ =
     let stands = len-seen _ c.self.view_is c.self.invariant in
     let within = boundary-within c.args.self.now c.args.index c.requires.boundary in
-    let bytes = word-byte-in c.self.inside.bytes c.insert_byte-row.result c.args.byte c.length_of-len.result c.args.index (omega (arith, stands, within, c.length_of-len.ensures)) c.if-len-ge-INLINE_CAPACITY.false c.self.told c.insert_byte-row.ensures in
+    let bytes = word-byte-in c.self.inside.bytes c.insert_byte-row.result c.args.byte c.in-Some.len c.args.index (omega (arith, stands, within, c.in-Some.ensures.0)) c.in-Some.ensures.1 c.self.told c.insert_byte-row.ensures in
     packed-text _ _ c.marked-self-inside.ensures
-    ∙ rw (bytes, c.length_of-len.ensures) (ascii-inserted _ c.args.index c.args.byte c.self.view_is (utf8-seen _ c.self.invariant) c.requires.ascii c.requires.boundary)
+    ∙ rw (bytes, c.in-Some.ensures.0) (ascii-inserted _ c.args.index c.args.byte c.self.view_is (utf8-seen _ c.self.invariant) c.requires.ascii c.requires.boundary)
