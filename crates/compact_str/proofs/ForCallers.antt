@@ -1,9 +1,11 @@
 -- For crates that call this one: what the clauses of several calls give together. Name it at the caller, as
 -- `#[tactic(auto, using(compact_str::proofs::ForCallers::for_callers))]`.
-use Rattle.std.proofs.Common.{◌≡◌, ℕ, ◌+◌, ◌-◌, ◌*◌, ◌^◌, ◌<◌, ◌≤◌, List, [], ◌∷◌, ◌++◌, length, drop, take, refl, ap, sym, subst, ◌∙◌, arith, append_assoc, append-nil}
+use Rattle.std.proofs.Common.{◌≡◌, ℕ, Bool, IsTrue, nat_eq, ◌+◌, ◌-◌, ◌*◌, ◌^◌, ◌<◌, ◌≤◌, List, [], ◌∷◌, ◌++◌, length, drop, take, refl, ap, sym, subst, ◌∙◌, arith, append_assoc, append-nil}
 use Rattle.std.proofs.lemmas.Str.{chars-nil, chars-append, chars_past_char, IsUtf8-nil, chars-IsAscii, IsUtf8-append, IsUtf8-drop, IsUtf8-from_ascii}
 use Rattle.std.proofs.lemmas.Bool.Decides.{nat_tests}
 use Rattle.std.specs.Char.{len_utf8, encode_utf8}
+use Rattle.std.specs.Cmp.Lexicographic.{same_text}
+use lib.Pointwise.{pointwise}
 use Rattle.std.proofs.lemmas.Fmt.{IsAscii-decimal}
 use Rattle.std.specs.Fmt.{WritesInCalls, decimal}
 use Rattle.std.specs.Str.{IsUtf8, IsCharBoundary, chars, chars_after}
@@ -11,6 +13,7 @@ use Rattle.std.specs.List.{FoldsTo, concat}
 use Rattle.std.specs.Str.Pattern.{HasCharAt}
 use Rattle.compact_repr.specs.Text.{text_of}
 use Rattle.compact_repr.specs.Cut.{IsBoundary, before, after}
+use Rattle.compact_repr.specs.Packed.{IsPackedFor}
 use Rattle.compact_repr.specs.Value.{PlacedText}
 use Rattle.compact_repr.specs.Capacity.{Growth}
 use Rattle.compact_str.specs.Edits.{Writes}
@@ -83,6 +86,10 @@ pub text_of-decimal_append : (n : ℕ) (bytes : List ℕ) → n < 2 ^ 64 → tex
 text_of-decimal_append n bytes h =
     chars-append (decimal n) bytes (IsUtf8-from_ascii (decimal n) (IsAscii-decimal n h)) ∙ ap (λ t. t ++ text_of bytes) (text_of-decimal n h)
 
+-- two values whose packed bytes a test found to be the same have the same text
+pub same-packed : (b c t s : List ℕ) (same : Bool) → IsPackedFor b t → IsPackedFor c s → same ≡ pointwise nat_eq b c → IsTrue same → t ≡ s
+same-packed b c t s same p q test answer = one_text b t s p (subst (λ (x : List ℕ). IsPackedFor x s) (sym (same_text b c (sym answer ∙ test))) q)
+
 pub ruleset for_callers = (
   length-utf8,
   utf8-text_of,
@@ -105,4 +112,5 @@ pub ruleset for_callers = (
   text_of-decimal,
   text_of-decimal_append,
   one_text,
+  same-packed,
 )

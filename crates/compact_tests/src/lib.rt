@@ -24,6 +24,7 @@ mod memory;
 mod packed;
 #[cfg(test)]
 mod packed_edits;
+mod packed_callers;
 mod plain_callers;
 #[cfg(test)]
 mod positions;
@@ -44,6 +45,7 @@ mod support;
 pub use callers::{append_field, keyword, label, record_line};
 pub use iterated::{append_fields, long_names, names_by_reference, names_of, path, whole};
 pub use lenders::{TooLong, emptied, start_anew, take_out, try_to_empty, was_emptied};
+pub use packed_callers::{cleaned, have_same_row, through_a_row};
 pub use plain_callers::{
     append_count, append_pair, append_record, append_report, split_and_join, split_field, type_two,
     with_suffix,
