@@ -2,7 +2,7 @@
 //! over the `String` of Rust.
 //!
 //! Each function makes its inputs, does `n` operations and answers a checksum, or `u64::MAX` where memory is refused. It
-//! keeps nothing between calls.
+//! keeps nothing between calls, but for `cs_bench_hold_words`, which is there to be measured by the memory that it keeps.
 #![tactic(auto)]
 
 mod checksum;
@@ -14,7 +14,9 @@ mod ring;
 mod tests;
 mod workloads;
 
+use compact_str::CompactString;
 use std::alloc::Global;
+use std::mem::size_of;
 
 /// Makes values of texts of at most 24 bytes.
 #[unsafe(no_mangle)]
@@ -62,4 +64,16 @@ pub extern "C" fn cs_bench_insert_remove_long(alloc: Global, n: u64) -> u64 {
 #[unsafe(no_mangle)]
 pub extern "C" fn cs_bench_replace_range(alloc: Global, n: u64) -> u64 {
     workloads::position::replace_range(alloc, n).unwrap_or(u64::MAX)
+}
+
+/// The bytes of a value itself.
+#[unsafe(no_mangle)]
+pub extern "C" fn cs_bench_size_of_value() -> u64 {
+    size_of::<CompactString>() as u64
+}
+
+/// Makes a vector of `n` values of words of 1 to 24 letters, and keeps it for ever.
+#[unsafe(no_mangle)]
+pub extern "C" fn cs_bench_hold_words(alloc: Global, n: u64) -> u64 {
+    workloads::hold::words(alloc, n).unwrap_or(u64::MAX)
 }

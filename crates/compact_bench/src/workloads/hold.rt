@@ -1,0 +1,24 @@
+//! Values that stay in memory, so that it can be measured.
+
+use crate::checksum::{mix, probe};
+use crate::generator::Generator;
+use crate::inputs::word;
+use compact_str::{CompactString, ReserveError};
+use std::alloc::Global;
+use std::mem::ManuallyDrop;
+
+/// Makes a vector of `n` values, words of 1 to 24 letters, and never gives it back.
+pub fn words(alloc: Global, n: u64) -> Result<u64, ReserveError> {
+    let mut generator = Generator::new();
+    let mut values = Vec::with_capacity(alloc, n as usize)?;
+    let mut sum = 0;
+    for _ in 0..n {
+        let len = 1 + generator.below(24);
+        let word = word(alloc, &mut generator, len)?;
+        let value = CompactString::new(alloc, word.as_str())?;
+        sum = mix(sum, probe(&value));
+        values.push(value)?;
+    }
+    let _kept = ManuallyDrop::new(values);
+    Ok(sum)
+}
