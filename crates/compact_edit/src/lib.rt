@@ -6,7 +6,9 @@
 #![tactic(auto)]
 
 mod edit;
+mod pushes;
 mod runs;
 
 pub use edit::{Edit, Reply};
+pub use pushes::{PushReport, run_pushes};
 pub use runs::run;

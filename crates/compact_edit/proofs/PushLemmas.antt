@@ -1,0 +1,67 @@
+-- A list of pushes that goes on by one text.
+use Rattle.std.proofs.Common.{◌≡◌, ap, ℕ, ◌+◌, ◌<◌, ◌≤◌, List, [], ◌∷◌, ◌++◌, Some, refl, sym, subst, map, take, take_all, get_or, length, arith}
+use Rattle.std.proofs.lemmas.List.{take_more, map-append}
+use Rattle.std.specs.Prelude.{IsTrue}
+use Rattle.std.specs.Borrow.{Bor}
+use Rattle.compact_str.specs.Text.{text_of}
+use Rattle.compact_str.specs.Value.{PlacedText, placed}
+use Rattle.compact_str.specs.Capacity.{Growth, inlined}
+use Rattle.compact_str.specs.Change.{pushed, push_asks}
+use Rattle.compact_str.specs.declared.ReserveError.{ReserveError}
+use Rattle.compact_edit.specs.declared.edit.Edit.{Edit}
+use Rattle.compact_edit.specs.declared.edit.Edit.TheVariants.{PushStr}
+use Rattle.compact_edit.specs.declared.edit.Reply.{Reply}
+use Rattle.compact_edit.specs.declared.edit.Reply.TheVariants.{Done, Char, Text, BadPosition, Refused}
+use Rattle.compact_edit.specs.Steps.{Step}
+use Rattle.compact_edit.specs.Runs.{Run}
+use Rattle.compact_edit.proofs.Moved.{moved_by-kept}
+use Rattle.compact_edit.specs.Pushes.{moved_by, moved, refusals, PushesTo}
+
+-- a run that goes on by one edit, and what it then moves
+run-append : {P : Type 0} (g : Growth) (v : PlacedText) (edits : List (Edit P)) (replies : List (Reply P)) (u w : PlacedText) (edit : Edit P) (reply : Reply P) (run : Run g v edits replies u) → Step g u edit reply w
+    → (longer : Run g v (edits ++ edit ∷ []) (replies ++ reply ∷ []) w) × (moved g v (edits ++ edit ∷ []) (replies ++ reply ∷ []) w longer ≡ moved g v edits replies u run + moved_by u w)
+run-append g v [] [] u w edit reply run step = ((w, subst (λ (x : PlacedText). Step g x edit reply w) run step, refl), rw run (omega arith))
+run-append g v [] (r ∷ rs) u w edit reply run step = absurd run
+run-append g v (e ∷ es) [] u w edit reply run step = absurd run
+run-append g v (e ∷ es) (r ∷ rs) u w edit reply run step =
+    let rest = run-append g run.0 es rs u w edit reply run.2 step in
+    ((run.0, run.1, rest.0), omega (arith, rest.1))
+
+refusals-append : {P : Type 0} (rs ss : List (Reply P)) → refusals (rs ++ ss) ≡ refusals rs + refusals ss
+refusals-append [] ss = omega arith
+refusals-append (Done ∷ rs) ss = omega (arith, refusals-append rs ss)
+refusals-append (Char c ∷ rs) ss = omega (arith, refusals-append rs ss)
+refusals-append (Text t ∷ rs) ss = omega (arith, refusals-append rs ss)
+refusals-append (BadPosition ∷ rs) ss = omega (arith, refusals-append rs ss)
+refusals-append (Refused e ∷ rs) ss = omega (arith, refusals-append rs ss)
+
+-- one text more, with its step
+pushes-append : (P : Type 0) (g : Growth) (texts : List (Bor (List ℕ))) (text : Bor (List ℕ)) (v w : PlacedText) (m n k l : ℕ) (reply : Reply P)
+    → PushesTo P g texts v m k → Step g v (PushStr text) reply w → n ≡ m + moved_by v w → l ≡ k + refusals (reply ∷ []) → PushesTo P g (texts ++ text ∷ []) w n l
+pushes-append P g texts text v w m n k l reply runs step bytes count =
+    let empty = placed [] inlined in
+    let edits : List (Edit P) = map PushStr texts in
+    let Q : List (Edit P) → Type 0 = λ es. (replies : List (Reply P)) × (run : Run g empty es replies w) × (n ≡ moved g empty es replies w run) × (l ≡ refusals replies) in
+    let more = run-append g empty edits runs.0 v w (PushStr text) reply runs.1 step in
+    subst Q (sym (map-append PushStr texts (text ∷ []))) (
+      runs.0 ++ reply ∷ [],
+      more.0,
+      omega (arith, more.1, runs.2, bytes),
+      omega (arith, refusals-append runs.0 (reply ∷ []), runs.3, count),
+    )
+
+-- the texts before the place i, and the one there, whose push is done or refused
+pub pushes-done : (P : Type 0) (g : Growth) (texts : List (Bor (List ℕ))) (i : ℕ) (d : Bor (List ℕ)) (v w : PlacedText) (b m n k l : ℕ) → i < length texts
+    → PushesTo P g (take i texts) v m k → pushed g v (text_of (get_or texts i d).now) ≡ Some w → b ≡ moved_by v w → n ≡ m + b → l ≡ k → PushesTo P g (take (i + 1) texts) w n l
+pushes-done P g texts i d v w b m n k l within runs step bytes more count =
+    rw (take_more texts i d within) (pushes-append P g (take i texts) (get_or texts i d) v w m n k l Done runs (tt, (refl, step)) (omega (arith, bytes, more)) (omega (arith, count)))
+
+pub pushes-refused : (P : Type 0) (g : Growth) (texts : List (Bor (List ℕ))) (i : ℕ) (d : Bor (List ℕ)) (v w : PlacedText) (m n k l : ℕ) (e : ReserveError) → i < length texts
+    → PushesTo P g (take i texts) v m k → (w ≡ v) × IsTrue (push_asks v (text_of (get_or texts i d).now)) → n ≡ m → l ≡ k + 1 → PushesTo P g (take (i + 1) texts) w n l
+pushes-refused P g texts i d v w m n k l e within runs step bytes count =
+    let same : w.placement ≡ v.placement = ap (λ (x : PlacedText). x.placement) step.0 in
+    rw (take_more texts i d within)
+    (pushes-append P g (take i texts) (get_or texts i d) v w m n k l (Refused e) runs (step.0, tt, step.1) (omega (arith, bytes, moved_by-kept v w same)) (omega (arith, count)))
+
+pub pushes-all : (P : Type 0) (g : Growth) (texts : List (Bor (List ℕ))) (i : ℕ) (v : PlacedText) (m k : ℕ) → length texts ≤ i → PushesTo P g (take i texts) v m k → PushesTo P g texts v m k
+pushes-all P g texts i v m k end runs = subst (λ (ts : List (Bor (List ℕ))). PushesTo P g ts v m k) (take_all i texts end) runs
