@@ -1,9 +1,12 @@
 -- A list of pushes that goes on by one text.
-use Rattle.std.proofs.Common.{◌≡◌, ap, ℕ, ◌+◌, ◌<◌, ◌≤◌, List, [], ◌∷◌, ◌++◌, Some, refl, sym, subst, map, take, take_all, get_or, length, arith}
+use Rattle.std.proofs.Common.{◌≡◌, ◌∙◌, ap, append-nil, append_assoc, flat_map, ℕ, ◌+◌, ◌<◌, ◌≤◌, List, [], ◌∷◌, ◌++◌, Some, refl, sym, subst, map, take, take_all, get_or, length, arith}
 use Rattle.std.proofs.lemmas.List.{take_more, map-append}
 use Rattle.std.specs.Prelude.{IsTrue}
 use Rattle.std.specs.Borrow.{Bor}
-use Rattle.compact_str.specs.Text.{text_of}
+use Rattle.compact_str.proofs.ForCallers.{pushed-text, size-append}
+use Rattle.std.proofs.lemmas.List.Concat.{flat_map-cons}
+use Rattle.std.proofs.lemmas.Grind.{common_steps}
+use Rattle.compact_str.specs.Text.{size, text_of}
 use Rattle.compact_str.specs.Value.{PlacedText, placed}
 use Rattle.compact_str.specs.Capacity.{Growth, inlined}
 use Rattle.compact_str.specs.Change.{pushed, push_asks}
@@ -65,3 +68,47 @@ pushes-refused P g texts i d v w m n k l e within runs step bytes count =
 
 pub pushes-all : (P : Type 0) (g : Growth) (texts : List (Bor (List ℕ))) (i : ℕ) (v : PlacedText) (m k : ℕ) → length texts ≤ i → PushesTo P g (take i texts) v m k → PushesTo P g texts v m k
 pushes-all P g texts i v m k end runs = subst (λ (ts : List (Bor (List ℕ))). PushesTo P g ts v m k) (take_all i texts end) runs
+
+-- the text of what is pushed
+abbrev pub texts_of : List (Bor (List ℕ)) → List ℕ
+texts_of texts = flat_map (λ (text : Bor (List ℕ)). text_of text.now) texts
+
+size-texts : (t : Bor (List ℕ)) (ts : List (Bor (List ℕ))) → size (texts_of (t ∷ ts)) ≡ size (text_of t.now) + size (texts_of ts)
+size-texts t ts = ap size (flat_map-cons (λ (text : Bor (List ℕ)). text_of text.now) t ts) ∙ size-append (text_of t.now) (texts_of ts)
+
+run-text : {P : Type 0} (g : Growth) (v : PlacedText) (texts : List (Bor (List ℕ))) (replies : List (Reply P)) (w : PlacedText) → Run g v (map PushStr texts) replies w → refusals replies ≡ 0 → w.text ≡ v.text ++ texts_of texts
+run-text g v [] [] w run none = rw (run, append-nil) refl
+run-text g v [] (r ∷ rs) w run none = absurd run
+run-text g v (t ∷ ts) [] w run none = absurd run
+run-text g v (t ∷ ts) (Done ∷ rs) w run none =
+    run-text g run.0 ts rs w run.2 none
+    ∙ ap (λ (x : List ℕ). x ++ texts_of ts) (pushed-text g v run.0 (text_of t.now) run.1.1.1)
+    ∙ append_assoc v.text (text_of t.now) (texts_of ts)
+    ∙ ap (λ (x : List ℕ). v.text ++ x) (sym (flat_map-cons (λ (text : Bor (List ℕ)). text_of text.now) t ts))
+run-text g v (t ∷ ts) (Char c ∷ rs) w run none = cc
+run-text g v (t ∷ ts) (Text x ∷ rs) w run none = cc
+run-text g v (t ∷ ts) (BadPosition ∷ rs) w run none = absurd (run.1.1 tt)
+run-text g v (t ∷ ts) (Refused e ∷ rs) w run none = absurd (omega (arith, none))
+
+-- where no push is refused, the texts stand one after another
+pub pushes-text : {P : Type 0} (g : Growth) (texts : List (Bor (List ℕ))) (w : PlacedText) (m k : ℕ) → PushesTo P g texts w m k → k ≡ 0 → w.text ≡ texts_of texts
+pushes-text g texts w m k runs none = run-text g (placed [] inlined) texts runs.0 w runs.1 (sym runs.3 ∙ none)
+
+refused-long : (v : PlacedText) (s : List ℕ) → IsTrue (push_asks v s) → 24 < size v.text + size s
+refused-long v s asks = grind (arith, common_steps)
+
+-- texts of at most 24 bytes together stay in the value itself, so that none is refused
+run-fits : {P : Type 0} (g : Growth) (v : PlacedText) (texts : List (Bor (List ℕ))) (replies : List (Reply P)) (w : PlacedText) → Run g v (map PushStr texts) replies w → size v.text + size (texts_of texts) ≤ 24 → refusals replies ≡ 0
+run-fits g v [] [] w run short = refl
+run-fits g v [] (r ∷ rs) w run short = absurd run
+run-fits g v (t ∷ ts) [] w run short = absurd run
+run-fits g v (t ∷ ts) (Done ∷ rs) w run short =
+    let after : size run.0.text ≡ size v.text + size (text_of t.now) = ap size (pushed-text g v run.0 (text_of t.now) run.1.1.1) ∙ size-append v.text (text_of t.now) in
+    run-fits g run.0 ts rs w run.2 (omega (arith, after, short, size-texts t ts))
+run-fits g v (t ∷ ts) (Char c ∷ rs) w run short = cc
+run-fits g v (t ∷ ts) (Text x ∷ rs) w run short = cc
+run-fits g v (t ∷ ts) (BadPosition ∷ rs) w run short = absurd (run.1.1 tt)
+run-fits g v (t ∷ ts) (Refused e ∷ rs) w run short = absurd (let long = refused-long v (text_of t.now) run.1.2 in omega (arith, long, short, size-texts t ts))
+
+pub pushes-fit : {P : Type 0} (g : Growth) (texts : List (Bor (List ℕ))) (w : PlacedText) (m k : ℕ) → PushesTo P g texts w m k → size (texts_of texts) ≤ 24 → k ≡ 0
+pushes-fit g texts w m k runs short = runs.3 ∙ run-fits g (placed [] inlined) texts runs.0 w runs.1 (omega (arith, short))

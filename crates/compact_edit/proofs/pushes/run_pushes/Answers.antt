@@ -1,6 +1,6 @@
 use Rattle.std.proofs.Common.{arith}
 use Rattle.compact_edit.proofs.Moved.{paid-push, paid-same, paid-fits}
-use Rattle.compact_edit.proofs.PushLemmas.{pushes-done, pushes-refused, pushes-all}
+use Rattle.compact_edit.proofs.PushLemmas.{pushes-done, pushes-refused, pushes-all, pushes-text, pushes-fit}
 use Rattle.compact_edit.proofs.pushes.run_pushes.Goals as goal
 use Rattle.compact_edit.proofs.pushes.run_pushes.Goals.{in-Ok, in-Err}
 
@@ -31,3 +31,9 @@ loop-text-preserved g c =
 
 pub returns-clause-run : goal.returns-clause-run
 returns-clause-run g c = pushes-all _ _ _ _ _ _ _ c.loop-text-test.false c.loop-text.invariant.run
+
+pub returns-clause-text : goal.returns-clause-text
+returns-clause-text g c = pushes-text _ _ _ _ _ (pushes-all _ _ _ _ _ _ _ c.loop-text-test.false c.loop-text.invariant.run)
+
+pub returns-clause-succeeds : goal.returns-clause-succeeds
+returns-clause-succeeds g c = pushes-fit _ _ _ _ _ (pushes-all _ _ _ _ _ _ _ c.loop-text-test.false c.loop-text.invariant.run)
