@@ -24,7 +24,11 @@ mod plain_callers;
 mod policies;
 #[cfg(test)]
 mod positions;
+#[cfg(test)]
+mod push_reports;
 mod pushes;
+#[cfg(test)]
+mod random_pushes;
 #[cfg(test)]
 mod refused;
 #[cfg(test)]
