@@ -22,8 +22,9 @@ pub fn joined(alloc: Global, parts: &[&str]) -> Option<(CompactString, u64)>
 }
 
 /// Joins parts in buffers that double: at most three times as many bytes as the line has are moved, and it has no more
-/// room than twice its length, or 32 bytes.
+/// room than twice its length, or 32 bytes. It lacks the parts that were refused.
 pub fn joined_in_doubled_room(alloc: Global, parts: &[&str]) -> PushReport<Double>
+    ensures text { result.refused ≡ 0 → result.value.text ≡ flat_map (λ part. text_of part.now) parts.now }
     ensures moved { result.moved ≤ 3 * size result.value.text }
     ensures capacity { result.value.placement.capacity ≤ max 32 (2 * size result.value.text) }
 {
