@@ -1,11 +1,11 @@
 -- What is moved is paid for: by the text that stands, and by the room that its buffer has.
-use Rattle.std.proofs.Common.{◌≡◌, ◌⊎◌, ⊎_elim, ℕ, ◌+◌, ◌-◌, ◌*◌, ◌/◌, ◌^◌, ◌<◌, ◌≤◌, List, Some, true, false, refl, ap, subst, arith, max}
+use Rattle.std.proofs.Common.{◌≡◌, ◌⊎◌, ⊎_elim, ℕ, ◌+◌, ◌-◌, ◌*◌, ◌/◌, ◌^◌, ◌<◌, ◌≤◌, List, Some, true, false, refl, ap, subst, lit≤, arith, max}
 use Rattle.std.proofs.Math.Nat.{mul-le-mul_left, mul-le-mul_right}
 use Rattle.std.proofs.lemmas.Grind.{common_steps}
 use Rattle.compact_str.proofs.ForCallers.{size-append}
 use Rattle.compact_str.specs.Text.{size}
 use Rattle.compact_str.specs.Value.{Place, inline, heap, static, is_static, Placement, PlacedText}
-use Rattle.compact_str.specs.Capacity.{Growth, IsLawful, greatest, on_heap, grown}
+use Rattle.compact_str.specs.Capacity.{Growth, IsLawful, greatest, inlined, on_heap, grown}
 use Rattle.compact_str.specs.Change.{pushed}
 use Rattle.compact_edit.specs.Pushes.{same_place, moved_by}
 
@@ -45,6 +45,18 @@ quotient-more p q l n pos = grind arith
 
 quotient-above : (p q l : ℕ) → 1 ≤ q → q < p → l ≤ p * l / q
 quotient-above p q l pos grows = grind arith
+
+-- nothing was moved for the empty text
+pub paid-start : (g : Growth) → IsLawful g → IsPaid g inlined 0 0
+paid-start g law = record {
+  owned = refl;
+  fits = omega arith;
+  above = lit≤ tt;
+  below = lit≤ tt;
+  capacity = omega (arith, law.above_inline);
+  by_text = omega arith;
+  by_room = omega arith;
+}
 
 -- n more bytes that fit
 paid-kept : (g : Growth) (p : Placement) (l n m : ℕ) → IsLawful g → IsPaid g p l m → l + n ≤ p.capacity → IsPaid g p (l + n) m

@@ -8,7 +8,7 @@ use Rattle.std.proofs.lemmas.List.Concat.{flat_map-cons}
 use Rattle.std.proofs.lemmas.Grind.{common_steps}
 use Rattle.compact_str.specs.Text.{size, text_of}
 use Rattle.compact_str.specs.Value.{PlacedText, placed}
-use Rattle.compact_str.specs.Capacity.{Growth, inlined}
+use Rattle.compact_str.specs.Capacity.{Growth, IsLawful, inlined}
 use Rattle.compact_str.specs.Change.{pushed, push_asks}
 use Rattle.compact_str.specs.declared.ReserveError.{ReserveError}
 use Rattle.compact_edit.specs.declared.edit.Edit.{Edit}
@@ -17,7 +17,7 @@ use Rattle.compact_edit.specs.declared.edit.Reply.{Reply}
 use Rattle.compact_edit.specs.declared.edit.Reply.TheVariants.{Done, Char, Text, BadPosition, Refused}
 use Rattle.compact_edit.specs.Steps.{Step}
 use Rattle.compact_edit.specs.Runs.{Run}
-use Rattle.compact_edit.proofs.Moved.{moved_by-kept}
+use Rattle.compact_edit.proofs.Moved.{IsPaid, moved_by-kept, paid-start, paid-push, paid-same}
 use Rattle.compact_edit.specs.Pushes.{moved_by, moved, refusals, PushesTo}
 
 -- a run that goes on by one edit, and what it then moves
@@ -112,3 +112,27 @@ run-fits g v (t ∷ ts) (Refused e ∷ rs) w run short = absurd (let long = refu
 
 pub pushes-fit : {P : Type 0} (g : Growth) (texts : List (Bor (List ℕ))) (w : PlacedText) (m k : ℕ) → PushesTo P g texts w m k → size (texts_of texts) ≤ 24 → k ≡ 0
 pushes-fit g texts w m k runs short = runs.3 ∙ run-fits g (placed [] inlined) texts runs.0 w runs.1 (omega (arith, short))
+
+-- a run of pushes pays for what it moves, and so does a list of pushes from the empty value: under every lawful policy
+run-paid : {P : Type 0} (g : Growth) → IsLawful g → (v : PlacedText) (texts : List (Bor (List ℕ))) (replies : List (Reply P)) (w : PlacedText) (m : ℕ) → IsPaid g v.placement (size v.text) m → (run : Run g v (map PushStr texts) replies w)
+    → IsPaid g w.placement (size w.text) (m + moved g v (map PushStr texts) replies w run)
+run-paid g law v [] [] w m paid run = paid-same g v w m (m + 0) paid run (omega arith)
+run-paid g law v [] (r ∷ rs) w m paid run = absurd run
+run-paid g law v (t ∷ ts) [] w m paid run = absurd run
+run-paid g law v (t ∷ ts) (Done ∷ rs) w m paid run =
+    let u = run.0 in
+    let next = paid-push g v u (text_of t.now) (moved_by v u) m (m + moved_by v u) law paid run.1.1.1 refl refl in
+    subst (λ (n : ℕ). IsPaid g w.placement (size w.text) n) (omega arith) (run-paid g law u ts rs w (m + moved_by v u) next run.2)
+run-paid g law v (t ∷ ts) (Refused e ∷ rs) w m paid run =
+    let u = run.0 in
+    let same = moved_by-kept v u (ap (λ (x : PlacedText). x.placement) run.1.0) in
+    let next = paid-same g v u m (m + moved_by v u) paid run.1.0 (omega (arith, same)) in
+    subst (λ (n : ℕ). IsPaid g w.placement (size w.text) n) (omega arith) (run-paid g law u ts rs w (m + moved_by v u) next run.2)
+run-paid g law v (t ∷ ts) (BadPosition ∷ rs) w m paid run = absurd (run.1.1 tt)
+run-paid g law v (t ∷ ts) (Char c ∷ rs) w m paid run = let no : ⊥ = cc in absurd no
+run-paid g law v (t ∷ ts) (Text x ∷ rs) w m paid run = let no : ⊥ = cc in absurd no
+
+pub pushes-paid : {P : Type 0} (g : Growth) (texts : List (Bor (List ℕ))) (w : PlacedText) (m k : ℕ) → IsLawful g → PushesTo P g texts w m k → IsPaid g w.placement (size w.text) m
+pushes-paid g texts w m k law runs =
+    subst (λ (n : ℕ). IsPaid g w.placement (size w.text) n) (omega (arith, runs.2))
+    (run-paid g law (placed [] inlined) texts runs.0 w 0 (paid-start g law) runs.1)
