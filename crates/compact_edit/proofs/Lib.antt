@@ -1,2 +1,5 @@
 pub mod RunLemmas
 pub mod Examples
+pub mod Moved
+pub mod PushLemmas
+pub mod PushExamples

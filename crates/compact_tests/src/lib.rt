@@ -26,8 +26,14 @@ mod packed;
 mod packed_edits;
 mod packed_callers;
 mod plain_callers;
+mod policies;
 #[cfg(test)]
 mod positions;
+#[cfg(test)]
+mod push_reports;
+mod pushes;
+#[cfg(test)]
+mod random_pushes;
 #[cfg(test)]
 mod refused;
 #[cfg(test)]
@@ -50,4 +56,6 @@ pub use plain_callers::{
     append_count, append_pair, append_record, append_report, split_and_join, split_field, type_two,
     with_suffix,
 };
+pub use policies::{Double, Large, Slow};
+pub use pushes::{joined, joined_in_doubled_room};
 pub use run_callers::{Doubling, bracket, refill, rewrite};

@@ -1,5 +1,6 @@
 //! Values as they are edited at their end and by byte position, with ample memory.
 
+use crate::policies::Large;
 use crate::support::{assert_heap, assert_inline, assert_static, copied, empty, lasting, letters};
 use compact_str::{CompactString, Policy, PolicyString};
 use std::fmt;
@@ -357,34 +358,9 @@ fn bounds_make_no_range(rt: HostRuntime) {
     is_range(&rt, &value, Excluded(usize::MAX), Unbounded, None);
 }
 
-/// Has buffers of at least 4096 bytes.
-struct Wide;
-
-impl Policy for Wide {
-    ghost use Rattle.std.proofs.Common.{refl, lit≤, lit<};
-
-    const MIN_HEAP: usize = 4096;
-
-    const NUM: usize = 2;
-
-    const DEN: usize = 1;
-
-    ghost MIN_HEAP = { 4096 };
-
-    ghost NUM = { 2 };
-
-    ghost DEN = { 1 };
-
-    ghost growth = { record { least = 4096; numerator = 2; denominator = 1 } };
-
-    ghost is_growth = { refl };
-
-    ghost lawful = { record { above_inline = lit≤ tt; below_limit = lit≤ tt; divides = lit≤ tt; grows = lit< tt; small = lit≤ tt } };
-}
-
 #[test]
 fn another_policy_owns_in_its_own_least_buffer(rt: HostRuntime) {
-    let mut value = PolicyString::<Wide>::const_new(rt.alloc(), letters(30));
+    let mut value = PolicyString::<Large>::const_new(rt.alloc(), letters(30));
     assert_eq!(rt; remove(&rt, &mut value, 0), 'a');
     assert_heap(&rt, &value, 4096, 29);
     insert(&rt, &mut value, 0, 'a');
@@ -393,7 +369,7 @@ fn another_policy_owns_in_its_own_least_buffer(rt: HostRuntime) {
 
 #[test]
 fn another_policy_inserts_in_its_own_least_buffer(rt: HostRuntime) {
-    let mut value = PolicyString::<Wide>::const_new(rt.alloc(), letters(30));
+    let mut value = PolicyString::<Large>::const_new(rt.alloc(), letters(30));
     insert(&rt, &mut value, 30, 'a');
     assert_heap(&rt, &value, 4096, 31);
 }

@@ -1,0 +1,46 @@
+-- What a run moves, and a list of texts that are pushed one after another.
+use Rattle.std.specs.Prelude.{◌≡◌, ℕ, ◌+◌, List, [], ◌∷◌, Bool, not, ◌&&◌, map, nat_eq, if◌then◌else◌}
+use Rattle.std.specs.Borrow.{Bor}
+use Rattle.compact_str.specs.Text.{size}
+use Rattle.compact_str.specs.Value.{Place, inline, heap, static, is_heap, is_static, Placement, PlacedText, placed}
+use Rattle.compact_str.specs.Capacity.{Growth, inlined}
+use Rattle.compact_edit.specs.declared.edit.Edit.{Edit}
+use Rattle.compact_edit.specs.declared.edit.Edit.TheVariants.{PushStr}
+use Rattle.compact_edit.specs.declared.edit.Reply.{Reply}
+use Rattle.compact_edit.specs.declared.edit.Reply.TheVariants.{Done, Char, Text, BadPosition, Refused}
+use Rattle.compact_edit.specs.Runs.{Run}
+
+abbrev pub same_place : Place → Place → Bool
+same_place inline q = not (is_heap q) && not (is_static q)
+same_place heap q = is_heap q
+same_place static q = is_static q
+
+abbrev pub same_placement : Placement → Placement → Bool
+same_placement p q = same_place p.place q.place && nat_eq p.capacity q.capacity
+
+-- how many bytes a step from v to w moves: those of v's text, where place or capacity has changed
+abbrev pub moved_by : PlacedText → PlacedText → ℕ
+moved_by v w = if same_placement v.placement w.placement then 0 else size v.text
+
+-- how many bytes the steps of a run move together
+abbrev pub moved : {P : Type 0} (g : Growth) (v : PlacedText) (edits : List (Edit P)) (replies : List (Reply P)) (w : PlacedText) → Run g v edits replies w → ℕ
+moved g v [] [] w run = 0
+moved g v (edit ∷ edits) (reply ∷ replies) w run = moved_by v run.0 + moved g run.0 edits replies w run.2
+moved g v [] (reply ∷ replies) w run = 0
+moved g v (edit ∷ edits) [] w run = 0
+
+-- how many of the replies are refusals
+abbrev pub refusals : {P : Type 0} → List (Reply P) → ℕ
+refusals [] = 0
+refusals (Done ∷ replies) = refusals replies
+refusals (Char c ∷ replies) = refusals replies
+refusals (Text t ∷ replies) = refusals replies
+refusals (BadPosition ∷ replies) = refusals replies
+refusals (Refused e ∷ replies) = 1 + refusals replies
+
+-- the texts, pushed in order onto the empty value by a run, leave w; the run moves so many bytes, and so many pushes are refused
+abbrev pub PushesTo : (P : Type 0) → Growth → List (Bor (List ℕ)) → PlacedText → ℕ → ℕ → Type 0
+PushesTo P g texts w bytes count =
+    let edits : List (Edit P) = map PushStr texts in
+    let empty = placed [] inlined in
+    (replies : List (Reply P)) × (run : Run g empty edits replies w) × (bytes ≡ moved g empty edits replies w run) × (count ≡ refusals replies)

@@ -1,0 +1,78 @@
+//! Growth policies as users write them: one that doubles, one that grows slowly, and one with a large least buffer.
+
+use compact_str::Policy;
+
+/// Doubles a buffer's capacity at each growth, from 32 bytes on.
+pub struct Double;
+
+impl Policy for Double {
+    ghost use Rattle.std.proofs.Common.{refl, lit≤, lit<};
+
+    const MIN_HEAP: usize = 32;
+
+    const NUM: usize = 2;
+
+    const DEN: usize = 1;
+
+    ghost MIN_HEAP = { 32 };
+
+    ghost NUM = { 2 };
+
+    ghost DEN = { 1 };
+
+    ghost growth = { record { least = 32; numerator = 2; denominator = 1 } };
+
+    ghost is_growth = { refl };
+
+    ghost lawful = { record { above_inline = lit≤ tt; below_limit = lit≤ tt; divides = lit≤ tt; grows = lit< tt; small = lit≤ tt } };
+}
+
+/// Grows a buffer by a quarter, from the least that a policy may have.
+pub struct Slow;
+
+impl Policy for Slow {
+    ghost use Rattle.std.proofs.Common.{refl, lit≤, lit<};
+
+    const MIN_HEAP: usize = 25;
+
+    const NUM: usize = 5;
+
+    const DEN: usize = 4;
+
+    ghost MIN_HEAP = { 25 };
+
+    ghost NUM = { 5 };
+
+    ghost DEN = { 4 };
+
+    ghost growth = { record { least = 25; numerator = 5; denominator = 4 } };
+
+    ghost is_growth = { refl };
+
+    ghost lawful = { record { above_inline = lit≤ tt; below_limit = lit≤ tt; divides = lit≤ tt; grows = lit< tt; small = lit≤ tt } };
+}
+
+/// Takes 4096 bytes at the first growth, and grows by half.
+pub struct Large;
+
+impl Policy for Large {
+    ghost use Rattle.std.proofs.Common.{refl, lit≤, lit<};
+
+    const MIN_HEAP: usize = 4096;
+
+    const NUM: usize = 3;
+
+    const DEN: usize = 2;
+
+    ghost MIN_HEAP = { 4096 };
+
+    ghost NUM = { 3 };
+
+    ghost DEN = { 2 };
+
+    ghost growth = { record { least = 4096; numerator = 3; denominator = 2 } };
+
+    ghost is_growth = { refl };
+
+    ghost lawful = { record { above_inline = lit≤ tt; below_limit = lit≤ tt; divides = lit≤ tt; grows = lit< tt; small = lit≤ tt } };
+}
