@@ -6,7 +6,7 @@ use Rattle.compact_repr.specs.Text.{size}
 use Rattle.compact_repr.specs.Cut.{before, after, replaced_text}
 use Rattle.compact_repr.specs.Value.{PlacedText, placed}
 use Rattle.compact_repr.specs.Capacity.{Growth, inlined, on_heap, borrowed, allowed, new_room, new_room_asks, fits_in_place, room, room_asks, kept, owned, own_asks, lasting, taken_over, copied, copy_asks, shrunk, shrink_asks}
-use Rattle.compact_repr.specs.Packed.{IsPackedFor, packed_len, packed_text, packed_bytes}
+use Rattle.compact_repr.specs.Packed.{IsPackedFor, packed_len, packed_text}
 use Rattle.compact_repr.proofs.PackedTexts.{packed-last, packed-text}
 use Rattle.compact_repr.specs.Change.{made, pushed, push_asks, cleared, reserved, with_room, made_owned, copy_of, truncated}
 
@@ -198,24 +198,6 @@ what_is_kept_of_a_heap_text_is_its_capacity : kept (heap 30 45) [] ≡ on_heap 4
 what_is_kept_of_a_heap_text_is_its_capacity = refl
 
 -- packed into 24 bytes
-
-the_empty_text_ends_in_192 : packed_bytes [] ≡ replicate 23 0 ++ 0xC0 ∷ []
-the_empty_text_ends_in_192 = refl
-
--- hello world
-eleven_bytes_end_in_203 :
-    packed_bytes (0x68 ∷ 0x65 ∷ 0x6C ∷ 0x6C ∷ 0x6F ∷ 0x20 ∷ 0x77 ∷ 0x6F ∷ 0x72 ∷ 0x6C ∷ 0x64 ∷ [])
-    ≡ 0x68 ∷ 0x65 ∷ 0x6C ∷ 0x6C ∷ 0x6F ∷ 0x20 ∷ 0x77 ∷ 0x6F ∷ 0x72 ∷ 0x6C ∷ 0x64 ∷ replicate 12 0 ++ 0xCB ∷ []
-eleven_bytes_end_in_203 = refl
-
-sixteen_bytes_end_in_208 : packed_bytes (replicate 16 0x61) ≡ replicate 16 0x61 ++ replicate 7 0 ++ 0xD0 ∷ []
-sixteen_bytes_end_in_208 = refl
-
-twenty_three_bytes_end_in_215 : packed_bytes (replicate 23 0x61) ≡ replicate 23 0x61 ++ 0xD7 ∷ []
-twenty_three_bytes_end_in_215 = refl
-
-twenty_four_bytes_are_all : packed_bytes (replicate 24 0x61) ≡ replicate 24 0x61
-twenty_four_bytes_are_all = refl
 
 a_low_last_byte_means_24 : packed_len (replicate 23 0 ++ 0xBF ∷ []) ≡ 24
 a_low_last_byte_means_24 = refl

@@ -6,6 +6,8 @@ pub mod Ends
 pub mod Parts
 pub mod ReplacedRows
 pub mod TextFacts
+pub mod PackedTexts
+pub mod Examples
 pub mod HeapTexts
 pub mod Strings
 pub mod Changes
@@ -13,8 +15,3 @@ pub mod Numbers
 pub mod WordRows
 pub mod ChangedWords
 pub mod ChangedRows
-pub mod PackedRows
-pub mod PackedTexts
-pub mod PackedEdits
-pub mod PackedFacts
-pub mod Examples

@@ -1,6 +1,4 @@
 //! A text of at most 24 bytes that stands in the value itself.
-#![tactic(auto, using(crate::proofs::PackedFacts::packed_facts))]
-
 ghost use Rattle.std.specs.Prelude.{◌≡◌, ◌+◌, ◌-◌, ◌≤◌, ◌<◌, ℕ, List, [], ◌∷◌, ◌++◌, length, take, true, false, IsTrue, ◌↔◌, MatchOption};
 ghost use Rattle.std.specs.Str.{IsUtf8};
 ghost use Rattle.compact_repr.specs.Text.{size, utf8, text_of, IsText};
@@ -8,95 +6,32 @@ ghost use Rattle.compact_repr.specs.Cut.{IsBoundary, before, replaced_text};
 ghost use Rattle.compact_repr.specs.Packed.{IsPackedFor, packed_len};
 
 use crate::rows;
-use crate::words::{insert_byte, pack, remove_byte, with_last_byte};
+use crate::words::{insert_byte, remove_byte, row_of};
 use std::marker::Model;
 
 /// The most bytes that stand inline.
 pub const INLINE_CAPACITY: usize = 24;
 
-/// The greatest last byte: behind a text of 23 bytes.
+/// The greatest last byte of a packed text: behind a text of 23 bytes.
 const GREATEST_LAST_BYTE: u8 = 215;
 
-/// A contract sees the text. The bytes hold its length too: the last of them is 192 and the length, unless the text has 24
-/// bytes and so ends there, in a byte of at most 191.
+/// A contract sees the text. The array comes first, so that its bytes lie at a whole word and move in words.
 #[derive(Drop)]
 pub struct InlineBuffer {
     bytes: [u8; 24],
+    len: usize,
 }
 
 impl Model for InlineBuffer {
-    ghost use Rattle.std.specs.Prelude.{ℕ, List};
-    ghost use Rattle.compact_repr.specs.Packed.{IsPackedFor, packed_text};
+    ghost use Rattle.std.specs.Prelude.{ℕ, List, take, ◌≤◌};
+    ghost use Rattle.std.specs.Str.{IsUtf8};
+    ghost use Rattle.compact_repr.specs.Text.{text_of};
 
     ghost Value = { List ℕ };
 
-    ghost view = { λ b. packed_text b.bytes };
+    ghost view = { λ b. text_of (take b.len b.bytes) };
 
-    ghost invariant = { λ b. IsPackedFor b.bytes (packed_text b.bytes) };
-}
-
-/// How many bytes of text there are, as the last byte says. It takes no branch.
-#[inline(always)]
-fn length_of(bytes: &[u8; 24]) -> usize
-    requires { packed_len bytes.now ≤ 24 }
-    ensures { result ≡ packed_len bytes.now }
-{
-    let len = usize::from(bytes[INLINE_CAPACITY - 1]).wrapping_sub(192);
-    if len < INLINE_CAPACITY {
-        len
-    } else {
-        INLINE_CAPACITY
-    }
-}
-
-/// The length of a text that is shorter than the row, and `None` of one that fills it. A branch tells the two apart.
-#[inline(always)]
-fn shorter_length_of(bytes: &[u8; 24]) -> Option<usize>
-    requires { packed_len bytes.now ≤ 24 }
-    ensures { MatchOption result (packed_len bytes.now ≡ 24) (λ len. (len ≡ packed_len bytes.now) × (len < 24)) }
-{
-    let len = usize::from(bytes[INLINE_CAPACITY - 1]).wrapping_sub(192);
-    if len < INLINE_CAPACITY {
-        Some(len)
-    } else {
-        None
-    }
-}
-
-/// Writes the length of the text that stands first. A text of 24 bytes leaves no place for it, and needs none.
-#[inline(always)]
-fn mark(bytes: &mut [u8; 24], len: usize)
-    requires fits { len ≤ 24 }
-    requires text { IsUtf8 (take len bytes.old) }
-    ensures { IsPackedFor bytes.new (text_of (take len bytes.old)) }
-{
-    if len < INLINE_CAPACITY {
-        bytes[INLINE_CAPACITY - 1] = 192 + len as u8;
-    }
-}
-
-/// The row with the length of the text that stands first, which is shorter than the row, written in whole words.
-#[inline(always)]
-fn ended(row: &[u8; 24], len: usize) -> [u8; 24]
-    requires short { len < 24 }
-    requires text { IsUtf8 (take len row.now) }
-    ensures { IsPackedFor result (text_of (take len row.now)) }
-{
-    with_last_byte(row, 192 + len as u8)
-}
-
-/// The same of a text that may be all of the row, which then stays as it is.
-#[inline(always)]
-fn marked(row: &[u8; 24], len: usize) -> [u8; 24]
-    requires fits { len ≤ 24 }
-    requires text { IsUtf8 (take len row.now) }
-    ensures { IsPackedFor result (text_of (take len row.now)) }
-{
-    if len < INLINE_CAPACITY {
-        ended(row, len)
-    } else {
-        *row
-    }
+    ghost invariant = { λ b. (b.len ≤ 24) × IsUtf8 (take b.len b.bytes) };
 }
 
 impl InlineBuffer {
@@ -105,9 +40,10 @@ impl InlineBuffer {
     pub fn empty() -> Self
         ensures { result ≡ [] }
     {
-        let mut bytes = [0; INLINE_CAPACITY];
-        mark(&mut bytes, 0);
-        InlineBuffer { bytes }
+        InlineBuffer {
+            bytes: [0; INLINE_CAPACITY],
+            len: 0,
+        }
     }
 
     /// A copy of `text`.
@@ -117,7 +53,8 @@ impl InlineBuffer {
         ensures { result ≡ text_of text.now }
     {
         InlineBuffer {
-            bytes: pack(text.as_bytes()),
+            bytes: row_of(text.as_bytes()),
+            len: text.len(),
         }
     }
 
@@ -126,7 +63,10 @@ impl InlineBuffer {
     pub fn duplicate(&self) -> Self
         ensures { result ≡ self.now }
     {
-        InlineBuffer { bytes: self.bytes }
+        InlineBuffer {
+            bytes: self.bytes,
+            len: self.len,
+        }
     }
 
     /// The length in bytes.
@@ -136,7 +76,7 @@ impl InlineBuffer {
         ensures fits { size self.now ≤ 24 }
         ensures text { IsText self.now }
     {
-        length_of(&self.bytes)
+        self.len
     }
 
     /// The text.
@@ -145,7 +85,7 @@ impl InlineBuffer {
         ensures bytes { result.now ≡ utf8 self.now }
         ensures text { text_of result.now ≡ self.now }
     {
-        unsafe { std::str::from_utf8_unchecked(&self.bytes[..length_of(&self.bytes)]) }
+        unsafe { std::str::from_utf8_unchecked(&self.bytes[..self.len]) }
     }
 
     /// Appends `text` where it fits. Answers whether it fitted; if not, nothing has changed.
@@ -155,12 +95,12 @@ impl InlineBuffer {
         ensures pushed { IsTrue result → self.new ≡ self.old ++ text_of text.now }
         ensures full { result ≡ false → self.new ≡ self.old }
     {
-        let len = length_of(&self.bytes);
-        if text.len() > INLINE_CAPACITY - len {
+        if text.len() > INLINE_CAPACITY - self.len {
             return false;
         }
-        rows::write(&mut self.bytes, len, text.as_bytes());
-        mark(&mut self.bytes, len + text.len());
+        let end = self.len + text.len();
+        rows::write(&mut self.bytes, self.len, text.as_bytes());
+        self.len = end;
         true
     }
 
@@ -176,13 +116,12 @@ impl InlineBuffer {
         ensures within { size self.new ≤ 24 }
         ensures full { result ≡ false → self.new ≡ self.old }
     {
-        let old_len = length_of(&self.bytes);
-        let len = old_len - (end - start) + text.len();
+        let len = self.len - (end - start) + text.len();
         if len > INLINE_CAPACITY {
             return false;
         }
-        rows::replace_range(&mut self.bytes, old_len, start, end, text.as_bytes());
-        mark(&mut self.bytes, len);
+        rows::replace_range(&mut self.bytes, self.len, start, end, text.as_bytes());
+        self.len = len;
         true
     }
 
@@ -197,11 +136,11 @@ impl InlineBuffer {
         ensures within { size self.new ≤ 24 }
         ensures full { result ≡ false → self.new ≡ self.old }
     {
-        let Some(len) = shorter_length_of(&self.bytes) else {
+        if self.len >= INLINE_CAPACITY {
             return false;
-        };
-        let row = insert_byte(&self.bytes, index, byte);
-        self.bytes = marked(&row, len + 1);
+        }
+        self.bytes = insert_byte(&self.bytes, index, byte);
+        self.len += 1;
         true
     }
 
@@ -213,9 +152,8 @@ impl InlineBuffer {
         ensures removed { self.new ≡ replaced_text self.old index (index + 1) [] }
         ensures within { size self.new ≤ 24 }
     {
-        let len = length_of(&self.bytes);
-        let row = remove_byte(&self.bytes, index);
-        self.bytes = ended(&row, len - 1);
+        self.bytes = remove_byte(&self.bytes, index);
+        self.len -= 1;
     }
 
     /// Keeps the first `len` bytes, which end at a boundary.
@@ -225,7 +163,7 @@ impl InlineBuffer {
         ensures text { self.new ≡ before self.old len }
         ensures fits { size self.new ≤ 24 }
     {
-        mark(&mut self.bytes, len);
+        self.len = len;
     }
 
     /// Leaves the empty text.
@@ -233,15 +171,17 @@ impl InlineBuffer {
     pub fn clear(&mut self)
         ensures { self.new ≡ [] }
     {
-        mark(&mut self.bytes, 0);
+        self.len = 0;
     }
 
-    /// The 24 bytes.
+    /// The text packed into 24 bytes: the last of them is 192 and the length, unless the text has 24 bytes.
     #[inline]
     pub fn packed(&self) -> [u8; 24]
         ensures { IsPackedFor result self.now }
     {
-        self.bytes
+        let mut bytes = self.bytes;
+        mark(&mut bytes, self.len);
+        bytes
     }
 
     /// The text that `bytes` stand for, or `None` where they stand for none.
@@ -252,9 +192,36 @@ impl InlineBuffer {
         if bytes[INLINE_CAPACITY - 1] > GREATEST_LAST_BYTE {
             return None;
         }
-        match std::str::from_utf8(&bytes[..length_of(bytes)]) {
-            Ok(_) => Some(InlineBuffer { bytes: *bytes }),
+        let len = length_of(bytes);
+        match std::str::from_utf8(&bytes[..len]) {
+            Ok(_) => Some(InlineBuffer { bytes: *bytes, len }),
             Err(_) => None,
         }
+    }
+}
+
+/// How many bytes of text packed bytes hold, as the last one says.
+#[inline(always)]
+fn length_of(bytes: &[u8; 24]) -> usize
+    requires { packed_len bytes.now ≤ 24 }
+    ensures { result ≡ packed_len bytes.now }
+{
+    let len = usize::from(bytes[INLINE_CAPACITY - 1]).wrapping_sub(192);
+    if len < INLINE_CAPACITY {
+        len
+    } else {
+        INLINE_CAPACITY
+    }
+}
+
+/// Writes the length of the text that stands first. A text of 24 bytes leaves no place for it, and needs none.
+#[inline(always)]
+fn mark(bytes: &mut [u8; 24], len: usize)
+    requires fits { len ≤ 24 }
+    requires text { IsUtf8 (take len bytes.old) }
+    ensures { IsPackedFor bytes.new (text_of (take len bytes.old)) }
+{
+    if len < INLINE_CAPACITY {
+        bytes[INLINE_CAPACITY - 1] = 192 + len as u8;
     }
 }

@@ -1,8 +1,8 @@
 //! The representation: a buffer of one of three kinds, with the allocator that its growth asks.
 ghost use Rattle.std.specs.Prelude.{◌≡◌, ◌<◌, ◌^◌, ◌↔◌, IsSome, IfSome, IsTrue};
 ghost use Rattle.compact_repr.specs.Text.{size, utf8, text_of};
-ghost use Rattle.compact_repr.specs.Value.{inline, is_heap, is_static, IsSound};
 ghost use Rattle.compact_repr.specs.Packed.{IsPackedFor};
+ghost use Rattle.compact_repr.specs.Value.{inline, is_heap, is_static, IsSound};
 ghost use Rattle.compact_repr.specs.Stored.{value_of, IsStored};
 
 mod change;
@@ -20,8 +20,7 @@ use std::marker::{Model, PhantomData};
 /// Where a text stands: in the value itself, on the heap, or in the program.
 #[derive(Drop)]
 pub enum Buffer {
-    /// The array takes no byte. It has the bytes begin at a whole word, so that they move in words.
-    Inline([u64; 0], InlineBuffer),
+    Inline(InlineBuffer),
     Heap(HeapBuffer),
     Static(StaticText),
 }
@@ -73,7 +72,7 @@ impl<P: Policy> Repr<P> {
         ensures sound { IsSound self.now }
     {
         match &self.buffer {
-            Buffer::Inline(_, inline) => inline.len(),
+            Buffer::Inline(inline) => inline.len(),
             Buffer::Heap(heap) => heap.len(),
             Buffer::Static(text) => text.len(),
         }
@@ -86,7 +85,7 @@ impl<P: Policy> Repr<P> {
         ensures text { text_of result.now ≡ self.now.text }
     {
         match &self.buffer {
-            Buffer::Inline(_, inline) => inline.as_str(),
+            Buffer::Inline(inline) => inline.as_str(),
             Buffer::Heap(heap) => heap.as_str(),
             Buffer::Static(text) => text.as_static_str(),
         }
@@ -111,7 +110,7 @@ impl<P: Policy> Repr<P> {
         ensures { result ≡ self.now.placement.capacity }
     {
         match &self.buffer {
-            Buffer::Inline(_, _) => INLINE_CAPACITY,
+            Buffer::Inline(_) => INLINE_CAPACITY,
             Buffer::Heap(heap) => heap.capacity(),
             Buffer::Static(text) => text.len(),
         }
@@ -125,14 +124,14 @@ impl<P: Policy> Repr<P> {
         matches!(&self.buffer, Buffer::Heap(_))
     }
 
-    /// The 24 bytes of an inline value, which stand for its text; `None` of every other.
+    /// An inline text packed into 24 bytes; `None` of every other.
     #[inline]
     pub fn packed(&self) -> Option<[u8; 24]>
         ensures place { IsSome result ↔ (self.now.placement.place ≡ inline) }
         ensures bytes { IfSome result (λ bytes. IsPackedFor bytes self.now.text) }
     {
         match &self.buffer {
-            Buffer::Inline(_, inline) => Some(inline.packed()),
+            Buffer::Inline(inline) => Some(inline.packed()),
             _ => None,
         }
     }

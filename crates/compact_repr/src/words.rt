@@ -1,9 +1,8 @@
 //! Rows of 24 bytes as three words: each read and each write is of a whole word, and no loop goes over bytes.
 #![tactic(auto)]
 
-ghost use Rattle.std.specs.Prelude.{◌≡◌, ◌+◌, ◌-◌, ◌*◌, ◌^◌, ◌≤◌, ◌<◌, [], ◌∷◌, ◌++◌, length, take, drop, nat_lt, if◌then◌else◌, bit_or};
+ghost use Rattle.std.specs.Prelude.{◌≡◌, ◌+◌, ◌-◌, ◌*◌, ◌^◌, ◌≤◌, ◌<◌, [], ◌∷◌, ◌++◌, length, take, drop, replicate};
 ghost use Rattle.compact_repr.specs.Words.{number, bytes_of};
-ghost use Rattle.compact_repr.specs.Packed.{packed_bytes};
 
 #[cfg(test)]
 mod tests;
@@ -71,8 +70,7 @@ fn tail(text: &[u8], from: usize) -> u64
     load8(text, len - 8) >> (8 * (from + 8 - len))
 }
 
-/// At most eight bytes as a number. Of two reads the first begins at the start and the second ends at the end; a byte that
-/// both read is the same in both.
+/// At most eight bytes as a number. Of two reads, the second ends at the end, and what the first has too is shifted out.
 #[inline(always)]
 fn short(text: &[u8]) -> u64
     requires { length text.now ≤ 8 }
@@ -80,26 +78,15 @@ fn short(text: &[u8]) -> u64
 {
     let len = text.len();
     if len >= 4 {
-        load4(text, 0) | (load4(text, len - 4) << (8 * (len - 4)))
+        let high = load4(text, len - 4) >> (8 * (8 - len));
+        load4(text, 0) + high * 0x1_0000_0000
     } else if len >= 2 {
-        load2(text, 0) | (load2(text, len - 2) << (8 * (len - 2)))
+        let high = load2(text, len - 2) >> (8 * (4 - len));
+        load2(text, 0) + high * 0x1_0000
     } else if len == 1 {
         u64::from(text[0])
     } else {
         0
-    }
-}
-
-/// The last word of a packed row: with the length of the text as its last byte, where the text leaves that free.
-#[inline(always)]
-fn with_length(word: u64, len: usize) -> u64
-    requires { len ≤ 24 }
-    ensures { result ≡ (if nat_lt len 24 then bit_or word ((192 + len) * 2 ^ 56) else word) }
-{
-    if len < 24 {
-        word | ((192 + len as u64) << 56)
-    } else {
-        word
     }
 }
 
@@ -147,38 +134,20 @@ fn word_remove_byte(word: u64, at: usize, next: u64) -> u64
         .wrapping_add(next << 56)
 }
 
-/// The packed row of `text`: its bytes, zeros, and its length, or its 24 bytes alone.
+/// A row that begins with `text` and ends with zeros.
 #[inline]
-pub fn pack(text: &[u8]) -> [u8; 24]
+pub fn row_of(text: &[u8]) -> [u8; 24]
     requires { length text.now ≤ 24 }
-    ensures { result ≡ packed_bytes text.now }
+    ensures { result ≡ text.now ++ replicate (24 - length text.now) 0 }
 {
     let len = text.len();
     if len > 16 {
-        row_of_words(
-            load8(text, 0),
-            load8(text, 8),
-            with_length(tail(text, 16), len),
-        )
+        row_of_words(load8(text, 0), load8(text, 8), tail(text, 16))
     } else if len > 8 {
-        row_of_words(load8(text, 0), tail(text, 8), with_length(0, len))
+        row_of_words(load8(text, 0), tail(text, 8), 0)
     } else {
-        row_of_words(short(text), 0, with_length(0, len))
+        row_of_words(short(text), 0, 0)
     }
-}
-
-/// The row with another last byte. It is written in whole words: a word that is read after one of its bytes was written
-/// alone waits for that byte.
-#[inline(always)]
-pub fn with_last_byte(row: &[u8; 24], last: u8) -> [u8; 24]
-    ensures { result ≡ take 23 row.now ++ last ∷ [] }
-{
-    let third = load8(row, 16) % 0x100_0000_0000_0000;
-    row_of_words(
-        load8(row, 0),
-        load8(row, 8),
-        third | (u64::from(last) << 56),
-    )
 }
 
 /// The row with `byte` put in at a place; what stands from there on moves one place up, and the last byte goes.

@@ -25,7 +25,7 @@ impl<P: Policy> Repr<P> {
         ensures full { result ≡ false → self.new ≡ self.old }
     {
         match &mut self.buffer {
-            Buffer::Inline(_, inline) => inline.push_str(text),
+            Buffer::Inline(inline) => inline.push_str(text),
             Buffer::Heap(heap) => heap.push_str(text),
             Buffer::Static(_) => false,
         }
@@ -62,7 +62,7 @@ impl<P: Policy> Repr<P> {
         ensures full { result ≡ false → self.new ≡ self.old }
     {
         match &mut self.buffer {
-            Buffer::Inline(_, inline) => inline.replace_range(start, end, text),
+            Buffer::Inline(inline) => inline.replace_range(start, end, text),
             Buffer::Heap(heap) => heap.replace_range(start, end, text),
             Buffer::Static(_) => false,
         }
@@ -79,7 +79,7 @@ impl<P: Policy> Repr<P> {
         ensures full { result ≡ false → self.new ≡ self.old }
     {
         match &mut self.buffer {
-            Buffer::Inline(_, inline) => inline.insert_ascii(index, byte),
+            Buffer::Inline(inline) => inline.insert_ascii(index, byte),
             Buffer::Heap(heap) => heap.insert_ascii(index, byte),
             Buffer::Static(_) => false,
         }
@@ -96,7 +96,7 @@ impl<P: Policy> Repr<P> {
         ensures full { result ≡ false → self.new ≡ self.old }
     {
         match &mut self.buffer {
-            Buffer::Inline(_, inline) => {
+            Buffer::Inline(inline) => {
                 inline.remove_ascii(index);
                 true
             }
@@ -160,7 +160,7 @@ impl<P: Policy> Repr<P> {
         ensures { self.new ≡ truncated self.old len }
     {
         match &mut self.buffer {
-            Buffer::Inline(_, inline) => {
+            Buffer::Inline(inline) => {
                 if len < inline.len() {
                     inline.truncate(len);
                 }
@@ -184,7 +184,7 @@ impl<P: Policy> Repr<P> {
         ensures { self.new ≡ cleared self.old }
     {
         match &mut self.buffer {
-            Buffer::Inline(_, inline) => inline.clear(),
+            Buffer::Inline(inline) => inline.clear(),
             Buffer::Heap(heap) => heap.clear(),
             Buffer::Static(text) => *text = StaticText::new(""),
         }

@@ -3,9 +3,9 @@ ghost use Rattle.std.specs.Prelude.{◌≡◌, ◌<◌, ℕ, List, length, nat_e
 ghost use Rattle.std.specs.String.{string_capacity};
 ghost use Rattle.compact_repr.specs.Text.{size, text_of};
 ghost use Rattle.compact_repr.specs.Value.{placed};
+ghost use Rattle.compact_repr.specs.Packed.{IsPackedFor};
 ghost use Rattle.compact_repr.specs.Capacity.{inlined, on_heap, new_room_asks, lasting, taken_over, copy_asks};
 ghost use Rattle.compact_repr.specs.Change.{made, with_room, copy_of};
-ghost use Rattle.compact_repr.specs.Packed.{IsPackedFor};
 
 use crate::error::ReserveError;
 use crate::heap::HeapBuffer;
@@ -22,7 +22,7 @@ impl<P: Policy> Repr<P> {
     pub fn empty(alloc: Global) -> Self
         ensures { result ≡ placed [] inlined }
     {
-        Self::of(alloc, Buffer::Inline([], InlineBuffer::empty()))
+        Self::of(alloc, Buffer::Inline(InlineBuffer::empty()))
     }
 
     /// A copy of `text`: inline up to 24 bytes, which is never refused, else in a new heap buffer.
@@ -35,7 +35,7 @@ impl<P: Policy> Repr<P> {
             return Self::new_long(alloc, text);
         }
         let inline = InlineBuffer::new(text);
-        Ok(Self::of(alloc, Buffer::Inline([], inline)))
+        Ok(Self::of(alloc, Buffer::Inline(inline)))
     }
 
     /// A copy of a `text` of more than 24 bytes.
@@ -60,7 +60,7 @@ impl<P: Policy> Repr<P> {
             return Self::of(alloc, Buffer::Static(StaticText::new(text)));
         }
         let inline = InlineBuffer::new(text);
-        Self::of(alloc, Buffer::Inline([], inline))
+        Self::of(alloc, Buffer::Inline(inline))
     }
 
     /// The text that 24 bytes stand for, inline; `None` where they stand for none.
@@ -69,7 +69,7 @@ impl<P: Policy> Repr<P> {
         ensures { MatchOption result ((t : List ℕ) → ¬ (IsPackedFor bytes.now t)) (λ r. IsPackedFor bytes.now r.text × (r.placement ≡ inlined)) }
     {
         let inline = InlineBuffer::from_packed(bytes)?;
-        Some(Self::of(alloc, Buffer::Inline([], inline)))
+        Some(Self::of(alloc, Buffer::Inline(inline)))
     }
 
     /// The empty text with room for `capacity` bytes: inline up to 24, which is never refused, else on the heap.
@@ -94,7 +94,7 @@ impl<P: Policy> Repr<P> {
         let alloc = *text.allocator();
         if text.len() <= INLINE_CAPACITY {
             let inline = InlineBuffer::new(text.as_str());
-            return Self::of(alloc, Buffer::Inline([], inline));
+            return Self::of(alloc, Buffer::Inline(inline));
         }
         Self::of(alloc, Buffer::Heap(HeapBuffer::from_string(text)))
     }
@@ -119,10 +119,7 @@ impl<P: Policy> Repr<P> {
         ensures err { OnErr result (IsTrue (copy_asks self.now)) }
     {
         match &self.buffer {
-            Buffer::Inline(_, inline) => Ok(Self::of(
-                self.alloc,
-                Buffer::Inline([], inline.duplicate()),
-            )),
+            Buffer::Inline(inline) => Ok(Self::of(self.alloc, Buffer::Inline(inline.duplicate()))),
             Buffer::Heap(heap) => Self::new(self.alloc, heap.as_str()),
             Buffer::Static(text) => Ok(Self::of(self.alloc, Buffer::Static(text.duplicate()))),
         }

@@ -1,59 +1,40 @@
 //! Rows by hand, at each length where another read begins or ends, and at each end of each word.
-use super::{insert_byte, pack, remove_byte};
+use super::{insert_byte, remove_byte, row_of};
 use std::process::Abort;
 use std::test::Fail;
 
 const ROW: &[u8; 24] = b"abcdefghijklmnopqrstuvwx";
 
-/// The row is the text, then zeros, and then its length.
-fn ends_in_length(rt: &impl Abort, text: &[u8]) {
-    assert!(rt; text.len() <= 23);
-    let row = pack(text);
+/// The row is the text, and then only zeros.
+fn begins(rt: &impl Abort, text: &[u8]) {
+    assert!(rt; text.len() <= 24);
+    let row = row_of(text);
     assert_eq!(rt; &row[..text.len()], text);
-    assert!(rt; row[text.len()..23].iter().all(|byte| *byte == 0));
-    assert_eq!(rt; row[23], 192 + text.len() as u8);
+    assert!(rt; row[text.len()..].iter().all(|byte| *byte == 0));
 }
 
 #[test]
 fn rows_of_one_word(rt: HostRuntime) -> Result<(), Fail> {
-    ends_in_length(&rt, b"");
-    ends_in_length(&rt, b"a");
-    ends_in_length(&rt, b"ab");
-    ends_in_length(&rt, b"abc");
-    ends_in_length(&rt, b"abcd");
-    ends_in_length(&rt, b"abcde");
-    ends_in_length(&rt, b"abcdef");
-    ends_in_length(&rt, b"abcdefg");
-    ends_in_length(&rt, b"abcdefgh");
-    ends_in_length(&rt, &[255; 7]);
+    begins(&rt, b"");
+    begins(&rt, b"a");
+    begins(&rt, b"ab");
+    begins(&rt, b"abc");
+    begins(&rt, b"abcd");
+    begins(&rt, b"abcdefg");
+    begins(&rt, b"abcdefgh");
+    begins(&rt, &[255; 7]);
     Ok(())
 }
 
 #[test]
-fn rows_of_two_words(rt: HostRuntime) -> Result<(), Fail> {
-    ends_in_length(&rt, &ROW[..9]);
-    ends_in_length(&rt, &ROW[..10]);
-    ends_in_length(&rt, &ROW[..11]);
-    ends_in_length(&rt, &ROW[..12]);
-    ends_in_length(&rt, &ROW[..13]);
-    ends_in_length(&rt, &ROW[..14]);
-    ends_in_length(&rt, &ROW[..15]);
-    ends_in_length(&rt, &ROW[..16]);
-    Ok(())
-}
-
-#[test]
-fn rows_of_three_words(rt: HostRuntime) -> Result<(), Fail> {
-    ends_in_length(&rt, &ROW[..17]);
-    ends_in_length(&rt, &ROW[..18]);
-    ends_in_length(&rt, &ROW[..19]);
-    ends_in_length(&rt, &ROW[..20]);
-    ends_in_length(&rt, &ROW[..21]);
-    ends_in_length(&rt, &ROW[..22]);
-    ends_in_length(&rt, &ROW[..23]);
-    ends_in_length(&rt, &[255; 23]);
-    assert_eq!(rt; &pack(ROW), ROW);
-    assert_eq!(rt; pack(&[255; 24]), [255; 24]);
+fn rows_of_more_words(rt: HostRuntime) -> Result<(), Fail> {
+    begins(&rt, b"abcdefghi");
+    begins(&rt, b"abcdefghijklmno");
+    begins(&rt, b"abcdefghijklmnop");
+    begins(&rt, b"abcdefghijklmnopq");
+    begins(&rt, b"abcdefghijklmnopqrstuvw");
+    begins(&rt, ROW);
+    begins(&rt, &[255; 23]);
     Ok(())
 }
 
