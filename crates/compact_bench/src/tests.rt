@@ -41,3 +41,12 @@ fn edits_have_these_checksums(rt: HostRuntime) {
     );
     assert_eq!(rt; cs_bench_replace_range(alloc, 5_000), 0xee61_ca13_f328_4980);
 }
+
+#[test]
+fn words_that_are_held_have_this_checksum(rt: HostRuntime) {
+    assert_eq!(rt;
+        cs_bench_hold_words(rt.alloc(), 10_000),
+        0x186a_480e_229d_dd32
+    );
+    assert_eq!(rt; cs_bench_size_of_value(), 48);
+}

@@ -3,19 +3,19 @@
 use crate::checksum::{mix, probe};
 use crate::generator::Generator;
 use crate::inputs::word;
-use compact_str::{CompactString, ReserveError};
-use std::alloc::Global;
+use compact_str::CompactString;
+use std::alloc::{AllocError, Global};
 use std::mem::ManuallyDrop;
 
 /// Makes a vector of `n` values, words of 1 to 24 letters, and never gives it back.
-pub fn words(alloc: Global, n: u64) -> Result<u64, ReserveError> {
+pub fn words(alloc: Global, n: u64) -> Result<u64, AllocError> {
     let mut generator = Generator::new();
     let mut values = Vec::with_capacity(alloc, n as usize)?;
     let mut sum = 0;
     for _ in 0..n {
         let len = 1 + generator.below(24);
         let word = word(alloc, &mut generator, len)?;
-        let value = CompactString::new(alloc, word.as_str())?;
+        let value = CompactString::new(alloc, word.as_str()).map_err(|_| AllocError)?;
         sum = mix(sum, probe(&value));
         values.push(value)?;
     }
