@@ -55,7 +55,7 @@ pub fn write(row: &mut [u8], at: usize, source: &[u8])
 {
     let count = source.len();
     if count > 32 {
-        row[at..at + count].copy_from_slice(source);
+        write_long(row, at, source);
     } else if count >= 16 {
         write_ends::<16>(row, at, source);
     } else if count >= 8 {
@@ -67,6 +67,15 @@ pub fn write(row: &mut [u8], at: usize, source: &[u8])
     } else if count == 1 {
         write_ends::<1>(row, at, source);
     }
+}
+
+/// The same by one copy, apart: so few steps are left of a short write that they stand where it is called.
+#[inline(never)]
+fn write_long(row: &mut [u8], at: usize, source: &[u8])
+    requires { at + length source.now ≤ length row.old }
+    ensures { row.new ≡ paste row.old at source.now (length source.now) }
+{
+    row[at..at + source.len()].copy_from_slice(source);
 }
 
 /// Writes the bytes of `source`, which are at least `N` and at most twice as many, as the first `N` and the last `N` of them.
