@@ -2,7 +2,7 @@
 //!
 //! `Emptying` stands for what a library lends out, as a drain does: its drop changes the value. Those below are its
 //! callers, and each is proved from the contracts alone.
-ghost use Rattle.std.specs.Prelude.{◌≡◌, ◌<◌, [], true, false, Ok, IfOk, OnOk, OnErr, IfSome};
+ghost use Rattle.std.specs.Prelude.{◌≡◌, ◌<◌, [], true, false, Ok, IfOk, OnOk, OnErr, IfSome, IfNone};
 ghost use Rattle.std.specs.Borrow.{sem, RestsIfErr};
 ghost use Rattle.compact_str.specs.Text.{text_of, size};
 ghost use Rattle.compact_str.specs.Change.{cleared};
@@ -51,7 +51,7 @@ fn lend_to_empty<P: Policy>(
 pub fn take_out(value: &mut CompactString, most: usize) -> Result<usize, TooLong>
     ensures len { IfOk result (λ len. len ≡ size value.old.text) }
     ensures cleared { OnOk result (value.new ≡ cleared value.old) }
-    ensures unchanged { OnErr result (value.new ≡ value.old) }
+    ensures refused { OnErr result ((value.new ≡ value.old) × (most < size value.old.text)) }
 {
     let guard = lend_to_empty(value, most)?;
     let len = guard.value.len();
@@ -61,7 +61,8 @@ pub fn take_out(value: &mut CompactString, most: usize) -> Result<usize, TooLong
 
 /// Empties the value with no name for the guard, and then writes into it.
 pub fn start_anew(value: &mut CompactString, text: &str) -> Result<bool, TooLong>
-    ensures { OnOk result (result ≡ Ok true → value.new.text ≡ text_of text.now) }
+    ensures text { OnOk result (result ≡ Ok true → value.new.text ≡ text_of text.now) }
+    ensures refused { OnErr result (100 < size value.old.text) }
 {
     drop(lend_to_empty(value, 100)?);
     Ok(value.push_str(text).is_ok())
@@ -69,7 +70,8 @@ pub fn start_anew(value: &mut CompactString, text: &str) -> Result<bool, TooLong
 
 /// The same of a value of its own, by `match`.
 pub fn emptied(mut value: CompactString, most: usize) -> Result<CompactString, TooLong>
-    ensures { IfOk result (λ v. v ≡ cleared value) }
+    ensures cleared { IfOk result (λ v. v ≡ cleared value) }
+    ensures refused { OnErr result (most < size value.text) }
 {
     match lend_to_empty(&mut value, most) {
         Ok(guard) => drop(guard),
@@ -81,7 +83,7 @@ pub fn emptied(mut value: CompactString, most: usize) -> Result<CompactString, T
 /// The same by `let else`; what is refused stays.
 pub fn try_to_empty(value: &mut CompactString, most: usize) -> bool
     ensures yes { result ≡ true → value.new.text ≡ [] }
-    ensures no { result ≡ false → value.new ≡ value.old }
+    ensures no { result ≡ false → (value.new ≡ value.old) × (most < size value.old.text) }
 {
     let Ok(guard) = lend_to_empty(value, most) else {
         return false;
@@ -94,6 +96,7 @@ pub fn try_to_empty(value: &mut CompactString, most: usize) -> bool
 fn lend_unless_empty<P: Policy>(value: &mut PolicyString<P>) -> Option<Emptying<'_, P>>
     ensures same_reference { IfSome result (λ guard. guard.value.ghost_name ≡ value.entry.ghost_name) }
     ensures text { IfSome result (λ guard. guard.value.now ≡ value.old) }
+    ensures none { IfNone result (value.old.text ≡ []) }
 {
     if value.is_empty() {
         return None;
@@ -103,7 +106,8 @@ fn lend_unless_empty<P: Policy>(value: &mut PolicyString<P>) -> Option<Emptying<
 
 /// Empties what has a text, by `if let`, and says whether it did.
 pub fn was_emptied(value: &mut CompactString) -> bool
-    ensures { result ≡ true → value.new ≡ cleared value.old }
+    ensures yes { result ≡ true → value.new ≡ cleared value.old }
+    ensures no { result ≡ false → value.old.text ≡ [] }
 {
     if let Some(guard) = lend_unless_empty(value) {
         drop(guard);

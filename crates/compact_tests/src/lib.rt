@@ -22,9 +22,9 @@ mod made;
 mod memory;
 #[cfg(test)]
 mod packed;
+mod packed_callers;
 #[cfg(test)]
 mod packed_edits;
-mod packed_callers;
 mod plain_callers;
 mod policies;
 #[cfg(test)]

@@ -72,6 +72,9 @@ mod tests {
         row[0] = 0x61;
         row[23] = 0xC1;
         let clean = cleaned(rt.alloc(), &row).expect(&rt, "bytes of a text");
-        assert_eq!(rt; &clean, b"a\0\0\0\0\0\0\0\0\0\0\0\0\0\0\0\0\0\0\0\0\0\0\xC1");
+        assert_eq!(rt;
+            &clean,
+            b"a\0\0\0\0\0\0\0\0\0\0\0\0\0\0\0\0\0\0\0\0\0\0\xC1"
+        );
     }
 }
