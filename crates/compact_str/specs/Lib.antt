@@ -9,3 +9,4 @@ pub mod Made
 pub mod Edits
 pub mod Ranges
 pub mod Laws
+pub mod Order

@@ -1,5 +1,6 @@
 //! Laws of the edits. Each function does nothing; its contract is the law.
 ghost use Rattle.compact_str.specs.Laws.{RemovalUndoesInsertion, TruncationUndoesAppend, AppendUndoesSplit, CloneIsEqual};
+ghost use Rattle.compact_str.specs.Order.{ByteOrderIsTextOrder};
 
 /// Where `insert` put a character in, `remove` may be called and is never refused: it takes out that character, and the
 /// text is then as before.
@@ -20,4 +21,11 @@ pub fn append_undoes_split()
 /// A clone has the text of its source.
 pub fn clone_is_equal()
     ensures { CloneIsEqual }
+{}
+
+/// The bytes of two texts in UTF-8 are in the order of their characters: so `cmp` goes by bytes, and so may whoever keeps
+/// the texts of values as bytes.
+#[tactic(auto, using(crate::proofs::ByteOrder::order_facts))]
+pub fn byte_order_is_text_order()
+    ensures { ByteOrderIsTextOrder }
 {}

@@ -1,12 +1,14 @@
 //! The string type.
 
 mod clones;
+mod compare;
 pub mod end;
 mod look;
 mod make;
 mod position;
 mod repeat;
 mod room;
+mod show;
 
 use compact_repr::{Policy, Repr, Standard};
 use std::marker::Model;
