@@ -3,6 +3,7 @@ pub mod Rooms
 pub mod Repeats
 pub mod EditFacts
 pub mod ByteOrder
+pub mod KeyFacts
 pub mod LawLemmas
 pub mod ForCallers
 pub mod Examples

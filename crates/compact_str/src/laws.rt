@@ -1,6 +1,11 @@
 //! Laws of the edits. Each function does nothing; its contract is the law.
 ghost use Rattle.compact_str.specs.Laws.{RemovalUndoesInsertion, TruncationUndoesAppend, AppendUndoesSplit, CloneIsEqual};
-ghost use Rattle.compact_str.specs.Order.{ByteOrderIsTextOrder};
+ghost use Rattle.std.specs.Ordering.{ordering_index};
+ghost use Rattle.std.specs.List.Sorted.{IsSorted, IsNonDecreasingBy};
+ghost use Rattle.compact_str.specs.Order.{ByteOrderIsTextOrder, text_cmp};
+
+use crate::string::PolicyString;
+use compact_repr::Policy;
 
 /// Where `insert` put a character in, `remove` may be called and is never refused: it takes out that character, and the
 /// text is then as before.
@@ -28,4 +33,11 @@ pub fn clone_is_equal()
 #[tactic(auto, using(crate::proofs::ByteOrder::order_facts))]
 pub fn byte_order_is_text_order()
     ensures { ByteOrderIsTextOrder }
+{}
+
+/// In a sorted row the comparisons with any value rise, as the clauses of `binary_search` ask. A caller names the row and
+/// the value before it searches, and then reads from an error where the value would stand.
+pub fn sorted_row_is_searchable<P: Policy>(row: &[PolicyString<P>], value: &PolicyString<P>)
+    requires { IsSorted text_cmp row.now }
+    ensures { IsNonDecreasingBy (λ w. ordering_index (text_cmp w value.now)) row.now }
 {}

@@ -11,6 +11,7 @@ mod cloned;
 #[cfg(test)]
 mod growth;
 mod iterated;
+mod keys;
 mod lenders;
 #[cfg(test)]
 mod lent;
@@ -39,6 +40,7 @@ mod support;
 
 pub use callers::{append_field, keyword, label, record_line};
 pub use iterated::{append_fields, long_names, names_by_reference, names_of, path, whole};
+pub use keys::{comes_first, count_of, is_keyword, place_of, set_count, set_rank};
 pub use lenders::{TooLong, emptied, start_anew, take_out, try_to_empty, was_emptied};
 pub use plain_callers::{
     append_count, append_pair, append_record, append_report, split_and_join, split_field, type_two,
