@@ -6,6 +6,7 @@ ghost use Rattle.compact_repr.specs.Stored.{value_of, IsStored};
 
 mod change;
 mod make;
+mod out;
 mod position;
 pub mod room;
 

@@ -10,3 +10,4 @@ pub mod Edits
 pub mod Ranges
 pub mod Laws
 pub mod Order
+pub mod Json

@@ -16,4 +16,5 @@ pub use laws::{
     sorted_row_is_searchable, truncation_undoes_append,
 };
 pub use refused::Refused;
+pub use string::json::FromJsonError;
 pub use string::{CompactString, PolicyString};

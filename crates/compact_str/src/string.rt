@@ -3,8 +3,10 @@
 mod clones;
 mod compare;
 pub mod end;
+pub mod json;
 mod look;
 mod make;
+mod out;
 mod position;
 mod repeat;
 mod room;
