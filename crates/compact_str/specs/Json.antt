@@ -1,5 +1,5 @@
 -- What becomes of a JSON value.
-use Rattle.std.specs.Prelude.{◌≡◌, ◌≤◌, ℕ, List, length, Result, IsOk, MatchResult, IsTrue, Some, Err}
+use Rattle.std.specs.Prelude.{◌≡◌, ◌≤◌, ℕ, List, length, Result, IsOk, MatchResult, IsTrue, Some, Err, ⊤}
 use Rattle.serde_json.specs.Data.{Data, null, boolean, number, string, array, object}
 use Rattle.compact_repr.specs.Text.{text_of}
 use Rattle.compact_repr.specs.Value.{PlacedText}

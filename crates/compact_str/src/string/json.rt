@@ -24,7 +24,9 @@ pub enum FromJsonError {
 }
 
 impl From<ReserveError> for FromJsonError {
-    ghost from_gives = { λ e error. error ≡ FromJsonError.Reserve e };
+    ghost use Rattle.compact_str.specs.declared.string.json.FromJsonError.TheVariants.{Reserve};
+
+    ghost from_gives = { λ e error. error ≡ Reserve e };
 
     /// The case `Reserve`.
     fn from(error: ReserveError) -> Self {
