@@ -1,6 +1,8 @@
 //! The workloads.
 
 pub mod append;
+pub mod compare;
 pub mod copy;
 pub mod make;
+pub mod out;
 pub mod position;
