@@ -3,6 +3,8 @@ ghost use Rattle.std.specs.Prelude.{◌≡◌, ◌+◌, ◌-◌, ◌≤◌, ◌<
 ghost use Rattle.compact_repr.specs.Text.{size, utf8, text_of, IsText};
 ghost use Rattle.compact_repr.specs.Cut.{IsBoundary, before, replaced_text};
 
+mod compare;
+
 use crate::rows;
 use crate::words::{insert_byte, remove_byte, row_of};
 use std::marker::Model;

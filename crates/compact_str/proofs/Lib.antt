@@ -2,7 +2,6 @@ pub mod Positions
 pub mod Rooms
 pub mod Repeats
 pub mod EditFacts
-pub mod ByteOrder
 pub mod KeyFacts
 pub mod LawLemmas
 pub mod ForCallers

@@ -30,7 +30,7 @@ pub fn clone_is_equal()
 
 /// The bytes of two texts in UTF-8 are in the order of their characters: so `cmp` goes by bytes, and so may whoever keeps
 /// the texts of values as bytes.
-#[tactic(auto, using(crate::proofs::ByteOrder::order_facts))]
+#[tactic(auto, using(compact_repr::proofs::ByteOrder::order_facts))]
 pub fn byte_order_is_text_order()
     ensures { ByteOrderIsTextOrder }
 {}

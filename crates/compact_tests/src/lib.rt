@@ -9,7 +9,11 @@ mod changed;
 #[cfg(test)]
 mod cloned;
 #[cfg(test)]
+mod compared;
+#[cfg(test)]
 mod growth;
+#[cfg(test)]
+mod handed_on;
 mod iterated;
 mod keys;
 mod lenders;
@@ -29,12 +33,16 @@ mod refused;
 #[cfg(test)]
 mod refused_edits;
 #[cfg(test)]
+mod refused_out;
+#[cfg(test)]
 mod refused_positions;
 mod run_callers;
 #[cfg(test)]
 mod sessions;
 #[cfg(test)]
 mod shortened;
+#[cfg(test)]
+mod shown;
 #[cfg(test)]
 mod support;
 

@@ -21,9 +21,8 @@ impl<P: Policy> PartialEq for PolicyString<P> {
 
     /// Whether the texts are the same. Place and capacity have no part in it: `"abc"` on the heap equals `"abc"` inline.
     #[inline]
-    #[tactic(auto, using(crate::proofs::ByteOrder::order_facts))]
     fn eq(&self, other: &Self) -> bool {
-        self.as_str() == other.as_str()
+        self.repr.same_text(&other.repr)
     }
 }
 
@@ -57,9 +56,8 @@ impl<P: Policy> Ord for PolicyString<P> {
     ///
     /// It is found on bytes, whose order is that of the characters. `"ab"` comes before `"b"`, and U+FFFD before U+10000.
     #[inline]
-    #[tactic(auto, using(crate::proofs::ByteOrder::order_facts))]
     fn cmp(&self, other: &Self) -> Ordering {
-        self.as_str().cmp(other.as_str())
+        self.repr.text_cmp(&other.repr)
     }
 }
 

@@ -1,7 +1,7 @@
 -- UTF-8 keeps the order of characters: the bytes of two texts compare as their characters do. Nothing is asked of the
 -- numbers, so it holds of any two lists.
-use Rattle.std.proofs.Common.{◌≡◌, ℕ, zero, suc, ◌+◌, ◌/◌, ◌<◌, ◌≤◌, List, [], ◌∷◌, ◌++◌, refl, sym, ap, ap₂, ◌∙◌, arith, Ordering, ◌⊎◌, inl, inr}
-use Rattle.std.specs.Prelude.{nat_eq}
+use Rattle.std.proofs.Common.{◌≡◌, ℕ, zero, suc, ◌+◌, ◌/◌, ◌<◌, ◌≤◌, List, [], ◌∷◌, ◌++◌, refl, sym, ap, ap₂, ◌∙◌, arith, Ordering, ◌⊎◌, inl, inr, length, slice_index_or}
+use Rattle.std.specs.Prelude.{nat_eq, ◌≢◌}
 use Rattle.std.specs.declared.cmp.Ordering.TheVariants.{Less, Equal, Greater}
 use Rattle.std.specs.Ordering.{nat_cmp, ordering_then, ordering_reverse, is_eq}
 use Rattle.std.specs.Cmp.Lexicographic.{slice_cmp, pointwise, texts_ties}
@@ -152,4 +152,17 @@ utf8-order (c ∷ s) (d ∷ t) = elim (cases_order c d) [
 pub utf8-same : (s t : List ℕ) → pointwise nat_eq (utf8 s) (utf8 t) ≡ pointwise nat_eq s t
 utf8-same s t = texts_ties (utf8 s) (utf8 t) ∙ ap is_eq (utf8-order s t) ∙ sym (texts_ties s t)
 
-pub ruleset order_facts = (utf8-order, utf8-same)
+-- where the first numbers differ they decide
+pub first-decides : (xs ys : List ℕ) → 0 < length xs → 0 < length ys → slice_index_or xs 0 0 ≢ slice_index_or ys 0 0
+    → slice_cmp nat_cmp xs ys ≡ nat_cmp (slice_index_or xs 0 0) (slice_index_or ys 0 0)
+first-decides [] ys some also apart = absurd (omega (arith, some))
+first-decides (x ∷ xs) [] some also apart = absurd (omega (arith, also))
+first-decides (x ∷ xs) (y ∷ ys) some also apart = elim (cases_order x y) [
+  | inl same ↦ absurd (apart same)
+  | inr other ↦ elim other [
+    | inl less ↦ first_less x y xs ys less ∙ sym (cond-true _ _ _ (lt-ltb x y less))
+    | inr less ↦ turned (x ∷ xs) (y ∷ ys) (first_less y x ys xs less) ∙ sym (nat_cmp_total.antisymm x y ∙ ap ordering_reverse (cond-true _ _ _ (lt-ltb y x less)))
+  ]
+]
+
+pub ruleset order_facts = (utf8-order, utf8-same, first-decides)
