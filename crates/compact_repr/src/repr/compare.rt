@@ -33,8 +33,9 @@ impl<P: Policy> Repr<P> {
 /// The order of two texts, which is that of their bytes.
 ///
 /// Where the first bytes differ nothing else is looked at: the general way begins by asking how many bytes there are, and
-/// of short texts that is hard to foresee.
-#[inline]
+/// of short texts that is hard to foresee. It stands aside, so that which of two bytes is less is reckoned: where it is
+/// inlined the compiler branches on that, which is as hard to foresee.
+#[inline(never)]
 #[tactic(auto, using(crate::proofs::ByteOrder::order_facts))]
 fn byte_order(text: &str, other: &str) -> Ordering
     ensures { result ≡ slice_cmp nat_cmp text.now other.now }
