@@ -1,7 +1,9 @@
 //! Values as they are compared and hashed. The order of the many texts was worked out by a program in Python, which sorts
 //! by code points.
 
-use crate::support::{append, assert_heap, assert_static, buffered, copied, empty, lasting, letters};
+use crate::support::{
+    append, assert_heap, assert_static, buffered, copied, empty, lasting, letters,
+};
 use compact_str::CompactString;
 use std::alloc::{AllocError, Global};
 use std::cmp::Ordering;
@@ -113,8 +115,22 @@ fn next(state: &mut u64) -> u64 {
 
 /// Characters of each width, and at the ends of the widths.
 const CHARACTERS: [char; 16] = [
-    'a', 'b', 'z', '\u{7f}', '\u{80}', 'é', '\u{7ff}', '\u{800}', '€', '\u{d7ff}', '\u{e000}',
-    '\u{fffd}', '\u{ffff}', '\u{10000}', '\u{1f600}', '\u{10ffff}',
+    'a',
+    'b',
+    'z',
+    '\u{7f}',
+    '\u{80}',
+    'é',
+    '\u{7ff}',
+    '\u{800}',
+    '€',
+    '\u{d7ff}',
+    '\u{e000}',
+    '\u{fffd}',
+    '\u{ffff}',
+    '\u{10000}',
+    '\u{1f600}',
+    '\u{10ffff}',
 ];
 
 /// The next text: of up to 8 characters, after 26 letters in every fourth.

@@ -1,6 +1,8 @@
 //! Values as they are handed on, with ample memory.
 
-use crate::support::{append, assert_heap, assert_inline, buffered, copied, empty, lasting, letters};
+use crate::support::{
+    append, assert_heap, assert_inline, buffered, copied, empty, lasting, letters,
+};
 use compact_str::{CompactString, FromJsonError};
 use serde_json::{Value, json};
 use std::alloc::Global;
@@ -65,7 +67,9 @@ fn a_small_vector_has_the_bytes(rt: HostRuntime) {
 #[test]
 fn boxes_and_shared_texts_have_the_text(rt: HostRuntime) {
     let alloc = rt.alloc();
-    let boxed = copied(&rt, alloc, "äb").into_boxed_str().expect(&rt, "memory");
+    let boxed = copied(&rt, alloc, "äb")
+        .into_boxed_str()
+        .expect(&rt, "memory");
     assert_eq!(rt; boxed.as_str(), "äb");
     let boxed = shortened(&rt, alloc).into_boxed_str().expect(&rt, "memory");
     assert_eq!(rt; boxed.as_str(), "äb");

@@ -1,7 +1,9 @@
 //! Ways out of a value while every request for memory is refused.
 
 use crate::memory::take_all;
-use crate::support::{assert_heap, assert_inline, assert_static, buffered, copied, lasting, letters};
+use crate::support::{
+    assert_heap, assert_inline, assert_static, buffered, copied, lasting, letters,
+};
 use compact_str::{CompactString, FromJsonError, Refused};
 use serde_json::json;
 use std::borrow::CowStr;

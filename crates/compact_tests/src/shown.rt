@@ -43,7 +43,10 @@ fn a_precision_cuts_by_characters(rt: HostRuntime) -> Result<(), Fail> {
 fn debug_quotes_and_escapes(rt: HostRuntime) -> Result<(), Fail> {
     let alloc = rt.alloc();
     let value = copied(&rt, alloc, "ä\"b\\\n\t€😀");
-    assert_eq!(rt; format!(in alloc; "{value:?}")?.as_str(), "\"ä\\\"b\\\\\\n\\t€😀\"");
+    assert_eq!(rt;
+        format!(in alloc; "{value:?}")?.as_str(),
+        "\"ä\\\"b\\\\\\n\\t€😀\""
+    );
     let empty = CompactString::default(alloc);
     assert_eq!(rt; format!(in alloc; "{empty:?}")?.as_str(), "\"\"");
     Ok(())
