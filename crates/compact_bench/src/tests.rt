@@ -1,4 +1,5 @@
-//! The generator at its start, and checksums that the same workloads over the Rust crate compact_str gave.
+//! The generator at its start, and checksums that the same workloads over the Rust crate compact_str gave, or a program in
+//! Python.
 
 use crate::generator::Generator;
 use crate::inputs::word;
@@ -40,4 +41,20 @@ fn edits_have_these_checksums(rt: HostRuntime) {
         0x0a9f_1360_bd4b_3ea5
     );
     assert_eq!(rt; cs_bench_replace_range(alloc, 5_000), 0xee61_ca13_f328_4980);
+}
+
+#[test]
+fn comparisons_have_these_checksums(rt: HostRuntime) {
+    let alloc = rt.alloc();
+    assert_eq!(rt; cs_bench_eq_short(alloc, 10_000), 0x88fb_6e50_c64b_b002);
+    assert_eq!(rt; cs_bench_cmp_short(alloc, 10_000), 0x8aa9_09e4_42a0_6c62);
+    assert_eq!(rt; cs_bench_hash_short(alloc, 10_000), 0xb73b_8c96_7e9f_284f);
+}
+
+#[test]
+fn strings_of_a_value_have_this_checksum(rt: HostRuntime) {
+    assert_eq!(rt;
+        cs_bench_into_string(rt.alloc(), 1_000),
+        0xf330_c5b5_43bb_fd80
+    );
 }

@@ -59,8 +59,8 @@ spread_less zero lead c d xs ys h = first_less (lead + c) (lead + d) xs ys (omeg
 spread_less (suc count) lead c d xs ys h = elim (cases_lt (c / 64) (d / 64)) [
   | inl less ↦ spread_less count lead (c / 64) (d / 64) (next c ∷ xs) (next d ∷ ys) less
   | inr same ↦
-    spread_same count lead (c / 64) (d / 64) (next c ∷ xs) (next d ∷ ys) (omega (arith, h, same))
-    ∙ first_less (next c) (next d) xs ys (omega (arith, h, same))
+      spread_same count lead (c / 64) (d / 64) (next c ∷ xs) (next d ∷ ys) (omega (arith, h, same))
+      ∙ first_less (next c) (next d) xs ys (omega (arith, h, same))
 ]
 
 -- How many bytes follow the first, and how it is marked (Unicode Standard, 3.9, table 3-6).
@@ -144,7 +144,7 @@ utf8-order (c ∷ s) (d ∷ t) = elim (cases_order c d) [
   | inr apart ↦ elim apart [
     | inl less ↦ encode-less c d (utf8 s) (utf8 t) less ∙ sym (first_less c d s t less)
     | inr less ↦
-      turned (utf8 (c ∷ s)) (utf8 (d ∷ t)) (encode-less d c (utf8 t) (utf8 s) less) ∙ sym (turned (c ∷ s) (d ∷ t) (first_less d c t s less))
+        turned (utf8 (c ∷ s)) (utf8 (d ∷ t)) (encode-less d c (utf8 t) (utf8 s) less) ∙ sym (turned (c ∷ s) (d ∷ t) (first_less d c t s less))
   ]
 ]
 

@@ -72,3 +72,35 @@ pub fn set_rank(
     ranks.insert(word, rank)?;
     Ok(())
 }
+
+#[cfg(test)]
+mod tests {
+    use super::*;
+    use crate::support::{copied, lasting, letters};
+    use std::test::Fail;
+
+    #[test]
+    fn a_word_is_found_in_a_sorted_row(rt: HostRuntime) {
+        let alloc = rt.alloc();
+        let mut words = [
+            copied(&rt, alloc, "b"),
+            lasting(alloc, 30),
+            copied(&rt, alloc, "\u{10000}"),
+            copied(&rt, alloc, "\u{fffd}"),
+        ];
+        words.sort_unstable();
+        assert_eq!(rt; place_of(&words, &copied(&rt, alloc, letters(30))), Ok(0));
+        assert_eq!(rt; place_of(&words, &copied(&rt, alloc, "\u{fffd}")), Ok(2));
+        assert_eq!(rt; place_of(&words, &copied(&rt, alloc, "c")), Err(2));
+    }
+
+    #[test]
+    fn a_word_is_counted_wherever_it_stands(rt: HostRuntime) -> Result<(), Fail> {
+        let alloc = rt.alloc();
+        let mut counts = HashMap::new(alloc);
+        set_count(&mut counts, lasting(alloc, 30), 3).map_err(|_| "memory")?;
+        assert_eq!(rt; count_of(&counts, &copied(&rt, alloc, letters(30))), 3);
+        assert_eq!(rt; count_of(&counts, &copied(&rt, alloc, letters(29))), 0);
+        Ok(())
+    }
+}

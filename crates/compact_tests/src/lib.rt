@@ -25,6 +25,7 @@ mod lines;
 mod made;
 #[cfg(test)]
 mod memory;
+mod out_callers;
 mod plain_callers;
 #[cfg(test)]
 mod positions;
@@ -50,8 +51,9 @@ pub use callers::{append_field, keyword, label, record_line};
 pub use iterated::{append_fields, long_names, names_by_reference, names_of, path, whole};
 pub use keys::{comes_first, count_of, is_keyword, place_of, set_count, set_rank};
 pub use lenders::{TooLong, emptied, start_anew, take_out, try_to_empty, was_emptied};
+pub use out_callers::{bytes_of_line, finished_line, name_of};
 pub use plain_callers::{
-    append_count, append_pair, append_record, append_report, split_and_join, split_field, type_two,
-    with_suffix,
+    append_count, append_pair, append_record, append_report, append_value, split_and_join,
+    split_field, type_two, with_suffix,
 };
 pub use run_callers::{Doubling, bracket, refill, rewrite};
