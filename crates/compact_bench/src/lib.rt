@@ -7,6 +7,7 @@
 
 mod checksum;
 mod generator;
+mod hasher;
 mod hidden;
 mod inputs;
 mod ring;
@@ -76,4 +77,28 @@ pub extern "C" fn cs_bench_size_of_value() -> u64 {
 #[unsafe(no_mangle)]
 pub extern "C" fn cs_bench_hold_words(alloc: Global, n: u64) -> u64 {
     workloads::hold::words(alloc, n).unwrap_or(u64::MAX)
+}
+
+/// Compares values of at most 24 bytes for equality, every second with an equal one.
+#[unsafe(no_mangle)]
+pub extern "C" fn cs_bench_eq_short(alloc: Global, n: u64) -> u64 {
+    workloads::compare::equal(alloc, n).unwrap_or(u64::MAX)
+}
+
+/// Orders values of at most 24 bytes.
+#[unsafe(no_mangle)]
+pub extern "C" fn cs_bench_cmp_short(alloc: Global, n: u64) -> u64 {
+    workloads::compare::order(alloc, n).unwrap_or(u64::MAX)
+}
+
+/// Hashes values of at most 24 bytes.
+#[unsafe(no_mangle)]
+pub extern "C" fn cs_bench_hash_short(alloc: Global, n: u64) -> u64 {
+    workloads::compare::hash(alloc, n).unwrap_or(u64::MAX)
+}
+
+/// Makes a string of a value of 100000 bytes on the heap, and a value of the string.
+#[unsafe(no_mangle)]
+pub extern "C" fn cs_bench_into_string(alloc: Global, n: u64) -> u64 {
+    workloads::out::into_string(alloc, n).unwrap_or(u64::MAX)
 }

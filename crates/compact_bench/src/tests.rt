@@ -1,4 +1,5 @@
-//! The generator at its start, and checksums that the same workloads over the Rust crate compact_str gave.
+//! The generator at its start, and checksums that the same workloads over the Rust crate compact_str gave, or a program in
+//! Python.
 
 use crate::generator::Generator;
 use crate::inputs::word;
@@ -48,5 +49,21 @@ fn words_that_are_held_have_this_checksum(rt: HostRuntime) {
         cs_bench_hold_words(rt.alloc(), 10_000),
         0x186a_480e_229d_dd32
     );
-    assert_eq!(rt; cs_bench_size_of_value(), 48);
+    assert_eq!(rt; cs_bench_size_of_value(), 40);
+}
+
+#[test]
+fn comparisons_have_these_checksums(rt: HostRuntime) {
+    let alloc = rt.alloc();
+    assert_eq!(rt; cs_bench_eq_short(alloc, 10_000), 0x88fb_6e50_c64b_b002);
+    assert_eq!(rt; cs_bench_cmp_short(alloc, 10_000), 0x8aa9_09e4_42a0_6c62);
+    assert_eq!(rt; cs_bench_hash_short(alloc, 10_000), 0xb73b_8c96_7e9f_284f);
+}
+
+#[test]
+fn strings_of_a_value_have_this_checksum(rt: HostRuntime) {
+    assert_eq!(rt;
+        cs_bench_into_string(rt.alloc(), 1_000),
+        0xf330_c5b5_43bb_fd80
+    );
 }

@@ -15,3 +15,5 @@ pub mod Numbers
 pub mod WordRows
 pub mod ChangedWords
 pub mod ChangedRows
+pub mod ByteOrder
+pub mod SameRows

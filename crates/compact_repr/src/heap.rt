@@ -6,6 +6,8 @@ ghost use Rattle.std.specs.String.{string_bytes, string_capacity};
 ghost use Rattle.compact_repr.specs.Text.{size, utf8, text_of, IsText};
 ghost use Rattle.compact_repr.specs.Cut.{IsBoundary, before, replaced_text};
 
+mod out;
+
 use crate::rows;
 use std::alloc::{AllocError, Global};
 use std::marker::Model;

@@ -5,6 +5,8 @@ ghost use Rattle.compact_repr.specs.Text.{size, utf8, text_of, IsText};
 ghost use Rattle.compact_repr.specs.Cut.{IsBoundary, before, replaced_text};
 ghost use Rattle.compact_repr.specs.Packed.{IsPackedFor, packed_len};
 
+mod compare;
+
 use crate::rows;
 use crate::words::{insert_byte, remove_byte, row_of};
 use std::marker::Model;

@@ -6,7 +6,9 @@ ghost use Rattle.compact_repr.specs.Value.{inline, is_heap, is_static, IsSound};
 ghost use Rattle.compact_repr.specs.Stored.{value_of, IsStored};
 
 mod change;
+mod compare;
 mod make;
+mod out;
 mod position;
 pub mod room;
 

@@ -1,7 +1,7 @@
 //! Rows of 24 bytes as three words: each read and each write is of a whole word, and no loop goes over bytes.
 #![tactic(auto)]
 
-ghost use Rattle.std.specs.Prelude.{◌≡◌, ◌+◌, ◌-◌, ◌*◌, ◌^◌, ◌≤◌, ◌<◌, [], ◌∷◌, ◌++◌, length, take, drop, replicate};
+ghost use Rattle.std.specs.Prelude.{◌≡◌, ◌+◌, ◌-◌, ◌*◌, ◌^◌, ◌≤◌, ◌<◌, [], ◌∷◌, ◌++◌, length, take, drop, replicate, IsTrue};
 ghost use Rattle.compact_repr.specs.Words.{number, bytes_of};
 
 #[cfg(test)]
@@ -18,6 +18,16 @@ fn load8(bytes: &[u8], at: usize) -> u64
         Some(chunk) => u64::from_le_bytes(*chunk),
         None => unreachable!(),
     }
+}
+
+/// Whether two rows are the same: three words are compared, with no branch between.
+#[inline(always)]
+pub fn same_row(row: &[u8; 24], other: &[u8; 24]) -> bool
+    ensures { IsTrue result → row.now ≡ other.now }
+{
+    (load8(row, 0) == load8(other, 0))
+        & (load8(row, 8) == load8(other, 8))
+        & (load8(row, 16) == load8(other, 16))
 }
 
 /// The four bytes from a place on, as a number.

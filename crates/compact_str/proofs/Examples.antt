@@ -11,6 +11,9 @@ use Rattle.compact_repr.specs.Change.{truncated, inserted, replaced}
 use Rattle.compact_str.specs.Edits.{Removes, split_tail, repeated}
 use Rattle.compact_str.specs.Clones.{cloned_from}
 use Rattle.compact_str.specs.Ranges.{IsRange, range_start, range_end}
+use Rattle.std.specs.Prelude.{true, false}
+use Rattle.std.specs.declared.cmp.Ordering.TheVariants.{Less, Equal, Greater}
+use Rattle.compact_str.specs.Order.{same_text, text_order, text_cmp}
 
 abbrev standard : Growth
 standard = record { least = 32; numerator = 3; denominator = 2 }
@@ -151,3 +154,29 @@ no_range_ends_before_it_starts range = let order = range.order in omega (arith, 
 
 no_range_ends_past_the_text : ¬ IsRange mixed Unbounded (Excluded 4)
 no_range_ends_past_the_text range = let within = boundary-within mixed 4 range.last in omega (arith, within)
+
+-- equality and order
+
+places_and_capacities_have_no_part : same_text lasting_30 (placed (letters 30) (on_heap 45)) ≡ true
+places_and_capacities_have_no_part = refl
+
+a_front_is_not_the_same : same_text (placed (letters 2) inlined) (placed (letters 3) inlined) ≡ false
+a_front_is_not_the_same = refl
+
+places_have_no_part_in_the_order : text_cmp lasting_30 (placed (letters 30) (on_heap 45)) ≡ Equal
+places_have_no_part_in_the_order = refl
+
+the_empty_text_is_first : text_order [] (97 ∷ []) ≡ Less
+the_empty_text_is_first = refl
+
+a_front_is_less : text_order (97 ∷ []) (97 ∷ 98 ∷ []) ≡ Less
+a_front_is_less = refl
+
+a_longer_text_may_be_less : text_order (97 ∷ 98 ∷ []) (98 ∷ []) ≡ Less
+a_longer_text_may_be_less = refl
+
+the_last_of_three_bytes_is_before_the_first_of_four : text_order (0xFFFD ∷ []) (0x10000 ∷ []) ≡ Less
+the_last_of_three_bytes_is_before_the_first_of_four = refl
+
+the_first_place_that_differs_decides : text_order (0x20AC ∷ 122 ∷ []) (0x20AC ∷ 97 ∷ 98 ∷ []) ≡ Greater
+the_first_place_that_differs_decides = refl

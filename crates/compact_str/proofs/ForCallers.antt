@@ -22,6 +22,7 @@ pub use Rattle.compact_repr.proofs.Changes.{pushed-text}
 pub use Rattle.compact_repr.proofs.Cuts.{before-after, before-cut, after-cut, boundary-text, text_of-take, text_of-drop, boundary-within, size-before, size-after}
 pub use Rattle.compact_repr.proofs.PackedTexts.{one_text}
 pub use Rattle.compact_str.proofs.Positions.{before-before, boundary-seam}
+pub use Rattle.compact_str.proofs.KeyFacts.{texts-from_same, same-from_texts, texts-from_equal}
 
 -- the parts that a formatter wrote are a text together, which is joined
 written-parts : (g : Growth) (v w : PlacedText) (parts : List (List ℕ)) → FoldsTo (Writes g) v parts w → IsUtf8 (concat parts) × (w.text ≡ v.text ++ text_of (concat parts))
@@ -113,4 +114,7 @@ pub ruleset for_callers = (
   text_of-decimal_append,
   one_text,
   same-packed,
+  texts-from_same,
+  same-from_texts,
+  texts-from_equal,
 )

@@ -10,3 +10,5 @@ pub mod Made
 pub mod Edits
 pub mod Ranges
 pub mod Laws
+pub mod Order
+pub mod Json

@@ -1,5 +1,11 @@
-//! Laws of the edits and of packed bytes. Each function does nothing; its contract is the law.
+//! Laws of the edits, of packed bytes and of the order. Each function does nothing; its contract is the law.
 ghost use Rattle.compact_str.specs.Laws.{RemovalUndoesInsertion, TruncationUndoesAppend, AppendUndoesSplit, CloneIsEqual, PackedBytesStandForOneText};
+ghost use Rattle.std.specs.Ordering.{ordering_index};
+ghost use Rattle.std.specs.List.Sorted.{IsSorted, IsNonDecreasingBy};
+ghost use Rattle.compact_str.specs.Order.{ByteOrderIsTextOrder, text_cmp};
+
+use crate::string::PolicyString;
+use compact_repr::Policy;
 
 /// Where `insert` put a character in, `remove` may be called and is never refused: it takes out that character, and the
 /// text is then as before.
@@ -25,4 +31,18 @@ pub fn clone_is_equal()
 /// No 24 bytes stand for two texts. So what `from_packed` makes of the bytes that `packed` gave has the text of that value.
 pub fn packed_bytes_stand_for_one_text()
     ensures { PackedBytesStandForOneText }
+{}
+
+/// The bytes of two texts in UTF-8 are in the order of their characters: so `cmp` goes by bytes, and so may whoever keeps
+/// the texts of values as bytes.
+#[tactic(auto, using(compact_repr::proofs::ByteOrder::order_facts))]
+pub fn byte_order_is_text_order()
+    ensures { ByteOrderIsTextOrder }
+{}
+
+/// In a sorted row the comparisons with any value rise, as the clauses of `binary_search` ask. A caller names the row and
+/// the value before it searches, and then reads from an error where the value would stand.
+pub fn sorted_row_is_searchable<P: Policy>(row: &[PolicyString<P>], value: &PolicyString<P>)
+    requires { IsSorted text_cmp row.now }
+    ensures { IsNonDecreasingBy (λ w. ordering_index (text_cmp w value.now)) row.now }
 {}

@@ -12,8 +12,9 @@ mod string;
 
 pub use compact_repr::{GREATEST_CAPACITY, INLINE_CAPACITY, Policy, ReserveError, Standard};
 pub use laws::{
-    append_undoes_split, clone_is_equal, packed_bytes_stand_for_one_text, removal_undoes_insertion,
-    truncation_undoes_append,
+    append_undoes_split, byte_order_is_text_order, clone_is_equal, packed_bytes_stand_for_one_text,
+    removal_undoes_insertion, sorted_row_is_searchable, truncation_undoes_append,
 };
 pub use refused::Refused;
+pub use string::json::FromJsonError;
 pub use string::{CompactString, PolicyString};

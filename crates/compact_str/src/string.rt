@@ -1,12 +1,16 @@
 //! The string type.
 
 mod clones;
+mod compare;
 pub mod end;
+pub mod json;
 mod look;
 mod make;
+mod out;
 mod position;
 mod repeat;
 mod room;
+mod show;
 
 use compact_repr::{Policy, Repr, Standard};
 use std::marker::Model;

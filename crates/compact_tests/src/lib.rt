@@ -9,8 +9,13 @@ mod changed;
 #[cfg(test)]
 mod cloned;
 #[cfg(test)]
+mod compared;
+#[cfg(test)]
 mod growth;
+#[cfg(test)]
+mod handed_on;
 mod iterated;
+mod keys;
 mod lenders;
 #[cfg(test)]
 mod lent;
@@ -25,6 +30,7 @@ mod packed;
 mod packed_callers;
 #[cfg(test)]
 mod packed_edits;
+mod out_callers;
 mod plain_callers;
 mod policies;
 #[cfg(test)]
@@ -39,6 +45,8 @@ mod refused;
 #[cfg(test)]
 mod refused_edits;
 #[cfg(test)]
+mod refused_out;
+#[cfg(test)]
 mod refused_positions;
 mod run_callers;
 #[cfg(test)]
@@ -46,15 +54,19 @@ mod sessions;
 #[cfg(test)]
 mod shortened;
 #[cfg(test)]
+mod shown;
+#[cfg(test)]
 mod support;
 
 pub use callers::{append_field, keyword, label, record_line};
 pub use iterated::{append_fields, long_names, names_by_reference, names_of, path, whole};
+pub use keys::{comes_first, count_of, is_keyword, place_of, set_count, set_rank};
 pub use lenders::{TooLong, emptied, start_anew, take_out, try_to_empty, was_emptied};
 pub use packed_callers::{cleaned, have_same_row, through_a_row};
+pub use out_callers::{bytes_of_line, finished_line, name_of};
 pub use plain_callers::{
-    append_count, append_pair, append_record, append_report, split_and_join, split_field, type_two,
-    with_suffix,
+    append_count, append_pair, append_record, append_report, append_value, split_and_join,
+    split_field, type_two, with_suffix,
 };
 pub use policies::{Double, Large, Slow};
 pub use pushes::{joined, joined_in_doubled_room};

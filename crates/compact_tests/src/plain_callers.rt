@@ -180,3 +180,13 @@ mod tests {
         assert_inline(&rt, &field, "clé");
     }
 }
+
+/// Appends a value as it is shown.
+#[tactic(auto, using(compact_str::proofs::ForCallers::for_callers))]
+pub fn append_value(line: &mut CompactString, value: &CompactString) -> fmt::Result
+    ensures { OnOk result (line.new.text ≡ line.old.text ++ value.now.text) }
+{
+    // The proof reads from it which characters the bytes spell that are written.
+    let _text = value.as_str();
+    write!(line, "{value}")
+}

@@ -1,0 +1,25 @@
+//! A text that leaves its value and comes back.
+
+use crate::checksum::{mix, probe};
+use crate::generator::Generator;
+use crate::inputs::word;
+use compact_str::{CompactString, ReserveError};
+use std::alloc::Global;
+
+/// How many letters the text has.
+const LETTERS: u32 = 100_000;
+
+/// Makes a string of a heap value, and a value of the string, each with the same buffer.
+pub fn into_string(alloc: Global, n: u64) -> Result<u64, ReserveError> {
+    let word = word(alloc, &mut Generator::new(), LETTERS)?;
+    let mut value = CompactString::from_string_buffer(word);
+    let mut sum = 0;
+    for _ in 0..n {
+        match value.into_string() {
+            Ok(text) => value = CompactString::from_string_buffer(text),
+            Err(refused) => return Err(refused.error),
+        }
+        sum = mix(sum, probe(&value));
+    }
+    Ok(sum)
+}

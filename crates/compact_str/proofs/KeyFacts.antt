@@ -1,0 +1,24 @@
+-- What callers read from the comparisons of values: when two texts are the same, and that a sorted row may be searched.
+use Rattle.std.proofs.Common.{◌≡◌, List, true}
+use Rattle.std.specs.declared.cmp.Ordering.TheVariants.{Equal}
+use Rattle.std.specs.Ordering.{ordering_index}
+use Rattle.std.specs.Cmp.Lexicographic.{bytes_decides}
+use Rattle.std.specs.List.Sorted.{IsSorted, IsNonDecreasingBy}
+use Rattle.std.proofs.lemmas.Cmp.{nat_list_cmp_total}
+use Rattle.std.proofs.lemmas.List.Sorted.{searchable_from_sorted}
+use Rattle.std.proofs.lemmas.Map.Lookups.{exact_bytes}
+use Rattle.compact_repr.specs.Value.{PlacedText}
+use Rattle.compact_str.specs.Order.{text_in, same_text, text_cmp}
+
+pub texts-from_same : (v w : PlacedText) → same_text v w ≡ true → v.text ≡ w.text
+texts-from_same v w e = (bytes_decides v.text w.text).0 e
+
+pub same-from_texts : (v w : PlacedText) → v.text ≡ w.text → same_text v w ≡ true
+same-from_texts v w e = (bytes_decides v.text w.text).1 e
+
+pub texts-from_equal : (v w : PlacedText) → text_cmp v w ≡ Equal → v.text ≡ w.text
+texts-from_equal v w e = exact_bytes v.text w.text e
+
+-- a sorted row of values may be searched for any of them
+pub searchable-texts : (row : List PlacedText) (x : PlacedText) → IsSorted text_cmp row → IsNonDecreasingBy (λ y. ordering_index (text_cmp y x)) row
+searchable-texts row x sorted = searchable_from_sorted nat_list_cmp_total text_in row x.text sorted

@@ -1,0 +1,28 @@
+-- What becomes of a JSON value.
+use Rattle.std.specs.Prelude.{◌≡◌, ◌≤◌, ℕ, List, length, Result, IsOk, MatchResult, IsTrue, Some, Err, ⊤}
+use Rattle.serde_json.specs.Data.{Data, null, boolean, number, string, array, object}
+use Rattle.compact_repr.specs.Text.{text_of}
+use Rattle.compact_repr.specs.Value.{PlacedText}
+use Rattle.compact_repr.specs.Capacity.{Growth, new_room_asks}
+use Rattle.compact_repr.specs.Change.{made}
+use Rattle.compact_str.specs.declared.string.json.FromJsonError.{FromJsonError}
+use Rattle.compact_str.specs.declared.string.json.FromJsonError.TheVariants.{NotAString, Reserve}
+
+-- room for a copy was refused
+abbrev pub IsReserve : FromJsonError → Type 0
+IsReserve NotAString = ⊥
+IsReserve (Reserve _) = ⊤
+
+-- r is what a JSON string with some bytes gives: a new value with their text, which up to 24 of them is never refused
+pub record ReadsString (g : Growth) (bytes : List ℕ) (r : Result PlacedText FromJsonError) : Type 0 where
+  pub outcome : MatchResult r (λ v. made g (text_of bytes) ≡ Some v) (λ e. IsReserve e × IsTrue (new_room_asks (length bytes)))
+  pub succeeds : length bytes ≤ 24 → IsOk r
+
+-- a string is copied, and every other JSON value is no string
+abbrev pub ReadsJson : Growth → Data → Result PlacedText FromJsonError → Type 0
+ReadsJson g (string bytes) r = ReadsString g bytes r
+ReadsJson g null r = r ≡ Err NotAString
+ReadsJson g (boolean _) r = r ≡ Err NotAString
+ReadsJson g (number _) r = r ≡ Err NotAString
+ReadsJson g (array _) r = r ≡ Err NotAString
+ReadsJson g (object _) r = r ≡ Err NotAString

@@ -1,0 +1,152 @@
+//! How a text leaves its value.
+ghost use Rattle.std.specs.Prelude.{◌≡◌, ◌≤◌, false, IfOk, IfErr, IsOk, IsTrue, string_bytes, not};
+ghost use Rattle.std.specs.Vec.{vec_capacity};
+ghost use Rattle.std.specs.String.{string_capacity};
+ghost use Rattle.std.specs.Box.{boxed_str_bytes};
+ghost use Rattle.std.specs.Rc.{rc_str_bytes};
+ghost use Rattle.std.specs.Cow.{cow_str_bytes, IsBorrowedStr};
+ghost use Rattle.compact_repr.specs.Text.{size, utf8, text_of};
+ghost use Rattle.compact_repr.specs.Value.{is_heap, is_static};
+ghost use Rattle.compact_repr.specs.Capacity.{own_asks};
+
+use crate::refused::Refused;
+use crate::string::PolicyString;
+use compact_repr::{Policy, Repr, ReserveError};
+use smallvec::SmallVec;
+use std::borrow::CowStr;
+use std::boxed::BoxedStr;
+use std::rc::RcStr;
+
+impl<P: Policy> PolicyString<P> {
+    /// The text as a `String`: of a heap value with its buffer and at least its capacity, of which nothing is copied; of
+    /// every other a copy.
+    ///
+    /// An error says that no memory was found for the copy, and hands the value back as it was; it never comes of a heap
+    /// value. `CompactString::new(alloc, "abc")?.into_string()` is a copy of `"abc"`.
+    pub fn into_string(self) -> Result<String, Refused<Self>>
+        ensures bytes { IfOk result (λ s. string_bytes s ≡ utf8 self.text) }
+        ensures text { IfOk result (λ s. text_of (string_bytes s) ≡ self.text) }
+        ensures capacity { IsTrue (is_heap self.placement.place) → IfOk result (λ s. self.placement.capacity ≤ string_capacity s) }
+        ensures succeeds { IsTrue (is_heap self.placement.place) → IsOk result }
+        ensures err { IfErr result (λ e. (e.value ≡ self) × (is_heap self.placement.place ≡ false)) }
+    {
+        match self.repr.into_heap_string() {
+            Ok(text) => Ok(text),
+            Err(repr) => match String::from_str(repr.allocator(), repr.as_str()) {
+                Ok(copy) => Ok(copy),
+                Err(_) => Err(refused(repr)),
+            },
+        }
+    }
+
+    /// The bytes of the text as a vector, as `into_string` gives the text: of a heap value with its buffer.
+    ///
+    /// An error says that no memory was found for a copy, and hands the value back as it was; it never comes of a heap
+    /// value. Of `"é"` they are C3 and A9.
+    pub fn into_vec(self) -> Result<Vec<u8>, Refused<Self>>
+        ensures bytes { IfOk result (λ v. v.items ≡ utf8 self.text) }
+        ensures text { IfOk result (λ v. text_of v.items ≡ self.text) }
+        ensures capacity { IsTrue (is_heap self.placement.place) → IfOk result (λ v. self.placement.capacity ≤ vec_capacity v) }
+        ensures succeeds { IsTrue (is_heap self.placement.place) → IsOk result }
+        ensures err { IfErr result (λ e. (e.value ≡ self) × (is_heap self.placement.place ≡ false)) }
+    {
+        match self.into_string() {
+            Ok(text) => Ok(text.into_bytes()),
+            Err(back) => Err(back),
+        }
+    }
+
+    /// The bytes of the text in a vector that holds 24 of them in itself: of a heap value with its buffer where that has
+    /// room for more, and of every other a copy.
+    ///
+    /// An error says that no memory was found, and hands the value back as it was; it comes only of a static value of more
+    /// than 24 bytes. Of `"é"` they are C3 and A9.
+    pub fn into_bytes(self) -> Result<SmallVec<u8, 24>, Refused<Self>>
+        ensures bytes { IfOk result (λ v. v.items ≡ utf8 self.text) }
+        ensures text { IfOk result (λ v. text_of v.items ≡ self.text) }
+        ensures succeeds { size self.text ≤ 24 → IsOk result }
+        ensures succeeds_owned { is_static self.placement.place ≡ false → IsOk result }
+        ensures err { IfErr result (λ e. (e.value ≡ self) × IsTrue (own_asks self)) }
+    {
+        match self.repr.into_heap_string() {
+            Ok(text) => Ok(SmallVec::from_vec(text.into_bytes())),
+            Err(repr) => match SmallVec::from_slice(repr.allocator(), repr.as_str().as_bytes()) {
+                Ok(bytes) => Ok(bytes),
+                Err(_) => Err(refused(repr)),
+            },
+        }
+    }
+
+    /// The text in a box: of a heap value with its buffer, of which nothing is copied, and of every other a copy.
+    ///
+    /// An error says that no memory was found for the copy, and hands the value back as it was; it never comes of a heap
+    /// value.
+    pub fn into_boxed_str(self) -> Result<BoxedStr, Refused<Self>>
+        ensures bytes { IfOk result (λ b. boxed_str_bytes b ≡ utf8 self.text) }
+        ensures text { IfOk result (λ b. text_of (boxed_str_bytes b) ≡ self.text) }
+        ensures succeeds { IsTrue (is_heap self.placement.place) → IsOk result }
+        ensures err { IfErr result (λ e. (e.value ≡ self) × (is_heap self.placement.place ≡ false)) }
+    {
+        match self.into_string() {
+            Ok(text) => Ok(text.into_boxed_str()),
+            Err(back) => Err(back),
+        }
+    }
+
+    /// A copy of the text that is shared by counting.
+    ///
+    /// An error says that no memory was found for it, and hands the value back as it was.
+    pub fn into_rc(self) -> Result<RcStr, Refused<Self>>
+        ensures bytes { IfOk result (λ r. rc_str_bytes r ≡ utf8 self.text) }
+        ensures text { IfOk result (λ r. text_of (rc_str_bytes r) ≡ self.text) }
+        ensures err { IfErr result (λ e. e.value ≡ self) }
+    {
+        match RcStr::from_str(self.repr.allocator(), self.repr.as_str()) {
+            Ok(shared) => Ok(shared),
+            Err(_) => Err(refused(self.repr)),
+        }
+    }
+
+    /// The text borrowed or owned: a static one is borrowed for ever, one on the heap is owned with its buffer, and one
+    /// inline is copied.
+    ///
+    /// An error says that no memory was found for the copy, and hands the value back as it was; it comes only of an inline
+    /// value. A static text of 30 bytes is `CowStr::Borrowed`.
+    pub fn into_cow(self) -> Result<CowStr<'static>, Refused<Self>>
+        ensures bytes { IfOk result (λ c. cow_str_bytes c ≡ utf8 self.text) }
+        ensures text { IfOk result (λ c. text_of (cow_str_bytes c) ≡ self.text) }
+        ensures borrowed { IsTrue (is_static self.placement.place) → IfOk result IsBorrowedStr }
+        ensures owned { is_static self.placement.place ≡ false → IfOk result (λ c. ¬ IsBorrowedStr c) }
+        ensures succeeds_static { IsTrue (is_static self.placement.place) → IsOk result }
+        ensures succeeds_heap { IsTrue (is_heap self.placement.place) → IsOk result }
+        ensures err { IfErr result (λ e. (e.value ≡ self) × (is_static self.placement.place ≡ false) × (is_heap self.placement.place ≡ false)) }
+    {
+        if let Some(text) = self.repr.as_static_str() {
+            return Ok(CowStr::Borrowed(text));
+        }
+        match self.into_string() {
+            Ok(text) => Ok(CowStr::Owned(text)),
+            Err(back) => Err(back),
+        }
+    }
+
+    /// The text, borrowed from the value: `CowStr::Borrowed` of `as_str`.
+    #[inline]
+    pub fn as_cow(&self) -> CowStr<'_>
+        ensures bytes { cow_str_bytes result ≡ utf8 self.now.text }
+        ensures text { text_of (cow_str_bytes result) ≡ self.now.text }
+        ensures borrowed { IsBorrowedStr result }
+    {
+        CowStr::Borrowed(self.as_str())
+    }
+}
+
+/// The refusal that hands a value back.
+fn refused<P: Policy>(repr: Repr<P>) -> Refused<PolicyString<P>>
+    ensures { result.value ≡ repr }
+{
+    Refused {
+        error: ReserveError,
+        value: PolicyString { repr },
+    }
+}
