@@ -14,3 +14,4 @@ pub mod Numbers
 pub mod WordRows
 pub mod ChangedWords
 pub mod ChangedRows
+pub mod Letters

@@ -1,6 +1,6 @@
 //! A text of at most 24 bytes that stands in the value itself.
 ghost use Rattle.std.specs.Prelude.{◌≡◌, ◌+◌, ◌-◌, ◌≤◌, ◌<◌, [], ◌∷◌, ◌++◌, length, true, false, IsTrue, ◌↔◌};
-ghost use Rattle.compact_repr.specs.Text.{size, utf8, text_of, IsText};
+ghost use Rattle.compact_repr.specs.Text.{size, utf8, text_of, IsText, ascii_lowercase, ascii_uppercase};
 ghost use Rattle.compact_repr.specs.Cut.{IsBoundary, before, replaced_text};
 
 use crate::rows;
@@ -167,5 +167,30 @@ impl InlineBuffer {
         ensures { self.new ≡ [] }
     {
         self.len = 0;
+    }
+
+    /// Leaves the empty text, and writes every byte with zero, those behind the text too.
+    pub fn zeroize(&mut self)
+        ensures { self.new ≡ [] }
+    {
+        let InlineBuffer { bytes, len } = self;
+        rows::wipe(bytes);
+        *len = 0;
+    }
+
+    /// Makes A to Z small.
+    pub fn make_ascii_lowercase(&mut self)
+        ensures text { self.new ≡ ascii_lowercase self.old }
+        ensures fits { size self.new ≤ 24 }
+    {
+        rows::make_lowercase(&mut self.bytes, self.len);
+    }
+
+    /// Makes a to z great.
+    pub fn make_ascii_uppercase(&mut self)
+        ensures text { self.new ≡ ascii_uppercase self.old }
+        ensures fits { size self.new ≤ 24 }
+    {
+        rows::make_uppercase(&mut self.bytes, self.len);
     }
 }

@@ -5,6 +5,7 @@ ghost use Rattle.compact_repr.specs.Value.{is_heap, is_static, IsSound};
 ghost use Rattle.compact_repr.specs.Stored.{value_of, IsStored};
 
 mod change;
+mod in_place;
 mod make;
 mod position;
 pub mod room;

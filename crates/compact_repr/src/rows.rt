@@ -4,10 +4,12 @@ ghost use Rattle.std.specs.List.{replace_range};
 ghost use lib.Seq.{paste};
 
 mod chunks;
+mod each;
 mod moves;
 #[cfg(test)]
 mod tests;
 
+pub use each::{make_lowercase, make_uppercase, wipe};
 use chunks::{chunk, set_chunk};
 use moves::{move_down, move_up, shift};
 

@@ -1,5 +1,6 @@
 pub mod Positions
 pub mod Rooms
+pub mod Letters
 pub mod Repeats
 pub mod EditFacts
 pub mod LawLemmas

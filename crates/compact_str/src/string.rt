@@ -2,6 +2,7 @@
 
 mod clones;
 pub mod end;
+mod letters;
 mod look;
 mod make;
 mod position;
