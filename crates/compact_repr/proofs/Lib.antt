@@ -15,3 +15,4 @@ pub mod WordRows
 pub mod ChangedWords
 pub mod ChangedRows
 pub mod Letters
+pub mod Keeping

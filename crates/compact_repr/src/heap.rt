@@ -5,7 +5,9 @@ ghost use Rattle.std.specs.List.{replace_range};
 ghost use Rattle.std.specs.Vec.{vec_len, vec_capacity};
 ghost use Rattle.std.specs.String.{string_bytes, string_capacity};
 ghost use Rattle.compact_repr.specs.Text.{size, utf8, text_of, IsText, ascii_lowercase, ascii_uppercase};
+ghost use Rattle.std.specs.Str.{IsUtf8};
 ghost use Rattle.compact_repr.specs.Cut.{IsBoundary, before, replaced_text};
+ghost use Rattle.compact_repr.specs.Kept.{KeepsChars};
 
 use crate::rows;
 use std::alloc::{AllocError, Global};
@@ -247,6 +249,16 @@ impl HeapBuffer {
     {
         make_uppercase(&mut self.bytes, self.len);
     }
+    /// Keeps the characters for which `keep`, asked once of each in order, answers true, and the capacity.
+    #[inline]
+    pub fn retain<F: FnMut(char) -> bool>(&mut self, keep: F)
+        requires { F.IsAlwaysCallable keep }
+        ensures text { KeepsChars F.FnMut keep self.old.text self.new.text }
+        ensures capacity { self.new.capacity ≡ self.old.capacity }
+        ensures fits { size self.new.text ≤ self.old.capacity }
+    {
+        self.len = retain(&mut self.bytes, self.len, keep);
+    }
 }
 
 /// Writes `source` behind the first `len` bytes, where they fit in `capacity`, which the vector has reserved. Answers
@@ -364,6 +376,21 @@ fn make_uppercase(bytes: &mut Vec<u8>, len: usize)
     ensures capacity { vec_capacity bytes.new ≡ vec_capacity bytes.old }
 {
     rows::make_uppercase(bytes.as_mut_slice(), len);
+}
+
+/// Of the text in the first `len` bytes keeps the characters that `keep` keeps, and answers how many bytes they take.
+#[inline(always)]
+fn retain<F: FnMut(char) -> bool>(bytes: &mut Vec<u8>, len: usize, keep: F) -> usize
+    requires stands { len ≤ vec_len bytes.old }
+    requires utf8 { IsUtf8 (take len bytes.old.items) }
+    requires callable { F.IsAlwaysCallable keep }
+    ensures text { KeepsChars F.FnMut keep (text_of (take len bytes.old.items)) (text_of (take result bytes.new.items)) }
+    ensures utf8 { IsUtf8 (take result bytes.new.items) }
+    ensures within { result ≤ len }
+    ensures same { vec_len bytes.new ≡ vec_len bytes.old }
+    ensures capacity { vec_capacity bytes.new ≡ vec_capacity bytes.old }
+{
+    rows::retain(bytes.as_mut_slice(), len, keep)
 }
 
 /// Sees to it that the vector has `needed` bytes, if `capacity`, which it has reserved, allows as many. Answers whether it

@@ -2,6 +2,7 @@
 ghost use Rattle.std.specs.Prelude.{◌≡◌, ◌+◌, ◌-◌, ◌≤◌, ◌<◌, [], ◌∷◌, ◌++◌, length, true, false, IsTrue, ◌↔◌};
 ghost use Rattle.compact_repr.specs.Text.{size, utf8, text_of, IsText, ascii_lowercase, ascii_uppercase};
 ghost use Rattle.compact_repr.specs.Cut.{IsBoundary, before, replaced_text};
+ghost use Rattle.compact_repr.specs.Kept.{KeepsChars};
 
 use crate::rows;
 use crate::words::{insert_byte, remove_byte, row_of};
@@ -192,5 +193,14 @@ impl InlineBuffer {
         ensures fits { size self.new ≤ 24 }
     {
         rows::make_uppercase(&mut self.bytes, self.len);
+    }
+    /// Keeps the characters for which `keep`, asked once of each in order, answers true.
+    #[inline]
+    pub fn retain<F: FnMut(char) -> bool>(&mut self, keep: F)
+        requires { F.IsAlwaysCallable keep }
+        ensures text { KeepsChars F.FnMut keep self.old self.new }
+        ensures fits { size self.new ≤ 24 }
+    {
+        self.len = rows::retain(&mut self.bytes, self.len, keep);
     }
 }

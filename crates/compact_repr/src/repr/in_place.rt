@@ -3,6 +3,7 @@ ghost use Rattle.std.specs.Prelude.{◌≡◌, false};
 ghost use Rattle.compact_repr.specs.Text.{ascii_lowercase, ascii_uppercase};
 ghost use Rattle.compact_repr.specs.Value.{placed, is_static};
 ghost use Rattle.compact_repr.specs.Change.{zeroized};
+ghost use Rattle.compact_repr.specs.Kept.{KeepsChars};
 
 use crate::inline::InlineBuffer;
 use crate::policy::Policy;
@@ -42,6 +43,21 @@ impl<P: Policy> Repr<P> {
             Buffer::Inline(inline) => inline.zeroize(),
             Buffer::Heap(heap) => heap.zeroize(),
             Buffer::Static(_) => self.buffer = Buffer::Inline(InlineBuffer::empty()),
+        }
+    }
+    /// Keeps the characters for which `keep`, asked once of each in order, answers true, in the value's own bytes. The place
+    /// and the capacity stay.
+    #[inline]
+    pub fn retain<F: FnMut(char) -> bool>(&mut self, keep: F)
+        requires owned { is_static self.old.placement.place ≡ false }
+        requires callable { F.IsAlwaysCallable keep }
+        ensures text { KeepsChars F.FnMut keep self.old.text self.new.text }
+        ensures placement { self.new.placement ≡ self.old.placement }
+    {
+        match &mut self.buffer {
+            Buffer::Inline(inline) => inline.retain(keep),
+            Buffer::Heap(heap) => heap.retain(keep),
+            Buffer::Static(_) => unreachable!(),
         }
     }
 }
