@@ -16,3 +16,4 @@ pub mod ChangedWords
 pub mod ChangedRows
 pub mod Letters
 pub mod Keeping
+pub mod Middles

@@ -35,6 +35,17 @@ pub fn char_at(text: &str, index: usize) -> char
     }
 }
 
+/// The first character; `None` of the empty text.
+#[inline]
+pub fn first_char(text: &str) -> Option<char>
+    ensures { MatchOption result (text_of text.now ≡ []) (λ c. (rest : List ℕ) × (text_of text.now ≡ c ∷ rest)) }
+{
+    match text.chars().next() {
+        Some(character) => Some(character),
+        None => None,
+    }
+}
+
 /// The last character, found from the end; `None` of the empty text.
 #[inline]
 pub fn last_char(text: &str) -> Option<char>

@@ -8,4 +8,6 @@ pub mod Clones
 pub mod Made
 pub mod Edits
 pub mod Ranges
+pub mod Drains
+pub mod Drained
 pub mod Laws

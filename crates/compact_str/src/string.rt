@@ -2,10 +2,12 @@
 
 mod clones;
 pub mod end;
+mod kept;
 mod letters;
 mod look;
 mod make;
-mod position;
+mod part;
+pub mod position;
 mod repeat;
 mod room;
 

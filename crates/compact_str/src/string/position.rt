@@ -202,7 +202,7 @@ impl<P: Policy> PolicyString<P> {
 
 /// Where a range of a text of `len` bytes begins and ends, in bytes; `None` only where an end of it is past the text.
 #[inline]
-fn ends(start: Bound<usize>, end: Bound<usize>, len: usize) -> Option<(usize, usize)>
+pub fn ends(start: Bound<usize>, end: Bound<usize>, len: usize) -> Option<(usize, usize)>
     ensures { MatchOption result (¬ ((start_index start ≤ len) × (end_index end len ≤ len))) (λ range. (range.0 ≡ start_index start) × (range.1 ≡ end_index end len)) }
 {
     let first = match start {
