@@ -1,7 +1,7 @@
 //! A range of a value that is taken out, character by character.
 ghost use Rattle.std.specs.Prelude.{◌≡◌, ℕ, ◌≤◌, List, length, [], Some, IfOk, OnErr, IsOk, IsTrue};
 ghost use Rattle.std.specs.Borrow.{sem, RestsIfErr};
-ghost use Rattle.compact_repr.specs.Text.{size, text_of};
+ghost use Rattle.compact_repr.specs.Text.{size, utf8, text_of};
 ghost use Rattle.compact_repr.specs.Cut.{middle, replaced_text};
 ghost use Rattle.compact_repr.specs.Capacity.{own_asks};
 ghost use Rattle.compact_repr.specs.Change.{replaced};
@@ -84,6 +84,7 @@ impl<P: Policy> Drain<'_, P> {
     /// What is not yet taken.
     #[inline]
     pub fn as_str(&self) -> &str
+        ensures bytes { result.now ≡ utf8 (drain_rest self.now) }
         ensures text { text_of result.now ≡ drain_rest self.now }
         ensures len { length result.now ≡ size (drain_rest self.now) }
     {
@@ -149,5 +150,27 @@ impl<P: Policy> Drop for Drain<'_, P> {
             back: _,
         } = self;
         value.take_out(start, end);
+    }
+}
+
+impl<P: Policy> Display for Drain<'_, P> {
+    ghost use Rattle.std.specs.Prelude.{Some};
+    ghost use Rattle.compact_repr.specs.Text.{utf8};
+    ghost use Rattle.compact_str.specs.Drained.{drain_rest};
+
+    ghost output = { λ d. Some (utf8 (drain_rest d)) };
+
+    ghost styled_output = { λ d _. Some (utf8 (drain_rest d)) };
+
+    /// Prints what is not yet taken, whatever the width.
+    fn fmt<W: Write>(&self, f: &mut Formatter<W>) -> fmt::Result {
+        f.write_str(self.as_str())
+    }
+}
+
+impl<P: Policy> Debug for Drain<'_, P> {
+    /// Prints `Drain(`, what is not yet taken as its `Debug` shows it, and `)`.
+    fn fmt<W: Write>(&self, f: &mut Formatter<W>) -> fmt::Result {
+        f.debug_tuple("Drain").field(&self.as_str()).finish()
     }
 }
