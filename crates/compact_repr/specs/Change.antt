@@ -68,6 +68,10 @@ lowercased g v = option_map (placed (ascii_lowercase v.text)) (owned g v)
 abbrev pub uppercased : Growth → PlacedText → Option PlacedText
 uppercased g v = option_map (placed (ascii_uppercase v.text)) (owned g v)
 
+-- v made owned, with only the characters t of its text
+abbrev pub retained : Growth → PlacedText → List ℕ → Option PlacedText
+retained g v t = option_map (placed t) (owned g v)
+
 -- v with no text: a static one inline, every other in its place
 abbrev pub zeroized : PlacedText → PlacedText
 zeroized v = placed [] (if is_static v.placement.place then inlined else v.placement)

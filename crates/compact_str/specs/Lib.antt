@@ -3,6 +3,7 @@ pub use Rattle.compact_repr.specs.Cut
 pub use Rattle.compact_repr.specs.Value
 pub use Rattle.compact_repr.specs.Capacity
 pub use Rattle.compact_repr.specs.Change
+pub use Rattle.compact_repr.specs.Kept
 pub mod Room
 pub mod Clones
 pub mod Made

@@ -2,8 +2,8 @@
 ghost use Rattle.std.specs.Prelude.{◌≡◌, ℕ, ◌+◌, ◌-◌, ◌^◌, ◌<◌, ◌≤◌, ◌↔◌, ◌∷◌, [], length, Some, None, IfOk, OnOk, OnErr, IsOk, IsTrue, MatchOption, false};
 ghost use Rattle.std.specs.Char.{len_utf8};
 ghost use Rattle.std.specs.Range.Bound.{start_index, end_index};
-ghost use Rattle.compact_repr.specs.Text.{size, text_of};
-ghost use Rattle.compact_repr.specs.Cut.{IsCut, IsBoundary, before, after, replaced_text};
+ghost use Rattle.compact_repr.specs.Text.{size, utf8, text_of};
+ghost use Rattle.compact_repr.specs.Cut.{IsCut, IsBoundary, before, after, middle, replaced_text};
 ghost use Rattle.compact_repr.specs.Value.{placed, is_static};
 ghost use Rattle.compact_repr.specs.Capacity.{room_asks, own_asks, kept};
 ghost use Rattle.compact_str.specs.Room.{IsOwned, HasRoomFor, sure_capacity};
@@ -43,6 +43,23 @@ impl<P: Policy> PolicyString<P> {
         } else {
             None
         }
+    }
+
+    /// What stands in a range of the text.
+    ///
+    /// Whether the bounds are a range of the text, `check_range` tells. Of `"key=value"` from `Included(4)` to `Unbounded`
+    /// it is `"value"`.
+    #[tactic(auto, using(compact_repr::proofs::TextFacts::text_facts, crate::proofs::EditFacts::position_facts))]
+    pub fn range(&self, start: Bound<usize>, end: Bound<usize>) -> &str
+        requires { IsRange self.now.text start end }
+        ensures bytes { result.now ≡ utf8 (middle self.now.text (range_start start) (range_end self.now.text end)) }
+        ensures text { text_of result.now ≡ middle self.now.text (range_start start) (range_end self.now.text end) }
+        ensures len { length result.now ≡ range_end self.now.text end - range_start start }
+    {
+        let Some((first, last)) = ends(start, end, self.len()) else {
+            unreachable!();
+        };
+        self.repr.middle(first, last)
     }
 
     /// Puts `text` in at the boundary `index`, in bytes, once there is room for it; a static value becomes its own even for
