@@ -1,5 +1,5 @@
 -- Characters that a test keeps.
-use Rattle.std.specs.Prelude.{ℕ, List, [], ◌∷◌, Bool, true, if◌then◌else◌}
+use Rattle.std.specs.Prelude.{ℕ, List, [], ◌∷◌, Bool, true, drop, if◌then◌else◌}
 use Rattle.std.specs.List.Retain.{IsFiltered}
 use Rattle.std.specs.Fn.{Called, Mut}
 
@@ -13,7 +13,11 @@ abbrev pub kept_by : {S : Type 0} → (S → ℕ → Bool × S) → S → List �
 kept_by rule s [] = []
 kept_by rule s (c ∷ cs) = if (rule s c).0 then c ∷ kept_by rule (rule s c).1 cs else kept_by rule (rule s c).1 cs
 
--- the rule of a list of answers, the first for the first character; where they have run out every character stays
+-- the next of some answers; where they have run out it is `true`
+abbrev pub next_answer : List Bool → Bool
+next_answer [] = true
+next_answer (answer ∷ answers) = answer
+
+-- the rule of a list of answers, the first for the first character: one with no answer stays
 abbrev pub by_answers : List Bool → ℕ → Bool × List Bool
-by_answers [] c = (true, [])
-by_answers (answer ∷ answers) c = (answer, answers)
+by_answers answers c = (next_answer answers, drop 1 answers)
