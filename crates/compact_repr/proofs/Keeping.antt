@@ -1,10 +1,12 @@
 -- Characters that are kept, one after another, in a row of bytes.
 use Rattle.std.proofs.Common.{◌≡◌, ◌∙◌, refl, ap, sym, subst, arith, ℕ, ◌+◌, ◌-◌, ◌<◌, ◌≤◌, List, [], ◌∷◌, ◌++◌, length, take, drop, Bool, true, false, cond, append_assoc, append-nil, length-append}
-use Rattle.std.proofs.lemmas.List.{length-drop, drop-drop, drop_all}
-use Rattle.std.proofs.lemmas.Str.{drop_past_char, chars_past_char, IsUtf8-past_char, IsUtf8-append, IsUtf8-encode, IsUtf8-nil, chars-nil, length-encode}
+use Rattle.std.proofs.lemmas.List.{length-drop, length-take-le, drop-drop, drop_all, take-take, take_at}
+use Rattle.std.proofs.lemmas.Str.{encode_ascii, len_utf8_ascii, drop_past_char, chars_past_char, IsUtf8-past_char, IsUtf8-append, IsUtf8-encode, IsUtf8-nil, chars-nil, length-encode}
 use Rattle.std.specs.Char.{len_utf8, IsScalar}
 use Rattle.std.specs.Fn.{Called, Mut}
 use Rattle.std.specs.Str.{IsUtf8}
+use lib.ListN.{get_or}
+use Rattle.std.proofs.Math.Seq.{drop-cons}
 use lib.Utf8.{encode}
 use Rattle.compact_repr.specs.Text.{text_of}
 use Rattle.compact_repr.specs.Kept.{KeepsChars}
@@ -62,27 +64,36 @@ abbrev pub Stands : {F : Type 0} → Mut F (ℕ × Unit {0}) Bool → F → List
 Stands g first whole f row kept read =
     IsUtf8 (drop read row) × IsUtf8 (take kept row) × GoesOn g first whole f (text_of (take kept row)) (text_of (drop read row))
 
-pub stands-kept : {F : Type 0} (g : Mut F (ℕ × Unit {0}) Bool) (first f h : F) (whole row now : List ℕ) (kept read c : ℕ) (said : Bool)
-    → said ≡ true → Called g f (c, tt) said h → IsScalar c → kept ≤ read → drop read row ≡ encode c ++ drop (read + len_utf8 c) row → IsUtf8 (drop (read + len_utf8 c) row)
-    → take (kept + len_utf8 c) now ≡ take kept row ++ encode c → drop (kept + len_utf8 c) now ≡ drop (kept + len_utf8 c) row
-    → Stands g first whole f row kept read → Stands g first whole h now (kept + len_utf8 c) (read + len_utf8 c)
-stands-kept g first f h whole row now kept read c said says called s order e u front behind stands =
-    let later : drop (read + len_utf8 c) now ≡ drop (read + len_utf8 c) row = drop-later now row (kept + len_utf8 c) (read + len_utf8 c) (omega (arith, order)) behind in
-    let text : text_of (take (kept + len_utf8 c) now) ≡ text_of (take kept row) ++ c ∷ [] = ap (λ (l : List ℕ). text_of l) front ∙ text_of-put (take kept row) c s stands.1 in
-    let rest = chars_past_char (drop read row) (drop (read + len_utf8 c) row) c stands.0 e in
-    let on = goes_on-kept g first f h whole (text_of (drop read row)) (text_of (drop (read + len_utf8 c) row)) (text_of (take kept row)) c rest (subst (λ (b : Bool). Called g f (c, tt) b h) says called) stands.2 in (
+pub stands-kept : {F : Type 0} (g : Mut F (ℕ × Unit {0}) Bool) (first f h : F) (whole row now : List ℕ) (kept read n c : ℕ) (said : Bool)
+    → said ≡ true → Called g f (c, tt) said h → IsScalar c → kept ≤ read → drop read row ≡ encode c ++ drop (read + n) row → IsUtf8 (drop (read + n) row)
+    → take (kept + n) now ≡ take kept row ++ encode c → drop (kept + n) now ≡ drop (kept + n) row
+    → Stands g first whole f row kept read → Stands g first whole h now (kept + n) (read + n)
+stands-kept g first f h whole row now kept read n c said says called s order e u front behind stands =
+    let later : drop (read + n) now ≡ drop (read + n) row = drop-later now row (kept + n) (read + n) (omega (arith, order)) behind in
+    let text : text_of (take (kept + n) now) ≡ text_of (take kept row) ++ c ∷ [] = ap (λ (l : List ℕ). text_of l) front ∙ text_of-put (take kept row) c s stands.1 in
+    let rest = chars_past_char (drop read row) (drop (read + n) row) c stands.0 e in
+    let on = goes_on-kept g first f h whole (text_of (drop read row)) (text_of (drop (read + n) row)) (text_of (take kept row)) c rest (subst (λ (b : Bool). Called g f (c, tt) b h) says called) stands.2 in (
       subst IsUtf8 (sym later) u,
       subst IsUtf8 (sym front) (utf8-put (take kept row) c s stands.1),
-      subst (λ (l : List ℕ). GoesOn g first whole h (text_of (take (kept + len_utf8 c) now)) (text_of l)) (sym later)
-        (subst (λ (l : List ℕ). GoesOn g first whole h l (text_of (drop (read + len_utf8 c) row))) (sym text) on),
+      subst (λ (l : List ℕ). GoesOn g first whole h (text_of (take (kept + n) now)) (text_of l)) (sym later)
+        (subst (λ (l : List ℕ). GoesOn g first whole h l (text_of (drop (read + n) row))) (sym text) on),
     )
 
-pub stands-dropped : {F : Type 0} (g : Mut F (ℕ × Unit {0}) Bool) (first f h : F) (whole row : List ℕ) (kept read c : ℕ) (said : Bool)
-    → said ≡ false → Called g f (c, tt) said h → drop read row ≡ encode c ++ drop (read + len_utf8 c) row → IsUtf8 (drop (read + len_utf8 c) row)
-    → Stands g first whole f row kept read → Stands g first whole h row kept (read + len_utf8 c)
-stands-dropped g first f h whole row kept read c said says called e u stands =
-    let rest = chars_past_char (drop read row) (drop (read + len_utf8 c) row) c stands.0 e in
-    (u, stands.1, goes_on-dropped g first f h whole (text_of (drop read row)) (text_of (drop (read + len_utf8 c) row)) (text_of (take kept row)) c rest (subst (λ (b : Bool). Called g f (c, tt) b h) says called) stands.2)
+-- what was put ahead of the answer is not among what is kept
+pub stands-dropped : {F : Type 0} (g : Mut F (ℕ × Unit {0}) Bool) (first f h : F) (whole row now : List ℕ) (kept read n c : ℕ) (said : Bool)
+    → said ≡ false → Called g f (c, tt) said h → kept ≤ read → kept ≤ length row → drop read row ≡ encode c ++ drop (read + n) row → IsUtf8 (drop (read + n) row)
+    → take (kept + n) now ≡ take kept row ++ encode c → drop (kept + n) now ≡ drop (kept + n) row
+    → Stands g first whole f row kept read → Stands g first whole h now kept (read + n)
+stands-dropped g first f h whole row now kept read n c said says called order held e u front behind stands =
+    let later : drop (read + n) now ≡ drop (read + n) row = drop-later now row (kept + n) (read + n) (omega (arith, order)) behind in
+    let same : take kept now ≡ take kept row = sym (take-take kept (kept + n) now (omega arith)) ∙ ap (take kept) front ∙ take_at (take kept row) (encode c) kept (length-take-le kept row held) in
+    let rest = chars_past_char (drop read row) (drop (read + n) row) c stands.0 e in
+    let on = goes_on-dropped g first f h whole (text_of (drop read row)) (text_of (drop (read + n) row)) (text_of (take kept row)) c rest (subst (λ (b : Bool). Called g f (c, tt) b h) says called) stands.2 in (
+      subst IsUtf8 (sym later) u,
+      subst IsUtf8 (sym same) stands.1,
+      subst (λ (l : List ℕ). GoesOn g first whole h (text_of (take kept now)) (text_of l)) (sym later)
+        (subst (λ (l : List ℕ). GoesOn g first whole h (text_of l) (text_of (drop (read + n) row))) (sym same) on),
+    )
 
 pub stands-first : {F : Type 0} (g : Mut F (ℕ × Unit {0}) Bool) (first : F) (row : List ℕ) → IsUtf8 row → Stands g first (text_of row) first row 0 0
 stands-first g first row u = (u, IsUtf8-nil, λ v k. subst (λ (l : List ℕ). KeepsChars g first (text_of row) l) (ap (λ (l : List ℕ). l ++ v) (sym chars-nil)) k)
@@ -91,3 +102,12 @@ pub stands-last : {F : Type 0} (g : Mut F (ℕ × Unit {0}) Bool) (first f : F) 
 stands-last g first f whole row kept read h stands =
     let none : text_of (drop read row) ≡ [] = ap (λ (l : List ℕ). text_of l) (drop_all read row h) ∙ chars-nil in
     goes_on-end g first f whole (text_of (take kept row)) (subst (λ (l : List ℕ). GoesOn g first whole f (text_of (take kept row)) l) none stands.2)
+
+-- a text whose first byte is ASCII begins with that character
+pub first_ascii : {text : List ℕ} (bytes : List ℕ) (b c : ℕ) → bytes ≡ text → IsUtf8 text → 0 < length bytes → ((d : ℕ) → b ≡ get_or bytes 0 d) → b < 128 → c ≡ b
+    → (1 ≡ len_utf8 c) × ((rest : List ℕ) × (text_of text ≡ c ∷ rest))
+first_ascii {text} bytes b c e u some is low same =
+    let head : bytes ≡ b ∷ drop 1 bytes = drop-cons bytes 0 b some ∙ ap (λ (x : ℕ). x ∷ drop 1 bytes) (sym (is b)) in
+    let split : text ≡ encode c ++ drop 1 bytes =
+    sym e ∙ head ∙ ap (λ (l : List ℕ). l ++ drop 1 bytes) (sym (encode_ascii b low)) ∙ ap (λ (x : ℕ). encode x ++ drop 1 bytes) (sym same) in
+    (sym (len_utf8_ascii c (omega (arith, same, low))), (text_of (drop 1 bytes), chars_past_char text (drop 1 bytes) c u split))

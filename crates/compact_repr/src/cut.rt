@@ -1,7 +1,8 @@
 //! Parts and characters of a borrowed text, by byte position.
-ghost use Rattle.std.specs.Prelude.{◌≡◌, ◌<◌, List, ℕ, [], ◌∷◌, ◌++◌, length, MatchOption};
+ghost use Rattle.std.specs.Prelude.{◌≡◌, ◌-◌, ◌<◌, ◌≤◌, List, ℕ, [], ◌∷◌, ◌++◌, length, MatchOption};
+ghost use Rattle.std.specs.Char.{len_utf8};
 ghost use Rattle.compact_repr.specs.Text.{text_of};
-ghost use Rattle.compact_repr.specs.Cut.{IsBoundary, before, after, CutIsBeforeAndAfter};
+ghost use Rattle.compact_repr.specs.Cut.{IsBoundary, before, after, middle, CutIsBeforeAndAfter};
 
 /// What stands before a boundary.
 #[inline]
@@ -22,6 +23,18 @@ pub fn tail(text: &str, index: usize) -> &str
     &text[index..]
 }
 
+/// What stands from one boundary to another.
+#[inline(always)]
+pub fn middle(text: &str, start: usize, end: usize) -> &str
+    requires order { start ≤ end }
+    requires first { IsBoundary (text_of text.now) start }
+    requires last { IsBoundary (text_of text.now) end }
+    ensures text { text_of result.now ≡ middle (text_of text.now) start end }
+    ensures len { length result.now ≡ end - start }
+{
+    front(tail(text, start), end - start)
+}
+
 /// The character that begins at a boundary before the end.
 #[inline]
 pub fn char_at(text: &str, index: usize) -> char
@@ -35,13 +48,25 @@ pub fn char_at(text: &str, index: usize) -> char
     }
 }
 
-/// The first character; `None` of the empty text.
-#[inline]
-pub fn first_char(text: &str) -> Option<char>
-    ensures { MatchOption result (text_of text.now ≡ []) (λ c. (rest : List ℕ) × (text_of text.now ≡ c ∷ rest)) }
+/// The first character and how many bytes it has; `None` of the empty text.
+#[inline(always)]
+pub fn first_char(text: &str) -> Option<(char, usize)>
+    ensures { MatchOption result (text_of text.now ≡ []) (λ first. (first.1 ≡ len_utf8 first.0) × ((rest : List ℕ) × (text_of text.now ≡ first.0 ∷ rest))) }
+{
+    match text.as_bytes().first() {
+        Some(byte) if *byte < 128 => Some((char::from(*byte), 1)),
+        _ => first_wide(text),
+    }
+}
+
+/// `first_char` of any text.
+#[cold]
+#[inline(never)]
+fn first_wide(text: &str) -> Option<(char, usize)>
+    ensures { MatchOption result (text_of text.now ≡ []) (λ first. (first.1 ≡ len_utf8 first.0) × ((rest : List ℕ) × (text_of text.now ≡ first.0 ∷ rest))) }
 {
     match text.chars().next() {
-        Some(character) => Some(character),
+        Some(character) => Some((character, character.len_utf8())),
         None => None,
     }
 }

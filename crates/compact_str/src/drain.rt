@@ -12,6 +12,7 @@ ghost use Rattle.compact_str.specs.Drained.{drain_rest, drain_leaves, drain_lend
 ghost use Rattle.compact_str.specs.contracts.string.PolicyString.{the_row};
 
 use crate::string::PolicyString;
+use crate::string::part::part;
 use crate::string::position::ends;
 use compact_repr::{Policy, ReserveError, first_char, last_char};
 use std::fmt;
@@ -88,7 +89,7 @@ impl<P: Policy> Drain<'_, P> {
         ensures text { text_of result.now ≡ drain_rest self.now }
         ensures len { length result.now ≡ size (drain_rest self.now) }
     {
-        self.value.part(self.front, self.back)
+        part(self.value.as_str(), self.front, self.back)
     }
 }
 
@@ -107,8 +108,8 @@ impl<P: Policy> Iterator for Drain<'_, P> {
     fn next(&mut self) -> Option<char> {
         // The proof reads from it that the sum below fits.
         let _back = self.back;
-        let character = first_char(self.as_str())?;
-        self.front += character.len_utf8();
+        let (character, width) = first_char(self.as_str())?;
+        self.front += width;
         Some(character)
     }
 

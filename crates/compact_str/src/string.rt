@@ -6,7 +6,7 @@ mod kept;
 mod letters;
 mod look;
 mod make;
-mod part;
+pub mod part;
 pub mod position;
 mod repeat;
 mod room;

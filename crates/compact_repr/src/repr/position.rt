@@ -54,7 +54,7 @@ impl<P: Policy> Repr<P> {
         ensures text { text_of result.now ≡ middle self.now.text start end }
         ensures len { length result.now ≡ end - start }
     {
-        cut::front(cut::tail(self.as_str(), start), end - start)
+        cut::middle(self.as_str(), start, end)
     }
 
     /// What stands after `index`, in bytes, where the text is a static one; `None` of any other.

@@ -33,44 +33,47 @@ fn move_kept<F: FnMut(char) -> bool>(row: &mut [u8], mut keep: F) -> usize
     let mut read = 0;
     let mut kept = 0;
     while read < row.len() {
-        let character = char_from(row, read);
+        let (character, width) = char_from(row, read);
+        // It goes ahead of the answer: where that is `false`, the next character is written over it.
+        put(row, kept, character, width);
         if keep(character) {
-            put(row, kept, character);
-            kept += character.len_utf8();
+            kept += width;
         }
-        read += character.len_utf8();
+        read += width;
     }
     kept
 }
 
-/// The character that begins at a place of `row`.
+/// The character that begins at a place of `row`, and how many bytes it has.
 #[inline(always)]
-fn char_from(row: &[u8], at: usize) -> char
+fn char_from(row: &[u8], at: usize) -> (char, usize)
     requires utf8 { IsUtf8 (drop at row.now) }
     requires inside { at < length row.now }
-    ensures encoded { drop at row.now ≡ encode_utf8 result ++ drop (at + len_utf8 result) row.now }
-    ensures within { at + len_utf8 result ≤ length row.now }
-    ensures rest { IsUtf8 (drop (at + len_utf8 result) row.now) }
-    ensures scalar { IsScalar result }
+    ensures encoded { drop at row.now ≡ encode_utf8 result.0 ++ drop (at + result.1) row.now }
+    ensures width { result.1 ≡ len_utf8 result.0 }
+    ensures within { at + result.1 ≤ length row.now }
+    ensures rest { IsUtf8 (drop (at + result.1) row.now) }
+    ensures scalar { IsScalar result.0 }
 {
     let byte = row[at];
     if byte < 128 {
-        return char::from(byte);
+        return (char::from(byte), 1);
     }
     match unsafe { std::str::from_utf8_unchecked(&row[at..]) }.chars().next() {
-        Some(character) => character,
+        Some(character) => (character, character.len_utf8()),
         None => unreachable!(),
     }
 }
 
-/// Writes a character at a place of `row`.
+/// Writes a character of that many bytes at a place of `row`.
 #[inline(always)]
-fn put(row: &mut [u8], at: usize, character: char)
-    requires { at + len_utf8 character ≤ length row.old }
-    ensures front { take (at + len_utf8 character) row.new ≡ take at row.old ++ encode_utf8 character }
-    ensures behind { drop (at + len_utf8 character) row.new ≡ drop (at + len_utf8 character) row.old }
+fn put(row: &mut [u8], at: usize, character: char, width: usize)
+    requires room { at + width ≤ length row.old }
+    requires width { width ≡ len_utf8 character }
+    ensures front { take (at + width) row.new ≡ take at row.old ++ encode_utf8 character }
+    ensures behind { drop (at + width) row.new ≡ drop (at + width) row.old }
 {
-    if character.is_ascii() {
+    if width == 1 {
         row[at] = character as u8;
         return;
     }

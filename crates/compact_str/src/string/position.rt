@@ -237,7 +237,7 @@ pub fn ends(start: Bound<usize>, end: Bound<usize>, len: usize) -> Option<(usize
 
 /// Whether `index`, in bytes, is a boundary of `text`.
 #[inline]
-fn is_boundary(text: &str, index: usize) -> bool
+pub fn is_boundary(text: &str, index: usize) -> bool
     ensures { IsTrue result ↔ IsBoundary (text_of text.now) index }
 {
     text.is_char_boundary(index)
