@@ -53,21 +53,27 @@ pub fn char_at(text: &str, index: usize) -> char
 pub fn first_char(text: &str) -> Option<(char, usize)>
     ensures { MatchOption result (text_of text.now ≡ []) (λ first. (first.1 ≡ len_utf8 first.0) × ((rest : List ℕ) × (text_of text.now ≡ first.0 ∷ rest))) }
 {
-    match text.as_bytes().first() {
-        Some(byte) if *byte < 128 => Some((char::from(*byte), 1)),
-        _ => first_wide(text),
+    if text.is_empty() {
+        return None;
     }
+    let byte = text.as_bytes()[0];
+    if byte < 128 {
+        return Some((char::from(byte), 1));
+    }
+    let character = first_wide(text);
+    Some((character, character.len_utf8()))
 }
 
-/// `first_char` of any text.
+/// The first character of a text that has one.
 #[cold]
 #[inline(never)]
-fn first_wide(text: &str) -> Option<(char, usize)>
-    ensures { MatchOption result (text_of text.now ≡ []) (λ first. (first.1 ≡ len_utf8 first.0) × ((rest : List ℕ) × (text_of text.now ≡ first.0 ∷ rest))) }
+fn first_wide(text: &str) -> char
+    requires { 0 < length text.now }
+    ensures { (rest : List ℕ) × (text_of text.now ≡ result ∷ rest) }
 {
     match text.chars().next() {
-        Some(character) => Some((character, character.len_utf8())),
-        None => None,
+        Some(character) => character,
+        None => unreachable!(),
     }
 }
 

@@ -9,7 +9,7 @@ use super::write;
 
 /// Of the text in the first `len` bytes of `row` moves to the front the characters for which `keep`, asked once of each in
 /// order, answers true. Answers how many bytes they take.
-#[inline]
+#[inline(always)]
 pub fn retain<F: FnMut(char) -> bool>(row: &mut [u8], len: usize, keep: F) -> usize
     requires long_enough { len ≤ length row.old }
     requires utf8 { IsUtf8 (take len row.old) }
@@ -22,7 +22,7 @@ pub fn retain<F: FnMut(char) -> bool>(row: &mut [u8], len: usize, keep: F) -> us
 }
 
 /// `retain` of a whole row. It goes once over the row, and a character moves where it is kept.
-#[inline]
+#[inline(always)]
 fn move_kept<F: FnMut(char) -> bool>(row: &mut [u8], mut keep: F) -> usize
     requires utf8 { IsUtf8 row.old }
     requires callable { F.IsAlwaysCallable keep }

@@ -1,15 +1,9 @@
-use Rattle.std.proofs.Common.{length, ap, sym, ◌∙◌}
-use Rattle.std.proofs.lemmas.List.{nil_from_length}
-use Rattle.std.proofs.lemmas.Str.{chars-nil, chars_past_char}
+use Rattle.std.proofs.Common.{sym, ◌∙◌}
+use Rattle.std.proofs.lemmas.Str.{chars_past_char}
 use Rattle.compact_repr.specs.Text.{text_of}
 use Rattle.compact_repr.proofs.cut.first_wide.Goals as goal
 
-pub returns-in-Some : goal.returns-in-Some
-returns-in-Some c =
+pub returns : goal.returns
+returns c =
     let split = sym c.chars.ensures.rest ∙ c.in-Some.ensures.steps.0 in
-    (c.len_utf8.ensures.value, (text_of c.next.new.self.rest.now, chars_past_char c.args.text.now _ c.in-Some.character c.utf8.text split))
-
-pub returns-in-None : goal.returns-in-None
-returns-in-None c =
-    let none = ap length (sym c.chars.ensures.rest) ∙ c.in-None.ensures.steps.0.0 in
-    ap text_of (nil_from_length c.args.text.now none) ∙ chars-nil
+    (text_of c.next.new.self.rest.now, chars_past_char c.args.text.now _ c.in-Some.character c.utf8.text split)
