@@ -36,6 +36,9 @@ mod sessions;
 mod shortened;
 #[cfg(test)]
 mod support;
+mod taken;
+#[cfg(test)]
+mod taken_tests;
 
 pub use callers::{append_field, keyword, label, record_line};
 pub use iterated::{append_fields, long_names, names_by_reference, names_of, path, whole};
@@ -45,3 +48,4 @@ pub use plain_callers::{
     with_suffix,
 };
 pub use run_callers::{Doubling, bracket, refill, rewrite};
+pub use taken::{every_second, folded, move_range, take_range, without_spaces};
