@@ -11,6 +11,7 @@ use Rattle.compact_repr.specs.Change.{truncated, inserted, replaced}
 use Rattle.compact_str.specs.Edits.{Removes, split_tail, repeated}
 use Rattle.compact_str.specs.Clones.{cloned_from}
 use Rattle.compact_str.specs.Ranges.{IsRange, range_start, range_end}
+use Rattle.compact_str.specs.Drains.{part, without_part}
 
 abbrev standard : Growth
 standard = record { least = 32; numerator = 3; denominator = 2 }
@@ -151,3 +152,17 @@ no_range_ends_before_it_starts range = let order = range.order in omega (arith, 
 
 no_range_ends_past_the_text : ¬ IsRange mixed Unbounded (Excluded 4)
 no_range_ends_past_the_text range = let within = boundary-within mixed 4 range.last in omega (arith, within)
+
+-- what is taken out
+
+b_is_a_part : part mixed 2 3 ≡ 98 ∷ []
+b_is_a_part = refl
+
+nothing_stands_where_no_character_begins : part mixed 1 3 ≡ []
+nothing_stands_where_no_character_begins = refl
+
+b_is_taken_out_in_place : without_part (placed mixed inlined) 2 3 ≡ placed (0xE4 ∷ []) inlined
+b_is_taken_out_in_place = refl
+
+nothing_is_taken_out_of_a_static_text : without_part lasting_30 0 3 ≡ lasting_30
+nothing_is_taken_out_of_a_static_text = refl
