@@ -3,9 +3,7 @@
 use crate::lines::assert_prints;
 use crate::memory::{spare, take_all};
 use crate::refused_edits::{room_for, run_all};
-use crate::support::{
-    append, assert_heap, assert_inline, assert_seen, assert_static, copied, lasting, letters,
-};
+use crate::support::{append, assert_heap, assert_inline, assert_static, copied, lasting, letters};
 use crate::taken::{every_second, folded, without_spaces};
 use compact_edit::{Edit, Reply};
 use compact_str::{CompactString, Drain, Standard};
@@ -71,7 +69,7 @@ fn a_drain_prints_what_is_left(rt: HostRuntime) {
     let drained = greeted(&rt, &mut value);
     assert!(rt; write!(printed, "{drained:>9}{drained:?}").is_ok());
     drop(drained);
-    assert_seen(&rt, &printed, "heap", 36, ", worldDrain(\", world\")");
+    assert_inline(&rt, &printed, ", worldDrain(\", world\")");
 }
 
 #[test]
@@ -137,6 +135,7 @@ fn every_second_character_is_kept(rt: HostRuntime) {
 #[test]
 fn retaining_all_makes_a_static_text_its_own(rt: HostRuntime) {
     let mut value = lasting(rt.alloc(), 30);
+    assert!(rt; value.is_char_boundary(10));
     value.truncate(10);
     assert_static(&rt, &value, 10);
     assert!(rt; value.retain(|_| true).is_ok());
