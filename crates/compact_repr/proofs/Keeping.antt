@@ -76,7 +76,7 @@ stands-kept g first f h whole row now kept read n c said says called s order e u
       subst IsUtf8 (sym later) u,
       subst IsUtf8 (sym front) (utf8-put (take kept row) c s stands.1),
       subst (λ (l : List ℕ). GoesOn g first whole h (text_of (take (kept + n) now)) (text_of l)) (sym later)
-        (subst (λ (l : List ℕ). GoesOn g first whole h l (text_of (drop (read + n) row))) (sym text) on),
+          (subst (λ (l : List ℕ). GoesOn g first whole h l (text_of (drop (read + n) row))) (sym text) on),
     )
 
 -- what was put ahead of the answer is not among what is kept
@@ -92,7 +92,7 @@ stands-dropped g first f h whole row now kept read n c said says called order he
       subst IsUtf8 (sym later) u,
       subst IsUtf8 (sym same) stands.1,
       subst (λ (l : List ℕ). GoesOn g first whole h (text_of (take kept now)) (text_of l)) (sym later)
-        (subst (λ (l : List ℕ). GoesOn g first whole h (text_of l) (text_of (drop (read + n) row))) (sym same) on),
+          (subst (λ (l : List ℕ). GoesOn g first whole h (text_of l) (text_of (drop (read + n) row))) (sym same) on),
     )
 
 pub stands-first : {F : Type 0} (g : Mut F (ℕ × Unit {0}) Bool) (first : F) (row : List ℕ) → IsUtf8 row → Stands g first (text_of row) first row 0 0

@@ -40,8 +40,7 @@ pub parts-middle : (t a m b : List ℕ) (i j : ℕ) → t ≡ a ++ m ++ b → si
 parts-middle t a m b i j e first last =
     let grouped : t ≡ a ++ (m ++ b) = e ∙ append_assoc a m b in
     let behind : after t i ≡ m ++ b = ap (λ (l : List ℕ). after l i) grouped ∙ after-cut a (m ++ b) i first in
-    let wide : size m ≡ j - i = omega (arith, first, last) in
-    (
+    let wide : size m ≡ j - i = omega (arith, first, last) in (
       (a, m ++ b, record { parts = grouped; position = first }),
       (a ++ m, b, record { parts = e; position = size-append a m ∙ last }),
       ap (λ (l : List ℕ). before l (j - i)) behind ∙ before-cut m b (j - i) wide,

@@ -10,8 +10,8 @@ mod moves;
 #[cfg(test)]
 mod tests;
 
-pub use each::{make_lowercase, make_uppercase, wipe};
 use chunks::{chunk, set_chunk};
+pub use each::{make_lowercase, make_uppercase, wipe};
 pub use kept::retain;
 use moves::{move_down, move_up, shift};
 

@@ -64,13 +64,13 @@ of-part : (t m : List ℕ) (i j : ℕ) → part t i j ≡ m → (m ≡ [] → �
 of-part t m i j e some =
     ⊎_elim
     (λ yes.
-        let range = range-may_cut_out t i j yes in
-        let parts = middle-parts t i j range.1 range.2 range.0 in
-        let is : middle t i j ≡ m = sym (cond-true _ _ _ yes) ∙ e in
-        let behind : after t i ≡ m ++ after t j = subst (λ (l : List ℕ). after t i ≡ l ++ after t j) is parts.0 in
-        let wide : size m ≡ j - i = ap size (sym is) ∙ parts.1 in
-        let first = size-before t i range.1 in
-        (before-after t i ∙ ap (λ (l : List ℕ). before t i ++ l) behind ∙ sym (append_assoc (before t i) m (after t j)), first, omega (arith, first, wide, range.0)))
+    let range = range-may_cut_out t i j yes in
+    let parts = middle-parts t i j range.1 range.2 range.0 in
+    let is : middle t i j ≡ m = sym (cond-true _ _ _ yes) ∙ e in
+    let behind : after t i ≡ m ++ after t j = subst (λ (l : List ℕ). after t i ≡ l ++ after t j) is parts.0 in
+    let wide : size m ≡ j - i = ap size (sym is) ∙ parts.1 in
+    let first = size-before t i range.1 in
+    (before-after t i ∙ ap (λ (l : List ℕ). before t i ++ l) behind ∙ sym (append_assoc (before t i) m (after t j)), first, omega (arith, first, wide, range.0)))
     (λ no. absurd (some (sym e ∙ cond-false _ _ _ no)))
     (cases_Bool (may_cut_out t i j))
 
@@ -123,4 +123,5 @@ length-most [] = omega arith
 length-most (c ∷ cs) = omega (arith, len_utf8_bounds c, length-most cs)
 
 pub ruleset part_facts = (range-may_cut_out, room-owned)
+
 pub ruleset owned_facts = (made_owned-text, made_owned-owned)

@@ -6,7 +6,7 @@ use Rattle.std.specs.List.Retain.{IsFiltered, ReturnsInTurn}
 use Rattle.compact_repr.specs.Kept.{kept_by}
 
 module _ {F S : Type 0} (calls : F → ℕ → Bool → F → Type 0) (state : F → S) (rule : S → ℕ → Bool × S)
-  (obeys : (p : F) (c : ℕ) (b : Bool) (q : F) → calls p c b q → (b ≡ (rule (state p) c).0) × (state q ≡ (rule (state p) c).1)) where
+    (obeys : (p : F) (c : ℕ) (b : Bool) (q : F) → calls p c b q → (b ≡ (rule (state p) c).0) × (state q ≡ (rule (state p) c).1)) where
   in_turn : (t : List ℕ) (answers : List Bool) (p q : F) → length answers ≡ length t → ReturnsInTurn calls p answers t q → items_where_true answers t ≡ kept_by rule (state p) t
   in_turn [] [] p q e said = refl
   in_turn [] (b ∷ bs) p q e said = absurd (omega (arith, e))

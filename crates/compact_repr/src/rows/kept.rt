@@ -59,7 +59,10 @@ fn char_from(row: &[u8], at: usize) -> (char, usize)
     if byte < 128 {
         return (char::from(byte), 1);
     }
-    match unsafe { std::str::from_utf8_unchecked(&row[at..]) }.chars().next() {
+    match unsafe { std::str::from_utf8_unchecked(&row[at..]) }
+        .chars()
+        .next()
+    {
         Some(character) => (character, character.len_utf8()),
         None => unreachable!(),
     }

@@ -21,19 +21,19 @@ loop-read-preserved g c =
     let width = c.char_from-character.result.1 in
     let stands : Stands g.F.FnMut c.args.keep (text_of c.args.row.now) c.keep.new.self c.put.new.row c.if-keep.kept (c.loop-read.read + c.char_from-character.result.1) =
     elim c.if-keep.branch [
-      then-keep w ↦
+      | then-keep w ↦
           rw w.kept-is
           (stands-kept g.F.FnMut c.args.keep c.loop-read.keep c.keep.new.self (text_of c.args.row.now) c.loop-read.row c.put.new.row c.loop-read.kept c.loop-read.read width character c.keep.result
-            w.if-keep.true c.keep.ensures next.scalar inv.1 next.encoded next.rest c.put.ensures.front c.put.ensures.behind inv.3)
-    | else-keep w ↦
+          w.if-keep.true c.keep.ensures next.scalar inv.1 next.encoded next.rest c.put.ensures.front c.put.ensures.behind inv.3)
+      | else-keep w ↦
           rw w.kept-is
           (stands-dropped g.F.FnMut c.args.keep c.loop-read.keep c.keep.new.self (text_of c.args.row.now) c.loop-read.row c.put.new.row c.loop-read.kept c.loop-read.read width character c.keep.result
-            w.if-keep.false c.keep.ensures inv.1 (omega (arith, inv.1, inv.2)) next.encoded next.rest c.put.ensures.front c.put.ensures.behind inv.3)
+          w.if-keep.false c.keep.ensures inv.1 (omega (arith, inv.1, inv.2)) next.encoded next.rest c.put.ensures.front c.put.ensures.behind inv.3)
     ] in
     let order : c.if-keep.kept ≤ c.loop-read.read + c.char_from-character.result.1 =
     elim c.if-keep.branch [
-      then-keep w ↦ omega (arith, w.kept-is, inv.1)
-    | else-keep w ↦ omega (arith, w.kept-is, inv.1)
+      | then-keep w ↦ omega (arith, w.kept-is, inv.1)
+      | else-keep w ↦ omega (arith, w.kept-is, inv.1)
     ] in
     (search of_calls, order, omega (arith, next.within, c.put.auto.row), stands)
 
