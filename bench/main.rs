@@ -102,6 +102,11 @@ trait Text: Clone {
     fn insert(&mut self, at: usize, character: char);
     fn remove(&mut self, at: usize) -> char;
     fn replace(&mut self, first: usize, last: usize, text: &str);
+    fn clear(&mut self);
+    fn retain(&mut self, keep: impl FnMut(char) -> bool);
+    fn drained_sum(&mut self, first: usize, last: usize) -> u64;
+    fn make_ascii_uppercase(&mut self);
+    fn make_ascii_lowercase(&mut self);
 }
 
 macro_rules! text {
@@ -135,6 +140,31 @@ macro_rules! text {
             #[inline]
             fn replace(&mut self, first: usize, last: usize, text: &str) {
                 self.replace_range(first..last, text);
+            }
+
+            #[inline]
+            fn clear(&mut self) {
+                self.clear();
+            }
+
+            #[inline]
+            fn retain(&mut self, keep: impl FnMut(char) -> bool) {
+                self.retain(keep);
+            }
+
+            #[inline]
+            fn drained_sum(&mut self, first: usize, last: usize) -> u64 {
+                self.drain(first..last).map(u64::from).sum()
+            }
+
+            #[inline]
+            fn make_ascii_uppercase(&mut self) {
+                str::make_ascii_uppercase(self);
+            }
+
+            #[inline]
+            fn make_ascii_lowercase(&mut self) {
+                str::make_ascii_lowercase(self);
             }
         }
     };
@@ -358,6 +388,50 @@ fn into_string<T: Keyed>(n: u64) -> u64 {
     sum
 }
 
+// ---- characters and letters --------------------------------------------------------------------
+
+fn retain<T: Text>(n: u64) -> u64 {
+    let word = Generator::new().word(1024);
+    let mut value = T::new(&word);
+    let mut sum = 0;
+    for _ in 0..n {
+        value.clear();
+        value.push_str(black_box(&word));
+        let mut place = 0;
+        value.retain(|_| {
+            place = if place == 2 { 0 } else { place + 1 };
+            place != 0
+        });
+        sum = mix(sum, probe(&value));
+    }
+    sum
+}
+
+fn drain<T: Text>(n: u64) -> u64 {
+    let word = Generator::new().word(1024);
+    let mut value = T::new(&word);
+    let mut sum = 0u64;
+    for _ in 0..n {
+        value.clear();
+        value.push_str(black_box(&word));
+        sum = sum.wrapping_add(value.drained_sum(black_box(410), black_box(615)));
+        sum = mix(sum, probe(&value));
+    }
+    sum
+}
+
+fn change_letters<T: Text>(n: u64) -> u64 {
+    let mut value = T::new(&Generator::new().word(1024));
+    let mut sum = 0;
+    for _ in 0..n {
+        value.make_ascii_uppercase();
+        sum = mix(sum, probe(&value));
+        value.make_ascii_lowercase();
+        sum = mix(sum, probe(&value));
+    }
+    sum
+}
+
 /// The workloads of this library, from the static library `compact_bench`.
 mod library {
     unsafe extern "C" {
@@ -375,6 +449,9 @@ mod library {
         pub safe fn cs_bench_cmp_short(n: u64) -> u64;
         pub safe fn cs_bench_hash_short(n: u64) -> u64;
         pub safe fn cs_bench_into_string(n: u64) -> u64;
+        pub safe fn cs_bench_retain(n: u64) -> u64;
+        pub safe fn cs_bench_drain(n: u64) -> u64;
+        pub safe fn cs_bench_change_letters(n: u64) -> u64;
     }
 }
 
@@ -425,6 +502,9 @@ fn workloads() -> Vec<Workload> {
         workload!(cmp_short, cs_bench_cmp_short, 2_000_000),
         workload!(hash_short, cs_bench_hash_short, 1_000_000),
         workload!(into_string, cs_bench_into_string, 1_000_000),
+        workload!(retain, cs_bench_retain, 20_000),
+        workload!(drain, cs_bench_drain, 50_000),
+        workload!(change_letters, cs_bench_change_letters, 100_000),
     ]
 }
 

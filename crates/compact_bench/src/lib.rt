@@ -102,3 +102,21 @@ pub extern "C" fn cs_bench_hash_short(alloc: Global, n: u64) -> u64 {
 pub extern "C" fn cs_bench_into_string(alloc: Global, n: u64) -> u64 {
     workloads::out::into_string(alloc, n).unwrap_or(u64::MAX)
 }
+
+/// Keeps two letters of three in 1024 bytes.
+#[unsafe(no_mangle)]
+pub extern "C" fn cs_bench_retain(alloc: Global, n: u64) -> u64 {
+    workloads::characters::retain(alloc, n).unwrap_or(u64::MAX)
+}
+
+/// Takes the middle fifth out of 1024 bytes, character by character.
+#[unsafe(no_mangle)]
+pub extern "C" fn cs_bench_drain(alloc: Global, n: u64) -> u64 {
+    workloads::characters::drain(alloc, n).unwrap_or(u64::MAX)
+}
+
+/// Makes 1024 letters great, and small again.
+#[unsafe(no_mangle)]
+pub extern "C" fn cs_bench_change_letters(alloc: Global, n: u64) -> u64 {
+    workloads::characters::change_letters(alloc, n).unwrap_or(u64::MAX)
+}

@@ -1,6 +1,7 @@
 //! The workloads.
 
 pub mod append;
+pub mod characters;
 pub mod compare;
 pub mod copy;
 pub mod hold;

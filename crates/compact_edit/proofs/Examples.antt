@@ -1,6 +1,6 @@
 -- Worked examples of a step, one for each edit and more where an edit has cases. The values come from the Rust crate and
 -- from the Unicode Standard.
-use Rattle.std.proofs.Common.{◌≡◌, ◌∙◌, ap, inl, inr, lit≤, ◌-◌, ◌++◌, ℕ, ◌∷◌, [], List, Some, None, replicate, refl, arith, lit<}
+use Rattle.std.proofs.Common.{◌≡◌, ◌∙◌, ap, inl, inr, lit≤, ◌-◌, ◌++◌, ℕ, ◌∷◌, [], List, Bool, true, false, Some, None, replicate, refl, arith, lit<}
 use Rattle.std.specs.Borrow.{Bor}
 use Rattle.std.specs.declared.ops.Bound.TheVariants.{Included, Excluded}
 use Rattle.std.specs.Char.{len_utf8}
@@ -14,7 +14,7 @@ use Rattle.compact_str.specs.declared.ReserveError.{ReserveError}
 use Rattle.compact_str.specs.declared.Standard.{Standard}
 use Rattle.compact_edit.specs.declared.edit.Edit.{Edit}
 use Rattle.compact_edit.specs.declared.edit.Reply.{Reply}
-use Rattle.compact_edit.specs.declared.edit.Edit.TheVariants.{Push, PushStr, Pop, Insert, InsertStr, Remove, Truncate, Clear, SplitOff, ReplaceRange, Reserve, ShrinkTo, ShrinkToFit, Repeat, CloneFrom}
+use Rattle.compact_edit.specs.declared.edit.Edit.TheVariants.{Push, PushStr, Pop, Insert, InsertStr, Remove, Truncate, Clear, SplitOff, ReplaceRange, Drain, Retain, Reserve, ShrinkTo, ShrinkToFit, MakeLower, MakeUpper, Zeroize, Repeat, CloneFrom}
 use Rattle.compact_edit.specs.declared.edit.Reply.TheVariants.{Done, Char, Text, BadPosition, Refused}
 use Rattle.compact_edit.specs.Steps.{Step}
 
@@ -124,6 +124,29 @@ a_range_with_its_last_byte_included_is_replaced s is =
     let first : IsBoundary mixed.text 2 = (dotted ∷ [], 0x62 ∷ clef ∷ [], record { parts = refl; position = refl }) in
     let last : IsBoundary mixed.text 3 = (dotted ∷ 0x62 ∷ [], clef ∷ [], record { parts = refl; position = refl }) in
     (record { order = lit≤ tt; first = first; last = last }, (refl, rw is refl))
+
+a_drain_answers_its_range : Steps mixed (Drain (Included 2) (Excluded 3)) (Text (inline_text (0x62 ∷ []))) two
+a_drain_answers_its_range =
+    let first : IsBoundary mixed.text 2 = (dotted ∷ [], 0x62 ∷ clef ∷ [], record { parts = refl; position = refl }) in
+    let last : IsBoundary mixed.text 3 = (dotted ∷ 0x62 ∷ [], clef ∷ [], record { parts = refl; position = refl }) in
+    (record { order = lit≤ tt; first = first; last = last }, (inline_text (0x62 ∷ []), refl, refl, refl))
+
+a_drain_of_nothing_makes_a_static_text_its_own : Steps (static_letters 30) (Drain (Included 0) (Excluded 0)) (Text (inline_text [])) (heap_letters 30 32)
+a_drain_of_nothing_makes_a_static_text_its_own =
+    let start : IsBoundary (letters 30) 0 = ([], letters 30, record { parts = refl; position = refl }) in
+    (record { order = lit≤ tt; first = start; last = start }, (inline_text [], refl, refl, refl))
+
+a_character_with_no_answer_stays : (s : Bor (List Bool)) → s.now ≡ true ∷ false ∷ [] → Steps mixed (Retain s) Done two
+a_character_with_no_answer_stays s is = (tt, (refl, rw is refl))
+
+great_letters_make_a_static_text_its_own : Steps (static_letters 30) MakeUpper Done (placed (replicate 30 65) (on_heap 32))
+great_letters_make_a_static_text_its_own = (tt, (refl, refl))
+
+a_letter_past_ascii_stays : Steps (inline_text (dotted ∷ 65 ∷ [])) MakeLower Done (inline_text (dotted ∷ 97 ∷ []))
+a_letter_past_ascii_stays = (tt, (refl, refl))
+
+zeroize_keeps_a_heap_capacity : Steps (heap_letters 30 32) Zeroize Done (heap_letters 0 32)
+zeroize_keeps_a_heap_capacity = (tt, (refl, refl))
 
 a_range_that_ends_before_its_start_is_a_bad_position : (s : Bor (List ℕ)) → Steps mixed (ReplaceRange (Included 3) (Excluded 2) s) BadPosition mixed
 a_range_that_ends_before_its_start_is_a_bad_position s = (refl, λ range. let order = range.order in omega (arith, order))

@@ -1,16 +1,17 @@
 -- What one edit does to a value, and what it answers.
-use Rattle.std.specs.Prelude.{◌≡◌, ℕ, ◌<◌, Bool, false, Option, Some, IsTrue, [], ◌∷◌}
+use Rattle.std.specs.Prelude.{◌≡◌, ℕ, ◌<◌, Bool, ◌||◌, false, Option, Some, IsTrue, [], ◌∷◌}
 use Rattle.std.specs.Char.{len_utf8}
 use Rattle.compact_str.specs.Text.{text_of, size}
-use Rattle.compact_str.specs.Cut.{IsBoundary, before}
+use Rattle.compact_str.specs.Cut.{IsBoundary, before, middle}
 use Rattle.compact_str.specs.Value.{PlacedText, placed}
-use Rattle.compact_str.specs.Capacity.{Growth, kept, room_asks, own_asks}
-use Rattle.compact_str.specs.Change.{pushed, push_asks, cleared, reserved, truncated, Shrinks, inserted, replaced, replace_asks}
+use Rattle.compact_str.specs.Capacity.{Growth, kept, new_room_asks, room_asks, own_asks}
+use Rattle.compact_str.specs.Change.{made, pushed, push_asks, cleared, reserved, truncated, Shrinks, inserted, replaced, replace_asks, lowercased, uppercased, retained, zeroized}
+use Rattle.compact_str.specs.Kept.{kept_by, by_answers}
 use Rattle.compact_str.specs.Clones.{cloned_from, clone_from_asks}
 use Rattle.compact_str.specs.Edits.{Removes, Pops, split_tail, split_asks, repeated, repeat_asks}
 use Rattle.compact_str.specs.Ranges.{IsRange, range_start, range_end}
 use Rattle.compact_edit.specs.declared.edit.Edit.{Edit}
-use Rattle.compact_edit.specs.declared.edit.Edit.TheVariants.{Push, PushStr, Pop, Insert, InsertStr, Remove, Truncate, Clear, SplitOff, ReplaceRange, Reserve, ShrinkTo, ShrinkToFit, Repeat, CloneFrom}
+use Rattle.compact_edit.specs.declared.edit.Edit.TheVariants.{Push, PushStr, Pop, Insert, InsertStr, Remove, Truncate, Clear, SplitOff, ReplaceRange, Drain, Retain, Reserve, ShrinkTo, ShrinkToFit, MakeLower, MakeUpper, Zeroize, Repeat, CloneFrom}
 use Rattle.compact_edit.specs.declared.edit.Reply.{Reply}
 use Rattle.compact_edit.specs.declared.edit.Reply.TheVariants.{Done, Char, Text, BadPosition, Refused}
 
@@ -26,9 +27,14 @@ IsLegal v (Truncate n) = n < size v.text → IsBoundary v.text n
 IsLegal v Clear = Unit {0}
 IsLegal v (SplitOff p) = IsBoundary v.text p
 IsLegal v (ReplaceRange start end s) = IsRange v.text start end
+IsLegal v (Drain start end) = IsRange v.text start end
+IsLegal v (Retain answers) = Unit {0}
 IsLegal v (Reserve n) = Unit {0}
 IsLegal v (ShrinkTo n) = Unit {0}
 IsLegal v ShrinkToFit = Unit {0}
+IsLegal v MakeLower = Unit {0}
+IsLegal v MakeUpper = Unit {0}
+IsLegal v Zeroize = Unit {0}
 IsLegal v (Repeat n) = Unit {0}
 IsLegal v (CloneFrom source) = Unit {0}
 
@@ -44,9 +50,14 @@ edit_asks v (Truncate n) = false
 edit_asks v Clear = false
 edit_asks v (SplitOff p) = split_asks v p
 edit_asks v (ReplaceRange start end s) = replace_asks v (range_start start) (range_end v.text end) (text_of s.now)
+edit_asks v (Drain start end) = new_room_asks (size (middle v.text (range_start start) (range_end v.text end))) || own_asks v
+edit_asks v (Retain answers) = own_asks v
 edit_asks v (Reserve n) = room_asks v n
 edit_asks v (ShrinkTo n) = false
 edit_asks v ShrinkToFit = false
+edit_asks v MakeLower = own_asks v
+edit_asks v MakeUpper = own_asks v
+edit_asks v Zeroize = false
 edit_asks v (Repeat n) = repeat_asks v n
 edit_asks v (CloneFrom source) = clone_from_asks v source.now
 
@@ -65,9 +76,16 @@ EditDoes g v (SplitOff p) reply w =
     × (w ≡ placed (before v.text p) (kept v (before v.text p)))
 EditDoes g v (ReplaceRange start end s) reply w =
     (reply ≡ Done) × (replaced g v (range_start start) (range_end v.text end) (text_of s.now) ≡ Some w)
+EditDoes g v (Drain start end) reply w =
+    (range : PlacedText) × (reply ≡ Text range) × (made g (middle v.text (range_start start) (range_end v.text end)) ≡ Some range)
+    × (replaced g v (range_start start) (range_end v.text end) [] ≡ Some w)
+EditDoes g v (Retain answers) reply w = (reply ≡ Done) × (retained g v (kept_by by_answers answers.now v.text) ≡ Some w)
 EditDoes g v (Reserve n) reply w = (reply ≡ Done) × (reserved g v n ≡ Some w)
 EditDoes g v (ShrinkTo n) reply w = (reply ≡ Done) × Shrinks g v n w
 EditDoes g v ShrinkToFit reply w = (reply ≡ Done) × Shrinks g v 0 w
+EditDoes g v MakeLower reply w = (reply ≡ Done) × (lowercased g v ≡ Some w)
+EditDoes g v MakeUpper reply w = (reply ≡ Done) × (uppercased g v ≡ Some w)
+EditDoes g v Zeroize reply w = (reply ≡ Done) × (w ≡ zeroized v)
 EditDoes g v (Repeat n) reply w = (all : PlacedText) × (reply ≡ Text all) × (repeated g v n ≡ Some all) × (w ≡ v)
 EditDoes g v (CloneFrom source) reply w = (reply ≡ Done) × (cloned_from g v source.now ≡ Some w)
 

@@ -26,12 +26,23 @@ pub enum Edit<'a, P: Policy> {
     SplitOff(usize),
     /// Replaces a range by a text.
     ReplaceRange(Bound<usize>, Bound<usize>, &'a str),
+    /// Takes a range out, and answers it.
+    Drain(Bound<usize>, Bound<usize>),
+    /// Keeps the characters whose answer is `true`: the first answer is that of the first character, and a character with
+    /// no answer stays.
+    Retain(&'a [bool]),
     /// Makes room for so many more bytes.
     Reserve(usize),
     /// Gives room back, but for so many bytes.
     ShrinkTo(usize),
     /// Gives room back, but for the text.
     ShrinkToFit,
+    /// Makes A to Z small.
+    MakeLower,
+    /// Makes a to z great.
+    MakeUpper,
+    /// Leaves the empty text, and writes zero over every byte of the value's own.
+    Zeroize,
     /// Answers the text so many times, one after another.
     Repeat(usize),
     /// Makes the value a clone of another.

@@ -1,5 +1,11 @@
 //! How edits are run.
-ghost use Rattle.std.specs.Prelude.{◌≡◌, ◌+◌, ◌≤◌, [], length, vec_len, vec_capacity, OnOk, OnErr, IsOk, MatchResult};
+ghost use Rattle.std.specs.Prelude.{◌≡◌, ◌+◌, ◌≤◌, [], length, drop, Some, vec_len, vec_capacity, IfOk, OnOk, OnErr, IsOk, IsTrue, MatchResult};
+ghost use Rattle.compact_str.specs.Text.{size};
+ghost use Rattle.compact_str.specs.Cut.{middle};
+ghost use Rattle.compact_str.specs.Capacity.{new_room_asks, own_asks};
+ghost use Rattle.compact_str.specs.Change.{made, replaced, retained};
+ghost use Rattle.compact_str.specs.Kept.{kept_by, by_answers, next_answer};
+ghost use Rattle.compact_str.specs.Ranges.{IsRange, range_start, range_end};
 ghost use Rattle.compact_edit.specs.Steps.{Step};
 ghost use Rattle.compact_edit.specs.Runs.{RunsTo};
 
@@ -49,6 +55,8 @@ fn apply<P: Policy>(value: &mut PolicyString<P>, edit: &Edit<P>) -> Reply<P>
         }
         Edit::SplitOff(index) => split_off(value, *index),
         Edit::ReplaceRange(start, end, text) => replace_range(value, *start, *end, text),
+        Edit::Drain(start, end) => drain(value, *start, *end),
+        Edit::Retain(answers) => reply_to(retain(value, answers)),
         Edit::Reserve(additional) => reply_to(value.reserve(*additional)),
         Edit::ShrinkTo(min_capacity) => {
             value.shrink_to(*min_capacity);
@@ -56,6 +64,12 @@ fn apply<P: Policy>(value: &mut PolicyString<P>, edit: &Edit<P>) -> Reply<P>
         }
         Edit::ShrinkToFit => {
             value.shrink_to_fit();
+            Reply::Done
+        }
+        Edit::MakeLower => reply_to(value.make_ascii_lowercase()),
+        Edit::MakeUpper => reply_to(value.make_ascii_uppercase()),
+        Edit::Zeroize => {
+            value.zeroize();
             Reply::Done
         }
         Edit::Repeat(count) => reply_with(value.repeat(*count)),
@@ -125,6 +139,74 @@ fn replace_range<P: Policy>(
             reply_to(value.replace_range(Bound::Included(first), Bound::Excluded(last), text))
         }
         None => Reply::BadPosition,
+    }
+}
+
+/// The answer is made before the value is made owned, so that a refusal of either changes nothing.
+fn drain<P: Policy>(value: &mut PolicyString<P>, start: Bound<usize>, end: Bound<usize>) -> Reply<P>
+    ensures { Step P.growth value.old (Edit.Drain start end) result value.new }
+{
+    if value.check_range(start, end).is_none() {
+        return Reply::BadPosition;
+    }
+    match copy_of_range(value, start, end) {
+        Ok(range) => match take_out(value, start, end) {
+            Ok(()) => Reply::Text(range),
+            Err(error) => Reply::Refused(error),
+        },
+        Err(error) => Reply::Refused(error),
+    }
+}
+
+/// A new value of what stands in a range.
+#[tactic(auto, using(compact_str::proofs::ForCallers::for_callers))]
+fn copy_of_range<P: Policy>(
+    value: &PolicyString<P>,
+    start: Bound<usize>,
+    end: Bound<usize>,
+) -> Result<PolicyString<P>, ReserveError>
+    requires { IsRange value.now.text start end }
+    ensures ok { IfOk result (λ v. made P.growth (middle value.now.text (range_start start) (range_end value.now.text end)) ≡ Some v) }
+    ensures err { OnErr result (IsTrue (new_room_asks (size (middle value.now.text (range_start start) (range_end value.now.text end))))) }
+{
+    PolicyString::new(value.allocator(), value.range(start, end))
+}
+
+/// Takes a range out.
+fn take_out<P: Policy>(
+    value: &mut PolicyString<P>,
+    start: Bound<usize>,
+    end: Bound<usize>,
+) -> Result<(), ReserveError>
+    requires { IsRange value.old.text start end }
+    ensures ok { OnOk result (replaced P.growth value.old (range_start start) (range_end value.old.text end) [] ≡ Some value.new) }
+    ensures err { OnErr result ((value.new ≡ value.old) × IsTrue (own_asks value.old)) }
+{
+    drop(value.drain(start, end)?);
+    Ok(())
+}
+
+/// Keeps the characters whose answer is `true`, and those that have none.
+fn retain<P: Policy>(value: &mut PolicyString<P>, answers: &[bool]) -> Result<(), ReserveError>
+    ensures ok { OnOk result (retained P.growth value.old (kept_by by_answers answers.now value.old.text) ≡ Some value.new) }
+    ensures err { OnErr result ((value.new ≡ value.old) × IsTrue (own_asks value.old)) }
+{
+    let mut rest = answers;
+    value.retain(|_| {
+        let (answer, others) = next_answer(rest);
+        rest = others;
+        answer
+    })?;
+    Ok(())
+}
+
+/// The next of some answers, which is `true` where they have run out, and the answers after it.
+fn next_answer(answers: &[bool]) -> (bool, &[bool])
+    ensures { (result.0 ≡ next_answer answers.now) × (result.1.now ≡ drop 1 answers.now) }
+{
+    match answers.split_first() {
+        Some((answer, others)) => (*answer, others),
+        None => (true, answers),
     }
 }
 

@@ -2,6 +2,7 @@
 
 use compact_edit::Edit;
 use compact_str::Standard;
+use std::alloc::{AllocError, Global};
 use std::ops::Bound;
 
 /// What a line asks for.
@@ -18,18 +19,34 @@ pub enum Command<'a> {
     Edit(Edit<'a, Standard>),
 }
 
-/// Reads a line: a word, and after one space what belongs to it. `None` is a line that fits no command.
-pub fn parse(line: &str) -> Option<Command<'_>> {
+/// The answers that a line of `retain` spells; of any other line none.
+pub fn answers(alloc: Global, line: &str) -> Result<Vec<bool>, AllocError> {
+    let mut answers = Vec::new(alloc);
+    if let ("retain", Some(bits)) = first_word(line) {
+        for bit in bits.bytes() {
+            answers.push(bit == b'1')?;
+        }
+    }
+    Ok(answers)
+}
+
+/// Reads a line: a word, and after one space what belongs to it. `None` is a line that fits no command. `answers` are those
+/// that the line spells.
+pub fn parse<'a>(line: &'a str, answers: &'a [bool]) -> Option<Command<'a>> {
     let (word, rest) = first_word(line);
     match word {
         "new" => Some(Command::New(rest.unwrap_or(""))),
         "static" if rest.is_none() => Some(Command::Static),
         "cap" => Some(Command::WithCapacity(number(rest?)?)),
         "clonefrom" => Some(Command::CloneFrom(rest.unwrap_or(""))),
-        "pop" | "clear" | "shrinktofit" if rest.is_none() => parse_bare(word).map(Command::Edit),
+        "pop" | "clear" | "shrinktofit" | "lower" | "upper" | "zeroize" if rest.is_none() => {
+            parse_bare(word).map(Command::Edit)
+        }
         "push" | "pushstr" | "insert" | "insertstr" | "replace" => {
             parse_with_text(word, rest).map(Command::Edit)
         }
+        "drain" => parse_range(rest?).map(Command::Edit),
+        "retain" if are_bits(rest.unwrap_or("")) => Some(Command::Edit(Edit::Retain(answers))),
         _ => parse_with_number(word, number(rest?)?).map(Command::Edit),
     }
 }
@@ -40,6 +57,9 @@ fn parse_bare<'a>(word: &str) -> Option<Edit<'a, Standard>> {
         "pop" => Some(Edit::Pop),
         "clear" => Some(Edit::Clear),
         "shrinktofit" => Some(Edit::ShrinkToFit),
+        "lower" => Some(Edit::MakeLower),
+        "upper" => Some(Edit::MakeUpper),
+        "zeroize" => Some(Edit::Zeroize),
         _ => None,
     }
 }
@@ -77,6 +97,17 @@ fn parse_with_text<'a>(word: &str, rest: Option<&'a str>) -> Option<Edit<'a, Sta
         }
         _ => None,
     }
+}
+
+/// Reads where a range that is taken out starts and ends.
+fn parse_range<'a>(bounds: &str) -> Option<Edit<'a, Standard>> {
+    let (start, end) = first_word(bounds);
+    Some(Edit::Drain(range_start(start)?, range_end(end?)?))
+}
+
+/// Whether `text` has no characters but 0 and 1.
+fn are_bits(text: &str) -> bool {
+    text.bytes().all(|byte| byte == b'0' || byte == b'1')
 }
 
 /// The text before the first space, and what follows that space.

@@ -1,7 +1,7 @@
 //! Lines in, lines out.
 ghost use Rattle.std.specs.Prelude.{◌≤◌};
 
-use crate::command::parse;
+use crate::command::{answers, parse};
 use crate::session::Session;
 use compact_edit::Reply;
 use compact_str::{CompactString, Standard};
@@ -33,15 +33,24 @@ fn answer_lines<R: Read, W: Write>(
     let mut writer = BufWriter::new(alloc, writer)?;
     let mut session = Session::new(alloc)?;
     for line in lines {
-        answer_line(&mut session, line?.as_slice(), &mut writer)?;
+        answer_line(alloc, &mut session, line?.as_slice(), &mut writer)?;
         writer.flush()?;
     }
     Ok(())
 }
 
 /// Answers one line.
-fn answer_line<W: Write>(session: &mut Session, line: &[u8], writer: &mut W) -> io::Result<()> {
-    let Some(command) = std::str::from_utf8(line).ok().and_then(parse) else {
+fn answer_line<W: Write>(
+    alloc: Global,
+    session: &mut Session,
+    line: &[u8],
+    writer: &mut W,
+) -> io::Result<()> {
+    let Ok(line) = std::str::from_utf8(line) else {
+        return writer.write_all(b"?\n");
+    };
+    let answers = answers(alloc, line)?;
+    let Some(command) = parse(line, answers.as_slice()) else {
         return writer.write_all(b"?\n");
     };
     match session.execute(command) {

@@ -2,13 +2,14 @@
 use Rattle.std.specs.Prelude.{◌≡◌, ℕ, List, [], ◌∷◌, ◌++◌, replicate, Some, None, true, false, refl}
 use Rattle.std.proofs.Common.{inl, inr, arith}
 use lib.Utf8.{encode}
-use Rattle.compact_repr.specs.Text.{size}
-use Rattle.compact_repr.specs.Cut.{before, after, replaced_text}
-use Rattle.compact_repr.specs.Value.{PlacedText, placed}
-use Rattle.compact_repr.specs.Capacity.{Growth, inlined, on_heap, borrowed, allowed, new_room, new_room_asks, fits_in_place, room, room_asks, kept, owned, own_asks, lasting, taken_over, copied, copy_asks, shrunk, shrink_asks}
 use Rattle.compact_repr.specs.Packed.{IsPackedFor, packed_len, packed_text}
 use Rattle.compact_repr.proofs.PackedTexts.{packed-last, packed-text}
-use Rattle.compact_repr.specs.Change.{made, pushed, push_asks, cleared, reserved, with_room, made_owned, copy_of, truncated}
+use Rattle.compact_repr.specs.Text.{size, ascii_lowercase, ascii_uppercase}
+use Rattle.compact_repr.specs.Cut.{before, after, middle, replaced_text}
+use Rattle.compact_repr.specs.Value.{PlacedText, placed}
+use Rattle.compact_repr.specs.Capacity.{Growth, inlined, on_heap, borrowed, allowed, new_room, new_room_asks, fits_in_place, room, room_asks, kept, owned, own_asks, lasting, taken_over, copied, copy_asks, shrunk, shrink_asks}
+use Rattle.compact_repr.specs.Change.{made, pushed, push_asks, cleared, reserved, with_room, made_owned, copy_of, truncated, lowercased, uppercased, retained, zeroized}
+use Rattle.compact_repr.specs.Kept.{kept_by, by_answers}
 
 abbrev standard : Growth
 standard = record { least = 32; numerator = 3; denominator = 2 }
@@ -227,3 +228,35 @@ eight_euro_signs = record { text = refl; stands = inl (refl, refl) }
 
 a_last_byte_of_216_stands_for_no_text : (t : List ℕ) → ¬ (IsPackedFor (replicate 23 0 ++ 0xD8 ∷ []) t)
 a_last_byte_of_216_stands_for_no_text t p = let last = packed-last _ t p in omega (arith, last)
+
+-- letters, what is kept, and what is wiped
+
+only_a_to_z_are_made_small : ascii_lowercase (0x41 ∷ 0x5A ∷ 0x5B ∷ 0xC4 ∷ []) ≡ 0x61 ∷ 0x7A ∷ 0x5B ∷ 0xC4 ∷ []
+only_a_to_z_are_made_small = refl
+
+only_a_to_z_are_made_great : ascii_uppercase (0x60 ∷ 0x61 ∷ 0x7A ∷ 0x7B ∷ 0xE4 ∷ []) ≡ 0x60 ∷ 0x41 ∷ 0x5A ∷ 0x7B ∷ 0xE4 ∷ []
+only_a_to_z_are_made_great = refl
+
+great_letters_of_a_static_text_are_its_own : uppercased standard (static 30) ≡ Some (placed (replicate 30 0x41) (on_heap 32))
+great_letters_of_a_static_text_are_its_own = refl
+
+small_letters_that_stay_make_a_static_text_its_own : lowercased standard (static 10) ≡ Some (placed (letters 10) inlined)
+small_letters_that_stay_make_a_static_text_its_own = refl
+
+a_zeroized_static_text_is_inline : zeroized (static 30) ≡ placed [] inlined
+a_zeroized_static_text_is_inline = refl
+
+a_zeroized_heap_text_keeps_its_capacity : zeroized (heap 30 45) ≡ placed [] (on_heap 45)
+a_zeroized_heap_text_keeps_its_capacity = refl
+
+b_stands_between_two_bytes_and_three : middle mixed 2 3 ≡ 0x62 ∷ []
+b_stands_between_two_bytes_and_three = refl
+
+answers_keep_three_of_five : kept_by by_answers (false ∷ true ∷ true ∷ false ∷ true ∷ []) (0xE4 ∷ 0x62 ∷ 0x1D11E ∷ 0x64 ∷ 0x20AC ∷ []) ≡ 0x62 ∷ 0x1D11E ∷ 0x20AC ∷ []
+answers_keep_three_of_five = refl
+
+a_character_with_no_answer_stays : kept_by by_answers (true ∷ false ∷ []) (0x41 ∷ 0x62 ∷ 0x43 ∷ []) ≡ 0x41 ∷ 0x43 ∷ []
+a_character_with_no_answer_stays = refl
+
+a_static_text_of_which_all_stays_is_its_own : retained standard (static 10) (letters 10) ≡ Some (placed (letters 10) inlined)
+a_static_text_of_which_all_stays_is_its_own = refl

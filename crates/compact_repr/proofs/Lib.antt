@@ -17,3 +17,6 @@ pub mod ChangedWords
 pub mod ChangedRows
 pub mod ByteOrder
 pub mod SameRows
+pub mod Letters
+pub mod Keeping
+pub mod Middles

@@ -1,9 +1,9 @@
 -- What making and changing a value gives: none where that must be refused.
 use Rattle.std.specs.Prelude.{◌≡◌, ◌⊎◌, ℕ, ◌-◌, Bool, not, ◌&&◌, IsTrue, List, [], ◌++◌, Option, Some, option_map, nat_eq, nat_le, if◌then◌else◌}
-use Rattle.compact_repr.specs.Text.{size}
+use Rattle.compact_repr.specs.Text.{size, ascii_lowercase, ascii_uppercase}
 use Rattle.compact_repr.specs.Cut.{before, replaced_text}
-use Rattle.compact_repr.specs.Value.{PlacedText, placed}
-use Rattle.compact_repr.specs.Capacity.{Growth, fresh, new_room, owned, own_asks, kept, room, room_asks, copied, shrunk, shrink_asks}
+use Rattle.compact_repr.specs.Value.{PlacedText, placed, is_static}
+use Rattle.compact_repr.specs.Capacity.{Growth, inlined, fresh, new_room, owned, own_asks, kept, room, room_asks, copied, shrunk, shrink_asks}
 
 -- a new value with the text t
 abbrev pub made : Growth → List ℕ → Option PlacedText
@@ -60,3 +60,18 @@ replaced g v start end s =
 
 abbrev pub replace_asks : PlacedText → ℕ → ℕ → List ℕ → Bool
 replace_asks v start end s = if nat_le (size s) (end - start) then own_asks v else room_asks v (size s - (end - start))
+
+-- v made owned, with A to Z made small, or a to z made great
+abbrev pub lowercased : Growth → PlacedText → Option PlacedText
+lowercased g v = option_map (placed (ascii_lowercase v.text)) (owned g v)
+
+abbrev pub uppercased : Growth → PlacedText → Option PlacedText
+uppercased g v = option_map (placed (ascii_uppercase v.text)) (owned g v)
+
+-- v made owned, with only the characters t of its text
+abbrev pub retained : Growth → PlacedText → List ℕ → Option PlacedText
+retained g v t = option_map (placed t) (owned g v)
+
+-- v with no text: a static one inline, every other in its place
+abbrev pub zeroized : PlacedText → PlacedText
+zeroized v = placed [] (if is_static v.placement.place then inlined else v.placement)

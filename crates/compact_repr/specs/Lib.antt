@@ -3,6 +3,7 @@ pub mod Cut
 pub mod Value
 pub mod Capacity
 pub mod Change
+pub mod Kept
 pub mod Stored
 pub mod Words
 pub mod Loan

@@ -1,7 +1,7 @@
 -- Characters and texts. A character is a number, a Unicode scalar value (Unicode Standard, 3.9, D76), and a text is a
 -- list of characters.
-use Rattle.std.specs.Prelude.{◌≡◌, ℕ, ◌+◌, List, [], ◌∷◌, true}
-use Rattle.std.specs.Char.{len_utf8}
+use Rattle.std.specs.Prelude.{◌≡◌, ℕ, ◌+◌, List, [], ◌∷◌, true, map}
+use Rattle.std.specs.Char.{len_utf8, to_ascii_lowercase, to_ascii_uppercase}
 use Rattle.std.specs.Str.{encode_utf8_all, all_scalars, chars}
 
 -- each number of t is a character
@@ -20,3 +20,10 @@ utf8 t = encode_utf8_all t
 -- the text that the bytes of a program's `str` spell
 abbrev pub text_of : List ℕ → List ℕ
 text_of bytes = chars bytes
+
+-- t with A to Z made small, or a to z made great; every other character stays
+abbrev pub ascii_lowercase : List ℕ → List ℕ
+ascii_lowercase t = map to_ascii_lowercase t
+
+abbrev pub ascii_uppercase : List ℕ → List ℕ
+ascii_uppercase t = map to_ascii_uppercase t

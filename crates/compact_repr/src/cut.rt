@@ -1,7 +1,8 @@
 //! Parts and characters of a borrowed text, by byte position.
-ghost use Rattle.std.specs.Prelude.{◌≡◌, ◌<◌, List, ℕ, [], ◌∷◌, ◌++◌, length, MatchOption};
+ghost use Rattle.std.specs.Prelude.{◌≡◌, ◌-◌, ◌<◌, ◌≤◌, List, ℕ, [], ◌∷◌, ◌++◌, length, MatchOption};
+ghost use Rattle.std.specs.Char.{len_utf8};
 ghost use Rattle.compact_repr.specs.Text.{text_of};
-ghost use Rattle.compact_repr.specs.Cut.{IsBoundary, before, after, CutIsBeforeAndAfter};
+ghost use Rattle.compact_repr.specs.Cut.{IsBoundary, before, after, middle, CutIsBeforeAndAfter};
 
 /// What stands before a boundary.
 #[inline]
@@ -22,6 +23,18 @@ pub fn tail(text: &str, index: usize) -> &str
     &text[index..]
 }
 
+/// What stands from one boundary to another.
+#[inline(always)]
+pub fn middle(text: &str, start: usize, end: usize) -> &str
+    requires order { start ≤ end }
+    requires first { IsBoundary (text_of text.now) start }
+    requires last { IsBoundary (text_of text.now) end }
+    ensures text { text_of result.now ≡ middle (text_of text.now) start end }
+    ensures len { length result.now ≡ end - start }
+{
+    front(tail(text, start), end - start)
+}
+
 /// The character that begins at a boundary before the end.
 #[inline]
 pub fn char_at(text: &str, index: usize) -> char
@@ -30,6 +43,35 @@ pub fn char_at(text: &str, index: usize) -> char
     ensures { (rest : List ℕ) × (after (text_of text.now) index ≡ result ∷ rest) }
 {
     match text[index..].chars().next() {
+        Some(character) => character,
+        None => unreachable!(),
+    }
+}
+
+/// The first character and how many bytes it has; `None` of the empty text.
+#[inline(always)]
+pub fn first_char(text: &str) -> Option<(char, usize)>
+    ensures { MatchOption result (text_of text.now ≡ []) (λ first. (first.1 ≡ len_utf8 first.0) × ((rest : List ℕ) × (text_of text.now ≡ first.0 ∷ rest))) }
+{
+    if text.is_empty() {
+        return None;
+    }
+    let byte = text.as_bytes()[0];
+    if byte < 128 {
+        return Some((char::from(byte), 1));
+    }
+    let character = first_wide(text);
+    Some((character, character.len_utf8()))
+}
+
+/// The first character of a text that has one.
+#[cold]
+#[inline(never)]
+fn first_wide(text: &str) -> char
+    requires { 0 < length text.now }
+    ensures { (rest : List ℕ) × (text_of text.now ≡ result ∷ rest) }
+{
+    match text.chars().next() {
         Some(character) => character,
         None => unreachable!(),
     }

@@ -1,10 +1,13 @@
 //! A text in a vector of bytes on the heap, beside its length. Its capacity is the vector's.
-ghost use Rattle.std.specs.Prelude.{◌≡◌, ◌+◌, ◌-◌, ◌≤◌, ◌<◌, ◌^◌, [], ◌∷◌, ◌++◌, length, take, true, false, IfOk, OnOk, OnErr, IsTrue, ◌↔◌};
+ghost use Rattle.std.specs.Prelude.{◌≡◌, ◌+◌, ◌-◌, ◌≤◌, ◌<◌, ◌^◌, [], ◌∷◌, ◌++◌, length, take, true, false, IfOk, OnOk, OnErr, IsTrue, ◌↔◌, map, replicate};
+ghost use Rattle.std.specs.Char.{to_ascii_lowercase, to_ascii_uppercase};
 ghost use Rattle.std.specs.List.{replace_range};
 ghost use Rattle.std.specs.Vec.{vec_len, vec_capacity};
 ghost use Rattle.std.specs.String.{string_bytes, string_capacity};
-ghost use Rattle.compact_repr.specs.Text.{size, utf8, text_of, IsText};
+ghost use Rattle.compact_repr.specs.Text.{size, utf8, text_of, IsText, ascii_lowercase, ascii_uppercase};
+ghost use Rattle.std.specs.Str.{IsUtf8};
 ghost use Rattle.compact_repr.specs.Cut.{IsBoundary, before, replaced_text};
+ghost use Rattle.compact_repr.specs.Kept.{KeepsChars};
 
 mod out;
 
@@ -206,6 +209,46 @@ impl HeapBuffer {
     {
         self.len = 0;
     }
+
+    /// Leaves the empty text, with the same capacity, and writes every byte with zero that the vector has: all that were
+    /// ever written, since the vector is never made shorter.
+    pub fn zeroize(&mut self)
+        ensures { self.new ≡ record { text = []; capacity = self.old.capacity } }
+    {
+        let HeapBuffer {
+            bytes,
+            len,
+            capacity: _,
+        } = self;
+        wipe(bytes);
+        *len = 0;
+    }
+
+    /// Makes A to Z small, and keeps the capacity.
+    pub fn make_ascii_lowercase(&mut self)
+        ensures value { self.new ≡ record { text = ascii_lowercase self.old.text; capacity = self.old.capacity } }
+        ensures fits { size self.new.text ≤ self.old.capacity }
+    {
+        make_lowercase(&mut self.bytes, self.len);
+    }
+
+    /// Makes a to z great, and keeps the capacity.
+    pub fn make_ascii_uppercase(&mut self)
+        ensures value { self.new ≡ record { text = ascii_uppercase self.old.text; capacity = self.old.capacity } }
+        ensures fits { size self.new.text ≤ self.old.capacity }
+    {
+        make_uppercase(&mut self.bytes, self.len);
+    }
+    /// Keeps the characters for which `keep`, asked once of each in order, answers true, and the capacity.
+    #[inline]
+    pub fn retain<F: FnMut(char) -> bool>(&mut self, keep: F)
+        requires { F.IsAlwaysCallable keep }
+        ensures text { KeepsChars F.FnMut keep self.old.text self.new.text }
+        ensures capacity { self.new.capacity ≡ self.old.capacity }
+        ensures fits { size self.new.text ≤ self.old.capacity }
+    {
+        self.len = retain(&mut self.bytes, self.len, keep);
+    }
 }
 
 /// Writes `source` behind the first `len` bytes, where the vector has room for them. Answers whether it has; if not,
@@ -278,6 +321,50 @@ fn remove_byte(bytes: &mut Vec<u8>, len: usize, index: usize)
     ensures capacity { vec_capacity bytes.new ≡ vec_capacity bytes.old }
 {
     rows::remove_byte(bytes.as_mut_slice(), len, index);
+}
+
+/// Writes every byte of the vector with zero.
+fn wipe(bytes: &mut Vec<u8>)
+    ensures zeros { bytes.new.items ≡ replicate (vec_len bytes.old) 0 }
+    ensures same { vec_len bytes.new ≡ vec_len bytes.old }
+    ensures capacity { vec_capacity bytes.new ≡ vec_capacity bytes.old }
+{
+    rows::wipe(bytes.as_mut_slice());
+}
+
+/// Of the first `len` bytes makes A to Z small.
+fn make_lowercase(bytes: &mut Vec<u8>, len: usize)
+    requires { len ≤ vec_len bytes.old }
+    ensures text { take len bytes.new.items ≡ map to_ascii_lowercase (take len bytes.old.items) }
+    ensures same { vec_len bytes.new ≡ vec_len bytes.old }
+    ensures capacity { vec_capacity bytes.new ≡ vec_capacity bytes.old }
+{
+    rows::make_lowercase(bytes.as_mut_slice(), len);
+}
+
+/// Of the first `len` bytes makes a to z great.
+fn make_uppercase(bytes: &mut Vec<u8>, len: usize)
+    requires { len ≤ vec_len bytes.old }
+    ensures text { take len bytes.new.items ≡ map to_ascii_uppercase (take len bytes.old.items) }
+    ensures same { vec_len bytes.new ≡ vec_len bytes.old }
+    ensures capacity { vec_capacity bytes.new ≡ vec_capacity bytes.old }
+{
+    rows::make_uppercase(bytes.as_mut_slice(), len);
+}
+
+/// Of the text in the first `len` bytes keeps the characters that `keep` keeps, and answers how many bytes they take.
+#[inline(always)]
+fn retain<F: FnMut(char) -> bool>(bytes: &mut Vec<u8>, len: usize, keep: F) -> usize
+    requires stands { len ≤ vec_len bytes.old }
+    requires utf8 { IsUtf8 (take len bytes.old.items) }
+    requires callable { F.IsAlwaysCallable keep }
+    ensures text { KeepsChars F.FnMut keep (text_of (take len bytes.old.items)) (text_of (take result bytes.new.items)) }
+    ensures utf8 { IsUtf8 (take result bytes.new.items) }
+    ensures within { result ≤ len }
+    ensures same { vec_len bytes.new ≡ vec_len bytes.old }
+    ensures capacity { vec_capacity bytes.new ≡ vec_capacity bytes.old }
+{
+    rows::retain(bytes.as_mut_slice(), len, keep)
 }
 
 /// Sees to it that the vector has `needed` bytes, if it has reserved as many. Answers whether it has. Where they are there

@@ -1,9 +1,10 @@
 //! A text of at most 24 bytes that stands in the value itself.
 ghost use Rattle.std.specs.Prelude.{◌≡◌, ◌+◌, ◌-◌, ◌≤◌, ◌<◌, ℕ, List, [], ◌∷◌, ◌++◌, length, take, true, false, IsTrue, ◌↔◌, MatchOption};
 ghost use Rattle.std.specs.Str.{IsUtf8};
-ghost use Rattle.compact_repr.specs.Text.{size, utf8, text_of, IsText};
+ghost use Rattle.compact_repr.specs.Text.{size, utf8, text_of, IsText, ascii_lowercase, ascii_uppercase};
 ghost use Rattle.compact_repr.specs.Cut.{IsBoundary, before, replaced_text};
 ghost use Rattle.compact_repr.specs.Packed.{IsPackedFor, packed_len};
+ghost use Rattle.compact_repr.specs.Kept.{KeepsChars};
 
 mod compare;
 
@@ -174,6 +175,40 @@ impl InlineBuffer {
         ensures { self.new ≡ [] }
     {
         self.len = 0;
+    }
+
+    /// Leaves the empty text, and writes every byte with zero, those behind the text too.
+    pub fn zeroize(&mut self)
+        ensures { self.new ≡ [] }
+    {
+        let InlineBuffer { bytes, len } = self;
+        rows::wipe(bytes);
+        *len = 0;
+    }
+
+    /// Makes A to Z small.
+    pub fn make_ascii_lowercase(&mut self)
+        ensures text { self.new ≡ ascii_lowercase self.old }
+        ensures fits { size self.new ≤ 24 }
+    {
+        rows::make_lowercase(&mut self.bytes, self.len);
+    }
+
+    /// Makes a to z great.
+    pub fn make_ascii_uppercase(&mut self)
+        ensures text { self.new ≡ ascii_uppercase self.old }
+        ensures fits { size self.new ≤ 24 }
+    {
+        rows::make_uppercase(&mut self.bytes, self.len);
+    }
+    /// Keeps the characters for which `keep`, asked once of each in order, answers true.
+    #[inline]
+    pub fn retain<F: FnMut(char) -> bool>(&mut self, keep: F)
+        requires { F.IsAlwaysCallable keep }
+        ensures text { KeepsChars F.FnMut keep self.old self.new }
+        ensures fits { size self.new ≤ 24 }
+    {
+        self.len = rows::retain(&mut self.bytes, self.len, keep);
     }
 
     /// The text packed into 24 bytes: the last of them is 192 and the length, unless the text has 24 bytes.

@@ -15,7 +15,7 @@ mod rows;
 mod static_text;
 mod words;
 
-pub use cut::cut_is_before_and_after;
+pub use cut::{cut_is_before_and_after, first_char, last_char, middle};
 pub use error::ReserveError;
 pub use inline::INLINE_CAPACITY;
 pub use policy::{Policy, Standard};

@@ -7,6 +7,7 @@ ghost use Rattle.compact_repr.specs.Stored.{value_of, IsStored};
 
 mod change;
 mod compare;
+mod in_place;
 mod make;
 mod out;
 mod position;

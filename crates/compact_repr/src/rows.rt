@@ -4,11 +4,15 @@ ghost use Rattle.std.specs.List.{replace_range};
 ghost use lib.Seq.{paste};
 
 mod chunks;
+mod each;
+mod kept;
 mod moves;
 #[cfg(test)]
 mod tests;
 
 use chunks::{chunk, set_chunk};
+pub use each::{make_lowercase, make_uppercase, wipe};
+pub use kept::retain;
 use moves::{move_down, move_up, shift};
 
 /// Of the first `len` bytes of `row` replaces those from `start` to `end` by `source`. The tail moves once.

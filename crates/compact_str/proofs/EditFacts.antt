@@ -4,6 +4,8 @@ use Rattle.compact_repr.proofs.Changes.{pushed-text, pushed-in_place, inserted-i
 use Rattle.compact_repr.proofs.Cuts.{boundary-within, size-after}
 use Rattle.compact_str.proofs.Positions.{truncated-last, boundary-next, after-next, truncated-boundary, truncated-text, boundary-cut, asks-by_nothing, inserted-text, inserted-place, inserted-behind, range_replaced-text}
 use Rattle.compact_str.proofs.Rooms.{pushed-sure, pushed-bytes, inserted-sure}
+use Rattle.compact_repr.proofs.Letters.{boundary-lowercase, boundary-uppercase}
+use Rattle.compact_str.proofs.Letters.{lowercased-owned, uppercased-owned, made_owned-text, made-lowercase, made-uppercase}
 use Rattle.compact_str.proofs.Repeats.{repeated_text-none, repeated_text-one}
 
 -- of an append
@@ -21,3 +23,6 @@ pub ruleset replacement_facts = (replaced-in_place, range_replaced-text)
 
 -- of a repetition
 pub ruleset repeat_facts = (repeated_text-none, repeated_text-one)
+
+-- of a change of the letters
+pub ruleset letter_facts = (lowercased-owned, uppercased-owned, made_owned-text, made-lowercase, made-uppercase, boundary-lowercase, boundary-uppercase)

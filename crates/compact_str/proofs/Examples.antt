@@ -14,6 +14,7 @@ use Rattle.compact_str.specs.Ranges.{IsRange, range_start, range_end}
 use Rattle.std.specs.Prelude.{true, false}
 use Rattle.std.specs.declared.cmp.Ordering.TheVariants.{Less, Equal, Greater}
 use Rattle.compact_str.specs.Order.{same_text, text_order, text_cmp}
+use Rattle.compact_str.specs.Drains.{part, without_part}
 
 abbrev standard : Growth
 standard = record { least = 32; numerator = 3; denominator = 2 }
@@ -180,3 +181,17 @@ the_last_of_three_bytes_is_before_the_first_of_four = refl
 
 the_first_place_that_differs_decides : text_order (0x20AC ∷ 122 ∷ []) (0x20AC ∷ 97 ∷ 98 ∷ []) ≡ Greater
 the_first_place_that_differs_decides = refl
+
+-- what is taken out
+
+b_is_a_part : part mixed 2 3 ≡ 98 ∷ []
+b_is_a_part = refl
+
+nothing_stands_where_no_character_begins : part mixed 1 3 ≡ []
+nothing_stands_where_no_character_begins = refl
+
+b_is_taken_out_in_place : without_part (placed mixed inlined) 2 3 ≡ placed (0xE4 ∷ []) inlined
+b_is_taken_out_in_place = refl
+
+nothing_is_taken_out_of_a_static_text : without_part lasting_30 0 3 ≡ lasting_30
+nothing_is_taken_out_of_a_static_text = refl

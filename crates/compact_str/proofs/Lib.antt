@@ -1,5 +1,8 @@
 pub mod Positions
 pub mod Rooms
+pub mod Letters
+pub mod Drains
+pub mod Kept
 pub mod Repeats
 pub mod EditFacts
 pub mod KeyFacts

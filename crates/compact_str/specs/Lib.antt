@@ -4,11 +4,14 @@ pub use Rattle.compact_repr.specs.Value
 pub use Rattle.compact_repr.specs.Capacity
 pub use Rattle.compact_repr.specs.Change
 pub use Rattle.compact_repr.specs.Packed
+pub use Rattle.compact_repr.specs.Kept
 pub mod Room
 pub mod Clones
 pub mod Made
 pub mod Edits
 pub mod Ranges
+pub mod Drains
+pub mod Drained
 pub mod Laws
 pub mod Order
 pub mod Json

@@ -57,6 +57,9 @@ mod shortened;
 mod shown;
 #[cfg(test)]
 mod support;
+mod taken;
+#[cfg(test)]
+mod taken_tests;
 
 pub use callers::{append_field, keyword, label, record_line};
 pub use iterated::{append_fields, long_names, names_by_reference, names_of, path, whole};
@@ -71,3 +74,4 @@ pub use plain_callers::{
 pub use policies::{Double, Large, Slow};
 pub use pushes::{joined, joined_in_doubled_room};
 pub use run_callers::{Doubling, bracket, refill, rewrite};
+pub use taken::{every_second, folded, move_range, take_range, without_spaces};

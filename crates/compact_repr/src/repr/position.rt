@@ -1,7 +1,7 @@
 //! What stands at a position of a representation's text, in bytes.
-ghost use Rattle.std.specs.Prelude.{◌≡◌, ◌<◌, ℕ, List, [], ◌∷◌, ◌++◌, length, true, false, IsTrue, ◌↔◌, MatchOption};
+ghost use Rattle.std.specs.Prelude.{◌≡◌, ◌-◌, ◌<◌, ◌≤◌, ℕ, List, [], ◌∷◌, ◌++◌, length, true, false, IsTrue, ◌↔◌, MatchOption};
 ghost use Rattle.compact_repr.specs.Text.{size, text_of};
-ghost use Rattle.compact_repr.specs.Cut.{IsBoundary, after};
+ghost use Rattle.compact_repr.specs.Cut.{IsBoundary, after, middle};
 ghost use Rattle.compact_repr.specs.Value.{is_static};
 
 use crate::cut;
@@ -43,6 +43,18 @@ impl<P: Policy> Repr<P> {
         ensures len { length result.now ≡ size (after self.now.text index) }
     {
         cut::tail(self.as_str(), index)
+    }
+
+    /// What stands from one position to another, in bytes.
+    #[inline]
+    pub fn middle(&self, start: usize, end: usize) -> &str
+        requires order { start ≤ end }
+        requires first { IsBoundary self.now.text start }
+        requires last { IsBoundary self.now.text end }
+        ensures text { text_of result.now ≡ middle self.now.text start end }
+        ensures len { length result.now ≡ end - start }
+    {
+        cut::middle(self.as_str(), start, end)
     }
 
     /// What stands after `index`, in bytes, where the text is a static one; `None` of any other.

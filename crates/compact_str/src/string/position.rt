@@ -2,8 +2,8 @@
 ghost use Rattle.std.specs.Prelude.{◌≡◌, ℕ, ◌+◌, ◌-◌, ◌^◌, ◌<◌, ◌≤◌, ◌↔◌, ◌∷◌, [], length, Some, None, IfOk, OnOk, OnErr, IsOk, IsTrue, MatchOption, false};
 ghost use Rattle.std.specs.Char.{len_utf8};
 ghost use Rattle.std.specs.Range.Bound.{start_index, end_index};
-ghost use Rattle.compact_repr.specs.Text.{size, text_of};
-ghost use Rattle.compact_repr.specs.Cut.{IsCut, IsBoundary, before, after, replaced_text};
+ghost use Rattle.compact_repr.specs.Text.{size, utf8, text_of};
+ghost use Rattle.compact_repr.specs.Cut.{IsCut, IsBoundary, before, after, middle, replaced_text};
 ghost use Rattle.compact_repr.specs.Value.{placed, is_static};
 ghost use Rattle.compact_repr.specs.Capacity.{room_asks, own_asks, kept};
 ghost use Rattle.compact_str.specs.Room.{IsOwned, HasRoomFor, sure_capacity};
@@ -43,6 +43,23 @@ impl<P: Policy> PolicyString<P> {
         } else {
             None
         }
+    }
+
+    /// What stands in a range of the text.
+    ///
+    /// Whether the bounds are a range of the text, `check_range` tells. Of `"key=value"` from `Included(4)` to `Unbounded`
+    /// it is `"value"`.
+    #[tactic(auto, using(compact_repr::proofs::TextFacts::text_facts, crate::proofs::EditFacts::position_facts))]
+    pub fn range(&self, start: Bound<usize>, end: Bound<usize>) -> &str
+        requires { IsRange self.now.text start end }
+        ensures bytes { result.now ≡ utf8 (middle self.now.text (range_start start) (range_end self.now.text end)) }
+        ensures text { text_of result.now ≡ middle self.now.text (range_start start) (range_end self.now.text end) }
+        ensures len { length result.now ≡ range_end self.now.text end - range_start start }
+    {
+        let Some((first, last)) = ends(start, end, self.len()) else {
+            unreachable!();
+        };
+        self.repr.middle(first, last)
     }
 
     /// Puts `text` in at the boundary `index`, in bytes, once there is room for it; a static value becomes its own even for
@@ -202,7 +219,7 @@ impl<P: Policy> PolicyString<P> {
 
 /// Where a range of a text of `len` bytes begins and ends, in bytes; `None` only where an end of it is past the text.
 #[inline]
-fn ends(start: Bound<usize>, end: Bound<usize>, len: usize) -> Option<(usize, usize)>
+pub fn ends(start: Bound<usize>, end: Bound<usize>, len: usize) -> Option<(usize, usize)>
     ensures { MatchOption result (¬ ((start_index start ≤ len) × (end_index end len ≤ len))) (λ range. (range.0 ≡ start_index start) × (range.1 ≡ end_index end len)) }
 {
     let first = match start {
@@ -220,7 +237,7 @@ fn ends(start: Bound<usize>, end: Bound<usize>, len: usize) -> Option<(usize, us
 
 /// Whether `index`, in bytes, is a boundary of `text`.
 #[inline]
-fn is_boundary(text: &str, index: usize) -> bool
+pub fn is_boundary(text: &str, index: usize) -> bool
     ensures { IsTrue result ↔ IsBoundary (text_of text.now) index }
 {
     text.is_char_boundary(index)

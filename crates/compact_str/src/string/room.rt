@@ -1,8 +1,8 @@
 //! How room is made and given back.
 ghost use Rattle.std.specs.Prelude.{◌≡◌, Some, OnOk, OnErr, IsOk, IsTrue};
-ghost use Rattle.compact_repr.specs.Capacity.{room_asks};
-ghost use Rattle.compact_repr.specs.Change.{reserved, Shrinks};
-ghost use Rattle.compact_str.specs.Room.{HasRoomFor};
+ghost use Rattle.compact_repr.specs.Capacity.{room_asks, own_asks};
+ghost use Rattle.compact_repr.specs.Change.{reserved, made_owned, Shrinks};
+ghost use Rattle.compact_str.specs.Room.{IsOwned, HasRoomFor};
 
 use crate::string::PolicyString;
 use compact_repr::{Policy, ReserveError};
@@ -55,5 +55,16 @@ impl<P: Policy> PolicyString<P> {
         ensures text { self.new.text ≡ self.old.text }
     {
         self.repr.shrink_to(0);
+    }
+    /// Makes the text of a static value its own; every other stays as it is. An error changes nothing.
+    #[inline(always)]
+    #[tactic(auto, using(compact_repr::proofs::TextFacts::text_facts, crate::proofs::Drains::owned_facts))]
+    pub(crate) fn make_owned(&mut self) -> Result<(), ReserveError>
+        ensures ok { OnOk result (made_owned P.growth self.old ≡ Some self.new) }
+        ensures text { self.new.text ≡ self.old.text }
+        ensures owned { OnOk result (IsOwned self.new) }
+        ensures err { OnErr result ((self.new ≡ self.old) × IsTrue (own_asks self.old)) }
+    {
+        self.repr.make_owned()
     }
 }

@@ -1,0 +1,113 @@
+-- Characters that are kept, one after another, in a row of bytes.
+use Rattle.std.proofs.Common.{◌≡◌, ◌∙◌, refl, ap, sym, subst, arith, ℕ, ◌+◌, ◌-◌, ◌<◌, ◌≤◌, List, [], ◌∷◌, ◌++◌, length, take, drop, Bool, true, false, cond, append_assoc, append-nil, length-append}
+use Rattle.std.proofs.lemmas.List.{length-drop, length-take-le, drop-drop, drop_all, take-take, take_at}
+use Rattle.std.proofs.lemmas.Str.{encode_ascii, len_utf8_ascii, drop_past_char, chars_past_char, IsUtf8-past_char, IsUtf8-append, IsUtf8-encode, IsUtf8-nil, chars-nil, length-encode}
+use Rattle.std.specs.Char.{len_utf8, IsScalar}
+use Rattle.std.specs.Fn.{Called, Mut}
+use Rattle.std.specs.Str.{IsUtf8}
+use lib.ListN.{get_or}
+use Rattle.std.proofs.Math.Seq.{drop-cons}
+use lib.Utf8.{encode}
+use Rattle.compact_repr.specs.Text.{text_of}
+use Rattle.compact_repr.specs.Kept.{KeepsChars}
+use Rattle.compact_repr.proofs.Cuts.{text_of-last}
+
+-- what stands behind the character that begins at a place
+pub behind_char : (row rest : List ℕ) (at c : ℕ) → drop at row ≡ encode c ++ rest → drop at row ≡ encode c ++ drop (at + len_utf8 c) row
+behind_char row rest at c e = e ∙ ap (λ (l : List ℕ). encode c ++ l) (sym (drop_past_char row rest at c e))
+
+pub within_char : (row rest : List ℕ) (at c : ℕ) → at < length row → drop at row ≡ encode c ++ rest → at + len_utf8 c ≤ length row
+within_char row rest at c h e = omega (arith, h, ap length e, length-drop at row, length-append (encode c) rest, length-encode c)
+
+pub utf8-behind_char : (row rest : List ℕ) (at c : ℕ) → IsUtf8 (drop at row) → drop at row ≡ encode c ++ rest → IsUtf8 (drop (at + len_utf8 c) row)
+utf8-behind_char row rest at c u e = subst IsUtf8 (sym (drop_past_char row rest at c e)) (IsUtf8-past_char (drop at row) rest c u e)
+
+-- one more character in front
+keeps-step : {F : Type 0} (g : Mut F (ℕ × Unit {0}) Bool) (f h : F) (c : ℕ) (b : Bool) (t u : List ℕ) → Called g f (c, tt) b h → KeepsChars g h t u → KeepsChars g f (c ∷ t) (cond b (c ∷ u) u)
+keeps-step g f h c true t u s k = (true ∷ k.0, k.1, omega (arith, k.2), (h, s, k.3), ap (λ l. c ∷ l) k.4)
+keeps-step g f h c false t u s k = (false ∷ k.0, k.1, omega (arith, k.2), (h, s, k.3), k.4)
+
+pub keeps-nil : {F : Type 0} (g : Mut F (ℕ × Unit {0}) Bool) (f : F) → KeepsChars g f [] []
+keeps-nil g f = ([], f, refl, refl, refl)
+
+-- what is kept of the rest goes on what is kept so far
+abbrev pub GoesOn : {F : Type 0} → Mut F (ℕ × Unit {0}) Bool → F → List ℕ → F → List ℕ → List ℕ → Type 0
+GoesOn g first whole f done rest = (u : List ℕ) → KeepsChars g f rest u → KeepsChars g first whole (done ++ u)
+
+pub goes_on-kept : {F : Type 0} (g : Mut F (ℕ × Unit {0}) Bool) (first f h : F) (whole t r done : List ℕ) (c : ℕ) → t ≡ c ∷ r → Called g f (c, tt) true h → GoesOn g first whole f done t → GoesOn g first whole h (done ++ c ∷ []) r
+goes_on-kept g first f h whole t r done c e called so u k =
+    subst (λ (l : List ℕ). KeepsChars g first whole l) (sym (append_assoc done (c ∷ []) u))
+    (so (c ∷ u) (subst (λ (x : List ℕ). KeepsChars g f x (c ∷ u)) (sym e) (keeps-step g f h c true r u called k)))
+
+pub goes_on-dropped : {F : Type 0} (g : Mut F (ℕ × Unit {0}) Bool) (first f h : F) (whole t r done : List ℕ) (c : ℕ) → t ≡ c ∷ r → Called g f (c, tt) false h → GoesOn g first whole f done t → GoesOn g first whole h done r
+goes_on-dropped g first f h whole t r done c e called so u k =
+    so u (subst (λ (x : List ℕ). KeepsChars g f x u) (sym e) (keeps-step g f h c false r u called k))
+
+pub goes_on-end : {F : Type 0} (g : Mut F (ℕ × Unit {0}) Bool) (first f : F) (whole done : List ℕ) → GoesOn g first whole f done [] → KeepsChars g first whole done
+goes_on-end g first f whole done so = subst (λ (l : List ℕ). KeepsChars g first whole l) (append-nil done) (so [] (keeps-nil g f))
+
+-- the bytes of a text with a character written behind them
+pub utf8-put : (bytes : List ℕ) (c : ℕ) → IsScalar c → IsUtf8 bytes → IsUtf8 (bytes ++ encode c)
+utf8-put bytes c s u = IsUtf8-append bytes (encode c) u (IsUtf8-encode c s)
+
+pub text_of-put : (bytes : List ℕ) (c : ℕ) → IsScalar c → IsUtf8 bytes → text_of (bytes ++ encode c) ≡ text_of bytes ++ c ∷ []
+text_of-put bytes c s u = text_of-last (bytes ++ encode c) bytes c (utf8-put bytes c s u) u refl
+
+-- rows that agree from one place on agree from a later one on
+pub drop-later : (xs ys : List ℕ) (i j : ℕ) → i ≤ j → drop i xs ≡ drop i ys → drop j xs ≡ drop j ys
+drop-later xs ys i j h e =
+    let later : i + (j - i) ≡ j = omega arith in
+    ap (λ (n : ℕ). drop n xs) (sym later) ∙ sym (drop-drop (j - i) i xs) ∙ ap (λ (l : List ℕ). drop (j - i) l) e ∙ drop-drop (j - i) i ys ∙ ap (λ (n : ℕ). drop n ys) later
+
+-- a loop over a row: what is kept stands at its front, and what is not yet asked from `read` on
+abbrev pub Stands : {F : Type 0} → Mut F (ℕ × Unit {0}) Bool → F → List ℕ → F → List ℕ → ℕ → ℕ → Type 0
+Stands g first whole f row kept read =
+    IsUtf8 (drop read row) × IsUtf8 (take kept row) × GoesOn g first whole f (text_of (take kept row)) (text_of (drop read row))
+
+pub stands-kept : {F : Type 0} (g : Mut F (ℕ × Unit {0}) Bool) (first f h : F) (whole row now : List ℕ) (kept read n c : ℕ) (said : Bool)
+    → said ≡ true → Called g f (c, tt) said h → IsScalar c → kept ≤ read → drop read row ≡ encode c ++ drop (read + n) row → IsUtf8 (drop (read + n) row)
+    → take (kept + n) now ≡ take kept row ++ encode c → drop (kept + n) now ≡ drop (kept + n) row
+    → Stands g first whole f row kept read → Stands g first whole h now (kept + n) (read + n)
+stands-kept g first f h whole row now kept read n c said says called s order e u front behind stands =
+    let later : drop (read + n) now ≡ drop (read + n) row = drop-later now row (kept + n) (read + n) (omega (arith, order)) behind in
+    let text : text_of (take (kept + n) now) ≡ text_of (take kept row) ++ c ∷ [] = ap (λ (l : List ℕ). text_of l) front ∙ text_of-put (take kept row) c s stands.1 in
+    let rest = chars_past_char (drop read row) (drop (read + n) row) c stands.0 e in
+    let on = goes_on-kept g first f h whole (text_of (drop read row)) (text_of (drop (read + n) row)) (text_of (take kept row)) c rest (subst (λ (b : Bool). Called g f (c, tt) b h) says called) stands.2 in (
+      subst IsUtf8 (sym later) u,
+      subst IsUtf8 (sym front) (utf8-put (take kept row) c s stands.1),
+      subst (λ (l : List ℕ). GoesOn g first whole h (text_of (take (kept + n) now)) (text_of l)) (sym later)
+          (subst (λ (l : List ℕ). GoesOn g first whole h l (text_of (drop (read + n) row))) (sym text) on),
+    )
+
+-- what was put ahead of the answer is not among what is kept
+pub stands-dropped : {F : Type 0} (g : Mut F (ℕ × Unit {0}) Bool) (first f h : F) (whole row now : List ℕ) (kept read n c : ℕ) (said : Bool)
+    → said ≡ false → Called g f (c, tt) said h → kept ≤ read → kept ≤ length row → drop read row ≡ encode c ++ drop (read + n) row → IsUtf8 (drop (read + n) row)
+    → take (kept + n) now ≡ take kept row ++ encode c → drop (kept + n) now ≡ drop (kept + n) row
+    → Stands g first whole f row kept read → Stands g first whole h now kept (read + n)
+stands-dropped g first f h whole row now kept read n c said says called order held e u front behind stands =
+    let later : drop (read + n) now ≡ drop (read + n) row = drop-later now row (kept + n) (read + n) (omega (arith, order)) behind in
+    let same : take kept now ≡ take kept row = sym (take-take kept (kept + n) now (omega arith)) ∙ ap (take kept) front ∙ take_at (take kept row) (encode c) kept (length-take-le kept row held) in
+    let rest = chars_past_char (drop read row) (drop (read + n) row) c stands.0 e in
+    let on = goes_on-dropped g first f h whole (text_of (drop read row)) (text_of (drop (read + n) row)) (text_of (take kept row)) c rest (subst (λ (b : Bool). Called g f (c, tt) b h) says called) stands.2 in (
+      subst IsUtf8 (sym later) u,
+      subst IsUtf8 (sym same) stands.1,
+      subst (λ (l : List ℕ). GoesOn g first whole h (text_of (take kept now)) (text_of l)) (sym later)
+          (subst (λ (l : List ℕ). GoesOn g first whole h (text_of l) (text_of (drop (read + n) row))) (sym same) on),
+    )
+
+pub stands-first : {F : Type 0} (g : Mut F (ℕ × Unit {0}) Bool) (first : F) (row : List ℕ) → IsUtf8 row → Stands g first (text_of row) first row 0 0
+stands-first g first row u = (u, IsUtf8-nil, λ v k. subst (λ (l : List ℕ). KeepsChars g first (text_of row) l) (ap (λ (l : List ℕ). l ++ v) (sym chars-nil)) k)
+
+pub stands-last : {F : Type 0} (g : Mut F (ℕ × Unit {0}) Bool) (first f : F) (whole row : List ℕ) (kept read : ℕ) → length row ≤ read → Stands g first whole f row kept read → KeepsChars g first whole (text_of (take kept row))
+stands-last g first f whole row kept read h stands =
+    let none : text_of (drop read row) ≡ [] = ap (λ (l : List ℕ). text_of l) (drop_all read row h) ∙ chars-nil in
+    goes_on-end g first f whole (text_of (take kept row)) (subst (λ (l : List ℕ). GoesOn g first whole f (text_of (take kept row)) l) none stands.2)
+
+-- a text whose first byte is ASCII begins with that character
+pub first_ascii : {text : List ℕ} (bytes : List ℕ) (b c : ℕ) → bytes ≡ text → IsUtf8 text → 0 < length bytes → b ≡ get_or bytes 0 0 → b < 128 → c ≡ b
+    → (1 ≡ len_utf8 c) × ((rest : List ℕ) × (text_of text ≡ c ∷ rest))
+first_ascii {text} bytes b c e u some is low same =
+    let head : bytes ≡ b ∷ drop 1 bytes = drop-cons bytes 0 0 some ∙ ap (λ (x : ℕ). x ∷ drop 1 bytes) (sym is) in
+    let split : text ≡ encode c ++ drop 1 bytes =
+    sym e ∙ head ∙ ap (λ (l : List ℕ). l ++ drop 1 bytes) (sym (encode_ascii b low)) ∙ ap (λ (x : ℕ). encode x ++ drop 1 bytes) (sym same) in
+    (sym (len_utf8_ascii c (omega (arith, same, low))), (text_of (drop 1 bytes), chars_past_char text (drop 1 bytes) c u split))

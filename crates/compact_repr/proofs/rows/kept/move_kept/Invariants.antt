@@ -1,0 +1,14 @@
+use Rattle.std.proofs.Common.{length, ◌-◌, ◌≤◌}
+use Rattle.compact_repr.specs.Text.{text_of}
+use Rattle.compact_repr.proofs.Keeping.{Stands}
+use Rattle.compact_repr.proofs.rows.kept.move_kept.Given as goal
+
+abbrev pub invariant-loop-read : goal.invariant-loop-read
+invariant-loop-read g l =
+    goal.F-IsAlwaysCallable g l.keep
+    × (l.kept ≤ l.read)
+    × (l.read ≤ length l.row)
+    × Stands g.F.FnMut l.initial.keep (text_of l.initial.row) l.keep l.row l.kept l.read
+
+abbrev pub decreases-loop-read : goal.decreases-loop-read
+decreases-loop-read g l = length l.initial.row - l.read

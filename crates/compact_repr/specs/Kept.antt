@@ -1,0 +1,23 @@
+-- Characters that a test keeps.
+use Rattle.std.specs.Prelude.{ℕ, List, [], ◌∷◌, Bool, true, drop, if◌then◌else◌}
+use Rattle.std.specs.List.Retain.{IsFiltered}
+use Rattle.std.specs.Fn.{Called, Mut}
+
+-- u has the characters of t, in order, of which the test said true: it was called once at each, in order, from f on
+abbrev pub KeepsChars : {F : Type 0} → Mut F (ℕ × Unit {0}) Bool → F → List ℕ → List ℕ → Type 0
+KeepsChars test f t u = IsFiltered (λ p c b q. Called test p (c, tt) b q) f t u
+
+-- the characters of a text that a rule keeps: it goes from a state on, and says of a state and a character whether that
+-- stays, and the next state
+abbrev pub kept_by : {S : Type 0} → (S → ℕ → Bool × S) → S → List ℕ → List ℕ
+kept_by rule s [] = []
+kept_by rule s (c ∷ cs) = if (rule s c).0 then c ∷ kept_by rule (rule s c).1 cs else kept_by rule (rule s c).1 cs
+
+-- the next of some answers; where they have run out it is `true`
+abbrev pub next_answer : List Bool → Bool
+next_answer [] = true
+next_answer (answer ∷ answers) = answer
+
+-- the rule of a list of answers, the first for the first character: one with no answer stays
+abbrev pub by_answers : List Bool → ℕ → Bool × List Bool
+by_answers answers c = (next_answer answers, drop 1 answers)

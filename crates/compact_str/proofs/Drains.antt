@@ -1,0 +1,127 @@
+-- Parts of a text, and how they are taken out.
+use Rattle.std.proofs.Common.{◌≡◌, Some, ℕ, ◌+◌, ◌-◌, ◌*◌, ◌<◌, ◌≤◌, List, [], ◌∷◌, ◌++◌, Bool, true, false, not, IsTrue, ◌↔◌, length, refl, ap, sym, ◌∙◌, subst, arith, append_assoc, length-append, ⊎_elim}
+use Rattle.std.proofs.lemmas.Grind.{common_steps}
+use Rattle.std.proofs.lemmas.Bool.{cases_Bool, cond-true, cond-false, true≢false, le-leb, leb-true, eq-eqb, eqb-true, ne_eqb, and_parts, and_from}
+use Rattle.std.proofs.lemmas.Str.{len_utf8_bounds}
+use Rattle.std.specs.Char.{len_utf8}
+use Rattle.compact_repr.specs.Text.{size}
+use Rattle.compact_repr.specs.Cut.{IsBoundary, before, after, middle, replaced_text}
+use Rattle.compact_repr.specs.Value.{Place, inline, heap, static, IsCapacityOf, IsSound, PlacedText, placed, is_static}
+use Rattle.compact_repr.specs.Capacity.{Growth, owned}
+use Rattle.compact_repr.specs.Change.{made_owned, replaced}
+use Rattle.compact_repr.proofs.Texts.{size-append}
+use Rattle.compact_repr.proofs.Cuts.{before-after, size-before, boundary-from_size, boundary-within}
+use Rattle.compact_repr.proofs.Middles.{middle-parts, parts-middle}
+use Rattle.compact_str.specs.Drains.{may_cut, may_cut_out, part, without_part}
+use Rattle.compact_str.proofs.Letters.{made_owned-text}
+
+pub made_owned-owned : (g : Growth) (v u : PlacedText) → made_owned g v ≡ Some u → is_static u.placement.place ≡ false
+made_owned-owned g v u e = grind (arith, common_steps)
+
+pub made_owned-placement : (g : Growth) (v u : PlacedText) → made_owned g v ≡ Some u → owned g v ≡ Some u.placement
+made_owned-placement g v u e = grind (arith, common_steps)
+
+-- an owned text fits its capacity
+capacity-owned : (p : Place) (capacity bytes : ℕ) → IsCapacityOf p capacity bytes → is_static p ≡ false → bytes ≤ capacity
+capacity-owned inline capacity bytes h own = omega (arith, h.0, h.1)
+capacity-owned heap capacity bytes h own = h
+capacity-owned static capacity bytes h own = absurd (true≢false own)
+
+pub room-owned : (v : PlacedText) → IsSound v → is_static v.placement.place ≡ false → size v.text ≤ v.placement.capacity
+room-owned v sound own = capacity-owned v.placement.place v.placement.capacity (size v.text) sound.fits own
+
+-- `may_cut` tells the boundaries
+may_cut-boundary : (t : List ℕ) (p : ℕ) → IsBoundary t p → may_cut t p ≡ true
+may_cut-boundary t p h = eq-eqb _ _ (size-before t p h)
+
+boundary-may_cut : (t : List ℕ) (p : ℕ) → may_cut t p ≡ true → IsBoundary t p
+boundary-may_cut t p e = boundary-from_size t p (eqb-true _ _ e)
+
+pub may_cut-test : (b : Bool) (t : List ℕ) (p : ℕ) → (IsTrue b ↔ IsBoundary t p) → b ≡ may_cut t p
+may_cut-test true t p h = sym (may_cut-boundary t p (h.0 refl))
+may_cut-test false t p h = sym (ne_eqb _ _ (λ e. true≢false (sym (h.1 (boundary-from_size t p e)))))
+
+-- and `may_cut_out` the ranges
+pub may_cut_out-range : (t : List ℕ) (i j : ℕ) → i ≤ j → IsBoundary t i → IsBoundary t j → may_cut_out t i j ≡ true
+may_cut_out-range t i j order h k = and_from _ _ (le-leb i j order) (and_from _ _ (may_cut-boundary t i h) (may_cut-boundary t j k))
+
+pub range-may_cut_out : (t : List ℕ) (i j : ℕ) → may_cut_out t i j ≡ true → (i ≤ j) × IsBoundary t i × IsBoundary t j
+range-may_cut_out t i j e =
+    let order = and_parts _ _ e in
+    let cuts = and_parts _ _ order.1 in
+    (leb-true i j order.0, boundary-may_cut t i cuts.0, boundary-may_cut t j cuts.1)
+
+pub part-range : (t : List ℕ) (i j : ℕ) → i ≤ j → IsBoundary t i → IsBoundary t j → part t i j ≡ middle t i j
+part-range t i j order h k = cond-true _ _ _ (may_cut_out-range t i j order h k)
+
+-- the second of three parts, and a part that is not empty, are each the other
+part-of : (t a m b : List ℕ) (i j : ℕ) → t ≡ a ++ m ++ b → size a ≡ i → size a + size m ≡ j → part t i j ≡ m
+part-of t a m b i j e first last =
+    let three = parts-middle t a m b i j e first last in
+    part-range t i j (omega (arith, first, last)) three.0 three.1 ∙ three.2
+
+of-part : (t m : List ℕ) (i j : ℕ) → part t i j ≡ m → (m ≡ [] → ⊥) → (t ≡ before t i ++ m ++ after t j) × (size (before t i) ≡ i) × (size (before t i) + size m ≡ j)
+of-part t m i j e some =
+    ⊎_elim
+    (λ yes.
+    let range = range-may_cut_out t i j yes in
+    let parts = middle-parts t i j range.1 range.2 range.0 in
+    let is : middle t i j ≡ m = sym (cond-true _ _ _ yes) ∙ e in
+    let behind : after t i ≡ m ++ after t j = subst (λ (l : List ℕ). after t i ≡ l ++ after t j) is parts.0 in
+    let wide : size m ≡ j - i = ap size (sym is) ∙ parts.1 in
+    let first = size-before t i range.1 in
+    (before-after t i ∙ ap (λ (l : List ℕ). before t i ++ l) behind ∙ sym (append_assoc (before t i) m (after t j)), first, omega (arith, first, wide, range.0)))
+    (λ no. absurd (some (sym e ∙ cond-false _ _ _ no)))
+    (cases_Bool (may_cut_out t i j))
+
+some-front : (r : List ℕ) (c : ℕ) → c ∷ r ≡ [] → ⊥
+some-front r c e =
+    let none : length (c ∷ r) ≡ length {A = ℕ} [] = ap length e in
+    omega (arith, none)
+
+some-back : (r : List ℕ) (c : ℕ) → r ++ c ∷ [] ≡ [] → ⊥
+some-back r c e =
+    let none : length (r ++ c ∷ []) ≡ length {A = ℕ} [] = ap length e in
+    omega (arith, none, length-append r (c ∷ []))
+
+-- the first character of a part is taken
+pub part-front : (t r : List ℕ) (front back c : ℕ) → part t front back ≡ c ∷ r → (part t (front + len_utf8 c) back ≡ r) × (front + len_utf8 c ≤ back)
+part-front t r front back c e =
+    let three = of-part t (c ∷ r) front back e (some-front r c) in
+    let parts : t ≡ (before t front ++ c ∷ []) ++ r ++ after t back =
+    three.0 ∙ ap (λ (l : List ℕ). l ++ after t back) (sym (append_assoc (before t front) (c ∷ []) r)) in
+    let first : size (before t front ++ c ∷ []) ≡ front + len_utf8 c = size-append (before t front) (c ∷ []) ∙ omega (arith, three.1) in
+    (part-of t (before t front ++ c ∷ []) r (after t back) (front + len_utf8 c) back parts first (omega (arith, first, three.1, three.2)), omega (arith, three.1, three.2))
+
+-- or the last
+pub part-back : (t r : List ℕ) (front back c : ℕ) → part t front back ≡ r ++ c ∷ [] → (part t front (back - len_utf8 c) ≡ r) × (front + len_utf8 c ≤ back)
+part-back t r front back c e =
+    let three = of-part t (r ++ c ∷ []) front back e (some-back r c) in
+    let whole = size-append r (c ∷ []) in
+    let parts : t ≡ before t front ++ r ++ (c ∷ [] ++ after t back) =
+    three.0 ∙ ap (λ (l : List ℕ). l ++ after t back) (sym (append_assoc (before t front) r (c ∷ []))) ∙ append_assoc (before t front ++ r) (c ∷ []) (after t back) in
+    (part-of t (before t front) r (c ∷ [] ++ after t back) front (back - len_utf8 c) parts three.1 (omega (arith, whole, three.1, three.2)), omega (arith, whole, three.1, three.2))
+
+-- a value that is made owned and then loses a range
+pub owned-without : (g : Growth) (v u : PlacedText) (i j : ℕ) → made_owned g v ≡ Some u → is_static u.placement.place ≡ false → i ≤ j → IsBoundary v.text i → IsBoundary v.text j
+    → without_part u i j ≡ placed (replaced_text v.text i j []) u.placement
+owned-without g v u i j o own order h k =
+    let text = made_owned-text g v u o in
+    let range : may_cut_out u.text i j ≡ true = ap (λ (t : List ℕ). may_cut_out t i j) text ∙ may_cut_out-range v.text i j order h k in
+    cond-true _ _ _ (and_from _ _ (ap not own) range) ∙ ap (λ (t : List ℕ). placed (replaced_text t i j []) u.placement) text
+
+pub drained : (g : Growth) (v u : PlacedText) (i j : ℕ) → made_owned g v ≡ Some u → is_static u.placement.place ≡ false → i ≤ j → IsBoundary v.text i → IsBoundary v.text j → replaced g v i j [] ≡ Some (without_part u i j)
+drained g v u i j o own order h k = rw (made_owned-placement g v u o, le-leb 0 (j - i) (omega arith), owned-without g v u i j o own order h k) refl
+
+-- a character has one to four bytes
+pub length-least : (t : List ℕ) → length t ≤ size t
+length-least [] = omega arith
+length-least (c ∷ cs) = omega (arith, len_utf8_bounds c, length-least cs)
+
+pub length-most : (t : List ℕ) → size t ≤ 4 * length t
+length-most [] = omega arith
+length-most (c ∷ cs) = omega (arith, len_utf8_bounds c, length-most cs)
+
+pub ruleset part_facts = (range-may_cut_out, room-owned)
+
+pub ruleset owned_facts = (made_owned-text, made_owned-owned)

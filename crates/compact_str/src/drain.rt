@@ -1,0 +1,177 @@
+//! A range of a value that is taken out, character by character.
+ghost use Rattle.std.specs.Prelude.{◌≡◌, ℕ, ◌≤◌, List, length, [], Some, IfOk, OnErr, IsOk, IsTrue};
+ghost use Rattle.std.specs.Borrow.{sem, RestsIfErr};
+ghost use Rattle.compact_repr.specs.Text.{size, utf8, text_of};
+ghost use Rattle.compact_repr.specs.Cut.{middle, replaced_text};
+ghost use Rattle.compact_repr.specs.Capacity.{own_asks};
+ghost use Rattle.compact_repr.specs.Change.{replaced};
+ghost use Rattle.compact_str.specs.Room.{IsOwned};
+ghost use Rattle.compact_str.specs.Ranges.{IsRange, range_start, range_end};
+ghost use Rattle.compact_str.specs.Drains.{part, without_part};
+ghost use Rattle.compact_str.specs.Drained.{drain_rest, drain_leaves, drain_lender};
+ghost use Rattle.compact_str.specs.contracts.string.PolicyString.{the_row};
+
+use crate::string::PolicyString;
+use crate::string::part::part;
+use crate::string::position::ends;
+use compact_repr::{Policy, ReserveError, first_char, last_char};
+use std::fmt;
+use std::fmt::{Debug, Display, Formatter, Write};
+use std::iter::FusedIterator;
+use std::ops::Bound;
+
+/// The characters of a range that `drain` takes out of a value: an iterator from both ends, each character once.
+///
+/// Its drop takes the whole range out, however much was taken from it.
+pub struct Drain<'a, P: Policy> {
+    value: &'a mut PolicyString<P>,
+    // The range, in bytes.
+    start: usize,
+    end: usize,
+    // What of it is not yet taken.
+    front: usize,
+    back: usize,
+}
+
+impl<P: Policy> PolicyString<P> {
+    /// Takes a range out: answers its characters, and the drop of the answer leaves what stood before and after it. A
+    /// static value becomes its own first, for an empty range too.
+    ///
+    /// Whether the bounds are a range of the text, `check_range` tells. An error says that no memory was found for a static
+    /// text of more than 24 bytes, or that it is longer than 2^56 - 2 bytes; then nothing has changed. It never comes of an
+    /// owned value. Of `"Hello, world!"` from `Included(5)` to `Excluded(12)` it gives the characters of `", world"`, and
+    /// leaves `"Hello!"`.
+    #[inline]
+    pub fn drain(
+        &mut self,
+        start: Bound<usize>,
+        end: Bound<usize>,
+    ) -> Result<Drain<'_, P>, ReserveError>
+        requires { IsRange self.old.text start end }
+        ensures* refused { sem 𝓛 (RestsIfErr (the_row P.row P.Policy) self.entry drain_lender result (λ v. v ≡ self.old)) }
+        ensures same_reference { IfOk result (λ d. drain_lender d ≡ self.entry.ghost_name) }
+        ensures rest { IfOk result (λ d. drain_rest d ≡ middle self.old.text (range_start start) (range_end self.old.text end)) }
+        ensures leaves { IfOk result (λ d. replaced P.growth self.old (range_start start) (range_end self.old.text end) [] ≡ Some (drain_leaves d)) }
+        ensures text { IfOk result (λ d. (drain_leaves d).text ≡ replaced_text self.old.text (range_start start) (range_end self.old.text end) []) }
+        ensures succeeds { IsOwned self.old → IsOk result }
+        ensures succeeds_short { size self.old.text ≤ 24 → IsOk result }
+        ensures err { OnErr result (IsTrue (own_asks self.old)) }
+    {
+        let Some((first, last)) = ends(start, end, self.len()) else {
+            unreachable!();
+        };
+        self.make_owned()?;
+        Ok(self.drain_between(first, last))
+    }
+
+    /// The characters from one position to another, in bytes, which are taken out when the answer is dropped.
+    #[inline]
+    fn drain_between(&mut self, start: usize, end: usize) -> Drain<'_, P>
+        ensures same_reference { drain_lender result ≡ self.entry.ghost_name }
+        ensures rest { drain_rest result ≡ part self.old.text start end }
+        ensures leaves { drain_leaves result ≡ without_part self.old start end }
+    {
+        Drain {
+            value: self,
+            start,
+            end,
+            front: start,
+            back: end,
+        }
+    }
+}
+
+impl<P: Policy> Drain<'_, P> {
+    /// What is not yet taken.
+    #[inline]
+    pub fn as_str(&self) -> &str
+        ensures bytes { result.now ≡ utf8 (drain_rest self.now) }
+        ensures text { text_of result.now ≡ drain_rest self.now }
+        ensures len { length result.now ≡ size (drain_rest self.now) }
+    {
+        part(self.value.as_str(), self.front, self.back)
+    }
+}
+
+impl<P: Policy> Iterator for Drain<'_, P> {
+    ghost use Rattle.std.specs.Iterator.{at_most};
+    ghost use Rattle.compact_str.specs.Drained.{DrainsFront, drain_rest};
+
+    type Item = char;
+
+    ghost next_gives = { DrainsFront };
+
+    ghost remaining = { λ d. at_most (length (drain_rest d)) };
+
+    /// The first character that is not yet taken.
+    #[inline]
+    fn next(&mut self) -> Option<char> {
+        // The proof reads from it that the sum below fits.
+        let _back = self.back;
+        let (character, width) = first_char(self.as_str())?;
+        self.front += width;
+        Some(character)
+    }
+
+    /// How many characters are left: at least a quarter of the bytes, and at most as many.
+    #[inline]
+    fn size_hint(&self) -> (usize, Option<usize>) {
+        let len = self.as_str().len();
+        (len.div_ceil(4), Some(len))
+    }
+}
+
+impl<P: Policy> DoubleEndedIterator for Drain<'_, P> {
+    ghost use Rattle.compact_str.specs.Drained.{DrainsBack};
+
+    ghost next_back_gives = { DrainsBack };
+
+    /// The last character that is not yet taken.
+    #[inline]
+    fn next_back(&mut self) -> Option<char> {
+        let character = last_char(self.as_str())?;
+        self.back -= character.len_utf8();
+        Some(character)
+    }
+}
+
+impl<P: Policy> FusedIterator for Drain<'_, P> {}
+
+impl<P: Policy> Drop for Drain<'_, P> {
+    /// Takes the whole range out of the value.
+    #[inline]
+    fn drop(self)
+        ensures { self.exit.0.now ≡ drain_leaves self.entry }
+    {
+        let Drain {
+            value,
+            start,
+            end,
+            front: _,
+            back: _,
+        } = self;
+        value.take_out(start, end);
+    }
+}
+
+impl<P: Policy> Display for Drain<'_, P> {
+    ghost use Rattle.std.specs.Prelude.{Some};
+    ghost use Rattle.compact_repr.specs.Text.{utf8};
+    ghost use Rattle.compact_str.specs.Drained.{drain_rest};
+
+    ghost output = { λ d. Some (utf8 (drain_rest d)) };
+
+    ghost styled_output = { λ d _. Some (utf8 (drain_rest d)) };
+
+    /// Prints what is not yet taken, whatever the width.
+    fn fmt<W: Write>(&self, f: &mut Formatter<W>) -> fmt::Result {
+        f.write_str(self.as_str())
+    }
+}
+
+impl<P: Policy> Debug for Drain<'_, P> {
+    /// Prints `Drain(`, what is not yet taken as its `Debug` shows it, and `)`.
+    fn fmt<W: Write>(&self, f: &mut Formatter<W>) -> fmt::Result {
+        f.debug_tuple("Drain").field(&self.as_str()).finish()
+    }
+}

@@ -1,0 +1,31 @@
+//! How characters are kept by a test.
+ghost use Rattle.std.specs.Prelude.{◌≡◌, ◌≤◌, Some, OnOk, OnErr, IsOk, IsTrue};
+ghost use Rattle.compact_repr.specs.Text.{size};
+ghost use Rattle.compact_repr.specs.Capacity.{owned, own_asks};
+ghost use Rattle.compact_repr.specs.Kept.{KeepsChars};
+ghost use Rattle.compact_str.specs.Room.{IsOwned};
+
+use crate::string::PolicyString;
+use compact_repr::{Policy, ReserveError};
+
+impl<P: Policy> PolicyString<P> {
+    /// Keeps the characters for which `keep` answers true. It is asked once of each character, in order, and may have a
+    /// state of its own. A static value becomes its own first, even where all are kept.
+    ///
+    /// An error says that no memory was found for a static text of more than 24 bytes, or that it is longer than 2^56 - 2
+    /// bytes; then nothing has changed, and `keep` was not asked. It never comes of an owned value. Of `"a-b-c"` with
+    /// `|character| character != '-'` it keeps `"abc"`.
+    #[inline]
+    pub fn retain<F: FnMut(char) -> bool>(&mut self, keep: F) -> Result<(), ReserveError>
+        requires { F.IsAlwaysCallable keep }
+        ensures text { OnOk result (KeepsChars F.FnMut keep self.old.text self.new.text) }
+        ensures placement { OnOk result (owned P.growth self.old ≡ Some self.new.placement) }
+        ensures succeeds { IsOwned self.old → IsOk result }
+        ensures succeeds_short { size self.old.text ≤ 24 → IsOk result }
+        ensures err { OnErr result ((self.new ≡ self.old) × IsTrue (own_asks self.old)) }
+    {
+        self.make_owned()?;
+        self.repr.retain(keep);
+        Ok(())
+    }
+}

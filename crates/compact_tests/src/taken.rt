@@ -1,0 +1,73 @@
+//! Callers that take parts of a text out, as its users write them. All but those that end in a rule of their own are proved
+//! with no proof file.
+ghost use Rattle.std.specs.Prelude.{◌≡◌, ◌++◌, ◌∷◌, [], OnOk, OnErr, IfOk, MatchOption, not, false, filter, ◌==◌};
+ghost use Rattle.compact_str.specs.Text.{text_of, ascii_lowercase};
+ghost use Rattle.compact_str.specs.Cut.{middle, replaced_text};
+ghost use Rattle.compact_str.specs.Kept.{kept_by};
+ghost use Rattle.compact_str.specs.Ranges.{IsRange, range_start, range_end};
+
+use compact_str::{CompactString, ReserveError};
+use std::ops::Bound;
+
+/// Moves a range of one text to the end of another, and goes on with the first: where the range was taken out, a mark is
+/// appended.
+#[tactic(auto, using(compact_str::proofs::ForCallers::for_callers))]
+pub fn move_range(
+    from: &mut CompactString,
+    start: Bound<usize>,
+    end: Bound<usize>,
+    to: &mut CompactString,
+) -> Result<(), ReserveError>
+    requires { IsRange from.old.text start end }
+    ensures moved { OnOk result (to.new.text ≡ to.old.text ++ middle from.old.text (range_start start) (range_end from.old.text end)) }
+    ensures left { OnOk result (from.new.text ≡ replaced_text from.old.text (range_start start) (range_end from.old.text end) [] ++ 46 ∷ []) }
+{
+    let drained = from.drain(start, end)?;
+    to.push_str(drained.as_str())?;
+    drop(drained);
+    from.push('.')
+}
+
+/// Takes a range out, of which it answers the last character.
+#[tactic(auto, using(compact_str::proofs::ForCallers::for_callers))]
+pub fn take_range(
+    value: &mut CompactString,
+    start: Bound<usize>,
+    end: Bound<usize>,
+) -> Result<Option<char>, ReserveError>
+    requires { IsRange value.old.text start end }
+    ensures left { OnOk result (value.new.text ≡ replaced_text value.old.text (range_start start) (range_end value.old.text end) []) }
+    ensures unchanged { OnErr result (value.new ≡ value.old) }
+{
+    let mut drained = value.drain(start, end)?;
+    let _first = drained.next();
+    Ok(drained.next_back())
+}
+
+/// A name in small letters.
+pub fn folded(name: &CompactString) -> Result<CompactString, ReserveError>
+    ensures { IfOk result (λ small. small.text ≡ ascii_lowercase name.now.text) }
+{
+    name.to_ascii_lowercase()
+}
+
+/// Takes every space out.
+pub fn without_spaces(line: &mut CompactString) -> Result<(), ReserveError>
+    ensures text { OnOk result (line.new.text ≡ filter (λ c. not (c == 32)) line.old.text) }
+    ensures unchanged { OnErr result (line.new ≡ line.old) }
+{
+    line.retain(|character| character != ' ')
+}
+
+/// Keeps every second character, from the first on.
+pub fn every_second(line: &mut CompactString) -> Result<(), ReserveError>
+    ensures text { OnOk result (line.new.text ≡ kept_by (λ skip c. (not skip, not skip)) false line.old.text) }
+    ensures unchanged { OnErr result (line.new ≡ line.old) }
+{
+    let mut skip = false;
+    line.retain(|_| {
+        let keep = !skip;
+        skip = keep;
+        keep
+    })
+}
