@@ -215,11 +215,7 @@ impl HeapBuffer {
     pub fn zeroize(&mut self)
         ensures { self.new ≡ record { text = []; capacity = self.old.capacity } }
     {
-        let HeapBuffer {
-            bytes,
-            len,
-            capacity: _,
-        } = self;
+        let HeapBuffer { bytes, len } = self;
         wipe(bytes);
         *len = 0;
     }
@@ -239,6 +235,7 @@ impl HeapBuffer {
     {
         make_uppercase(&mut self.bytes, self.len);
     }
+
     /// Keeps the characters for which `keep`, asked once of each in order, answers true, and the capacity.
     #[inline]
     pub fn retain<F: FnMut(char) -> bool>(&mut self, keep: F)

@@ -201,6 +201,7 @@ impl InlineBuffer {
     {
         rows::make_uppercase(&mut self.bytes, self.len);
     }
+
     /// Keeps the characters for which `keep`, asked once of each in order, answers true.
     #[inline]
     pub fn retain<F: FnMut(char) -> bool>(&mut self, keep: F)

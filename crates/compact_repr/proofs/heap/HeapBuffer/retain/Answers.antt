@@ -7,4 +7,4 @@ pub returns-clause-fits : goal.returns-clause-fits
 returns-clause-fits g c =
     let kept = c.retain-self-inside in
     let stands = size-front kept.new.bytes.items kept.result refl kept.ensures.utf8 (omega (arith, kept.ensures.within, kept.ensures.same, c.self.invariant.1)) in
-    omega (arith, stands, kept.ensures.within, shown-capacity _ c.self.view_is, c.self.invariant.1, c.self.invariant.2)
+    omega (arith, stands, kept.ensures.within, shown-capacity _ c.self.view_is, c.self.invariant.1, c.self.inside.bytes.ok.0, c.self.inside.bytes.ok.1)
