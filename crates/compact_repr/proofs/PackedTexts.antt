@@ -61,6 +61,15 @@ len-short : (bytes : List ℕ) (n : ℕ) → get_or bytes 23 0 ≡ 192 + n → p
 len-short bytes n last =
     cond-false _ _ _ (le-ltb (get_or bytes 23 0) 192 (omega (arith, last))) ∙ omega (arith, last)
 
+-- and where it is below 24, the last byte is 192 and it
+pub last-short : (bytes : List ℕ) → packed_len bytes < 24 → get_or bytes 23 0 ≡ 192 + packed_len bytes
+last-short bytes short =
+    ⊎_elim
+    (λ (low : get_or bytes 23 0 < 192). let e = len-full bytes low in absurd (omega (arith, e, short)))
+    (λ (high : 192 ≤ get_or bytes 23 0).
+    let e : packed_len bytes ≡ get_or bytes 23 0 - 192 = cond-false _ _ _ (le-ltb (get_or bytes 23 0) 192 high) in omega (arith, e, high))
+    (cases_lt (get_or bytes 23 0) 192)
+
 pub len-most : (bytes : List ℕ) → get_or bytes 23 0 ≤ 215 → packed_len bytes ≤ 24
 len-most bytes within =
     ⊎_elim

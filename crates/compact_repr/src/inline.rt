@@ -61,25 +61,28 @@ fn mark(bytes: &mut [u8; 24], len: usize)
     }
 }
 
-/// The row with the length of the text that stands first, which is shorter than the row, written in whole words.
+/// The row with the last byte that tells the length of the text that stands first, which is shorter than the row. All of
+/// it is written in whole words.
 #[inline(always)]
-fn ended(row: &[u8; 24], len: usize) -> [u8; 24]
+fn ended(row: &[u8; 24], len: usize, last: u8) -> [u8; 24]
     requires short { len < 24 }
+    requires last { last ≡ 192 + len }
     requires text { IsUtf8 (take len row.now) }
     ensures { IsPackedFor result (text_of (take len row.now)) }
 {
-    with_last_byte(row, 192 + len as u8)
+    with_last_byte(row, last)
 }
 
 /// The same of a text that may be all of the row, which then stays as it is.
 #[inline(always)]
-fn marked(row: &[u8; 24], len: usize) -> [u8; 24]
+fn marked(row: &[u8; 24], len: usize, last: u8) -> [u8; 24]
     requires fits { len ≤ 24 }
+    requires last { last ≡ 192 + len }
     requires text { IsUtf8 (take len row.now) }
     ensures { IsPackedFor result (text_of (take len row.now)) }
 {
     if len < INLINE_CAPACITY {
-        ended(row, len)
+        ended(row, len, last)
     } else {
         *row
     }
@@ -187,8 +190,10 @@ impl InlineBuffer {
         if len >= INLINE_CAPACITY {
             return false;
         }
+        // The next edit waits for the last byte, so the new one is made of the old one and not of the length.
+        let last = self.bytes[INLINE_CAPACITY - 1];
         let row = insert_byte(&self.bytes, index, byte);
-        self.bytes = marked(&row, len + 1);
+        self.bytes = marked(&row, len + 1, last + 1);
         true
     }
 
@@ -201,8 +206,13 @@ impl InlineBuffer {
         ensures within { size self.new ≤ 24 }
     {
         let len = length_of(&self.bytes);
+        let last = if len < INLINE_CAPACITY {
+            self.bytes[INLINE_CAPACITY - 1]
+        } else {
+            GREATEST_LAST_BYTE + 1
+        };
         let row = remove_byte(&self.bytes, index);
-        self.bytes = ended(&row, len - 1);
+        self.bytes = ended(&row, len - 1, last - 1);
     }
 
     /// Keeps the first `len` bytes, which end at a boundary.

@@ -2,7 +2,7 @@ use Rattle.std.proofs.Common.{◌∙◌, arith}
 use Rattle.compact_repr.proofs.Cuts.{boundary-within}
 use Rattle.compact_repr.proofs.Ascii.{ascii-inserted, utf8-ascii-inserted}
 use Rattle.compact_repr.proofs.ReplacedRows.{word-byte-in}
-use Rattle.compact_repr.proofs.PackedTexts.{packed-text}
+use Rattle.compact_repr.proofs.PackedTexts.{packed-text, packed-again}
 use Rattle.compact_repr.proofs.PackedEdits.{len-seen, utf8-seen}
 use Rattle.compact_repr.proofs.inline.InlineBuffer.insert_ascii.Goals as goal
 
@@ -20,3 +20,6 @@ returns-clause-inserted c _ =
     let bytes = word-byte-in c.self.inside.bytes c.insert_byte-row.result c.args.byte c.length_of-len.result c.args.index (omega (arith, stands, within, c.length_of-len.ensures)) c.if-len-ge-INLINE_CAPACITY.false c.self.told c.insert_byte-row.ensures in
     packed-text _ _ c.marked-self-inside.ensures
     ∙ rw (bytes, c.length_of-len.ensures) (ascii-inserted _ c.args.index c.args.byte c.self.view_is (utf8-seen _ c.self.invariant) c.requires.ascii c.requires.boundary)
+
+pub invariant_of-self : goal.invariant_of-self
+invariant_of-self c = packed-again _ _ c.marked-self-inside.ensures
