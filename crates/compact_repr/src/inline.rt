@@ -41,12 +41,8 @@ fn length_of(bytes: &[u8; 24]) -> usize
     requires { packed_len bytes.now ≤ 24 }
     ensures { result ≡ packed_len bytes.now }
 {
-    let len = bytes[INLINE_CAPACITY - 1].wrapping_sub(192);
-    if len < 24 {
-        len as usize
-    } else {
-        INLINE_CAPACITY
-    }
+    let len = usize::from(bytes[INLINE_CAPACITY - 1]).wrapping_sub(192);
+    if len < 24 { len } else { INLINE_CAPACITY }
 }
 
 /// Writes the length of the text that stands first. A text of 24 bytes leaves no place for it, and needs none.
