@@ -1,8 +1,8 @@
 -- A row of three words whose last byte is the length of what it holds.
-use Rattle.std.proofs.Common.{◌≡◌, ℕ, ◌+◌, ◌-◌, ◌*◌, ◌^◌, ◌<◌, ◌≤◌, List, [], ◌∷◌, ◌++◌, length, take, drop, ap, sym, ◌∙◌, arith, length-append, append_assoc, ⊎_elim}
+use Rattle.std.proofs.Common.{◌≡◌, ℕ, ◌+◌, ◌-◌, ◌*◌, ◌^◌, ◌<◌, ◌≤◌, List, [], ◌∷◌, ◌++◌, length, take, drop, get_or, ap, sym, ◌∙◌, arith, length-append, append_assoc, ⊎_elim}
 use Rattle.std.specs.Prelude.{replicate, bit_or, nat_lt, if◌then◌else◌}
 use Rattle.std.proofs.lemmas.Bool.{lt-ltb, le-ltb, cond-true, cond-false, cases_lt}
-use Rattle.std.proofs.lemmas.List.{append-nil, length-drop, length-take-le, take-replicate}
+use Rattle.std.proofs.lemmas.List.{append-nil, length-drop, length-take-le, take-replicate, get_or-drop, get_or-take}
 use Rattle.std.proofs.Math.Nat.{pow-le-pow_right}
 use Rattle.std.proofs.Math.Seq.{take-append-add}
 use Rattle.compact_repr.specs.Words.{number, bytes_of}
@@ -90,3 +90,13 @@ other_last xs x y z last long first second third =
     let front : x ++ y ++ take 7 z ≡ take 23 xs =
     sym (take-append-add (x ++ y) z 7) ∙ ap (λ (n : ℕ). take n (x ++ y ++ z)) two ∙ ap (take 23) row in
     sym (append_assoc (x ++ y) (take 7 z) (last ∷ [])) ∙ ap (λ (ys : List ℕ). ys ++ last ∷ []) front
+
+-- the last byte of the third word is that of the row
+pub last_of_row : (xs word : List ℕ) (last : ℕ) → word ≡ take 8 (drop 16 xs) → drop 7 word ≡ last ∷ [] → last ≡ get_or xs 23 0
+last_of_row xs word last is e =
+    let read : get_or (drop 7 word) 0 0 ≡ last = ap (λ (ys : List ℕ). get_or ys 0 0) e in
+    sym read
+    ∙ get_or-drop 7 word 0 0
+    ∙ ap (λ (ys : List ℕ). get_or ys 7 0) is
+    ∙ get_or-take 8 (drop 16 xs) 7 0 (omega arith)
+    ∙ get_or-drop 16 xs 7 0

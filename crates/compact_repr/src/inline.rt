@@ -8,7 +8,7 @@ ghost use Rattle.compact_repr.specs.Cut.{IsBoundary, before, replaced_text};
 ghost use Rattle.compact_repr.specs.Packed.{IsPackedFor, packed_len};
 
 use crate::rows;
-use crate::words::{insert_byte, pack, remove_byte, with_last_byte};
+use crate::words::{insert_byte, last_of, pack, remove_byte, with_last_byte};
 use std::marker::Model;
 
 /// The most bytes that stand inline.
@@ -187,7 +187,7 @@ impl InlineBuffer {
             return false;
         }
         // The next edit waits for the last byte, so the new one is made of the old one and not of the length.
-        let last = self.bytes[INLINE_CAPACITY - 1];
+        let last = last_of(&self.bytes);
         let row = insert_byte(&self.bytes, index, byte);
         self.bytes = marked(&row, len + 1, last + 1);
         true
@@ -203,7 +203,7 @@ impl InlineBuffer {
     {
         let len = length_of(&self.bytes);
         let last = if len < INLINE_CAPACITY {
-            self.bytes[INLINE_CAPACITY - 1]
+            last_of(&self.bytes)
         } else {
             GREATEST_LAST_BYTE + 1
         };

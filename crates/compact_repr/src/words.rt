@@ -1,7 +1,7 @@
 //! Rows of 24 bytes as three words: each read and each write is of a whole word, and no loop goes over bytes.
 #![tactic(auto)]
 
-ghost use Rattle.std.specs.Prelude.{◌≡◌, ◌+◌, ◌-◌, ◌*◌, ◌^◌, ◌≤◌, ◌<◌, [], ◌∷◌, ◌++◌, length, take, drop, nat_lt, if◌then◌else◌, bit_or};
+ghost use Rattle.std.specs.Prelude.{◌≡◌, ◌+◌, ◌-◌, ◌*◌, ◌^◌, ◌≤◌, ◌<◌, [], ◌∷◌, ◌++◌, length, take, drop, slice_index, nat_lt, if◌then◌else◌, bit_or};
 ghost use Rattle.compact_repr.specs.Words.{number, bytes_of};
 ghost use Rattle.compact_repr.specs.Packed.{packed_bytes};
 
@@ -165,6 +165,14 @@ pub fn pack(text: &[u8]) -> [u8; 24]
     } else {
         row_of_words(short(text), 0, with_length(0, len))
     }
+}
+
+/// The last byte of a row, of its last word, so that who reads the word for more reads it once.
+#[inline(always)]
+pub fn last_of(row: &[u8; 24]) -> u8
+    ensures { result ≡ slice_index row.now 23 }
+{
+    last_byte(load8(row, 16))
 }
 
 /// The row with another last byte. It is written in whole words: a word that is read after one of its bytes was written
