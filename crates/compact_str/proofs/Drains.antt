@@ -137,6 +137,14 @@ owned-without g v u i j o own order h k =
     let range : may_cut_out u.text i j ≡ true = ap (λ (t : List ℕ). may_cut_out t i j) text ∙ may_cut_out-range v.text i j order h k in
     cond-true _ _ _ (and_from _ _ (ap not own) range) ∙ ap (λ (t : List ℕ). placed (replaced_text t i j []) u.placement) text
 
+-- a value that is not static is none without a range
+pub without-owned : (v : PlacedText) (i j : ℕ) → is_static v.placement.place ≡ false → is_static (without_part v i j).placement.place ≡ false
+without-owned v i j own =
+    ⊎_elim
+    (λ yes. ap (λ (w : PlacedText). is_static w.placement.place) (cond-true _ _ _ yes) ∙ own)
+    (λ no. ap (λ (w : PlacedText). is_static w.placement.place) (cond-false _ _ _ no) ∙ own)
+    (cases_Bool (not (is_static v.placement.place) && may_cut_out v.text i j))
+
 -- what is left once a range is taken out has no more bytes, and where it has as many it is the same
 without-text : (t : List ℕ) (i j : ℕ) → may_cut_out t i j ≡ true → size t ≤ size (replaced_text t i j []) → replaced_text t i j [] ≡ t
 without-text t i j can same =

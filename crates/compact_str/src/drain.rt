@@ -1,16 +1,17 @@
 //! A range of a value that is taken out, character by character.
-ghost use Rattle.std.specs.Prelude.{◌≡◌, ℕ, ◌≤◌, List, length, [], Some, IfOk, OnErr, IsOk, IsTrue, true};
+ghost use Rattle.std.specs.Prelude.{◌≡◌, ℕ, ◌≤◌, List, length, [], Some, IfOk, OnErr, IsOk, IsTrue, true, false};
 ghost use Rattle.std.specs.Borrow.{sem, RestsIfErr};
 ghost use Rattle.compact_repr.specs.Text.{size, utf8, text_of};
 ghost use Rattle.compact_repr.specs.Cut.{middle, replaced_text};
 ghost use Rattle.compact_repr.specs.Capacity.{own_asks};
+ghost use Rattle.compact_repr.specs.Value.{is_static};
 ghost use Rattle.compact_repr.specs.Change.{replaced};
 ghost use Rattle.compact_str.specs.Room.{IsOwned};
 ghost use Rattle.compact_str.specs.Ranges.{IsRange, range_start, range_end};
 ghost use Rattle.compact_str.specs.Drains.{may_cut_out};
 
 use crate::string::PolicyString;
-use crate::string::part::part;
+use crate::string::part::rare_part;
 use crate::string::position::ends;
 use compact_repr::{Policy, ReserveError, first_char, last_char, middle};
 use std::fmt;
@@ -31,6 +32,7 @@ pub struct Drain<'a, P: Policy> {
     // What of the range is not yet taken.
     front: usize,
     back: usize,
+    ghost owned: { is_static value.now.placement.place ≡ false },
     ghost within: { size value.now.text ≤ whole },
     // So a step need not test whether these are boundaries.
     ghost range: { size value.now.text ≡ whole → may_cut_out value.now.text front back ≡ true },
@@ -74,7 +76,8 @@ impl<P: Policy> PolicyString<P> {
     /// The characters from one position to another, in bytes, which are taken out when the answer is dropped.
     #[inline]
     fn drain_between(&mut self, start: usize, end: usize) -> Drain<'_, P>
-        requires { may_cut_out self.old.text start end ≡ true }
+        requires owned { is_static self.old.placement.place ≡ false }
+        requires range { may_cut_out self.old.text start end ≡ true }
         ensures same_reference { drain_lender result ≡ self.entry.ghost_name }
         ensures rest { drain_rest result ≡ part self.old.text start end }
         ensures leaves { drain_leaves result ≡ without_part self.old start end }
@@ -101,11 +104,11 @@ impl<P: Policy> Drain<'_, P> {
         ensures text { text_of result.now ≡ drain_rest self.now }
         ensures len { length result.now ≡ size (drain_rest self.now) }
     {
-        let text = self.value.as_str();
+        let text = self.value.owned_str();
         if text.len() == self.whole {
             middle(text, self.front, self.back)
         } else {
-            part(text, self.front, self.back)
+            rare_part(text, self.front, self.back)
         }
     }
 }

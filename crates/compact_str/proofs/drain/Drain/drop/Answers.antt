@@ -1,7 +1,7 @@
 use Rattle.std.proofs.Common.{◌≡◌, ◌≤◌, arith, true, sym, subst, List, ℕ}
 use Rattle.compact_repr.specs.Text.{size}
 use Rattle.compact_str.specs.Drains.{may_cut_out, without_part}
-use Rattle.compact_str.proofs.Drains.{without-same, without-within}
+use Rattle.compact_str.proofs.Drains.{without-owned, without-same, without-within}
 use Rattle.compact_str.proofs.drain.Drain.drop.Goals as goal
 
 pub invariant_of-self : goal.invariant_of-self
@@ -12,6 +12,7 @@ invariant_of-self g c =
     let less = without-within v i j in
     let within = c.args.self.within in
     rw c.take_out.ensures record {
+      owned = without-owned v i j c.args.self.owned;
       within = omega (arith, less, within);
       range = λ whole.
           let same = without-same v i j (omega (arith, whole, within)) in

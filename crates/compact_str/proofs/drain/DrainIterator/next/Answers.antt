@@ -38,4 +38,4 @@ invariant_of-self g c =
     let d = c.args.self.now in
     let first = c.in_ok-character.ensures.1 in
     let split : drain_rest d ≡ c.in_ok-character.character ∷ first.0 = sym c.as_str.ensures.text ∙ first.1 in
-    record { within = d.within; range = λ _. rw c.in_ok-character.ensures.0 (front-range d.value.now.text first.0 d.front d.back c.in_ok-character.character split) }
+    record { owned = d.owned; within = d.within; range = λ _. rw c.in_ok-character.ensures.0 (front-range d.value.now.text first.0 d.front d.back c.in_ok-character.character split) }
