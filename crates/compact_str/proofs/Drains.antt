@@ -1,5 +1,5 @@
 -- Parts of a text, and how they are taken out.
-use Rattle.std.proofs.Common.{◌≡◌, Some, ℕ, ◌+◌, ◌-◌, ◌*◌, ◌<◌, ◌≤◌, List, [], ◌∷◌, ◌++◌, Bool, true, false, not, IsTrue, ◌↔◌, length, refl, ap, sym, ◌∙◌, subst, arith, append_assoc, length-append, ⊎_elim}
+use Rattle.std.proofs.Common.{◌≡◌, Some, ℕ, ◌+◌, ◌-◌, ◌*◌, ◌<◌, ◌≤◌, List, [], ◌∷◌, ◌++◌, Bool, true, false, not, IsTrue, ◌↔◌, ◌&&◌, length, refl, ap, sym, ◌∙◌, subst, arith, append_assoc, append-nil, length-append, ⊎_elim}
 use Rattle.std.proofs.lemmas.Grind.{common_steps}
 use Rattle.std.proofs.lemmas.Bool.{cases_Bool, cond-true, cond-false, true≢false, le-leb, leb-true, eq-eqb, eqb-true, ne_eqb, and_parts, and_from}
 use Rattle.std.proofs.lemmas.Str.{len_utf8_bounds}
@@ -10,7 +10,7 @@ use Rattle.compact_repr.specs.Value.{Place, inline, heap, static, IsCapacityOf, 
 use Rattle.compact_repr.specs.Capacity.{Growth, owned}
 use Rattle.compact_repr.specs.Change.{made_owned, replaced}
 use Rattle.compact_repr.proofs.Texts.{size-append}
-use Rattle.compact_repr.proofs.Cuts.{before-after, size-before, boundary-from_size, boundary-within}
+use Rattle.compact_repr.proofs.Cuts.{before-after, size-before, size-replaced, boundary-from_size, boundary-within}
 use Rattle.compact_repr.proofs.Middles.{middle-parts, parts-middle}
 use Rattle.compact_str.specs.Drains.{may_cut, may_cut_out, part, without_part}
 use Rattle.compact_str.proofs.Letters.{made_owned-text}
@@ -53,6 +53,11 @@ range-may_cut_out t i j e =
 
 pub part-range : (t : List ℕ) (i j : ℕ) → i ≤ j → IsBoundary t i → IsBoundary t j → part t i j ≡ middle t i j
 part-range t i j order h k = cond-true _ _ _ (may_cut_out-range t i j order h k)
+
+of-range : (t a m b : List ℕ) (i j : ℕ) → t ≡ a ++ m ++ b → size a ≡ i → size a + size m ≡ j → may_cut_out t i j ≡ true
+of-range t a m b i j e first last =
+    let three = parts-middle t a m b i j e first last in
+    may_cut_out-range t i j (omega (arith, first, last)) three.0 three.1
 
 -- the second of three parts, and a part that is not empty, are each the other
 part-of : (t a m b : List ℕ) (i j : ℕ) → t ≡ a ++ m ++ b → size a ≡ i → size a + size m ≡ j → part t i j ≡ m
@@ -102,6 +107,28 @@ part-back t r front back c e =
     three.0 ∙ ap (λ (l : List ℕ). l ++ after t back) (sym (append_assoc (before t front) r (c ∷ []))) ∙ append_assoc (before t front ++ r) (c ∷ []) (after t back) in
     (part-of t (before t front) r (c ∷ [] ++ after t back) front (back - len_utf8 c) parts three.1 (omega (arith, whole, three.1, three.2)), omega (arith, whole, three.1, three.2))
 
+-- what is left is a range
+pub front-range : (t r : List ℕ) (front back c : ℕ) → part t front back ≡ c ∷ r → may_cut_out t (front + len_utf8 c) back ≡ true
+front-range t r front back c e =
+    let three = of-part t (c ∷ r) front back e (some-front r c) in
+    let parts : t ≡ (before t front ++ c ∷ []) ++ r ++ after t back =
+    three.0 ∙ ap (λ (l : List ℕ). l ++ after t back) (sym (append_assoc (before t front) (c ∷ []) r)) in
+    let first : size (before t front ++ c ∷ []) ≡ front + len_utf8 c = size-append (before t front) (c ∷ []) ∙ omega (arith, three.1) in
+    of-range t (before t front ++ c ∷ []) r (after t back) (front + len_utf8 c) back parts first (omega (arith, first, three.1, three.2))
+
+pub back-range : (t r : List ℕ) (front back c : ℕ) → part t front back ≡ r ++ c ∷ [] → may_cut_out t front (back - len_utf8 c) ≡ true
+back-range t r front back c e =
+    let three = of-part t (r ++ c ∷ []) front back e (some-back r c) in
+    let whole = size-append r (c ∷ []) in
+    let parts : t ≡ before t front ++ r ++ (c ∷ [] ++ after t back) =
+    three.0 ∙ ap (λ (l : List ℕ). l ++ after t back) (sym (append_assoc (before t front) r (c ∷ []))) ∙ append_assoc (before t front ++ r) (c ∷ []) (after t back) in
+    of-range t (before t front) r (c ∷ [] ++ after t back) front (back - len_utf8 c) parts three.1 (omega (arith, whole, three.1, three.2))
+
+-- a range is one still in the value that is made owned
+pub owned-range : (g : Growth) (v u : PlacedText) (i j : ℕ) → made_owned g v ≡ Some u → i ≤ j → IsBoundary v.text i → IsBoundary v.text j → may_cut_out u.text i j ≡ true
+owned-range g v u i j o order h k =
+    ap (λ (t : List ℕ). may_cut_out t i j) (made_owned-text g v u o) ∙ may_cut_out-range v.text i j order h k
+
 -- a value that is made owned and then loses a range
 pub owned-without : (g : Growth) (v u : PlacedText) (i j : ℕ) → made_owned g v ≡ Some u → is_static u.placement.place ≡ false → i ≤ j → IsBoundary v.text i → IsBoundary v.text j
     → without_part u i j ≡ placed (replaced_text v.text i j []) u.placement
@@ -109,6 +136,41 @@ owned-without g v u i j o own order h k =
     let text = made_owned-text g v u o in
     let range : may_cut_out u.text i j ≡ true = ap (λ (t : List ℕ). may_cut_out t i j) text ∙ may_cut_out-range v.text i j order h k in
     cond-true _ _ _ (and_from _ _ (ap not own) range) ∙ ap (λ (t : List ℕ). placed (replaced_text t i j []) u.placement) text
+
+-- a value that is not static is none without a range
+pub without-owned : (v : PlacedText) (i j : ℕ) → is_static v.placement.place ≡ false → is_static (without_part v i j).placement.place ≡ false
+without-owned v i j own =
+    ⊎_elim
+    (λ yes. ap (λ (w : PlacedText). is_static w.placement.place) (cond-true _ _ _ yes) ∙ own)
+    (λ no. ap (λ (w : PlacedText). is_static w.placement.place) (cond-false _ _ _ no) ∙ own)
+    (cases_Bool (not (is_static v.placement.place) && may_cut_out v.text i j))
+
+-- what is left once a range is taken out has no more bytes, and where it has as many it is the same
+without-text : (t : List ℕ) (i j : ℕ) → may_cut_out t i j ≡ true → size t ≤ size (replaced_text t i j []) → replaced_text t i j [] ≡ t
+without-text t i j can same =
+    let range = range-may_cut_out t i j can in
+    let sizes = size-replaced t [] i j range.1 range.2 range.0 in
+    let empty : j ≡ i = omega (arith, sizes, same, range.0) in
+    rw empty (ap (λ (l : List ℕ). l ++ after t i) (append-nil (before t i)) ∙ sym (before-after t i))
+
+pub without-same : (v : PlacedText) (i j : ℕ) → size v.text ≤ size (without_part v i j).text → (without_part v i j).text ≡ v.text
+without-same v i j same =
+    ⊎_elim
+    (λ yes.
+    let is = cond-true _ _ _ yes in
+    ap (λ (w : PlacedText). w.text) is ∙ without-text v.text i j (and_parts _ _ yes).1 (subst (λ (w : PlacedText). size v.text ≤ size w.text) is same))
+    (λ no. ap (λ (w : PlacedText). w.text) (cond-false _ _ _ no))
+    (cases_Bool (not (is_static v.placement.place) && may_cut_out v.text i j))
+
+pub without-within : (v : PlacedText) (i j : ℕ) → size (without_part v i j).text ≤ size v.text
+without-within v i j =
+    ⊎_elim
+    (λ yes.
+    let range = range-may_cut_out v.text i j (and_parts _ _ yes).1 in
+    let sizes = size-replaced v.text [] i j range.1 range.2 range.0 in
+    subst (λ (w : PlacedText). size w.text ≤ size v.text) (sym (cond-true _ _ _ yes)) (omega (arith, sizes)))
+    (λ no. subst (λ (w : PlacedText). size w.text ≤ size v.text) (sym (cond-false _ _ _ no)) (omega arith))
+    (cases_Bool (not (is_static v.placement.place) && may_cut_out v.text i j))
 
 pub drained : (g : Growth) (v u : PlacedText) (i j : ℕ) → made_owned g v ≡ Some u → is_static u.placement.place ≡ false → i ≤ j → IsBoundary v.text i → IsBoundary v.text j → replaced g v i j [] ≡ Some (without_part u i j)
 drained g v u i j o own order h k = rw (made_owned-placement g v u o, le-leb 0 (j - i) (omega arith), owned-without g v u i j o own order h k) refl

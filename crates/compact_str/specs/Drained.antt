@@ -2,30 +2,31 @@
 use Rattle.std.specs.Prelude.{◌≡◌, ℕ, List, [], ◌∷◌, ◌++◌, Option, MatchOption}
 use Rattle.std.specs.Borrow.{GName}
 use Rattle.compact_repr.specs.Value.{PlacedText}
+use Rattle.compact_repr.specs.declared.policy.Policy.{Ghosts}
 use Rattle.compact_str.specs.Drains.{part, without_part}
 use Rattle.compact_str.specs.declared.drain.Drain.{Drain}
 
-module _ {P : Type 0} where
+module _ {P : Type 0} {G : Ghosts P} where
   -- the characters that are not yet taken
-  abbrev pub drain_rest : Drain P → List ℕ
+  abbrev pub drain_rest : Drain P G → List ℕ
   drain_rest d = part d.value.now.text d.front d.back
 
   -- what the lender is once the drain is dropped
-  abbrev pub drain_leaves : Drain P → PlacedText
+  abbrev pub drain_leaves : Drain P G → PlacedText
   drain_leaves d = without_part d.value.now d.start d.end
 
   -- who the lender is
-  abbrev pub drain_lender : Drain P → GName
+  abbrev pub drain_lender : Drain P G → GName
   drain_lender d = d.value.ghost_name
 
   -- a step from the front takes the first character; at the end there is none, and none is left
-  pub record DrainsFront (old : Drain P) (item : Option ℕ) (new : Drain P) : Type 0 where
+  pub record DrainsFront (old : Drain P G) (item : Option ℕ) (new : Drain P G) : Type 0 where
     pub lender : drain_lender new ≡ drain_lender old
     pub leaves : drain_leaves new ≡ drain_leaves old
     pub step : MatchOption item ((drain_rest old ≡ []) × (drain_rest new ≡ [])) (λ c. drain_rest old ≡ c ∷ drain_rest new)
 
   -- and a step from the back the last
-  pub record DrainsBack (old : Drain P) (item : Option ℕ) (new : Drain P) : Type 0 where
+  pub record DrainsBack (old : Drain P G) (item : Option ℕ) (new : Drain P G) : Type 0 where
     pub lender : drain_lender new ≡ drain_lender old
     pub leaves : drain_leaves new ≡ drain_leaves old
     pub step : MatchOption item ((drain_rest old ≡ []) × (drain_rest new ≡ [])) (λ c. drain_rest old ≡ drain_rest new ++ c ∷ [])

@@ -1,20 +1,19 @@
 //! A range of a value that is taken out, character by character.
-ghost use Rattle.std.specs.Prelude.{◌≡◌, ℕ, ◌≤◌, List, length, [], Some, IfOk, OnErr, IsOk, IsTrue};
+ghost use Rattle.std.specs.Prelude.{◌≡◌, ℕ, ◌≤◌, List, length, [], Some, IfOk, OnErr, IsOk, IsTrue, true, false};
 ghost use Rattle.std.specs.Borrow.{sem, RestsIfErr};
 ghost use Rattle.compact_repr.specs.Text.{size, utf8, text_of};
 ghost use Rattle.compact_repr.specs.Cut.{middle, replaced_text};
 ghost use Rattle.compact_repr.specs.Capacity.{own_asks};
+ghost use Rattle.compact_repr.specs.Value.{is_static};
 ghost use Rattle.compact_repr.specs.Change.{replaced};
 ghost use Rattle.compact_str.specs.Room.{IsOwned};
 ghost use Rattle.compact_str.specs.Ranges.{IsRange, range_start, range_end};
-ghost use Rattle.compact_str.specs.Drains.{part, without_part};
-ghost use Rattle.compact_str.specs.Drained.{drain_rest, drain_leaves, drain_lender};
-ghost use Rattle.compact_str.specs.contracts.string.PolicyString.{the_row};
+ghost use Rattle.compact_str.specs.Drains.{may_cut_out};
 
 use crate::string::PolicyString;
-use crate::string::part::part;
+use crate::string::part::rare_part;
 use crate::string::position::ends;
-use compact_repr::{Policy, ReserveError, first_char, last_char};
+use compact_repr::{Policy, ReserveError, first_char, last_char, middle};
 use std::fmt;
 use std::fmt::{Debug, Display, Formatter, Write};
 use std::iter::FusedIterator;
@@ -28,12 +27,22 @@ pub struct Drain<'a, P: Policy> {
     // The range, in bytes.
     start: usize,
     end: usize,
-    // What of it is not yet taken.
+    // The bytes of the text, until the range is taken out.
+    whole: usize,
+    // What of the range is not yet taken.
     front: usize,
     back: usize,
+    ghost owned: { is_static value.now.placement.place ≡ false },
+    ghost within: { size value.now.text ≤ whole },
+    // So a step need not test whether these are boundaries.
+    ghost range: { size value.now.text ≡ whole → may_cut_out value.now.text front back ≡ true },
 }
 
 impl<P: Policy> PolicyString<P> {
+    ghost use Rattle.compact_str.specs.Drains.{part, without_part};
+    ghost use Rattle.compact_str.specs.Drained.{drain_rest, drain_leaves, drain_lender};
+    ghost use Rattle.compact_str.specs.contracts.string.PolicyString.{the_row};
+
     /// Takes a range out: answers its characters, and the drop of the answer leaves what stood before and after it. A
     /// static value becomes its own first, for an empty range too.
     ///
@@ -67,14 +76,18 @@ impl<P: Policy> PolicyString<P> {
     /// The characters from one position to another, in bytes, which are taken out when the answer is dropped.
     #[inline]
     fn drain_between(&mut self, start: usize, end: usize) -> Drain<'_, P>
+        requires owned { is_static self.old.placement.place ≡ false }
+        requires range { may_cut_out self.old.text start end ≡ true }
         ensures same_reference { drain_lender result ≡ self.entry.ghost_name }
         ensures rest { drain_rest result ≡ part self.old.text start end }
         ensures leaves { drain_leaves result ≡ without_part self.old start end }
     {
+        let whole = self.len();
         Drain {
             value: self,
             start,
             end,
+            whole,
             front: start,
             back: end,
         }
@@ -82,14 +95,21 @@ impl<P: Policy> PolicyString<P> {
 }
 
 impl<P: Policy> Drain<'_, P> {
+    ghost use Rattle.compact_str.specs.Drained.{drain_rest};
+
     /// What is not yet taken.
-    #[inline]
+    #[inline(always)]
     pub fn as_str(&self) -> &str
         ensures bytes { result.now ≡ utf8 (drain_rest self.now) }
         ensures text { text_of result.now ≡ drain_rest self.now }
         ensures len { length result.now ≡ size (drain_rest self.now) }
     {
-        part(self.value.as_str(), self.front, self.back)
+        let text = self.value.owned_str();
+        if text.len() == self.whole {
+            middle(text, self.front, self.back)
+        } else {
+            rare_part(text, self.front, self.back)
+        }
     }
 }
 
@@ -104,7 +124,7 @@ impl<P: Policy> Iterator for Drain<'_, P> {
     ghost remaining = { λ d. at_most (length (drain_rest d)) };
 
     /// The first character that is not yet taken.
-    #[inline]
+    #[inline(always)]
     fn next(&mut self) -> Option<char> {
         // The proof reads from it that the sum below fits.
         let _back = self.back;
@@ -138,6 +158,8 @@ impl<P: Policy> DoubleEndedIterator for Drain<'_, P> {
 impl<P: Policy> FusedIterator for Drain<'_, P> {}
 
 impl<P: Policy> Drop for Drain<'_, P> {
+    ghost use Rattle.compact_str.specs.Drained.{drain_leaves};
+
     /// Takes the whole range out of the value.
     #[inline]
     fn drop(self)
@@ -147,6 +169,7 @@ impl<P: Policy> Drop for Drain<'_, P> {
             value,
             start,
             end,
+            whole: _,
             front: _,
             back: _,
         } = self;

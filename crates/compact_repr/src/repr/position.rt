@@ -1,6 +1,6 @@
 //! What stands at a position of a representation's text, in bytes.
 ghost use Rattle.std.specs.Prelude.{◌≡◌, ◌-◌, ◌<◌, ◌≤◌, ℕ, List, [], ◌∷◌, ◌++◌, length, true, false, IsTrue, ◌↔◌, MatchOption};
-ghost use Rattle.compact_repr.specs.Text.{size, text_of};
+ghost use Rattle.compact_repr.specs.Text.{size, utf8, text_of};
 ghost use Rattle.compact_repr.specs.Cut.{IsBoundary, after, middle};
 ghost use Rattle.compact_repr.specs.Value.{is_static};
 
@@ -9,6 +9,20 @@ use crate::policy::Policy;
 use crate::repr::{Buffer, Repr};
 
 impl<P: Policy> Repr<P> {
+    /// The text of a value that is not static. In a loop it is found out once, and not at each turn, where the text stands.
+    #[inline(always)]
+    pub fn owned_str(&self) -> &str
+        requires { is_static self.now.placement.place ≡ false }
+        ensures bytes { result.now ≡ utf8 self.now.text }
+        ensures text { text_of result.now ≡ self.now.text }
+    {
+        match &self.buffer {
+            Buffer::Inline(inline) => inline.as_str(),
+            Buffer::Heap(heap) => heap.as_str(),
+            Buffer::Static(_) => unreachable!(),
+        }
+    }
+
     /// Whether `index`, in bytes, is between two characters, or at the start or the end.
     #[inline]
     pub fn is_char_boundary(&self, index: usize) -> bool

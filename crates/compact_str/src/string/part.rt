@@ -1,6 +1,7 @@
 //! What stands from one position to another, for any two positions.
-ghost use Rattle.std.specs.Prelude.{◌≡◌, ◌≤◌, [], length};
+ghost use Rattle.std.specs.Prelude.{◌≡◌, ◌≤◌, [], length, false};
 ghost use Rattle.compact_repr.specs.Text.{size, text_of};
+ghost use Rattle.compact_repr.specs.Value.{is_static};
 ghost use Rattle.compact_str.specs.Drains.{may_cut, may_cut_out, part, without_part};
 
 use crate::string::PolicyString;
@@ -35,7 +36,28 @@ fn may_cut(text: &str, index: usize) -> bool
     is_boundary(text, index)
 }
 
+/// As `part`, for what is not expected: it stays out of its caller's loop.
+#[cold]
+#[inline(never)]
+pub fn rare_part(text: &str, start: usize, end: usize) -> &str
+    ensures text { text_of result.now ≡ part (text_of text.now) start end }
+    ensures len { length result.now ≡ size (part (text_of text.now) start end) }
+{
+    part(text, start, end)
+}
+
 impl<P: Policy> PolicyString<P> {
+    /// The text of a value that is not static.
+    #[inline(always)]
+    #[tactic(auto, using(compact_repr::proofs::TextFacts::text_facts))]
+    pub(crate) fn owned_str(&self) -> &str
+        requires { is_static self.now.placement.place ≡ false }
+        ensures text { text_of result.now ≡ self.now.text }
+        ensures len { length result.now ≡ size self.now.text }
+    {
+        self.repr.owned_str()
+    }
+
     /// Takes out what stands from one position to another, in bytes. Where these begin and end no range, or the bytes are
     /// not the value's own, nothing changes.
     #[inline]

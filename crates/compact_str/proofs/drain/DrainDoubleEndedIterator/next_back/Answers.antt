@@ -1,7 +1,7 @@
 use Rattle.std.proofs.Common.{◌≡◌, ◌-◌, ◌∷◌, ◌++◌, [], arith, rules, refl, sym, ap, ◌∙◌, length, length-append}
 use Rattle.compact_str.specs.Drains.{part}
 use Rattle.compact_str.specs.Drained.{drain_rest}
-use Rattle.compact_str.proofs.Drains.{part-back}
+use Rattle.compact_str.proofs.Drains.{part-back, back-range}
 use Rattle.compact_str.proofs.drain.DrainDoubleEndedIterator.next_back.Goals as goal
 
 pub overflow_sub-self : goal.overflow_sub-self
@@ -30,3 +30,10 @@ returns-clause-goes g c =
     let before = ap length split ∙ length-append last.0 (c.in_ok-character.character ∷ []) in
     let after = ap length left in
     search rules
+
+pub invariant_of-self : goal.invariant_of-self
+invariant_of-self g c =
+    let d = c.args.self.now in
+    let last = c.in_ok-character.ensures in
+    let split : drain_rest d ≡ last.0 ++ c.in_ok-character.character ∷ [] = sym c.as_str.ensures.text ∙ last.1 in
+    record { owned = d.owned; within = d.within; range = λ _. rw c.len_utf8.ensures.value (back-range d.value.now.text last.0 d.front d.back c.in_ok-character.character split) }

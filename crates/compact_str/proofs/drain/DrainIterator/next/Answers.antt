@@ -1,7 +1,7 @@
 use Rattle.std.proofs.Common.{◌≡◌, ◌+◌, ◌∷◌, arith, rules, refl, sym, ap, ◌∙◌, length}
 use Rattle.compact_str.specs.Drains.{part}
 use Rattle.compact_str.specs.Drained.{drain_rest}
-use Rattle.compact_str.proofs.Drains.{part-front}
+use Rattle.compact_str.proofs.Drains.{part-front, front-range}
 use Rattle.compact_str.proofs.drain.DrainIterator.next.Goals as goal
 
 pub overflow_add-self : goal.overflow_add-self
@@ -32,3 +32,10 @@ returns-clause-goes g c =
     let before = ap length split in
     let after = ap length left in
     search rules
+
+pub invariant_of-self : goal.invariant_of-self
+invariant_of-self g c =
+    let d = c.args.self.now in
+    let first = c.in_ok-character.ensures.1 in
+    let split : drain_rest d ≡ c.in_ok-character.character ∷ first.0 = sym c.as_str.ensures.text ∙ first.1 in
+    record { owned = d.owned; within = d.within; range = λ _. rw c.in_ok-character.ensures.0 (front-range d.value.now.text first.0 d.front d.back c.in_ok-character.character split) }

@@ -2,8 +2,16 @@ use Rattle.std.proofs.Common.{ℕ, refl, sym, ap, ◌∙◌}
 use mathlib.Core.Option.{some}
 use Rattle.std.specs.Range.Bound.{end_index}
 use Rattle.compact_repr.specs.Value.{PlacedText}
-use Rattle.compact_str.proofs.Drains.{drained, owned-without, part-range}
+use Rattle.compact_str.proofs.Drains.{drained, owned-range, owned-without, part-range}
 use Rattle.compact_str.proofs.string.PolicyString.drain.Goals as goal
+
+pub drain_between-requires-clause-range : goal.drain_between-requires-clause-range
+drain_between-requires-clause-range g c =
+    let own = c.in_ok-make_owned.ensures in
+    let first = c.in-Some.ensures.0 in
+    let last = c.in-Some.ensures.1 ∙ ap (λ (n : ℕ). end_index c.args.end n) c.len.ensures.value in
+    let range = c.requires in
+    rw (first, last) (owned-range g.P.Policy.growth _ _ _ _ own.ok range.order range.first range.last)
 
 pub returns : goal.returns
 returns g c =

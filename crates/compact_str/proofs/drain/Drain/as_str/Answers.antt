@@ -1,0 +1,11 @@
+use Rattle.std.proofs.Common.{arith}
+use Rattle.compact_str.proofs.Drains.{range-may_cut_out}
+use Rattle.compact_str.proofs.drain.Drain.as_str.Goals as goal
+
+pub middle-requires-clause-first : goal.middle-requires-clause-first
+middle-requires-clause-first g c =
+    rw c.owned_str-text.ensures.text (range-may_cut_out _ _ _ (c.args.self.now.range (omega (arith, c.if-text-self.true, c.owned_str-text.ensures.len)))).1
+
+pub middle-requires-clause-last : goal.middle-requires-clause-last
+middle-requires-clause-last g c =
+    rw c.owned_str-text.ensures.text (range-may_cut_out _ _ _ (c.args.self.now.range (omega (arith, c.if-text-self.true, c.owned_str-text.ensures.len)))).2
