@@ -25,12 +25,12 @@ mod lines;
 mod made;
 #[cfg(test)]
 mod memory;
+mod out_callers;
 #[cfg(test)]
 mod packed;
 mod packed_callers;
 #[cfg(test)]
 mod packed_edits;
-mod out_callers;
 mod plain_callers;
 mod policies;
 #[cfg(test)]
@@ -65,8 +65,8 @@ pub use callers::{append_field, keyword, label, record_line};
 pub use iterated::{append_fields, long_names, names_by_reference, names_of, path, whole};
 pub use keys::{comes_first, count_of, is_keyword, place_of, set_count, set_rank};
 pub use lenders::{TooLong, emptied, start_anew, take_out, try_to_empty, was_emptied};
-pub use packed_callers::{cleaned, have_same_row, through_a_row};
 pub use out_callers::{bytes_of_line, finished_line, name_of};
+pub use packed_callers::{cleaned, have_same_row, through_a_row};
 pub use plain_callers::{
     append_count, append_pair, append_record, append_report, append_value, split_and_join,
     split_field, type_two, with_suffix,
