@@ -12,14 +12,14 @@
 //! The status is 1 if two types differ in a checksum.
 
 mod keyed;
+mod memory;
 
 use keyed::{cmp_short, eq_short, hash_short, into_string};
+use memory::{HOLD, hold, print_memory};
 use std::array;
 use std::env;
-use std::fs;
 use std::hint::black_box;
-use std::mem::{self, size_of};
-use std::process::{Command, ExitCode};
+use std::process::ExitCode;
 use std::time::Instant;
 
 /// How often each workload is timed for each type.
@@ -511,98 +511,6 @@ fn head() -> String {
         rule += "---:|";
     }
     names + "\n" + &rule
-}
-
-// ---- the memory --------------------------------------------------------------------------------
-
-/// How many words are held.
-const HELD: u64 = 1_000_000;
-
-/// The argument with which the program runs itself anew to hold words of one type. The place of the type follows.
-const HOLD: &str = "hold";
-
-/// Makes a vector of `n` values of words of 1 to 24 letters, and never gives it back.
-fn hold_words<T: Text>(n: u64) -> u64 {
-    let mut generator = Generator::new();
-    let mut values = Vec::with_capacity(n as usize);
-    let mut sum = 0;
-    for _ in 0..n {
-        let len = 1 + generator.below(24);
-        let value = T::new(&generator.word(len));
-        sum = mix(sum, probe(&value));
-        values.push(value);
-    }
-    mem::forget(values);
-    sum
-}
-
-/// For each type the bytes of a value itself, and how words of it are held.
-fn held() -> Vec<(u64, fn(u64) -> u64)> {
-    vec![
-        (size_of::<String>() as u64, hold_words::<String>),
-        #[cfg(feature = "peer")]
-        (
-            size_of::<compact_str::CompactString>() as u64,
-            hold_words::<compact_str::CompactString>,
-        ),
-        (library::cs_bench_size_of_value(), |n| {
-            library::cs_bench_hold_words(n)
-        }),
-    ]
-}
-
-/// The bytes of this process that are in memory. On x86-64 a page has 4096.
-fn resident() -> Option<u64> {
-    let figures = fs::read_to_string("/proc/self/statm").ok()?;
-    let pages: u64 = figures.split(' ').nth(1)?.parse().ok()?;
-    Some(pages * 4096)
-}
-
-/// What the program does when it runs itself anew: holds words of one type, and prints by how much its memory grew and the
-/// checksum.
-fn hold(place: usize) -> Option<()> {
-    let (_, words) = *held().get(place)?;
-    let before = resident()?;
-    let sum = words(HELD);
-    let grown = resident()?.checked_sub(before)?;
-    println!("{grown} {sum}");
-    Some(())
-}
-
-/// The same in a process of its own: the resident bytes for each word, and the checksum.
-fn hold_alone(place: usize) -> Option<(f64, u64)> {
-    let program = env::current_exe().ok()?;
-    let output = Command::new(program)
-        .args([HOLD, &place.to_string()])
-        .output()
-        .ok()?;
-    let printed = String::from_utf8(output.stdout).ok()?;
-    let mut figures = printed.split_whitespace();
-    let grown: u64 = figures.next()?.parse().ok()?;
-    let sum = figures.next()?.parse().ok()?;
-    Some((grown as f64 / HELD as f64, sum))
-}
-
-/// Prints the table of the memory, and answers whether all types held the same words.
-fn print_memory() -> bool {
-    let mut names = String::from("| bytes |");
-    let mut rule = String::from("|---|");
-    let mut sizes = String::from("| a value |");
-    let mut grown = String::from("| resident, for each of a million words of 1 to 24 letters |");
-    let mut sums = Vec::new();
-    for (place, (size, _)) in held().iter().enumerate() {
-        let Some((bytes, sum)) = hold_alone(place) else {
-            println!("\nthe memory could not be measured");
-            return false;
-        };
-        names += &format!(" {} |", TYPES[place]);
-        rule += "---:|";
-        sizes += &format!(" {size} |");
-        grown += &format!(" {bytes:.1} |");
-        sums.push(sum);
-    }
-    println!("\n{names}\n{rule}\n{sizes}\n{grown}");
-    sums.iter().all(|sum| *sum == sums[0])
 }
 
 fn main() -> ExitCode {
