@@ -11,16 +11,24 @@
 //!
 //! The status is 1 if two types differ in a checksum.
 
+mod collect;
+mod decode;
 mod keyed;
 mod memory;
+mod numbers;
+mod wire;
 
+use collect::{collect_chars, join};
+use decode::{utf8_ascii, utf8_lossy, utf8_lossy_valid, utf8_mixed, utf16};
 use keyed::{cmp_short, eq_short, hash_short, into_string};
 use memory::{HOLD, hold, print_memory};
+use numbers::{format, u64_text};
 use std::array;
 use std::env;
 use std::hint::black_box;
 use std::process::ExitCode;
 use std::time::Instant;
+use wire::wire;
 
 /// How often each workload is timed for each type.
 const TURNS: usize = 15;
@@ -348,9 +356,19 @@ mod library {
         pub safe fn cs_bench_cmp_short(n: u64) -> u64;
         pub safe fn cs_bench_hash_short(n: u64) -> u64;
         pub safe fn cs_bench_into_string(n: u64) -> u64;
+        pub safe fn cs_bench_collect_chars(n: u64) -> u64;
+        pub safe fn cs_bench_join(n: u64) -> u64;
         pub safe fn cs_bench_retain(n: u64) -> u64;
         pub safe fn cs_bench_drain(n: u64) -> u64;
         pub safe fn cs_bench_change_letters(n: u64) -> u64;
+        pub safe fn cs_bench_utf8_ascii(n: u64) -> u64;
+        pub safe fn cs_bench_utf8_mixed(n: u64) -> u64;
+        pub safe fn cs_bench_utf8_lossy(n: u64) -> u64;
+        pub safe fn cs_bench_utf8_lossy_valid(n: u64) -> u64;
+        pub safe fn cs_bench_utf16(n: u64) -> u64;
+        pub safe fn cs_bench_u64_text(n: u64) -> u64;
+        pub safe fn cs_bench_format(n: u64) -> u64;
+        pub safe fn cs_bench_wire(n: u64) -> u64;
     }
 }
 
@@ -404,6 +422,16 @@ fn workloads() -> Vec<Workload> {
         workload!(retain, cs_bench_retain, 20_000),
         workload!(drain, cs_bench_drain, 50_000),
         workload!(change_letters, cs_bench_change_letters, 100_000),
+        workload!(utf8_ascii, cs_bench_utf8_ascii, 100_000),
+        workload!(utf8_mixed, cs_bench_utf8_mixed, 20_000),
+        workload!(utf8_lossy, cs_bench_utf8_lossy, 20_000),
+        workload!(utf8_lossy_valid, cs_bench_utf8_lossy_valid, 20_000),
+        workload!(utf16, cs_bench_utf16, 20_000),
+        workload!(u64_text, cs_bench_u64_text, 1_000_000),
+        workload!(format, cs_bench_format, 500_000),
+        workload!(wire, cs_bench_wire, 10_000),
+        workload!(collect_chars, cs_bench_collect_chars, 20_000),
+        workload!(join, cs_bench_join, 50_000),
     ]
 }
 

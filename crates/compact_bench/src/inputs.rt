@@ -13,6 +13,18 @@ pub const LONG_TEXTS: usize = 1024;
 /// How many pieces there are.
 pub const PIECES: usize = 1024;
 
+/// How many numbers there are.
+pub const NUMBERS: usize = 4096;
+
+/// How many names there are.
+pub const NAMES: usize = 1024;
+
+/// How many records there are.
+pub const RECORDS: usize = 100;
+
+/// How many words are joined.
+const JOINED_WORDS: usize = 100;
+
 /// A word of `len` letters.
 pub fn word(alloc: Global, generator: &mut Generator, len: u32) -> Result<String, AllocError> {
     let mut word = String::with_capacity(alloc, len as usize)?;
@@ -48,4 +60,107 @@ pub fn long_texts(alloc: Global) -> Result<Vec<String>, AllocError> {
 /// Words of 1 to 16 letters.
 pub fn pieces(alloc: Global) -> Result<Vec<String>, AllocError> {
     words(alloc, PIECES, 1, 16)
+}
+
+/// How many texts are decoded in turn.
+pub const TEXTS: usize = 16;
+
+/// Words of 1024 letters.
+pub fn long_words(alloc: Global) -> Result<Vec<String>, AllocError> {
+    words(alloc, TEXTS, 1024, 1)
+}
+
+/// Texts of 1024 bytes: half their characters are letters, and the others of two, three or four bytes.
+pub fn mixed_texts(alloc: Global) -> Result<Vec<String>, AllocError> {
+    let mut generator = Generator::new();
+    let mut texts = Vec::with_capacity(alloc, TEXTS)?;
+    for _ in 0..TEXTS {
+        texts.push(mixed(alloc, &mut generator)?)?;
+    }
+    Ok(texts)
+}
+
+/// One such text.
+fn mixed(alloc: Global, generator: &mut Generator) -> Result<String, AllocError> {
+    let mut text = String::with_capacity(alloc, 1024)?;
+    // Each turn puts a character, so that these are enough.
+    for _ in 0..1024 {
+        if text.len() < 1021 {
+            text.push(mixed_character(generator))?;
+        } else if text.len() < 1024 {
+            text.push('a')?;
+        }
+    }
+    Ok(text)
+}
+
+/// A letter in half of the cases, else ä, Σ, € or 𝄞.
+fn mixed_character(generator: &mut Generator) -> char {
+    match generator.below(8) {
+        0..=3 => generator.letter(),
+        4 => 'ä',
+        5 => 'Σ',
+        6 => '€',
+        _ => '𝄞',
+    }
+}
+
+/// The bytes of such texts.
+pub fn mixed_rows(alloc: Global) -> Result<Vec<Vec<u8>>, AllocError> {
+    let mut rows = Vec::with_capacity(alloc, TEXTS)?;
+    for text in mixed_texts(alloc)? {
+        rows.push(text.into_bytes())?;
+    }
+    Ok(rows)
+}
+
+/// The bytes of such texts, of which each with a number one below a multiple of 64 is FF.
+pub fn broken_rows(alloc: Global) -> Result<Vec<Vec<u8>>, AllocError> {
+    let mut rows = mixed_rows(alloc)?;
+    for row in rows.iter_mut() {
+        for byte in row.iter_mut().skip(63).step_by(64) {
+            *byte = 0xFF;
+        }
+    }
+    Ok(rows)
+}
+
+/// The units of such texts in UTF-16.
+pub fn units(alloc: Global) -> Result<Vec<Vec<u16>>, AllocError> {
+    let mut rows = Vec::with_capacity(alloc, TEXTS)?;
+    for text in mixed_texts(alloc)? {
+        let mut row = Vec::new(alloc);
+        for unit in text.as_str().encode_utf16() {
+            row.push(unit)?;
+        }
+        rows.push(row)?;
+    }
+    Ok(rows)
+}
+
+/// Words of 1 to 12 letters.
+pub fn names(alloc: Global) -> Result<Vec<String>, AllocError> {
+    words(alloc, NAMES, 1, 12)
+}
+
+/// Numbers of 1 to 20 digits, of each length about as many.
+pub fn numbers(alloc: Global) -> Result<Vec<u64>, AllocError> {
+    let mut generator = Generator::new();
+    let mut numbers = Vec::with_capacity(alloc, NUMBERS)?;
+    for _ in 0..NUMBERS {
+        let least = 10u64.wrapping_pow(generator.below(20));
+        let most = least.saturating_mul(9).min(u64::MAX.wrapping_sub(least));
+        numbers.push(least.wrapping_add(generator.next() % most.max(1)))?;
+    }
+    Ok(numbers)
+}
+
+/// Words of 1 to 40 letters.
+pub fn records(alloc: Global) -> Result<Vec<String>, AllocError> {
+    words(alloc, RECORDS, 1, 40)
+}
+
+/// Words of 1 to 12 letters.
+pub fn joined_words(alloc: Global) -> Result<Vec<String>, AllocError> {
+    words(alloc, JOINED_WORDS, 1, 12)
 }

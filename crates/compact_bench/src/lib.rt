@@ -67,6 +67,18 @@ pub extern "C" fn cs_bench_replace_range(alloc: Global, n: u64) -> u64 {
     workloads::position::replace_range(alloc, n).unwrap_or(u64::MAX)
 }
 
+/// Collects the characters of 1024 letters.
+#[unsafe(no_mangle)]
+pub extern "C" fn cs_bench_collect_chars(alloc: Global, n: u64) -> u64 {
+    workloads::collect::characters(alloc, n).unwrap_or(u64::MAX)
+}
+
+/// Joins 100 words of 1 to 12 letters, with a comma and a space between.
+#[unsafe(no_mangle)]
+pub extern "C" fn cs_bench_join(alloc: Global, n: u64) -> u64 {
+    workloads::collect::words(alloc, n).unwrap_or(u64::MAX)
+}
+
 /// The bytes of a value itself.
 #[unsafe(no_mangle)]
 pub extern "C" fn cs_bench_size_of_value() -> u64 {
@@ -119,4 +131,52 @@ pub extern "C" fn cs_bench_drain(alloc: Global, n: u64) -> u64 {
 #[unsafe(no_mangle)]
 pub extern "C" fn cs_bench_change_letters(alloc: Global, n: u64) -> u64 {
     workloads::characters::change_letters(alloc, n).unwrap_or(u64::MAX)
+}
+
+/// Decodes 1024 letters strictly from UTF-8.
+#[unsafe(no_mangle)]
+pub extern "C" fn cs_bench_utf8_ascii(alloc: Global, n: u64) -> u64 {
+    workloads::decode::utf8_ascii(alloc, n).unwrap_or(u64::MAX)
+}
+
+/// Decodes 1024 bytes of characters of one to four bytes strictly from UTF-8.
+#[unsafe(no_mangle)]
+pub extern "C" fn cs_bench_utf8_mixed(alloc: Global, n: u64) -> u64 {
+    workloads::decode::utf8_mixed(alloc, n).unwrap_or(u64::MAX)
+}
+
+/// Decodes 1024 such bytes, of which 16 are broken, lossily from UTF-8.
+#[unsafe(no_mangle)]
+pub extern "C" fn cs_bench_utf8_lossy(alloc: Global, n: u64) -> u64 {
+    workloads::decode::utf8_lossy(alloc, n).unwrap_or(u64::MAX)
+}
+
+/// Decodes 1024 such bytes, of which none is broken, lossily from UTF-8.
+#[unsafe(no_mangle)]
+pub extern "C" fn cs_bench_utf8_lossy_valid(alloc: Global, n: u64) -> u64 {
+    workloads::decode::utf8_lossy_valid(alloc, n).unwrap_or(u64::MAX)
+}
+
+/// Decodes the units of 1024 such bytes strictly from UTF-16.
+#[unsafe(no_mangle)]
+pub extern "C" fn cs_bench_utf16(alloc: Global, n: u64) -> u64 {
+    workloads::decode::utf16(alloc, n).unwrap_or(u64::MAX)
+}
+
+/// Makes the texts of numbers of 1 to 20 digits.
+#[unsafe(no_mangle)]
+pub extern "C" fn cs_bench_u64_text(alloc: Global, n: u64) -> u64 {
+    workloads::numbers::texts(alloc, n).unwrap_or(u64::MAX)
+}
+
+/// Makes texts by a format of a word and a number.
+#[unsafe(no_mangle)]
+pub extern "C" fn cs_bench_format(alloc: Global, n: u64) -> u64 {
+    workloads::numbers::formats(alloc, n).unwrap_or(u64::MAX)
+}
+
+/// Writes 100 records of 1 to 40 bytes in the wire form into a vector, and reads them back.
+#[unsafe(no_mangle)]
+pub extern "C" fn cs_bench_wire(alloc: Global, n: u64) -> u64 {
+    workloads::wire::records_through_bytes(alloc, n).unwrap_or(u64::MAX)
 }

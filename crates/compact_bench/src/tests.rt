@@ -67,3 +67,25 @@ fn strings_of_a_value_have_this_checksum(rt: HostRuntime) {
         0xf330_c5b5_43bb_fd80
     );
 }
+
+#[test]
+fn texts_over_a_wire_have_this_checksum(rt: HostRuntime) {
+    assert_eq!(rt; cs_bench_wire(rt.alloc(), 10_000), 0x1c92_f4e2_78ac_b4c0);
+}
+
+#[test]
+fn texts_of_numbers_and_formats_have_these_checksums(rt: HostRuntime) {
+    let alloc = rt.alloc();
+    assert_eq!(rt; cs_bench_u64_text(alloc, 10_000), 0x200f_b8c5_8d7d_f856);
+    assert_eq!(rt; cs_bench_format(alloc, 10_000), 0x9a2b_8768_b6ee_5f56);
+}
+
+#[test]
+fn what_is_collected_has_these_checksums(rt: HostRuntime) {
+    let alloc = rt.alloc();
+    assert_eq!(rt;
+        cs_bench_collect_chars(alloc, 20_000),
+        0x06ec_03f8_d8ea_4600
+    );
+    assert_eq!(rt; cs_bench_join(alloc, 50_000), 0x1aae_ddf0_4d00_5b00);
+}

@@ -2,9 +2,13 @@
 
 pub mod append;
 pub mod characters;
+pub mod collect;
 pub mod compare;
 pub mod copy;
+pub mod decode;
 pub mod hold;
 pub mod make;
+pub mod numbers;
 pub mod out;
 pub mod position;
+pub mod wire;

@@ -3,3 +3,7 @@ pub mod Examples
 pub mod Moved
 pub mod PushLemmas
 pub mod PushExamples
+pub mod KeyTexts
+pub mod TakenTexts
+pub mod NameFacts
+pub mod NameExamples

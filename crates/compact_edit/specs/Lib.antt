@@ -1,3 +1,4 @@
 pub mod Steps
 pub mod Runs
 pub mod Pushes
+pub mod Names

@@ -1,6 +1,7 @@
 -- An ASCII character that comes into a text or goes from it: one byte that is its own character.
-use Rattle.std.proofs.Common.{◌≡◌, ℕ, ◌+◌, ◌<◌, List, [], ◌∷◌, zero, suc, ap, sym, ◌∙◌, arith}
-use Rattle.std.proofs.lemmas.Str.{IsUtf8-from_ascii, IsUtf8-nil, chars-IsAscii, chars-nil}
+use Rattle.std.proofs.Common.{◌≡◌, ℕ, ◌+◌, ◌<◌, List, [], ◌∷◌, ◌++◌, length, take, slice_set, zero, suc, ap, sym, ◌∙◌, arith}
+use Rattle.std.proofs.lemmas.List.{take_more_set}
+use Rattle.std.proofs.lemmas.Str.{IsUtf8-append, IsUtf8-from_ascii, IsUtf8-nil, chars-append, chars-IsAscii, chars-nil}
 use Rattle.std.specs.List.{replace_range}
 use Rattle.std.specs.Str.{IsUtf8, IsAscii}
 use Rattle.compact_repr.specs.Text.{size, text_of}
@@ -41,3 +42,13 @@ pub size-ascii-removed : (t : List ℕ) (index : ℕ) → IsBoundary t index →
 size-ascii-removed t index b n =
     let whole = size-replaced t [] index (index + 1) b n (omega arith) in
     omega (arith, whole)
+
+-- one that is written behind the first bytes of a row
+pub ascii-behind : (row : List ℕ) (n byte : ℕ) → n < length row → IsUtf8 (take n row) → byte < 128 → IsUtf8 (take (n + 1) (slice_set row n byte))
+ascii-behind row n byte l u h = rw (take_more_set row n byte l) (IsUtf8-append _ _ u (IsUtf8-from_ascii _ (is_ascii byte h)))
+
+pub text_of-ascii_behind : {t : List ℕ} (row : List ℕ) (n byte : ℕ) → n < length row → text_of (take n row) ≡ t → IsUtf8 (take n row) → byte < 128
+    → text_of (take (n + 1) (slice_set row n byte)) ≡ t ++ byte ∷ []
+text_of-ascii_behind {t} row n byte l e u h =
+    ap text_of (take_more_set row n byte l) ∙ chars-append _ (byte ∷ []) u ∙ ap (λ s. s ++ text_of (byte ∷ [])) e
+    ∙ ap (λ s. t ++ s) (chars-IsAscii _ (is_ascii byte h))

@@ -105,9 +105,9 @@ stands-last g first f whole row kept read h stands =
 
 -- a text whose first byte is ASCII begins with that character
 pub first_ascii : {text : List ℕ} (bytes : List ℕ) (b c : ℕ) → bytes ≡ text → IsUtf8 text → 0 < length bytes → b ≡ get_or bytes 0 0 → b < 128 → c ≡ b
-    → (1 ≡ len_utf8 c) × ((rest : List ℕ) × (text_of text ≡ c ∷ rest))
+    → (len_utf8 c ≡ 1) × ((rest : List ℕ) × (text_of text ≡ c ∷ rest))
 first_ascii {text} bytes b c e u some is low same =
     let head : bytes ≡ b ∷ drop 1 bytes = drop-cons bytes 0 0 some ∙ ap (λ (x : ℕ). x ∷ drop 1 bytes) (sym is) in
     let split : text ≡ encode c ++ drop 1 bytes =
     sym e ∙ head ∙ ap (λ (l : List ℕ). l ++ drop 1 bytes) (sym (encode_ascii b low)) ∙ ap (λ (x : ℕ). encode x ++ drop 1 bytes) (sym same) in
-    (sym (len_utf8_ascii c (omega (arith, same, low))), (text_of (drop 1 bytes), chars_past_char text (drop 1 bytes) c u split))
+    (len_utf8_ascii c (omega (arith, same, low)), (text_of (drop 1 bytes), chars_past_char text (drop 1 bytes) c u split))

@@ -1,6 +1,6 @@
 -- Texts of which the ASCII letters are changed: their bytes, and where they may be cut.
-use Rattle.std.proofs.Common.{◌≡◌, ℕ, ◌+◌, ◌-◌, ◌/◌, ◌<◌, ◌≤◌, List, [], ◌∷◌, ◌++◌, length, Bool, true, false, cond, ◌&&◌, refl, ap, sym, ◌∙◌, map, arith, ⊎_elim}
-use Rattle.std.proofs.lemmas.Bool.{cases_lt, cond-false, le-ltb, and_parts, and_from}
+use Rattle.std.proofs.Common.{◌≡◌, ℕ, ◌+◌, ◌-◌, ◌/◌, ◌<◌, ◌≤◌, List, [], ◌∷◌, ◌++◌, length, Bool, true, false, cond, refl, ap, sym, ◌∙◌, map, arith, ⊎_elim}
+use Rattle.std.proofs.lemmas.Bool.{cases_lt, le-ltb, and_parts, and_from}
 use Rattle.std.proofs.lemmas.List.{map-append, length-map}
 use Rattle.std.proofs.lemmas.Str.{chars_from_encodes, encode_ascii, length-encode}
 use Rattle.std.proofs.lemmas.Str.Ascii.{lowercase_ascii, lowercase_is, uppercase_ascii, uppercase_is}

@@ -1,11 +1,11 @@
 -- What stands between two boundaries of a text.
-use Rattle.std.proofs.Common.{◌≡◌, ℕ, ◌+◌, ◌-◌, ◌<◌, ◌≤◌, List, [], ◌∷◌, ◌++◌, refl, ap, sym, ◌∙◌, arith, append_assoc}
+use Rattle.std.proofs.Common.{◌≡◌, ℕ, ◌+◌, ◌-◌, ◌≤◌, List, [], ◌∷◌, ◌++◌, refl, ap, sym, ◌∙◌, arith, append_assoc}
 use Rattle.std.proofs.lemmas.Str.{len_utf8_bounds}
 use Rattle.std.specs.Char.{len_utf8}
 use Rattle.compact_repr.specs.Text.{size}
-use Rattle.compact_repr.specs.Cut.{IsCut, IsBoundary, before, after, middle}
+use Rattle.compact_repr.specs.Cut.{IsBoundary, before, after, middle}
 use Rattle.compact_repr.proofs.Texts.{size-append}
-use Rattle.compact_repr.proofs.Cuts.{before-after, before-cut, after-cut, size-before, size-after}
+use Rattle.compact_repr.proofs.Cuts.{before-after, before-cut, after-cut, size-before}
 
 abbrev head_or : ℕ → List ℕ → ℕ
 head_or d [] = d

@@ -1,10 +1,9 @@
 -- What 24 bytes stand for.
-use Rattle.std.proofs.Common.{◌≡◌, ℕ, ◌+◌, ◌-◌, ◌/◌, ◌<◌, ◌≤◌, List, [], ◌∷◌, ◌++◌, length, take, get_or, refl, ap, sym, ◌∙◌, subst, arith, length-append, append_assoc, inl, inr, ⊎_elim}
+use Rattle.std.proofs.Common.{◌≡◌, ℕ, ◌+◌, ◌-◌, ◌/◌, ◌<◌, ◌≤◌, List, [], ◌∷◌, ◌++◌, length, take, get_or, ap, sym, ◌∙◌, subst, arith, length-append, inl, inr, ⊎_elim}
 use Prim.Native.Nat.{suc}
-use Rattle.std.specs.Prelude.{replicate}
 use Rattle.std.specs.Str.{IsUtf8}
 use Rattle.std.proofs.lemmas.Bool.{lt-ltb, le-ltb, ltb-true, cond-true, cond-false, cond_both, cases_lt}
-use Rattle.std.proofs.lemmas.List.{append-nil, length-take-le, length-replicate, take_all, take_at, take-take, take-append-le, get_or_push, get_or-append-add, get_or-set_same, take-set-le, length-set}
+use Rattle.std.proofs.lemmas.List.{append-nil, length-take-le, take_all, get_or_push, get_or-append-add, get_or-set_same, take-set-le, length-set}
 use Rattle.std.proofs.lemmas.Str.{length-encode, len_utf8_bounds, encodes-chars, scalars-chars, chars-encodes}
 use lib.Dec.{ltb}
 use lib.ListN.{set}

@@ -1,5 +1,5 @@
 //! Parts and characters of a borrowed text, by byte position.
-ghost use Rattle.std.specs.Prelude.{◌≡◌, ◌-◌, ◌<◌, ◌≤◌, List, ℕ, [], ◌∷◌, ◌++◌, length, MatchOption};
+ghost use Rattle.std.specs.Prelude.{◌≡◌, ◌-◌, ◌<◌, ◌≤◌, List, ℕ, [], ◌∷◌, ◌++◌, length, IfSome, MatchOption};
 ghost use Rattle.std.specs.Char.{len_utf8};
 ghost use Rattle.compact_repr.specs.Text.{text_of};
 ghost use Rattle.compact_repr.specs.Cut.{IsBoundary, before, after, middle, CutIsBeforeAndAfter};
@@ -48,32 +48,30 @@ pub fn char_at(text: &str, index: usize) -> char
     }
 }
 
-/// The first character and how many bytes it has; `None` of the empty text.
+/// The first character where it is one of ASCII, else `None`; so it is of the empty text.
 #[inline(always)]
-pub fn first_char(text: &str) -> Option<(char, usize)>
-    ensures { MatchOption result (text_of text.now ≡ []) (λ first. (first.1 ≡ len_utf8 first.0) × ((rest : List ℕ) × (text_of text.now ≡ first.0 ∷ rest))) }
+pub fn first_ascii(text: &str) -> Option<char>
+    ensures { IfSome result (λ c. (len_utf8 c ≡ 1) × ((rest : List ℕ) × (text_of text.now ≡ c ∷ rest))) }
 {
     if text.is_empty() {
         return None;
     }
     let byte = text.as_bytes()[0];
     if byte < 128 {
-        return Some((char::from(byte), 1));
+        Some(char::from(byte))
+    } else {
+        None
     }
-    let character = first_wide(text);
-    Some((character, character.len_utf8()))
 }
 
-/// The first character of a text that has one.
-#[cold]
-#[inline(never)]
-fn first_wide(text: &str) -> char
-    requires { 0 < length text.now }
-    ensures { (rest : List ℕ) × (text_of text.now ≡ result ∷ rest) }
+/// The first character; `None` of the empty text.
+#[inline]
+pub fn first_char(text: &str) -> Option<char>
+    ensures { MatchOption result (text_of text.now ≡ []) (λ c. (rest : List ℕ) × (text_of text.now ≡ c ∷ rest)) }
 {
     match text.chars().next() {
-        Some(character) => character,
-        None => unreachable!(),
+        Some(character) => Some(character),
+        None => None,
     }
 }
 

@@ -61,6 +61,17 @@ impl InlineBuffer {
         }
     }
 
+    /// The first `len` bytes of a row, which are a text. What stands behind them is not looked at.
+    #[inline]
+    pub fn from_row_unchecked(row: &[u8; 24], len: usize) -> Self
+        requires fits { len ≤ 24 }
+        requires text { IsUtf8 (take len row.now) }
+        ensures value { result ≡ text_of (take len row.now) }
+        ensures within { size result ≤ 24 }
+    {
+        InlineBuffer { bytes: *row, len }
+    }
+
     /// The same text.
     #[inline]
     pub fn duplicate(&self) -> Self

@@ -5,6 +5,7 @@
 //! text; what a contract sees of it is a `PlacedText` of `specs/Value.antt`.
 #![tactic(auto, using(crate::proofs::TextFacts::text_facts))]
 
+mod block;
 mod cut;
 mod error;
 mod heap;
@@ -15,7 +16,8 @@ mod rows;
 mod static_text;
 mod words;
 
-pub use cut::{cut_is_before_and_after, first_char, last_char, middle};
+pub use block::Block;
+pub use cut::{cut_is_before_and_after, first_ascii, first_char, last_char, middle};
 pub use error::ReserveError;
 pub use inline::INLINE_CAPACITY;
 pub use policy::{Policy, Standard};

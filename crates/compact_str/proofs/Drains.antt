@@ -1,5 +1,5 @@
 -- Parts of a text, and how they are taken out.
-use Rattle.std.proofs.Common.{◌≡◌, Some, ℕ, ◌+◌, ◌-◌, ◌*◌, ◌<◌, ◌≤◌, List, [], ◌∷◌, ◌++◌, Bool, true, false, not, IsTrue, ◌↔◌, ◌&&◌, length, refl, ap, sym, ◌∙◌, subst, arith, append_assoc, append-nil, length-append, ⊎_elim}
+use Rattle.std.proofs.Common.{◌≡◌, Some, ℕ, ◌+◌, ◌-◌, ◌*◌, ◌≤◌, List, [], ◌∷◌, ◌++◌, Bool, true, false, not, IsTrue, ◌↔◌, ◌&&◌, length, refl, ap, sym, ◌∙◌, subst, arith, append_assoc, append-nil, length-append, ⊎_elim}
 use Rattle.std.proofs.lemmas.Grind.{common_steps}
 use Rattle.std.proofs.lemmas.Bool.{cases_Bool, cond-true, cond-false, true≢false, le-leb, leb-true, eq-eqb, eqb-true, ne_eqb, and_parts, and_from}
 use Rattle.std.proofs.lemmas.Str.{len_utf8_bounds}
@@ -10,7 +10,7 @@ use Rattle.compact_repr.specs.Value.{Place, inline, heap, static, IsCapacityOf, 
 use Rattle.compact_repr.specs.Capacity.{Growth, owned}
 use Rattle.compact_repr.specs.Change.{made_owned, replaced}
 use Rattle.compact_repr.proofs.Texts.{size-append}
-use Rattle.compact_repr.proofs.Cuts.{before-after, size-before, size-replaced, boundary-from_size, boundary-within}
+use Rattle.compact_repr.proofs.Cuts.{before-after, size-before, size-replaced, boundary-from_size}
 use Rattle.compact_repr.proofs.Middles.{middle-parts, parts-middle}
 use Rattle.compact_str.specs.Drains.{may_cut, may_cut_out, part, without_part}
 use Rattle.compact_str.proofs.Letters.{made_owned-text}
@@ -115,6 +115,13 @@ front-range t r front back c e =
     three.0 ∙ ap (λ (l : List ℕ). l ++ after t back) (sym (append_assoc (before t front) (c ∷ []) r)) in
     let first : size (before t front ++ c ∷ []) ≡ front + len_utf8 c = size-append (before t front) (c ∷ []) ∙ omega (arith, three.1) in
     of-range t (before t front ++ c ∷ []) r (after t back) (front + len_utf8 c) back parts first (omega (arith, first, three.1, three.2))
+
+-- both, by where the first character ends
+pub front-taken : (t r : List ℕ) (front back c behind : ℕ) → part t front back ≡ c ∷ r → behind ≡ front + len_utf8 c
+    → (part t behind back ≡ r) × (behind ≤ back) × (may_cut_out t behind back ≡ true)
+front-taken t r front back c behind e is =
+    let taken = part-front t r front back c e in
+    rw is (taken.0, taken.1, front-range t r front back c e)
 
 pub back-range : (t r : List ℕ) (front back c : ℕ) → part t front back ≡ r ++ c ∷ [] → may_cut_out t front (back - len_utf8 c) ≡ true
 back-range t r front back c e =

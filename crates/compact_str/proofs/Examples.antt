@@ -1,5 +1,5 @@
 -- Worked examples of the definitions, each computed. The numbers come from the Rust crate and from the Unicode Standard.
-use Rattle.std.specs.Prelude.{◌≡◌, ℕ, ◌*◌, List, [], ◌∷◌, replicate, Some, None, refl}
+use Rattle.std.specs.Prelude.{◌≡◌, ℕ, ◌*◌, List, [], ◌∷◌, ◌++◌, replicate, Some, None, refl}
 use Rattle.std.proofs.Common.{arith}
 use Rattle.std.specs.declared.ops.Bound.TheVariants.{Included, Excluded, Unbounded}
 use Rattle.compact_repr.specs.Cut.{IsBoundary}
@@ -15,6 +15,8 @@ use Rattle.std.specs.Prelude.{true, false}
 use Rattle.std.specs.declared.cmp.Ordering.TheVariants.{Less, Equal, Greater}
 use Rattle.compact_str.specs.Order.{same_text, text_order, text_cmp}
 use Rattle.compact_str.specs.Drains.{part, without_part}
+use Rattle.compact_str.specs.Fitted.{IsFitted}
+use Rattle.compact_str.specs.Collects.{Appends, joined, alone}
 
 abbrev standard : Growth
 standard = record { least = 32; numerator = 3; denominator = 2 }
@@ -195,3 +197,32 @@ b_is_taken_out_in_place = refl
 
 nothing_is_taken_out_of_a_static_text : without_part lasting_30 0 3 ≡ lasting_30
 nothing_is_taken_out_of_a_static_text = refl
+
+-- what comes one after another
+
+a_separator_stands_between_each_two : joined (44 ∷ 32 ∷ []) alone abc ≡ 97 ∷ 44 ∷ 32 ∷ 98 ∷ 44 ∷ 32 ∷ 99 ∷ []
+a_separator_stands_between_each_two = refl
+
+an_empty_item_keeps_its_separator : joined (45 ∷ []) (λ t. t) (abc ∷ [] ∷ []) ≡ 97 ∷ 98 ∷ 99 ∷ 45 ∷ []
+an_empty_item_keeps_its_separator = refl
+
+one_item_has_no_separator : joined (45 ∷ []) alone (97 ∷ []) ≡ 97 ∷ []
+one_item_has_no_separator = refl
+
+nothing_is_joined_to_nothing : joined (45 ∷ []) alone [] ≡ []
+nothing_is_joined_to_nothing = refl
+
+an_empty_item_leaves_a_static_value : Appends standard (λ t. t) lasting_30 ([] ∷ []) lasting_30
+an_empty_item_leaves_a_static_value = (lasting_30, refl, refl)
+
+another_moves_it_by_growth : Appends standard (λ t. t) lasting_30 ([] ∷ (98 ∷ []) ∷ []) (placed (letters 30 ++ 98 ∷ []) (on_heap 45))
+another_moves_it_by_growth = (lasting_30, refl, (placed (letters 30 ++ 98 ∷ []) (on_heap 45), refl, refl))
+
+bytes_24_are_fitted_inline : IsFitted (placed (letters 24) inlined)
+bytes_24_are_fitted_inline = record { short = λ _. refl; long = λ h. absurd (omega (arith, h)) }
+
+bytes_25_are_fitted_on_the_heap : IsFitted (placed (letters 25) (on_heap 32))
+bytes_25_are_fitted_on_the_heap = record { short = λ h. absurd (omega (arith, h)); long = λ _. (refl, omega (arith)) }
+
+bytes_25_are_fitted_with_more_room : IsFitted (placed (letters 25) (on_heap 100))
+bytes_25_are_fitted_with_more_room = record { short = λ h. absurd (omega (arith, h)); long = λ _. (refl, omega (arith)) }

@@ -1,14 +1,17 @@
 -- For crates that call this one: what the clauses of several calls give together. Name it at the caller, as
 -- `#[tactic(auto, using(compact_str::proofs::ForCallers::for_callers))]`.
-use Rattle.std.proofs.Common.{◌≡◌, ℕ, Bool, IsTrue, nat_eq, ◌+◌, ◌-◌, ◌*◌, ◌^◌, ◌<◌, ◌≤◌, List, [], ◌∷◌, ◌++◌, length, drop, take, refl, ap, sym, subst, ◌∙◌, arith, append_assoc, append-nil}
-use Rattle.std.proofs.lemmas.Str.{chars-nil, chars-append, chars_past_char, IsUtf8-nil, chars-IsAscii, IsUtf8-append, IsUtf8-drop, IsUtf8-from_ascii}
+use Rattle.std.proofs.Common.{◌≡◌, ℕ, Bool, IsTrue, false, nat_eq, ◌+◌, ◌-◌, ◌*◌, ◌^◌, ◌<◌, ◌≤◌, List, [], ◌∷◌, ◌++◌, length, drop, take, refl, ap, sym, subst, ◌∙◌, arith, append_assoc, append-nil}
+pub use Rattle.std.proofs.lemmas.Str.{chars_from_encodes}
+use Rattle.std.proofs.lemmas.Str.{chars-nil, chars-append, chars_past_char, IsUtf8-nil, chars-IsAscii, IsUtf8-append, IsUtf8-drop, IsUtf8-from_ascii, IsUtf8-from_is_utf8, is_utf8-from_IsUtf8}
 use Rattle.std.proofs.lemmas.Bool.Decides.{nat_tests}
 use Rattle.std.specs.Char.{len_utf8, encode_utf8}
 use Rattle.std.specs.Cmp.Lexicographic.{same_text}
 use lib.Pointwise.{pointwise}
 use Rattle.std.proofs.lemmas.Fmt.{IsAscii-decimal}
 use Rattle.std.specs.Fmt.{WritesInCalls, decimal}
-use Rattle.std.specs.Str.{IsUtf8, IsCharBoundary, chars, chars_after}
+use Rattle.std.proofs.lemmas.Bool.{false_from_ne_true}
+use Rattle.compact_codec.proofs.LossyReading.{utf8_lossy_text-IsUtf8}
+use Rattle.std.specs.Str.{IsUtf8, is_utf8, IsCharBoundary, chars, chars_after}
 use Rattle.std.specs.List.{FoldsTo, concat}
 use Rattle.std.specs.Str.Pattern.{HasCharAt}
 use Rattle.compact_repr.specs.Text.{text_of}
@@ -22,6 +25,7 @@ pub use Rattle.compact_repr.proofs.Changes.{pushed-text}
 pub use Rattle.compact_repr.proofs.Cuts.{before-after, before-cut, after-cut, boundary-text, text_of-take, text_of-drop, boundary-within, size-before, size-after}
 pub use Rattle.compact_repr.proofs.PackedTexts.{one_text}
 pub use Rattle.compact_str.proofs.Positions.{before-before, boundary-seam}
+pub use Rattle.compact_str.proofs.Collecting.{joined-map}
 pub use Rattle.compact_str.proofs.KeyFacts.{texts-from_same, same-from_texts, texts-from_equal}
 
 -- the parts that a formatter wrote are a text together, which is joined
@@ -117,4 +121,12 @@ pub ruleset for_callers = (
   texts-from_same,
   same-from_texts,
   texts-from_equal,
+  chars_from_encodes,
+  joined-map,
 )
+
+-- for callers that decode bytes: the lossy text of bytes that encode one, and the test of std's that says whether they do
+pub broken-is_utf8 : (bytes : List ℕ) → ¬ (IsUtf8 bytes) → is_utf8 bytes ≡ false
+broken-is_utf8 bytes none = false_from_ne_true (is_utf8 bytes) (λ t. none (IsUtf8-from_is_utf8 bytes t))
+
+pub ruleset decoding = (utf8_lossy_text-IsUtf8, is_utf8-from_IsUtf8, broken-is_utf8)

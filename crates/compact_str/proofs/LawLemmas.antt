@@ -1,14 +1,15 @@
 -- Proofs of the laws of the edits.
 use Rattle.std.proofs.Common.{◌≡◌, Some, ℕ, ◌+◌, List, [], ◌∷◌, ◌++◌, false, refl, ap, sym, ◌∙◌, subst, arith, append_assoc}
 use Rattle.std.proofs.lemmas.Grind.{common_steps}
-use Rattle.std.proofs.lemmas.Str.{len_utf8_bounds}
+use Rattle.std.proofs.lemmas.Str.{len_utf8_bounds, chars-encodes}
 use Rattle.compact_repr.specs.Text.{size}
 use Rattle.compact_repr.specs.Cut.{IsBoundary, before, after}
 use Rattle.compact_repr.specs.Value.{PlacedText}
 use Rattle.compact_repr.specs.Capacity.{Growth, own_asks}
 use Rattle.compact_repr.specs.Change.{inserted}
 use Rattle.compact_str.specs.Edits.{Removes, split_tail}
-use Rattle.compact_str.specs.Laws.{RemovalUndoesInsertion, TruncationUndoesAppend, AppendUndoesSplit, CloneIsEqual}
+use Rattle.compact_str.specs.Laws.{RemovalUndoesInsertion, TruncationUndoesAppend, AppendUndoesSplit, CloneIsEqual, DecodingUndoesEncoding}
+use Rattle.compact_codec.proofs.LossyReading.{utf8_lossy_text-IsUtf8}
 use Rattle.compact_repr.proofs.Changes.{pushed-text}
 use Rattle.compact_repr.proofs.Cuts.{before-after, before-cut, after-cut, size-before, size-after, boundary-from_size}
 use Rattle.compact_str.proofs.Positions.{inserted-text, boundary-seam, truncated-text}
@@ -55,3 +56,9 @@ append_undoes_split g v tail w p e k =
 
 pub clone_is_equal : CloneIsEqual
 clone_is_equal g v w e = grind (arith, common_steps)
+
+pub decoding_undoes_encoding : DecodingUndoesEncoding
+decoding_undoes_encoding = (
+  λ v sound. ((sound.text, refl), chars-encodes v.text sound.text),
+  utf8_lossy_text-IsUtf8,
+)

@@ -1,13 +1,11 @@
 -- Values of which the ASCII letters are changed.
-use Rattle.std.proofs.Common.{◌≡◌, Some, ℕ, List, false, arith, ap, sym, ◌∙◌, subst}
+use Rattle.std.proofs.Common.{◌≡◌, Some, ℕ, List, arith}
 use Rattle.std.proofs.lemmas.Grind.{common_steps}
-use Rattle.std.specs.Prelude.{IsTrue}
-use Rattle.compact_repr.specs.Text.{size, ascii_lowercase, ascii_uppercase}
-use Rattle.compact_repr.specs.Cut.{IsBoundary}
-use Rattle.compact_repr.specs.Value.{PlacedText, placed, is_static}
+use Rattle.compact_repr.specs.Text.{ascii_lowercase, ascii_uppercase}
+use Rattle.compact_repr.specs.Value.{PlacedText, placed}
 use Rattle.compact_repr.specs.Capacity.{Growth}
 use Rattle.compact_repr.specs.Change.{made, made_owned, lowercased, uppercased}
-use Rattle.compact_repr.proofs.Letters.{size-lowercase, size-uppercase, boundary-lowercase, boundary-uppercase}
+use Rattle.compact_repr.proofs.Letters.{size-lowercase, size-uppercase}
 
 -- a value that is made owned and then changed
 pub lowercased-owned : (g : Growth) (v u w : PlacedText) → made_owned g v ≡ Some u → w ≡ placed (ascii_lowercase u.text) u.placement → lowercased g v ≡ Some w

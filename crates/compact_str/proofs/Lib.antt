@@ -4,7 +4,11 @@ pub mod Letters
 pub mod Drains
 pub mod Kept
 pub mod Repeats
+pub mod FittedTexts
 pub mod EditFacts
+pub mod Collecting
+pub mod Fitted
+pub mod CollectFacts
 pub mod KeyFacts
 pub mod LawLemmas
 pub mod ForCallers

@@ -1,9 +1,11 @@
 -- Laws of the edits and of packed bytes, over their definitions alone.
 use Rattle.std.specs.Prelude.{◌≡◌, ℕ, ◌<◌, List, false, [], ◌∷◌, Some}
-use Rattle.compact_repr.specs.Text.{size}
+use Rattle.std.specs.Str.{IsUtf8}
+use Rattle.compact_codec.specs.Utf8Text.{BytesEncode, utf8_lossy_text}
+use Rattle.compact_repr.specs.Text.{size, utf8, text_of}
 use Rattle.compact_repr.specs.Cut.{IsBoundary, before}
 use Rattle.compact_repr.specs.Packed.{IsPackedFor}
-use Rattle.compact_repr.specs.Value.{PlacedText, placed}
+use Rattle.compact_repr.specs.Value.{PlacedText, placed, IsSound}
 use Rattle.compact_repr.specs.Capacity.{Growth, kept, own_asks}
 use Rattle.compact_repr.specs.Change.{pushed, copy_of, truncated, inserted}
 use Rattle.compact_str.specs.Edits.{Removes, split_tail}
@@ -40,3 +42,9 @@ CloneIsEqual = (g : Growth) (v w : PlacedText) → copy_of g v ≡ Some w → w.
 -- 24 bytes stand for one text at most
 abbrev pub PackedBytesStandForOneText : Type 0
 PackedBytesStandForOneText = (bytes t s : List ℕ) → IsPackedFor bytes t → IsPackedFor bytes s → t ≡ s
+
+-- the bytes of a text encode it, and are read back as that text, strictly and lossily; so is every text read lossily
+abbrev pub DecodingUndoesEncoding : Type 0
+DecodingUndoesEncoding =
+    ((v : PlacedText) → IsSound v → BytesEncode (utf8 v.text) v.text × (text_of (utf8 v.text) ≡ v.text))
+    × ((bytes : List ℕ) → IsUtf8 bytes → utf8_lossy_text bytes ≡ text_of bytes)

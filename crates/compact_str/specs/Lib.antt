@@ -5,6 +5,10 @@ pub use Rattle.compact_repr.specs.Capacity
 pub use Rattle.compact_repr.specs.Change
 pub use Rattle.compact_repr.specs.Packed
 pub use Rattle.compact_repr.specs.Kept
+pub use Rattle.compact_codec.specs.BrokenPart
+pub use Rattle.compact_codec.specs.Utf8Text
+pub use Rattle.compact_codec.specs.Utf16Text
+pub use Rattle.compact_codec.specs.Utf16Bytes
 pub mod Room
 pub mod Clones
 pub mod Made
@@ -14,4 +18,7 @@ pub mod Drains
 pub mod Drained
 pub mod Laws
 pub mod Order
+pub mod Collects
 pub mod Json
+pub mod Fitted
+pub mod Decoded

@@ -11,9 +11,9 @@ ghost use Rattle.compact_str.specs.Ranges.{IsRange, range_start, range_end};
 ghost use Rattle.compact_str.specs.Drains.{may_cut_out};
 
 use crate::string::PolicyString;
-use crate::string::part::rare_part;
+use crate::string::part::{rare_end, rare_first, rare_part};
 use crate::string::position::ends;
-use compact_repr::{Policy, ReserveError, first_char, last_char, middle};
+use compact_repr::{Policy, ReserveError, first_ascii, last_char, middle};
 use std::fmt;
 use std::fmt::{Debug, Display, Formatter, Write};
 use std::iter::FusedIterator;
@@ -126,10 +126,19 @@ impl<P: Policy> Iterator for Drain<'_, P> {
     /// The first character that is not yet taken.
     #[inline(always)]
     fn next(&mut self) -> Option<char> {
-        // The proof reads from it that the sum below fits.
-        let _back = self.back;
-        let (character, width) = first_char(self.as_str())?;
-        self.front += width;
+        // That `front` is before `back` tells the proof that the sums below fit.
+        let (front, back) = (self.front, self.back);
+        let rest = self.as_str();
+        if rest.is_empty() {
+            return None;
+        }
+        if let Some(character) = first_ascii(rest) {
+            self.front = front + 1;
+            return Some(character);
+        }
+        // It takes the positions and a text of its own, so that the loop need not count what is left.
+        let character = rare_first(self.value.owned_str(), front, back)?;
+        self.front = rare_end(front, character);
         Some(character)
     }
 

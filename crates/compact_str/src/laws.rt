@@ -1,5 +1,5 @@
 //! Laws of the edits, of packed bytes and of the order. Each function does nothing; its contract is the law.
-ghost use Rattle.compact_str.specs.Laws.{RemovalUndoesInsertion, TruncationUndoesAppend, AppendUndoesSplit, CloneIsEqual, PackedBytesStandForOneText};
+ghost use Rattle.compact_str.specs.Laws.{RemovalUndoesInsertion, TruncationUndoesAppend, AppendUndoesSplit, CloneIsEqual, DecodingUndoesEncoding, PackedBytesStandForOneText};
 ghost use Rattle.std.specs.Ordering.{ordering_index};
 ghost use Rattle.std.specs.List.Sorted.{IsSorted, IsNonDecreasingBy};
 ghost use Rattle.compact_str.specs.Order.{ByteOrderIsTextOrder, text_cmp};
@@ -26,6 +26,12 @@ pub fn append_undoes_split()
 /// A clone has the text of its source.
 pub fn clone_is_equal()
     ensures { CloneIsEqual }
+{}
+
+/// What `from_utf8` makes of the bytes of a value has the text of that value, and of bytes that encode a text
+/// `from_utf8_lossy` makes that text.
+pub fn decoding_undoes_encoding()
+    ensures { DecodingUndoesEncoding }
 {}
 
 /// No 24 bytes stand for two texts. So what `from_packed` makes of the bytes that `packed` gave has the text of that value.

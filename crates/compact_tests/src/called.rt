@@ -1,7 +1,7 @@
 //! The functions of `callers`, called with ample memory.
 
 use crate::callers::{append_field, keyword, label, record_line};
-use crate::support::{assert_heap, assert_inline, empty, letters};
+use crate::values::{assert_heap, assert_inline, empty, letters};
 
 #[test]
 fn keywords_and_labels_are_short(rt: HostRuntime) {

@@ -1,6 +1,6 @@
 //! Values as they are changed, with ample memory.
 
-use crate::support::{
+use crate::values::{
     append, assert_heap, assert_inline, assert_static, copied, empty, lasting, letters,
 };
 use compact_edit::{Edit, Reply, run};

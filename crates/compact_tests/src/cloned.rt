@@ -1,6 +1,6 @@
 //! Values as they are copied, with ample memory.
 
-use crate::support::{
+use crate::values::{
     append, assert_heap, assert_inline, assert_static, buffered, clone_of, copied, empty, lasting,
     letters,
 };

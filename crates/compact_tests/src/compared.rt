@@ -1,7 +1,7 @@
 //! Values as they are compared and hashed. The order of the many texts was worked out by a program in Python, which sorts
 //! by code points.
 
-use crate::support::{
+use crate::values::{
     append, assert_heap, assert_static, buffered, copied, empty, lasting, letters,
 };
 use compact_str::CompactString;

@@ -1,6 +1,6 @@
 //! Values as they are handed on, with ample memory.
 
-use crate::support::{
+use crate::values::{
     append, assert_heap, assert_inline, buffered, copied, empty, lasting, letters,
 };
 use compact_str::{CompactString, FromJsonError};

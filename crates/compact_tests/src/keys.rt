@@ -76,7 +76,7 @@ pub fn set_rank(
 #[cfg(test)]
 mod tests {
     use super::*;
-    use crate::support::{copied, lasting, letters};
+    use crate::values::{copied, lasting, letters};
     use std::test::Fail;
 
     #[test]

@@ -55,11 +55,11 @@ mod sessions;
 mod shortened;
 #[cfg(test)]
 mod shown;
-#[cfg(test)]
-mod support;
 mod taken;
 #[cfg(test)]
 mod taken_tests;
+#[cfg(test)]
+mod values;
 
 pub use callers::{append_field, keyword, label, record_line};
 pub use iterated::{append_fields, long_names, names_by_reference, names_of, path, whole};

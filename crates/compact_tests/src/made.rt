@@ -1,6 +1,6 @@
 //! Values as they are made, with ample memory.
 
-use crate::support::{
+use crate::values::{
     append, assert_heap, assert_inline, assert_static, buffered, lasting, letters,
 };
 use compact_str::{CompactString, Policy, PolicyString, ReserveError};

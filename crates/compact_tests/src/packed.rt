@@ -1,7 +1,7 @@
 //! Inline values as their 24 bytes, by rows that are written out.
 
 use crate::positions::truncate;
-use crate::support::{append, assert_inline, copied, empty, lasting, letters};
+use crate::values::{append, assert_inline, copied, empty, lasting, letters};
 use compact_str::CompactString;
 use std::alloc::Global;
 use std::process::Abort;

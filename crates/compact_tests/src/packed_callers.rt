@@ -48,7 +48,7 @@ pub fn cleaned(alloc: Global, row: &[u8; 24]) -> Option<[u8; 24]>
 #[cfg(test)]
 mod tests {
     use super::*;
-    use crate::support::{assert_inline, copied, lasting};
+    use crate::values::{assert_inline, copied, lasting};
 
     #[test]
     fn a_key_goes_through_a_row(rt: HostRuntime) {

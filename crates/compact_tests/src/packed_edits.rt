@@ -2,7 +2,7 @@
 
 use crate::packed::is_packed;
 use crate::positions::{insert, insert_str, push, remove, replace, split, truncate};
-use crate::support::{append, assert_inline, copied, letters};
+use crate::values::{append, assert_inline, copied, letters};
 use compact_str::CompactString;
 use std::alloc::Global;
 use std::ops::Bound::{Excluded, Included};

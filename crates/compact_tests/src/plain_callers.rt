@@ -109,7 +109,7 @@ pub fn split_field(field: &mut CompactString) -> Result<Option<CompactString>, R
 #[cfg(test)]
 mod tests {
     use super::*;
-    use crate::support::{assert_heap, assert_inline, copied, empty, letters};
+    use crate::values::{assert_heap, assert_inline, copied, empty, letters};
 
     #[test]
     fn a_report_is_written_past_ascii(rt: HostRuntime) {

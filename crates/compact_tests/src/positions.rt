@@ -1,7 +1,7 @@
 //! Values as they are edited at their end and by byte position, with ample memory.
 
 use crate::policies::Large;
-use crate::support::{assert_heap, assert_inline, assert_static, copied, empty, lasting, letters};
+use crate::values::{assert_heap, assert_inline, assert_static, copied, empty, lasting, letters};
 use compact_str::{CompactString, Policy, PolicyString};
 use std::fmt;
 use std::fmt::Write;

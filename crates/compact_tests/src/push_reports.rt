@@ -4,7 +4,7 @@ use crate::memory::{spare, take_all};
 use crate::policies::{Double, Large, Slow};
 use crate::positions::remove;
 use crate::pushes::{joined, joined_in_doubled_room};
-use crate::support::{append, assert_heap, assert_inline, letters};
+use crate::values::{append, assert_heap, assert_inline, letters};
 use compact_edit::{PushReport, run_pushes};
 use compact_str::{Policy, PolicyString, Standard};
 use std::alloc::Global;

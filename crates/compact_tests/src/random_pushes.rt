@@ -3,7 +3,7 @@
 
 use crate::memory::take_all;
 use crate::policies::{Double, Large, Slow};
-use crate::support::letters;
+use crate::values::letters;
 use compact_edit::{PushReport, run_pushes};
 use compact_str::{Policy, Standard};
 use std::alloc::Global;

@@ -1,7 +1,7 @@
 //! Values while every request for memory is refused, with the plain allocator.
 
 use crate::memory::{spare, take_all};
-use crate::support::{
+use crate::values::{
     append, assert_heap, assert_inline, assert_static, buffered, clone_of, copied, empty, lasting,
     letters,
 };

@@ -1,7 +1,7 @@
 //! Lists of edits while every request for memory is refused.
 
 use crate::memory::take_all;
-use crate::support::{assert_inline, copied, letters};
+use crate::values::{assert_inline, copied, letters};
 use compact_edit::{Edit, Reply, run};
 use compact_str::{CompactString, Standard};
 use std::alloc::Global;

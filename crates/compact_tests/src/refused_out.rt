@@ -1,7 +1,7 @@
 //! Ways out of a value while every request for memory is refused.
 
 use crate::memory::take_all;
-use crate::support::{
+use crate::values::{
     assert_heap, assert_inline, assert_static, buffered, copied, lasting, letters,
 };
 use compact_str::{CompactString, FromJsonError, Refused};

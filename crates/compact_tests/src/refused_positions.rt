@@ -3,7 +3,7 @@
 use crate::memory::{spare, take_all};
 use crate::positions::{insert, remove, repeated, replace, split, truncate};
 use crate::refused_edits::{room_for, run_all};
-use crate::support::{assert_heap, assert_inline, assert_static, copied, lasting, letters};
+use crate::values::{assert_heap, assert_inline, assert_static, copied, lasting, letters};
 use compact_edit::{Edit, Reply};
 use compact_str::{CompactString, Standard};
 use std::fmt::Write;

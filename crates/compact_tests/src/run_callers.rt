@@ -6,7 +6,7 @@ ghost use Rattle.compact_str.specs.Capacity.{Growth, IsLawful};
 ghost use Rattle.compact_str.specs.Change.{cleared, pushed};
 
 #[cfg(test)]
-use crate::support::{assert_heap, assert_inline, copied, letters};
+use crate::values::{assert_heap, assert_inline, copied, letters};
 use compact_edit::{Edit, Reply, run};
 use compact_str::{CompactString, Policy, PolicyString, ReserveError};
 use std::alloc::Global;

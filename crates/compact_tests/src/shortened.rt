@@ -1,6 +1,6 @@
 //! Heap texts that were longer before: what is appended or put in then stands where bytes of the longer text stood.
 
-use crate::support::{append, assert_heap, assert_seen, copied, letters};
+use crate::values::{append, assert_heap, assert_seen, copied, letters};
 use compact_str::CompactString;
 use std::process::Abort;
 

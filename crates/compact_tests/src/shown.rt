@@ -1,6 +1,6 @@
 //! Values as they are shown. What is expected is what Rust shows of a `str`.
 
-use crate::support::{copied, lasting, letters};
+use crate::values::{copied, lasting, letters};
 use compact_str::{CompactString, FromJsonError, ReserveError};
 use std::test::Fail;
 

@@ -3,8 +3,8 @@
 use crate::lines::assert_prints;
 use crate::memory::{spare, take_all};
 use crate::refused_edits::{room_for, run_all};
-use crate::support::{append, assert_heap, assert_inline, assert_static, copied, lasting, letters};
 use crate::taken::{every_second, folded, without_spaces};
+use crate::values::{append, assert_heap, assert_inline, assert_static, copied, lasting, letters};
 use compact_edit::{Edit, Reply};
 use compact_str::{CompactString, Drain, Standard};
 use std::alloc::Global;

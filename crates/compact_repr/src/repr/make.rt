@@ -1,5 +1,6 @@
 //! How a representation is made.
-ghost use Rattle.std.specs.Prelude.{◌≡◌, ◌<◌, ℕ, List, length, nat_eq, if◌then◌else◌, [], Some, IfOk, OnErr, IsOk, IsTrue, MatchOption, string_bytes};
+ghost use Rattle.std.specs.Prelude.{◌≡◌, ◌<◌, ◌≤◌, ℕ, List, length, take, nat_eq, if◌then◌else◌, [], Some, IfOk, OnErr, IsOk, IsTrue, MatchOption, string_bytes};
+ghost use Rattle.std.specs.Str.{IsUtf8};
 ghost use Rattle.std.specs.String.{string_capacity};
 ghost use Rattle.compact_repr.specs.Text.{size, text_of};
 ghost use Rattle.compact_repr.specs.Value.{placed};
@@ -70,6 +71,17 @@ impl<P: Policy> Repr<P> {
     {
         let inline = InlineBuffer::from_packed(bytes)?;
         Some(Self::of(alloc, Buffer::Inline(inline)))
+    }
+
+    /// The first `len` bytes of a row, which are a text, inline.
+    #[inline]
+    pub fn from_row_unchecked(alloc: Global, row: &[u8; 24], len: usize) -> Self
+        requires fits { len ≤ 24 }
+        requires text { IsUtf8 (take len row.now) }
+        ensures { result ≡ placed (text_of (take len row.now)) inlined }
+    {
+        let inline = InlineBuffer::from_row_unchecked(row, len);
+        Self::of(alloc, Buffer::Inline(inline))
     }
 
     /// The empty text with room for `capacity` bytes: inline up to 24, which is never refused, else on the heap.

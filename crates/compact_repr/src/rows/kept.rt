@@ -1,5 +1,5 @@
 //! Which characters of a row of text stay.
-ghost use Rattle.std.specs.Prelude.{◌≡◌, ◌+◌, ◌≤◌, ◌<◌, ◌++◌, length, take, drop};
+ghost use Rattle.std.specs.Prelude.{◌≡◌, ◌+◌, ◌≤◌, ◌<◌, ◌++◌, length, take, drop, IfSome, IsSome};
 ghost use Rattle.std.specs.Char.{len_utf8, encode_utf8, IsScalar};
 ghost use Rattle.std.specs.Str.{IsUtf8};
 ghost use Rattle.compact_repr.specs.Text.{text_of};
@@ -33,15 +33,40 @@ fn move_kept<F: FnMut(char) -> bool>(row: &mut [u8], mut keep: F) -> usize
     let mut read = 0;
     let mut kept = 0;
     while read < row.len() {
-        let (character, width) = char_from(row, read);
-        // It goes ahead of the answer: where that is `false`, the next character is written over it.
-        put(row, kept, character, width);
-        if keep(character) {
-            kept += width;
+        // What goes ahead of the answer is written over by the next character where the answer is `false`.
+        while let Some(character) = ascii_at(row, read) {
+            put(row, kept, character, 1);
+            if keep(character) {
+                kept += 1;
+            }
+            read += 1;
         }
-        read += width;
+        if read < row.len() {
+            let (character, width) = char_from(row, read);
+            put(row, kept, character, width);
+            if keep(character) {
+                kept += width;
+            }
+            read += width;
+        }
     }
     kept
+}
+
+/// The character at a place of `row` where it is one of ASCII, else `None`; so it is at the end.
+#[inline(always)]
+fn ascii_at(row: &[u8], at: usize) -> Option<char>
+    requires utf8 { IsUtf8 (drop at row.now) }
+    ensures encoded { IfSome result (λ c. drop at row.now ≡ encode_utf8 c ++ drop (at + 1) row.now) }
+    ensures width { IfSome result (λ c. 1 ≡ len_utf8 c) }
+    ensures within { IsSome result → at + 1 ≤ length row.now }
+    ensures rest { IsSome result → IsUtf8 (drop (at + 1) row.now) }
+    ensures scalar { IfSome result (λ c. IsScalar c) }
+{
+    if at < row.len() && row[at] < 128 {
+        return Some(char::from(row[at]));
+    }
+    None
 }
 
 /// The character that begins at a place of `row`, and how many bytes it has.

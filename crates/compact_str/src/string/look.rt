@@ -1,6 +1,6 @@
 //! How a value is looked at.
 ghost use Rattle.std.specs.Prelude.{◌≡◌, ℕ, ◌<◌, ◌^◌, ◌↔◌, [], length, IsTrue, IsSome, IfSome};
-ghost use Rattle.std.specs.Str.{IsCharBoundary};
+ghost use Rattle.std.specs.Str.{IsCharBoundary, IsUtf8};
 ghost use Rattle.compact_repr.specs.Text.{size, utf8, text_of};
 ghost use Rattle.compact_repr.specs.Cut.{IsBoundary};
 ghost use Rattle.compact_repr.specs.Packed.{IsPackedFor};
@@ -37,6 +37,7 @@ impl<P: Policy> PolicyString<P> {
     pub fn as_bytes(&self) -> &[u8]
         ensures bytes { result.now ≡ utf8 self.now.text }
         ensures text { text_of result.now ≡ self.now.text }
+        ensures encoded { IsUtf8 result.now }
         ensures len { length result.now ≡ size self.now.text }
     {
         self.as_str().as_bytes()

@@ -1,12 +1,13 @@
 //! What stands from one position to another, for any two positions.
-ghost use Rattle.std.specs.Prelude.{◌≡◌, ◌≤◌, [], length, false};
+ghost use Rattle.std.specs.Prelude.{◌≡◌, ℕ, ◌+◌, ◌^◌, ◌<◌, ◌≤◌, List, [], ◌∷◌, length, MatchOption, false};
+ghost use Rattle.std.specs.Char.{len_utf8};
 ghost use Rattle.compact_repr.specs.Text.{size, text_of};
 ghost use Rattle.compact_repr.specs.Value.{is_static};
 ghost use Rattle.compact_str.specs.Drains.{may_cut, may_cut_out, part, without_part};
 
 use crate::string::PolicyString;
 use crate::string::position::is_boundary;
-use compact_repr::{Policy, middle};
+use compact_repr::{Policy, first_char, middle};
 
 /// What stands in `text` from one position to another, in bytes; nothing where these begin and end no range.
 #[inline(always)]
@@ -44,6 +45,26 @@ pub fn rare_part(text: &str, start: usize, end: usize) -> &str
     ensures len { length result.now ≡ size (part (text_of text.now) start end) }
 {
     part(text, start, end)
+}
+
+/// The first character of what stands from one position to another, for where it is seldom asked. It stays out of its
+/// caller's loop, and so does `rare_end`; neither writes, so what the loop has read it need not read again.
+#[cold]
+#[inline(never)]
+pub fn rare_first(text: &str, start: usize, end: usize) -> Option<char>
+    ensures { MatchOption result (part (text_of text.now) start end ≡ []) (λ c. (rest : List ℕ) × (part (text_of text.now) start end ≡ c ∷ rest)) }
+{
+    first_char(part(text, start, end))
+}
+
+/// Where a character ends that begins at `start`, in bytes.
+#[cold]
+#[inline(never)]
+pub fn rare_end(start: usize, character: char) -> usize
+    requires { start + len_utf8 character < 2 ^ 64 }
+    ensures { result ≡ start + len_utf8 character }
+{
+    start + character.len_utf8()
 }
 
 impl<P: Policy> PolicyString<P> {

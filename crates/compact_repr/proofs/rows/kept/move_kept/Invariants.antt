@@ -12,3 +12,15 @@ invariant-loop-read g l =
 
 abbrev pub decreases-loop-read : goal.decreases-loop-read
 decreases-loop-read g l = length l.initial.row - l.read
+
+-- the same while one goes over characters of one byte
+abbrev pub invariant-loop-character : goal.invariant-loop-character
+invariant-loop-character g l =
+    goal.F-IsAlwaysCallable g l.keep
+    × (l.kept ≤ l.read)
+    × (l.read ≤ length l.row)
+    × Stands g.F.FnMut l.fn.keep (text_of l.fn.row) l.keep l.row l.kept l.read
+    × (l.initial.read ≤ l.read)
+
+abbrev pub decreases-loop-character : goal.decreases-loop-character
+decreases-loop-character g l = length l.initial.row - l.read

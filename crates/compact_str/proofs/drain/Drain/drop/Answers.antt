@@ -1,6 +1,6 @@
-use Rattle.std.proofs.Common.{◌≡◌, ◌≤◌, arith, true, sym, subst, List, ℕ}
+use Rattle.std.proofs.Common.{◌≡◌, arith, true, sym, subst, List, ℕ}
 use Rattle.compact_repr.specs.Text.{size}
-use Rattle.compact_str.specs.Drains.{may_cut_out, without_part}
+use Rattle.compact_str.specs.Drains.{may_cut_out}
 use Rattle.compact_str.proofs.Drains.{without-owned, without-same, without-within}
 use Rattle.compact_str.proofs.drain.Drain.drop.Goals as goal
 

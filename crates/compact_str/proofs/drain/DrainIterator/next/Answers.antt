@@ -1,41 +1,85 @@
-use Rattle.std.proofs.Common.{◌≡◌, ◌+◌, ◌∷◌, arith, rules, refl, sym, ap, ◌∙◌, length}
-use Rattle.compact_str.specs.Drains.{part}
+use Rattle.std.proofs.Common.{◌≡◌, ◌+◌, [], ◌∷◌, rules, refl, sym, ap, ◌∙◌, length}
+use Rattle.std.proofs.lemmas.Bool.{eqb-true}
+use Rattle.std.proofs.lemmas.List.{nil_from_length}
+use Rattle.std.proofs.lemmas.Str.{chars-nil}
+use Rattle.std.specs.Char.{len_utf8}
+use Rattle.compact_repr.specs.Text.{text_of}
 use Rattle.compact_str.specs.Drained.{drain_rest}
-use Rattle.compact_str.proofs.Drains.{part-front, front-range}
+use Rattle.compact_str.proofs.Drains.{front-taken}
 use Rattle.compact_str.proofs.drain.DrainIterator.next.Goals as goal
 
+pub returns-then-is_empty-clause-steps : goal.returns-then-is_empty-clause-steps
+returns-then-is_empty-clause-steps g c =
+    let d = c.args.self.now in
+    let none : drain_rest d ≡ [] = sym c.as_str-rest.ensures.text ∙ ap text_of (nil_from_length c.as_str-rest.result.now (eqb-true _ _ (sym c.if-is_empty.ensures))) ∙ chars-nil in
+    record { lender = refl; leaves = refl; step = (none, none) }
+
+-- one byte is taken
 pub overflow_add-self : goal.overflow_add-self
 overflow_add-self g c =
     let d = c.args.self.now in
-    let first = c.in_ok-character.ensures.1 in
-    let taken = part-front d.value.now.text first.0 d.front d.back c.in_ok-character.character (sym c.as_str.ensures.text ∙ first.1) in
-    let wide = c.in_ok-character.ensures.0 in
+    let first = c.in-Some.ensures in
+    let taken = front-taken d.value.now.text first.1.0 d.front d.back c.in-Some.character (d.front + 1) (sym c.as_str-rest.ensures.text ∙ first.1.1) (ap (λ w. d.front + w) (sym first.0)) in
     let fits = taken.1 in
-    search rules
-
-pub returns-clause-steps : goal.returns-clause-steps
-returns-clause-steps g c =
-    let d = c.args.self.now in
-    let first = c.in_ok-character.ensures.1 in
-    let split : drain_rest d ≡ c.in_ok-character.character ∷ first.0 = sym c.as_str.ensures.text ∙ first.1 in
-    let taken = part-front d.value.now.text first.0 d.front d.back c.in_ok-character.character split in
-    let left : part d.value.now.text (d.front + c.in_ok-character.width) d.back ≡ first.0 = rw c.in_ok-character.ensures.0 taken.0 in
-    record { lender = refl; leaves = refl; step = split ∙ ap (λ l. c.in_ok-character.character ∷ l) (sym left) }
-
-pub returns-clause-goes : goal.returns-clause-goes
-returns-clause-goes g c =
-    let d = c.args.self.now in
-    let first = c.in_ok-character.ensures.1 in
-    let split : drain_rest d ≡ c.in_ok-character.character ∷ first.0 = sym c.as_str.ensures.text ∙ first.1 in
-    let taken = part-front d.value.now.text first.0 d.front d.back c.in_ok-character.character split in
-    let left : part d.value.now.text (d.front + c.in_ok-character.width) d.back ≡ first.0 = rw c.in_ok-character.ensures.0 taken.0 in
-    let before = ap length split in
-    let after = ap length left in
     search rules
 
 pub invariant_of-self : goal.invariant_of-self
 invariant_of-self g c =
     let d = c.args.self.now in
-    let first = c.in_ok-character.ensures.1 in
-    let split : drain_rest d ≡ c.in_ok-character.character ∷ first.0 = sym c.as_str.ensures.text ∙ first.1 in
-    record { owned = d.owned; within = d.within; range = λ _. rw c.in_ok-character.ensures.0 (front-range d.value.now.text first.0 d.front d.back c.in_ok-character.character split) }
+    let first = c.in-Some.ensures in
+    let taken = front-taken d.value.now.text first.1.0 d.front d.back c.in-Some.character (d.front + 1) (sym c.as_str-rest.ensures.text ∙ first.1.1) (ap (λ w. d.front + w) (sym first.0)) in
+    record { owned = d.owned; within = d.within; range = λ _. taken.2 }
+
+pub returns-in-Some-clause-steps : goal.returns-in-Some-clause-steps
+returns-in-Some-clause-steps g c =
+    let d = c.args.self.now in
+    let first = c.in-Some.ensures in
+    let split : drain_rest d ≡ c.in-Some.character ∷ first.1.0 = sym c.as_str-rest.ensures.text ∙ first.1.1 in
+    let taken = front-taken d.value.now.text first.1.0 d.front d.back c.in-Some.character (d.front + 1) split (ap (λ w. d.front + w) (sym first.0)) in
+    record { lender = refl; leaves = refl; step = split ∙ ap (λ l. c.in-Some.character ∷ l) (sym taken.0) }
+
+pub returns-in-Some-clause-goes : goal.returns-in-Some-clause-goes
+returns-in-Some-clause-goes g c =
+    let d = c.args.self.now in
+    let first = c.in-Some.ensures in
+    let split : drain_rest d ≡ c.in-Some.character ∷ first.1.0 = sym c.as_str-rest.ensures.text ∙ first.1.1 in
+    let taken = front-taken d.value.now.text first.1.0 d.front d.back c.in-Some.character (d.front + 1) split (ap (λ w. d.front + w) (sym first.0)) in
+    let before = ap length split in
+    let after = ap length taken.0 in
+    search rules
+
+-- a wider character
+pub rare_end-self-requires : goal.rare_end-self-requires
+rare_end-self-requires g c =
+    let d = c.args.self.now in
+    let first = c.in_ok-character.ensures in
+    let split : drain_rest d ≡ c.in_ok-character.character ∷ first.0 = rw (sym c.owned_str.ensures.text) first.1 in
+    let taken = front-taken d.value.now.text first.0 d.front d.back c.in_ok-character.character (d.front + len_utf8 c.in_ok-character.character) split refl in
+    let fits = taken.1 in
+    search rules
+
+pub invariant_of-self-2 : goal.invariant_of-self-2
+invariant_of-self-2 g c =
+    let d = c.args.self.now in
+    let first = c.in_ok-character.ensures in
+    let split : drain_rest d ≡ c.in_ok-character.character ∷ first.0 = rw (sym c.owned_str.ensures.text) first.1 in
+    let taken = front-taken d.value.now.text first.0 d.front d.back c.in_ok-character.character c.rare_end-self.result split c.rare_end-self.ensures in
+    record { owned = d.owned; within = d.within; range = λ _. taken.2 }
+
+pub returns-clause-steps : goal.returns-clause-steps
+returns-clause-steps g c =
+    let d = c.args.self.now in
+    let first = c.in_ok-character.ensures in
+    let split : drain_rest d ≡ c.in_ok-character.character ∷ first.0 = rw (sym c.owned_str.ensures.text) first.1 in
+    let taken = front-taken d.value.now.text first.0 d.front d.back c.in_ok-character.character c.rare_end-self.result split c.rare_end-self.ensures in
+    record { lender = refl; leaves = refl; step = split ∙ ap (λ l. c.in_ok-character.character ∷ l) (sym taken.0) }
+
+pub returns-clause-goes : goal.returns-clause-goes
+returns-clause-goes g c =
+    let d = c.args.self.now in
+    let first = c.in_ok-character.ensures in
+    let split : drain_rest d ≡ c.in_ok-character.character ∷ first.0 = rw (sym c.owned_str.ensures.text) first.1 in
+    let taken = front-taken d.value.now.text first.0 d.front d.back c.in_ok-character.character c.rare_end-self.result split c.rare_end-self.ensures in
+    let before = ap length split in
+    let after = ap length taken.0 in
+    search rules

@@ -1,0 +1,33 @@
+//! Values made of numbers and of formats.
+
+use crate::inputs::{NAMES, NUMBERS, names, numbers};
+use crate::ring::Ring;
+use compact_ext::{ToCompactString, ToCompactStringError, format_compact};
+use compact_str::ReserveError;
+use std::alloc::Global;
+
+/// Makes the text of each number in turn.
+pub fn texts(alloc: Global, n: u64) -> Result<u64, ToCompactStringError> {
+    let numbers = numbers(alloc).map_err(|_| ReserveError)?;
+    let mut ring = Ring::new(alloc).map_err(|_| ReserveError)?;
+    for i in 0..n as usize {
+        if let Some(number) = numbers.get(i % NUMBERS) {
+            ring.put(i, number.to_compact_string(alloc)?);
+        }
+    }
+    Ok(ring.sum())
+}
+
+/// Makes the text of a name and a number below a million.
+pub fn formats(alloc: Global, n: u64) -> Result<u64, ToCompactStringError> {
+    let names = names(alloc).map_err(|_| ReserveError)?;
+    let numbers = numbers(alloc).map_err(|_| ReserveError)?;
+    let mut ring = Ring::new(alloc).map_err(|_| ReserveError)?;
+    for i in 0..n as usize {
+        if let (Some(name), Some(number)) = (names.get(i % NAMES), numbers.get(i % NUMBERS)) {
+            let number = number % 1_000_000;
+            ring.put(i, format_compact!(in alloc; "{}-{}", name, number)?);
+        }
+    }
+    Ok(ring.sum())
+}

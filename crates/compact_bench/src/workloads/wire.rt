@@ -1,0 +1,36 @@
+//! Texts that go over a wire.
+
+use crate::checksum::{mix, probe};
+use crate::inputs::{RECORDS, records};
+use compact_ext::wire::{read_wire, write_wire};
+use compact_str::CompactString;
+use std::alloc::Global;
+
+/// Writes records into a vector, and reads them back.
+pub fn records_through_bytes(alloc: Global, n: u64) -> Option<u64> {
+    let values = values(alloc)?;
+    let mut bytes = Vec::new(alloc);
+    let mut sum = 0;
+    for _ in 0..n {
+        bytes.clear();
+        for value in &values {
+            write_wire(value, &mut bytes).ok()?;
+        }
+        let mut rest = bytes.as_slice();
+        for _ in 0..RECORDS {
+            let value = read_wire(alloc, &mut rest).ok()?;
+            sum = mix(sum, probe(&value));
+        }
+    }
+    Some(sum)
+}
+
+/// The records as values.
+fn values(alloc: Global) -> Option<Vec<CompactString>> {
+    let mut values = Vec::new(alloc);
+    for text in records(alloc).ok()? {
+        let value = CompactString::new(alloc, text.as_str()).ok()?;
+        values.push(value).ok()?;
+    }
+    Some(values)
+}

@@ -1,0 +1,57 @@
+//! Callers that decode bytes from outside, as users write them, each proved with no proof file.
+ghost use Rattle.std.specs.Prelude.{◌≡◌, ◌↔◌, ◌≤◌, length, not, filter, IsTrue, IsOk, IfOk};
+ghost use Rattle.std.specs.Str.{IsUtf8, is_utf8};
+ghost use Rattle.compact_str.specs.Text.{size};
+ghost use Rattle.compact_str.specs.Utf8Text.{utf8_lossy_text};
+
+use compact_str::{CompactString, FromUtf8Error, ReserveError};
+use std::alloc::Global;
+
+/// Decodes each row of a list, and counts those that are broken: a row that is refused for memory is none.
+#[tactic(auto, using(compact_str::proofs::ForCallers::for_callers, compact_str::proofs::ForCallers::decoding))]
+pub fn broken_rows(alloc: Global, rows: &[&[u8]]) -> usize
+    ensures { result ≡ length (filter (λ row. not (is_utf8 row.now)) rows.now) }
+{
+    rows.iter().filter(|row| is_broken(alloc, **row)).count()
+}
+
+/// Whether bytes encode no text.
+#[tactic(auto, using(compact_str::proofs::ForCallers::decoding))]
+fn is_broken(alloc: Global, bytes: &[u8]) -> bool
+    ensures { result ≡ not (is_utf8 bytes.now) }
+{
+    matches!(
+        CompactString::from_utf8(alloc, bytes),
+        Err(FromUtf8Error::Utf8 { .. })
+    )
+}
+
+/// A name of which broken parts are replaced, and whether there were any.
+#[tactic(auto, using(compact_str::proofs::ForCallers::for_callers, compact_str::proofs::ForCallers::decoding))]
+pub fn decoded_name(alloc: Global, bytes: &[u8]) -> Result<(CompactString, bool), ReserveError>
+    ensures text { IfOk result (λ answer. answer.0.text ≡ utf8_lossy_text bytes.now) }
+    ensures broken { IfOk result (λ answer. IsTrue answer.1 ↔ ¬ (IsUtf8 bytes.now)) }
+    ensures succeeds { size (utf8_lossy_text bytes.now) ≤ 24 → IsOk result }
+{
+    match CompactString::from_utf8(alloc, bytes) {
+        Ok(name) => Ok((name, false)),
+        Err(FromUtf8Error::Reserve(error)) => Err(error),
+        Err(FromUtf8Error::Utf8 { .. }) => match CompactString::from_utf8_lossy(alloc, bytes) {
+            Ok(name) => Ok((name, true)),
+            Err(error) => Err(error),
+        },
+    }
+}
+
+/// The text of a value, by way of its bytes. It is never told to be broken.
+#[tactic(auto, using(compact_str::proofs::ForCallers::for_callers, compact_str::proofs::ForCallers::decoding))]
+pub fn through_bytes(alloc: Global, value: &CompactString) -> Result<CompactString, ReserveError>
+    ensures text { IfOk result (λ copy. copy.text ≡ value.now.text) }
+    ensures succeeds { size value.now.text ≤ 24 → IsOk result }
+{
+    match CompactString::from_utf8(alloc, value.as_bytes()) {
+        Ok(copy) => Ok(copy),
+        Err(FromUtf8Error::Reserve(error)) => Err(error),
+        Err(FromUtf8Error::Utf8 { .. }) => unreachable!(),
+    }
+}

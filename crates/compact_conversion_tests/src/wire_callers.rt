@@ -1,0 +1,92 @@
+//! Callers that write texts over a wire and read them, as users write them.
+ghost use Rattle.std.specs.Prelude.{◌≡◌, ◌++◌, List, IfOk, OnOk, MatchOption, IsTrue};
+ghost use Rattle.std.specs.List.{flat_map};
+ghost use Rattle.std.specs.Io.KnownBytes.{Appends, Consumes, IsAtEnd, Keeps};
+ghost use Rattle.compact_ext.specs.Wire.{wire};
+
+use compact_ext::wire::{WireError, read_wire, write_wire};
+use compact_str::{CompactString, ReserveError};
+use std::alloc::Global;
+use std::io::{BufRead, Read, Write};
+
+/// Sends a name and a value, one after the other.
+#[tactic(auto, using(compact_ext::proofs::WireFacts::wire_facts))]
+pub fn send_field<W: Write>(
+    name: &CompactString,
+    value: &CompactString,
+    writer: &mut W,
+) -> Result<(), WireError>
+    ensures { OnOk result (Appends (W.contents writer.old) (W.contents writer.new) (wire name.now.text ++ wire value.now.text)) }
+{
+    write_wire(name, writer)?;
+    write_wire(value, writer)
+}
+
+/// Receives a name and a value.
+#[tactic(auto, using(compact_ext::proofs::WireFacts::wire_facts))]
+pub fn receive_field<R: Read>(
+    alloc: Global,
+    reader: &mut R,
+) -> Result<(CompactString, CompactString), WireError>
+    ensures { IfOk result (λ field. Consumes (R.remaining reader.old) (R.remaining reader.new) (wire field.0.text ++ wire field.1.text)) }
+{
+    let name = read_wire(alloc, reader)?;
+    let value = read_wire(alloc, reader)?;
+    Ok((name, value))
+}
+
+/// What comes of a text that is written into a vector and read from there.
+#[tactic(auto, using(compact_ext::proofs::WireFacts::wire_facts))]
+pub fn sent_and_received(alloc: Global, text: &CompactString) -> Result<CompactString, WireError>
+    ensures { IfOk result (λ back. back.text ≡ text.now.text) }
+{
+    let mut bytes = Vec::new(alloc);
+    write_wire(text, &mut bytes)?;
+    let mut rest = bytes.as_slice();
+    read_wire(alloc, &mut rest)
+}
+
+/// The next record of a reader, or `None` at its end.
+#[tactic(auto, using(compact_ext::proofs::WireFacts::wire_facts))]
+pub fn next_record<R: BufRead>(
+    alloc: Global,
+    reader: &mut R,
+) -> Result<Option<CompactString>, WireError>
+    ensures taken { IfOk result (λ found. MatchOption found
+        (IsAtEnd (R.remaining reader.old) × Keeps (R.remaining reader.old) (R.remaining reader.new))
+        (λ v. Consumes (R.remaining reader.old) (R.remaining reader.new) (wire v.text))) }
+{
+    if is_at_end(reader)? {
+        return Ok(None);
+    }
+    let record = read_wire(alloc, reader)?;
+    Ok(Some(record))
+}
+
+/// Whether a reader has nothing left.
+#[tactic(auto, using(compact_ext::proofs::WireFacts::wire_facts))]
+fn is_at_end<R: BufRead>(reader: &mut R) -> Result<bool, WireError>
+    ensures end { IfOk result (λ b. IsTrue b → IsAtEnd (R.remaining reader.old)) }
+    ensures kept { Keeps (R.remaining reader.old) (R.remaining reader.new) }
+{
+    match reader.fill_buf() {
+        Ok(bytes) => Ok(bytes.is_empty()),
+        Err(error) => Err(WireError::Io(error)),
+    }
+}
+
+/// The records of some bytes until their end, each in the wire form.
+#[tactic(auto, using(compact_ext::proofs::WireFacts::wire_facts))]
+pub fn read_records(alloc: Global, bytes: &[u8]) -> Result<Vec<CompactString>, WireError>
+    ensures { IfOk result (λ records. bytes.now ≡ flat_map (λ v. wire v.text) records.items) }
+{
+    let mut rest = bytes;
+    let mut records = Vec::new(alloc);
+    while !rest.is_empty() {
+        let record = read_wire(alloc, &mut rest)?;
+        records
+            .push(record)
+            .map_err(|_| WireError::Reserve(ReserveError))?;
+    }
+    Ok(records)
+}

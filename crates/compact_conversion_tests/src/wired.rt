@@ -1,0 +1,313 @@
+//! Texts that are written over a wire and read: the bytes, and what each fault has taken or put out. The bytes were written
+//! by hand from the definition of the form.
+
+use crate::values::{assert_inline, copied, letters};
+use crate::wire_callers::{
+    next_record, read_records, receive_field, send_field, sent_and_received,
+};
+use crate::wire_pieces::{Letters, Narrow, Pieces, Stop};
+use compact_ext::wire::{WireError, read_wire, write_wire};
+use compact_str::{CompactString, ReserveError};
+use std::alloc::Global;
+use std::fmt::Write;
+use std::io;
+use std::io::ErrorKind;
+use std::process::Abort;
+
+/// The name of a fault.
+pub fn name_of(fault: &WireError) -> &'static str {
+    match fault {
+        WireError::TooLong => "too long",
+        WireError::UnexpectedEnd => "end",
+        WireError::Utf8 => "utf8",
+        WireError::Io(_) => "io",
+        WireError::WriteZero => "zero",
+        WireError::Reserve(_) => "reserve",
+    }
+}
+
+/// The fault of a read, or `read`.
+pub fn outcome_of(read: &Result<CompactString, WireError>) -> &'static str {
+    match read {
+        Ok(_) => "read",
+        Err(fault) => name_of(fault),
+    }
+}
+
+/// Asserts that a text is written as these bytes.
+fn assert_written(rt: &impl Abort, alloc: Global, text: &str, bytes: &[u8]) {
+    let mut written = Vec::new(alloc);
+    let sent = write_wire(&copied(rt, alloc, text), &mut written);
+    assert!(rt; sent.is_ok());
+    assert_eq!(rt; written.as_slice(), bytes);
+}
+
+/// Asserts that a read fails in this way and leaves so many bytes.
+fn assert_fault(rt: &impl Abort, alloc: Global, bytes: &[u8], fault: &str, left: usize) {
+    let mut rest = bytes;
+    assert_eq!(rt; outcome_of(&read_wire(alloc, &mut rest)), fault);
+    assert_eq!(rt; rest.len(), left);
+}
+
+#[test]
+fn short_texts_are_written(rt: HostRuntime) {
+    let alloc = rt.alloc();
+    assert_written(&rt, alloc, "Hi", &[2, 0, 0, 0, 0x48, 0x69]);
+    assert_written(&rt, alloc, "", &[0, 0, 0, 0]);
+    assert_written(&rt, alloc, "€", &[3, 0, 0, 0, 0xE2, 0x82, 0xAC]);
+}
+
+/// A form of so many letters: the length, and each letter.
+fn form_of(rt: &impl Abort, alloc: Global, len: u8, letter: &[u8], count: usize) -> Vec<u8> {
+    let mut form = Vec::new(alloc);
+    form.extend_from_slice(&[len, 0, 0, 0]).expect(rt, "memory");
+    for _ in 0..count {
+        form.extend_from_slice(letter).expect(rt, "memory");
+    }
+    form
+}
+
+#[test]
+fn long_texts_are_written(rt: HostRuntime) {
+    let alloc = rt.alloc();
+    let form = form_of(&rt, alloc, 0x37, b"a", 55);
+    assert_written(&rt, alloc, letters(55), &form);
+    let form = form_of(&rt, alloc, 0x19, b"a", 25);
+    assert_written(&rt, alloc, letters(25), &form);
+}
+
+#[test]
+fn what_follows_a_form_stays_unread(rt: HostRuntime) {
+    let bytes: [u8; 7] = [2, 0, 0, 0, 0x48, 0x69, 0x4A];
+    let mut rest: &[u8] = &bytes;
+    let text = read_wire(rt.alloc(), &mut rest).expect(&rt, "a text");
+    assert_inline(&rt, &text, "Hi");
+    assert_eq!(rt; rest.len(), 1);
+    assert!(rt; rest.first() == Some(&0x4A));
+}
+
+#[test]
+fn an_input_that_ends_early_is_taken_whole(rt: HostRuntime) {
+    let alloc = rt.alloc();
+    assert_fault(&rt, alloc, &[], "end", 0);
+    assert_fault(&rt, alloc, &[2, 0], "end", 0);
+    assert_fault(&rt, alloc, &[2, 0, 0, 0, 0x48], "end", 0);
+    assert_fault(&rt, alloc, &[0xFF, 0xFF, 0xFF, 0xFF, 1, 2, 3], "end", 0);
+    let short = form_of(&rt, alloc, 0x18, b"a", 23);
+    assert_fault(&rt, alloc, &short, "end", 0);
+    let short = form_of(&rt, alloc, 0x37, b"a", 54);
+    assert_fault(&rt, alloc, &short, "end", 0);
+}
+
+#[test]
+fn a_broken_text_is_taken_and_nothing_after_it(rt: HostRuntime) {
+    let alloc = rt.alloc();
+    assert_fault(&rt, alloc, &[1, 0, 0, 0, 0xFF], "utf8", 0);
+    assert_fault(&rt, alloc, &[1, 0, 0, 0, 0xC3, 0xA9], "utf8", 1);
+    assert_fault(&rt, alloc, &[3, 0, 0, 0, 0xED, 0xA0, 0x80, 0x4A], "utf8", 1);
+    let mut long = form_of(&rt, alloc, 0x1A, b"a", 25);
+    long.extend_from_slice(&[0xFF, 0x4A]).expect(&rt, "memory");
+    assert_fault(&rt, alloc, &long, "utf8", 1);
+}
+
+#[test]
+fn a_text_is_read_in_pieces(rt: HostRuntime) {
+    let alloc = rt.alloc();
+    let form = form_of(&rt, alloc, 0x3C, "€".as_bytes(), 20);
+    for step in 1..65 {
+        let mut reader = Pieces::new(&form, step, Stop::Never);
+        let text = read_wire(alloc, &mut reader).expect(&rt, "a text");
+        assert_eq!(rt; text.as_bytes(), form.get(4..).unwrap_or(&[]));
+        assert!(rt; text.is_heap_allocated());
+        assert_eq!(rt; text.capacity(), 60);
+        assert_eq!(rt; reader.rest.len(), 0);
+    }
+}
+
+/// Asserts that a reader that gives one byte a call, and stops at one, is not called again, and has given the bytes before.
+fn assert_stops(rt: &impl Abort, alloc: Global, form: &[u8], call: usize, stop: Stop, fault: &str) {
+    let mut reader = Pieces::new(form, 1, stop);
+    assert_eq!(rt; outcome_of(&read_wire(alloc, &mut reader)), fault);
+    assert_eq!(rt; reader.calls, call);
+    assert_eq!(rt; reader.rest.len().saturating_add(call), form.len() + 1);
+}
+
+/// Asserts that, at each call of a form, for each way to stop.
+fn assert_each_stop(rt: &impl Abort, alloc: Global, form: &[u8]) {
+    for call in 1..form.len() + 1 {
+        assert_stops(
+            rt,
+            alloc,
+            form,
+            call,
+            Stop::Fails(call, ErrorKind::Other),
+            "io",
+        );
+        let interrupted = Stop::Fails(call, ErrorKind::Interrupted);
+        assert_stops(rt, alloc, form, call, interrupted, "io");
+        assert_stops(rt, alloc, form, call, Stop::Pauses(call), "end");
+    }
+    let late = Stop::Fails(form.len() + 1, ErrorKind::Other);
+    let mut reader = Pieces::new(form, 1, late);
+    assert_eq!(rt; outcome_of(&read_wire(alloc, &mut reader)), "read");
+    assert_eq!(rt; reader.calls, form.len());
+}
+
+#[test]
+fn no_read_is_tried_again(rt: HostRuntime) {
+    let alloc = rt.alloc();
+    assert_each_stop(&rt, alloc, &[2, 0, 0, 0, 0x48, 0x69]);
+    let form = form_of(&rt, alloc, 0x37, b"a", 55);
+    assert_each_stop(&rt, alloc, &form);
+}
+
+/// Asserts how a write to a writer ends, and what has gone out.
+fn assert_writes(rt: &impl Abort, text: &CompactString, mut writer: Narrow, end: &str, out: &[u8]) {
+    let ended = match write_wire(text, &mut writer) {
+        Ok(()) => "written",
+        Err(fault) => name_of(&fault),
+    };
+    assert_eq!(rt; ended, end);
+    assert_eq!(rt; writer.bytes(), out);
+}
+
+#[test]
+fn a_writer_that_fails_or_is_full_has_a_beginning(rt: HostRuntime) {
+    let text = copied(&rt, rt.alloc(), "Hi");
+    let form: [u8; 6] = [2, 0, 0, 0, 0x48, 0x69];
+    for call in 1..7 {
+        let out = form.get(..call - 1).unwrap_or(&[]);
+        let failing = Narrow::new(64, 1, Stop::Fails(call, ErrorKind::Other));
+        assert_writes(&rt, &text, failing, "io", out);
+        let interrupted = Narrow::new(64, 1, Stop::Fails(call, ErrorKind::Interrupted));
+        assert_writes(&rt, &text, interrupted, "io", out);
+        let pausing = Narrow::new(64, 1, Stop::Pauses(call));
+        assert_writes(&rt, &text, pausing, "zero", out);
+        let full = Narrow::new(call - 1, 5, Stop::Never);
+        assert_writes(&rt, &text, full, "zero", out);
+    }
+    let whole = Narrow::new(6, 1, Stop::Fails(7, ErrorKind::Other));
+    assert_writes(&rt, &text, whole, "written", &form);
+}
+
+#[test]
+fn an_empty_text_needs_four_bytes(rt: HostRuntime) {
+    let text = CompactString::default(rt.alloc());
+    let four: [u8; 4] = [0; 4];
+    assert_writes(&rt, &text, Narrow::new(4, 4, Stop::Never), "written", &four);
+    assert_writes(
+        &rt,
+        &text,
+        Narrow::new(4, 1, Stop::Pauses(5)),
+        "written",
+        &four,
+    );
+}
+
+#[test]
+fn a_long_text_is_read_in_rooms(rt: HostRuntime) {
+    let alloc = rt.alloc();
+    let mut short = Letters::new(0x0010_0001, 1_048_576);
+    assert_eq!(rt; outcome_of(&read_wire(alloc, &mut short)), "end");
+    assert_eq!(rt; short.given, 4 + 1_048_576);
+    let mut whole = Letters::new(0x0010_0001, 1_048_577);
+    let text = read_wire(alloc, &mut whole).expect(&rt, "a text");
+    assert!(rt; text.is_heap_allocated());
+    assert_eq!(rt; text.len(), 1_048_577);
+    assert_eq!(rt; text.capacity(), 1_048_577);
+}
+
+#[test]
+fn texts_of_each_length_come_back(rt: HostRuntime) {
+    let alloc = rt.alloc();
+    let mut bytes = Vec::new(alloc);
+    for count in 0..80 {
+        let sent = write_wire(&copied(&rt, alloc, letters(count)), &mut bytes);
+        assert!(rt; sent.is_ok());
+    }
+    let mut rest = bytes.as_slice();
+    for count in 0..80 {
+        let text = read_wire(alloc, &mut rest).expect(&rt, "a text");
+        assert_eq!(rt; text.as_str(), letters(count));
+        assert!(rt; text.is_heap_allocated() == (count > 24));
+    }
+    assert_eq!(rt; rest.len(), 0);
+}
+
+/// Asserts how a fault is shown.
+fn assert_shown(rt: &impl Abort, alloc: Global, fault: WireError, text: &str) {
+    let mut shown = CompactString::default(alloc);
+    write!(shown, "{fault}").expect(rt, "memory");
+    assert_eq!(rt; shown.as_str(), text);
+}
+
+#[test]
+fn faults_are_shown(rt: HostRuntime) {
+    let alloc = rt.alloc();
+    assert_shown(
+        &rt,
+        alloc,
+        WireError::TooLong,
+        "text too long for the wire form",
+    );
+    assert_shown(
+        &rt,
+        alloc,
+        WireError::UnexpectedEnd,
+        "unexpected end of input",
+    );
+    assert_shown(&rt, alloc, WireError::Utf8, "invalid utf-8");
+    let failed = WireError::Io(io::Error::other("x"));
+    assert_shown(&rt, alloc, failed, "input or output failed");
+    assert_shown(&rt, alloc, WireError::WriteZero, "writer took no bytes");
+    let refused = WireError::from(ReserveError);
+    assert!(rt; matches!(refused, WireError::Reserve(_)));
+    assert_shown(
+        &rt,
+        alloc,
+        refused,
+        "Cannot allocate memory to hold CompactString",
+    );
+}
+
+/// The forms of `a`, of no text and of `Hi`.
+const RECORDS: [u8; 15] = [1, 0, 0, 0, 0x61, 0, 0, 0, 0, 2, 0, 0, 0, 0x48, 0x69];
+
+#[test]
+fn records_are_read_until_the_end(rt: HostRuntime) {
+    let alloc = rt.alloc();
+    let records = read_records(alloc, &RECORDS).expect(&rt, "records");
+    assert_eq!(rt; records.len(), 3);
+    assert_inline(&rt, &records[0], "a");
+    assert_inline(&rt, &records[1], "");
+    assert_inline(&rt, &records[2], "Hi");
+    assert!(rt; read_records(alloc, RECORDS.get(..14).unwrap_or(&[])).is_err());
+}
+
+#[test]
+fn a_reader_tells_its_next_record_and_its_end(rt: HostRuntime) {
+    let alloc = rt.alloc();
+    let mut rest: &[u8] = &RECORDS;
+    for text in ["a", "", "Hi"] {
+        let record = next_record(alloc, &mut rest).expect(&rt, "a record");
+        assert_inline(&rt, &record.expect(&rt, "no end"), text);
+    }
+    let end = next_record(alloc, &mut rest).expect(&rt, "an end");
+    assert!(rt; end.is_none());
+}
+
+#[test]
+fn a_field_is_sent_and_received(rt: HostRuntime) {
+    let alloc = rt.alloc();
+    let mut bytes = Vec::new(alloc);
+    let name = copied(&rt, alloc, "name");
+    let sent = send_field(&name, &copied(&rt, alloc, letters(30)), &mut bytes);
+    assert!(rt; sent.is_ok());
+    assert_eq!(rt; bytes.len(), 42);
+    let mut rest = bytes.as_slice();
+    let (key, value) = receive_field(alloc, &mut rest).expect(&rt, "a field");
+    assert_inline(&rt, &key, "name");
+    assert_eq!(rt; value.as_str(), letters(30));
+    let back = sent_and_received(alloc, &value).expect(&rt, "a text");
+    assert!(rt; back == value);
+}

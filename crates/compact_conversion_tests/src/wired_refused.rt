@@ -1,0 +1,90 @@
+//! Texts that are written over a wire and read while requests for memory are refused. How much room was asked for shows in
+//! how many bytes the reader had given when it was.
+
+use crate::memory::{spare, take_all};
+use crate::values::{assert_inline, copied, letters};
+use crate::wire_pieces::{Letters, Narrow, Stop};
+use crate::wired::outcome_of;
+use compact_ext::wire::{WireError, read_wire, write_wire};
+use std::alloc::Global;
+use std::process::Abort;
+
+const MEGABYTE: usize = 1 << 20;
+
+/// Asserts that room for a text of so many bytes is refused once the reader has given `given`, the length among them.
+fn assert_refused(rt: &impl Abort, alloc: Global, len: u32, given: usize) {
+    let mut reader = Letters::new(len, 16 * MEGABYTE);
+    assert_eq!(rt; outcome_of(&read_wire(alloc, &mut reader)), "reserve");
+    assert_eq!(rt; reader.given, given);
+}
+
+/// Asserts that a text of so many letters is read while no memory is left.
+fn assert_reads(rt: &impl Abort, alloc: Global, len: u32, text: &str) {
+    let mut reader = Letters::new(len, 100);
+    let value = read_wire(alloc, &mut reader).expect(rt, "a text");
+    assert_inline(rt, &value, text);
+}
+
+#[test]
+fn a_text_of_24_bytes_needs_no_memory(rt: HostRuntime) {
+    let hog = take_all(&rt, rt.alloc());
+    assert_reads(&rt, rt.alloc(), 0, "");
+    assert_reads(&rt, rt.alloc(), 24, letters(24));
+    drop(hog);
+}
+
+#[test]
+fn a_longer_text_is_refused_after_its_length(rt: HostRuntime) {
+    let hog = take_all(&rt, rt.alloc());
+    assert_refused(&rt, rt.alloc(), 25, 4);
+    assert_refused(&rt, rt.alloc(), 55, 4);
+    assert_refused(&rt, rt.alloc(), u32::MAX, 4);
+    drop(hog);
+}
+
+/// Asserts what a reader of the greatest length has given, where so much memory in one piece is all that is left.
+fn assert_refused_within(rt: &impl Abort, alloc: Global, left: usize, given: usize) {
+    let block = spare(rt, alloc, left);
+    let hog = take_all(rt, alloc);
+    drop(block);
+    assert_refused(rt, alloc, u32::MAX, given);
+    drop(hog);
+}
+
+// What is left is found by trial with the C library's allocator: it grants one room from 2 megabytes on, two from 6 and
+// three from 10, since it takes more than it is asked for and keeps a room until its bytes are moved.
+
+#[test]
+fn the_second_room_is_refused(rt: HostRuntime) {
+    assert_refused_within(&rt, rt.alloc(), 3 * MEGABYTE, 4 + MEGABYTE);
+}
+
+#[test]
+fn the_third_room_is_refused(rt: HostRuntime) {
+    assert_refused_within(&rt, rt.alloc(), 7 * MEGABYTE, 4 + 2 * MEGABYTE);
+}
+
+#[test]
+fn the_fourth_room_is_refused(rt: HostRuntime) {
+    assert_refused_within(&rt, rt.alloc(), 13 * MEGABYTE, 4 + 4 * MEGABYTE);
+}
+
+#[test]
+fn writing_needs_no_memory(rt: HostRuntime) {
+    let text = copied(&rt, rt.alloc(), letters(40));
+    let hog = take_all(&rt, rt.alloc());
+    let mut writer = Narrow::new(64, 7, Stop::Never);
+    assert!(rt; write_wire(&text, &mut writer).is_ok());
+    drop(hog);
+    assert_eq!(rt; writer.len, 44);
+}
+
+#[test]
+fn a_vector_with_no_room_is_a_writer_that_fails(rt: HostRuntime) {
+    let text = copied(&rt, rt.alloc(), "Hi");
+    let mut bytes = Vec::new(rt.alloc());
+    let hog = take_all(&rt, rt.alloc());
+    assert!(rt; matches!(write_wire(&text, &mut bytes), Err(WireError::Io(_))));
+    drop(hog);
+    assert_eq!(rt; bytes.len(), 0);
+}

@@ -1,0 +1,100 @@
+-- The keys of a set of values, as texts: those of a set with one more key are the distinct texts, by first occurrence.
+use Rattle.std.proofs.Common.{◌≡◌, ℕ, ◌<◌, List, [], ◌∷◌, ◌++◌, Bool, true, false, ◌||◌, if◌then◌else◌, IsTrue, nat_eq, map, position, slice_get, get_or, length, Some, refl, ap, sym, ◌∙◌, arith}
+use Rattle.std.proofs.lemmas.Grind.{common_steps}
+use Rattle.std.proofs.lemmas.Option.{slice_get-map, slice_get-get_or}
+use Rattle.std.proofs.lemmas.List.{map-append}
+use Rattle.std.proofs.lemmas.List.Quantifiers.{position-Some}
+use Rattle.std.specs.Option.{option_map}
+use Rattle.std.specs.List.{list_any, AllByRecursion, IsDistinct}
+use Rattle.std.specs.Cmp.Lexicographic.{pointwise, nat_list_eq_equiv}
+use Rattle.std.specs.Str.{IsUtf8}
+use Rattle.indexmap.specs.IndexSet.{insert_key}
+use Rattle.compact_str.specs.Text.{size, text_of}
+use Rattle.compact_str.specs.Value.{PlacedText}
+use Rattle.compact_str.specs.Capacity.{new_room_asks}
+use Rattle.compact_str.specs.Order.{text_in, same_text}
+use Rattle.compact_str.proofs.ForCallers.{size-text_of, texts-from_same}
+use Rattle.compact_edit.specs.Names.{is_among, without, firsts}
+
+abbrev pub texts : List PlacedText → List (List ℕ)
+texts keys = map text_in keys
+
+-- ts with t at its end, if it is none of them
+abbrev pub noted : List (List ℕ) → List ℕ → List (List ℕ)
+noted ts t = if is_among ts t then ts else ts ++ t ∷ []
+
+-- the distinct texts of a list with one more at its end
+
+without-push : (t u : List ℕ) (ts : List (List ℕ)) → without t (ts ++ u ∷ []) ≡ (if pointwise nat_eq t u then without t ts else without t ts ++ u ∷ [])
+without-push t u [] = grind (arith, common_steps)
+without-push t u (x ∷ xs) = grind (arith, common_steps, without-push t u xs)
+
+-- a text other than t is among those without t just where it was
+among-without : (t u : List ℕ) (ts : List (List ℕ)) → pointwise nat_eq t u ≡ false → is_among (without t ts) u ≡ is_among ts u
+among-without t u [] other = refl
+among-without t u (x ∷ xs) other = by (pointwise nat_eq t x) refl (among-without t u xs other)
+  where
+    by : (b : Bool) → pointwise nat_eq t x ≡ b → is_among (without t xs) u ≡ is_among xs u → is_among (without t (x ∷ xs)) u ≡ is_among (x ∷ xs) u
+    by true same rest =
+        let apart : pointwise nat_eq u x ≡ false = nat_list_eq_equiv.symm u x ∙ sym (nat_list_eq_equiv.congr t x u same) ∙ other in
+        rw (same, apart) rest
+    by false apart rest = rw apart (ap (λ (b : Bool). pointwise nat_eq u x || b) rest)
+
+pub firsts-push : (ts : List (List ℕ)) (t : List ℕ) → firsts (ts ++ t ∷ []) ≡ noted (firsts ts) t
+firsts-push [] t = refl
+firsts-push (x ∷ xs) t = ap (λ rest. x ∷ without x rest) (firsts-push xs t) ∙ by (pointwise nat_eq x t) refl (is_among (firsts xs) t) refl
+  where
+    by : (b : Bool) → pointwise nat_eq x t ≡ b → (a : Bool) → is_among (firsts xs) t ≡ a → x ∷ without x (noted (firsts xs) t) ≡ noted (firsts (x ∷ xs)) t
+    by true same a there =
+        let back : pointwise nat_eq t x ≡ true = nat_list_eq_equiv.symm t x ∙ same in
+        let dropped : without x (noted (firsts xs) t) ≡ without x (firsts xs) = grind (arith, common_steps, without-push x t (firsts xs)) in
+        rw (dropped, back) refl
+    by false apart a there =
+        let back : pointwise nat_eq t x ≡ false = nat_list_eq_equiv.symm t x ∙ apart in
+        let still : is_among (without x (firsts xs)) t ≡ is_among (firsts xs) t = among-without x t (firsts xs) apart in
+        grind (arith, common_steps, without-push x t (firsts xs), back, still)
+
+-- the texts of distinct keys are distinct
+
+without-apart : (v : PlacedText) (keys : List PlacedText) → AllByRecursion (λ k. same_text v k ≡ false) keys → without v.text (texts keys) ≡ texts keys
+without-apart v [] apart = refl
+without-apart v (k ∷ keys) apart = rw apart.0 (ap (λ rest. k.text ∷ rest) (without-apart v keys apart.1))
+
+pub firsts-distinct : (keys : List PlacedText) → IsDistinct same_text keys → firsts (texts keys) ≡ texts keys
+unfolding IsDistinct
+firsts-distinct [] distinct = refl
+firsts-distinct (k ∷ keys) distinct =
+    ap (λ rest. k.text ∷ without k.text rest) (firsts-distinct keys distinct.1) ∙ ap (λ rest. k.text ∷ rest) (without-apart k keys distinct.0)
+
+-- the names after a key is inserted, or was there
+
+among-texts : (v : PlacedText) (keys : List PlacedText) → list_any (same_text v) keys ≡ is_among (texts keys) v.text
+among-texts v [] = refl
+among-texts v (k ∷ keys) = ap (λ (b : Bool). same_text v k || b) (among-texts v keys)
+
+pub absent-texts : (v : PlacedText) (keys : List PlacedText) → list_any (same_text v) keys ≡ false → is_among (texts keys) v.text ≡ false
+absent-texts v keys absent = sym (among-texts v keys) ∙ absent
+
+texts-insert : (keys : List PlacedText) (v : PlacedText) → texts (insert_key same_text keys v) ≡ noted (texts keys) v.text
+texts-insert keys v = grind (arith, common_steps, among-texts v keys, map-append text_in keys (v ∷ []))
+
+pub new-names : (keys : List PlacedText) (v : PlacedText) → IsDistinct same_text keys → texts (insert_key same_text keys v) ≡ firsts (texts keys ++ v.text ∷ [])
+new-names keys v distinct =
+    texts-insert keys v ∙ ap (λ names. noted names v.text) (sym (firsts-distinct keys distinct)) ∙ sym (firsts-push (texts keys) v.text)
+
+pub known-names : (keys : List PlacedText) (v : PlacedText) → IsDistinct same_text keys → list_any (same_text v) keys ≡ true → texts keys ≡ firsts (texts keys ++ v.text ∷ [])
+known-names keys v distinct there = ap (λ (b : Bool). texts (if b then keys else keys ++ v ∷ [])) (sym there) ∙ new-names keys v distinct
+
+-- the number of a key is its place
+
+pub number-of-same : (keys : List PlacedText) (v k : PlacedText) (i : ℕ) → slice_get keys i ≡ Some k → same_text v k ≡ true → slice_get (texts keys) i ≡ Some v.text
+number-of-same keys v k i at same = slice_get-map text_in keys i ∙ ap (option_map text_in) at ∙ ap Some (sym (texts-from_same v k same))
+
+pub number-of-known : (keys : List PlacedText) (v : PlacedText) (i : ℕ) → position (same_text v) keys ≡ Some i → slice_get (texts keys) i ≡ Some v.text
+number-of-known keys v i at =
+    let found = position-Some (same_text v) keys i v at in
+    number-of-same keys v (get_or keys i v) i (slice_get-get_or keys i v found.0) found.1
+
+-- a text whose copy asked for a heap buffer has more than 24 bytes
+pub asked-long : (bytes : List ℕ) → IsUtf8 bytes → IsTrue (new_room_asks (length bytes)) → 24 < size (text_of bytes)
+asked-long bytes is_text asked = grind (arith, common_steps, size-text_of)

@@ -1,0 +1,111 @@
+-- Texts that are taken in turn.
+use Rattle.std.proofs.Common.{◌≡◌, ℕ, ◌+◌, ◌<◌, List, [], ◌∷◌, ◌++◌, Bool, true, false, ◌||◌, nat_eq, take, drop, length, get_or, slice_get, Some, zero, suc, refl, ap, sym, ◌∙◌, arith, append_assoc, append-nil}
+use Rattle.std.proofs.lemmas.Grind.{common_steps}
+use Rattle.std.proofs.lemmas.List.{take_more, drop_more, take-append-drop, map-append}
+use Rattle.std.specs.Borrow.{Bor}
+use Rattle.std.specs.List.{IsDistinct}
+use Rattle.std.specs.Cmp.Lexicographic.{pointwise, nat_list_eq_equiv}
+use Rattle.indexmap.specs.IndexSet.{insert_key}
+use Rattle.compact_str.specs.Text.{text_of}
+use Rattle.compact_str.specs.Value.{PlacedText}
+use Rattle.compact_str.specs.Order.{same_text}
+use Rattle.compact_edit.specs.declared.intern.InternError.{InternError}
+use Rattle.compact_edit.specs.Names.{is_among, firsts, texts_of, AreNumbersOf, IsRefusal, Takes, StopsAt}
+use Rattle.compact_edit.proofs.KeyTexts.{texts, noted, firsts-push, firsts-distinct, new-names}
+
+-- a text that is noted among distinct names leaves them distinct
+noted-distinct : (names : List (List ℕ)) (t : List ℕ) → firsts names ≡ names → firsts (names ++ t ∷ []) ≡ noted names t
+noted-distinct names t distinct = firsts-push names t ∙ ap (λ others. noted others t) distinct
+
+pub still-distinct : (names after : List (List ℕ)) (t : List ℕ) → after ≡ firsts (names ++ t ∷ []) → firsts names ≡ names → firsts after ≡ after
+still-distinct names after t is distinct = rw (is, noted-distinct names t distinct) (by (is_among names t) refl)
+  where
+    by : (b : Bool) → is_among names t ≡ b → firsts (noted names t) ≡ noted names t
+    by true there = rw there distinct
+    by false absent = rw absent (noted-distinct names t distinct ∙ rw absent refl)
+
+-- a name keeps its number
+
+slice_get-before : (xs ys : List (List ℕ)) (i : ℕ) (x : List ℕ) → slice_get xs i ≡ Some x → slice_get (xs ++ ys) i ≡ Some x
+slice_get-before [] ys i x at = grind (arith, common_steps)
+slice_get-before (z ∷ zs) ys zero x at = at
+slice_get-before (z ∷ zs) ys (suc i) x at = slice_get-before zs ys i x at
+
+slice_get-noted : (names : List (List ℕ)) (t x : List ℕ) (i : ℕ) → slice_get names i ≡ Some x → slice_get (noted names t) i ≡ Some x
+slice_get-noted names t x i at = by (is_among names t) refl
+  where
+    by : (b : Bool) → is_among names t ≡ b → slice_get (noted names t) i ≡ Some x
+    by true there = rw there at
+    by false absent = rw absent (slice_get-before names (t ∷ []) i x at)
+
+pub kept-number : (keys : List PlacedText) (v : PlacedText) (i : ℕ) (x : List ℕ) → IsDistinct same_text keys → slice_get (texts keys) i ≡ Some x
+    → slice_get (texts (insert_key same_text keys v)) i ≡ Some x
+kept-number keys v i x distinct at =
+    rw (new-names keys v distinct, noted-distinct (texts keys) v.text (firsts-distinct keys distinct)) (slice_get-noted (texts keys) v.text x i at)
+
+-- a text that has a number is among the names
+pub numbered-among : (names : List (List ℕ)) (i : ℕ) (x : List ℕ) → slice_get names i ≡ Some x → is_among names x ≡ true
+numbered-among [] i x at = grind (arith, common_steps)
+numbered-among (z ∷ zs) zero x at =
+    let same : z ≡ x = cc in
+    rw same (rw (nat_list_eq_equiv.refl x) refl)
+numbered-among (z ∷ zs) (suc i) x at = by (pointwise nat_eq x z) (numbered-among zs i x at)
+  where
+    by : (b : Bool) → is_among zs x ≡ true → (b || is_among zs x) ≡ true
+    by true there = refl
+    by false there = there
+
+-- texts in turn
+
+numbers-more : (names after : List (List ℕ)) → ((x : List ℕ) (i : ℕ) → slice_get names i ≡ Some x → slice_get after i ≡ Some x)
+    → (ts : List (List ℕ)) (numbers : List ℕ) (t : List ℕ) (n : ℕ) → AreNumbersOf names ts numbers → slice_get after n ≡ Some t
+    → AreNumbersOf after (ts ++ t ∷ []) (numbers ++ n ∷ [])
+numbers-more names after keep [] [] t n are at = (at, tt)
+numbers-more names after keep [] (m ∷ ms) t n are at = absurd are
+numbers-more names after keep (x ∷ xs) [] t n are at = absurd are
+numbers-more names after keep (x ∷ xs) (m ∷ ms) t n are at = (keep x m are.0, numbers-more names after keep xs ms t n are.1 at)
+
+pub takes-none : (before : List (List ℕ)) (listed : List ℕ) → firsts before ≡ before → Takes before [] listed before listed
+takes-none before listed distinct = record {
+  names = sym (ap firsts (append-nil before) ∙ distinct);
+  numbers = [];
+  behind = sym (append-nil listed);
+  places = tt;
+}
+
+takes-push : (before ts names after : List (List ℕ)) (listed mid now : List ℕ) (t : List ℕ) (n : ℕ)
+    → Takes before ts listed names mid → firsts names ≡ names → after ≡ firsts (names ++ t ∷ []) → slice_get after n ≡ Some t → now ≡ mid ++ n ∷ []
+    → Takes before (ts ++ t ∷ []) listed after now
+takes-push before ts names after listed mid now t n takes distinct is at pushed =
+    let noting : after ≡ noted names t = is ∙ noted-distinct names t distinct in
+    record {
+      names = noting ∙ ap (λ others. noted others t) takes.names ∙ sym (firsts-push (before ++ ts) t) ∙ ap firsts (append_assoc before ts (t ∷ []));
+      numbers = takes.numbers ++ n ∷ [];
+      behind = pushed ∙ ap (λ m. m ++ n ∷ []) takes.behind ∙ append_assoc listed takes.numbers (n ∷ []);
+      places = numbers-more names after (λ x i h. rw noting (slice_get-noted names t x i h)) ts takes.numbers t n takes.places at;
+    }
+
+-- the texts before the place i are taken, and then the one there
+pub takes-more : (row : List (Bor (List ℕ))) (i : ℕ) (d : Bor (List ℕ)) (before names after : List (List ℕ)) (listed mid now : List ℕ) (n : ℕ)
+    → Takes before (texts_of (take i row)) listed names mid → i < length row → firsts names ≡ names
+    → after ≡ firsts (names ++ text_of (get_or row i d).now ∷ []) → slice_get after n ≡ Some (text_of (get_or row i d).now) → now ≡ mid ++ n ∷ []
+    → Takes before (texts_of (take (i + 1) row)) listed after now
+takes-more row i d before names after listed mid now n takes within distinct is at pushed =
+    let more : texts_of (take (i + 1) row) ≡ texts_of (take i row) ++ text_of (get_or row i d).now ∷ [] =
+    ap texts_of (take_more row i d within) ∙ map-append (λ (t : Bor (List ℕ)). text_of t.now) (take i row) (get_or row i d ∷ []) in
+    rw more (takes-push before (texts_of (take i row)) names after listed mid now (text_of (get_or row i d).now) n takes distinct is at pushed)
+
+-- the texts before the place i are taken, and the one there is refused
+pub stops-at : (row : List (Bor (List ℕ))) (i : ℕ) (d : Bor (List ℕ)) (before names after : List (List ℕ)) (listed now : List ℕ) (error : InternError)
+    → Takes before (texts_of (take i row)) listed names now → i < length row → after ≡ names → IsRefusal names (text_of (get_or row i d).now) error
+    → StopsAt before (texts_of row) listed after now error
+stops-at row i d before names after listed now error takes within is why = record {
+  taken = texts_of (take i row);
+  refused = text_of (get_or row i d).now;
+  rest = texts_of (drop (i + 1) row);
+  parts =
+      ap texts_of (sym (take-append-drop i row) ∙ ap (λ x. take i row ++ x) (drop_more row i d within))
+      ∙ map-append (λ (t : Bor (List ℕ)). text_of t.now) (take i row) (get_or row i d ∷ drop (i + 1) row);
+  takes = rw is takes;
+  why = rw is why;
+}

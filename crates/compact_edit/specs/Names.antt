@@ -1,0 +1,51 @@
+-- Names by first occurrence, and their numbers.
+use Rattle.std.specs.Prelude.{◌≡◌, ◌<◌, ℕ, List, [], ◌∷◌, ◌++◌, Bool, false, not, filter, length, map, nat_eq, slice_get, Some, IsTrue}
+use Rattle.std.specs.Borrow.{Bor}
+use Rattle.std.specs.List.{list_any, AllZip}
+use Rattle.std.specs.Cmp.Lexicographic.{pointwise}
+use Rattle.compact_str.specs.Text.{size, text_of}
+use Rattle.compact_edit.specs.declared.intern.InternError.{InternError}
+use Rattle.compact_edit.specs.declared.intern.InternError.TheVariants.{Reserve, Full}
+
+-- t is one of ts
+abbrev pub is_among : List (List ℕ) → List ℕ → Bool
+is_among ts t = list_any (pointwise nat_eq t) ts
+
+-- ts without t
+abbrev pub without : List ℕ → List (List ℕ) → List (List ℕ)
+without t ts = filter (λ u. not (pointwise nat_eq t u)) ts
+
+-- the distinct texts of a list, by first occurrence
+abbrev pub firsts : List (List ℕ) → List (List ℕ)
+firsts [] = []
+firsts (t ∷ ts) = t ∷ without t (firsts ts)
+
+-- the number of each text is its place among the names
+abbrev pub AreNumbersOf : List (List ℕ) → List (List ℕ) → List ℕ → Type 0
+AreNumbersOf names texts numbers = AllZip (λ t n. slice_get names n ≡ Some t) texts numbers
+
+-- The texts are taken in turn: what the names are then, and the numbers, which stand behind those that were listed.
+pub record Takes (before texts : List (List ℕ)) (listed : List ℕ) (after : List (List ℕ)) (now_listed : List ℕ) : Type 0 where
+  pub names : after ≡ firsts (before ++ texts)
+  pub numbers : List ℕ
+  pub behind : now_listed ≡ listed ++ numbers
+  pub places : AreNumbersOf after texts numbers
+
+-- Why a text has no number: for want of memory, which never comes of a name of at most 24 bytes, or no number is left and
+-- it is no name.
+abbrev pub IsRefusal : List (List ℕ) → List ℕ → InternError → Type 0
+IsRefusal names t (Reserve error) = IsTrue (is_among names t) → 24 < size t
+IsRefusal names t Full = (length names ≡ 4294967295) × (is_among names t ≡ false)
+
+-- The texts up to one that is refused are taken.
+pub record StopsAt (before texts : List (List ℕ)) (listed : List ℕ) (after : List (List ℕ)) (now_listed : List ℕ) (error : InternError) : Type 0 where
+  pub taken : List (List ℕ)
+  pub refused : List ℕ
+  pub rest : List (List ℕ)
+  pub parts : texts ≡ taken ++ refused ∷ rest
+  pub takes : Takes before taken listed after now_listed
+  pub why : IsRefusal after refused error
+
+-- the texts of a row
+abbrev pub texts_of : List (Bor (List ℕ)) → List (List ℕ)
+texts_of row = map (λ t. text_of t.now) row

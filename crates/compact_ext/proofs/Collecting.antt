@@ -1,0 +1,23 @@
+-- What a formatter writes to a collector is what it writes to the value.
+use Rattle.std.proofs.Common.{◌≡◌, ℕ, List, [], ◌∷◌, ap, IfSome, Option, Some, None, ◌∙◌, ◌++◌}
+use Rattle.std.specs.List.{FoldsTo}
+use Rattle.std.specs.Fmt.{WritesText}
+use Rattle.compact_str.specs.Text.{text_of}
+use Rattle.compact_str.specs.Capacity.{Growth}
+use Rattle.compact_str.specs.Edits.{Writes}
+use Rattle.compact_str.proofs.ForCallers.{written-text}
+use Rattle.compact_ext.specs.declared.format.Collector.{Collector}
+
+abbrev pub Takes : Growth → Collector → List ℕ → Collector → Type 0
+Takes g c bytes d = Writes g c.value bytes d.value
+
+taken-parts : (g : Growth) (c d : Collector) (parts : List (List ℕ)) → FoldsTo (Takes g) c parts d → FoldsTo (Writes g) c.value parts d.value
+taken-parts g c d [] same = ap (λ (x : Collector). x.value) same
+taken-parts g c d (part ∷ parts) (x, first, rest) = (x.value, first, taken-parts g x d parts rest)
+
+pub taken-text : (g : Growth) (o : Option (List ℕ)) (c d : Collector) → WritesText (Takes g) c o d → c.value.text ≡ []
+    → IfSome o (λ bytes. d.value.text ≡ text_of bytes)
+taken-text g None c d h e = tt
+taken-text g (Some bytes) c d h e =
+    written-text g c.value d.value bytes (record { parts = h.parts; calls = taken-parts g c d h.parts h.calls; whole = h.whole })
+    ∙ ap (λ (t : List ℕ). t ++ text_of bytes) e

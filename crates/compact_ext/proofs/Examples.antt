@@ -1,0 +1,71 @@
+-- Worked examples of the definitions, with no code between.
+use Rattle.std.proofs.Common.{◌≡◌, true, Some, refl, negsuc}
+use Rattle.std.specs.Prelude.{codes}
+use Rattle.std.specs.Fmt.{decimal, signed_decimal, digits}
+use Rattle.compact_str.specs.Value.{placed}
+use Rattle.compact_str.specs.Capacity.{Growth, inlined, on_heap}
+use Rattle.compact_str.specs.Change.{made}
+use Rattle.compact_ext.specs.Digits.{two_digits, written, number_text}
+use Rattle.compact_ext.specs.Shown.{bool_text}
+
+abbrev standard : Growth
+standard = record { least = 32; numerator = 3; denominator = 2 }
+
+-- `-7` is the integer that `negsuc 6` stands for
+
+nought : decimal 0 ≡ codes "0"
+unfolding digits
+nought = refl
+
+ten : decimal 10 ≡ codes "10"
+unfolding digits
+ten = refl
+
+the_greatest_of_64_bits : decimal 18446744073709551615 ≡ codes "18446744073709551615"
+unfolding digits
+the_greatest_of_64_bits = refl
+
+the_greatest_of_128_bits : decimal 340282366920938463463374607431768211455 ≡ codes "340282366920938463463374607431768211455"
+unfolding digits
+the_greatest_of_128_bits = refl
+
+the_least_of_8_bits : signed_decimal (negsuc 127) ≡ codes "-128"
+unfolding digits
+the_least_of_8_bits = refl
+
+the_least_of_32_bits : signed_decimal (negsuc 2147483647) ≡ codes "-2147483648"
+unfolding digits
+the_least_of_32_bits = refl
+
+the_least_of_64_bits : signed_decimal (negsuc 9223372036854775807) ≡ codes "-9223372036854775808"
+unfolding digits
+the_least_of_64_bits = refl
+
+the_least_of_128_bits : signed_decimal (negsuc 170141183460469231731687303715884105727) ≡ codes "-170141183460469231731687303715884105728"
+unfolding digits
+the_least_of_128_bits = refl
+
+a_sign_and_a_magnitude : number_text true 128 ≡ codes "-128"
+unfolding digits
+a_sign_and_a_magnitude = refl
+
+seven_has_a_nought_before_it : two_digits 7 ≡ codes "07"
+seven_has_a_nought_before_it = refl
+
+two_of_five_are_written : written (codes "abcde") 1 (codes "42") ≡ codes "a42de"
+two_of_five_are_written = refl
+
+twenty_characters_stand_inline : made standard (signed_decimal (negsuc 9223372036854775807)) ≡ Some (placed (codes "-9223372036854775808") inlined)
+unfolding digits
+twenty_characters_stand_inline = refl
+
+forty_characters_stand_on_the_heap : made standard (signed_decimal (negsuc 170141183460469231731687303715884105727)) ≡ Some (placed (codes "-170141183460469231731687303715884105728") (on_heap 40))
+unfolding digits
+forty_characters_stand_on_the_heap = refl
+
+thirty_nine_characters_stand_on_the_heap : made standard (decimal 340282366920938463463374607431768211455) ≡ Some (placed (codes "340282366920938463463374607431768211455") (on_heap 39))
+unfolding digits
+thirty_nine_characters_stand_on_the_heap = refl
+
+the_texts_of_a_bool : bool_text true ≡ codes "true"
+the_texts_of_a_bool = refl

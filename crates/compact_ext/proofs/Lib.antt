@@ -1,0 +1,9 @@
+pub mod DigitRows
+pub mod NumberTexts
+pub mod ShownTexts
+pub mod Collecting
+pub mod ForCallers
+pub mod Examples
+pub mod WireForms
+pub mod WireFacts
+pub mod WireExamples

@@ -1,0 +1,27 @@
+-- The same text, said in other words.
+use Rattle.std.proofs.Common.{◌≡◌, ℕ, Bool, true, false, List, Result, refl, subst}
+use Rattle.std.specs.Str.{chars}
+use Rattle.compact_str.specs.Text.{text_of}
+use Rattle.compact_str.specs.Value.{PlacedText}
+use Rattle.compact_str.specs.Capacity.{Growth}
+use Rattle.compact_ext.specs.declared.format.ToCompactStringError.{ToCompactStringError}
+use Rattle.compact_ext.specs.Shown.{IsTextOf, bool_text}
+
+-- where the text is known to be short, a weaker fact than its length says so too
+short-as : (g : Growth) (t : List ℕ) (P Q : Type 0) (r : Result PlacedText ToCompactStringError) → IsTextOf g t P r → (Q → P) → IsTextOf g t Q r
+short-as g t P Q r h f =
+    record {
+      ok = h.ok;
+      text = h.text;
+      inline = λ q. h.inline (f q);
+      succeeds = λ q. h.succeeds (f q);
+      err = h.err;
+    }
+
+pub shown-as : (g : Growth) (t u : List ℕ) (P Q : Type 0) (r : Result PlacedText ToCompactStringError) → IsTextOf g t P r → t ≡ u → (Q → P) → IsTextOf g u Q r
+shown-as g t u P Q r h e f = subst (λ (x : List ℕ). IsTextOf g x Q r) e (short-as g t P Q r h f)
+
+pub text_of-bool : (b : Bool) → text_of (bool_text b) ≡ bool_text b
+unfolding chars
+text_of-bool true = refl
+text_of-bool false = refl

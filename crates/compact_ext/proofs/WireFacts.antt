@@ -1,0 +1,26 @@
+-- For crates that write and read wire forms: what the clauses of several calls give together. Name it at the caller, as
+-- `#[tactic(auto, using(compact_ext::proofs::WireFacts::wire_facts))]`.
+use Rattle.std.proofs.Common.{◌≡◌, ℕ, ◌+◌, ◌^◌, ◌<◌, List, [], ◌∷◌, ◌++◌, length, Option, None, Some, Result, Ok, Err, IfOk, IfSome, ap, sym, ◌∙◌, append_assoc, append-nil}
+use Rattle.std.proofs.lemmas.Grind.{flat_map-append}
+use Rattle.std.specs.Io.KnownBytes.{IsAtEnd}
+use Rattle.compact_str.specs.Value.{PlacedText}
+use Rattle.compact_str.specs.Text.{IsText, size}
+use Rattle.compact_ext.specs.declared.wire.WireError.{WireError}
+use Rattle.compact_ext.specs.Wire.{wire, ReadsBack}
+pub use Rattle.std.proofs.KnownBytes.{Appends-trans, Consumes-trans}
+pub use Rattle.compact_ext.proofs.WireForms.{length-wire}
+
+-- a text that was written into no bytes is what is read from them
+pub sent-back : (t none sent bytes : List ℕ) (new : Option (List ℕ)) (r : Result PlacedText WireError) → ReadsBack (Some bytes) new r → bytes ≡ sent → sent ≡ none ++ wire t → none ≡ []
+    → IsText t → size t < 2 ^ 32 → IfOk r (λ back. back.text ≡ t)
+sent-back t none sent bytes new (Err e) reads is all empty text fits = tt
+sent-back t none sent bytes new (Ok w) reads is all empty text fits =
+    let whole : bytes ≡ wire t ++ [] = is ∙ all ∙ ap (λ l. l ++ wire t) empty ∙ sym (append-nil (wire t)) in
+    (reads.back t [] text fits (ap Some whole)).0
+
+-- a reader that `fill_buf` shows no bytes of has none
+pub at-end : (known : Option (List ℕ)) (shown : List ℕ) → IfSome known (λ xs. length shown ≡ 0 → xs ≡ []) → length shown ≡ 0 → IsAtEnd known
+at-end None shown h none = tt
+at-end (Some xs) shown h none = h none
+
+pub ruleset wire_facts = (Appends-trans, Consumes-trans, length-wire, sent-back, at-end, append-nil, append_assoc, flat_map-append)

@@ -1,0 +1,176 @@
+-- What the parts of a wire form that were written, or taken, are together.
+use Rattle.std.proofs.Common.{◌≡◌, ℕ, ◌+◌, ◌^◌, ◌<◌, ◌≤◌, List, [], ◌++◌, length, take, drop, sym, ap, subst, ◌∙◌, arith, append_assoc, length-append, Option, None, Some, refl, Result, Ok, Err, IfOk, IfErr}
+use Rattle.std.proofs.lemmas.Nat.{from_le_bytes-to_le_bytes_4}
+use Rattle.std.proofs.KnownBytes.{Appends-trans, Consumes-trans}
+use Rattle.std.proofs.Math.Seq.{take-append_seam}
+use Rattle.std.proofs.lemmas.List.{take-append-le, append-nil, append_cancel_left}
+use Rattle.std.proofs.lemmas.Str.{encodes_same}
+use Rattle.std.specs.Int.{w32, to_le_bytes, from_le_bytes}
+use Rattle.std.specs.Str.{IsUtf8}
+use Rattle.std.specs.Io.KnownBytes.{Appends, Consumes}
+use Rattle.compact_str.specs.Text.{IsText, size, utf8}
+use Rattle.compact_str.specs.Value.{PlacedText}
+use Rattle.compact_repr.proofs.Texts.{length-utf8}
+use Rattle.compact_ext.specs.declared.wire.WireError.{WireError}
+use Rattle.compact_ext.specs.declared.wire.WireError.TheVariants.{TooLong, UnexpectedEnd, Utf8, Io, WriteZero, Reserve}
+use Rattle.compact_ext.specs.Wire.{wire, claimed_len, WritesFront, IsWriterFault, WriteFails, IsUnfinished, IsReadFault, ReadFails, IsStop, StopsBelow, TextFails, IsOutsideForm, ReadsBack, FormTellsText}
+
+pub IfOk-join : {A E : Type 0} (P Q S : A → Type 0) (r : Result A E) → ((a : A) → P a → Q a → S a) → IfOk r P → IfOk r Q → IfOk r S
+IfOk-join P Q S (Ok a) f h k = f a h k
+IfOk-join P Q S (Err e) f h k = tt
+
+pub IfErr-map : {A E : Type 0} (P Q : E → Type 0) (r : Result A E) → ((e : E) → P e → Q e) → IfErr r P → IfErr r Q
+IfErr-map P Q (Ok a) f h = tt
+IfErr-map P Q (Err e) f h = f e h
+
+pub IfErr-join : {A E : Type 0} (P Q S : E → Type 0) (r : Result A E) → ((e : E) → P e → Q e → S e) → IfErr r P → IfErr r Q → IfErr r S
+IfErr-join P Q S (Ok a) f h k = tt
+IfErr-join P Q S (Err e) f h k = f e h k
+
+-- a beginning of the front, or the front and a beginning of the rest, is a beginning of both
+pub front-first : (old new : Option (List ℕ)) (head tail : List ℕ) → WritesFront old new head → WritesFront old new (head ++ tail)
+front-first old new head tail w = record {
+  done = w.done;
+  rest = w.rest ++ tail;
+  split = ap (λ l. l ++ tail) w.split ∙ append_assoc w.done w.rest tail;
+  left = omega (arith, length-append w.rest tail, w.left);
+  bytes = w.bytes;
+}
+
+pub front-second : (old mid new : Option (List ℕ)) (head tail : List ℕ) → Appends old mid head → WritesFront mid new tail → WritesFront old new (head ++ tail)
+front-second old mid new head tail h w = record {
+  done = head ++ w.done;
+  rest = w.rest;
+  split = ap (λ l. head ++ l) w.split ∙ sym (append_assoc head w.done w.rest);
+  left = w.left;
+  bytes = Appends-trans old mid new head w.done h w.bytes;
+}
+
+pub write-fails : (old new : Option (List ℕ)) (t : List ℕ) (e : WireError) → size t < 2 ^ 32 → WritesFront old new (wire t) → IsWriterFault e → WriteFails old new t e
+write-fails old new t TooLong h w f = absurd f
+write-fails old new t UnexpectedEnd h w f = absurd f
+write-fails old new t Utf8 h w f = absurd f
+write-fails old new t (Io error) h w f = (h, w)
+write-fails old new t WriteZero h w f = (h, w)
+write-fails old new t (Reserve error) h w f = absurd f
+
+-- what stops a read of some bytes stops one of more, of which others came before
+stop-more : (n len : ℕ) (new : Option (List ℕ)) (e : WireError) → n ≤ len → IsStop n new e → IsStop len new e
+stop-more n len new TooLong h s = absurd s
+stop-more n len new UnexpectedEnd h s = s
+stop-more n len new Utf8 h s = absurd s
+stop-more n len new (Io error) h s = s
+stop-more n len new WriteZero h s = absurd s
+stop-more n len new (Reserve error) h s = omega (arith, h, s)
+
+pub stops-later : (old mid new : Option (List ℕ)) (front : List ℕ) (n len : ℕ) (e : WireError) → Consumes old mid front → StopsBelow mid new n e → length front + n ≤ len
+    → StopsBelow old new len e
+stops-later old mid new front n len e c s h = record {
+  taken = front ++ s.taken;
+  bytes = Consumes-trans old mid new front s.taken c s.bytes;
+  short = omega (arith, length-append front s.taken, s.short, h);
+  cause = stop-more n len new e (omega (arith, h)) s.cause;
+}
+
+-- the four bytes of a length, and then what came of the text
+claimed : (n : ℕ) (taken : List ℕ) → n < 2 ^ 32 → claimed_len (to_le_bytes w32 n ++ taken) ≡ n
+claimed n taken fits = from_le_bytes-to_le_bytes_4 n fits
+
+unfinished : (n : ℕ) (taken : List ℕ) → n < 2 ^ 32 → length taken < n → length (to_le_bytes w32 n ++ taken) < 4 + claimed_len (to_le_bytes w32 n ++ taken)
+unfinished n taken fits short = omega (arith, claimed n taken fits, short)
+
+pub read-fails : (old mid new : Option (List ℕ)) (n : ℕ) (e : WireError) → n < 2 ^ 32 → Consumes old mid (to_le_bytes w32 n) → TextFails mid new n e → ReadFails old new e
+read-fails old mid new n TooLong fits h f = absurd f
+read-fails old mid new n WriteZero fits h f = absurd f
+read-fails old mid new n UnexpectedEnd fits h s = record {
+  taken = to_le_bytes w32 n ++ s.taken;
+  bytes = Consumes-trans old mid new (to_le_bytes w32 n) s.taken h s.bytes;
+  fault = (λ _. unfinished n s.taken fits s.short, s.cause);
+}
+read-fails old mid new n (Io error) fits h s = record {
+  taken = to_le_bytes w32 n ++ s.taken;
+  bytes = Consumes-trans old mid new (to_le_bytes w32 n) s.taken h s.bytes;
+  fault = λ _. unfinished n s.taken fits s.short;
+}
+read-fails old mid new n (Reserve error) fits h s = record {
+  taken = to_le_bytes w32 n ++ s.taken;
+  bytes = Consumes-trans old mid new (to_le_bytes w32 n) s.taken h s.bytes;
+  fault = (
+    omega arith,
+    omega (arith, claimed n s.taken fits, s.cause),
+    unfinished n s.taken fits s.short,
+  );
+}
+read-fails old mid new n Utf8 fits h s = record {
+  taken = to_le_bytes w32 n ++ s.taken;
+  bytes = Consumes-trans old mid new (to_le_bytes w32 n) s.taken h s.bytes;
+  fault = (omega (arith, claimed n s.taken fits, s.all), s.broken);
+}
+
+pub takes-wire : (old mid new : Option (List ℕ)) (t : List ℕ) (n : ℕ) → Consumes old mid (to_le_bytes w32 n) → Consumes mid new (utf8 t) → size t ≡ n → Consumes old new (wire t)
+takes-wire old mid new t n h c s =
+    subst (λ k. Consumes old new (to_le_bytes w32 k ++ utf8 t)) (sym s) (Consumes-trans old mid new (to_le_bytes w32 n) (utf8 t) h c)
+
+-- the bytes at the front of a form tell its length
+claimed-front : (t rest taken more : List ℕ) → size t < 2 ^ 32 → 4 ≤ length taken → wire t ++ rest ≡ taken ++ more → claimed_len taken ≡ size t
+claimed-front t rest taken more fits four e =
+    ap (from_le_bytes w32) (sym (take-append-le 4 taken more four) ∙ ap (take 4) (sym e)) ∙ from_le_bytes-to_le_bytes_4 (size t) fits
+
+pub length-wire : (t : List ℕ) → length (wire t) ≡ 4 + size t
+length-wire t = omega (arith, length-utf8 t)
+
+-- as many bytes as the form has are the form
+front-same : (t rest taken more : List ℕ) → length taken ≡ 4 + size t → wire t ++ rest ≡ taken ++ more → wire t ≡ taken
+front-same t rest taken more len e =
+    let same : length (wire t) ≡ length taken = omega (arith, length-wire t, len) in
+    sym (take-append_seam (wire t) rest) ∙ ap (take (length (wire t))) e ∙ ap (λ n. take n (taken ++ more)) same ∙ take-append_seam taken more
+
+pub form-tells : FormTellsText
+form-tells t s rest more fits small e =
+    let claim : size s ≡ size t = sym (from_le_bytes-to_le_bytes_4 (size s) small) ∙ claimed-front t rest (wire s) more fits (omega (arith, length-wire s)) e in
+    let same : wire t ≡ wire s = front-same t rest (wire s) more (omega (arith, length-wire s, claim)) e in
+    (encodes_same t s (ap (drop 4) same), append_cancel_left (wire s) rest more (ap (λ l. l ++ rest) (sym same) ∙ e))
+
+-- a fault of the form would contradict it
+module _ (t rest taken more : List ℕ) (fits : size t < 2 ^ 32) (is : wire t ++ rest ≡ taken ++ more) where
+  no-end : IsUnfinished taken → more ≡ [] → ⊥
+  no-end cut end =
+      let whole : length taken ≡ length (wire t ++ rest) = ap length (sym (append-nil taken) ∙ ap (λ l. taken ++ l) (sym end) ∙ sym is) in
+      let long : 4 + size t ≤ length taken = omega (arith, whole, length-append (wire t) rest, length-wire t) in
+      let claim = claimed-front t rest taken more fits (omega (arith, long)) is in
+      omega (arith, cut (omega (arith, long)), claim, long)
+
+  no-broken : IsText t → length taken ≡ 4 + claimed_len taken → ¬ IsUtf8 (drop 4 taken) → ⊥
+  no-broken text len broken =
+      let claim = claimed-front t rest taken more fits (omega (arith, len)) is in
+      let same : wire t ≡ taken = front-same t rest taken more (omega (arith, len, claim)) is in
+      broken (subst (λ l. IsUtf8 (drop 4 l)) same (t, (text, refl)))
+
+outside-form : (t rest taken : List ℕ) (new : Option (List ℕ)) (e : WireError) → IsText t → size t < 2 ^ 32 → Consumes (Some (wire t ++ rest)) new taken → IsReadFault taken new e
+    → IsOutsideForm (size t) e
+outside-form t rest taken None e text fits c f = absurd c
+outside-form t rest taken (Some more) TooLong text fits c f = absurd f
+outside-form t rest taken (Some more) UnexpectedEnd text fits c f = absurd (no-end t rest taken more fits c f.0 f.1)
+outside-form t rest taken (Some more) Utf8 text fits c f = absurd (no-broken t rest taken more fits c text f.0 f.1)
+outside-form t rest taken (Some more) (Io error) text fits c f = tt
+outside-form t rest taken (Some more) WriteZero text fits c f = absurd f
+outside-form t rest taken (Some more) (Reserve error) text fits c f =
+    let claim = claimed-front t rest taken more fits f.0 c in
+    omega (arith, claim, f.1)
+
+told-text : (t rest s : List ℕ) (new : Option (List ℕ)) → size t < 2 ^ 32 → size s < 2 ^ 32 → Consumes (Some (wire t ++ rest)) new (wire s) → (s ≡ t) × (new ≡ Some rest)
+told-text t rest s None fits small c = absurd c
+told-text t rest s (Some more) fits small c =
+    let told = form-tells t s rest more fits small c in
+    (sym told.0, ap Some (sym told.1))
+
+pub reads-back : (old new : Option (List ℕ)) (r : Result PlacedText WireError) → IfOk r (λ v. Consumes old new (wire v.text)) → IfOk r (λ v. size v.text < 2 ^ 32) → IfErr r (ReadFails old new)
+    → ReadsBack old new r
+reads-back old new (Ok v) took fits err = record {
+  back = λ (t rest : List ℕ) (text : IsText t) (small : size t < 2 ^ 32) (is : old ≡ Some (wire t ++ rest)).
+      told-text t rest v.text new small fits (subst (λ o. Consumes o new (wire v.text)) is took);
+}
+reads-back old new (Err e) took fits err = record {
+  back = λ (t rest : List ℕ) (text : IsText t) (small : size t < 2 ^ 32) (is : old ≡ Some (wire t ++ rest)).
+      outside-form t rest err.taken new e text small (subst (λ o. Consumes o new err.taken) is err.bytes) err.fault;
+}

@@ -1,0 +1,15 @@
+-- The digits of a number in a row of bytes.
+use Rattle.std.specs.Prelude.{ℕ, ◌+◌, ◌/◌, ◌%◌, List, [], ◌∷◌, ◌++◌, Bool, length, take, drop}
+use Rattle.std.specs.Fmt.{decimal, sign_text}
+
+-- the two digits of a number below 100
+abbrev pub two_digits : ℕ → List ℕ
+two_digits n = (48 + n / 10) ∷ (48 + n % 10) ∷ []
+
+-- the row with some bytes in place of what stood from a place on
+abbrev pub written : List ℕ → ℕ → List ℕ → List ℕ
+written row at bytes = take at row ++ (bytes ++ drop (at + length bytes) row)
+
+-- a minus where the number is negative, and the digits of its magnitude
+abbrev pub number_text : Bool → ℕ → List ℕ
+number_text is_negative magnitude = sign_text is_negative ++ decimal magnitude

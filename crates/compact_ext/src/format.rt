@@ -1,0 +1,106 @@
+//! Texts made of formats.
+ghost use Rattle.std.specs.Prelude.{◌≡◌, IfOk, IfSome, IsTrue, OnOk, OnErr};
+ghost use Rattle.compact_str.specs.Text.{text_of};
+ghost use Rattle.compact_str.specs.Edits.{Writes};
+ghost use Rattle.compact_str.specs.Fitted.{IsFitted};
+
+use compact_str::{CompactString, Policy, ReserveError, Standard};
+use std::alloc::Global;
+use std::fmt;
+use std::fmt::{Display, Write};
+use thiserror::Error;
+
+/// Why no text was made of what was shown.
+#[derive(Clone, Copy, Debug, PartialEq, Error)]
+pub enum ToCompactStringError {
+    /// Room was refused.
+    #[error("{0}")]
+    Reserve(ReserveError),
+    /// What was shown failed by itself.
+    #[error("{0}")]
+    Fmt(fmt::Error),
+}
+
+impl From<ReserveError> for ToCompactStringError {
+    ghost use Rattle.compact_ext.specs.declared.format.ToCompactStringError.TheVariants.{Reserve};
+
+    ghost from_gives = { λ e error. error ≡ Reserve e };
+
+    /// The case `Reserve`.
+    fn from(error: ReserveError) -> Self {
+        ToCompactStringError::Reserve(error)
+    }
+}
+
+impl From<fmt::Error> for ToCompactStringError {
+    ghost use Rattle.compact_ext.specs.declared.format.ToCompactStringError.TheVariants.{Fmt};
+
+    ghost from_gives = { λ e error. error ≡ Fmt e };
+
+    /// The case `Fmt`.
+    fn from(error: fmt::Error) -> Self {
+        ToCompactStringError::Fmt(error)
+    }
+}
+
+/// A value that is written to, and whether it has refused a piece: a `Display` may hide that and go on.
+#[derive(Drop)]
+struct Collector {
+    value: CompactString,
+    is_refused: bool,
+    ghost fitted: { IsFitted value },
+}
+
+impl Write for Collector {
+    ghost write_str_gives = { λ c bytes d. Writes ⟦<Standard as Policy>⟧.growth c.value bytes d.value };
+
+    #[inline]
+    fn write_str(&mut self, s: &str) -> fmt::Result
+        ensures ok { OnOk result (Writes ⟦<Standard as Policy>⟧.growth self.old.value s.now self.new.value × (self.new.is_refused ≡ self.old.is_refused)) }
+        ensures err { OnErr result ((self.new.value ≡ self.old.value) × IsTrue self.new.is_refused) }
+    {
+        match self.value.write_str(s) {
+            Ok(()) => Ok(()),
+            Err(error) => {
+                self.is_refused = true;
+                Err(error)
+            }
+        }
+    }
+}
+
+/// The text that `shown` prints, which is what `format_compact!` calls: inline up to 24 bytes, else on the heap.
+///
+/// The error `Reserve` says that room was refused for a piece, also where `shown` hid that and went on, and `Fmt` that
+/// `shown` failed by itself. What was written until then is given up.
+#[inline]
+pub fn collect_display<D: Display + Drop>(
+    alloc: Global,
+    shown: D,
+) -> Result<CompactString, ToCompactStringError>
+    ensures text { IfOk result (λ v. IfSome (D.output shown) (λ bytes. v.text ≡ text_of bytes)) }
+    ensures fitted { IfOk result IsFitted }
+{
+    let mut collector = Collector {
+        value: CompactString::default(alloc),
+        is_refused: false,
+    };
+    let written = collector.write(shown);
+    if collector.is_refused {
+        return Err(ToCompactStringError::Reserve(ReserveError));
+    }
+    match written {
+        Ok(()) => Ok(collector.value),
+        Err(fmt::Error) => Err(ToCompactStringError::Fmt(fmt::Error)),
+    }
+}
+
+/// The text of a format, as `format!` makes a `String`: `format_compact!(in alloc; "{}-{:04}", 7, 42)?` is `"7-0042"`.
+///
+/// It answers what `collect_display` answers.
+#[macro_export]
+macro_rules! format_compact {
+    (in $alloc:expr; $($arguments:tt)*) => {
+        $crate::collect_display($alloc, format_args!($($arguments)*))
+    };
+}

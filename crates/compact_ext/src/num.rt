@@ -1,0 +1,47 @@
+//! Texts made of numbers, and of other values that have a text.
+ghost use Rattle.std.specs.Prelude.{ℕ, List};
+ghost use Rattle.compact_ext.specs.Shown.{IsTextOf};
+
+mod digits;
+mod integers;
+mod laws;
+mod nonzero;
+mod texts;
+mod wide;
+
+use crate::format::ToCompactStringError;
+use compact_str::{CompactString, Policy, Standard};
+pub use laws::{numbers_are_short, numbers_go_digit_by_digit};
+use std::alloc::Global;
+
+/// A value that has a text: the integers, `bool`, `char`, and the kinds of text.
+///
+/// A contract sees the text as `shown v`. Where `IsShort v` holds it is inline and never refused: of an integer of up to
+/// 64 bits, a `bool` and a `char` always, of every other value where the text has at most 24 bytes.
+pub trait ToCompactString {
+    /// The text.
+    ghost shown: { Self → List ℕ };
+
+    /// That it takes no memory.
+    ghost IsShort: { Self → Type 0 };
+
+    /// The text of the value, as `CompactString::new` makes it: `(-12i8).to_compact_string(alloc)?` is `"-12"`.
+    ///
+    /// The error is always `Reserve`, and says that no memory was found, or that the text is longer than 2^56 - 2 bytes.
+    /// It never comes of an integer of up to 64 bits, of a `bool` or a `char`, nor up to 24 bytes.
+    fn to_compact_string(&self, alloc: Global) -> Result<CompactString, ToCompactStringError>
+        ensures { IsTextOf ⟦<Standard as Policy>⟧.growth (shown self.now) (IsShort self.now) result };
+
+    /// `to_compact_string` under its other name, with the same value and the same error.
+    #[inline]
+    final fn try_to_compact_string(
+        &self,
+        alloc: Global,
+    ) -> Result<CompactString, ToCompactStringError>
+    where
+        Self: Sized,
+        ensures { IsTextOf ⟦<Standard as Policy>⟧.growth (shown self.now) (IsShort self.now) result }
+    {
+        self.to_compact_string(alloc)
+    }
+}

@@ -1,0 +1,97 @@
+//! The digits of a number, written from the last to the first.
+ghost use Rattle.std.specs.Prelude.{◌≡◌, ◌+◌, ◌<◌, ◌≤◌, length};
+ghost use Rattle.std.specs.Fmt.{decimal};
+ghost use Rattle.compact_ext.specs.Digits.{two_digits, written, number_text};
+
+/// The two digits of each number below 100, one after another.
+static PAIRS: [u8; 200] = *b"0001020304050607080910111213141516171819\
+2021222324252627282930313233343536373839\
+4041424344454647484950515253545556575859\
+6061626364656667686970717273747576777879\
+8081828384858687888990919293949596979899";
+
+/// Writes a minus where the number is negative and the digits of its magnitude at the front of the row. Answers how many
+/// characters they are.
+#[inline]
+pub fn write_number(magnitude: u64, is_negative: bool, row: &mut [u8; 24]) -> usize
+    ensures count { result ≡ length (number_text is_negative magnitude) }
+    ensures short { result ≤ 21 }
+    ensures text { row.new ≡ written row.old 0 (number_text is_negative magnitude) }
+{
+    let count = count_digits(magnitude);
+    if !is_negative {
+        write_digits(magnitude, count, row, 0);
+        return count;
+    }
+    row[0] = b'-';
+    write_digits(magnitude, count, row, 1);
+    1 + count
+}
+
+/// How many digits a number has.
+#[inline]
+#[tactic(auto, using(crate::proofs::DigitRows::digit_counts))]
+fn count_digits(n: u64) -> usize
+    ensures count { result ≡ length (decimal n) }
+    ensures short { result ≤ 20 }
+{
+    if n == 0 {
+        return 1;
+    }
+    n.ilog10() as usize + 1
+}
+
+/// Writes the digits of a number, of which there are `count`, from a place on: four at a time from the end, then two, then
+/// the first one or two.
+#[inline]
+#[tactic(auto, using(crate::proofs::DigitRows::digit_rows))]
+fn write_digits(n: u64, count: usize, row: &mut [u8], start: usize)
+    requires count { count ≡ length (decimal n) }
+    requires fits { start + count ≤ length row.old }
+    ensures { row.new ≡ written row.old start (decimal n) }
+{
+    let mut left = n;
+    let mut at = start + count;
+    while left >= 10_000 {
+        let four = left % 10_000;
+        left /= 10_000;
+        write_pair(four % 100, row, at - 2);
+        write_pair(four / 100, row, at - 4);
+        at -= 4;
+    }
+    if left < 100 {
+        write_first(left, row, start);
+        return;
+    }
+    write_pair(left % 100, row, at - 2);
+    write_first(left / 100, row, start);
+}
+
+/// Writes a number of one or two digits.
+#[inline(always)]
+#[tactic(auto, using(crate::proofs::DigitRows::first_digits))]
+fn write_first(n: u64, row: &mut [u8], start: usize)
+    requires small { n < 100 }
+    requires fits { start + length (decimal n) ≤ length row.old }
+    ensures { row.new ≡ written row.old start (decimal n) }
+{
+    if n < 10 {
+        row[start] = b'0' + n as u8;
+        return;
+    }
+    write_pair(n, row, start);
+}
+
+/// Writes the two digits of a number below 100.
+#[inline(always)]
+#[tactic(auto, using(crate::proofs::DigitRows::pair_written))]
+fn write_pair(n: u64, row: &mut [u8], at: usize)
+    requires small { n < 100 }
+    requires fits { at + 2 ≤ length row.old }
+    ensures { row.new ≡ written row.old at (two_digits n) }
+{
+    let place = n as usize * 2;
+    let (tens, ones) = (PAIRS[place], PAIRS[place + 1]);
+    row[at] = tens;
+    row[at + 1] = ones;
+}

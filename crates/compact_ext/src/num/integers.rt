@@ -1,0 +1,152 @@
+//! The texts of integers of up to 64 bits, two digits at a time.
+ghost use Rattle.std.specs.Prelude.{◌≡◌, ⊤};
+ghost use Rattle.std.specs.Fmt.{decimal, signed_decimal};
+ghost use Rattle.compact_str.specs.Value.{placed};
+ghost use Rattle.compact_str.specs.Capacity.{inlined};
+ghost use Rattle.compact_ext.specs.Digits.{number_text};
+ghost use Rattle.compact_ext.specs.Shown.{IsTextOf};
+
+use crate::format::ToCompactStringError;
+use crate::num::ToCompactString;
+use crate::num::digits::write_number;
+use compact_str::{CompactString, Policy, Standard};
+use std::alloc::Global;
+
+/// The text of a number, inline.
+#[inline]
+#[tactic(auto, using(crate::proofs::NumberTexts::number_rows))]
+fn number_value(alloc: Global, magnitude: u64, is_negative: bool) -> CompactString
+    ensures { result ≡ placed (number_text is_negative magnitude) inlined }
+{
+    let mut row = [0; 24];
+    let len = write_number(magnitude, is_negative, &mut row);
+    CompactString::from_row_unchecked(alloc, &row, len)
+}
+
+/// The text of a number that is not negative.
+#[inline]
+#[tactic(auto, using(crate::proofs::NumberTexts::number_values))]
+pub fn unsigned(alloc: Global, n: u64) -> Result<CompactString, ToCompactStringError>
+    ensures { IsTextOf ⟦<Standard as Policy>⟧.growth (decimal n) ⊤ result }
+{
+    Ok(number_value(alloc, n, false))
+}
+
+/// The text of a number that may be negative. The magnitude of the least one is no number of its own type.
+#[inline]
+#[tactic(auto, using(crate::proofs::NumberTexts::number_values))]
+pub fn signed(alloc: Global, n: i64) -> Result<CompactString, ToCompactStringError>
+    ensures { IsTextOf ⟦<Standard as Policy>⟧.growth (signed_decimal n) ⊤ result }
+{
+    Ok(number_value(alloc, n.unsigned_abs(), n < 0))
+}
+
+impl ToCompactString for u8 {
+    ghost shown = { decimal };
+
+    ghost IsShort = { λ _. ⊤ };
+
+    #[inline]
+    fn to_compact_string(&self, alloc: Global) -> Result<CompactString, ToCompactStringError> {
+        unsigned(alloc, u64::from(*self))
+    }
+}
+
+impl ToCompactString for u16 {
+    ghost shown = { decimal };
+
+    ghost IsShort = { λ _. ⊤ };
+
+    #[inline]
+    fn to_compact_string(&self, alloc: Global) -> Result<CompactString, ToCompactStringError> {
+        unsigned(alloc, u64::from(*self))
+    }
+}
+
+impl ToCompactString for u32 {
+    ghost shown = { decimal };
+
+    ghost IsShort = { λ _. ⊤ };
+
+    #[inline]
+    fn to_compact_string(&self, alloc: Global) -> Result<CompactString, ToCompactStringError> {
+        unsigned(alloc, u64::from(*self))
+    }
+}
+
+impl ToCompactString for u64 {
+    ghost shown = { decimal };
+
+    ghost IsShort = { λ _. ⊤ };
+
+    #[inline]
+    fn to_compact_string(&self, alloc: Global) -> Result<CompactString, ToCompactStringError> {
+        unsigned(alloc, *self)
+    }
+}
+
+impl ToCompactString for usize {
+    ghost shown = { decimal };
+
+    ghost IsShort = { λ _. ⊤ };
+
+    #[inline]
+    fn to_compact_string(&self, alloc: Global) -> Result<CompactString, ToCompactStringError> {
+        unsigned(alloc, *self as u64)
+    }
+}
+
+impl ToCompactString for i8 {
+    ghost shown = { signed_decimal };
+
+    ghost IsShort = { λ _. ⊤ };
+
+    #[inline]
+    fn to_compact_string(&self, alloc: Global) -> Result<CompactString, ToCompactStringError> {
+        signed(alloc, i64::from(*self))
+    }
+}
+
+impl ToCompactString for i16 {
+    ghost shown = { signed_decimal };
+
+    ghost IsShort = { λ _. ⊤ };
+
+    #[inline]
+    fn to_compact_string(&self, alloc: Global) -> Result<CompactString, ToCompactStringError> {
+        signed(alloc, i64::from(*self))
+    }
+}
+
+impl ToCompactString for i32 {
+    ghost shown = { signed_decimal };
+
+    ghost IsShort = { λ _. ⊤ };
+
+    #[inline]
+    fn to_compact_string(&self, alloc: Global) -> Result<CompactString, ToCompactStringError> {
+        signed(alloc, i64::from(*self))
+    }
+}
+
+impl ToCompactString for i64 {
+    ghost shown = { signed_decimal };
+
+    ghost IsShort = { λ _. ⊤ };
+
+    #[inline]
+    fn to_compact_string(&self, alloc: Global) -> Result<CompactString, ToCompactStringError> {
+        signed(alloc, *self)
+    }
+}
+
+impl ToCompactString for isize {
+    ghost shown = { signed_decimal };
+
+    ghost IsShort = { λ _. ⊤ };
+
+    #[inline]
+    fn to_compact_string(&self, alloc: Global) -> Result<CompactString, ToCompactStringError> {
+        signed(alloc, *self as i64)
+    }
+}

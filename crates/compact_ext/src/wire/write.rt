@@ -1,0 +1,51 @@
+//! How a text is written.
+ghost use Rattle.std.specs.Prelude.{◌≡◌, ◌^◌, ◌<◌, IfErr, OnOk};
+ghost use Rattle.std.specs.Io.KnownBytes.{Appends};
+ghost use Rattle.compact_str.specs.Text.{size};
+ghost use Rattle.compact_str.specs.Value.{IsSound};
+ghost use Rattle.compact_ext.specs.Wire.{wire, WriteFails, WritesFront, IsWriterFault};
+
+use super::WireError;
+use compact_str::CompactString;
+use std::io::Write;
+
+/// Writes the wire form of `text`: its length in bytes as four bytes, the low one first, and then its bytes.
+///
+/// The form of `"Hi"` is 02 00 00 00 48 69. It goes out in pieces, and the writer is not flushed.
+///
+/// `TooLong` comes of a text of more than 2^32 - 1 bytes, and then nothing was written. `Io` comes where a call of the
+/// writer failed, and `WriteZero` where it took none of a piece; then a part of the form has gone out, which may be none
+/// of it and is not the whole. There is no other error, and no memory is needed.
+#[inline]
+pub fn write_wire<W: Write>(text: &CompactString, writer: &mut W) -> Result<(), WireError>
+    ensures ok { OnOk result (Appends (W.contents writer.old) (W.contents writer.new) (wire text.now.text)) }
+    ensures fits { OnOk result (size text.now.text < 2 ^ 32) }
+    ensures sound { IsSound text.now }
+    ensures err { IfErr result (λ e. WriteFails (W.contents writer.old) (W.contents writer.new) text.now.text e) }
+{
+    let Ok(len) = u32::try_from(text.len()) else {
+        return Err(WireError::TooLong);
+    };
+    if let Err(fault) = write_each(&len.to_le_bytes(), writer) {
+        return Err(fault);
+    }
+    write_each(text.as_bytes(), writer)
+}
+
+/// Writes all of the bytes, or says why the writer did not take them. For no bytes it is not called.
+#[inline]
+fn write_each<W: Write>(bytes: &[u8], writer: &mut W) -> Result<(), WireError>
+    ensures ok { OnOk result (Appends (W.contents writer.old) (W.contents writer.new) bytes.now) }
+    ensures err { IfErr result (λ e. WritesFront (W.contents writer.old) (W.contents writer.new) bytes.now) }
+    ensures fault { IfErr result IsWriterFault }
+{
+    let mut rest = bytes;
+    while !rest.is_empty() {
+        match writer.write(rest) {
+            Ok(0) => return Err(WireError::WriteZero),
+            Ok(count) => rest = &rest[count..],
+            Err(error) => return Err(WireError::Io(error)),
+        }
+    }
+    Ok(())
+}

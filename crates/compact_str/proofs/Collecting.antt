@@ -1,0 +1,244 @@
+-- Texts that are appended in turn, and joined.
+use Rattle.std.proofs.Common.{◌≡◌, ℕ, ◌+◌, ◌<◌, ◌≤◌, List, [], ◌∷◌, ◌++◌, length, drop, fold, Some, map, flat_map, refl, ap, sym, subst, ◌∙◌, arith, append_assoc, append-nil, true}
+use Rattle.std.proofs.lemmas.Grind.{flat_map-append}
+use Rattle.std.proofs.lemmas.List.Folds.{flat_map-map}
+use Rattle.std.proofs.Math.Seq.{drop-append_seam}
+use Rattle.std.specs.Prelude.{Option, None, Result, Ok, Err, IfOk, OnOk, OnErr, IsOk}
+use Rattle.std.specs.Iterator.{Yields, Drains, HoldsAlong}
+use Rattle.std.specs.Borrow.{Bor}
+use Rattle.std.specs.Iterator.Runs.{WholeRun}
+use Rattle.std.proofs.iter.runs.Made.{run, to_end}
+use Rattle.std.specs.Str.{IsUtf8}
+use Rattle.compact_repr.specs.Text.{size, text_of}
+use Rattle.compact_repr.specs.Cut.{IsBoundary, before}
+use Rattle.compact_repr.proofs.Cuts.{before-cut}
+use Rattle.compact_repr.specs.Value.{PlacedText}
+use Rattle.compact_repr.specs.Capacity.{Growth}
+use Rattle.compact_repr.specs.Change.{pushed}
+use Rattle.compact_str.specs.Room.{HasRoomFor, sure_capacity}
+use Rattle.compact_str.specs.Collects.{Appends, AppendsAll, AppendsUpToRefused, PassesInline, StopsWithout, alone, joined}
+use Rattle.compact_repr.proofs.Texts.{size-append, size-text_of}
+use Rattle.compact_repr.proofs.Changes.{pushed-text}
+use Rattle.compact_str.proofs.Rooms.{pushed-sure}
+
+-- one more item
+pub Appends-next : {T : Type 0} (g : Growth) (f : T → List ℕ) (v : PlacedText) (xs : List T) (u w : PlacedText) (x : T) → Appends g f v xs u → pushed g u (f x) ≡ Some w → Appends g f v (xs ++ x ∷ []) w
+Appends-next g f v [] u w x a p = (w, subst (λ (y : PlacedText). pushed g y (f x) ≡ Some w) a p, refl)
+Appends-next g f v (y ∷ ys) u w x a p = (a.0, a.1, Appends-next g f a.0 ys u w x a.2 p)
+
+pub Appends-text : {T : Type 0} (g : Growth) (f : T → List ℕ) (v w : PlacedText) (xs : List T) → Appends g f v xs w → w.text ≡ v.text ++ flat_map f xs
+Appends-text g f v w [] a = ap (λ (x : PlacedText). x.text) a ∙ sym (append-nil v.text)
+Appends-text g f v w (x ∷ xs) a =
+    Appends-text g f a.0 w xs a.2 ∙ ap (λ l. l ++ flat_map f xs) (pushed-text g v a.0 (f x) a.1) ∙ append_assoc v.text (f x) (flat_map f xs)
+
+pub Appends-sure : {T : Type 0} (g : Growth) (f : T → List ℕ) (v w : PlacedText) (xs : List T) → Appends g f v xs w → sure_capacity v ≤ sure_capacity w
+Appends-sure g f v w [] a = subst (λ (x : PlacedText). sure_capacity v ≤ sure_capacity x) (sym a) (omega (arith))
+Appends-sure g f v w (x ∷ xs) a = omega (arith, pushed-sure g v a.0 (f x) a.1, Appends-sure g f a.0 w xs a.2)
+
+pub size-next : {T : Type 0} (f : T → List ℕ) (xs : List T) (x : T) → size (flat_map f (xs ++ x ∷ [])) ≡ size (flat_map f xs) + size (f x)
+size-next f xs x =
+    ap size (flat_map-append f xs (x ∷ [])) ∙ ap (λ l. size (flat_map f xs ++ l)) (append-nil (f x)) ∙ size-append (flat_map f xs) (f x)
+
+-- an append uses up no more than its own room
+pub room-left : {T : Type 0} (g : Growth) (f : T → List ℕ) (v u : PlacedText) (xs : List T) (x : T) → Appends g f v xs u → HasRoomFor v (size (flat_map f (xs ++ x ∷ []))) → HasRoomFor u (size (f x))
+room-left g f v u xs x a h =
+    omega (arith, h, size-next f xs x, ap size (Appends-text g f v u xs a), size-append v.text (flat_map f xs), Appends-sure g f v u xs a)
+
+-- an item that was given next
+pub yields-next : {S T : Type 0} (steps : S → Option T → S → Type 0) (s t u : S) (xs : List T) (x : T) → Yields steps s xs t → steps t (Some x) u → Yields steps s (xs ++ x ∷ []) u
+yields-next steps s t u [] x y n = (u, subst (λ q. steps q (Some x) u) (sym y) n, refl)
+yields-next steps s t u (z ∷ zs) x y n = (y.0, y.1, yields-next steps y.0 t u zs x y.2 n)
+
+-- characters one by one are their text
+pub each-alone : (cs : List ℕ) → flat_map alone cs ≡ cs
+each-alone [] = refl
+each-alone (c ∷ cs) = ap (λ l. c ∷ l) (each-alone cs)
+
+-- a run to its end
+pub whole-run : {S T : Type 0} (steps : S → Option T → S → Type 0) (s : S) (xs : List T) (P : List T → Type 0) → Drains steps s xs → P xs → WholeRun steps s (λ p. P p.items)
+whole-run steps s xs P all holds = (run steps s xs true (to_end steps s xs all), refl, refl, holds)
+
+-- what the clauses say of the outcome r of an extension: `read` is what the items spell together
+module _ {U S T E : Type 0} (becomes : U → S → Type 0) (steps : S → Option T → S → Type 0) (g : Growth) (f : T → List ℕ) (iter : U) (v w : PlacedText) where
+  abbrev pub Extended : Result (Unit {0}) E → Type 0
+  Extended r = OnOk r ((it : S) × becomes iter it × AppendsAll steps g f it v w)
+
+  abbrev pub Stopped : Result (Unit {0}) E → Type 0
+  Stopped r = OnErr r ((it : S) × becomes iter it × AppendsUpToRefused steps g f it v w)
+
+  -- the text has gained what the items spell
+  pub extended-ran : (read : List T → List ℕ) → ((xs : List T) → flat_map f xs ≡ read xs) → (r : Result (Unit {0}) E) → Extended r
+      → OnOk r ((it : S) × becomes iter it × WholeRun steps it (λ p. w.text ≡ v.text ++ read p.items))
+  extended-ran read same (Ok _) (it, b, (xs, d, a)) =
+      (it, b, whole-run steps it xs (λ ys. w.text ≡ v.text ++ read ys) d (Appends-text g f v w xs a ∙ ap (λ l. v.text ++ l) (same xs)))
+  extended-ran read same (Err _) e = tt
+
+  -- no room is given back
+  pub extended-room : (r : Result (Unit {0}) E) → Extended r → Stopped r → sure_capacity v ≤ sure_capacity w
+  extended-room (Ok _) (it, b, (xs, d, a)) e = Appends-sure g f v w xs a
+  extended-room (Err _) e (it, b, s) = Appends-sure g f v w s.0 s.4
+
+  -- the old text stands in front
+  pub extended-boundary : (r : Result (Unit {0}) E) → Extended r → Stopped r → IsBoundary w.text (size v.text)
+  extended-boundary (Ok _) (it, b, (xs, d, a)) e = (v.text, flat_map f xs, record { parts = Appends-text g f v w xs a; position = refl })
+  extended-boundary (Err _) e (it, b, s) = (v.text, flat_map f s.0, record { parts = Appends-text g f v w s.0 s.4; position = refl })
+
+  pub extended-front : (r : Result (Unit {0}) E) → Extended r → Stopped r → before w.text (size v.text) ≡ v.text
+  extended-front (Ok _) (it, b, (xs, d, a)) e = ap (λ t. before t (size v.text)) (Appends-text g f v w xs a) ∙ before-cut v.text (flat_map f xs) (size v.text) refl
+  extended-front (Err _) e (it, b, s) = ap (λ t. before t (size v.text)) (Appends-text g f v w s.0 s.4) ∙ before-cut v.text (flat_map f s.0) (size v.text) refl
+
+-- how many bytes the items take, one after another
+pub size-each : {T : Type 0} (f : T → List ℕ) (xs : List T) (n : ℕ) → fold (λ (m : ℕ) x. m + size (f x)) n xs ≡ n + size (flat_map f xs)
+size-each f [] n = omega (arith)
+size-each f (x ∷ xs) n = size-each f xs (n + size (f x)) ∙ omega (arith, size-append (f x) (flat_map f xs))
+
+-- of the outcome r of a collection
+module _ {U S T E : Type 0} (becomes : U → S → Type 0) (steps : S → Option T → S → Type 0) (f : T → List ℕ) (iter : U) (read : List T → List ℕ) (same : (xs : List T) → flat_map f xs ≡ read xs) where
+  abbrev pub Collected : Result PlacedText E → Type 0
+  Collected r = IfOk r (λ v. (it : S) × (xs : List T) × becomes iter it × Drains steps it xs × (v.text ≡ flat_map f xs))
+
+  abbrev pub Overflowed : (List T → List ℕ) → Result PlacedText E → Type 0
+  Overflowed read r = OnErr r ((it : S) × becomes iter it × PassesInline steps read it)
+
+  pub collected-ran : (r : Result PlacedText E) → Collected r → IfOk r (λ v. (it : S) × becomes iter it × WholeRun steps it (λ p. v.text ≡ read p.items))
+  collected-ran (Ok v) (it, xs, b, d, e) = (it, b, whole-run steps it xs (λ ys. v.text ≡ read ys) d (e ∙ same xs))
+  collected-ran (Err _) e = tt
+
+  pub collected-size : (r : Result PlacedText E) → Collected r → IfOk r (λ v. (it : S) × becomes iter it × WholeRun steps it (λ p. size v.text ≡ fold (λ (n : ℕ) x. n + size (f x)) 0 p.items))
+  collected-size (Ok v) (it, xs, b, d, e) =
+      (it, b, whole-run steps it xs (λ ys. size v.text ≡ fold (λ (n : ℕ) y. n + size (f y)) 0 ys) d (ap size e ∙ omega (arith, size-each f xs 0)))
+  collected-size (Err _) e = tt
+
+  pub collected-err : (r : Result PlacedText E) → Overflowed (flat_map f) r → Overflowed read r
+  collected-err (Ok v) e = tt
+  collected-err (Err _) (it, b, o) = (it, b, (o.0, o.1, o.2, subst (λ l. 24 < size l) (same o.0) o.3))
+
+  -- where all that may come has at most 24 bytes nothing is refused
+  pub collected-succeeds : (r : Result PlacedText E) → Overflowed read r → ((it : S) → becomes iter it → HoldsAlong steps it (λ xs. size (read xs) ≤ 24)) → IsOk r
+  collected-succeeds (Ok v) e h = refl
+  collected-succeeds (Err _) (it, b, o) h = absurd (omega (arith, h it b o.0 o.1 o.2, o.3))
+
+-- one more item makes more than 24 bytes
+pub passes : {S T : Type 0} (steps : S → Option T → S → Type 0) (f : T → List ℕ) (s t u : S) (xs : List T) (x : T) (z : List ℕ) → Yields steps s xs t → steps t (Some x) u
+    → z ≡ flat_map f xs → 24 < size z + size (f x) → PassesInline steps (flat_map f) s
+passes steps f s t u xs x z y n e h =
+    let all : size (flat_map f (xs ++ x ∷ [])) ≡ size (flat_map f xs) + size (f x) = size-next f xs x in
+    (xs ++ x ∷ [], u, yields-next steps s t u xs x y n, omega (arith, h, ap size e, all))
+
+-- referred to
+pub each-referred : (cs : List (Bor ℕ)) → flat_map (λ (c : Bor ℕ). alone c.now) cs ≡ map (λ (c : Bor ℕ). c.now) cs
+each-referred [] = refl
+each-referred (c ∷ cs) = ap (λ l. c.now ∷ l) (each-referred cs)
+
+pub on_err : {T E Q : Type 0} (r : Result T E) → Q → OnErr r Q
+on_err (Ok _) q = tt
+on_err (Err _) q = q
+
+-- what is collected from an iterator as it stands
+pub ran-here : {S T E : Type 0} (steps : S → Option T → S → Type 0) (s : S) (read : List T → List ℕ) (r : Result PlacedText E)
+    → IfOk r (λ v. (it : S) × (it ≡ s) × WholeRun steps it (λ p. v.text ≡ read p.items)) → IfOk r (λ v. WholeRun steps s (λ p. v.text ≡ read p.items))
+ran-here steps s read (Ok v) (it, e, w) = subst (λ t. WholeRun steps t (λ p. v.text ≡ read p.items)) e w
+ran-here steps s read (Err _) h = tt
+
+-- what is joined from it
+module _ {S T E : Type 0} (steps : S → Option T → S → Type 0) (s : S) (read : List T → List ℕ) where
+  pub joined-ran : (r : Result PlacedText E) → IfOk r (λ v. (xs : List T) × Drains steps s xs × (v.text ≡ read xs)) → IfOk r (λ v. WholeRun steps s (λ p. v.text ≡ read p.items))
+  joined-ran (Ok v) (xs, d, e) = whole-run steps s xs (λ ys. v.text ≡ read ys) d e
+  joined-ran (Err _) h = tt
+
+  pub joined-succeeds : (r : Result PlacedText E) → OnErr r (PassesInline steps read s) → HoldsAlong steps s (λ xs. size (read xs) ≤ 24) → IsOk r
+  joined-succeeds (Ok v) e h = refl
+  joined-succeeds (Err _) o h = absurd (omega (arith, h o.0 o.1 o.2, o.3))
+
+-- the first item stands alone, and each other behind a separator
+pub joined-cons : {T : Type 0} (f : T → List ℕ) (separator : List ℕ) (x : T) (xs : List T) → joined separator f (x ∷ xs) ≡ f x ++ flat_map (λ y. separator ++ f y) xs
+joined-cons f separator x xs =
+    ap (λ l. drop (length separator) l) (append_assoc separator (f x) (flat_map (λ y. separator ++ f y) xs)) ∙ drop-append_seam separator (f x ++ flat_map (λ y. separator ++ f y) xs)
+
+pub joined-one : {T : Type 0} (f : T → List ℕ) (separator : List ℕ) (x : T) → joined separator f (x ∷ []) ≡ f x
+joined-one f separator x = joined-cons f separator x [] ∙ append-nil (f x)
+
+pub first-joined : {T : Type 0} (f : T → List ℕ) (separator : List ℕ) (x : T) (z p w : List ℕ) → z ≡ [] → p ≡ f x → w ≡ z ++ p → w ≡ joined separator f (x ∷ [])
+first-joined f separator x z p w e k h = h ∙ ap (λ l. l ++ p) e ∙ k ∙ sym (joined-one f separator x)
+
+-- one more item behind the first
+pub joined-next : {T : Type 0} (f : T → List ℕ) (separator : List ℕ) (z : T) (xs : List T) (x : T) → joined separator f (z ∷ (xs ++ x ∷ [])) ≡ (joined separator f (z ∷ xs) ++ separator) ++ f x
+joined-next f separator z xs x =
+    let others = flat_map (λ y. separator ++ f y) xs in
+    joined-cons f separator z (xs ++ x ∷ [])
+    ∙ ap (λ l. f z ++ l) (flat_map-append (λ y. separator ++ f y) xs (x ∷ []))
+    ∙ sym (append_assoc (f z) others ((separator ++ f x) ++ []))
+    ∙ ap (λ l. (f z ++ others) ++ l) (append-nil (separator ++ f x))
+    ∙ sym (append_assoc (f z ++ others) separator (f x))
+    ∙ ap (λ l. (l ++ separator) ++ f x) (sym (joined-cons f separator z xs))
+
+-- one turn of the loop that joins
+pub joined-turn : {T : Type 0} (f : T → List ℕ) (separator : List ℕ) (z : T) (xs : List T) (x : T) {a m w p : List ℕ} → a ≡ joined separator f (z ∷ xs)
+    → m ≡ a ++ separator → p ≡ f x → w ≡ m ++ p → w ≡ joined separator f (z ∷ (xs ++ x ∷ []))
+joined-turn f separator z xs x a m p w = rw (w, m, p, a) (sym (joined-next f separator z xs x))
+
+-- an item taken ahead of a loop, and those of the loop
+pub first-drained : {S T : Type 0} (steps : S → Option T → S → Type 0) {s j k t u : S} {x : T} (xs : List T) → steps s (Some x) j → k ≡ j → Yields steps k xs t → steps t None u → Drains steps s (x ∷ xs)
+first-drained steps {s} {j} {k} {t} {u} {x} xs first same rest end = (u, (t, (j, first, subst (λ q. Yields steps q xs t) same rest), end))
+
+pub first-yields : {S T : Type 0} (steps : S → Option T → S → Type 0) {s j k t u : S} {z : T} (xs : List T) (x : T) → steps s (Some z) j → k ≡ j → Yields steps k xs t → steps t (Some x) u → Yields steps s (z ∷ (xs ++ x ∷ [])) u
+first-yields steps {s} {j} {k} {t} {u} {z} xs x first same rest next = (j, first, subst (λ q. Yields steps q (xs ++ x ∷ []) u) same (yields-next steps k t u xs x rest next))
+
+pub join-size : {T : Type 0} (f : T → List ℕ) (separator : List ℕ) (z : T) (xs : List T) (x : T) → size (joined separator f (z ∷ (xs ++ x ∷ []))) ≡ size (joined separator f (z ∷ xs)) + size separator + size (f x)
+join-size f separator z xs x =
+    let so_far = joined separator f (z ∷ xs) in
+    ap size (joined-next f separator z xs x) ∙ size-append (so_far ++ separator) (f x) ∙ ap (λ (n : ℕ). n + size (f x)) (size-append so_far separator)
+
+-- where a join stops, what came makes more than 24 bytes
+module _ {S T : Type 0} (steps : S → Option T → S → Type 0) (f : T → List ℕ) (s : S) (separator : List ℕ) where
+  abbrev pub join_of : List T → List ℕ
+  join_of xs = joined (text_of separator) f xs
+
+  pub join-first : {j : S} {x : T} {z : List ℕ} (t : List ℕ) → steps s (Some x) j → z ≡ [] → text_of t ≡ f x → IsUtf8 t → 24 < size z + length t → PassesInline steps join_of s
+  join-first {j} {x} t n e k u h = (x ∷ [], j, (j, n, refl), omega (arith, h, ap size e, ap size k, size-text_of t u, ap size (joined-one f (text_of separator) x)))
+
+  pub join-separator : {j k t u : S} {z : T} {w : List ℕ} (xs : List T) (x : T) → steps s (Some z) j → k ≡ j → Yields steps k xs t → steps t (Some x) u
+      → w ≡ joined (text_of separator) f (z ∷ xs) → IsUtf8 separator → 24 < size w + length separator → PassesInline steps join_of s
+  join-separator {j} {k} {t} {u} {z} xs x first same rest next e v h = (
+    z ∷ (xs ++ x ∷ []),
+    u,
+    first-yields steps xs x first same rest next,
+    omega (arith, h, ap size e, size-text_of separator v, join-size f (text_of separator) z xs x),
+  )
+
+  pub join-piece : {j k t u : S} {z : T} {w m : List ℕ} (xs : List T) (x : T) (p : List ℕ) → steps s (Some z) j → k ≡ j → Yields steps k xs t → steps t (Some x) u
+      → w ≡ joined (text_of separator) f (z ∷ xs) → m ≡ w ++ text_of separator → text_of p ≡ f x → IsUtf8 p → 24 < size m + length p → PassesInline steps join_of s
+  join-piece {j} {k} {t} {u} {z} {w} xs x p first same rest next e d b v h = (
+    z ∷ (xs ++ x ∷ []),
+    u,
+    first-yields steps xs x first same rest next,
+    omega (arith, h, ap size e, ap size d, size-append w (text_of separator), ap size b, size-text_of p v, join-size f (text_of separator) z xs x),
+  )
+
+-- what is finished has the text that came
+module _ {S T E : Type 0} (steps : S → Option T → S → Type 0) (s : S) (read : List T → List ℕ) (z : List ℕ) (xs : List T) where
+  pub finished-ok : (r : Result PlacedText E) → IfOk r (λ v. v.text ≡ z) → z ≡ read xs → Drains steps s xs → IfOk r (λ v. (ys : List T) × Drains steps s ys × (v.text ≡ read ys))
+  finished-ok (Ok v) h e d = (xs, d, h ∙ e)
+  finished-ok (Err _) h e d = tt
+
+  pub finished-err : (t : S) (r : Result PlacedText E) → OnErr r (24 < size z) → z ≡ read xs → Yields steps s xs t → OnErr r (PassesInline steps read s)
+  finished-err t (Ok v) h e y = tt
+  finished-err t (Err _) h e y = (xs, t, y, subst (λ l. 24 < size l) e h)
+
+-- of texts that are appended to a `String` with the text t, which leaves the text u
+module _ {U S T : Type 0} (becomes : U → S → Type 0) (steps : S → Option T → S → Type 0) (f : T → List ℕ) (iter : U) (capacity : ℕ) (t u : List ℕ) where
+  pub strings-ran : {E : Type 0} (r : Result (Unit {0}) E) → OnOk r ((it : S) × (xs : List T) × becomes iter it × Drains steps it xs × (u ≡ t ++ flat_map f xs))
+      → OnOk r ((it : S) × becomes iter it × WholeRun steps it (λ p. u ≡ t ++ flat_map f p.items))
+  strings-ran (Ok _) (it, xs, b, d, e) = (it, b, whole-run steps it xs (λ ys. u ≡ t ++ flat_map f ys) d e)
+  strings-ran (Err _) h = tt
+
+  pub strings-succeed : {E : Type 0} (n : ℕ) (r : Result (Unit {0}) E) → size t ≡ n → OnErr r ((it : S) × becomes iter it × StopsWithout steps f it capacity t u)
+      → ((it : S) → becomes iter it → HoldsAlong steps it (λ xs. n + size (flat_map f xs) ≤ capacity)) → IsOk r
+  strings-succeed n (Ok _) e o h = refl
+  strings-succeed n (Err _) e (it, b, o) h =
+      let more = h it b (o.0 ++ o.1 ∷ []) o.2 (yields-next steps it o.3.0 o.2 o.0 o.1 o.3.1 o.3.2) in
+      absurd (omega (arith, more, size-next f o.0 o.1, o.5, ap size o.4, size-append t (flat_map f o.0), e))
+
+-- items that are read through v
+pub joined-map : {A B : Type 0} (separator : List ℕ) (h : B → List ℕ) (v : A → B) (xs : List A) → joined separator h (map v xs) ≡ joined separator (λ x. h (v x)) xs
+joined-map separator h v xs = ap (λ l. drop (length separator) l) (flat_map-map (λ y. separator ++ h y) v xs)

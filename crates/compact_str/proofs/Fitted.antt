@@ -1,0 +1,47 @@
+-- A value that is collected by appends.
+use Rattle.std.proofs.Common.{◌≡◌, ℕ, ◌+◌, ◌<◌, ◌≤◌, List, [], Some, refl, ap, sym, subst, ◌∙◌, arith, inl, inr}
+use Rattle.std.proofs.lemmas.Grind.{common_steps}
+use Rattle.std.proofs.lemmas.Bool.{cases_lt}
+use Rattle.std.specs.Prelude.{IsTrue, Result, Ok, Err, OnOk, OnErr}
+use Rattle.compact_repr.specs.Text.{size}
+use Rattle.compact_repr.specs.Value.{PlacedText, placed, heap}
+use Rattle.compact_repr.specs.Capacity.{Growth, inlined}
+use Rattle.compact_repr.specs.Change.{pushed, push_asks}
+use Rattle.compact_str.specs.Fitted.{IsFitted}
+use Rattle.compact_repr.proofs.Texts.{size-append}
+use Rattle.compact_repr.proofs.Changes.{pushed-text}
+
+short-pushed : (g : Growth) (v w : PlacedText) (s : List ℕ) → v.placement ≡ inlined → pushed g v s ≡ Some w → size v.text + size s ≤ 24 → w.placement ≡ inlined
+short-pushed g v w s p e h = grind (arith, common_steps)
+
+grown-pushed : (g : Growth) (v w : PlacedText) (s : List ℕ) → v.placement ≡ inlined → pushed g v s ≡ Some w → size v.text ≤ 24 → 24 < size v.text + size s
+    → (w.placement.place ≡ heap) × (size v.text + size s ≤ w.placement.capacity)
+grown-pushed g v w s p e k h = grind (arith, common_steps)
+
+heap-pushed : (g : Growth) (v w : PlacedText) (s : List ℕ) → v.placement.place ≡ heap → size v.text ≤ v.placement.capacity → pushed g v s ≡ Some w → 24 < size v.text
+    → (w.placement.place ≡ heap) × (size v.text + size s ≤ w.placement.capacity)
+heap-pushed g v w s p c e k = grind (arith, common_steps)
+
+-- an append keeps a value fitted
+pub fitted-pushed : (g : Growth) (v w : PlacedText) (s : List ℕ) → IsFitted v → pushed g v s ≡ Some w → IsFitted w
+fitted-pushed g v w s f e =
+    let long : size w.text ≡ size v.text + size s = ap size (pushed-text g v w s e) ∙ size-append v.text s in
+    record {
+      short = λ h. short-pushed g v w s (f.short (omega (arith, long, h))) e (omega (arith, long, h));
+      long = λ h. elim (cases_lt 24 (size v.text)) [
+        | inr k ↦ let r = grown-pushed g v w s (f.short k) e k (omega (arith, long, h)) in (r.0, omega (arith, long, r.1))
+        | inl k ↦ let p = f.long k in let r = heap-pushed g v w s p.0 p.1 e k in (r.0, omega (arith, long, r.1))
+      ];
+    }
+
+pub fitted-empty : IsFitted (placed [] inlined)
+fitted-empty = record { short = λ _. refl; long = λ h. absurd (omega (arith, h)) }
+
+-- an append that asks for a heap buffer makes a text of more than 24 bytes
+pub asks-over : (v : PlacedText) (t : List ℕ) → IsTrue (push_asks v t) → 24 < size v.text + size t
+asks-over v t h = grind (arith, common_steps)
+
+-- also one that was refused
+pub fitted-tried : {E : Type 0} (g : Growth) (v w : PlacedText) (s : List ℕ) (r : Result (Unit {0}) E) → IsFitted v → OnOk r (pushed g v s ≡ Some w) → OnErr r ((w ≡ v) × IsTrue (push_asks v s)) → IsFitted w
+fitted-tried g v w s (Ok _) f e n = fitted-pushed g v w s f e
+fitted-tried g v w s (Err _) f e n = subst IsFitted (sym n.0) f

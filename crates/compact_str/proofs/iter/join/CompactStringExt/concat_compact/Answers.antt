@@ -1,0 +1,6 @@
+use Rattle.std.proofs.Common.{flat_map}
+use Rattle.compact_str.proofs.Collecting.{ran-here}
+use Rattle.compact_str.proofs.iter.join.CompactStringExt.concat_compact.Goals as goal
+
+pub returns-clause-text : goal.returns-clause-text
+returns-clause-text g c = ran-here g.Self.Iterator.next_gives c.args.self (flat_map g.Self.Item.AsText.spells) c.from_texts.result c.from_texts.ensures.text

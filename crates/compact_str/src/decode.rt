@@ -1,0 +1,32 @@
+//! How bytes and units from outside become texts.
+ghost use Rattle.std.specs.Prelude.{◌≡◌, ◌+◌, ◌<◌, ◌++◌, length, OnOk, OnErr};
+ghost use Rattle.compact_repr.specs.Text.{size, text_of};
+ghost use Rattle.compact_str.specs.Fitted.{IsFitted};
+
+mod buf;
+pub mod error;
+pub mod utf16;
+pub mod utf8;
+
+use crate::string::CompactString;
+use compact_repr::{INLINE_CAPACITY, ReserveError};
+
+/// What stands in a text for a broken part.
+const REPLACEMENT: &str = "\u{FFFD}";
+
+/// Appends `text` to a fitted value, which stays so. Where it leaves the value itself, room is also made for `more` bytes
+/// behind it, which the caller knows to come.
+#[inline]
+#[tactic(auto, using(compact_repr::proofs::TextFacts::text_facts, crate::proofs::FittedTexts::fitted_facts))]
+fn push_fitted(made: &mut CompactString, text: &str, more: usize) -> Result<(), ReserveError>
+    requires { IsFitted made.old }
+    ensures fitted { OnOk result (IsFitted made.new) }
+    ensures text { OnOk result (made.new.text ≡ made.old.text ++ text_of text.now) }
+    ensures err { OnErr result (24 < size made.old.text + length text.now) }
+{
+    if made.is_heap_allocated() || made.len() + text.len() <= INLINE_CAPACITY {
+        return made.push_str(text);
+    }
+    made.reserve(text.len().saturating_add(more))?;
+    made.push_str(text)
+}

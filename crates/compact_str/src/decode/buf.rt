@@ -1,0 +1,105 @@
+//! Whole buffers of bytes read as UTF-8.
+ghost use Rattle.std.specs.Prelude.{◌≡◌, ◌<◌, ◌≤◌, ◌++◌, [], length, IfOk, IfErr, OnOk, OnErr, IsOk, IsTrue};
+ghost use Rattle.std.specs.Str.{IsUtf8};
+ghost use Rattle.compact_repr.specs.Text.{text_of};
+ghost use Rattle.compact_repr.specs.Capacity.{new_room_asks};
+ghost use Rattle.compact_codec.specs.Utf8Text.{BytesEncode};
+ghost use Rattle.compact_str.specs.Fitted.{IsFitted};
+ghost use Rattle.compact_str.specs.Decoded.{IsEndOf, IsUtf8BufRefusal};
+
+use crate::decode::error::FromUtf8Error;
+use crate::string::{CompactString, PolicyString};
+use bytes::Buf;
+use compact_codec::utf8;
+use compact_repr::{INLINE_CAPACITY, ReserveError, Standard};
+use std::alloc::Global;
+
+impl PolicyString<Standard> {
+    /// The text that all bytes of a buffer encode in UTF-8, in however many pieces they lie: inline up to 24 bytes, which is
+    /// never refused for memory, and else on the heap in a buffer that holds it.
+    ///
+    /// All bytes are taken, and then they are judged. The error `Utf8` tells where they stop being a text. `Reserve` says
+    /// that no memory was found; then a beginning of the bytes may be taken, and they are not judged. A buffer of F0 and
+    /// 9F 92 96 in two pieces gives U+1F496.
+    #[tactic(auto, using(compact_repr::proofs::TextFacts::text_facts, crate::proofs::FittedTexts::buf_facts))]
+    pub fn from_utf8_buf<B: Buf>(alloc: Global, buf: &mut B) -> Result<CompactString, FromUtf8Error>
+        ensures text { IfOk result (λ v. BytesEncode (B.unread buf.old) v.text) }
+        ensures fitted { IfOk result IsFitted }
+        ensures consumed { OnOk result (B.unread buf.new ≡ []) }
+        ensures kept { B.kept buf.new ≡ B.kept buf.old }
+        ensures succeeds { IsUtf8 (B.unread buf.old) → length (B.unread buf.old) ≤ 24 → IsOk result }
+        ensures err { IfErr result (IsUtf8BufRefusal (B.unread buf.old) (B.unread buf.new)) }
+    {
+        if buf.remaining() <= INLINE_CAPACITY {
+            let mut row = [0; INLINE_CAPACITY];
+            return Self::from_utf8(alloc, read_short(buf, &mut row));
+        }
+        let bytes = match read_long(alloc, buf) {
+            Ok(bytes) => bytes,
+            Err(error) => return Err(FromUtf8Error::Reserve(error)),
+        };
+        if let Err(fault) = utf8::judge(bytes.as_slice()) {
+            return Err(FromUtf8Error::Utf8 {
+                valid_up_to: fault.valid_up_to,
+                error_len: fault.error_len,
+            });
+        }
+        Ok(Self::from(unsafe { String::from_utf8_unchecked(bytes) }))
+    }
+
+    /// The text that all bytes of a buffer encode in UTF-8, as of `from_utf8_buf`, where they are known to encode one.
+    ///
+    /// Nothing is judged: that they do is the caller's condition. An error says that no memory was found; it never comes up
+    /// to 24 bytes, and a beginning of the bytes may be taken.
+    #[tactic(auto, using(compact_repr::proofs::TextFacts::text_facts, crate::proofs::FittedTexts::buf_facts))]
+    pub fn from_utf8_buf_unchecked<B: Buf>(
+        alloc: Global,
+        buf: &mut B,
+    ) -> Result<CompactString, ReserveError>
+        requires { IsUtf8 (B.unread buf.old) }
+        ensures text { IfOk result (λ v. v.text ≡ text_of (B.unread buf.old)) }
+        ensures fitted { IfOk result IsFitted }
+        ensures consumed { OnOk result (B.unread buf.new ≡ []) }
+        ensures kept { B.kept buf.new ≡ B.kept buf.old }
+        ensures succeeds { length (B.unread buf.old) ≤ 24 → IsOk result }
+        ensures err { OnErr result (IsTrue (new_room_asks (length (B.unread buf.old))) × IsEndOf (B.unread buf.new) (B.unread buf.old)) }
+    {
+        if buf.remaining() <= INLINE_CAPACITY {
+            let mut row = [0; INLINE_CAPACITY];
+            return Self::from_utf8_unchecked(alloc, read_short(buf, &mut row));
+        }
+        match read_long(alloc, buf) {
+            Ok(bytes) => Ok(Self::from(unsafe { String::from_utf8_unchecked(bytes) })),
+            Err(error) => Err(error),
+        }
+    }
+}
+
+/// All bytes of a buffer that has at most 24, in a row of the caller's.
+fn read_short<'a, B: Buf>(buf: &mut B, row: &'a mut [u8; INLINE_CAPACITY]) -> &'a [u8]
+    requires { length (B.unread buf.old) ≤ 24 }
+    ensures bytes { result.now ≡ B.unread buf.old }
+    ensures consumed { B.unread buf.new ≡ [] }
+    ensures kept { B.kept buf.new ≡ B.kept buf.old }
+{
+    let front = &mut row[..buf.remaining()];
+    buf.copy_to_slice(front);
+    front
+}
+
+/// All bytes of a buffer, copied once. Where memory is refused a beginning of them may be taken.
+fn read_long<B: Buf>(alloc: Global, buf: &mut B) -> Result<Vec<u8>, ReserveError>
+    ensures bytes { IfOk result (λ bytes. bytes.items ≡ B.unread buf.old) }
+    ensures consumed { OnOk result (B.unread buf.new ≡ []) }
+    ensures kept { B.kept buf.new ≡ B.kept buf.old }
+    ensures rest { OnErr result (IsEndOf (B.unread buf.new) (B.unread buf.old)) }
+{
+    let mut bytes = Vec::with_capacity(alloc, buf.remaining())?;
+    while buf.has_remaining() {
+        let piece = buf.chunk();
+        let len = piece.len();
+        bytes.extend_from_slice(piece)?;
+        buf.advance(len);
+    }
+    Ok(bytes)
+}

@@ -1,0 +1,151 @@
+//! Units of 16 bits read as UTF-16, and bytes that stand for units, two and two.
+ghost use Rattle.std.specs.Prelude.{◌≡◌, ◌<◌, ◌≤◌, ◌++◌, ℕ, List, length, IfOk, IfErr, IsOk};
+ghost use Rattle.compact_repr.specs.Text.{size};
+ghost use Rattle.compact_codec.specs.Utf16Text.{UnitsEncode, utf16_lossy_text};
+ghost use Rattle.compact_codec.specs.Utf16Bytes.{utf16_bytes_lossy_text};
+ghost use Rattle.compact_codec.specs.declared.utf16_bytes.ByteOrder.TheVariants.{LittleEndian, BigEndian};
+ghost use Rattle.compact_str.specs.Fitted.{IsFitted, IsFittedOf};
+ghost use Rattle.compact_str.specs.Decoded.{IsUtf16Refusal, IsUtf16BytesRefusal, PairsEncode};
+
+use crate::decode::error::{FromUtf16Error, Utf16Error};
+use crate::iter::gather::Gathered;
+use crate::string::{CompactString, PolicyString};
+use compact_codec::utf16;
+use compact_codec::utf16_bytes::{self, ByteOrder};
+use compact_repr::{ReserveError, Standard};
+use std::alloc::Global;
+
+impl PolicyString<Standard> {
+    /// The text that the units encode in UTF-16, inline up to 24 bytes, which is never refused for memory, and else on the
+    /// heap in a buffer that holds it.
+    ///
+    /// The units are judged before memory is asked for. The error `Utf16` says that a surrogate is in no pair, and `Reserve`
+    /// that no memory was found. `[0xD834, 0xDD1E]` gives U+1D11E, and `[0xD834, 0x0041]` is refused.
+    #[tactic(auto, using(compact_codec::proofs::ForReaders::strict_reading))]
+    pub fn from_utf16(alloc: Global, units: &[u16]) -> Result<CompactString, FromUtf16Error>
+        ensures text { IfOk result (λ v. UnitsEncode units.now v.text) }
+        ensures fitted { IfOk result IsFitted }
+        ensures succeeds { (text : List ℕ) → UnitsEncode units.now text → size text ≤ 24 → IsOk result }
+        ensures err { IfErr result (IsUtf16Refusal units.now) }
+    {
+        if !utf16::is_utf16(units) {
+            return Err(FromUtf16Error::Utf16(Utf16Error));
+        }
+        match Self::from_utf16_lossy(alloc, units) {
+            Ok(value) => Ok(value),
+            Err(error) => Err(FromUtf16Error::Reserve(error)),
+        }
+    }
+
+    /// The text of the units in UTF-16, with one U+FFFD for each surrogate that is in no pair. Units that encode a text
+    /// give that text.
+    ///
+    /// It is inline up to 24 bytes, and else on the heap in a buffer that holds it. An error says that no memory was found,
+    /// or that the length in bytes would be past 2^56 - 2; it never comes of a text of at most 24 bytes.
+    /// `[0xD834, 0x0041]` gives U+FFFD and `A`.
+    #[tactic(auto, using(compact_repr::proofs::TextFacts::text_facts, compact_codec::proofs::ForReaders::reading, crate::proofs::FittedTexts::part_facts))]
+    pub fn from_utf16_lossy(alloc: Global, units: &[u16]) -> Result<CompactString, ReserveError>
+        ensures { IsFittedOf (utf16_lossy_text units.now) result }
+    {
+        let mut gathered = Gathered::new(alloc);
+        let mut rest = units;
+        while !rest.is_empty() {
+            let step = utf16::first_character(rest);
+            rest = &rest[step.taken..];
+            gathered.push(step.character.unwrap_or(char::REPLACEMENT_CHARACTER))?;
+        }
+        gathered.finish()
+    }
+
+    /// The text that the bytes encode in UTF-16, two bytes a unit, the low byte first: inline up to 24 bytes, which is
+    /// never refused for memory, and else on the heap in a buffer that holds it. A byte order mark is a character.
+    ///
+    /// The bytes are judged before memory is asked for. The error `Utf16` says that a surrogate is in no pair, or that the
+    /// bytes are odd in number, and `Reserve` that no memory was found. `41 00` is `"A"`.
+    pub fn from_utf16le(alloc: Global, bytes: &[u8]) -> Result<CompactString, FromUtf16Error>
+        ensures text { IfOk result (λ v. PairsEncode LittleEndian bytes.now v.text) }
+        ensures fitted { IfOk result IsFitted }
+        ensures succeeds { (text : List ℕ) → PairsEncode LittleEndian bytes.now text → size text ≤ 24 → IsOk result }
+        ensures err { IfErr result (IsUtf16BytesRefusal LittleEndian bytes.now) }
+    {
+        from_bytes(alloc, ByteOrder::LittleEndian, bytes)
+    }
+
+    /// The text that the bytes encode in UTF-16, two bytes a unit, the high byte first: inline up to 24 bytes, which is
+    /// never refused for memory, and else on the heap in a buffer that holds it. A byte order mark is a character.
+    ///
+    /// The bytes are judged before memory is asked for. The error `Utf16` says that a surrogate is in no pair, or that the
+    /// bytes are odd in number, and `Reserve` that no memory was found. `00 41` is `"A"`.
+    pub fn from_utf16be(alloc: Global, bytes: &[u8]) -> Result<CompactString, FromUtf16Error>
+        ensures text { IfOk result (λ v. PairsEncode BigEndian bytes.now v.text) }
+        ensures fitted { IfOk result IsFitted }
+        ensures succeeds { (text : List ℕ) → PairsEncode BigEndian bytes.now text → size text ≤ 24 → IsOk result }
+        ensures err { IfErr result (IsUtf16BytesRefusal BigEndian bytes.now) }
+    {
+        from_bytes(alloc, ByteOrder::BigEndian, bytes)
+    }
+
+    /// The text of the bytes in UTF-16, two bytes a unit, the low byte first, with one U+FFFD for each surrogate that is
+    /// in no pair, and one at the end for an odd last byte. A byte order mark is a character.
+    ///
+    /// It is inline up to 24 bytes, and else on the heap in a buffer that holds it. An error says that no memory was found,
+    /// or that the length in bytes would be past 2^56 - 2; it never comes of a text of at most 24 bytes.
+    /// `41 00 42` gives `A` and U+FFFD.
+    pub fn from_utf16le_lossy(alloc: Global, bytes: &[u8]) -> Result<CompactString, ReserveError>
+        ensures { IsFittedOf (utf16_bytes_lossy_text LittleEndian bytes.now) result }
+    {
+        from_bytes_lossy(alloc, ByteOrder::LittleEndian, bytes)
+    }
+
+    /// The text of the bytes in UTF-16, two bytes a unit, the high byte first, with one U+FFFD for each surrogate that is
+    /// in no pair, and one at the end for an odd last byte. A byte order mark is a character.
+    ///
+    /// It is inline up to 24 bytes, and else on the heap in a buffer that holds it. An error says that no memory was found,
+    /// or that the length in bytes would be past 2^56 - 2; it never comes of a text of at most 24 bytes.
+    /// `00 41 42` gives `A` and U+FFFD.
+    pub fn from_utf16be_lossy(alloc: Global, bytes: &[u8]) -> Result<CompactString, ReserveError>
+        ensures { IsFittedOf (utf16_bytes_lossy_text BigEndian bytes.now) result }
+    {
+        from_bytes_lossy(alloc, ByteOrder::BigEndian, bytes)
+    }
+}
+
+/// The text that the bytes encode, two bytes a unit.
+#[tactic(auto, using(compact_codec::proofs::ForReaders::strict_reading))]
+fn from_bytes(
+    alloc: Global,
+    order: ByteOrder,
+    bytes: &[u8],
+) -> Result<CompactString, FromUtf16Error>
+    ensures text { IfOk result (λ v. PairsEncode order bytes.now v.text) }
+    ensures fitted { IfOk result IsFitted }
+    ensures succeeds { (text : List ℕ) → PairsEncode order bytes.now text → size text ≤ 24 → IsOk result }
+    ensures err { IfErr result (IsUtf16BytesRefusal order bytes.now) }
+{
+    if !utf16_bytes::is_utf16(order, bytes) {
+        return Err(FromUtf16Error::Utf16(Utf16Error));
+    }
+    match from_bytes_lossy(alloc, order, bytes) {
+        Ok(value) => Ok(value),
+        Err(error) => Err(FromUtf16Error::Reserve(error)),
+    }
+}
+
+/// The text of the bytes, two bytes a unit, with U+FFFD for what is broken.
+#[tactic(auto, using(compact_repr::proofs::TextFacts::text_facts, compact_codec::proofs::ForReaders::reading, crate::proofs::FittedTexts::first_facts))]
+fn from_bytes_lossy(
+    alloc: Global,
+    order: ByteOrder,
+    bytes: &[u8],
+) -> Result<CompactString, ReserveError>
+    ensures { IsFittedOf (utf16_bytes_lossy_text order bytes.now) result }
+{
+    let mut gathered = Gathered::new(alloc);
+    let mut rest = bytes;
+    while !rest.is_empty() {
+        let step = utf16_bytes::first_character(order, rest);
+        rest = &rest[step.taken..];
+        gathered.push(step.character.unwrap_or(char::REPLACEMENT_CHARACTER))?;
+    }
+    gathered.finish()
+}

@@ -1,0 +1,77 @@
+//! What can be read as a text.
+ghost use Rattle.std.specs.Prelude.{◌≡◌, ℕ, List, string_bytes};
+ghost use Rattle.std.specs.Box.{boxed_str_bytes};
+ghost use Rattle.std.specs.Cow.{cow_str_bytes};
+ghost use Rattle.compact_repr.specs.Text.{text_of};
+ghost use Rattle.compact_str.specs.Order.{text_in};
+
+use crate::string::PolicyString;
+use compact_repr::Policy;
+use std::borrow::CowStr;
+use std::boxed::BoxedStr;
+
+/// What can be read as a text: an item that values are collected from.
+///
+/// It is there for `&str`, `String`, `BoxedStr`, `CowStr` and `CompactString`, and for a reference to any of them.
+pub trait AsText: Drop {
+    // Its text, as a list of characters.
+    ghost spells: { Self → List ℕ };
+
+    /// The text: `"abc".text()` is `"abc"`.
+    fn text(&self) -> &str
+        ensures { text_of result.now ≡ spells self.now };
+}
+
+impl AsText for &str {
+    ghost spells = { λ s. text_of s.now };
+
+    #[inline]
+    fn text(&self) -> &str {
+        *self
+    }
+}
+
+impl AsText for String {
+    ghost spells = { λ s. text_of (string_bytes s) };
+
+    #[inline]
+    fn text(&self) -> &str {
+        self.as_str()
+    }
+}
+
+impl AsText for BoxedStr {
+    ghost spells = { λ s. text_of (boxed_str_bytes s) };
+
+    #[inline]
+    fn text(&self) -> &str {
+        self.as_str()
+    }
+}
+
+impl AsText for CowStr<'_> {
+    ghost spells = { λ s. text_of (cow_str_bytes s) };
+
+    #[inline]
+    fn text(&self) -> &str {
+        self.as_str()
+    }
+}
+
+impl<P: Policy> AsText for PolicyString<P> {
+    ghost spells = { text_in };
+
+    #[inline]
+    fn text(&self) -> &str {
+        self.as_str()
+    }
+}
+
+impl<T: AsText> AsText for &T {
+    ghost spells = { λ t. T.spells t.now };
+
+    #[inline]
+    fn text(&self) -> &str {
+        (**self).text()
+    }
+}

@@ -1,0 +1,120 @@
+//! What comes one after another, collected into a value.
+ghost use Rattle.std.specs.Prelude.{◌≡◌, ◌+◌, ◌≤◌, List, flat_map, fold, map, IfOk, OnErr, IsOk};
+ghost use Rattle.std.specs.Iterator.{Drains, HoldsAlong, IsFiniteIterable};
+ghost use Rattle.std.specs.Iterator.Runs.{WholeRun};
+ghost use Rattle.compact_repr.specs.Text.{size};
+ghost use Rattle.compact_str.specs.Fitted.{IsFitted};
+ghost use Rattle.compact_str.specs.Collects.{PassesInline, alone};
+
+use crate::iter::AsText;
+use crate::iter::gather::Gathered;
+use crate::iter::piece::Piece;
+use crate::string::PolicyString;
+use compact_repr::{Policy, ReserveError};
+use std::alloc::{AllocError, Global};
+
+/// The pieces one after another.
+fn collect_pieces<P: Policy, T: Piece, U: IntoIterator<Item = T>>(
+    alloc: Global,
+    iter: U,
+) -> Result<PolicyString<P>, ReserveError>
+    requires { IsFiniteIterable U.into_iter_gives U.IntoIter.can_next U.IntoIter.remaining iter }
+    ensures ok { IfOk result (λ v. (it : U.IntoIter) × (xs : List T) × U.into_iter_gives iter it × Drains U.IntoIter.next_gives it xs × (v.text ≡ flat_map T.letters xs)) }
+    ensures fitted { IfOk result IsFitted }
+    ensures err { OnErr result ((it : U.IntoIter) × U.into_iter_gives iter it × PassesInline U.IntoIter.next_gives (flat_map T.letters) it) }
+{
+    let mut gathered = Gathered::new(alloc);
+    for piece in iter {
+        piece.gather_into(&mut gathered)?;
+    }
+    gathered.finish()
+}
+
+impl<P: Policy> PolicyString<P> {
+    /// The texts of `texts` one after another: inline up to 24 bytes, else on the heap.
+    ///
+    /// An error says that no memory was found; it never comes up to 24 bytes. How many items are hinted at makes no room:
+    /// a text of at most 256 bytes is made in a buffer that just fits it, or in the least one, and a longer one by growth.
+    /// `CompactString::from_texts(alloc, ["ab", "", "c"])?` is `"abc"`, and `collect` of the texts means the same.
+    pub fn from_texts<T: AsText, U: IntoIterator<Item = T>>(
+        alloc: Global,
+        texts: U,
+    ) -> Result<Self, ReserveError>
+        requires { IsFiniteIterable U.into_iter_gives U.IntoIter.can_next U.IntoIter.remaining texts }
+        ensures text { IfOk result (λ v. (it : U.IntoIter) × U.into_iter_gives texts it × WholeRun U.IntoIter.next_gives it (λ run. v.text ≡ flat_map T.spells run.items)) }
+        ensures size { IfOk result (λ v. (it : U.IntoIter) × U.into_iter_gives texts it × WholeRun U.IntoIter.next_gives it (λ run. size v.text ≡ fold (λ n text. n + size (T.spells text)) 0 run.items)) }
+        ensures fitted { IfOk result IsFitted }
+        ensures succeeds { ((it : U.IntoIter) → U.into_iter_gives texts it → HoldsAlong U.IntoIter.next_gives it (λ xs. size (flat_map T.spells xs) ≤ 24)) → IsOk result }
+        ensures err { OnErr result ((it : U.IntoIter) × U.into_iter_gives texts it × PassesInline U.IntoIter.next_gives (flat_map T.spells) it) }
+    {
+        collect_pieces(alloc, texts)
+    }
+
+    /// The characters of `characters` one after another: inline up to 24 bytes, else on the heap.
+    ///
+    /// An error says that no memory was found; it never comes up to 24 bytes. How many items are hinted at makes no room:
+    /// a text of at most 256 bytes is made in a buffer that just fits it, or in the least one, and a longer one by growth.
+    /// `CompactString::from_chars(alloc, ['a', 'ä'])?` is `"aä"`, and `collect` of the characters means the same.
+    pub fn from_chars<U: IntoIterator<Item = char>>(
+        alloc: Global,
+        characters: U,
+    ) -> Result<Self, ReserveError>
+        requires { IsFiniteIterable U.into_iter_gives U.IntoIter.can_next U.IntoIter.remaining characters }
+        ensures text { IfOk result (λ v. (it : U.IntoIter) × U.into_iter_gives characters it × WholeRun U.IntoIter.next_gives it (λ run. v.text ≡ run.items)) }
+        ensures fitted { IfOk result IsFitted }
+        ensures succeeds { ((it : U.IntoIter) → U.into_iter_gives characters it → HoldsAlong U.IntoIter.next_gives it (λ xs. size xs ≤ 24)) → IsOk result }
+        ensures err { OnErr result ((it : U.IntoIter) × U.into_iter_gives characters it × PassesInline U.IntoIter.next_gives (λ xs. xs) it) }
+    {
+        collect_pieces(alloc, characters)
+    }
+}
+
+impl<P: Policy, T: AsText> FromIterator<T> for PolicyString<P> {
+    type Alloc = Global;
+
+    ghost from_iter_gives = { λ xs v. (v.text ≡ flat_map T.spells xs) × IsFitted v };
+
+    /// `from_texts`, whose error is here that of the library's trait.
+    fn from_iter<U: IntoIterator<Item = T>>(alloc: Global, texts: U) -> Result<Self, AllocError> {
+        match collect_pieces(alloc, texts) {
+            Ok(value) => Ok(value),
+            Err(ReserveError) => Err(AllocError),
+        }
+    }
+}
+
+impl<P: Policy> FromIterator<char> for PolicyString<P> {
+    type Alloc = Global;
+
+    ghost from_iter_gives = { λ xs v. (v.text ≡ xs) × IsFitted v };
+
+    /// `from_chars`, whose error is here that of the library's trait.
+    #[tactic(auto, using(crate::proofs::CollectFacts::collect_facts))]
+    fn from_iter<U: IntoIterator<Item = char>>(
+        alloc: Global,
+        characters: U,
+    ) -> Result<Self, AllocError> {
+        match collect_pieces(alloc, characters) {
+            Ok(value) => Ok(value),
+            Err(ReserveError) => Err(AllocError),
+        }
+    }
+}
+
+impl<'a, P: Policy> FromIterator<&'a char> for PolicyString<P> {
+    type Alloc = Global;
+
+    ghost from_iter_gives = { λ xs v. (v.text ≡ map (λ c. c.now) xs) × IsFitted v };
+
+    /// `from_chars` of the characters that are referred to.
+    #[tactic(auto, using(crate::proofs::CollectFacts::collect_facts))]
+    fn from_iter<U: IntoIterator<Item = &'a char>>(
+        alloc: Global,
+        characters: U,
+    ) -> Result<Self, AllocError> {
+        match collect_pieces(alloc, characters) {
+            Ok(value) => Ok(value),
+            Err(ReserveError) => Err(AllocError),
+        }
+    }
+}

@@ -1,0 +1,113 @@
+//! What comes one after another, appended to a value.
+ghost use Rattle.std.specs.Prelude.{◌≡◌, ◌≤◌, List, ◌++◌, flat_map, OnOk, OnErr, IsOk};
+ghost use Rattle.std.specs.Iterator.{HoldsAlong, IsFiniteIterable};
+ghost use Rattle.std.specs.Iterator.Runs.{WholeRun};
+ghost use Rattle.compact_repr.specs.Text.{size};
+ghost use Rattle.compact_repr.specs.Cut.{IsBoundary, before};
+ghost use Rattle.compact_str.specs.Room.{HasRoomFor, sure_capacity};
+ghost use Rattle.compact_str.specs.Collects.{Appends, AppendsAll, AppendsUpToRefused, alone};
+
+use crate::iter::AsText;
+use crate::iter::piece::Piece;
+use crate::string::PolicyString;
+use compact_repr::{Policy, ReserveError};
+use std::alloc::AllocError;
+
+/// Appends each piece in turn, up to the first that is refused.
+fn extend_pieces<P: Policy, T: Piece, U: IntoIterator<Item = T>>(
+    value: &mut PolicyString<P>,
+    iter: U,
+) -> Result<(), ReserveError>
+    requires { IsFiniteIterable U.into_iter_gives U.IntoIter.can_next U.IntoIter.remaining iter }
+    ensures ok { OnOk result ((it : U.IntoIter) × U.into_iter_gives iter it × AppendsAll U.IntoIter.next_gives P.growth T.letters it value.old value.new) }
+    ensures succeeds { ((it : U.IntoIter) → U.into_iter_gives iter it → HoldsAlong U.IntoIter.next_gives it (λ xs. HasRoomFor value.old (size (flat_map T.letters xs)))) → IsOk result }
+    ensures err { OnErr result ((it : U.IntoIter) × U.into_iter_gives iter it × AppendsUpToRefused U.IntoIter.next_gives P.growth T.letters it value.old value.new) }
+{
+    for piece in iter {
+        piece.push_to(value)?;
+    }
+    Ok(())
+}
+
+impl<P: Policy> PolicyString<P> {
+    /// Appends each text of `texts` in turn, as `push_str` does, up to the first that is refused.
+    ///
+    /// An error says that `push_str` refused one of them; then those before it are appended, and those behind it are not
+    /// asked for; `truncate` at the old length takes them off again. It never comes where there is room for all of them.
+    /// How many items are hinted at makes no room. `"a"` extended by `["b", "", "cd"]` is `"abcd"`.
+    pub fn extend_texts<T: AsText, U: IntoIterator<Item = T>>(
+        &mut self,
+        texts: U,
+    ) -> Result<(), ReserveError>
+        requires { IsFiniteIterable U.into_iter_gives U.IntoIter.can_next U.IntoIter.remaining texts }
+        ensures ok { OnOk result ((it : U.IntoIter) × U.into_iter_gives texts it × AppendsAll U.IntoIter.next_gives P.growth T.spells it self.old self.new) }
+        ensures text { OnOk result ((it : U.IntoIter) × U.into_iter_gives texts it × WholeRun U.IntoIter.next_gives it (λ run. self.new.text ≡ self.old.text ++ flat_map T.spells run.items)) }
+        ensures boundary { IsBoundary self.new.text (size self.old.text) }
+        ensures front { before self.new.text (size self.old.text) ≡ self.old.text }
+        ensures room { sure_capacity self.old ≤ sure_capacity self.new }
+        ensures succeeds { ((it : U.IntoIter) → U.into_iter_gives texts it → HoldsAlong U.IntoIter.next_gives it (λ xs. HasRoomFor self.old (size (flat_map T.spells xs)))) → IsOk result }
+        ensures err { OnErr result ((it : U.IntoIter) × U.into_iter_gives texts it × AppendsUpToRefused U.IntoIter.next_gives P.growth T.spells it self.old self.new) }
+    {
+        extend_pieces(self, texts)
+    }
+
+    /// Appends each character of `characters` in turn, as `push` does, up to the first that is refused.
+    ///
+    /// An error says that `push` refused one of them; then those before it are appended, and those behind it are not asked
+    /// for; `truncate` at the old length takes them off again. It never comes where there is room for all of them. How many
+    /// items are hinted at makes no room. `"a"` extended by `['b', 'ä']` is `"abä"`.
+    pub fn extend_chars<U: IntoIterator<Item = char>>(
+        &mut self,
+        characters: U,
+    ) -> Result<(), ReserveError>
+        requires { IsFiniteIterable U.into_iter_gives U.IntoIter.can_next U.IntoIter.remaining characters }
+        ensures ok { OnOk result ((it : U.IntoIter) × U.into_iter_gives characters it × AppendsAll U.IntoIter.next_gives P.growth alone it self.old self.new) }
+        ensures text { OnOk result ((it : U.IntoIter) × U.into_iter_gives characters it × WholeRun U.IntoIter.next_gives it (λ run. self.new.text ≡ self.old.text ++ run.items)) }
+        ensures boundary { IsBoundary self.new.text (size self.old.text) }
+        ensures front { before self.new.text (size self.old.text) ≡ self.old.text }
+        ensures room { sure_capacity self.old ≤ sure_capacity self.new }
+        ensures succeeds { ((it : U.IntoIter) → U.into_iter_gives characters it → HoldsAlong U.IntoIter.next_gives it (λ xs. HasRoomFor self.old (size xs))) → IsOk result }
+        ensures err { OnErr result ((it : U.IntoIter) × U.into_iter_gives characters it × AppendsUpToRefused U.IntoIter.next_gives P.growth alone it self.old self.new) }
+    {
+        extend_pieces(self, characters)
+    }
+}
+
+impl<P: Policy, T: AsText> Extend<T> for PolicyString<P> {
+    ghost extend_gives = { λ v xs w. Appends P.growth T.spells v xs w };
+
+    /// `extend_texts`, whose error is here that of the library's trait.
+    fn extend<U: IntoIterator<Item = T>>(&mut self, texts: U) -> Result<(), AllocError> {
+        match self.extend_texts(texts) {
+            Ok(()) => Ok(()),
+            Err(ReserveError) => Err(AllocError),
+        }
+    }
+}
+
+impl<P: Policy> Extend<char> for PolicyString<P> {
+    ghost extend_gives = { λ v xs w. Appends P.growth alone v xs w };
+
+    /// `extend_chars`, whose error is here that of the library's trait.
+    fn extend<U: IntoIterator<Item = char>>(&mut self, characters: U) -> Result<(), AllocError> {
+        match self.extend_chars(characters) {
+            Ok(()) => Ok(()),
+            Err(ReserveError) => Err(AllocError),
+        }
+    }
+}
+
+impl<'a, P: Policy> Extend<&'a char> for PolicyString<P> {
+    ghost extend_gives = { λ v xs w. Appends P.growth (λ c. alone c.now) v xs w };
+
+    /// `extend_chars` of the characters that are referred to.
+    fn extend<U: IntoIterator<Item = &'a char>>(
+        &mut self,
+        characters: U,
+    ) -> Result<(), AllocError> {
+        match extend_pieces(self, characters) {
+            Ok(()) => Ok(()),
+            Err(ReserveError) => Err(AllocError),
+        }
+    }
+}

@@ -1,0 +1,96 @@
+//! A value while it is collected.
+ghost use Rattle.std.specs.Prelude.{◌≡◌, ◌+◌, ◌<◌, [], ◌∷◌, ◌++◌, length, OnOk, OnErr, IfOk};
+ghost use Rattle.std.specs.Char.{len_utf8};
+ghost use Rattle.compact_repr.specs.Text.{size, text_of};
+ghost use Rattle.compact_str.specs.Fitted.{IsFitted};
+
+use crate::string::PolicyString;
+use crate::string::end::encoded;
+use compact_repr::{Block, Policy, ReserveError};
+use std::alloc::Global;
+use std::marker::Model;
+
+/// What has come so far: a value, and behind it a block of short pieces that are appended to it at once. A contract sees
+/// the text of both. So a text of at most 256 bytes asks for memory once, and for just what it takes.
+#[derive(Drop)]
+pub struct Gathered<P: Policy> {
+    value: PolicyString<P>,
+    block: Block,
+}
+
+impl<P: Policy> Model for Gathered<P> {
+    ghost use Rattle.std.specs.Prelude.{ℕ, List, ◌++◌};
+    ghost use Rattle.compact_str.specs.Fitted.{IsFitted};
+
+    ghost Value = { List ℕ };
+
+    ghost view = { λ g. g.value.text ++ g.block };
+
+    ghost invariant = { λ g. IsFitted g.value };
+}
+
+#[tactic(auto, using(compact_repr::proofs::TextFacts::text_facts, crate::proofs::CollectFacts::gather_facts))]
+impl<P: Policy> Gathered<P> {
+    /// Nothing yet.
+    #[inline]
+    pub fn new(alloc: Global) -> Self
+        ensures { result ≡ [] }
+    {
+        Gathered {
+            value: PolicyString::default(alloc),
+            block: Block::empty(),
+        }
+    }
+
+    /// Takes `text` behind what has come. An error comes only where that makes more than 24 bytes.
+    #[inline]
+    pub fn push_str(&mut self, text: &str) -> Result<(), ReserveError>
+        ensures ok { OnOk result (self.new ≡ self.old ++ text_of text.now) }
+        ensures err { OnErr result (24 < size self.old + length text.now) }
+    {
+        if self.block.push_str(text) {
+            return Ok(());
+        }
+        self.push_behind(text)
+    }
+
+    /// The same of a character.
+    #[inline]
+    pub fn push(&mut self, character: char) -> Result<(), ReserveError>
+        ensures ok { OnOk result (self.new ≡ self.old ++ character ∷ []) }
+        ensures err { OnErr result (24 < size self.old + len_utf8 character) }
+    {
+        if character.is_ascii() && self.block.push_ascii(character as u8) {
+            return Ok(());
+        }
+        let mut bytes = [0; 4];
+        self.push_str(encoded(character, &mut bytes))
+    }
+
+    /// Appends the block to the value, and then takes `text`.
+    #[cold]
+    #[inline(never)]
+    fn push_behind(&mut self, text: &str) -> Result<(), ReserveError>
+        ensures ok { OnOk result (self.new ≡ self.old ++ text_of text.now) }
+        ensures err { OnErr result (24 < size self.old + length text.now) }
+    {
+        self.value.push_str(self.block.as_str())?;
+        self.block.clear();
+        if self.block.push_str(text) {
+            return Ok(());
+        }
+        self.value.push_str(text)
+    }
+
+    /// The value. An error comes only where it has more than 24 bytes.
+    #[inline]
+    pub fn finish(self) -> Result<PolicyString<P>, ReserveError>
+        ensures text { IfOk result (λ v. v.text ≡ self) }
+        ensures fitted { IfOk result IsFitted }
+        ensures err { OnErr result (24 < size self) }
+    {
+        let Gathered { mut value, block } = self;
+        value.push_str(block.as_str())?;
+        Ok(value)
+    }
+}

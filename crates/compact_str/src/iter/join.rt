@@ -1,0 +1,84 @@
+//! How the items of an iterator are joined.
+ghost use Rattle.std.specs.Prelude.{◌≡◌, ◌≤◌, List, flat_map, IfOk, OnErr, IsOk};
+ghost use Rattle.std.specs.Iterator.{Drains, HoldsAlong, IsFinite};
+ghost use Rattle.std.specs.Iterator.Runs.{WholeRun};
+ghost use Rattle.compact_repr.specs.Text.{size, text_of};
+ghost use Rattle.compact_str.specs.Fitted.{IsFitted};
+ghost use Rattle.compact_str.specs.Collects.{PassesInline, joined};
+
+use crate::iter::AsText;
+use crate::iter::gather::Gathered;
+use crate::string::{CompactString, PolicyString};
+use compact_repr::{Policy, ReserveError};
+use std::alloc::Global;
+
+/// What an iterator of texts can be made into.
+pub trait CompactStringExt: Iterator {
+    /// The items one after another: inline up to 24 bytes, else on the heap.
+    ///
+    /// An error says that no memory was found; it never comes up to 24 bytes. How many items are hinted at makes no room.
+    /// `["ab", "c"].into_iter().concat_compact(alloc)?` is `"abc"`.
+    final fn concat_compact(self, alloc: Global) -> Result<CompactString, ReserveError>
+    where
+        Self: Sized + Drop,
+        Self::Item: AsText,
+        requires can { Self.can_next self }
+        requires ends { IsFinite (Self.remaining self) }
+        ensures text { IfOk result (λ v. WholeRun Self.next_gives self (λ run. v.text ≡ flat_map Self.Item.spells run.items)) }
+        ensures fitted { IfOk result IsFitted }
+        ensures succeeds { HoldsAlong Self.next_gives self (λ xs. size (flat_map Self.Item.spells xs) ≤ 24) → IsOk result }
+        ensures err { OnErr result (PassesInline Self.next_gives (flat_map Self.Item.spells) self) }
+    {
+        CompactString::from_texts(alloc, self)
+    }
+
+    /// The items one after another, with `separator` between each two: inline up to 24 bytes, else on the heap.
+    ///
+    /// An item that is empty has its separators as any other. An error says that no memory was found; it never comes up to
+    /// 24 bytes. How many items are hinted at makes no room. `["a", "", "b"].into_iter().join_compact(alloc, "-")?` is
+    /// `"a--b"`.
+    final fn join_compact(
+        self,
+        alloc: Global,
+        separator: &str,
+    ) -> Result<CompactString, ReserveError>
+    where
+        Self: Sized + Drop,
+        Self::Item: AsText,
+        requires can { Self.can_next self }
+        requires ends { IsFinite (Self.remaining self) }
+        ensures text { IfOk result (λ v. WholeRun Self.next_gives self (λ run. v.text ≡ joined (text_of separator.now) Self.Item.spells run.items)) }
+        ensures fitted { IfOk result IsFitted }
+        ensures succeeds { HoldsAlong Self.next_gives self (λ xs. size (joined (text_of separator.now) Self.Item.spells xs) ≤ 24) → IsOk result }
+        ensures err { OnErr result (PassesInline Self.next_gives (joined (text_of separator.now) Self.Item.spells) self) }
+    {
+        join_pieces(alloc, self, separator)
+    }
+}
+
+impl<I: Iterator> CompactStringExt for I {}
+
+/// The items of `pieces` with `separator` between each two.
+fn join_pieces<P: Policy, T: AsText, I: Iterator<Item = T> + Drop>(
+    alloc: Global,
+    pieces: I,
+    separator: &str,
+) -> Result<PolicyString<P>, ReserveError>
+    requires can { I.can_next pieces }
+    requires ends { IsFinite (I.remaining pieces) }
+    ensures ok { IfOk result (λ v. (xs : List T) × Drains I.next_gives pieces xs × (v.text ≡ joined (text_of separator.now) T.spells xs)) }
+    ensures fitted { IfOk result IsFitted }
+    ensures err { OnErr result (PassesInline I.next_gives (joined (text_of separator.now) T.spells) pieces) }
+{
+    let mut pieces = pieces;
+    let mut gathered = Gathered::new(alloc);
+    let Some(first) = pieces.next() else {
+        return gathered.finish();
+    };
+    gathered.push_str(first.text())?;
+    for piece in pieces {
+        gathered.push_str(separator)?;
+        gathered.push_str(piece.text())?;
+    }
+    gathered.finish()
+}

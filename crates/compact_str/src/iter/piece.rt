@@ -1,0 +1,70 @@
+//! What is collected or appended: a text, or a character.
+ghost use Rattle.std.specs.Prelude.{◌≡◌, ℕ, ◌+◌, ◌<◌, ◌≤◌, List, ◌++◌, OnOk, OnErr, IsOk, IsTrue, Some};
+ghost use Rattle.compact_repr.specs.Text.{size};
+ghost use Rattle.compact_repr.specs.Change.{pushed, push_asks};
+ghost use Rattle.compact_str.specs.Room.{HasRoomFor, sure_capacity};
+ghost use Rattle.compact_str.specs.Collects.{alone};
+
+use crate::iter::AsText;
+use crate::iter::gather::Gathered;
+use crate::string::PolicyString;
+use compact_repr::{Policy, ReserveError};
+
+/// A piece of a text, which is appended as a whole.
+pub trait Piece: Drop {
+    // Its text, as a list of characters.
+    ghost letters: { Self → List ℕ };
+
+    /// Appends the piece, as `push_str` and `push` do.
+    fn push_to<P: Policy>(&self, value: &mut PolicyString<P>) -> Result<(), ReserveError>
+        ensures ok { OnOk result (pushed P.growth value.old (letters self.now) ≡ Some value.new) }
+        ensures succeeds { HasRoomFor value.old (size (letters self.now)) → IsOk result }
+        ensures err { OnErr result ((value.new ≡ value.old) × IsTrue (push_asks value.old (letters self.now))) };
+
+    /// Takes the piece behind what has come. An error comes only where that makes more than 24 bytes.
+    fn gather_into<P: Policy>(&self, gathered: &mut Gathered<P>) -> Result<(), ReserveError>
+        ensures ok { OnOk result (gathered.new ≡ gathered.old ++ letters self.now) }
+        ensures err { OnErr result (24 < size gathered.old + size (letters self.now)) };
+}
+
+impl<T: AsText> Piece for T {
+    ghost letters = { T.spells };
+
+    #[inline]
+    fn push_to<P: Policy>(&self, value: &mut PolicyString<P>) -> Result<(), ReserveError> {
+        value.push_str(self.text())
+    }
+
+    #[inline]
+    fn gather_into<P: Policy>(&self, gathered: &mut Gathered<P>) -> Result<(), ReserveError> {
+        gathered.push_str(self.text())
+    }
+}
+
+impl Piece for char {
+    ghost letters = { alone };
+
+    #[inline]
+    fn push_to<P: Policy>(&self, value: &mut PolicyString<P>) -> Result<(), ReserveError> {
+        value.push(*self)
+    }
+
+    #[inline]
+    fn gather_into<P: Policy>(&self, gathered: &mut Gathered<P>) -> Result<(), ReserveError> {
+        gathered.push(*self)
+    }
+}
+
+impl Piece for &char {
+    ghost letters = { λ c. alone c.now };
+
+    #[inline]
+    fn push_to<P: Policy>(&self, value: &mut PolicyString<P>) -> Result<(), ReserveError> {
+        value.push(**self)
+    }
+
+    #[inline]
+    fn gather_into<P: Policy>(&self, gathered: &mut Gathered<P>) -> Result<(), ReserveError> {
+        gathered.push(**self)
+    }
+}

@@ -1,0 +1,3 @@
+pub mod TokenLemmas
+pub mod RowLemmas
+pub mod LineLemmas

@@ -1,0 +1,3 @@
+pub mod Tokens
+pub mod Columns
+pub mod Lines

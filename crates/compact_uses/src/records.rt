@@ -1,0 +1,85 @@
+//! Records: lines of fields, parted by a character, with quotes.
+ghost use Rattle.std.specs.Prelude.{◌≡◌, OnErr};
+
+mod read;
+mod write;
+
+use compact_str::CompactString;
+pub use read::{Fault, LineError, Place, fields_of};
+use std::alloc::Global;
+use std::io::{BufRead, BufReader, Read};
+pub use write::line_of;
+
+/// Why records were not read to the end.
+#[derive(Clone, Copy, Debug, PartialEq, Eq)]
+pub enum RecordsCause {
+    /// The reader failed.
+    Read,
+    /// Memory was refused.
+    Reserve,
+    /// The line is no text.
+    Utf8,
+    /// The line is no record.
+    Fault(Fault),
+}
+
+/// At which line, from 1 on, records were not read further, and why.
+#[derive(Clone, Copy, Debug, PartialEq, Eq)]
+pub struct RecordsError {
+    pub line: usize,
+    pub cause: RecordsCause,
+}
+
+/// Reads the records of all lines, each as `fields_of` does. A line ends with the byte 0A, which the last may lack.
+///
+/// The records go behind those that stand in the list. An error says at which line it came, and why; the records of the
+/// lines before it are in the list.
+pub fn read_records<R: Read>(
+    alloc: Global,
+    separator: char,
+    reader: &mut R,
+    records: &mut Vec<Vec<CompactString>>,
+) -> Result<(), RecordsError> {
+    let mut line = 1;
+    let Ok(reader) = BufReader::new(alloc, reader) else {
+        let cause = RecordsCause::Reserve;
+        return Err(RecordsError { line, cause });
+    };
+    for bytes in reader.split(alloc, b'\n') {
+        let taken = match bytes {
+            Ok(bytes) => take_line(alloc, separator, bytes.as_slice(), records),
+            Err(_) => Err(RecordsCause::Read),
+        };
+        if let Err(cause) = taken {
+            return Err(RecordsError { line, cause });
+        }
+        line = usize::saturating_add(line, 1);
+    }
+    Ok(())
+}
+
+/// Puts the record of a line behind the others.
+fn take_line(
+    alloc: Global,
+    separator: char,
+    bytes: &[u8],
+    records: &mut Vec<Vec<CompactString>>,
+) -> Result<(), RecordsCause>
+    ensures { OnErr result (records.new.items ≡ records.old.items) }
+{
+    let Ok(text) = std::str::from_utf8(bytes) else {
+        return Err(RecordsCause::Utf8);
+    };
+    let Ok(line) = CompactString::new(alloc, text) else {
+        return Err(RecordsCause::Reserve);
+    };
+    let fields = match fields_of(alloc, separator, &line) {
+        Ok(fields) => fields,
+        Err(LineError::Reserve(_)) => return Err(RecordsCause::Reserve),
+        Err(LineError::Fault(fault)) => return Err(RecordsCause::Fault(fault)),
+    };
+    if records.push(fields).is_err() {
+        return Err(RecordsCause::Reserve);
+    }
+    Ok(())
+}

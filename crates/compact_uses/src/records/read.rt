@@ -1,0 +1,142 @@
+//! How the fields of a line are read.
+ghost use Rattle.std.specs.Prelude.{◌≡◌, ◌∷◌, ℕ, List, map, Ok, IfOk, IfErr, OnOk};
+ghost use Rattle.compact_str.specs.Order.{text_in};
+ghost use Rattle.compact_uses.specs.Lines.{effect_of, read, fields_of, IsFault};
+
+use compact_str::{CompactString, ReserveError};
+use std::alloc::Global;
+use std::mem;
+
+/// Why a line is no record.
+#[derive(Clone, Copy, Debug, PartialEq, Eq)]
+pub enum Fault {
+    /// A quoted field does not end.
+    OpenQuote,
+    /// Behind a quoted field stands something other than a separator.
+    TextBehindQuote,
+}
+
+/// Why no fields were read.
+#[derive(Debug, Drop)]
+pub enum LineError {
+    /// Memory was refused.
+    Reserve(ReserveError),
+    /// The line is no record.
+    Fault(Fault),
+}
+
+/// Where a reader stands in a field.
+#[derive(Clone, Copy, Debug, PartialEq, Eq)]
+pub enum Place {
+    /// At its start.
+    Start,
+    /// Within a field with no quotes.
+    Plain,
+    /// Within quotes.
+    Quoted,
+    /// Behind a quote that may end the field.
+    Behind,
+}
+
+/// What a character does to the field that is being read.
+#[derive(Clone, Copy, Debug, PartialEq, Eq)]
+enum Effect {
+    /// It is of the field.
+    Keep(Place),
+    /// It is a quote that is not of the field.
+    Skip(Place),
+    /// It ends the field.
+    End,
+    /// It cannot stand there.
+    Broken,
+}
+
+/// What a character does at a place.
+fn effect_of(separator: char, place: Place, character: char) -> Effect
+    ensures { result ≡ effect_of separator place character }
+{
+    match place {
+        Place::Start if character == '"' => Effect::Skip(Place::Quoted),
+        Place::Quoted if character == '"' => Effect::Skip(Place::Behind),
+        Place::Behind if character == '"' => Effect::Keep(Place::Quoted),
+        Place::Quoted => Effect::Keep(Place::Quoted),
+        _ if character == separator => Effect::End,
+        Place::Behind => Effect::Broken,
+        _ => Effect::Keep(Place::Plain),
+    }
+}
+
+/// What was read of a line: whole fields, the one that is being read, and where it stands in that.
+#[derive(Drop)]
+struct Reading {
+    done: Vec<CompactString>,
+    field: CompactString,
+    place: Place,
+}
+
+/// The fields of a line. A field in quotes may have the separator, and two quotes in it stand for one.
+///
+/// An error says that no memory was found, or why the line is no record. With the separator `,` the line `a,"b,""c"` has
+/// the fields `a` and `b,"c`.
+pub fn fields_of(
+    alloc: Global,
+    separator: char,
+    line: &CompactString,
+) -> Result<Vec<CompactString>, LineError>
+    ensures fields { IfOk result (λ fields. fields_of separator line.now.text ≡ Ok (map text_in fields.items)) }
+    ensures fault { IfErr result (IsFault (fields_of separator line.now.text)) }
+{
+    let mut reading = Reading {
+        done: Vec::new(alloc),
+        field: CompactString::default(alloc),
+        place: Place::Start,
+    };
+    for character in line.as_str().chars() {
+        if let Err(error) = reading.take(separator, character) {
+            return Err(error);
+        }
+    }
+    if reading.place == Place::Quoted {
+        return Err(LineError::Fault(Fault::OpenQuote));
+    }
+    let Reading {
+        mut done,
+        field,
+        ..
+    } = reading;
+    if done.push(field).is_err() {
+        return Err(LineError::Reserve(ReserveError));
+    }
+    Ok(done)
+}
+
+impl Reading {
+    /// Reads one character.
+    fn take(&mut self, separator: char, character: char) -> Result<(), LineError>
+        ensures ok { OnOk result ((rest : List ℕ) → read separator self.old.place (map text_in self.old.done.items) self.old.field.text (character ∷ rest) ≡ read separator self.new.place (map text_in self.new.done.items) self.new.field.text rest) }
+        ensures err { IfErr result (λ error. (rest : List ℕ) → IsFault (read separator self.old.place (map text_in self.old.done.items) self.old.field.text (character ∷ rest)) error) }
+    {
+        match effect_of(separator, self.place, character) {
+            Effect::Keep(place) => {
+                if self.field.push(character).is_err() {
+                    return Err(LineError::Reserve(ReserveError));
+                }
+                self.place = place;
+                return Ok(());
+            }
+            Effect::Skip(place) => {
+                self.place = place;
+                return Ok(());
+            }
+            Effect::Broken => return Err(LineError::Fault(Fault::TextBehindQuote)),
+            Effect::End => {}
+        }
+        let next = CompactString::default(self.field.allocator());
+        let field = mem::replace(&mut self.field, next);
+        if self.done.push(field).is_err() {
+            return Err(LineError::Reserve(ReserveError));
+        }
+        self.place = Place::Start;
+        Ok(())
+    }
+}

@@ -1,0 +1,47 @@
+//! How fields are written as a line.
+ghost use Rattle.std.specs.Prelude.{◌≡◌, ◌≢◌, ◌++◌, [], map, Ok, IfOk, OnOk};
+ghost use Rattle.compact_str.specs.Order.{text_in};
+ghost use Rattle.compact_uses.specs.Lines.{quote, fields_of, quoted, line_of};
+
+use compact_str::{CompactString, ReserveError};
+use std::alloc::Global;
+
+/// The fields of a record as a line, each in quotes, from which `fields_of` reads them back.
+///
+/// An error says that no memory was found. With the separator `,` the fields `a` and `b"` give `"a","b"""`.
+pub fn line_of(
+    alloc: Global,
+    separator: char,
+    fields: &[CompactString],
+) -> Result<CompactString, ReserveError>
+    ensures text { IfOk result (λ line. line.text ≡ line_of separator (map text_in fields.now)) }
+    ensures reads_back { separator ≢ quote → fields.now ≢ [] → IfOk result (λ line. fields_of separator line.text ≡ Ok (map text_in fields.now)) }
+{
+    let mut line = CompactString::default(alloc);
+    let Some((first, others)) = fields.split_first() else {
+        return Ok(line);
+    };
+    push_quoted(&mut line, first)?;
+    for field in others {
+        line.push(separator)?;
+        push_quoted(&mut line, field)?;
+    }
+    Ok(line)
+}
+
+/// Appends a field in quotes.
+fn push_quoted(line: &mut CompactString, field: &CompactString) -> Result<(), ReserveError>
+    ensures { OnOk result (line.new.text ≡ line.old.text ++ quoted field.now.text) }
+{
+    line.push('"')?;
+    for character in field.as_str().chars() {
+        if character == '"' {
+            line.push('"')?;
+            line.push('"')?;
+            continue;
+        }
+        line.push(character)?;
+    }
+    line.push('"')?;
+    Ok(())
+}

@@ -1,0 +1,114 @@
+//! Records as rows of aligned columns.
+ghost use Rattle.std.specs.Prelude.{◌≡◌, ◌∷◌, ◌++◌, [], fold, length, map, IfOk, OnOk};
+ghost use Rattle.std.specs.List.{All};
+ghost use Rattle.std.specs.Str.{chars};
+ghost use Rattle.compact_str.specs.Text.{text_of};
+ghost use Rattle.compact_str.specs.Order.{text_in};
+ghost use Rattle.compact_uses.specs.Columns.{field_at, column_width, column_count, widths_before, widths_of, cell, row_text, row_width};
+
+use compact_str::{CompactString, ReserveError};
+use std::alloc::Global;
+
+/// Each record as a line, `| ab | 1 |`: the fields stand in columns as wide as their longest field, in characters.
+///
+/// A record that has too few fields has empty cells. An error says that no memory was found.
+pub fn aligned_rows(
+    alloc: Global,
+    table: &[Vec<CompactString>],
+) -> Result<Vec<CompactString>, ReserveError>
+    ensures rows { IfOk result (λ lines. map text_in lines.items ≡ map (λ fields. row_text (widths_of table.now) fields.items) table.now) }
+    ensures widths { IfOk result (λ lines. All (λ line. length line.text ≡ row_width (widths_of table.now)) lines.items) }
+{
+    let widths = widths_of(alloc, table)?;
+    let mut lines = Vec::new(alloc);
+    for fields in table {
+        let line = row(alloc, fields, &widths)?;
+        if lines.push(line).is_err() {
+            return Err(ReserveError);
+        }
+    }
+    Ok(lines)
+}
+
+/// The width of each column, in characters.
+fn widths_of(alloc: Global, table: &[Vec<CompactString>]) -> Result<Vec<usize>, ReserveError>
+    ensures { IfOk result (λ widths. widths.items ≡ widths_of table.now) }
+{
+    let mut widths = Vec::new(alloc);
+    for column in 0..column_count(table) {
+        if widths.push(column_width(table, column)).is_err() {
+            return Err(ReserveError);
+        }
+    }
+    Ok(widths)
+}
+
+/// How many fields the longest record has.
+fn column_count(table: &[Vec<CompactString>]) -> usize
+    ensures { result ≡ column_count table.now }
+{
+    let mut count = 0;
+    for fields in table {
+        count = usize::max(count, fields.len());
+    }
+    count
+}
+
+/// How many characters the longest field of a column has.
+fn column_width(table: &[Vec<CompactString>], column: usize) -> usize
+    ensures { result ≡ column_width table.now column }
+{
+    let mut width = 0;
+    for fields in table {
+        width = usize::max(width, char_count(field_at(fields, column)));
+    }
+    width
+}
+
+/// The field of a column, and the empty text where the record has too few.
+#[tactic(auto, using(crate::proofs::RowLemmas::row_facts))]
+fn field_at<'a>(fields: &'a Vec<CompactString>, column: usize) -> &'a str
+    ensures { text_of result.now ≡ field_at fields.now.items column }
+{
+    match fields.get(column) {
+        Some(field) => field.as_str(),
+        None => "",
+    }
+}
+
+/// How many characters a text has.
+fn char_count(text: &str) -> usize
+    ensures { result ≡ length (text_of text.now) }
+{
+    text.chars().count()
+}
+
+/// A record as a line.
+#[tactic(auto, using(crate::proofs::RowLemmas::row_facts))]
+fn row(
+    alloc: Global,
+    fields: &Vec<CompactString>,
+    widths: &[usize],
+) -> Result<CompactString, ReserveError>
+    ensures { IfOk result (λ line. line.text ≡ row_text widths.now fields.now.items) }
+{
+    let mut line = CompactString::default(alloc);
+    line.push('|')?;
+    for column in 0..widths.len() {
+        push_cell(&mut line, field_at(fields, column), widths[column])?;
+    }
+    Ok(line)
+}
+
+/// Appends a cell, padded to a width in characters.
+fn push_cell(line: &mut CompactString, field: &str, width: usize) -> Result<(), ReserveError>
+    ensures { OnOk result (line.new.text ≡ line.old.text ++ cell width (text_of field.now)) }
+{
+    line.push(' ')?;
+    line.push_str(field)?;
+    let taken = char_count(field);
+    for place in taken..width {
+        line.push(' ')?;
+    }
+    line.push_str(" |")
+}

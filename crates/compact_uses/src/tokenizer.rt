@@ -1,0 +1,97 @@
+//! A text cut into words, numbers, white space and marks, each interned.
+ghost use Rattle.std.specs.Prelude.{◌≡◌, ◌++◌, ℕ, List, flat_map, slice_get, Some, IfOk, OnOk};
+ghost use Rattle.std.specs.List.{All};
+ghost use Rattle.compact_uses.specs.Tokens.{kind_of, token_text, IsToken};
+
+use compact_edit::{InternError, Interner};
+use compact_str::{CompactString, ReserveError};
+use std::alloc::Global;
+
+/// What a token is made of.
+#[derive(Clone, Copy, Debug, PartialEq, Eq)]
+pub enum Kind {
+    /// Letters.
+    Word,
+    /// Digits and other numeric characters.
+    Number,
+    /// White space.
+    Space,
+    /// One character that is nothing else.
+    Mark,
+}
+
+/// A piece of a text: what it is made of, and the number of its text among the names.
+#[derive(Clone, Copy, Debug, PartialEq, Eq)]
+pub struct Token {
+    pub kind: Kind,
+    pub name: u32,
+}
+
+/// What a character makes a token of.
+fn kind_of(character: char) -> Kind
+    ensures { result ≡ kind_of character }
+{
+    if character.is_alphabetic() {
+        Kind::Word
+    } else if character.is_numeric() {
+        Kind::Number
+    } else if character.is_whitespace() {
+        Kind::Space
+    } else {
+        Kind::Mark
+    }
+}
+
+/// Cuts a text into tokens. Their texts, joined, are the text; none is empty, and each has characters of its kind alone.
+///
+/// An error is that of `intern`, or says that no memory was found for the list. Names keep their numbers in any case. Of
+/// `ab, 12` the tokens are the word `ab`, the mark `,`, a space and the number `12`.
+pub fn tokenize(
+    alloc: Global,
+    names: &mut Interner,
+    text: &CompactString,
+) -> Result<Vec<Token>, InternError>
+    ensures joined { IfOk result (λ tokens. flat_map (token_text names.new) tokens.items ≡ text.now.text) }
+    ensures tokens { IfOk result (λ tokens. All (IsToken names.new) tokens.items) }
+    ensures kept { (n : ℕ) (name : List ℕ) → slice_get names.old n ≡ Some name → slice_get names.new n ≡ Some name }
+{
+    let mut tokens = Vec::new(alloc);
+    let mut piece = CompactString::default(alloc);
+    let mut kind = Kind::Mark;
+    for character in text.as_str().chars() {
+        let next = kind_of(character);
+        if next == kind && next != Kind::Mark {
+            piece.push(character)?;
+            continue;
+        }
+        put(names, &mut tokens, kind, &piece)?;
+        kind = next;
+        piece.clear();
+        piece.push(character)?;
+    }
+    put(names, &mut tokens, kind, &piece)?;
+    Ok(tokens)
+}
+
+/// Puts a piece behind the tokens, unless it is empty.
+fn put(
+    names: &mut Interner,
+    tokens: &mut Vec<Token>,
+    kind: Kind,
+    piece: &CompactString,
+) -> Result<(), InternError>
+    requires tokens { All (IsToken names.old) tokens.old.items }
+    requires alike { All (λ c. kind_of c ≡ kind) piece.now.text }
+    ensures joined { OnOk result (flat_map (token_text names.new) tokens.new.items ≡ flat_map (token_text names.old) tokens.old.items ++ piece.now.text) }
+    ensures tokens { OnOk result (All (IsToken names.new) tokens.new.items) }
+    ensures kept { (n : ℕ) (name : List ℕ) → slice_get names.old n ≡ Some name → slice_get names.new n ≡ Some name }
+{
+    if piece.is_empty() {
+        return Ok(());
+    }
+    let name = names.intern(piece.as_str())?;
+    if tokens.push(Token { kind, name }).is_err() {
+        return Err(InternError::Reserve(ReserveError));
+    }
+    Ok(())
+}

@@ -1,0 +1,34 @@
+#!/usr/bin/env bash
+# Makes the stored lines of the program anew, and the answers that the Rust crate gives to them.
+#
+#   replay/make.sh FOLDER [SEED [COUNT]]
+#
+# FOLDER holds the source of the Rust crate compact_str 0.10.0, as a cargo package whose dependencies cargo finds; `cargo`
+# is needed. It writes COUNT lines (20000) of the generator with this seed (1) to crates/compact_run/stdin, and the answers
+# to crates/compact_run/stdout. `rt ci` runs the program on the first and compares with the second. What is built lies in
+# replay/out; nothing is written in FOLDER.
+set -eu
+
+replay=$(cd "$(dirname "$0")" && pwd)
+program=$replay/../crates/compact_run
+crate=$(cd "$1" && pwd)
+mkdir -p "$replay/out"
+cat >"$replay/out/Cargo.toml" <<END
+[package]
+name = "replay"
+version = "0.0.0"
+edition = "2024"
+
+[[bin]]
+name = "replay"
+path = "../main.rs"
+
+[dependencies]
+compact_str = { path = "$crate", features = ["zeroize"] }
+zeroize = "1"
+
+[workspace]
+END
+cd "$crate"
+cargo build -q --release --manifest-path "$replay/out/Cargo.toml" --target-dir "$replay/out/target"
+exec "$replay/out/target/release/replay" make "${2:-1}" "${3:-20000}" "$program/stdin" "$program/stdout"
