@@ -20,7 +20,7 @@ pub fn ranking(alloc: Global, tokens: &[Token], names: u32) -> Result<Vec<Entry>
     ensures { IfOk result (λ ranks. IsRanking (entries_before tokens.now names) ranks.items) }
 {
     let mut ranks = entries(alloc, tokens, names)?;
-    ranks.as_mut_slice().sort_by_key(alloc, |entry| Reverse(entry.count))?;
+    ranks.sort_by_key(|entry| Reverse(entry.count))?;
     Ok(ranks)
 }
 
@@ -46,9 +46,13 @@ fn word_counts(alloc: Global, tokens: &[Token], names: u32) -> Result<Vec<usize>
 {
     let mut counts = Vec::from_elem(alloc, 0usize, names as usize)?;
     for token in tokens {
-        if token.kind == Kind::Word && token.name < names {
-            counts[token.name as usize] += 1;
+        if token.kind != Kind::Word {
+            continue;
         }
+        if token.name >= names {
+            continue;
+        }
+        counts[token.name as usize] += 1;
     }
     Ok(counts)
 }
