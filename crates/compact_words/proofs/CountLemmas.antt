@@ -5,7 +5,7 @@ use Rattle.std.proofs.lemmas.List.{length-take}
 use Rattle.std.proofs.lemmas.List.Sums.{count_by_more_yes, count_by_more_no, count_by-le-length}
 use Rattle.compact_uses.specs.declared.tokenizer.Kind.TheVariants.{Word}
 use Rattle.compact_uses.specs.declared.tokenizer.Token.{Token}
-use Rattle.compact_words.specs.Entries.{is_word, is_word_kind, word_count}
+use Rattle.compact_words.specs.Entries.{is_word, word_count}
 
 pub count-bound : (tokens : List Token) (i n : ℕ) → word_count (take i tokens) n ≤ i
 count-bound tokens i n = omega (arith, count_by-le-length (is_word n) (take i tokens), length-take i tokens)

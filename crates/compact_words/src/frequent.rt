@@ -52,11 +52,7 @@ fn table_of(
 }
 
 /// The record of an entry: the word and its count.
-fn record(
-    alloc: Global,
-    names: &Interner,
-    entry: Entry,
-) -> Result<Vec<CompactString>, ReserveError>
+fn record(alloc: Global, names: &Interner, entry: Entry) -> Result<Vec<CompactString>, ReserveError>
     ensures { IfOk result (λ fields. map text_in fields.items ≡ fields_of names.now entry) }
 {
     let word = CompactString::new(alloc, names.name(entry.name).unwrap_or(""))?;

@@ -28,11 +28,7 @@ fn main(rt: HostRuntime) -> ExitCode {
 /// Reads a text to its end, and writes a line for each of its most frequent words.
 ///
 /// What is no text in the input counts as U+FFFD, which is no letter. Great letters of ASCII count as small ones.
-fn print_words<R: Read, W: Write>(
-    alloc: Global,
-    reader: &mut R,
-    writer: &mut W,
-) -> io::Result<()> {
+fn print_words<R: Read, W: Write>(alloc: Global, reader: &mut R, writer: &mut W) -> io::Result<()> {
     let mut bytes = Vec::new(alloc);
     reader.read_to_end(&mut bytes)?;
     let Ok(mut text) = CompactString::from_utf8_lossy(alloc, bytes.as_slice()) else {

@@ -1,6 +1,5 @@
-use Rattle.std.proofs.Common.{◌≡◌, ◌<◌, slice_index, slice_index_or, arith, rules, sym}
+use Rattle.std.proofs.Common.{◌≡◌, ◌<◌, slice_index, slice_index_or, arith, rules}
 use Rattle.std.proofs.lemmas.Grind.{common_steps}
-use Rattle.std.proofs.lemmas.List.Sums.{count_by_more_yes, count_by_more_no, count_by-le-length}
 use Rattle.compact_uses.specs.declared.tokenizer.Kind.TheVariants.{Word}
 use Rattle.compact_words.proofs.CountLemmas.{count-bound, counted}
 use Rattle.compact_words.proofs.entries.word_counts.Goals as goal
