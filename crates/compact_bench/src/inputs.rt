@@ -212,7 +212,10 @@ pub fn interned_words(alloc: Global, generator: &mut Generator) -> Result<Vec<St
 }
 
 /// Distinct words of 1 to 12 letters.
-pub fn distinct_words(alloc: Global, generator: &mut Generator) -> Result<Vec<String>, InternError> {
+pub fn distinct_words(
+    alloc: Global,
+    generator: &mut Generator,
+) -> Result<Vec<String>, InternError> {
     let mut names = Interner::new(alloc);
     let mut words = Vec::new(alloc);
     for _ in 0..DRAWN_WORDS {

@@ -95,10 +95,7 @@ fn changes_of_characters_have_these_checksums(rt: HostRuntime) {
     assert_eq!(rt; cs_bench_retain_long(alloc, 100), 0x4b75_6ae7_c56a_b6c0);
     assert_eq!(rt; cs_bench_drain(alloc, 100), 0x7b8c_904d_fc1b_1a30);
     assert_eq!(rt; cs_bench_drain_long(alloc, 100), 0xa2bb_9fb7_439a_c200);
-    assert_eq!(rt;
-        cs_bench_change_letters(alloc, 100),
-        0xb234_feb9_00fe_5a00
-    );
+    assert_eq!(rt; cs_bench_change_letters(alloc, 100), 0xb234_feb9_00fe_5a00);
 }
 
 #[test]
@@ -129,5 +126,8 @@ fn work_of_a_given_size_has_these_checksums(rt: HostRuntime) {
     assert_eq!(rt; cs_bench_grow_from_utf8(alloc, 3, 1_000), 0x0f28_7f49);
     assert_eq!(rt; cs_bench_grow_retain(alloc, 3, 1_000), 0x0a1c_d249);
     assert_eq!(rt; cs_bench_grow_join(alloc, 3, 1_000), 0x84fa_fe51);
-    assert_eq!(rt; cs_bench_grow_intern(alloc, 3, 1_000), 0xa6f0_fd3d_03d2_ab6a);
+    assert_eq!(rt;
+        cs_bench_grow_intern(alloc, 3, 1_000),
+        0xa6f0_fd3d_03d2_ab6a
+    );
 }

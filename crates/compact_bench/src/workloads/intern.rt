@@ -49,7 +49,12 @@ pub fn tokens(alloc: Global, n: u64) -> Result<u64, InternError> {
         let mut names = Interner::new(alloc);
         let tokens = tokenize(alloc, &mut names, &text)?;
         for token in &tokens {
-            sum = mix(sum, u64::from(token.name).wrapping_mul(4).wrapping_add(place_of(token.kind)));
+            sum = mix(
+                sum,
+                u64::from(token.name)
+                    .wrapping_mul(4)
+                    .wrapping_add(place_of(token.kind)),
+            );
         }
         sum = mix(sum, names.len() as u64);
     }
