@@ -1,13 +1,14 @@
 -- What stays of tokens while names come in.
-use Rattle.std.proofs.Common.{◌≡◌, ℕ, ◌<◌, List, [], ◌∷◌, ◌++◌, Bool, false, IsTrue, ◌↔◌, Option, Some, None, length, slice_get, slice_index_or, flat_map, refl, ap, sym, ◌∙◌, arith, append-nil, append_assoc}
+use Rattle.std.proofs.Common.{◌≡◌, ℕ, ◌<◌, ◌≤◌, List, [], ◌∷◌, ◌++◌, Bool, true, false, IsTrue, ◌↔◌, Option, Some, None, length, slice_get, slice_index_or, flat_map, refl, ap, sym, ◌∙◌, arith, append-nil, append_assoc}
 use Rattle.std.proofs.lemmas.Grind.{common_steps, flat_map-append}
 use Rattle.std.proofs.lemmas.List.Elements.{All-nil, All-push, recursion_from_All}
 use Rattle.std.proofs.Math.Nat.{lt_irrefl}
 use Rattle.std.specs.Option.{unwrap_or}
 use Rattle.std.specs.List.{All, AllByRecursion}
 use Rattle.compact_uses.specs.declared.tokenizer.Kind.{Kind}
+use Rattle.compact_uses.specs.declared.tokenizer.Kind.TheVariants.{Word, Number, Space, Mark}
 use Rattle.compact_uses.specs.declared.tokenizer.Token.{Token}
-use Rattle.compact_uses.specs.Tokens.{kind_of, token_text, IsToken}
+use Rattle.compact_uses.specs.Tokens.{kind_of, goes_on, token_text, last_kind, IsToken, ArePartedBehind}
 
 -- each name keeps its number
 abbrev KeepsNumbers : List (List ℕ) → List (List ℕ) → Type 0
@@ -24,6 +25,7 @@ token-kept : (names after : List (List ℕ)) (token : Token) → KeepsNumbers na
 token-kept names after token keep is = record {
   filled = rw (token_text-kept names after token keep is.filled) is.filled;
   alike = rw (token_text-kept names after token keep is.filled) is.alike;
+  single = λ mark. rw (token_text-kept names after token keep is.filled) (is.single mark);
 }
 
 joined-kept : (names after : List (List ℕ)) (tokens : List Token) → KeepsNumbers names after → AllByRecursion (IsToken names) tokens
@@ -44,10 +46,13 @@ put-joined names after tokens token piece keep all at =
     ∙ ap (λ x. flat_map (token_text names) tokens ++ x) last
 
 pub put-tokens : (names after : List (List ℕ)) (tokens : List Token) (token : Token) (piece : List ℕ) → KeepsNumbers names after → All (IsToken names) tokens
-    → slice_get after token.name ≡ Some piece → 0 < length piece → All (λ c. kind_of c ≡ token.kind) piece → All (IsToken after) (tokens ++ token ∷ [])
-put-tokens names after tokens token piece keep all at filled alike =
+    → slice_get after token.name ≡ Some piece → 0 < length piece → All (λ c. kind_of c ≡ token.kind) piece → (token.kind ≡ Mark → length piece ≤ 1)
+    → All (IsToken after) (tokens ++ token ∷ [])
+put-tokens names after tokens token piece keep all at filled alike single =
     let is : token_text after token ≡ piece = ap (λ (x : Option (List ℕ)). unwrap_or x []) at in
-    All-push (IsToken after) tokens token (λ k d lt. token-kept names after (slice_index_or tokens k d) keep (all k d lt)) (record { filled = rw is filled; alike = rw is alike })
+    let one : token.kind ≡ Mark → length piece ≡ 1 = λ mark. omega (arith, filled, single mark) in
+    All-push (IsToken after) tokens token (λ k d lt. token-kept names after (slice_index_or tokens k d) keep (all k d lt))
+    (record { filled = rw is filled; alike = rw is alike; single = λ mark. rw is (one mark) })
 
 pub filled-piece : (piece : List ℕ) (is_empty : Bool) → IsTrue is_empty ↔ (piece ≡ []) → is_empty ≡ false → 0 < length piece
 filled-piece [] is_empty test is_no = grind (arith, common_steps)
@@ -64,3 +69,49 @@ alike-one c = All-push (λ x. kind_of x ≡ kind_of c) [] c (All-nil (λ x. kind
 pub joined-push : (names : List (List ℕ)) (tokens : List Token) (piece text : List ℕ) (c : ℕ) → flat_map (token_text names) tokens ++ piece ≡ text
     → flat_map (token_text names) tokens ++ (piece ++ c ∷ []) ≡ text ++ c ∷ []
 joined-push names tokens piece text c joined = sym (append_assoc (flat_map (token_text names) tokens) piece (c ∷ [])) ∙ ap (λ t. t ++ c ∷ []) joined
+
+-- tokens that are parted, and one more
+
+pub parted-push : (kind : Kind) (tokens : List Token) (token : Token) → ArePartedBehind kind tokens → goes_on (last_kind kind tokens) token.kind ≡ false
+    → ArePartedBehind kind (tokens ++ token ∷ [])
+parted-push kind [] token parted follows = (follows, tt)
+parted-push kind (first ∷ tokens) token parted follows = (parted.0, parted-push first.kind tokens token parted.1 follows)
+
+last-push : (kind : Kind) (tokens : List Token) (token : Token) → last_kind kind (tokens ++ token ∷ []) ≡ token.kind
+last-push kind [] token = refl
+last-push kind (first ∷ tokens) token = last-push first.kind tokens token
+
+pub last-apart : (tokens : List Token) (token : Token) (next : Kind) → goes_on token.kind next ≡ false → goes_on (last_kind Mark (tokens ++ token ∷ [])) next ≡ false
+last-apart tokens token next apart = ap (λ k. goes_on k next) (last-push Mark tokens token) ∙ apart
+
+pub none-apart : (tokens : List Token) (next : Kind) → tokens ≡ [] → goes_on (last_kind Mark tokens) next ≡ false
+none-apart tokens next none = ap (λ ts. goes_on (last_kind Mark ts) next) none
+
+-- what goes on is of the same kind, which is no mark
+
+pub goes_on-same : (kind next : Kind) → goes_on kind next ≡ true → next ≡ kind
+goes_on-same Word Word on = refl
+goes_on-same Number Number on = refl
+goes_on-same Space Space on = refl
+goes_on-same Mark next on = grind (arith, common_steps, on)
+goes_on-same Word Number on = grind (arith, common_steps, on)
+goes_on-same Word Space on = grind (arith, common_steps, on)
+goes_on-same Word Mark on = grind (arith, common_steps, on)
+goes_on-same Number Word on = grind (arith, common_steps, on)
+goes_on-same Number Space on = grind (arith, common_steps, on)
+goes_on-same Number Mark on = grind (arith, common_steps, on)
+goes_on-same Space Word on = grind (arith, common_steps, on)
+goes_on-same Space Number on = grind (arith, common_steps, on)
+goes_on-same Space Mark on = grind (arith, common_steps, on)
+
+pub goes_on-no-mark : (kind next : Kind) → goes_on kind next ≡ true → kind ≡ Mark → (n : ℕ) → n ≤ 1
+goes_on-no-mark kind next on mark n =
+    let never : goes_on Mark next ≡ true = ap (λ k. goes_on k next) (sym mark) ∙ on in
+    grind (arith, common_steps, never)
+
+pub push-some : (piece : List ℕ) (c : ℕ) (tokens : List Token) → piece ++ c ∷ [] ≡ [] → tokens ≡ []
+push-some [] c tokens none = grind (arith, common_steps, none)
+push-some (d ∷ piece) c tokens none = grind (arith, common_steps, none)
+
+pub one-character : (c : ℕ) → length (c ∷ []) ≤ 1
+one-character c = grind (arith, common_steps)

@@ -8,6 +8,7 @@ use Rattle.std.specs.Char.Unicode.Numeric.{is_numeric}
 use Rattle.compact_uses.specs.declared.tokenizer.Kind.{Kind}
 use Rattle.compact_uses.specs.declared.tokenizer.Kind.TheVariants.{Word, Number, Space, Mark}
 use Rattle.compact_uses.specs.declared.tokenizer.Token.{Token}
+use Rattle.std.specs.Prelude.{◌∷◌, Bool, true, false}
 
 -- what a character makes a token of
 abbrev pub kind_of : ℕ → Kind
@@ -17,7 +18,38 @@ kind_of c = if is_alphabetic c then Word else if is_numeric c then Number else i
 abbrev pub token_text : List (List ℕ) → Token → List ℕ
 token_text names token = unwrap_or (slice_get names token.name) []
 
--- the token has a text, of characters of its kind alone
+-- a character of the second kind goes on with a token of the first
+abbrev pub goes_on : Kind → Kind → Bool
+goes_on Mark next = false
+goes_on Word Word = true
+goes_on Word Number = false
+goes_on Word Space = false
+goes_on Word Mark = false
+goes_on Number Word = false
+goes_on Number Number = true
+goes_on Number Space = false
+goes_on Number Mark = false
+goes_on Space Word = false
+goes_on Space Number = false
+goes_on Space Space = true
+goes_on Space Mark = false
+
+-- behind a token of some kind, no token goes on with the one before it
+abbrev pub ArePartedBehind : Kind → List Token → Type 0
+ArePartedBehind kind [] = Unit
+ArePartedBehind kind (token ∷ tokens) = (goes_on kind token.kind ≡ false) × ArePartedBehind token.kind tokens
+
+-- no token goes on with the one before it; with a mark none does
+abbrev pub AreParted : List Token → Type 0
+AreParted tokens = ArePartedBehind Mark tokens
+
+-- the kind of the last token, or this one where there is none
+abbrev pub last_kind : Kind → List Token → Kind
+last_kind kind [] = kind
+last_kind kind (token ∷ tokens) = last_kind token.kind tokens
+
+-- the token has a text, of characters of its kind alone; a mark is one character
 pub record IsToken (names : List (List ℕ)) (token : Token) : Type 0 where
   pub filled : 0 < length (token_text names token)
+  pub single : token.kind ≡ Mark → length (token_text names token) ≡ 1
   pub alike : All (λ c. kind_of c ≡ token.kind) (token_text names token)

@@ -2,6 +2,10 @@
 ghost use Rattle.std.specs.Prelude.{◌≡◌, ◌++◌, ℕ, List, flat_map, slice_get, Some, IfOk, OnOk};
 ghost use Rattle.std.specs.List.{All};
 ghost use Rattle.compact_uses.specs.Tokens.{kind_of, token_text, IsToken};
+ghost use Rattle.std.specs.Prelude.{◌≤◌, [], false, length};
+ghost use Rattle.compact_uses.specs.Tokens.{goes_on, last_kind, AreParted};
+ghost use Rattle.compact_uses.specs.declared.tokenizer.Kind.{Kind};
+ghost use Rattle.compact_uses.specs.declared.tokenizer.Kind.TheVariants.{Mark};
 
 use compact_edit::{InternError, Interner};
 use compact_str::{CompactString, ReserveError};
@@ -42,7 +46,21 @@ fn kind_of(character: char) -> Kind
     }
 }
 
+/// Whether a character of the kind `next` goes on with a token of the kind `kind`.
+#[inline]
+fn goes_on(kind: Kind, next: Kind) -> bool
+    ensures { result ≡ goes_on kind next }
+{
+    match kind {
+        Kind::Word => matches!(next, Kind::Word),
+        Kind::Number => matches!(next, Kind::Number),
+        Kind::Space => matches!(next, Kind::Space),
+        Kind::Mark => false,
+    }
+}
+
 /// Cuts a text into tokens. Their texts, joined, are the text; none is empty, and each has characters of its kind alone.
+/// Each is as long as can be: no token goes on where the one before it ends. A mark is one character.
 ///
 /// An error is that of `intern`, or says that no memory was found for the list. Names keep their numbers in any case. Of
 /// `ab, 12` the tokens are the word `ab`, the mark `,`, a space and the number `12`.
@@ -52,6 +70,7 @@ pub fn tokenize(
     text: &CompactString,
 ) -> Result<Vec<Token>, InternError>
     ensures joined { IfOk result (λ tokens. flat_map (token_text names.new) tokens.items ≡ text.now.text) }
+    ensures parted { IfOk result (λ tokens. AreParted tokens.items) }
     ensures tokens { IfOk result (λ tokens. All (IsToken names.new) tokens.items) }
     ensures kept { (n : ℕ) (name : List ℕ) → slice_get names.old n ≡ Some name → slice_get names.new n ≡ Some name }
 {
@@ -60,7 +79,7 @@ pub fn tokenize(
     let mut kind = Kind::Mark;
     for character in text.as_str().chars() {
         let next = kind_of(character);
-        if next == kind && next != Kind::Mark {
+        if goes_on(kind, next) {
             piece.push(character)?;
             continue;
         }
@@ -82,7 +101,13 @@ fn put(
 ) -> Result<(), InternError>
     requires tokens { All (IsToken names.old) tokens.old.items }
     requires alike { All (λ c. kind_of c ≡ kind) piece.now.text }
+    requires single { kind ≡ Mark → length piece.now.text ≤ 1 }
+    requires first { piece.now.text ≡ [] → tokens.old.items ≡ [] }
+    requires parted { AreParted tokens.old.items }
+    requires follows { goes_on (last_kind Mark tokens.old.items) kind ≡ false }
     ensures joined { OnOk result (flat_map (token_text names.new) tokens.new.items ≡ flat_map (token_text names.old) tokens.old.items ++ piece.now.text) }
+    ensures parted { OnOk result (AreParted tokens.new.items) }
+    ensures last { OnOk result ((next : Kind) → goes_on kind next ≡ false → goes_on (last_kind Mark tokens.new.items) next ≡ false) }
     ensures tokens { OnOk result (All (IsToken names.new) tokens.new.items) }
     ensures kept { (n : ℕ) (name : List ℕ) → slice_get names.old n ≡ Some name → slice_get names.new n ≡ Some name }
 {
