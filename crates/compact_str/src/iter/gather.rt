@@ -11,7 +11,7 @@ use std::alloc::Global;
 use std::marker::Model;
 
 /// What has come so far: a value, and behind it a block of short pieces that are appended to it at once. A contract sees
-/// the text of both. So a text of at most 256 bytes asks for memory once, and for just what it takes.
+/// the text of both. So a text of at most 1024 bytes asks for memory once, and for just what it takes.
 #[derive(Drop)]
 pub struct Gathered<P: Policy> {
     value: PolicyString<P>,
@@ -84,13 +84,14 @@ impl<P: Policy> Gathered<P> {
 
     /// The value. An error comes only where it has more than 24 bytes.
     #[inline]
-    pub fn finish(self) -> Result<PolicyString<P>, ReserveError>
+    pub fn finish(mut self) -> Result<PolicyString<P>, ReserveError>
         ensures text { IfOk result (λ v. v.text ≡ self) }
         ensures fitted { IfOk result IsFitted }
         ensures err { OnErr result (24 < size self) }
     {
-        let Gathered { mut value, block } = self;
-        value.push_str(block.as_str())?;
+        // The block is read where it stands: taken apart first, it would be copied.
+        self.value.push_str(self.block.as_str())?;
+        let Gathered { value, block: _ } = self;
         Ok(value)
     }
 }
