@@ -9,6 +9,7 @@ use crate::string::end::encoded;
 use compact_repr::{Block, Policy, ReserveError};
 use std::alloc::Global;
 use std::marker::Model;
+use std::mem;
 
 /// What has come so far: a value, and behind it a block of short pieces that are appended to it at once. A contract sees
 /// the text of both. So a text of at most 1024 bytes asks for memory once, and for just what it takes.
@@ -82,16 +83,17 @@ impl<P: Policy> Gathered<P> {
         self.value.push_str(text)
     }
 
-    /// The value. An error comes only where it has more than 24 bytes.
+    /// The value; of what is left nothing is said. An error comes only where the value has more than 24 bytes.
+    ///
+    /// It takes a reference, for a move would copy the block.
     #[inline]
-    pub fn finish(mut self) -> Result<PolicyString<P>, ReserveError>
-        ensures text { IfOk result (λ v. v.text ≡ self) }
+    pub fn finish(&mut self) -> Result<PolicyString<P>, ReserveError>
+        ensures text { IfOk result (λ v. v.text ≡ self.old) }
         ensures fitted { IfOk result IsFitted }
-        ensures err { OnErr result (24 < size self) }
+        ensures err { OnErr result (24 < size self.old) }
     {
-        // The block is read where it stands: taken apart first, it would be copied.
         self.value.push_str(self.block.as_str())?;
-        let Gathered { value, block: _ } = self;
-        Ok(value)
+        let nothing = PolicyString::default(self.value.allocator());
+        Ok(mem::replace(&mut self.value, nothing))
     }
 }
