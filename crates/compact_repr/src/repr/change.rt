@@ -66,7 +66,7 @@ impl<P: Policy> Repr<P> {
     /// Appends `text` to what has no room for it in place.
     #[cold]
     #[inline(never)]
-    pub fn push_with_more_room(&mut self, text: &str) -> Result<(), ReserveError>
+    fn push_with_more_room(&mut self, text: &str) -> Result<(), ReserveError>
         requires { fits_in_place self.old (length text.now) ≡ false }
         ensures ok { OnOk result (pushed P.growth self.old (text_of text.now) ≡ Some self.new) }
         ensures err { OnErr result ((self.new ≡ self.old) × IsTrue (push_asks self.old (text_of text.now))) }
