@@ -1,13 +1,19 @@
 -- A row of bytes into which characters are written.
-use Rattle.std.proofs.Common.{◌≡◌, ℕ, ◌+◌, ◌-◌, ◌<◌, ◌≤◌, List, [], ◌∷◌, ◌++◌, length, take, drop, set, length-set, refl, sym, ap, subst, ◌∙◌, arith, append_assoc, append-nil, drop-drop, take_all, length-drop}
+use Rattle.std.proofs.Common.{◌≡◌, ◌⊎◌, ⊎_elim, inl, inr, true, false, cond, ltb, get_or, Some, drop-cons, add-one, ◌/◌, ◌%◌, ℕ, ◌+◌, ◌-◌, ◌<◌, ◌≤◌, List, [], ◌∷◌, ◌++◌, length, take, drop, set, length-set, refl, sym, ap, subst, ◌∙◌, arith, append_assoc, append-nil, drop-drop, take_all, length-drop}
 use Rattle.std.specs.Prelude.{unwrap_or}
 use Rattle.std.specs.Char.{IsScalar, encode_utf8}
 use Rattle.std.specs.Str.{IsUtf8, chars}
+use Rattle.std.specs.Int.{is_in_range}
 use Rattle.std.proofs.lemmas.Grind.{take-set_at}
 use Rattle.std.proofs.lemmas.Str.{chars-append, IsUtf8-append, IsUtf8-encode}
 use Rattle.compact_repr.specs.Text.{text_of}
 use Rattle.compact_codec.specs.Utf16Text.{utf16_lossy_text}
-use Rattle.compact_codec.proofs.UnitsReading.{from_at}
+use Rattle.compact_codec.proofs.UnitsReading.{from_at, utf16_lossy_text-step}
+use Rattle.compact_codec.proofs.Rows.{encode_one, encode_two, encode_three, high_scalar}
+use Rattle.std.proofs.str.Utf16.{one_unit}
+use Rattle.std.proofs.lemmas.Bool.{cases_lt, cond-true, cond-false, lt-ltb, le-ltb, leb-false, and_cases}
+use Rattle.std.proofs.lemmas.List.{take-set-le}
+use lib.Utf8.{low_scalar}
 use Rattle.compact_codec.proofs.StringSink.{chars-encode_utf8}
 
 -- a byte is put behind those that stand at the front
@@ -56,3 +62,51 @@ front_at units at n c d begins same =
 
 pub reach_at : (units : List ℕ) (at n : ℕ) → at ≤ length units → n ≤ length (take (length units - at) (drop at units)) → at + n ≤ length units
 reach_at units at n from within = omega (arith, from, within, ap length (from_at units at), length-drop at units)
+
+-- a unit that is a character by itself stands at the front, and what it takes
+own_step : (u : ℕ) (units : List ℕ) → IsScalar u → u < 0x1_0000 → utf16_lossy_text (u ∷ units) ≡ u ∷ utf16_lossy_text units
+own_step u units is one = utf16_lossy_text-step (u ∷ units) (Some u) 1 (is, omega arith, sym (one_unit u one))
+
+pub unit_at : (units : List ℕ) (at u : ℕ) → at < length units → u ≡ get_or units at 0 → u < 0x1_0000 → is_in_range 0xD800 0xDFFF u ≡ false
+    → (utf16_lossy_text (drop at units) ≡ u ∷ utf16_lossy_text (drop (at + 1) units)) × IsScalar u
+unit_at units at u within is one alone =
+    let apart : (u < 0xD800) ⊎ (0xE000 ≤ u) = ⊎_elim (λ low. inl (leb-false _ _ low)) (λ high. inr (leb-false _ _ high)) (and_cases _ _ alone) in
+    let scalar : IsScalar u = ⊎_elim (λ below. low_scalar u below) (λ from. high_scalar u from (omega (arith, one))) apart in
+    let parts : drop at units ≡ u ∷ drop (at + 1) units = rw add-one (drop-cons units at 0 within) ∙ ap (λ v. v ∷ drop (at + 1) units) (sym is) in
+    (ap utf16_lossy_text parts ∙ own_step u (drop (at + 1) units) scalar one, scalar)
+
+-- three bytes are put, of which one, two or three are the character's
+pub unit_behind : (row : List ℕ) (i u first second last n : ℕ) → i + 4 ≤ length row → u < 0x1_0000 → last ≡ 128 + u % 64
+    → first ≡ cond (ltb u 0x80) u (cond (ltb u 0x800) (192 + u / 64) (224 + u / 4096)) → second ≡ cond (ltb u 0x800) last (128 + (u / 64) % 64)
+    → n ≡ i + cond (ltb u 0x80) 1 (cond (ltb u 0x800) 2 3) → take n (set (set (set row i first) (i + 1) second) (i + 2) last) ≡ take i row ++ encode_utf8 u
+unit_behind row i u first second last n room one last_is first_is second_is n_is = ⊎_elim
+    (λ (low : u < 0x80).
+    let t : ltb u 0x80 ≡ true = lt-ltb u 0x80 low in
+    let f : first ≡ u = first_is ∙ cond-true _ _ _ t in
+    let m : n ≡ i + 1 = n_is ∙ ap (λ k. i + k) (cond-true _ _ _ t) in
+    ap (λ k. take k (set (set (set row i first) (i + 1) second) (i + 2) last)) m
+    ∙ take-set-le (i + 1) (set (set row i first) (i + 1) second) (i + 2) last (omega arith) ∙ take-set-le (i + 1) (set row i first) (i + 1) second (omega arith)
+    ∙ byte_behind row (take i row) i (i + 1) first refl refl (omega (arith, room)) ∙ ap (λ b. take i row ++ b ∷ []) f
+    ∙ ap (λ l. take i row ++ l) (sym (encode_one u low)))
+    (λ (from : 0x80 ≤ u). ⊎_elim
+    (λ (mid : u < 0x800).
+    let t : ltb u 0x80 ≡ false = le-ltb u 0x80 from in
+    let w : ltb u 0x800 ≡ true = lt-ltb u 0x800 mid in
+    let f : first ≡ 192 + u / 64 = first_is ∙ cond-false _ _ _ t ∙ cond-true _ _ _ w in
+    let s : second ≡ 128 + u % 64 = second_is ∙ cond-true _ _ _ w ∙ last_is in
+    let m : n ≡ i + 2 = n_is ∙ ap (λ k. i + k) (cond-false _ _ _ t ∙ cond-true _ _ _ w) in
+    ap (λ k. take k (set (set (set row i first) (i + 1) second) (i + 2) last)) m
+    ∙ take-set-le (i + 2) (set (set row i first) (i + 1) second) (i + 2) last (omega arith)
+    ∙ two_behind row i first second (omega (arith, room)) ∙ (λ j. take i row ++ (f j ∷ s j ∷ []))
+    ∙ ap (λ l. take i row ++ l) (sym (encode_two u from mid)))
+    (λ (high : 0x800 ≤ u).
+    let t : ltb u 0x80 ≡ false = le-ltb u 0x80 from in
+    let w : ltb u 0x800 ≡ false = le-ltb u 0x800 high in
+    let f : first ≡ 224 + u / 4096 = first_is ∙ cond-false _ _ _ t ∙ cond-false _ _ _ w in
+    let s : second ≡ 128 + (u / 64) % 64 = second_is ∙ cond-false _ _ _ w in
+    let m : n ≡ i + 3 = n_is ∙ ap (λ k. i + k) (cond-false _ _ _ t ∙ cond-false _ _ _ w) in
+    ap (λ k. take k (set (set (set row i first) (i + 1) second) (i + 2) last)) m
+    ∙ three_behind row i first second last (omega (arith, room)) ∙ (λ j. take i row ++ (f j ∷ s j ∷ last_is j ∷ []))
+    ∙ ap (λ l. take i row ++ l) (sym (encode_three u high one)))
+    (cases_lt u 0x800))
+    (cases_lt u 0x80)

@@ -1,6 +1,7 @@
 //! A row of bytes into which units are written as UTF-8, ahead of the value that takes them.
-ghost use Rattle.std.specs.Prelude.{◌≡◌, ◌+◌, ◌<◌, ◌≤◌, ◌++◌, length, take, drop};
+ghost use Rattle.std.specs.Prelude.{if◌then◌else◌, ◌≡◌, ◌+◌, ◌*◌, ◌<◌, ◌≤◌, ◌++◌, length, take, drop};
 ghost use Rattle.std.specs.Char.{encode_utf8};
+ghost use Rattle.std.specs.Int.{is_in_range};
 ghost use Rattle.std.specs.Str.{IsUtf8};
 ghost use Rattle.compact_repr.specs.Text.{text_of};
 ghost use Rattle.compact_codec.specs.Utf16Text.{utf16_lossy_text};
@@ -32,12 +33,53 @@ pub fn fill(row: &mut [u8; 256], units: &[u16]) -> Filled
     let mut taken = 0;
     let mut len = 0;
     while taken < units.len() && len <= ROW - 4 {
-        let step = utf16::first_character(&units[taken..]);
-        let character = step.character.unwrap_or(char::REPLACEMENT_CHARACTER);
-        len = write_character(row, len, character);
-        taken += step.taken;
+        let unit = units[taken];
+        if is_surrogate(unit) {
+            let step = utf16::first_character(&units[taken..]);
+            let character = step.character.unwrap_or(char::REPLACEMENT_CHARACTER);
+            len = write_character(row, len, character);
+            taken += step.taken;
+        } else {
+            len = write_unit(row, len, unit);
+            taken += 1;
+        }
     }
     Filled { taken, len }
+}
+
+/// Whether a unit is one of a pair.
+#[inline]
+fn is_surrogate(unit: u16) -> bool
+    ensures { result ≡ is_in_range 0xD800 0xDFFF unit }
+{
+    0xD800 <= unit && unit <= 0xDFFF
+}
+
+/// Writes the bytes of the character that a unit is by itself from `at` on, and answers where they end. How many they are
+/// cannot be foreseen, so three are written whatever they are, and no branch is on it.
+#[inline]
+fn write_unit(row: &mut [u8; 256], at: usize, unit: u16) -> usize
+    requires { at + 4 ≤ 256 }
+    ensures bytes { take result row.new ≡ take at row.old ++ encode_utf8 unit }
+    ensures end { (at < result) × (result ≤ at + 3) }
+{
+    let one = unit < 0x80;
+    let two = unit < 0x800;
+    let last = 0x80 + unit % 64;
+    let first = either(one, unit, either(two, 0xC0 + unit / 64, 0xE0 + unit / 4096));
+    let second = either(two, last, 0x80 + unit / 64 % 64);
+    row[at] = first as u8;
+    row[at + 1] = second as u8;
+    row[at + 2] = last as u8;
+    at + either(one, 1, either(two, 2, 3)) as usize
+}
+
+/// The first number where the test holds, else the second.
+#[inline]
+fn either(test: bool, yes: u16, no: u16) -> u16
+    ensures { result ≡ (if test then yes else no) }
+{
+    if test { yes } else { no }
 }
 
 /// Writes the bytes of a character from `at` on, and answers where they end.
@@ -71,12 +113,30 @@ fn write_character(row: &mut [u8; 256], at: usize, character: char) -> usize
 }
 
 /// How many bytes the text of the units takes, or a few less where they are no text.
-pub fn utf8_room(units: &[u16]) -> usize {
+pub fn utf8_room(units: &[u16]) -> usize
+    ensures { result ≤ 3 * length units.now }
+{
+    let mut room = 0;
+    let mut at = 0;
+    while at < units.len() {
+        let end = units.len().min(at + 256);
+        room += usize::from(part_room(&units[at..end]));
+        at = end;
+    }
+    room
+}
+
+/// The same of few units.
+#[inline]
+fn part_room(units: &[u16]) -> u16
+    requires { length units.now ≤ 256 }
+    ensures { result ≤ 3 * length units.now }
+{
     let mut room = 0;
     for &unit in units {
-        let wide = usize::from(unit >= 0x80);
-        let wider = usize::from(unit >= 0x800);
-        let paired = usize::from(0xD800 <= unit && unit < 0xE000);
+        let wide = u16::from(unit >= 0x80);
+        let wider = u16::from(unit >= 0x800);
+        let paired = u16::from(is_surrogate(unit));
         room += 1 + wide + wider - paired;
     }
     room

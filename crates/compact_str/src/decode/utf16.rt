@@ -52,11 +52,14 @@ impl PolicyString<Standard> {
         let mut made = CompactString::default(alloc);
         let mut row = [0; ROW];
         let mut rest = units;
-        let mut room = utf8_room(units);
         while !rest.is_empty() {
             let filled = fill(&mut row, rest);
             rest = &rest[filled.taken..];
-            room = room.saturating_sub(filled.len);
+            let room = if made.is_heap_allocated() {
+                0
+            } else {
+                utf8_room(rest)
+            };
             let text = unsafe { std::str::from_utf8_unchecked(&row[..filled.len]) };
             push_fitted(&mut made, text, room)?;
         }
