@@ -21,9 +21,6 @@ const LONG: usize = 64;
 // How many bytes that judge takes at a time.
 const WINDOW: usize = 8192;
 
-// Near a fault that judge takes fewer and fewer bytes, and this many at least.
-const SHORT: usize = 16;
-
 /// The text that the bytes encode, or where they stop being one.
 ///
 /// `[0x61, 0xE2, 0x82]` is at fault after 1 byte, with an open end: one byte more could make it `a€`.
@@ -59,8 +56,8 @@ fn text_in_windows(bytes: &[u8]) -> usize
 
 // Where a window of at most `width` bytes from `at` on ends: with the bytes, or before a byte that can begin a character.
 fn window_end(bytes: &[u8], at: usize, width: usize) -> usize
-    requires within { at + 16 ≤ length bytes.now }
-    requires wide { (16 ≤ width) × (width ≤ 8192) }
+    requires within { at + 64 ≤ length bytes.now }
+    requires wide { (64 ≤ width) × (width ≤ 8192) }
     ensures within { result ≤ length bytes.now }
     ensures some { at < result }
 {
@@ -92,17 +89,20 @@ fn judge_onward(bytes: &[u8], at: usize) -> Result<&str, Utf8Fault>
     judge_from(bytes, text_before_fault(bytes, at))
 }
 
-// How many bytes at the front are text, where those before `from` are known to be: windows double while they are text, so
-// that no more is judged than some times what stands before the fault.
+// How many bytes at the front are text, where those before `from` are known to be. Where the next `LONG` look whole too,
+// windows double while they are text, so that no more is judged than some times what stands before the fault.
 fn text_before_fault(bytes: &[u8], from: usize) -> usize
     requires within { from ≤ length bytes.now }
     requires text { IsUtf8 (take from bytes.now) }
     ensures within { result ≤ length bytes.now }
     ensures text { IsUtf8 (take result bytes.now) }
 {
-    let mut at = from;
+    let mut at = text_by_guess(bytes, from);
+    if bytes.len() - from < LONG || at < from + LONG - 4 {
+        return at;
+    }
     let mut width = LONG;
-    while bytes.len() - at >= SHORT {
+    while bytes.len() - at >= LONG {
         let end = window_end(bytes, at, width);
         let window = &bytes[at..end];
         if !simdutf8::is_utf8(window) {
@@ -125,7 +125,7 @@ fn text_by_halves(bytes: &[u8], from: usize, most: usize) -> usize
 {
     let mut at = from;
     let mut width = most;
-    while width >= SHORT && bytes.len() - at >= SHORT {
+    while width >= LONG && bytes.len() - at >= LONG {
         let end = window_end(bytes, at, width);
         let half = &bytes[at..end];
         if simdutf8::is_utf8(half) {
@@ -133,7 +133,55 @@ fn text_by_halves(bytes: &[u8], from: usize, most: usize) -> usize
         }
         width /= 2;
     }
-    at
+    text_by_guess(bytes, at)
+}
+
+// The same, as far as a guess at the next `LONG` bytes is found right.
+fn text_by_guess(bytes: &[u8], from: usize) -> usize
+    requires within { from ≤ length bytes.now }
+    requires text { IsUtf8 (take from bytes.now) }
+    ensures onward { from ≤ result }
+    ensures within { result ≤ length bytes.now }
+    ensures text { IsUtf8 (take result bytes.now) }
+{
+    if bytes.len() - from < LONG {
+        return from;
+    }
+    let end = from + likely_len(&bytes[from..from + LONG]);
+    let guessed = &bytes[from..end];
+    if simdutf8::is_utf8(guessed) { end } else { from }
+}
+
+// How many of the bytes are likely to be text, up to the last character: whether each byte goes on a character is
+// compared with whether those before it want one that does. There is no way out of the loop, so that many bytes are
+// looked at in one step. It is a guess, and what it is good for is speed: a wrong one costs time alone.
+fn likely_len(bytes: &[u8]) -> usize
+    requires { length bytes.now ≡ 64 }
+    ensures { result ≤ 64 }
+{
+    let mut row = [0; 67];
+    row[3..].copy_from_slice(bytes);
+    let mut first = 64u8;
+    for i in 0..LONG {
+        let goes_on = row[i + 3] & 0xC0 == 0x80;
+        let is_due = (row[i + 2] >= 0xC0) | (row[i + 1] >= 0xE0) | (row[i] >= 0xF0);
+        let place = if goes_on == is_due { 64 } else { i as u8 };
+        first = first.min(place);
+    }
+    let end = usize::from(first);
+    if end == 0 || end < LONG && bytes[end] & 0xC0 == 0x80 {
+        return end;
+    }
+    let lead = lead_at(bytes, lead_at(bytes, end - 1));
+    lead_at(bytes, lead)
+}
+
+// One byte back, where there is one and no character can begin at this one.
+fn lead_at(bytes: &[u8], at: usize) -> usize
+    requires { at < length bytes.now }
+    ensures { result ≤ at }
+{
+    if at > 0 && bytes[at] & 0xC0 == 0x80 { at - 1 } else { at }
 }
 
 // The same as `judge`, where the bytes before `at` are known to be text.
