@@ -1,5 +1,5 @@
 -- Units that are gone through one by one, with a word on whether the unit before was the first of a pair.
-use Rattle.std.proofs.Common.{◌≡◌, ℕ, zero, suc, ◌-◌, ◌/◌, ◌%◌, ◌+◌, ◌<◌, ◌≤◌, ◌⊎◌, Bool, true, false, List, [], ◌∷◌, ◌++◌, length, drop, get_or, drop-cons, drop_of_length-le, add-one, ◌↔◌, ◌^◌, refl, sym, ap, ◌∙◌, arith, ⊎_elim, length-append, subst, Option}
+use Rattle.std.proofs.Common.{◌≡◌, ℕ, zero, suc, ◌-◌, ◌/◌, ◌%◌, ◌+◌, ◌<◌, ◌≤◌, ◌⊎◌, Bool, true, false, List, [], ◌∷◌, ◌++◌, length, drop, get_or, drop-cons, drop_of_length-le, add-one, ◌↔◌, ◌^◌, refl, sym, ap, ◌∙◌, arith, ⊎_elim, subst, Option}
 use Rattle.std.specs.Prelude.{◌||◌}
 use mathlib.Core.Bool.{xor}
 use Rattle.std.specs.Char.{IsScalar}
@@ -12,8 +12,7 @@ use Rattle.std.proofs.lemmas.Bool.{cases_lt, le-leb, lt-leb, lt-ltb, le-ltb, not
 use Rattle.std.proofs.Math.Bool.{or_assoc}
 use Rattle.std.proofs.lemmas.Str.{utf16_chars-nil}
 use Rattle.std.proofs.lemmas.List.{get_or_default}
-use lib.Utf8.{scalar_cases}
-use Rattle.compact_codec.specs.Utf16Text.{AreUnits, IsUtf16, IsLowSurrogate, BeginsWithLowSurrogate, BeginsWithLoneSurrogate}
+use Rattle.compact_codec.specs.Utf16Text.{AreUnits, IsUtf16, BeginsWithLowSurrogate, BeginsWithLoneSurrogate}
 use Rattle.compact_codec.proofs.UnitsReading.{begins_or_lone, chars_at_character, chars_at_lone, shorter_after, rest_is_drop, paired_is, AreUnits-first, AreUnits-drop, scalar_apart, scalar_top}
 
 -- a surrogate is in no pair, in units behind one that is open as the first of a pair, or is not

@@ -149,7 +149,11 @@ fn text_by_guess(bytes: &[u8], from: usize) -> usize
     }
     let end = from + likely_len(&bytes[from..from + LONG]);
     let guessed = &bytes[from..end];
-    if simdutf8::is_utf8(guessed) { end } else { from }
+    if simdutf8::is_utf8(guessed) {
+        end
+    } else {
+        from
+    }
 }
 
 // How many of the bytes are likely to be text, up to the last character: whether each byte goes on a character is
@@ -181,7 +185,11 @@ fn lead_at(bytes: &[u8], at: usize) -> usize
     requires { at < length bytes.now }
     ensures { result ≤ at }
 {
-    if at > 0 && bytes[at] & 0xC0 == 0x80 { at - 1 } else { at }
+    if at > 0 && bytes[at] & 0xC0 == 0x80 {
+        at - 1
+    } else {
+        at
+    }
 }
 
 // The same as `judge`, where the bytes before `at` are known to be text.

@@ -1,4 +1,4 @@
-use Rattle.std.proofs.Common.{arith, ap, sym, ◌∙◌, rules, ◌≡◌, false, true}
+use Rattle.std.proofs.Common.{arith, ap, sym, ◌∙◌, ◌≡◌, false, true}
 use Rattle.std.specs.Prelude.{◌||◌, not}
 use mathlib.Core.Bool.{xor}
 use Rattle.compact_codec.proofs.LoneUnits.{lone_step, lone_end}

@@ -1,4 +1,4 @@
-use Rattle.std.proofs.Common.{◌≤◌, ◌≡◌, length}
+use Rattle.std.proofs.Common.{◌≤◌}
 use Rattle.compact_codec.proofs.utf8.likely_len.Given as goal
 
 abbrev pub invariant-loop-i : goal.invariant-loop-i

@@ -1,4 +1,4 @@
-use Rattle.std.proofs.Common.{arith, ◌≤◌, ◌/◌, length, take, sym, subst, IsUtf8, ℕ}
+use Rattle.std.proofs.Common.{arith, ◌≤◌, length, take, sym, subst, IsUtf8, ℕ}
 use Rattle.compact_codec.proofs.Parts.{longer_window}
 use Rattle.compact_codec.proofs.utf8.text_by_halves.Goals as goal
 use Rattle.compact_codec.proofs.utf8.text_by_halves.Goals.{then-is_utf8, else-is_utf8}
