@@ -94,13 +94,18 @@ pub fn utf8_mixed<T: Decoded>(n: u64) -> u64 {
 pub fn utf8_lossy<T: Decoded>(n: u64) -> u64 {
     let mut rows: Vec<Vec<u8>> = mixed_texts().into_iter().map(String::into_bytes).collect();
     for row in &mut rows {
-        row.iter_mut().skip(63).step_by(64).for_each(|byte| *byte = 0xFF);
+        row.iter_mut()
+            .skip(63)
+            .step_by(64)
+            .for_each(|byte| *byte = 0xFF);
     }
     decoded(n, &rows, |row| T::from_utf8_lossy(row))
 }
 
 pub fn utf8_lossy_valid<T: Decoded>(n: u64) -> u64 {
-    decoded(n, &mixed_texts(), |text| T::from_utf8_lossy(text.as_bytes()))
+    decoded(n, &mixed_texts(), |text| {
+        T::from_utf8_lossy(text.as_bytes())
+    })
 }
 
 pub fn utf16<T: Decoded>(n: u64) -> u64 {

@@ -1,6 +1,7 @@
 //! What memory the types take: the bytes of a value, and those in memory for each of a million short words in a vector. The
 //! program runs itself anew for each type, so that each begins with the same memory.
 
+use crate::report::columns;
 use crate::{Generator, TYPES, Text, library, mix, probe};
 use std::env;
 use std::fs;
@@ -75,24 +76,21 @@ fn hold_alone(place: usize) -> Option<(f64, u64)> {
     Some((grown as f64 / HELD as f64, sum))
 }
 
-/// Prints the table of the memory, and answers whether all types held the same words.
-pub fn print_memory() -> bool {
-    let mut names = String::from("| bytes |");
-    let mut rule = String::from("|---|");
-    let mut sizes = String::from("| a value |");
-    let mut grown = String::from("| resident, for each of a million words of 1 to 24 letters |");
+/// The table of the memory; `None` where it could not be measured, or two types hold different words.
+pub fn memory_table() -> Option<String> {
+    let mut head = vec![String::from("memory")];
+    let mut sizes = vec![String::from("a value")];
+    let mut grown = vec![String::from(
+        "resident, for each of a million words of 1 to 24 letters",
+    )];
     let mut sums = Vec::new();
     for (place, (size, _)) in held().iter().enumerate() {
-        let Some((bytes, sum)) = hold_alone(place) else {
-            println!("\nthe memory could not be measured");
-            return false;
-        };
-        names += &format!(" {} |", TYPES[place]);
-        rule += "---:|";
-        sizes += &format!(" {size} |");
-        grown += &format!(" {bytes:.1} |");
+        let (bytes, sum) = hold_alone(place)?;
+        head.push(TYPES[place].to_string());
+        sizes.push(size.to_string());
+        grown.push(format!("{bytes:.1}"));
         sums.push(sum);
     }
-    println!("\n{names}\n{rule}\n{sizes}\n{grown}");
-    sums.iter().all(|sum| *sum == sums[0])
+    let table = columns(&[head, sizes, grown]);
+    sums.iter().all(|sum| *sum == sums[0]).then_some(table)
 }

@@ -42,6 +42,17 @@ impl Shown for compact_str::CompactString {
     }
 }
 
+/// Numbers of 1 to 64 bits, of each length about as many.
+fn shifted_numbers() -> Vec<u64> {
+    let mut generator = Generator::new();
+    (0..NUMBERS)
+        .map(|_| {
+            let number = generator.next();
+            number >> generator.below(64)
+        })
+        .collect()
+}
+
 /// Numbers of 1 to 20 digits, of each length about as many.
 fn numbers() -> Vec<u64> {
     let mut generator = Generator::new();
@@ -55,7 +66,14 @@ fn numbers() -> Vec<u64> {
 }
 
 pub fn u64_text<T: Shown>(n: u64) -> u64 {
-    let numbers = numbers();
+    texts::<T>(n, &shifted_numbers())
+}
+
+pub fn u64_digits<T: Shown>(n: u64) -> u64 {
+    texts::<T>(n, &numbers())
+}
+
+fn texts<T: Shown>(n: u64, numbers: &[u64]) -> u64 {
     let mut ring = Ring::<T>::new();
     for i in 0..n as usize {
         ring.put(i, T::of_number(black_box(numbers[i % NUMBERS])));

@@ -12,6 +12,10 @@
 # of a folder with the packages that it depends on; with no such settings cargo fetches them as it does for any package.
 # Nothing is written there.
 #
+# The figures go to docs/speed.txt too, and as a picture to docs/speed.svg. BENCH_TURNS=1 in the environment times each
+# workload once and writes neither, which shows whether the checksums agree; BENCH_ONLY='intern join' runs only the
+# workloads whose names begin so.
+#
 # What is built lies in bench/out and in the out/ folders of the crates.
 set -eu
 
@@ -29,6 +33,12 @@ fi
 library=$bench/../crates/compact_bench/out/libcompact_bench.a
 allocator=$(dirname "$(rt doc)")/c/liblibc_c.a
 link=(-C "link-arg=$library" -C "link-arg=$allocator")
+
+BENCH_TO=$(cd "$bench/../docs" && pwd)
+processor=$(sed -n 's/^model name[^:]*: *//p' /proc/cpuinfo | head -n 1)
+numbers=$(sed -n 's/^cpu family[^:]*: */family /p; s/^model[[:space:]]*: */, model /p' /proc/cpuinfo | head -n 2 | tr -d '\n')
+BENCH_TOLD="$(date -u +%F), ${processor:-a processor with no name}${numbers:+ ($numbers)}"
+export BENCH_TO BENCH_TOLD
 
 if [ -z "$crate" ]; then
     rustc --edition 2024 -C opt-level=3 -C codegen-units=1 -C lto=fat "${link[@]}" -o "$built/bench" "$bench/main.rs"
@@ -50,6 +60,7 @@ peer = []
 
 [dependencies]
 compact_str = { path = "$crate" }
+indexmap = ">=1, <3"
 
 [profile.release]
 opt-level = 3

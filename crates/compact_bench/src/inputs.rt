@@ -2,6 +2,8 @@
 ghost use Rattle.std.specs.Prelude.{◌<◌};
 
 use crate::generator::Generator;
+use compact_edit::{InternError, Interner};
+use compact_str::ReserveError;
 use std::alloc::{AllocError, Global};
 
 /// How many short texts there are.
@@ -38,11 +40,23 @@ pub fn word(alloc: Global, generator: &mut Generator, len: u32) -> Result<String
 fn words(alloc: Global, count: usize, least: u32, span: u32) -> Result<Vec<String>, AllocError>
     requires { 0 < span }
 {
-    let mut generator = Generator::new();
+    words_from(alloc, &mut Generator::new(), count, least, span)
+}
+
+/// Such words, for which a generator goes on.
+fn words_from(
+    alloc: Global,
+    generator: &mut Generator,
+    count: usize,
+    least: u32,
+    span: u32,
+) -> Result<Vec<String>, AllocError>
+    requires { 0 < span }
+{
     let mut words = Vec::with_capacity(alloc, count)?;
     for _ in 0..count {
         let len = least.wrapping_add(generator.below(span));
-        words.push(word(alloc, &mut generator, len)?)?;
+        words.push(word(alloc, generator, len)?)?;
     }
     Ok(words)
 }
@@ -68,6 +82,11 @@ pub const TEXTS: usize = 16;
 /// Words of 1024 letters.
 pub fn long_words(alloc: Global) -> Result<Vec<String>, AllocError> {
     words(alloc, TEXTS, 1024, 1)
+}
+
+/// Words of 200 letters.
+pub fn lines(alloc: Global) -> Result<Vec<String>, AllocError> {
+    words(alloc, TEXTS, 200, 1)
 }
 
 /// Texts of 1024 bytes: half their characters are letters, and the others of two, three or four bytes.
@@ -140,7 +159,18 @@ pub fn units(alloc: Global) -> Result<Vec<Vec<u16>>, AllocError> {
 
 /// Words of 1 to 12 letters.
 pub fn names(alloc: Global) -> Result<Vec<String>, AllocError> {
-    words(alloc, NAMES, 1, 12)
+    short_words(alloc, NAMES)
+}
+
+/// Numbers of 1 to 64 bits, of each length about as many.
+pub fn shifted_numbers(alloc: Global) -> Result<Vec<u64>, AllocError> {
+    let mut generator = Generator::new();
+    let mut numbers = Vec::with_capacity(alloc, NUMBERS)?;
+    for _ in 0..NUMBERS {
+        let number = generator.next();
+        numbers.push(number >> generator.below(64))?;
+    }
+    Ok(numbers)
 }
 
 /// Numbers of 1 to 20 digits, of each length about as many.
@@ -160,7 +190,76 @@ pub fn records(alloc: Global) -> Result<Vec<String>, AllocError> {
     words(alloc, RECORDS, 1, 40)
 }
 
-/// Words of 1 to 12 letters.
+/// Words of 1 to 12 letters that are joined.
 pub fn joined_words(alloc: Global) -> Result<Vec<String>, AllocError> {
-    words(alloc, JOINED_WORDS, 1, 12)
+    short_words(alloc, JOINED_WORDS)
+}
+
+/// So many words of 1 to 12 letters.
+pub fn short_words(alloc: Global, count: usize) -> Result<Vec<String>, AllocError> {
+    words(alloc, count, 1, 12)
+}
+
+/// How many words are interned in turn.
+pub const INTERNED_WORDS: u32 = 20_000;
+
+/// How many words are made to find so many distinct ones.
+const DRAWN_WORDS: u32 = 40_000;
+
+/// Words of 1 to 30 letters, some of which are the same.
+pub fn interned_words(alloc: Global, generator: &mut Generator) -> Result<Vec<String>, AllocError> {
+    words_from(alloc, generator, INTERNED_WORDS as usize, 1, 30)
+}
+
+/// Distinct words of 1 to 12 letters.
+pub fn distinct_words(
+    alloc: Global,
+    generator: &mut Generator,
+) -> Result<Vec<String>, InternError> {
+    let mut names = Interner::new(alloc);
+    let mut words = Vec::new(alloc);
+    for _ in 0..DRAWN_WORDS {
+        if words.len() < INTERNED_WORDS as usize {
+            let len = 1 + generator.below(12);
+            let word = word(alloc, generator, len).map_err(|_| ReserveError)?;
+            let number = names.intern(word.as_str())?;
+            if number as usize == words.len() {
+                words.push(word).map_err(|_| ReserveError)?;
+            }
+        }
+    }
+    Ok(words)
+}
+
+/// How many bytes of prose there are, but for a few more.
+const PROSE: usize = 1_048_576;
+
+/// How many words the prose is made of.
+const PROSE_WORDS: u32 = 4096;
+
+/// A text of 1 MiB: words of 1 to 12 letters, with white space between, some marks and numbers, and some words with ä.
+pub fn prose(alloc: Global) -> Result<String, AllocError> {
+    let mut generator = Generator::new();
+    let words = words_from(alloc, &mut generator, PROSE_WORDS as usize, 1, 12)?;
+    let mut text = String::with_capacity(alloc, PROSE + 32)?;
+    for _ in 0..PROSE {
+        if text.len() < PROSE {
+            if let Some(word) = words.get(generator.below(PROSE_WORDS) as usize) {
+                text.push_str(word.as_str())?;
+            }
+            text.push_str(behind_word(&mut generator))?;
+        }
+    }
+    Ok(text)
+}
+
+/// What stands behind a word of the prose.
+fn behind_word(generator: &mut Generator) -> &'static str {
+    match generator.below(16) {
+        0 => ", ",
+        1 => ".\n",
+        2 => " 1789 ",
+        3 => "ä ",
+        _ => " ",
+    }
 }

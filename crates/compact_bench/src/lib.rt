@@ -1,7 +1,8 @@
 //! Workloads over `CompactString`, as C functions for a benchmark: `bench/main.rs` times them beside the same workloads
 //! over the `String` of Rust.
 //!
-//! Each function makes its inputs, does `n` operations and answers a checksum, or `u64::MAX` where memory is refused. It
+//! Each function makes its inputs, does `n` operations and answers a checksum, or `u64::MAX` where memory is refused. Those
+//! from `cs_bench_grow_push_build` on take the size of a text too, in bytes or words. A function
 //! keeps nothing between calls, but for `cs_bench_hold_words`, which is there to be measured by the memory that it keeps.
 #![tactic(auto)]
 
@@ -115,16 +116,28 @@ pub extern "C" fn cs_bench_into_string(alloc: Global, n: u64) -> u64 {
     workloads::out::into_string(alloc, n).unwrap_or(u64::MAX)
 }
 
-/// Keeps two letters of three in 1024 bytes.
+/// Keeps all letters but one in 200 bytes.
 #[unsafe(no_mangle)]
 pub extern "C" fn cs_bench_retain(alloc: Global, n: u64) -> u64 {
     workloads::characters::retain(alloc, n).unwrap_or(u64::MAX)
 }
 
-/// Takes the middle fifth out of 1024 bytes, character by character.
+/// Keeps two letters of three in 1024 bytes.
+#[unsafe(no_mangle)]
+pub extern "C" fn cs_bench_retain_long(alloc: Global, n: u64) -> u64 {
+    workloads::characters::retain_long(alloc, n).unwrap_or(u64::MAX)
+}
+
+/// Takes the middle half out of 200 bytes, character by character.
 #[unsafe(no_mangle)]
 pub extern "C" fn cs_bench_drain(alloc: Global, n: u64) -> u64 {
     workloads::characters::drain(alloc, n).unwrap_or(u64::MAX)
+}
+
+/// Takes the middle fifth out of 1024 bytes, character by character.
+#[unsafe(no_mangle)]
+pub extern "C" fn cs_bench_drain_long(alloc: Global, n: u64) -> u64 {
+    workloads::characters::drain_long(alloc, n).unwrap_or(u64::MAX)
 }
 
 /// Makes 1024 letters great, and small again.
@@ -163,10 +176,16 @@ pub extern "C" fn cs_bench_utf16(alloc: Global, n: u64) -> u64 {
     workloads::decode::utf16(alloc, n).unwrap_or(u64::MAX)
 }
 
-/// Makes the texts of numbers of 1 to 20 digits.
+/// Makes the texts of numbers of 1 to 64 bits.
 #[unsafe(no_mangle)]
 pub extern "C" fn cs_bench_u64_text(alloc: Global, n: u64) -> u64 {
-    workloads::numbers::texts(alloc, n).unwrap_or(u64::MAX)
+    workloads::numbers::shifted(alloc, n).unwrap_or(u64::MAX)
+}
+
+/// Makes the texts of numbers of 1 to 20 digits.
+#[unsafe(no_mangle)]
+pub extern "C" fn cs_bench_u64_digits(alloc: Global, n: u64) -> u64 {
+    workloads::numbers::digits(alloc, n).unwrap_or(u64::MAX)
 }
 
 /// Makes texts by a format of a word and a number.
@@ -179,4 +198,52 @@ pub extern "C" fn cs_bench_format(alloc: Global, n: u64) -> u64 {
 #[unsafe(no_mangle)]
 pub extern "C" fn cs_bench_wire(alloc: Global, n: u64) -> u64 {
     workloads::wire::records_through_bytes(alloc, n).unwrap_or(u64::MAX)
+}
+
+/// Interns words of 1 to 30 letters, drawn from 20000.
+#[unsafe(no_mangle)]
+pub extern "C" fn cs_bench_intern(alloc: Global, n: u64) -> u64 {
+    workloads::intern::words(alloc, n).unwrap_or(u64::MAX)
+}
+
+/// Interns words of 1 to 12 letters, drawn from 20000 distinct ones.
+#[unsafe(no_mangle)]
+pub extern "C" fn cs_bench_intern_short(alloc: Global, n: u64) -> u64 {
+    workloads::intern::short_words(alloc, n).unwrap_or(u64::MAX)
+}
+
+/// Cuts a text of 1 MiB into tokens, each of which is interned.
+#[unsafe(no_mangle)]
+pub extern "C" fn cs_bench_tokenize(alloc: Global, n: u64) -> u64 {
+    workloads::intern::tokens(alloc, n).unwrap_or(u64::MAX)
+}
+
+/// Appends pieces to an empty value until it has `size` bytes.
+#[unsafe(no_mangle)]
+pub extern "C" fn cs_bench_grow_push_build(alloc: Global, n: u64, size: u32) -> u64 {
+    workloads::growth::push_build(alloc, n, size).unwrap_or(u64::MAX)
+}
+
+/// Decodes `size` letters strictly from UTF-8.
+#[unsafe(no_mangle)]
+pub extern "C" fn cs_bench_grow_from_utf8(alloc: Global, n: u64, size: u32) -> u64 {
+    workloads::growth::from_utf8(alloc, n, size).unwrap_or(u64::MAX)
+}
+
+/// Keeps two letters of three in `size` bytes.
+#[unsafe(no_mangle)]
+pub extern "C" fn cs_bench_grow_retain(alloc: Global, n: u64, size: u32) -> u64 {
+    workloads::growth::retain(alloc, n, size).unwrap_or(u64::MAX)
+}
+
+/// Joins `size` words of 1 to 12 letters, with a comma and a space between.
+#[unsafe(no_mangle)]
+pub extern "C" fn cs_bench_grow_join(alloc: Global, n: u64, size: u32) -> u64 {
+    workloads::growth::join(alloc, n, size).unwrap_or(u64::MAX)
+}
+
+/// Interns `size` words of 1 to 12 letters, each time anew.
+#[unsafe(no_mangle)]
+pub extern "C" fn cs_bench_grow_intern(alloc: Global, n: u64, size: u32) -> u64 {
+    workloads::growth::intern(alloc, n, size).unwrap_or(u64::MAX)
 }

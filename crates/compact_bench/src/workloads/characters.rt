@@ -1,17 +1,67 @@
-//! Changes that go over the characters of a text of 1024 letters.
+//! Changes that go over the characters of a text.
 
 use crate::checksum::{mix, probe};
 use crate::generator::Generator;
-use crate::inputs::word;
+use crate::inputs::{TEXTS, lines, word};
 use compact_str::{CompactString, ReserveError};
 use std::alloc::Global;
 use std::ops::Bound;
 
-/// How many letters the text has.
+/// How many letters a long text has.
 const LETTERS: u32 = 1024;
 
-/// Keeps two letters of three.
+/// Keeps all letters but one, in texts of 200.
 pub fn retain(alloc: Global, n: u64) -> Result<u64, ReserveError> {
+    let texts = lines(alloc)?;
+    let mut value = CompactString::default(alloc);
+    let mut sum = 0;
+    for i in 0..n as usize {
+        if let Some(text) = texts.get(i % TEXTS) {
+            value.clear();
+            value.push_str(text.as_str())?;
+            value.retain(|character| character != 'e')?;
+            sum = mix(sum, probe(&value));
+        }
+    }
+    Ok(sum)
+}
+
+/// Takes the middle half out of texts of 200 letters, and looks at each of its letters.
+pub fn drain(alloc: Global, n: u64) -> Result<u64, ReserveError> {
+    let texts = lines(alloc)?;
+    let mut value = CompactString::default(alloc);
+    let mut sum: u64 = 0;
+    for i in 0..n as usize {
+        if let Some(text) = texts.get(i % TEXTS) {
+            value.clear();
+            value.push_str(text.as_str())?;
+            sum = drained(&mut value, 50, 150, sum)?;
+            sum = mix(sum, probe(&value));
+        }
+    }
+    Ok(sum)
+}
+
+/// Takes a range out, and adds each of its characters to a sum.
+#[inline]
+fn drained(
+    value: &mut CompactString,
+    first: usize,
+    last: usize,
+    sum: u64,
+) -> Result<u64, ReserveError> {
+    let (start, end) = (Bound::Included(first), Bound::Excluded(last));
+    let mut sum = sum;
+    if value.check_range(start, end).is_some() {
+        for character in value.drain(start, end)? {
+            sum = sum.wrapping_add(u64::from(character));
+        }
+    }
+    Ok(sum)
+}
+
+/// Keeps two letters of three, in a text of 1024.
+pub fn retain_long(alloc: Global, n: u64) -> Result<u64, ReserveError> {
     let word = word(alloc, &mut Generator::new(), LETTERS)?;
     let mut value = CompactString::new(alloc, word.as_str())?;
     let mut sum = 0;
@@ -28,20 +78,15 @@ pub fn retain(alloc: Global, n: u64) -> Result<u64, ReserveError> {
     Ok(sum)
 }
 
-/// Takes the middle fifth out, and looks at each of its letters.
-pub fn drain(alloc: Global, n: u64) -> Result<u64, ReserveError> {
+/// Takes the middle fifth out of a text of 1024 letters, and looks at each of its letters.
+pub fn drain_long(alloc: Global, n: u64) -> Result<u64, ReserveError> {
     let word = word(alloc, &mut Generator::new(), LETTERS)?;
     let mut value = CompactString::new(alloc, word.as_str())?;
-    let (start, end) = (Bound::Included(410), Bound::Excluded(615));
     let mut sum: u64 = 0;
     for _ in 0..n {
         value.clear();
         value.push_str(word.as_str())?;
-        if value.check_range(start, end).is_some() {
-            for character in value.drain(start, end)? {
-                sum = sum.wrapping_add(u64::from(character));
-            }
-        }
+        sum = drained(&mut value, 410, 615, sum)?;
         sum = mix(sum, probe(&value));
     }
     Ok(sum)

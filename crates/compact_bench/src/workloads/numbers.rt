@@ -1,14 +1,25 @@
 //! Values made of numbers and of formats.
 
-use crate::inputs::{NAMES, NUMBERS, names, numbers};
+use crate::inputs::{NAMES, NUMBERS, names, numbers, shifted_numbers};
 use crate::ring::Ring;
 use compact_ext::{ToCompactString, ToCompactStringError, format_compact};
 use compact_str::ReserveError;
 use std::alloc::Global;
 
-/// Makes the text of each number in turn.
-pub fn texts(alloc: Global, n: u64) -> Result<u64, ToCompactStringError> {
+/// Makes the texts of numbers of 1 to 64 bits.
+pub fn shifted(alloc: Global, n: u64) -> Result<u64, ToCompactStringError> {
+    let numbers = shifted_numbers(alloc).map_err(|_| ReserveError)?;
+    texts(alloc, n, &numbers)
+}
+
+/// Makes the texts of numbers of 1 to 20 digits.
+pub fn digits(alloc: Global, n: u64) -> Result<u64, ToCompactStringError> {
     let numbers = numbers(alloc).map_err(|_| ReserveError)?;
+    texts(alloc, n, &numbers)
+}
+
+/// Makes the text of each number in turn.
+fn texts(alloc: Global, n: u64, numbers: &[u64]) -> Result<u64, ToCompactStringError> {
     let mut ring = Ring::new(alloc).map_err(|_| ReserveError)?;
     for i in 0..n as usize {
         if let Some(number) = numbers.get(i % NUMBERS) {

@@ -1,0 +1,72 @@
+//! Words that get numbers, alone and as tokens of a text.
+
+use crate::checksum::mix;
+use crate::generator::Generator;
+use crate::inputs::{INTERNED_WORDS, distinct_words, interned_words, prose};
+use compact_edit::{InternError, Interner};
+use compact_str::{CompactString, ReserveError};
+use compact_uses::{Kind, tokenize};
+use std::alloc::Global;
+
+/// Interns words of 1 to 30 letters.
+pub fn words(alloc: Global, n: u64) -> Result<u64, InternError> {
+    let mut generator = Generator::new();
+    let words = interned_words(alloc, &mut generator).map_err(|_| ReserveError)?;
+    interned(alloc, n, generator, &words)
+}
+
+/// Interns words of 1 to 12 letters.
+pub fn short_words(alloc: Global, n: u64) -> Result<u64, InternError> {
+    let mut generator = Generator::new();
+    let words = distinct_words(alloc, &mut generator)?;
+    interned(alloc, n, generator, &words)
+}
+
+/// Interns words that are drawn.
+fn interned(
+    alloc: Global,
+    n: u64,
+    mut generator: Generator,
+    words: &[String],
+) -> Result<u64, InternError> {
+    let mut names = Interner::new(alloc);
+    let mut sum = 0;
+    for _ in 0..n {
+        if let Some(word) = words.get(generator.below(INTERNED_WORDS) as usize) {
+            let number = names.intern(word.as_str())?;
+            sum = mix(sum, u64::from(number));
+        }
+    }
+    Ok(sum)
+}
+
+/// Cuts a text into tokens, each of which is interned.
+pub fn tokens(alloc: Global, n: u64) -> Result<u64, InternError> {
+    let text = prose(alloc).map_err(|_| ReserveError)?;
+    let text = CompactString::new(alloc, text.as_str())?;
+    let mut sum = 0;
+    for _ in 0..n {
+        let mut names = Interner::new(alloc);
+        let tokens = tokenize(alloc, &mut names, &text)?;
+        for token in &tokens {
+            sum = mix(
+                sum,
+                u64::from(token.name)
+                    .wrapping_mul(4)
+                    .wrapping_add(place_of(token.kind)),
+            );
+        }
+        sum = mix(sum, names.len() as u64);
+    }
+    Ok(sum)
+}
+
+/// The place of a kind among the kinds.
+fn place_of(kind: Kind) -> u64 {
+    match kind {
+        Kind::Word => 0,
+        Kind::Number => 1,
+        Kind::Space => 2,
+        Kind::Mark => 3,
+    }
+}

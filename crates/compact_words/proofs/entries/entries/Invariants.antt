@@ -1,0 +1,7 @@
+use Rattle.std.proofs.Common.{◌≡◌}
+use Rattle.compact_words.specs.Entries.{entries_before}
+use Rattle.compact_words.proofs.entries.entries.Given as goal
+
+-- the entries so far
+abbrev pub invariant-loop-name : goal.invariant-loop-name
+invariant-loop-name l = l.entries.items ≡ entries_before l.tokens l.name

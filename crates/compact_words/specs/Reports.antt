@@ -1,0 +1,31 @@
+-- The report of the most frequent words of a text.
+use Rattle.std.specs.Prelude.{◌≡◌, ℕ, List, [], ◌∷◌, decimal, flat_map, length, map, slice_get, take}
+use Rattle.std.specs.Global.{Vec}
+use Rattle.std.specs.List.{All}
+use Rattle.std.specs.Option.{unwrap_or}
+use Rattle.compact_str.specs.Value.{PlacedText}
+use Rattle.compact_str.specs.Order.{text_in}
+use Rattle.compact_edit.specs.Names.{firsts}
+use Rattle.compact_uses.specs.Tokens.{token_text, IsToken}
+use Rattle.compact_uses.specs.Columns.{row_text, widths_of}
+use Rattle.compact_uses.specs.declared.tokenizer.Token.{Token}
+use Rattle.compact_words.specs.declared.entries.Entry.{Entry}
+use Rattle.compact_words.specs.Entries.{entries_before, IsRanking}
+
+-- the fields of a word: its text, and its count in decimal
+abbrev pub fields_of : List (List ℕ) → Entry → List (List ℕ)
+fields_of names entry = unwrap_or (slice_get names entry.name) [] ∷ decimal entry.count ∷ []
+
+-- The text is cut into tokens with distinct names; its words are ranked by their counts among the tokens; the first so many
+-- are the records of a table, and the lines are its rows.
+pub record IsReport (text : List ℕ) (most : ℕ) (lines : List (List ℕ)) : Type 0 where
+  pub names : List (List ℕ)
+  pub distinct : firsts names ≡ names
+  pub tokens : List Token
+  pub joined : flat_map (token_text names) tokens ≡ text
+  pub alike : All (IsToken names) tokens
+  pub ranks : List Entry
+  pub ranked : IsRanking (entries_before tokens (length names)) ranks
+  pub table : List (Vec PlacedText)
+  pub fields : map (λ fields. map text_in fields.items) table ≡ map (fields_of names) (take most ranks)
+  pub rows : lines ≡ map (λ fields. row_text (widths_of table) fields.items) table

@@ -1,0 +1,58 @@
+//! How often each word of a text stands there, and which are the most frequent.
+ghost use Rattle.std.specs.Prelude.{◌≡◌, ◌<◌, ℕ, length, slice_index, IfOk};
+ghost use Rattle.compact_words.specs.Entries.{word_count, entries_before, IsRanking};
+
+use compact_uses::{Kind, Token};
+use std::alloc::{AllocError, Global};
+use std::cmp::Reverse;
+
+/// A word that stands in a text: how often, and its number among the names.
+#[derive(Clone, Copy, Debug, PartialEq, Eq)]
+pub struct Entry {
+    pub count: usize,
+    pub name: u32,
+}
+
+/// The words among some tokens, the most frequent first, and of those that are as frequent the one with the lower number.
+///
+/// An error says that no memory was found.
+pub fn ranking(alloc: Global, tokens: &[Token], names: u32) -> Result<Vec<Entry>, AllocError>
+    ensures { IfOk result (λ ranks. IsRanking (entries_before tokens.now names) ranks.items) }
+{
+    let mut ranks = entries(alloc, tokens, names)?;
+    ranks.sort_by_key(|entry| Reverse(entry.count))?;
+    Ok(ranks)
+}
+
+/// The words among some tokens, in the order of their numbers.
+fn entries(alloc: Global, tokens: &[Token], names: u32) -> Result<Vec<Entry>, AllocError>
+    ensures { IfOk result (λ entries. entries.items ≡ entries_before tokens.now names) }
+{
+    let counts = word_counts(alloc, tokens, names)?;
+    let mut entries = Vec::new(alloc);
+    for name in 0..names {
+        let count = counts[name as usize];
+        if count > 0 {
+            entries.push(Entry { count, name })?;
+        }
+    }
+    Ok(entries)
+}
+
+/// How many tokens are the word with each number.
+fn word_counts(alloc: Global, tokens: &[Token], names: u32) -> Result<Vec<usize>, AllocError>
+    ensures len { IfOk result (λ counts. length counts.items ≡ names) }
+    ensures counts { IfOk result (λ counts. (n : ℕ) → n < names → slice_index counts.items n ≡ word_count tokens.now n) }
+{
+    let mut counts = Vec::from_elem(alloc, 0usize, names as usize)?;
+    for token in tokens {
+        if token.kind != Kind::Word {
+            continue;
+        }
+        if token.name >= names {
+            continue;
+        }
+        counts[token.name as usize] += 1;
+    }
+    Ok(counts)
+}

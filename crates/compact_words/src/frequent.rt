@@ -1,0 +1,67 @@
+//! The report of the most frequent words.
+ghost use Rattle.std.specs.Prelude.{◌≡◌, map, take, IfOk};
+ghost use Rattle.compact_str.specs.Order.{text_in};
+ghost use Rattle.compact_words.specs.Reports.{fields_of, IsReport};
+
+use crate::entries::{Entry, ranking};
+use compact_edit::{InternError, Interner};
+use compact_ext::ToCompactString;
+use compact_str::{CompactString, ReserveError};
+use compact_uses::{aligned_rows, tokenize};
+use std::alloc::Global;
+
+/// A line for each of the `most` most frequent words of a text, `| word | count |`, in columns of one width.
+///
+/// Of words that are as frequent the one that stands first in the text comes first. An error says that no memory was
+/// found, or that the text has more distinct tokens than there are numbers.
+pub fn frequent_words(
+    alloc: Global,
+    text: &CompactString,
+    most: usize,
+) -> Result<Vec<CompactString>, InternError>
+    ensures { IfOk result (λ lines. IsReport text.now.text most (map text_in lines.items)) }
+{
+    let mut names = Interner::new(alloc);
+    let tokens = tokenize(alloc, &mut names, text)?;
+    let Ok(ranks) = ranking(alloc, &tokens, names.len() as u32) else {
+        return Err(InternError::Reserve(ReserveError));
+    };
+    let table = table_of(alloc, &names, &ranks, most)?;
+    let lines = aligned_rows(alloc, &table)?;
+    Ok(lines)
+}
+
+/// The records of the first `most` entries.
+fn table_of(
+    alloc: Global,
+    names: &Interner,
+    ranks: &[Entry],
+    most: usize,
+) -> Result<Vec<Vec<CompactString>>, ReserveError>
+    ensures { IfOk result (λ table. map (λ fields. map text_in fields.items) table.items ≡ map (fields_of names.now) (take most ranks.now)) }
+{
+    let shown = &ranks[..usize::min(most, ranks.len())];
+    let mut table = Vec::new(alloc);
+    for entry in shown {
+        let fields = record(alloc, names, *entry)?;
+        if table.push(fields).is_err() {
+            return Err(ReserveError);
+        }
+    }
+    Ok(table)
+}
+
+/// The record of an entry: the word and its count.
+fn record(alloc: Global, names: &Interner, entry: Entry) -> Result<Vec<CompactString>, ReserveError>
+    ensures { IfOk result (λ fields. map text_in fields.items ≡ fields_of names.now entry) }
+{
+    let word = CompactString::new(alloc, names.name(entry.name).unwrap_or(""))?;
+    let Ok(count) = entry.count.to_compact_string(alloc) else {
+        return Err(ReserveError);
+    };
+    let mut fields = Vec::new(alloc);
+    if fields.push(word).is_err() || fields.push(count).is_err() {
+        return Err(ReserveError);
+    }
+    Ok(fields)
+}
