@@ -47,7 +47,11 @@ pub fn assert_extended(rt: &impl Abort, alloc: Global, too_much: bool) {
     assert!(rt; ended.is_ok());
     assert!(rt; value.extend_texts(with_hint(&texts, too_much)).is_ok());
     assert_inline(rt, &value, "ä€aaaaaaaaaa");
-    assert!(rt; value.extend(with_hint(&characters, too_much).copied()).is_ok());
+    assert!(rt;
+        value
+            .extend(with_hint(&characters, too_much).copied())
+            .is_ok()
+    );
     assert!(rt; value.extend(with_hint(&['x'], too_much)).is_ok());
     assert!(rt; value.extend(with_hint(&["yz", ""], too_much)).is_ok());
     assert_inline(rt, &value, "ä€aaaaaaaaaaä€xyz");
@@ -121,7 +125,11 @@ fn assert_room(rt: &impl Abort, alloc: Global, too_much: bool) {
     assert_seen(rt, &value, "heap", 45, letters(31));
     let mut value = copied(rt, alloc, letters(24));
     let letter = ['a'];
-    assert!(rt; value.extend_chars(with_hint(&letter, too_much).copied()).is_ok());
+    assert!(rt;
+        value
+            .extend_chars(with_hint(&letter, too_much).copied())
+            .is_ok()
+    );
     assert_seen(rt, &value, "heap", 36, letters(25));
     assert!(rt; value.extend(with_hint(&["a", ""], too_much)).is_ok());
     assert_seen(rt, &value, "heap", 36, letters(26));

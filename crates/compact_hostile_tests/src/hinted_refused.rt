@@ -23,10 +23,7 @@ fn no_hint_asks_for_memory(rt: HostRuntime) {
 
 #[test]
 fn a_string_with_room_is_given_the_texts(rt: HostRuntime) {
-    let values = [
-        copied(&rt, rt.alloc(), "a"),
-        copied(&rt, rt.alloc(), "bc"),
-    ];
+    let values = [copied(&rt, rt.alloc(), "a"), copied(&rt, rt.alloc(), "bc")];
     let line = String::with_capacity(rt.alloc(), 32).expect(&rt, "memory");
     let hog = take_all(&rt, rt.alloc());
     let line = assert_appended(&rt, line, &values, false);
@@ -42,8 +39,14 @@ fn assert_refused(rt: &impl Abort, alloc: Global, too_much: bool) {
     assert!(rt; CompactString::from_chars(alloc, with_hint(&euros, too_much).copied()).is_err());
     assert!(rt; CompactString::from_texts(alloc, with_hint(&texts, too_much)).is_err());
     assert!(rt; with_hint(&texts, too_much).concat_compact(alloc).is_err());
-    assert!(rt; with_hint(&["a", "b"], too_much).join_compact(alloc, letters(23)).is_err());
-    let made: Result<CompactString, AllocError> = with_hint(&euros, too_much).copied().collect(alloc);
+    assert!(rt;
+        with_hint(&["a", "b"], too_much)
+            .join_compact(alloc, letters(23))
+            .is_err()
+    );
+    let made: Result<CompactString, AllocError> = with_hint(&euros, too_much)
+        .copied()
+        .collect(alloc);
     assert!(rt; made.is_err());
     let made: Result<CompactString, AllocError> = with_hint(&euros, too_much).collect(alloc);
     assert!(rt; made.is_err());
@@ -62,13 +65,21 @@ fn more_than_24_bytes_are_refused(rt: HostRuntime) {
 /// Asserts that an extension stops at the first item that is refused, with those before it in the value.
 fn assert_stops(rt: &impl Abort, alloc: Global, too_much: bool) {
     let mut value = CompactString::default(alloc);
-    assert!(rt; value.extend_texts(with_hint(&[letters(20), letters(4), "b", ""], too_much)).is_err());
+    assert!(rt;
+        value
+            .extend_texts(with_hint(&[letters(20), letters(4), "b", ""], too_much))
+            .is_err()
+    );
     assert_inline(rt, &value, letters(24));
     assert!(rt; value.extend(with_hint(&["", "b"], too_much)).is_err());
     assert!(rt; value.extend(with_hint(&['b'], too_much)).is_err());
     assert_inline(rt, &value, letters(24));
     let mut value = CompactString::default(alloc);
-    assert!(rt; value.extend_chars(with_hint(&['€'; 9], too_much).copied()).is_err());
+    assert!(rt;
+        value
+            .extend_chars(with_hint(&['€'; 9], too_much).copied())
+            .is_err()
+    );
     assert_inline(rt, &value, "€€€€€€€€");
 }
 

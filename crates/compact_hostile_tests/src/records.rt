@@ -20,12 +20,7 @@ fn read(
 }
 
 /// Asserts the report of some records, of which each has a line.
-fn assert_report(
-    rt: &impl Abort,
-    alloc: Global,
-    records: &[Vec<CompactString>],
-    lines: &[&str],
-) {
+fn assert_report(rt: &impl Abort, alloc: Global, records: &[Vec<CompactString>], lines: &[&str]) {
     let rows = aligned_rows(alloc, records).expect(rt, "memory");
     assert_eq!(rt; rows.len(), lines.len());
     for (row, line) in rows.iter().zip(lines.iter()) {

@@ -1,6 +1,6 @@
 //! The program over a reader and a writer that stop at each of their calls in turn: what had been written stands.
 
-use crate::pieces::{Narrow, Stop, writer_of, reader_of};
+use crate::pieces::{Narrow, Stop, reader_of, writer_of};
 use compact_lines::run_lines;
 use std::alloc::Global;
 use std::io::ErrorKind;

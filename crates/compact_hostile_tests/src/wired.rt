@@ -1,6 +1,6 @@
 //! Wire forms that come and go in pieces: a reader that ends at each of its bytes, and a writer that stops at each.
 
-use crate::pieces::{Stop, writer_of, reader_of};
+use crate::pieces::{Stop, reader_of, writer_of};
 use crate::values::{assert_inline, assert_seen, copied, letters};
 use compact_ext::wire::{WireError, read_wire, write_wire};
 use compact_str::CompactString;
@@ -24,7 +24,8 @@ fn end_of<T>(ended: &Result<T, WireError>) -> &'static str {
 /// The form of so many letters, 1 to 80.
 fn form_of(rt: &impl Abort, alloc: Global, count: u8) -> Vec<u8> {
     let mut form = Vec::with_capacity(alloc, 84).expect(rt, "memory");
-    form.extend_from_slice(&[count, 0, 0, 0]).expect(rt, "memory");
+    form.extend_from_slice(&[count, 0, 0, 0])
+        .expect(rt, "memory");
     let letters = letters(count as usize).as_bytes();
     form.extend_from_slice(letters).expect(rt, "memory");
     form
@@ -73,7 +74,12 @@ fn broken_bytes_come_one_by_one(rt: HostRuntime) {
     assert_broken(&rt, rt.alloc(), b"\x02\0\0\0\xC0\x80", 0);
     assert_broken(&rt, rt.alloc(), b"\x03\0\0\0\xED\xA0\x80\x41\x42", 2);
     assert_broken(&rt, rt.alloc(), b"\x02\0\0\0\xE2\x82\xAC", 1);
-    assert_broken(&rt, rt.alloc(), b"\x1A\0\0\0aaaaaaaaaaaaaaaaaaaaaaaa\xE2\x82\xAC", 1);
+    assert_broken(
+        &rt,
+        rt.alloc(),
+        b"\x1A\0\0\0aaaaaaaaaaaaaaaaaaaaaaaa\xE2\x82\xAC",
+        1,
+    );
 }
 
 /// Asserts how a text is written by a writer that takes one byte a call, and what has gone out.
@@ -91,7 +97,13 @@ fn a_long_text_stops_at_each_byte(rt: HostRuntime) {
     for call in 1..form.len() + 1 {
         let out = form.get(..call - 1).unwrap_or(&[]);
         assert_sent(&rt, &text, Stop::Fails(call, ErrorKind::Other), "io", out);
-        assert_sent(&rt, &text, Stop::Fails(call, ErrorKind::Interrupted), "io", out);
+        assert_sent(
+            &rt,
+            &text,
+            Stop::Fails(call, ErrorKind::Interrupted),
+            "io",
+            out,
+        );
         assert_sent(&rt, &text, Stop::Pauses(call), "zero", out);
     }
 }
@@ -99,10 +111,11 @@ fn a_long_text_stops_at_each_byte(rt: HostRuntime) {
 /// Asserts that a claim of the greatest length is told by how its reader ends, which has given `count` bytes of the text.
 fn assert_claimed(rt: &impl Abort, alloc: Global, count: usize) {
     let bytes = b"\xFF\xFF\xFF\xFFabc";
-    let mut reader = reader_of(bytes, 1, Stop::Fails(count + 5, ErrorKind::Other));
+    let call = count.saturating_add(5);
+    let mut reader = reader_of(bytes, 1, Stop::Fails(call, ErrorKind::Other));
     assert_eq!(rt; end_of(&read_wire(alloc, &mut reader)), "io");
     assert_eq!(rt; reader.rest.len().saturating_add(count), 3);
-    let mut reader = reader_of(bytes, 1, Stop::Pauses(count + 5));
+    let mut reader = reader_of(bytes, 1, Stop::Pauses(call));
     assert_eq!(rt; end_of(&read_wire(alloc, &mut reader)), "end");
     assert_eq!(rt; reader.rest.len().saturating_add(count), 3);
 }
