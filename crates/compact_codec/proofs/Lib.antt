@@ -1,6 +1,7 @@
 pub mod Rows
 pub mod Beginnings
 pub mod Parts
+pub mod LoneUnits
 pub mod LossyReading
 pub mod UnitsReading
 pub mod PairsReading

@@ -17,10 +17,10 @@ use Rattle.compact_codec.specs.Text.{replacement_character}
 use Rattle.compact_codec.specs.Utf16Text.{AreUnits, IsHighSurrogate, IsLowSurrogate, UnitsEncode, IsUtf16, BeginsWithLowSurrogate, BeginsWithLoneSurrogate, IsUtf16LossyText, utf16_lossy_text, IsUtf16Step, UnitsEncodeOneText, Utf16IsThePaired, Utf16LossyTextIsTheOne, Utf16LossyTextOfText}
 use Rattle.compact_codec.proofs.Rows.{high_scalar}
 
-scalar_top : (c : ℕ) → IsScalar c → c < 0x11_0000
+pub scalar_top : (c : ℕ) → IsScalar c → c < 0x11_0000
 scalar_top c is = ⊎_elim (λ low. omega arith) (λ high. high.1) (scalar_cases c is)
 
-scalar_apart : (c : ℕ) → IsScalar c → (c < 0xD800) ⊎ (0xE000 ≤ c)
+pub scalar_apart : (c : ℕ) → IsScalar c → (c < 0xD800) ⊎ (0xE000 ≤ c)
 scalar_apart c is = ⊎_elim (λ low. inl low) (λ high. inr high.0) (scalar_cases c is)
 
 -- two characters whose units begin the same units are one
@@ -174,17 +174,17 @@ begins_or_lone u units fits = ⊎_elim
         (cases_lt v 0xE000))
         (cases_lt v 0xDC00)
 
-AreUnits-first : (u : ℕ) (units : List ℕ) → AreUnits (u ∷ units) → u < 2 ^ 16
+pub AreUnits-first : (u : ℕ) (units : List ℕ) → AreUnits (u ∷ units) → u < 2 ^ 16
 AreUnits-first u units all = all 0 0 (omega arith)
 
-AreUnits-drop : (units : List ℕ) (n : ℕ) → AreUnits units → AreUnits (drop n units)
+pub AreUnits-drop : (units : List ℕ) (n : ℕ) → AreUnits units → AreUnits (drop n units)
 AreUnits-drop units n all k d within =
     rw get_or-drop (all (n + k) d (omega (arith, length-drop n units)))
 
-rest_is_drop : (units : List ℕ) (c : ℕ) (rest : List ℕ) → units ≡ encode_utf16 c ++ rest → rest ≡ drop (length (encode_utf16 c)) units
+pub rest_is_drop : (units : List ℕ) (c : ℕ) (rest : List ℕ) → units ≡ encode_utf16 c ++ rest → rest ≡ drop (length (encode_utf16 c)) units
 rest_is_drop units c rest parts = sym (ap (drop (length (encode_utf16 c))) parts ∙ drop_at (encode_utf16 c) rest _ refl)
 
-shorter_after : (fuel : ℕ) (units : List ℕ) (c : ℕ) (rest : List ℕ) → units ≡ encode_utf16 c ++ rest → length units ≤ suc fuel → length rest ≤ fuel
+pub shorter_after : (fuel : ℕ) (units : List ℕ) (c : ℕ) (rest : List ℕ) → units ≡ encode_utf16 c ++ rest → length units ≤ suc fuel → length rest ≤ fuel
 shorter_after fuel units c rest parts le = omega (arith, ap length parts, length-append (encode_utf16 c) rest, (length-encode_utf16 c).0)
 
 lossy_within : (fuel : ℕ) (units : List ℕ) → length units ≤ fuel → AreUnits units → IsUtf16LossyText units (utf16_lossy_text units)

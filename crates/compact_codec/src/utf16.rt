@@ -1,6 +1,7 @@
 //! Units of 16 bits read as UTF-16 (Unicode Standard, 3.9).
 ghost use Rattle.std.specs.Prelude.{◌≡◌, ◌↔◌, ◌<◌, ◌≤◌, ◌∷◌, ℕ, List, drop, length, unwrap_or, slice_get, IfNone, IsTrue};
 ghost use Rattle.compact_codec.specs.Text.{replacement_character};
+ghost use Rattle.std.specs.Char.Utf16.{is_high_surrogate, is_low_surrogate};
 ghost use Rattle.compact_codec.specs.Utf16Text.{IsUtf16, IsUtf16Step, utf16_lossy_text, UnitsEncodeOneText, Utf16IsThePaired, Utf16LossyTextIsTheOne, Utf16LossyTextOfText};
 
 /// What a reader takes from units in one step.
@@ -61,18 +62,33 @@ pub fn first_character(units: &[u16]) -> Utf16Step
 /// Whether some text gives the units: no surrogate is lone.
 ///
 /// `[0xD834, 0xDD1E]` is text, `[0x0061, 0xDC00]` is none.
+// The loop has no way out, so that many units are looked at in one step.
 pub fn is_utf16(units: &[u16]) -> bool
     ensures { IsTrue result ↔ IsUtf16 units.now }
 {
-    let mut at = 0;
-    while at < units.len() {
-        let step = first_character(&units[at..]);
-        if step.character.is_none() {
-            return false;
-        }
-        at += step.taken;
+    let mut after_high = false;
+    let mut lone = false;
+    for &unit in units {
+        lone |= after_high ^ is_low(unit);
+        after_high = is_high(unit);
     }
-    true
+    !lone && !after_high
+}
+
+// Whether the unit is the first of a pair.
+#[inline]
+fn is_high(unit: u16) -> bool
+    ensures { result ≡ is_high_surrogate unit }
+{
+    0xD800 <= unit && unit < 0xDC00
+}
+
+// Whether the unit is the second of a pair.
+#[inline]
+fn is_low(unit: u16) -> bool
+    ensures { result ≡ is_low_surrogate unit }
+{
+    0xDC00 <= unit && unit < 0xE000
 }
 
 /// A law: units encode one text at most.

@@ -18,7 +18,7 @@ pub struct Utf8Fault {
 // From this many bytes on, a judge of whole blocks is faster than one that goes in order.
 const LONG: usize = 64;
 
-// How many bytes that judge takes at a time: where they are no text, so many at most are judged once more.
+// How many bytes that judge takes at a time.
 const WINDOW: usize = 8192;
 
 /// The text that the bytes encode, or where they stop being one.
@@ -35,7 +35,7 @@ pub fn judge(bytes: &[u8]) -> Result<&str, Utf8Fault>
     if bytes.len() < LONG {
         return judge_in_order(bytes);
     }
-    judge_from(bytes, text_in_windows(bytes))
+    judge_onward(bytes, text_in_windows(bytes))
 }
 
 // How many bytes at the front are text, as whole windows show it.
@@ -45,7 +45,7 @@ fn text_in_windows(bytes: &[u8]) -> usize
 {
     let mut at = 0;
     while bytes.len() - at >= LONG {
-        let end = window_end(bytes, at);
+        let end = window_end(bytes, at, WINDOW);
         if !simdutf8::is_utf8(&bytes[at..end]) {
             break;
         }
@@ -54,16 +54,17 @@ fn text_in_windows(bytes: &[u8]) -> usize
     at
 }
 
-// Where the window from `at` on ends: with the bytes, or before a byte that can begin a character.
-fn window_end(bytes: &[u8], at: usize) -> usize
-    requires { at + 64 ≤ length bytes.now }
+// Where a window of at most `width` bytes from `at` on ends: with the bytes, or before a byte that can begin a character.
+fn window_end(bytes: &[u8], at: usize, width: usize) -> usize
+    requires within { at + 64 ≤ length bytes.now }
+    requires wide { (64 ≤ width) × (width ≤ 8192) }
     ensures within { result ≤ length bytes.now }
     ensures some { at < result }
 {
-    if bytes.len() - at <= WINDOW {
+    if bytes.len() - at <= width {
         return bytes.len();
     }
-    let end = back_in_character(bytes, at + WINDOW);
+    let end = back_in_character(bytes, at + width);
     back_in_character(bytes, back_in_character(bytes, end))
 }
 
@@ -73,6 +74,122 @@ fn back_in_character(bytes: &[u8], at: usize) -> usize
     ensures { (result ≤ at) × (at ≤ result + 1) }
 {
     if bytes[at] & 0xC0 == 0x80 { at - 1 } else { at }
+}
+
+// The same as `judge`, where the bytes before `at` are known to be text, and a fault is likely to come soon.
+#[inline]
+fn judge_onward(bytes: &[u8], at: usize) -> Result<&str, Utf8Fault>
+    requires within { at ≤ length bytes.now }
+    requires text { IsUtf8 (take at bytes.now) }
+    ensures exact { IsOk result ↔ IsUtf8 bytes.now }
+    ensures text { IfOk result (λ text. (text.now ≡ bytes.now) × IsUtf8 bytes.now) }
+    ensures fault { IfErr result (λ fault. IsUtf8Fault bytes.now fault.valid_up_to fault.error_len) }
+    ensures broken { OnErr result (¬ (IsUtf8 bytes.now)) }
+{
+    judge_from(bytes, text_before_fault(bytes, at))
+}
+
+// How many bytes at the front are text, where those before `from` are known to be. Where the next `LONG` look whole too,
+// windows double while they are text, so that no more is judged than some times what stands before the fault.
+fn text_before_fault(bytes: &[u8], from: usize) -> usize
+    requires within { from ≤ length bytes.now }
+    requires text { IsUtf8 (take from bytes.now) }
+    ensures within { result ≤ length bytes.now }
+    ensures text { IsUtf8 (take result bytes.now) }
+{
+    let mut at = text_by_guess(bytes, from);
+    if bytes.len() - from < LONG || at < from + LONG - 4 {
+        return at;
+    }
+    let mut width = LONG;
+    while bytes.len() - at >= LONG {
+        let end = window_end(bytes, at, width);
+        let window = &bytes[at..end];
+        if !simdutf8::is_utf8(window) {
+            break;
+        }
+        at = end;
+        width = (2 * width).min(WINDOW);
+    }
+    text_by_halves(bytes, at, width / 2)
+}
+
+// The same, where the window from `from` on is no text, and `most` is half its width: each half is judged, or left to the
+// next.
+fn text_by_halves(bytes: &[u8], from: usize, most: usize) -> usize
+    requires within { from ≤ length bytes.now }
+    requires text { IsUtf8 (take from bytes.now) }
+    requires wide { most ≤ 8192 }
+    ensures within { result ≤ length bytes.now }
+    ensures text { IsUtf8 (take result bytes.now) }
+{
+    let mut at = from;
+    let mut width = most;
+    while width >= LONG && bytes.len() - at >= LONG {
+        let end = window_end(bytes, at, width);
+        let half = &bytes[at..end];
+        if simdutf8::is_utf8(half) {
+            at = end;
+        }
+        width /= 2;
+    }
+    text_by_guess(bytes, at)
+}
+
+// The same, as far as a guess at the next `LONG` bytes is found right.
+fn text_by_guess(bytes: &[u8], from: usize) -> usize
+    requires within { from ≤ length bytes.now }
+    requires text { IsUtf8 (take from bytes.now) }
+    ensures onward { from ≤ result }
+    ensures within { result ≤ length bytes.now }
+    ensures text { IsUtf8 (take result bytes.now) }
+{
+    if bytes.len() - from < LONG {
+        return from;
+    }
+    let end = from + likely_len(&bytes[from..from + LONG]);
+    let guessed = &bytes[from..end];
+    if simdutf8::is_utf8(guessed) {
+        end
+    } else {
+        from
+    }
+}
+
+// How many of the bytes are likely to be text, up to the last character: whether each byte goes on a character is
+// compared with whether those before it want one that does. There is no way out of the loop, so that many bytes are
+// looked at in one step. It is a guess, and what it is good for is speed: a wrong one costs time alone.
+fn likely_len(bytes: &[u8]) -> usize
+    requires { length bytes.now ≡ 64 }
+    ensures { result ≤ 64 }
+{
+    let mut row = [0; 67];
+    row[3..].copy_from_slice(bytes);
+    let mut first = 64u8;
+    for i in 0..LONG {
+        let goes_on = row[i + 3] & 0xC0 == 0x80;
+        let is_due = (row[i + 2] >= 0xC0) | (row[i + 1] >= 0xE0) | (row[i] >= 0xF0);
+        let place = if goes_on == is_due { 64 } else { i as u8 };
+        first = first.min(place);
+    }
+    let end = usize::from(first);
+    if end == 0 || end < LONG && bytes[end] & 0xC0 == 0x80 {
+        return end;
+    }
+    let lead = lead_at(bytes, lead_at(bytes, end - 1));
+    lead_at(bytes, lead)
+}
+
+// One byte back, where there is one and no character can begin at this one.
+fn lead_at(bytes: &[u8], at: usize) -> usize
+    requires { at < length bytes.now }
+    ensures { result ≤ at }
+{
+    if at > 0 && bytes[at] & 0xC0 == 0x80 {
+        at - 1
+    } else {
+        at
+    }
 }
 
 // The same as `judge`, where the bytes before `at` are known to be text.
@@ -93,8 +210,7 @@ fn judge_from(bytes: &[u8], at: usize) -> Result<&str, Utf8Fault>
     }
 }
 
-// The same, from the first byte to the fault and no further: no byte is judged twice, also where a reader
-// goes on after the fault.
+// The same, from the first byte to the fault and no further.
 fn judge_in_order(bytes: &[u8]) -> Result<&str, Utf8Fault>
     ensures exact { IsOk result ↔ IsUtf8 bytes.now }
     ensures text { IfOk result (λ text. (text.now ≡ bytes.now) × IsUtf8 bytes.now) }
@@ -147,8 +263,8 @@ pub fn chunk_at(bytes: &[u8], fault: Utf8Fault) -> Chunk<'_>
 
 /// The first chunk of the bytes. No bytes are the chunk of three empty parts.
 ///
-/// It goes in order, and no byte is judged twice, also where a reader goes on after a broken part. Of bytes
-/// that are likely to be text, `judge` and `chunk_at` are the faster way.
+/// It judges some times as many bytes as stand before the fault, so that a reader can go on after each broken
+/// part. Of bytes that are likely to be text, `judge` and `chunk_at` are the faster way.
 ///
 /// `[0x61, 0xC0, 0x80]` is `a`, the broken byte C0 and the rest 80, whose chunk is no text and the broken
 /// byte 80: the lossy text is `a` and two U+FFFD.
@@ -161,7 +277,7 @@ pub fn first_chunk(bytes: &[u8]) -> Chunk<'_>
     ensures whole { length result.broken.now ≡ 0 → length result.rest.now ≡ 0 }
     ensures shorter { 0 < length bytes.now → length result.rest.now < length bytes.now }
 {
-    match judge_in_order(bytes) {
+    match judge_onward(bytes, 0) {
         Ok(text) => Chunk {
             text,
             broken: &[],

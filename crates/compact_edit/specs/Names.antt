@@ -1,5 +1,5 @@
 -- Names by first occurrence, and their numbers.
-use Rattle.std.specs.Prelude.{◌≡◌, ◌<◌, ℕ, List, [], ◌∷◌, ◌++◌, Bool, false, not, filter, length, map, nat_eq, slice_get, Some, IsTrue}
+use Rattle.std.specs.Prelude.{◌≡◌, ◌<◌, ◌≤◌, ℕ, List, [], ◌∷◌, ◌++◌, Bool, false, not, filter, length, map, nat_eq, slice_get, Some}
 use Rattle.std.specs.Borrow.{Bor}
 use Rattle.std.specs.List.{list_any, AllZip}
 use Rattle.std.specs.Cmp.Lexicographic.{pointwise}
@@ -31,10 +31,10 @@ pub record Takes (before texts : List (List ℕ)) (listed : List ℕ) (after : L
   pub behind : now_listed ≡ listed ++ numbers
   pub places : AreNumbersOf after texts numbers
 
--- Why a text has no number: for want of memory, which never comes of a name of at most 24 bytes, or no number is left and
--- it is no name.
+-- Why a text has no number: for want of memory, which of a text of at most 24 bytes comes only where it is no name and a
+-- number is left, or no number is left and it is no name.
 abbrev pub IsRefusal : List (List ℕ) → List ℕ → InternError → Type 0
-IsRefusal names t (Reserve error) = IsTrue (is_among names t) → 24 < size t
+IsRefusal names t (Reserve error) = size t ≤ 24 → (is_among names t ≡ false) × (length names < 4294967295)
 IsRefusal names t Full = (length names ≡ 4294967295) × (is_among names t ≡ false)
 
 -- The texts up to one that is refused are taken.

@@ -86,8 +86,9 @@ impl Interner {
     /// The number of `text`: its own if it is a name, else the next one, and `text` is the last name then.
     ///
     /// `Reserve` says that no memory was found for the copy of the text, or for the table of the names; of a text of at
-    /// most 24 bytes that is a name it never comes. `Full` comes of a new text where 2^32 - 1 names stand. After an error
-    /// the names are as they were. On a new interner `intern("a")` is 0, `intern("b")` is 1, and `intern("a")` is 0 again.
+    /// most 24 bytes it comes only where that is no name and a number is left. `Full` comes of a new text where 2^32 - 1
+    /// names stand. After an error the names are as they were. On a new interner `intern("a")` is 0, `intern("b")` is 1,
+    /// and `intern("a")` is 0 again.
     #[tactic(auto, using(crate::proofs::NameFacts::name_facts))]
     pub fn intern(&mut self, text: &str) -> Result<u32, InternError>
         ensures names { OnOk result (self.new ≡ firsts (self.old ++ text_of text.now ∷ [])) }

@@ -24,3 +24,6 @@ inserted-in_place g v w p n s k o fits e = grind (arith, common_steps)
 pub replaced-in_place : (g : Growth) (v w : PlacedText) (i j n : ℕ) (s : List ℕ) → n ≡ size s → is_static v.placement.place ≡ false → size v.text + n ≤ v.placement.capacity + (j - i)
     → w ≡ placed (replaced_text v.text i j s) v.placement → replaced g v i j s ≡ Some w
 replaced-in_place g v w i j n s k o fits e = grind (arith, common_steps)
+
+-- of an append
+pub ruleset append_facts = (empty_text, pushed-in_place)

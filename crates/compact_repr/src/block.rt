@@ -6,12 +6,12 @@ use crate::rows;
 use std::marker::Model;
 
 /// The most bytes of a block.
-const BLOCK_CAPACITY: usize = 256;
+const BLOCK_CAPACITY: usize = 1024;
 
-/// A text of at most 256 bytes, which takes no memory: many short pieces are gathered in it, and then appended at once.
+/// A text of at most 1024 bytes, which takes no memory: many short pieces are gathered in it, and then appended at once.
 #[derive(Drop)]
 pub struct Block {
-    bytes: [u8; 256],
+    bytes: [u8; 1024],
     len: usize,
 }
 
@@ -24,7 +24,7 @@ impl Model for Block {
 
     ghost view = { λ b. text_of (take b.len b.bytes) };
 
-    ghost invariant = { λ b. (b.len ≤ 256) × IsUtf8 (take b.len b.bytes) };
+    ghost invariant = { λ b. (b.len ≤ 1024) × IsUtf8 (take b.len b.bytes) };
 }
 
 impl Block {
@@ -51,7 +51,7 @@ impl Block {
     /// Appends `text` where it fits. Answers whether it fitted; if not, nothing has changed.
     #[inline]
     pub fn push_str(&mut self, text: &str) -> bool
-        ensures fits { IsTrue result ↔ (size self.old + length text.now ≤ 256) }
+        ensures fits { IsTrue result ↔ (size self.old + length text.now ≤ 1024) }
         ensures pushed { IsTrue result → self.new ≡ self.old ++ text_of text.now }
         ensures full { result ≡ false → self.new ≡ self.old }
     {
@@ -68,7 +68,7 @@ impl Block {
     #[inline]
     pub fn push_ascii(&mut self, byte: u8) -> bool
         requires ascii { byte < 128 }
-        ensures fits { IsTrue result ↔ (size self.old + 1 ≤ 256) }
+        ensures fits { IsTrue result ↔ (size self.old + 1 ≤ 1024) }
         ensures pushed { IsTrue result → self.new ≡ self.old ++ byte ∷ [] }
         ensures full { result ≡ false → self.new ≡ self.old }
     {

@@ -142,6 +142,23 @@ impl HeapBuffer {
         true
     }
 
+    /// Appends `text`, of at most 32 bytes, where the vector has bytes for it. Answers whether it has; if not, nothing has
+    /// changed.
+    #[inline(always)]
+    pub fn push_at_once(&mut self, text: &str) -> bool
+        requires { length text.now ≤ 32 }
+        ensures fits { IsTrue result → size self.old.text + length text.now ≤ self.old.capacity }
+        ensures pushed { IsTrue result → self.new ≡ record { text = self.old.text ++ text_of text.now; capacity = self.old.capacity } }
+        ensures full { result ≡ false → self.new ≡ self.old }
+    {
+        let reached = self.len + text.len();
+        if !write_on(&mut self.bytes, self.len, text.as_bytes()) {
+            return false;
+        }
+        self.len = reached;
+        true
+    }
+
     /// Replaces what stands from one boundary to another by `text` where the outcome fits, and takes no memory. Answers
     /// whether it fitted; if not, nothing has changed. Positions are in bytes.
     #[inline(always)]
@@ -264,6 +281,26 @@ fn write_behind(bytes: &mut Vec<u8>, len: usize, source: &[u8]) -> bool
         return false;
     }
     rows::write(bytes.as_mut_slice(), len, source);
+    true
+}
+
+/// Writes `source`, of at most 32 bytes, behind the first `len` bytes where the vector has as many. Answers whether it has;
+/// if not, nothing has changed.
+#[inline(always)]
+fn write_on(bytes: &mut Vec<u8>, len: usize, source: &[u8]) -> bool
+    requires short { length source.now ≤ 32 }
+    requires stands { len ≤ vec_len bytes.old }
+    ensures fits { IsTrue result → len + length source.now ≤ vec_capacity bytes.old }
+    ensures written { IsTrue result → take (len + length source.now) bytes.new.items ≡ take len bytes.old.items ++ source.now }
+    ensures full { result ≡ false → bytes.new ≡ bytes.old }
+    ensures same { vec_len bytes.new ≡ vec_len bytes.old }
+    ensures long { IsTrue result → len + length source.now ≤ vec_len bytes.new }
+    ensures capacity { vec_capacity bytes.new ≡ vec_capacity bytes.old }
+{
+    if len + source.len() > bytes.len() {
+        return false;
+    }
+    rows::write_at_once(bytes.as_mut_slice(), len, source);
     true
 }
 

@@ -113,7 +113,7 @@ impl InlineBuffer {
             return false;
         }
         let end = self.len + text.len();
-        rows::write(&mut self.bytes, self.len, text.as_bytes());
+        rows::write_at_once(&mut self.bytes, self.len, text.as_bytes());
         self.len = end;
         true
     }

@@ -57,10 +57,27 @@ pub fn write(row: &mut [u8], at: usize, source: &[u8])
     ensures written { row.new ≡ paste row.old at source.now (length source.now) }
     ensures behind { take (at + length source.now) row.new ≡ take at row.old ++ source.now }
 {
-    let count = source.len();
-    if count > 32 {
+    if source.len() > MOST_AT_ONCE {
         write_long(row, at, source);
-    } else if count >= 16 {
+    } else {
+        write_at_once(row, at, source);
+    }
+}
+
+/// The most bytes that `write_at_once` takes.
+pub const MOST_AT_ONCE: usize = 32;
+
+/// Writes `source`, of at most 32 bytes, at a place of `row`: its first and its last 16, 8, 4, 2 or 1, and no loop.
+#[inline(always)]
+#[tactic(auto, using(crate::proofs::ReplacedRows::appended))]
+pub fn write_at_once(row: &mut [u8], at: usize, source: &[u8])
+    requires short { length source.now ≤ 32 }
+    requires target { at + length source.now ≤ length row.old }
+    ensures written { row.new ≡ paste row.old at source.now (length source.now) }
+    ensures behind { take (at + length source.now) row.new ≡ take at row.old ++ source.now }
+{
+    let count = source.len();
+    if count > 16 {
         write_ends::<16>(row, at, source);
     } else if count >= 8 {
         write_ends::<8>(row, at, source);

@@ -1,3 +1,4 @@
 pub mod TokenLemmas
 pub mod RowLemmas
 pub mod LineLemmas
+pub mod RecordLemmas

@@ -1,14 +1,13 @@
 -- How a line is read character by character, and that a written line reads back.
-use Rattle.std.proofs.Common.{◌≡◌, ◌≢◌, ℕ, ◌+◌, ◌<◌, ◌≤◌, List, [], ◌∷◌, ◌++◌, Bool, true, false, Result, Ok, Err, nat_eq, if◌then◌else◌, flat_map, get_or, length, drop, map, refl, ap, sym, ◌∙◌, arith, append_assoc, append-nil}
-use Rattle.std.proofs.lemmas.Bool.{eqb-true, eqb-false, eq-eqb}
+use Rattle.std.proofs.Common.{◌≡◌, ◌≢◌, ℕ, ◌+◌, ◌<◌, ◌≤◌, List, [], ◌∷◌, ◌++◌, Bool, true, false, Ok, nat_eq, if◌then◌else◌, flat_map, get_or, length, drop, map, refl, ap, sym, ◌∙◌, arith, append_assoc, append-nil}
+use Rattle.std.proofs.lemmas.Bool.{eqb-true, eq-eqb}
 use Rattle.std.proofs.lemmas.List.{drop_more, at_drop_all, map-append, length-map, nil_from_length}
 use Rattle.compact_str.specs.Text.{text_of}
 use Rattle.compact_str.specs.Value.{PlacedText}
 use Rattle.compact_str.specs.Order.{text_in}
-use Rattle.compact_uses.specs.declared.records.read.Fault.{Fault}
 use Rattle.compact_uses.specs.declared.records.read.Place.{Place}
 use Rattle.compact_uses.specs.declared.records.read.Place.TheVariants.{Start, Plain, Quoted, Behind}
-use Rattle.compact_uses.specs.Lines.{quote, at_end, read, fields_of, escaped, quoted, line_of, ReadsBack}
+use Rattle.compact_uses.specs.Lines.{quote, at_end, read, escaped, quoted, ReadsBack}
 
 pub next-character : (line bytes : List ℕ) (n c : ℕ) → text_of bytes ≡ line → (n < length (text_of bytes)) × (c ≡ get_or (text_of bytes) n c) → drop n line ≡ c ∷ drop (n + 1) line
 next-character line bytes n c is turn =

@@ -1,3 +1,4 @@
 pub mod Tokens
 pub mod Columns
 pub mod Lines
+pub mod Records

@@ -1,5 +1,8 @@
 //! Records: lines of fields, parted by a character, with quotes.
-ghost use Rattle.std.specs.Prelude.{◌≡◌, OnErr};
+ghost use Rattle.std.specs.Prelude.{◌≡◌, ◌∷◌, ◌++◌, [], IfErr, IfSome, OnErr, OnOk};
+ghost use Rattle.std.specs.Global.{Vec};
+ghost use Rattle.compact_str.specs.Value.{PlacedText};
+ghost use Rattle.compact_uses.specs.Records.{IsRecordOf, IsCauseAt, Reads, ReadsAll, ReadsUpTo};
 
 mod read;
 mod write;
@@ -33,24 +36,27 @@ pub struct RecordsError {
 /// Reads the records of all lines, each as `fields_of` does. A line ends with the byte 0A, which the last may lack.
 ///
 /// The records go behind those that stand in the list. An error says at which line it came, and why; the records of the
-/// lines before it are in the list.
+/// lines before it are in the list. The contract says so of a reader whose bytes are known, but for the line's number.
 pub fn read_records<R: Read>(
     alloc: Global,
     separator: char,
     reader: &mut R,
     records: &mut Vec<Vec<CompactString>>,
-) -> Result<(), RecordsError> {
+) -> Result<(), RecordsError>
+    ensures ok { OnOk result (IfSome (R.remaining reader.old) (λ bytes. ReadsAll separator bytes records.old.items records.new.items)) }
+    ensures err { IfErr result (λ error. IfSome (R.remaining reader.old) (λ bytes. ReadsUpTo separator bytes records.old.items records.new.items error.cause)) }
+{
     let mut line = 1;
     let Ok(reader) = BufReader::new(alloc, reader) else {
         let cause = RecordsCause::Reserve;
         return Err(RecordsError { line, cause });
     };
     for bytes in reader.split(alloc, b'\n') {
-        let taken = match bytes {
-            Ok(bytes) => take_line(alloc, separator, bytes.as_slice(), records),
-            Err(_) => Err(RecordsCause::Read),
+        let Ok(bytes) = bytes else {
+            let cause = RecordsCause::Read;
+            return Err(RecordsError { line, cause });
         };
-        if let Err(cause) = taken {
+        if let Err(cause) = take_line(alloc, separator, bytes.as_slice(), records) {
             return Err(RecordsError { line, cause });
         }
         line = usize::saturating_add(line, 1);
@@ -65,7 +71,9 @@ fn take_line(
     bytes: &[u8],
     records: &mut Vec<Vec<CompactString>>,
 ) -> Result<(), RecordsCause>
-    ensures { OnErr result (records.new.items ≡ records.old.items) }
+    ensures ok { OnOk result ((fields : Vec PlacedText) × (records.new.items ≡ records.old.items ++ fields ∷ []) × IsRecordOf separator bytes.now fields) }
+    ensures err { OnErr result (records.new.items ≡ records.old.items) }
+    ensures cause { IfErr result (IsCauseAt separator bytes.now) }
 {
     let Ok(text) = std::str::from_utf8(bytes) else {
         return Err(RecordsCause::Utf8);

@@ -1,5 +1,5 @@
 //! Records as rows of aligned columns.
-ghost use Rattle.std.specs.Prelude.{◌≡◌, ◌∷◌, ◌++◌, [], fold, length, map, IfOk, OnOk};
+ghost use Rattle.std.specs.Prelude.{◌≡◌, ◌∷◌, ◌++◌, [], fold, length, map, IfOk, OnOk, IsOk};
 ghost use Rattle.std.specs.List.{All};
 ghost use Rattle.std.specs.Str.{chars};
 ghost use Rattle.compact_str.specs.Text.{text_of};
@@ -11,13 +11,14 @@ use std::alloc::Global;
 
 /// Each record as a line, `| ab | 1 |`: the fields stand in columns as wide as their longest field, in characters.
 ///
-/// A record that has too few fields has empty cells. An error says that no memory was found.
+/// A record that has too few fields has empty cells. An error says that no memory was found; of no records it never comes.
 pub fn aligned_rows(
     alloc: Global,
     table: &[Vec<CompactString>],
 ) -> Result<Vec<CompactString>, ReserveError>
     ensures rows { IfOk result (λ lines. map text_in lines.items ≡ map (λ fields. row_text (widths_of table.now) fields.items) table.now) }
     ensures widths { IfOk result (λ lines. All (λ line. length line.text ≡ row_width (widths_of table.now)) lines.items) }
+    ensures empty { table.now ≡ [] → IsOk result }
 {
     let widths = widths_of(alloc, table)?;
     let mut lines = Vec::new(alloc);
@@ -32,7 +33,8 @@ pub fn aligned_rows(
 
 /// The width of each column, in characters.
 fn widths_of(alloc: Global, table: &[Vec<CompactString>]) -> Result<Vec<usize>, ReserveError>
-    ensures { IfOk result (λ widths. widths.items ≡ widths_of table.now) }
+    ensures widths { IfOk result (λ widths. widths.items ≡ widths_of table.now) }
+    ensures empty { table.now ≡ [] → IsOk result }
 {
     let mut widths = Vec::new(alloc);
     for column in 0..column_count(table) {

@@ -1,7 +1,7 @@
 //! A text cut into words, numbers, white space and marks, each interned.
-ghost use Rattle.std.specs.Prelude.{◌≡◌, ◌++◌, ℕ, List, flat_map, slice_get, Some, IfOk, OnOk};
+ghost use Rattle.std.specs.Prelude.{◌≡◌, ◌++◌, ℕ, List, flat_map, slice_get, Some, IfOk, IfErr, OnOk};
 ghost use Rattle.std.specs.List.{All};
-ghost use Rattle.compact_uses.specs.Tokens.{kind_of, token_text, IsToken};
+ghost use Rattle.compact_uses.specs.Tokens.{kind_of, token_text, IsToken, IsTokenRefusal};
 ghost use Rattle.std.specs.Prelude.{◌≤◌, [], false, length};
 ghost use Rattle.compact_uses.specs.Tokens.{goes_on, last_kind, AreParted};
 ghost use Rattle.compact_uses.specs.declared.tokenizer.Kind.{Kind};
@@ -62,8 +62,8 @@ fn goes_on(kind: Kind, next: Kind) -> bool
 /// Cuts a text into tokens. Their texts, joined, are the text; none is empty, and each has characters of its kind alone.
 /// Each is as long as can be: no token goes on where the one before it ends. A mark is one character.
 ///
-/// An error is that of `intern`, or says that no memory was found for the list. Names keep their numbers in any case. Of
-/// `ab, 12` the tokens are the word `ab`, the mark `,`, a space and the number `12`.
+/// An error says that no memory was found, or that no number was left for a name, of which 2^32 - 1 stand then. Names keep
+/// their numbers in any case. Of `ab, 12` the tokens are the word `ab`, the mark `,`, a space and the number `12`.
 pub fn tokenize(
     alloc: Global,
     names: &mut Interner,
@@ -73,6 +73,7 @@ pub fn tokenize(
     ensures parted { IfOk result (λ tokens. AreParted tokens.items) }
     ensures tokens { IfOk result (λ tokens. All (IsToken names.new) tokens.items) }
     ensures kept { (n : ℕ) (name : List ℕ) → slice_get names.old n ≡ Some name → slice_get names.new n ≡ Some name }
+    ensures err { IfErr result (IsTokenRefusal names.new) }
 {
     let mut tokens = Vec::new(alloc);
     let mut piece = CompactString::default(alloc);
@@ -110,6 +111,7 @@ fn put(
     ensures last { OnOk result ((next : Kind) → goes_on kind next ≡ false → goes_on (last_kind Mark tokens.new.items) next ≡ false) }
     ensures tokens { OnOk result (All (IsToken names.new) tokens.new.items) }
     ensures kept { (n : ℕ) (name : List ℕ) → slice_get names.old n ≡ Some name → slice_get names.new n ≡ Some name }
+    ensures err { IfErr result (IsTokenRefusal names.new) }
 {
     if piece.is_empty() {
         return Ok(());

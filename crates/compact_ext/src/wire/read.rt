@@ -1,5 +1,6 @@
 //! How a text is read.
-ghost use Rattle.std.specs.Prelude.{◌≡◌, ◌+◌, ◌^◌, ◌<◌, ◌≤◌, ◌++◌, length, take, drop, IfOk, IfErr, IsErrOf, MatchResult, OnOk, IsTrue, vec_len, IsUtf8};
+ghost use Rattle.std.specs.Prelude.{◌≡◌, ◌+◌, ◌^◌, ◌<◌, ◌≤◌, ◌++◌, length, take, drop, IfOk, IfErr, IsErrOf, MatchResult, OnOk, IsTrue, IfSome, IsNone, vec_len, IsUtf8};
+ghost use Rattle.std.specs.Str.{IsAscii};
 ghost use Rattle.std.specs.Int.{w32, to_le_bytes};
 ghost use Rattle.std.specs.Vec.{vec_capacity};
 ghost use Rattle.std.specs.Io.KnownBytes.{Consumes};
@@ -83,28 +84,56 @@ fn read_short<R: Read>(
     ensures err { IfErr result (λ e. TextFails (R.remaining reader.old) (R.remaining reader.new) len e) }
 {
     let mut room = [0u8; INLINE_CAPACITY];
-    let bytes = &mut room[..len];
-    if let Err(fault) = fill(bytes, reader) {
+    if let Err(fault) = fill(&mut room[..len], reader) {
         return Err(fault);
     }
-    copied(alloc, bytes)
+    copied(alloc, &room, len)
 }
 
-/// The text of at most 24 bytes, inline, which is never refused.
-fn copied(alloc: Global, bytes: &[u8]) -> Result<CompactString, WireError>
-    requires { length bytes.now ≤ 24 }
-    ensures ok { IfOk result (λ v. utf8 v.text ≡ bytes.now) }
-    ensures len { IfOk result (λ v. size v.text ≡ length bytes.now) }
+/// The text of the first bytes of the room, inline, which is never refused.
+#[inline]
+fn copied(alloc: Global, room: &[u8; 24], len: usize) -> Result<CompactString, WireError>
+    requires { len ≤ 24 }
+    ensures ok { IfOk result (λ v. utf8 v.text ≡ take len room.now) }
+    ensures len { IfOk result (λ v. size v.text ≡ len) }
     ensures placement { IfOk result (λ v. v.placement ≡ inlined) }
-    ensures err { IfErr result (λ e. (e ≡ utf8_fault) × ¬ IsUtf8 bytes.now) }
+    ensures err { IfErr result (λ e. (e ≡ utf8_fault) × ¬ IsUtf8 (take len room.now)) }
 {
-    let Ok(text) = judge(bytes) else {
+    let Some(text) = text_of(room, len) else {
         return Err(WireError::Utf8);
     };
     match CompactString::new(alloc, text) {
         Ok(value) => Ok(value),
         Err(error) => Err(WireError::Reserve(error)),
     }
+}
+
+/// The text that the first bytes of the room are, if they are one. Letters are known at once, since the whole room is looked
+/// at, however many have come.
+#[inline]
+fn text_of(room: &[u8; 24], len: usize) -> Option<&str>
+    requires { len ≤ 24 }
+    ensures some { IfSome result (λ text. text.now ≡ take len room.now) }
+    ensures len { IfSome result (λ text. length text.now ≡ len) }
+    ensures none { IsNone result → ¬ IsUtf8 (take len room.now) }
+{
+    let bytes = &room[..len];
+    if is_ascii(room) {
+        return Some(unsafe { std::str::from_utf8_unchecked(bytes) });
+    }
+    judge(bytes).ok()
+}
+
+/// Whether each byte is an ASCII character. There is no way out of the loop, so that many bytes are looked at in one step.
+#[inline]
+fn is_ascii(bytes: &[u8; 24]) -> bool
+    ensures { IsTrue result → IsAscii bytes.now }
+{
+    let mut most = 0;
+    for &byte in bytes {
+        most = most.max(byte);
+    }
+    most < 0x80
 }
 
 /// Reads a text of so many bytes, of which nothing is copied once it has come.

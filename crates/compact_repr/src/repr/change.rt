@@ -10,6 +10,7 @@ ghost use Rattle.compact_repr.specs.Change.{pushed, push_asks, cleared, truncate
 use crate::error::ReserveError;
 use crate::policy::Policy;
 use crate::repr::{Buffer, Repr};
+use crate::rows::MOST_AT_ONCE;
 use crate::static_text::StaticText;
 
 #[cfg(test)]
@@ -31,10 +32,41 @@ impl<P: Policy> Repr<P> {
         }
     }
 
+    /// Appends a short text where the bytes are the value's own and stand there already. Answers whether that was so; if
+    /// not, nothing has changed.
+    #[inline(always)]
+    pub fn push_at_once(&mut self, text: &str) -> bool
+        ensures fits { IsTrue result → IsTrue (fits_in_place self.old (length text.now)) }
+        ensures pushed { IsTrue result → self.new ≡ placed (self.old.text ++ text_of text.now) self.old.placement }
+        ensures full { result ≡ false → self.new ≡ self.old }
+    {
+        if text.len() > MOST_AT_ONCE {
+            return false;
+        }
+        match &mut self.buffer {
+            Buffer::Inline(inline) => inline.push_str(text),
+            Buffer::Heap(heap) => heap.push_at_once(text),
+            Buffer::Static(_) => false,
+        }
+    }
+
+    /// Appends `text`, of any length and with any place. It stands apart, so that a short append calls nothing.
+    #[inline(never)]
+    #[tactic(auto, using(crate::proofs::TextFacts::text_facts, crate::proofs::Changes::append_facts))]
+    pub fn push_str(&mut self, text: &str) -> Result<(), ReserveError>
+        ensures ok { OnOk result (pushed P.growth self.old (text_of text.now) ≡ Some self.new) }
+        ensures err { OnErr result ((self.new ≡ self.old) × IsTrue (push_asks self.old (text_of text.now))) }
+    {
+        if self.push_in_place(text) {
+            return Ok(());
+        }
+        self.push_with_more_room(text)
+    }
+
     /// Appends `text` to what has no room for it in place.
     #[cold]
     #[inline(never)]
-    pub fn push_with_more_room(&mut self, text: &str) -> Result<(), ReserveError>
+    fn push_with_more_room(&mut self, text: &str) -> Result<(), ReserveError>
         requires { fits_in_place self.old (length text.now) ≡ false }
         ensures ok { OnOk result (pushed P.growth self.old (text_of text.now) ≡ Some self.new) }
         ensures err { OnErr result ((self.new ≡ self.old) × IsTrue (push_asks self.old (text_of text.now))) }

@@ -8,6 +8,8 @@ ghost use Rattle.compact_str.specs.Fitted.{IsFitted, IsFittedOf};
 ghost use Rattle.compact_str.specs.Decoded.{IsUtf16Refusal, IsUtf16BytesRefusal, PairsEncode};
 
 use crate::decode::error::{FromUtf16Error, Utf16Error};
+use crate::decode::push_fitted;
+use crate::decode::row::{ROW, fill, utf8_room};
 use crate::iter::gather::Gathered;
 use crate::string::{CompactString, PolicyString};
 use compact_codec::utf16;
@@ -47,14 +49,21 @@ impl PolicyString<Standard> {
     pub fn from_utf16_lossy(alloc: Global, units: &[u16]) -> Result<CompactString, ReserveError>
         ensures { IsFittedOf (utf16_lossy_text units.now) result }
     {
-        let mut gathered = Gathered::new(alloc);
+        let mut made = CompactString::default(alloc);
+        let mut row = [0; ROW];
         let mut rest = units;
         while !rest.is_empty() {
-            let step = utf16::first_character(rest);
-            rest = &rest[step.taken..];
-            gathered.push(step.character.unwrap_or(char::REPLACEMENT_CHARACTER))?;
+            let filled = fill(&mut row, rest);
+            rest = &rest[filled.taken..];
+            let room = if made.is_heap_allocated() {
+                0
+            } else {
+                utf8_room(rest)
+            };
+            let text = unsafe { std::str::from_utf8_unchecked(&row[..filled.len]) };
+            push_fitted(&mut made, text, room)?;
         }
-        gathered.finish()
+        Ok(made)
     }
 
     /// The text that the bytes encode in UTF-16, two bytes a unit, the low byte first: inline up to 24 bytes, which is

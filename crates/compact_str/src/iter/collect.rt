@@ -34,7 +34,7 @@ impl<P: Policy> PolicyString<P> {
     /// The texts of `texts` one after another: inline up to 24 bytes, else on the heap.
     ///
     /// An error says that no memory was found; it never comes up to 24 bytes. How many items are hinted at makes no room:
-    /// a text of at most 256 bytes is made in a buffer that just fits it, or in the least one, and a longer one by growth.
+    /// a text of at most 1024 bytes is made in a buffer that just fits it, or in the least one, and a longer one by growth.
     /// `CompactString::from_texts(alloc, ["ab", "", "c"])?` is `"abc"`, and `collect` of the texts means the same.
     pub fn from_texts<T: AsText, U: IntoIterator<Item = T>>(
         alloc: Global,
@@ -53,7 +53,7 @@ impl<P: Policy> PolicyString<P> {
     /// The characters of `characters` one after another: inline up to 24 bytes, else on the heap.
     ///
     /// An error says that no memory was found; it never comes up to 24 bytes. How many items are hinted at makes no room:
-    /// a text of at most 256 bytes is made in a buffer that just fits it, or in the least one, and a longer one by growth.
+    /// a text of at most 1024 bytes is made in a buffer that just fits it, or in the least one, and a longer one by growth.
     /// `CompactString::from_chars(alloc, ['a', 'ä'])?` is `"aä"`, and `collect` of the characters means the same.
     pub fn from_chars<U: IntoIterator<Item = char>>(
         alloc: Global,

@@ -9,9 +9,10 @@ use crate::string::end::encoded;
 use compact_repr::{Block, Policy, ReserveError};
 use std::alloc::Global;
 use std::marker::Model;
+use std::mem;
 
 /// What has come so far: a value, and behind it a block of short pieces that are appended to it at once. A contract sees
-/// the text of both. So a text of at most 256 bytes asks for memory once, and for just what it takes.
+/// the text of both. So a text of at most 1024 bytes asks for memory once, and for just what it takes.
 #[derive(Drop)]
 pub struct Gathered<P: Policy> {
     value: PolicyString<P>,
@@ -82,15 +83,17 @@ impl<P: Policy> Gathered<P> {
         self.value.push_str(text)
     }
 
-    /// The value. An error comes only where it has more than 24 bytes.
+    /// The value; of what is left nothing is said. An error comes only where the value has more than 24 bytes.
+    ///
+    /// It takes a reference, for a move would copy the block.
     #[inline]
-    pub fn finish(self) -> Result<PolicyString<P>, ReserveError>
-        ensures text { IfOk result (λ v. v.text ≡ self) }
+    pub fn finish(&mut self) -> Result<PolicyString<P>, ReserveError>
+        ensures text { IfOk result (λ v. v.text ≡ self.old) }
         ensures fitted { IfOk result IsFitted }
-        ensures err { OnErr result (24 < size self) }
+        ensures err { OnErr result (24 < size self.old) }
     {
-        let Gathered { mut value, block } = self;
-        value.push_str(block.as_str())?;
-        Ok(value)
+        self.value.push_str(self.block.as_str())?;
+        let nothing = PolicyString::default(self.value.allocator());
+        Ok(mem::replace(&mut self.value, nothing))
     }
 }

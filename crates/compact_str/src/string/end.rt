@@ -27,10 +27,10 @@ impl<P: Policy> PolicyString<P> {
         ensures succeeds { HasRoomFor self.old (length text.now) → IsOk result }
         ensures err { OnErr result ((self.new ≡ self.old) × IsTrue (push_asks self.old (text_of text.now))) }
     {
-        if self.repr.push_in_place(text) {
+        if self.repr.push_at_once(text) {
             return Ok(());
         }
-        self.repr.push_with_more_room(text)
+        self.repr.push_str(text)
     }
 
     /// Appends a character, 1 to 4 bytes, as `push_str` appends its text.

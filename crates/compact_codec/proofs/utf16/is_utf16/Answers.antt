@@ -1,19 +1,23 @@
-use Rattle.std.proofs.Common.{arith}
-use Rattle.std.proofs.lemmas.Bool.{false≢true}
-use Rattle.compact_codec.proofs.UnitsReading.{passed_step, stopped_step}
+use Rattle.std.proofs.Common.{arith, ap, sym, ◌∙◌, ◌≡◌, false, true}
+use Rattle.std.specs.Prelude.{◌||◌, not}
+use mathlib.Core.Bool.{xor}
+use Rattle.compact_codec.proofs.LoneUnits.{lone_step, lone_end}
 use Rattle.compact_codec.proofs.utf16.is_utf16.Goals as goal
 
-pub returns-then-is_none : goal.returns-then-is_none
-returns-then-is_none c =
-    let units = c.args.units.now in
-    let kept = c.loop-at.invariant in
-    let stopped = stopped_step units c.loop-at.at _ _ kept.1 c.if-is_none.ensures c.first_character-step.ensures.step in
-    (λ yes. absurd (false≢true yes), λ text. absurd (stopped text))
+pub loop-unit-preserved : goal.loop-unit-preserved
+unfolding xor
+loop-unit-preserved c =
+    lone_step c.args.units.now c.loop-unit.unit-index c.loop-unit.lone c.loop-unit.after_high c.is_low.result c.is_high-after_high.result _ c.loop-unit-test.true
+    c.is_low.ensures c.is_high-after_high.ensures c.loop-unit.invariant
 
-pub loop-at-preserved : goal.loop-at-preserved
-loop-at-preserved c =
-    let kept = c.loop-at.invariant in
-    let taken = c.first_character-step.ensures.taken in (
-      omega arith,
-      passed_step c.args.units.now c.loop-at.at _ _ kept.1 c.if-is_none.ensures c.first_character-step.ensures.step,
-    )
+pub returns-then-not-lone : goal.returns-then-not-lone
+returns-then-not-lone c =
+    let none : c.loop-unit.lone ≡ false = c.if-not-lone.true in
+    lone_end c.args.units.now c.loop-unit.unit-index c.loop-unit.lone c.loop-unit.after_high _ c.loop-unit-test.false (λ i. let fits = c.type_inv.units i in omega arith) c.loop-unit.invariant
+    (ap (λ b. not (b || c.loop-unit.after_high)) (sym none))
+
+pub returns-else-not-lone : goal.returns-else-not-lone
+returns-else-not-lone c =
+    let some : c.loop-unit.lone ≡ true = c.if-not-lone.false in
+    lone_end c.args.units.now c.loop-unit.unit-index c.loop-unit.lone c.loop-unit.after_high _ c.loop-unit-test.false (λ i. let fits = c.type_inv.units i in omega arith) c.loop-unit.invariant
+    (ap not some ∙ ap (λ b. not (b || c.loop-unit.after_high)) (sym some))

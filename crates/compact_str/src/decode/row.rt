@@ -1,0 +1,143 @@
+//! A row of bytes into which units are written as UTF-8, ahead of the value that takes them.
+ghost use Rattle.std.specs.Prelude.{if◌then◌else◌, ◌≡◌, ◌+◌, ◌*◌, ◌<◌, ◌≤◌, ◌++◌, length, take, drop};
+ghost use Rattle.std.specs.Char.{encode_utf8};
+ghost use Rattle.std.specs.Int.{is_in_range};
+ghost use Rattle.std.specs.Str.{IsUtf8};
+ghost use Rattle.compact_repr.specs.Text.{text_of};
+ghost use Rattle.compact_codec.specs.Utf16Text.{utf16_lossy_text};
+
+use compact_codec::utf16;
+
+/// The most bytes of a row.
+pub const ROW: usize = 256;
+
+/// What `fill` took and wrote.
+#[derive(Clone, Copy)]
+pub struct Filled {
+    /// How many units it took.
+    pub taken: usize,
+    /// How many bytes it wrote, at the front of the row.
+    pub len: usize,
+}
+
+/// Writes the lossy text of the units into the row, character by character, until none is left or the next may not fit.
+#[inline]
+pub fn fill(row: &mut [u8; 256], units: &[u16]) -> Filled
+    ensures taken { result.taken ≤ length units.now }
+    ensures some { 0 < length units.now → 0 < result.taken }
+    ensures few { result.taken ≤ 512 }
+    ensures len { result.len ≤ 256 }
+    ensures utf8 { IsUtf8 (take result.len row.new) }
+    ensures text { text_of (take result.len row.new) ++ utf16_lossy_text (drop result.taken units.now) ≡ utf16_lossy_text units.now }
+{
+    let mut taken = 0;
+    let mut len = 0;
+    while taken < units.len() && len <= ROW - 4 {
+        let unit = units[taken];
+        if is_surrogate(unit) {
+            let step = utf16::first_character(&units[taken..]);
+            let character = step.character.unwrap_or(char::REPLACEMENT_CHARACTER);
+            len = write_character(row, len, character);
+            taken += step.taken;
+        } else {
+            len = write_unit(row, len, unit);
+            taken += 1;
+        }
+    }
+    Filled { taken, len }
+}
+
+/// Whether a unit is one of a pair.
+#[inline]
+fn is_surrogate(unit: u16) -> bool
+    ensures { result ≡ is_in_range 0xD800 0xDFFF unit }
+{
+    0xD800 <= unit && unit <= 0xDFFF
+}
+
+/// Writes the bytes of the character that a unit is by itself from `at` on, and answers where they end. How many they are
+/// cannot be foreseen, so three are written whatever they are, and no branch is on it.
+#[inline]
+fn write_unit(row: &mut [u8; 256], at: usize, unit: u16) -> usize
+    requires { at + 4 ≤ 256 }
+    ensures bytes { take result row.new ≡ take at row.old ++ encode_utf8 unit }
+    ensures end { (at < result) × (result ≤ at + 3) }
+{
+    let one = unit < 0x80;
+    let two = unit < 0x800;
+    let last = 0x80 + unit % 64;
+    let first = either(one, unit, either(two, 0xC0 + unit / 64, 0xE0 + unit / 4096));
+    let second = either(two, last, 0x80 + unit / 64 % 64);
+    row[at] = first as u8;
+    row[at + 1] = second as u8;
+    row[at + 2] = last as u8;
+    at + either(one, 1, either(two, 2, 3)) as usize
+}
+
+/// The first number where the test holds, else the second.
+#[inline]
+fn either(test: bool, yes: u16, no: u16) -> u16
+    ensures { result ≡ (if test then yes else no) }
+{
+    if test { yes } else { no }
+}
+
+/// Writes the bytes of a character from `at` on, and answers where they end.
+#[inline]
+fn write_character(row: &mut [u8; 256], at: usize, character: char) -> usize
+    requires { at + 4 ≤ 256 }
+    ensures bytes { take result row.new ≡ take at row.old ++ encode_utf8 character }
+    ensures end { (at < result) × (result ≤ at + 4) }
+{
+    let code = character as u32;
+    if code < 0x80 {
+        row[at] = code as u8;
+        return at + 1;
+    }
+    if code < 0x800 {
+        row[at] = (0xC0 + code / 64) as u8;
+        row[at + 1] = (0x80 + code % 64) as u8;
+        return at + 2;
+    }
+    if code < 0x1_0000 {
+        row[at] = (0xE0 + code / 4096) as u8;
+        row[at + 1] = (0x80 + code / 64 % 64) as u8;
+        row[at + 2] = (0x80 + code % 64) as u8;
+        return at + 3;
+    }
+    row[at] = (0xF0 + code / 262144) as u8;
+    row[at + 1] = (0x80 + code / 4096 % 64) as u8;
+    row[at + 2] = (0x80 + code / 64 % 64) as u8;
+    row[at + 3] = (0x80 + code % 64) as u8;
+    at + 4
+}
+
+/// How many bytes the text of the units takes, or a few less where they are no text.
+pub fn utf8_room(units: &[u16]) -> usize
+    ensures { result ≤ 3 * length units.now }
+{
+    let mut room = 0;
+    let mut at = 0;
+    while at < units.len() {
+        let end = units.len().min(at + 256);
+        room += usize::from(part_room(&units[at..end]));
+        at = end;
+    }
+    room
+}
+
+/// The same of few units.
+#[inline]
+fn part_room(units: &[u16]) -> u16
+    requires { length units.now ≤ 256 }
+    ensures { result ≤ 3 * length units.now }
+{
+    let mut room = 0;
+    for &unit in units {
+        let wide = u16::from(unit >= 0x80);
+        let wider = u16::from(unit >= 0x800);
+        let paired = u16::from(is_surrogate(unit));
+        room += 1 + wide + wider - paired;
+    }
+    room
+}

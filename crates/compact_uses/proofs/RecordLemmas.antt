@@ -1,0 +1,47 @@
+-- Records that are read line by line.
+use Rattle.std.proofs.Common.{◌≡◌, ℕ, ◌<◌, List, [], ◌∷◌, ◌++◌, length, Option, Some, None, IfSome, sym, refl, ap, ◌∙◌, append_assoc}
+use Rattle.std.specs.Global.{Vec}
+use Rattle.std.specs.Io.BufRead.{first_piece, drop_through, DropsThrough}
+use Rattle.compact_str.specs.Value.{PlacedText}
+use Rattle.compact_uses.specs.Records.{IsRecordOf, IsCauseAt, Reads, ReadsUpTo}
+use Rattle.compact_uses.specs.declared.records.RecordsCause.{RecordsCause}
+
+-- after the first lines comes one more
+pub reads-more : (separator : ℕ) (bytes : List ℕ) (records : List (Vec PlacedText)) (rest : List ℕ) (fields : Vec PlacedText) → Reads separator bytes records rest
+    → 0 < length rest → IsRecordOf separator (first_piece 10 rest) fields → Reads separator bytes (records ++ fields ∷ []) (drop_through 10 rest)
+reads-more separator bytes [] rest fields reads some is = rw (sym reads) (some, is, refl)
+reads-more separator bytes (r ∷ rs) rest fields reads some is =
+    (reads.0, reads.1, reads-more separator (drop_through 10 bytes) rs rest fields reads.2 some is)
+
+-- the records so far are those of the first lines of the known bytes, and what is left of these is known
+abbrev pub ReadsSoFar : ℕ → Option (List ℕ) → List (Vec PlacedText) → List (Vec PlacedText) → Option (List ℕ) → Type 0
+ReadsSoFar separator known before now left = IfSome known (λ bytes. (records : List (Vec PlacedText)) × (rest : List ℕ)
+    × (now ≡ before ++ records) × Reads separator bytes records rest × (left ≡ Some rest))
+
+pub next-line : (separator : ℕ) (known left next : Option (List ℕ)) (before now after : List (Vec PlacedText)) (piece : List ℕ) (fields : Vec PlacedText)
+    → ReadsSoFar separator known before now left → IfSome left (λ xs. (0 < length xs) × (piece ≡ first_piece 10 xs)) → DropsThrough left next 10
+    → after ≡ now ++ fields ∷ [] → IsRecordOf separator piece fields → ReadsSoFar separator known before after next
+next-line separator None left next before now after piece fields so_far first drops pushed is = tt
+next-line separator (Some bytes) left next before now after piece fields so_far first drops pushed is =
+    let first_of = rw so_far.4 at first in
+    let next_is = rw so_far.4 at drops in (
+      so_far.0 ++ fields ∷ [],
+      drop_through 10 so_far.1,
+      pushed ∙ ap (λ r. r ++ fields ∷ []) so_far.2 ∙ append_assoc before so_far.0 (fields ∷ []),
+      reads-more separator bytes so_far.0 so_far.1 fields so_far.3 first_of.0 (rw (sym first_of.1) is),
+      next_is,
+    )
+
+pub stops-at-line : (separator : ℕ) (known left : Option (List ℕ)) (before now after : List (Vec PlacedText)) (why : RecordsCause)
+    → ReadsSoFar separator known before now left → after ≡ now → ((rest : List ℕ) → left ≡ Some rest → IsCauseAt separator (first_piece 10 rest) why)
+    → IfSome known (λ bytes. ReadsUpTo separator bytes before after why)
+stops-at-line separator None left before now after why so_far same cause = tt
+stops-at-line separator (Some bytes) left before now after why so_far same cause =
+    (so_far.0, so_far.1, same ∙ so_far.2, so_far.3, cause so_far.1 so_far.4)
+
+pub cause-of : (separator : ℕ) (left : Option (List ℕ)) (piece : List ℕ) (why : RecordsCause)
+    → IfSome left (λ xs. (0 < length xs) × (piece ≡ first_piece 10 xs)) → IsCauseAt separator piece why
+    → (rest : List ℕ) → left ≡ Some rest → IsCauseAt separator (first_piece 10 rest) why
+cause-of separator left piece why first is rest known =
+    let first_of = rw known at first in
+    rw (sym first_of.1) is

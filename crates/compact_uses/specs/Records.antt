@@ -1,0 +1,39 @@
+-- The records of the lines of some bytes. A line ends with the byte 10, which the last may lack.
+use Rattle.std.specs.Prelude.{◌≡◌, ◌<◌, ℕ, List, [], ◌∷◌, ◌++◌, length, map, Ok, Err, ⊤}
+use Rattle.std.specs.Global.{Vec}
+use Rattle.std.specs.Io.BufRead.{first_piece, drop_through}
+use Rattle.std.specs.Str.{IsUtf8}
+use Rattle.compact_str.specs.Text.{text_of}
+use Rattle.compact_str.specs.Value.{PlacedText}
+use Rattle.compact_str.specs.Order.{text_in}
+use Rattle.compact_uses.specs.Lines.{fields_of}
+use Rattle.compact_uses.specs.declared.records.RecordsCause.{RecordsCause}
+use Rattle.compact_uses.specs.declared.records.RecordsCause.TheVariants as cause
+
+-- the bytes of a line are a text, with these fields
+abbrev pub IsRecordOf : ℕ → List ℕ → Vec PlacedText → Type 0
+IsRecordOf separator line fields = IsUtf8 line × (fields_of separator (text_of line) ≡ Ok (map text_in fields.items))
+
+-- why the record of a line may be missing
+abbrev pub IsCauseAt : ℕ → List ℕ → RecordsCause → Type 0
+IsCauseAt separator line cause.Read = ⊤
+IsCauseAt separator line cause.Reserve = ⊤
+IsCauseAt separator line cause.Utf8 = ¬ (IsUtf8 line)
+IsCauseAt separator line (cause.Fault fault) = IsUtf8 line × (fields_of separator (text_of line) ≡ Err fault)
+
+-- the records are those of the first lines of the bytes, and the rest of the bytes comes after these lines
+abbrev pub Reads : ℕ → List ℕ → List (Vec PlacedText) → List ℕ → Type 0
+Reads separator bytes [] rest = rest ≡ bytes
+Reads separator bytes (fields ∷ records) rest =
+    (0 < length bytes) × IsRecordOf separator (first_piece 10 bytes) fields × Reads separator (drop_through 10 bytes) records rest
+
+-- the records of all lines stand behind those that stood
+abbrev pub ReadsAll : ℕ → List ℕ → List (Vec PlacedText) → List (Vec PlacedText) → Type 0
+ReadsAll separator bytes before after =
+    (records : List (Vec PlacedText)) × (after ≡ before ++ records) × Reads separator bytes records []
+
+-- the records of the lines up to one stand behind those that stood, and this is why there are no more
+abbrev pub ReadsUpTo : ℕ → List ℕ → List (Vec PlacedText) → List (Vec PlacedText) → RecordsCause → Type 0
+ReadsUpTo separator bytes before after why =
+    (records : List (Vec PlacedText)) × (rest : List ℕ) × (after ≡ before ++ records) × Reads separator bytes records rest
+    × IsCauseAt separator (first_piece 10 rest) why

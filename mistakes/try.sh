@@ -1,0 +1,88 @@
+#!/usr/bin/env bash
+# Plants mistakes, each on a copy of the repository, and says whether the test that is named for it fails.
+#
+#   mistakes/try.sh [--quick] [NAME..]
+#
+# NAME is a file NAME.mistake beside this script; with no name all are tried. Each names a crate and a file of it, and has pairs
+# of lines `old:` and `new:`, of which each old text stands exactly once in that file. Its line `fails:` names a crate of tests
+# and the test that fails: `rt test` proves the mistaken crate, those above it and the tests, and then runs these, so that a
+# test that fails shows as well that no proof refused the mistake. A line `refused:` names in its place the function whose
+# proof refuses the mistake, which `rt check` shows.
+#
+# --quick runs the tests by `rt try`, before any proof, in a minute or three each. It leaves out what a proof refuses, and a
+# mistake with a line `needs:`, whose test takes all memory and fails there always.
+#
+# What `rt` printed stays in mistakes/out/NAME.log. The status is 0 where each mistake that was tried was found as it says.
+set -eu
+
+here=$(cd "$(dirname "$0")" && pwd)
+root=$(dirname "$here")
+quick=no
+kept=()
+if [ "${1-}" = --quick ]; then
+    quick=yes
+    kept=(--exclude=out)
+    shift
+fi
+if [ $# -eq 0 ]; then
+    set -- "$here"/*.mistake
+fi
+
+# What stands behind a word of a mistake.
+told() {
+    sed -n "s/^$2: //p" "$1"
+}
+
+# Runs the tests of a crate of the copy until a test of them has ended.
+run_tests() {
+    local tests=$1 test=$2 log=$3 run='rt test' job
+    if [ $quick = yes ]; then
+        run='rt try --test'
+    fi
+    : >"$log"
+    set -m
+    (cd "$copy/crates/$tests" && $run) >"$log" 2>&1 &
+    job=$!
+    set +m
+    while kill -0 $job 2>/dev/null && ! grep -q "^test $test \.\.\. [A-Za-z]" "$log"; do
+        sleep 1
+    done
+    kill -- -$job 2>/dev/null || true
+    wait $job 2>/dev/null || true
+}
+
+# Says how a planted mistake was found, or fails.
+judge() {
+    local name=$1 mistake=$here/$1.mistake log=$here/out/$1.log refused tests test
+    refused=$(told "$mistake" refused)
+    if [ -n "$refused" ]; then
+        (cd "$copy/crates/$(told "$mistake" crate)" && rt check) >"$log" 2>&1 || true
+        grep -q "::$refused: no proof" "$log" && echo "$name: refused by the proof of $refused"
+        return
+    fi
+    read -r tests test <<<"$(told "$mistake" fails)"
+    run_tests "$tests" "$test" "$log"
+    grep -q "^test $test \.\.\. FAILED" "$log" && echo "$name: found by $test of $tests"
+}
+
+copy=$(mktemp -d)
+trap 'rm -rf "$copy"' EXIT
+tar -C "$root" "${kept[@]}" -cf - crates crates.txt HANDLES | tar -C "$copy" -xf -
+mkdir -p "$here/out"
+status=0
+for name in "$@"; do
+    name=$(basename "$name" .mistake)
+    mistake=$here/$name.mistake
+    if [ $quick = yes ] && grep -q '^needs: \|^refused: ' "$mistake"; then
+        echo "$name: left out"
+        continue
+    fi
+    python3 "$here/plant.py" "$mistake" "$copy/crates"
+    if ! judge "$name"; then
+        echo "$name: NOT FOUND; see $here/out/$name.log"
+        status=1
+    fi
+    source=crates/$(told "$mistake" crate)/$(told "$mistake" file)
+    cp "$root/$source" "$copy/$source"
+done
+exit $status
