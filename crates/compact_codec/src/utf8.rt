@@ -5,6 +5,8 @@ ghost use Rattle.compact_codec.specs.Utf8Table.{TableIsTheEncodings};
 ghost use Rattle.compact_codec.specs.BrokenPart.{IsUtf8Fault, FaultIsTheOne};
 ghost use Rattle.compact_codec.specs.Utf8Text.{utf8_lossy_text, replacement_text, BeginsWithChunk, BytesEncodeOneText, Utf8LossyTextIsTheOne, Utf8LossyTextOfText};
 
+use std::simd::prelude::*;
+
 /// Where bytes stop being UTF-8.
 #[derive(Clone, Copy, Debug, PartialEq, Eq)]
 pub struct Utf8Fault {
@@ -157,22 +159,19 @@ fn text_by_guess(bytes: &[u8], from: usize) -> usize
 }
 
 // How many of the bytes are likely to be text, up to the last character: whether each byte goes on a character is
-// compared with whether those before it want one that does. There is no way out of the loop, so that many bytes are
-// looked at in one step. It is a guess, and what it is good for is speed: a wrong one costs time alone.
+// compared with whether those before it want one that does, for all bytes in one step. It is a guess, and what it is
+// good for is speed: a wrong one costs time alone.
 fn likely_len(bytes: &[u8]) -> usize
     requires { length bytes.now ≡ 64 }
     ensures { result ≤ 64 }
 {
-    let mut row = [0; 67];
-    row[3..].copy_from_slice(bytes);
-    let mut first = 64u8;
-    for i in 0..LONG {
-        let goes_on = row[i + 3] & 0xC0 == 0x80;
-        let is_due = (row[i + 2] >= 0xC0) | (row[i + 1] >= 0xE0) | (row[i] >= 0xF0);
-        let place = if goes_on == is_due { 64 } else { i as u8 };
-        first = first.min(place);
-    }
-    let end = usize::from(first);
+    let block = u8x64::from_slice(bytes);
+    let high = block.simd_ge(u8x64::splat(0x80)).to_bitmask();
+    let leads = block.simd_ge(u8x64::splat(0xC0)).to_bitmask();
+    let wide = block.simd_ge(u8x64::splat(0xE0)).to_bitmask();
+    let widest = block.simd_ge(u8x64::splat(0xF0)).to_bitmask();
+    let due = leads.wrapping_shl(1) | wide.wrapping_shl(2) | widest.wrapping_shl(3);
+    let end = (high ^ leads ^ due).trailing_zeros() as usize;
     if end == 0 || end < LONG && bytes[end] & 0xC0 == 0x80 {
         return end;
     }
