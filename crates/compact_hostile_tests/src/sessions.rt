@@ -90,7 +90,7 @@ fn answers_through(place: usize) -> &'static str {
     written
 }
 
-// A buffered writer is dropped with what it still holds, and drops it into the writer once more, as Rust's does.
+// A buffered writer that is dropped writes what it still holds once more, as Rust's does.
 #[test]
 fn a_writer_that_fails_once_has_the_answers_of_that_line(rt: HostRuntime) {
     for call in 1..WHOLE.len() + 1 {
