@@ -23,7 +23,8 @@ fn load8(bytes: &[u8], at: usize) -> u64
 /// Whether two rows are the same: three words are compared, with no branch between.
 #[inline(always)]
 pub fn same_row(row: &[u8; 24], other: &[u8; 24]) -> bool
-    ensures { IsTrue result → row.now ≡ other.now }
+    ensures same { IsTrue result → row.now ≡ other.now }
+    ensures found { row.now ≡ other.now → IsTrue result }
 {
     (load8(row, 0) == load8(other, 0))
         & (load8(row, 8) == load8(other, 8))

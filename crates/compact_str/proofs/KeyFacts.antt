@@ -22,3 +22,5 @@ texts-from_equal v w e = exact_bytes v.text w.text e
 -- a sorted row of values may be searched for any of them
 pub searchable-texts : (row : List PlacedText) (x : PlacedText) → IsSorted text_cmp row → IsNonDecreasingBy (λ y. ordering_index (text_cmp y x)) row
 searchable-texts row x sorted = searchable_from_sorted nat_list_cmp_total text_in row x.text sorted
+
+pub ruleset search_facts = (searchable-texts)

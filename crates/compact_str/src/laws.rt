@@ -48,6 +48,7 @@ pub fn byte_order_is_text_order()
 
 /// In a sorted row the comparisons with any value rise, as the clauses of `binary_search` ask. A caller names the row and
 /// the value before it searches, and then reads from an error where the value would stand.
+#[tactic(auto, using(crate::proofs::KeyFacts::search_facts))]
 pub fn sorted_row_is_searchable<P: Policy>(row: &[PolicyString<P>], value: &PolicyString<P>)
     requires { IsSorted text_cmp row.now }
     ensures { IsNonDecreasingBy (λ w. ordering_index (text_cmp w value.now)) row.now }

@@ -3,8 +3,8 @@ use Rattle.std.proofs.lemmas.Bool.Decides.{nat_tests}
 use Rattle.compact_repr.proofs.SameRows.{same_rows}
 use Rattle.compact_repr.proofs.words.same_row.Goals as goal
 
-pub returns : goal.returns
-returns c tests =
+pub returns-clause-same : goal.returns-clause-same
+returns-clause-same c tests =
     let first : c.load8.result ≡ c.load8-2.result = grind (arith, nat_tests, tests) in
     let second : c.load8-3.result ≡ c.load8-4.result = grind (arith, nat_tests, tests) in
     let third : c.load8-5.result ≡ c.load8-6.result = grind (arith, nat_tests, tests) in
