@@ -99,6 +99,8 @@ fn shows(rt: &impl Abort, trial: &mut Trial, start: Start) {
         &[New(32)],
         heap(32, letters(0, 30), "", ""),
     );
+    drop(value);
+    trial.take_rest();
 }
 
 #[test]
