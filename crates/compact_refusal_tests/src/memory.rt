@@ -1,0 +1,134 @@
+//! A process with no memory left but what is granted, request by request.
+
+use std::alloc::{AllocError, Global};
+use std::process::Abort;
+
+/// A request of a call, in bytes.
+#[derive(Clone, Copy)]
+pub enum Ask {
+    /// For a new buffer.
+    New(usize),
+    /// For more room in a buffer that stands, which moves.
+    More(usize),
+}
+
+/// How many bytes of a block the C library keeps beside those that were asked for, and by which step its blocks grow: a
+/// free block serves the requests of one step.
+const BESIDE: usize = 8;
+
+const STEP: usize = 16;
+
+/// The most bytes that are granted at once.
+const GREATEST: usize = 1200;
+
+/// How many blocks of a step are kept for grants.
+const STOCK: usize = 100;
+
+/// Of free blocks of a step the C library sets the first seven aside for new buffers, and a buffer that stands grows into
+/// the next one.
+const FOR_MORE: usize = 8;
+
+/// All memory that this process can get, taken, but for what is granted. It is given back when this is dropped.
+#[derive(Drop)]
+pub struct Ration {
+    alloc: Global,
+    /// For each step the blocks that a grant gives back.
+    stock: Vec<Vec<Vec<u8>>>,
+    /// What is never granted.
+    taken: Vec<Vec<u8>>,
+}
+
+impl Ration {
+    /// Takes all memory: from now on each request is refused that was not granted.
+    pub fn new(rt: &impl Abort, alloc: Global) -> Ration {
+        let mut ration = Ration {
+            alloc,
+            stock: stock(alloc).expect(rt, "memory for the stock"),
+            taken: Vec::with_capacity(alloc, 80_000).expect(rt, "memory for the list of blocks"),
+        };
+        ration.take_large();
+        ration.take_rest();
+        ration
+    }
+
+    /// Grants one request.
+    pub fn grant(&mut self, rt: &impl Abort, ask: Ask) {
+        match ask {
+            Ask::New(size) => self.give_back(rt, size),
+            Ask::More(size) => {
+                for _ in 0..FOR_MORE {
+                    self.give_back(rt, size);
+                }
+            }
+        }
+    }
+
+    fn give_back(&mut self, rt: &impl Abort, size: usize) {
+        let blocks = self
+            .stock
+            .get_mut(step_of(size))
+            .expect(rt, "a step of the stock");
+        let block = blocks.pop().expect(rt, "a block of the stock");
+        drop(block);
+    }
+
+    /// Takes what was granted and is not used.
+    pub fn take_rest(&mut self) {
+        let mut size = GREATEST;
+        for _ in 0..GREATEST / STEP {
+            self.take_blocks(size);
+            size = size.saturating_sub(STEP);
+        }
+    }
+
+    /// Takes all that is left in blocks that are larger than any grant.
+    fn take_large(&mut self) {
+        let mut size = 1usize << 46;
+        for _ in 0..46 {
+            if size <= GREATEST {
+                break;
+            }
+            self.take_blocks(size);
+            size /= 2;
+        }
+    }
+
+    /// Takes all blocks of a size, to which nothing is written.
+    fn take_blocks(&mut self, size: usize) {
+        for _ in 0..80_000 {
+            if !self.take(size) {
+                break;
+            }
+        }
+    }
+
+    /// Takes one block. Answers whether it was granted.
+    fn take(&mut self, size: usize) -> bool {
+        let block: Result<Vec<u8>, AllocError> = Vec::with_capacity(self.alloc, size);
+        match block {
+            Ok(block) => self.taken.push(block).is_ok(),
+            Err(_) => false,
+        }
+    }
+}
+
+/// The place of the blocks in the stock that serve a request.
+fn step_of(size: usize) -> usize {
+    size.saturating_add(BESIDE + STEP - 1) / STEP
+}
+
+/// Blocks of each step.
+fn stock(alloc: Global) -> Result<Vec<Vec<Vec<u8>>>, AllocError> {
+    let mut stock = Vec::new(alloc);
+    for step in 0..=step_of(GREATEST) {
+        let mut blocks = Vec::with_capacity(alloc, STOCK)?;
+        for _ in 0..STOCK {
+            blocks.push(Vec::with_capacity(
+                alloc,
+                step.saturating_mul(STEP).saturating_sub(BESIDE),
+            )?)?;
+        }
+        stock.push(blocks)?;
+    }
+    Ok(stock)
+}
