@@ -91,7 +91,7 @@ fn judge_onward(bytes: &[u8], at: usize) -> Result<&str, Utf8Fault>
     judge_from(bytes, text_before_fault(bytes, at))
 }
 
-// How many bytes at the front are text, where those before `from` are known to be. Where the next `LONG` look whole too,
+// How many bytes at the front are text, where those before `from` are known to be. Where twice the next `LONG` look whole,
 // windows double while they are text, so that no more is judged than some times what stands before the fault.
 fn text_before_fault(bytes: &[u8], from: usize) -> usize
     requires within { from ≤ length bytes.now }
@@ -99,8 +99,8 @@ fn text_before_fault(bytes: &[u8], from: usize) -> usize
     ensures within { result ≤ length bytes.now }
     ensures text { IsUtf8 (take result bytes.now) }
 {
-    let mut at = text_by_guess(bytes, from);
-    if bytes.len() - from < LONG || at < from + LONG - 4 {
+    let mut at = text_by_guess(bytes, text_by_guess(bytes, from));
+    if at - from < 2 * (LONG - 4) {
         return at;
     }
     let mut width = LONG;
@@ -151,7 +151,7 @@ fn text_by_guess(bytes: &[u8], from: usize) -> usize
     }
     let end = from + likely_len(&bytes[from..from + LONG]);
     let guessed = &bytes[from..end];
-    if simdutf8::is_utf8(guessed) {
+    if !guessed.is_empty() && simdutf8::is_utf8(guessed) {
         end
     } else {
         from
