@@ -25,9 +25,10 @@ pub character_behind : (whole left more bytes next : List ℕ) (c : ℕ) → tex
     → IsUtf8 bytes → IsScalar c → (text_of next ++ more ≡ whole) × IsUtf8 next
 character_behind whole left more bytes next c so_far begins is utf8 scalar =
     let own : text_of (encode_utf8 c) ≡ c ∷ [] = chars-encode_utf8 c scalar in
-    let spelled : text_of next ≡ text_of bytes ++ (c ∷ []) = ap text_of is ∙ chars-append bytes (encode_utf8 c) utf8 ∙ ap (λ t. text_of bytes ++ t) own in
-    (ap (λ t. t ++ more) spelled ∙ append_assoc (text_of bytes) (c ∷ []) more ∙ ap (λ t. text_of bytes ++ t) (sym begins) ∙ so_far,
-    subst IsUtf8 (sym is) (IsUtf8-append bytes (encode_utf8 c) utf8 (IsUtf8-encode c scalar)))
+    let spelled : text_of next ≡ text_of bytes ++ (c ∷ []) = ap text_of is ∙ chars-append bytes (encode_utf8 c) utf8 ∙ ap (λ t. text_of bytes ++ t) own in (
+      ap (λ t. t ++ more) spelled ∙ append_assoc (text_of bytes) (c ∷ []) more ∙ ap (λ t. text_of bytes ++ t) (sym begins) ∙ so_far,
+      subst IsUtf8 (sym is) (IsUtf8-append bytes (encode_utf8 c) utf8 (IsUtf8-encode c scalar)),
+    )
 
 -- two, three and four bytes are put in a row
 pub two_behind : (row : List ℕ) (i a b : ℕ) → i + 2 ≤ length row → take (i + 2) (set (set row i a) (i + 1) b) ≡ take i row ++ (a ∷ b ∷ [])

@@ -4,8 +4,8 @@ ghost use Rattle.compact_repr.specs.Text.{size, text_of};
 ghost use Rattle.compact_str.specs.Fitted.{IsFitted};
 
 mod buf;
-mod row;
 pub mod error;
+mod row;
 pub mod utf16;
 pub mod utf8;
 
