@@ -1,6 +1,6 @@
 //! Texts that are collected, concatenated and joined, refused at each request.
 //!
-//! Up to 256 bytes are gathered before memory is asked for.
+//! Up to 1024 bytes are gathered before memory is asked for.
 
 use crate::memory::Ask::{More, New};
 use crate::trial::{Made, Making, Trial, value_or_refused};
@@ -51,16 +51,16 @@ fn by_trait(outcome: Result<CompactString, AllocError>) -> Result<CompactString,
 #[test]
 fn characters_are_collected(rt: HostRuntime) {
     let mut trial = Trial::new(&rt, rt.alloc());
-    let asks = [New(256), More(384)];
-    let seen = fitted(row(300), "", "");
+    let asks = [New(1024), More(1536)];
+    let seen = fitted(row(1300), "", "");
     trial.make(
         &rt,
         Gathering::Chars(letters(0, 30)),
         &[New(32)],
         fitted(letters(0, 30), "", ""),
     );
-    trial.make(&rt, Gathering::Chars(row(300)), &asks, seen);
-    trial.make(&rt, Gathering::TraitChars(row(300)), &asks, seen);
+    trial.make(&rt, Gathering::Chars(row(1300)), &asks, seen);
+    trial.make(&rt, Gathering::TraitChars(row(1300)), &asks, seen);
     trial.make(
         &rt,
         Gathering::TraitCharRefs(&['7'; 40]),
@@ -72,10 +72,10 @@ fn characters_are_collected(rt: HostRuntime) {
 #[test]
 fn texts_are_collected(rt: HostRuntime) {
     let mut trial = Trial::new(&rt, rt.alloc());
-    let texts = [row(200), row(200), row(200)];
+    let texts = [row(700), row(700), row(700)];
     let short = [digits()];
-    let asks = [New(200), More(400), More(600)];
-    let seen = fitted(row(200), row(200), row(200));
+    let asks = [New(700), More(1400), More(2100)];
+    let seen = fitted(row(700), row(700), row(700));
     trial.make(
         &rt,
         Gathering::Texts(&short),
@@ -85,11 +85,11 @@ fn texts_are_collected(rt: HostRuntime) {
     trial.make(&rt, Gathering::Texts(&texts), &asks, seen);
     trial.make(&rt, Gathering::TraitTexts(&texts), &asks, seen);
     trial.make(&rt, Gathering::Concat(&texts), &asks, seen);
-    let joined = fitted(row(200), "-", row(200));
+    let joined = fitted(row(700), "-", row(700));
     trial.make(
         &rt,
         Gathering::Join(&texts[..2], "-"),
-        &[New(201), More(401)],
+        &[New(701), More(1401)],
         joined,
     );
 }

@@ -130,29 +130,35 @@ fn a_buffer_is_decoded(rt: HostRuntime) {
     );
 }
 
-// Of 300 times the unit 6161, a character of three bytes, 85 are gathered before each request.
+// Of 400 times the unit 6161, a character of three bytes, 341 are gathered before the first request where units come in
+// bytes. Of units as they are, the first request is for all.
 
 #[test]
 fn units_are_decoded(rt: HostRuntime) {
     let mut trial = Trial::new(&rt, rt.alloc());
-    let asks = [New(255), More(510), More(765), More(1147)];
-    let seen = fitted(signs(), signs(), signs());
-    trial.make(&rt, Decoding::Utf16(&[0x6161; 300]), &asks, seen);
-    trial.make(&rt, Decoding::Utf16Lossy(&[0x6161; 300]), &asks, seen);
+    let seen = fitted(signs(150), signs(150), signs(100));
+    trial.make(&rt, Decoding::Utf16(&[0x6161; 400]), &[New(1200)], seen);
+    trial.make(
+        &rt,
+        Decoding::Utf16Lossy(&[0x6161; 400]),
+        &[New(1200)],
+        seen,
+    );
 }
 
 #[test]
 fn bytes_of_units_are_decoded(rt: HostRuntime) {
     let mut trial = Trial::new(&rt, rt.alloc());
-    let asks = [New(255), More(510), More(765), More(1147)];
-    let seen = fitted(signs(), signs(), signs());
-    trial.make(&rt, Decoding::Utf16Le(&[0x61; 600]), &asks, seen);
-    trial.make(&rt, Decoding::Utf16LeLossy(&[0x61; 600]), &asks, seen);
-    trial.make(&rt, Decoding::Utf16Be(&[0x61; 600]), &asks, seen);
-    trial.make(&rt, Decoding::Utf16BeLossy(&[0x61; 600]), &asks, seen);
+    let asks = [New(1023), More(1534)];
+    let seen = fitted(signs(150), signs(150), signs(100));
+    trial.make(&rt, Decoding::Utf16Le(&[0x61; 800]), &asks, seen);
+    trial.make(&rt, Decoding::Utf16LeLossy(&[0x61; 800]), &asks, seen);
+    trial.make(&rt, Decoding::Utf16Be(&[0x61; 800]), &asks, seen);
+    trial.make(&rt, Decoding::Utf16BeLossy(&[0x61; 800]), &asks, seen);
 }
 
-/// 100 times the character U+6161.
-fn signs() -> &'static str {
-    "慡慡慡慡慡慡慡慡慡慡慡慡慡慡慡慡慡慡慡慡慡慡慡慡慡慡慡慡慡慡慡慡慡慡慡慡慡慡慡慡慡慡慡慡慡慡慡慡慡慡慡慡慡慡慡慡慡慡慡慡慡慡慡慡慡慡慡慡慡慡慡慡慡慡慡慡慡慡慡慡慡慡慡慡慡慡慡慡慡慡慡慡慡慡慡慡慡慡慡慡"
+/// So many times the character U+6161, at most 150.
+fn signs(count: usize) -> &'static str {
+    const SIGNS: &str = "慡慡慡慡慡慡慡慡慡慡慡慡慡慡慡慡慡慡慡慡慡慡慡慡慡慡慡慡慡慡慡慡慡慡慡慡慡慡慡慡慡慡慡慡慡慡慡慡慡慡慡慡慡慡慡慡慡慡慡慡慡慡慡慡慡慡慡慡慡慡慡慡慡慡慡慡慡慡慡慡慡慡慡慡慡慡慡慡慡慡慡慡慡慡慡慡慡慡慡慡慡慡慡慡慡慡慡慡慡慡慡慡慡慡慡慡慡慡慡慡慡慡慡慡慡慡慡慡慡慡慡慡慡慡慡慡慡慡慡慡慡慡慡慡慡慡慡慡慡慡";
+    SIGNS.get(..count.saturating_mul(3)).unwrap_or("")
 }

@@ -24,6 +24,8 @@ mod memory;
 #[cfg(test)]
 mod named;
 #[cfg(test)]
+mod needs_no_memory;
+#[cfg(test)]
 mod ran;
 #[cfg(test)]
 mod trial;
