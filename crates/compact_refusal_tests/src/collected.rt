@@ -72,10 +72,10 @@ fn characters_are_collected(rt: HostRuntime) {
 #[test]
 fn texts_are_collected(rt: HostRuntime) {
     let mut trial = Trial::new(&rt, rt.alloc());
-    let texts = [row(700), row(700), row(700)];
+    let texts = [row(100), row(925), row(100)];
     let short = [digits()];
-    let asks = [New(700), More(1400), More(2100)];
-    let seen = fitted(row(700), row(700), row(700));
+    let asks = [New(100), More(1025), More(1537)];
+    let seen = fitted(row(100), row(925), row(100));
     trial.make(
         &rt,
         Gathering::Texts(&short),
@@ -85,12 +85,11 @@ fn texts_are_collected(rt: HostRuntime) {
     trial.make(&rt, Gathering::Texts(&texts), &asks, seen);
     trial.make(&rt, Gathering::TraitTexts(&texts), &asks, seen);
     trial.make(&rt, Gathering::Concat(&texts), &asks, seen);
-    let joined = fitted(row(700), "-", row(700));
     trial.make(
         &rt,
-        Gathering::Join(&texts[..2], "-"),
-        &[New(701), More(1401)],
-        joined,
+        Gathering::Join(&[row(100), row(924)], "-"),
+        &[New(101), More(1025)],
+        fitted(row(100), "-", row(924)),
     );
 }
 

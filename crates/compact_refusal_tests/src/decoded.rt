@@ -131,19 +131,14 @@ fn a_buffer_is_decoded(rt: HostRuntime) {
 }
 
 // Of 400 times the unit 6161, a character of three bytes, 341 are gathered before the first request where units come in
-// bytes. Of units as they are, the first request is for all.
+// bytes. Of units as they are, the one request is for all.
 
 #[test]
 fn units_are_decoded(rt: HostRuntime) {
     let mut trial = Trial::new(&rt, rt.alloc());
-    let seen = fitted(signs(150), signs(150), signs(100));
-    trial.make(&rt, Decoding::Utf16(&[0x6161; 400]), &[New(1200)], seen);
-    trial.make(
-        &rt,
-        Decoding::Utf16Lossy(&[0x6161; 400]),
-        &[New(1200)],
-        seen,
-    );
+    let seen = fitted(signs(100), signs(100), signs(100));
+    trial.make(&rt, Decoding::Utf16(&[0x6161; 300]), &[New(900)], seen);
+    trial.make(&rt, Decoding::Utf16Lossy(&[0x6161; 300]), &[New(900)], seen);
 }
 
 #[test]

@@ -19,7 +19,7 @@ const BESIDE: usize = 8;
 const STEP: usize = 16;
 
 /// The most bytes that are granted at once.
-const GREATEST: usize = 1200;
+const GREATEST: usize = 1600;
 
 /// How many blocks of a step are kept for grants.
 const STOCK: usize = 100;

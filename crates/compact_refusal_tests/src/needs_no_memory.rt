@@ -255,7 +255,6 @@ fn short_copies_are_made(rt: HostRuntime) {
     trial.edit(&rt, ShortHeap, Edit::Repeat(1), &[], small, short);
     trial.edit(&rt, ShortHeap, Edit::Repeat(0), &[], none, short);
     trial.edit(&rt, Static, Edit::Repeat(1), &[], once, whole);
-    trial.free(&rt, Heap, Edit::CloneFrom(&lasting), fixed(20, 50));
 }
 
 #[test]
