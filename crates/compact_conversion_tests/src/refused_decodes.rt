@@ -63,10 +63,10 @@ fn a_buffer_is_read_before_it_is_judged(rt: HostRuntime) {
 }
 
 #[test]
-fn the_second_request_is_refused(rt: HostRuntime) {
+fn room_for_all_units_is_asked_for_at_once(rt: HostRuntime) {
     let alloc = rt.alloc();
     let units = [0x20AC; 30];
-    // The ninth sign goes to the heap with room for 24 + 3 + 21 bytes, and the last one needs 90.
+    // The thirty signs need 90 bytes, and 48 are there.
     let first = spare(&rt, alloc, 48);
     let hog = take_all(&rt, alloc);
     drop(first);
