@@ -1,10 +1,11 @@
 -- A row of bytes, of which the first hold a text, once a part of them is replaced.
 use Rattle.std.proofs.Common.{◌≡◌, ℕ, ◌+◌, ◌-◌, ◌<◌, ◌≤◌, List, [], ◌∷◌, ◌++◌, length, take, drop, refl, ap, sym, ◌∙◌, arith, length-append, append_assoc}
 use Rattle.std.proofs.lemmas.List.{append-nil, length-drop, length-take-le, take-append-drop, drop-take, take-append-le, take-take, take_all, take_at, drop_at}
-use Rattle.std.proofs.lemmas.List.Edits.{length-between, paste_none}
+use Rattle.std.proofs.lemmas.List.Edits.{length-between, paste_none, take-paste}
 use Rattle.std.proofs.lemmas.Slice.{between_is}
 use Rattle.std.specs.List.{between, replace_range}
 use lib.Seq.{paste}
+use Rattle.compact_repr.proofs.Shifts.{take-add}
 
 -- the tail stands behind a gap as wide as s, and s is written in the gap
 pub replaced-moved : (row s : List ℕ) (len start end : ℕ) → start ≤ end → end ≤ len → len ≤ length row → len + length s ≤ length row + (end - start)
@@ -59,6 +60,21 @@ appended row s len held =
     let length_front : length (take len row) ≡ len = length-take-le len row held in
     ap (λ x. take (len + length s) ((take len row ++ x) ++ drop (len + length s) row)) written
     ∙ take_at (take len row ++ s) (drop (len + length s) row) (len + length s) (length-append (take len row) s ∙ omega (arith, length_front))
+
+-- of 16 bytes that are written at a place the first stand there
+pub padded : (row source chunk : List ℕ) (at count : ℕ) → count ≤ 16 → at + 16 ≤ length row → chunk ≡ take 16 (drop 0 source) → length chunk ≡ 16
+    → take (at + count) (paste row at chunk 16) ≡ take at row ++ take count source
+padded row source chunk at count most room e lanes =
+    let now : List ℕ = paste row at chunk 16 in
+    let front : List ℕ = take at row in
+    let piece : List ℕ = take 16 chunk in
+    let length_front : length front ≡ at = length-take-le at row (omega arith) in
+    let both : take (at + 16) now ≡ front ++ piece = take-paste row at chunk 16 (omega arith) (omega (arith, lanes)) in
+    let wanted : take count piece ≡ take count source = take-take count 16 chunk most ∙ ap (take count) e ∙ take-take count 16 source most in
+    sym (take-take (at + count) (at + 16) now (omega arith))
+    ∙ ap (take (at + count)) both
+    ∙ take-add (front ++ piece) at count
+    ∙ rw (take_at front piece at length_front, drop_at front piece at length_front) (ap (λ x. front ++ x) wanted)
 
 -- what stands from the end of the replaced part on
 tail-is : (row : List ℕ) (len end : ℕ) → end ≤ len → take (len - end) (drop end row) ≡ drop end (take len row)

@@ -1,5 +1,5 @@
 //! A text that is gathered on the stack, ahead of the value that takes it.
-ghost use Rattle.std.specs.Prelude.{◌≡◌, ◌+◌, ◌≤◌, ◌<◌, [], ◌∷◌, ◌++◌, length, false, IsTrue, ◌↔◌};
+ghost use Rattle.std.specs.Prelude.{◌≡◌, ◌+◌, ◌≤◌, ◌<◌, [], ◌∷◌, ◌++◌, length, false, IfSome, IsSome, IsTrue, ◌↔◌};
 ghost use Rattle.compact_repr.specs.Text.{size, utf8, text_of};
 
 use crate::rows;
@@ -7,6 +7,51 @@ use std::marker::Model;
 
 /// The most bytes of a block.
 const BLOCK_CAPACITY: usize = 1024;
+
+/// The most bytes of a padded text.
+const PADDED_CAPACITY: usize = 16;
+
+/// The most bytes that `push_behind` writes: a padded text, and one that is written at once.
+const MOST_BEHIND: usize = PADDED_CAPACITY + rows::MOST_AT_ONCE;
+
+/// A text of at most 16 bytes, with zeros behind it: where 16 bytes have room it is written at once, with no look at how
+/// long it is.
+#[derive(Drop)]
+pub struct Padded {
+    bytes: [u8; 16],
+    len: usize,
+}
+
+impl Model for Padded {
+    ghost use Rattle.std.specs.Prelude.{ℕ, List, take, ◌≤◌};
+    ghost use Rattle.std.specs.Str.{IsUtf8};
+    ghost use Rattle.compact_repr.specs.Text.{text_of};
+
+    ghost Value = { List ℕ };
+
+    ghost view = { λ p. text_of (take p.len p.bytes) };
+
+    ghost invariant = { λ p. (p.len ≤ 16) × IsUtf8 (take p.len p.bytes) };
+}
+
+impl Padded {
+    /// The text of `text`, if it has at most 16 bytes.
+    #[inline]
+    pub fn new(text: &str) -> Option<Self>
+        ensures fits { IsSome result ↔ (length text.now ≤ 16) }
+        ensures text { IfSome result (λ p. p ≡ text_of text.now) }
+    {
+        if text.len() > PADDED_CAPACITY {
+            return None;
+        }
+        let mut bytes = [0; PADDED_CAPACITY];
+        rows::write_at_once(&mut bytes, 0, text.as_bytes());
+        Some(Padded {
+            bytes,
+            len: text.len(),
+        })
+    }
+}
 
 /// A text of at most 1024 bytes, which takes no memory: many short pieces are gathered in it, and then appended at once.
 #[derive(Drop)]
@@ -61,6 +106,27 @@ impl Block {
         let end = self.len + text.len();
         rows::write(&mut self.bytes, self.len, text.as_bytes());
         self.len = end;
+        true
+    }
+
+    /// Appends `separator` and behind it `text`, where `text` has at most 32 bytes and the block has room for 48. Answers
+    /// whether it has; if not, nothing has changed.
+    #[inline(always)]
+    pub fn push_behind(&mut self, separator: &Padded, text: &str) -> bool
+        ensures fits { IsTrue result ↔ ((length text.now ≤ 32) × (size self.old + 48 ≤ 1024)) }
+        ensures pushed { IsTrue result → self.new ≡ (self.old ++ separator.now) ++ text_of text.now }
+        ensures full { result ≡ false → self.new ≡ self.old }
+    {
+        if text.len() > rows::MOST_AT_ONCE {
+            return false;
+        }
+        if self.len > BLOCK_CAPACITY - MOST_BEHIND {
+            return false;
+        }
+        let start = self.len + separator.len;
+        rows::write_padded(&mut self.bytes, self.len, &separator.bytes, separator.len);
+        rows::write_at_once(&mut self.bytes, start, text.as_bytes());
+        self.len = start + text.len();
         true
     }
 

@@ -16,7 +16,7 @@ mod rows;
 mod static_text;
 mod words;
 
-pub use block::Block;
+pub use block::{Block, Padded};
 pub use cut::{cut_is_before_and_after, first_ascii, first_char, last_char, middle};
 pub use error::ReserveError;
 pub use inline::INLINE_CAPACITY;

@@ -90,7 +90,18 @@ pub fn write_at_once(row: &mut [u8], at: usize, source: &[u8])
     }
 }
 
-/// The same by one copy, apart: so few steps are left of a short write that they stand where it is called.
+/// Writes the first `count` bytes of `source` at a place of `row`, and the others behind them, with no look at how many
+/// are wanted.
+#[inline(always)]
+pub fn write_padded(row: &mut [u8], at: usize, source: &[u8; 16], count: usize)
+    requires most { count ≤ 16 }
+    requires target { at + 16 ≤ length row.old }
+    ensures { take (at + count) row.new ≡ take at row.old ++ take count source.now }
+{
+    set_chunk(row, at, chunk::<16>(source, 0));
+}
+
+/// `write` by one copy, apart: so few steps are left of a short write that they stand where it is called.
 #[inline(never)]
 fn write_long(row: &mut [u8], at: usize, source: &[u8])
     requires { at + length source.now ≤ length row.old }

@@ -173,9 +173,9 @@ joined-next f separator z xs x =
     ∙ ap (λ l. (l ++ separator) ++ f x) (sym (joined-cons f separator z xs))
 
 -- one turn of the loop that joins
-pub joined-turn : {T : Type 0} (f : T → List ℕ) (separator : List ℕ) (z : T) (xs : List T) (x : T) {a m w p : List ℕ} → a ≡ joined separator f (z ∷ xs)
-    → m ≡ a ++ separator → p ≡ f x → w ≡ m ++ p → w ≡ joined separator f (z ∷ (xs ++ x ∷ []))
-joined-turn f separator z xs x a m p w = rw (w, m, p, a) (sym (joined-next f separator z xs x))
+pub joined-turn : {T : Type 0} (f : T → List ℕ) (separator : List ℕ) (z : T) (xs : List T) (x : T) {a w p : List ℕ} → a ≡ joined separator f (z ∷ xs)
+    → p ≡ f x → w ≡ (a ++ separator) ++ p → w ≡ joined separator f (z ∷ (xs ++ x ∷ []))
+joined-turn f separator z xs x a p w = rw (w, p, a) (sym (joined-next f separator z xs x))
 
 -- an item taken ahead of a loop, and those of the loop
 pub first-drained : {S T : Type 0} (steps : S → Option T → S → Type 0) {s j k t u : S} {x : T} (xs : List T) → steps s (Some x) j → k ≡ j → Yields steps k xs t → steps t None u → Drains steps s (x ∷ xs)
@@ -197,22 +197,13 @@ module _ {S T : Type 0} (steps : S → Option T → S → Type 0) (f : T → Lis
   pub join-first : {j : S} {x : T} {z : List ℕ} (t : List ℕ) → steps s (Some x) j → z ≡ [] → text_of t ≡ f x → IsUtf8 t → 24 < size z + length t → PassesInline steps join_of s
   join-first {j} {x} t n e k u h = (x ∷ [], j, (j, n, refl), omega (arith, h, ap size e, ap size k, size-text_of t u, ap size (joined-one f (text_of separator) x)))
 
-  pub join-separator : {j k t u : S} {z : T} {w : List ℕ} (xs : List T) (x : T) → steps s (Some z) j → k ≡ j → Yields steps k xs t → steps t (Some x) u
-      → w ≡ joined (text_of separator) f (z ∷ xs) → IsUtf8 separator → 24 < size w + length separator → PassesInline steps join_of s
-  join-separator {j} {k} {t} {u} {z} xs x first same rest next e v h = (
+  pub join-piece : {j k t u : S} {z : T} {w : List ℕ} (xs : List T) (x : T) (p : List ℕ) → steps s (Some z) j → k ≡ j → Yields steps k xs t → steps t (Some x) u
+      → w ≡ joined (text_of separator) f (z ∷ xs) → IsUtf8 separator → text_of p ≡ f x → IsUtf8 p → 24 < size w + length separator + length p → PassesInline steps join_of s
+  join-piece {j} {k} {t} {u} {z} xs x p first same rest next e a b v h = (
     z ∷ (xs ++ x ∷ []),
     u,
     first-yields steps xs x first same rest next,
-    omega (arith, h, ap size e, size-text_of separator v, join-size f (text_of separator) z xs x),
-  )
-
-  pub join-piece : {j k t u : S} {z : T} {w m : List ℕ} (xs : List T) (x : T) (p : List ℕ) → steps s (Some z) j → k ≡ j → Yields steps k xs t → steps t (Some x) u
-      → w ≡ joined (text_of separator) f (z ∷ xs) → m ≡ w ++ text_of separator → text_of p ≡ f x → IsUtf8 p → 24 < size m + length p → PassesInline steps join_of s
-  join-piece {j} {k} {t} {u} {z} {w} xs x p first same rest next e d b v h = (
-    z ∷ (xs ++ x ∷ []),
-    u,
-    first-yields steps xs x first same rest next,
-    omega (arith, h, ap size e, ap size d, size-append w (text_of separator), ap size b, size-text_of p v, join-size f (text_of separator) z xs x),
+    omega (arith, h, ap size e, size-text_of separator a, ap size b, size-text_of p v, join-size f (text_of separator) z xs x),
   )
 
 -- what is finished has the text that came

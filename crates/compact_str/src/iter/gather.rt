@@ -1,12 +1,12 @@
 //! A value while it is collected.
-ghost use Rattle.std.specs.Prelude.{◌≡◌, ◌+◌, ◌<◌, [], ◌∷◌, ◌++◌, length, OnOk, OnErr, IfOk};
+ghost use Rattle.std.specs.Prelude.{◌≡◌, ◌+◌, ◌<◌, [], ◌∷◌, ◌++◌, length, OnOk, OnErr, IfOk, IfSome};
 ghost use Rattle.std.specs.Char.{len_utf8};
 ghost use Rattle.compact_repr.specs.Text.{size, text_of};
 ghost use Rattle.compact_str.specs.Fitted.{IsFitted};
 
 use crate::string::PolicyString;
 use crate::string::end::encoded;
-use compact_repr::{Block, Policy, ReserveError};
+use compact_repr::{Block, Padded, Policy, ReserveError};
 use std::alloc::Global;
 use std::marker::Model;
 use std::mem;
@@ -55,7 +55,38 @@ impl<P: Policy> Gathered<P> {
         self.push_behind(text)
     }
 
-    /// The same of a character.
+    /// Takes `separator` and then `text` behind what has come; `padded` is the separator too, where it is a short one. An
+    /// error comes only where that makes more than 24 bytes.
+    #[inline]
+    pub fn push_parted(
+        &mut self,
+        separator: &str,
+        padded: &Option<Padded>,
+        text: &str,
+    ) -> Result<(), ReserveError>
+        requires same { IfSome padded.now (λ p. p ≡ text_of separator.now) }
+        ensures ok { OnOk result (self.new ≡ (self.old ++ text_of separator.now) ++ text_of text.now) }
+        ensures err { OnErr result (24 < size self.old + length separator.now + length text.now) }
+    {
+        if let Some(padded) = padded {
+            if self.block.push_behind(padded, text) {
+                return Ok(());
+            }
+        }
+        self.push_apart(separator, text)
+    }
+
+    /// The same where the two do not go together.
+    #[inline(never)]
+    fn push_apart(&mut self, separator: &str, text: &str) -> Result<(), ReserveError>
+        ensures ok { OnOk result (self.new ≡ (self.old ++ text_of separator.now) ++ text_of text.now) }
+        ensures err { OnErr result (24 < size self.old + length separator.now + length text.now) }
+    {
+        self.push_str(separator)?;
+        self.push_str(text)
+    }
+
+    /// Takes a character behind what has come. An error comes only where that makes more than 24 bytes.
     #[inline]
     pub fn push(&mut self, character: char) -> Result<(), ReserveError>
         ensures ok { OnOk result (self.new ≡ self.old ++ character ∷ []) }

@@ -9,7 +9,7 @@ ghost use Rattle.compact_str.specs.Collects.{PassesInline, joined};
 use crate::iter::AsText;
 use crate::iter::gather::Gathered;
 use crate::string::{CompactString, PolicyString};
-use compact_repr::{Policy, ReserveError};
+use compact_repr::{Padded, Policy, ReserveError};
 use std::alloc::Global;
 
 /// What an iterator of texts can be made into.
@@ -76,9 +76,9 @@ fn join_pieces<P: Policy, T: AsText, I: Iterator<Item = T> + Drop>(
         return gathered.finish();
     };
     gathered.push_str(first.text())?;
+    let padded = Padded::new(separator);
     for piece in pieces {
-        gathered.push_str(separator)?;
-        gathered.push_str(piece.text())?;
+        gathered.push_parted(separator, &padded, piece.text())?;
     }
     gathered.finish()
 }

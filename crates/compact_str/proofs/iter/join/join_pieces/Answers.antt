@@ -1,7 +1,7 @@
 use Rattle.std.proofs.Common.{◌∷◌, subst}
 use Rattle.std.specs.Iterator.{Yields}
 use Rattle.compact_repr.specs.Text.{text_of}
-use Rattle.compact_str.proofs.Collecting.{on_err, join_of, join-first, join-separator, join-piece, first-drained, finished-ok, finished-err, joined-turn, first-joined}
+use Rattle.compact_str.proofs.Collecting.{on_err, join_of, join-first, join-piece, first-drained, finished-ok, finished-err, joined-turn, first-joined}
 use Rattle.compact_str.proofs.iter.join.join_pieces.Goals as goal
 
 pub returns-in_err-push_str-clause-err : goal.returns-in_err-push_str-clause-err
@@ -11,19 +11,12 @@ returns-in_err-push_str-clause-err g c =
     c.in_err-push_str.ensures.err
     )
 
-pub returns-in_err-push_str-2-clause-err : goal.returns-in_err-push_str-2-clause-err
-returns-in_err-push_str-2-clause-err g c =
-    on_err c.from_residual-in_err-push_str-2.result (
-    join-separator g.I.Iterator.next_gives g.T.AsText.spells _ c.args.separator.now c.loop-piece.yielded c.in-Some-piece.piece c.in-Some.ensures.steps
-    c.into_iter-piece-iterator.ensures.into_iter_gives c.loop-piece.yielded_by c.in-Some-piece.ensures.steps c.loop-piece.invariant c.utf8.separator c.in_err-push_str-2.ensures.err
-    )
-
-pub returns-in_err-push_str-3-clause-err : goal.returns-in_err-push_str-3-clause-err
-returns-in_err-push_str-3-clause-err g c =
-    on_err c.from_residual-in_err-push_str-3.result (
+pub returns-in_err-push_parted-clause-err : goal.returns-in_err-push_parted-clause-err
+returns-in_err-push_parted-clause-err g c =
+    on_err c.from_residual-in_err-push_parted.result (
     join-piece g.I.Iterator.next_gives g.T.AsText.spells _ c.args.separator.now c.loop-piece.yielded c.in-Some-piece.piece c.text-in-loop-piece.result.now c.in-Some.ensures.steps
-    c.into_iter-piece-iterator.ensures.into_iter_gives c.loop-piece.yielded_by c.in-Some-piece.ensures.steps c.loop-piece.invariant c.in_ok-push_str-2.ensures.ok
-    c.text-in-loop-piece.ensures c.text-in-loop-piece.utf8 c.in_err-push_str-3.ensures.err
+    c.into_iter-piece-iterator.ensures.into_iter_gives c.loop-piece.yielded_by c.in-Some-piece.ensures.steps c.loop-piece.invariant c.utf8.separator
+    c.text-in-loop-piece.ensures c.text-in-loop-piece.utf8 c.in_err-push_parted.ensures.err
     )
 
 pub returns-clause-ok : goal.returns-clause-ok
@@ -45,8 +38,8 @@ returns-clause-err g c =
 
 pub loop-piece-preserved : goal.loop-piece-preserved
 loop-piece-preserved g c =
-    joined-turn g.T.AsText.spells (text_of c.args.separator.now) c.in-Some.first c.loop-piece.yielded c.in-Some-piece.piece c.loop-piece.invariant c.in_ok-push_str-2.ensures.ok
-    c.text-in-loop-piece.ensures c.in_ok-push_str-3.ensures.ok
+    joined-turn g.T.AsText.spells (text_of c.args.separator.now) c.in-Some.first c.loop-piece.yielded c.in-Some-piece.piece c.loop-piece.invariant c.text-in-loop-piece.ensures
+    c.in_ok-push_parted.ensures.ok
 
 pub loop-piece-init : goal.loop-piece-init
 loop-piece-init g c =
