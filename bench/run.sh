@@ -70,5 +70,7 @@ lto = "fat"
 [workspace]
 END
 cd "$crate"
+# Cargo does not look at what a link argument names, and would keep a program with an earlier library in it.
+rm -rf "$built"/target/release/.fingerprint/bench-*
 cargo rustc -q --release --features peer --manifest-path "$built/Cargo.toml" --target-dir "$built/target" -- "${link[@]}"
 exec "$built/target/release/bench"

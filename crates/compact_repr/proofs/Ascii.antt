@@ -1,13 +1,13 @@
 -- An ASCII character that comes into a text or goes from it: one byte that is its own character.
 use Rattle.std.proofs.Common.{◌≡◌, ℕ, ◌+◌, ◌<◌, List, [], ◌∷◌, ◌++◌, length, take, slice_set, zero, suc, ap, sym, ◌∙◌, arith}
 use Rattle.std.proofs.lemmas.List.{take_more_set}
-use Rattle.std.proofs.lemmas.Str.{IsUtf8-append, IsUtf8-from_ascii, IsUtf8-nil, chars-append, chars-IsAscii, chars-nil}
+use Rattle.std.proofs.lemmas.Str.{IsUtf8-append, IsUtf8-from_ascii, chars-append, chars-IsAscii}
 use Rattle.std.specs.List.{replace_range}
 use Rattle.std.specs.Str.{IsUtf8, IsAscii}
 use Rattle.compact_repr.specs.Text.{size, text_of}
 use Rattle.compact_repr.specs.Cut.{IsBoundary, replaced_text}
 use Rattle.compact_repr.proofs.Texts.{size-text_of}
-use Rattle.compact_repr.proofs.Cuts.{size-replaced, text_of-replaced, utf8-replaced}
+use Rattle.compact_repr.proofs.Cuts.{size-replaced, text_of-replaced, utf8-replaced, text_of-cut_out, utf8-cut_out}
 
 is_ascii : (byte : ℕ) → byte < 128 → IsAscii (byte ∷ [])
 is_ascii byte h zero = h
@@ -31,12 +31,11 @@ size-ascii-inserted t index byte h b =
 
 pub ascii-removed : {t : List ℕ} (bytes : List ℕ) (index : ℕ) → text_of bytes ≡ t → IsUtf8 bytes → IsBoundary t index → IsBoundary t (index + 1)
     → text_of (replace_range bytes index (index + 1) []) ≡ replaced_text t index (index + 1) []
-ascii-removed {t} bytes index e u b n =
-    text_of-replaced bytes [] index (index + 1) e u IsUtf8-nil b n ∙ ap (λ (s : List ℕ). replaced_text t index (index + 1) s) chars-nil
+ascii-removed bytes index e u b n = text_of-cut_out bytes index (index + 1) e u b n
 
 pub utf8-ascii-removed : {t : List ℕ} (bytes : List ℕ) (index : ℕ) → text_of bytes ≡ t → IsUtf8 bytes → IsBoundary t index → IsBoundary t (index + 1)
     → IsUtf8 (replace_range bytes index (index + 1) [])
-utf8-ascii-removed bytes index e u b n = utf8-replaced bytes [] index (index + 1) e u IsUtf8-nil b n
+utf8-ascii-removed bytes index e u b n = utf8-cut_out bytes index (index + 1) e u b n
 
 pub size-ascii-removed : (t : List ℕ) (index : ℕ) → IsBoundary t index → IsBoundary t (index + 1) → size (replaced_text t index (index + 1) []) + 1 ≡ size t
 size-ascii-removed t index b n =

@@ -2,7 +2,7 @@
 use Rattle.std.proofs.Common.{◌≡◌, ℕ, ◌+◌, ◌-◌, ◌<◌, ◌≤◌, List, [], ◌∷◌, ◌++◌, length, take, drop, refl, ap, sym, ◌∙◌, subst, arith, length-append, true, ⊎_elim}
 use Rattle.std.proofs.lemmas.List.{append-nil, length-drop, length-take-le, take-append-drop}
 use Rattle.std.proofs.lemmas.Bool.{cases_Bool, cond-true, cond-false, le-leb, lt-leb, and_parts}
-use Rattle.std.proofs.lemmas.Str.{IsUtf8-append, IsUtf8-take, IsUtf8-drop, chars-append, scalars-chars, encodes-chars, encodes-append, encodes_same, chars_past_char, len_utf8_bounds, IsCharBoundary-at_seam}
+use Rattle.std.proofs.lemmas.Str.{IsUtf8-append, IsUtf8-nil, IsUtf8-take, IsUtf8-drop, chars-append, chars-nil, scalars-chars, encodes-chars, encodes-append, encodes_same, chars_past_char, len_utf8_bounds, IsCharBoundary-at_seam}
 use Rattle.std.specs.Char.{len_utf8}
 use Rattle.std.specs.List.{replace_range}
 use Rattle.std.specs.Str.{IsUtf8, IsCharBoundary}
@@ -144,3 +144,11 @@ text_of-last bytes front c u v e =
 pub text_of-next : (bytes rest : List ℕ) (p c : ℕ) → IsUtf8 bytes → IsBoundary (text_of bytes) p → drop p bytes ≡ encode c ++ rest → after (text_of bytes) p ≡ c ∷ text_of rest
 text_of-next bytes rest p c u h e =
     sym (text_of-drop bytes p refl u h) ∙ chars_past_char (drop p bytes) rest c (IsUtf8-drop bytes p u (boundary-bytes bytes p refl u h)) e
+
+-- where a part goes and nothing comes for it
+pub utf8-cut_out : {t : List ℕ} (bytes : List ℕ) (start end : ℕ) → text_of bytes ≡ t → IsUtf8 bytes → IsBoundary t start → IsBoundary t end → IsUtf8 (replace_range bytes start end [])
+utf8-cut_out bytes start end e u h k = utf8-replaced bytes [] start end e u IsUtf8-nil h k
+
+pub text_of-cut_out : {t : List ℕ} (bytes : List ℕ) (start end : ℕ) → text_of bytes ≡ t → IsUtf8 bytes → IsBoundary t start → IsBoundary t end
+    → text_of (replace_range bytes start end []) ≡ replaced_text t start end []
+text_of-cut_out {t} bytes start end e u h k = text_of-replaced bytes [] start end e u IsUtf8-nil h k ∙ ap (λ (s : List ℕ). replaced_text t start end s) chars-nil

@@ -1,6 +1,6 @@
 -- Characters that are kept, one after another, in a row of bytes.
 use Rattle.std.proofs.Common.{◌≡◌, ◌∙◌, refl, ap, sym, subst, arith, ℕ, ◌+◌, ◌-◌, ◌<◌, ◌≤◌, List, [], ◌∷◌, ◌++◌, length, take, drop, Bool, true, false, cond, append_assoc, append-nil, length-append}
-use Rattle.std.proofs.lemmas.List.{length-drop, length-take-le, drop-drop, drop_all, take-take, take_at}
+use Rattle.std.proofs.lemmas.List.{length-drop, drop-drop, drop_all}
 use Rattle.std.proofs.lemmas.Str.{encode_ascii, len_utf8_ascii, drop_past_char, chars_past_char, IsUtf8-past_char, IsUtf8-append, IsUtf8-encode, IsUtf8-nil, chars-nil, length-encode}
 use Rattle.std.specs.Char.{len_utf8, IsScalar}
 use Rattle.std.specs.Fn.{Called, Mut}
@@ -79,21 +79,13 @@ stands-kept g first f h whole row now kept read n c said says called s order e u
           (subst (λ (l : List ℕ). GoesOn g first whole h l (text_of (drop (read + n) row))) (sym text) on),
     )
 
--- what was put ahead of the answer is not among what is kept
-pub stands-dropped : {F : Type 0} (g : Mut F (ℕ × Unit {0}) Bool) (first f h : F) (whole row now : List ℕ) (kept read n c : ℕ) (said : Bool)
-    → said ≡ false → Called g f (c, tt) said h → kept ≤ read → kept ≤ length row → drop read row ≡ encode c ++ drop (read + n) row → IsUtf8 (drop (read + n) row)
-    → take (kept + n) now ≡ take kept row ++ encode c → drop (kept + n) now ≡ drop (kept + n) row
-    → Stands g first whole f row kept read → Stands g first whole h now kept (read + n)
-stands-dropped g first f h whole row now kept read n c said says called order held e u front behind stands =
-    let later : drop (read + n) now ≡ drop (read + n) row = drop-later now row (kept + n) (read + n) (omega (arith, order)) behind in
-    let same : take kept now ≡ take kept row = sym (take-take kept (kept + n) now (omega arith)) ∙ ap (take kept) front ∙ take_at (take kept row) (encode c) kept (length-take-le kept row held) in
+-- where the answer is false the row stays
+pub stands-dropped : {F : Type 0} (g : Mut F (ℕ × Unit {0}) Bool) (first f h : F) (whole row : List ℕ) (kept read n c : ℕ) (said : Bool)
+    → said ≡ false → Called g f (c, tt) said h → drop read row ≡ encode c ++ drop (read + n) row → IsUtf8 (drop (read + n) row)
+    → Stands g first whole f row kept read → Stands g first whole h row kept (read + n)
+stands-dropped g first f h whole row kept read n c said says called e u stands =
     let rest = chars_past_char (drop read row) (drop (read + n) row) c stands.0 e in
-    let on = goes_on-dropped g first f h whole (text_of (drop read row)) (text_of (drop (read + n) row)) (text_of (take kept row)) c rest (subst (λ (b : Bool). Called g f (c, tt) b h) says called) stands.2 in (
-      subst IsUtf8 (sym later) u,
-      subst IsUtf8 (sym same) stands.1,
-      subst (λ (l : List ℕ). GoesOn g first whole h (text_of (take kept now)) (text_of l)) (sym later)
-          (subst (λ (l : List ℕ). GoesOn g first whole h (text_of l) (text_of (drop (read + n) row))) (sym same) on),
-    )
+    (u, stands.1, goes_on-dropped g first f h whole (text_of (drop read row)) (text_of (drop (read + n) row)) (text_of (take kept row)) c rest (subst (λ (b : Bool). Called g f (c, tt) b h) says called) stands.2)
 
 pub stands-first : {F : Type 0} (g : Mut F (ℕ × Unit {0}) Bool) (first : F) (row : List ℕ) → IsUtf8 row → Stands g first (text_of row) first row 0 0
 stands-first g first row u = (u, IsUtf8-nil, λ v k. subst (λ (l : List ℕ). KeepsChars g first (text_of row) l) (ap (λ (l : List ℕ). l ++ v) (sym chars-nil)) k)

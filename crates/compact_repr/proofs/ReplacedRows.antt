@@ -40,6 +40,17 @@ byte-in row moved byte len at within room e =
     ∙ ap (λ x. take (len - (at - at) + 1) (paste x at (byte ∷ []) 1)) e
     ∙ replaced-moved row (byte ∷ []) len at at (omega arith) within (omega arith) (omega arith)
 
+-- a part goes: the tail moves to where the part began
+pub part-out : (row moved : List ℕ) (len start end : ℕ) → start ≤ end → end ≤ len → len ≤ length row → moved ≡ paste row start (drop end row) (len - end)
+    → take (len - (end - start)) moved ≡ replace_range (take len row) start end []
+part-out row moved len start end order within held e =
+    let less : len - (end - start) ≡ len - (end - start) + 0 = omega arith in
+    let to : start ≡ start + 0 = omega arith in
+    let whole : moved ≡ paste row (start + 0) (drop end row) (len - end) = e ∙ ap (λ (n : ℕ). paste row n (drop end row) (len - end)) to in
+    ap (λ (n : ℕ). take n moved) less
+    ∙ ap (take (len - (end - start) + 0)) (paste_none moved start [] ∙ ap (λ x. paste x start [] 0) whole)
+    ∙ replaced-moved row [] len start end order within held (omega arith)
+
 -- one byte goes: the tail moves one place down
 pub byte-out : (row moved : List ℕ) (len at : ℕ) → at < len → len ≤ length row → moved ≡ paste row at (drop (at + 1) row) (len - at - 1)
     → take (len - 1) moved ≡ replace_range (take len row) at (at + 1) []

@@ -209,6 +209,19 @@ impl HeapBuffer {
         self.len -= 1;
     }
 
+    /// Takes out what stands from one boundary to another, in bytes.
+    #[inline(always)]
+    pub fn cut_out(&mut self, start: usize, end: usize)
+        requires order { start ≤ end }
+        requires first { IsBoundary self.old.text start }
+        requires last { IsBoundary self.old.text end }
+        ensures cut { self.new ≡ record { text = replaced_text self.old.text start end []; capacity = self.old.capacity } }
+        ensures within { size self.new.text ≤ self.old.capacity }
+    {
+        cut_out(&mut self.bytes, self.len, start, end);
+        self.len -= end - start;
+    }
+
     /// Keeps the first `len` bytes, which end at a boundary, and the capacity.
     #[inline]
     pub fn truncate(&mut self, len: usize)
@@ -355,6 +368,19 @@ fn remove_byte(bytes: &mut Vec<u8>, len: usize, index: usize)
     ensures capacity { vec_capacity bytes.new ≡ vec_capacity bytes.old }
 {
     rows::remove_byte(bytes.as_mut_slice(), len, index);
+}
+
+/// Takes the bytes from `start` to `end` out of the first `len` bytes.
+#[inline(always)]
+fn cut_out(bytes: &mut Vec<u8>, len: usize, start: usize, end: usize)
+    requires order { start ≤ end }
+    requires inside { end ≤ len }
+    requires stands { len ≤ vec_len bytes.old }
+    ensures cut { take (len - (end - start)) bytes.new.items ≡ replace_range (take len bytes.old.items) start end [] }
+    ensures same { vec_len bytes.new ≡ vec_len bytes.old }
+    ensures capacity { vec_capacity bytes.new ≡ vec_capacity bytes.old }
+{
+    rows::cut_out(bytes.as_mut_slice(), len, start, end);
 }
 
 /// Writes every byte of the vector with zero.

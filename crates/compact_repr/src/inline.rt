@@ -170,6 +170,19 @@ impl InlineBuffer {
         self.len -= 1;
     }
 
+    /// Takes out what stands from one boundary to another, in bytes.
+    #[inline(always)]
+    pub fn cut_out(&mut self, start: usize, end: usize)
+        requires order { start ≤ end }
+        requires first { IsBoundary self.old start }
+        requires last { IsBoundary self.old end }
+        ensures cut { self.new ≡ replaced_text self.old start end [] }
+        ensures within { size self.new ≤ 24 }
+    {
+        rows::cut_out(&mut self.bytes, self.len, start, end);
+        self.len -= end - start;
+    }
+
     /// Keeps the first `len` bytes, which end at a boundary.
     #[inline]
     pub fn truncate(&mut self, len: usize)

@@ -49,6 +49,17 @@ pub fn remove_byte(row: &mut [u8], len: usize, index: usize)
     move_down::<1>(row, index, len - index - 1);
 }
 
+/// Takes the bytes from `start` to `end` out of the first `len` bytes of `row`. The tail moves once.
+#[inline(always)]
+pub fn cut_out(row: &mut [u8], len: usize, start: usize, end: usize)
+    requires order { start ≤ end }
+    requires within { end ≤ len }
+    requires long_enough { len ≤ length row.old }
+    ensures { take (len - (end - start)) row.new ≡ replace_range (take len row.old) start end [] }
+{
+    shift(row, end, start, len - end);
+}
+
 /// Writes `source` at a place of `row`.
 #[inline(always)]
 #[tactic(auto, using(crate::proofs::ReplacedRows::appended))]

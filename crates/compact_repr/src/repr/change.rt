@@ -100,6 +100,30 @@ impl<P: Policy> Repr<P> {
         }
     }
 
+    /// Takes out what stands from one position to another, in bytes, between two characters, where the bytes are the value's
+    /// own. Answers whether they are; if not, nothing has changed. The place and the capacity stay.
+    #[inline(always)]
+    pub fn cut_out_in_place(&mut self, start: usize, end: usize) -> bool
+        requires order { start ≤ end }
+        requires first { IsBoundary self.old.text start }
+        requires last { IsBoundary self.old.text end }
+        ensures owned { IsTrue result ↔ (is_static self.old.placement.place ≡ false) }
+        ensures cut { IsTrue result → self.new ≡ placed (replaced_text self.old.text start end []) self.old.placement }
+        ensures full { result ≡ false → self.new ≡ self.old }
+    {
+        match &mut self.buffer {
+            Buffer::Inline(inline) => {
+                inline.cut_out(start, end);
+                true
+            }
+            Buffer::Heap(heap) => {
+                heap.cut_out(start, end);
+                true
+            }
+            Buffer::Static(_) => false,
+        }
+    }
+
     /// Puts an ASCII character in at a boundary, in bytes, where the bytes are the value's own and have room. Answers
     /// whether that was so; if not, nothing has changed.
     #[inline]

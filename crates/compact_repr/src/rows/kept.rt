@@ -33,18 +33,18 @@ fn move_kept<F: FnMut(char) -> bool>(row: &mut [u8], mut keep: F) -> usize
     let mut read = 0;
     let mut kept = 0;
     while read < row.len() {
-        // What goes ahead of the answer is written over by the next character where the answer is `false`.
+        // A place that hangs on the answers would hold the next read up, so nothing is written ahead of an answer.
         while let Some(character) = ascii_at(row, read) {
-            put(row, kept, character, 1);
             if keep(character) {
+                put(row, kept, character, 1);
                 kept += 1;
             }
             read += 1;
         }
         if read < row.len() {
             let (character, width) = char_from(row, read);
-            put(row, kept, character, width);
             if keep(character) {
+                put(row, kept, character, width);
                 kept += width;
             }
             read += width;

@@ -87,9 +87,7 @@ impl<P: Policy> PolicyString<P> {
         ensures { self.new ≡ without_part self.old start end }
     {
         if may_cut_out(self.as_str(), start, end) {
-            // It tells the proof that an owned text fits its capacity.
-            let _len = self.repr.len();
-            self.repr.replace_in_place(start, end, "");
+            self.repr.cut_out_in_place(start, end);
         }
     }
 }

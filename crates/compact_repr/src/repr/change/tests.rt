@@ -37,6 +37,14 @@ fn remove_byte(rt: &impl Abort, text: &mut Repr<Standard>, index: usize) -> bool
     text.remove_ascii_in_place(index)
 }
 
+/// Takes a range out, once all that the call asks for is seen to hold.
+fn cut(rt: &impl Abort, text: &mut Repr<Standard>, start: usize, end: usize) -> bool {
+    assert!(rt; start <= end);
+    assert!(rt; text.is_char_boundary(start));
+    assert!(rt; text.is_char_boundary(end));
+    text.cut_out_in_place(start, end)
+}
+
 #[test]
 fn inline(rt: HostRuntime) -> Result<(), Fail> {
     let mut text: Repr<Standard> = Repr::new(rt.alloc(), "äb𝄞")?;
@@ -103,6 +111,11 @@ fn long_tail(rt: HostRuntime) -> Result<(), Fail> {
     replace(&rt, &mut text, 0, 0, "a");
     replace(&rt, &mut text, 0, 2, "");
     assert_eq!(rt; text.as_str(), digits);
+    assert!(rt; cut(&rt, &mut text, 0, 10));
+    assert!(rt; digits.starts_with(text.as_str()));
+    assert!(rt; cut(&rt, &mut text, 1, 2));
+    assert!(rt; text.as_str().starts_with("0234567890123"));
+    assert_eq!(rt; text.len(), 139);
     Ok(())
 }
 
@@ -166,6 +179,30 @@ fn nothing_in_place_of_the_program(rt: HostRuntime) -> Result<(), Fail> {
     assert!(rt; !insert_dash(&rt, &mut text, 1));
     assert!(rt; !remove_byte(&rt, &mut text, 1));
     assert!(rt; !text.push_in_place(""));
+    assert_eq!(rt; text.as_str(), "a text of the program, past 24 bytes");
+    Ok(())
+}
+
+/// A part is taken out in each place. Of a static text none is.
+#[test]
+fn a_part_is_cut_out(rt: HostRuntime) -> Result<(), Fail> {
+    let mut text: Repr<Standard> = Repr::new(rt.alloc(), "äb𝄞xyz")?;
+    assert!(rt; cut(&rt, &mut text, 2, 7));
+    assert_eq!(rt; text.as_str(), "äxyz");
+    assert!(rt; cut(&rt, &mut text, 5, 5));
+    assert!(rt; cut(&rt, &mut text, 0, 5));
+    assert_eq!(rt; text.as_str(), "");
+    let mut text: Repr<Standard> = Repr::new(rt.alloc(), "äb𝄞0123456789012345678901234")?;
+    assert!(rt; cut(&rt, &mut text, 2, 9));
+    assert_eq!(rt; text.as_str(), "ä23456789012345678901234");
+    assert!(rt; cut(&rt, &mut text, 10, 25));
+    assert_eq!(rt; text.as_str(), "ä23456789");
+    assert_eq!(rt; text.capacity(), 32);
+    let mut text: Repr<Standard> = Repr::from_static(
+        rt.alloc(),
+        "a text of the program, past 24 bytes",
+    );
+    assert!(rt; !cut(&rt, &mut text, 0, 7));
     assert_eq!(rt; text.as_str(), "a text of the program, past 24 bytes");
     Ok(())
 }

@@ -1,4 +1,4 @@
-use Rattle.std.proofs.Common.{◌+◌, ◌≤◌, refl, of_calls, arith}
+use Rattle.std.proofs.Common.{◌≡◌, ◌+◌, ◌≤◌, length, refl, of_calls, arith}
 use Rattle.compact_repr.specs.Text.{text_of}
 use Rattle.compact_repr.proofs.Keeping.{Stands, stands-first, stands-kept, stands-dropped, stands-last}
 use Rattle.compact_repr.proofs.rows.kept.move_kept.Goals.{then-keep, else-keep, then-keep-2, else-keep-2}
@@ -20,42 +20,42 @@ pub loop-character-preserved : goal.loop-character-preserved
 loop-character-preserved g c =
     let inv = c.loop-character.invariant in
     let next = c.in-Some.ensures in
-    let stands : Stands g.F.FnMut c.args.keep (text_of c.args.row.now) c.keep.new.self c.put.new.row c.if-keep.kept (c.loop-character.read + 1) =
+    let stands : Stands g.F.FnMut c.args.keep (text_of c.args.row.now) c.keep.new.self c.if-keep.row c.if-keep.kept (c.loop-character.read + 1) =
     elim c.if-keep.branch [
       | then-keep w ↦
-          rw w.kept-is
-          (stands-kept g.F.FnMut c.args.keep c.loop-character.keep c.keep.new.self (text_of c.args.row.now) c.loop-character.row c.put.new.row c.loop-character.kept c.loop-character.read 1 c.in-Some.character c.keep.result
-          w.if-keep.true c.keep.ensures next.scalar inv.1 next.encoded (next.rest refl) c.put.ensures.front c.put.ensures.behind inv.3)
+          rw (w.kept-is, w.row-is)
+          (stands-kept g.F.FnMut c.args.keep c.loop-character.keep c.keep.new.self (text_of c.args.row.now) c.loop-character.row w.put.new.row c.loop-character.kept c.loop-character.read 1 c.in-Some.character c.keep.result
+          w.if-keep.true c.keep.ensures next.scalar inv.1 next.encoded (next.rest refl) w.put.ensures.front w.put.ensures.behind inv.3)
       | else-keep w ↦
-          rw w.kept-is
-          (stands-dropped g.F.FnMut c.args.keep c.loop-character.keep c.keep.new.self (text_of c.args.row.now) c.loop-character.row c.put.new.row c.loop-character.kept c.loop-character.read 1 c.in-Some.character c.keep.result
-          w.if-keep.false c.keep.ensures inv.1 (omega (arith, inv.1, inv.2)) next.encoded (next.rest refl) c.put.ensures.front c.put.ensures.behind inv.3)
+          rw (w.kept-is, w.row-is)
+          (stands-dropped g.F.FnMut c.args.keep c.loop-character.keep c.keep.new.self (text_of c.args.row.now) c.loop-character.row c.loop-character.kept c.loop-character.read 1 c.in-Some.character c.keep.result
+          w.if-keep.false c.keep.ensures next.encoded (next.rest refl) inv.3)
     ] in
-    let order : c.if-keep.kept ≤ c.loop-character.read + 1 =
+    let order : (c.if-keep.kept ≤ c.loop-character.read + 1) × (c.loop-character.read + 1 ≤ length c.if-keep.row) × (length c.if-keep.row ≡ length c.loop-character.row) =
     elim c.if-keep.branch [
-      | then-keep w ↦ omega (arith, w.kept-is, inv.1)
-      | else-keep w ↦ omega (arith, w.kept-is, inv.1)
+      | then-keep w ↦ rw (w.kept-is, w.row-is) (omega (arith, inv.1), omega (arith, next.within refl, w.put.auto.row), w.put.auto.row)
+      | else-keep w ↦ rw (w.kept-is, w.row-is) (omega (arith, inv.1), next.within refl, refl)
     ] in
-    (search of_calls, order, omega (arith, next.within refl, c.put.auto.row), stands, omega (arith, inv.4))
+    (search of_calls, order.0, order.1, stands, omega (arith, inv.4))
 
 pub loop-read-preserved-then-read-row : goal.loop-read-preserved-then-read-row
 loop-read-preserved-then-read-row g c =
     let inv = c.loop-character.invariant in
     let next = c.char_from-character.ensures in
-    let stands : Stands g.F.FnMut c.args.keep (text_of c.args.row.now) c.keep-then-read-row.new.self c.put-then-read-row.new.row c.if-keep-2.kept (c.loop-character.read + c.char_from-character.result.1) =
+    let stands : Stands g.F.FnMut c.args.keep (text_of c.args.row.now) c.keep-then-read-row.new.self c.if-keep-2.row c.if-keep-2.kept (c.loop-character.read + c.char_from-character.result.1) =
     elim c.if-keep-2.branch [
       | then-keep-2 w ↦
-          rw w.kept-is
-          (stands-kept g.F.FnMut c.args.keep c.loop-character.keep c.keep-then-read-row.new.self (text_of c.args.row.now) c.loop-character.row c.put-then-read-row.new.row c.loop-character.kept c.loop-character.read c.char_from-character.result.1 c.char_from-character.result.0 c.keep-then-read-row.result
-          w.if-keep-2.true c.keep-then-read-row.ensures next.scalar inv.1 next.encoded next.rest c.put-then-read-row.ensures.front c.put-then-read-row.ensures.behind inv.3)
+          rw (w.kept-is, w.row-is)
+          (stands-kept g.F.FnMut c.args.keep c.loop-character.keep c.keep-then-read-row.new.self (text_of c.args.row.now) c.loop-character.row w.put-then-keep-2.new.row c.loop-character.kept c.loop-character.read c.char_from-character.result.1 c.char_from-character.result.0 c.keep-then-read-row.result
+          w.if-keep-2.true c.keep-then-read-row.ensures next.scalar inv.1 next.encoded next.rest w.put-then-keep-2.ensures.front w.put-then-keep-2.ensures.behind inv.3)
       | else-keep-2 w ↦
-          rw w.kept-is
-          (stands-dropped g.F.FnMut c.args.keep c.loop-character.keep c.keep-then-read-row.new.self (text_of c.args.row.now) c.loop-character.row c.put-then-read-row.new.row c.loop-character.kept c.loop-character.read c.char_from-character.result.1 c.char_from-character.result.0 c.keep-then-read-row.result
-          w.if-keep-2.false c.keep-then-read-row.ensures inv.1 (omega (arith, inv.1, inv.2)) next.encoded next.rest c.put-then-read-row.ensures.front c.put-then-read-row.ensures.behind inv.3)
+          rw (w.kept-is, w.row-is)
+          (stands-dropped g.F.FnMut c.args.keep c.loop-character.keep c.keep-then-read-row.new.self (text_of c.args.row.now) c.loop-character.row c.loop-character.kept c.loop-character.read c.char_from-character.result.1 c.char_from-character.result.0 c.keep-then-read-row.result
+          w.if-keep-2.false c.keep-then-read-row.ensures next.encoded next.rest inv.3)
     ] in
-    let order : c.if-keep-2.kept ≤ c.loop-character.read + c.char_from-character.result.1 =
+    let order : (c.if-keep-2.kept ≤ c.loop-character.read + c.char_from-character.result.1) × (c.loop-character.read + c.char_from-character.result.1 ≤ length c.if-keep-2.row) =
     elim c.if-keep-2.branch [
-      | then-keep-2 w ↦ omega (arith, w.kept-is, inv.1)
-      | else-keep-2 w ↦ omega (arith, w.kept-is, inv.1)
+      | then-keep-2 w ↦ rw (w.kept-is, w.row-is) (omega (arith, inv.1), omega (arith, next.within, w.put-then-keep-2.auto.row))
+      | else-keep-2 w ↦ rw (w.kept-is, w.row-is) (omega (arith, inv.1), next.within)
     ] in
-    (search of_calls, order, omega (arith, next.within, c.put-then-read-row.auto.row), stands)
+    (search of_calls, order.0, order.1, stands)
