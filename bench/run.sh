@@ -69,6 +69,8 @@ lto = "fat"
 
 [workspace]
 END
+# Cargo does not see that the static library has changed, so the program is linked anew.
+rm -rf "$built"/target/release/.fingerprint/bench-*
 cd "$crate"
 cargo rustc -q --release --features peer --manifest-path "$built/Cargo.toml" --target-dir "$built/target" -- "${link[@]}"
 exec "$built/target/release/bench"

@@ -52,12 +52,7 @@ fn kind_of(character: char) -> Kind
 fn goes_on(kind: Kind, next: Kind) -> bool
     ensures { result ≡ goes_on kind next }
 {
-    match kind {
-        Kind::Word => matches!(next, Kind::Word),
-        Kind::Number => matches!(next, Kind::Number),
-        Kind::Space => matches!(next, Kind::Space),
-        Kind::Mark => false,
-    }
+    kind == next && kind != Kind::Mark
 }
 
 /// Cuts a text into tokens. Their texts, joined, are the text; none is empty, and each has characters of its kind alone.
