@@ -203,28 +203,26 @@ fn kind_of(character: char) -> Kind {
 /// The program of `compact_uses::tokenize` over a type of Rust.
 fn tokenized<T: Text + Hash + Eq>(names: &mut Names<T>, text: &str) -> Vec<Token> {
     let mut tokens = Vec::new();
-    let mut piece = T::new("");
+    let mut start = 0;
     let mut kind = Kind::Mark;
-    for character in text.chars() {
+    for (at, character) in text.char_indices() {
         let next = kind_of(character);
-        if next == kind && next != Kind::Mark {
-            piece.push(character);
+        if next == kind && kind != Kind::Mark {
             continue;
         }
-        put(names, &mut tokens, kind, &piece);
+        put(names, &mut tokens, kind, &text[start..at]);
+        start = at;
         kind = next;
-        piece.clear();
-        piece.push(character);
     }
-    put(names, &mut tokens, kind, &piece);
+    put(names, &mut tokens, kind, &text[start..]);
     tokens
 }
 
-fn put<T: Text + Hash + Eq>(names: &mut Names<T>, tokens: &mut Vec<Token>, kind: Kind, piece: &T) {
-    if piece.as_bytes().is_empty() {
+fn put<T: Text + Hash + Eq>(names: &mut Names<T>, tokens: &mut Vec<Token>, kind: Kind, piece: &str) {
+    if piece.is_empty() {
         return;
     }
-    let name = names.number(T::new(piece.as_str()));
+    let name = names.number(T::new(piece));
     tokens.push(Token { kind, name });
 }
 

@@ -1,19 +1,20 @@
 -- The keys of a set of values, as texts: those of a set with one more key are the distinct texts, by first occurrence.
-use Rattle.std.proofs.Common.{◌≡◌, ℕ, ◌<◌, List, [], ◌∷◌, ◌++◌, Bool, true, false, ◌||◌, if◌then◌else◌, IsTrue, nat_eq, map, position, slice_get, get_or, length, Some, refl, ap, sym, ◌∙◌, arith}
+use Rattle.std.proofs.Common.{◌≡◌, ℕ, ◌<◌, List, [], ◌∷◌, ◌++◌, Bool, true, false, ◌||◌, if◌then◌else◌, IsTrue, nat_eq, map, position, slice_get, get_or, length, Some, refl, ap, ap₂, sym, ◌∙◌, arith}
 use Rattle.std.proofs.lemmas.Grind.{common_steps}
 use Rattle.std.proofs.lemmas.Option.{slice_get-map, slice_get-get_or}
 use Rattle.std.proofs.lemmas.List.{map-append}
 use Rattle.std.proofs.lemmas.List.Quantifiers.{position-Some}
 use Rattle.std.specs.Option.{option_map}
 use Rattle.std.specs.List.{list_any, AllByRecursion, IsDistinct}
-use Rattle.std.specs.Cmp.Lexicographic.{pointwise, nat_list_eq_equiv}
-use Rattle.std.specs.Str.{IsUtf8}
+use Rattle.std.specs.Cmp.Lexicographic.{pointwise, bytes_decides, nat_list_eq_equiv}
+use Rattle.std.specs.Str.{IsUtf8, bytes_eq}
 use Rattle.indexmap.specs.IndexSet.{insert_key}
-use Rattle.compact_str.specs.Text.{size, text_of}
+use Rattle.compact_str.specs.Text.{size, text_of, utf8}
 use Rattle.compact_str.specs.Value.{PlacedText}
 use Rattle.compact_str.specs.Capacity.{new_room_asks}
 use Rattle.compact_str.specs.Order.{text_in, same_text}
-use Rattle.compact_str.proofs.ForCallers.{size-text_of, texts-from_same}
+use Rattle.compact_str.proofs.ForCallers.{size-text_of, utf8-text_of, texts-from_same}
+use Rattle.compact_str.proofs.TextBytes.{utf8-same}
 use Rattle.compact_edit.specs.Names.{is_among, without, firsts}
 
 abbrev pub texts : List PlacedText → List (List ℕ)
@@ -94,6 +95,30 @@ pub number-of-known : (keys : List PlacedText) (v : PlacedText) (i : ℕ) → po
 number-of-known keys v i at =
     let found = position-Some (same_text v) keys i v at in
     number-of-same keys v (get_or keys i v) i (slice_get-get_or keys i v found.0) found.1
+
+-- a text is looked for by its bytes
+
+wanted-same : (bytes : List ℕ) (k : PlacedText) → IsUtf8 bytes → bytes_eq bytes (utf8 k.text) ≡ pointwise nat_eq (text_of bytes) k.text
+wanted-same bytes k is_text = ap (λ b. bytes_eq b (utf8 k.text)) (sym (utf8-text_of bytes is_text)) ∙ utf8-same (text_of bytes) k.text
+
+pub wanted-among : (bytes : List ℕ) (keys : List PlacedText) → IsUtf8 bytes → list_any (λ (k : PlacedText). bytes_eq bytes (utf8 k.text)) keys ≡ is_among (texts keys) (text_of bytes)
+wanted-among bytes [] is_text = refl
+wanted-among bytes (k ∷ keys) is_text = ap₂ (λ (a b : Bool). a || b) (wanted-same bytes k is_text) (wanted-among bytes keys is_text)
+
+pub wanted-number : (bytes : List ℕ) (keys : List PlacedText) (i : ℕ) → IsUtf8 bytes → position (λ (k : PlacedText). bytes_eq bytes (utf8 k.text)) keys ≡ Some i
+    → slice_get (texts keys) i ≡ Some (text_of bytes)
+wanted-number bytes [] i is_text at = grind (arith, common_steps)
+wanted-number bytes (k ∷ keys) i is_text at =
+    let found = position-Some (λ (k : PlacedText). bytes_eq bytes (utf8 k.text)) (k ∷ keys) i k at in
+    let same : text_of bytes ≡ (get_or (k ∷ keys) i k).text =
+    (bytes_decides (text_of bytes) (get_or (k ∷ keys) i k).text).0 (sym (wanted-same bytes (get_or (k ∷ keys) i k) is_text) ∙ found.1) in
+    slice_get-map text_in (k ∷ keys) i ∙ ap (option_map text_in) (slice_get-get_or (k ∷ keys) i k found.0) ∙ ap Some (sym same)
+
+pub known-text : (keys : List PlacedText) (t : List ℕ) → IsDistinct same_text keys → is_among (texts keys) t ≡ true → texts keys ≡ firsts (texts keys ++ t ∷ [])
+known-text keys t distinct there =
+    ap (λ (b : Bool). if b then texts keys else texts keys ++ t ∷ []) (sym there)
+    ∙ ap (λ names. noted names t) (sym (firsts-distinct keys distinct))
+    ∙ sym (firsts-push (texts keys) t)
 
 -- a text whose copy asked for a heap buffer has more than 24 bytes
 pub asked-long : (bytes : List ℕ) → IsUtf8 bytes → IsTrue (new_room_asks (length bytes)) → 24 < size (text_of bytes)

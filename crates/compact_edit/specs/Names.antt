@@ -31,10 +31,9 @@ pub record Takes (before texts : List (List ℕ)) (listed : List ℕ) (after : L
   pub behind : now_listed ≡ listed ++ numbers
   pub places : AreNumbersOf after texts numbers
 
--- Why a text has no number: for want of memory, which of a text of at most 24 bytes comes only where it is no name and a
--- number is left, or no number is left and it is no name.
+-- Why a text that is no name has no number: for want of memory where a number is left, or no number is left. A name has one.
 abbrev pub IsRefusal : List (List ℕ) → List ℕ → InternError → Type 0
-IsRefusal names t (Reserve error) = size t ≤ 24 → (is_among names t ≡ false) × (length names < 4294967295)
+IsRefusal names t (Reserve error) = (is_among names t ≡ false) × (length names < 4294967295)
 IsRefusal names t Full = (length names ≡ 4294967295) × (is_among names t ≡ false)
 
 -- The texts up to one that is refused are taken.

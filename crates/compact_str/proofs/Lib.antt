@@ -12,5 +12,6 @@ pub mod Fitted
 pub mod CollectFacts
 pub mod KeyFacts
 pub mod LawLemmas
+pub mod TextBytes
 pub mod ForCallers
 pub mod Examples

@@ -1,3 +1,4 @@
+pub mod PieceLemmas
 pub mod TokenLemmas
 pub mod RowLemmas
 pub mod LineLemmas

@@ -115,3 +115,8 @@ push-some (d ∷ piece) c tokens none = grind (arith, common_steps, none)
 
 pub one-character : (c : ℕ) → length (c ∷ []) ≤ 1
 one-character c = grind (arith, common_steps)
+
+-- of no characters all are of a kind
+
+pub none-alike : {A : Type 0} (P : A → Type 0) → All P []
+none-alike P = All-nil P

@@ -3,6 +3,7 @@ ghost use Rattle.std.specs.Prelude.{◌≡◌, ◌++◌, ℕ, List, flat_map, sl
 ghost use Rattle.std.specs.List.{All};
 ghost use Rattle.compact_uses.specs.Tokens.{kind_of, token_text, IsToken, IsTokenRefusal};
 ghost use Rattle.std.specs.Prelude.{◌≤◌, [], false, length};
+ghost use Rattle.compact_str.specs.Text.{text_of};
 ghost use Rattle.compact_uses.specs.Tokens.{goes_on, last_kind, AreParted};
 ghost use Rattle.compact_uses.specs.declared.tokenizer.Kind.{Kind};
 ghost use Rattle.compact_uses.specs.declared.tokenizer.Kind.TheVariants.{Mark};
@@ -51,12 +52,7 @@ fn kind_of(character: char) -> Kind
 fn goes_on(kind: Kind, next: Kind) -> bool
     ensures { result ≡ goes_on kind next }
 {
-    match kind {
-        Kind::Word => matches!(next, Kind::Word),
-        Kind::Number => matches!(next, Kind::Number),
-        Kind::Space => matches!(next, Kind::Space),
-        Kind::Mark => false,
-    }
+    kind == next && kind != Kind::Mark
 }
 
 /// Cuts a text into tokens. Their texts, joined, are the text; none is empty, and each has characters of its kind alone.
@@ -76,37 +72,39 @@ pub fn tokenize(
     ensures err { IfErr result (IsTokenRefusal names.new) }
 {
     let mut tokens = Vec::new(alloc);
-    let mut piece = CompactString::default(alloc);
+    let mut rest = text.as_str();
+    let mut len = 0;
     let mut kind = Kind::Mark;
     for character in text.as_str().chars() {
         let next = kind_of(character);
         if goes_on(kind, next) {
-            piece.push(character)?;
+            len += character.len_utf8();
             continue;
         }
-        put(names, &mut tokens, kind, &piece)?;
+        let (piece, others) = rest.split_at(len);
+        put(names, &mut tokens, kind, piece)?;
+        rest = others;
+        len = character.len_utf8();
         kind = next;
-        piece.clear();
-        piece.push(character)?;
     }
-    put(names, &mut tokens, kind, &piece)?;
+    put(names, &mut tokens, kind, rest)?;
     Ok(tokens)
 }
 
-/// Puts a piece behind the tokens, unless it is empty.
+/// Puts a piece of the text behind the tokens, unless it is empty.
 fn put(
     names: &mut Interner,
     tokens: &mut Vec<Token>,
     kind: Kind,
-    piece: &CompactString,
+    piece: &str,
 ) -> Result<(), InternError>
     requires tokens { All (IsToken names.old) tokens.old.items }
-    requires alike { All (λ c. kind_of c ≡ kind) piece.now.text }
-    requires single { kind ≡ Mark → length piece.now.text ≤ 1 }
-    requires first { piece.now.text ≡ [] → tokens.old.items ≡ [] }
+    requires alike { All (λ c. kind_of c ≡ kind) (text_of piece.now) }
+    requires single { kind ≡ Mark → length (text_of piece.now) ≤ 1 }
+    requires first { text_of piece.now ≡ [] → tokens.old.items ≡ [] }
     requires parted { AreParted tokens.old.items }
     requires follows { goes_on (last_kind Mark tokens.old.items) kind ≡ false }
-    ensures joined { OnOk result (flat_map (token_text names.new) tokens.new.items ≡ flat_map (token_text names.old) tokens.old.items ++ piece.now.text) }
+    ensures joined { OnOk result (flat_map (token_text names.new) tokens.new.items ≡ flat_map (token_text names.old) tokens.old.items ++ text_of piece.now) }
     ensures parted { OnOk result (AreParted tokens.new.items) }
     ensures last { OnOk result ((next : Kind) → goes_on kind next ≡ false → goes_on (last_kind Mark tokens.new.items) next ≡ false) }
     ensures tokens { OnOk result (All (IsToken names.new) tokens.new.items) }
@@ -116,7 +114,7 @@ fn put(
     if piece.is_empty() {
         return Ok(());
     }
-    let name = names.intern(piece.as_str())?;
+    let name = names.intern(piece)?;
     if tokens.push(Token { kind, name }).is_err() {
         return Err(InternError::Reserve(ReserveError));
     }

@@ -1,19 +1,21 @@
-use Rattle.std.proofs.Common.{◌≡◌, Some, ◌++◌, ◌∷◌, [], ap, ◌∙◌, arith}
+use Rattle.std.proofs.Common.{◌≡◌, ◌++◌, ◌∷◌, [], sym, arith, append-nil}
 use Rattle.std.proofs.lemmas.Grind.{common_steps}
-use Rattle.compact_uses.proofs.TokenLemmas.{put-joined, put-tokens, filled-piece, parted-push, last-apart, none-apart}
+use Rattle.compact_str.specs.Text.{text_of}
+use Rattle.compact_uses.proofs.PieceLemmas.{no-text, filled-text}
+use Rattle.compact_uses.proofs.TokenLemmas.{put-joined, put-tokens, parted-push, last-apart, none-apart}
 use Rattle.compact_uses.specs.declared.tokenizer.Kind.TheVariants.{Mark}
 use Rattle.compact_uses.proofs.tokenizer.put.Goals as goal
 
 pub returns-clause-joined : goal.returns-clause-joined
 returns-clause-joined c =
     let items : c.push.new.self.items ≡ c.args.tokens.now.items ++ record { kind = c.args.kind; name = c.in_ok-name.name } ∷ [] = grind (arith, common_steps) in
-    rw items (put-joined _ _ _ _ _ c.intern.ensures.kept c.requires.tokens (c.in_ok-name.ensures.number ∙ ap Some c.as_str.ensures.text))
+    rw items (put-joined _ _ _ _ _ c.intern.ensures.kept c.requires.tokens c.in_ok-name.ensures.number)
 
 pub returns-clause-tokens : goal.returns-clause-tokens
 returns-clause-tokens c =
     let items : c.push.new.self.items ≡ c.args.tokens.now.items ++ record { kind = c.args.kind; name = c.in_ok-name.name } ∷ [] = grind (arith, common_steps) in
-    let filled = filled-piece c.args.piece.now.text c.is_empty.result c.is_empty.ensures c.if-is_empty.false in
-    rw items (put-tokens _ _ _ _ _ c.intern.ensures.kept c.requires.tokens (c.in_ok-name.ensures.number ∙ ap Some c.as_str.ensures.text) filled c.requires.alike c.requires.single)
+    let filled = filled-text c.args.piece.now c.is_empty.result c.utf8.piece c.is_empty.ensures c.if-is_empty.false in
+    rw items (put-tokens _ _ _ _ _ c.intern.ensures.kept c.requires.tokens c.in_ok-name.ensures.number filled c.requires.alike c.requires.single)
 
 pub returns-clause-parted : goal.returns-clause-parted
 returns-clause-parted c =
@@ -25,7 +27,12 @@ returns-clause-last c =
     let items : c.push.new.self.items ≡ c.args.tokens.now.items ++ record { kind = c.args.kind; name = c.in_ok-name.name } ∷ [] = grind (arith, common_steps) in
     λ next apart. rw items (last-apart c.args.tokens.now.items (record { kind = c.args.kind; name = c.in_ok-name.name }) next apart)
 
+pub returns-then-is_empty-clause-joined : goal.returns-then-is_empty-clause-joined
+returns-then-is_empty-clause-joined c =
+    let none : text_of c.args.piece.now ≡ [] = no-text c.args.piece.now c.is_empty.result c.is_empty.ensures c.if-is_empty.true in
+    rw none (sym (append-nil _))
+
 pub returns-then-is_empty-clause-last : goal.returns-then-is_empty-clause-last
 returns-then-is_empty-clause-last c =
-    let none : c.args.piece.now.text ≡ [] = grind (arith, common_steps) in
+    let none : text_of c.args.piece.now ≡ [] = no-text c.args.piece.now c.is_empty.result c.is_empty.ensures c.if-is_empty.true in
     λ next apart. none-apart _ next (c.requires.first none)

@@ -1,47 +1,101 @@
-use Rattle.std.proofs.Common.{◌≡◌, ◌++◌, ◌∷◌, [], true, false, sym, ap, ◌∙◌}
-use Rattle.std.proofs.lemmas.Iterator.{YieldsList-from_chars}
-use Rattle.std.proofs.lemmas.Iterator.Consumers.{YieldsList-end}
-use Rattle.std.proofs.lemmas.List.{map-id}
-use Rattle.compact_uses.proofs.TokenLemmas.{alike-push, alike-one, joined-push, goes_on-same, goes_on-no-mark, push-some, one-character}
+use Rattle.std.proofs.Common.{◌≡◌, ℕ, ◌+◌, [], true, false, drop, length, refl, sym, ap, ap₂, List, ◌∙◌, arith}
+use Rattle.std.proofs.lemmas.Str.{IsUtf8-drop}
+use Rattle.std.specs.Str.Iter.{chars_rest}
+use Rattle.compact_str.specs.Text.{text_of}
+use Rattle.compact_str.specs.Cut.{before}
+use Rattle.compact_str.proofs.ForCallers.{text_of-take}
+use Rattle.compact_str.proofs.TextBytes.{boundary-bytes}
+use Rattle.compact_uses.proofs.PieceLemmas.{next-character, first-character, first-piece, start-boundary, whole-piece, cut-joined}
+use Rattle.compact_uses.proofs.TokenLemmas.{alike-push, alike-one, goes_on-same, goes_on-no-mark, push-some, one-character, none-alike}
 use Rattle.compact_uses.specs.Tokens.{goes_on}
 use Rattle.compact_uses.proofs.tokenizer.tokenize.Goals as goal
+
+pub loop-character-init : goal.loop-character-init
+loop-character-init c = record {
+  can = tt;
+  finite = tt;
+  joined = rw c.new-tokens.ensures.items c.as_str-rest.ensures.text;
+  is_text = c.as_str-rest.utf8;
+  boundary = start-boundary _;
+  here = cc;
+  tokens = rw c.new-tokens.ensures.items (none-alike _);
+  alike = rw (first-piece (text_of c.as_str-rest.result.now)) (none-alike _);
+  single = λ mark. rw (first-piece (text_of c.as_str-rest.result.now)) (omega arith);
+  first = λ none. c.new-tokens.ensures.items;
+  parted = rw c.new-tokens.ensures.items tt;
+  follows = rw c.new-tokens.ensures.items refl;
+  kept = λ n name at. at;
+}
 
 pub loop-character-preserved-then-goes_on : goal.loop-character-preserved-then-goes_on
 loop-character-preserved-then-goes_on c =
     let on : goes_on c.loop-character.kind c.kind_of-next.result ≡ true = sym c.goes_on.ensures ∙ c.if-goes_on.true in
     let same : c.kind_of-next.result ≡ c.loop-character.kind = goes_on-same _ _ on in
+    let next = next-character c.loop-character.rest.now _ c.loop-character.len c.in-Some.character c.loop-character.invariant.is_text c.loop-character.invariant.boundary
+    (c.loop-character.invariant.here ∙ c.in-Some.ensures.steps.0) in
     record {
       can = tt;
       finite = tt;
-      joined = rw c.in_ok-push.ensures.text (joined-push c.loop-character.names c.loop-character.tokens.items c.loop-character.piece.text _ _ c.loop-character.invariant.joined);
+      joined = c.loop-character.invariant.joined;
+      is_text = c.loop-character.invariant.is_text;
+      boundary = rw c.len_utf8-len.ensures.value next.boundary;
+      here = rw c.len_utf8-len.ensures.value next.here;
       tokens = c.loop-character.invariant.tokens;
-      alike = rw c.in_ok-push.ensures.text (alike-push c.loop-character.kind _ _ c.loop-character.invariant.alike (sym c.kind_of-next.ensures ∙ same));
+      alike = rw (c.len_utf8-len.ensures.value, next.piece) (alike-push c.loop-character.kind _ _ c.loop-character.invariant.alike (sym c.kind_of-next.ensures ∙ same));
       single = λ mark. goes_on-no-mark _ _ on mark _;
-      first = λ none. push-some c.loop-character.piece.text c.in-Some.character c.loop-character.tokens.items (sym c.in_ok-push.ensures.text ∙ none);
+      first = λ none. push-some (before (text_of c.loop-character.rest.now) c.loop-character.len) c.in-Some.character c.loop-character.tokens.items
+          (sym next.piece ∙ ap (λ (n : ℕ). before (text_of c.loop-character.rest.now) (c.loop-character.len + n)) (sym c.len_utf8-len.ensures.value) ∙ none);
       parted = c.loop-character.invariant.parted;
       follows = c.loop-character.invariant.follows;
       kept = c.loop-character.invariant.kept;
     }
 
+pub split_at-requires : goal.split_at-requires
+split_at-requires c = boundary-bytes c.loop-character.rest.now c.loop-character.len refl c.loop-character.invariant.is_text c.loop-character.invariant.boundary
+
+pub put-requires-clause-alike : goal.put-requires-clause-alike
+put-requires-clause-alike c =
+    rw (c.split_at.ensures.front, text_of-take c.loop-character.rest.now c.loop-character.len refl c.loop-character.invariant.is_text c.loop-character.invariant.boundary) c.loop-character.invariant.alike
+
+pub put-requires-clause-single : goal.put-requires-clause-single
+put-requires-clause-single c =
+    rw (c.split_at.ensures.front, text_of-take c.loop-character.rest.now c.loop-character.len refl c.loop-character.invariant.is_text c.loop-character.invariant.boundary) c.loop-character.invariant.single
+
+pub put-requires-clause-first : goal.put-requires-clause-first
+put-requires-clause-first c =
+    rw (c.split_at.ensures.front, text_of-take c.loop-character.rest.now c.loop-character.len refl c.loop-character.invariant.is_text c.loop-character.invariant.boundary) c.loop-character.invariant.first
+
 pub loop-character-preserved : goal.loop-character-preserved
 loop-character-preserved c =
     let apart : goes_on c.loop-character.kind c.kind_of-next.result ≡ false = sym c.goes_on.ensures ∙ c.if-goes_on.false in
-    let text : c.push-in-loop-character.new.self.text ≡ c.in-Some.character ∷ [] = c.in_ok-push-2.ensures.text ∙ ap (λ t. t ++ c.in-Some.character ∷ []) c.clear.ensures.text in
+    let others_text = IsUtf8-drop c.loop-character.rest.now c.loop-character.len c.loop-character.invariant.is_text (boundary-bytes c.loop-character.rest.now c.loop-character.len refl c.loop-character.invariant.is_text c.loop-character.invariant.boundary) in
+    let next = first-character (drop c.loop-character.len c.loop-character.rest.now) _ c.in-Some.character others_text
+    (c.loop-character.invariant.here ∙ c.in-Some.ensures.steps.0) in
     record {
       can = tt;
       finite = tt;
-      joined =
-          rw (c.in_ok-push-2.ensures.text, c.clear.ensures.text) (ap (λ t. t ++ c.in-Some.character ∷ []) (c.in_ok-put.ensures.joined ∙ c.loop-character.invariant.joined));
+      joined = rw c.split_at.ensures.back (cut-joined _ _ _ c.loop-character.rest.now c.loop-character.len c.loop-character.invariant.is_text c.loop-character.invariant.boundary
+          c.loop-character.invariant.joined (rw (sym c.split_at.ensures.front) c.in_ok-put.ensures.joined));
+      is_text = rw c.split_at.ensures.back others_text;
+      boundary = rw (c.split_at.ensures.back, c.len_utf8-len-in-loop-character.ensures.value) next.boundary;
+      here = rw (c.split_at.ensures.back, c.len_utf8-len-in-loop-character.ensures.value) next.here;
       tokens = c.in_ok-put.ensures.tokens;
-      alike = rw (c.in_ok-push-2.ensures.text, c.clear.ensures.text, c.kind_of-next.ensures) (alike-one c.in-Some.character);
-      single = λ mark. rw text (one-character c.in-Some.character);
-      first = λ none. push-some [] c.in-Some.character _ (sym text ∙ none);
+      alike = rw (c.split_at.ensures.back, c.len_utf8-len-in-loop-character.ensures.value, next.piece, c.kind_of-next.ensures) (alike-one c.in-Some.character);
+      single = λ mark. rw (c.split_at.ensures.back, c.len_utf8-len-in-loop-character.ensures.value, next.piece) (one-character c.in-Some.character);
+      first = λ none. push-some [] c.in-Some.character _ (sym next.piece ∙ ap₂ (λ (bytes : List ℕ) (n : ℕ). before (text_of bytes) n) (sym c.split_at.ensures.back) (sym c.len_utf8-len-in-loop-character.ensures.value) ∙ none);
       parted = c.in_ok-put.ensures.parted;
       follows = c.in_ok-put.ensures.last c.kind_of-next.result apart;
       kept = λ n name at. c.put.ensures.kept n name (c.loop-character.invariant.kept n name at);
     }
 
-pub returns-clause-joined : goal.returns-clause-joined
-returns-clause-joined c =
-    let whole = YieldsList-end (YieldsList-from_chars c.as_str.result.now c.as_str.utf8 cc) c.loop-character.yielded _ c.loop-character.yielded_by _ _ c.in-None.is c.next.ensures.steps in
-    c.in_ok-put-2.ensures.joined ∙ c.loop-character.invariant.joined ∙ sym (map-id c.loop-character.yielded) ∙ whole.0 ∙ c.as_str.ensures.text
+pub put-requires-2-clause-alike : goal.put-requires-2-clause-alike
+put-requires-2-clause-alike c =
+    let ended : length (chars_rest c.loop-character.character-iterator) ≡ 0 = c.in-None.ensures.steps.0.0 in
+    let whole = whole-piece c.loop-character.rest.now c.loop-character.len c.loop-character.invariant.is_text c.loop-character.invariant.boundary (ap length c.loop-character.invariant.here ∙ ended) in
+    rw (sym whole) c.loop-character.invariant.alike
+
+pub put-requires-2-clause-single : goal.put-requires-2-clause-single
+put-requires-2-clause-single c =
+    let ended : length (chars_rest c.loop-character.character-iterator) ≡ 0 = c.in-None.ensures.steps.0.0 in
+    let whole = whole-piece c.loop-character.rest.now c.loop-character.len c.loop-character.invariant.is_text c.loop-character.invariant.boundary (ap length c.loop-character.invariant.here ∙ ended) in
+    rw (sym whole) c.loop-character.invariant.single
