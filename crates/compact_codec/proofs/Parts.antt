@@ -6,7 +6,7 @@ use Rattle.std.specs.Str.{is_utf8, IsAscii}
 use Rattle.std.specs.Str.Lossy.{valid_len_up_to, utf8_valid_len, utf8_error_len, error_len_after_two, error_len_after_one, error_len_of_some}
 use Rattle.std.proofs.lemmas.Bool.{cases_Bool, cases_lt, cond-true, cond-false, cond_both, eqb-true, ltb-true, ltb-false, and_from}
 use Rattle.std.proofs.lemmas.Bool.Decides.{nat_tests}
-use Rattle.std.proofs.lemmas.Str.{IsUtf8-from_is_utf8, is_utf8-from_IsUtf8, IsUtf8-append, IsUtf8-drop, IsAscii-append, IsAscii-take, IsCharBoundary-from_take, length-encode, len_utf8_bounds}
+use Rattle.std.proofs.lemmas.Str.{IsUtf8-from_is_utf8, is_utf8-from_IsUtf8, IsUtf8-append, IsUtf8-drop, IsAscii-append, IsAscii-take, IsUtf8-from_ascii, IsCharBoundary-from_take, length-encode, len_utf8_bounds}
 use Rattle.std.proofs.lemmas.List.{length-take, length-take-le, drop-take, take-take}
 use Rattle.compact_codec.specs.Utf8Table.{trailing_bytes, IsInByteRange, IsWellFormedSequence}
 use Rattle.compact_codec.specs.BrokenPart.{IsLongestFront, BeginsSequence, IsUnconvertible, IsMaximalSubpart, IsBrokenPart, IsUtf8Fault, FaultIsTheOne}
@@ -341,3 +341,10 @@ front_of_ascii bs at last order front = subst IsAscii (take-take last at bs orde
 pub ascii_to_end : (bs : List ℕ) (at last n : ℕ) → last ≤ at → length bs ≤ last + n → IsAscii (take at bs) → IsAscii (take n (drop last bs)) → IsAscii (take (length bs) bs)
 ascii_to_end bs at last n order reaches front block =
     subst IsAscii (take_all (last + n) bs reaches ∙ sym (take_all (length bs) bs (le_refl _))) (longer_ascii bs last n (front_of_ascii bs at last order front) block)
+
+pub ascii_by_ends : (bs : List ℕ) (n : ℕ) → n ≤ length bs → length bs ≤ n + n → IsAscii (take n bs) → IsAscii (take (length bs - (length bs - n)) (drop (length bs - n) bs))
+    → IsUtf8 bs
+ascii_by_ends bs n fits short front back =
+    let last = length bs - n in
+    let whole = ascii_to_end bs n last (length bs - last) (omega arith) (omega arith) front back in
+    IsUtf8-from_ascii bs (subst IsAscii (take_all (length bs) bs (le_refl _)) whole)

@@ -36,13 +36,66 @@ pub fn judge(bytes: &[u8]) -> Result<&str, Utf8Fault>
     ensures broken { OnErr result (¬ (IsUtf8 bytes.now)) }
 {
     if bytes.len() < LONG {
-        return judge_in_order(bytes);
+        return judge_short(bytes);
     }
     let letters = ascii_front(bytes);
     if letters < bytes.len() {
         return judge_in_windows(bytes, letters);
     }
     Ok(unsafe { std::str::from_utf8_unchecked(bytes) })
+}
+
+// The same as `judge`, of fewer bytes. It stands apart, so that what judges many bytes keeps its registers.
+#[inline(never)]
+fn judge_short(bytes: &[u8]) -> Result<&str, Utf8Fault>
+    requires { length bytes.now < 64 }
+    ensures exact { IsOk result ↔ IsUtf8 bytes.now }
+    ensures text { IfOk result (λ text. (text.now ≡ bytes.now) × IsUtf8 bytes.now) }
+    ensures fault { IfErr result (λ fault. IsUtf8Fault bytes.now fault.valid_up_to fault.error_len) }
+    ensures broken { OnErr result (¬ (IsUtf8 bytes.now)) }
+{
+    if !is_short_ascii(bytes) {
+        return judge_in_order(bytes);
+    }
+    Ok(unsafe { std::str::from_utf8_unchecked(bytes) })
+}
+
+// Whether the bytes are known to be ASCII characters: of fewer than 16 bytes nothing is known.
+#[inline]
+fn is_short_ascii(bytes: &[u8]) -> bool
+    requires { length bytes.now < 64 }
+    ensures { IsTrue result → IsUtf8 bytes.now }
+{
+    if bytes.len() >= 32 {
+        return ends_are_ascii(bytes, 32);
+    }
+    if bytes.len() >= 16 {
+        return ends_are_ascii(bytes, 16);
+    }
+    false
+}
+
+// Whether the first `row` bytes and the last `row` are ASCII characters, which are all of the bytes.
+#[inline(always)]
+fn ends_are_ascii(bytes: &[u8], row: usize) -> bool
+    requires within { row ≤ length bytes.now }
+    requires short { length bytes.now ≤ row + row }
+    ensures { IsTrue result → IsUtf8 bytes.now }
+{
+    is_ascii_row(&bytes[..row]) && is_ascii_row(&bytes[bytes.len() - row..])
+}
+
+// Whether each byte of a row is an ASCII character. There is no way out of the loop, so that many bytes are looked at in one
+// step.
+#[inline(always)]
+fn is_ascii_row(row: &[u8]) -> bool
+    ensures { IsTrue result → IsAscii row.now }
+{
+    let mut most = 0;
+    for &byte in row {
+        most = most.max(byte);
+    }
+    most < 0x80
 }
 
 // How many bytes at the front are ASCII characters, as whole blocks show it. The last block ends with the bytes, so that it
