@@ -1,13 +1,13 @@
 -- The longest front that is text, and the broken part after it, beside std's words for both.
-use Rattle.std.proofs.Common.{◌≡◌, ℕ, zero, suc, ◌+◌, ◌<◌, ◌≤◌, ◌⊎◌, true, false, cond, List, [], ◌∷◌, length, take, drop, Option, Some, None, slice_index, IsUtf8, encode_utf8, refl, sym, ap, subst, ◌∙◌, arith, inl, inr, ⊎_elim, true≢false, append-nil, length-drop, take_all, take-add, min, ◌-◌, take-append-drop, drop-drop, take_at}
+use Rattle.std.proofs.Common.{◌≡◌, ℕ, zero, suc, ◌+◌, ◌<◌, ◌≤◌, ◌⊎◌, true, false, cond, List, [], ◌∷◌, length, take, drop, Option, Some, None, slice_index, IsUtf8, encode_utf8, refl, sym, ap, subst, ◌∙◌, arith, inl, inr, ⊎_elim, true≢false, append-nil, length-drop, take_all, take-add, min, ◌-◌, take-append-drop, drop-drop, take_at, le_refl}
 use Rattle.std.specs.Prelude.{◌==◌, nat_lt, IsNone}
 use Rattle.std.specs.Int.{is_in_range}
-use Rattle.std.specs.Str.{is_utf8}
+use Rattle.std.specs.Str.{is_utf8, IsAscii}
 use Rattle.std.specs.Str.Lossy.{valid_len_up_to, utf8_valid_len, utf8_error_len, error_len_after_two, error_len_after_one, error_len_of_some}
 use Rattle.std.proofs.lemmas.Bool.{cases_Bool, cases_lt, cond-true, cond-false, cond_both, eqb-true, ltb-true, ltb-false, and_from}
 use Rattle.std.proofs.lemmas.Bool.Decides.{nat_tests}
-use Rattle.std.proofs.lemmas.Str.{IsUtf8-from_is_utf8, is_utf8-from_IsUtf8, IsUtf8-append, IsUtf8-drop, IsCharBoundary-from_take, length-encode, len_utf8_bounds}
-use Rattle.std.proofs.lemmas.List.{length-take, length-take-le, drop-take}
+use Rattle.std.proofs.lemmas.Str.{IsUtf8-from_is_utf8, is_utf8-from_IsUtf8, IsUtf8-append, IsUtf8-drop, IsAscii-append, IsAscii-take, IsUtf8-from_ascii, IsCharBoundary-from_take, length-encode, len_utf8_bounds}
+use Rattle.std.proofs.lemmas.List.{length-take, length-take-le, drop-take, take-take}
 use Rattle.compact_codec.specs.Utf8Table.{trailing_bytes, IsInByteRange, IsWellFormedSequence}
 use Rattle.compact_codec.specs.BrokenPart.{IsLongestFront, BeginsSequence, IsUnconvertible, IsMaximalSubpart, IsBrokenPart, IsUtf8Fault, FaultIsTheOne}
 use Rattle.compact_codec.proofs.Rows.{character-IsWellFormedSequence}
@@ -330,3 +330,21 @@ pub longer_window : (bs : List ℕ) (at end : ℕ) → at ≤ end → IsUtf8 (ta
 longer_window bs at end order front window =
     let end_is : at + (end - at) ≡ end = omega arith in
     subst (λ j. IsUtf8 (take j bs)) end_is (subst IsUtf8 (sym (take-add at (end - at) bs)) (IsUtf8-append (take at bs) (take (end - at) (drop at bs)) front window))
+
+-- a further block of ASCII, also one that begins before the end of what was passed
+pub longer_ascii : (bs : List ℕ) (at n : ℕ) → IsAscii (take at bs) → IsAscii (take n (drop at bs)) → IsAscii (take (at + n) bs)
+longer_ascii bs at n front block = subst IsAscii (sym (take-add at n bs)) (IsAscii-append (take at bs) (take n (drop at bs)) front block)
+
+pub front_of_ascii : (bs : List ℕ) (at last : ℕ) → last ≤ at → IsAscii (take at bs) → IsAscii (take last bs)
+front_of_ascii bs at last order front = subst IsAscii (take-take last at bs order) (IsAscii-take (take at bs) last front)
+
+pub ascii_to_end : (bs : List ℕ) (at last n : ℕ) → last ≤ at → length bs ≤ last + n → IsAscii (take at bs) → IsAscii (take n (drop last bs)) → IsAscii (take (length bs) bs)
+ascii_to_end bs at last n order reaches front block =
+    subst IsAscii (take_all (last + n) bs reaches ∙ sym (take_all (length bs) bs (le_refl _))) (longer_ascii bs last n (front_of_ascii bs at last order front) block)
+
+pub ascii_by_ends : (bs : List ℕ) (n : ℕ) → n ≤ length bs → length bs ≤ n + n → IsAscii (take n bs) → IsAscii (take (length bs - (length bs - n)) (drop (length bs - n) bs))
+    → IsUtf8 bs
+ascii_by_ends bs n fits short front back =
+    let last = length bs - n in
+    let whole = ascii_to_end bs n last (length bs - last) (omega arith) (omega arith) front back in
+    IsUtf8-from_ascii bs (subst IsAscii (take_all (length bs) bs (le_refl _)) whole)

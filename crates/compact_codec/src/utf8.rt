@@ -1,5 +1,6 @@
 //! Bytes read as UTF-8 (Unicode Standard, 3.9).
-ghost use Rattle.std.specs.Prelude.{◌≡◌, ◌↔◌, ◌+◌, ◌<◌, ◌≤◌, ◌++◌, take, length, IfOk, IfErr, OnErr, IsOk, IsUtf8};
+ghost use Rattle.std.specs.Prelude.{◌≡◌, ◌↔◌, ◌+◌, ◌<◌, ◌≤◌, ◌++◌, take, length, IfOk, IfErr, OnErr, IsOk, IsTrue, IsUtf8};
+ghost use Rattle.std.specs.Str.{IsAscii};
 ghost use Rattle.compact_codec.specs.Text.{text_of};
 ghost use Rattle.compact_codec.specs.Utf8Table.{TableIsTheEncodings};
 ghost use Rattle.compact_codec.specs.BrokenPart.{IsUtf8Fault, FaultIsTheOne};
@@ -35,17 +36,122 @@ pub fn judge(bytes: &[u8]) -> Result<&str, Utf8Fault>
     ensures broken { OnErr result (¬ (IsUtf8 bytes.now)) }
 {
     if bytes.len() < LONG {
-        return judge_in_order(bytes);
+        return judge_short(bytes);
     }
-    judge_onward(bytes, text_in_windows(bytes))
+    let letters = ascii_front(bytes);
+    if letters < bytes.len() {
+        return judge_in_windows(bytes, letters);
+    }
+    Ok(unsafe { std::str::from_utf8_unchecked(bytes) })
 }
 
-// How many bytes at the front are text, as whole windows show it.
-fn text_in_windows(bytes: &[u8]) -> usize
+// The same as `judge`, of fewer bytes. It stands apart, so that what judges many bytes keeps its registers.
+#[inline(never)]
+fn judge_short(bytes: &[u8]) -> Result<&str, Utf8Fault>
+    requires { length bytes.now < 64 }
+    ensures exact { IsOk result ↔ IsUtf8 bytes.now }
+    ensures text { IfOk result (λ text. (text.now ≡ bytes.now) × IsUtf8 bytes.now) }
+    ensures fault { IfErr result (λ fault. IsUtf8Fault bytes.now fault.valid_up_to fault.error_len) }
+    ensures broken { OnErr result (¬ (IsUtf8 bytes.now)) }
+{
+    if !is_short_ascii(bytes) {
+        return judge_in_order(bytes);
+    }
+    Ok(unsafe { std::str::from_utf8_unchecked(bytes) })
+}
+
+// Whether the bytes are known to be ASCII characters: of fewer than 16 bytes nothing is known.
+#[inline]
+fn is_short_ascii(bytes: &[u8]) -> bool
+    requires { length bytes.now < 64 }
+    ensures { IsTrue result → IsUtf8 bytes.now }
+{
+    if bytes.len() >= 32 {
+        return ends_are_ascii(bytes, 32);
+    }
+    if bytes.len() >= 16 {
+        return ends_are_ascii(bytes, 16);
+    }
+    false
+}
+
+// Whether the first `row` bytes and the last `row` are ASCII characters, which are all of the bytes.
+#[inline(always)]
+fn ends_are_ascii(bytes: &[u8], row: usize) -> bool
+    requires within { row ≤ length bytes.now }
+    requires short { length bytes.now ≤ row + row }
+    ensures { IsTrue result → IsUtf8 bytes.now }
+{
+    is_ascii_row(&bytes[..row]) && is_ascii_row(&bytes[bytes.len() - row..])
+}
+
+// Whether each byte of a row is an ASCII character. There is no way out of the loop, so that many bytes are looked at in one
+// step.
+#[inline(always)]
+fn is_ascii_row(row: &[u8]) -> bool
+    ensures { IsTrue result → IsAscii row.now }
+{
+    let mut most = 0;
+    for &byte in row {
+        most = most.max(byte);
+    }
+    most < 0x80
+}
+
+// How many bytes at the front are ASCII characters, as whole blocks show it. The last block ends with the bytes, so that it
+// may begin before the one ahead of it has ended.
+fn ascii_front(bytes: &[u8]) -> usize
+    requires { 64 ≤ length bytes.now }
     ensures within { result ≤ length bytes.now }
     ensures text { IsUtf8 (take result bytes.now) }
 {
+    let last = bytes.len() - LONG;
     let mut at = 0;
+    while at < last {
+        if !is_ascii(u8x64::from_slice(&bytes[at..])) {
+            return at;
+        }
+        at += LONG;
+    }
+    if is_ascii(u8x64::from_slice(&bytes[last..])) {
+        bytes.len()
+    } else {
+        last
+    }
+}
+
+// Whether each byte of a block is an ASCII character.
+#[inline(always)]
+fn is_ascii(block: u8x64) -> bool
+    ensures { IsTrue result → IsAscii block }
+{
+    block.simd_ge(u8x64::splat(0x80)).to_bitmask() == 0
+}
+
+// The same as `judge`, where the bytes before `at` are known to be text. What is a text has one window after the other.
+fn judge_in_windows(bytes: &[u8], at: usize) -> Result<&str, Utf8Fault>
+    requires within { at ≤ length bytes.now }
+    requires text { IsUtf8 (take at bytes.now) }
+    ensures exact { IsOk result ↔ IsUtf8 bytes.now }
+    ensures text { IfOk result (λ text. (text.now ≡ bytes.now) × IsUtf8 bytes.now) }
+    ensures fault { IfErr result (λ fault. IsUtf8Fault bytes.now fault.valid_up_to fault.error_len) }
+    ensures broken { OnErr result (¬ (IsUtf8 bytes.now)) }
+{
+    let end = text_in_windows(bytes, at);
+    if end < bytes.len() {
+        return judge_onward(bytes, end);
+    }
+    Ok(unsafe { std::str::from_utf8_unchecked(bytes) })
+}
+
+// How many bytes at the front are text, where those before `from` are known to be, as whole windows show it.
+fn text_in_windows(bytes: &[u8], from: usize) -> usize
+    requires within { from ≤ length bytes.now }
+    requires text { IsUtf8 (take from bytes.now) }
+    ensures within { result ≤ length bytes.now }
+    ensures text { IsUtf8 (take result bytes.now) }
+{
+    let mut at = from;
     while bytes.len() - at >= LONG {
         let end = window_end(bytes, at, WINDOW);
         if !simdutf8::is_utf8(&bytes[at..end]) {
