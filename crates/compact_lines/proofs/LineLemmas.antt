@@ -11,7 +11,7 @@ use Rattle.compact_str.specs.declared.ReserveError.{ReserveError}
 use Rattle.compact_edit.specs.declared.edit.Reply.{Reply}
 use Rattle.compact_lines.specs.declared.command.Command.{Command}
 use Rattle.compact_lines.specs.Sessions.{Executes, command_asks}
-use Rattle.compact_lines.specs.Lines.{AnswersCommand, DoesOrRefuses, outcome_line, value_line, AnswersLine, AnswersLines, AppendsAnswers, IsFirstLine}
+use Rattle.compact_lines.specs.Lines.{IsReadFrom, AnswersCommand, DoesOrRefuses, outcome_line, value_line, AnswersLine, AnswersLines, AppendsAnswers, IsFirstLine}
 
 -- the growth of the program's value
 abbrev pub standard : Growth
@@ -69,10 +69,10 @@ command-answered (Ok x) g v w u command outcome old mid new ok err first same se
     )
 
 pub command-of-line : {X E : Type 0} (r : Result X E) (g : Growth) (v w : PlacedText) (command : Option Command) (line : List ℕ) (old new : Option (List ℕ))
-    → OnOk r ((answer : List ℕ) × AnswersCommand g v command answer w × Appends old new answer)
+    → IsReadFrom line command → OnOk r ((answer : List ℕ) × AnswersCommand g v command answer w × Appends old new answer)
     → OnOk r ((answer : List ℕ) × AnswersLine g v line answer w × Appends old new answer)
-command-of-line (Err e) g v w command line old new answered = tt
-command-of-line (Ok x) g v w command line old new answered = (answered.0, (command, answered.1), answered.2)
+command-of-line (Err e) g v w command line old new is answered = tt
+command-of-line (Ok x) g v w command line old new is answered = (answered.0, (command, is, answered.1), answered.2)
 
 pub no-command : {X E : Type 0} (r : Result X E) (g : Growth) (v : PlacedText) (old new : Option (List ℕ)) → OnOk r (Appends old new (codes "?\n"))
     → OnOk r ((answer : List ℕ) × AnswersCommand g v None answer v × Appends old new answer)
