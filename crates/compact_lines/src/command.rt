@@ -1,4 +1,6 @@
 //! How a line is read.
+ghost use Rattle.std.specs.Prelude.{◌≡◌, List, ℕ, codes, IfSome, IsSome};
+ghost use Rattle.compact_lines.specs.Words.{word_of, rest_of, text_after, command_word, edit_word, TakesText, EditTakesText};
 
 use compact_edit::Edit;
 use compact_str::Standard;
@@ -32,7 +34,13 @@ pub fn answers(alloc: Global, line: &str) -> Result<Vec<bool>, AllocError> {
 
 /// Reads a line: a word, and after one space what belongs to it. `None` is a line that fits no command. `answers` are those
 /// that the line spells.
-pub fn parse<'a>(line: &'a str, answers: &'a [bool]) -> Option<Command<'a>> {
+pub fn parse<'a>(line: &'a str, answers: &'a [bool]) -> Option<Command<'a>>
+    ensures word { IfSome result (λ command. word_of line.now ≡ command_word command) }
+    ensures text { IfSome result (TakesText (rest_of line.now)) }
+    ensures new { word_of line.now ≡ codes "new" → IsSome result }
+    ensures clonefrom { word_of line.now ≡ codes "clonefrom" → IsSome result }
+    ensures pushstr { word_of line.now ≡ codes "pushstr" → IsSome result }
+{
     let (word, rest) = first_word(line);
     match word {
         "new" => Some(Command::New(rest.unwrap_or(""))),
@@ -52,7 +60,10 @@ pub fn parse<'a>(line: &'a str, answers: &'a [bool]) -> Option<Command<'a>> {
 }
 
 /// Reads an edit of one word.
-fn parse_bare<'a>(word: &str) -> Option<Edit<'a, Standard>> {
+fn parse_bare<'a>(word: &str) -> Option<Edit<'a, Standard>>
+    ensures no_text { IfSome result (λ edit. (text : List ℕ) → EditTakesText text edit) }
+    ensures word { IfSome result (λ edit. word.now ≡ edit_word edit) }
+{
     match word {
         "pop" => Some(Edit::Pop),
         "clear" => Some(Edit::Clear),
@@ -65,7 +76,10 @@ fn parse_bare<'a>(word: &str) -> Option<Edit<'a, Standard>> {
 }
 
 /// Reads an edit of a word and a number.
-fn parse_with_number<'a>(word: &str, number: usize) -> Option<Edit<'a, Standard>> {
+fn parse_with_number<'a>(word: &str, number: usize) -> Option<Edit<'a, Standard>>
+    ensures no_text { IfSome result (λ edit. (text : List ℕ) → EditTakesText text edit) }
+    ensures word { IfSome result (λ edit. word.now ≡ edit_word edit) }
+{
     match word {
         "remove" => Some(Edit::Remove(number)),
         "truncate" => Some(Edit::Truncate(number)),
@@ -78,7 +92,11 @@ fn parse_with_number<'a>(word: &str, number: usize) -> Option<Edit<'a, Standard>
 }
 
 /// Reads an edit that ends with a text, which is empty where nothing stands in its place.
-fn parse_with_text<'a>(word: &str, rest: Option<&'a str>) -> Option<Edit<'a, Standard>> {
+fn parse_with_text<'a>(word: &str, rest: Option<&'a str>) -> Option<Edit<'a, Standard>>
+    ensures text { IfSome result (EditTakesText (text_after rest.entry)) }
+    ensures pushstr { word.now ≡ codes "pushstr" → IsSome result }
+    ensures word { IfSome result (λ edit. word.now ≡ edit_word edit) }
+{
     match word {
         "push" => Some(Edit::Push(character(rest?)?)),
         "pushstr" => Some(Edit::PushStr(rest.unwrap_or(""))),
@@ -100,7 +118,10 @@ fn parse_with_text<'a>(word: &str, rest: Option<&'a str>) -> Option<Edit<'a, Sta
 }
 
 /// Reads where a range that is taken out starts and ends.
-fn parse_range<'a>(bounds: &str) -> Option<Edit<'a, Standard>> {
+fn parse_range<'a>(bounds: &str) -> Option<Edit<'a, Standard>>
+    ensures no_text { IfSome result (λ edit. (text : List ℕ) → EditTakesText text edit) }
+    ensures word { IfSome result (λ edit. edit_word edit ≡ codes "drain") }
+{
     let (start, end) = first_word(bounds);
     Some(Edit::Drain(range_start(start)?, range_end(end?)?))
 }
@@ -111,7 +132,10 @@ fn are_bits(text: &str) -> bool {
 }
 
 /// The text before the first space, and what follows that space.
-fn first_word(text: &str) -> (&str, Option<&str>) {
+fn first_word(text: &str) -> (&str, Option<&str>)
+    ensures word { result.0.now ≡ word_of text.now }
+    ensures rest { text_after result.1 ≡ rest_of text.now }
+{
     match text.split_once(' ') {
         Some((word, rest)) => (word, Some(rest)),
         None => (text, None),

@@ -3,10 +3,14 @@
 
 use compact_lines::run_lines;
 use std::io;
+use std::io::BufWriter;
 use std::process::ExitCode;
 
 fn main(rt: HostRuntime) -> ExitCode {
     let mut reader = rt.stdin();
-    let mut writer = io::writer(&rt);
+    // An answer goes out in pieces: they are gathered, and `run_lines` flushes after each line.
+    let Ok(mut writer) = BufWriter::new(rt.alloc(), io::writer(&rt)) else {
+        return ExitCode::FAILURE;
+    };
     ExitCode::from(run_lines(rt.alloc(), &mut reader, &mut writer))
 }

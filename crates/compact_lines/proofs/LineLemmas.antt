@@ -1,0 +1,129 @@
+-- Lines that are answered one by one.
+use Rattle.std.proofs.Common.{rules, codes, ◌≡◌, ℕ, ◌<◌, List, [], ◌∷◌, ◌++◌, length, Option, Some, None, IfSome, sym, refl, ap, ◌∙◌, append_assoc, append-nil, IsTrue, Result, Ok, Err, IfOk, OnOk, OnErr}
+use Rattle.std.specs.Option.{option_map}
+use Rattle.std.specs.List.{concat}
+use Rattle.std.specs.Io.KnownBytes.{Appends, Keeps, IsAtEnd}
+use Rattle.std.specs.Io.BufRead.{drop_through, take_through, strip_last, DropsThrough}
+use Rattle.compact_str.specs.Value.{PlacedText}
+use Rattle.compact_str.specs.Capacity.{Growth}
+use Rattle.compact_str.specs.declared.Standard.{Standard}
+use Rattle.compact_str.specs.declared.ReserveError.{ReserveError}
+use Rattle.compact_edit.specs.declared.edit.Reply.{Reply}
+use Rattle.compact_lines.specs.declared.command.Command.{Command}
+use Rattle.compact_lines.specs.Sessions.{Executes, command_asks}
+use Rattle.compact_lines.specs.Lines.{IsReadFrom, AnswersCommand, DoesOrRefuses, outcome_line, value_line, AnswersLine, AnswersLines, AppendsAnswers, IsFirstLine}
+
+-- the growth of the program's value
+abbrev pub standard : Growth
+standard = record { least = 32; numerator = 3; denominator = 2 }
+
+-- what is appended in two steps is appended together
+pub appends-both : (a b c : Option (List ℕ)) (xs ys : List ℕ) → Appends a b xs → Appends b c ys → Appends a c (xs ++ ys)
+appends-both None b c xs ys first then = tt
+appends-both (Some known) None c xs ys first then = elim first [ ]
+appends-both (Some known) (Some bs) None xs ys first then = elim then [ ]
+appends-both (Some known) (Some bs) (Some cs) xs ys first then = then ∙ ap (λ z. z ++ ys) first ∙ append_assoc known xs ys
+
+-- what is known stays behind what was appended
+pub appends-kept : (a b c : Option (List ℕ)) (xs : List ℕ) → Appends a b xs → Keeps b c → Appends a c xs
+appends-kept None b c xs first kept = tt
+appends-kept (Some known) None c xs first kept = elim first [ ]
+appends-kept (Some known) (Some bs) None xs first kept = elim kept [ ]
+appends-kept (Some known) (Some bs) (Some cs) xs first kept = kept ∙ first
+
+pub appends-nothing : (a : Option (List ℕ)) → Appends a a []
+appends-nothing None = tt
+appends-nothing (Some known) = sym (append-nil known)
+
+-- after the first lines comes one more
+pub answers-more : (g : Growth) (v w u : PlacedText) (known left : Option (List ℕ)) (answers : List (List ℕ)) (line answer : List ℕ)
+    → AnswersLines g v known answers left w → IsFirstLine left line → AnswersLine g w line answer u
+    → AnswersLines g v known (answers ++ answer ∷ []) (option_map (λ bytes. drop_through 10 bytes) left) u
+answers-more g v w u known left [] line answer so_far first is =
+    (line, u, rw (sym so_far.0) first, rw (sym so_far.1) is, (ap (λ known. option_map (λ bytes. drop_through 10 bytes) known) so_far.0, refl))
+answers-more g v w u known left (a ∷ others) line answer so_far first is =
+    (so_far.0, so_far.1, so_far.2, so_far.3, answers-more g so_far.1 w u _ left others line answer so_far.4 first is)
+
+-- the lines so far of the known bytes are answered so, and what is left of these is known
+abbrev pub AnswersSoFar : Growth → PlacedText → Option (List ℕ) → Option (List ℕ) → Option (List ℕ) → Option (List ℕ) → PlacedText → Type 0
+AnswersSoFar g v known now old new w =
+    (answers : List (List ℕ)) × (left : Option (List ℕ)) × AnswersLines g v known answers left w
+    × IfSome left (λ _. now ≡ left) × Appends old new (concat answers)
+
+does-or-refuses : (g : Growth) (v w : PlacedText) (command : Command) (outcome : Result (Reply Standard) ReserveError)
+    → IfOk outcome (λ reply. Executes g v command reply w) → OnErr outcome ((w ≡ v) × IsTrue (command_asks command)) → DoesOrRefuses g v command outcome w
+does-or-refuses g v w command (Ok reply) ok err = ok
+does-or-refuses g v w command (Err e) ok err = err
+
+-- a command that is executed, and whose two lines are written, is answered
+pub command-answered : {X E : Type 0} (r : Result X E) (g : Growth) (v w u : PlacedText) (command : Command) (outcome : Result (Reply Standard) ReserveError)
+    (old mid new : Option (List ℕ)) → IfOk outcome (λ reply. Executes g v command reply w) → OnErr outcome ((w ≡ v) × IsTrue (command_asks command))
+    → Appends old mid (outcome_line outcome) → u ≡ w → OnOk r (Appends mid new (value_line u))
+    → OnOk r ((answer : List ℕ) × AnswersCommand g v (Some command) answer w × Appends old new answer)
+command-answered (Err e) g v w u command outcome old mid new ok err first same second = tt
+command-answered (Ok x) g v w u command outcome old mid new ok err first same second =
+    let line = rw same at second in (
+      outcome_line outcome ++ value_line w,
+      (outcome, refl, does-or-refuses g v w command outcome ok err),
+      appends-both old mid new (outcome_line outcome) (value_line w) first line,
+    )
+
+pub command-of-line : {X E : Type 0} (r : Result X E) (g : Growth) (v w : PlacedText) (command : Option Command) (line : List ℕ) (old new : Option (List ℕ))
+    → IsReadFrom line command → OnOk r ((answer : List ℕ) × AnswersCommand g v command answer w × Appends old new answer)
+    → OnOk r ((answer : List ℕ) × AnswersLine g v line answer w × Appends old new answer)
+command-of-line (Err e) g v w command line old new is answered = tt
+command-of-line (Ok x) g v w command line old new is answered = (answered.0, (command, is, answered.1), answered.2)
+
+pub no-command : {X E : Type 0} (r : Result X E) (g : Growth) (v : PlacedText) (old new : Option (List ℕ)) → OnOk r (Appends old new (codes "?\n"))
+    → OnOk r ((answer : List ℕ) × AnswersCommand g v None answer v × Appends old new answer)
+no-command (Err e) g v old new wrote = tt
+no-command (Ok x) g v old new wrote = (codes "?\n", (refl, refl), wrote)
+
+concat-snoc : (xss : List (List ℕ)) (ys : List ℕ) → concat (xss ++ ys ∷ []) ≡ concat xss ++ ys
+concat-snoc [] ys = append-nil ys
+concat-snoc (xs ∷ xss) ys = ap (λ z. xs ++ z) (concat-snoc xss ys) ∙ sym (append_assoc xs (concat xss) ys)
+
+known-itself : (known : Option (List ℕ)) → IfSome known (λ _. known ≡ known)
+known-itself None = tt
+known-itself (Some bytes) = refl
+
+pub so-far-none : (g : Growth) (v : PlacedText) (known old : Option (List ℕ)) → AnswersSoFar g v known known old old v
+so-far-none g v known old = ([], known, (refl, refl), known-itself known, appends-nothing old)
+
+at-end : (now left : Option (List ℕ)) → IfSome left (λ _. now ≡ left) → IsAtEnd now → IsAtEnd left
+at-end now None same end = tt
+at-end now (Some bytes) same end = let known_end = rw same at end in known_end
+
+pub so-far-all : (g : Growth) (v w : PlacedText) (known now old new : Option (List ℕ)) → AnswersSoFar g v known now old new w → IsAtEnd now
+    → AppendsAnswers g v known old new w
+so-far-all g v w known now old new so_far end = (so_far.0, (so_far.1, at-end now so_far.1 so_far.3 end, so_far.2), so_far.4)
+
+some-taken : (bytes taken : List ℕ) → taken ≡ take_through 10 bytes → 0 < length taken → 0 < length bytes
+some-taken [] taken same some = let none = rw same at some in none
+some-taken (b ∷ bytes) taken same some = search rules
+
+first-line : (now left : Option (List ℕ)) (taken line : List ℕ) → IfSome left (λ _. now ≡ left) → IfSome now (λ bytes. taken ≡ take_through 10 bytes)
+    → 0 < length taken → line ≡ strip_last 10 taken → IsFirstLine left line
+first-line now None taken line same takes some stripped = tt
+first-line now (Some bytes) taken line same takes some stripped =
+    let takes_these = rw same at takes in
+    (some-taken bytes taken takes_these some, stripped ∙ ap (λ t. strip_last 10 t) takes_these)
+
+left-next : (now next left : Option (List ℕ)) → IfSome left (λ _. now ≡ left) → DropsThrough now next 10
+    → IfSome (option_map (λ bytes. drop_through 10 bytes) left) (λ _. next ≡ option_map (λ bytes. drop_through 10 bytes) left)
+left-next now next None same drops = tt
+left-next now next (Some bytes) same drops = let dropped = rw same at drops in dropped
+
+pub so-far-more : (g : Growth) (v w u : PlacedText) (known now next old mid new kept : Option (List ℕ)) (taken line : List ℕ)
+    → AnswersSoFar g v known now old mid w → IfSome now (λ bytes. taken ≡ take_through 10 bytes) → 0 < length taken
+    → line ≡ strip_last 10 taken → DropsThrough now next 10
+    → (answer : List ℕ) × AnswersLine g w line answer u × Appends mid new answer → Keeps new kept
+    → AnswersSoFar g v known next old kept u
+so-far-more g v w u known now next old mid new kept taken line so_far takes some stripped drops answered keeps = (
+  so_far.0 ++ answered.0 ∷ [],
+  option_map (λ bytes. drop_through 10 bytes) so_far.1,
+  answers-more g v w u known so_far.1 so_far.0 line answered.0 so_far.2 (first-line now so_far.1 taken line so_far.3 takes some stripped) answered.1,
+  left-next now next so_far.1 so_far.3 drops,
+  rw (concat-snoc so_far.0 answered.0) (appends-kept old new kept (concat so_far.0 ++ answered.0)
+      (appends-both old mid new (concat so_far.0) answered.0 so_far.4 answered.2) keeps),
+)

@@ -1,0 +1,85 @@
+-- What the lines of the input are answered. A line ends with the byte 10, which the last may lack.
+use Rattle.std.specs.Prelude.{◌≡◌, ◌<◌, ℕ, List, [], ◌∷◌, ◌++◌, length, codes, Option, None, Some, IfSome, IsTrue, Result, Ok, Err, ⊤}
+use Rattle.std.specs.Option.{option_map}
+use Rattle.std.specs.List.{concat}
+use Rattle.std.specs.Char.{encode_utf8}
+use Rattle.std.specs.Fmt.{decimal}
+use Rattle.std.specs.Io.BufRead.{first_piece, drop_through}
+use Rattle.std.specs.Io.KnownBytes.{IsAtEnd, Appends}
+use Rattle.compact_str.specs.Text.{utf8, size}
+use Rattle.compact_str.specs.Value.{Place, inline, heap, static, PlacedText}
+use Rattle.compact_str.specs.Capacity.{Growth}
+use Rattle.compact_str.specs.declared.Standard.{Standard}
+use Rattle.compact_str.specs.declared.ReserveError.{ReserveError}
+use Rattle.compact_edit.specs.declared.edit.Reply.{Reply}
+use Rattle.compact_edit.specs.declared.edit.Reply.TheVariants.{Done, Char, Text, BadPosition, Refused}
+use Rattle.compact_lines.specs.declared.command.Command.{Command}
+use Rattle.compact_lines.specs.Sessions.{Executes, command_asks}
+use Rattle.compact_lines.specs.Words.{word_of, rest_of, command_word, TakesText}
+
+-- the line that a reply is written as
+abbrev pub reply_line : Reply Standard → List ℕ
+reply_line Done = codes "done\n"
+reply_line (Char (Some c)) = codes "char " ++ encode_utf8 c ++ codes "\n"
+reply_line (Char None) = codes "none\n"
+reply_line (Text v) = codes "text " ++ utf8 v.text ++ codes "\n"
+reply_line BadPosition = codes "bad position\n"
+reply_line (Refused e) = codes "refused\n"
+
+-- the word for a place
+abbrev pub place_word : Place → List ℕ
+place_word inline = codes "inline"
+place_word heap = codes "heap"
+place_word static = codes "static"
+
+-- the line that a value is written as
+abbrev pub value_line : PlacedText → List ℕ
+value_line v =
+    place_word v.placement.place ++ codes " " ++ decimal (size v.text) ++ codes " " ++ decimal v.placement.capacity
+    ++ codes " " ++ utf8 v.text ++ codes "\n"
+
+-- from v a command is done with a reply and leaves w, or was refused the value that it makes
+abbrev pub DoesOrRefuses : Growth → PlacedText → Command → Result (Reply Standard) ReserveError → PlacedText → Type 0
+DoesOrRefuses g v command (Ok reply) w = Executes g v command reply w
+DoesOrRefuses g v command (Err e) w = (w ≡ v) × IsTrue (command_asks command)
+
+-- the line that says how a command ended
+abbrev pub outcome_line : Result (Reply Standard) ReserveError → List ℕ
+outcome_line (Ok reply) = reply_line reply
+outcome_line (Err e) = codes "refused\n"
+
+-- from v a command may be answered by these bytes and leave w; what is no command is marked, and leaves v
+abbrev pub AnswersCommand : Growth → PlacedText → Option Command → List ℕ → PlacedText → Type 0
+AnswersCommand g v None answer w = (answer ≡ codes "?\n") × (w ≡ v)
+AnswersCommand g v (Some command) answer w =
+    (outcome : Result (Reply Standard) ReserveError) × (answer ≡ outcome_line outcome ++ value_line w)
+    × DoesOrRefuses g v command outcome w
+
+-- a command that is read from a line has its word and its text
+abbrev pub IsReadFrom : List ℕ → Option Command → Type 0
+IsReadFrom line None = ⊤
+IsReadFrom line (Some command) = (word_of line ≡ command_word command) × TakesText (rest_of line) command
+
+-- from v a line may be answered by these bytes and leave w
+abbrev pub AnswersLine : Growth → PlacedText → List ℕ → List ℕ → PlacedText → Type 0
+AnswersLine g v line answer w = (command : Option Command) × IsReadFrom line command × AnswersCommand g v command answer w
+
+-- the line is the first one of the known bytes
+abbrev pub IsFirstLine : Option (List ℕ) → List ℕ → Type 0
+IsFirstLine known line = IfSome known (λ bytes. (0 < length bytes) × (line ≡ first_piece 10 bytes))
+
+-- from v the first lines of the known bytes are answered so, one by one, and w and the left bytes are there after them
+abbrev pub AnswersLines : Growth → PlacedText → Option (List ℕ) → List (List ℕ) → Option (List ℕ) → PlacedText → Type 0
+AnswersLines g v known [] left w = (left ≡ known) × (w ≡ v)
+AnswersLines g v known (answer ∷ answers) left w =
+    (line : List ℕ) × (u : PlacedText) × IsFirstLine known line × AnswersLine g v line answer u
+    × AnswersLines g u (option_map (λ bytes. drop_through 10 bytes) known) answers left w
+
+-- from v all lines of the known bytes are answered so, and leave w
+abbrev pub AnswersAll : Growth → PlacedText → Option (List ℕ) → List (List ℕ) → PlacedText → Type 0
+AnswersAll g v known answers w = (left : Option (List ℕ)) × IsAtEnd left × AnswersLines g v known answers left w
+
+-- what a writer has taken grew by all answers
+abbrev pub AppendsAnswers : Growth → PlacedText → Option (List ℕ) → Option (List ℕ) → Option (List ℕ) → PlacedText → Type 0
+AppendsAnswers g v known old new w =
+    (answers : List (List ℕ)) × AnswersAll g v known answers w × Appends old new (concat answers)
