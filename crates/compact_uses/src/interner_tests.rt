@@ -74,7 +74,7 @@ fn a_short_name_needs_no_memory_and_a_long_text_does(rt: HostRuntime) {
     let hog = take_all(&rt, rt.alloc());
     assert_eq!(rt; number_of(&rt, &mut names, "a"), 0);
     assert_refused(&rt, &mut names, letters(30), 4);
-    assert_refused(&rt, &mut names, letters(25), 4);
+    assert_eq!(rt; number_of(&rt, &mut names, letters(25)), 3);
     drop(hog);
     assert_eq!(rt; names.name(3), Some(letters(25)));
     assert_eq!(rt; number_of(&rt, &mut names, letters(30)), 4);
