@@ -69,8 +69,6 @@ lto = "fat"
 
 [workspace]
 END
-# Cargo does not see that the static library has changed, so the program is linked anew.
-rm -rf "$built"/target/release/.fingerprint/bench-*
 cd "$crate"
 # Cargo does not look at what a link argument names, and would keep a program with an earlier library in it.
 rm -rf "$built"/target/release/.fingerprint/bench-*

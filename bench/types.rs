@@ -6,8 +6,6 @@ use std::array;
 pub trait Text: Clone {
     fn new(text: &str) -> Self;
     fn as_bytes(&self) -> &[u8];
-    fn as_str(&self) -> &str;
-    fn push(&mut self, character: char);
     fn push_str(&mut self, text: &str);
     fn insert(&mut self, at: usize, character: char);
     fn remove(&mut self, at: usize) -> char;
@@ -30,16 +28,6 @@ macro_rules! text {
             #[inline]
             fn as_bytes(&self) -> &[u8] {
                 self.as_bytes()
-            }
-
-            #[inline]
-            fn as_str(&self) -> &str {
-                self.as_str()
-            }
-
-            #[inline]
-            fn push(&mut self, character: char) {
-                self.push(character);
             }
 
             #[inline]

@@ -18,6 +18,8 @@ mod extended;
 #[cfg(test)]
 mod formatted;
 #[cfg(test)]
+mod interned;
+#[cfg(test)]
 mod made;
 #[cfg(test)]
 mod memory;
