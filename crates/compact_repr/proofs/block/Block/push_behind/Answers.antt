@@ -22,7 +22,7 @@ pub invariant_of-self : goal.invariant_of-self
 invariant_of-self c = (
   omega (arith, c.if-self.false, c.if-text-gt-MOST_AT_ONCE.false, c.separator.invariant.0),
   rw (← c.as_bytes.ensures.value, c.write_at_once.ensures.behind, c.write_padded.ensures)
-  (IsUtf8-append _ _ (IsUtf8-append _ _ c.self.invariant.1 c.separator.invariant.1) c.as_bytes.ensures.utf8),
+      (IsUtf8-append _ _ (IsUtf8-append _ _ c.self.invariant.1 c.separator.invariant.1) c.as_bytes.ensures.utf8),
 )
 
 pub returns-clause-pushed : goal.returns-clause-pushed
