@@ -1,19 +1,11 @@
-//! Callers of the library as its users write them, and the tests that cross its crates.
+//! Callers of the library as its users write them, and tests of them, of growth policies and of whole lines.
 #![tactic(auto)]
 
 #[cfg(test)]
 mod called;
 mod callers;
 #[cfg(test)]
-mod changed;
-#[cfg(test)]
-mod cloned;
-#[cfg(test)]
-mod compared;
-#[cfg(test)]
 mod growth;
-#[cfg(test)]
-mod handed_on;
 mod iterated;
 mod keys;
 mod lenders;
@@ -22,39 +14,19 @@ mod lent;
 #[cfg(test)]
 mod lines;
 #[cfg(test)]
-mod made;
-#[cfg(test)]
 mod memory;
 mod out_callers;
-#[cfg(test)]
-mod packed;
 mod packed_callers;
-#[cfg(test)]
-mod packed_edits;
 mod plain_callers;
 mod policies;
-#[cfg(test)]
-mod positions;
 #[cfg(test)]
 mod push_reports;
 mod pushes;
 #[cfg(test)]
 mod random_pushes;
-#[cfg(test)]
-mod refused;
-#[cfg(test)]
-mod refused_edits;
-#[cfg(test)]
-mod refused_out;
-#[cfg(test)]
-mod refused_positions;
 mod run_callers;
 #[cfg(test)]
 mod sessions;
-#[cfg(test)]
-mod shortened;
-#[cfg(test)]
-mod shown;
 mod taken;
 #[cfg(test)]
 mod taken_tests;

@@ -1,14 +1,27 @@
 //! Lists of pushes under several growth policies, with what they move; and other calls under those policies.
 
+use crate::edits::remove;
 use crate::memory::{spare, take_all};
 use crate::policies::{Double, Large, Slow};
-use crate::positions::remove;
 use crate::pushes::{joined, joined_in_doubled_room};
 use crate::values::{append, assert_heap, assert_inline, letters};
 use compact_edit::{PushReport, run_pushes};
 use compact_str::{Policy, PolicyString, Standard};
 use std::alloc::Global;
 use std::process::Abort;
+
+/// Puts a letter in at a boundary, which is granted.
+fn insert<P: Policy>(rt: &impl Abort, value: &mut PolicyString<P>, index: usize) {
+    assert!(rt; value.is_char_boundary(index));
+    value.insert(index, 'a').expect(rt, "memory");
+}
+
+/// Takes the first letter out, which is granted.
+fn remove_first<P: Policy>(rt: &impl Abort, value: &mut PolicyString<P>) {
+    assert!(rt; !value.is_empty());
+    assert!(rt; value.is_char_boundary(0));
+    assert_eq!(rt; value.remove(0).expect(rt, "memory"), 'a');
+}
 
 /// Asserts how many bytes were moved, and how many pushes refused.
 fn assert_counts<P: Policy>(rt: &impl Abort, report: &PushReport<P>, moved: u64, refused: usize) {
@@ -98,7 +111,7 @@ fn a_first_buffer_is_large(rt: HostRuntime) {
     let alloc = rt.alloc();
     assert_pushed::<Large>(&rt, alloc, &[letters(25)], 4096, 25, 0);
     let mut value = PolicyString::<Large>::const_new(alloc, letters(30));
-    assert_eq!(rt; remove(&rt, &mut value, 0), 'a');
+    remove_first(&rt, &mut value);
     assert_heap(&rt, &value, 4096, 29);
 }
 
@@ -154,4 +167,20 @@ fn parts_are_joined(rt: HostRuntime) {
     let doubled = joined_in_doubled_room(rt.alloc(), &[letters(24), "a"]);
     assert_heap(&rt, &doubled.value, 48, 25);
     assert_counts(&rt, &doubled, 24, 0);
+}
+
+#[test]
+fn another_policy_owns_in_its_own_least_buffer(rt: HostRuntime) {
+    let mut value = PolicyString::<Large>::const_new(rt.alloc(), letters(30));
+    remove_first(&rt, &mut value);
+    assert_heap(&rt, &value, 4096, 29);
+    insert(&rt, &mut value, 0);
+    assert_heap(&rt, &value, 4096, 30);
+}
+
+#[test]
+fn another_policy_inserts_in_its_own_least_buffer(rt: HostRuntime) {
+    let mut value = PolicyString::<Large>::const_new(rt.alloc(), letters(30));
+    insert(&rt, &mut value, 30);
+    assert_heap(&rt, &value, 4096, 31);
 }

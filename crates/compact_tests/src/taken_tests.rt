@@ -2,16 +2,30 @@
 
 use crate::lines::assert_prints;
 use crate::memory::{spare, take_all};
-use crate::refused_edits::{room_for, run_all};
 use crate::taken::{every_second, folded, without_spaces};
 use crate::values::{append, assert_heap, assert_inline, assert_static, copied, lasting, letters};
-use compact_edit::{Edit, Reply};
+use compact_edit::{Edit, Reply, run};
 use compact_str::{CompactString, Drain, Standard};
 use std::alloc::Global;
 use std::fmt::Write;
 use std::ops::Bound;
 use std::ops::Bound::{Excluded, Included, Unbounded};
 use std::process::Abort;
+
+/// Room for so many replies.
+fn room_for(rt: &impl Abort, alloc: Global, count: usize) -> Vec<Reply<Standard>> {
+    Vec::with_capacity(alloc, count).expect(rt, "memory")
+}
+
+/// Runs edits, for whose replies there is room.
+fn run_all(
+    rt: &impl Abort,
+    value: &mut CompactString,
+    edits: &[Edit<Standard>],
+    replies: &mut Vec<Reply<Standard>>,
+) {
+    run(value, edits, replies).expect(rt, "room for the replies");
+}
 
 /// A drain of a range, which is granted.
 fn drain<'a>(

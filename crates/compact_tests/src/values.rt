@@ -28,21 +28,9 @@ pub fn lasting(alloc: Global, count: usize) -> CompactString {
     CompactString::const_new(alloc, letters(count))
 }
 
-/// `text` in a buffer of just that capacity.
-pub fn buffered(rt: &impl Abort, alloc: Global, capacity: usize, text: &str) -> String {
-    let mut buffer = String::with_capacity(alloc, capacity).expect(rt, "memory");
-    buffer.push_str(text).expect(rt, "memory");
-    buffer
-}
-
 /// Appends `text`, which is granted.
 pub fn append<P: Policy>(rt: &impl Abort, value: &mut PolicyString<P>, text: &str) {
     value.push_str(text).expect(rt, "memory");
-}
-
-/// A clone, for which no memory is needed or there is some.
-pub fn clone_of(rt: &impl Abort, value: &CompactString) -> CompactString {
-    value.clone().expect(rt, "memory")
 }
 
 /// The name of a value's place.

@@ -1,71 +1,13 @@
 //! Values as they are edited at their end and by byte position, with ample memory.
 
-use crate::policies::Large;
+use crate::edits::{insert, insert_str, push, remove, repeated, replace, split, truncate};
 use crate::values::{assert_heap, assert_inline, assert_static, copied, empty, lasting, letters};
-use compact_str::{CompactString, Policy, PolicyString};
+use compact_str::CompactString;
 use std::fmt;
 use std::fmt::Write;
 use std::ops::Bound;
 use std::ops::Bound::{Excluded, Included, Unbounded};
 use std::process::Abort;
-
-/// Appends a character, which is granted.
-pub fn push(rt: &impl Abort, value: &mut CompactString, character: char) {
-    value.push(character).expect(rt, "memory");
-}
-
-/// Puts a character in at a position that is tested first.
-pub fn insert<P: Policy>(
-    rt: &impl Abort,
-    value: &mut PolicyString<P>,
-    index: usize,
-    character: char,
-) {
-    assert!(rt; value.is_char_boundary(index));
-    value.insert(index, character).expect(rt, "memory");
-}
-
-/// Puts a text in at a position that is tested first.
-pub fn insert_str(rt: &impl Abort, value: &mut CompactString, index: usize, text: &str) {
-    assert!(rt; value.is_char_boundary(index));
-    value.insert_str(index, text).expect(rt, "memory");
-}
-
-/// Takes a character out at a position that is tested first.
-pub fn remove<P: Policy>(rt: &impl Abort, value: &mut PolicyString<P>, index: usize) -> char {
-    assert!(rt; index < value.len());
-    assert!(rt; value.is_char_boundary(index));
-    value.remove(index).expect(rt, "memory")
-}
-
-/// Keeps the first bytes, up to a position that is tested first.
-pub fn truncate(rt: &impl Abort, value: &mut CompactString, len: usize) {
-    assert!(rt; len >= value.len() || value.is_char_boundary(len));
-    value.truncate(len);
-}
-
-/// Splits at a position that is tested first.
-pub fn split(rt: &impl Abort, value: &mut CompactString, index: usize) -> CompactString {
-    assert!(rt; value.is_char_boundary(index));
-    value.split_off(index).expect(rt, "memory")
-}
-
-/// Replaces a range that is tested first.
-pub fn replace(
-    rt: &impl Abort,
-    value: &mut CompactString,
-    start: Bound<usize>,
-    end: Bound<usize>,
-    text: &str,
-) {
-    assert!(rt; value.check_range(start, end).is_some());
-    value.replace_range(start, end, text).expect(rt, "memory");
-}
-
-/// The text of a value so many times, which is granted.
-pub fn repeated(rt: &impl Abort, value: &CompactString, count: usize) -> CompactString {
-    value.repeat(count).expect(rt, "memory")
-}
 
 #[test]
 fn characters_are_pushed(rt: HostRuntime) {
@@ -356,20 +298,4 @@ fn bounds_make_no_range(rt: HostRuntime) {
     is_range(&rt, &value, Unbounded, Excluded(4), None);
     is_range(&rt, &value, Unbounded, Included(usize::MAX), None);
     is_range(&rt, &value, Excluded(usize::MAX), Unbounded, None);
-}
-
-#[test]
-fn another_policy_owns_in_its_own_least_buffer(rt: HostRuntime) {
-    let mut value = PolicyString::<Large>::const_new(rt.alloc(), letters(30));
-    assert_eq!(rt; remove(&rt, &mut value, 0), 'a');
-    assert_heap(&rt, &value, 4096, 29);
-    insert(&rt, &mut value, 0, 'a');
-    assert_heap(&rt, &value, 4096, 30);
-}
-
-#[test]
-fn another_policy_inserts_in_its_own_least_buffer(rt: HostRuntime) {
-    let mut value = PolicyString::<Large>::const_new(rt.alloc(), letters(30));
-    insert(&rt, &mut value, 30, 'a');
-    assert_heap(&rt, &value, 4096, 31);
 }

@@ -1,5 +1,6 @@
 //! Lists of edits while every request for memory is refused.
 
+use crate::edits::{room_for, run_all};
 use crate::memory::take_all;
 use crate::values::{assert_inline, copied, letters};
 use compact_edit::{Edit, Reply, run};
@@ -14,21 +15,6 @@ fn forty_replies(rt: &impl Abort, alloc: Global) -> Vec<Reply<Standard>> {
         replies.push(Reply::Done).expect(rt, "memory");
     }
     replies
-}
-
-/// Room for so many replies.
-pub fn room_for(rt: &impl Abort, alloc: Global, count: usize) -> Vec<Reply<Standard>> {
-    Vec::with_capacity(alloc, count).expect(rt, "memory")
-}
-
-/// Runs edits, for whose replies there is room.
-pub fn run_all(
-    rt: &impl Abort,
-    value: &mut CompactString,
-    edits: &[Edit<Standard>],
-    replies: &mut Vec<Reply<Standard>>,
-) {
-    run(value, edits, replies).expect(rt, "room for the replies");
 }
 
 /// Asserts what an edit answered: whether it was refused.

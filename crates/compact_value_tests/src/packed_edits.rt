@@ -1,7 +1,7 @@
 //! Inline values that grow from 23 bytes to 24, where the text takes the byte of its length, and back, by each edit.
 
+use crate::edits::{insert, insert_str, push, remove, replace, split, truncate};
 use crate::packed::is_packed;
-use crate::positions::{insert, insert_str, push, remove, replace, split, truncate};
 use crate::values::{append, assert_inline, copied, letters};
 use compact_str::CompactString;
 use std::alloc::Global;

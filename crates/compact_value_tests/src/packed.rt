@@ -1,6 +1,6 @@
 //! Inline values as their 24 bytes, by rows that are written out.
 
-use crate::positions::truncate;
+use crate::edits::truncate;
 use crate::values::{append, assert_inline, copied, empty, lasting, letters};
 use compact_str::CompactString;
 use std::alloc::Global;

@@ -1,8 +1,7 @@
 //! Edits at the end and by byte position while every request for memory is refused.
 
+use crate::edits::{insert, remove, repeated, replace, room_for, run_all, split, truncate};
 use crate::memory::{spare, take_all};
-use crate::positions::{insert, remove, repeated, replace, split, truncate};
-use crate::refused_edits::{room_for, run_all};
 use crate::values::{assert_heap, assert_inline, assert_static, copied, lasting, letters};
 use compact_edit::{Edit, Reply};
 use compact_str::{CompactString, Standard};
