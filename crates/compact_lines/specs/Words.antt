@@ -78,7 +78,7 @@ are_bits text = list_all (λ b. b == 48 || b == 49) text
 abbrev pub bits_of : List ℕ → List Bool
 bits_of text = map (λ b. b == 49) text
 
--- what stands in a table beside a word, if it is in there
+-- what stands in a table beside a word, if it is in there; a last row with the word itself is that of every other word
 abbrev pub beside : {X : Type 0} → List ℕ → List (List ℕ × Option X) → Option X
 beside word [] = None
 beside word (row ∷ rows) = if bytes_eq word row.0 then row.1 else beside word rows
@@ -157,6 +157,7 @@ field_command word rest answers = beside word (
     ∷ (word, option_map commands.Edit (field_edit word rest answers))
     ∷ [])
 
+-- the command of a word and of what stands behind its space, if there is one
 abbrev pub command_with : List ℕ → Option (List ℕ) → List Bool → Option Command
 command_with word None answers = bare_command word answers
 command_with word (Some rest) answers = field_command word rest answers
