@@ -1,1 +1,3 @@
 mod LineLemmas
+mod WordLemmas
+mod Examples

@@ -1,17 +1,26 @@
 -- Lines that are answered one by one.
-use Rattle.std.proofs.Common.{rules, codes, ◌≡◌, ℕ, ◌<◌, List, [], ◌∷◌, ◌++◌, length, Option, Some, None, IfSome, sym, refl, ap, ◌∙◌, append_assoc, append-nil, IsTrue, Result, Ok, Err, IfOk, OnOk, OnErr}
+use Rattle.std.proofs.Common.{rules, codes, ◌≡◌, ℕ, ◌<◌, List, [], ◌∷◌, ◌++◌, length, Option, Some, None, IfSome, sym, refl, ap, ◌∙◌, append_assoc, append-nil, IsTrue, Result, Ok, Err, IfOk, OnOk, OnErr, Bool, true}
 use Rattle.std.specs.Option.{option_map}
 use Rattle.std.specs.List.{concat}
 use Rattle.std.specs.Io.KnownBytes.{Appends, Keeps, IsAtEnd}
 use Rattle.std.specs.Io.BufRead.{drop_through, take_through, strip_last, DropsThrough}
+use Rattle.std.specs.Str.{IsUtf8, is_utf8}
+use Rattle.std.proofs.lemmas.Str.{is_utf8-from_IsUtf8}
+use Rattle.compact_str.proofs.ForCallers.{broken-is_utf8}
 use Rattle.compact_str.specs.Value.{PlacedText}
 use Rattle.compact_str.specs.Capacity.{Growth}
 use Rattle.compact_str.specs.declared.Standard.{Standard}
 use Rattle.compact_str.specs.declared.ReserveError.{ReserveError}
+use Rattle.compact_edit.specs.declared.edit.Edit.{Edit}
+use Rattle.compact_edit.specs.declared.edit.Edit.TheVariants as edits
 use Rattle.compact_edit.specs.declared.edit.Reply.{Reply}
+use Rattle.compact_edit.specs.declared.edit.Reply.TheVariants.{Done, Char, Text, BadPosition, Refused}
+use Rattle.compact_edit.specs.Steps.{Step, IsLegal, edit_asks, EditDoes}
+use Rattle.compact_lines.specs.declared.command.Command.TheVariants as commands
 use Rattle.compact_lines.specs.declared.command.Command.{Command}
 use Rattle.compact_lines.specs.Sessions.{Executes, command_asks}
-use Rattle.compact_lines.specs.Lines.{IsReadFrom, AnswersCommand, DoesOrRefuses, outcome_line, value_line, AnswersLine, AnswersLines, AppendsAnswers, IsFirstLine}
+use Rattle.compact_lines.specs.Words.{to, line_command, command_itself, edit_itself, command_of, answers_of}
+use Rattle.compact_lines.specs.Lines.{AnswersCommand, DoesOrRefuses, outcome_line, value_line, AnswersLine, AnswersLines, AppendsAnswers, IsFirstLine}
 
 -- the growth of the program's value
 abbrev pub standard : Growth
@@ -68,11 +77,73 @@ command-answered (Ok x) g v w u command outcome old mid new ok err first same se
       appends-both old mid new (outcome_line outcome) (value_line w) first line,
     )
 
+step-same : (g : Growth) (v w : PlacedText) (a b : Edit Standard) → (IsLegal v a → IsLegal v b) → (IsLegal v b → IsLegal v a)
+    → (IsTrue (edit_asks v a) → IsTrue (edit_asks v b)) → ((reply : Reply Standard) → EditDoes g v a reply w → EditDoes g v b reply w)
+    → (reply : Reply Standard) → Step g v a reply w → Step g v b reply w
+step-same g v w a b legal back asks does BadPosition step = (step.0, λ is. step.1 (back is))
+step-same g v w a b legal back asks does (Refused e) step = (step.0, legal step.1, asks step.2)
+step-same g v w a b legal back asks does Done step = (legal step.0, does Done step.1)
+step-same g v w a b legal back asks does (Char c) step = (legal step.0, does (Char c) step.1)
+step-same g v w a b legal back asks does (Text t) step = (legal step.0, does (Text t) step.1)
+
+-- what a step does hangs on no place of memory
+step-itself : (g : Growth) (v w : PlacedText) (edit : Edit Standard) (reply : Reply Standard) → Step g v edit reply w → Step g v (edit_itself edit) reply w
+step-itself g v w (edits.PushStr s) reply step =
+    step-same g v w (edits.PushStr s) (edits.PushStr (to s.now)) (λ l. l) (λ l. l) (λ t. t) (λ _ d. d) reply step
+step-itself g v w (edits.InsertStr p s) reply step =
+    step-same g v w (edits.InsertStr p s) (edits.InsertStr p (to s.now)) (λ l. l) (λ l. l) (λ t. t) (λ _ d. d) reply step
+step-itself g v w (edits.ReplaceRange start end s) reply step =
+    step-same g v w (edits.ReplaceRange start end s) (edits.ReplaceRange start end (to s.now)) (λ l. l) (λ l. l) (λ t. t) (λ _ d. d) reply step
+step-itself g v w (edits.Retain answers) reply step =
+    step-same g v w (edits.Retain answers) (edits.Retain (to answers.now)) (λ l. l) (λ l. l) (λ t. t) (λ _ d. d) reply step
+step-itself g v w (edits.CloneFrom source) reply step =
+    step-same g v w (edits.CloneFrom source) (edits.CloneFrom (to source.now)) (λ l. l) (λ l. l) (λ t. t) (λ _ d. d) reply step
+step-itself g v w edit reply step = step
+
+executes-itself : (g : Growth) (v w : PlacedText) (command : Command) (reply : Reply Standard) → Executes g v command reply w
+    → Executes g v (command_itself command) reply w
+executes-itself g v w (commands.New s) reply does = does
+executes-itself g v w commands.Static reply does = does
+executes-itself g v w (commands.WithCapacity n) reply does = does
+executes-itself g v w (commands.CloneFrom s) reply does = does
+executes-itself g v w (commands.Edit edit) reply does = step-itself g v w edit reply does
+
+asks-itself : (command : Command) → command_asks (command_itself command) ≡ command_asks command
+asks-itself (commands.New s) = refl
+asks-itself commands.Static = refl
+asks-itself (commands.WithCapacity n) = refl
+asks-itself (commands.CloneFrom s) = refl
+asks-itself (commands.Edit edit) = refl
+
+does-itself : (g : Growth) (v w : PlacedText) (command : Command) (outcome : Result (Reply Standard) ReserveError)
+    → DoesOrRefuses g v command outcome w → DoesOrRefuses g v (command_itself command) outcome w
+does-itself g v w command (Ok reply) does = executes-itself g v w command reply does
+does-itself g v w command (Err e) does = (does.0, rw (asks-itself command) does.1)
+
+answered-itself : (g : Growth) (v w : PlacedText) (command : Option Command) (answer : List ℕ) → AnswersCommand g v command answer w
+    → AnswersCommand g v (option_map command_itself command) answer w
+answered-itself g v w None answer is = is
+answered-itself g v w (Some command) answer is = (is.0, is.1, does-itself g v w command is.0 is.2)
+
+pub broken-line : (line : List ℕ) → ¬ (IsUtf8 line) → line_command line ≡ None
+broken-line line broken = rw (broken-is_utf8 line broken) refl
+
+-- the command that is read from the text of a line is that of the line
+pub text-line : (line text : List ℕ) (bits items : List Bool) (command : Option Command) → (text ≡ line) × IsUtf8 line → bits ≡ items
+    → items ≡ answers_of text → option_map command_itself command ≡ command_of text bits → line_command line ≡ option_map command_itself command
+text-line line text bits items command is same spelt read =
+    let told : is_utf8 line ≡ true = is_utf8-from_IsUtf8 line is.1 in
+    let of_text : command_of line (answers_of line) ≡ option_map command_itself command = rw (← is.0, ← spelt, ← same) (sym read) in
+    rw told of_text
+
+-- what a command is answered is the answer of its line
 pub command-of-line : {X E : Type 0} (r : Result X E) (g : Growth) (v w : PlacedText) (command : Option Command) (line : List ℕ) (old new : Option (List ℕ))
-    → IsReadFrom line command → OnOk r ((answer : List ℕ) × AnswersCommand g v command answer w × Appends old new answer)
+    → line_command line ≡ option_map command_itself command
+    → OnOk r ((answer : List ℕ) × AnswersCommand g v command answer w × Appends old new answer)
     → OnOk r ((answer : List ℕ) × AnswersLine g v line answer w × Appends old new answer)
 command-of-line (Err e) g v w command line old new is answered = tt
-command-of-line (Ok x) g v w command line old new is answered = (answered.0, (command, is, answered.1), answered.2)
+command-of-line (Ok x) g v w command line old new is answered =
+    (answered.0, rw is (answered-itself g v w command answered.0 answered.1), answered.2)
 
 pub no-command : {X E : Type 0} (r : Result X E) (g : Growth) (v : PlacedText) (old new : Option (List ℕ)) → OnOk r (Appends old new (codes "?\n"))
     → OnOk r ((answer : List ℕ) × AnswersCommand g v None answer v × Appends old new answer)

@@ -1,5 +1,5 @@
 -- What the lines of the input are answered. A line ends with the byte 10, which the last may lack.
-use Rattle.std.specs.Prelude.{◌≡◌, ◌<◌, ℕ, List, [], ◌∷◌, ◌++◌, length, codes, Option, None, Some, IfSome, IsTrue, Result, Ok, Err, ⊤}
+use Rattle.std.specs.Prelude.{◌≡◌, ◌<◌, ℕ, List, [], ◌∷◌, ◌++◌, length, codes, Option, None, Some, IfSome, IsTrue, Result, Ok, Err}
 use Rattle.std.specs.Option.{option_map}
 use Rattle.std.specs.List.{concat}
 use Rattle.std.specs.Char.{encode_utf8}
@@ -15,7 +15,7 @@ use Rattle.compact_edit.specs.declared.edit.Reply.{Reply}
 use Rattle.compact_edit.specs.declared.edit.Reply.TheVariants.{Done, Char, Text, BadPosition, Refused}
 use Rattle.compact_lines.specs.declared.command.Command.{Command}
 use Rattle.compact_lines.specs.Sessions.{Executes, command_asks}
-use Rattle.compact_lines.specs.Words.{word_of, rest_of, command_word, TakesText}
+use Rattle.compact_lines.specs.Words.{line_command}
 
 -- the line that a reply is written as
 abbrev pub reply_line : Reply Standard → List ℕ
@@ -55,14 +55,9 @@ AnswersCommand g v (Some command) answer w =
     (outcome : Result (Reply Standard) ReserveError) × (answer ≡ outcome_line outcome ++ value_line w)
     × DoesOrRefuses g v command outcome w
 
--- a command that is read from a line has its word and its text
-abbrev pub IsReadFrom : List ℕ → Option Command → Type 0
-IsReadFrom line None = ⊤
-IsReadFrom line (Some command) = (word_of line ≡ command_word command) × TakesText (rest_of line) command
-
 -- from v a line may be answered by these bytes and leave w
 abbrev pub AnswersLine : Growth → PlacedText → List ℕ → List ℕ → PlacedText → Type 0
-AnswersLine g v line answer w = (command : Option Command) × IsReadFrom line command × AnswersCommand g v command answer w
+AnswersLine g v line answer w = AnswersCommand g v (line_command line) answer w
 
 -- the line is the first one of the known bytes
 abbrev pub IsFirstLine : Option (List ℕ) → List ℕ → Type 0

@@ -1,64 +1,175 @@
--- The words of the commands.
-use Rattle.std.specs.Prelude.{◌≡◌, ℕ, List, [], ◌==◌, codes, Option, Some, None, ⊤}
+-- Which command a line is, if it is one.
+use Rattle.std.specs.Prelude.{ℕ, ◌+◌, ◌^◌, Bool, ◌&&◌, ◌||◌, List, [], ◌∷◌, ◌==◌, nat_lt, map, length, drop, codes, Option, Some, None, if◌then◌else◌}
+use Rattle.std.specs.Option.{option_map, unwrap_or}
 use Rattle.std.specs.Borrow.{Bor}
-use Rattle.std.specs.List.{before_first, after_first}
+use Rattle.std.specs.List.{before_first, position, list_all}
+use Rattle.std.specs.Char.{is_ascii_digit}
+use Rattle.std.specs.Str.{bytes_eq, is_utf8}
+use Rattle.std.specs.Str.Parse.{digits_value}
+use Rattle.std.specs.declared.ops.Bound.{Bound}
+use Rattle.std.specs.declared.ops.Bound.TheVariants.{Included, Excluded, Unbounded}
+use Rattle.compact_str.specs.Text.{text_of}
 use Rattle.compact_str.specs.declared.Standard.{Standard}
 use Rattle.compact_edit.specs.declared.edit.Edit.{Edit}
 use Rattle.compact_edit.specs.declared.edit.Edit.TheVariants as edits
 use Rattle.compact_lines.specs.declared.command.Command.{Command}
 use Rattle.compact_lines.specs.declared.command.Command.TheVariants as commands
 
--- what stands before the first space of a line, or all of it
+-- a reference to a value, which says nothing of where it stands
+abbrev pub to : {X : Type 0} → X → Bor X
+to x = record { ref_ptr = (0, 0); now = x }
+
+-- an edit, with references that say nothing of where their values stand
+abbrev pub edit_itself : Edit Standard → Edit Standard
+edit_itself (edits.PushStr s) = edits.PushStr (to s.now)
+edit_itself (edits.InsertStr p s) = edits.InsertStr p (to s.now)
+edit_itself (edits.ReplaceRange start end s) = edits.ReplaceRange start end (to s.now)
+edit_itself (edits.Retain answers) = edits.Retain (to answers.now)
+edit_itself (edits.CloneFrom source) = edits.CloneFrom (to source.now)
+edit_itself edit = edit
+
+-- and a command
+abbrev pub command_itself : Command → Command
+command_itself (commands.New s) = commands.New (to s.now)
+command_itself (commands.CloneFrom s) = commands.CloneFrom (to s.now)
+command_itself (commands.Edit edit) = commands.Edit (edit_itself edit)
+command_itself command = command
+
+-- what stands before the first space, or all where there is none
 abbrev pub word_of : List ℕ → List ℕ
-word_of line = before_first (λ b. b == 32) line
+word_of text = before_first (λ b. b == 32) text
 
--- what stands behind the first space of a line, or nothing
-abbrev pub rest_of : List ℕ → List ℕ
-rest_of line = after_first (λ b. b == 32) line
+-- what stands behind the first space, if there is one
+abbrev pub rest_of : List ℕ → Option (List ℕ)
+rest_of text = option_map (λ at. drop (at + 1) text) (position (λ b. b == 32) text)
 
--- a text, or the empty one where there is none
-abbrev pub text_after : Option (Bor (List ℕ)) → List ℕ
-text_after None = []
-text_after (Some text) = text.now
+-- what f gives of a value that is there
+abbrev pub if_there : {X Y : Type 0} → Option X → (X → Option Y) → Option Y
+if_there None f = None
+if_there (Some x) f = f x
 
-abbrev pub edit_word : Edit Standard → List ℕ
-edit_word (edits.Push c) = codes "push"
-edit_word (edits.PushStr s) = codes "pushstr"
-edit_word edits.Pop = codes "pop"
-edit_word (edits.Insert p c) = codes "insert"
-edit_word (edits.InsertStr p s) = codes "insertstr"
-edit_word (edits.Remove p) = codes "remove"
-edit_word (edits.Truncate n) = codes "truncate"
-edit_word edits.Clear = codes "clear"
-edit_word (edits.SplitOff p) = codes "splitoff"
-edit_word (edits.ReplaceRange start end s) = codes "replace"
-edit_word (edits.Drain start end) = codes "drain"
-edit_word (edits.Retain answers) = codes "retain"
-edit_word (edits.Reserve n) = codes "reserve"
-edit_word (edits.ShrinkTo n) = codes "shrinkto"
-edit_word edits.ShrinkToFit = codes "shrinktofit"
-edit_word edits.MakeLower = codes "lower"
-edit_word edits.MakeUpper = codes "upper"
-edit_word edits.Zeroize = codes "zeroize"
-edit_word (edits.Repeat n) = codes "repeat"
-edit_word (edits.CloneFrom source) = codes "clonefrom"
+-- N: one or more ASCII digits, with a value that fits a `usize`
+abbrev pub number_of : List ℕ → Option ℕ
+number_of digits =
+    if nat_lt 0 (length digits) && list_all is_ascii_digit digits && nat_lt (digits_value 10 digits) (2 ^ 64)
+    then Some (digits_value 10 digits) else None
 
-abbrev pub command_word : Command → List ℕ
-command_word (commands.New s) = codes "new"
-command_word commands.Static = codes "static"
-command_word (commands.WithCapacity n) = codes "cap"
-command_word (commands.CloneFrom s) = codes "clonefrom"
-command_word (commands.Edit edit) = edit_word edit
+-- the one of a list of just one
+abbrev pub the_one : List ℕ → Option ℕ
+the_one [] = None
+the_one (c ∷ []) = Some c
+the_one (c ∷ d ∷ more) = None
 
--- the text of an edit that takes one and nothing else
-abbrev pub EditTakesText : List ℕ → Edit Standard → Type 0
-EditTakesText text (edits.PushStr s) = s.now ≡ text
-EditTakesText text _ = ⊤
+-- C: a text of just one character
+abbrev pub character_of : List ℕ → Option ℕ
+character_of text = the_one (text_of text)
 
--- the text of a command that takes one and nothing else
-abbrev pub TakesText : List ℕ → Command → Type 0
-TakesText text (commands.New s) = s.now ≡ text
-TakesText text commands.Static = ⊤
-TakesText text (commands.WithCapacity n) = ⊤
-TakesText text (commands.CloneFrom s) = s.now ≡ text
-TakesText text (commands.Edit edit) = EditTakesText text edit
+-- S and E: a number, or `-` for an end of the text
+abbrev pub start_of : List ℕ → Option (Bound ℕ)
+start_of word = if bytes_eq word (codes "-") then Some Unbounded else option_map Included (number_of word)
+
+abbrev pub end_of : List ℕ → Option (Bound ℕ)
+end_of word = if bytes_eq word (codes "-") then Some Unbounded else option_map Excluded (number_of word)
+
+-- BITS: 0 and 1, of which 1 is true
+abbrev pub are_bits : List ℕ → Bool
+are_bits text = list_all (λ b. b == 48 || b == 49) text
+
+abbrev pub bits_of : List ℕ → List Bool
+bits_of text = map (λ b. b == 49) text
+
+-- what stands in a table beside a word, if it is in there; a last row with the word itself is that of every other word
+abbrev pub beside : {X : Type 0} → List ℕ → List (List ℕ × Option X) → Option X
+beside word [] = None
+beside word (row ∷ rows) = if bytes_eq word row.0 then row.1 else beside word rows
+
+-- the edit that a word stands for by itself
+abbrev pub bare_edit : List ℕ → Option (Edit Standard)
+bare_edit word = beside word (
+    (codes "pop", Some edits.Pop)
+    ∷ (codes "clear", Some edits.Clear)
+    ∷ (codes "shrinktofit", Some edits.ShrinkToFit)
+    ∷ (codes "lower", Some edits.MakeLower)
+    ∷ (codes "upper", Some edits.MakeUpper)
+    ∷ (codes "zeroize", Some edits.Zeroize)
+    ∷ [])
+
+-- the edit of a word and a number
+abbrev pub number_edit : List ℕ → ℕ → Option (Edit Standard)
+number_edit word n = beside word (
+    (codes "remove", Some (edits.Remove n))
+    ∷ (codes "truncate", Some (edits.Truncate n))
+    ∷ (codes "splitoff", Some (edits.SplitOff n))
+    ∷ (codes "reserve", Some (edits.Reserve n))
+    ∷ (codes "shrinkto", Some (edits.ShrinkTo n))
+    ∷ (codes "repeat", Some (edits.Repeat n))
+    ∷ [])
+
+-- N C
+abbrev pub insert_edit : List ℕ → Option (Edit Standard)
+insert_edit rest = if_there (number_of (word_of rest)) (λ p. if_there (rest_of rest) (λ text.
+    option_map (λ c. edits.Insert p c) (character_of text)))
+
+-- N TEXT
+abbrev pub insert_str_edit : List ℕ → Option (Edit Standard)
+insert_str_edit rest = option_map (λ p. edits.InsertStr p (to (unwrap_or (rest_of rest) []))) (number_of (word_of rest))
+
+-- S E TEXT
+abbrev pub replace_edit : List ℕ → Option (Edit Standard)
+replace_edit rest = if_there (rest_of rest) (λ ends. if_there (start_of (word_of rest)) (λ start.
+    option_map (λ end. edits.ReplaceRange start end (to (unwrap_or (rest_of ends) []))) (end_of (word_of ends))))
+
+-- S E
+abbrev pub drain_edit : List ℕ → Option (Edit Standard)
+drain_edit rest = if_there (rest_of rest) (λ end. if_there (start_of (word_of rest)) (λ start.
+    option_map (λ end. edits.Drain start end) (end_of end)))
+
+-- the edit of a word and of what stands behind its space, which the answers belong to where they are BITS
+abbrev pub field_edit : List ℕ → List ℕ → List Bool → Option (Edit Standard)
+field_edit word rest answers = beside word (
+    (codes "push", option_map (λ c. edits.Push c) (character_of rest))
+    ∷ (codes "pushstr", Some (edits.PushStr (to rest)))
+    ∷ (codes "insert", insert_edit rest)
+    ∷ (codes "insertstr", insert_str_edit rest)
+    ∷ (codes "replace", replace_edit rest)
+    ∷ (codes "drain", drain_edit rest)
+    ∷ (codes "retain", if are_bits rest then Some (edits.Retain (to answers)) else None)
+    ∷ (word, if_there (number_of rest) (number_edit word))
+    ∷ [])
+
+-- the command of a line with no space: what takes a TEXT or BITS has none
+abbrev pub bare_command : List ℕ → List Bool → Option Command
+bare_command word answers = beside word (
+    (codes "new", Some (commands.New (to [])))
+    ∷ (codes "static", Some commands.Static)
+    ∷ (codes "clonefrom", Some (commands.CloneFrom (to [])))
+    ∷ (codes "pushstr", Some (commands.Edit (edits.PushStr (to []))))
+    ∷ (codes "retain", Some (commands.Edit (edits.Retain (to answers))))
+    ∷ (word, option_map commands.Edit (bare_edit word))
+    ∷ [])
+
+-- the command of a word and of what stands behind its space
+abbrev pub field_command : List ℕ → List ℕ → List Bool → Option Command
+field_command word rest answers = beside word (
+    (codes "new", Some (commands.New (to rest)))
+    ∷ (codes "cap", option_map (λ n. commands.WithCapacity n) (number_of rest))
+    ∷ (codes "clonefrom", Some (commands.CloneFrom (to rest)))
+    ∷ (word, option_map commands.Edit (field_edit word rest answers))
+    ∷ [])
+
+-- the command of a word and of what stands behind its space, if there is one
+abbrev pub command_with : List ℕ → Option (List ℕ) → List Bool → Option Command
+command_with word None answers = bare_command word answers
+command_with word (Some rest) answers = field_command word rest answers
+
+-- the command that a text is, with these answers if it is a `retain`
+abbrev pub command_of : List ℕ → List Bool → Option Command
+command_of text answers = command_with (word_of text) (rest_of text) answers
+
+-- the answers that a text spells: the BITS of `retain`
+abbrev pub answers_of : List ℕ → List Bool
+answers_of text = if bytes_eq (word_of text) (codes "retain") then bits_of (unwrap_or (rest_of text) []) else []
+
+-- the command that a line is
+abbrev pub line_command : List ℕ → Option Command
+line_command line = if is_utf8 line then command_of line (answers_of line) else None

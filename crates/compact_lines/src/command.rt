@@ -1,6 +1,9 @@
 //! How a line is read.
-ghost use Rattle.std.specs.Prelude.{◌≡◌, List, ℕ, codes, IfSome, IsSome};
-ghost use Rattle.compact_lines.specs.Words.{word_of, rest_of, text_after, command_word, edit_word, TakesText, EditTakesText};
+ghost use Rattle.std.specs.Prelude.{◌≡◌, IfOk};
+ghost use Rattle.std.specs.Option.{option_map, option_copied};
+ghost use Rattle.std.specs.List.{list_all};
+ghost use Rattle.std.specs.Char.{is_ascii_digit};
+ghost use Rattle.compact_lines.specs.Words.{command_itself, edit_itself, command_of, answers_of, bare_command, bare_edit, field_command, field_edit, number_edit, insert_edit, insert_str_edit, replace_edit, drain_edit, are_bits, word_of, rest_of, number_of, start_of, end_of, character_of};
 
 use compact_edit::Edit;
 use compact_str::Standard;
@@ -21,48 +24,45 @@ pub enum Command<'a> {
     Edit(Edit<'a, Standard>),
 }
 
-/// The answers that a line of `retain` spells; of any other line none.
-pub fn answers(alloc: Global, line: &str) -> Result<Vec<bool>, AllocError> {
-    let mut answers = Vec::new(alloc);
-    if let ("retain", Some(bits)) = first_word(line) {
-        for bit in bits.bytes() {
-            answers.push(bit == b'1')?;
-        }
+/// The answers that a line of `retain` spells, one for each byte behind its space: 1 is `true`. Of any other line none.
+pub fn answers(alloc: Global, line: &str) -> Result<Vec<bool>, AllocError>
+    ensures { IfOk result (λ answers. answers.items ≡ answers_of line.now) }
+{
+    match first_word(line) {
+        ("retain", Some(bits)) => bits.bytes().map(|bit| bit == b'1').collect(alloc),
+        _ => Ok(Vec::new(alloc)),
     }
-    Ok(answers)
 }
 
 /// Reads a line: a word, and after one space what belongs to it. `None` is a line that fits no command. `answers` are those
 /// that the line spells.
 pub fn parse<'a>(line: &'a str, answers: &'a [bool]) -> Option<Command<'a>>
-    ensures word { IfSome result (λ command. word_of line.now ≡ command_word command) }
-    ensures text { IfSome result (TakesText (rest_of line.now)) }
-    ensures new { word_of line.now ≡ codes "new" → IsSome result }
-    ensures clonefrom { word_of line.now ≡ codes "clonefrom" → IsSome result }
-    ensures pushstr { word_of line.now ≡ codes "pushstr" → IsSome result }
+    ensures { option_map command_itself result ≡ command_of line.now answers.now }
 {
     let (word, rest) = first_word(line);
-    match word {
-        "new" => Some(Command::New(rest.unwrap_or(""))),
-        "static" if rest.is_none() => Some(Command::Static),
-        "cap" => Some(Command::WithCapacity(number(rest?)?)),
-        "clonefrom" => Some(Command::CloneFrom(rest.unwrap_or(""))),
-        "pop" | "clear" | "shrinktofit" | "lower" | "upper" | "zeroize" if rest.is_none() => {
-            parse_bare(word).map(Command::Edit)
-        }
-        "push" | "pushstr" | "insert" | "insertstr" | "replace" => {
-            parse_with_text(word, rest).map(Command::Edit)
-        }
-        "drain" => parse_range(rest?).map(Command::Edit),
-        "retain" if are_bits(rest.unwrap_or("")) => Some(Command::Edit(Edit::Retain(answers))),
-        _ => parse_with_number(word, number(rest?)?).map(Command::Edit),
+    match rest {
+        None => parse_bare(word, answers),
+        Some(rest) => parse_fields(word, rest, answers),
     }
 }
 
-/// Reads an edit of one word.
-fn parse_bare<'a>(word: &str) -> Option<Edit<'a, Standard>>
-    ensures no_text { IfSome result (λ edit. (text : List ℕ) → EditTakesText text edit) }
-    ensures word { IfSome result (λ edit. word.now ≡ edit_word edit) }
+/// Reads a line of one word.
+fn parse_bare<'a>(word: &str, answers: &'a [bool]) -> Option<Command<'a>>
+    ensures { option_map command_itself result ≡ bare_command word.now answers.now }
+{
+    match word {
+        "new" => Some(Command::New("")),
+        "static" => Some(Command::Static),
+        "clonefrom" => Some(Command::CloneFrom("")),
+        "pushstr" => Some(Command::Edit(Edit::PushStr(""))),
+        "retain" => Some(Command::Edit(Edit::Retain(answers))),
+        _ => parse_bare_edit(word).map(Command::Edit),
+    }
+}
+
+/// Reads an edit of one word and nothing else.
+fn parse_bare_edit<'a>(word: &str) -> Option<Edit<'a, Standard>>
+    ensures { option_map edit_itself result ≡ bare_edit word.now }
 {
     match word {
         "pop" => Some(Edit::Pop),
@@ -75,10 +75,47 @@ fn parse_bare<'a>(word: &str) -> Option<Edit<'a, Standard>>
     }
 }
 
+/// Reads a word and what stands behind its space.
+fn parse_fields<'a>(word: &str, rest: &'a str, answers: &'a [bool]) -> Option<Command<'a>>
+    ensures { option_map command_itself result ≡ field_command word.now rest.now answers.now }
+{
+    match word {
+        "new" => Some(Command::New(rest)),
+        "cap" => Some(Command::WithCapacity(number(rest)?)),
+        "clonefrom" => Some(Command::CloneFrom(rest)),
+        _ => parse_field_edit(word, rest, answers).map(Command::Edit),
+    }
+}
+
+/// Reads an edit of a word and of what stands behind its space.
+fn parse_field_edit<'a>(
+    word: &str,
+    rest: &'a str,
+    answers: &'a [bool],
+) -> Option<Edit<'a, Standard>>
+    ensures { option_map edit_itself result ≡ field_edit word.now rest.now answers.now }
+{
+    match word {
+        "push" => Some(Edit::Push(character(rest)?)),
+        "pushstr" => Some(Edit::PushStr(rest)),
+        "insert" => parse_insert(rest),
+        "insertstr" => parse_insert_str(rest),
+        "replace" => parse_replace(rest),
+        "drain" => parse_drain(rest),
+        "retain" => {
+            if are_bits(rest) {
+                Some(Edit::Retain(answers))
+            } else {
+                None
+            }
+        }
+        _ => parse_number_edit(word, number(rest)?),
+    }
+}
+
 /// Reads an edit of a word and a number.
-fn parse_with_number<'a>(word: &str, number: usize) -> Option<Edit<'a, Standard>>
-    ensures no_text { IfSome result (λ edit. (text : List ℕ) → EditTakesText text edit) }
-    ensures word { IfSome result (λ edit. word.now ≡ edit_word edit) }
+fn parse_number_edit<'a>(word: &str, number: usize) -> Option<Edit<'a, Standard>>
+    ensures { option_map edit_itself result ≡ number_edit word.now number }
 {
     match word {
         "remove" => Some(Edit::Remove(number)),
@@ -91,50 +128,51 @@ fn parse_with_number<'a>(word: &str, number: usize) -> Option<Edit<'a, Standard>
     }
 }
 
-/// Reads an edit that ends with a text, which is empty where nothing stands in its place.
-fn parse_with_text<'a>(word: &str, rest: Option<&'a str>) -> Option<Edit<'a, Standard>>
-    ensures text { IfSome result (EditTakesText (text_after rest.entry)) }
-    ensures pushstr { word.now ≡ codes "pushstr" → IsSome result }
-    ensures word { IfSome result (λ edit. word.now ≡ edit_word edit) }
+/// Reads where a character is put in, and which.
+fn parse_insert<'a>(rest: &str) -> Option<Edit<'a, Standard>>
+    ensures { option_map edit_itself result ≡ insert_edit rest.now }
 {
-    match word {
-        "push" => Some(Edit::Push(character(rest?)?)),
-        "pushstr" => Some(Edit::PushStr(rest.unwrap_or(""))),
-        "insert" => {
-            let (index, text) = first_word(rest?);
-            Some(Edit::Insert(number(index)?, character(text?)?))
-        }
-        "insertstr" => {
-            let (index, text) = first_word(rest?);
-            Some(Edit::InsertStr(number(index)?, text.unwrap_or("")))
-        }
-        "replace" => {
-            let (start, ends) = first_word(rest?);
-            let (end, text) = first_word(ends?);
-            Some(Edit::ReplaceRange(range_start(start)?, range_end(end)?, text.unwrap_or("")))
-        }
-        _ => None,
-    }
+    let (index, text) = first_word(rest);
+    Some(Edit::Insert(number(index)?, character(text?)?))
+}
+
+/// Reads where a text is put in, and which: the empty one where nothing stands in its place.
+fn parse_insert_str(rest: &str) -> Option<Edit<'_, Standard>>
+    ensures { option_map edit_itself result ≡ insert_str_edit rest.now }
+{
+    let (index, text) = first_word(rest);
+    Some(Edit::InsertStr(number(index)?, text.unwrap_or("")))
+}
+
+/// Reads a range and the text in its place, which is empty where none stands there.
+fn parse_replace(rest: &str) -> Option<Edit<'_, Standard>>
+    ensures { option_map edit_itself result ≡ replace_edit rest.now }
+{
+    let (start, ends) = first_word(rest);
+    let (end, text) = first_word(ends?);
+    Some(Edit::ReplaceRange(range_start(start)?, range_end(end)?, text.unwrap_or("")))
 }
 
 /// Reads where a range that is taken out starts and ends.
-fn parse_range<'a>(bounds: &str) -> Option<Edit<'a, Standard>>
-    ensures no_text { IfSome result (λ edit. (text : List ℕ) → EditTakesText text edit) }
-    ensures word { IfSome result (λ edit. edit_word edit ≡ codes "drain") }
+fn parse_drain<'a>(rest: &str) -> Option<Edit<'a, Standard>>
+    ensures { option_map edit_itself result ≡ drain_edit rest.now }
 {
-    let (start, end) = first_word(bounds);
-    Some(Edit::Drain(range_start(start)?, range_end(end?)?))
+    let (start, end) = first_word(rest);
+    let end = end?;
+    Some(Edit::Drain(range_start(start)?, range_end(end)?))
 }
 
 /// Whether `text` has no characters but 0 and 1.
-fn are_bits(text: &str) -> bool {
+fn are_bits(text: &str) -> bool
+    ensures { result ≡ are_bits text.now }
+{
     text.bytes().all(|byte| byte == b'0' || byte == b'1')
 }
 
 /// The text before the first space, and what follows that space.
 fn first_word(text: &str) -> (&str, Option<&str>)
     ensures word { result.0.now ≡ word_of text.now }
-    ensures rest { text_after result.1 ≡ rest_of text.now }
+    ensures rest { option_copied result.1 ≡ rest_of text.now }
 {
     match text.split_once(' ') {
         Some((word, rest)) => (word, Some(rest)),
@@ -142,10 +180,19 @@ fn first_word(text: &str) -> (&str, Option<&str>)
     }
 }
 
+/// Whether `text` has no characters but ASCII digits.
+fn are_digits(text: &str) -> bool
+    ensures { result ≡ list_all is_ascii_digit text.now }
+{
+    text.bytes().all(|byte| byte.is_ascii_digit())
+}
+
 /// Reads a number: one or more ASCII digits whose value fits a `usize`.
-fn number(word: &str) -> Option<usize> {
+fn number(word: &str) -> Option<usize>
+    ensures { result ≡ number_of word.now }
+{
     // `parse` alone would take a sign too.
-    if word.bytes().all(|byte| byte.is_ascii_digit()) {
+    if are_digits(word) {
         word.parse().ok()
     } else {
         None
@@ -153,7 +200,9 @@ fn number(word: &str) -> Option<usize> {
 }
 
 /// Reads where a range starts: at a number, or at the start of the text for `-`.
-fn range_start(word: &str) -> Option<Bound<usize>> {
+fn range_start(word: &str) -> Option<Bound<usize>>
+    ensures { result ≡ start_of word.now }
+{
     if word == "-" {
         return Some(Bound::Unbounded);
     }
@@ -161,7 +210,9 @@ fn range_start(word: &str) -> Option<Bound<usize>> {
 }
 
 /// Reads where a range ends: before a number, or at the end of the text for `-`.
-fn range_end(word: &str) -> Option<Bound<usize>> {
+fn range_end(word: &str) -> Option<Bound<usize>>
+    ensures { result ≡ end_of word.now }
+{
     if word == "-" {
         return Some(Bound::Unbounded);
     }
@@ -169,12 +220,8 @@ fn range_end(word: &str) -> Option<Bound<usize>> {
 }
 
 /// Reads a text of just one character.
-fn character(text: &str) -> Option<char> {
-    let mut characters = text.chars();
-    let character = characters.next()?;
-    if characters.next().is_none() {
-        Some(character)
-    } else {
-        None
-    }
+fn character(text: &str) -> Option<char>
+    ensures { result ≡ character_of text.now }
+{
+    text.parse().ok()
 }

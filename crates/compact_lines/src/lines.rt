@@ -17,7 +17,7 @@ use std::io::{BufRead, BufReader, Read, Write};
 /// Reads commands from `reader`, one a line, and writes what they answer to `writer`. Answers 0 at the end of the
 /// input, and 1 where reading or writing fails or no memory is found to begin or to read a line.
 ///
-/// Each command gives two lines: its answer, and the value as `PLACE LENGTH CAPACITY TEXT`. A line that cannot be read
+/// Each command gives two lines: its answer, and the value as `PLACE LENGTH CAPACITY TEXT`. A line that is no command
 /// gives the one line `?` and changes nothing. Each answer goes out in pieces, and the writer is flushed after it.
 ///
 /// Where the bytes of the reader are known, 0 says that all their lines were answered, one by one from the empty value on;

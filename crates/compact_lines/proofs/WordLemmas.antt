@@ -1,0 +1,59 @@
+-- What std's `parse` reads, in the words of a line.
+use Rattle.std.proofs.Common.{rules, ◌≡◌, ◌∙◌, sym, ap, ℕ, ◌<◌, ◌^◌, List, [], ◌∷◌, length, Bool, true, false, ◌&&◌, nat_lt, Some, None, Result, Ok, Err, IfOk, refl, arith, append-nil, if◌then◌else◌}
+use Rattle.std.specs.Result.{result_ok}
+use Rattle.std.specs.List.{list_all}
+use Rattle.std.specs.Char.{is_ascii_digit, IsScalar, encode_utf8}
+use Rattle.std.specs.Str.{chars, IsUtf8, all_scalars, encode_utf8_all}
+use Rattle.std.specs.Str.Parse.{digits_value, ParsesUnsigned, ParsesChar}
+use Rattle.std.proofs.lemmas.Bool.Decides.{nat_tests}
+use Rattle.std.proofs.lemmas.Str.{chars-encodes, encodes-chars, scalars-chars}
+use Rattle.std.proofs.lemmas.Str.Parse.{IsNumeralModel, numerals_by_value, parse_digits}
+use Rattle.compact_lines.specs.Words.{number_of, the_one, character_of}
+
+number-there : (len v most : ℕ) (all : Bool) → all ≡ true → 0 < len → v < most
+    → Some v ≡ (if nat_lt 0 len && all && nat_lt v most then Some v else None)
+number-there len v most all are some fits = grind (arith, nat_tests)
+
+number-none : (len v most : ℕ) (all : Bool) → ((0 < len) × (v < most) → ⊥)
+    → None ≡ (if nat_lt 0 len && all && nat_lt v most then Some v else None)
+number-none len v most all never = grind (arith, nat_tests)
+
+number-no-digits : (len v most : ℕ) (all : Bool) → all ≡ false → None ≡ (if nat_lt 0 len && all && nat_lt v most then Some v else None)
+number-no-digits len v most all none = grind (arith, nat_tests)
+
+own : IsNumeralModel (λ ds. list_all is_ascii_digit ds ≡ true) (digits_value 10)
+own = numerals_by_value _ (search rules)
+
+-- digits that are parsed are a number, and no others are
+pub number-parsed : {E : Type 0} (word : List ℕ) (r : Result ℕ E) → ParsesUnsigned 64 10 word r → list_all is_ascii_digit word ≡ true
+    → result_ok r ≡ number_of word
+number-parsed {E} word (Ok n) h are =
+    let k = parse_digits own {E = E} 64 word (Ok n) h are in
+    ap Some k.1 ∙ number-there (length word) (digits_value 10 word) (2 ^ 64) (list_all is_ascii_digit word) are k.0.0 k.0.1
+number-parsed {E} word (Err e) h are =
+    number-none (length word) (digits_value 10 word) (2 ^ 64) (list_all is_ascii_digit word) (parse_digits own {E = E} 64 word (Err e) h are)
+
+-- and what has another byte is none
+pub no-digits : (word : List ℕ) → list_all is_ascii_digit word ≡ false → None ≡ number_of word
+no-digits word none = number-no-digits (length word) (digits_value 10 word) (2 ^ 64) (list_all is_ascii_digit word) none
+
+one-scalar : (c : ℕ) → all_scalars (c ∷ []) ≡ true → IsScalar c
+one-scalar c is = search rules
+
+scalar-one : (c : ℕ) → IsScalar c → all_scalars (c ∷ []) ≡ true
+scalar-one c is = search rules
+
+none-of-one : (bytes cs : List ℕ) → IsUtf8 bytes → chars bytes ≡ cs → ((c : ℕ) → IsScalar c → bytes ≡ encode_utf8 c → ⊥) → None ≡ the_one cs
+none-of-one bytes [] text same never = refl
+none-of-one bytes (c ∷ []) text same never =
+    let spelt : encode_utf8_all (c ∷ []) ≡ bytes = ap encode_utf8_all (sym same) ∙ encodes-chars bytes text in
+    let scalar : all_scalars (c ∷ []) ≡ true = ap all_scalars (sym same) ∙ scalars-chars bytes text in
+    absurd (never c (one-scalar c scalar) (sym spelt ∙ append-nil (encode_utf8 c)))
+none-of-one bytes (c ∷ d ∷ more) text same never = refl
+
+-- a text that is parsed as a character is that one, and no other is
+pub character-parsed : {E : Type 0} (bytes : List ℕ) (r : Result ℕ E) → IsUtf8 bytes → IfOk r IsScalar → ParsesChar bytes r
+    → result_ok r ≡ character_of bytes
+character-parsed bytes (Ok c) text is h =
+    ap the_one (sym (ap chars (h ∙ sym (append-nil (encode_utf8 c))) ∙ chars-encodes (c ∷ []) (scalar-one c is)))
+character-parsed bytes (Err e) text is h = none-of-one bytes (chars bytes) text refl h
