@@ -85,6 +85,25 @@ fn a_fault_tells_its_line(rt: HostRuntime) {
     assert_eq!(rt; records.len(), 3);
 }
 
+/// Asserts that the first fault of some lines is told with this line and cause, and leaves the records before it.
+fn assert_stop(rt: &impl Abort, alloc: Global, lines: &str, line: usize, cause: RecordsCause) {
+    let mut records = Vec::new(alloc);
+    let mut input = lines.as_bytes();
+    let read = read_records(alloc, ',', &mut input, &mut records);
+    assert!(rt; read == Err(RecordsError { line, cause }));
+    assert_eq!(rt; records.len() + 1, line);
+}
+
+#[test]
+fn a_fault_is_told_in_the_first_a_middle_and_the_last_line(rt: HostRuntime) {
+    let alloc = rt.alloc();
+    let open = RecordsCause::Fault(Fault::OpenQuote);
+    let behind = RecordsCause::Fault(Fault::TextBehindQuote);
+    assert_stop(&rt, alloc, "\"a\nb\nc\n", 1, open);
+    assert_stop(&rt, alloc, "a\n\"b\"c\n\"d\n", 2, behind);
+    assert_stop(&rt, alloc, "a\n\nb\n\"c", 4, open);
+}
+
 #[test]
 fn a_reader_that_fails_leaves_the_lines_before(rt: HostRuntime) {
     let alloc = rt.alloc();
