@@ -9,8 +9,8 @@ use std::alloc::Global;
 
 /// The fields of a record as a line, each in quotes, from which `fields_of` reads them back.
 ///
-/// An error says that no memory was found. It never comes of a line of at most 24 bytes, as that of no fields. With the separator `,` the fields `a` and `b"` give
-/// `"a","b"""`.
+/// An error says that no memory was found; where the line has at most 24 bytes, as that of no fields has, it never comes.
+/// With the separator `,` the fields `a` and `b"` give `"a","b"""`.
 pub fn line_of(
     alloc: Global,
     separator: char,
