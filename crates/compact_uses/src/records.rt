@@ -1,7 +1,10 @@
 //! Records: lines of fields, parted by a character, with quotes.
-ghost use Rattle.std.specs.Prelude.{◌≡◌, ◌∷◌, ◌++◌, List, [], length, take, IfErr, IfSome, OnErr, OnOk};
+ghost use Rattle.std.specs.Prelude.{◌≡◌, ◌≢◌, ◌∷◌, ◌++◌, ℕ, List, [], length, take, IfErr, IfSome, OnErr, OnOk};
+ghost use Rattle.std.specs.IoError.{error_kind};
+ghost use Rattle.std.specs.declared.io.ErrorKind.TheVariants.{OutOfMemory};
 ghost use Rattle.std.specs.Global.{Vec};
 ghost use Rattle.compact_str.specs.Value.{PlacedText};
+ghost use Rattle.compact_uses.specs.declared.records.RecordsCause.TheVariants as cause;
 ghost use Rattle.compact_uses.specs.Records.{IsRecordOf, IsCauseAt, IsLineAfter, Reads, ReadsAll, ReadsUpTo};
 
 mod read;
@@ -10,7 +13,8 @@ mod write;
 use compact_str::CompactString;
 pub use read::{Fault, LineError, Place, fields_of};
 use std::alloc::Global;
-use std::io::{BufRead, BufReader, Read};
+use std::io;
+use std::io::{BufRead, BufReader, ErrorKind, Read};
 pub use write::line_of;
 
 /// Why records were not read to the end.
@@ -74,14 +78,27 @@ fn read_lines<R: Read>(
         return Err(RecordsCause::Reserve);
     };
     for bytes in reader.split(alloc, b'\n') {
-        let Ok(bytes) = bytes else {
-            return Err(RecordsCause::Read);
+        let bytes = match bytes {
+            Ok(bytes) => bytes,
+            Err(error) => return Err(reading_cause(&error)),
         };
         if let Err(cause) = take_line(alloc, separator, bytes.as_slice(), records) {
             return Err(cause);
         }
     }
     Ok(())
+}
+
+/// Why a line was not read: its bytes take memory, which may be refused as the reader may fail.
+fn reading_cause(error: &io::Error) -> RecordsCause
+    ensures memory { error_kind error.now ≡ OutOfMemory → result ≡ cause.Reserve }
+    ensures reader { error_kind error.now ≢ OutOfMemory → result ≡ cause.Read }
+    ensures either { (separator : ℕ) (line : List ℕ) → IsCauseAt separator line result }
+{
+    match error.kind() {
+        ErrorKind::OutOfMemory => RecordsCause::Reserve,
+        _ => RecordsCause::Read,
+    }
 }
 
 /// Puts the record of a line behind the others.

@@ -1,6 +1,6 @@
 //! Records: fields of a line, what is written and read back, faults with their lines, and a reader that fails.
 
-use crate::memory::take_all;
+use crate::memory::{spare, take_all};
 use crate::records::{
     Fault, LineError, RecordsCause, RecordsError, fields_of, line_of, read_records,
 };
@@ -121,6 +121,22 @@ fn with_no_memory_nothing_is_read(rt: HostRuntime) {
     let mut records = Vec::new(alloc);
     let mut input = "a,b\n".as_bytes();
     let hog = take_all(&rt, alloc);
+    let read = read_records(alloc, ',', &mut input, &mut records);
+    drop(hog);
+    let cause = RecordsCause::Reserve;
+    assert!(rt; read == Err(RecordsError { line: 1, cause }));
+    assert_eq!(rt; records.len(), 0);
+}
+
+// The reader's buffer has 8192 bytes, and what is refused is the memory for the bytes of the line.
+#[test]
+fn no_memory_for_the_bytes_of_a_line_is_told_as_such(rt: HostRuntime) {
+    let alloc = rt.alloc();
+    let mut records = Vec::new(alloc);
+    let mut input = "a,b\n".as_bytes();
+    let room = spare(&rt, alloc, 8192);
+    let hog = take_all(&rt, alloc);
+    drop(room);
     let read = read_records(alloc, ',', &mut input, &mut records);
     drop(hog);
     let cause = RecordsCause::Reserve;

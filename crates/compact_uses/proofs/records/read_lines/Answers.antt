@@ -1,13 +1,13 @@
 use Rattle.std.proofs.Common.{refl, sym}
 use Rattle.compact_uses.proofs.RecordLemmas.{next-line, stops-at-line, cause-of, one-more-behind}
-use Rattle.compact_uses.specs.declared.records.RecordsCause.TheVariants.{Read}
+use Rattle.std.specs.Io.BufRead.{first_piece}
 use Rattle.compact_uses.proofs.records.read_lines.Goals as goal
 
-pub returns-in-Err-clause-err : goal.returns-in-Err-clause-err
-returns-in-Err-clause-err g c =
+pub returns-in-Err-take_line-clause-err : goal.returns-in-Err-take_line-clause-err
+returns-in-Err-take_line-clause-err g c =
     let steps = rw (c.in-Ok-bytes.is, c.loop-bytes.invariant.byte) at c.in-Some.ensures.steps in
-    let cause = cause-of c.args.separator _ c.in-Ok-bytes.bytes.items c.in-Err.cause steps.2.0 (rw (sym c.as_slice.ensures.value) c.in-Err.ensures.cause) in
-    stops-at-line _ _ _ _ _ _ c.in-Err.cause c.loop-bytes.invariant.reads c.in-Err.ensures.err cause
+    let cause = cause-of c.args.separator _ c.in-Ok-bytes.bytes.items c.in-Err-take_line.cause steps.2.0 (rw (sym c.as_slice.ensures.value) c.in-Err-take_line.ensures.cause) in
+    stops-at-line _ _ _ _ _ _ c.in-Err-take_line.cause c.loop-bytes.invariant.reads c.in-Err-take_line.ensures.err cause
 
 pub loop-bytes-preserved : goal.loop-bytes-preserved
 loop-bytes-preserved g c =
@@ -21,5 +21,6 @@ loop-bytes-preserved g c =
       behind = one-more-behind _ _ _ _ c.loop-bytes.invariant.behind taken.1;
     }
 
-pub returns-in_default-bytes-clause-err : goal.returns-in_default-bytes-clause-err
-returns-in_default-bytes-clause-err g c = stops-at-line _ _ _ _ _ _ Read c.loop-bytes.invariant.reads refl (λ rest known. tt)
+pub returns-in-Err-clause-err : goal.returns-in-Err-clause-err
+returns-in-Err-clause-err g c =
+    stops-at-line _ _ _ _ _ _ c.reading_cause.result c.loop-bytes.invariant.reads refl (λ rest known. c.reading_cause.ensures.either c.args.separator (first_piece 10 rest))
