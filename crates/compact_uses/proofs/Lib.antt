@@ -3,3 +3,4 @@ pub mod TokenLemmas
 pub mod RowLemmas
 pub mod LineLemmas
 pub mod RecordLemmas
+pub mod ShortLines

@@ -48,7 +48,7 @@ quoted-field : (separator : ℕ) (done : List (List ℕ)) (field rest : List ℕ
 quoted-field separator done field rest =
     ap (λ x. read separator Quoted done [] x) (append_assoc (escaped field) (quote ∷ []) rest) ∙ inside-quotes separator done field [] rest
 
-not_same : (n : ℕ) → n ≢ quote → nat_eq n quote ≡ false
+pub not_same : (n : ℕ) → n ≢ quote → nat_eq n quote ≡ false
 not_same n apart = by (nat_eq n quote) refl
   where
     by : (b : Bool) → nat_eq n quote ≡ b → nat_eq n quote ≡ false

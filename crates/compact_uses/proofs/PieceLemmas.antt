@@ -1,8 +1,8 @@
 -- A piece of a text, from where the rest begins up to a place in it: the character that comes next, and what is left.
-use Rattle.std.proofs.Common.{◌≡◌, ℕ, zero, suc, ◌+◌, ◌<◌, ◌==◌, Bool, true, false, List, [], ◌∷◌, ◌++◌, length, drop, take, refl, ap, sym, subst, ◌∙◌, arith, append_assoc, append-nil}
+use Rattle.std.proofs.Common.{◌≡◌, ℕ, zero, suc, ◌+◌, ◌<◌, ◌==◌, Bool, true, false, List, [], ◌∷◌, ◌++◌, length, drop, take, refl, ap, sym, subst, ◌∙◌, arith, append_assoc, append-nil, length-append, length-drop}
 use Rattle.std.proofs.lemmas.Grind.{common_steps}
 use Rattle.std.proofs.Math.Seq.{drop-nil, drop-append_seam}
-use Rattle.std.proofs.lemmas.Str.{length-encode, chars-nil}
+use Rattle.std.proofs.lemmas.Str.{length-encode, len_utf8_bounds, chars-nil}
 use Rattle.std.specs.Char.{len_utf8, encode_utf8}
 use Rattle.std.specs.Str.{IsUtf8}
 use Rattle.compact_str.specs.Text.{size, text_of}
@@ -93,3 +93,11 @@ filled-text bytes is_empty u test is_no = by (text_of bytes) (size-text_of bytes
     by : (t : List ℕ) → size t ≡ length bytes → 0 < length t
     by [] none = grind (arith, common_steps)
     by (c ∷ t) some = grind (arith, common_steps)
+
+-- of no text there is no character to come
+pub none-next : (front bytes later : List ℕ) (len c : ℕ) → IsUtf8 bytes → front ++ text_of bytes ≡ [] → drop len bytes ≡ encode_utf8 c ++ later → ⊥
+none-next [] bytes later len c u none e =
+    let empty : length bytes ≡ 0 = sym (size-text_of bytes u) ∙ ap size none in
+    let more : length (drop len bytes) ≡ length (encode_utf8 c) + length later = ap length e ∙ length-append (encode_utf8 c) later in
+    omega (arith, empty, more, length-drop len bytes, length-encode c, (len_utf8_bounds c).0)
+none-next (x ∷ front) bytes later len c u none e = grind (arith, common_steps)

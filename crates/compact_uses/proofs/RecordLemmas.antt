@@ -45,3 +45,9 @@ pub cause-of : (separator : ℕ) (left : Option (List ℕ)) (piece : List ℕ) (
 cause-of separator left piece why first is rest known =
     let first_of = rw known at first in
     rw (sym first_of.1) is
+
+-- one more record stands behind those that stood
+pub one-more-behind : (before now after : List (Vec PlacedText)) (fields : Vec PlacedText) → ((read : List (Vec PlacedText)) × (now ≡ before ++ read))
+    → after ≡ now ++ fields ∷ [] → (read : List (Vec PlacedText)) × (after ≡ before ++ read)
+one-more-behind before now after fields behind pushed =
+    (behind.0 ++ fields ∷ [], pushed ∙ ap (λ r. r ++ fields ∷ []) behind.1 ∙ append_assoc before behind.0 (fields ∷ []))

@@ -1,14 +1,18 @@
 -- What stays of tokens while names come in.
-use Rattle.std.proofs.Common.{◌≡◌, ℕ, ◌<◌, ◌≤◌, List, [], ◌∷◌, ◌++◌, Bool, true, false, IsTrue, ◌↔◌, Option, Some, None, length, slice_get, slice_index_or, flat_map, refl, ap, sym, ◌∙◌, arith, append-nil, append_assoc}
+use Rattle.std.proofs.Common.{◌≡◌, ℕ, ◌<◌, ◌≤◌, List, [], ◌∷◌, ◌++◌, Bool, true, false, IsTrue, ◌↔◌, Option, Some, None, length, slice_get, slice_index_or, flat_map, map, refl, ap, ap₂, sym, ◌∙◌, arith, append-nil, append_assoc}
 use Rattle.std.proofs.lemmas.Grind.{common_steps, flat_map-append}
+use Rattle.std.proofs.lemmas.List.{map-append}
 use Rattle.std.proofs.lemmas.List.Elements.{All-nil, All-push, recursion_from_All}
 use Rattle.std.proofs.Math.Nat.{lt_irrefl}
 use Rattle.std.specs.Option.{unwrap_or}
 use Rattle.std.specs.List.{All, AllByRecursion}
+use Rattle.compact_edit.specs.Names.{firsts}
+use Rattle.compact_edit.proofs.KeyTexts.{noted, firsts-push}
+use Rattle.compact_edit.proofs.TakenTexts.{still-distinct}
 use Rattle.compact_uses.specs.declared.tokenizer.Kind.{Kind}
 use Rattle.compact_uses.specs.declared.tokenizer.Kind.TheVariants.{Word, Number, Space, Mark}
 use Rattle.compact_uses.specs.declared.tokenizer.Token.{Token}
-use Rattle.compact_uses.specs.Tokens.{kind_of, goes_on, token_text, last_kind, IsToken, ArePartedBehind}
+use Rattle.compact_uses.specs.Tokens.{kind_of, goes_on, token_text, last_kind, IsToken, AreNamesOf, ArePartedBehind}
 
 -- each name keeps its number
 abbrev KeepsNumbers : List (List ℕ) → List (List ℕ) → Type 0
@@ -35,7 +39,29 @@ joined-kept names after (token ∷ tokens) keep all =
     ap (λ text. text ++ flat_map (token_text after) tokens) (token_text-kept names after token keep all.0.filled)
     ∙ ap (λ rest. token_text names token ++ rest) (joined-kept names after tokens keep all.1)
 
+texts-kept : (names after : List (List ℕ)) (tokens : List Token) → KeepsNumbers names after → AllByRecursion (IsToken names) tokens
+    → map (token_text after) tokens ≡ map (token_text names) tokens
+texts-kept names after [] keep all = refl
+texts-kept names after (token ∷ tokens) keep all =
+    ap₂ (λ (t : List ℕ) (rest : List (List ℕ)). t ∷ rest) (token_text-kept names after token keep all.0.filled) (texts-kept names after tokens keep all.1)
+
 -- a piece that has a number among the names is put behind the tokens
+
+pub put-names : (before names after : List (List ℕ)) (tokens : List Token) (token : Token) (piece : List ℕ) → KeepsNumbers names after → All (IsToken names) tokens
+    → slice_get after token.name ≡ Some piece → after ≡ firsts (names ++ piece ∷ []) → AreNamesOf before names tokens → AreNamesOf before after (tokens ++ token ∷ [])
+put-names before names after tokens token piece keep all at is are =
+    let texts : List (List ℕ) = map (token_text names) tokens in
+    let last : token_text after token ≡ piece = ap (λ (x : Option (List ℕ)). unwrap_or x []) at in
+    let put : map (token_text after) (tokens ++ token ∷ []) ≡ texts ++ piece ∷ [] =
+    map-append (token_text after) tokens (token ∷ [])
+    ∙ ap₂ (λ (front : List (List ℕ)) (t : List ℕ). front ++ t ∷ []) (texts-kept names after tokens keep (recursion_from_All (IsToken names) tokens all)) last in (
+      still-distinct names after piece is are.0,
+      is
+          ∙ firsts-push names piece
+          ∙ ap (λ others. noted others piece) (are.0 ∙ are.1)
+          ∙ sym (firsts-push (before ++ texts) piece)
+          ∙ ap firsts (append_assoc before texts (piece ∷ []) ∙ ap (λ x. before ++ x) (sym put)),
+    )
 
 pub put-joined : (names after : List (List ℕ)) (tokens : List Token) (token : Token) (piece : List ℕ) → KeepsNumbers names after → All (IsToken names) tokens
     → slice_get after token.name ≡ Some piece → flat_map (token_text after) (tokens ++ token ∷ []) ≡ flat_map (token_text names) tokens ++ piece

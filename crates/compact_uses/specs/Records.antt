@@ -1,5 +1,5 @@
 -- The records of the lines of some bytes. A line ends with the byte 10, which the last may lack.
-use Rattle.std.specs.Prelude.{◌≡◌, ◌<◌, ℕ, List, [], ◌∷◌, ◌++◌, length, map, Ok, Err, ⊤}
+use Rattle.std.specs.Prelude.{◌≡◌, ◌<◌, ◌+◌, ℕ, List, [], ◌∷◌, ◌++◌, length, map, Ok, Err, ⊤}
 use Rattle.std.specs.Global.{Vec}
 use Rattle.std.specs.Io.BufRead.{first_piece, drop_through}
 use Rattle.std.specs.Str.{IsUtf8}
@@ -37,3 +37,7 @@ abbrev pub ReadsUpTo : ℕ → List ℕ → List (Vec PlacedText) → List (Vec 
 ReadsUpTo separator bytes before after why =
     (records : List (Vec PlacedText)) × (rest : List ℕ) × (after ≡ before ++ records) × Reads separator bytes records rest
     × IsCauseAt separator (first_piece 10 rest) why
+
+-- the line, from 1 on, is the one after the lines of the records that came behind those that stood
+abbrev pub IsLineAfter : List (Vec PlacedText) → List (Vec PlacedText) → ℕ → Type 0
+IsLineAfter before after line = (records : List (Vec PlacedText)) × (after ≡ before ++ records) × (line ≡ length records + 1)

@@ -1,10 +1,11 @@
 -- Tokens: what each is made of, and its text among the names of an interner.
-use Rattle.std.specs.Prelude.{◌≡◌, ◌<◌, ℕ, List, [], length, slice_get, if◌then◌else◌, ⊤}
+use Rattle.std.specs.Prelude.{◌≡◌, ◌<◌, ◌++◌, ℕ, List, [], length, map, slice_get, if◌then◌else◌, ⊤}
 use Rattle.std.specs.Option.{unwrap_or}
 use Rattle.std.specs.List.{All}
 use Rattle.std.specs.Char.{is_whitespace}
 use Rattle.std.specs.Char.Unicode.Alphabetic.{is_alphabetic}
 use Rattle.std.specs.Char.Unicode.Numeric.{is_numeric}
+use Rattle.compact_edit.specs.Names.{firsts}
 use Rattle.compact_edit.specs.declared.intern.InternError.{InternError}
 use Rattle.compact_edit.specs.declared.intern.InternError.TheVariants.{Reserve, Full}
 use Rattle.compact_uses.specs.declared.tokenizer.Kind.{Kind}
@@ -60,3 +61,7 @@ pub record IsToken (names : List (List ℕ)) (token : Token) : Type 0 where
 abbrev pub IsTokenRefusal : List (List ℕ) → InternError → Type 0
 IsTokenRefusal names (Reserve error) = ⊤
 IsTokenRefusal names Full = length names ≡ 4294967295
+
+-- the names are distinct: those that stood at first, and the texts of the tokens, by first occurrence
+abbrev pub AreNamesOf : List (List ℕ) → List (List ℕ) → List Token → Type 0
+AreNamesOf before names tokens = (firsts names ≡ names) × (names ≡ firsts (before ++ map (token_text names) tokens))

@@ -1,8 +1,11 @@
 //! Records: lines of fields, parted by a character, with quotes.
-ghost use Rattle.std.specs.Prelude.{◌≡◌, ◌∷◌, ◌++◌, [], IfErr, IfSome, OnErr, OnOk};
+ghost use Rattle.std.specs.Prelude.{◌≡◌, ◌≢◌, ◌∷◌, ◌++◌, ℕ, List, [], length, take, IfErr, IfSome, OnErr, OnOk};
+ghost use Rattle.std.specs.IoError.{error_kind};
+ghost use Rattle.std.specs.declared.io.ErrorKind.TheVariants.{OutOfMemory};
 ghost use Rattle.std.specs.Global.{Vec};
 ghost use Rattle.compact_str.specs.Value.{PlacedText};
-ghost use Rattle.compact_uses.specs.Records.{IsRecordOf, IsCauseAt, Reads, ReadsAll, ReadsUpTo};
+ghost use Rattle.compact_uses.specs.declared.records.RecordsCause.TheVariants as cause;
+ghost use Rattle.compact_uses.specs.Records.{IsRecordOf, IsCauseAt, IsLineAfter, Reads, ReadsAll, ReadsUpTo};
 
 mod read;
 mod write;
@@ -10,7 +13,8 @@ mod write;
 use compact_str::CompactString;
 pub use read::{Fault, LineError, Place, fields_of};
 use std::alloc::Global;
-use std::io::{BufRead, BufReader, Read};
+use std::io;
+use std::io::{BufRead, BufReader, ErrorKind, Read};
 pub use write::line_of;
 
 /// Why records were not read to the end.
@@ -35,8 +39,9 @@ pub struct RecordsError {
 
 /// Reads the records of all lines, each as `fields_of` does. A line ends with the byte 0A, which the last may lack.
 ///
-/// The records go behind those that stand in the list. An error says at which line it came, and why; the records of the
-/// lines before it are in the list. The contract says so of a reader whose bytes are known, but for the line's number.
+/// The records go behind those that stand in the list, which stay. An error says at which line it came, from 1 on, and
+/// why; the records of the lines before it are in the list. The contract says the line for any reader, and which records
+/// are read, and why no more, for one whose bytes are known.
 pub fn read_records<R: Read>(
     alloc: Global,
     separator: char,
@@ -45,23 +50,55 @@ pub fn read_records<R: Read>(
 ) -> Result<(), RecordsError>
     ensures ok { OnOk result (IfSome (R.remaining reader.old) (λ bytes. ReadsAll separator bytes records.old.items records.new.items)) }
     ensures err { IfErr result (λ error. IfSome (R.remaining reader.old) (λ bytes. ReadsUpTo separator bytes records.old.items records.new.items error.cause)) }
+    ensures line { IfErr result (λ error. IsLineAfter records.old.items records.new.items error.line) }
+    ensures kept { take (length records.old.items) records.new.items ≡ records.old.items }
 {
-    let mut line = 1;
+    let before = records.len();
+    match read_lines(alloc, separator, reader, records) {
+        Ok(()) => Ok(()),
+        Err(cause) => {
+            let line = records.len() - before + 1;
+            Err(RecordsError { line, cause })
+        }
+    }
+}
+
+/// Reads the records of all lines, up to the first that has none.
+fn read_lines<R: Read>(
+    alloc: Global,
+    separator: char,
+    reader: &mut R,
+    records: &mut Vec<Vec<CompactString>>,
+) -> Result<(), RecordsCause>
+    ensures ok { OnOk result (IfSome (R.remaining reader.old) (λ bytes. ReadsAll separator bytes records.old.items records.new.items)) }
+    ensures err { IfErr result (λ cause. IfSome (R.remaining reader.old) (λ bytes. ReadsUpTo separator bytes records.old.items records.new.items cause)) }
+    ensures behind { (read : List (Vec PlacedText)) × (records.new.items ≡ records.old.items ++ read) }
+{
     let Ok(reader) = BufReader::new(alloc, reader) else {
-        let cause = RecordsCause::Reserve;
-        return Err(RecordsError { line, cause });
+        return Err(RecordsCause::Reserve);
     };
     for bytes in reader.split(alloc, b'\n') {
-        let Ok(bytes) = bytes else {
-            let cause = RecordsCause::Read;
-            return Err(RecordsError { line, cause });
+        let bytes = match bytes {
+            Ok(bytes) => bytes,
+            Err(error) => return Err(reading_cause(&error)),
         };
         if let Err(cause) = take_line(alloc, separator, bytes.as_slice(), records) {
-            return Err(RecordsError { line, cause });
+            return Err(cause);
         }
-        line = usize::saturating_add(line, 1);
     }
     Ok(())
+}
+
+/// Why a line was not read: its bytes take memory, which may be refused as the reader may fail.
+fn reading_cause(error: &io::Error) -> RecordsCause
+    ensures memory { error_kind error.now ≡ OutOfMemory → result ≡ cause.Reserve }
+    ensures reader { error_kind error.now ≢ OutOfMemory → result ≡ cause.Read }
+    ensures either { (separator : ℕ) (line : List ℕ) → IsCauseAt separator line result }
+{
+    match error.kind() {
+        ErrorKind::OutOfMemory => RecordsCause::Reserve,
+        _ => RecordsCause::Read,
+    }
 }
 
 /// Puts the record of a line behind the others.

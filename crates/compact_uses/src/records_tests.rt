@@ -1,6 +1,6 @@
 //! Records: fields of a line, what is written and read back, faults with their lines, and a reader that fails.
 
-use crate::memory::take_all;
+use crate::memory::{spare, take_all};
 use crate::records::{
     Fault, LineError, RecordsCause, RecordsError, fields_of, line_of, read_records,
 };
@@ -85,6 +85,25 @@ fn a_fault_tells_its_line(rt: HostRuntime) {
     assert_eq!(rt; records.len(), 3);
 }
 
+/// Asserts that the first fault of some lines is told with this line and cause, and leaves the records before it.
+fn assert_stop(rt: &impl Abort, alloc: Global, lines: &str, line: usize, cause: RecordsCause) {
+    let mut records = Vec::new(alloc);
+    let mut input = lines.as_bytes();
+    let read = read_records(alloc, ',', &mut input, &mut records);
+    assert!(rt; read == Err(RecordsError { line, cause }));
+    assert_eq!(rt; records.len() + 1, line);
+}
+
+#[test]
+fn a_fault_is_told_in_the_first_a_middle_and_the_last_line(rt: HostRuntime) {
+    let alloc = rt.alloc();
+    let open = RecordsCause::Fault(Fault::OpenQuote);
+    let behind = RecordsCause::Fault(Fault::TextBehindQuote);
+    assert_stop(&rt, alloc, "\"a\nb\nc\n", 1, open);
+    assert_stop(&rt, alloc, "a\n\"b\"c\n\"d\n", 2, behind);
+    assert_stop(&rt, alloc, "a\n\nb\n\"c", 4, open);
+}
+
 #[test]
 fn a_reader_that_fails_leaves_the_lines_before(rt: HostRuntime) {
     let alloc = rt.alloc();
@@ -102,6 +121,22 @@ fn with_no_memory_nothing_is_read(rt: HostRuntime) {
     let mut records = Vec::new(alloc);
     let mut input = "a,b\n".as_bytes();
     let hog = take_all(&rt, alloc);
+    let read = read_records(alloc, ',', &mut input, &mut records);
+    drop(hog);
+    let cause = RecordsCause::Reserve;
+    assert!(rt; read == Err(RecordsError { line: 1, cause }));
+    assert_eq!(rt; records.len(), 0);
+}
+
+// The reader's buffer has 8192 bytes, and what is refused is the memory for the bytes of the line.
+#[test]
+fn no_memory_for_the_bytes_of_a_line_is_told_as_such(rt: HostRuntime) {
+    let alloc = rt.alloc();
+    let mut records = Vec::new(alloc);
+    let mut input = "a,b\n".as_bytes();
+    let room = spare(&rt, alloc, 8192);
+    let hog = take_all(&rt, alloc);
+    drop(room);
     let read = read_records(alloc, ',', &mut input, &mut records);
     drop(hog);
     let cause = RecordsCause::Reserve;

@@ -1,10 +1,10 @@
 //! A text cut into words, numbers, white space and marks, each interned.
-ghost use Rattle.std.specs.Prelude.{◌≡◌, ◌++◌, ℕ, List, flat_map, slice_get, Some, IfOk, IfErr, OnOk};
+ghost use Rattle.std.specs.Prelude.{◌≡◌, ◌++◌, ℕ, List, flat_map, slice_get, Some, IsOk, IfOk, IfErr, OnOk};
 ghost use Rattle.std.specs.List.{All};
 ghost use Rattle.compact_uses.specs.Tokens.{kind_of, token_text, IsToken, IsTokenRefusal};
 ghost use Rattle.std.specs.Prelude.{◌≤◌, [], false, length};
 ghost use Rattle.compact_str.specs.Text.{text_of};
-ghost use Rattle.compact_uses.specs.Tokens.{goes_on, last_kind, AreParted};
+ghost use Rattle.compact_uses.specs.Tokens.{goes_on, last_kind, AreNamesOf, AreParted};
 ghost use Rattle.compact_uses.specs.declared.tokenizer.Kind.{Kind};
 ghost use Rattle.compact_uses.specs.declared.tokenizer.Kind.TheVariants.{Mark};
 
@@ -58,7 +58,8 @@ fn goes_on(kind: Kind, next: Kind) -> bool
 /// Cuts a text into tokens. Their texts, joined, are the text; none is empty, and each has characters of its kind alone.
 /// Each is as long as can be: no token goes on where the one before it ends. A mark is one character.
 ///
-/// An error says that no memory was found, or that no number was left for a name, of which 2^32 - 1 stand then. Names keep
+/// The names are then those that stood and the texts of the tokens, by first occurrence. An error says that no memory was
+/// found, or that no number was left for a name, of which 2^32 - 1 stand then; of the empty text it never comes. Names keep
 /// their numbers in any case. Of `ab, 12` the tokens are the word `ab`, the mark `,`, a space and the number `12`.
 pub fn tokenize(
     alloc: Global,
@@ -68,9 +69,12 @@ pub fn tokenize(
     ensures joined { IfOk result (λ tokens. flat_map (token_text names.new) tokens.items ≡ text.now.text) }
     ensures parted { IfOk result (λ tokens. AreParted tokens.items) }
     ensures tokens { IfOk result (λ tokens. All (IsToken names.new) tokens.items) }
+    ensures names { IfOk result (λ tokens. AreNamesOf names.old names.new tokens.items) }
     ensures kept { (n : ℕ) (name : List ℕ) → slice_get names.old n ≡ Some name → slice_get names.new n ≡ Some name }
+    ensures empty { text.now.text ≡ [] → IsOk result }
     ensures err { IfErr result (IsTokenRefusal names.new) }
 {
+    let _distinct = names.len();
     let mut tokens = Vec::new(alloc);
     let mut rest = text.as_str();
     let mut len = 0;
@@ -108,7 +112,9 @@ fn put(
     ensures parted { OnOk result (AreParted tokens.new.items) }
     ensures last { OnOk result ((next : Kind) → goes_on kind next ≡ false → goes_on (last_kind Mark tokens.new.items) next ≡ false) }
     ensures tokens { OnOk result (All (IsToken names.new) tokens.new.items) }
+    ensures names { OnOk result ((before : List (List ℕ)) → AreNamesOf before names.old tokens.old.items → AreNamesOf before names.new tokens.new.items) }
     ensures kept { (n : ℕ) (name : List ℕ) → slice_get names.old n ≡ Some name → slice_get names.new n ≡ Some name }
+    ensures empty { text_of piece.now ≡ [] → IsOk result }
     ensures err { IfErr result (IsTokenRefusal names.new) }
 {
     if piece.is_empty() {

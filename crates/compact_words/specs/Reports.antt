@@ -5,8 +5,7 @@ use Rattle.std.specs.List.{All}
 use Rattle.std.specs.Option.{unwrap_or}
 use Rattle.compact_str.specs.Value.{PlacedText}
 use Rattle.compact_str.specs.Order.{text_in}
-use Rattle.compact_edit.specs.Names.{firsts}
-use Rattle.compact_uses.specs.Tokens.{token_text, IsToken, AreParted}
+use Rattle.compact_uses.specs.Tokens.{token_text, IsToken, AreNamesOf, AreParted}
 use Rattle.compact_uses.specs.Columns.{row_text, widths_of}
 use Rattle.compact_uses.specs.declared.tokenizer.Token.{Token}
 use Rattle.compact_words.specs.declared.entries.Entry.{Entry}
@@ -16,12 +15,13 @@ use Rattle.compact_words.specs.Entries.{entries_before, IsRanking}
 abbrev pub fields_of : List (List ℕ) → Entry → List (List ℕ)
 fields_of names entry = unwrap_or (slice_get names entry.name) [] ∷ decimal entry.count ∷ []
 
--- The text is cut into tokens, each as long as can be, with distinct names; its words are ranked by their counts among the
--- tokens; the first so many are the records of a table, and the lines are its rows.
+-- The text is cut into tokens, each as long as can be; the names are their texts by first occurrence; its words are ranked
+-- by their counts among the tokens, and as names where these are the same; the first so many are the records of a table,
+-- and the lines are its rows.
 pub record IsReport (text : List ℕ) (most : ℕ) (lines : List (List ℕ)) : Type 0 where
   pub names : List (List ℕ)
-  pub distinct : firsts names ≡ names
   pub tokens : List Token
+  pub named : AreNamesOf [] names tokens
   pub joined : flat_map (token_text names) tokens ≡ text
   pub alike : All (IsToken names) tokens
   pub parted : AreParted tokens

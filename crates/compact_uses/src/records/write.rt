@@ -1,5 +1,6 @@
 //! How fields are written as a line.
-ghost use Rattle.std.specs.Prelude.{◌≡◌, ◌≢◌, ◌++◌, [], map, Ok, IfOk, IsOk, OnOk};
+ghost use Rattle.std.specs.Prelude.{◌≡◌, ◌≢◌, ◌+◌, ◌≤◌, ◌++◌, [], map, Ok, IfOk, IsOk, OnOk};
+ghost use Rattle.compact_str.specs.Text.{size};
 ghost use Rattle.compact_str.specs.Order.{text_in};
 ghost use Rattle.compact_uses.specs.Lines.{quote, fields_of, quoted, line_of};
 
@@ -8,8 +9,8 @@ use std::alloc::Global;
 
 /// The fields of a record as a line, each in quotes, from which `fields_of` reads them back.
 ///
-/// An error says that no memory was found; of no fields it never comes. With the separator `,` the fields `a` and `b"` give
-/// `"a","b"""`.
+/// An error says that no memory was found; where the line has at most 24 bytes, as that of no fields has, it never comes.
+/// With the separator `,` the fields `a` and `b"` give `"a","b"""`.
 pub fn line_of(
     alloc: Global,
     separator: char,
@@ -17,7 +18,7 @@ pub fn line_of(
 ) -> Result<CompactString, ReserveError>
     ensures text { IfOk result (λ line. line.text ≡ line_of separator (map text_in fields.now)) }
     ensures reads_back { separator ≢ quote → fields.now ≢ [] → IfOk result (λ line. fields_of separator line.text ≡ Ok (map text_in fields.now)) }
-    ensures empty { fields.now ≡ [] → IsOk result }
+    ensures succeeds { size (line_of separator (map text_in fields.now)) ≤ 24 → IsOk result }
 {
     let mut line = CompactString::default(alloc);
     let Some((first, others)) = fields.split_first() else {
@@ -33,7 +34,8 @@ pub fn line_of(
 
 /// Appends a field in quotes.
 fn push_quoted(line: &mut CompactString, field: &CompactString) -> Result<(), ReserveError>
-    ensures { OnOk result (line.new.text ≡ line.old.text ++ quoted field.now.text) }
+    ensures text { OnOk result (line.new.text ≡ line.old.text ++ quoted field.now.text) }
+    ensures succeeds { size line.old.text + size (quoted field.now.text) ≤ 24 → IsOk result }
 {
     line.push('"')?;
     for character in field.as_str().chars() {

@@ -1,20 +1,5 @@
-use Rattle.std.proofs.Common.{sym}
-use Rattle.compact_uses.proofs.RecordLemmas.{next-line, stops-at-line, cause-of}
+use Rattle.std.proofs.Common.{arith}
 use Rattle.compact_uses.proofs.records.read_records.Goals as goal
 
-pub returns-in-Err-clause-err : goal.returns-in-Err-clause-err
-returns-in-Err-clause-err g c =
-    let steps = rw (c.in-Ok-bytes.is, c.loop-bytes.invariant.byte) at c.in-Some.ensures.steps in
-    let cause = cause-of c.args.separator _ c.in-Ok-bytes.bytes.items c.in-Err.cause steps.2.0 (rw (sym c.as_slice.ensures.value) c.in-Err.ensures.cause) in
-    stops-at-line _ _ _ _ _ _ _ c.loop-bytes.invariant.reads c.in-Err.ensures.err cause
-
-pub loop-bytes-preserved : goal.loop-bytes-preserved
-loop-bytes-preserved g c =
-    let steps = rw (c.in-Ok-bytes.is, c.loop-bytes.invariant.byte) at c.in-Some.ensures.steps in
-    let taken = c.in_default-take_line.ensures.ok in
-    record {
-      can = tt;
-      finite = tt;
-      byte = steps.1;
-      reads = next-line _ _ _ _ _ _ _ c.in-Ok-bytes.bytes.items taken.0 c.loop-bytes.invariant.reads steps.2.0 steps.2.1 taken.1 (rw (sym c.as_slice.ensures.value) taken.2);
-    }
+pub overflow_add-line : goal.overflow_add-line
+overflow_add-line g c = omega (arith, c.len.ensures, c.read_lines.new.records.ok.1, c.read_lines.new.records.small)

@@ -2,7 +2,7 @@ use Rattle.std.proofs.Common.{◌≡◌, ◌++◌, ◌∷◌, [], sym, arith, ap
 use Rattle.std.proofs.lemmas.Grind.{common_steps}
 use Rattle.compact_str.specs.Text.{text_of}
 use Rattle.compact_uses.proofs.PieceLemmas.{no-text, filled-text}
-use Rattle.compact_uses.proofs.TokenLemmas.{put-joined, put-tokens, parted-push, last-apart, none-apart}
+use Rattle.compact_uses.proofs.TokenLemmas.{put-joined, put-names, put-tokens, parted-push, last-apart, none-apart}
 use Rattle.compact_uses.specs.declared.tokenizer.Kind.TheVariants.{Mark}
 use Rattle.compact_uses.proofs.tokenizer.put.Goals as goal
 
@@ -16,6 +16,11 @@ returns-clause-tokens c =
     let items : c.push.new.self.items ≡ c.args.tokens.now.items ++ record { kind = c.args.kind; name = c.in_ok-name.name } ∷ [] = grind (arith, common_steps) in
     let filled = filled-text c.args.piece.now c.is_empty.result c.utf8.piece c.is_empty.ensures c.if-is_empty.false in
     rw items (put-tokens _ _ _ _ _ c.intern.ensures.kept c.requires.tokens c.in_ok-name.ensures.number filled c.requires.alike c.requires.single)
+
+pub returns-clause-names : goal.returns-clause-names
+returns-clause-names c =
+    let items : c.push.new.self.items ≡ c.args.tokens.now.items ++ record { kind = c.args.kind; name = c.in_ok-name.name } ∷ [] = grind (arith, common_steps) in
+    λ before are. rw items (put-names before _ _ _ _ _ c.intern.ensures.kept c.requires.tokens c.in_ok-name.ensures.number c.in_ok-name.ensures.names are)
 
 pub returns-clause-parted : goal.returns-clause-parted
 returns-clause-parted c =

@@ -1,11 +1,12 @@
-use Rattle.std.proofs.Common.{◌≡◌, ℕ, ◌+◌, [], true, false, drop, length, refl, sym, ap, ap₂, List, ◌∙◌, arith}
+use Rattle.std.proofs.Common.{◌≡◌, ℕ, ◌+◌, [], true, false, drop, length, refl, sym, ap, ap₂, List, ◌∙◌, arith, append-nil}
 use Rattle.std.proofs.lemmas.Str.{IsUtf8-drop}
 use Rattle.std.specs.Str.Iter.{chars_rest}
 use Rattle.compact_str.specs.Text.{text_of}
 use Rattle.compact_str.specs.Cut.{before}
 use Rattle.compact_str.proofs.ForCallers.{text_of-take}
 use Rattle.compact_str.proofs.TextBytes.{boundary-bytes}
-use Rattle.compact_uses.proofs.PieceLemmas.{next-character, first-character, first-piece, start-boundary, whole-piece, cut-joined}
+use Rattle.compact_edit.specs.Names.{firsts}
+use Rattle.compact_uses.proofs.PieceLemmas.{next-character, first-character, first-piece, start-boundary, whole-piece, cut-joined, none-next}
 use Rattle.compact_uses.proofs.TokenLemmas.{alike-push, alike-one, goes_on-same, goes_on-no-mark, push-some, one-character, none-alike}
 use Rattle.compact_uses.specs.Tokens.{goes_on}
 use Rattle.compact_uses.proofs.tokenizer.tokenize.Goals as goal
@@ -24,6 +25,7 @@ loop-character-init c = record {
   first = λ none. c.new-tokens.ensures.items;
   parted = rw c.new-tokens.ensures.items tt;
   follows = rw c.new-tokens.ensures.items refl;
+  names = rw c.new-tokens.ensures.items (c.len-distinct.ensures.distinct, sym (ap firsts (append-nil c.args.names.now) ∙ c.len-distinct.ensures.distinct));
   kept = λ n name at. at;
 }
 
@@ -47,6 +49,7 @@ loop-character-preserved-then-goes_on c =
           (sym next.piece ∙ ap (λ (n : ℕ). before (text_of c.loop-character.rest.now) (c.loop-character.len + n)) (sym c.len_utf8-len.ensures.value) ∙ none);
       parted = c.loop-character.invariant.parted;
       follows = c.loop-character.invariant.follows;
+      names = c.loop-character.invariant.names;
       kept = c.loop-character.invariant.kept;
     }
 
@@ -85,6 +88,7 @@ loop-character-preserved c =
       first = λ none. push-some [] c.in-Some.character _ (sym next.piece ∙ ap₂ (λ (bytes : List ℕ) (n : ℕ). before (text_of bytes) n) (sym c.split_at.ensures.back) (sym c.len_utf8-len-in-loop-character.ensures.value) ∙ none);
       parted = c.in_ok-put.ensures.parted;
       follows = c.in_ok-put.ensures.last c.kind_of-next.result apart;
+      names = c.in_ok-put.ensures.names _ c.loop-character.invariant.names;
       kept = λ n name at. c.put.ensures.kept n name (c.loop-character.invariant.kept n name at);
     }
 
@@ -99,3 +103,8 @@ put-requires-2-clause-single c =
     let ended : length (chars_rest c.loop-character.character-iterator) ≡ 0 = c.in-None.ensures.steps.0.0 in
     let whole = whole-piece c.loop-character.rest.now c.loop-character.len c.loop-character.invariant.is_text c.loop-character.invariant.boundary (ap length c.loop-character.invariant.here ∙ ended) in
     rw (sym whole) c.loop-character.invariant.single
+
+pub returns-in_err-put-clause-empty : goal.returns-in_err-put-clause-empty
+returns-in_err-put-clause-empty c = λ none.
+    absurd (none-next _ c.loop-character.rest.now _ c.loop-character.len c.in-Some.character c.loop-character.invariant.is_text (c.loop-character.invariant.joined ∙ none)
+    (c.loop-character.invariant.here ∙ c.in-Some.ensures.steps.0))

@@ -1,0 +1,89 @@
+-- Where a line that has few bytes in the end has room on the way.
+use Rattle.std.proofs.Common.{◌≡◌, ◌≢◌, ℕ, ◌+◌, ◌<◌, ◌≤◌, List, [], ◌∷◌, ◌++◌, Bool, true, false, nat_eq, if◌then◌else◌, flat_map, get_or, length, drop, take, suc, map, refl, ap, sym, true≢false, ◌∙◌, arith}
+use Rattle.std.proofs.Math.Seq.{split_at}
+use Rattle.std.proofs.lemmas.List.{map-append, map-id}
+use Rattle.std.proofs.lemmas.Grind.{flat_map-append}
+use Rattle.std.specs.Char.{len_utf8}
+use Rattle.compact_str.specs.Text.{size}
+use Rattle.compact_str.specs.Value.{PlacedText}
+use Rattle.compact_str.specs.Order.{text_in}
+use Rattle.compact_str.specs.Room.{HasRoomFor}
+use Rattle.compact_str.proofs.ForCallers.{size-append}
+use Rattle.compact_uses.proofs.LineLemmas.{not_same}
+use Rattle.compact_uses.specs.Lines.{quote, escaped, quoted, line_of}
+
+escaped-append : (a b : List ℕ) → escaped (a ++ b) ≡ escaped a ++ escaped b
+escaped-append [] b = refl
+escaped-append (x ∷ a) b = by (nat_eq x quote) (escaped-append a b)
+  where
+    by : (t : Bool) → escaped (a ++ b) ≡ escaped a ++ escaped b
+        → (if t then quote ∷ quote ∷ escaped (a ++ b) else x ∷ escaped (a ++ b)) ≡ (if t then quote ∷ quote ∷ escaped a else x ∷ escaped a) ++ escaped b
+    by true rest = ap (λ l. quote ∷ quote ∷ l) rest
+    by false rest = ap (λ l. x ∷ l) rest
+
+size-escaped : (a b : List ℕ) → size (escaped (a ++ b)) ≡ size (escaped a) + size (escaped b)
+size-escaped a b = ap size (escaped-append a b) ∙ size-append (escaped a) (escaped b)
+
+pub size-quoted : (text : List ℕ) → size (quoted text) ≡ size (escaped text) + 2
+size-quoted text =
+    let end = size-append (escaped text) (quote ∷ []) in
+    omega (arith, end)
+
+-- what stands before a character and the character itself, both escaped, are within the whole
+next-within : (text : List ℕ) (n c : ℕ) → n < length text → c ≡ get_or text n c
+    → size (escaped (take n text)) + size (escaped (c ∷ [])) ≤ size (escaped text)
+next-within text n c within at =
+    let whole : text ≡ take n text ++ get_or text n c ∷ drop (suc n) text = split_at text n c within in
+    let here : text ≡ take n text ++ c ∷ drop (suc n) text = whole ∙ ap (λ x. take n text ++ x ∷ drop (suc n) text) (sym at) in
+    let parts : size (escaped text) ≡ size (escaped (take n text)) + size (escaped (c ∷ drop (suc n) text)) =
+    ap (λ t. size (escaped t)) here ∙ size-escaped (take n text) (c ∷ drop (suc n) text) in
+    let rest : size (escaped (c ∷ drop (suc n) text)) ≡ size (escaped (c ∷ [])) + size (escaped (drop (suc n) text)) = size-escaped (c ∷ []) (drop (suc n) text) in
+    omega (arith, parts, rest)
+
+-- a field is being written behind a text, and so many of its characters are done; the next one has room
+pub room-at : (v : PlacedText) (before front all text done : List ℕ) (c : ℕ) → front ≡ before ++ quote ∷ [] → v.text ≡ front ++ escaped done → all ≡ text
+    → map (λ x. x) done ≡ take (length done) all → (length done < length all) × (c ≡ get_or all (length done) c)
+    → size before + size (quoted text) ≤ 24 → size v.text + size (escaped (c ∷ [])) ≤ 24
+room-at v before front all text done c begun now is so_far turn small =
+    let same : done ≡ take (length done) all = sym (map-id done) ∙ so_far in
+    let next : size (escaped done) + size (escaped (c ∷ [])) ≤ size (escaped all) =
+    rw same (next-within all (length done) c turn.0 turn.1) in
+    let whole : size (quoted text) ≡ size (escaped all) + 2 = rw (sym is) (size-quoted all) in
+    let lead : size front ≡ size before + 1 = ap size begun ∙ size-append before (quote ∷ []) in
+    let line : size v.text ≡ size front + size (escaped done) = ap size now ∙ size-append front (escaped done) in
+    omega (arith, next, whole, lead, line)
+
+pub size-quote : (c : ℕ) → c ≡ quote → size (escaped (c ∷ [])) ≡ 2
+size-quote c is = rw is refl
+
+pub size-other : (c : ℕ) → c ≢ quote → size (escaped (c ∷ [])) ≡ len_utf8 c + 0
+size-other c apart = rw (not_same c apart) refl
+
+pub not-refused : (v : PlacedText) (n : ℕ) → size v.text + n ≤ 24 → (HasRoomFor v n → false ≡ true) → ⊥
+not-refused v n small succeeds = true≢false (sym (succeeds (omega arith)))
+
+-- fields, each behind a separator
+abbrev rows : ℕ → List PlacedText → List ℕ
+rows separator fields = flat_map (λ other. separator ∷ quoted other) (map text_in fields)
+
+rows-append : (separator : ℕ) (a b : List PlacedText) → size (rows separator (a ++ b)) ≡ size (rows separator a) + size (rows separator b)
+rows-append separator a b =
+    ap (λ x. size (flat_map (λ other. separator ∷ quoted other) x)) (map-append text_in a b)
+    ∙ ap size (flat_map-append (λ other. separator ∷ quoted other) (map text_in a) (map text_in b))
+    ∙ size-append (rows separator a) (rows separator b)
+
+-- the first field and so many others are written; the next one has room behind a separator
+pub field-room : (separator : ℕ) (v first field : PlacedText) (fields others : List PlacedText) (n : ℕ) → fields ≡ first ∷ others → n < length others → field ≡ get_or others n field
+    → v.text ≡ quoted first.text ++ flat_map (λ other. separator ∷ quoted other) (map text_in (take n others)) → size (line_of separator (map text_in fields)) ≤ 24
+    → size v.text + (len_utf8 separator + size (quoted field.text)) ≤ 24
+field-room separator v first field fields others n are within at now small =
+    let whole : others ≡ take n others ++ get_or others n field ∷ drop (suc n) others = split_at others n field within in
+    let here : others ≡ take n others ++ field ∷ drop (suc n) others = whole ∙ ap (λ x. take n others ++ x ∷ drop (suc n) others) (sym at) in
+    let parts : size (rows separator others) ≡ size (rows separator (take n others)) + size (rows separator (field ∷ drop (suc n) others)) =
+    ap (λ t. size (rows separator t)) here ∙ rows-append separator (take n others) (field ∷ drop (suc n) others) in
+    let one : size (rows separator (field ∷ drop (suc n) others)) ≡ (len_utf8 separator + size (quoted field.text)) + size (rows separator (drop (suc n) others)) =
+    size-append (separator ∷ quoted field.text) (rows separator (drop (suc n) others)) in
+    let line : size v.text ≡ size (quoted first.text) + size (rows separator (take n others)) = ap size now ∙ size-append (quoted first.text) (rows separator (take n others)) in
+    let total : size (quoted first.text) + size (rows separator others) ≤ 24 =
+    rw (sym (size-append (quoted first.text) (rows separator others))) (rw are at small) in
+    omega (arith, parts, one, line, total)
