@@ -111,6 +111,6 @@ pub first_past_ascii : {text : List ℕ} (bytes : List ℕ) (b : ℕ) → bytes 
 first_past_ascii {text} bytes b e u is high c rest split =
     let spelled : bytes ≡ encode c ++ encodes rest = e ∙ sym (encodes-chars text u) ∙ ap encodes split in
     elim (cases_lt c 128) [
-      inl low ↦ absurd (omega (arith, is, high, low, byte_from_char bytes (encodes rest) c spelled low))
+      | inl low ↦ absurd (omega (arith, is, high, low, byte_from_char bytes (encodes rest) c spelled low))
       | inr h ↦ h
     ]
