@@ -1,13 +1,14 @@
 -- Characters that are kept, one after another, in a row of bytes.
-use Rattle.std.proofs.Common.{◌≡◌, ◌∙◌, refl, ap, sym, subst, arith, ℕ, ◌+◌, ◌-◌, ◌<◌, ◌≤◌, List, [], ◌∷◌, ◌++◌, length, take, drop, Bool, true, false, cond, append_assoc, append-nil, length-append}
+use Rattle.std.proofs.Common.{◌≡◌, ◌∙◌, refl, ap, sym, subst, arith, ℕ, ◌+◌, ◌-◌, ◌<◌, ◌≤◌, List, [], ◌∷◌, ◌++◌, length, take, drop, Bool, true, false, cond, inl, inr, append_assoc, append-nil, length-append}
 use Rattle.std.proofs.lemmas.List.{length-drop, drop-drop, drop_all}
-use Rattle.std.proofs.lemmas.Str.{encode_ascii, len_utf8_ascii, drop_past_char, chars_past_char, IsUtf8-past_char, IsUtf8-append, IsUtf8-encode, IsUtf8-nil, chars-nil, length-encode}
+use Rattle.std.proofs.lemmas.Bool.{cases_lt}
+use Rattle.std.proofs.lemmas.Str.{encode_ascii, byte_from_char, encodes-chars, len_utf8_ascii, drop_past_char, chars_past_char, IsUtf8-past_char, IsUtf8-append, IsUtf8-encode, IsUtf8-nil, chars-nil, length-encode}
 use Rattle.std.specs.Char.{len_utf8, IsScalar}
 use Rattle.std.specs.Fn.{Called, Mut}
 use Rattle.std.specs.Str.{IsUtf8}
 use lib.ListN.{get_or}
 use Rattle.std.proofs.Math.Seq.{drop-cons}
-use lib.Utf8.{encode}
+use lib.Utf8.{encode, encodes}
 use Rattle.compact_repr.specs.Text.{text_of}
 use Rattle.compact_repr.specs.Kept.{KeepsChars}
 use Rattle.compact_repr.proofs.Cuts.{text_of-last}
@@ -103,3 +104,13 @@ first_ascii {text} bytes b c e u some is low same =
     let split : text ≡ encode c ++ drop 1 bytes =
     sym e ∙ head ∙ ap (λ (l : List ℕ). l ++ drop 1 bytes) (sym (encode_ascii b low)) ∙ ap (λ (x : ℕ). encode x ++ drop 1 bytes) (sym same) in
     (len_utf8_ascii c (omega (arith, same, low)), (text_of (drop 1 bytes), chars_past_char text (drop 1 bytes) c u split))
+
+-- a text whose first byte is past ASCII begins with no character of ASCII
+pub first_past_ascii : {text : List ℕ} (bytes : List ℕ) (b : ℕ) → bytes ≡ text → IsUtf8 text → b ≡ get_or bytes 0 0 → 128 ≤ b
+    → (c : ℕ) (rest : List ℕ) → text_of text ≡ c ∷ rest → 128 ≤ c
+first_past_ascii {text} bytes b e u is high c rest split =
+    let spelled : bytes ≡ encode c ++ encodes rest = e ∙ sym (encodes-chars text u) ∙ ap encodes split in
+    elim (cases_lt c 128) [
+      | inl low ↦ absurd (omega (arith, is, high, low, byte_from_char bytes (encodes rest) c spelled low))
+      | inr h ↦ h
+    ]

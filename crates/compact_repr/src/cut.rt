@@ -1,5 +1,5 @@
 //! Parts and characters of a borrowed text, by byte position.
-ghost use Rattle.std.specs.Prelude.{◌≡◌, ◌-◌, ◌<◌, ◌≤◌, List, ℕ, [], ◌∷◌, ◌++◌, length, IfSome, MatchOption};
+ghost use Rattle.std.specs.Prelude.{◌≡◌, ◌-◌, ◌<◌, ◌≤◌, List, ℕ, [], ◌∷◌, ◌++◌, length, MatchOption};
 ghost use Rattle.std.specs.Char.{len_utf8};
 ghost use Rattle.compact_repr.specs.Text.{text_of};
 ghost use Rattle.compact_repr.specs.Cut.{IsBoundary, before, after, middle, CutIsBeforeAndAfter};
@@ -51,7 +51,7 @@ pub fn char_at(text: &str, index: usize) -> char
 /// The first character where it is one of ASCII, else `None`; so it is of the empty text.
 #[inline(always)]
 pub fn first_ascii(text: &str) -> Option<char>
-    ensures { IfSome result (λ c. (len_utf8 c ≡ 1) × ((rest : List ℕ) × (text_of text.now ≡ c ∷ rest))) }
+    ensures { MatchOption result ((c : ℕ) (rest : List ℕ) → text_of text.now ≡ c ∷ rest → 128 ≤ c) (λ c. (len_utf8 c ≡ 1) × ((rest : List ℕ) × (text_of text.now ≡ c ∷ rest))) }
 {
     if text.is_empty() {
         return None;

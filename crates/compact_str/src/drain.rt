@@ -114,7 +114,9 @@ impl<P: Policy> Drain<'_, P> {
 }
 
 impl<P: Policy> Iterator for Drain<'_, P> {
-    ghost use Rattle.std.specs.Iterator.{at_most};
+    ghost use Rattle.std.specs.Prelude.{◌+◌, ◌/◌, Some, IfSome};
+    ghost use Rattle.std.specs.Iterator.{at_most, UpTo};
+    ghost use Rattle.std.specs.Iterator.SizeHint.{IsWithinCount};
     ghost use Rattle.compact_str.specs.Drained.{DrainsFront, drain_rest};
 
     type Item = char;
@@ -144,7 +146,12 @@ impl<P: Policy> Iterator for Drain<'_, P> {
 
     /// How many characters are left: at least a quarter of the bytes, and at most as many.
     #[inline]
-    fn size_hint(&self) -> (usize, Option<usize>) {
+    fn size_hint(&self) -> (usize, Option<usize>)
+        ensures lower { IsWithinCount result.0 (at_most (length (drain_rest self.now))) }
+        ensures upper { IfSome result.1 (UpTo (at_most (length (drain_rest self.now)))) }
+        ensures least { result.0 ≡ (size (drain_rest self.now) + 3) / 4 }
+        ensures most { result.1 ≡ Some (size (drain_rest self.now)) }
+    {
         let len = self.as_str().len();
         (len.div_ceil(4), Some(len))
     }

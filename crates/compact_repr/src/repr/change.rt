@@ -3,7 +3,7 @@
 ghost use Rattle.std.specs.Prelude.{◌≡◌, ◌+◌, ◌-◌, ◌≤◌, ◌<◌, [], ◌∷◌, ◌++◌, length, Some, OnOk, OnErr, IsTrue, true, false, ◌↔◌};
 ghost use Rattle.compact_repr.specs.Text.{size, text_of};
 ghost use Rattle.compact_repr.specs.Cut.{IsBoundary, replaced_text};
-ghost use Rattle.compact_repr.specs.Value.{placed, is_static};
+ghost use Rattle.compact_repr.specs.Value.{inline, placed, is_static};
 ghost use Rattle.compact_repr.specs.Capacity.{fits_in_place, room_asks};
 ghost use Rattle.compact_repr.specs.Change.{pushed, push_asks, cleared, truncated, inserted, replaced, replace_asks};
 
@@ -33,10 +33,11 @@ impl<P: Policy> Repr<P> {
     }
 
     /// Appends a short text where the bytes are the value's own and stand there already. Answers whether that was so; if
-    /// not, nothing has changed.
+    /// not, nothing has changed. An inline value takes whatever fits.
     #[inline(always)]
     pub fn push_at_once(&mut self, text: &str) -> bool
         ensures fits { IsTrue result → IsTrue (fits_in_place self.old (length text.now)) }
+        ensures inline { length text.now ≤ 32 → self.old.placement.place ≡ inline → result ≡ fits_in_place self.old (length text.now) }
         ensures pushed { IsTrue result → self.new ≡ placed (self.old.text ++ text_of text.now) self.old.placement }
         ensures full { result ≡ false → self.new ≡ self.old }
     {

@@ -1,4 +1,4 @@
-use Rattle.std.proofs.Common.{take, ◌+◌, ap, ◌∙◌, arith}
+use Rattle.std.proofs.Common.{take, ◌+◌, ap, ◌∙◌}
 use Rattle.compact_repr.proofs.ReplacedRows.{padded}
 use Rattle.compact_repr.proofs.rows.write_padded.Goals as goal
 

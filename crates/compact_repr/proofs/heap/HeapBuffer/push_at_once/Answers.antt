@@ -1,5 +1,4 @@
 use Rattle.std.proofs.Common.{◌≡◌, length, refl, ap, arith}
-use Rattle.std.proofs.lemmas.Bool.{false≢true}
 use Rattle.std.proofs.lemmas.Str.{IsUtf8-append}
 use Rattle.compact_repr.proofs.HeapTexts.{shown-capacity, shown-size}
 use Rattle.compact_repr.proofs.heap.HeapBuffer.push_at_once.Goals as goal

@@ -1,4 +1,4 @@
-use Rattle.std.proofs.Common.{◌≡◌, ◌<◌, ◌∙◌, arith, rules, refl, sym, drop, take, length, get_or}
+use Rattle.std.proofs.Common.{◌<◌, ◌∙◌, arith, rules, refl, sym, get_or}
 use Rattle.std.specs.Char.{IsScalar}
 use Rattle.compact_codec.specs.Utf16Text.{utf16_lossy_text}
 use Rattle.compact_str.proofs.FilledRows.{character_behind, front_at, reach_at, unit_at}
