@@ -1,13 +1,13 @@
 -- What the parts of a wire form that were written, or taken, are together.
 use Rattle.std.proofs.Common.{◌≡◌, ℕ, ◌+◌, ◌^◌, ◌<◌, ◌≤◌, List, [], ◌++◌, length, take, drop, sym, ap, subst, ◌∙◌, arith, append_assoc, length-append, Option, None, Some, refl, Result, Ok, Err, IfOk, IfErr}
 use Rattle.std.proofs.lemmas.Nat.{from_le_bytes-to_le_bytes_4}
-use Rattle.std.proofs.KnownBytes.{Appends-trans, Consumes-trans, Keeps-refl}
+use Rattle.std.proofs.KnownBytes.{Appends-trans, Consumes-trans}
 use Rattle.std.proofs.Math.Seq.{take-append_seam}
 use Rattle.std.proofs.lemmas.List.{take-append-le, append-nil, append_cancel_left}
 use Rattle.std.proofs.lemmas.Str.{encodes_same}
 use Rattle.std.specs.Int.{w32, to_le_bytes, from_le_bytes}
 use Rattle.std.specs.Str.{IsUtf8}
-use Rattle.std.specs.Io.KnownBytes.{Appends, Consumes, Keeps}
+use Rattle.std.specs.Io.KnownBytes.{Appends, Consumes}
 use Rattle.compact_str.specs.Text.{IsText, size, utf8}
 use Rattle.compact_str.specs.Value.{PlacedText}
 use Rattle.compact_repr.proofs.Texts.{length-utf8}
@@ -106,18 +106,6 @@ read-fails old mid new n Utf8 fits h s = record {
   bytes = Consumes-trans old mid new (to_le_bytes w32 n) s.taken h s.bytes;
   fault = (omega (arith, claimed n s.taken fits, s.all), s.broken);
 }
-
--- a reader that failed before it gave any byte
-
-pub failed-at_once : (old new : Option (List ℕ)) (error : _) → Keeps old new → ReadFails old new (Io error)
-failed-at_once None new error same = record { taken = []; bytes = tt; fault = λ long. absurd (omega (arith, long)) }
-failed-at_once (Some x) None error same = absurd same
-failed-at_once (Some x) (Some y) error same = record { taken = []; bytes = sym same; fault = λ long. absurd (omega (arith, long)) }
-
-pub failed-unread : (old : Option (List ℕ)) (error : _) → ReadFails old old (Io error)
-failed-unread old error = failed-at_once old old error (Keeps-refl old)
-
-pub ruleset record_steps = (failed-at_once, failed-unread)
 
 pub takes-wire : (old mid new : Option (List ℕ)) (t : List ℕ) (n : ℕ) → Consumes old mid (to_le_bytes w32 n) → Consumes mid new (utf8 t) → size t ≡ n → Consumes old new (wire t)
 takes-wire old mid new t n h c s =

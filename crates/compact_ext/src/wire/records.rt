@@ -1,9 +1,10 @@
 //! The texts of a reader, one after another until its end.
-ghost use Rattle.std.specs.Prelude.{◌≡◌, flat_map, IfOk, IfSome, IfErr, IsTrue};
+ghost use Rattle.std.specs.Prelude.{◌≡◌, ◌⊎◌, flat_map, IfOk, IfSome, IfErr, IsTrue, IsFalse};
 ghost use Rattle.std.specs.Iterator.{at_most};
 ghost use Rattle.std.specs.Io.KnownBytes.{IsAtEnd, Keeps};
-ghost use Rattle.compact_ext.specs.Records.{records_left, GivesNext, GivesRecord};
-ghost use Rattle.compact_ext.specs.Wire.{wire, ReadFails};
+ghost use Rattle.compact_ext.specs.Records.{records_left, GivesNext, GivesRecord, FailsAfterTexts, FailsWithin, HasMore};
+ghost use Rattle.compact_ext.specs.Wire.{wire};
+ghost use Rattle.compact_ext.specs.declared.wire.WireError.TheVariants.{Reserve};
 
 use super::{WireError, read_wire};
 use compact_str::CompactString;
@@ -42,7 +43,8 @@ impl<R: BufRead + Drop> Records<R> {
     /// The error is the first fault that `next` gives, or `Reserve` where the vector has no room for one more text. The texts
     /// before it are given up.
     pub fn into_vec(self) -> Result<Vec<CompactString>, WireError>
-        ensures { IfOk result (λ texts. IfSome (records_left R.remaining self) (λ bytes. bytes ≡ flat_map (λ v. wire v.text) texts.items)) }
+        ensures ok { IfOk result (λ texts. IfSome (records_left R.remaining self) (λ bytes. bytes ≡ flat_map (λ v. wire v.text) texts.items)) }
+        ensures err { IfErr result (λ e. (e ≡ Reserve (record {})) ⊎ FailsAfterTexts (records_left R.remaining self) e) }
     {
         let alloc = self.alloc;
         self.try_collect(alloc)
@@ -57,7 +59,7 @@ impl<R: BufRead + Drop> Iterator for Records<R> {
     ghost remaining = { λ s. at_most s.calls_left };
 
     /// The next text, or `None` at the end.
-    #[tactic(auto, using(crate::proofs::WireForms::record_steps))]
+    #[tactic(auto, using(crate::proofs::RecordLists::record_steps))]
     fn next(&mut self) -> Option<Result<CompactString, WireError>> {
         if self.calls_left == 0 {
             return None;
@@ -71,6 +73,7 @@ impl<R: BufRead + Drop> Iterator for Records<R> {
 }
 
 /// The next text of a reader, or `None` at its end.
+#[tactic(auto, using(crate::proofs::RecordLists::record_steps))]
 fn next_record<R: BufRead>(
     alloc: Global,
     reader: &mut R,
@@ -85,11 +88,12 @@ fn next_record<R: BufRead>(
 }
 
 /// Whether a reader has nothing left.
-#[tactic(auto, using(crate::proofs::WireForms::record_steps))]
+#[tactic(auto, using(crate::proofs::RecordLists::record_steps))]
 fn is_at_end<R: BufRead>(reader: &mut R) -> Result<bool, WireError>
     ensures end { IfOk result (λ b. IsTrue b → IsAtEnd (R.remaining reader.old)) }
     ensures kept { Keeps (R.remaining reader.old) (R.remaining reader.new) }
-    ensures err { IfErr result (λ e. ReadFails (R.remaining reader.old) (R.remaining reader.new) e) }
+    ensures more { IfOk result (λ b. IsFalse b → HasMore (R.remaining reader.old)) }
+    ensures err { IfErr result (λ e. FailsWithin (R.remaining reader.old) (R.remaining reader.new) e) }
 {
     match reader.fill_buf() {
         Ok(bytes) => Ok(bytes.is_empty()),
