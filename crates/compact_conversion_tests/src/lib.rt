@@ -36,6 +36,8 @@ mod wire_pieces;
 #[cfg(test)]
 mod wired;
 #[cfg(test)]
+mod wired_records;
+#[cfg(test)]
 mod wired_refused;
 
 pub use wire_callers::{next_record, read_records, receive_field, send_field, sent_and_received};

@@ -1,11 +1,11 @@
 //! Callers that write texts over a wire and read them, as users write them.
-ghost use Rattle.std.specs.Prelude.{◌≡◌, ◌++◌, List, IfOk, OnOk, MatchOption, IsTrue};
+ghost use Rattle.std.specs.Prelude.{◌≡◌, ◌++◌, IfOk, IfSome, OnOk, MatchOption, IsTrue};
 ghost use Rattle.std.specs.List.{flat_map};
 ghost use Rattle.std.specs.Io.KnownBytes.{Appends, Consumes, IsAtEnd, Keeps};
 ghost use Rattle.compact_ext.specs.Wire.{wire};
 
-use compact_ext::wire::{WireError, read_wire, write_wire};
-use compact_str::{CompactString, ReserveError};
+use compact_ext::wire::{Records, WireError, read_wire, write_wire};
+use compact_str::CompactString;
 use std::alloc::Global;
 use std::io::{BufRead, Read, Write};
 
@@ -75,18 +75,13 @@ fn is_at_end<R: BufRead>(reader: &mut R) -> Result<bool, WireError>
     }
 }
 
-/// The records of some bytes until their end, each in the wire form.
+/// The records of a reader until its end, each in the wire form.
 #[tactic(auto, using(compact_ext::proofs::WireFacts::wire_facts))]
-pub fn read_records(alloc: Global, bytes: &[u8]) -> Result<Vec<CompactString>, WireError>
-    ensures { IfOk result (λ records. bytes.now ≡ flat_map (λ v. wire v.text) records.items) }
+pub fn read_records<R: BufRead + Drop>(
+    alloc: Global,
+    reader: R,
+) -> Result<Vec<CompactString>, WireError>
+    ensures { IfOk result (λ records. IfSome (R.remaining reader) (λ bytes. bytes ≡ flat_map (λ v. wire v.text) records.items)) }
 {
-    let mut rest = bytes;
-    let mut records = Vec::new(alloc);
-    while !rest.is_empty() {
-        let record = read_wire(alloc, &mut rest)?;
-        records
-            .push(record)
-            .map_err(|_| WireError::Reserve(ReserveError))?;
-    }
-    Ok(records)
+    Records::new(alloc, reader).into_vec()
 }

@@ -2,9 +2,7 @@
 //! by hand from the definition of the form.
 
 use crate::values::{assert_inline, copied, letters};
-use crate::wire_callers::{
-    next_record, read_records, receive_field, send_field, sent_and_received,
-};
+use crate::wire_callers::{next_record, receive_field, send_field, sent_and_received};
 use crate::wire_pieces::{Letters, Narrow, Pieces, Stop};
 use compact_ext::wire::{WireError, read_wire, write_wire};
 use compact_str::{CompactString, ReserveError};
@@ -272,17 +270,6 @@ fn faults_are_shown(rt: HostRuntime) {
 
 /// The forms of `a`, of no text and of `Hi`.
 const RECORDS: [u8; 15] = [1, 0, 0, 0, 0x61, 0, 0, 0, 0, 2, 0, 0, 0, 0x48, 0x69];
-
-#[test]
-fn records_are_read_until_the_end(rt: HostRuntime) {
-    let alloc = rt.alloc();
-    let records = read_records(alloc, &RECORDS).expect(&rt, "records");
-    assert_eq!(rt; records.len(), 3);
-    assert_inline(&rt, &records[0], "a");
-    assert_inline(&rt, &records[1], "");
-    assert_inline(&rt, &records[2], "Hi");
-    assert!(rt; read_records(alloc, RECORDS.get(..14).unwrap_or(&[])).is_err());
-}
 
 #[test]
 fn a_reader_tells_its_next_record_and_its_end(rt: HostRuntime) {

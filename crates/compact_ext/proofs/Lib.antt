@@ -5,5 +5,6 @@ pub mod Collecting
 pub mod ForCallers
 pub mod Examples
 pub mod WireForms
+pub mod RecordLists
 pub mod WireFacts
 pub mod WireExamples

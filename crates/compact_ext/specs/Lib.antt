@@ -1,3 +1,4 @@
 pub mod Digits
+pub mod Records
 pub mod Shown
 pub mod Wire

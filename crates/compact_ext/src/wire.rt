@@ -4,6 +4,7 @@
 //! refused is tried again: an error of the kind `Interrupted` is an error as any other.
 
 mod read;
+mod records;
 mod write;
 
 ghost use Rattle.std.specs.Prelude.{◌≡◌};
@@ -11,6 +12,8 @@ ghost use Rattle.compact_ext.specs.Wire.{FormTellsText};
 
 use compact_str::ReserveError;
 pub use read::read_wire;
+pub use records::Records;
+use std::alloc::AllocError;
 use std::io;
 use thiserror::Error;
 pub use write::write_wire;
@@ -33,7 +36,8 @@ pub enum WireError {
     /// The writer took none of the bytes that it was given. A part of the form has gone out.
     #[error("writer took no bytes")]
     WriteZero,
-    /// Room for a text of more than 24 bytes was refused. A part of the form is taken, at least its length.
+    /// Room for a text of more than 24 bytes was refused. A part of the form is taken, at least its length. Of `into_vec` it
+    /// may also be the vector's room, and then whole forms are taken.
     #[error("{0}")]
     Reserve(ReserveError),
 }
@@ -46,6 +50,17 @@ impl From<ReserveError> for WireError {
     /// The case `Reserve`.
     fn from(error: ReserveError) -> Self {
         WireError::Reserve(error)
+    }
+}
+
+impl From<AllocError> for WireError {
+    ghost use Rattle.compact_ext.specs.declared.wire.WireError.TheVariants.{Reserve};
+
+    ghost from_gives = { λ _ error. error ≡ Reserve (record {}) };
+
+    /// The case `Reserve`, for a collection of texts that has no room for one more.
+    fn from(error: AllocError) -> Self {
+        WireError::Reserve(ReserveError::from(error))
     }
 }
 

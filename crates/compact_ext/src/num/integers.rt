@@ -48,7 +48,8 @@ impl ToCompactString for u8 {
 
     #[inline]
     fn to_compact_string(&self, alloc: Global) -> Result<CompactString, ToCompactStringError> {
-        unsigned(alloc, u64::from(*self))
+        let n: u8 = *self;
+        unsigned(alloc, u64::from(n))
     }
 }
 
@@ -59,7 +60,8 @@ impl ToCompactString for u16 {
 
     #[inline]
     fn to_compact_string(&self, alloc: Global) -> Result<CompactString, ToCompactStringError> {
-        unsigned(alloc, u64::from(*self))
+        let n: u16 = *self;
+        unsigned(alloc, u64::from(n))
     }
 }
 
@@ -70,7 +72,8 @@ impl ToCompactString for u32 {
 
     #[inline]
     fn to_compact_string(&self, alloc: Global) -> Result<CompactString, ToCompactStringError> {
-        unsigned(alloc, u64::from(*self))
+        let n: u32 = *self;
+        unsigned(alloc, u64::from(n))
     }
 }
 
@@ -81,7 +84,8 @@ impl ToCompactString for u64 {
 
     #[inline]
     fn to_compact_string(&self, alloc: Global) -> Result<CompactString, ToCompactStringError> {
-        unsigned(alloc, *self)
+        let n: u64 = *self;
+        unsigned(alloc, n)
     }
 }
 
@@ -92,7 +96,8 @@ impl ToCompactString for usize {
 
     #[inline]
     fn to_compact_string(&self, alloc: Global) -> Result<CompactString, ToCompactStringError> {
-        unsigned(alloc, *self as u64)
+        let n: usize = *self;
+        unsigned(alloc, n as u64)
     }
 }
 
@@ -103,7 +108,8 @@ impl ToCompactString for i8 {
 
     #[inline]
     fn to_compact_string(&self, alloc: Global) -> Result<CompactString, ToCompactStringError> {
-        signed(alloc, i64::from(*self))
+        let n: i8 = *self;
+        signed(alloc, i64::from(n))
     }
 }
 
@@ -114,7 +120,8 @@ impl ToCompactString for i16 {
 
     #[inline]
     fn to_compact_string(&self, alloc: Global) -> Result<CompactString, ToCompactStringError> {
-        signed(alloc, i64::from(*self))
+        let n: i16 = *self;
+        signed(alloc, i64::from(n))
     }
 }
 
@@ -125,7 +132,8 @@ impl ToCompactString for i32 {
 
     #[inline]
     fn to_compact_string(&self, alloc: Global) -> Result<CompactString, ToCompactStringError> {
-        signed(alloc, i64::from(*self))
+        let n: i32 = *self;
+        signed(alloc, i64::from(n))
     }
 }
 
@@ -136,7 +144,8 @@ impl ToCompactString for i64 {
 
     #[inline]
     fn to_compact_string(&self, alloc: Global) -> Result<CompactString, ToCompactStringError> {
-        signed(alloc, *self)
+        let n: i64 = *self;
+        signed(alloc, n)
     }
 }
 
@@ -147,6 +156,7 @@ impl ToCompactString for isize {
 
     #[inline]
     fn to_compact_string(&self, alloc: Global) -> Result<CompactString, ToCompactStringError> {
-        signed(alloc, *self as i64)
+        let n: isize = *self;
+        signed(alloc, n as i64)
     }
 }

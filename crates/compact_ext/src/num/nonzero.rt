@@ -21,7 +21,8 @@ impl ToCompactString for NonZeroU8 {
 
     #[inline]
     fn to_compact_string(&self, alloc: Global) -> Result<CompactString, ToCompactStringError> {
-        unsigned(alloc, u64::from(self.get()))
+        let n: u8 = self.get();
+        unsigned(alloc, u64::from(n))
     }
 }
 
@@ -32,7 +33,8 @@ impl ToCompactString for NonZeroU16 {
 
     #[inline]
     fn to_compact_string(&self, alloc: Global) -> Result<CompactString, ToCompactStringError> {
-        unsigned(alloc, u64::from(self.get()))
+        let n: u16 = self.get();
+        unsigned(alloc, u64::from(n))
     }
 }
 
@@ -43,7 +45,8 @@ impl ToCompactString for NonZeroU32 {
 
     #[inline]
     fn to_compact_string(&self, alloc: Global) -> Result<CompactString, ToCompactStringError> {
-        unsigned(alloc, u64::from(self.get()))
+        let n: u32 = self.get();
+        unsigned(alloc, u64::from(n))
     }
 }
 
@@ -54,7 +57,8 @@ impl ToCompactString for NonZeroU64 {
 
     #[inline]
     fn to_compact_string(&self, alloc: Global) -> Result<CompactString, ToCompactStringError> {
-        unsigned(alloc, self.get())
+        let n: u64 = self.get();
+        unsigned(alloc, n)
     }
 }
 
@@ -65,7 +69,8 @@ impl ToCompactString for NonZeroU128 {
 
     #[inline]
     fn to_compact_string(&self, alloc: Global) -> Result<CompactString, ToCompactStringError> {
-        printed(alloc, self.get())
+        let n: u128 = self.get();
+        printed(alloc, n)
     }
 }
 
@@ -76,7 +81,8 @@ impl ToCompactString for NonZeroUsize {
 
     #[inline]
     fn to_compact_string(&self, alloc: Global) -> Result<CompactString, ToCompactStringError> {
-        unsigned(alloc, self.get() as u64)
+        let n: usize = self.get();
+        unsigned(alloc, n as u64)
     }
 }
 
@@ -87,7 +93,8 @@ impl ToCompactString for NonZeroI8 {
 
     #[inline]
     fn to_compact_string(&self, alloc: Global) -> Result<CompactString, ToCompactStringError> {
-        signed(alloc, i64::from(self.get()))
+        let n: i8 = self.get();
+        signed(alloc, i64::from(n))
     }
 }
 
@@ -98,7 +105,8 @@ impl ToCompactString for NonZeroI16 {
 
     #[inline]
     fn to_compact_string(&self, alloc: Global) -> Result<CompactString, ToCompactStringError> {
-        signed(alloc, i64::from(self.get()))
+        let n: i16 = self.get();
+        signed(alloc, i64::from(n))
     }
 }
 
@@ -109,7 +117,8 @@ impl ToCompactString for NonZeroI32 {
 
     #[inline]
     fn to_compact_string(&self, alloc: Global) -> Result<CompactString, ToCompactStringError> {
-        signed(alloc, i64::from(self.get()))
+        let n: i32 = self.get();
+        signed(alloc, i64::from(n))
     }
 }
 
@@ -120,7 +129,8 @@ impl ToCompactString for NonZeroI64 {
 
     #[inline]
     fn to_compact_string(&self, alloc: Global) -> Result<CompactString, ToCompactStringError> {
-        signed(alloc, self.get())
+        let n: i64 = self.get();
+        signed(alloc, n)
     }
 }
 
@@ -131,7 +141,8 @@ impl ToCompactString for NonZeroI128 {
 
     #[inline]
     fn to_compact_string(&self, alloc: Global) -> Result<CompactString, ToCompactStringError> {
-        printed(alloc, self.get())
+        let n: i128 = self.get();
+        printed(alloc, n)
     }
 }
 
@@ -142,6 +153,7 @@ impl ToCompactString for NonZeroIsize {
 
     #[inline]
     fn to_compact_string(&self, alloc: Global) -> Result<CompactString, ToCompactStringError> {
-        signed(alloc, self.get() as i64)
+        let n: isize = self.get();
+        signed(alloc, n as i64)
     }
 }

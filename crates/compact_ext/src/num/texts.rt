@@ -64,7 +64,7 @@ impl ToCompactString for String {
 
     #[inline]
     fn to_compact_string(&self, alloc: Global) -> Result<CompactString, ToCompactStringError> {
-        text_copy(alloc, self.as_str())
+        text_copy(alloc, self)
     }
 }
 

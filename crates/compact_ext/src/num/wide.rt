@@ -24,7 +24,8 @@ impl ToCompactString for u128 {
     ghost IsShort = { λ n. length (decimal n) ≤ 24 };
 
     fn to_compact_string(&self, alloc: Global) -> Result<CompactString, ToCompactStringError> {
-        printed(alloc, *self)
+        let n: u128 = *self;
+        printed(alloc, n)
     }
 }
 
@@ -34,6 +35,7 @@ impl ToCompactString for i128 {
     ghost IsShort = { λ n. length (signed_decimal n) ≤ 24 };
 
     fn to_compact_string(&self, alloc: Global) -> Result<CompactString, ToCompactStringError> {
-        printed(alloc, *self)
+        let n: i128 = *self;
+        printed(alloc, n)
     }
 }

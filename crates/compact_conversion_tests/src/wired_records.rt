@@ -1,0 +1,133 @@
+//! Texts of a reader that are read one after another until its end. The bytes were written by hand from the definition of
+//! the form.
+
+use crate::memory::take_all;
+use crate::values::assert_inline;
+use crate::wire_callers::read_records;
+use crate::wire_pieces::{Pieces, Stop};
+use crate::wired::name_of;
+use compact_ext::wire::Records;
+use std::alloc::Global;
+use std::io::{BufRead, BufReader, ErrorKind};
+use std::process::Abort;
+
+/// The forms of `a`, of no text and of `Hi`.
+const RECORDS: [u8; 15] = [1, 0, 0, 0, 0x61, 0, 0, 0, 0, 2, 0, 0, 0, 0x48, 0x69];
+
+/// Asserts that the next record is this text, inline.
+fn assert_next<R: BufRead + Drop>(rt: &impl Abort, records: &mut Records<R>, text: &str) {
+    let item = records.next().expect(rt, "no end");
+    assert_inline(rt, &item.expect(rt, "a text"), text);
+}
+
+/// Asserts that the next record is a fault of this name.
+fn assert_next_fault<R: BufRead + Drop>(rt: &impl Abort, records: &mut Records<R>, fault: &str) {
+    match records.next() {
+        Some(Err(found)) => assert_eq!(rt; name_of(&found), fault),
+        _ => assert!(rt; false),
+    }
+}
+
+/// Asserts that there is no other record, however often it is asked for.
+fn assert_end<R: BufRead + Drop>(rt: &impl Abort, records: &mut Records<R>) {
+    assert!(rt; records.next().is_none());
+    assert!(rt; records.next().is_none());
+}
+
+/// Asserts that the records of some bytes are not collected, with this fault.
+fn assert_not_collected<R: BufRead + Drop>(rt: &impl Abort, alloc: Global, reader: R, fault: &str) {
+    match read_records(alloc, reader) {
+        Ok(_) => assert!(rt; false),
+        Err(found) => assert_eq!(rt; name_of(&found), fault),
+    }
+}
+
+#[test]
+fn each_record_comes_in_its_turn(rt: HostRuntime) {
+    let mut records = Records::new(rt.alloc(), RECORDS.as_slice());
+    assert_next(&rt, &mut records, "a");
+    assert_next(&rt, &mut records, "");
+    assert_next(&rt, &mut records, "Hi");
+    assert_end(&rt, &mut records);
+}
+
+#[test]
+fn records_come_in_pieces(rt: HostRuntime) {
+    let alloc = rt.alloc();
+    for step in 1..16 {
+        let pieces = Pieces::new(&RECORDS, step, Stop::Never);
+        let reader = BufReader::with_capacity(alloc, 3, pieces).expect(&rt, "a buffer");
+        let records = read_records(alloc, reader).expect(&rt, "records");
+        assert_eq!(rt; records.len(), 3);
+        assert_inline(&rt, &records[0], "a");
+        assert_inline(&rt, &records[1], "");
+        assert_inline(&rt, &records[2], "Hi");
+    }
+}
+
+#[test]
+fn no_bytes_are_no_records(rt: HostRuntime) {
+    let none: &[u8] = &[];
+    let records = read_records(rt.alloc(), none).expect(&rt, "records");
+    assert_eq!(rt; records.len(), 0);
+}
+
+/// Asserts what comes of the first bytes of the three records, which end within the third.
+fn assert_cut(rt: &impl Abort, alloc: Global, len: usize) {
+    let bytes = RECORDS.get(..len).unwrap_or(&[]);
+    let mut records = Records::new(alloc, bytes);
+    assert_next(rt, &mut records, "a");
+    assert_next(rt, &mut records, "");
+    assert_next_fault(rt, &mut records, "end");
+    assert_end(rt, &mut records);
+    assert_not_collected(rt, alloc, bytes, "end");
+}
+
+#[test]
+fn an_end_within_a_record_is_a_fault(rt: HostRuntime) {
+    for len in 10..15 {
+        assert_cut(&rt, rt.alloc(), len);
+    }
+}
+
+#[test]
+fn after_a_text_that_is_none_the_next_comes(rt: HostRuntime) {
+    let bytes: [u8; 10] = [1, 0, 0, 0, 0xFF, 1, 0, 0, 0, 0x61];
+    let mut records = Records::new(rt.alloc(), bytes.as_slice());
+    assert_next_fault(&rt, &mut records, "utf8");
+    assert_next(&rt, &mut records, "a");
+    assert_end(&rt, &mut records);
+    assert_not_collected(&rt, rt.alloc(), bytes.as_slice(), "utf8");
+}
+
+/// A reader of the three records that gives five bytes at its first call, and fails from its second on.
+fn failing(rt: &impl Abort, alloc: Global, kind: ErrorKind) -> BufReader<Pieces<'static>> {
+    let pieces = Pieces::new(&RECORDS, 5, Stop::Fails(2, kind));
+    BufReader::with_capacity(alloc, 8, pieces).expect(rt, "a buffer")
+}
+
+/// Asserts that a failure behind the first record is told, and not tried again.
+fn assert_failure(rt: &impl Abort, alloc: Global, kind: ErrorKind) {
+    let mut records = Records::new(alloc, failing(rt, alloc, kind));
+    assert_next(rt, &mut records, "a");
+    assert_next_fault(rt, &mut records, "io");
+    assert_next_fault(rt, &mut records, "io");
+    assert_not_collected(rt, alloc, failing(rt, alloc, kind), "io");
+}
+
+#[test]
+fn a_failure_between_records_is_told(rt: HostRuntime) {
+    assert_failure(&rt, rt.alloc(), ErrorKind::Other);
+    assert_failure(&rt, rt.alloc(), ErrorKind::Interrupted);
+}
+
+#[test]
+fn records_need_memory_only_where_they_are_collected(rt: HostRuntime) {
+    let hog = take_all(&rt, rt.alloc());
+    let mut records = Records::new(rt.alloc(), RECORDS.as_slice());
+    assert_next(&rt, &mut records, "a");
+    assert_next(&rt, &mut records, "");
+    assert_next(&rt, &mut records, "Hi");
+    assert_not_collected(&rt, rt.alloc(), RECORDS.as_slice(), "reserve");
+    drop(hog);
+}
