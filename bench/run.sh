@@ -34,12 +34,6 @@ library=$bench/../crates/compact_bench/out/libcompact_bench.a
 allocator=$(dirname "$(rt doc)")/c/liblibc_c.a
 link=(-C "link-arg=$library" -C "link-arg=$allocator")
 
-# The program is linked statically where the C library can be. Else the calls of a static library to `malloc` and `memcpy`
-# go by a table of the linker, and those of Rust's code do not.
-if printf 'int main(void) { return 0; }' | cc -static -x c -o "$built/static" - 2>/dev/null; then
-    link+=(-C target-feature=+crt-static)
-fi
-
 BENCH_TO=$(cd "$bench/../docs" && pwd)
 processor=$(sed -n 's/^model name[^:]*: *//p' /proc/cpuinfo | head -n 1)
 numbers=$(sed -n 's/^cpu family[^:]*: */family /p; s/^model[[:space:]]*: */, model /p' /proc/cpuinfo | head -n 2 | tr -d '\n')
