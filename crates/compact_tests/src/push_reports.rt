@@ -1,6 +1,5 @@
 //! Lists of pushes under several growth policies, with what they move; and other calls under those policies.
 
-use crate::edits::remove;
 use crate::memory::{spare, take_all};
 use crate::policies::{Double, Large, Slow};
 use crate::pushes::{joined, joined_in_doubled_room};
