@@ -17,7 +17,7 @@ fn insert<P: Policy>(rt: &impl Abort, value: &mut PolicyString<P>, index: usize)
 
 /// Takes the first letter out, which is granted.
 fn remove_first<P: Policy>(rt: &impl Abort, value: &mut PolicyString<P>) {
-    assert!(rt; !value.is_empty());
+    assert!(rt; 0 < value.len());
     assert!(rt; value.is_char_boundary(0));
     assert_eq!(rt; value.remove(0).expect(rt, "memory"), 'a');
 }
