@@ -179,6 +179,14 @@ without-within v i j =
     (λ no. subst (λ (w : PlacedText). size w.text ≤ size v.text) (sym (cond-false _ _ _ no)) (omega arith))
     (cases_Bool (not (is_static v.placement.place) && may_cut_out v.text i j))
 
+-- where it has as many, a range is one still
+pub without-may_cut_out : (v : PlacedText) (i j front back whole : ℕ) → size v.text ≤ whole
+    → (size v.text ≡ whole → may_cut_out v.text front back ≡ true)
+    → size (without_part v i j).text ≡ whole → may_cut_out (without_part v i j).text front back ≡ true
+without-may_cut_out v i j front back whole within range is =
+    let same = without-same v i j (omega (arith, is, within)) in
+    subst (λ (t : List ℕ). may_cut_out t front back ≡ true) (sym same) (range (subst (λ (t : List ℕ). size t ≡ whole) same is))
+
 pub drained : (g : Growth) (v u : PlacedText) (i j : ℕ) → made_owned g v ≡ Some u → is_static u.placement.place ≡ false → i ≤ j → IsBoundary v.text i → IsBoundary v.text j → replaced g v i j [] ≡ Some (without_part u i j)
 drained g v u i j o own order h k = rw (made_owned-placement g v u o, le-leb 0 (j - i) (omega arith), owned-without g v u i j o own order h k) refl
 

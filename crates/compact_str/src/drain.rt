@@ -34,8 +34,9 @@ pub struct Drain<'a, P: Policy> {
     back: usize,
     ghost owned: { is_static value.now.placement.place ≡ false },
     ghost within: { size value.now.text ≤ whole },
-    // So a step need not test whether these are boundaries.
+    // So neither a step nor the drop need test whether these are boundaries.
     ghost range: { size value.now.text ≡ whole → may_cut_out value.now.text front back ≡ true },
+    ghost span: { size value.now.text ≡ whole → may_cut_out value.now.text start end ≡ true },
 }
 
 impl<P: Policy> PolicyString<P> {
@@ -185,11 +186,11 @@ impl<P: Policy> Drop for Drain<'_, P> {
             value,
             start,
             end,
-            whole: _,
+            whole,
             front: _,
             back: _,
         } = self;
-        value.take_out(start, end);
+        value.take_out(start, end, whole);
     }
 }
 

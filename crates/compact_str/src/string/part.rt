@@ -1,5 +1,5 @@
 //! What stands from one position to another, for any two positions.
-ghost use Rattle.std.specs.Prelude.{◌≡◌, ℕ, ◌+◌, ◌^◌, ◌<◌, ◌≤◌, List, [], ◌∷◌, length, MatchOption, false};
+ghost use Rattle.std.specs.Prelude.{◌≡◌, ℕ, ◌+◌, ◌^◌, ◌<◌, ◌≤◌, List, [], ◌∷◌, length, MatchOption, true, false};
 ghost use Rattle.std.specs.Char.{len_utf8};
 ghost use Rattle.compact_repr.specs.Text.{size, text_of};
 ghost use Rattle.compact_repr.specs.Value.{is_static};
@@ -79,11 +79,27 @@ impl<P: Policy> PolicyString<P> {
         self.repr.owned_str()
     }
 
-    /// Takes out what stands from one position to another, in bytes. Where these begin and end no range, or the bytes are
-    /// not the value's own, nothing changes.
+    /// Takes out what stands from one position to another, in bytes of the value's own. If the text has `whole` bytes these
+    /// are known to begin and end a range; else it is looked at, and where they do not, nothing changes.
     #[inline]
     #[tactic(auto, using(compact_repr::proofs::TextFacts::text_facts, crate::proofs::Drains::part_facts))]
-    pub(crate) fn take_out(&mut self, start: usize, end: usize)
+    pub(crate) fn take_out(&mut self, start: usize, end: usize, whole: usize)
+        requires owned { is_static self.old.placement.place ≡ false }
+        requires range { size self.old.text ≡ whole → may_cut_out self.old.text start end ≡ true }
+        ensures { self.new ≡ without_part self.old start end }
+    {
+        if self.len() == whole {
+            self.repr.cut_out_in_place(start, end);
+        } else {
+            self.rare_take_out(start, end);
+        }
+    }
+
+    /// As `take_out`, for what is not expected: it stays out of a drain's drop.
+    #[cold]
+    #[inline(never)]
+    #[tactic(auto, using(compact_repr::proofs::TextFacts::text_facts, crate::proofs::Drains::part_facts))]
+    fn rare_take_out(&mut self, start: usize, end: usize)
         ensures { self.new ≡ without_part self.old start end }
     {
         if may_cut_out(self.as_str(), start, end) {

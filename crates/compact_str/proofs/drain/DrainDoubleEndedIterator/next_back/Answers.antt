@@ -36,4 +36,4 @@ invariant_of-self g c =
     let d = c.args.self.now in
     let last = c.in_ok-character.ensures in
     let split : drain_rest d ≡ last.0 ++ c.in_ok-character.character ∷ [] = sym c.as_str.ensures.text ∙ last.1 in
-    record { owned = d.owned; within = d.within; range = λ _. rw c.len_utf8.ensures.value (back-range d.value.now.text last.0 d.front d.back c.in_ok-character.character split) }
+    record { owned = d.owned; within = d.within; range = λ _. rw c.len_utf8.ensures.value (back-range d.value.now.text last.0 d.front d.back c.in_ok-character.character split); span = d.span }

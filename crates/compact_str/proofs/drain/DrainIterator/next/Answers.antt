@@ -28,7 +28,7 @@ invariant_of-self g c =
     let d = c.args.self.now in
     let first = c.in-Some.ensures in
     let taken = front-taken d.value.now.text first.1.0 d.front d.back c.in-Some.character (d.front + 1) (sym c.as_str-rest.ensures.text ∙ first.1.1) (ap (λ w. d.front + w) (sym first.0)) in
-    record { owned = d.owned; within = d.within; range = λ _. taken.2 }
+    record { owned = d.owned; within = d.within; range = λ _. taken.2; span = d.span }
 
 pub returns-in-Some-clause-steps : goal.returns-in-Some-clause-steps
 returns-in-Some-clause-steps g c =
@@ -64,7 +64,7 @@ invariant_of-self-2 g c =
     let first = c.in_ok-character.ensures in
     let split : drain_rest d ≡ c.in_ok-character.character ∷ first.0 = rw (sym c.owned_str.ensures.text) first.1 in
     let taken = front-taken d.value.now.text first.0 d.front d.back c.in_ok-character.character c.rare_end-self.result split c.rare_end-self.ensures in
-    record { owned = d.owned; within = d.within; range = λ _. taken.2 }
+    record { owned = d.owned; within = d.within; range = λ _. taken.2; span = d.span }
 
 pub returns-clause-steps : goal.returns-clause-steps
 returns-clause-steps g c =
