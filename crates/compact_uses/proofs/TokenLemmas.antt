@@ -1,11 +1,14 @@
 -- What stays of tokens while names come in.
-use Rattle.std.proofs.Common.{◌≡◌, ℕ, ◌<◌, ◌≤◌, List, [], ◌∷◌, ◌++◌, Bool, true, false, IsTrue, ◌↔◌, Option, Some, None, length, slice_get, slice_index_or, flat_map, map, refl, ap, ap₂, sym, ◌∙◌, arith, append-nil, append_assoc}
+use Rattle.std.proofs.Common.{◌≡◌, ℕ, ◌+◌, ◌<◌, ◌≤◌, List, [], ◌∷◌, ◌++◌, Bool, true, false, not, IsTrue, ◌↔◌, Option, Some, None, length, slice_get, slice_index_or, flat_map, map, refl, ap, ap₂, sym, ◌∙◌, arith, append-nil, append_assoc, length-append}
 use Rattle.std.proofs.lemmas.Grind.{common_steps, flat_map-append}
-use Rattle.std.proofs.lemmas.List.{map-append}
+use Rattle.std.proofs.lemmas.List.{map-append, length-map}
+use Rattle.std.proofs.lemmas.List.Filters.{length-filter_both}
 use Rattle.std.proofs.lemmas.List.Elements.{All-nil, All-push, recursion_from_All}
 use Rattle.std.proofs.Math.Nat.{lt_irrefl}
 use Rattle.std.specs.Option.{unwrap_or}
 use Rattle.std.specs.List.{All, AllByRecursion}
+use Rattle.std.specs.Cmp.Lexicographic.{pointwise}
+use Rattle.std.specs.Prelude.{nat_eq}
 use Rattle.compact_edit.specs.Names.{firsts}
 use Rattle.compact_edit.proofs.KeyTexts.{noted, firsts-push}
 use Rattle.compact_edit.proofs.TakenTexts.{still-distinct}
@@ -146,3 +149,34 @@ one-character c = grind (arith, common_steps)
 
 pub none-alike : {A : Type 0} (P : A → Type 0) → All P []
 none-alike P = All-nil P
+
+-- no more names come in than there are characters
+
+few-firsts : (ts : List (List ℕ)) → length (firsts ts) ≤ length ts
+few-firsts [] = omega arith
+few-firsts (t ∷ ts) =
+    let others = length-filter_both (λ u. not (pointwise nat_eq t u)) (λ u. not (not (pointwise nat_eq t u))) (λ u. refl) (firsts ts) in
+    omega (arith, others, few-firsts ts)
+
+pub one-name : (names after : List (List ℕ)) (piece : List ℕ) → after ≡ firsts (names ++ piece ∷ []) → 0 < length piece → length after ≤ length names + length piece
+one-name names after piece is filled = omega (arith, ap length is, few-firsts (names ++ piece ∷ []), length-append names (piece ∷ []), filled)
+
+few-tokens : (names : List (List ℕ)) (tokens : List Token) → AllByRecursion (IsToken names) tokens → length tokens ≤ length (flat_map (token_text names) tokens)
+few-tokens names [] all = omega arith
+few-tokens names (token ∷ tokens) all =
+    omega (arith, length-append (token_text names token) (flat_map (token_text names) tokens), all.0.filled, few-tokens names tokens all.1)
+
+pub few-names : (before names : List (List ℕ)) (tokens : List Token) (rest text : List ℕ) → AreNamesOf before names tokens → All (IsToken names) tokens
+    → flat_map (token_text names) tokens ++ rest ≡ text → length names + length rest ≤ length before + length text
+few-names before names tokens rest text are all joined =
+    let texts : List (List ℕ) = map (token_text names) tokens in
+    omega (
+      arith,
+      ap length are.1,
+      few-firsts (before ++ texts),
+      length-append before texts,
+      length-map tokens (token_text names),
+      few-tokens names tokens (recursion_from_All (IsToken names) tokens all),
+      length-append (flat_map (token_text names) tokens) rest,
+      ap length joined,
+    )

@@ -2,7 +2,7 @@
 ghost use Rattle.std.specs.Prelude.{◌≡◌, ◌++◌, ℕ, List, flat_map, slice_get, Some, IsOk, IfOk, IfErr, OnOk};
 ghost use Rattle.std.specs.List.{All};
 ghost use Rattle.compact_uses.specs.Tokens.{kind_of, token_text, IsToken, IsTokenRefusal};
-ghost use Rattle.std.specs.Prelude.{◌≤◌, [], false, length};
+ghost use Rattle.std.specs.Prelude.{◌+◌, ◌≤◌, [], false, length};
 ghost use Rattle.compact_str.specs.Text.{text_of};
 ghost use Rattle.compact_uses.specs.Tokens.{goes_on, last_kind, AreNamesOf, AreParted};
 ghost use Rattle.compact_uses.specs.declared.tokenizer.Kind.{Kind};
@@ -59,8 +59,9 @@ fn goes_on(kind: Kind, next: Kind) -> bool
 /// Each is as long as can be: no token goes on where the one before it ends. A mark is one character.
 ///
 /// The names are then those that stood and the texts of the tokens, by first occurrence. An error says that no memory was
-/// found, or that no number was left for a name, of which 2^32 - 1 stand then; of the empty text it never comes. Names keep
-/// their numbers in any case. Of `ab, 12` the tokens are the word `ab`, the mark `,`, a space and the number `12`.
+/// found, or that no number was left for a name, of which 2^32 - 1 stand then; of the empty text it never comes. In any case
+/// names keep their numbers, and no more come in than the text has characters. Of `ab, 12` the tokens are the word `ab`, the
+/// mark `,`, a space and the number `12`.
 pub fn tokenize(
     alloc: Global,
     names: &mut Interner,
@@ -71,6 +72,7 @@ pub fn tokenize(
     ensures tokens { IfOk result (λ tokens. All (IsToken names.new) tokens.items) }
     ensures names { IfOk result (λ tokens. AreNamesOf names.old names.new tokens.items) }
     ensures kept { (n : ℕ) (name : List ℕ) → slice_get names.old n ≡ Some name → slice_get names.new n ≡ Some name }
+    ensures bound { length names.new ≤ length names.old + length text.now.text }
     ensures empty { text.now.text ≡ [] → IsOk result }
     ensures err { IfErr result (IsTokenRefusal names.new) }
 {
@@ -114,6 +116,7 @@ fn put(
     ensures tokens { OnOk result (All (IsToken names.new) tokens.new.items) }
     ensures names { OnOk result ((before : List (List ℕ)) → AreNamesOf before names.old tokens.old.items → AreNamesOf before names.new tokens.new.items) }
     ensures kept { (n : ℕ) (name : List ℕ) → slice_get names.old n ≡ Some name → slice_get names.new n ≡ Some name }
+    ensures bound { length names.new ≤ length names.old + length (text_of piece.now) }
     ensures empty { text_of piece.now ≡ [] → IsOk result }
     ensures err { IfErr result (IsTokenRefusal names.new) }
 {

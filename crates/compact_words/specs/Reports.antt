@@ -1,10 +1,12 @@
 -- The report of the most frequent words of a text.
-use Rattle.std.specs.Prelude.{◌≡◌, ℕ, List, [], ◌∷◌, decimal, flat_map, length, map, slice_get, take}
+use Rattle.std.specs.Prelude.{◌≡◌, ◌≤◌, ℕ, List, [], ◌∷◌, decimal, flat_map, length, map, slice_get, take, ⊤}
 use Rattle.std.specs.Global.{Vec}
 use Rattle.std.specs.List.{All}
 use Rattle.std.specs.Option.{unwrap_or}
 use Rattle.compact_str.specs.Value.{PlacedText}
 use Rattle.compact_str.specs.Order.{text_in}
+use Rattle.compact_edit.specs.declared.intern.InternError.{InternError}
+use Rattle.compact_edit.specs.declared.intern.InternError.TheVariants.{Reserve, Full}
 use Rattle.compact_uses.specs.Tokens.{token_text, IsToken, AreNamesOf, AreParted}
 use Rattle.compact_uses.specs.Columns.{row_text, widths_of}
 use Rattle.compact_uses.specs.declared.tokenizer.Token.{Token}
@@ -30,3 +32,8 @@ pub record IsReport (text : List ℕ) (most : ℕ) (lines : List (List ℕ)) : T
   pub table : List (Vec PlacedText)
   pub fields : map (λ fields. map text_in fields.items) table ≡ map (fields_of names) (take most ranks)
   pub rows : lines ≡ map (λ fields. row_text (widths_of table) fields.items) table
+
+-- why a text has no report: for want of memory, or it has so many characters that its tokens may be too many for the numbers
+abbrev pub IsReportRefusal : List ℕ → InternError → Type 0
+IsReportRefusal text (Reserve error) = ⊤
+IsReportRefusal text Full = 4294967295 ≤ length text

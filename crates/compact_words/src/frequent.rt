@@ -1,7 +1,7 @@
 //! The report of the most frequent words.
-ghost use Rattle.std.specs.Prelude.{◌≡◌, map, take, IfOk};
+ghost use Rattle.std.specs.Prelude.{◌≡◌, [], map, take, IfErr, IfOk, IsOk};
 ghost use Rattle.compact_str.specs.Order.{text_in};
-ghost use Rattle.compact_words.specs.Reports.{fields_of, IsReport};
+ghost use Rattle.compact_words.specs.Reports.{fields_of, IsReport, IsReportRefusal};
 
 use crate::entries::{Entry, ranking};
 use compact_edit::{InternError, Interner};
@@ -13,13 +13,14 @@ use std::alloc::Global;
 /// A line for each of the `most` most frequent words of a text, `| word | count |`, in columns of one width.
 ///
 /// Of words that are as frequent the one that stands first in the text comes first. An error says that no memory was
-/// found, or that the text has more distinct tokens than there are numbers.
+/// found, or that the text has more distinct tokens than there are numbers, and so 2^32 - 1 characters or more.
 pub fn frequent_words(
     alloc: Global,
     text: &CompactString,
     most: usize,
 ) -> Result<Vec<CompactString>, InternError>
-    ensures { IfOk result (λ lines. IsReport text.now.text most (map text_in lines.items)) }
+    ensures report { IfOk result (λ lines. IsReport text.now.text most (map text_in lines.items)) }
+    ensures err { IfErr result (IsReportRefusal text.now.text) }
 {
     let mut names = Interner::new(alloc);
     let tokens = tokenize(alloc, &mut names, text)?;
@@ -31,14 +32,15 @@ pub fn frequent_words(
     Ok(lines)
 }
 
-/// The records of the first `most` entries.
+/// The records of the first `most` entries. Of none it is never refused.
 fn table_of(
     alloc: Global,
     names: &Interner,
     ranks: &[Entry],
     most: usize,
 ) -> Result<Vec<Vec<CompactString>>, ReserveError>
-    ensures { IfOk result (λ table. map (λ fields. map text_in fields.items) table.items ≡ map (fields_of names.now) (take most ranks.now)) }
+    ensures records { IfOk result (λ table. map (λ fields. map text_in fields.items) table.items ≡ map (fields_of names.now) (take most ranks.now)) }
+    ensures empty { take most ranks.now ≡ [] → IsOk result }
 {
     let shown = &ranks[..usize::min(most, ranks.len())];
     let mut table = Vec::new(alloc);

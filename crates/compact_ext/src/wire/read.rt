@@ -1,5 +1,5 @@
 //! How a text is read.
-ghost use Rattle.std.specs.Prelude.{◌≡◌, ◌+◌, ◌^◌, ◌<◌, ◌≤◌, ◌++◌, length, take, drop, IfOk, IfErr, IsErrOf, MatchResult, OnOk, IsTrue, IfSome, IsNone, vec_len, IsUtf8};
+ghost use Rattle.std.specs.Prelude.{◌≡◌, ◌+◌, ◌^◌, ◌<◌, ◌≤◌, ◌++◌, length, take, drop, IfOk, IfErr, IsErrOf, MatchResult, OnOk, IsTrue, IsFalse, IfSome, IsNone, vec_len, IsUtf8};
 ghost use Rattle.std.specs.Str.{IsAscii};
 ghost use Rattle.std.specs.Int.{w32, to_le_bytes};
 ghost use Rattle.std.specs.Vec.{vec_capacity};
@@ -127,7 +127,8 @@ fn text_of(room: &[u8; 24], len: usize) -> Option<&str>
 /// Whether each byte is an ASCII character. There is no way out of the loop, so that many bytes are looked at in one step.
 #[inline]
 fn is_ascii(bytes: &[u8; 24]) -> bool
-    ensures { IsTrue result → IsAscii bytes.now }
+    ensures all { IsTrue result → IsAscii bytes.now }
+    ensures other { IsFalse result → ¬ IsAscii bytes.now }
 {
     let mut most = 0;
     for &byte in bytes {

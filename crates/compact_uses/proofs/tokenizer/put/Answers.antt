@@ -2,7 +2,7 @@ use Rattle.std.proofs.Common.{◌≡◌, ◌++◌, ◌∷◌, [], sym, arith, ap
 use Rattle.std.proofs.lemmas.Grind.{common_steps}
 use Rattle.compact_str.specs.Text.{text_of}
 use Rattle.compact_uses.proofs.PieceLemmas.{no-text, filled-text}
-use Rattle.compact_uses.proofs.TokenLemmas.{put-joined, put-names, put-tokens, parted-push, last-apart, none-apart}
+use Rattle.compact_uses.proofs.TokenLemmas.{put-joined, put-names, put-tokens, one-name, parted-push, last-apart, none-apart}
 use Rattle.compact_uses.specs.declared.tokenizer.Kind.TheVariants.{Mark}
 use Rattle.compact_uses.proofs.tokenizer.put.Goals as goal
 
@@ -41,3 +41,9 @@ pub returns-then-is_empty-clause-last : goal.returns-then-is_empty-clause-last
 returns-then-is_empty-clause-last c =
     let none : text_of c.args.piece.now ≡ [] = no-text c.args.piece.now c.is_empty.result c.is_empty.ensures c.if-is_empty.true in
     λ next apart. none-apart _ next (c.requires.first none)
+
+pub returns-then-is_err-clause-bound : goal.returns-then-is_err-clause-bound
+returns-then-is_err-clause-bound c = one-name _ _ _ c.in_ok-name.ensures.names (filled-text c.args.piece.now c.is_empty.result c.utf8.piece c.is_empty.ensures c.if-is_empty.false)
+
+pub returns-clause-bound : goal.returns-clause-bound
+returns-clause-bound c = one-name _ _ _ c.in_ok-name.ensures.names (filled-text c.args.piece.now c.is_empty.result c.utf8.piece c.is_empty.ensures c.if-is_empty.false)

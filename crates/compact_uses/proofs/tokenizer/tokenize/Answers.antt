@@ -1,13 +1,13 @@
-use Rattle.std.proofs.Common.{◌≡◌, ℕ, ◌+◌, [], true, false, drop, length, refl, sym, ap, ap₂, List, ◌∙◌, arith, append-nil}
+use Rattle.std.proofs.Common.{◌≡◌, ℕ, ◌+◌, [], true, false, drop, length, length-append, refl, sym, ap, ap₂, List, ◌∙◌, arith, append-nil}
 use Rattle.std.proofs.lemmas.Str.{IsUtf8-drop}
 use Rattle.std.specs.Str.Iter.{chars_rest}
 use Rattle.compact_str.specs.Text.{text_of}
-use Rattle.compact_str.specs.Cut.{before}
-use Rattle.compact_str.proofs.ForCallers.{text_of-take}
+use Rattle.compact_str.specs.Cut.{before, after}
+use Rattle.compact_str.proofs.ForCallers.{before-after, text_of-take}
 use Rattle.compact_str.proofs.TextBytes.{boundary-bytes}
 use Rattle.compact_edit.specs.Names.{firsts}
 use Rattle.compact_uses.proofs.PieceLemmas.{next-character, first-character, first-piece, start-boundary, whole-piece, cut-joined, none-next}
-use Rattle.compact_uses.proofs.TokenLemmas.{alike-push, alike-one, goes_on-same, goes_on-no-mark, push-some, one-character, none-alike}
+use Rattle.compact_uses.proofs.TokenLemmas.{alike-push, alike-one, goes_on-same, goes_on-no-mark, push-some, one-character, none-alike, few-names}
 use Rattle.compact_uses.specs.Tokens.{goes_on}
 use Rattle.compact_uses.proofs.tokenizer.tokenize.Goals as goal
 
@@ -108,3 +108,25 @@ pub returns-in_err-put-clause-empty : goal.returns-in_err-put-clause-empty
 returns-in_err-put-clause-empty c = λ none.
     absurd (none-next _ c.loop-character.rest.now _ c.loop-character.len c.in-Some.character c.loop-character.invariant.is_text (c.loop-character.invariant.joined ∙ none)
     (c.loop-character.invariant.here ∙ c.in-Some.ensures.steps.0))
+
+pub returns-in_err-put-clause-bound : goal.returns-in_err-put-clause-bound
+returns-in_err-put-clause-bound c =
+    let rest : List ℕ = text_of c.loop-character.rest.now in
+    let piece = text_of-take c.loop-character.rest.now c.loop-character.len refl c.loop-character.invariant.is_text c.loop-character.invariant.boundary in
+    omega (
+      arith,
+      c.put.ensures.bound,
+      ap (λ (bytes : List ℕ). length (text_of bytes)) c.split_at.ensures.front,
+      ap length piece,
+      ap length (before-after rest c.loop-character.len),
+      length-append (before rest c.loop-character.len) (after rest c.loop-character.len),
+      few-names _ _ _ _ _ c.loop-character.invariant.names c.loop-character.invariant.tokens c.loop-character.invariant.joined,
+    )
+
+pub returns-in_err-put-2-clause-bound : goal.returns-in_err-put-2-clause-bound
+returns-in_err-put-2-clause-bound c =
+    omega (arith, c.put-2.ensures.bound, few-names _ _ _ _ _ c.loop-character.invariant.names c.loop-character.invariant.tokens c.loop-character.invariant.joined)
+
+pub returns-clause-bound : goal.returns-clause-bound
+returns-clause-bound c =
+    omega (arith, c.put-2.ensures.bound, few-names _ _ _ _ _ c.loop-character.invariant.names c.loop-character.invariant.tokens c.loop-character.invariant.joined)
