@@ -50,7 +50,7 @@ impl<A: Allocator> TextSink for String<A> {
 /// Puts the text of the bytes at the end of `made`, with U+FFFD for each broken part. Where `made` refuses,
 /// some of the text may stand in it.
 ///
-/// `[0x61, 0xC0, 0x80]` is put as `a` and two U+FFFD. Bytes that are text are judged once, in `judge`'s windows.
+/// `[0x61, 0xC0, 0x80]` is put as `a` and two U+FFFD. Bytes that are text are judged once, by `judge`.
 #[tactic(auto, using(crate::proofs::ForReaders::reading))]
 pub fn push_lossy<S: TextSink>(made: &mut S, bytes: &[u8]) -> Result<(), S::Error>
     ensures { OnOk result (S.text made.new ≡ S.text made.old ++ utf8_lossy_text bytes.now) }
