@@ -7,6 +7,7 @@ ghost use Rattle.std.proofs.Common.{ap, ◌∙◌};
 ghost use Rattle.std.specs.Str.{bytes_eq};
 ghost use Rattle.compact_str.proofs.TextBytes.{utf8-same};
 ghost use Rattle.compact_str.specs.Text.{size, text_of, utf8};
+ghost use Rattle.compact_edit.specs.declared.intern.InternError.TheVariants.{Reserve};
 ghost use Rattle.compact_edit.specs.Names.{firsts, texts_of, is_among, IsRefusal, Takes, StopsAt};
 
 use compact_str::{CompactString, ReserveError};
@@ -163,7 +164,7 @@ impl Interner {
     #[tactic(auto, using(crate::proofs::NameFacts::list_facts))]
     pub fn intern_all(&mut self, texts: &[&str], numbers: &mut Vec<u32>) -> Result<(), InternError>
         ensures ok { OnOk result (Takes self.old (texts_of texts.now) numbers.old.items self.new numbers.new.items) }
-        ensures err { IfErr result (λ error. (self.new ≡ self.old) × (numbers.new.items ≡ numbers.old.items) × (vec_capacity numbers.old < vec_len numbers.old + length texts.now) ⊎ StopsAt self.old (texts_of texts.now) numbers.old.items self.new numbers.new.items error) }
+        ensures err { IfErr result (λ error. (error ≡ Reserve (record {})) × (self.new ≡ self.old) × (numbers.new.items ≡ numbers.old.items) × (vec_capacity numbers.old < vec_len numbers.old + length texts.now) ⊎ StopsAt self.old (texts_of texts.now) numbers.old.items self.new numbers.new.items error) }
         ensures kept { (n : ℕ) (name : List ℕ) → slice_get self.old n ≡ Some name → slice_get self.new n ≡ Some name }
     {
         let _distinct = self.len();
