@@ -3,7 +3,7 @@
 #
 #   bench/run.sh [FOLDER]
 #
-# It needs `rt` and `rustc`, proves and builds what it times (from a clean clone that takes some six minutes), and prints
+# It needs `rt` and `rustc`, proves and builds what it times (from a clean clone that takes six to fifteen minutes), and prints
 # a line for each workload and then a table. A ratio is this library's time over that of the other type: below 1 this
 # library is faster. The status is 1 if two types differ in a checksum.
 #
