@@ -4,7 +4,8 @@ use Rattle.std.proofs.lemmas.Grind.{flat_map-append}
 use Rattle.std.proofs.lemmas.List.Folds.{flat_map-map}
 use Rattle.std.proofs.Math.Seq.{drop-append_seam}
 use Rattle.std.specs.Prelude.{Option, None, Result, Ok, Err, IfOk, OnOk, OnErr, IsOk}
-use Rattle.std.specs.Iterator.{Yields, Drains, HoldsAlong}
+use Rattle.std.specs.Result.{MatchResult}
+use Rattle.std.specs.Iterator.{Yields, Drains, DrainsIf, HoldsAlong}
 use Rattle.std.specs.Borrow.{Bor}
 use Rattle.std.specs.Iterator.Runs.{WholeRun}
 use Rattle.std.proofs.iter.runs.Made.{run, to_end}
@@ -87,6 +88,12 @@ module _ {U S T E : Type 0} (becomes : U → S → Type 0) (steps : S → Option
   extended-front (Ok _) (it, b, (xs, d, a)) e = ap (λ t. before t (size v.text)) (Appends-text g f v w xs a) ∙ before-cut v.text (flat_map f xs) (size v.text) refl
   extended-front (Err _) e (it, b, s) = ap (λ t. before t (size v.text)) (Appends-text g f v w s.0 s.4) ∙ before-cut v.text (flat_map f s.0) (size v.text) refl
 
+  -- the same, as the library's trait says it
+  pub extended-for_trait : (r : Result (Unit {0}) E) → Extended r → Stopped r
+      → (it : S) × (xs : List T) × becomes iter it × Appends g f v xs w × MatchResult r (λ _. Drains steps it xs) (λ _. (t : S) × Yields steps it xs t)
+  extended-for_trait (Ok _) (it, b, (xs, d, a)) e = (it, xs, b, a, d)
+  extended-for_trait (Err _) e (it, b, s) = (it, s.0, b, s.4, (s.3.0, s.3.1))
+
 -- how many bytes the items take, one after another
 pub size-each : {T : Type 0} (f : T → List ℕ) (xs : List T) (n : ℕ) → fold (λ (m : ℕ) x. m + size (f x)) n xs ≡ n + size (flat_map f xs)
 size-each f [] n = omega (arith)
@@ -117,6 +124,13 @@ module _ {U S T E : Type 0} (becomes : U → S → Type 0) (steps : S → Option
   pub collected-succeeds : (r : Result PlacedText E) → Overflowed read r → ((it : S) → becomes iter it → HoldsAlong steps it (λ xs. size (read xs) ≤ 24)) → IsOk r
   collected-succeeds (Ok v) e h = refl
   collected-succeeds (Err _) (it, b, o) h = absurd (omega (arith, h it b o.0 o.1 o.2, o.3))
+
+-- a collection, as the library's trait says it: of the value G holds with the items, and F
+pub collected-for_trait : {S T V E : Type 0} (from : S → Type 0) (steps : S → Option T → S → Type 0) (W F : V → Type 0) (G : List T → V → Type 0) (r : Result V E)
+    → IfOk r (λ v. (it : S) × (xs : List T) × from it × Drains steps it xs × G xs v) → IfOk r F
+    → IfOk r (λ v. (it : S) × (xs : List T) × from it × DrainsIf steps (W v) it xs × (G xs v × F v))
+collected-for_trait from steps W F G (Ok v) (it, xs, b, d, g) f = (it, xs, b, (d.1.0, d.1.1, λ w. (d.0, d.1.2)), (g, f))
+collected-for_trait from steps W F G (Err _) c f = tt
 
 -- one more item makes more than 24 bytes
 pub passes : {S T : Type 0} (steps : S → Option T → S → Type 0) (f : T → List ℕ) (s t u : S) (xs : List T) (x : T) (z : List ℕ) → Yields steps s xs t → steps t (Some x) u

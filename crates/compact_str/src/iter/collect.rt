@@ -1,5 +1,5 @@
 //! What comes one after another, collected into a value.
-ghost use Rattle.std.specs.Prelude.{◌≡◌, ◌+◌, ◌≤◌, List, flat_map, fold, map, IfOk, OnErr, IsOk};
+ghost use Rattle.std.specs.Prelude.{◌≡◌, ◌+◌, ◌≤◌, List, ℕ, flat_map, fold, map, IfOk, OnErr, IsOk};
 ghost use Rattle.std.specs.Iterator.{Drains, HoldsAlong, IsFiniteIterable};
 ghost use Rattle.std.specs.Iterator.Runs.{WholeRun};
 ghost use Rattle.compact_repr.specs.Text.{size};
@@ -75,7 +75,16 @@ impl<P: Policy, T: AsText> FromIterator<T> for PolicyString<P> {
     ghost from_iter_gives = { λ xs v. (v.text ≡ flat_map T.spells xs) × IsFitted v };
 
     /// `from_texts`, whose error is here that of the library's trait.
-    fn from_iter<U: IntoIterator<Item = T>>(alloc: Global, texts: U) -> Result<Self, AllocError> {
+    ///
+    /// `collect` calls it by that trait, and so tells a caller the text and place, but not that it is never refused up to
+    /// 24 bytes.
+    fn from_iter<U: IntoIterator<Item = T>>(alloc: Global, texts: U) -> Result<Self, AllocError>
+        requires { IsFiniteIterable U.into_iter_gives U.IntoIter.can_next U.IntoIter.remaining texts }
+        ensures text { IfOk result (λ v. (it : U.IntoIter) × (xs : List T) × U.into_iter_gives texts it × Drains U.IntoIter.next_gives it xs × (v.text ≡ flat_map T.spells xs)) }
+        ensures fitted { IfOk result IsFitted }
+        ensures succeeds { ((it : U.IntoIter) → U.into_iter_gives texts it → HoldsAlong U.IntoIter.next_gives it (λ xs. size (flat_map T.spells xs) ≤ 24)) → IsOk result }
+        ensures err { OnErr result ((it : U.IntoIter) × U.into_iter_gives texts it × PassesInline U.IntoIter.next_gives (flat_map T.spells) it) }
+    {
         match collect_pieces(alloc, texts) {
             Ok(value) => Ok(value),
             Err(ReserveError) => Err(AllocError),
@@ -93,7 +102,13 @@ impl<P: Policy> FromIterator<char> for PolicyString<P> {
     fn from_iter<U: IntoIterator<Item = char>>(
         alloc: Global,
         characters: U,
-    ) -> Result<Self, AllocError> {
+    ) -> Result<Self, AllocError>
+        requires { IsFiniteIterable U.into_iter_gives U.IntoIter.can_next U.IntoIter.remaining characters }
+        ensures text { IfOk result (λ v. (it : U.IntoIter) × (xs : List ℕ) × U.into_iter_gives characters it × Drains U.IntoIter.next_gives it xs × (v.text ≡ xs)) }
+        ensures fitted { IfOk result IsFitted }
+        ensures succeeds { ((it : U.IntoIter) → U.into_iter_gives characters it → HoldsAlong U.IntoIter.next_gives it (λ xs. size xs ≤ 24)) → IsOk result }
+        ensures err { OnErr result ((it : U.IntoIter) × U.into_iter_gives characters it × PassesInline U.IntoIter.next_gives (λ xs. xs) it) }
+    {
         match collect_pieces(alloc, characters) {
             Ok(value) => Ok(value),
             Err(ReserveError) => Err(AllocError),
@@ -110,9 +125,15 @@ impl<'a, P: Policy> FromIterator<&'a char> for PolicyString<P> {
     #[tactic(auto, using(crate::proofs::CollectFacts::collect_facts))]
     fn from_iter<U: IntoIterator<Item = &'a char>>(
         alloc: Global,
-        characters: U,
-    ) -> Result<Self, AllocError> {
-        match collect_pieces(alloc, characters) {
+        references: U,
+    ) -> Result<Self, AllocError>
+        requires { IsFiniteIterable U.into_iter_gives U.IntoIter.can_next U.IntoIter.remaining references }
+        ensures text { IfOk result (λ v. (it : U.IntoIter) × (xs : List _) × U.into_iter_gives references it × Drains U.IntoIter.next_gives it xs × (v.text ≡ map (λ c. c.now) xs)) }
+        ensures fitted { IfOk result IsFitted }
+        ensures succeeds { ((it : U.IntoIter) → U.into_iter_gives references it → HoldsAlong U.IntoIter.next_gives it (λ xs. size (map (λ c. c.now) xs) ≤ 24)) → IsOk result }
+        ensures err { OnErr result ((it : U.IntoIter) × U.into_iter_gives references it × PassesInline U.IntoIter.next_gives (λ xs. map (λ c. c.now) xs) it) }
+    {
+        match collect_pieces(alloc, references) {
             Ok(value) => Ok(value),
             Err(ReserveError) => Err(AllocError),
         }

@@ -1,5 +1,5 @@
 //! What comes one after another, appended to a value.
-ghost use Rattle.std.specs.Prelude.{◌≡◌, ◌≤◌, List, ◌++◌, flat_map, OnOk, OnErr, IsOk};
+ghost use Rattle.std.specs.Prelude.{◌≡◌, ◌≤◌, List, ◌++◌, flat_map, map, OnOk, OnErr, IsOk};
 ghost use Rattle.std.specs.Iterator.{HoldsAlong, IsFiniteIterable};
 ghost use Rattle.std.specs.Iterator.Runs.{WholeRun};
 ghost use Rattle.compact_repr.specs.Text.{size};
@@ -77,7 +77,13 @@ impl<P: Policy, T: AsText> Extend<T> for PolicyString<P> {
     ghost extend_gives = { λ v xs w. Appends P.growth T.spells v xs w };
 
     /// `extend_texts`, whose error is here that of the library's trait.
-    fn extend<U: IntoIterator<Item = T>>(&mut self, texts: U) -> Result<(), AllocError> {
+    fn extend<U: IntoIterator<Item = T>>(&mut self, texts: U) -> Result<(), AllocError>
+        requires { IsFiniteIterable U.into_iter_gives U.IntoIter.can_next U.IntoIter.remaining texts }
+        ensures ok { OnOk result ((it : U.IntoIter) × U.into_iter_gives texts it × AppendsAll U.IntoIter.next_gives P.growth T.spells it self.old self.new) }
+        ensures text { OnOk result ((it : U.IntoIter) × U.into_iter_gives texts it × WholeRun U.IntoIter.next_gives it (λ run. self.new.text ≡ self.old.text ++ flat_map T.spells run.items)) }
+        ensures succeeds { ((it : U.IntoIter) → U.into_iter_gives texts it → HoldsAlong U.IntoIter.next_gives it (λ xs. HasRoomFor self.old (size (flat_map T.spells xs)))) → IsOk result }
+        ensures err { OnErr result ((it : U.IntoIter) × U.into_iter_gives texts it × AppendsUpToRefused U.IntoIter.next_gives P.growth T.spells it self.old self.new) }
+    {
         match self.extend_texts(texts) {
             Ok(()) => Ok(()),
             Err(ReserveError) => Err(AllocError),
@@ -89,7 +95,13 @@ impl<P: Policy> Extend<char> for PolicyString<P> {
     ghost extend_gives = { λ v xs w. Appends P.growth alone v xs w };
 
     /// `extend_chars`, whose error is here that of the library's trait.
-    fn extend<U: IntoIterator<Item = char>>(&mut self, characters: U) -> Result<(), AllocError> {
+    fn extend<U: IntoIterator<Item = char>>(&mut self, characters: U) -> Result<(), AllocError>
+        requires { IsFiniteIterable U.into_iter_gives U.IntoIter.can_next U.IntoIter.remaining characters }
+        ensures ok { OnOk result ((it : U.IntoIter) × U.into_iter_gives characters it × AppendsAll U.IntoIter.next_gives P.growth alone it self.old self.new) }
+        ensures text { OnOk result ((it : U.IntoIter) × U.into_iter_gives characters it × WholeRun U.IntoIter.next_gives it (λ run. self.new.text ≡ self.old.text ++ run.items)) }
+        ensures succeeds { ((it : U.IntoIter) → U.into_iter_gives characters it → HoldsAlong U.IntoIter.next_gives it (λ xs. HasRoomFor self.old (size xs))) → IsOk result }
+        ensures err { OnErr result ((it : U.IntoIter) × U.into_iter_gives characters it × AppendsUpToRefused U.IntoIter.next_gives P.growth alone it self.old self.new) }
+    {
         match self.extend_chars(characters) {
             Ok(()) => Ok(()),
             Err(ReserveError) => Err(AllocError),
@@ -101,13 +113,16 @@ impl<'a, P: Policy> Extend<&'a char> for PolicyString<P> {
     ghost extend_gives = { λ v xs w. Appends P.growth (λ c. alone c.now) v xs w };
 
     /// `extend_chars` of the characters that are referred to.
-    fn extend<U: IntoIterator<Item = &'a char>>(
-        &mut self,
-        characters: U,
-    ) -> Result<(), AllocError> {
-        match extend_pieces(self, characters) {
+    fn extend<U: IntoIterator<Item = &'a char>>(&mut self, references: U) -> Result<(), AllocError>
+        requires { IsFiniteIterable U.into_iter_gives U.IntoIter.can_next U.IntoIter.remaining references }
+        ensures ok { OnOk result ((it : U.IntoIter) × U.into_iter_gives references it × AppendsAll U.IntoIter.next_gives P.growth (λ c. alone c.now) it self.old self.new) }
+        ensures text { OnOk result ((it : U.IntoIter) × U.into_iter_gives references it × WholeRun U.IntoIter.next_gives it (λ run. self.new.text ≡ self.old.text ++ map (λ c. c.now) run.items)) }
+        ensures succeeds { ((it : U.IntoIter) → U.into_iter_gives references it → HoldsAlong U.IntoIter.next_gives it (λ xs. HasRoomFor self.old (size (map (λ c. c.now) xs)))) → IsOk result }
+        ensures err { OnErr result ((it : U.IntoIter) × U.into_iter_gives references it × AppendsUpToRefused U.IntoIter.next_gives P.growth (λ c. alone c.now) it self.old self.new) }
+    {
+        match extend_pieces(self, references) {
             Ok(()) => Ok(()),
-            Err(ReserveError) => Err(AllocError),
+            Err(_) => Err(AllocError),
         }
     }
 }
