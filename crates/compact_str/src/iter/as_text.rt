@@ -36,7 +36,7 @@ impl AsText for String {
 
     #[inline]
     fn text(&self) -> &str {
-        self.as_str()
+        String::as_str(self)
     }
 }
 
@@ -45,7 +45,7 @@ impl AsText for BoxedStr {
 
     #[inline]
     fn text(&self) -> &str {
-        self.as_str()
+        BoxedStr::as_str(self)
     }
 }
 
@@ -54,7 +54,7 @@ impl AsText for CowStr<'_> {
 
     #[inline]
     fn text(&self) -> &str {
-        self.as_str()
+        CowStr::as_str(self)
     }
 }
 
@@ -63,7 +63,7 @@ impl<P: Policy> AsText for PolicyString<P> {
 
     #[inline]
     fn text(&self) -> &str {
-        self.as_str()
+        PolicyString::as_str(self)
     }
 }
 
