@@ -140,7 +140,10 @@ impl<P: Policy> Iterator for Drain<'_, P> {
             return Some(character);
         }
         // It takes the positions and a text of its own, so that the loop need not count what is left.
-        let character = rare_first(self.value.owned_str(), front, back)?;
+        let code = rare_first(self.value.owned_str(), front, back)?;
+        let Some(character) = char::from_u32(code as u32) else {
+            unreachable!();
+        };
         self.front = rare_end(front, character);
         Some(character)
     }

@@ -1,6 +1,6 @@
 //! What stands from one position to another, for any two positions.
-ghost use Rattle.std.specs.Prelude.{◌≡◌, ℕ, ◌+◌, ◌^◌, ◌<◌, ◌≤◌, List, [], ◌∷◌, length, MatchOption, true, false};
-ghost use Rattle.std.specs.Char.{len_utf8};
+ghost use Rattle.std.specs.Prelude.{◌≡◌, ℕ, ◌+◌, ◌^◌, ◌<◌, ◌≤◌, List, [], ◌∷◌, length, MatchOption, IfSome, true, false};
+ghost use Rattle.std.specs.Char.{len_utf8, InScalarRange};
 ghost use Rattle.compact_repr.specs.Text.{size, text_of};
 ghost use Rattle.compact_repr.specs.Value.{is_static};
 ghost use Rattle.compact_str.specs.Drains.{may_cut, may_cut_out, part, without_part};
@@ -47,14 +47,19 @@ pub fn rare_part(text: &str, start: usize, end: usize) -> &str
     part(text, start, end)
 }
 
-/// The first character of what stands from one position to another, for where it is seldom asked. It stays out of its
-/// caller's loop, and so does `rare_end`; neither writes, so what the loop has read it need not read again.
+/// The code of the first character of what stands from one position to another, for where it is seldom asked. It stays out
+/// of its caller's loop, and so does `rare_end`; neither writes, so what the loop has read it need not read again. The code
+/// is a whole word: so a loop that widens its characters has them wide from the first, and need not widen each once more.
 #[cold]
 #[inline(never)]
-pub fn rare_first(text: &str, start: usize, end: usize) -> Option<char>
-    ensures { MatchOption result (part (text_of text.now) start end ≡ []) (λ c. (rest : List ℕ) × (part (text_of text.now) start end ≡ c ∷ rest)) }
+pub fn rare_first(text: &str, start: usize, end: usize) -> Option<u64>
+    ensures first { MatchOption result (part (text_of text.now) start end ≡ []) (λ c. (rest : List ℕ) × (part (text_of text.now) start end ≡ c ∷ rest)) }
+    ensures character { IfSome result InScalarRange }
 {
-    first_char(part(text, start, end))
+    match first_char(part(text, start, end)) {
+        Some(character) => Some(u64::from(character)),
+        None => None,
+    }
 }
 
 /// Where a character ends that begins at `start`, in bytes.
