@@ -62,6 +62,22 @@ pub fn rare_first(text: &str, start: usize, end: usize) -> Option<u64>
     }
 }
 
+/// The character that a code stands for.
+#[inline(always)]
+pub fn character_of(code: u64) -> char
+    requires { InScalarRange code }
+    ensures { result ≡ code }
+{
+    // By this the compiler knows that the upper half is zero.
+    if code > 0x10_FFFF {
+        unreachable!();
+    }
+    match char::from_u32(code as u32) {
+        Some(character) => character,
+        None => unreachable!(),
+    }
+}
+
 /// Where a character ends that begins at `start`, in bytes.
 #[cold]
 #[inline(never)]

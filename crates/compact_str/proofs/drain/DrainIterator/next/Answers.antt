@@ -53,9 +53,8 @@ pub rare_end-self-requires : goal.rare_end-self-requires
 rare_end-self-requires g c =
     let d = c.args.self.now in
     let first = c.in_ok-code.ensures.first in
-    let is : c.in-Some-from_u32.character ≡ c.in_ok-code.code = search rules in
-    let split : drain_rest d ≡ c.in-Some-from_u32.character ∷ first.0 = rw (sym c.owned_str.ensures.text) (first.1 ∙ ap (λ w. w ∷ first.0) (sym is)) in
-    let taken = front-taken d.value.now.text first.0 d.front d.back c.in-Some-from_u32.character (d.front + len_utf8 c.in-Some-from_u32.character) split refl in
+    let split : drain_rest d ≡ c.character_of-character.result ∷ first.0 = rw (sym c.owned_str.ensures.text) (first.1 ∙ ap (λ w. w ∷ first.0) (sym c.character_of-character.ensures)) in
+    let taken = front-taken d.value.now.text first.0 d.front d.back c.character_of-character.result (d.front + len_utf8 c.character_of-character.result) split refl in
     let fits = taken.1 in
     search rules
 
@@ -63,27 +62,24 @@ pub invariant_of-self-2 : goal.invariant_of-self-2
 invariant_of-self-2 g c =
     let d = c.args.self.now in
     let first = c.in_ok-code.ensures.first in
-    let is : c.in-Some-from_u32.character ≡ c.in_ok-code.code = search rules in
-    let split : drain_rest d ≡ c.in-Some-from_u32.character ∷ first.0 = rw (sym c.owned_str.ensures.text) (first.1 ∙ ap (λ w. w ∷ first.0) (sym is)) in
-    let taken = front-taken d.value.now.text first.0 d.front d.back c.in-Some-from_u32.character c.rare_end-self.result split c.rare_end-self.ensures in
+    let split : drain_rest d ≡ c.character_of-character.result ∷ first.0 = rw (sym c.owned_str.ensures.text) (first.1 ∙ ap (λ w. w ∷ first.0) (sym c.character_of-character.ensures)) in
+    let taken = front-taken d.value.now.text first.0 d.front d.back c.character_of-character.result c.rare_end-self.result split c.rare_end-self.ensures in
     record { owned = d.owned; within = d.within; range = λ _. taken.2; span = d.span }
 
 pub returns-clause-steps : goal.returns-clause-steps
 returns-clause-steps g c =
     let d = c.args.self.now in
     let first = c.in_ok-code.ensures.first in
-    let is : c.in-Some-from_u32.character ≡ c.in_ok-code.code = search rules in
-    let split : drain_rest d ≡ c.in-Some-from_u32.character ∷ first.0 = rw (sym c.owned_str.ensures.text) (first.1 ∙ ap (λ w. w ∷ first.0) (sym is)) in
-    let taken = front-taken d.value.now.text first.0 d.front d.back c.in-Some-from_u32.character c.rare_end-self.result split c.rare_end-self.ensures in
-    record { lender = refl; leaves = refl; step = split ∙ ap (λ l. c.in-Some-from_u32.character ∷ l) (sym taken.0) }
+    let split : drain_rest d ≡ c.character_of-character.result ∷ first.0 = rw (sym c.owned_str.ensures.text) (first.1 ∙ ap (λ w. w ∷ first.0) (sym c.character_of-character.ensures)) in
+    let taken = front-taken d.value.now.text first.0 d.front d.back c.character_of-character.result c.rare_end-self.result split c.rare_end-self.ensures in
+    record { lender = refl; leaves = refl; step = split ∙ ap (λ l. c.character_of-character.result ∷ l) (sym taken.0) }
 
 pub returns-clause-goes : goal.returns-clause-goes
 returns-clause-goes g c =
     let d = c.args.self.now in
     let first = c.in_ok-code.ensures.first in
-    let is : c.in-Some-from_u32.character ≡ c.in_ok-code.code = search rules in
-    let split : drain_rest d ≡ c.in-Some-from_u32.character ∷ first.0 = rw (sym c.owned_str.ensures.text) (first.1 ∙ ap (λ w. w ∷ first.0) (sym is)) in
-    let taken = front-taken d.value.now.text first.0 d.front d.back c.in-Some-from_u32.character c.rare_end-self.result split c.rare_end-self.ensures in
+    let split : drain_rest d ≡ c.character_of-character.result ∷ first.0 = rw (sym c.owned_str.ensures.text) (first.1 ∙ ap (λ w. w ∷ first.0) (sym c.character_of-character.ensures)) in
+    let taken = front-taken d.value.now.text first.0 d.front d.back c.character_of-character.result c.rare_end-self.result split c.rare_end-self.ensures in
     let before = ap length split in
     let after = ap length taken.0 in
     search rules
