@@ -11,7 +11,7 @@ ghost use Rattle.compact_str.specs.Ranges.{IsRange, range_start, range_end};
 ghost use Rattle.compact_str.specs.Drains.{may_cut_out};
 
 use crate::string::PolicyString;
-use crate::string::part::{character_of, rare_end, rare_first, rare_part};
+use crate::string::part::{rare_first, rare_part};
 use crate::string::position::ends;
 use compact_repr::{Policy, ReserveError, first_ascii, last_char, middle};
 use std::fmt;
@@ -140,9 +140,11 @@ impl<P: Policy> Iterator for Drain<'_, P> {
             return Some(character);
         }
         // It takes the positions and a text of its own, so that the loop need not count what is left.
-        let code = rare_first(self.value.owned_str(), front, back)?;
-        let character = character_of(code);
-        self.front = rare_end(front, character);
+        let word = rare_first(self.value.owned_str(), front, back)?;
+        let Some(character) = char::from_u32((word >> 32) as u32) else {
+            unreachable!();
+        };
+        self.front = front + (word % 0x1_0000_0000) as usize;
         Some(character)
     }
 

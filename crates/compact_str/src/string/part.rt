@@ -1,5 +1,5 @@
 //! What stands from one position to another, for any two positions.
-ghost use Rattle.std.specs.Prelude.{◌≡◌, ℕ, ◌+◌, ◌^◌, ◌<◌, ◌≤◌, List, [], ◌∷◌, length, MatchOption, IfSome, true, false};
+ghost use Rattle.std.specs.Prelude.{◌≡◌, ℕ, ◌+◌, ◌*◌, ◌^◌, ◌<◌, ◌≤◌, List, [], ◌∷◌, length, MatchOption, true, false};
 ghost use Rattle.std.specs.Char.{len_utf8, InScalarRange};
 ghost use Rattle.compact_repr.specs.Text.{size, text_of};
 ghost use Rattle.compact_repr.specs.Value.{is_static};
@@ -47,45 +47,21 @@ pub fn rare_part(text: &str, start: usize, end: usize) -> &str
     part(text, start, end)
 }
 
-/// The code of the first character of what stands from one position to another, for where it is seldom asked. It stays out
-/// of its caller's loop, and so does `rare_end`; neither writes, so what the loop has read it need not read again. The code
-/// is a whole word: so a loop that widens its characters has them wide from the first, and need not widen each once more.
+/// The first character of what stands from one position to another, for where it is seldom asked: its code in the upper
+/// half of a word, and how many bytes it takes in the lower one. It stays out of its caller's loop and writes nothing, so
+/// what the loop has read it need not read again; and of the upper half of a word the compiler knows that it fits in 32
+/// bits, so a loop that widens its characters need not widen each of them anew.
 #[cold]
 #[inline(never)]
 pub fn rare_first(text: &str, start: usize, end: usize) -> Option<u64>
-    ensures first { MatchOption result (part (text_of text.now) start end ≡ []) (λ c. (rest : List ℕ) × (part (text_of text.now) start end ≡ c ∷ rest)) }
-    ensures character { IfSome result InScalarRange }
+    ensures { MatchOption result (part (text_of text.now) start end ≡ []) (λ w. (c : ℕ) × (rest : List ℕ) × (w ≡ c * 2 ^ 32 + len_utf8 c) × InScalarRange c × (part (text_of text.now) start end ≡ c ∷ rest)) }
 {
     match first_char(part(text, start, end)) {
-        Some(character) => Some(u64::from(character)),
+        Some(character) => {
+            Some(u64::from(character) * 0x1_0000_0000 + character.len_utf8() as u64)
+        }
         None => None,
     }
-}
-
-/// The character that a code stands for.
-#[inline(always)]
-pub fn character_of(code: u64) -> char
-    requires { InScalarRange code }
-    ensures { result ≡ code }
-{
-    // By this the compiler knows that the upper half is zero.
-    if code > 0x10_FFFF {
-        unreachable!();
-    }
-    match char::from_u32(code as u32) {
-        Some(character) => character,
-        None => unreachable!(),
-    }
-}
-
-/// Where a character ends that begins at `start`, in bytes.
-#[cold]
-#[inline(never)]
-pub fn rare_end(start: usize, character: char) -> usize
-    requires { start + len_utf8 character < 2 ^ 64 }
-    ensures { result ≡ start + len_utf8 character }
-{
-    start + character.len_utf8()
 }
 
 impl<P: Policy> PolicyString<P> {
