@@ -11,7 +11,7 @@ ghost use Rattle.compact_str.specs.Ranges.{IsRange, range_start, range_end};
 ghost use Rattle.compact_str.specs.Drains.{may_cut_out};
 
 use crate::string::PolicyString;
-use crate::string::part::{rare_first, rare_part};
+use crate::string::part::{rare_end, rare_first, rare_part};
 use crate::string::position::ends;
 use compact_repr::{Policy, ReserveError, first_ascii, last_char, middle};
 use std::fmt;
@@ -144,7 +144,7 @@ impl<P: Policy> Iterator for Drain<'_, P> {
         let Some(character) = char::from_u32((word >> 32) as u32) else {
             unreachable!();
         };
-        self.front = front + (word % 0x1_0000_0000) as usize;
+        self.front = rare_end(front, word);
         Some(character)
     }
 

@@ -1,5 +1,5 @@
 //! What stands from one position to another, for any two positions.
-ghost use Rattle.std.specs.Prelude.{◌≡◌, ℕ, ◌+◌, ◌*◌, ◌^◌, ◌<◌, ◌≤◌, List, [], ◌∷◌, length, MatchOption, true, false};
+ghost use Rattle.std.specs.Prelude.{◌≡◌, ℕ, ◌+◌, ◌*◌, ◌%◌, ◌^◌, ◌<◌, ◌≤◌, List, [], ◌∷◌, length, MatchOption, true, false};
 ghost use Rattle.std.specs.Char.{len_utf8, InScalarRange};
 ghost use Rattle.compact_repr.specs.Text.{size, text_of};
 ghost use Rattle.compact_repr.specs.Value.{is_static};
@@ -48,8 +48,8 @@ pub fn rare_part(text: &str, start: usize, end: usize) -> &str
 }
 
 /// The first character of what stands from one position to another, for where it is seldom asked: its code in the upper
-/// half of a word, and how many bytes it takes in the lower one. It stays out of its caller's loop and writes nothing, so
-/// what the loop has read it need not read again; and of the upper half of a word the compiler knows that it fits in 32
+/// half of a word, and how many bytes it takes in the lower one. It stays out of its caller's loop, and so does
+/// `rare_end`; neither writes, so what the loop has read it need not read again. And of the upper half of a word the compiler knows that it fits in 32
 /// bits, so a loop that widens its characters need not widen each of them anew.
 #[cold]
 #[inline(never)]
@@ -62,6 +62,16 @@ pub fn rare_first(text: &str, start: usize, end: usize) -> Option<u64>
         }
         None => None,
     }
+}
+
+/// Where a character ends that begins at `start`, in bytes, by what `rare_first` answers of it.
+#[cold]
+#[inline(never)]
+pub fn rare_end(start: usize, word: u64) -> usize
+    requires { start + word % 2 ^ 32 < 2 ^ 64 }
+    ensures { result ≡ start + word % 2 ^ 32 }
+{
+    start + (word % 0x1_0000_0000) as usize
 }
 
 impl<P: Policy> PolicyString<P> {

@@ -50,8 +50,8 @@ returns-in-Some-clause-goes g c =
     search rules
 
 -- a wider character
-pub overflow_add-self-2 : goal.overflow_add-self-2
-overflow_add-self-2 g c =
+pub rare_end-self-requires : goal.rare_end-self-requires
+rare_end-self-requires g c =
     let d = c.args.self.now in
     let first = c.in_ok-word.ensures in
     let bounds = len_utf8_bounds first.0 in
@@ -70,7 +70,7 @@ invariant_of-self-2 g c =
     let word = first.2 in
     let wide : c.in_ok-word.word % 2 ^ 32 ≡ len_utf8 first.0 = search rules in
     let split : drain_rest d ≡ first.0 ∷ first.1 = rw (sym c.owned_str.ensures.text) first.4 in
-    let taken = front-taken d.value.now.text first.1 d.front d.back first.0 (d.front + c.in_ok-word.word % 2 ^ 32) split (ap (λ w. d.front + w) wide) in
+    let taken = front-taken d.value.now.text first.1 d.front d.back first.0 c.rare_end-self.result split (c.rare_end-self.ensures ∙ ap (λ w. d.front + w) wide) in
     record { owned = d.owned; within = d.within; range = λ _. taken.2; span = d.span }
 
 pub returns-clause-steps : goal.returns-clause-steps
@@ -81,10 +81,10 @@ returns-clause-steps g c =
     let word = first.2 in
     let wide : c.in_ok-word.word % 2 ^ 32 ≡ len_utf8 first.0 = search rules in
     let split : drain_rest d ≡ first.0 ∷ first.1 = rw (sym c.owned_str.ensures.text) first.4 in
-    let taken = front-taken d.value.now.text first.1 d.front d.back first.0 (d.front + c.in_ok-word.word % 2 ^ 32) split (ap (λ w. d.front + w) wide) in
+    let taken = front-taken d.value.now.text first.1 d.front d.back first.0 c.rare_end-self.result split (c.rare_end-self.ensures ∙ ap (λ w. d.front + w) wide) in
     let scalar = first.3 in
     let is : c.in-Some-from_u32.character ≡ first.0 = search rules in
-    record { lender = refl; leaves = refl; step = split ∙ ap (λ l. first.0 ∷ l) (sym taken.0) ∙ ap (λ w. w ∷ part d.value.now.text (d.front + c.in_ok-word.word % 2 ^ 32) d.back) (sym is) }
+    record { lender = refl; leaves = refl; step = split ∙ ap (λ l. first.0 ∷ l) (sym taken.0) ∙ ap (λ w. w ∷ part d.value.now.text c.rare_end-self.result d.back) (sym is) }
 
 pub returns-clause-goes : goal.returns-clause-goes
 returns-clause-goes g c =
@@ -94,7 +94,7 @@ returns-clause-goes g c =
     let word = first.2 in
     let wide : c.in_ok-word.word % 2 ^ 32 ≡ len_utf8 first.0 = search rules in
     let split : drain_rest d ≡ first.0 ∷ first.1 = rw (sym c.owned_str.ensures.text) first.4 in
-    let taken = front-taken d.value.now.text first.1 d.front d.back first.0 (d.front + c.in_ok-word.word % 2 ^ 32) split (ap (λ w. d.front + w) wide) in
+    let taken = front-taken d.value.now.text first.1 d.front d.back first.0 c.rare_end-self.result split (c.rare_end-self.ensures ∙ ap (λ w. d.front + w) wide) in
     let before = ap length split in
     let after = ap length taken.0 in
     search rules
