@@ -140,8 +140,11 @@ impl<P: Policy> Iterator for Drain<'_, P> {
             return Some(character);
         }
         // It takes the positions and a text of its own, so that the loop need not count what is left.
-        let character = rare_first(self.value.owned_str(), front, back)?;
-        self.front = rare_end(front, character);
+        let word = rare_first(self.value.owned_str(), front, back)?;
+        let Some(character) = char::from_u32((word >> 32) as u32) else {
+            unreachable!();
+        };
+        self.front = rare_end(front, word);
         Some(character)
     }
 

@@ -1,6 +1,6 @@
 //! What stands from one position to another, for any two positions.
-ghost use Rattle.std.specs.Prelude.{◌≡◌, ℕ, ◌+◌, ◌^◌, ◌<◌, ◌≤◌, List, [], ◌∷◌, length, MatchOption, true, false};
-ghost use Rattle.std.specs.Char.{len_utf8};
+ghost use Rattle.std.specs.Prelude.{◌≡◌, ℕ, ◌+◌, ◌*◌, ◌%◌, ◌^◌, ◌<◌, ◌≤◌, List, [], ◌∷◌, length, MatchOption, true, false};
+ghost use Rattle.std.specs.Char.{len_utf8, InScalarRange};
 ghost use Rattle.compact_repr.specs.Text.{size, text_of};
 ghost use Rattle.compact_repr.specs.Value.{is_static};
 ghost use Rattle.compact_str.specs.Drains.{may_cut, may_cut_out, part, without_part};
@@ -47,24 +47,31 @@ pub fn rare_part(text: &str, start: usize, end: usize) -> &str
     part(text, start, end)
 }
 
-/// The first character of what stands from one position to another, for where it is seldom asked. It stays out of its
-/// caller's loop, and so does `rare_end`; neither writes, so what the loop has read it need not read again.
+/// The first character of what stands from one position to another, for where it is seldom asked: its code in the upper
+/// half of a word, and how many bytes it takes in the lower one. It stays out of its caller's loop, and so does
+/// `rare_end`; neither writes, so what the loop has read it need not read again. And of the upper half of a word the compiler knows that it fits in 32
+/// bits, so a loop that widens its characters need not widen each of them anew.
 #[cold]
 #[inline(never)]
-pub fn rare_first(text: &str, start: usize, end: usize) -> Option<char>
-    ensures { MatchOption result (part (text_of text.now) start end ≡ []) (λ c. (rest : List ℕ) × (part (text_of text.now) start end ≡ c ∷ rest)) }
+pub fn rare_first(text: &str, start: usize, end: usize) -> Option<u64>
+    ensures { MatchOption result (part (text_of text.now) start end ≡ []) (λ w. (c : ℕ) × (rest : List ℕ) × (w ≡ c * 2 ^ 32 + len_utf8 c) × InScalarRange c × (part (text_of text.now) start end ≡ c ∷ rest)) }
 {
-    first_char(part(text, start, end))
+    match first_char(part(text, start, end)) {
+        Some(character) => {
+            Some(u64::from(character) * 0x1_0000_0000 + character.len_utf8() as u64)
+        }
+        None => None,
+    }
 }
 
-/// Where a character ends that begins at `start`, in bytes.
+/// Where a character ends that begins at `start`, in bytes, by what `rare_first` answers of it.
 #[cold]
 #[inline(never)]
-pub fn rare_end(start: usize, character: char) -> usize
-    requires { start + len_utf8 character < 2 ^ 64 }
-    ensures { result ≡ start + len_utf8 character }
+pub fn rare_end(start: usize, word: u64) -> usize
+    requires { start + word % 2 ^ 32 < 2 ^ 64 }
+    ensures { result ≡ start + word % 2 ^ 32 }
 {
-    start + character.len_utf8()
+    start + (word % 0x1_0000_0000) as usize
 }
 
 impl<P: Policy> PolicyString<P> {

@@ -1,9 +1,10 @@
-use Rattle.std.proofs.Common.{◌≡◌, ◌+◌, [], ◌∷◌, rules, refl, sym, ap, ◌∙◌, length}
+use Rattle.std.proofs.Common.{◌≡◌, ◌+◌, ◌%◌, ◌^◌, [], ◌∷◌, rules, refl, sym, ap, ◌∙◌, length}
 use Rattle.std.proofs.lemmas.Bool.{eqb-true}
 use Rattle.std.proofs.lemmas.List.{nil_from_length}
-use Rattle.std.proofs.lemmas.Str.{chars-nil}
+use Rattle.std.proofs.lemmas.Str.{chars-nil, len_utf8_bounds}
 use Rattle.std.specs.Char.{len_utf8}
 use Rattle.compact_repr.specs.Text.{text_of}
+use Rattle.compact_str.specs.Drains.{part}
 use Rattle.compact_str.specs.Drained.{drain_rest}
 use Rattle.compact_str.proofs.Drains.{front-taken}
 use Rattle.compact_str.proofs.drain.DrainIterator.next.Goals as goal
@@ -52,34 +53,48 @@ returns-in-Some-clause-goes g c =
 pub rare_end-self-requires : goal.rare_end-self-requires
 rare_end-self-requires g c =
     let d = c.args.self.now in
-    let first = c.in_ok-character.ensures in
-    let split : drain_rest d ≡ c.in_ok-character.character ∷ first.0 = rw (sym c.owned_str.ensures.text) first.1 in
-    let taken = front-taken d.value.now.text first.0 d.front d.back c.in_ok-character.character (d.front + len_utf8 c.in_ok-character.character) split refl in
+    let first = c.in_ok-word.ensures in
+    let bounds = len_utf8_bounds first.0 in
+    let word = first.2 in
+    let wide : c.in_ok-word.word % 2 ^ 32 ≡ len_utf8 first.0 = search rules in
+    let split : drain_rest d ≡ first.0 ∷ first.1 = rw (sym c.owned_str.ensures.text) first.4 in
+    let taken = front-taken d.value.now.text first.1 d.front d.back first.0 (d.front + c.in_ok-word.word % 2 ^ 32) split (ap (λ w. d.front + w) wide) in
     let fits = taken.1 in
     search rules
 
 pub invariant_of-self-2 : goal.invariant_of-self-2
 invariant_of-self-2 g c =
     let d = c.args.self.now in
-    let first = c.in_ok-character.ensures in
-    let split : drain_rest d ≡ c.in_ok-character.character ∷ first.0 = rw (sym c.owned_str.ensures.text) first.1 in
-    let taken = front-taken d.value.now.text first.0 d.front d.back c.in_ok-character.character c.rare_end-self.result split c.rare_end-self.ensures in
+    let first = c.in_ok-word.ensures in
+    let bounds = len_utf8_bounds first.0 in
+    let word = first.2 in
+    let wide : c.in_ok-word.word % 2 ^ 32 ≡ len_utf8 first.0 = search rules in
+    let split : drain_rest d ≡ first.0 ∷ first.1 = rw (sym c.owned_str.ensures.text) first.4 in
+    let taken = front-taken d.value.now.text first.1 d.front d.back first.0 c.rare_end-self.result split (c.rare_end-self.ensures ∙ ap (λ w. d.front + w) wide) in
     record { owned = d.owned; within = d.within; range = λ _. taken.2; span = d.span }
 
 pub returns-clause-steps : goal.returns-clause-steps
 returns-clause-steps g c =
     let d = c.args.self.now in
-    let first = c.in_ok-character.ensures in
-    let split : drain_rest d ≡ c.in_ok-character.character ∷ first.0 = rw (sym c.owned_str.ensures.text) first.1 in
-    let taken = front-taken d.value.now.text first.0 d.front d.back c.in_ok-character.character c.rare_end-self.result split c.rare_end-self.ensures in
-    record { lender = refl; leaves = refl; step = split ∙ ap (λ l. c.in_ok-character.character ∷ l) (sym taken.0) }
+    let first = c.in_ok-word.ensures in
+    let bounds = len_utf8_bounds first.0 in
+    let word = first.2 in
+    let wide : c.in_ok-word.word % 2 ^ 32 ≡ len_utf8 first.0 = search rules in
+    let split : drain_rest d ≡ first.0 ∷ first.1 = rw (sym c.owned_str.ensures.text) first.4 in
+    let taken = front-taken d.value.now.text first.1 d.front d.back first.0 c.rare_end-self.result split (c.rare_end-self.ensures ∙ ap (λ w. d.front + w) wide) in
+    let scalar = first.3 in
+    let is : c.in-Some-from_u32.character ≡ first.0 = search rules in
+    record { lender = refl; leaves = refl; step = split ∙ ap (λ l. first.0 ∷ l) (sym taken.0) ∙ ap (λ w. w ∷ part d.value.now.text c.rare_end-self.result d.back) (sym is) }
 
 pub returns-clause-goes : goal.returns-clause-goes
 returns-clause-goes g c =
     let d = c.args.self.now in
-    let first = c.in_ok-character.ensures in
-    let split : drain_rest d ≡ c.in_ok-character.character ∷ first.0 = rw (sym c.owned_str.ensures.text) first.1 in
-    let taken = front-taken d.value.now.text first.0 d.front d.back c.in_ok-character.character c.rare_end-self.result split c.rare_end-self.ensures in
+    let first = c.in_ok-word.ensures in
+    let bounds = len_utf8_bounds first.0 in
+    let word = first.2 in
+    let wide : c.in_ok-word.word % 2 ^ 32 ≡ len_utf8 first.0 = search rules in
+    let split : drain_rest d ≡ first.0 ∷ first.1 = rw (sym c.owned_str.ensures.text) first.4 in
+    let taken = front-taken d.value.now.text first.1 d.front d.back first.0 c.rare_end-self.result split (c.rare_end-self.ensures ∙ ap (λ w. d.front + w) wide) in
     let before = ap length split in
     let after = ap length taken.0 in
     search rules
