@@ -49,8 +49,8 @@ pub fn rare_part(text: &str, start: usize, end: usize) -> &str
 
 /// The first character of what stands from one position to another, for where it is seldom asked: its code in the upper
 /// half of a word, and how many bytes it takes in the lower one. It stays out of its caller's loop, and so does
-/// `rare_end`; neither writes, so what the loop has read it need not read again. And of the upper half of a word the compiler knows that it fits in 32
-/// bits, so a loop that widens its characters need not widen each of them anew.
+/// `rare_end`; neither writes, so what the loop has read it need not read again. And of the upper half of a word the
+/// compiler knows that it fits in 32 bits, so a loop that widens its characters need not widen each of them anew.
 #[cold]
 #[inline(never)]
 pub fn rare_first(text: &str, start: usize, end: usize) -> Option<u64>
