@@ -12,8 +12,6 @@ mod hasher;
 mod hidden;
 mod inputs;
 mod ring;
-#[cfg(test)]
-mod tests;
 mod workloads;
 
 use compact_str::CompactString;

@@ -122,6 +122,3 @@ pub fn push_utf16_bytes_lossy<S: TextSink>(
     }
     Ok(())
 }
-
-#[cfg(test)]
-mod tests;

@@ -110,6 +110,3 @@ pub fn units_have_one_lossy_text()
 pub fn a_text_is_its_own_lossy_text()
     ensures { Utf16LossyTextOfText }
 {}
-
-#[cfg(test)]
-mod tests;

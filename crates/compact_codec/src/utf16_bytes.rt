@@ -98,6 +98,3 @@ pub fn bytes_have_one_lossy_text()
 pub fn a_text_is_its_own_lossy_text()
     ensures { Utf16BytesLossyTextOfText }
 {}
-
-#[cfg(test)]
-mod tests;

@@ -417,6 +417,3 @@ pub fn bytes_have_one_lossy_text()
 pub fn a_text_is_its_own_lossy_text()
     ensures { Utf8LossyTextOfText }
 {}
-
-#[cfg(test)]
-mod tests;

@@ -1,6 +1,6 @@
 //! What is collected, joined and extended, with values worked out by hand from the rules.
 
-use crate::values::{assert_inline, assert_seen, assert_static, lasting, letters};
+use crate::values::{assert_inline, lasting, letters};
 use compact_str::{AsText, CompactString, CompactStringExt, append_all};
 use std::alloc::Global;
 use std::borrow::CowStr;
@@ -46,72 +46,36 @@ fn texts_are_collected(rt: HostRuntime) {
     assert!(rt; value.is_heap_allocated());
     assert_eq!(rt; value.as_str(), "1234567891011121314151617181920");
     assert_eq!(rt; value.len(), 31);
-    assert_inline(&rt, &gathered(&rt, rt.alloc(), &[""; 30]), "");
-    assert_inline(&rt, &gathered(&rt, rt.alloc(), &[]), "");
-    assert_inline(
-        &rt,
-        &gathered(&rt, rt.alloc(), &[letters(20), letters(4)]),
-        letters(24),
-    );
+    for (texts, text) in [
+        ([""; 30].as_slice(), ""),
+        ([].as_slice(), ""),
+        ([letters(20), letters(4)].as_slice(), letters(24)),
+    ] {
+        assert_inline(&rt, &gathered(&rt, rt.alloc(), texts), text);
+    }
 }
 
 #[test]
-fn items_are_joined(rt: HostRuntime) {
-    let fruit = ["apples", "oranges", "bananas"];
-    assert_inline(
-        &rt,
-        &joined(&rt, rt.alloc(), &fruit, ", "),
-        "apples, oranges, bananas",
-    );
-    assert_inline(&rt, &joined(&rt, rt.alloc(), &[], "-"), "");
-    assert_inline(&rt, &joined(&rt, rt.alloc(), &["a"], "-"), "a");
-    assert_inline(&rt, &joined(&rt, rt.alloc(), &["a", ""], "-"), "a-");
-    assert_inline(&rt, &joined(&rt, rt.alloc(), &["", "", "b"], "-"), "--b");
-}
-
-#[test]
-fn items_are_concatenated(rt: HostRuntime) {
+fn items_are_joined_and_concatenated(rt: HostRuntime) {
+    for (texts, separator, text) in [
+        (
+            ["apples", "oranges", "bananas"].as_slice(),
+            ", ",
+            "apples, oranges, bananas",
+        ),
+        ([].as_slice(), "-", ""),
+        (["a"].as_slice(), "-", "a"),
+        (["a", ""].as_slice(), "-", "a-"),
+        (["", "", "b"].as_slice(), "-", "--b"),
+    ] {
+        assert_inline(&rt, &joined(&rt, rt.alloc(), texts, separator), text);
+    }
     let parts = ["hello", " ", "world", "!"];
     let value = parts
         .into_iter()
         .concat_compact(rt.alloc())
         .expect(&rt, "memory");
     assert_inline(&rt, &value, "hello world!");
-}
-
-/// A text of 300 letters that comes in texts of 60 and of 80 letters, which the first 256 bytes do not end with.
-fn long_text(rt: &impl Abort, alloc: Global) -> CompactString {
-    gathered(
-        rt,
-        alloc,
-        &[
-            letters(60),
-            letters(80),
-            letters(60),
-            letters(60),
-            letters(40),
-        ],
-    )
-}
-
-#[test]
-fn a_long_text_has_all_that_came(rt: HostRuntime) {
-    let value = long_text(&rt, rt.alloc());
-    assert_eq!(rt; value.len(), 300);
-    assert!(rt; value.as_bytes().iter().all(|byte| *byte == b'a'));
-    let again = CompactString::from_chars(rt.alloc(), value.as_str().chars()).expect(&rt, "memory");
-    assert_eq!(rt; again.as_str(), value.as_str());
-}
-
-#[test]
-fn an_extension_is_appended_item_by_item(rt: HostRuntime) {
-    let mut value = lasting(rt.alloc(), 30);
-    value.extend_texts([""]).expect(&rt, "memory");
-    assert_static(&rt, &value, 30);
-    value.extend_texts(["b"]).expect(&rt, "memory");
-    assert_seen(&rt, &value, "heap", 45, "aaaaaaaaaaaaaaaaaaaaaaaaaaaaaab");
-    value.extend_chars(['c', 'ä']).expect(&rt, "memory");
-    assert_seen(&rt, &value, "heap", 45, "aaaaaaaaaaaaaaaaaaaaaaaaaaaaaabcä");
 }
 
 /// The five kinds of text, each collected alone.
@@ -141,19 +105,14 @@ fn the_five_kinds_of_text_are_items(rt: HostRuntime) {
 }
 
 #[test]
-fn the_traits_of_the_library_mean_the_same(rt: HostRuntime) {
-    let texts: CompactString = ["a", "bc"]
+fn texts_by_value_are_items_of_the_traits_of_the_library(rt: HostRuntime) {
+    let mut value: CompactString = ["a", "bc"]
         .into_iter()
         .collect(rt.alloc())
         .expect(&rt, "memory");
-    assert_inline(&rt, &texts, "abc");
-    let mut value: CompactString = "äb€".chars().collect(rt.alloc()).expect(&rt, "memory");
-    value.extend(["x"]).expect(&rt, "memory");
-    value.extend(['y']).expect(&rt, "memory");
-    value.extend(['z'].iter()).expect(&rt, "memory");
-    assert_inline(&rt, &value, "äb€xyz");
-    let referred: CompactString = ['a', '€'].iter().collect(rt.alloc()).expect(&rt, "memory");
-    assert_inline(&rt, &referred, "a€");
+    assert_inline(&rt, &value, "abc");
+    value.extend(["äb€", "x"]).expect(&rt, "memory");
+    assert_inline(&rt, &value, "abcäb€x");
 }
 
 #[test]

@@ -1,5 +1,6 @@
 //! Bytes and units that are decoded. Texts and faults are those of the Unicode Standard, worked by hand.
 
+use crate::memory::take_all;
 use crate::values::{assert_inline, letters};
 use bytes::Buf;
 use compact_str::{CompactString, FromUtf8Error, FromUtf16Error, ReserveError, Utf16Error};
@@ -32,26 +33,38 @@ fn assert_broken(
 
 #[test]
 fn broken_bytes_are_told_and_replaced(rt: HostRuntime) {
-    let alloc = rt.alloc();
-    let long = b"\0\0\0\0\0\0\0\0\0\0\0\0\0\0\0\0\0\0\0\0\0\0\0\xC0";
-    let text = "\0\0\0\0\0\0\0\0\0\0\0\0\0\0\0\0\0\0\0\0\0\0\0\u{FFFD}";
-    assert_broken(&rt, alloc, long, 23, Some(1), text);
-    assert_broken(&rt, alloc, b"\xF0\x9F", 0, None, "\u{FFFD}");
-    assert_broken(
-        &rt,
-        alloc,
-        b"\xF0\x9F\xC8\x84",
-        0,
-        Some(2),
-        "\u{FFFD}\u{204}",
-    );
-    let three = "\u{FFFD}\u{FFFD}\u{FFFD}";
-    assert_broken(&rt, alloc, b"\xED\xA0\x80", 0, Some(1), three);
-    assert_broken(&rt, alloc, b"\xC0\x80", 0, Some(1), "\u{FFFD}\u{FFFD}");
-    let four = "\u{FFFD}\u{FFFD}\u{FFFD}\u{FFFD}";
-    assert_broken(&rt, alloc, b"\xF4\x90\x80\x80", 0, Some(1), four);
-    assert_broken(&rt, alloc, b"\xE1\x80\x41", 0, Some(2), "\u{FFFD}A");
-    assert_broken(&rt, alloc, b"\x61\xE2\x82", 1, None, "a\u{FFFD}");
+    for (bytes, valid_up_to, error_len, text) in [
+        (
+            b"\0\0\0\0\0\0\0\0\0\0\0\0\0\0\0\0\0\0\0\0\0\0\0\xC0".as_slice(),
+            23,
+            Some(1),
+            "\0\0\0\0\0\0\0\0\0\0\0\0\0\0\0\0\0\0\0\0\0\0\0\u{FFFD}",
+        ),
+        (b"\xF0\x9F".as_slice(), 0, None, "\u{FFFD}"),
+        (
+            b"\xF0\x9F\xC8\x84".as_slice(),
+            0,
+            Some(2),
+            "\u{FFFD}\u{204}",
+        ),
+        (
+            b"\xED\xA0\x80".as_slice(),
+            0,
+            Some(1),
+            "\u{FFFD}\u{FFFD}\u{FFFD}",
+        ),
+        (b"\xC0\x80".as_slice(), 0, Some(1), "\u{FFFD}\u{FFFD}"),
+        (
+            b"\xF4\x90\x80\x80".as_slice(),
+            0,
+            Some(1),
+            "\u{FFFD}\u{FFFD}\u{FFFD}\u{FFFD}",
+        ),
+        (b"\xE1\x80\x41".as_slice(), 0, Some(2), "\u{FFFD}A"),
+        (b"\x61\xE2\x82".as_slice(), 1, None, "a\u{FFFD}"),
+    ] {
+        assert_broken(&rt, rt.alloc(), bytes, valid_up_to, error_len, text);
+    }
 }
 
 /// Asserts that a short text was made, which stands inline.
@@ -66,34 +79,51 @@ fn assert_letters<E: Drop>(rt: &impl Abort, made: Result<CompactString, E>) {
     assert!(rt; made.is_heap_allocated());
 }
 
-/// Asserts that units are no text.
-fn assert_no_text(rt: &impl Abort, made: Result<CompactString, FromUtf16Error>) {
-    assert!(rt; matches!(made, Err(FromUtf16Error::Utf16(_))));
+/// Asserts that each decoder makes this short text of its form.
+fn assert_forms(
+    rt: &impl Abort,
+    alloc: Global,
+    text: &str,
+    units: &[u16],
+    little: &[u8],
+    big: &[u8],
+) {
+    let bytes = text.as_bytes();
+    assert_text(rt, CompactString::from_utf8(alloc, bytes), text);
+    assert_text(rt, CompactString::from_utf8_lossy(alloc, bytes), text);
+    assert_text(rt, CompactString::from_utf16(alloc, units), text);
+    assert_text(rt, CompactString::from_utf16_lossy(alloc, units), text);
+    assert_text(rt, CompactString::from_utf16le(alloc, little), text);
+    assert_text(rt, CompactString::from_utf16le_lossy(alloc, little), text);
+    assert_text(rt, CompactString::from_utf16be(alloc, big), text);
+    assert_text(rt, CompactString::from_utf16be_lossy(alloc, big), text);
 }
 
 #[test]
-fn texts_are_taken_as_they_are(rt: HostRuntime) {
-    let alloc = rt.alloc();
-    assert_text(&rt, CompactString::from_utf8(alloc, b"\xC3\xA9"), "é");
-    assert_text(&rt, CompactString::from_utf8_lossy(alloc, b"\xC3\xA9"), "é");
-    let known = "abc".as_bytes();
-    assert_text(&rt, CompactString::from_utf8_unchecked(alloc, known), "abc");
-    let bytes = letters(30).as_bytes();
-    assert_letters(&rt, CompactString::from_utf8(alloc, bytes));
-    assert_letters(&rt, CompactString::from_utf8_lossy(alloc, bytes));
-}
-
-#[test]
-fn nothing_is_the_empty_text(rt: HostRuntime) {
-    let alloc = rt.alloc();
-    assert_text(&rt, CompactString::from_utf8(alloc, b""), "");
-    assert_text(&rt, CompactString::from_utf8_lossy(alloc, b""), "");
-    assert_text(&rt, CompactString::from_utf16(alloc, &[]), "");
-    assert_text(&rt, CompactString::from_utf16_lossy(alloc, &[]), "");
-    assert_text(&rt, CompactString::from_utf16le(alloc, b""), "");
-    assert_text(&rt, CompactString::from_utf16be(alloc, b""), "");
-    assert_text(&rt, CompactString::from_utf16le_lossy(alloc, b""), "");
-    assert_text(&rt, CompactString::from_utf16be_lossy(alloc, b""), "");
+fn each_form_of_a_text_is_taken(rt: HostRuntime) {
+    for (text, units, little, big) in [
+        ("", [].as_slice(), b"".as_slice(), b"".as_slice()),
+        (
+            "é",
+            [0xE9].as_slice(),
+            b"\xE9\0".as_slice(),
+            b"\0\xE9".as_slice(),
+        ),
+        (
+            "Aä",
+            [0x41, 0xE4].as_slice(),
+            b"A\0\xE4\0".as_slice(),
+            b"\0A\0\xE4".as_slice(),
+        ),
+        (
+            "𝄞",
+            [0xD834, 0xDD1E].as_slice(),
+            b"\x34\xD8\x1E\xDD".as_slice(),
+            b"\xD8\x34\xDD\x1E".as_slice(),
+        ),
+    ] {
+        assert_forms(&rt, rt.alloc(), text, units, little, big);
+    }
 }
 
 /// Asserts that the units are no text, and which text they give lossily.
@@ -106,11 +136,16 @@ fn assert_lone(rt: &impl Abort, alloc: Global, units: &[u16], text: &str) {
 
 #[test]
 fn lone_surrogates_are_told_and_replaced(rt: HostRuntime) {
-    let alloc = rt.alloc();
-    let music = [0xD834, 0xDD1E, 0x6D, 0x75, 0x73, 0xDD1E, 0x69, 0x63, 0xD834];
-    assert_lone(&rt, alloc, &music, "𝄞mus\u{FFFD}ic\u{FFFD}");
-    assert_lone(&rt, alloc, &[0xDC00, 0xD800], "\u{FFFD}\u{FFFD}");
-    assert_lone(&rt, alloc, &[0xD800, 0xD834, 0xDD1E], "\u{FFFD}\u{1D11E}");
+    for (units, text) in [
+        (
+            [0xD834, 0xDD1E, 0x6D, 0x75, 0x73, 0xDD1E, 0x69, 0x63, 0xD834].as_slice(),
+            "𝄞mus\u{FFFD}ic\u{FFFD}",
+        ),
+        ([0xDC00, 0xD800].as_slice(), "\u{FFFD}\u{FFFD}"),
+        ([0xD800, 0xD834, 0xDD1E].as_slice(), "\u{FFFD}\u{1D11E}"),
+    ] {
+        assert_lone(&rt, rt.alloc(), units, text);
+    }
 }
 
 #[test]
@@ -129,93 +164,54 @@ fn units_of_a_text_are_taken(rt: HostRuntime) {
     assert_letters(&rt, CompactString::from_utf16(alloc, &[0x61; 30]));
 }
 
-#[test]
-fn the_low_byte_comes_first(rt: HostRuntime) {
-    let alloc = rt.alloc();
-    let odd = b"\x3D\xD8\x6F";
-    assert_no_text(&rt, CompactString::from_utf16le(alloc, odd));
-    assert_text(
-        &rt,
-        CompactString::from_utf16le_lossy(alloc, odd),
-        "\u{FFFD}\u{FFFD}",
-    );
-    assert_no_text(&rt, CompactString::from_utf16le(alloc, b"A\0B"));
-    assert_text(
-        &rt,
-        CompactString::from_utf16le_lossy(alloc, b"A\0B"),
-        "A\u{FFFD}",
-    );
-    assert_text(&rt, CompactString::from_utf16le(alloc, b"A\0\xE4\0"), "Aä");
+/// Asserts that units are no text.
+fn assert_no_text(rt: &impl Abort, made: Result<CompactString, FromUtf16Error>) {
+    assert!(rt; matches!(made, Err(FromUtf16Error::Utf16(_))));
 }
 
 #[test]
-fn the_high_byte_comes_first(rt: HostRuntime) {
+fn broken_bytes_of_units_are_told_and_replaced(rt: HostRuntime) {
     let alloc = rt.alloc();
+    for (odd, text) in [
+        (b"\x3D\xD8\x6F".as_slice(), "\u{FFFD}\u{FFFD}"),
+        (b"A\0B".as_slice(), "A\u{FFFD}"),
+    ] {
+        assert_no_text(&rt, CompactString::from_utf16le(alloc, odd));
+        assert_text(&rt, CompactString::from_utf16le_lossy(alloc, odd), text);
+    }
     let lone = b"\xD8\x3D\xDC\x6F\x20\x0D\x26\x40\xDE\x0F";
     assert_no_text(&rt, CompactString::from_utf16be(alloc, lone));
     let text = "\u{1F46F}\u{200D}\u{2640}\u{FFFD}";
     assert_text(&rt, CompactString::from_utf16be_lossy(alloc, lone), text);
-    assert_text(&rt, CompactString::from_utf16be(alloc, b"\0A\0\xE4"), "Aä");
 }
 
-/// What two pieces give, of which none remains.
-fn of_pieces(
-    rt: &impl Abort,
-    alloc: Global,
-    first: &[u8],
-    second: &[u8],
-) -> Result<CompactString, FromUtf8Error> {
-    let mut both = Buf::chain(first, second);
-    let text = CompactString::from_utf8_buf(alloc, &mut both);
-    assert_eq!(rt; both.remaining(), 0);
-    text
+#[test]
+fn a_buffer_that_is_known_to_be_a_text_is_read_to_its_end(rt: HostRuntime) {
+    let mut known = "abc".as_bytes();
+    let made = CompactString::from_utf8_buf_unchecked(rt.alloc(), &mut known);
+    assert_text(&rt, made, "abc");
+    assert_eq!(rt; known.remaining(), 0);
 }
 
-/// Asserts that two pieces are no text, with the fault at that place.
-fn assert_broken_pieces(
-    rt: &impl Abort,
-    alloc: Global,
-    first: &[u8],
-    second: &[u8],
-    valid_up_to: usize,
-    error_len: Option<usize>,
-) {
-    let fault = of_pieces(rt, alloc, first, second).err();
+/// Bytes and units that are here already are judged first, and a buffer is read first.
+#[test]
+fn faults_are_told_before_memory_is_asked_for(rt: HostRuntime) {
+    let alloc = rt.alloc();
+    let hog = take_all(&rt, alloc);
+    let fault = CompactString::from_utf8(alloc, b"aaaaaaaaaaaaaaaaaaaaaaaaaaaaa\xFF").err();
     assert!(rt;
         fault
             == Some(FromUtf8Error::Utf8 {
-                valid_up_to,
-                error_len
+                valid_up_to: 29,
+                error_len: Some(1)
             })
     );
-}
-
-#[test]
-fn broken_buffers_are_read_to_their_end(rt: HostRuntime) {
-    let alloc = rt.alloc();
-    let zeros = b"\0\0\0\0\0\0\0\0\0\0\0\0\0\0\0\0\0\0\0\0\0\0\0\xC0";
-    assert_broken_pieces(&rt, alloc, zeros, b"", 23, Some(1));
-    assert_broken_pieces(&rt, alloc, b"\xE2\x82", b"A", 0, Some(2));
-    assert_broken_pieces(&rt, alloc, letters(30).as_bytes(), b"\xFF", 30, Some(1));
-}
-
-#[test]
-fn buffers_are_read_to_their_end(rt: HostRuntime) {
-    let alloc = rt.alloc();
-    assert_text(
-        &rt,
-        of_pieces(&rt, alloc, b"\xF0", b"\x9F\x92\x96"),
-        "\u{1F496}",
-    );
-    let half = letters(15).as_bytes();
-    assert_letters(&rt, of_pieces(&rt, alloc, half, half));
-    let mut known = "abc".as_bytes();
-    assert_text(
-        &rt,
-        CompactString::from_utf8_buf_unchecked(alloc, &mut known),
-        "abc",
-    );
-    assert_eq!(rt; known.remaining(), 0);
+    assert_no_text(&rt, CompactString::from_utf16(alloc, &[0xDC00; 30]));
+    assert_no_text(&rt, CompactString::from_utf16le(alloc, &[0x61; 59]));
+    let mut broken = b"\xFFaaaaaaaaaaaaaaaaaaaaaaaaaaaaa".as_slice();
+    let refused = CompactString::from_utf8_buf(alloc, &mut broken).err();
+    assert!(rt; refused == Some(FromUtf8Error::Reserve(ReserveError)));
+    drop(hog);
 }
 
 #[test]

@@ -9,10 +9,6 @@ mod decode_callers;
 mod decoded;
 #[cfg(test)]
 mod decoded_all;
-#[cfg(test)]
-mod refused_collect;
-#[cfg(test)]
-mod refused_decodes;
 
 pub use decode_callers::{broken_rows, decoded_name, through_bytes};
 

@@ -45,9 +45,9 @@ fn assert_not_collected<R: BufRead + Drop>(rt: &impl Abort, alloc: Global, reade
 #[test]
 fn each_record_comes_in_its_turn(rt: HostRuntime) {
     let mut records = Records::new(rt.alloc(), RECORDS.as_slice());
-    assert_next(&rt, &mut records, "a");
-    assert_next(&rt, &mut records, "");
-    assert_next(&rt, &mut records, "Hi");
+    for text in ["a", "", "Hi"] {
+        assert_next(&rt, &mut records, text);
+    }
     assert_end(&rt, &mut records);
 }
 
@@ -59,9 +59,9 @@ fn records_come_in_pieces(rt: HostRuntime) {
         let reader = BufReader::with_capacity(alloc, 3, pieces).expect(&rt, "a buffer");
         let records = read_records(alloc, reader).expect(&rt, "records");
         assert_eq!(rt; records.len(), 3);
-        assert_inline(&rt, &records[0], "a");
-        assert_inline(&rt, &records[1], "");
-        assert_inline(&rt, &records[2], "Hi");
+        for (record, text) in records.iter().zip(["a", "", "Hi"].iter()) {
+            assert_inline(&rt, record, *text);
+        }
     }
 }
 
@@ -117,17 +117,18 @@ fn assert_failure(rt: &impl Abort, alloc: Global, kind: ErrorKind) {
 
 #[test]
 fn a_failure_between_records_is_told(rt: HostRuntime) {
-    assert_failure(&rt, rt.alloc(), ErrorKind::Other);
-    assert_failure(&rt, rt.alloc(), ErrorKind::Interrupted);
+    for kind in [ErrorKind::Other, ErrorKind::Interrupted] {
+        assert_failure(&rt, rt.alloc(), kind);
+    }
 }
 
 #[test]
 fn records_need_memory_only_where_they_are_collected(rt: HostRuntime) {
     let hog = take_all(&rt, rt.alloc());
     let mut records = Records::new(rt.alloc(), RECORDS.as_slice());
-    assert_next(&rt, &mut records, "a");
-    assert_next(&rt, &mut records, "");
-    assert_next(&rt, &mut records, "Hi");
+    for text in ["a", "", "Hi"] {
+        assert_next(&rt, &mut records, text);
+    }
     assert_not_collected(&rt, rt.alloc(), RECORDS.as_slice(), "reserve");
     drop(hog);
 }

@@ -2,8 +2,8 @@
 //! how many bytes the reader had given when it was.
 
 use crate::memory::{spare, take_all};
-use crate::values::{assert_inline, copied, letters};
-use crate::wire_pieces::{Letters, Narrow, Stop};
+use crate::values::copied;
+use crate::wire_pieces::Letters;
 use crate::wired::outcome_of;
 use compact_ext::wire::{WireError, read_wire, write_wire};
 use std::alloc::Global;
@@ -18,27 +18,12 @@ fn assert_refused(rt: &impl Abort, alloc: Global, len: u32, given: usize) {
     assert_eq!(rt; reader.given, given);
 }
 
-/// Asserts that a text of so many letters is read while no memory is left.
-fn assert_reads(rt: &impl Abort, alloc: Global, len: u32, text: &str) {
-    let mut reader = Letters::new(len, 100);
-    let value = read_wire(alloc, &mut reader).expect(rt, "a text");
-    assert_inline(rt, &value, text);
-}
-
-#[test]
-fn a_text_of_24_bytes_needs_no_memory(rt: HostRuntime) {
-    let hog = take_all(&rt, rt.alloc());
-    assert_reads(&rt, rt.alloc(), 0, "");
-    assert_reads(&rt, rt.alloc(), 24, letters(24));
-    drop(hog);
-}
-
 #[test]
 fn a_longer_text_is_refused_after_its_length(rt: HostRuntime) {
     let hog = take_all(&rt, rt.alloc());
-    assert_refused(&rt, rt.alloc(), 25, 4);
-    assert_refused(&rt, rt.alloc(), 55, 4);
-    assert_refused(&rt, rt.alloc(), u32::MAX, 4);
+    for len in [25, 55, u32::MAX] {
+        assert_refused(&rt, rt.alloc(), len, 4);
+    }
     drop(hog);
 }
 
@@ -67,16 +52,6 @@ fn the_third_room_is_refused(rt: HostRuntime) {
 #[test]
 fn the_fourth_room_is_refused(rt: HostRuntime) {
     assert_refused_within(&rt, rt.alloc(), 13 * MEGABYTE, 4 + 4 * MEGABYTE);
-}
-
-#[test]
-fn writing_needs_no_memory(rt: HostRuntime) {
-    let text = copied(&rt, rt.alloc(), letters(40));
-    let hog = take_all(&rt, rt.alloc());
-    let mut writer = Narrow::new(64, 7, Stop::Never);
-    assert!(rt; write_wire(&text, &mut writer).is_ok());
-    drop(hog);
-    assert_eq!(rt; writer.len, 44);
 }
 
 #[test]

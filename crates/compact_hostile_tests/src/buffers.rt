@@ -72,6 +72,8 @@ fn broken_bytes_have_one_fault_wherever_they_are_parted(rt: HostRuntime) {
     assert_broken(&rt, rt.alloc(), b"\xE2\x82A", fault(0, Some(2)));
     assert_broken(&rt, rt.alloc(), b"\xC3\xA4\xED\xA0\x80", fault(2, Some(1)));
     assert_broken(&rt, rt.alloc(), b"a\xF0\x9F\x92", fault(1, None));
+    let short = b"\0\0\0\0\0\0\0\0\0\0\0\0\0\0\0\0\0\0\0\0\0\0\0\xC0";
+    assert_broken(&rt, rt.alloc(), short, fault(23, Some(1)));
     let long = b"aaaaaaaaaaaaaaaaaaaaaaaa\xF4\x90\x80\x80";
     assert_broken(&rt, rt.alloc(), long, fault(24, Some(1)));
 }

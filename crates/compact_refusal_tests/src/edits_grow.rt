@@ -52,50 +52,22 @@ fn a_character_is_pushed(rt: HostRuntime) {
 #[test]
 fn a_text_is_pushed(rt: HostRuntime) {
     let mut trial = Trial::new(&rt, rt.alloc());
-    let text = digits();
-    trial.done(
-        &rt,
-        Inline,
-        Edit::PushStr(text),
-        &[New(43)],
-        heap(43, "abc", text, ""),
-    );
-    trial.done(
-        &rt,
-        FullInline,
-        Edit::PushStr(text),
-        &[New(64)],
-        heap(64, letters(0, 24), text, ""),
-    );
-    trial.done(
-        &rt,
-        Static,
-        Edit::PushStr(text),
-        &[New(70)],
-        heap(70, letters(0, 30), text, ""),
-    );
+    let (text, half, whole) = (digits(), letters(0, 24), letters(0, 30));
+    let (few, more) = (letters(3, 25), letters(30, 33));
+    for (start, pushed, ask, after) in [
+        (Inline, text, New(43), heap(43, "abc", text, "")),
+        (Inline, few, New(32), heap(32, "abc", few, "")),
+        (FullInline, text, New(64), heap(64, half, text, "")),
+        (Static, text, New(70), heap(70, whole, text, "")),
+        (Static, "x", New(45), heap(45, whole, "x", "")),
+        (Heap, text, More(70), heap(70, whole, text, "")),
+        (Heap, more, More(45), heap(45, whole, more, "")),
+        (FullHeap, text, More(72), heap(72, letters(0, 32), text, "")),
+        (Shortened, text, More(70), heap(70, whole, text, "")),
+    ] {
+        trial.done(&rt, start, Edit::PushStr(pushed), &[ask], after);
+    }
     trial.done(&rt, Static, Edit::PushStr(""), &[], fixed(0, 30));
-    trial.done(
-        &rt,
-        Heap,
-        Edit::PushStr(text),
-        &[More(70)],
-        heap(70, letters(0, 30), text, ""),
-    );
-    trial.done(
-        &rt,
-        FullHeap,
-        Edit::PushStr(text),
-        &[More(72)],
-        heap(72, letters(0, 32), text, ""),
-    );
-    trial.done(
-        &rt,
-        Shortened,
-        Edit::PushStr(text),
-        &[More(70)],
-        heap(70, letters(0, 30), text, ""),
-    );
 }
 
 #[test]
@@ -284,61 +256,26 @@ fn a_range_is_replaced_by_no_longer_text(rt: HostRuntime) {
 #[test]
 fn room_is_reserved(rt: HostRuntime) {
     let mut trial = Trial::new(&rt, rt.alloc());
+    let (half, whole) = (letters(0, 24), letters(0, 30));
+    for (start, additional, ask, after) in [
+        (Inline, 22, New(32), heap(32, "abc", "", "")),
+        (Inline, 40, New(43), heap(43, "abc", "", "")),
+        (FullInline, 40, New(64), heap(64, half, "", "")),
+        (Static, 0, New(45), heap(45, whole, "", "")),
+        (Static, 40, New(70), heap(70, whole, "", "")),
+        (Heap, 3, More(45), heap(45, whole, "", "")),
+        (Heap, 40, More(70), heap(70, whole, "", "")),
+        (FullHeap, 40, More(72), heap(72, letters(0, 32), "", "")),
+        (Shortened, 40, More(70), heap(70, whole, "", "")),
+    ] {
+        trial.done(&rt, start, Edit::Reserve(additional), &[ask], after);
+    }
     trial.done(&rt, Inline, Edit::Reserve(21), &[], inline("abc"));
-    trial.done(
-        &rt,
-        Inline,
-        Edit::Reserve(40),
-        &[New(43)],
-        heap(43, "abc", "", ""),
-    );
-    trial.done(
-        &rt,
-        FullInline,
-        Edit::Reserve(40),
-        &[New(64)],
-        heap(64, letters(0, 24), "", ""),
-    );
-    trial.done(
-        &rt,
-        Static,
-        Edit::Reserve(0),
-        &[New(45)],
-        heap(45, letters(0, 30), "", ""),
-    );
-    trial.done(
-        &rt,
-        Static,
-        Edit::Reserve(40),
-        &[New(70)],
-        heap(70, letters(0, 30), "", ""),
-    );
-    trial.done(
-        &rt,
-        Heap,
-        Edit::Reserve(40),
-        &[More(70)],
-        heap(70, letters(0, 30), "", ""),
-    );
-    trial.done(
-        &rt,
-        FullHeap,
-        Edit::Reserve(40),
-        &[More(72)],
-        heap(72, letters(0, 32), "", ""),
-    );
     trial.done(
         &rt,
         Shortened,
         Edit::Reserve(18),
         &[],
-        heap(48, letters(0, 30), "", ""),
-    );
-    trial.done(
-        &rt,
-        Shortened,
-        Edit::Reserve(40),
-        &[More(70)],
-        heap(70, letters(0, 30), "", ""),
+        heap(48, whole, "", ""),
     );
 }

@@ -80,6 +80,12 @@ fn texts_are_shown(rt: HostRuntime) {
     let mut trial = Trial::new(&rt, rt.alloc());
     let (text, seen) = (letters(0, 30), heap(32, letters(0, 30), "", ""));
     trial.make(&rt, Showing::Text("abc"), &[], inline("abc"));
+    trial.make(
+        &rt,
+        Showing::Text(letters(0, 25)),
+        &[New(32)],
+        heap(32, letters(0, 25), "", ""),
+    );
     trial.make(&rt, Showing::Text(text), &[New(32)], seen);
     trial.make(&rt, Showing::TryText(text), &[New(32)], seen);
     trial.make(&rt, Showing::String(&string), &[New(32)], seen);
@@ -113,6 +119,12 @@ fn formats_are_shown(rt: HostRuntime) {
         Showing::Format(text, ""),
         &[New(32)],
         fitted(text, "", ""),
+    );
+    trial.make(
+        &rt,
+        Showing::Format(letters(0, 20), letters(20, 25)),
+        &[New(32)],
+        fitted(letters(0, 25), "", ""),
     );
     trial.make(&rt, Showing::Format(text, digits()), &asks, seen);
     trial.make(&rt, Showing::HidingFormat(text, digits()), &asks, seen);

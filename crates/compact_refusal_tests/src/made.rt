@@ -2,13 +2,12 @@
 
 use crate::memory::Ask::New;
 use crate::trial::{Made, Making, Trial, value_or_refused};
-use crate::values::{digits, heap, inline, letters};
+use crate::values::{digits, heap, letters};
 use compact_str::{CompactString, FromJsonError};
 use serde_json::{Value, json};
 use std::alloc::Global;
 use std::borrow::CowStr;
 use std::boxed::BoxedStr;
-use std::process::Abort;
 use std::test::Fail;
 
 /// The ways to make a value that stands by itself.
@@ -93,9 +92,11 @@ fn room_is_made(rt: HostRuntime) {
 #[test]
 fn a_json_string_is_copied(rt: HostRuntime) -> Result<(), Fail> {
     let json = json!(in rt.alloc(); "abcdefghijklmnopqrstuvwxyzABCD")?;
+    let number = json!(in rt.alloc(); 1)?;
     let mut trial = Trial::new(&rt, rt.alloc());
     let seen = heap(32, letters(0, 30), "", "");
     trial.make(&rt, Copying::FromJson(&json), &[New(32)], seen);
+    assert!(rt; matches!(Copying::FromJson(&number).make(rt.alloc()), Made::Fault));
     drop(trial);
     assert_eq!(&rt; json.as_str(), Some(letters(0, 30)));
     Ok(())

@@ -103,32 +103,18 @@ fn texts_are_written_and_added(rt: HostRuntime) {
 #[test]
 fn room_is_reserved_by_its_other_name(rt: HostRuntime) {
     let mut trial = Trial::new(&rt, rt.alloc());
-    let (call, text, after) = (Named::TryReserve(40), letters(0, 30), Answer::Done);
-    trial.call(
-        &rt,
-        Inline,
-        &call,
-        &[New(43)],
-        after,
-        heap(43, "abc", "", ""),
-    );
-    trial.call(
-        &rt,
-        Static,
-        &call,
-        &[New(70)],
-        after,
-        heap(70, text, "", ""),
-    );
-    trial.call(&rt, Heap, &call, &[More(70)], after, heap(70, text, "", ""));
-    trial.call(
-        &rt,
-        Shortened,
-        &call,
-        &[More(70)],
-        after,
-        heap(70, text, "", ""),
-    );
+    let whole = letters(0, 30);
+    for (start, additional, ask, after) in [
+        (Inline, 22, New(32), heap(32, "abc", "", "")),
+        (Inline, 40, New(43), heap(43, "abc", "", "")),
+        (Static, 40, New(70), heap(70, whole, "", "")),
+        (Heap, 3, More(45), heap(45, whole, "", "")),
+        (Heap, 40, More(70), heap(70, whole, "", "")),
+        (Shortened, 40, More(70), heap(70, whole, "", "")),
+    ] {
+        let call = Named::TryReserve(additional);
+        trial.call(&rt, start, &call, &[ask], Answer::Done, after);
+    }
 }
 
 #[test]

@@ -21,7 +21,7 @@ use crate::made::{Copying, unboxed};
 use crate::memory::Ration;
 use crate::named::Named;
 use crate::trial::{Answer, Trial};
-use crate::values::Start::{Heap, Inline, ShortHeap, ShortStatic, Static};
+use crate::values::Start::{FullInline, Heap, Inline, ShortHeap, ShortStatic, Static};
 use crate::values::{assert_seen, copied, fitted, fixed, heap, inline, letters, marks};
 use crate::ways_out::{Way, leaves};
 use crate::wired::{Reading, written};
@@ -73,6 +73,7 @@ fn texts_of_the_program_and_strings_are_taken(rt: HostRuntime) {
     let alloc = rt.alloc();
     let short = String::from_str(alloc, "abc").expect(&rt, "memory");
     let (long, buffer, owned) = (string(&rt, alloc), string(&rt, alloc), string(&rt, alloc));
+    let room = String::with_capacity(alloc, 100).expect(&rt, "memory");
     let ration = Ration::new(&rt, alloc);
     let (first, second) = (letters(0, 24), letters(0, 30));
     let seen = fitted(second, "", "");
@@ -82,6 +83,11 @@ fn texts_of_the_program_and_strings_are_taken(rt: HostRuntime) {
     assert_seen(&rt, &CompactString::from(short), inline("abc"));
     assert_seen(&rt, &CompactString::from(long), seen);
     assert_seen(&rt, &CompactString::from_string_buffer(buffer), seen);
+    assert_seen(
+        &rt,
+        &CompactString::from_string_buffer(room),
+        heap(100, "", "", ""),
+    );
     let value = CompactString::from_cow(alloc, CowStr::Owned(owned));
     assert_seen(&rt, &value.expect(&rt, "no memory is needed"), seen);
     drop(ration);
@@ -179,6 +185,7 @@ fn what_fits_is_inserted(rt: HostRuntime) {
     let (more, text) = (letters(3, 24), letters(0, 30));
     let (full, long) = (inline(letters(0, 24)), heap(32, "xy", text, ""));
     trial.free(&rt, Inline, Edit::Insert(0, 'x'), inline("xabc"));
+    trial.free(&rt, Inline, Edit::Insert(1, 'ä'), inline("aäbc"));
     trial.free(&rt, ShortStatic, Edit::Insert(0, 'x'), inline("xabc"));
     trial.free(&rt, Heap, Edit::Insert(0, 'x'), heap(32, "x", text, ""));
     trial.free(&rt, Inline, Edit::InsertStr(3, more), full);
@@ -366,6 +373,7 @@ fn values_leave(rt: HostRuntime) {
     leaves(&rt, &mut trial, Heap, Way::String, &[]);
     leaves(&rt, &mut trial, Heap, Way::Vec, &[]);
     leaves(&rt, &mut trial, Inline, Way::Bytes, &[]);
+    leaves(&rt, &mut trial, FullInline, Way::Bytes, &[]);
     leaves(&rt, &mut trial, ShortHeap, Way::Bytes, &[]);
     leaves(&rt, &mut trial, ShortStatic, Way::Bytes, &[]);
     leaves(&rt, &mut trial, Heap, Way::Cow, &[]);
@@ -396,7 +404,7 @@ fn at_most_24_bytes_are_read(rt: HostRuntime) -> Result<(), Fail> {
 #[test]
 fn at_most_24_bytes_are_decoded(rt: HostRuntime) {
     let mut trial = Trial::new(&rt, rt.alloc());
-    let (text, seen, signs) = (letters(0, 24), inline(letters(0, 24)), inline("慡慡"));
+    let (text, seen, signs) = (letters(0, 24), inline(letters(0, 24)), inline("慡慡慡慡慡慡慡慡"));
     let (first, last) = (letters(0, 9), letters(9, 24));
     let broken = inline(marks(8));
     trial.make(&rt, Decoding::Utf8Unchecked(text), &[], seen);
@@ -404,11 +412,11 @@ fn at_most_24_bytes_are_decoded(rt: HostRuntime) {
     trial.make(&rt, Decoding::Utf8Lossy(&[0xFF; 8]), &[], broken);
     trial.make(&rt, Decoding::Utf8Buf(first, last), &[], seen);
     trial.make(&rt, Decoding::Utf8BufUnchecked(text), &[], seen);
-    trial.make(&rt, Decoding::Utf16(&[0x6161; 2]), &[], signs);
+    trial.make(&rt, Decoding::Utf16(&[0x6161; 8]), &[], signs);
     trial.make(&rt, Decoding::Utf16Lossy(&[0xDC00; 8]), &[], broken);
-    trial.make(&rt, Decoding::Utf16Le(&[0x61; 4]), &[], signs);
+    trial.make(&rt, Decoding::Utf16Le(&[0x61; 16]), &[], signs);
     trial.make(&rt, Decoding::Utf16LeLossy(&[0xDC; 15]), &[], broken);
-    trial.make(&rt, Decoding::Utf16Be(&[0x61; 4]), &[], signs);
+    trial.make(&rt, Decoding::Utf16Be(&[0x61; 16]), &[], signs);
     trial.make(&rt, Decoding::Utf16BeLossy(&[0xDC; 15]), &[], broken);
 }
 
@@ -420,10 +428,12 @@ fn at_most_24_bytes_are_collected(rt: HostRuntime) {
     let texts = [letters(0, 9), letters(0, 0), letters(9, 24)];
     let characters = ['a', 'b'];
     let parts = [letters(0, 2), letters(0, 0), letters(2, 3)];
+    let halves = [letters(0, 12), letters(12, 24)];
     trial.make(&rt, Gathering::Chars(text), &[], seen);
     trial.make(&rt, Gathering::Texts(&texts), &[], seen);
     trial.make(&rt, Gathering::Concat(&texts), &[], seen);
     trial.make(&rt, Gathering::Join(&parts, "-"), &[], inline("ab--c"));
+    trial.make(&rt, Gathering::Join(&halves, ""), &[], seen);
     trial.make(&rt, Gathering::TraitChars(text), &[], seen);
     trial.make(
         &rt,

@@ -51,7 +51,17 @@ fn runs(
 fn a_static_text_is_run_over(rt: HostRuntime) {
     let mut trial = Trial::new(&rt, rt.alloc());
     let edits = [Edit::Remove(0), Edit::PushStr(digits())];
+    let cleared = [Edit::Clear, Edit::PushStr("b")];
     let asks = [room(), New(32), More(69)];
+    runs(
+        &rt,
+        &mut trial,
+        Static,
+        &cleared,
+        &asks[..1],
+        0,
+        inline("b"),
+    );
     runs(&rt, &mut trial, Static, &edits, &[], 0, fixed(0, 30));
     runs(&rt, &mut trial, Static, &edits, &asks[..1], 2, fixed(0, 30));
     runs(
@@ -78,7 +88,17 @@ fn a_static_text_is_run_over(rt: HostRuntime) {
 fn an_inline_text_is_run_over(rt: HostRuntime) {
     let mut trial = Trial::new(&rt, rt.alloc());
     let edits = [Edit::Reserve(40), Edit::Repeat(20)];
+    let pushes = [Edit::PushStr(digits()), Edit::PushStr("d")];
     let asks = [room(), New(43), New(60)];
+    runs(
+        &rt,
+        &mut trial,
+        Inline,
+        &pushes,
+        &asks[..1],
+        1,
+        inline("abcd"),
+    );
     runs(&rt, &mut trial, Inline, &edits, &[], 0, inline("abc"));
     runs(
         &rt,

@@ -7,8 +7,6 @@ mod chunks;
 mod each;
 mod kept;
 mod moves;
-#[cfg(test)]
-mod tests;
 
 use chunks::{chunk, set_chunk};
 pub use each::{make_lowercase, make_uppercase, wipe};

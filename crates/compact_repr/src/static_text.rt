@@ -12,9 +12,6 @@ use crate::cut;
 use std::marker::Model;
 use std::{slice, str};
 
-#[cfg(test)]
-mod tests;
-
 /// The right to read bytes of the program for ever. It takes no memory.
 #[derive(Drop)]
 struct StaticLoan {

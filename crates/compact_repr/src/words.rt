@@ -4,9 +4,6 @@
 ghost use Rattle.std.specs.Prelude.{◌≡◌, ◌+◌, ◌-◌, ◌*◌, ◌^◌, ◌≤◌, ◌<◌, [], ◌∷◌, ◌++◌, length, take, drop, replicate, IsTrue};
 ghost use Rattle.compact_repr.specs.Words.{number, bytes_of};
 
-#[cfg(test)]
-mod tests;
-
 /// The eight bytes from a place on, as a word.
 #[inline(always)]
 fn load8(bytes: &[u8], at: usize) -> u64

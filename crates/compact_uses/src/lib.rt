@@ -1,21 +1,9 @@
 //! Programs that stand on the library, to copy: each is small and states what it does as a theorem of its own.
 #![tactic(auto, using(compact_str::proofs::ForCallers::for_callers))]
 
-#[cfg(test)]
-mod interner_tests;
-#[cfg(test)]
-mod memory;
 mod records;
-#[cfg(test)]
-mod records_tests;
 mod report;
-#[cfg(test)]
-mod report_tests;
 mod tokenizer;
-#[cfg(test)]
-mod tokenizer_tests;
-#[cfg(test)]
-mod values;
 
 pub use records::{
     Fault, LineError, Place, RecordsCause, RecordsError, fields_of, line_of, read_records,

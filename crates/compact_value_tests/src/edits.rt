@@ -1,7 +1,7 @@
 //! Edits that are granted, at positions that are tested first.
 
 use compact_edit::{Edit, Reply, run};
-use compact_str::{CompactString, Policy, PolicyString, Standard};
+use compact_str::{CompactString, Standard};
 use std::alloc::Global;
 use std::ops::Bound;
 use std::process::Abort;
@@ -12,12 +12,7 @@ pub fn push(rt: &impl Abort, value: &mut CompactString, character: char) {
 }
 
 /// Puts a character in at a position that is tested first.
-pub fn insert<P: Policy>(
-    rt: &impl Abort,
-    value: &mut PolicyString<P>,
-    index: usize,
-    character: char,
-) {
+pub fn insert(rt: &impl Abort, value: &mut CompactString, index: usize, character: char) {
     assert!(rt; value.is_char_boundary(index));
     value.insert(index, character).expect(rt, "memory");
 }
@@ -29,7 +24,7 @@ pub fn insert_str(rt: &impl Abort, value: &mut CompactString, index: usize, text
 }
 
 /// Takes a character out at a position that is tested first.
-pub fn remove<P: Policy>(rt: &impl Abort, value: &mut PolicyString<P>, index: usize) -> char {
+pub fn remove(rt: &impl Abort, value: &mut CompactString, index: usize) -> char {
     assert!(rt; index < value.len());
     assert!(rt; value.is_char_boundary(index));
     value.remove(index).expect(rt, "memory")

@@ -20,48 +20,19 @@ fn shortened(rt: &impl Abort, alloc: Global) -> CompactString {
 }
 
 #[test]
-fn a_string_has_the_text(rt: HostRuntime) {
+fn what_leaves_has_this_room(rt: HostRuntime) {
     let alloc = rt.alloc();
-    let text = copied(&rt, alloc, "äb").into_string().expect(&rt, "memory");
-    assert_eq!(rt; text.as_str(), "äb");
-    let text = lasting(alloc, 30).into_string().expect(&rt, "memory");
-    assert_eq!(rt; text.as_str(), letters(30));
-    let text = shortened(&rt, alloc).into_string().expect(&rt, "memory");
-    assert_eq!(rt; text.as_str(), "äb");
-    assert!(rt; text.capacity() >= 60);
-}
-
-#[test]
-fn a_string_comes_back_with_its_buffer(rt: HostRuntime) {
-    let text = buffered(&rt, rt.alloc(), 90, letters(30));
+    let text = buffered(&rt, alloc, 90, letters(30));
     let value = CompactString::from_string_buffer(text);
     let text = value.into_string().expect(&rt, "memory");
     assert_eq!(rt; text.capacity(), 90);
-    assert_heap(&rt, &CompactString::from_string_buffer(text), 90, 30);
-}
-
-#[test]
-fn a_vector_has_the_bytes(rt: HostRuntime) {
-    let alloc = rt.alloc();
-    let bytes = copied(&rt, alloc, "äb").into_vec().expect(&rt, "memory");
-    assert_eq!(rt; bytes.as_slice(), [0xc3, 0xa4, 0x62].as_slice());
-    let bytes = shortened(&rt, alloc).into_vec().expect(&rt, "memory");
-    assert_eq!(rt; bytes.as_slice(), [0xc3, 0xa4, 0x62].as_slice());
-    assert!(rt; bytes.capacity() >= 60);
-    let bytes = lasting(alloc, 30).into_vec().expect(&rt, "memory");
-    assert_eq!(rt; bytes.as_slice(), letters(30).as_bytes());
-}
-
-#[test]
-fn a_small_vector_has_the_bytes(rt: HostRuntime) {
-    let alloc = rt.alloc();
+    let value = CompactString::from_string_buffer(text);
+    assert_heap(&rt, &value, 90, 30);
+    let bytes = value.into_vec().expect(&rt, "memory");
+    assert_eq!(rt; bytes.capacity(), 90);
     let bytes = copied(&rt, alloc, "äb").into_bytes().expect(&rt, "memory");
     assert_eq!(rt; bytes.as_slice(), [0xc3, 0xa4, 0x62].as_slice());
     assert_eq!(rt; bytes.capacity(), 24);
-    let bytes = shortened(&rt, alloc).into_bytes().expect(&rt, "memory");
-    assert_eq!(rt; bytes.as_slice(), [0xc3, 0xa4, 0x62].as_slice());
-    let bytes = lasting(alloc, 30).into_bytes().expect(&rt, "memory");
-    assert_eq!(rt; bytes.as_slice(), letters(30).as_bytes());
 }
 
 #[test]
@@ -90,18 +61,14 @@ fn a_static_text_is_borrowed_and_others_are_owned(rt: HostRuntime) {
         CowStr::Borrowed(_) => assert!(rt; false),
         CowStr::Owned(text) => assert_eq!(rt; text.as_str(), "äb"),
     }
-    match shortened(&rt, alloc).into_cow().expect(&rt, "memory") {
-        CowStr::Borrowed(_) => assert!(rt; false),
-        CowStr::Owned(text) => assert_eq!(rt; text.as_str(), "äb"),
-    }
-}
-
-#[test]
-fn as_cow_borrows(rt: HostRuntime) {
-    let value = shortened(&rt, rt.alloc());
+    let value = shortened(&rt, alloc);
     match value.as_cow() {
         CowStr::Borrowed(text) => assert_eq!(rt; text, "äb"),
         CowStr::Owned(_) => assert!(rt; false),
+    }
+    match value.into_cow().expect(&rt, "memory") {
+        CowStr::Borrowed(_) => assert!(rt; false),
+        CowStr::Owned(text) => assert_eq!(rt; text.as_str(), "äb"),
     }
 }
 

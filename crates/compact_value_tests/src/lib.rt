@@ -24,12 +24,6 @@ mod positions;
 #[cfg(test)]
 mod refused;
 #[cfg(test)]
-mod refused_edits;
-#[cfg(test)]
-mod refused_out;
-#[cfg(test)]
-mod refused_positions;
-#[cfg(test)]
 mod shortened;
 #[cfg(test)]
 mod shown;

@@ -42,11 +42,6 @@ fn take_blocks(alloc: Global) -> Result<Hog, AllocError> {
     Ok(Hog { blocks })
 }
 
-/// A block that is given back once a hog stands, so that just one request of its size is granted.
-pub fn spare(rt: &impl Abort, alloc: Global, size: usize) -> Vec<u8> {
-    Vec::with_capacity(alloc, size).expect(rt, "a spare block")
-}
-
 /// Whether one byte can be had.
 fn has_memory(alloc: Global) -> bool {
     let byte: Result<Vec<u8>, AllocError> = Vec::with_capacity(alloc, 1);

@@ -43,28 +43,19 @@ fn rows_of_made_values(rt: HostRuntime) {
     let mut row = [0; 24];
     row[23] = 0xC0;
     assert_eq!(rt; bytes_of(&rt, &CompactString::default(rt.alloc())), row);
-    assert_eq!(rt; bytes_of(&rt, &copied(&rt, rt.alloc(), "")), row);
-    assert_eq!(rt;
-        &bytes_of(&rt, &copied(&rt, rt.alloc(), "hello world")),
-        b"hello world\0\0\0\0\0\0\0\0\0\0\0\0\xCB"
-    );
-    assert_eq!(rt;
-        &bytes_of(&rt, &copied(&rt, rt.alloc(), letters(16))),
-        b"aaaaaaaaaaaaaaaa\0\0\0\0\0\0\0\xD0"
-    );
-    assert_eq!(rt;
-        &bytes_of(&rt, &copied(&rt, rt.alloc(), letters(23))),
-        b"aaaaaaaaaaaaaaaaaaaaaaa\xD7"
-    );
+    for (text, row) in [
+        ("", b"\0\0\0\0\0\0\0\0\0\0\0\0\0\0\0\0\0\0\0\0\0\0\0\xC0"),
+        ("hello world", b"hello world\0\0\0\0\0\0\0\0\0\0\0\0\xCB"),
+        (letters(16), b"aaaaaaaaaaaaaaaa\0\0\0\0\0\0\0\xD0"),
+        (letters(23), b"aaaaaaaaaaaaaaaaaaaaaaa\xD7"),
+        ("i am 24 characters long!", b"i am 24 characters long!"),
+    ] {
+        assert_eq!(rt; &bytes_of(&rt, &copied(&rt, rt.alloc(), text)), row);
+    }
 }
 
 #[test]
-fn rows_of_24_bytes(rt: HostRuntime) {
-    let text = "i am 24 characters long!";
-    assert_eq!(rt;
-        &bytes_of(&rt, &copied(&rt, rt.alloc(), text)),
-        b"i am 24 characters long!"
-    );
+fn the_last_byte_of_24_is_of_the_text_or_its_length(rt: HostRuntime) {
     let euros = bytes_of(&rt, &copied(&rt, rt.alloc(), "€€€€€€€€"));
     assert_eq!(rt; euros[23], 0xAC);
     let mut cut = copied(&rt, rt.alloc(), letters(24));
@@ -95,14 +86,12 @@ fn bytes_that_stand_for_a_text_are_read(rt: HostRuntime) {
 
 #[test]
 fn bytes_that_stand_for_no_text_are_refused(rt: HostRuntime) {
-    let mut row = [0; 24];
-    row[23] = 0xD8;
-    assert!(rt; CompactString::from_packed(rt.alloc(), &row).is_none());
-    row[23] = 0xFF;
-    assert!(rt; CompactString::from_packed(rt.alloc(), &row).is_none());
-    row[0] = 0xFF;
-    row[23] = 0xC1;
-    assert!(rt; CompactString::from_packed(rt.alloc(), &row).is_none());
+    for (first, last) in [(0, 0xD8), (0, 0xFF), (0xFF, 0xC1)] {
+        let mut row = [0; 24];
+        row[0] = first;
+        row[23] = last;
+        assert!(rt; CompactString::from_packed(rt.alloc(), &row).is_none());
+    }
     assert!(rt; CompactString::from_packed(rt.alloc(), &[0x80; 24]).is_none());
 }
 
@@ -133,21 +122,20 @@ fn each_length_is_cut(rt: HostRuntime) {
     assert_inline(&rt, &value, "");
 }
 
-/// So many letters and a character behind them.
-fn ends_in(rt: &impl Abort, alloc: Global, count: usize, last: &str) {
-    let mut value = copied(rt, alloc, letters(count));
-    append(rt, &mut value, last);
-    is_packed_anew(rt, alloc, &value);
-}
-
 #[test]
 fn a_character_ends_at_the_last_byte_or_before_it(rt: HostRuntime) {
-    ends_in(&rt, rt.alloc(), 22, "z");
-    ends_in(&rt, rt.alloc(), 21, "é");
-    ends_in(&rt, rt.alloc(), 20, "€");
-    ends_in(&rt, rt.alloc(), 19, "𝄞");
-    ends_in(&rt, rt.alloc(), 23, "z");
-    ends_in(&rt, rt.alloc(), 22, "é");
-    ends_in(&rt, rt.alloc(), 21, "€");
-    ends_in(&rt, rt.alloc(), 20, "𝄞");
+    for (count, last) in [
+        (22, "z"),
+        (21, "é"),
+        (20, "€"),
+        (19, "𝄞"),
+        (23, "z"),
+        (22, "é"),
+        (21, "€"),
+        (20, "𝄞"),
+    ] {
+        let mut value = copied(&rt, rt.alloc(), letters(count));
+        append(&rt, &mut value, last);
+        is_packed_anew(&rt, rt.alloc(), &value);
+    }
 }

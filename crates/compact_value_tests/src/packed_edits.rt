@@ -38,25 +38,18 @@ fn appends_and_pops(rt: HostRuntime) {
 }
 
 #[test]
-fn characters_at_the_start_and_in_each_word(rt: HostRuntime) {
+fn characters_are_put_in_and_taken_out(rt: HostRuntime) {
     let mut value = short(&rt, rt.alloc());
-    insert(&rt, &mut value, 0, '-');
-    is(&rt, rt.alloc(), &value, "-abcdefghijklmnopqrstuvw");
-    assert_eq!(rt; remove(&rt, &mut value, 0), '-');
-    is(&rt, rt.alloc(), &value, "abcdefghijklmnopqrstuvw");
-    insert(&rt, &mut value, 10, '-');
-    is(&rt, rt.alloc(), &value, "abcdefghij-klmnopqrstuvw");
-    assert_eq!(rt; remove(&rt, &mut value, 10), '-');
-    is(&rt, rt.alloc(), &value, "abcdefghijklmnopqrstuvw");
-}
-
-#[test]
-fn characters_at_the_end(rt: HostRuntime) {
-    let mut value = short(&rt, rt.alloc());
-    insert(&rt, &mut value, 23, '-');
-    is(&rt, rt.alloc(), &value, "abcdefghijklmnopqrstuvw-");
-    assert_eq!(rt; remove(&rt, &mut value, 23), '-');
-    is(&rt, rt.alloc(), &value, "abcdefghijklmnopqrstuvw");
+    for (index, text) in [
+        (0, "-abcdefghijklmnopqrstuvw"),
+        (10, "abcdefghij-klmnopqrstuvw"),
+        (23, "abcdefghijklmnopqrstuvw-"),
+    ] {
+        insert(&rt, &mut value, index, '-');
+        is(&rt, rt.alloc(), &value, text);
+        assert_eq!(rt; remove(&rt, &mut value, index), '-');
+        is(&rt, rt.alloc(), &value, "abcdefghijklmnopqrstuvw");
+    }
     insert(&rt, &mut value, 22, '-');
     is(&rt, rt.alloc(), &value, "abcdefghijklmnopqrstuv-w");
     assert_eq!(rt; remove(&rt, &mut value, 23), 'w');
@@ -76,14 +69,15 @@ fn texts_are_put_in(rt: HostRuntime) {
 #[test]
 fn ranges_are_replaced(rt: HostRuntime) {
     let mut value = short(&rt, rt.alloc());
-    replace(&rt, &mut value, Included(20), Excluded(23), "1234");
-    is(&rt, rt.alloc(), &value, "abcdefghijklmnopqrst1234");
-    replace(&rt, &mut value, Included(0), Excluded(2), "0");
-    is(&rt, rt.alloc(), &value, "0cdefghijklmnopqrst1234");
-    replace(&rt, &mut value, Included(23), Excluded(23), "5");
-    is(&rt, rt.alloc(), &value, "0cdefghijklmnopqrst12345");
-    replace(&rt, &mut value, Included(23), Excluded(24), "");
-    is(&rt, rt.alloc(), &value, "0cdefghijklmnopqrst1234");
+    for (start, end, part, text) in [
+        (20, 23, "1234", "abcdefghijklmnopqrst1234"),
+        (0, 2, "0", "0cdefghijklmnopqrst1234"),
+        (23, 23, "5", "0cdefghijklmnopqrst12345"),
+        (23, 24, "", "0cdefghijklmnopqrst1234"),
+    ] {
+        replace(&rt, &mut value, Included(start), Excluded(end), part);
+        is(&rt, rt.alloc(), &value, text);
+    }
 }
 
 #[test]

@@ -53,8 +53,12 @@ fn debug_quotes_and_escapes(rt: HostRuntime) -> Result<(), Fail> {
 }
 
 #[test]
-fn the_errors_of_json_are_shown_so(rt: HostRuntime) -> Result<(), Fail> {
+fn errors_are_shown_so(rt: HostRuntime) -> Result<(), Fail> {
     let alloc = rt.alloc();
+    assert_eq!(rt;
+        format!(in alloc; "{ReserveError}")?.as_str(),
+        "Cannot allocate memory to hold CompactString"
+    );
     let error = FromJsonError::NotAString;
     assert_eq!(rt; format!(in alloc; "{error}")?.as_str(), "not a JSON string");
     let error = FromJsonError::from(ReserveError);

@@ -2,7 +2,7 @@
 //!
 //! No function here has a clause, so that the proof of a test carries nothing of the values that it looks at.
 
-use compact_str::{CompactString, Policy, PolicyString};
+use compact_str::CompactString;
 use std::alloc::Global;
 use std::process::Abort;
 
@@ -36,7 +36,7 @@ pub fn buffered(rt: &impl Abort, alloc: Global, capacity: usize, text: &str) -> 
 }
 
 /// Appends `text`, which is granted.
-pub fn append<P: Policy>(rt: &impl Abort, value: &mut PolicyString<P>, text: &str) {
+pub fn append(rt: &impl Abort, value: &mut CompactString, text: &str) {
     value.push_str(text).expect(rt, "memory");
 }
 
@@ -46,7 +46,7 @@ pub fn clone_of(rt: &impl Abort, value: &CompactString) -> CompactString {
 }
 
 /// The name of a value's place.
-fn place_of<P: Policy>(value: &PolicyString<P>) -> &'static str {
+fn place_of(value: &CompactString) -> &'static str {
     if value.is_heap_allocated() {
         "heap"
     } else if value.as_static_str().is_some() {
@@ -57,9 +57,9 @@ fn place_of<P: Policy>(value: &PolicyString<P>) -> &'static str {
 }
 
 /// Asserts place, length, capacity and text of a value.
-pub fn assert_seen<P: Policy>(
+pub fn assert_seen(
     rt: &impl Abort,
-    value: &PolicyString<P>,
+    value: &CompactString,
     place: &str,
     capacity: usize,
     text: &str,
@@ -73,23 +73,18 @@ pub fn assert_seen<P: Policy>(
 }
 
 /// Asserts that a value stands inline with this text.
-pub fn assert_inline<P: Policy>(rt: &impl Abort, value: &PolicyString<P>, text: &str) {
+pub fn assert_inline(rt: &impl Abort, value: &CompactString, text: &str) {
     assert_seen(rt, value, "inline", 24, text);
 }
 
 /// Asserts that a value stands on the heap with this capacity and so many letters.
-pub fn assert_heap<P: Policy>(
-    rt: &impl Abort,
-    value: &PolicyString<P>,
-    capacity: usize,
-    count: usize,
-) {
+pub fn assert_heap(rt: &impl Abort, value: &CompactString, capacity: usize, count: usize) {
     assert_seen(rt, value, "heap", capacity, letters(count));
     assert_eq!(rt; value.len(), count);
 }
 
 /// Asserts that a value is static with so many letters.
-pub fn assert_static<P: Policy>(rt: &impl Abort, value: &PolicyString<P>, count: usize) {
+pub fn assert_static(rt: &impl Abort, value: &CompactString, count: usize) {
     assert_seen(rt, value, "static", count, letters(count));
     assert_eq!(rt; value.len(), count);
 }

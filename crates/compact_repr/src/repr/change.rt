@@ -13,9 +13,6 @@ use crate::repr::{Buffer, Repr};
 use crate::rows::MOST_AT_ONCE;
 use crate::static_text::StaticText;
 
-#[cfg(test)]
-mod tests;
-
 impl<P: Policy> Repr<P> {
     /// Appends `text` where the bytes are the value's own and have room. Answers whether that was so; if not, nothing has
     /// changed.

@@ -1,0 +1,197 @@
+//! Texts of which a part is replaced, byte by byte beside what a reader would write down: the bytes before the part, the
+//! new ones, and the bytes after it. The lengths lie on both sides of each bound at which the moves take another way. Each
+//! text stands on the heap, in a buffer with room for the longer of the two texts, and once as it is made, so that what has
+//! at most 24 bytes before and afterwards stands inline.
+
+use crate::values::{copied, empty, reserve};
+use compact_repr::{Repr, Standard};
+use std::alloc::Global;
+use std::process::Abort;
+
+/// How many bytes stand behind the part.
+const TAILS: [usize; 24] = [
+    0, 1, 2, 3, 4, 7, 8, 9, 15, 16, 17, 31, 32, 33, 63, 64, 65, 127, 128, 129, 191, 192, 193, 400,
+];
+
+/// The byte that stands at a place at first.
+fn old(place: usize) -> u8 {
+    (place % 97) as u8
+}
+
+/// The byte at a place of what is put in.
+fn new(place: usize) -> u8 {
+    (97 + place % 31) as u8
+}
+
+/// So many bytes of `old`.
+fn row(rt: &impl Abort, alloc: Global, len: usize) -> String {
+    let mut row = String::new(alloc);
+    for place in 0..len {
+        row.push(char::from(old(place))).expect(rt, "memory");
+    }
+    row
+}
+
+/// So many bytes of `new`.
+fn source(rt: &impl Abort, alloc: Global, len: usize) -> String {
+    let mut source = String::new(alloc);
+    for place in 0..len {
+        source.push(char::from(new(place))).expect(rt, "memory");
+    }
+    source
+}
+
+/// Asserts the ten bytes before a part, `come` new ones, and the `tail` bytes that first stood from `end` on.
+fn assert_bytes(rt: &impl Abort, bytes: &[u8], come: usize, end: usize, tail: usize) {
+    assert_eq!(rt;
+        bytes.len(),
+        10usize.saturating_add(come).saturating_add(tail)
+    );
+    for place in 0..10 {
+        assert_eq!(rt; bytes.get(place), Some(&old(place)));
+    }
+    for place in 0..come {
+        assert_eq!(rt; bytes.get(place.saturating_add(10)), Some(&new(place)));
+    }
+    for place in 0..tail {
+        let at = place.saturating_add(come).saturating_add(10);
+        assert_eq!(rt; bytes.get(at), Some(&old(place.saturating_add(end))));
+    }
+}
+
+/// Replaces what stands from the tenth byte to `end`, before `tail` bytes.
+fn assert_replaced(
+    rt: &impl Abort,
+    text: &mut Repr<Standard>,
+    end: usize,
+    come: &str,
+    tail: usize,
+) {
+    assert!(rt; 10 <= end);
+    assert!(rt; text.is_char_boundary(10));
+    assert!(rt; text.is_char_boundary(end));
+    assert!(rt; text.replace_in_place(10, end, come));
+    assert_bytes(rt, text.as_str().as_bytes(), come.len(), end, tail);
+}
+
+/// The text as it is made, with room for `additional` more bytes.
+fn with_room(rt: &impl Abort, alloc: Global, text: &str, additional: usize) -> Repr<Standard> {
+    let mut made = copied(rt, alloc, text);
+    reserve(rt, &mut made, additional);
+    assert_eq!(rt;
+        made.is_heap_allocated(),
+        text.len().saturating_add(additional) > 24
+    );
+    made
+}
+
+/// The text on the heap, in a buffer with room for `additional` more bytes.
+fn on_the_heap(rt: &impl Abort, alloc: Global, text: &str, additional: usize) -> Repr<Standard> {
+    let mut made = empty(rt, alloc, text.len().saturating_add(additional).max(25));
+    assert!(rt; made.push_in_place(text));
+    assert!(rt; made.is_heap_allocated());
+    made
+}
+
+/// Replaces `gone` bytes from the tenth on by `come`, where `tail` bytes stand behind them.
+fn replaced(rt: &impl Abort, alloc: Global, gone: usize, come: usize, tail: usize) {
+    let end = 10usize.saturating_add(gone);
+    let row = row(rt, alloc, end.saturating_add(tail));
+    let source = source(rt, alloc, come);
+    let more = come.saturating_sub(gone);
+    let mut text = with_room(rt, alloc, row.as_str(), more);
+    assert_replaced(rt, &mut text, end, source.as_str(), tail);
+    let mut text = on_the_heap(rt, alloc, row.as_str(), more);
+    assert_replaced(rt, &mut text, end, source.as_str(), tail);
+}
+
+/// The same before each of the tails.
+fn before_each_tail(rt: &impl Abort, alloc: Global, gone: usize, come: usize) {
+    for tail in TAILS {
+        replaced(rt, alloc, gone, come, tail);
+    }
+}
+
+#[test]
+fn bytes_come(rt: HostRuntime) {
+    for come in [1, 2, 3, 4, 5, 8, 16, 17, 32, 33, 70, 300] {
+        before_each_tail(&rt, rt.alloc(), 0, come);
+    }
+}
+
+#[test]
+fn bytes_go(rt: HostRuntime) {
+    for gone in [1, 2, 3, 4, 5, 8, 16, 17, 32, 33, 70, 300] {
+        before_each_tail(&rt, rt.alloc(), gone, 0);
+    }
+}
+
+#[test]
+fn bytes_are_exchanged(rt: HostRuntime) {
+    for (gone, come) in [
+        (1, 1),
+        (7, 7),
+        (1, 2),
+        (2, 1),
+        (4, 8),
+        (8, 4),
+        (3, 100),
+        (100, 3),
+    ] {
+        before_each_tail(&rt, rt.alloc(), gone, come);
+    }
+}
+
+/// Puts a byte in behind the tenth, and takes it out again.
+fn assert_one_byte(rt: &impl Abort, text: &mut Repr<Standard>, tail: usize) {
+    assert!(rt; text.is_char_boundary(10));
+    assert!(rt; text.insert_ascii_in_place(10, b'a'));
+    assert_bytes(rt, text.as_str().as_bytes(), 1, 10, tail);
+    assert!(rt; text.is_char_boundary(10));
+    assert!(rt; text.is_char_boundary(11));
+    assert!(rt; text.remove_ascii_in_place(10));
+    assert_bytes(rt, text.as_str().as_bytes(), 0, 10, tail);
+}
+
+#[test]
+fn one_byte_comes_and_goes(rt: HostRuntime) {
+    for tail in TAILS {
+        let row = row(&rt, rt.alloc(), tail.saturating_add(10));
+        assert_one_byte(&rt, &mut with_room(&rt, rt.alloc(), row.as_str(), 1), tail);
+        assert_one_byte(
+            &rt,
+            &mut on_the_heap(&rt, rt.alloc(), row.as_str(), 1),
+            tail,
+        );
+    }
+}
+
+/// Takes the bytes from the tenth to `end` out, before `tail` bytes.
+fn assert_cut(rt: &impl Abort, text: &mut Repr<Standard>, end: usize, tail: usize) {
+    assert!(rt; 10 <= end);
+    assert!(rt; text.is_char_boundary(10));
+    assert!(rt; text.is_char_boundary(end));
+    assert!(rt; text.cut_out_in_place(10, end));
+    assert_bytes(rt, text.as_str().as_bytes(), 0, end, tail);
+}
+
+#[test]
+fn bytes_are_cut_out(rt: HostRuntime) {
+    for end in [10, 11, 12, 13, 14, 15, 18, 80] {
+        for tail in TAILS {
+            let row = row(&rt, rt.alloc(), tail.saturating_add(end));
+            assert_cut(
+                &rt,
+                &mut with_room(&rt, rt.alloc(), row.as_str(), 0),
+                end,
+                tail,
+            );
+            assert_cut(
+                &rt,
+                &mut on_the_heap(&rt, rt.alloc(), row.as_str(), 0),
+                end,
+                tail,
+            );
+        }
+    }
+}

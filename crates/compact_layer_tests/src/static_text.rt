@@ -1,0 +1,58 @@
+//! A text of the program, of 29 bytes with one character of two bytes, at 4 and 5.
+
+use crate::values::borrowed;
+use std::alloc::Global;
+use std::process::Abort;
+
+const LINE: &str = "a naïve reader of long lines";
+
+/// What is handed out outlives the value.
+fn outlived(alloc: Global) -> Option<&'static str> {
+    borrowed(alloc, LINE).as_static_str()
+}
+
+#[test]
+fn a_text_is_read(rt: HostRuntime) {
+    let mut text = borrowed(rt.alloc(), LINE);
+    assert_eq!(rt; text.len(), 29);
+    assert_eq!(rt; text.as_str(), "a naïve reader of long lines");
+    assert_eq!(rt; outlived(rt.alloc()), Some("a naïve reader of long lines"));
+    text.clear();
+    assert_eq!(rt; text.len(), 0);
+    assert_eq!(rt; text.as_static_str(), Some(""));
+}
+
+#[test]
+fn a_text_is_had_twice(rt: HostRuntime) {
+    let text = borrowed(rt.alloc(), LINE);
+    let second = text.try_clone().expect(&rt, "memory");
+    drop(text);
+    let shown = second.as_static_str();
+    drop(second);
+    assert_eq!(rt; shown, Some("a naïve reader of long lines"));
+}
+
+/// What stands before and behind a boundary; `None` where no character begins there, or where a part is not static.
+fn cut(alloc: Global, index: usize) -> Option<(&'static str, &'static str)> {
+    let mut text = borrowed(alloc, LINE);
+    if !text.is_char_boundary(index) {
+        return None;
+    }
+    let tail = text.static_tail(index)?;
+    text.truncate(index);
+    Some((text.as_static_str()?, tail))
+}
+
+#[test]
+fn a_text_is_cut(rt: HostRuntime) {
+    for (index, parts) in [
+        (0, Some(("", "a naïve reader of long lines"))),
+        (4, Some(("a na", "ïve reader of long lines"))),
+        (5, None),
+        (6, Some(("a naï", "ve reader of long lines"))),
+        (29, Some(("a naïve reader of long lines", ""))),
+        (30, None),
+    ] {
+        assert_eq!(rt; cut(rt.alloc(), index), parts, "at {index}");
+    }
+}

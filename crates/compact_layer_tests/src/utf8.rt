@@ -1,0 +1,201 @@
+//! Bytes judged as a whole and read chunk by chunk: texts, where each fault is placed, the Standard's examples, long input,
+//! and every input of two bytes.
+
+use compact_codec::utf8::{Utf8Fault, chunk_at, first_chunk, judge};
+use std::process::Abort;
+
+/// The bytes fall into these chunks: a text, and how many bytes are broken after it.
+fn assert_chunks(rt: &impl Abort, bytes: &[u8], chunks: &[(&str, usize)]) {
+    let mut rest = bytes;
+    for (text, broken) in chunks {
+        let chunk = first_chunk(rest);
+        assert!(rt; chunk.text == *text);
+        assert_eq!(rt; chunk.broken.len(), *broken);
+        rest = chunk.rest;
+    }
+    assert!(rt; rest.is_empty());
+}
+
+/// The bytes are no text: where the fault lies, and how long it is, or `None` where they end too soon.
+fn assert_fault(rt: &impl Abort, bytes: &[u8], valid_up_to: usize, error_len: Option<usize>) {
+    let fault = judge(bytes).err();
+    assert!(rt;
+        fault
+            == Some(Utf8Fault {
+                valid_up_to,
+                error_len
+            }),
+        "{bytes:?}: {fault:?}"
+    );
+}
+
+#[test]
+fn texts_are_taken(rt: HostRuntime) {
+    let cases: [(&[u8], &str); 7] = [
+        (b"", ""),
+        (b"\xC3\xA4", "\u{E4}"),
+        (b"\xC8\x84", "\u{204}"),
+        (b"\xE2\x82\xAC", "\u{20AC}"),
+        (b"\xEF\xBF\xBD", "\u{FFFD}"),
+        (b"\xF0\x9D\x84\x9E", "\u{1D11E}"),
+        (b"\xF0\x9F\x91\xAF", "\u{1F46F}"),
+    ];
+    for (bytes, text) in cases {
+        assert!(rt; judge(bytes) == Ok(text), "{bytes:?}");
+    }
+}
+
+#[test]
+fn faults_are_placed(rt: HostRuntime) {
+    let cases: [(&[u8], usize, Option<usize>); 11] = [
+        (b"\xC0\x80", 0, Some(1)),
+        (b"\xE0\x80\x80", 0, Some(1)),
+        (b"\xF4\x90\x80\x80", 0, Some(1)),
+        (b"\xE1\x80\x41", 0, Some(2)),
+        (b"\x61\xE2\x82", 1, None),
+        (b"\xF0\x9F", 0, None),
+        (b"\xED\xA0\x80", 0, Some(1)),
+        (b"\xF0\x9F\xC8\x84", 0, Some(2)),
+        (b"\xF0\x9F\x91\x41", 0, Some(3)),
+        (b"\xE2\x82\xAC\xFF", 3, Some(1)),
+        (
+            b"\0\0\0\0\0\0\0\0\0\0\0\0\0\0\0\0\0\0\0\0\0\0\0\xC0",
+            23,
+            Some(1),
+        ),
+    ];
+    for (bytes, valid_up_to, error_len) in cases {
+        assert_fault(&rt, bytes, valid_up_to, error_len);
+    }
+}
+
+#[test]
+fn long_input_is_judged_as_short(rt: HostRuntime) {
+    let mut bytes = [b'a'; 20000];
+    assert!(rt; judge(&bytes).is_ok());
+    // A character across the end of the first 8192 bytes.
+    bytes[8190] = 0xE2;
+    bytes[8191] = 0x82;
+    bytes[8192] = 0xAC;
+    assert!(rt; judge(&bytes).is_ok());
+    bytes[19999] = 0xE2;
+    assert_fault(&rt, &bytes, 19999, None);
+    bytes[15000] = 0xF4;
+    bytes[15001] = 0x90;
+    assert_fault(&rt, &bytes, 15000, Some(1));
+    bytes[64] = 0xE1;
+    bytes[65] = 0x80;
+    assert_fault(&rt, &bytes, 64, Some(2));
+}
+
+#[test]
+fn each_broken_part_is_one_chunk(rt: HostRuntime) {
+    let cases: [(&[u8], &[(&str, usize)]); 8] = [
+        (b"", &[("", 0)]),
+        (b"\xC0\x80", &[("", 1), ("", 1)]),
+        (b"\xF4\x90\x80\x80", &[("", 1), ("", 1), ("", 1), ("", 1)]),
+        (b"\xED\xA0\x80", &[("", 1), ("", 1), ("", 1)]),
+        (b"\xE1\x80\x41", &[("", 2), ("A", 0)]),
+        (b"\x61\xE2\x82", &[("a", 2)]),
+        (b"\xF0\x9F", &[("", 2)]),
+        (b"\xF0\x9F\xC8\x84", &[("", 2), ("\u{204}", 0)]),
+    ];
+    for (bytes, chunks) in cases {
+        assert_chunks(&rt, bytes, chunks);
+    }
+}
+
+/// The Standard's examples (3.9, Tables 3-8 to 3-11): forms that are too long, surrogates, other bytes that begin
+/// no sequence, and sequences cut short.
+#[test]
+fn the_examples_of_the_standard(rt: HostRuntime) {
+    let cases: [(&[u8], &[(&str, usize)]); 4] = [
+        (
+            b"\xC0\xAF\xE0\x80\xBF\xF0\x81\x82\x41",
+            &[
+                ("", 1),
+                ("", 1),
+                ("", 1),
+                ("", 1),
+                ("", 1),
+                ("", 1),
+                ("", 1),
+                ("", 1),
+                ("A", 0),
+            ],
+        ),
+        (
+            b"\xED\xA0\x80\xED\xBF\xBF\xED\xAF\x41",
+            &[
+                ("", 1),
+                ("", 1),
+                ("", 1),
+                ("", 1),
+                ("", 1),
+                ("", 1),
+                ("", 1),
+                ("", 1),
+                ("A", 0),
+            ],
+        ),
+        (
+            b"\xF4\x91\x92\x93\xFF\x41\x80\xBF\x42",
+            &[
+                ("", 1),
+                ("", 1),
+                ("", 1),
+                ("", 1),
+                ("", 1),
+                ("A", 1),
+                ("", 1),
+                ("B", 0),
+            ],
+        ),
+        (
+            b"\xE1\x80\xE2\xF0\x91\x92\xF1\xBF\x41",
+            &[("", 2), ("", 1), ("", 3), ("", 2), ("A", 0)],
+        ),
+    ];
+    for (bytes, chunks) in cases {
+        assert_chunks(&rt, bytes, chunks);
+    }
+}
+
+#[test]
+fn a_chunk_is_made_from_its_fault(rt: HostRuntime) {
+    let Err(fault) = judge(b"\x61\xC0\x80") else {
+        panic!(rt; "C0 is no text");
+    };
+    let chunk = chunk_at(b"\x61\xC0\x80", fault);
+    assert!(rt; chunk.text == "a");
+    assert!(rt; chunk.broken == b"\xC0".as_slice());
+    assert!(rt; chunk.rest == b"\x80".as_slice());
+}
+
+/// How many of all inputs of two bytes are texts, and how many have each fault; by another decoder.
+#[test]
+fn all_inputs_of_two_bytes(rt: HostRuntime) {
+    let mut texts = 0u32;
+    let mut broken_at_first = 0u32;
+    let mut broken_at_second = 0u32;
+    let mut open_at_first = 0u32;
+    let mut open_at_second = 0u32;
+    for first in 0..=255u8 {
+        for second in 0..=255u8 {
+            match judge(&[first, second]) {
+                Ok(_) => texts = texts.saturating_add(1),
+                Err(fault) => match (fault.valid_up_to, fault.error_len) {
+                    (0, Some(_)) => broken_at_first = broken_at_first.saturating_add(1),
+                    (0, None) => open_at_first = open_at_first.saturating_add(1),
+                    (_, Some(_)) => broken_at_second = broken_at_second.saturating_add(1),
+                    (_, None) => open_at_second = open_at_second.saturating_add(1),
+                },
+            }
+        }
+    }
+    assert_eq!(rt; texts, 18304);
+    assert_eq!(rt; broken_at_first, 29632);
+    assert_eq!(rt; broken_at_second, 9856);
+    assert_eq!(rt; open_at_first, 1216);
+    assert_eq!(rt; open_at_second, 6528);
+}

@@ -1,0 +1,145 @@
+//! Records: fields of a line, what is written and read back, faults with their lines, and a reader that fails.
+
+use crate::memory::{spare, take_all};
+use crate::values::copied;
+use compact_str::CompactString;
+use compact_uses::{
+    Fault, LineError, RecordsCause, RecordsError, fields_of, line_of, read_records,
+};
+use std::alloc::Global;
+use std::io;
+use std::io::Read;
+use std::process::Abort;
+
+/// Gives one line and a half, and then fails.
+#[derive(Drop)]
+struct Failing {
+    given: bool,
+}
+
+impl Read for Failing {
+    fn read(&mut self, buf: &mut [u8]) -> io::Result<usize> {
+        if self.given {
+            return Err(io::Error::other("broken"));
+        }
+        self.given = true;
+        let text = b"a,b\nc";
+        for (place, byte) in buf.iter_mut().zip(text.iter()) {
+            *place = *byte;
+        }
+        Ok(usize::min(buf.len(), 5))
+    }
+}
+
+fn assert_fields(rt: &impl Abort, fields: &Vec<CompactString>, texts: &[&str]) {
+    assert_eq!(rt; fields.len(), texts.len());
+    for (field, text) in fields.iter().zip(texts.iter()) {
+        assert_eq!(rt; field.as_str(), *text);
+    }
+}
+
+/// Asserts the fields of a line.
+fn assert_line(rt: &impl Abort, alloc: Global, line: &str, texts: &[&str]) {
+    let fields = fields_of(alloc, ',', &copied(rt, alloc, line)).expect(rt, "a record");
+    assert_fields(rt, &fields, texts);
+}
+
+/// Asserts that a line is no record.
+fn assert_fault(rt: &impl Abort, alloc: Global, line: &str, fault: Fault) {
+    let fields = fields_of(alloc, ',', &copied(rt, alloc, line));
+    assert!(rt; matches!(fields, Err(LineError::Fault(told)) if told == fault));
+}
+
+// The fields are those that Python's csv reader gives, but for the empty line, which has one empty field here.
+#[test]
+fn a_line_has_its_fields(rt: HostRuntime) {
+    let alloc = rt.alloc();
+    assert_line(&rt, alloc, "a,\"b,\"\"c\"", &["a", "b,\"c"]);
+    assert_line(&rt, alloc, "", &[""]);
+    assert_line(&rt, alloc, ",é,\"\",a\"b", &["", "é", "", "a\"b"]);
+    assert_fault(&rt, alloc, "a,\"b", Fault::OpenQuote);
+    assert_fault(&rt, alloc, "\"a\"b,c", Fault::TextBehindQuote);
+}
+
+#[test]
+fn fields_are_written_in_quotes(rt: HostRuntime) {
+    let alloc = rt.alloc();
+    let fields = [copied(&rt, alloc, "a"), copied(&rt, alloc, "b\",")];
+    let line = line_of(alloc, ',', &fields).expect(&rt, "memory");
+    assert_eq!(rt; line.as_str(), "\"a\",\"b\"\",\"");
+}
+
+#[test]
+fn a_fault_tells_its_line(rt: HostRuntime) {
+    let alloc = rt.alloc();
+    let mut records = Vec::new(alloc);
+    let mut input = "a,b\nc\n\"d\n".as_bytes();
+    let read = read_records(alloc, ',', &mut input, &mut records);
+    let cause = RecordsCause::Fault(Fault::OpenQuote);
+    assert!(rt; read == Err(RecordsError { line: 3, cause }));
+    assert_eq!(rt; records.len(), 2);
+    let mut input = b"a\n\xff\n".as_slice();
+    let read = read_records(alloc, ',', &mut input, &mut records);
+    let cause = RecordsCause::Utf8;
+    assert!(rt; read == Err(RecordsError { line: 2, cause }));
+    assert_eq!(rt; records.len(), 3);
+}
+
+/// Asserts that the first fault of some lines is told with this line and cause, and leaves the records before it.
+fn assert_stop(rt: &impl Abort, alloc: Global, lines: &str, line: usize, cause: RecordsCause) {
+    let mut records = Vec::new(alloc);
+    let mut input = lines.as_bytes();
+    let read = read_records(alloc, ',', &mut input, &mut records);
+    assert!(rt; read == Err(RecordsError { line, cause }));
+    assert_eq!(rt; records.len() + 1, line);
+}
+
+#[test]
+fn a_fault_is_told_in_the_first_a_middle_and_the_last_line(rt: HostRuntime) {
+    let alloc = rt.alloc();
+    let open = RecordsCause::Fault(Fault::OpenQuote);
+    let behind = RecordsCause::Fault(Fault::TextBehindQuote);
+    assert_stop(&rt, alloc, "\"a\nb\nc\n", 1, open);
+    assert_stop(&rt, alloc, "a\n\"b\"c\n\"d\n", 2, behind);
+    assert_stop(&rt, alloc, "a\n\nb\n\"c", 4, open);
+}
+
+#[test]
+fn a_reader_that_fails_leaves_the_lines_before(rt: HostRuntime) {
+    let alloc = rt.alloc();
+    let mut records = Vec::new(alloc);
+    let mut input = Failing { given: false };
+    let read = read_records(alloc, ',', &mut input, &mut records);
+    let cause = RecordsCause::Read;
+    assert!(rt; read == Err(RecordsError { line: 2, cause }));
+    assert_eq!(rt; records.len(), 1);
+}
+
+#[test]
+fn with_no_memory_nothing_is_read(rt: HostRuntime) {
+    let alloc = rt.alloc();
+    let mut records = Vec::new(alloc);
+    let mut input = "a,b\n".as_bytes();
+    let hog = take_all(&rt, alloc);
+    let read = read_records(alloc, ',', &mut input, &mut records);
+    drop(hog);
+    let cause = RecordsCause::Reserve;
+    assert!(rt; read == Err(RecordsError { line: 1, cause }));
+    assert_eq!(rt; records.len(), 0);
+}
+
+// The reader's buffer has 8192 bytes, and what is refused is the memory for the bytes of the line.
+#[test]
+fn no_memory_for_the_bytes_of_a_line_is_told_as_such(rt: HostRuntime) {
+    let alloc = rt.alloc();
+    let mut records = Vec::new(alloc);
+    let mut input = "a,b\n".as_bytes();
+    let room = spare(&rt, alloc, 8192);
+    let hog = take_all(&rt, alloc);
+    drop(room);
+    let read = read_records(alloc, ',', &mut input, &mut records);
+    drop(hog);
+    let cause = RecordsCause::Reserve;
+    assert!(rt; read == Err(RecordsError { line: 1, cause }));
+    assert_eq!(rt; records.len(), 0);
+}

@@ -1,0 +1,55 @@
+//! The report: columns counted in characters, records that are too short, and refused memory.
+
+use crate::memory::take_all;
+use crate::values::copied;
+use compact_str::CompactString;
+use compact_uses::aligned_rows;
+use std::alloc::Global;
+use std::process::Abort;
+
+/// A record with these fields.
+fn fields_of(rt: &impl Abort, alloc: Global, texts: &[&str]) -> Vec<CompactString> {
+    let mut fields = Vec::new(alloc);
+    for text in texts {
+        fields.push(copied(rt, alloc, text)).expect(rt, "memory");
+    }
+    fields
+}
+
+fn assert_line(rt: &impl Abort, lines: &Vec<CompactString>, index: usize, text: &str) {
+    assert_eq!(rt; lines.get(index).map(|line| line.as_str()), Some(text));
+}
+
+// The widths are 2, 5 and 1 characters, the bytes of the fields more.
+#[test]
+fn columns_are_as_wide_as_their_longest_field_in_characters(rt: HostRuntime) {
+    let alloc = rt.alloc();
+    let table = [
+        fields_of(&rt, alloc, &["a", "größe", "1"]),
+        fields_of(&rt, alloc, &["😀字", "b"]),
+        fields_of(&rt, alloc, &[]),
+    ];
+    let lines = aligned_rows(alloc, &table).expect(&rt, "memory");
+    assert_eq!(rt; lines.len(), 3);
+    assert_line(&rt, &lines, 0, "| a  | größe | 1 |");
+    assert_line(&rt, &lines, 1, "| 😀字 | b     |   |");
+    assert_line(&rt, &lines, 2, "|    |       |   |");
+}
+
+#[test]
+fn no_records_have_no_lines(rt: HostRuntime) {
+    let lines = aligned_rows(rt.alloc(), &[]).expect(&rt, "memory");
+    assert_eq!(rt; lines.len(), 0);
+}
+
+#[test]
+fn a_refused_report_leaves_the_records(rt: HostRuntime) {
+    let alloc = rt.alloc();
+    let table = [fields_of(&rt, alloc, &["a", "b"])];
+    let hog = take_all(&rt, alloc);
+    let lines = aligned_rows(alloc, &table);
+    drop(hog);
+    assert!(rt; lines.is_err());
+    let lines = aligned_rows(alloc, &table).expect(&rt, "memory");
+    assert_line(&rt, &lines, 0, "| a | b |");
+}
