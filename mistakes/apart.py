@@ -2,8 +2,8 @@
 
     python3 mistakes/apart.py [CRATE..]
 
-A file of must-fail/ may hold several wrong bodies, each under a comment line with its name, in functions that do not call
-one another. The gate asks that the crate with all of them is refused. This asks of each that the proof of its own function
+A file of must-fail/ may hold several wrong bodies, each under a comment line with its name, in functions that are not to
+call one another. The gate asks that the crate with all of them is refused. This asks of each that the proof of its own function
 is refused, and not only that of a function which calls another one. It works on a copy of the repository, and takes each
 file in one check; a wrong body that shares its function with another, or whose function was not tried since it calls
 one that is not proved, gets a check of its own. With no crate named all are tried, which takes an hour of a processor.
