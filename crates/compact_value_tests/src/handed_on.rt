@@ -5,10 +5,9 @@ use crate::values::{
 };
 use compact_str::{CompactString, FromJsonError};
 use serde_json::{Value, json};
-use std::alloc::Global;
+use std::alloc::{AllocError, Global};
 use std::borrow::CowStr;
 use std::process::Abort;
-use std::test::Fail;
 
 /// A value of 60 bytes of room, in which a text of 40 was cut to `"äb"`.
 fn shortened(rt: &impl Abort, alloc: Global) -> CompactString {
@@ -50,56 +49,66 @@ fn boxes_and_shared_texts_have_the_text(rt: HostRuntime) {
     assert_eq!(rt; shared.as_str(), letters(30));
 }
 
+/// Asserts that a text is borrowed, or that it is owned.
+fn is_lent(rt: &impl Abort, cow: CowStr<'_>, text: &str, is_borrowed: bool) {
+    assert!(rt; matches!(cow, CowStr::Borrowed(_)) == is_borrowed);
+    assert_eq!(rt; cow.as_str(), text);
+}
+
 #[test]
 fn a_static_text_is_borrowed_and_others_are_owned(rt: HostRuntime) {
     let alloc = rt.alloc();
-    match lasting(alloc, 30).into_cow().expect(&rt, "memory") {
-        CowStr::Borrowed(text) => assert_eq!(rt; text, letters(30)),
-        CowStr::Owned(_) => assert!(rt; false),
-    }
-    match copied(&rt, alloc, "äb").into_cow().expect(&rt, "memory") {
-        CowStr::Borrowed(_) => assert!(rt; false),
-        CowStr::Owned(text) => assert_eq!(rt; text.as_str(), "äb"),
-    }
+    let cow = lasting(alloc, 30).into_cow().expect(&rt, "memory");
+    is_lent(&rt, cow, letters(30), true);
+    let cow = copied(&rt, alloc, "äb").into_cow().expect(&rt, "memory");
+    is_lent(&rt, cow, "äb", false);
     let value = shortened(&rt, alloc);
-    match value.as_cow() {
-        CowStr::Borrowed(text) => assert_eq!(rt; text, "äb"),
-        CowStr::Owned(_) => assert!(rt; false),
-    }
-    match value.into_cow().expect(&rt, "memory") {
-        CowStr::Borrowed(_) => assert!(rt; false),
-        CowStr::Owned(text) => assert_eq!(rt; text.as_str(), "äb"),
-    }
+    is_lent(&rt, value.as_cow(), "äb", true);
+    is_lent(&rt, value.into_cow().expect(&rt, "memory"), "äb", false);
+}
+
+/// The JSON value of a text.
+fn json_of(rt: &impl Abort, value: &CompactString) -> Value {
+    value.to_json().expect(rt, "memory")
+}
+
+/// Asserts how a JSON value is printed.
+fn is_printed(rt: &impl Abort, alloc: Global, json: &Value, text: &str) {
+    assert_eq!(rt; json.to_string(alloc).expect(rt, "memory").as_str(), text);
+}
+
+/// The value of a JSON string.
+fn value_of(rt: &impl Abort, alloc: Global, json: &Value) -> CompactString {
+    CompactString::from_json(alloc, json).expect(rt, "a string")
 }
 
 #[test]
-fn a_value_is_a_json_string(rt: HostRuntime) -> Result<(), Fail> {
+fn a_value_is_a_json_string(rt: HostRuntime) {
     let alloc = rt.alloc();
-    let json = copied(&rt, alloc, "abc").to_json()?;
-    assert_eq!(rt; json.to_string(alloc)?.as_str(), "\"abc\"");
-    let json = copied(&rt, alloc, "ä\"\n").to_json()?;
-    assert_eq!(rt; json.to_string(alloc)?.as_str(), "\"ä\\\"\\n\"");
-    let json = lasting(alloc, 30).to_json()?;
-    assert_heap(&rt, &CompactString::from_json(alloc, &json)?, 32, 30);
-    Ok(())
+    let json = json_of(&rt, &copied(&rt, alloc, "abc"));
+    is_printed(&rt, alloc, &json, "\"abc\"");
+    let json = json_of(&rt, &copied(&rt, alloc, "ä\"\n"));
+    is_printed(&rt, alloc, &json, "\"ä\\\"\\n\"");
+    let json = json_of(&rt, &lasting(alloc, 30));
+    assert_heap(&rt, &value_of(&rt, alloc, &json), 32, 30);
 }
 
 /// Asserts that a JSON value is no string.
-fn is_no_string(rt: &impl Abort, alloc: Global, value: &Value) {
-    let made: Result<CompactString, FromJsonError> = CompactString::from_json(alloc, value);
-    assert!(rt; matches!(made, Err(FromJsonError::NotAString)));
+fn is_no_string(rt: &impl Abort, alloc: Global, made: Result<Value, AllocError>) {
+    let json = made.expect(rt, "memory");
+    let read: Result<CompactString, FromJsonError> = CompactString::from_json(alloc, &json);
+    assert!(rt; matches!(read, Err(FromJsonError::NotAString)));
 }
 
 #[test]
-fn only_a_json_string_is_taken(rt: HostRuntime) -> Result<(), Fail> {
+fn only_a_json_string_is_taken(rt: HostRuntime) {
     let alloc = rt.alloc();
-    let value = CompactString::from_json(alloc, &json!(in alloc; "abc")?)?;
-    assert_inline(&rt, &value, "abc");
-    is_no_string(&rt, alloc, &json!(in alloc; 1)?);
-    is_no_string(&rt, alloc, &json!(in alloc; null)?);
-    is_no_string(&rt, alloc, &json!(in alloc; true)?);
-    is_no_string(&rt, alloc, &json!(in alloc; [])?);
-    is_no_string(&rt, alloc, &json!(in alloc; {})?);
-    is_no_string(&rt, alloc, &json!(in alloc; ["abc"])?);
-    Ok(())
+    let json = json!(in alloc; "abc").expect(&rt, "memory");
+    assert_inline(&rt, &value_of(&rt, alloc, &json), "abc");
+    is_no_string(&rt, alloc, json!(in alloc; 1));
+    is_no_string(&rt, alloc, json!(in alloc; null));
+    is_no_string(&rt, alloc, json!(in alloc; true));
+    is_no_string(&rt, alloc, json!(in alloc; []));
+    is_no_string(&rt, alloc, json!(in alloc; {}));
+    is_no_string(&rt, alloc, json!(in alloc; ["abc"]));
 }
