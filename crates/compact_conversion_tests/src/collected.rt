@@ -27,32 +27,33 @@ fn euros(rt: &impl Abort, alloc: Global, count: usize) -> CompactString {
     CompactString::from_chars(alloc, EUROS.chars().take(count)).expect(rt, "memory")
 }
 
+/// Asserts that a text of this length was made, which stands on the heap.
+fn assert_long(rt: &impl Abort, value: &CompactString, text: &str, len: usize) {
+    assert!(rt; value.is_heap_allocated());
+    assert_eq!(rt; value.as_str(), text);
+    assert_eq!(rt; value.len(), len);
+}
+
 #[test]
 fn characters_are_inline_up_to_24_bytes(rt: HostRuntime) {
     assert_inline(&rt, &euros(&rt, rt.alloc(), 8), "€€€€€€€€");
-    let long = euros(&rt, rt.alloc(), 9);
-    assert!(rt; long.is_heap_allocated());
-    assert_eq!(rt; long.as_str(), "€€€€€€€€€");
-    assert_eq!(rt; long.len(), 27);
+    assert_long(&rt, &euros(&rt, rt.alloc(), 9), "€€€€€€€€€", 27);
+}
+
+/// The words of a text, collected.
+fn words(rt: &impl Abort, alloc: Global, text: &str) -> CompactString {
+    CompactString::from_texts(alloc, text.split(' ')).expect(rt, "memory")
 }
 
 #[test]
 fn texts_are_collected(rt: HostRuntime) {
-    let numbers = [
-        "1", "2", "3", "4", "5", "6", "7", "8", "9", "10", "11", "12", "13", "14", "15", "16",
-        "17", "18", "19", "20",
-    ];
-    let value = gathered(&rt, rt.alloc(), &numbers);
-    assert!(rt; value.is_heap_allocated());
-    assert_eq!(rt; value.as_str(), "1234567891011121314151617181920");
-    assert_eq!(rt; value.len(), 31);
+    let numbers = "1 2 3 4 5 6 7 8 9 10 11 12 13 14 15 16 17 18 19 20";
+    let text = "1234567891011121314151617181920";
+    assert_long(&rt, &words(&rt, rt.alloc(), numbers), text, 31);
     assert_inline(&rt, &gathered(&rt, rt.alloc(), &[""; 30]), "");
     assert_inline(&rt, &gathered(&rt, rt.alloc(), &[]), "");
-    assert_inline(
-        &rt,
-        &gathered(&rt, rt.alloc(), &[letters(20), letters(4)]),
-        letters(24),
-    );
+    let parts = [letters(20), letters(4)];
+    assert_inline(&rt, &gathered(&rt, rt.alloc(), &parts), letters(24));
 }
 
 #[test]

@@ -4,9 +4,8 @@ use crate::memory::take_all;
 use crate::values::{assert_inline, letters};
 use bytes::Buf;
 use compact_str::{CompactString, FromUtf8Error, FromUtf16Error, ReserveError, Utf16Error};
-use std::alloc::Global;
+use std::alloc::{AllocError, Global};
 use std::process::Abort;
-use std::test::Fail;
 
 /// Asserts that the bytes are no text, with the fault at that place, and which text they give lossily.
 fn assert_broken(
@@ -214,29 +213,31 @@ fn faults_are_told_before_memory_is_asked_for(rt: HostRuntime) {
     drop(hog);
 }
 
+/// Asserts how an error is shown.
+fn is_shown(rt: &impl Abort, made: Result<String, AllocError>, text: &str) {
+    assert_eq!(rt; made.expect(rt, "memory").as_str(), text);
+}
+
 #[test]
-fn errors_show_these_texts(rt: HostRuntime) -> Result<(), Fail> {
+fn errors_show_these_texts(rt: HostRuntime) {
     let alloc = rt.alloc();
     let broken = FromUtf8Error::Utf8 {
         valid_up_to: 0,
         error_len: None,
     };
-    assert_eq!(rt; format!(in alloc; "{broken}")?.as_str(), "invalid utf-8");
+    is_shown(&rt, format!(in alloc; "{broken}"), "invalid utf-8");
     let lone = FromUtf16Error::Utf16(Utf16Error);
-    let text = format!(in alloc; "{lone}")?;
-    assert_eq!(rt; text.as_str(), "invalid utf-16: lone surrogate found");
+    let text = "invalid utf-16: lone surrogate found";
+    is_shown(&rt, format!(in alloc; "{lone}"), text);
+}
+
+#[test]
+fn refusals_show_this_text(rt: HostRuntime) {
+    let alloc = rt.alloc();
+    let text = "Cannot allocate memory to hold CompactString";
     let refused = FromUtf8Error::from(ReserveError);
     assert!(rt; refused == FromUtf8Error::Reserve(ReserveError));
-    let text = format!(in alloc; "{refused}")?;
-    assert_eq!(rt;
-        text.as_str(),
-        "Cannot allocate memory to hold CompactString"
-    );
+    is_shown(&rt, format!(in alloc; "{refused}"), text);
     let refused = FromUtf16Error::from(ReserveError);
-    let text = format!(in alloc; "{refused}")?;
-    assert_eq!(rt;
-        text.as_str(),
-        "Cannot allocate memory to hold CompactString"
-    );
-    Ok(())
+    is_shown(&rt, format!(in alloc; "{refused}"), text);
 }

@@ -3,10 +3,10 @@
 use crate::values::{assert_inline, letters};
 use compact_ext::{ToCompactStringError, format_compact};
 use compact_str::{CompactString, ReserveError};
+use std::alloc::Global;
 use std::fmt;
 use std::fmt::Display;
 use std::process::Abort;
-use std::test::Fail;
 
 /// It writes `a`, and then fails by itself.
 #[derive(Drop)]
@@ -77,22 +77,26 @@ fn what_fails_by_itself_is_no_refusal(rt: HostRuntime) {
 }
 
 #[test]
-fn errors_are_made_and_shown_so(rt: HostRuntime) -> Result<(), Fail> {
-    let alloc = rt.alloc();
+fn errors_are_made_so(rt: HostRuntime) {
     let refused = ToCompactStringError::from(ReserveError);
     let failed = ToCompactStringError::from(fmt::Error);
     assert!(rt; refused == ToCompactStringError::Reserve(ReserveError));
     assert!(rt; failed == ToCompactStringError::Fmt(fmt::Error));
     assert!(rt; refused != failed);
-    let text = format_compact!(in alloc; "{refused}")?;
-    assert_eq!(rt;
-        text.as_str(),
-        "Cannot allocate memory to hold CompactString"
-    );
-    let (text, same) = (
-        format_compact!(in alloc; "{failed}")?,
-        format_compact!(in alloc; "{}", fmt::Error)?,
-    );
-    assert_eq!(rt; text.as_str(), same.as_str());
-    Ok(())
+}
+
+/// Asserts how an error is shown.
+fn is_shown(rt: &impl Abort, alloc: Global, error: ToCompactStringError, text: &str) {
+    let made = text_of(rt, format_compact!(in alloc; "{error}"));
+    assert_eq!(rt; made.as_str(), text);
+}
+
+#[test]
+fn errors_are_shown_so(rt: HostRuntime) {
+    let alloc = rt.alloc();
+    let refused = ToCompactStringError::from(ReserveError);
+    let text = "Cannot allocate memory to hold CompactString";
+    is_shown(&rt, alloc, refused, text);
+    let same = text_of(&rt, format_compact!(in alloc; "{}", fmt::Error));
+    is_shown(&rt, alloc, fmt::Error.into(), same.as_str());
 }

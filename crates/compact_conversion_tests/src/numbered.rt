@@ -81,16 +81,18 @@ fn other_values_have_these_texts(rt: HostRuntime) {
     assert_shown(&rt, alloc, buffered(&rt, alloc, 256, "abc"), "abc");
 }
 
+/// Asserts the bytes of a value that stands inline.
+fn assert_packed(rt: &impl Abort, value: &CompactString, bytes: &[u8; 24]) {
+    assert_eq!(rt; &value.packed().expect(rt, "inline"), bytes);
+}
+
 #[test]
 fn numbers_are_packed_so(rt: HostRuntime) {
     let alloc = rt.alloc();
-    let packed = shown(&rt, alloc, 42u8).packed().expect(&rt, "inline");
-    assert_eq!(rt; &packed[..2], [0x34, 0x32].as_slice());
-    assert_eq!(rt; &packed[2..23], [0; 21].as_slice());
-    assert_eq!(rt; packed[23], 0xc2);
-    let packed = shown(&rt, alloc, i64::MIN).packed().expect(&rt, "inline");
-    assert_eq!(rt; &packed[..20], b"-9223372036854775808".as_slice());
-    assert_eq!(rt; &packed[20..], [0, 0, 0, 0xd4].as_slice());
+    let two = b"42\0\0\0\0\0\0\0\0\0\0\0\0\0\0\0\0\0\0\0\0\0\xc2";
+    assert_packed(&rt, &shown(&rt, alloc, 42u8), two);
+    let twenty = b"-9223372036854775808\0\0\0\xd4";
+    assert_packed(&rt, &shown(&rt, alloc, i64::MIN), twenty);
 }
 
 #[test]

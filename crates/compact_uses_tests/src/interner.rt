@@ -3,7 +3,7 @@ ghost use Rattle.std.specs.Prelude.{◌≡◌, ◌≤◌, length, slice_get, Som
 ghost use Rattle.compact_str.specs.Text.{text_of};
 
 use crate::memory::{spare, take_all};
-use crate::values::letters;
+use crate::values::{assert_count, assert_name, letters};
 use compact_edit::{InternError, Interner};
 use std::alloc::Global;
 use std::process::Abort;
@@ -44,6 +44,19 @@ fn number_of(rt: &impl Abort, names: &mut Interner, text: &str) -> u32 {
     names.intern(text).expect(rt, "memory")
 }
 
+/// The numbers of texts for which there is memory.
+fn numbers_of(rt: &impl Abort, alloc: Global, names: &mut Interner, texts: &[&str]) -> Vec<u32> {
+    let mut numbers = Vec::new(alloc);
+    names.intern_all(texts, &mut numbers).expect(rt, "memory");
+    numbers
+}
+
+/// Asserts that a list of texts is refused for want of memory.
+fn is_refused(rt: &impl Abort, names: &mut Interner, texts: &[&str], numbers: &mut Vec<u32>) {
+    let taken = names.intern_all(texts, numbers);
+    assert!(rt; matches!(taken, Err(InternError::Reserve(_))));
+}
+
 /// Asserts that a text is refused for want of memory, and that so many names stand.
 fn assert_refused(rt: &impl Abort, names: &mut Interner, text: &str, count: usize) {
     assert!(rt; matches!(names.intern(text), Err(InternError::Reserve(_))));
@@ -53,15 +66,14 @@ fn assert_refused(rt: &impl Abort, names: &mut Interner, text: &str, count: usiz
 #[test]
 fn a_text_has_the_place_of_its_first_occurrence(rt: HostRuntime) {
     let mut names = Interner::new(rt.alloc());
-    let mut numbers = Vec::new(rt.alloc());
-    let taken = names.intern_all(&["a", "b", "a", ""], &mut numbers);
-    assert!(rt; taken.is_ok());
+    let numbers = numbers_of(&rt, rt.alloc(), &mut names, &["a", "b", "a", ""]);
     assert_eq!(rt; numbers.as_slice(), [0, 1, 0, 2].as_slice());
-    assert_eq!(rt; names.len(), 3);
-    assert_eq!(rt; names.name(1), Some("b"));
-    assert_eq!(rt; names.name(3), None);
-    assert_eq!(rt; number_of(&rt, &mut names, "zzzzzzzzzzzzzzzzzzzzzzzzz"), 3);
-    assert_eq!(rt; number_of(&rt, &mut names, "zzzzzzzzzzzzzzzzzzzzzzzzz"), 3);
+    assert_count(&rt, &names, 3);
+    assert_name(&rt, &names, 1, Some("b"));
+    assert_name(&rt, &names, 3, None);
+    for _ in 0..2 {
+        assert_eq!(rt; number_of(&rt, &mut names, letters(25)), 3);
+    }
 }
 
 #[test]
@@ -76,7 +88,7 @@ fn a_short_name_needs_no_memory_and_a_long_text_does(rt: HostRuntime) {
     assert_refused(&rt, &mut names, letters(30), 4);
     assert_eq!(rt; number_of(&rt, &mut names, letters(25)), 3);
     drop(hog);
-    assert_eq!(rt; names.name(3), Some(letters(25)));
+    assert_name(&rt, &names, 3, Some(letters(25)));
     assert_eq!(rt; number_of(&rt, &mut names, letters(30)), 4);
 }
 
@@ -106,11 +118,10 @@ fn with_no_room_for_the_numbers_nothing_is_taken(rt: HostRuntime) {
     let mut numbers = Vec::new(rt.alloc());
     number_of(&rt, &mut names, "a");
     let hog = take_all(&rt, rt.alloc());
-    let taken = names.intern_all(&["a", "b"], &mut numbers);
+    is_refused(&rt, &mut names, &["a", "b"], &mut numbers);
     drop(hog);
-    assert!(rt; matches!(taken, Err(InternError::Reserve(_))));
     assert_eq!(rt; numbers.len(), 0);
-    assert_eq!(rt; names.len(), 1);
+    assert_count(&rt, &names, 1);
 }
 
 #[test]
@@ -119,12 +130,12 @@ fn the_texts_before_a_refused_one_are_taken(rt: HostRuntime) {
     let mut numbers = Vec::with_capacity(rt.alloc(), 8).expect(&rt, "memory");
     number_of(&rt, &mut names, "a");
     number_of(&rt, &mut names, "b");
+    let texts = ["b", "a", letters(30), "b"];
     let hog = take_all(&rt, rt.alloc());
-    let taken = names.intern_all(&["b", "a", letters(30), "b"], &mut numbers);
+    is_refused(&rt, &mut names, &texts, &mut numbers);
     drop(hog);
-    assert!(rt; matches!(taken, Err(InternError::Reserve(_))));
     assert_eq!(rt; numbers.as_slice(), [1, 0].as_slice());
-    assert_eq!(rt; names.len(), 2);
+    assert_count(&rt, &names, 2);
 }
 
 /// Random numbers, as a linear congruence gives them.

@@ -1,9 +1,11 @@
 //! The tokenizer: characters of each width, and refused memory.
 
 use crate::memory::take_all;
-use crate::values::{copied, letters};
+use crate::values::{assert_count, assert_name, copied, letters};
 use compact_edit::{InternError, Interner};
+use compact_str::CompactString;
 use compact_uses::{Kind, Token, tokenize};
+use std::alloc::Global;
 use std::process::Abort;
 
 /// Asserts what a token is made of, and its number.
@@ -11,65 +13,63 @@ fn assert_token(rt: &impl Abort, token: Option<Token>, kind: Kind, name: u32) {
     assert!(rt; token == Some(Token { kind, name }));
 }
 
+/// The tokens of a text, for which there is memory.
+fn tokens_of(rt: &impl Abort, alloc: Global, names: &mut Interner, text: &str) -> Vec<Token> {
+    tokenize(alloc, names, &copied(rt, alloc, text)).expect(rt, "memory")
+}
+
+/// The kind that a letter stands for.
+fn kind_of(letter: char) -> Kind {
+    match letter {
+        'w' => Kind::Word,
+        'n' => Kind::Number,
+        's' => Kind::Space,
+        _ => Kind::Mark,
+    }
+}
+
 // Of which kind a character is: Python's `isalpha`, `isnumeric` and `isspace`.
 #[test]
 fn characters_of_each_width_are_cut_by_their_kind(rt: HostRuntime) {
-    let alloc = rt.alloc();
-    let mut names = Interner::new(alloc);
-    let text = copied(&rt, alloc, "ab, 12 éß字٣\u{a0}😀😀x");
-    let tokens = tokenize(alloc, &mut names, &text).expect(&rt, "memory");
-    let kinds = "w.snswns..w";
-    let numbers = [0, 1, 2, 3, 2, 4, 5, 6, 7, 7, 8];
+    let mut names = Interner::new(rt.alloc());
+    let text = "ab, 12 éß字٣\u{a0}😀😀x";
+    let tokens = tokens_of(&rt, rt.alloc(), &mut names, text);
     assert_eq!(rt; tokens.len(), 11);
-    for (index, letter) in kinds.chars().enumerate() {
-        let kind = match letter {
-            'w' => Kind::Word,
-            'n' => Kind::Number,
-            's' => Kind::Space,
-            _ => Kind::Mark,
-        };
+    let numbers = [0, 1, 2, 3, 2, 4, 5, 6, 7, 7, 8];
+    for (index, letter) in "w.snswns..w".chars().enumerate() {
         let name = numbers.get(index).copied().unwrap_or(9);
-        assert_token(&rt, tokens.get(index).copied(), kind, name);
+        assert_token(&rt, tokens.get(index).copied(), kind_of(letter), name);
     }
-    assert_eq!(rt; names.name(4), Some("éß字"));
-    assert_eq!(rt; names.name(6), Some("\u{a0}"));
-    assert_eq!(rt; names.name(7), Some("😀"));
-    assert_eq!(rt; names.len(), 9);
+    for (number, name) in [(4, "éß字"), (6, "\u{a0}"), (7, "😀")] {
+        assert_name(&rt, &names, number, Some(name));
+    }
+    assert_count(&rt, &names, 9);
 }
 
 #[test]
 fn an_empty_text_has_no_tokens(rt: HostRuntime) {
     let mut names = Interner::new(rt.alloc());
-    let text = copied(&rt, rt.alloc(), "");
-    let tokens = tokenize(rt.alloc(), &mut names, &text).expect(&rt, "memory");
+    let tokens = tokens_of(&rt, rt.alloc(), &mut names, "");
     assert_eq!(rt; tokens.len(), 0);
-    assert_eq!(rt; names.len(), 0);
+    assert_count(&rt, &names, 0);
+}
+
+/// Asserts that a text is refused while there is no memory, and that the one name stands.
+fn is_refused(rt: &impl Abort, alloc: Global, names: &mut Interner, text: &CompactString) {
+    let hog = take_all(rt, alloc);
+    let tokens = tokenize(alloc, names, text);
+    drop(hog);
+    assert!(rt; matches!(tokens, Err(InternError::Reserve(_))));
+    assert_name(rt, names, 0, Some("ab"));
+    assert_count(rt, names, 1);
 }
 
 #[test]
-fn a_refused_list_of_tokens_leaves_the_names(rt: HostRuntime) {
-    let alloc = rt.alloc();
-    let mut names = Interner::new(alloc);
-    let known = names.intern("ab").expect(&rt, "memory");
-    let text = copied(&rt, alloc, "ab ab");
-    let hog = take_all(&rt, alloc);
-    let tokens = tokenize(alloc, &mut names, &text);
-    drop(hog);
-    assert!(rt; matches!(tokens, Err(InternError::Reserve(_))));
-    assert_eq!(rt; names.name(known), Some("ab"));
-    assert_eq!(rt; names.len(), 1);
-}
-
-#[test]
-fn a_refused_long_word_leaves_the_names(rt: HostRuntime) {
-    let alloc = rt.alloc();
-    let mut names = Interner::new(alloc);
-    let known = names.intern("ab").expect(&rt, "memory");
-    let text = copied(&rt, alloc, letters(30));
-    let hog = take_all(&rt, alloc);
-    let tokens = tokenize(alloc, &mut names, &text);
-    drop(hog);
-    assert!(rt; matches!(tokens, Err(InternError::Reserve(_))));
-    assert_eq!(rt; names.name(known), Some("ab"));
-    assert_eq!(rt; names.len(), 1);
+fn a_refused_list_of_tokens_or_a_long_word_leaves_the_names(rt: HostRuntime) {
+    let mut names = Interner::new(rt.alloc());
+    assert_eq!(rt; names.intern("ab").expect(&rt, "memory"), 0);
+    for text in ["ab ab", letters(30)] {
+        let text = copied(&rt, rt.alloc(), text);
+        is_refused(&rt, rt.alloc(), &mut names, &text);
+    }
 }
