@@ -16,6 +16,11 @@
 # workload once and writes neither, which shows whether the checksums agree; BENCH_ONLY='intern join' runs only the
 # workloads whose names begin so.
 #
+# Each function of the library begins at a multiple of 64 bytes, and so does each function of the program and of the Rust
+# crate. Compilers put functions at multiples of 16, and then a loop of 21 bytes lies in one line of a processor's decoded
+# instructions or in two by where the linker happens to put it: the same code takes up to a quarter longer. With
+# BENCH_AS_LINKED=1 all functions stay where the linker puts them.
+#
 # What is built lies in bench/out and in the out/ folders of the crates.
 set -eu
 
@@ -31,6 +36,12 @@ if ! (cd "$bench/../crates/compact_bench" && rt lib) >"$built/rt.log" 2>&1; then
     exit 1
 fi
 library=$bench/../crates/compact_bench/out/libcompact_bench.a
+place=()
+if [ -z "${BENCH_AS_LINKED:-}" ]; then
+    objcopy --set-section-alignment '.text*=64' "$library" "$built/libcompact_bench.a"
+    library=$built/libcompact_bench.a
+    place=(-C llvm-args=-align-all-functions=6)
+fi
 allocator=$(dirname "$(rt doc)")/c/liblibc_c.a
 link=(-C "link-arg=$library" -C "link-arg=$allocator")
 
@@ -41,7 +52,7 @@ BENCH_TOLD="$(date -u +%F), ${processor:-a processor with no name}${numbers:+ ($
 export BENCH_TO BENCH_TOLD
 
 if [ -z "$crate" ]; then
-    rustc --edition 2024 -C opt-level=3 -C codegen-units=1 -C lto=fat "${link[@]}" -o "$built/bench" "$bench/main.rs"
+    rustc --edition 2024 -C opt-level=3 -C codegen-units=1 -C lto=fat "${place[@]}" "${link[@]}" -o "$built/bench" "$bench/main.rs"
     exec "$built/bench"
 fi
 
@@ -72,5 +83,5 @@ END
 cd "$crate"
 # Cargo does not look at what a link argument names, and would keep a program with an earlier library in it.
 rm -rf "$built"/target/release/.fingerprint/bench-*
-cargo rustc -q --release --features peer --manifest-path "$built/Cargo.toml" --target-dir "$built/target" -- "${link[@]}"
+RUSTFLAGS="${RUSTFLAGS:-} ${place[*]}" cargo rustc -q --release --features peer --manifest-path "$built/Cargo.toml" --target-dir "$built/target" -- "${link[@]}"
 exec "$built/target/release/bench"
