@@ -94,7 +94,7 @@ fn try_cases(alloc: Global, faults: Faults, cases: &[Case<'_>]) -> io::Result<Fa
     let mut trial = Trial::new(alloc, faults)?;
     trial.apart();
     for case in cases {
-        trial.case(case)?;
+        trial.case(case);
     }
     Ok(trial.finish())
 }

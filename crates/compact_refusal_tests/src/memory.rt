@@ -20,8 +20,14 @@ const STEP: usize = 16;
 /// The most bytes that are granted at once.
 const GREATEST: usize = 1600;
 
-/// How many blocks of a step are kept for grants.
-const STOCK: usize = 100;
+/// How many blocks of a step are kept for grants, for all cases of the table: a block that is granted does not come back.
+/// Most requests are small.
+const STOCK: usize = 200;
+
+const STOCK_OF_SMALL: usize = 2000;
+
+/// The greatest step of small blocks.
+const SMALL: usize = 8;
 
 /// How many blocks of a step must be left for one more case: no case needs as many.
 const LEAST: usize = 40;
@@ -49,22 +55,13 @@ impl Ration {
             stock: stock(alloc)?,
             taken,
         };
-        ration.take_all();
+        ration.take_large();
+        ration.take_rest();
         Ok(ration)
     }
 
-    /// Gives all memory back and takes it anew, where few blocks are left to grant.
-    pub fn restock(&mut self) -> Result<(), AllocError> {
-        if self.is_low() {
-            self.taken.clear();
-            self.stock.clear();
-            self.stock = stock(self.alloc)?;
-            self.take_all();
-        }
-        Ok(())
-    }
-
-    fn is_low(&self) -> bool {
+    /// Whether there may be too few blocks left for one more case.
+    pub fn is_low(&self) -> bool {
         for blocks in &self.stock {
             if blocks.len() < LEAST {
                 return true;
@@ -89,11 +86,6 @@ impl Ration {
         if let Some(blocks) = self.stock.get_mut(step_of(size)) {
             drop(blocks.pop());
         }
-    }
-
-    fn take_all(&mut self) {
-        self.take_large();
-        self.take_rest();
     }
 
     /// Takes what was granted and is not used.
@@ -146,14 +138,16 @@ fn stock(alloc: Global) -> Result<Vec<Vec<Vec<u8>>>, AllocError> {
     let mut stock = Vec::new(alloc);
     for step in 0..=step_of(GREATEST) {
         let size = step.saturating_mul(STEP).saturating_sub(BESIDE);
-        stock.push(blocks(alloc, size)?)?;
+        let count = if step > SMALL { STOCK } else { STOCK_OF_SMALL };
+        stock.push(blocks(alloc, size, count)?)?;
     }
     Ok(stock)
 }
 
-fn blocks(alloc: Global, size: usize) -> Result<Vec<Vec<u8>>, AllocError> {
-    let mut blocks = Vec::with_capacity(alloc, STOCK)?;
-    for _ in 0..STOCK {
+/// So many blocks of a size.
+fn blocks(alloc: Global, size: usize, count: usize) -> Result<Vec<Vec<u8>>, AllocError> {
+    let mut blocks = Vec::with_capacity(alloc, count)?;
+    for _ in 0..count {
         blocks.push(Vec::with_capacity(alloc, size)?)?;
     }
     Ok(blocks)

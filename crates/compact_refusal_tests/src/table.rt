@@ -48,34 +48,81 @@ pub struct Case<'a> {
 }
 
 impl<'a> Case<'a> {
+    /// Reads its lists.
+    fn read(&mut self, alloc: Global, fields: Fields<'a>) -> bool {
+        let (_, operands) = first_word(fields.call);
+        read_operands(&mut self.operands, operands)
+            && read_asks(&mut self.asks, fields.asks)
+            && read_states(&mut self.states, fields.after)
+            && self.read_listed(alloc)
+    }
+
+    fn read_listed(&mut self, alloc: Global) -> bool {
+        match make_listed(alloc, self.name, self.word(0)) {
+            Some(listed) => {
+                self.listed = listed;
+                true
+            }
+            None => false,
+        }
+    }
+
     /// A word behind the name, which is empty where there are not as many.
     pub fn word(&self, index: usize) -> &'a str {
         self.operands.get(index).copied().unwrap_or("")
     }
 }
 
+/// The fields of a line.
+#[derive(Clone, Copy)]
+struct Fields<'a> {
+    start: &'a str,
+    call: &'a str,
+    asks: &'a str,
+    answer: &'a str,
+    after: &'a str,
+}
+
 /// Reads a line, of which `text` has each text written out. `None` is a line that cannot be read.
 pub fn read_case<'a>(alloc: Global, line: &'a str, text: &'a str) -> Option<Case<'a>> {
+    let fields = fields_of(text)?;
+    let mut case = begin_case(alloc, line, fields)?;
+    if case.read(alloc, fields) {
+        Some(case)
+    } else {
+        None
+    }
+}
+
+fn fields_of(text: &str) -> Option<Fields<'_>> {
     let (start, rest) = text.split_once('|')?;
     let (call, rest) = rest.split_once('|')?;
     let (asks, rest) = rest.split_once('|')?;
     let (answer, after) = rest.split_once('|')?;
-    let start = start_of(start.trim())?;
-    let answer = answer_of(answer.trim())?;
-    let call = call.trim();
-    let (name, operands) = first_word(call);
-    let (word, _) = first_word(operands);
-    let listed = make_listed(alloc, name, text_of(word))?;
+    Some(Fields {
+        start: start.trim(),
+        call: call.trim(),
+        asks: asks.trim(),
+        answer: answer.trim(),
+        after: after.trim(),
+    })
+}
+
+/// A case with none of its lists read.
+fn begin_case<'a>(alloc: Global, line: &'a str, fields: Fields<'a>) -> Option<Case<'a>> {
+    let start = start_of(fields.start)?;
+    let answer = answer_of(fields.answer)?;
+    let (name, _) = first_word(fields.call);
     Some(Case {
         line,
         start,
-        call,
+        call: fields.call,
         name,
-        operands: words_of(alloc, operands)?,
-        listed,
-        asks: asks_of(alloc, asks)?,
+        operands: Vec::new(alloc),
+        listed: Listed::Nothing,
+        asks: Vec::new(alloc),
         answer,
-        states: states_of(alloc, after)?,
+        states: Vec::new(alloc),
     })
 }
 
@@ -96,12 +143,13 @@ pub fn first_word(text: &str) -> (&str, &str) {
 }
 
 /// Reads operands.
-fn words_of<'a>(alloc: Global, field: &'a str) -> Option<Vec<&'a str>> {
-    let mut words = Vec::new(alloc);
+fn read_operands<'a>(operands: &mut Vec<&'a str>, field: &'a str) -> bool {
     for word in field.split_whitespace() {
-        words.push(text_of(word)).ok()?;
+        if operands.push(text_of(word)).is_err() {
+            return false;
+        }
     }
-    Some(words)
+    true
 }
 
 /// The text of a word: `_` is the empty one.
@@ -110,15 +158,19 @@ pub fn text_of(word: &str) -> &str {
 }
 
 /// Reads the requests.
-fn asks_of(alloc: Global, field: &str) -> Option<Vec<Ask>> {
-    let mut asks = Vec::new(alloc);
-    if field.trim().is_empty() {
-        return Some(asks);
+fn read_asks(asks: &mut Vec<Ask>, field: &str) -> bool {
+    if field.is_empty() {
+        return true;
     }
     for part in field.split(',') {
-        asks.push(ask_of(part.trim())?).ok()?;
+        let Some(ask) = ask_of(part.trim()) else {
+            return false;
+        };
+        if asks.push(ask).is_err() {
+            return false;
+        }
     }
-    Some(asks)
+    true
 }
 
 /// Reads a request. `replies` is the room that a list of no replies makes for two, which is room for four.
@@ -159,16 +211,20 @@ fn long_answer_of(field: &str) -> Option<Answer<'_>> {
     }
 }
 
-/// Reads what stands after a call, of one request more each: `-` is nothing.
-fn states_of<'a>(alloc: Global, field: &'a str) -> Option<Vec<Seen<'a>>> {
-    let mut states = Vec::new(alloc);
-    if field.trim() == "-" {
-        return Some(states);
+/// Reads what stands after a call, with one request more granted behind each `/`. `-` is nothing.
+fn read_states<'a>(states: &mut Vec<Seen<'a>>, field: &'a str) -> bool {
+    if field == "-" {
+        return true;
     }
-    for part in field.split(',') {
-        states.push(seen_of(part.trim())?).ok()?;
+    for part in field.split('/') {
+        let Some(seen) = seen_of(part.trim()) else {
+            return false;
+        };
+        if states.push(seen).is_err() {
+            return false;
+        }
     }
-    Some(states)
+    true
 }
 
 /// Reads place, capacity and text of a value.

@@ -61,9 +61,13 @@ impl Trial {
     }
 
     /// Tries a line.
-    pub fn case(&mut self, case: &Case<'_>) -> Result<(), AllocError> {
-        self.ration.restock()?;
+    pub fn case(&mut self, case: &Case<'_>) {
         self.faults.begin(case.line);
+        let is_low = self.ration.is_low();
+        self.faults.expect(
+            !is_low,
+            "few blocks are left to grant: keep more in `memory.rt`",
+        );
         match (case.start, case.answer) {
             (None, Answer::Made) => self.makes(case),
             (Some(start), Answer::Left(text)) => self.leaves(case, start, text),
@@ -77,7 +81,6 @@ impl Trial {
         }
         self.faults.end();
         self.ration.take_rest();
-        Ok(())
     }
 
     /// A call on a value.
