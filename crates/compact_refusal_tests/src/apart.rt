@@ -115,12 +115,12 @@ fn are_appended(alloc: Global, ration: &mut Ration) -> bool {
 /// Appends 30 letters, 40 digits and 40 digits to an empty line.
 fn is_appended(alloc: Global, is_whole: bool, len: usize) -> bool {
     let mut line = String::new(alloc);
-    let is_done = append(&mut line, three_values(alloc));
+    let is_done = append(&mut line, &three_values(alloc));
     is_done == is_whole && line.as_str() == front(len)
 }
 
-fn append(line: &mut String, values: [CompactString; 3]) -> bool {
-    append_all(line, values).is_ok()
+fn append(line: &mut String, values: &[CompactString]) -> bool {
+    append_all(line, values.iter()).is_ok()
 }
 
 fn three_values(alloc: Global) -> [CompactString; 3] {

@@ -50,19 +50,31 @@ fn named(case: &Case<'_>, value: &mut CompactString) -> Reply<Standard> {
     match case.name {
         "try_reserve" => try_reserve(value, case.word(0)),
         "write_str" => written(value.write_str(case.word(0)).is_ok()),
-        "write!" => written(write!(value, "{}{}", case.word(0), case.word(1)).is_ok()),
+        "write!" => write_both(value, case.word(0), case.word(1)),
         "add_str" => add_str(value, case.word(0)),
-        "clone" => given(value.clone().map_err(|_| ReserveError)),
+        "clone" => cloned(value),
         "to_ascii_lowercase" => given(value.to_ascii_lowercase()),
         "to_ascii_uppercase" => given(value.to_ascii_uppercase()),
-        "to_compact_string" => {
-            given(
-                value
-                    .to_compact_string(value.allocator())
-                    .map_err(|_| ReserveError),
-            )
-        }
+        "to_compact_string" => shown(value),
         _ => Reply::BadPosition,
+    }
+}
+
+fn write_both(value: &mut CompactString, first: &str, last: &str) -> Reply<Standard> {
+    written(write!(value, "{first}{last}").is_ok())
+}
+
+fn cloned(value: &CompactString) -> Reply<Standard> {
+    match value.clone() {
+        Ok(text) => Reply::Text(text),
+        Err(_) => Reply::Refused(ReserveError),
+    }
+}
+
+fn shown(value: &CompactString) -> Reply<Standard> {
+    match value.to_compact_string(value.allocator()) {
+        Ok(text) => Reply::Text(text),
+        Err(_) => Reply::Refused(ReserveError),
     }
 }
 

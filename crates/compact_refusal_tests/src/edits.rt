@@ -48,18 +48,26 @@ fn clone_from_of(listed: &Listed) -> Option<Edit<'_, Standard>> {
 fn edit_at<'a>(name: &str, operands: &'a str) -> Option<Edit<'a, Standard>> {
     let (place, operand) = first_word(operands);
     match name {
-        "insert" => Some(Edit::Insert(number(place)?, character(operand)?)),
+        "insert" => insert_of(place, operand),
         "insert_str" => Some(Edit::InsertStr(number(place)?, text_of(operand))),
-        "replace_range" => {
-            let (start, end) = range(place)?;
-            Some(Edit::ReplaceRange(start, end, text_of(operand)))
-        }
-        "drain" => {
-            let (start, end) = range(place)?;
-            Some(Edit::Drain(start, end))
-        }
+        "replace_range" => replace_range_of(place, operand),
+        "drain" => drain_of(place),
         _ => edit_of_number(name, number(place)?),
     }
+}
+
+fn insert_of<'a>(place: &str, operand: &str) -> Option<Edit<'a, Standard>> {
+    Some(Edit::Insert(number(place)?, character(operand)?))
+}
+
+fn replace_range_of<'a>(place: &str, text: &'a str) -> Option<Edit<'a, Standard>> {
+    let (start, end) = range(place)?;
+    Some(Edit::ReplaceRange(start, end, text_of(text)))
+}
+
+fn drain_of<'a>(place: &str) -> Option<Edit<'a, Standard>> {
+    let (start, end) = range(place)?;
+    Some(Edit::Drain(start, end))
 }
 
 /// The edit of a name and a number.

@@ -58,10 +58,10 @@ pub fn make_listed(alloc: Global, name: &str, word: &str) -> Option<Listed> {
         | "from_utf16le"
         | "from_utf16le_lossy"
         | "from_utf16be"
-        | "from_utf16be_lossy" => bytes_of(alloc, word).map(Listed::Bytes),
-        "from_utf16" | "from_utf16_lossy" => units_of(alloc, word).map(Listed::Units),
-        "read_wire" => form_of(&copied(alloc, word)?, alloc).map(Listed::Bytes),
-        "from_json" => json!(in alloc; word).ok().map(Listed::Json),
+        | "from_utf16be_lossy" => Some(Listed::Bytes(bytes_of(alloc, word)?)),
+        "from_utf16" | "from_utf16_lossy" => Some(Listed::Units(units_of(alloc, word)?)),
+        "read_wire" => Some(Listed::Bytes(form_of(alloc, word)?)),
+        "from_json" => Some(Listed::Json(json_of(alloc, word)?)),
         _ => make_typed(alloc, name, word),
     }
 }
@@ -69,12 +69,12 @@ pub fn make_listed(alloc: Global, name: &str, word: &str) -> Option<Listed> {
 /// The same of the calls that take items of one type or another.
 fn make_typed(alloc: Global, name: &str, word: &str) -> Option<Listed> {
     match name {
-        "collect:&char" | "extend:&char" => characters_of(alloc, word).map(Listed::Characters),
+        "collect:&char" | "extend:&char" => Some(Listed::Characters(characters_of(alloc, word)?)),
         "from_texts:String" | "to_compact_string:String" => {
-            String::from_str(alloc, word).ok().map(Listed::String)
+            Some(Listed::String(String::from_str(alloc, word).ok()?))
         }
-        "from_texts:BoxedStr" => BoxedStr::from_str(alloc, word).ok().map(Listed::Box),
-        "from_texts:CompactString" | "clone_from" => source(alloc, word).map(Listed::Value),
+        "from_texts:BoxedStr" => Some(Listed::Box(BoxedStr::from_str(alloc, word).ok()?)),
+        "from_texts:CompactString" | "clone_from" => Some(Listed::Value(source(alloc, word)?)),
         _ => Some(Listed::Nothing),
     }
 }
@@ -103,13 +103,22 @@ fn repeated(word: &str) -> Option<(u16, usize)> {
     Some((number, count.parse::<usize>().ok()?))
 }
 
-/// The form of a value on a wire.
-fn form_of(value: &CompactString, alloc: Global) -> Option<Vec<u8>> {
+/// The form of a text on a wire.
+fn form_of(alloc: Global, word: &str) -> Option<Vec<u8>> {
     let mut bytes = Vec::new(alloc);
-    match write_wire(value, &mut bytes) {
-        Ok(()) => Some(bytes),
-        Err(_) => None,
+    if is_written(&copied(alloc, word)?, &mut bytes) {
+        Some(bytes)
+    } else {
+        None
     }
+}
+
+fn is_written(value: &CompactString, bytes: &mut Vec<u8>) -> bool {
+    write_wire(value, bytes).is_ok()
+}
+
+fn json_of(alloc: Global, word: &str) -> Option<Value> {
+    json!(in alloc; word).ok()
 }
 
 fn characters_of(alloc: Global, word: &str) -> Option<Vec<char>> {

@@ -58,15 +58,31 @@ fn make_room(name: &str, capacity: Option<usize>, alloc: Global) -> Made {
 fn gather(case: &Case<'_>, alloc: Global) -> Made {
     let (word, texts) = (case.word(0), case.operands.as_slice());
     match case.name {
-        "from_chars" => value_or_refused(CompactString::from_chars(alloc, word.chars())),
+        "from_chars" => of_characters(word, alloc),
         "from_texts" => of_texts(texts, alloc),
         "from_texts:CowStr" => of_borrowed(word, alloc),
-        "concat_compact" => value_or_refused(texts.iter().concat_compact(alloc)),
+        "concat_compact" => concatenate(texts, alloc),
         "join_compact" => join(texts, alloc),
-        "collect:char" => of_trait(word.chars().collect(alloc)),
-        "collect:&str" => of_trait(texts.iter().collect(alloc)),
+        "collect:char" => collect_characters(word, alloc),
+        "collect:&str" => collect_texts(texts, alloc),
         _ => gather_listed(case.name, &case.listed, alloc),
     }
+}
+
+fn of_characters(text: &str, alloc: Global) -> Made {
+    value_or_refused(CompactString::from_chars(alloc, text.chars()))
+}
+
+fn concatenate(texts: &[&str], alloc: Global) -> Made {
+    value_or_refused(texts.iter().concat_compact(alloc))
+}
+
+fn collect_characters(text: &str, alloc: Global) -> Made {
+    of_trait(text.chars().collect(alloc))
+}
+
+fn collect_texts(texts: &[&str], alloc: Global) -> Made {
+    of_trait(texts.iter().collect(alloc))
 }
 
 fn of_borrowed(text: &str, alloc: Global) -> Made {

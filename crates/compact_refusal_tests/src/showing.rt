@@ -31,10 +31,18 @@ pub fn show(case: &Case<'_>, alloc: Global) -> Made {
         "to_compact_string:str" => shown(first.to_compact_string(alloc)),
         "try_to_compact_string:str" => shown(first.try_to_compact_string(alloc)),
         "to_compact_string:String" => show_string(&case.listed, alloc),
-        "format_compact!" => shown(format_compact!(in alloc; "{first}{last}")),
-        "format_compact!:hiding" => { shown(format_compact!(in alloc; "{}", Hiding(first, last))) }
+        "format_compact!" => format_both(first, last, alloc),
+        "format_compact!:hiding" => format_hiding(first, last, alloc),
         _ => Made::Unknown,
     }
+}
+
+fn format_both(first: &str, last: &str, alloc: Global) -> Made {
+    shown(format_compact!(in alloc; "{first}{last}"))
+}
+
+fn format_hiding(first: &str, last: &str, alloc: Global) -> Made {
+    shown(format_compact!(in alloc; "{}", Hiding(first, last)))
 }
 
 fn show_unsigned(number: Option<u128>, alloc: Global) -> Made {

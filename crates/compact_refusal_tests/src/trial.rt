@@ -235,7 +235,7 @@ impl Trial {
     /// A list of two edits, with all requests granted: so many are refused, or `None` where the list is.
     fn runs(&mut self, case: &Case<'_>, start: Start, refused: Option<usize>) {
         let (_, calls) = first_word(case.call);
-        let (first, last) = calls.split_once(" ; ").unwrap_or((calls, ""));
+        let (first, last) = halves(calls);
         match (edit_of(first, &case.listed), edit_of(last, &case.listed)) {
             (Some(first), Some(last)) => self.runs_both(case, start, &[first, last], refused),
             _ => self.faults.expect(false, "there is no such edit"),
@@ -320,6 +320,14 @@ impl Trial {
             Some(seen) => self.faults.expect_value(is_seen(value, *seen), value),
             None => self.faults.expect_value(false, value),
         }
+    }
+}
+
+/// The two edits of a list.
+fn halves(calls: &str) -> (&str, &str) {
+    match calls.split_once(" ; ") {
+        Some(halves) => halves,
+        None => (calls, ""),
     }
 }
 

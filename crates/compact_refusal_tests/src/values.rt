@@ -62,8 +62,8 @@ impl Start {
             Start::Static => Some(lasting(alloc)),
             Start::Heap => granted(ration, alloc, 32, 30),
             Start::FullHeap => granted(ration, alloc, 32, 32),
-            Start::Shortened => granted(ration, alloc, 48, 48).map(|value| cut(value, 30)),
-            Start::ShortHeap => granted(ration, alloc, 32, 30).map(|value| cut(value, 3)),
+            Start::Shortened => granted_and_cut(ration, alloc, 48, 48, 30),
+            Start::ShortHeap => granted_and_cut(ration, alloc, 32, 30, 3),
             Start::ShortStatic => Some(cut(lasting(alloc), 3)),
         }
     }
@@ -87,6 +87,20 @@ impl Start {
 fn granted(ration: &mut Ration, alloc: Global, ask: usize, len: usize) -> Option<CompactString> {
     ration.grant(Ask::New(ask));
     copied(alloc, letters(0, len))
+}
+
+/// The same, of which the first `kept` bytes are kept.
+fn granted_and_cut(
+    ration: &mut Ration,
+    alloc: Global,
+    ask: usize,
+    len: usize,
+    kept: usize,
+) -> Option<CompactString> {
+    match granted(ration, alloc, ask, len) {
+        Some(value) => Some(cut(value, kept)),
+        None => None,
+    }
 }
 
 /// 30 letters of the program.
