@@ -1,96 +1,132 @@
-//! The interner, refused at each request: what is taken stands, and nothing else.
+//! The interner: at a refusal what is taken stands, and nothing else.
 
-use crate::memory::Ask;
+use crate::apart::tell;
+use crate::faults::Faults;
 use crate::memory::Ask::{More, New};
-use crate::trial::Trial;
+use crate::memory::{Ask, Ration};
 use crate::values::letters;
 use compact_edit::{InternError, Interner};
-use std::process::Abort;
+use std::alloc::Global;
 
 /// What the first name of an interner asks for beside its copy.
-const TABLE: [Ask; 4] = [New(72), New(64), New(360), New(1)];
+pub const TABLE: [Ask; 4] = [New(72), New(64), New(360), New(1)];
 
-/// Asserts that a new text is refused at each of its requests, which leaves the names as they were, and that with them
-/// granted it has the next number.
-fn takes(rt: &impl Abort, trial: &mut Trial, names: &mut Interner, text: &str, asks: &[Ask]) {
-    let count = names.len();
-    for ask in asks {
-        assert!(rt; matches!(names.intern(text), Err(InternError::Reserve(_))));
-        assert_eq!(rt; names.len(), count);
-        assert_eq!(rt; names.name(count as u32), None);
-        trial.grant(rt, *ask);
-    }
-    let number = names.intern(text).expect(rt, "memory");
-    assert_eq!(rt; number as usize, count);
-    assert_eq!(rt; names.name(number), Some(text));
-    trial.take_rest();
-}
-
-/// Asserts that a name is found while all memory is refused.
-fn finds(rt: &impl Abort, names: &mut Interner, text: &str, number: u32) {
-    assert_eq!(rt;
-        names.intern(text).expect(rt, "no memory is asked for"),
-        number
+/// Each case of the interner.
+pub fn cases(alloc: Global, ration: &mut Ration, faults: &mut Faults) {
+    tell(
+        takes_first(alloc, ration),
+        ration,
+        faults,
+        "the first name asks for the table",
     );
-    assert_eq!(rt; names.name(number), Some(text));
+    tell(
+        takes_long(alloc, ration),
+        ration,
+        faults,
+        "a long first name asks for its copy before",
+    );
+    tell(
+        grows(alloc, ration),
+        ration,
+        faults,
+        "the interner's table grows",
+    );
+    tell(
+        takes_lists(alloc, ration),
+        ration,
+        faults,
+        "a list is taken up to the text that is refused",
+    );
 }
 
-#[test]
-fn the_first_name_asks_for_the_table(rt: HostRuntime) {
-    let mut trial = Trial::new(&rt, rt.alloc());
-    let mut names = Interner::new(rt.alloc());
-    takes(&rt, &mut trial, &mut names, "a", &TABLE);
-    finds(&rt, &mut names, "a", 0);
-    takes(&rt, &mut trial, &mut names, "", &[]);
-    takes(&rt, &mut trial, &mut names, letters(0, 24), &[]);
-    takes(&rt, &mut trial, &mut names, letters(0, 25), &[New(32)]);
-    finds(&rt, &mut names, letters(0, 25), 3);
-    finds(&rt, &mut names, "", 1);
+/// Whether a new text is refused at each of its requests, which leaves the names as they were, and with them granted has
+/// the next number.
+fn takes(ration: &mut Ration, names: &mut Interner, text: &str, asks: &[Ask]) -> bool {
+    let count = names.len();
+    let mut holds = true;
+    for ask in asks {
+        holds &= is_refused(names, text) && names.len() == count;
+        holds &= names.name(count as u32).is_none();
+        ration.grant(*ask);
+    }
+    holds &= finds(names, text, count as u32);
+    ration.take_rest();
+    holds
 }
 
-#[test]
-fn a_long_first_name_asks_for_its_copy_before(rt: HostRuntime) {
-    let mut trial = Trial::new(&rt, rt.alloc());
-    let mut names = Interner::new(rt.alloc());
+fn is_refused(names: &mut Interner, text: &str) -> bool {
+    matches!(names.intern(text), Err(InternError::Reserve(_)))
+}
+
+/// Whether a name has this number, with no request that is not granted.
+pub fn finds(names: &mut Interner, text: &str, number: u32) -> bool {
+    match names.intern(text) {
+        Ok(found) => found == number && names.name(number) == Some(text),
+        Err(_) => false,
+    }
+}
+
+fn takes_first(alloc: Global, ration: &mut Ration) -> bool {
+    let mut names = Interner::new(alloc);
+    let mut holds = takes(ration, &mut names, "a", &TABLE);
+    holds &= finds(&mut names, "a", 0);
+    holds &= takes(ration, &mut names, "", &[]);
+    holds &= takes(ration, &mut names, letters(0, 24), &[]);
+    holds &= takes(ration, &mut names, letters(0, 25), &[New(32)]);
+    holds &= finds(&mut names, letters(0, 25), 3);
+    holds && finds(&mut names, "", 1)
+}
+
+fn takes_long(alloc: Global, ration: &mut Ration) -> bool {
+    let mut names = Interner::new(alloc);
     let asks = [New(32), TABLE[0], TABLE[1], TABLE[2], TABLE[3]];
-    takes(&rt, &mut trial, &mut names, letters(0, 30), &asks);
-    finds(&rt, &mut names, letters(0, 30), 0);
+    let holds = takes(ration, &mut names, letters(0, 30), &asks);
+    holds && finds(&mut names, letters(0, 30), 0)
 }
 
-#[test]
-fn the_table_grows(rt: HostRuntime) {
-    let mut trial = Trial::new(&rt, rt.alloc());
-    let mut names = Interner::new(rt.alloc());
-    takes(&rt, &mut trial, &mut names, letters(0, 0), &TABLE);
+fn grows(alloc: Global, ration: &mut Ration) -> bool {
+    let mut names = Interner::new(alloc);
+    let mut holds = takes(ration, &mut names, letters(0, 0), &TABLE);
     for len in 1..9 {
-        takes(&rt, &mut trial, &mut names, letters(0, len), &[]);
+        holds &= takes(ration, &mut names, letters(0, len), &[]);
     }
     let asks = [More(144), More(128), More(720)];
-    takes(&rt, &mut trial, &mut names, letters(0, 9), &asks);
+    holds &= takes(ration, &mut names, letters(0, 9), &asks);
     for len in 0..10 {
-        finds(&rt, &mut names, letters(0, len), len as u32);
+        holds &= finds(&mut names, letters(0, len), len as u32);
     }
+    holds
 }
 
-#[test]
-fn a_list_is_taken_up_to_the_text_that_is_refused(rt: HostRuntime) {
-    let mut trial = Trial::new(&rt, rt.alloc());
-    let texts = ["a", letters(0, 30), "a", "b"];
+/// After so many grants: how many names stand, and how many numbers.
+fn takes_lists(alloc: Global, ration: &mut Ration) -> bool {
     let asks = [New(16), TABLE[0], TABLE[1], TABLE[2], TABLE[3], New(32)];
-    // After so many grants: how many names stand, and how many numbers.
     let states = [(0, 0), (0, 0), (0, 0), (0, 0), (0, 0), (1, 1), (3, 4)];
+    let mut holds = true;
     for (granted, (count, listed)) in states.iter().enumerate() {
-        let mut names = Interner::new(rt.alloc());
-        let mut numbers = Vec::new(rt.alloc());
         for ask in asks.iter().take(granted) {
-            trial.grant(&rt, *ask);
+            ration.grant(*ask);
         }
-        let outcome = names.intern_all(&texts, &mut numbers);
-        assert_eq!(rt; outcome.is_ok(), granted == asks.len());
-        assert_eq!(rt; names.len(), *count);
-        assert_eq!(rt; Some(numbers.as_slice()), [0, 1, 0, 2].get(..*listed));
-        drop(numbers);
-        drop(names);
-        trial.take_rest();
+        holds &= takes_list(alloc, granted == asks.len(), *count, *listed);
+        ration.take_rest();
     }
+    holds
+}
+
+/// Whether a new interner takes a list as a whole or not, and has so many names and numbers then.
+fn takes_list(alloc: Global, is_whole: bool, count: usize, listed: usize) -> bool {
+    let mut names = Interner::new(alloc);
+    let mut numbers = Vec::new(alloc);
+    let is_taken = take_list(&mut names, &mut numbers);
+    is_taken == is_whole && names.len() == count && are_first(&numbers, listed)
+}
+
+fn take_list(names: &mut Interner, numbers: &mut Vec<u32>) -> bool {
+    let texts = ["a", letters(0, 30), "a", "b"];
+    names.intern_all(&texts, numbers).is_ok()
+}
+
+/// Whether these are the first so many numbers of the list.
+fn are_first(numbers: &[u32], count: usize) -> bool {
+    Some(numbers) == [0, 1, 0, 2].get(..count)
 }

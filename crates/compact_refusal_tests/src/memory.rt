@@ -1,7 +1,6 @@
 //! A process with no memory left but what is granted, request by request.
 
 use std::alloc::{AllocError, Global};
-use std::process::Abort;
 
 /// A request of a call, in bytes.
 #[derive(Clone, Copy)]
@@ -21,8 +20,17 @@ const STEP: usize = 16;
 /// The most bytes that are granted at once.
 const GREATEST: usize = 1600;
 
-/// How many blocks of a step are kept for grants.
-const STOCK: usize = 100;
+/// How many blocks of a step are kept for grants, for all cases of the table: a block that is granted does not come back.
+/// Most requests are small.
+const STOCK: usize = 200;
+
+const STOCK_OF_SMALL: usize = 2000;
+
+/// The greatest step of small blocks.
+const SMALL: usize = 8;
+
+/// How many blocks of a step must be left for one more case: no case needs as many.
+const LEAST: usize = 40;
 
 /// Of free blocks of a step the C library sets the first seven aside for new buffers, and a buffer that stands grows into
 /// the next one.
@@ -40,36 +48,44 @@ pub struct Ration {
 
 impl Ration {
     /// Takes all memory: from now on each request is refused that was not granted.
-    pub fn new(rt: &impl Abort, alloc: Global) -> Ration {
+    pub fn new(alloc: Global) -> Result<Ration, AllocError> {
+        let taken = Vec::with_capacity(alloc, 80_000)?;
         let mut ration = Ration {
             alloc,
-            stock: stock(alloc).expect(rt, "memory for the stock"),
-            taken: Vec::with_capacity(alloc, 80_000).expect(rt, "memory for the list of blocks"),
+            stock: stock(alloc)?,
+            taken,
         };
         ration.take_large();
         ration.take_rest();
-        ration
+        Ok(ration)
     }
 
-    /// Grants one request.
-    pub fn grant(&mut self, rt: &impl Abort, ask: Ask) {
+    /// Whether there may be too few blocks left for one more case.
+    pub fn is_low(&self) -> bool {
+        for blocks in &self.stock {
+            if blocks.len() < LEAST {
+                return true;
+            }
+        }
+        false
+    }
+
+    /// Grants one request. With no block left nothing is granted, and the call that asks is refused again.
+    pub fn grant(&mut self, ask: Ask) {
         match ask {
-            Ask::New(size) => self.give_back(rt, size),
+            Ask::New(size) => self.give_back(size),
             Ask::More(size) => {
                 for _ in 0..FOR_MORE {
-                    self.give_back(rt, size);
+                    self.give_back(size);
                 }
             }
         }
     }
 
-    fn give_back(&mut self, rt: &impl Abort, size: usize) {
-        let blocks = self
-            .stock
-            .get_mut(step_of(size))
-            .expect(rt, "a step of the stock");
-        let block = blocks.pop().expect(rt, "a block of the stock");
-        drop(block);
+    fn give_back(&mut self, size: usize) {
+        if let Some(blocks) = self.stock.get_mut(step_of(size)) {
+            drop(blocks.pop());
+        }
     }
 
     /// Takes what was granted and is not used.
@@ -121,14 +137,18 @@ fn step_of(size: usize) -> usize {
 fn stock(alloc: Global) -> Result<Vec<Vec<Vec<u8>>>, AllocError> {
     let mut stock = Vec::new(alloc);
     for step in 0..=step_of(GREATEST) {
-        let mut blocks = Vec::with_capacity(alloc, STOCK)?;
-        for _ in 0..STOCK {
-            blocks.push(Vec::with_capacity(
-                alloc,
-                step.saturating_mul(STEP).saturating_sub(BESIDE),
-            )?)?;
-        }
-        stock.push(blocks)?;
+        let size = step.saturating_mul(STEP).saturating_sub(BESIDE);
+        let count = if step > SMALL { STOCK } else { STOCK_OF_SMALL };
+        stock.push(blocks(alloc, size, count)?)?;
     }
     Ok(stock)
+}
+
+/// So many blocks of a size.
+fn blocks(alloc: Global, size: usize, count: usize) -> Result<Vec<Vec<u8>>, AllocError> {
+    let mut blocks = Vec::with_capacity(alloc, count)?;
+    for _ in 0..count {
+        blocks.push(Vec::with_capacity(alloc, size)?)?;
+    }
+    Ok(blocks)
 }

@@ -1,24 +1,19 @@
-//! How a call is tried: with no memory, with its first request granted, with its first two, and so on until it is done.
+//! How a line is tried: with no memory, with its first request granted, with its first two, and so on until its call is
+//! done.
 
+use crate::calls::{By, reply};
+use crate::edits::edit_of;
+use crate::extended::extend;
+use crate::faults::Faults;
+use crate::making::make;
 use crate::memory::{Ask, Ration};
-use crate::values::{Seen, Start, assert_seen};
+use crate::table::{Answer, Case, first_word};
+use crate::values::{Start, is_seen, seen_of_source};
+use crate::ways_out::leave;
+use crate::{apart, apart_free, interned, numbers};
 use compact_edit::{Edit, Reply, run};
-use compact_str::{CompactString, ReserveError, Standard};
-use std::alloc::Global;
-use std::process::Abort;
-
-/// What a call on a value answers where it is done.
-#[derive(Clone, Copy)]
-pub enum Answer<'a> {
-    Done,
-    Char(Option<char>),
-    Text(Seen<'a>),
-}
-
-/// A call on a value, answered as `run` answers an edit.
-pub trait Call {
-    fn call(&self, value: &mut CompactString) -> Reply<Standard>;
-}
+use compact_str::{CompactString, Standard};
+use std::alloc::{AllocError, Global};
 
 /// What a call that makes a value came to.
 #[derive(Drop)]
@@ -27,231 +22,322 @@ pub enum Made {
     Refused,
     /// It failed for another reason than memory.
     Fault,
+    /// There is no call of this name.
+    Unknown,
 }
 
-/// A call that makes a value.
-pub trait Making {
-    fn make(&self, alloc: Global) -> Made;
-}
-
-/// A process with no memory but what is granted, in which calls are tried one after another.
+/// A process with no memory but what is granted, in which lines are tried one after another.
 #[derive(Drop)]
 pub struct Trial {
     alloc: Global,
     ration: Ration,
     replies: Vec<Reply<Standard>>,
+    faults: Faults,
 }
 
 impl Trial {
     /// Takes all memory.
-    pub fn new(rt: &impl Abort, alloc: Global) -> Trial {
-        let replies = Vec::with_capacity(alloc, 4).expect(rt, "memory");
-        Trial {
+    pub fn new(alloc: Global, faults: Faults) -> Result<Trial, AllocError> {
+        let replies = Vec::with_capacity(alloc, 4)?;
+        Ok(Trial {
             alloc,
-            ration: Ration::new(rt, alloc),
+            ration: Ration::new(alloc)?,
             replies,
+            faults,
+        })
+    }
+
+    /// Gives all memory back.
+    pub fn finish(self) -> Faults {
+        self.faults
+    }
+
+    /// Tries what stands in functions.
+    pub fn apart(&mut self) {
+        apart::cases(self.alloc, &mut self.ration, &mut self.faults);
+        apart_free::cases(self.alloc, &mut self.ration, &mut self.faults);
+        numbers::cases(self.alloc, &mut self.faults);
+        interned::cases(self.alloc, &mut self.ration, &mut self.faults);
+    }
+
+    /// Tries a line.
+    pub fn case(&mut self, case: &Case<'_>) {
+        self.faults.begin(case.line);
+        let is_low = self.ration.is_low();
+        self.faults.expect(
+            !is_low,
+            "few blocks are left to grant: keep more in `memory.rt`",
+        );
+        match (case.start, case.answer) {
+            (None, Answer::Made) => self.makes(case),
+            (Some(start), Answer::Left(text)) => self.leaves(case, start, text),
+            (Some(start), Answer::Kept) => self.keeps(case, start),
+            (Some(start), Answer::Refused(count)) => self.runs(case, start, Some(count)),
+            (Some(start), Answer::Unrun) => self.runs(case, start, None),
+            (Some(start), _) => self.answers(case, start),
+            (None, _) => self
+                .faults
+                .expect(false, "no call without a value answers so"),
         }
-    }
-
-    /// Asserts that an edit is refused at each of its requests, which leaves the value as it was, and that with them granted
-    /// it is done, by `run` and by the call of its name.
-    pub fn edit(
-        &mut self,
-        rt: &impl Abort,
-        start: Start,
-        edit: Edit<'_, Standard>,
-        asks: &[Ask],
-        answer: Answer<'_>,
-        after: Seen<'_>,
-    ) {
-        let edits = [edit];
-        self.run(rt, start, &edits, asks, answer, after);
-        self.call(rt, start, &edits[0], asks, answer, after);
-    }
-
-    /// The same of an edit that answers nothing.
-    pub fn done(
-        &mut self,
-        rt: &impl Abort,
-        start: Start,
-        edit: Edit<'_, Standard>,
-        asks: &[Ask],
-        after: Seen<'_>,
-    ) {
-        self.edit(rt, start, edit, asks, Answer::Done, after);
-    }
-
-    /// The same of an edit that answers nothing and needs no memory.
-    pub fn free(
-        &mut self,
-        rt: &impl Abort,
-        start: Start,
-        edit: Edit<'_, Standard>,
-        after: Seen<'_>,
-    ) {
-        self.done(rt, start, edit, &[], after);
-    }
-
-    /// The same of one edit by `run` alone.
-    pub fn run(
-        &mut self,
-        rt: &impl Abort,
-        start: Start,
-        edits: &[Edit<'_, Standard>],
-        asks: &[Ask],
-        answer: Answer<'_>,
-        after: Seen<'_>,
-    ) {
-        let mut value = self.start(rt, start);
-        for ask in asks {
-            let reply = self.reply(rt, &mut value, edits);
-            assert_refused(rt, &reply, &value, start);
-            self.grant(rt, *ask);
-        }
-        let reply = self.reply(rt, &mut value, edits);
-        assert_answer(rt, &reply, answer);
-        assert_seen(rt, &value, after);
-        drop(reply);
-        drop(value);
-        self.take_rest();
-    }
-
-    /// The same of any call on a value.
-    pub fn call<C: Call>(
-        &mut self,
-        rt: &impl Abort,
-        start: Start,
-        call: &C,
-        asks: &[Ask],
-        answer: Answer<'_>,
-        after: Seen<'_>,
-    ) {
-        let mut value = self.start(rt, start);
-        for ask in asks {
-            let reply = call.call(&mut value);
-            assert_refused(rt, &reply, &value, start);
-            self.grant(rt, *ask);
-        }
-        let reply = call.call(&mut value);
-        assert_answer(rt, &reply, answer);
-        assert_seen(rt, &value, after);
-        drop(reply);
-        drop(value);
-        self.take_rest();
-    }
-
-    /// Asserts that a shrink with no memory is done and leaves the value as it was, and that it gives room back once its
-    /// request is granted, by `run` and by the call of its name.
-    pub fn shrink(
-        &mut self,
-        rt: &impl Abort,
-        start: Start,
-        edit: Edit<'_, Standard>,
-        ask: Ask,
-        after: Seen<'_>,
-    ) {
-        let edits = [edit];
-        let mut by_run = self.start(rt, start);
-        let mut by_call = self.start(rt, start);
-        for seen in [start.seen(), after] {
-            assert_answer(rt, &self.reply(rt, &mut by_run, &edits), Answer::Done);
-            assert_answer(rt, &edits[0].call(&mut by_call), Answer::Done);
-            assert_seen(rt, &by_run, seen);
-            assert_seen(rt, &by_call, seen);
-            self.grant(rt, ask);
-            self.grant(rt, ask);
-        }
-        drop(by_run);
-        drop(by_call);
-        self.take_rest();
-    }
-
-    /// Asserts that a call is refused at each of its requests, and that with them granted it makes this value.
-    pub fn make<M: Making + Drop>(
-        &mut self,
-        rt: &impl Abort,
-        making: M,
-        asks: &[Ask],
-        seen: Seen<'_>,
-    ) {
-        for ask in asks {
-            assert!(rt; matches!(making.make(self.alloc), Made::Refused));
-            self.grant(rt, *ask);
-        }
-        match making.make(self.alloc) {
-            Made::Value(value) => assert_seen(rt, &value, seen),
-            _ => assert!(rt; false, "no value was made"),
-        }
-        self.take_rest();
-    }
-
-    /// The reply of one edit, for which there is room.
-    fn reply(
-        &mut self,
-        rt: &impl Abort,
-        value: &mut CompactString,
-        edits: &[Edit<'_, Standard>],
-    ) -> Reply<Standard> {
-        run(value, edits, &mut self.replies).expect(rt, "room for the reply");
-        self.replies.pop().expect(rt, "a reply")
-    }
-
-    /// A value to start from.
-    pub fn start(&mut self, rt: &impl Abort, start: Start) -> CompactString {
-        start.make(rt, &mut self.ration, self.alloc)
-    }
-
-    /// Grants one request.
-    pub fn grant(&mut self, rt: &impl Abort, ask: Ask) {
-        self.ration.grant(rt, ask);
-    }
-
-    /// Takes what was granted and is not used.
-    pub fn take_rest(&mut self) {
+        self.faults.end();
         self.ration.take_rest();
     }
 
-    pub fn alloc(&self) -> Global {
-        self.alloc
+    /// A call on a value.
+    fn answers(&mut self, case: &Case<'_>, start: Start) {
+        if let Some(edit) = edit_of(case.call, &case.listed) {
+            self.edits(case, start, edit);
+        } else if case.name == "run" {
+            self.edits_by_run(case, start);
+        } else {
+            self.tries(case, start, By::Name);
+        }
+    }
+
+    /// An edit by `run` alone.
+    fn edits_by_run(&mut self, case: &Case<'_>, start: Start) {
+        let (_, call) = first_word(case.call);
+        match edit_of(call, &case.listed) {
+            Some(edit) => self.tries(case, start, By::Run(&[edit])),
+            None => self.faults.expect(false, "there is no such edit"),
+        }
+    }
+
+    /// An edit. A shrink that asks for memory is tried as a shrink.
+    fn edits(&mut self, case: &Case<'_>, start: Start, edit: Edit<'_, Standard>) {
+        let name = case.name;
+        let is_shrink = name == "shrink_to" || name == "shrink_to_fit";
+        let edits = [edit];
+        if is_shrink && !case.asks.is_empty() {
+            self.shrinks(case, start, By::Run(&edits));
+            self.shrinks(case, start, By::Edit(&edits[0]));
+            return;
+        }
+        if name != "drain" {
+            self.tries(case, start, By::Run(&edits));
+        }
+        self.tries(case, start, By::Edit(&edits[0]));
+        self.sees_source(case);
+    }
+
+    /// The value that another was cloned from is as it was.
+    fn sees_source(&mut self, case: &Case<'_>) {
+        if let (Some(value), Some(seen)) = (case.listed.value(), seen_of_source(case.word(0))) {
+            self.faults.expect_value(is_seen(value, seen), value);
+        }
+    }
+
+    /// The call is refused at each of its requests, which leaves the value as it was, and with them granted it is done.
+    fn tries(&mut self, case: &Case<'_>, start: Start, by: By<'_, '_>) {
+        let Some(mut value) = self.start(start) else {
+            return;
+        };
+        for (granted, ask) in case.asks.iter().enumerate() {
+            self.faults.grants(granted);
+            let answer = reply(case, by, &mut value, &mut self.replies);
+            self.is_refused(&answer, &value, start);
+            drop(answer);
+            self.ration.grant(*ask);
+        }
+        self.faults.grants(case.asks.len());
+        let answer = reply(case, by, &mut value, &mut self.replies);
+        self.is_answered(&answer, case.answer);
+        self.is_left(&value, case);
+        drop(answer);
+        drop(value);
+        self.ration.take_rest();
+    }
+
+    /// A shrink with no memory is done and leaves the value as it was, and gives room back once its request is granted.
+    fn shrinks(&mut self, case: &Case<'_>, start: Start, by: By<'_, '_>) {
+        let Some(mut value) = self.start(start) else {
+            return;
+        };
+        let answer = reply(case, by, &mut value, &mut self.replies);
+        self.is_answered(&answer, case.answer);
+        self.faults
+            .expect_value(is_seen(&value, start.seen()), &value);
+        drop(answer);
+        self.grant_all(&case.asks);
+        let answer = reply(case, by, &mut value, &mut self.replies);
+        self.is_answered(&answer, case.answer);
+        self.is_left(&value, case);
+        drop(answer);
+        drop(value);
+        self.ration.take_rest();
+    }
+
+    /// The call is refused at each of its requests, and with them granted it makes the value.
+    fn makes(&mut self, case: &Case<'_>) {
+        for (granted, ask) in case.asks.iter().enumerate() {
+            self.faults.grants(granted);
+            let made = make(case, self.alloc);
+            self.faults
+                .expect(matches!(made, Made::Refused), "it is not refused");
+            drop(made);
+            self.ration.grant(*ask);
+        }
+        self.faults.grants(case.asks.len());
+        match make(case, self.alloc) {
+            Made::Value(value) => self.is_left(&value, case),
+            Made::Refused => self.faults.expect(false, "it is refused"),
+            Made::Fault => self.faults.expect(false, "it fails for another reason"),
+            Made::Unknown => self.faults.expect(false, "there is no such call"),
+        }
+    }
+
+    /// The value is handed back at each request, and with them granted its text leaves.
+    fn leaves(&mut self, case: &Case<'_>, start: Start, text: &str) {
+        let Some(mut value) = self.start(start) else {
+            return;
+        };
+        for (granted, ask) in case.asks.iter().enumerate() {
+            self.faults.grants(granted);
+            match leave(value, case.name, text) {
+                Ok(_) => {
+                    self.faults.expect(false, "it is not refused");
+                    return;
+                }
+                Err(back) => value = back,
+            }
+            self.faults
+                .expect_value(is_seen(&value, start.seen()), &value);
+            self.ration.grant(*ask);
+        }
+        self.faults.grants(case.asks.len());
+        match leave(value, case.name, text) {
+            Ok(is_same) => self.faults.expect(is_same, "another text leaves"),
+            Err(back) => self.faults.expect_value(false, &back),
+        }
+    }
+
+    /// With none of the requests granted, with one, and so on: what stands after the items that were put in.
+    fn keeps(&mut self, case: &Case<'_>, start: Start) {
+        let is_whole = case.states.len() == case.asks.len().saturating_add(1);
+        self.faults.expect(
+            is_whole,
+            "there is not one state more than there are requests",
+        );
+        for (granted, seen) in case.states.iter().enumerate() {
+            let Some(mut value) = self.start(start) else {
+                return;
+            };
+            self.faults.grants(granted);
+            self.grant_all(case.asks.get(..granted).unwrap_or(&[]));
+            let is_done = extend(case, &mut value);
+            self.faults.expect(is_done == (granted == case.asks.len()), "it ends otherwise");
+            self.faults.expect_value(is_seen(&value, *seen), &value);
+            drop(value);
+            self.ration.take_rest();
+        }
+    }
+
+    /// A list of two edits, with all requests granted: so many are refused, or `None` where the list is.
+    fn runs(&mut self, case: &Case<'_>, start: Start, refused: Option<usize>) {
+        let (_, calls) = first_word(case.call);
+        let (first, last) = halves(calls);
+        match (edit_of(first, &case.listed), edit_of(last, &case.listed)) {
+            (Some(first), Some(last)) => self.runs_both(case, start, &[first, last], refused),
+            _ => self.faults.expect(false, "there is no such edit"),
+        }
+    }
+
+    fn runs_both(
+        &mut self,
+        case: &Case<'_>,
+        start: Start,
+        edits: &[Edit<'_, Standard>],
+        refused: Option<usize>,
+    ) {
+        let Some(mut value) = self.start(start) else {
+            return;
+        };
+        let mut replies = Vec::new(self.alloc);
+        self.grant_all(&case.asks);
+        let is_run = run(&mut value, edits, &mut replies).is_ok();
+        self.faults.expect(
+            is_run == refused.is_some(),
+            "the list is refused, or is not",
+        );
+        let count = if is_run { edits.len() } else { 0 };
+        self.faults
+            .expect(replies.len() == count, "there are more replies, or less");
+        self.faults.expect(
+            count_refused(&replies) == refused.unwrap_or(0),
+            "more are refused, or less",
+        );
+        self.is_left(&value, case);
+        drop(value);
+        drop(replies);
+    }
+
+    /// A value to start from.
+    fn start(&mut self, start: Start) -> Option<CompactString> {
+        self.faults.grants(0);
+        let value = start.make(&mut self.ration, self.alloc);
+        self.faults
+            .expect(value.is_some(), "there is no value to start from");
+        value
+    }
+
+    fn grant_all(&mut self, asks: &[Ask]) {
+        for ask in asks {
+            self.ration.grant(*ask);
+        }
+    }
+
+    /// The call was refused and has left the value as it was.
+    fn is_refused(&mut self, reply: &Reply<Standard>, value: &CompactString, start: Start) {
+        let is_refused = matches!(reply, Reply::Refused(_));
+        self.faults.expect(is_refused, "it is not refused");
+        self.faults
+            .expect_value(is_seen(value, start.seen()), value);
+    }
+
+    /// What the call answered.
+    fn is_answered(&mut self, reply: &Reply<Standard>, answer: Answer<'_>) {
+        match (reply, answer) {
+            (Reply::Done, Answer::Done) => {}
+            (Reply::Char(taken), Answer::Char(wanted)) => {
+                self.faults
+                    .expect(*taken == wanted, "it answers another character")
+            }
+            (Reply::Text(text), Answer::Text(wanted)) => {
+                self.faults.expect_value(is_seen(text, wanted), text)
+            }
+            (Reply::Refused(_), _) => self.faults.expect(false, "it is refused"),
+            (Reply::BadPosition, _) => {
+                self.faults
+                    .expect(false, "there is no such position, or no such call")
+            }
+            _ => self.faults.expect(false, "it answers another thing"),
+        }
+    }
+
+    /// What the call has left.
+    fn is_left(&mut self, value: &CompactString, case: &Case<'_>) {
+        match case.states.first() {
+            Some(seen) => self.faults.expect_value(is_seen(value, *seen), value),
+            None => self.faults.expect_value(false, value),
+        }
     }
 }
 
-/// Asserts that a call was refused and has left the value as it was.
-fn assert_refused(rt: &impl Abort, reply: &Reply<Standard>, value: &CompactString, start: Start) {
-    assert!(rt; matches!(reply, Reply::Refused(_)));
-    assert_seen(rt, value, start.seen());
-}
-
-/// Asserts what a call answered.
-fn assert_answer(rt: &impl Abort, reply: &Reply<Standard>, answer: Answer<'_>) {
-    match (reply, answer) {
-        (Reply::Done, Answer::Done) => {}
-        (Reply::Char(taken), Answer::Char(wanted)) => assert_eq!(rt; *taken, wanted),
-        (Reply::Text(text), Answer::Text(wanted)) => assert_seen(rt, text, wanted),
-        _ => assert!(rt; false, "another answer"),
+/// The two edits of a list.
+fn halves(calls: &str) -> (&str, &str) {
+    match calls.split_once(" ; ") {
+        Some(halves) => halves,
+        None => (calls, ""),
     }
 }
 
-/// The answer of a call that answers nothing else.
-pub fn done(outcome: Result<(), ReserveError>) -> Reply<Standard> {
-    match outcome {
-        Ok(()) => Reply::Done,
-        Err(error) => Reply::Refused(error),
+/// How many edits are refused.
+fn count_refused(replies: &[Reply<Standard>]) -> usize {
+    let mut count = 0usize;
+    for reply in replies {
+        if matches!(reply, Reply::Refused(_)) {
+            count = count.saturating_add(1);
+        }
     }
-}
-
-/// The answer of a call that answers a text.
-pub fn given(outcome: Result<CompactString, ReserveError>) -> Reply<Standard> {
-    match outcome {
-        Ok(text) => Reply::Text(text),
-        Err(error) => Reply::Refused(error),
-    }
-}
-
-/// What a call came to that fails for want of memory alone.
-pub fn value_or_refused(outcome: Result<CompactString, ReserveError>) -> Made {
-    match outcome {
-        Ok(value) => Made::Value(value),
-        Err(_) => Made::Refused,
-    }
+    count
 }

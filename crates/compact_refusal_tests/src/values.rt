@@ -1,11 +1,10 @@
-//! Values that tests start from, and what a test sees of a value.
+//! Values that calls are tried on, and what is seen of a value.
 //!
-//! No function here has a clause, so that the proof of a test carries nothing of the values that it looks at.
+//! No function here has a clause, so that the proofs of others carry nothing of the values that they look at.
 
 use crate::memory::{Ask, Ration};
 use compact_str::CompactString;
 use std::alloc::Global;
-use std::process::Abort;
 
 /// Of the 26 small letters, the 26 great ones and the ten digits those from one place to another.
 pub fn letters(from: usize, to: usize) -> &'static str {
@@ -16,36 +15,6 @@ pub fn letters(from: usize, to: usize) -> &'static str {
 /// 40 digits, from 0 to 9 four times.
 pub fn digits() -> &'static str {
     "0123456789012345678901234567890123456789"
-}
-
-/// 40 times the digit 7.
-pub fn sevens() -> &'static str {
-    "7777777777777777777777777777777777777777"
-}
-
-/// So many times U+FFFD, at most 20.
-pub fn marks(count: usize) -> &'static str {
-    const MARKS: &str = "��������������������";
-    MARKS.get(..count.saturating_mul(3)).unwrap_or("")
-}
-
-/// So many letters `a`, at most 1300.
-pub fn row(count: usize) -> &'static str {
-    const ROW: &str =
-        "aaaaaaaaaaaaaaaaaaaaaaaaaaaaaaaaaaaaaaaaaaaaaaaaaaaaaaaaaaaaaaaaaaaaaaaaaaaaaaaaaaaaaaaaaaaaaaaaaaaa\
-        aaaaaaaaaaaaaaaaaaaaaaaaaaaaaaaaaaaaaaaaaaaaaaaaaaaaaaaaaaaaaaaaaaaaaaaaaaaaaaaaaaaaaaaaaaaaaaaaaaaa\
-        aaaaaaaaaaaaaaaaaaaaaaaaaaaaaaaaaaaaaaaaaaaaaaaaaaaaaaaaaaaaaaaaaaaaaaaaaaaaaaaaaaaaaaaaaaaaaaaaaaaa\
-        aaaaaaaaaaaaaaaaaaaaaaaaaaaaaaaaaaaaaaaaaaaaaaaaaaaaaaaaaaaaaaaaaaaaaaaaaaaaaaaaaaaaaaaaaaaaaaaaaaaa\
-        aaaaaaaaaaaaaaaaaaaaaaaaaaaaaaaaaaaaaaaaaaaaaaaaaaaaaaaaaaaaaaaaaaaaaaaaaaaaaaaaaaaaaaaaaaaaaaaaaaaa\
-        aaaaaaaaaaaaaaaaaaaaaaaaaaaaaaaaaaaaaaaaaaaaaaaaaaaaaaaaaaaaaaaaaaaaaaaaaaaaaaaaaaaaaaaaaaaaaaaaaaaa\
-        aaaaaaaaaaaaaaaaaaaaaaaaaaaaaaaaaaaaaaaaaaaaaaaaaaaaaaaaaaaaaaaaaaaaaaaaaaaaaaaaaaaaaaaaaaaaaaaaaaaa\
-        aaaaaaaaaaaaaaaaaaaaaaaaaaaaaaaaaaaaaaaaaaaaaaaaaaaaaaaaaaaaaaaaaaaaaaaaaaaaaaaaaaaaaaaaaaaaaaaaaaaa\
-        aaaaaaaaaaaaaaaaaaaaaaaaaaaaaaaaaaaaaaaaaaaaaaaaaaaaaaaaaaaaaaaaaaaaaaaaaaaaaaaaaaaaaaaaaaaaaaaaaaaa\
-        aaaaaaaaaaaaaaaaaaaaaaaaaaaaaaaaaaaaaaaaaaaaaaaaaaaaaaaaaaaaaaaaaaaaaaaaaaaaaaaaaaaaaaaaaaaaaaaaaaaa\
-        aaaaaaaaaaaaaaaaaaaaaaaaaaaaaaaaaaaaaaaaaaaaaaaaaaaaaaaaaaaaaaaaaaaaaaaaaaaaaaaaaaaaaaaaaaaaaaaaaaaa\
-        aaaaaaaaaaaaaaaaaaaaaaaaaaaaaaaaaaaaaaaaaaaaaaaaaaaaaaaaaaaaaaaaaaaaaaaaaaaaaaaaaaaaaaaaaaaaaaaaaaaa\
-        aaaaaaaaaaaaaaaaaaaaaaaaaaaaaaaaaaaaaaaaaaaaaaaaaaaaaaaaaaaaaaaaaaaaaaaaaaaaaaaaaaaaaaaaaaaaaaaaaaaa";
-    ROW.get(..count).unwrap_or("")
 }
 
 /// A value that a call is tried on.
@@ -70,29 +39,32 @@ pub enum Start {
 }
 
 impl Start {
+    /// The value of a name.
+    pub fn named(name: &str) -> Option<Start> {
+        match name {
+            "inline" => Some(Start::Inline),
+            "full inline" => Some(Start::FullInline),
+            "static" => Some(Start::Static),
+            "heap" => Some(Start::Heap),
+            "full heap" => Some(Start::FullHeap),
+            "shortened" => Some(Start::Shortened),
+            "short heap" => Some(Start::ShortHeap),
+            "short static" => Some(Start::ShortStatic),
+            _ => None,
+        }
+    }
+
     /// The value, made of memory that is granted.
-    pub fn make(self, rt: &impl Abort, ration: &mut Ration, alloc: Global) -> CompactString {
+    pub fn make(self, ration: &mut Ration, alloc: Global) -> Option<CompactString> {
         match self {
-            Start::Inline => copied(rt, alloc, letters(0, 3)),
-            Start::FullInline => copied(rt, alloc, letters(0, 24)),
-            Start::Static => CompactString::const_new(alloc, letters(0, 30)),
-            Start::Heap => {
-                ration.grant(rt, Ask::New(32));
-                copied(rt, alloc, letters(0, 30))
-            }
-            Start::FullHeap => {
-                ration.grant(rt, Ask::New(32));
-                copied(rt, alloc, letters(0, 32))
-            }
-            Start::Shortened => {
-                ration.grant(rt, Ask::New(48));
-                cut(rt, copied(rt, alloc, letters(0, 48)), 30)
-            }
-            Start::ShortHeap => {
-                ration.grant(rt, Ask::New(32));
-                cut(rt, copied(rt, alloc, letters(0, 30)), 3)
-            }
-            Start::ShortStatic => cut(rt, CompactString::const_new(alloc, letters(0, 30)), 3),
+            Start::Inline => copied(alloc, letters(0, 3)),
+            Start::FullInline => copied(alloc, letters(0, 24)),
+            Start::Static => Some(lasting(alloc)),
+            Start::Heap => granted(ration, alloc, 32, 30),
+            Start::FullHeap => granted(ration, alloc, 32, 32),
+            Start::Shortened => granted_and_cut(ration, alloc, 48, 48, 30),
+            Start::ShortHeap => granted_and_cut(ration, alloc, 32, 30, 3),
+            Start::ShortStatic => Some(cut(lasting(alloc), 3)),
         }
     }
 
@@ -101,38 +73,97 @@ impl Start {
         match self {
             Start::Inline => inline(letters(0, 3)),
             Start::FullInline => inline(letters(0, 24)),
-            Start::Static => fixed(0, 30),
-            Start::Heap => heap(32, letters(0, 30), "", ""),
-            Start::FullHeap => heap(32, letters(0, 32), "", ""),
-            Start::Shortened => heap(48, letters(0, 30), "", ""),
-            Start::ShortHeap => heap(32, letters(0, 3), "", ""),
-            Start::ShortStatic => fixed(0, 3),
+            Start::Static => fixed(letters(0, 30)),
+            Start::Heap => heap(32, letters(0, 30)),
+            Start::FullHeap => heap(32, letters(0, 32)),
+            Start::Shortened => heap(48, letters(0, 30)),
+            Start::ShortHeap => heap(32, letters(0, 3)),
+            Start::ShortStatic => fixed(letters(0, 3)),
         }
     }
 }
 
+/// So many letters on the heap, with a request that is granted.
+fn granted(ration: &mut Ration, alloc: Global, ask: usize, len: usize) -> Option<CompactString> {
+    ration.grant(Ask::New(ask));
+    copied(alloc, letters(0, len))
+}
+
+/// The same, of which the first `kept` bytes are kept.
+fn granted_and_cut(
+    ration: &mut Ration,
+    alloc: Global,
+    ask: usize,
+    len: usize,
+    kept: usize,
+) -> Option<CompactString> {
+    match granted(ration, alloc, ask, len) {
+        Some(value) => Some(cut(value, kept)),
+        None => None,
+    }
+}
+
+/// 30 letters of the program.
+fn lasting(alloc: Global) -> CompactString {
+    CompactString::const_new(alloc, letters(0, 30))
+}
+
 /// A value of which the first `len` bytes are kept.
-fn cut(rt: &impl Abort, value: CompactString, len: usize) -> CompactString {
+fn cut(value: CompactString, len: usize) -> CompactString {
     let mut value = value;
-    assert!(rt; value.is_char_boundary(len));
-    value.truncate(len);
+    if value.is_char_boundary(len) {
+        value.truncate(len);
+    }
     value
 }
 
 /// A copy of `text`.
-pub fn copied(rt: &impl Abort, alloc: Global, text: &str) -> CompactString {
-    CompactString::new(alloc, text).expect(rt, "memory")
+pub fn copied(alloc: Global, text: &str) -> Option<CompactString> {
+    CompactString::new(alloc, text).ok()
 }
 
-/// Place, capacity and text of a value, the text in three parts.
+/// A value of a name that others are made from: `short` is `xyz` inline, `lasting` 30 letters of the program, `digits` 40
+/// digits of the program, `long` the same on the heap, `fresh` 30 letters on the heap, and `shortened` the same where 40
+/// digits stood.
+pub fn source(alloc: Global, name: &str) -> Option<CompactString> {
+    match name {
+        "short" => copied(alloc, "xyz"),
+        "lasting" => Some(CompactString::const_new(alloc, letters(20, 50))),
+        "digits" => Some(CompactString::const_new(alloc, digits())),
+        "long" => copied(alloc, digits()),
+        "fresh" => copied(alloc, letters(20, 50)),
+        "shortened" => shortened(alloc),
+        _ => None,
+    }
+}
+
+fn shortened(alloc: Global) -> Option<CompactString> {
+    let mut value = copied(alloc, digits())?;
+    value.clear();
+    value.push_str(letters(20, 50)).ok()?;
+    Some(value)
+}
+
+/// What is seen of a value that others are made from.
+pub fn seen_of_source(name: &str) -> Option<Seen<'static>> {
+    match name {
+        "short" => Some(inline("xyz")),
+        "lasting" => Some(fixed(letters(20, 50))),
+        "digits" => Some(fixed(digits())),
+        "long" => Some(heap(40, digits())),
+        "fresh" => Some(heap(32, letters(20, 50))),
+        "shortened" => Some(heap(40, letters(20, 50))),
+        _ => None,
+    }
+}
+
+/// Place, capacity and text of a value.
 #[derive(Clone, Copy)]
 pub struct Seen<'a> {
-    pub place: &'static str,
+    pub place: &'a str,
     /// `None` of a value that may have any room for its text.
     pub capacity: Option<usize>,
-    pub front: &'a str,
-    pub middle: &'a str,
-    pub back: &'a str,
+    pub text: &'a str,
 }
 
 /// A text that stands inline.
@@ -140,58 +171,39 @@ pub fn inline(text: &str) -> Seen<'_> {
     Seen {
         place: "inline",
         capacity: Some(24),
-        front: text,
-        middle: "",
-        back: "",
+        text,
     }
 }
 
-/// A text of two parts that stands inline.
-pub fn inline_parts<'a>(front: &'a str, middle: &'a str) -> Seen<'a> {
-    Seen {
-        place: "inline",
-        capacity: Some(24),
-        front,
-        middle,
-        back: "",
-    }
-}
-
-/// Letters of the program, from one place to another.
-pub fn fixed(from: usize, to: usize) -> Seen<'static> {
+/// A text of the program.
+pub fn fixed(text: &str) -> Seen<'_> {
     Seen {
         place: "static",
-        capacity: Some(to.saturating_sub(from)),
-        front: letters(from, to),
-        middle: "",
-        back: "",
+        capacity: Some(text.len()),
+        text,
     }
 }
 
 /// A text on the heap, with this capacity.
-pub fn heap<'a>(capacity: usize, front: &'a str, middle: &'a str, back: &'a str) -> Seen<'a> {
+pub fn heap(capacity: usize, text: &str) -> Seen<'_> {
     Seen {
         place: "heap",
         capacity: Some(capacity),
-        front,
-        middle,
-        back,
+        text,
     }
 }
 
 /// A text on the heap, with any capacity that holds it.
-pub fn fitted<'a>(front: &'a str, middle: &'a str, back: &'a str) -> Seen<'a> {
+pub fn fitted(text: &str) -> Seen<'_> {
     Seen {
         place: "heap",
         capacity: None,
-        front,
-        middle,
-        back,
+        text,
     }
 }
 
 /// The name of a value's place.
-fn place_of(value: &CompactString) -> &'static str {
+pub fn place_of(value: &CompactString) -> &'static str {
     if value.is_heap_allocated() {
         "heap"
     } else if value.as_static_str().is_some() {
@@ -201,23 +213,11 @@ fn place_of(value: &CompactString) -> &'static str {
     }
 }
 
-/// Asserts place, capacity and text of a value.
-pub fn assert_seen(rt: &impl Abort, value: &CompactString, seen: Seen<'_>) {
-    assert_eq!(rt; place_of(value), seen.place);
-    match seen.capacity {
-        Some(capacity) => assert_eq!(rt; value.capacity(), capacity),
-        None => assert!(rt; value.capacity() >= value.len()),
-    }
-    assert_text(rt, value.as_str(), seen);
-}
-
-/// Asserts a text alone.
-pub fn assert_text(rt: &impl Abort, text: &str, seen: Seen<'_>) {
-    let rest = text
-        .strip_prefix(seen.front)
-        .expect(rt, "the front of the text");
-    let rest = rest
-        .strip_prefix(seen.middle)
-        .expect(rt, "the middle of the text");
-    assert_eq!(rt; rest, seen.back);
+/// Whether place, capacity and text of a value are these.
+pub fn is_seen(value: &CompactString, seen: Seen<'_>) -> bool {
+    let has_room = match seen.capacity {
+        Some(capacity) => value.capacity() == capacity,
+        None => value.capacity() >= value.len(),
+    };
+    has_room && place_of(value) == seen.place && value.as_str() == seen.text
 }

@@ -1,0 +1,161 @@
+//! Cases that no line of the table can tell, with requests.
+
+use crate::faults::Faults;
+use crate::making::read_json;
+use crate::memory::Ask::{More, New};
+use crate::memory::Ration;
+use crate::trial::Made;
+use crate::values::{Seen, digits, heap, inline, is_seen, letters};
+use compact_edit::run_pushes;
+use compact_str::{CompactString, Standard, append_all};
+use serde_json::{Value, json};
+use std::alloc::Global;
+use std::boxed::BoxedStr;
+
+/// 30 letters, 40 digits and 40 digits.
+const PUSHED: &str =
+    "abcdefghijklmnopqrstuvwxyzABCD01234567890123456789012345678901234567890123456789012345678901234567890123456789";
+
+/// Each of these cases.
+pub fn cases(alloc: Global, ration: &mut Ration, faults: &mut Faults) {
+    tell(
+        copies_box(alloc, ration),
+        ration,
+        faults,
+        "a box is handed back or copied",
+    );
+    tell(
+        is_no_string(alloc),
+        ration,
+        faults,
+        "a JSON number is no string",
+    );
+    tell(
+        are_appended(alloc, ration),
+        ration,
+        faults,
+        "a string keeps the values before a refused one",
+    );
+    tell(
+        are_pushed(alloc, ration),
+        ration,
+        faults,
+        "texts are pushed one after another",
+    );
+}
+
+/// Tells a case, and takes what was granted for it and is not used.
+pub fn tell(holds: bool, ration: &mut Ration, faults: &mut Faults, name: &str) {
+    faults.apart(name, holds);
+    ration.take_rest();
+}
+
+/// A value of a box, or the box where that was refused.
+pub fn unboxed(alloc: Global, text: BoxedStr) -> Result<CompactString, BoxedStr> {
+    match CompactString::from_boxed_str(alloc, text) {
+        Ok(value) => Ok(value),
+        Err(back) => Err(back.value),
+    }
+}
+
+/// Whether a box is handed back at a refusal, and copied with its request granted.
+fn copies_box(alloc: Global, ration: &mut Ration) -> bool {
+    ration.grant(New(30));
+    let boxed = BoxedStr::from_str(alloc, letters(0, 30));
+    ration.take_rest();
+    match boxed {
+        Ok(boxed) => is_handed_back(alloc, ration, boxed),
+        Err(_) => false,
+    }
+}
+
+fn is_handed_back(alloc: Global, ration: &mut Ration, boxed: BoxedStr) -> bool {
+    match unboxed(alloc, boxed) {
+        Ok(_) => false,
+        Err(back) => is_copied(alloc, ration, back),
+    }
+}
+
+fn is_copied(alloc: Global, ration: &mut Ration, boxed: BoxedStr) -> bool {
+    let is_same = boxed.as_str() == letters(0, 30);
+    ration.grant(New(32));
+    let holds = match unboxed(alloc, boxed) {
+        Ok(value) => is_seen(&value, heap(32, letters(0, 30))),
+        Err(_) => false,
+    };
+    ration.take_rest();
+    holds && is_same
+}
+
+/// Whether a number is told from a refusal, with no memory.
+fn is_no_string(alloc: Global) -> bool {
+    match json!(in alloc; 1) {
+        Ok(number) => is_fault(alloc, &number),
+        Err(_) => false,
+    }
+}
+
+fn is_fault(alloc: Global, json: &Value) -> bool {
+    matches!(read_json(json, alloc), Made::Fault)
+}
+
+/// Whether a line to which values are appended has so many bytes after so many grants.
+fn are_appended(alloc: Global, ration: &mut Ration) -> bool {
+    let mut holds = true;
+    for (granted, len) in [0, 30, 70, 110].iter().enumerate() {
+        for ask in [New(30), More(70), More(140)].iter().take(granted) {
+            ration.grant(*ask);
+        }
+        holds &= is_appended(alloc, granted == 3, *len);
+        ration.take_rest();
+    }
+    holds
+}
+
+/// Appends 30 letters, 40 digits and 40 digits to an empty line.
+fn is_appended(alloc: Global, is_whole: bool, len: usize) -> bool {
+    let mut line = String::new(alloc);
+    let is_done = append(&mut line, &three_values(alloc));
+    is_done == is_whole && line.as_str() == front(len)
+}
+
+fn append(line: &mut String, values: &[CompactString]) -> bool {
+    append_all(line, values.iter()).is_ok()
+}
+
+fn three_values(alloc: Global) -> [CompactString; 3] {
+    [
+        CompactString::const_new(alloc, letters(0, 30)),
+        CompactString::const_new(alloc, digits()),
+        CompactString::const_new(alloc, digits()),
+    ]
+}
+
+/// The first so many bytes of what is appended or pushed.
+fn front(len: usize) -> &'static str {
+    PUSHED.get(..len).unwrap_or("")
+}
+
+/// Whether pushes of 30, 40 and 40 bytes leave these values after so many grants.
+fn are_pushed(alloc: Global, ration: &mut Ration) -> bool {
+    let mut holds = is_pushed(alloc, 3, 0, inline(""));
+    ration.grant(New(32));
+    holds &= is_pushed(alloc, 2, 0, heap(32, front(30)));
+    ration.take_rest();
+    ration.grant(New(32));
+    ration.grant(More(70));
+    holds &= is_pushed(alloc, 1, 30, heap(70, front(70)));
+    ration.take_rest();
+    ration.grant(New(32));
+    ration.grant(More(70));
+    ration.grant(More(110));
+    holds &= is_pushed(alloc, 0, 100, heap(110, front(110)));
+    ration.take_rest();
+    holds
+}
+
+fn is_pushed(alloc: Global, refused: usize, moved: u64, seen: Seen<'_>) -> bool {
+    let texts = [letters(0, 30), digits(), digits()];
+    let report = run_pushes::<Standard>(alloc, &texts);
+    is_seen(&report.value, seen) && report.moved == moved && report.refused == refused
+}

@@ -1,0 +1,302 @@
+//! Cases that no line of the table can tell, of calls that need no memory: each is made with every request refused.
+
+use crate::apart::{tell, unboxed};
+use crate::faults::Faults;
+use crate::interned::{TABLE, finds};
+use crate::memory::Ask::New;
+use crate::memory::Ration;
+use crate::values::{Seen, Start, fitted, fixed, heap, inline, is_seen, letters};
+use compact_edit::{Interner, Reply, run};
+use compact_ext::wire::write_wire;
+use compact_str::{CompactString, Standard};
+use std::alloc::{AllocError, Global};
+use std::borrow::CowStr;
+use std::boxed::BoxedStr;
+use std::cmp::Ordering;
+use std::hash::{DefaultHasher, Hash, Hasher};
+use std::ops::Bound::{Excluded, Included};
+
+/// Each of these cases, in the order of the table's list.
+pub fn cases(alloc: Global, ration: &mut Ration, faults: &mut Faults) {
+    tell(
+        copies_box(alloc, ration),
+        ration,
+        faults,
+        "1: a box is copied",
+    );
+    tell(
+        takes_texts(alloc),
+        ration,
+        faults,
+        "2: texts of the program are taken",
+    );
+    tell(
+        takes_strings(alloc, ration),
+        ration,
+        faults,
+        "2: strings are taken",
+    );
+    tell(
+        looks_at_values(alloc, ration),
+        ration,
+        faults,
+        "3: values are looked at",
+    );
+    tell(
+        compares(alloc, ration),
+        ration,
+        faults,
+        "8: values are compared",
+    );
+    tell(
+        walks_drain(alloc, ration),
+        ration,
+        faults,
+        "8: a drain is walked",
+    );
+    tell(
+        borrows(alloc, ration),
+        ration,
+        faults,
+        "13: a value is borrowed",
+    );
+    tell(
+        writes(alloc, ration),
+        ration,
+        faults,
+        "13: a value is written",
+    );
+    tell(
+        packs(alloc, ration),
+        ration,
+        faults,
+        "13: a value is packed",
+    );
+    tell(
+        runs_nothing(alloc, ration),
+        ration,
+        faults,
+        "13: no edits are run",
+    );
+    tell(
+        finds_name(alloc, ration),
+        ration,
+        faults,
+        "13: a known name is found",
+    );
+}
+
+/// 1: a box.
+fn copies_box(alloc: Global, ration: &mut Ration) -> bool {
+    ration.grant(New(24));
+    match BoxedStr::from_str(alloc, letters(0, 24)) {
+        Ok(boxed) => is_made(unboxed(alloc, boxed).ok(), inline(letters(0, 24))),
+        Err(_) => false,
+    }
+}
+
+/// Whether a value is made, and looks so.
+fn is_made(value: Option<CompactString>, seen: Seen<'_>) -> bool {
+    match value {
+        Some(value) => is_seen(&value, seen),
+        None => false,
+    }
+}
+
+/// 2: texts of the program, and nothing.
+fn takes_texts(alloc: Global) -> bool {
+    let (first, second) = (letters(0, 24), letters(0, 30));
+    let mut holds = is_seen(&CompactString::const_new(alloc, first), inline(first));
+    holds &= is_seen(&CompactString::const_new(alloc, second), fixed(second));
+    holds && is_seen(&CompactString::default(alloc), inline(""))
+}
+
+/// 2: strings.
+fn takes_strings(alloc: Global, ration: &mut Ration) -> bool {
+    let (text, seen) = (letters(0, 30), fitted(letters(0, 30)));
+    ration.grant(New(3));
+    let mut holds = takes_string(String::from_str(alloc, "abc"), inline("abc"));
+    ration.take_rest();
+    ration.grant(New(30));
+    holds &= takes_string(String::from_str(alloc, text), seen);
+    ration.take_rest();
+    ration.grant(New(30));
+    holds &= takes_buffer(String::from_str(alloc, text), seen);
+    ration.take_rest();
+    ration.grant(New(100));
+    holds &= takes_buffer(String::with_capacity(alloc, 100), heap(100, ""));
+    ration.take_rest();
+    ration.grant(New(30));
+    holds &= takes_cow(alloc, String::from_str(alloc, text), seen);
+    ration.take_rest();
+    holds
+}
+
+fn takes_string(string: Result<String, AllocError>, seen: Seen<'_>) -> bool {
+    match string {
+        Ok(string) => is_seen(&CompactString::from(string), seen),
+        Err(_) => false,
+    }
+}
+
+fn takes_buffer(string: Result<String, AllocError>, seen: Seen<'_>) -> bool {
+    match string {
+        Ok(string) => is_seen(&CompactString::from_string_buffer(string), seen),
+        Err(_) => false,
+    }
+}
+
+fn takes_cow(alloc: Global, string: Result<String, AllocError>, seen: Seen<'_>) -> bool {
+    match string {
+        Ok(string) => {
+            is_made(
+                CompactString::from_cow(alloc, CowStr::Owned(string)).ok(),
+                seen,
+            )
+        }
+        Err(_) => false,
+    }
+}
+
+/// 3: a look at values of each place.
+fn looks_at_values(alloc: Global, ration: &mut Ration) -> bool {
+    let mut holds = true;
+    for start in [Start::Inline, Start::Static, Start::Heap] {
+        holds &= match start.make(ration, alloc) {
+            Some(value) => is_looked_at(&value, start.seen()),
+            None => false,
+        };
+        ration.take_rest();
+    }
+    holds
+}
+
+/// Looks at a value of 3 letters or more, none of more than one byte.
+fn is_looked_at(value: &CompactString, seen: Seen<'_>) -> bool {
+    let mut holds = is_seen(value, seen);
+    holds &= value.as_bytes() == seen.text.as_bytes();
+    holds &= value.len() == seen.text.len() && !value.is_empty();
+    holds &= Some(value.capacity()) == seen.capacity;
+    holds &= value.is_heap_allocated() == (seen.place == "heap");
+    holds &= value.as_static_str().is_some() == (seen.place == "static");
+    holds &= value.is_char_boundary(2);
+    holds && value.check_range(Included(1), Included(2)) == Some((1, 3))
+}
+
+/// 8: equality, order and hash.
+fn compares(alloc: Global, ration: &mut Ration) -> bool {
+    let first = CompactString::const_new(alloc, letters(0, 30));
+    let other = CompactString::const_new(alloc, letters(0, 3));
+    let is_less = other != first && other < first;
+    is_less && is_copy_same(alloc, ration, &first)
+}
+
+/// Whether a value on the heap is equal to another.
+fn is_copy_same(alloc: Global, ration: &mut Ration, first: &CompactString) -> bool {
+    match Start::Heap.make(ration, alloc) {
+        Some(second) => is_same(first, &second),
+        None => false,
+    }
+}
+
+/// Whether two values are equal.
+fn is_same(first: &CompactString, second: &CompactString) -> bool {
+    let is_equal = first == second && first.cmp(second) == Ordering::Equal;
+    is_equal && hash_of(first) == hash_of(second)
+}
+
+/// The hash of a value.
+fn hash_of(value: &CompactString) -> u64 {
+    let mut hasher = DefaultHasher::new();
+    value.hash(&mut hasher);
+    hasher.finish()
+}
+
+/// 8: the walk of a `Drain`, and its drop.
+fn walks_drain(alloc: Global, ration: &mut Ration) -> bool {
+    match Start::Heap.make(ration, alloc) {
+        Some(mut value) => is_walked(&mut value) && is_seen(&value, heap(32, "aD")),
+        None => false,
+    }
+}
+
+fn is_walked(value: &mut CompactString) -> bool {
+    if value.check_range(Included(1), Excluded(29)).is_none() {
+        return false;
+    }
+    let Ok(mut drain) = value.drain(Included(1), Excluded(29)) else {
+        return false;
+    };
+    let is_first = drain.next() == Some('b');
+    let is_last = drain.next_back() == Some('C');
+    is_first && is_last && drain.as_str() == letters(2, 28)
+}
+
+/// 13: `as_cow`.
+fn borrows(alloc: Global, ration: &mut Ration) -> bool {
+    match Start::Heap.make(ration, alloc) {
+        Some(value) => value.as_cow().as_str() == letters(0, 30),
+        None => false,
+    }
+}
+
+/// 13: `write_wire`, into a list that has room.
+fn writes(alloc: Global, ration: &mut Ration) -> bool {
+    ration.grant(New(34));
+    let room = Vec::with_capacity(alloc, 34);
+    ration.take_rest();
+    match (Start::Heap.make(ration, alloc), room) {
+        (Some(value), Ok(room)) => is_written(&value, room),
+        _ => false,
+    }
+}
+
+fn is_written(value: &CompactString, room: Vec<u8>) -> bool {
+    let mut room = room;
+    write_wire(value, &mut room).is_ok() && room.len() == 34
+}
+
+/// 13: `packed` and `from_packed`.
+fn packs(alloc: Global, ration: &mut Ration) -> bool {
+    let short = CompactString::const_new(alloc, letters(0, 3));
+    is_packed(alloc, &short) && is_not_packed(alloc, ration)
+}
+
+fn is_packed(alloc: Global, value: &CompactString) -> bool {
+    match value.packed() {
+        Some(bytes) => is_made(CompactString::from_packed(alloc, &bytes), inline("abc")),
+        None => false,
+    }
+}
+
+fn is_not_packed(alloc: Global, ration: &mut Ration) -> bool {
+    match Start::Heap.make(ration, alloc) {
+        Some(value) => value.packed().is_none(),
+        None => false,
+    }
+}
+
+/// 13: a run of no edits.
+fn runs_nothing(alloc: Global, ration: &mut Ration) -> bool {
+    match Start::Heap.make(ration, alloc) {
+        Some(mut value) => is_run(alloc, &mut value) && is_seen(&value, Start::Heap.seen()),
+        None => false,
+    }
+}
+
+fn is_run(alloc: Global, value: &mut CompactString) -> bool {
+    let mut replies: Vec<Reply<Standard>> = Vec::new(alloc);
+    run(value, &[], &mut replies).is_ok() && replies.is_empty()
+}
+
+/// 13: a known name.
+fn finds_name(alloc: Global, ration: &mut Ration) -> bool {
+    let mut names = Interner::new(alloc);
+    for ask in &TABLE {
+        ration.grant(*ask);
+    }
+    let is_new = finds(&mut names, letters(0, 24), 0);
+    ration.take_rest();
+    let is_found = finds(&mut names, letters(0, 24), 0);
+    is_new && is_found && names.name(1).is_none() && names.len() == 1
+}

@@ -1,0 +1,125 @@
+//! Calls on a value that are no edits, or an edit under another name.
+
+use crate::edits::call;
+use crate::table::Case;
+use compact_edit::{Edit, Reply, run};
+use compact_ext::ToCompactString;
+use compact_str::{CompactString, Refused, ReserveError, Standard};
+use std::fmt::Write;
+use std::mem;
+
+/// How a call on a value is made.
+#[derive(Clone, Copy)]
+pub enum By<'a, 'b> {
+    /// One edit by `run`.
+    Run(&'b [Edit<'a, Standard>]),
+    /// An edit by the call of its name.
+    Edit(&'b Edit<'a, Standard>),
+    /// The call of the case's name, which is no edit.
+    Name,
+}
+
+/// The reply to a call, answered as `run` answers an edit. There is room in `replies`.
+pub fn reply(
+    case: &Case<'_>,
+    by: By<'_, '_>,
+    value: &mut CompactString,
+    replies: &mut Vec<Reply<Standard>>,
+) -> Reply<Standard> {
+    match by {
+        By::Run(edits) => reply_of_run(edits, value, replies),
+        By::Edit(edit) => call(edit, value),
+        By::Name => named(case, value),
+    }
+}
+
+/// The reply to one edit. None for want of room is told as a bad position, which no case expects.
+fn reply_of_run(
+    edits: &[Edit<'_, Standard>],
+    value: &mut CompactString,
+    replies: &mut Vec<Reply<Standard>>,
+) -> Reply<Standard> {
+    if run(value, edits, replies).is_err() {
+        return Reply::BadPosition;
+    }
+    replies.pop().unwrap_or(Reply::BadPosition)
+}
+
+/// The reply to a call that is no edit. No call of that name is told as a bad position.
+fn named(case: &Case<'_>, value: &mut CompactString) -> Reply<Standard> {
+    match case.name {
+        "try_reserve" => try_reserve(value, case.word(0)),
+        "write_str" => written(value.write_str(case.word(0)).is_ok()),
+        "write!" => write_both(value, case.word(0), case.word(1)),
+        "add_str" => add_str(value, case.word(0)),
+        "clone" => cloned(value),
+        "to_ascii_lowercase" => given(value.to_ascii_lowercase()),
+        "to_ascii_uppercase" => given(value.to_ascii_uppercase()),
+        "to_compact_string" => shown(value),
+        _ => Reply::BadPosition,
+    }
+}
+
+fn write_both(value: &mut CompactString, first: &str, last: &str) -> Reply<Standard> {
+    written(write!(value, "{first}{last}").is_ok())
+}
+
+fn cloned(value: &CompactString) -> Reply<Standard> {
+    match value.clone() {
+        Ok(text) => Reply::Text(text),
+        Err(_) => Reply::Refused(ReserveError),
+    }
+}
+
+fn shown(value: &CompactString) -> Reply<Standard> {
+    match value.to_compact_string(value.allocator()) {
+        Ok(text) => Reply::Text(text),
+        Err(_) => Reply::Refused(ReserveError),
+    }
+}
+
+fn try_reserve(value: &mut CompactString, word: &str) -> Reply<Standard> {
+    match word.parse::<usize>() {
+        Ok(additional) => done(value.try_reserve(additional)),
+        Err(_) => Reply::BadPosition,
+    }
+}
+
+fn written(is_done: bool) -> Reply<Standard> {
+    if is_done {
+        Reply::Done
+    } else {
+        Reply::Refused(ReserveError)
+    }
+}
+
+/// Adds to the value, which a refusal hands back.
+fn add_str(value: &mut CompactString, text: &str) -> Reply<Standard> {
+    let empty = CompactString::default(value.allocator());
+    match mem::replace(value, empty).add_str(text) {
+        Ok(sum) => {
+            *value = sum;
+            Reply::Done
+        }
+        Err(Refused { error, value: back }) => {
+            *value = back;
+            Reply::Refused(error)
+        }
+    }
+}
+
+/// The answer of a call that answers nothing else.
+pub fn done(outcome: Result<(), ReserveError>) -> Reply<Standard> {
+    match outcome {
+        Ok(()) => Reply::Done,
+        Err(error) => Reply::Refused(error),
+    }
+}
+
+/// The answer of a call that answers a text.
+pub fn given(outcome: Result<CompactString, ReserveError>) -> Reply<Standard> {
+    match outcome {
+        Ok(text) => Reply::Text(text),
+        Err(error) => Reply::Refused(error),
+    }
+}

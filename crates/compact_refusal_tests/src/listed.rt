@@ -1,0 +1,130 @@
+//! Operands that a call is lent as a list of something else than texts, or as an owned value.
+
+use crate::values::{copied, source};
+use compact_ext::wire::write_wire;
+use compact_str::CompactString;
+use serde_json::{Value, json};
+use std::alloc::Global;
+use std::boxed::BoxedStr;
+
+/// Such an operand, made before memory is taken.
+#[derive(Drop)]
+pub enum Listed {
+    Nothing,
+    Bytes(Vec<u8>),
+    Units(Vec<u16>),
+    Characters(Vec<char>),
+    String(String),
+    Box(BoxedStr),
+    Value(CompactString),
+    Json(Value),
+}
+
+impl Listed {
+    pub fn bytes(&self) -> &[u8] {
+        match self {
+            Listed::Bytes(bytes) => bytes.as_slice(),
+            _ => &[],
+        }
+    }
+
+    pub fn units(&self) -> &[u16] {
+        match self {
+            Listed::Units(units) => units.as_slice(),
+            _ => &[],
+        }
+    }
+
+    pub fn characters(&self) -> &[char] {
+        match self {
+            Listed::Characters(characters) => characters.as_slice(),
+            _ => &[],
+        }
+    }
+
+    pub fn value(&self) -> Option<&CompactString> {
+        match self {
+            Listed::Value(value) => Some(value),
+            _ => None,
+        }
+    }
+}
+
+/// Makes the operand of a call from the first word behind its name. `None` is a word that cannot be read.
+pub fn make_listed(alloc: Global, name: &str, word: &str) -> Option<Listed> {
+    match name {
+        "from_utf8"
+        | "from_utf8_lossy"
+        | "from_utf16le"
+        | "from_utf16le_lossy"
+        | "from_utf16be"
+        | "from_utf16be_lossy" => Some(Listed::Bytes(bytes_of(alloc, word)?)),
+        "from_utf16" | "from_utf16_lossy" => Some(Listed::Units(units_of(alloc, word)?)),
+        "read_wire" => Some(Listed::Bytes(form_of(alloc, word)?)),
+        "from_json" => Some(Listed::Json(json_of(alloc, word)?)),
+        _ => make_typed(alloc, name, word),
+    }
+}
+
+/// The same of the calls that take items of one type or another.
+fn make_typed(alloc: Global, name: &str, word: &str) -> Option<Listed> {
+    match name {
+        "collect:&char" | "extend:&char" => Some(Listed::Characters(characters_of(alloc, word)?)),
+        "from_texts:String" | "to_compact_string:String" => {
+            Some(Listed::String(String::from_str(alloc, word).ok()?))
+        }
+        "from_texts:BoxedStr" => Some(Listed::Box(BoxedStr::from_str(alloc, word).ok()?)),
+        "from_texts:CompactString" | "clone_from" => Some(Listed::Value(source(alloc, word)?)),
+        _ => Some(Listed::Nothing),
+    }
+}
+
+/// The bytes of a text, or one byte so many times.
+fn bytes_of(alloc: Global, word: &str) -> Option<Vec<u8>> {
+    match repeated(word) {
+        Some((number, count)) => Vec::from_elem(alloc, u8::try_from(number).ok()?, count).ok(),
+        None => Vec::from_slice(alloc, word.as_bytes()).ok(),
+    }
+}
+
+/// One unit so many times.
+fn units_of(alloc: Global, word: &str) -> Option<Vec<u16>> {
+    let (unit, count) = repeated(word)?;
+    Vec::from_elem(alloc, unit, count).ok()
+}
+
+/// The number and the count of a word such as `[0xFF;9]`.
+fn repeated(word: &str) -> Option<(u16, usize)> {
+    let (digits, count) = word
+        .strip_prefix("[0x")?
+        .strip_suffix("]")?
+        .split_once(';')?;
+    let number = u16::from_str_radix(digits, 16).ok()?;
+    Some((number, count.parse::<usize>().ok()?))
+}
+
+/// The form of a text on a wire.
+fn form_of(alloc: Global, word: &str) -> Option<Vec<u8>> {
+    let mut bytes = Vec::new(alloc);
+    if is_written(&copied(alloc, word)?, &mut bytes) {
+        Some(bytes)
+    } else {
+        None
+    }
+}
+
+fn is_written(value: &CompactString, bytes: &mut Vec<u8>) -> bool {
+    write_wire(value, bytes).is_ok()
+}
+
+fn json_of(alloc: Global, word: &str) -> Option<Value> {
+    json!(in alloc; word).ok()
+}
+
+fn characters_of(alloc: Global, word: &str) -> Option<Vec<char>> {
+    let mut characters = Vec::new(alloc);
+    for character in word.chars() {
+        characters.push(character).ok()?;
+    }
+    Some(characters)
+}

@@ -1,0 +1,160 @@
+//! Calls that make a value of a text, of bytes, of items or of what is shown.
+
+use crate::decoding::decode;
+use crate::listed::Listed;
+use crate::showing::show;
+use crate::table::Case;
+use crate::trial::Made;
+use compact_ext::wire::{WireError, read_wire};
+use compact_str::{AsText, CompactString, CompactStringExt, FromJsonError, ReserveError};
+use serde_json::Value;
+use std::alloc::{AllocError, Global};
+use std::borrow::CowStr;
+
+/// Makes the value of a case, anew each time.
+pub fn make(case: &Case<'_>, alloc: Global) -> Made {
+    match copy(case.name, case.word(0), alloc) {
+        Made::Unknown => {}
+        made => return made,
+    }
+    match gather(case, alloc) {
+        Made::Unknown => {}
+        made => return made,
+    }
+    match decode(case, alloc) {
+        Made::Unknown => {}
+        made => return made,
+    }
+    match show(case, alloc) {
+        Made::Unknown => read(case, alloc),
+        made => made,
+    }
+}
+
+/// A value that stands by itself.
+fn copy(name: &str, word: &str, alloc: Global) -> Made {
+    match name {
+        "new" => value_or_refused(CompactString::new(alloc, word)),
+        "try_new" => value_or_refused(CompactString::try_new(alloc, word)),
+        "from_str" => value_or_refused(CompactString::from_str(alloc, word)),
+        "from_cow" => value_or_refused(CompactString::from_cow(alloc, CowStr::Borrowed(word))),
+        "with_capacity" | "try_with_capacity" => make_room(name, word.parse::<usize>().ok(), alloc),
+        _ => Made::Unknown,
+    }
+}
+
+fn make_room(name: &str, capacity: Option<usize>, alloc: Global) -> Made {
+    let Some(capacity) = capacity else {
+        return Made::Unknown;
+    };
+    if name == "with_capacity" {
+        value_or_refused(CompactString::with_capacity(alloc, capacity))
+    } else {
+        value_or_refused(CompactString::try_with_capacity(alloc, capacity))
+    }
+}
+
+/// A value of items that are collected, concatenated or joined.
+fn gather(case: &Case<'_>, alloc: Global) -> Made {
+    let (word, texts) = (case.word(0), case.operands.as_slice());
+    match case.name {
+        "from_chars" => of_characters(word, alloc),
+        "from_texts" => of_texts(texts, alloc),
+        "from_texts:CowStr" => of_borrowed(word, alloc),
+        "concat_compact" => concatenate(texts, alloc),
+        "join_compact" => join(texts, alloc),
+        "collect:char" => collect_characters(word, alloc),
+        "collect:&str" => collect_texts(texts, alloc),
+        _ => gather_listed(case.name, &case.listed, alloc),
+    }
+}
+
+fn of_characters(text: &str, alloc: Global) -> Made {
+    value_or_refused(CompactString::from_chars(alloc, text.chars()))
+}
+
+fn concatenate(texts: &[&str], alloc: Global) -> Made {
+    value_or_refused(texts.iter().concat_compact(alloc))
+}
+
+fn collect_characters(text: &str, alloc: Global) -> Made {
+    of_trait(text.chars().collect(alloc))
+}
+
+fn collect_texts(texts: &[&str], alloc: Global) -> Made {
+    of_trait(texts.iter().collect(alloc))
+}
+
+fn of_borrowed(text: &str, alloc: Global) -> Made {
+    value_or_refused(CompactString::from_texts(alloc, [CowStr::Borrowed(text)]))
+}
+
+/// A value of texts, with the first between each of the others.
+fn join(texts: &[&str], alloc: Global) -> Made {
+    match texts.split_first() {
+        Some((separator, texts)) => {
+            value_or_refused(texts.iter().join_compact(alloc, *separator))
+        }
+        None => Made::Unknown,
+    }
+}
+
+/// A value of items that are no borrowed texts.
+fn gather_listed(name: &str, listed: &Listed, alloc: Global) -> Made {
+    match listed {
+        Listed::String(text) if name == "from_texts:String" => of_texts(&[text], alloc),
+        Listed::Box(text) if name == "from_texts:BoxedStr" => of_texts(&[text], alloc),
+        Listed::Value(text) if name == "from_texts:CompactString" => of_texts(&[text], alloc),
+        Listed::Characters(characters) if name == "collect:&char" => {
+            of_trait(characters.iter().collect(alloc))
+        }
+        _ => Made::Unknown,
+    }
+}
+
+/// A value of texts, one after another.
+fn of_texts<T: AsText>(texts: &[T], alloc: Global) -> Made {
+    value_or_refused(CompactString::from_texts(alloc, texts.iter()))
+}
+
+/// A value that is read of a JSON value or of a wire.
+fn read(case: &Case<'_>, alloc: Global) -> Made {
+    match &case.listed {
+        Listed::Json(json) if json.as_str() == Some(case.word(0)) => read_json(json, alloc),
+        Listed::Bytes(bytes) if case.name == "read_wire" => read_form(bytes, alloc),
+        _ => Made::Unknown,
+    }
+}
+
+pub fn read_json(json: &Value, alloc: Global) -> Made {
+    match CompactString::from_json(alloc, json) {
+        Ok(value) => Made::Value(value),
+        Err(FromJsonError::Reserve(_)) => Made::Refused,
+        Err(FromJsonError::NotAString) => Made::Fault,
+    }
+}
+
+fn read_form(bytes: &[u8], alloc: Global) -> Made {
+    let mut rest = bytes;
+    match read_wire(alloc, &mut rest) {
+        Ok(value) => Made::Value(value),
+        Err(WireError::Reserve(_)) => Made::Refused,
+        Err(_) => Made::Fault,
+    }
+}
+
+/// What a call came to that fails for want of memory alone.
+pub fn value_or_refused(outcome: Result<CompactString, ReserveError>) -> Made {
+    match outcome {
+        Ok(value) => Made::Value(value),
+        Err(_) => Made::Refused,
+    }
+}
+
+/// The same of `FromIterator`.
+fn of_trait(outcome: Result<CompactString, AllocError>) -> Made {
+    match outcome {
+        Ok(value) => Made::Value(value),
+        Err(_) => Made::Refused,
+    }
+}

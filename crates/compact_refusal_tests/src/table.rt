@@ -1,0 +1,256 @@
+//! A line of the table, read.
+
+use crate::listed::{Listed, make_listed};
+use crate::memory::Ask;
+use crate::values::{Seen, Start, fitted, fixed, heap, inline};
+use compact_edit::Reply;
+use compact_str::Standard;
+use std::alloc::Global;
+use std::mem::size_of;
+
+/// What a call answers where it is done, by which a line says how the call is tried.
+#[derive(Clone, Copy)]
+pub enum Answer<'a> {
+    /// A call on a value, that answers nothing.
+    Done,
+    /// A call on a value, that answers a character.
+    Char(Option<char>),
+    /// A call on a value, that answers a text.
+    Text(Seen<'a>),
+    /// A call that makes a value.
+    Made,
+    /// A call that a value leaves by, with this text.
+    Left(&'a str),
+    /// A call that puts items in, of which those before a refusal are kept.
+    Kept,
+    /// A list of edits, so many of which are refused.
+    Refused(usize),
+    /// A list of edits that is refused as a whole.
+    Unrun,
+}
+
+/// One line of the table.
+#[derive(Drop)]
+pub struct Case<'a> {
+    pub line: &'a str,
+    pub start: Option<Start>,
+    /// The call as it is written.
+    pub call: &'a str,
+    /// Its name.
+    pub name: &'a str,
+    /// The words behind the name.
+    pub operands: Vec<&'a str>,
+    pub listed: Listed,
+    pub asks: Vec<Ask>,
+    pub answer: Answer<'a>,
+    /// What stands after the call; of `Kept` what stands after none of the requests is granted, after one, and so on.
+    pub states: Vec<Seen<'a>>,
+}
+
+impl<'a> Case<'a> {
+    /// Reads its lists.
+    fn read(&mut self, alloc: Global, fields: Fields<'a>) -> bool {
+        let (_, operands) = first_word(fields.call);
+        read_operands(&mut self.operands, operands)
+            && read_asks(&mut self.asks, fields.asks)
+            && read_states(&mut self.states, fields.after)
+            && self.read_listed(alloc)
+    }
+
+    fn read_listed(&mut self, alloc: Global) -> bool {
+        match make_listed(alloc, self.name, self.word(0)) {
+            Some(listed) => {
+                self.listed = listed;
+                true
+            }
+            None => false,
+        }
+    }
+
+    /// A word behind the name, which is empty where there are not as many.
+    pub fn word(&self, index: usize) -> &'a str {
+        self.operands.get(index).copied().unwrap_or("")
+    }
+}
+
+/// The fields of a line.
+#[derive(Clone, Copy)]
+struct Fields<'a> {
+    start: &'a str,
+    call: &'a str,
+    asks: &'a str,
+    answer: &'a str,
+    after: &'a str,
+}
+
+/// Reads a line, of which `text` has each text written out. `None` is a line that cannot be read.
+pub fn read_case<'a>(alloc: Global, line: &'a str, text: &'a str) -> Option<Case<'a>> {
+    let fields = fields_of(text)?;
+    let mut case = begin_case(alloc, line, fields)?;
+    if case.read(alloc, fields) {
+        Some(case)
+    } else {
+        None
+    }
+}
+
+fn fields_of(text: &str) -> Option<Fields<'_>> {
+    let (start, rest) = text.split_once('|')?;
+    let (call, rest) = rest.split_once('|')?;
+    let (asks, rest) = rest.split_once('|')?;
+    let (answer, after) = rest.split_once('|')?;
+    Some(Fields {
+        start: start.trim(),
+        call: call.trim(),
+        asks: asks.trim(),
+        answer: answer.trim(),
+        after: after.trim(),
+    })
+}
+
+/// A case with none of its lists read.
+fn begin_case<'a>(alloc: Global, line: &'a str, fields: Fields<'a>) -> Option<Case<'a>> {
+    let start = start_of(fields.start)?;
+    let answer = answer_of(fields.answer)?;
+    let (name, _) = first_word(fields.call);
+    Some(Case {
+        line,
+        start,
+        call: fields.call,
+        name,
+        operands: Vec::new(alloc),
+        listed: Listed::Nothing,
+        asks: Vec::new(alloc),
+        answer,
+        states: Vec::new(alloc),
+    })
+}
+
+/// Reads what a call starts from: `-` is nothing.
+fn start_of(field: &str) -> Option<Option<Start>> {
+    if field == "-" {
+        return Some(None);
+    }
+    Some(Some(Start::named(field)?))
+}
+
+/// The first word, and what follows it.
+pub fn first_word(text: &str) -> (&str, &str) {
+    match text.split_once(' ') {
+        Some((word, rest)) => (word, rest),
+        None => (text, ""),
+    }
+}
+
+/// Reads operands.
+fn read_operands<'a>(operands: &mut Vec<&'a str>, field: &'a str) -> bool {
+    for word in field.split_whitespace() {
+        if operands.push(text_of(word)).is_err() {
+            return false;
+        }
+    }
+    true
+}
+
+/// The text of a word: `_` is the empty one.
+pub fn text_of(word: &str) -> &str {
+    if word == "_" { "" } else { word }
+}
+
+/// Reads the requests.
+fn read_asks(asks: &mut Vec<Ask>, field: &str) -> bool {
+    if field.is_empty() {
+        return true;
+    }
+    for part in field.split(',') {
+        let Some(ask) = ask_of(part.trim()) else {
+            return false;
+        };
+        if asks.push(ask).is_err() {
+            return false;
+        }
+    }
+    true
+}
+
+/// Reads a request. `replies` is the room that a list of no replies makes for two, which is room for four.
+fn ask_of(part: &str) -> Option<Ask> {
+    if part == "replies" {
+        return Some(Ask::New(size_of::<Reply<Standard>>().saturating_mul(4)));
+    }
+    let (kind, size) = part.split_once(' ')?;
+    let size = size.parse::<usize>().ok()?;
+    match kind {
+        "new" => Some(Ask::New(size)),
+        "more" => Some(Ask::More(size)),
+        _ => None,
+    }
+}
+
+/// Reads an answer.
+fn answer_of(field: &str) -> Option<Answer<'_>> {
+    match field {
+        "done" => Some(Answer::Done),
+        "no char" => Some(Answer::Char(None)),
+        "made" => Some(Answer::Made),
+        "kept" => Some(Answer::Kept),
+        "unrun" => Some(Answer::Unrun),
+        _ => long_answer_of(field),
+    }
+}
+
+/// Reads an answer that says what is answered.
+fn long_answer_of(field: &str) -> Option<Answer<'_>> {
+    let (kind, rest) = field.split_once(' ')?;
+    match kind {
+        "char" => Some(Answer::Char(Some(character(rest)?))),
+        "text" => Some(Answer::Text(seen_of(rest)?)),
+        "left" => Some(Answer::Left(text_of(rest))),
+        "refused" => Some(Answer::Refused(rest.parse::<usize>().ok()?)),
+        _ => None,
+    }
+}
+
+/// Reads what stands after a call, with one request more granted behind each `/`. `-` is nothing.
+fn read_states<'a>(states: &mut Vec<Seen<'a>>, field: &'a str) -> bool {
+    if field == "-" {
+        return true;
+    }
+    for part in field.split('/') {
+        let Some(seen) = seen_of(part.trim()) else {
+            return false;
+        };
+        if states.push(seen).is_err() {
+            return false;
+        }
+    }
+    true
+}
+
+/// Reads place, capacity and text of a value.
+fn seen_of(field: &str) -> Option<Seen<'_>> {
+    let (place, rest) = field.split_once(' ')?;
+    match place {
+        "inline" => Some(inline(text_of(rest))),
+        "static" => Some(fixed(text_of(rest))),
+        "heap" => {
+            let (capacity, text) = rest.split_once(' ')?;
+            let text = text_of(text);
+            if capacity == "*" {
+                return Some(fitted(text));
+            }
+            Some(heap(capacity.parse::<usize>().ok()?, text))
+        }
+        _ => None,
+    }
+}
+
+/// The only character of a word.
+pub fn character(word: &str) -> Option<char> {
+    let mut characters = word.chars();
+    let first = characters.next()?;
+    if characters.next().is_some() {
+        return None;
+    }
+    Some(first)
+}
