@@ -16,6 +16,9 @@ use std::cmp::Ordering;
 use std::hash::{DefaultHasher, Hash, Hasher};
 use std::ops::Bound::{Excluded, Included};
 
+/// A value of each place, and one on the heap that was longer.
+const PLACES: [Start; 4] = [Start::Inline, Start::Static, Start::Heap, Start::Shortened];
+
 /// Each of these cases, in the order of the table's list.
 pub fn cases(alloc: Global, ration: &mut Ration, faults: &mut Faults) {
     tell(
@@ -161,7 +164,7 @@ fn takes_cow(alloc: Global, string: Result<String, AllocError>, seen: Seen<'_>) 
 /// 3: a look at values of each place.
 fn looks_at_values(alloc: Global, ration: &mut Ration) -> bool {
     let mut holds = true;
-    for start in [Start::Inline, Start::Static, Start::Heap] {
+    for start in &PLACES {
         holds &= match start.make(ration, alloc) {
             Some(value) => is_looked_at(&value, start.seen()),
             None => false,
@@ -234,26 +237,41 @@ fn is_walked(value: &mut CompactString) -> bool {
 
 /// 13: `as_cow`.
 fn borrows(alloc: Global, ration: &mut Ration) -> bool {
-    match Start::Heap.make(ration, alloc) {
-        Some(value) => value.as_cow().as_str() == letters(0, 30),
-        None => false,
+    let mut holds = true;
+    for start in &PLACES {
+        holds &= match start.make(ration, alloc) {
+            Some(value) => value.as_cow().as_str() == start.seen().text,
+            None => false,
+        };
+        ration.take_rest();
     }
+    holds
 }
 
 /// 13: `write_wire`, into a list that has room.
 fn writes(alloc: Global, ration: &mut Ration) -> bool {
+    let mut holds = true;
+    for start in &PLACES {
+        holds &= writes_value(alloc, ration, *start);
+        ration.take_rest();
+    }
+    holds
+}
+
+fn writes_value(alloc: Global, ration: &mut Ration, start: Start) -> bool {
     ration.grant(New(34));
     let room = Vec::with_capacity(alloc, 34);
     ration.take_rest();
-    match (Start::Heap.make(ration, alloc), room) {
-        (Some(value), Ok(room)) => is_written(&value, room),
+    match (start.make(ration, alloc), room) {
+        (Some(value), Ok(room)) => is_written(&value, room, start.seen().text),
         _ => false,
     }
 }
 
-fn is_written(value: &CompactString, room: Vec<u8>) -> bool {
+/// Whether four bytes are written for the length of a text, and then the text.
+fn is_written(value: &CompactString, room: Vec<u8>, text: &str) -> bool {
     let mut room = room;
-    write_wire(value, &mut room).is_ok() && room.len() == 34
+    write_wire(value, &mut room).is_ok() && room.get(4..) == Some(text.as_bytes())
 }
 
 /// 13: `packed` and `from_packed`.
@@ -270,18 +288,28 @@ fn is_packed(alloc: Global, value: &CompactString) -> bool {
 }
 
 fn is_not_packed(alloc: Global, ration: &mut Ration) -> bool {
-    match Start::Heap.make(ration, alloc) {
-        Some(value) => value.packed().is_none(),
-        None => false,
+    let mut holds = true;
+    for start in [Start::Static, Start::Heap, Start::Shortened] {
+        holds &= match start.make(ration, alloc) {
+            Some(value) => value.packed().is_none(),
+            None => false,
+        };
+        ration.take_rest();
     }
+    holds
 }
 
 /// 13: a run of no edits.
 fn runs_nothing(alloc: Global, ration: &mut Ration) -> bool {
-    match Start::Heap.make(ration, alloc) {
-        Some(mut value) => is_run(alloc, &mut value) && is_seen(&value, Start::Heap.seen()),
-        None => false,
+    let mut holds = true;
+    for start in &PLACES {
+        holds &= match start.make(ration, alloc) {
+            Some(mut value) => is_run(alloc, &mut value) && is_seen(&value, start.seen()),
+            None => false,
+        };
+        ration.take_rest();
     }
+    holds
 }
 
 fn is_run(alloc: Global, value: &mut CompactString) -> bool {
