@@ -3,13 +3,13 @@
 #
 #   bench/run.sh [FOLDER]
 #
-# It needs `rt` and `rustc`, proves and builds what it times (from a clean clone that takes six to fifteen minutes), and prints
+# It needs `rt`, `rustc` and `objcopy`, proves and builds what it times (from a clean clone that takes six to fifteen minutes), and prints
 # a line for each workload and then a table. A ratio is this library's time over that of the other type: below 1 this
 # library is faster. The status is 1 if two types differ in a checksum.
 #
 # FOLDER holds the source of the Rust crate compact_str, as a cargo package. With it the table has a column for that crate
 # too, and `cargo` is needed. Cargo runs in FOLDER, so that the settings of a `.cargo/config.toml` in or above it hold, as
-# of a folder with the packages that it depends on; with no such settings cargo fetches them as it does for any package.
+# of a folder with the packages that it depends on, but for its `rustflags`; with no such settings cargo fetches them as it does for any package.
 # Nothing is written there.
 #
 # The figures go to docs/speed.txt too, and as a picture to docs/speed.svg. BENCH_TURNS=1 in the environment times each
