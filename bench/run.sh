@@ -29,13 +29,15 @@ built=$bench/out
 crate=${1:+$(cd "$1" && pwd)}
 mkdir -p "$built"
 
-# The static library, and the functions of the kit by which it allocates.
+# The static library, and the functions of the kit by which it allocates. `rt` keeps a library that stands there where only
+# bodies of the crates below have changed, so an earlier one goes first.
 echo 'proving and building the static library' >&2
+library=$bench/../crates/compact_bench/out/libcompact_bench.a
+rm -f "$library"
 if ! (cd "$bench/../crates/compact_bench" && rt lib) >"$built/rt.log" 2>&1; then
     cat "$built/rt.log" >&2
     exit 1
 fi
-library=$bench/../crates/compact_bench/out/libcompact_bench.a
 place=()
 if [ -z "${BENCH_AS_LINKED:-}" ]; then
     objcopy --set-section-alignment '.text*=64' "$library" "$built/libcompact_bench.a"

@@ -2,7 +2,7 @@
 //!
 //! The program reads a table on standard input, takes all memory that the process can get, tries each line with no more than
 //! the requests that the line names, and writes the lines that do not hold, with what is seen instead, and how many cases
-//! there were. A line reads
+//! there were. Its status is 1 where one does not hold. A line reads
 //!
 //! ```text
 //! START | CALL OPERANDS | ASKS | ANSWER | AFTER
@@ -49,23 +49,25 @@ fn main(rt: HostRuntime) -> ExitCode {
     let mut reader = rt.stdin();
     let mut writer = io::writer(&rt);
     match print_faults(rt.alloc(), &mut reader, &mut writer) {
-        Ok(()) => ExitCode::SUCCESS,
-        Err(_) => ExitCode::FAILURE,
+        Ok(true) => ExitCode::SUCCESS,
+        Ok(false) | Err(_) => ExitCode::FAILURE,
     }
 }
 
-/// Reads the table to its end, tries each of its lines, and writes those that do not hold.
+/// Reads the table to its end, tries each of its lines, and writes those that do not hold. Answers whether all do.
 fn print_faults<R: Read, W: Write>(
     alloc: Global,
     reader: &mut R,
     writer: &mut W,
-) -> io::Result<()> {
+) -> io::Result<bool> {
     let mut bytes = Vec::new(alloc);
     reader.read_to_end(&mut bytes)?;
     let Ok(table) = str::from_utf8(&bytes) else {
         return Err(io::Error::from(io::ErrorKind::InvalidData));
     };
-    write_faults(&tried(alloc, table)?, writer)
+    let faults = tried(alloc, table)?;
+    write_faults(&faults, writer)?;
+    Ok(faults.count == 0)
 }
 
 /// Writes what does not hold, and how many cases there were.

@@ -92,9 +92,9 @@ impl<P: Policy> Repr<P> {
         ensures full { result ≡ false → self.new ≡ self.old }
     {
         match &mut self.buffer {
+            Buffer::Static(_) => false,
             Buffer::Inline(inline) => inline.replace_range(start, end, text),
             Buffer::Heap(heap) => heap.replace_range(start, end, text),
-            Buffer::Static(_) => false,
         }
     }
 
@@ -110,6 +110,7 @@ impl<P: Policy> Repr<P> {
         ensures full { result ≡ false → self.new ≡ self.old }
     {
         match &mut self.buffer {
+            Buffer::Static(_) => false,
             Buffer::Inline(inline) => {
                 inline.cut_out(start, end);
                 true
@@ -118,7 +119,6 @@ impl<P: Policy> Repr<P> {
                 heap.cut_out(start, end);
                 true
             }
-            Buffer::Static(_) => false,
         }
     }
 
@@ -133,9 +133,9 @@ impl<P: Policy> Repr<P> {
         ensures full { result ≡ false → self.new ≡ self.old }
     {
         match &mut self.buffer {
+            Buffer::Static(_) => false,
             Buffer::Inline(inline) => inline.insert_ascii(index, byte),
             Buffer::Heap(heap) => heap.insert_ascii(index, byte),
-            Buffer::Static(_) => false,
         }
     }
 
@@ -150,6 +150,7 @@ impl<P: Policy> Repr<P> {
         ensures full { result ≡ false → self.new ≡ self.old }
     {
         match &mut self.buffer {
+            Buffer::Static(_) => false,
             Buffer::Inline(inline) => {
                 inline.remove_ascii(index);
                 true
@@ -158,7 +159,6 @@ impl<P: Policy> Repr<P> {
                 heap.remove_ascii(index);
                 true
             }
-            Buffer::Static(_) => false,
         }
     }
 
@@ -214,6 +214,11 @@ impl<P: Policy> Repr<P> {
         ensures { self.new ≡ truncated self.old len }
     {
         match &mut self.buffer {
+            Buffer::Static(text) => {
+                if len < text.len() {
+                    *text = text.front(len);
+                }
+            }
             Buffer::Inline(inline) => {
                 if len < inline.len() {
                     inline.truncate(len);
@@ -222,11 +227,6 @@ impl<P: Policy> Repr<P> {
             Buffer::Heap(heap) => {
                 if len < heap.len() {
                     heap.truncate(len);
-                }
-            }
-            Buffer::Static(text) => {
-                if len < text.len() {
-                    *text = text.front(len);
                 }
             }
         }
@@ -238,9 +238,9 @@ impl<P: Policy> Repr<P> {
         ensures { self.new ≡ cleared self.old }
     {
         match &mut self.buffer {
+            Buffer::Static(text) => *text = StaticText::new(""),
             Buffer::Inline(inline) => inline.clear(),
             Buffer::Heap(heap) => heap.clear(),
-            Buffer::Static(text) => *text = StaticText::new(""),
         }
     }
 }

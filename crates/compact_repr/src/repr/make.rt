@@ -131,9 +131,9 @@ impl<P: Policy> Repr<P> {
         ensures err { OnErr result (IsTrue (copy_asks self.now)) }
     {
         match &self.buffer {
+            Buffer::Static(text) => Ok(Self::of(self.alloc, Buffer::Static(text.duplicate()))),
             Buffer::Inline(inline) => Ok(Self::of(self.alloc, Buffer::Inline(inline.duplicate()))),
             Buffer::Heap(heap) => Self::new(self.alloc, heap.as_str()),
-            Buffer::Static(text) => Ok(Self::of(self.alloc, Buffer::Static(text.duplicate()))),
         }
     }
 }

@@ -17,8 +17,8 @@ impl<P: Policy> Repr<P> {
         ensures text { text_of result.now ≡ self.now.text }
     {
         match &self.buffer {
-            Buffer::Inline(inline) => inline.as_str(),
             Buffer::Heap(heap) => heap.as_str(),
+            Buffer::Inline(inline) => inline.as_str(),
             Buffer::Static(_) => unreachable!(),
         }
     }

@@ -13,7 +13,7 @@ ghost use Rattle.compact_str.specs.Ranges.{IsRange, range_start, range_end};
 
 use crate::string::PolicyString;
 use crate::string::end::encoded;
-use compact_repr::{Policy, Repr, ReserveError};
+use compact_repr::{Policy, Repr, ReserveError, first_ascii};
 use std::ops::Bound;
 
 impl<P: Policy> PolicyString<P> {
@@ -132,9 +132,11 @@ impl<P: Policy> PolicyString<P> {
         ensures succeeds_short { size self.old.text ≤ 24 → IsOk result }
         ensures err { OnErr result ((self.new ≡ self.old) × IsTrue (own_asks self.old)) }
     {
-        let character = self.repr.char_at(index);
-        if character.is_ascii() && self.repr.remove_ascii_in_place(index) {
-            return Ok(character);
+        if let Some(character) = first_ascii(self.repr.tail(index)) {
+            // The compiler knows that it is; the proof reads it here.
+            if character.is_ascii() && self.repr.remove_ascii_in_place(index) {
+                return Ok(character);
+            }
         }
         self.remove_char(index)
     }
