@@ -1,5 +1,5 @@
 //! How a text is read.
-ghost use Rattle.std.specs.Prelude.{◌≡◌, ◌+◌, ◌^◌, ◌<◌, ◌≤◌, ◌++◌, length, take, drop, IfOk, IfErr, IsErrOf, MatchResult, OnOk, IsTrue, IsFalse, IfSome, IsNone, vec_len, IsUtf8};
+ghost use Rattle.std.specs.Prelude.{◌≡◌, ◌+◌, ◌^◌, ◌<◌, ◌≤◌, ◌++◌, length, take, drop, IfOk, IfErr, IsErrOf, MatchResult, OnOk, IsTrue, IsFalse, vec_len, IsUtf8};
 ghost use Rattle.std.specs.Str.{IsAscii};
 ghost use Rattle.std.specs.Int.{w32, to_le_bytes};
 ghost use Rattle.std.specs.Vec.{vec_capacity};
@@ -90,7 +90,7 @@ fn read_short<R: Read>(
     copied(alloc, &room, len)
 }
 
-/// The text of the first bytes of the room, inline, which is never refused.
+/// The text of the first bytes of the room, inline, which is never refused. The room is the value's row as it is.
 #[inline]
 fn copied(alloc: Global, room: &[u8; 24], len: usize) -> Result<CompactString, WireError>
     requires { len ≤ 24 }
@@ -99,29 +99,24 @@ fn copied(alloc: Global, room: &[u8; 24], len: usize) -> Result<CompactString, W
     ensures placement { IfOk result (λ v. v.placement ≡ inlined) }
     ensures err { IfErr result (λ e. (e ≡ utf8_fault) × ¬ IsUtf8 (take len room.now)) }
 {
-    let Some(text) = text_of(room, len) else {
+    if !is_text(room, len) {
         return Err(WireError::Utf8);
-    };
-    match CompactString::new(alloc, text) {
-        Ok(value) => Ok(value),
-        Err(error) => Err(WireError::Reserve(error)),
     }
+    Ok(CompactString::from_row_unchecked(alloc, room, len))
 }
 
-/// The text that the first bytes of the room are, if they are one. Letters are known at once, since the whole room is looked
-/// at, however many have come.
+/// Whether the first bytes of the room are a text. Letters are known at once, since the whole room is looked at, however many
+/// have come.
 #[inline]
-fn text_of(room: &[u8; 24], len: usize) -> Option<&str>
+fn is_text(room: &[u8; 24], len: usize) -> bool
     requires { len ≤ 24 }
-    ensures some { IfSome result (λ text. text.now ≡ take len room.now) }
-    ensures len { IfSome result (λ text. length text.now ≡ len) }
-    ensures none { IsNone result → ¬ IsUtf8 (take len room.now) }
+    ensures yes { IsTrue result → IsUtf8 (take len room.now) }
+    ensures no { IsFalse result → ¬ IsUtf8 (take len room.now) }
 {
-    let bytes = &room[..len];
     if is_ascii(room) {
-        return Some(unsafe { std::str::from_utf8_unchecked(bytes) });
+        return true;
     }
-    judge(bytes).ok()
+    judge(&room[..len]).is_ok()
 }
 
 /// Whether each byte is an ASCII character. There is no way out of the loop, so that many bytes are looked at in one step.
