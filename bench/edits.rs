@@ -1,12 +1,12 @@
 //! The workloads that make, clone and edit values, over Rust's types.
 
 use crate::{
-    Generator, LONG_TEXTS, PIECES, Ring, SHORT_TEXTS, Text, letter, long_texts, mix, pieces, probe,
-    short_texts,
+    Generator, Held, LONG_TEXTS, PIECES, Ring, SHORT_TEXTS, Text, letter, long_texts, mix, pieces,
+    probe, short_texts,
 };
 use std::hint::black_box;
 
-pub fn made<T: Text, const COUNT: usize>(n: u64, texts: &[String]) -> u64 {
+pub fn made<T: Held, const COUNT: usize>(n: u64, texts: &[String]) -> u64 {
     let mut ring = Ring::<T>::new();
     for i in 0..n as usize {
         ring.put(i, T::new(black_box(&texts[i % COUNT])));
@@ -22,7 +22,7 @@ pub fn new_long<T: Text>(n: u64) -> u64 {
     made::<T, LONG_TEXTS>(n, &long_texts())
 }
 
-pub fn cloned<T: Text, const COUNT: usize>(n: u64, texts: &[String]) -> u64 {
+pub fn cloned<T: Held, const COUNT: usize>(n: u64, texts: &[String]) -> u64 {
     let values: Vec<T> = texts.iter().map(|text| T::new(text)).collect();
     let mut ring = Ring::new();
     for i in 0..n as usize {

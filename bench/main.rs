@@ -6,8 +6,9 @@
 //! with no operation and once with `n`, and the difference counts. In each of `TURNS` turns all types are measured, one
 //! after another, and the table has the median of the turns.
 //!
-//! Then it prints how cost grows with the size of a text, and last what memory the types take: the bytes of a value, and
-//! those in memory for each of a million short words in a vector, for which it runs itself anew, once for each type.
+//! Then it prints how cost grows with the size of a text, what a clone of a short value takes at the least, and last what memory
+//! the types take: the bytes of a value, and those in memory for each of a million short words in a vector, for which it runs
+//! itself anew, once for each type.
 //!
 //! What it reads of its environment: `BENCH_TURNS`, another number of turns; `BENCH_ONLY`, the beginnings of the names of
 //! the workloads that are run, with nothing else; `BENCH_TO`, the folder that gets the figures as `speed.txt` and
@@ -24,6 +25,7 @@ mod growth;
 mod inputs;
 mod intern;
 mod keyed;
+mod least;
 mod library;
 mod memory;
 mod numbers;
@@ -51,7 +53,7 @@ use std::fs;
 use std::hint::black_box;
 use std::process::ExitCode;
 use std::time::Instant;
-use types::{Ring, Text, mix, probe};
+use types::{Held, Ring, Text, mix, probe};
 use wire::wire;
 
 /// How often each workload is timed for each type.
@@ -259,12 +261,15 @@ fn run() -> Option<()> {
     }
     let (growth, agree) = growth::growth_table(turns);
     println!("{growth}");
+    let least = least::least_table(turns);
+    println!("{least}");
     let memory = memory_table()?;
     println!("{memory}");
     if turns >= TURNS {
         let text = format!(
             "{told}\n\nNanoseconds for one operation\n\n{times}\nNanoseconds for a byte, of join and intern for a word\n\n\
-             {growth}\nBytes\n\n{memory}"
+             {growth}\nNanoseconds for a clone of a short value: of rows in Rust with no heap and nothing to drop, and beside them\n\n\
+             {least}\nBytes\n\n{memory}"
         );
         write_figures(&text, &measured, &told)?;
     }

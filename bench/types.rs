@@ -2,10 +2,14 @@
 
 use std::array;
 
-/// A string type of Rust, with the calls that the workloads make.
-pub trait Text: Clone {
+/// A type whose values hold a text.
+pub trait Held: Clone {
     fn new(text: &str) -> Self;
     fn as_bytes(&self) -> &[u8];
+}
+
+/// A string type of Rust, with the calls that the workloads make.
+pub trait Text: Held {
     fn push_str(&mut self, text: &str);
     fn insert(&mut self, at: usize, character: char);
     fn remove(&mut self, at: usize) -> char;
@@ -19,7 +23,7 @@ pub trait Text: Clone {
 
 macro_rules! text {
     ($type:ty) => {
-        impl Text for $type {
+        impl Held for $type {
             #[inline]
             fn new(text: &str) -> Self {
                 <$type>::from(text)
@@ -29,7 +33,9 @@ macro_rules! text {
             fn as_bytes(&self) -> &[u8] {
                 self.as_bytes()
             }
+        }
 
+        impl Text for $type {
             #[inline]
             fn push_str(&mut self, text: &str) {
                 self.push_str(text);
@@ -88,7 +94,7 @@ pub fn mix(sum: u64, number: u64) -> u64 {
 }
 
 /// A number that tells of a text: 256 times its length and its last byte, and 0 of the empty text.
-pub fn probe<T: Text>(value: &T) -> u64 {
+pub fn probe<T: Held>(value: &T) -> u64 {
     let bytes = value.as_bytes();
     let last = bytes.last().map_or(0, |&byte| u64::from(byte));
     bytes.len() as u64 * 256 + last
@@ -102,7 +108,7 @@ pub struct Ring<T> {
     pub sum: u64,
 }
 
-impl<T: Text> Ring<T> {
+impl<T: Held> Ring<T> {
     pub fn new() -> Self {
         let values = array::from_fn(|_| T::new(""));
         Ring { values, sum: 0 }
