@@ -2,7 +2,7 @@
 //! the form.
 
 use crate::memory::take_all;
-use crate::values::assert_inline;
+use crate::values::{assert_inline, assert_seen, letters};
 use crate::wire_callers::read_records;
 use crate::wire_pieces::{Pieces, Stop};
 use crate::wired::name_of;
@@ -113,6 +113,75 @@ fn assert_failure(rt: &impl Abort, alloc: Global, kind: ErrorKind) {
     assert_next_fault(rt, &mut records, "io");
     assert_next_fault(rt, &mut records, "io");
     assert_not_collected(rt, alloc, failing(rt, alloc, kind), "io");
+}
+
+/// The form of `text`, which has at most 255 bytes, and after it that of `a`.
+fn with_another(rt: &impl Abort, alloc: Global, text: &[u8]) -> Vec<u8> {
+    let mut bytes = Vec::new(alloc);
+    let parts: [&[u8]; 4] = [&[text.len() as u8], &[0, 0, 0], text, &[1, 0, 0, 0, 0x61]];
+    for part in parts {
+        bytes.extend_from_slice(part).expect(rt, "memory");
+    }
+    bytes
+}
+
+/// Asserts that a reader has this text, on the heap with just the room that it needs, and then `a`.
+fn assert_long_and_another<R: BufRead + Drop>(
+    rt: &impl Abort,
+    alloc: Global,
+    reader: R,
+    text: &str,
+) {
+    let mut records = Records::new(alloc, reader);
+    let item = records.next().expect(rt, "no end");
+    assert_seen(rt, &item.expect(rt, "a text"), "heap", text.len(), text);
+    assert_next(rt, &mut records, "a");
+    assert_end(rt, &mut records);
+}
+
+// A slice shows the whole form, and a buffer of eight bytes a part of it.
+#[test]
+fn long_records_have_just_their_room(rt: HostRuntime) {
+    let alloc = rt.alloc();
+    for len in [25, 31, 32, 33, 63, 64, 80] {
+        let bytes = with_another(&rt, alloc, letters(len).as_bytes());
+        assert_long_and_another(&rt, alloc, bytes.as_slice(), letters(len));
+        let reader = BufReader::with_capacity(alloc, 8, bytes.as_slice()).expect(&rt, "a buffer");
+        assert_long_and_another(&rt, alloc, reader, letters(len));
+    }
+}
+
+#[test]
+fn after_bytes_that_are_no_text_the_next_comes(rt: HostRuntime) {
+    for len in [1, 3, 4, 7, 8, 15, 16, 23, 24, 25, 31, 32, 63, 64, 80] {
+        for at in [0, len / 2, len - 1] {
+            let mut text = [0x61; 80];
+            text[at] = 0xFF;
+            let bytes = with_another(&rt, rt.alloc(), &text[..len]);
+            let mut records = Records::new(rt.alloc(), bytes.as_slice());
+            assert_next_fault(&rt, &mut records, "utf8");
+            assert_next(&rt, &mut records, "a");
+            assert_end(&rt, &mut records);
+        }
+    }
+}
+
+// The text has five forms of `b` in it. Refused, only its length is taken, so they are read as records.
+#[test]
+fn where_room_is_refused_the_text_stays_unread(rt: HostRuntime) {
+    let bytes = with_another(
+        &rt,
+        rt.alloc(),
+        b"\x01\0\0\0b\x01\0\0\0b\x01\0\0\0b\x01\0\0\0b\x01\0\0\0b",
+    );
+    let hog = take_all(&rt, rt.alloc());
+    let mut records = Records::new(rt.alloc(), bytes.as_slice());
+    assert_next_fault(&rt, &mut records, "reserve");
+    for text in ["b", "b", "b", "b", "b", "a"] {
+        assert_next(&rt, &mut records, text);
+    }
+    assert_end(&rt, &mut records);
+    drop(hog);
 }
 
 #[test]

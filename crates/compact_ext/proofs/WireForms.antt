@@ -1,13 +1,18 @@
 -- What the parts of a wire form that were written, or taken, are together.
-use Rattle.std.proofs.Common.{◌≡◌, ℕ, ◌+◌, ◌^◌, ◌<◌, ◌≤◌, List, [], ◌++◌, length, take, drop, sym, ap, subst, ◌∙◌, arith, append_assoc, length-append, Option, None, Some, refl, Result, Ok, Err, IfOk, IfErr}
+use Rattle.std.proofs.Common.{◌≡◌, ℕ, ◌+◌, ◌^◌, ◌<◌, ◌≤◌, List, [], ◌++◌, length, take, drop, sym, ap, subst, ◌∙◌, arith, append_assoc, length-append, length-take-le, length-drop, IfSome, Option, None, Some, refl, Result, Ok, Err, IfOk, IfErr}
 use Rattle.std.proofs.lemmas.Nat.{from_le_bytes-to_le_bytes_4}
 use Rattle.std.proofs.KnownBytes.{Appends-trans, Consumes-trans}
+use Rattle.std.proofs.BufReadLemmas.{Consumes_shown}
+use Rattle.std.proofs.Transfers.{starts_with_length}
 use Rattle.std.proofs.Math.Seq.{take-append_seam}
 use Rattle.std.proofs.lemmas.List.{take-append-le, append-nil, append_cancel_left}
 use Rattle.std.proofs.lemmas.Str.{encodes_same}
 use Rattle.std.specs.Int.{w32, to_le_bytes, from_le_bytes}
 use Rattle.std.specs.Str.{IsUtf8}
-use Rattle.std.specs.Io.KnownBytes.{Appends, Consumes}
+use Rattle.std.specs.Io.{StartsWith}
+use Rattle.std.specs.Io.BufRead.{DropsConsumable}
+use Rattle.std.specs.Io.KnownBytes.{Appends, Consumes, Keeps}
+use lib.Seq.{take-add, take-take}
 use Rattle.compact_str.specs.Text.{IsText, size, utf8}
 use Rattle.compact_str.specs.Value.{PlacedText}
 use Rattle.compact_repr.proofs.Texts.{length-utf8}
@@ -111,13 +116,40 @@ pub takes-wire : (old mid new : Option (List ℕ)) (t : List ℕ) (n : ℕ) → 
 takes-wire old mid new t n h c s =
     subst (λ k. Consumes old new (to_le_bytes w32 k ++ utf8 t)) (sym s) (Consumes-trans old mid new (to_le_bytes w32 n) (utf8 t) h c)
 
+pub length-wire : (t : List ℕ) → length (wire t) ≡ 4 + size t
+length-wire t = omega (arith, length-utf8 t)
+
+-- bytes that show a form's length, and as many more as it tells, begin with the form
+pub form-shown : (shown t : List ℕ) (n : ℕ) → to_le_bytes w32 n ≡ take 4 shown → 4 + n ≤ length shown → utf8 t ≡ take n (drop 4 shown) → StartsWith shown (wire t)
+form-shown shown t n head within is =
+    let same : size t ≡ n = sym (length-utf8 t) ∙ ap length is ∙ length-take-le n (drop 4 shown) (omega (arith, length-drop 4 shown, within)) in
+    let whole : wire t ≡ take (4 + n) shown = ap (λ k. to_le_bytes w32 k ++ utf8 t) same ∙ ap (λ l. l ++ utf8 t) head ∙ ap (λ l. take 4 shown ++ l) is ∙ sym (take-add 4 n shown) in
+    ap (λ k. take k shown) (length-wire t ∙ ap (λ k. 4 + k) same) ∙ sym whole
+
+-- a form that a reader shows, and that is then passed over, is what was taken
+pub took-shown : (old mid new : Option (List ℕ)) (limit : Option ℕ) (shown t : List ℕ) (n : ℕ) → n ≡ size t → StartsWith shown (wire t) → IfSome old (λ xs. StartsWith xs shown) → IfSome old (λ xs. length shown ≡ 0 → xs ≡ [])
+    → Keeps old mid → IfSome old (λ _. IfSome limit (λ k. length shown ≤ k)) → DropsConsumable mid new limit (4 + n) → Consumes old new (wire t)
+took-shown old mid new limit shown t n is begins front end kept fits drops =
+    let long : length (wire t) ≡ 4 + n = omega (arith, length-wire t, is) in
+    let within : 4 + n ≤ length shown = omega (arith, long, starts_with_length shown (wire t) begins) in
+    subst (Consumes old new) (ap (λ k. take k shown) (sym long) ∙ begins) (Consumes_shown old mid new limit shown (4 + n) within front end kept fits drops).0
+
+-- a length of more than 24 that a reader shows, and that alone is passed over, is what was taken before room was refused
+pub head-taken : (old mid new : Option (List ℕ)) (limit : Option ℕ) (shown : List ℕ) (error : _) → 4 ≤ length shown → 24 < claimed_len shown → IfSome old (λ xs. StartsWith xs shown)
+    → IfSome old (λ xs. length shown ≡ 0 → xs ≡ []) → Keeps old mid → IfSome old (λ _. IfSome limit (λ k. length shown ≤ k)) → DropsConsumable mid new limit 4 → ReadFails old new (Reserve error)
+head-taken old mid new limit shown error four long front end kept fits drops =
+    let all : length (take 4 shown) ≡ 4 = length-take-le 4 shown four in
+    let claim : claimed_len (take 4 shown) ≡ claimed_len shown = ap (from_le_bytes w32) (take-take 4 4 shown (omega arith)) in
+    record {
+      taken = take 4 shown;
+      bytes = (Consumes_shown old mid new limit shown 4 four front end kept fits drops).0;
+      fault = (omega (arith, all), omega (arith, claim, long), omega (arith, all, claim, long));
+    }
+
 -- the bytes at the front of a form tell its length
 claimed-front : (t rest taken more : List ℕ) → size t < 2 ^ 32 → 4 ≤ length taken → wire t ++ rest ≡ taken ++ more → claimed_len taken ≡ size t
 claimed-front t rest taken more fits four e =
     ap (from_le_bytes w32) (sym (take-append-le 4 taken more four) ∙ ap (take 4) (sym e)) ∙ from_le_bytes-to_le_bytes_4 (size t) fits
-
-pub length-wire : (t : List ℕ) → length (wire t) ≡ 4 + size t
-length-wire t = omega (arith, length-utf8 t)
 
 -- as many bytes as the form has are the form
 front-same : (t rest taken more : List ℕ) → length taken ≡ 4 + size t → wire t ++ rest ≡ taken ++ more → wire t ≡ taken

@@ -1,7 +1,7 @@
 //! Bytes judged as a whole and read chunk by chunk: texts, where each fault is placed, the Standard's examples, long input,
 //! and every input of two bytes.
 
-use compact_codec::utf8::{Utf8Fault, chunk_at, first_chunk, judge};
+use compact_codec::utf8::{Utf8Fault, chunk_at, first_chunk, is_utf8, judge};
 use std::process::Abort;
 
 /// The bytes fall into these chunks: a text, and how many bytes are broken after it.
@@ -18,6 +18,7 @@ fn assert_chunks(rt: &impl Abort, bytes: &[u8], chunks: &[(&str, usize)]) {
 
 /// The bytes are no text: where the fault lies, and how long it is, or `None` where they end too soon.
 fn assert_fault(rt: &impl Abort, bytes: &[u8], valid_up_to: usize, error_len: Option<usize>) {
+    assert!(rt; !is_utf8(bytes), "{bytes:?}");
     let fault = judge(bytes).err();
     assert!(rt;
         fault
@@ -42,6 +43,21 @@ fn texts_are_taken(rt: HostRuntime) {
     ];
     for (bytes, text) in cases {
         assert!(rt; judge(bytes) == Ok(text), "{bytes:?}");
+        assert!(rt; is_utf8(bytes), "{bytes:?}");
+    }
+}
+
+#[test]
+fn each_byte_of_a_short_text_is_looked_at(rt: HostRuntime) {
+    for len in 0..80 {
+        let mut bytes = [b'a'; 80];
+        assert!(rt; is_utf8(&bytes[..len]), "{len}");
+        for at in 0..len {
+            bytes[at] = 0xFF;
+            assert!(rt; !is_utf8(&bytes[..len]), "{len}, {at}");
+            assert!(rt; judge(&bytes[..len]).is_err(), "{len}, {at}");
+            bytes[at] = b'a';
+        }
     }
 }
 

@@ -1,8 +1,8 @@
 //! Texts that go over a wire.
 
 use crate::checksum::{mix, probe};
-use crate::inputs::{RECORDS, records};
-use compact_ext::wire::{read_wire, write_wire};
+use crate::inputs::records;
+use compact_ext::wire::{Records, write_wire};
 use compact_str::CompactString;
 use std::alloc::Global;
 
@@ -16,10 +16,8 @@ pub fn records_through_bytes(alloc: Global, n: u64) -> Option<u64> {
         for value in &values {
             write_wire(value, &mut bytes).ok()?;
         }
-        let mut rest = bytes.as_slice();
-        for _ in 0..RECORDS {
-            let value = read_wire(alloc, &mut rest).ok()?;
-            sum = mix(sum, probe(&value));
+        for value in Records::new(alloc, bytes.as_slice()) {
+            sum = mix(sum, probe(&value.ok()?));
         }
     }
     Some(sum)

@@ -64,7 +64,7 @@ fn read_len<R: Read>(reader: &mut R) -> Result<u32, WireError>
 
 /// The number that four bytes tell, the low one first.
 #[inline]
-fn number_of(bytes: [u8; 4]) -> u32
+pub(super) fn number_of(bytes: [u8; 4]) -> u32
     ensures { to_le_bytes w32 result ≡ bytes }
 {
     u32::from_le_bytes(bytes)

@@ -1,21 +1,31 @@
 //! The texts of a reader, one after another until its end.
-ghost use Rattle.std.specs.Prelude.{◌≡◌, ◌⊎◌, flat_map, IfOk, IfSome, IfErr, IsTrue, IsFalse};
+ghost use Rattle.std.specs.Prelude.{◌≡◌, ◌⊎◌, ◌<◌, ◌≤◌, length, flat_map, IfOk, IfSome, IfErr, OnErr, IsUtf8};
+ghost use Rattle.std.specs.Io.{StartsWith};
 ghost use Rattle.std.specs.Iterator.{at_most};
 ghost use Rattle.std.specs.Io.KnownBytes.{IsAtEnd, Keeps};
+ghost use Rattle.compact_str.specs.Text.{utf8};
 ghost use Rattle.compact_ext.specs.Records.{records_left, GivesNext, GivesRecord, FailsAfterTexts, FailsWithin, HasMore};
-ghost use Rattle.compact_ext.specs.Wire.{wire};
+ghost use Rattle.compact_ext.specs.Wire.{wire, claimed_len};
 ghost use Rattle.compact_ext.specs.declared.wire.WireError.TheVariants.{Reserve};
 
+use super::read::number_of;
 use super::{WireError, read_wire};
-use compact_str::CompactString;
+use compact_codec::utf8::is_utf8;
+use compact_str::{CompactString, INLINE_CAPACITY, ReserveError};
 use std::alloc::Global;
 use std::io;
 use std::io::{BufRead, ErrorKind};
+
+// How many bytes tell the length.
+const HEAD: usize = 4;
 
 /// The texts whose wire forms stand one after another until the end of a reader, each read as `read_wire` reads it.
 ///
 /// Where nothing is left `next` answers `None`, and where the reader ends within a form, `UnexpectedEnd`. After a fault it
 /// goes on where the reader stands: after `Utf8` that is the next form.
+///
+/// A text whose whole form the reader shows is made of the bytes shown, which are copied once; so rows of forms in a slice or
+/// a `BufReader` are read faster than by `read_wire`. Where room for such a text is refused its length alone is taken.
 ///
 /// No input is known to end. So the call after 2^64 - 2 others gives up with an `Io` of the kind `TimedOut`, and each later
 /// one answers `None`.
@@ -80,23 +90,58 @@ fn next_record<R: BufRead>(
 ) -> Option<Result<CompactString, WireError>>
     ensures { GivesNext (R.remaining reader.old) result (R.remaining reader.new) }
 {
-    match is_at_end(reader) {
-        Ok(true) => None,
-        Ok(false) => Some(read_wire(alloc, reader)),
-        Err(fault) => Some(Err(fault)),
+    let bytes = match reader.fill_buf() {
+        Ok(bytes) => bytes,
+        Err(error) => return Some(Err(WireError::Io(error))),
+    };
+    if bytes.is_empty() {
+        return None;
+    }
+    match shown_text(alloc, bytes) {
+        Ok(Some(text)) => {
+            reader.consume(HEAD + text.len());
+            Some(Ok(text))
+        }
+        Ok(None) => Some(read_wire(alloc, reader)),
+        Err(error) => {
+            reader.consume(HEAD);
+            Some(Err(WireError::Reserve(error)))
+        }
     }
 }
 
-/// Whether a reader has nothing left.
-#[tactic(auto, using(crate::proofs::RecordLists::record_steps))]
-fn is_at_end<R: BufRead>(reader: &mut R) -> Result<bool, WireError>
-    ensures end { IfOk result (λ b. IsTrue b → IsAtEnd (R.remaining reader.old)) }
-    ensures kept { Keeps (R.remaining reader.old) (R.remaining reader.new) }
-    ensures more { IfOk result (λ b. IsFalse b → HasMore (R.remaining reader.old)) }
-    ensures err { IfErr result (λ e. FailsWithin (R.remaining reader.old) (R.remaining reader.new) e) }
+/// The text whose form the bytes begin with, or `None` where the form is not whole there, or has no text in it. The error
+/// says that room for a text of more than 24 bytes was refused.
+#[inline]
+fn shown_text(alloc: Global, bytes: &[u8]) -> Result<Option<CompactString>, ReserveError>
+    ensures ok { IfOk result (λ found. IfSome found (λ v. StartsWith bytes.now (wire v.text))) }
+    ensures err { OnErr result ((4 ≤ length bytes.now) × (24 < claimed_len bytes.now)) }
 {
-    match reader.fill_buf() {
-        Ok(bytes) => Ok(bytes.is_empty()),
-        Err(error) => Err(WireError::Io(error)),
+    let Some((head, rest)) = bytes.split_first_chunk::<HEAD>() else {
+        return Ok(None);
+    };
+    let len = number_of(*head) as usize;
+    if len > rest.len() || !is_utf8(&rest[..len]) {
+        return Ok(None);
     }
+    let text = copy_of(alloc, &rest[..len])?;
+    Ok(Some(text))
+}
+
+/// A text of the bytes, which are one: inline up to 24 bytes, and a longer one on the heap with just the capacity that it
+/// needs. The error says that room for that was refused.
+#[inline]
+fn copy_of(alloc: Global, bytes: &[u8]) -> Result<CompactString, ReserveError>
+    requires { IsUtf8 bytes.now }
+    ensures text { IfOk result (λ v. utf8 v.text ≡ bytes.now) }
+    ensures err { OnErr result (24 < length bytes.now) }
+{
+    if bytes.len() <= INLINE_CAPACITY {
+        return CompactString::from_utf8_unchecked(alloc, bytes);
+    }
+    let mut copy = Vec::new(alloc);
+    copy.reserve_exact(bytes.len())?;
+    copy.extend_from_slice(bytes)?;
+    let text = unsafe { String::from_utf8_unchecked(copy) };
+    Ok(CompactString::from(text))
 }

@@ -23,13 +23,14 @@ pub fn write_wire<W: Write>(text: &CompactString, writer: &mut W) -> Result<(), 
     ensures sound { IsSound text.now }
     ensures err { IfErr result (λ e. WriteFails (W.contents writer.old) (W.contents writer.new) text.now.text e) }
 {
+    let bytes = text.as_bytes();
     let Ok(len) = u32::try_from(text.len()) else {
         return Err(WireError::TooLong);
     };
     if let Err(fault) = write_each(&len.to_le_bytes(), writer) {
         return Err(fault);
     }
-    write_each(text.as_bytes(), writer)
+    write_each(bytes, writer)
 }
 
 /// Writes all of the bytes, or says why the writer did not take them. For no bytes it is not called.

@@ -18,7 +18,7 @@ returns-clause-err g c =
     let text = c.args.text.now.text in
     let head : c.to_le_bytes.result ≡ to_le_bytes w32 (size text) = search rules in
     let fits : size text < 2 ^ 32 = omega arith in
-    let bytes = c.as_bytes.ensures.bytes in
+    let bytes = c.as_bytes-bytes.ensures.bytes in
     let whole = ap (λ l. c.to_le_bytes.result ++ l) bytes ∙ ap (λ l. l ++ utf8 text) head in
     IfErr-join _ _ _ c.write_each-2.result
     (λ e front fault. write-fails _ _ text e fits (subst (WritesFront _ _) whole (front-second _ _ _ _ _ c.in_default-write_each.ensures.ok front)) fault)
