@@ -151,17 +151,24 @@ fn long_records_have_just_their_room(rt: HostRuntime) {
     }
 }
 
+/// Asserts that so many letters, of which one is replaced by a byte that no text has, are a fault, and that `a` comes after it.
+fn assert_broken_and_another(rt: &impl Abort, alloc: Global, len: usize, at: usize) {
+    let mut text = [0x61; 80];
+    if let Some(byte) = text.get_mut(at) {
+        *byte = 0xFF;
+    }
+    let bytes = with_another(rt, alloc, text.get(..len).unwrap_or(&[]));
+    let mut records = Records::new(alloc, bytes.as_slice());
+    assert_next_fault(rt, &mut records, "utf8");
+    assert_next(rt, &mut records, "a");
+    assert_end(rt, &mut records);
+}
+
 #[test]
 fn after_bytes_that_are_no_text_the_next_comes(rt: HostRuntime) {
-    for len in [1, 3, 4, 7, 8, 15, 16, 23, 24, 25, 31, 32, 63, 64, 80] {
-        for at in [0, len / 2, len - 1] {
-            let mut text = [0x61; 80];
-            text[at] = 0xFF;
-            let bytes = with_another(&rt, rt.alloc(), &text[..len]);
-            let mut records = Records::new(rt.alloc(), bytes.as_slice());
-            assert_next_fault(&rt, &mut records, "utf8");
-            assert_next(&rt, &mut records, "a");
-            assert_end(&rt, &mut records);
+    for len in [1usize, 3, 4, 7, 8, 15, 16, 23, 24, 25, 31, 32, 63, 64, 80] {
+        for at in [0, len / 2, len.saturating_sub(1)] {
+            assert_broken_and_another(&rt, rt.alloc(), len, at);
         }
     }
 }
