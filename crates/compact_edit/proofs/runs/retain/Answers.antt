@@ -1,4 +1,4 @@
-use Rattle.std.proofs.Common.{◌≡◌, ◌∙◌, rules, ap, sym, Some, Bool, List, ℕ}
+use Rattle.std.proofs.Common.{◌≡◌, rules, ap, sym, Some, List, ℕ}
 use Rattle.compact_str.specs.Kept.{kept_by, by_answers}
 use Rattle.compact_str.specs.Value.{placed}
 use Rattle.compact_str.proofs.Kept.{kept-by_rule}
