@@ -118,7 +118,8 @@ fn assert_failure(rt: &impl Abort, alloc: Global, kind: ErrorKind) {
 /// The form of `text`, which has at most 255 bytes, and after it that of `a`.
 fn with_another(rt: &impl Abort, alloc: Global, text: &[u8]) -> Vec<u8> {
     let mut bytes = Vec::new(alloc);
-    let parts: [&[u8]; 4] = [&[text.len() as u8], &[0, 0, 0], text, &[1, 0, 0, 0, 0x61]];
+    let len = u8::try_from(text.len()).expect(rt, "a short text");
+    let parts: [&[u8]; 4] = [&[len], &[0, 0, 0], text, &[1, 0, 0, 0, 0x61]];
     for part in parts {
         bytes.extend_from_slice(part).expect(rt, "memory");
     }
