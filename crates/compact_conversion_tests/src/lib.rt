@@ -36,4 +36,6 @@ mod wired_records;
 #[cfg(test)]
 mod wired_refused;
 
-pub use wire_callers::{next_record, read_records, receive_field, send_field, sent_and_received};
+pub use wire_callers::{
+    first_record, next_record, read_records, receive_field, send_field, sent_and_received,
+};

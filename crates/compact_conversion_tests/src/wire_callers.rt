@@ -1,7 +1,10 @@
 //! Callers that write texts over a wire and read them, as users write them.
 ghost use Rattle.std.specs.Prelude.{◌≡◌, ◌++◌, IfOk, IfSome, OnOk, MatchOption, IsTrue};
-ghost use Rattle.std.specs.List.{flat_map};
+ghost use Rattle.std.specs.List.{All, flat_map};
+ghost use Rattle.std.specs.Io.{StartsWith};
 ghost use Rattle.std.specs.Io.KnownBytes.{Appends, Consumes, IsAtEnd, Keeps};
+ghost use Rattle.compact_str.specs.Capacity.{taken_over};
+ghost use Rattle.compact_str.specs.Text.{size};
 ghost use Rattle.compact_ext.specs.Wire.{wire};
 
 use compact_ext::wire::{Records, WireError, read_wire, write_wire};
@@ -81,7 +84,20 @@ pub fn read_records<R: BufRead + Drop>(
     alloc: Global,
     reader: R,
 ) -> Result<Vec<CompactString>, WireError>
-    ensures { IfOk result (λ records. IfSome (R.remaining reader) (λ bytes. bytes ≡ flat_map (λ v. wire v.text) records.items)) }
+    ensures taken { IfOk result (λ records. IfSome (R.remaining reader) (λ bytes. bytes ≡ flat_map (λ v. wire v.text) records.items)) }
+    ensures placed { IfOk result (λ records. All (λ v. v.placement ≡ taken_over v.text (size v.text)) records.items) }
 {
     Records::new(alloc, reader).into_vec()
+}
+
+/// The first record of a reader, or `None` where it has none.
+#[tactic(auto, using(compact_ext::proofs::WireFacts::wire_facts))]
+pub fn first_record<R: BufRead + Drop>(
+    alloc: Global,
+    reader: R,
+) -> Result<Option<CompactString>, WireError>
+    ensures taken { IfOk result (λ found. IfSome found (λ v. IfSome (R.remaining reader) (λ bytes. StartsWith bytes (wire v.text)))) }
+    ensures placed { IfOk result (λ found. IfSome found (λ v. v.placement ≡ taken_over v.text (size v.text))) }
+{
+    Records::new(alloc, reader).next().transpose()
 }

@@ -3,7 +3,7 @@
 
 use crate::memory::take_all;
 use crate::values::{assert_inline, assert_seen, letters};
-use crate::wire_callers::read_records;
+use crate::wire_callers::{first_record, read_records};
 use crate::wire_pieces::{Pieces, Stop};
 use crate::wired::name_of;
 use compact_ext::wire::Records;
@@ -70,6 +70,14 @@ fn no_bytes_are_no_records(rt: HostRuntime) {
     let none: &[u8] = &[];
     let records = read_records(rt.alloc(), none).expect(&rt, "records");
     assert_eq!(rt; records.len(), 0);
+    let first = first_record(rt.alloc(), none).expect(&rt, "no fault");
+    assert!(rt; first.is_none());
+}
+
+#[test]
+fn the_first_record_is_read_alone(rt: HostRuntime) {
+    let first = first_record(rt.alloc(), RECORDS.as_slice()).expect(&rt, "no fault");
+    assert_inline(&rt, &first.expect(&rt, "a record"), "a");
 }
 
 /// Asserts what comes of the first bytes of the three records, which end within the third.

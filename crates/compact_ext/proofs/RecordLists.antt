@@ -2,18 +2,19 @@
 use Rattle.std.proofs.Common.{◌≡◌, ◌⊎◌, ℕ, zero, suc, ◌+◌, ◌<◌, ◌≤◌, List, [], ◌∷◌, ◌++◌, length, Option, None, Some, IfSome, Result, Ok, Err, IfOk, IfErr, refl, IsSomeAnd, slice_get, MatchResult, inl, inr, arith, sym, ap, subst, ◌∙◌, append_assoc, append-nil}
 use Rattle.std.specs.Global.{Vec}
 use Rattle.std.specs.Vec.{vec_len, vec_capacity}
-use Rattle.std.specs.List.{FoldsTo, flat_map}
+use Rattle.std.specs.List.{All, FoldsTo, flat_map}
 use Rattle.std.specs.Iterator.{Yields, TryCollects}
 use Rattle.std.specs.Io.{StartsWith}
 use Rattle.std.specs.Io.KnownBytes.{Consumes, IsAtEnd, Keeps}
 use Rattle.std.specs.Iterator.Runs.{Run, SomeRun, YieldsRun, EndsAtFirstErr}
+use Rattle.std.proofs.lemmas.List.Elements.{All-nil, All-cons}
 use Rattle.std.proofs.KnownBytes.{Consumes-nil, Consumes-trans, Keeps-refl}
 use Rattle.compact_str.specs.Value.{PlacedText}
 use Rattle.compact_ext.specs.declared.wire.WireError.{WireError}
 use Rattle.compact_ext.specs.declared.wire.WireError.TheVariants.{TooLong, UnexpectedEnd, Utf8, Io, WriteZero, Reserve}
 use Rattle.compact_ext.specs.declared.wire.records.Records.{Records}
 use Rattle.compact_ext.specs.Wire.{wire, ReadFails}
-use Rattle.compact_ext.specs.Records.{records_left, GivesRecord, FailsAfterTexts, FailsWithin, HasBegun, HasMore}
+use Rattle.compact_ext.specs.Records.{records_left, GivesRecord, FailsAfterTexts, FailsWithin, HasBegun, HasMore, IsPlacedAsRead, TakesForm}
 
 -- a reader that failed before it gave any byte
 
@@ -45,10 +46,10 @@ took-unmoved None mid new front same took = tt
 took-unmoved (Some x) None new front same took = absurd same
 took-unmoved (Some x) (Some y) new front same took = subst (λ (l : List ℕ). Consumes (Some l) new front) same took
 
-pub record-read : (old mid new : Option (List ℕ)) (r : Result PlacedText WireError) → Keeps old mid → HasMore old → IfOk r (λ v. Consumes mid new (wire v.text)) → IfErr r (λ e. ReadFails mid new e)
-    → MatchResult r (λ v. Consumes old new (wire v.text)) (λ e. FailsWithin old new e)
-record-read old mid new (Ok v) same more ok err = took-unmoved old mid new (wire v.text) same ok
-record-read old mid new (Err e) same more ok err = record { fails = fails-unmoved old mid new e same err; begun = has-begun old e more }
+pub record-read : (old mid new : Option (List ℕ)) (r : Result PlacedText WireError) → Keeps old mid → HasMore old → IfOk r (λ v. Consumes mid new (wire v.text)) → IfOk r IsPlacedAsRead → IfErr r (λ e. ReadFails mid new e)
+    → MatchResult r (TakesForm old new) (λ e. FailsWithin old new e)
+record-read old mid new (Ok v) same more ok placed err = record { form = took-unmoved old mid new (wire v.text) same ok; placed = placed }
+record-read old mid new (Err e) same more ok placed err = record { fails = fails-unmoved old mid new e same err; begun = has-begun old e more }
 
 -- known bytes that a reader shows some of are there
 pub more-shown : (known : Option (List ℕ)) (shown : List ℕ) → IfSome known (λ xs. StartsWith xs shown) → ¬ (length shown ≡ 0) → HasMore known
@@ -78,25 +79,34 @@ Grows v xs w = (w.items ≡ v.items ++ xs) × (vec_len w ≡ vec_len v + length 
 module _ {R : Type 0} (remaining : R → Option (List ℕ)) where
   gathered : (s t : Records R) (items : List (Result PlacedText WireError)) (old new : Vec PlacedText) → Yields (GivesRecord remaining) s items t → IsAtEnd (records_left remaining t)
       → FoldsTo (λ p x q. (y : PlacedText) × (Ok y ≡ x) × Grows p (y ∷ []) q) old items new
-      → (texts : List PlacedText) × (new.items ≡ old.items ++ texts) × IfSome (records_left remaining s) (λ bytes. bytes ≡ spelled texts)
+      → (texts : List PlacedText) × (new.items ≡ old.items ++ texts) × IfSome (records_left remaining s) (λ bytes. bytes ≡ spelled texts) × All IsPlacedAsRead texts
   gathered s t [] old new same end grown =
-      ([], sym (ap (λ (v : Vec PlacedText). v.items) grown) ∙ sym (append-nil old.items), none-left _ (subst (λ (u : Records R). IsAtEnd (records_left remaining u)) (sym same) end))
+      ([], sym (ap (λ (v : Vec PlacedText). v.items) grown) ∙ sym (append-nil old.items), none-left _ (subst (λ (u : Records R). IsAtEnd (records_left remaining u)) (sym same) end), All-nil IsPlacedAsRead)
   gathered s t (item ∷ items) old new (j, step, steps) end (p, (y, is, grown), grows) =
-      let took = subst (λ (x : Result PlacedText WireError). MatchResult x (λ v. Consumes (records_left remaining s) (records_left remaining j) (wire v.text)) (λ e. FailsWithin (records_left remaining s) (remaining j.reader) e)) (sym is) step in
-      let (texts, all, left) = gathered j t items p new steps end grows in (
+      let took = subst (λ (x : Result PlacedText WireError). MatchResult x (TakesForm (records_left remaining s) (records_left remaining j)) (λ e. FailsWithin (records_left remaining s) (remaining j.reader) e)) (sym is) step in
+      let (texts, all, left, placed) = gathered j t items p new steps end grows in (
         y ∷ texts,
         all ∙ ap (λ l. l ++ texts) grown.0 ∙ append_assoc old.items (y ∷ []) texts,
-        one-before _ _ (wire y.text) (spelled texts) took left,
+        one-before _ _ (wire y.text) (spelled texts) took.form left,
+        All-cons IsPlacedAsRead y texts took.placed placed,
       )
 
-  pub records-collected : (s : Records R) (r : Result (Vec PlacedText) WireError)
-      → IfOk r (TryCollects (GivesRecord remaining) (λ x y. y ≡ x) (λ xs v. (v.items ≡ xs) × (vec_len v ≡ length xs)) Grows s)
-      → IfOk r (λ all. IfSome (records_left remaining s) (λ bytes. bytes ≡ spelled all.items))
-  records-collected s (Err e) ran = tt
-  records-collected s (Ok new) (items, old, (u, (t, given, end)), none, grown) =
-      let (texts, all, left) = gathered s t items old new given end grown in
+  abbrev Collected : Records R → Vec PlacedText → Type 0
+  Collected s = TryCollects (GivesRecord remaining) (λ x y. y ≡ x) (λ xs v. (v.items ≡ xs) × (vec_len v ≡ length xs)) Grows s
+
+  collected : (s : Records R) (all : Vec PlacedText) → Collected s all → IfSome (records_left remaining s) (λ bytes. bytes ≡ spelled all.items) × All IsPlacedAsRead all.items
+  collected s new (items, old, (u, (t, given, end)), none, grown) =
+      let (texts, all, left, placed) = gathered s t items old new given end grown in
       let same : new.items ≡ texts = all ∙ ap (λ l. l ++ texts) none.0 in
-      subst (λ (l : List PlacedText). IfSome (records_left remaining s) (λ bytes. bytes ≡ spelled l)) (sym same) left
+      subst (λ (l : List PlacedText). IfSome (records_left remaining s) (λ bytes. bytes ≡ spelled l) × All IsPlacedAsRead l) (sym same) (left, placed)
+
+  pub records-collected : (s : Records R) (r : Result (Vec PlacedText) WireError) → IfOk r (Collected s) → IfOk r (λ all. IfSome (records_left remaining s) (λ bytes. bytes ≡ spelled all.items))
+  records-collected s (Err e) ran = tt
+  records-collected s (Ok new) ran = (collected s new ran).0
+
+  pub records-placed : (s : Records R) (r : Result (Vec PlacedText) WireError) → IfOk r (Collected s) → IfOk r (λ all. All IsPlacedAsRead all.items)
+  records-placed s (Err e) ran = tt
+  records-placed s (Ok new) ran = (collected s new ran).1
 
 fails-later : (old mid : Option (List ℕ)) (v : PlacedText) (e : WireError) → Consumes old mid (wire v.text) → FailsAfterTexts mid e → FailsAfterTexts old e
 fails-later old mid v e took f = record {
@@ -109,7 +119,7 @@ fails-later old mid v e took f = record {
 
 module _ {R : Type 0} (remaining : R → Option (List ℕ)) where
   abbrev Gave : Records R → Records R → Result PlacedText WireError → Type 0
-  Gave s j x = MatchResult x (λ v. Consumes (records_left remaining s) (records_left remaining j) (wire v.text)) (λ e. FailsWithin (records_left remaining s) (remaining j.reader) e)
+  Gave s j x = MatchResult x (TakesForm (records_left remaining s) (records_left remaining j)) (λ e. FailsWithin (records_left remaining s) (remaining j.reader) e)
 
   -- the last item is the first that held a fault
   stopped : (s t : Records R) (items : List (Result PlacedText WireError)) (i : ℕ) (e : WireError) → length items ≡ i + 1 → Yields (GivesRecord remaining) s items t
@@ -125,7 +135,7 @@ module _ {R : Type 0} (remaining : R → Option (List ℕ)) where
   }
   stopped s t (x ∷ items) (suc i) e long (j, step, steps) last before =
       let (y, is) = before 0 (omega arith) in
-      fails-later _ _ y e (subst (Gave s j) (sym is) step) (stopped j t items i e (omega (arith, long)) steps last (λ (k : ℕ) (h : k < i). before (suc k) (omega (arith, h))))
+      fails-later _ _ y e (subst (Gave s j) (sym is) step).form (stopped j t items i e (omega (arith, long)) steps last (λ (k : ℕ) (h : k < i). before (suc k) (omega (arith, h))))
 
   run-stopped : (s : Records R) (p : Run (GivesRecord remaining)) (e : WireError) → p.from ≡ s → EndsAtFirstErr p (λ x y. y ≡ x) e → FailsAfterTexts (records_left remaining s) e
   unfolding YieldsRun

@@ -126,6 +126,13 @@ form-shown shown t n head within is =
     let whole : wire t ≡ take (4 + n) shown = ap (λ k. to_le_bytes w32 k ++ utf8 t) same ∙ ap (λ l. l ++ utf8 t) head ∙ ap (λ l. take 4 shown ++ l) is ∙ sym (take-add 4 n shown) in
     ap (λ k. take k shown) (length-wire t ∙ ap (λ k. 4 + k) same) ∙ sym whole
 
+-- a text that was made of bytes, if one was, is that of the form that these bytes end
+pub form-found : {E : Type 0} (shown front : List ℕ) (n : ℕ) (r : Result (Option PlacedText) E) → to_le_bytes w32 n ≡ take 4 shown → 4 + n ≤ length shown → front ≡ take n (drop 4 shown)
+    → IfOk r (λ found. IfSome found (λ v. utf8 v.text ≡ front)) → IfOk r (λ found. IfSome found (λ v. StartsWith shown (wire v.text)))
+form-found shown front n (Ok None) head within same made = tt
+form-found shown front n (Ok (Some v)) head within same made = form-shown shown v.text n head within (made ∙ same)
+form-found shown front n (Err e) head within same made = tt
+
 -- a form that a reader shows, and that is then passed over, is what was taken
 pub took-shown : (old mid new : Option (List ℕ)) (limit : Option ℕ) (shown t : List ℕ) (n : ℕ) → n ≡ size t → StartsWith shown (wire t) → IfSome old (λ xs. StartsWith xs shown) → IfSome old (λ xs. length shown ≡ 0 → xs ≡ [])
     → Keeps old mid → IfSome old (λ _. IfSome limit (λ k. length shown ≤ k)) → DropsConsumable mid new limit (4 + n) → Consumes old new (wire t)

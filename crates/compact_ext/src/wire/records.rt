@@ -3,8 +3,9 @@ ghost use Rattle.std.specs.Prelude.{◌≡◌, ◌⊎◌, ◌<◌, ◌≤◌, le
 ghost use Rattle.std.specs.Io.{StartsWith};
 ghost use Rattle.std.specs.Iterator.{at_most};
 ghost use Rattle.std.specs.Io.KnownBytes.{IsAtEnd, Keeps};
+ghost use Rattle.std.specs.List.{All};
 ghost use Rattle.compact_str.specs.Text.{utf8};
-ghost use Rattle.compact_ext.specs.Records.{records_left, GivesNext, GivesRecord, FailsAfterTexts, FailsWithin, HasMore};
+ghost use Rattle.compact_ext.specs.Records.{records_left, GivesNext, GivesRecord, FailsAfterTexts, FailsWithin, HasMore, IsPlacedAsRead};
 ghost use Rattle.compact_ext.specs.Wire.{wire, claimed_len};
 ghost use Rattle.compact_ext.specs.declared.wire.WireError.TheVariants.{Reserve};
 
@@ -23,6 +24,8 @@ const HEAD: usize = 4;
 ///
 /// Where nothing is left `next` answers `None`, and where the reader ends within a form, `UnexpectedEnd`. After a fault it
 /// goes on where the reader stands: after `Utf8` that is the next form.
+///
+/// Each text is inline up to 24 bytes, and a longer one on the heap with just the capacity that it needs.
 ///
 /// A text whose whole form the reader shows is made of the bytes shown, which are copied once; so rows of forms in a slice or
 /// a `BufReader` are read faster than by `read_wire`. Where room for such a text is refused its length alone is taken.
@@ -54,6 +57,7 @@ impl<R: BufRead + Drop> Records<R> {
     /// before it are given up.
     pub fn into_vec(self) -> Result<Vec<CompactString>, WireError>
         ensures ok { IfOk result (λ texts. IfSome (records_left R.remaining self) (λ bytes. bytes ≡ flat_map (λ v. wire v.text) texts.items)) }
+        ensures placement { IfOk result (λ texts. All IsPlacedAsRead texts.items) }
         ensures err { IfErr result (λ e. (e ≡ Reserve (record {})) ⊎ FailsAfterTexts (records_left R.remaining self) e) }
     {
         let alloc = self.alloc;
@@ -115,6 +119,7 @@ fn next_record<R: BufRead>(
 #[inline]
 fn shown_text(alloc: Global, bytes: &[u8]) -> Result<Option<CompactString>, ReserveError>
     ensures ok { IfOk result (λ found. IfSome found (λ v. StartsWith bytes.now (wire v.text))) }
+    ensures placement { IfOk result (λ found. IfSome found IsPlacedAsRead) }
     ensures err { OnErr result ((4 ≤ length bytes.now) × (24 < claimed_len bytes.now)) }
 {
     let Some((head, rest)) = bytes.split_first_chunk::<HEAD>() else {
@@ -124,24 +129,28 @@ fn shown_text(alloc: Global, bytes: &[u8]) -> Result<Option<CompactString>, Rese
     if len > rest.len() || !is_utf8(&rest[..len]) {
         return Ok(None);
     }
-    let text = copy_of(alloc, &rest[..len])?;
-    Ok(Some(text))
+    copy_of(alloc, &rest[..len])
 }
 
 /// A text of the bytes, which are one: inline up to 24 bytes, and a longer one on the heap with just the capacity that it
-/// needs. The error says that room for that was refused.
+/// needs. The error says that room for that was refused. It is never `None`.
 #[inline]
-fn copy_of(alloc: Global, bytes: &[u8]) -> Result<CompactString, ReserveError>
+fn copy_of(alloc: Global, bytes: &[u8]) -> Result<Option<CompactString>, ReserveError>
     requires { IsUtf8 bytes.now }
-    ensures text { IfOk result (λ v. utf8 v.text ≡ bytes.now) }
+    ensures text { IfOk result (λ found. IfSome found (λ v. utf8 v.text ≡ bytes.now)) }
+    ensures placement { IfOk result (λ found. IfSome found IsPlacedAsRead) }
     ensures err { OnErr result (24 < length bytes.now) }
 {
     if bytes.len() <= INLINE_CAPACITY {
-        return CompactString::from_utf8_unchecked(alloc, bytes);
+        let text = CompactString::from_utf8_unchecked(alloc, bytes)?;
+        return Ok(Some(text));
     }
-    let mut copy = Vec::new(alloc);
-    copy.reserve_exact(bytes.len())?;
+    let mut copy = Vec::with_capacity(alloc, bytes.len())?;
     copy.extend_from_slice(bytes)?;
+    if copy.capacity() != bytes.len() {
+        // The capacity stays as it was, but `extend_from_slice` does not say so.
+        return Ok(None);
+    }
     let text = unsafe { String::from_utf8_unchecked(copy) };
-    Ok(CompactString::from(text))
+    Ok(Some(CompactString::from(text)))
 }
