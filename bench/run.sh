@@ -4,9 +4,9 @@
 #   bench/run.sh [FOLDER]
 #
 # It needs `rt`, `rustc` and `objcopy`, proves and builds what it times, and prints a line for each workload and then a table.
-# From nothing the proofs take twelve to eighteen minutes on four processors; where `rt check` has proved the crates it takes
-# four minutes in all. A ratio is this library's time over that of the other type: below 1 this
-# library is faster. The status is 1 if two types differ in a checksum.
+# From nothing the proofs take twelve to eighteen minutes on four processors; once an earlier run has proved the crates, in any
+# checkout on the machine, it takes three to four minutes in all. A ratio is this library's time over that of the other type:
+# below 1 this library is faster. The status is 1 if two types differ in a checksum.
 #
 # FOLDER holds the source of the Rust crate compact_str, as a cargo package. With it the table has a column for that crate
 # too, and `cargo` is needed. Cargo runs in FOLDER, so that the settings of a `.cargo/config.toml` in or above it hold, as
