@@ -37,5 +37,6 @@ mod wired_records;
 mod wired_refused;
 
 pub use wire_callers::{
-    first_record, next_record, read_records, receive_field, send_field, sent_and_received,
+    first_record, next_record, pair_sent_and_received, read_records, receive_field, send_field,
+    sent_and_received,
 };

@@ -1,11 +1,12 @@
 //! Callers that write texts over a wire and read them, as users write them.
-ghost use Rattle.std.specs.Prelude.{◌≡◌, ◌++◌, IfOk, IfSome, OnOk, MatchOption, IsTrue};
+ghost use Rattle.std.specs.Prelude.{◌≡◌, ◌++◌, ◌∷◌, [], ℕ, List, map, Some, IfOk, IfSome, OnOk, MatchOption, MatchResult, IsTrue};
 ghost use Rattle.std.specs.List.{All, flat_map};
 ghost use Rattle.std.specs.Io.{StartsWith};
 ghost use Rattle.std.specs.Io.KnownBytes.{Appends, Consumes, IsAtEnd, Keeps};
 ghost use Rattle.compact_str.specs.Capacity.{taken_over};
 ghost use Rattle.compact_str.specs.Text.{size};
-ghost use Rattle.compact_ext.specs.Wire.{wire};
+ghost use Rattle.compact_ext.specs.Wire.{wire, IsOutsideForm};
+ghost use Rattle.compact_ext.specs.Records.{HasForm};
 
 use compact_ext::wire::{Records, WireError, read_wire, write_wire};
 use compact_str::CompactString;
@@ -47,6 +48,21 @@ pub fn sent_and_received(alloc: Global, text: &CompactString) -> Result<CompactS
     write_wire(text, &mut bytes)?;
     let mut rest = bytes.as_slice();
     read_wire(alloc, &mut rest)
+}
+
+/// What comes of a row of two texts that are written into a vector and read from there.
+#[tactic(auto, using(compact_ext::proofs::WireFacts::wire_facts))]
+pub fn pair_sent_and_received(
+    alloc: Global,
+    name: &CompactString,
+    value: &CompactString,
+) -> Result<Vec<CompactString>, WireError>
+    ensures { IfOk result (λ back. map (λ v. v.text) back.items ≡ name.now.text ∷ value.now.text ∷ []) }
+{
+    let mut bytes = Vec::new(alloc);
+    write_wire(name, &mut bytes)?;
+    write_wire(value, &mut bytes)?;
+    Records::new(alloc, bytes.as_slice()).into_vec()
 }
 
 /// The next record of a reader, or `None` at its end.
@@ -98,6 +114,7 @@ pub fn first_record<R: BufRead + Drop>(
 ) -> Result<Option<CompactString>, WireError>
     ensures taken { IfOk result (λ found. IfSome found (λ v. IfSome (R.remaining reader) (λ bytes. StartsWith bytes (wire v.text)))) }
     ensures placed { IfOk result (λ found. IfSome found (λ v. v.placement ≡ taken_over v.text (size v.text))) }
+    ensures back { (text rest : List ℕ) → HasForm text → R.remaining reader ≡ Some (wire text ++ rest) → MatchResult result (λ found. MatchOption found ⊥ (λ v. v.text ≡ text)) (IsOutsideForm (size text)) }
 {
     Records::new(alloc, reader).next().transpose()
 }

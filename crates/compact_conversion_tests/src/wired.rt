@@ -2,7 +2,9 @@
 //! by hand from the definition of the form.
 
 use crate::values::{assert_inline, copied, letters};
-use crate::wire_callers::{next_record, receive_field, send_field, sent_and_received};
+use crate::wire_callers::{
+    next_record, pair_sent_and_received, receive_field, send_field, sent_and_received,
+};
 use crate::wire_pieces::{Letters, Narrow, Pieces, Stop};
 use compact_ext::wire::{WireError, read_wire, write_wire};
 use compact_str::{CompactString, ReserveError};
@@ -264,4 +266,8 @@ fn a_field_is_sent_and_received(rt: HostRuntime) {
     assert_eq!(rt; value.as_str(), letters(30));
     let back = sent_and_received(alloc, &value).expect(&rt, "a text");
     assert!(rt; back == value);
+    let both = pair_sent_and_received(alloc, &name, &value).expect(&rt, "two texts");
+    assert_eq!(rt; both.len(), 2);
+    assert_inline(&rt, &both[0], "name");
+    assert_eq!(rt; both[1].as_str(), letters(30));
 }

@@ -133,6 +133,13 @@ form-found shown front n (Ok None) head within same made = tt
 form-found shown front n (Ok (Some v)) head within same made = form-shown shown v.text n head within (made ∙ same)
 form-found shown front n (Err e) head within same made = tt
 
+-- a text that was made of as many bytes as four can tell, if one was, takes no more
+pub form-fits : {E : Type 0} (n : ℕ) (rest : List ℕ) (r : Result (Option PlacedText) E) → n < 2 ^ 32 → n ≤ length rest → IfOk r (λ found. IfSome found (λ v. utf8 v.text ≡ take n rest))
+    → IfOk r (λ found. IfSome found (λ v. size v.text < 2 ^ 32))
+form-fits n rest (Ok None) fits within made = tt
+form-fits n rest (Ok (Some v)) fits within made = omega (arith, length-utf8 v.text, ap length made, length-take-le n rest within, fits)
+form-fits n rest (Err e) fits within made = tt
+
 -- a form that a reader shows, and that is then passed over, is what was taken
 pub took-shown : (old mid new : Option (List ℕ)) (limit : Option ℕ) (shown t : List ℕ) (n : ℕ) → n ≡ size t → StartsWith shown (wire t) → IfSome old (λ xs. StartsWith xs shown) → IfSome old (λ xs. length shown ≡ 0 → xs ≡ [])
     → Keeps old mid → IfSome old (λ _. IfSome limit (λ k. length shown ≤ k)) → DropsConsumable mid new limit (4 + n) → Consumes old new (wire t)
@@ -185,7 +192,7 @@ module _ (t rest taken more : List ℕ) (fits : size t < 2 ^ 32) (is : wire t ++
       let same : wire t ≡ taken = front-same t rest taken more (omega (arith, len, claim)) is in
       broken (subst (λ l. IsUtf8 (drop 4 l)) same (t, (text, refl)))
 
-outside-form : (t rest taken : List ℕ) (new : Option (List ℕ)) (e : WireError) → IsText t → size t < 2 ^ 32 → Consumes (Some (wire t ++ rest)) new taken → IsReadFault taken new e
+pub outside-form : (t rest taken : List ℕ) (new : Option (List ℕ)) (e : WireError) → IsText t → size t < 2 ^ 32 → Consumes (Some (wire t ++ rest)) new taken → IsReadFault taken new e
     → IsOutsideForm (size t) e
 outside-form t rest taken None e text fits c f = absurd c
 outside-form t rest taken (Some more) TooLong text fits c f = absurd f
@@ -197,7 +204,7 @@ outside-form t rest taken (Some more) (Reserve error) text fits c f =
     let claim = claimed-front t rest taken more fits f.0 c in
     omega (arith, claim, f.1)
 
-told-text : (t rest s : List ℕ) (new : Option (List ℕ)) → size t < 2 ^ 32 → size s < 2 ^ 32 → Consumes (Some (wire t ++ rest)) new (wire s) → (s ≡ t) × (new ≡ Some rest)
+pub told-text : (t rest s : List ℕ) (new : Option (List ℕ)) → size t < 2 ^ 32 → size s < 2 ^ 32 → Consumes (Some (wire t ++ rest)) new (wire s) → (s ≡ t) × (new ≡ Some rest)
 told-text t rest s None fits small c = absurd c
 told-text t rest s (Some more) fits small c =
     let told = form-tells t s rest more fits small c in

@@ -1,13 +1,15 @@
 -- What an iterator over the wire forms of a reader gives.
-use Rattle.std.specs.Prelude.{◌≡◌, ◌<◌, ◌==◌, ℕ, List, length, if◌then◌else◌, Option, None, Result, IfSome, MatchOption, MatchResult, flat_map, ⊤}
+use Rattle.std.specs.Prelude.{◌≡◌, ◌^◌, ◌<◌, ◌==◌, ◌++◌, ℕ, List, length, map, if◌then◌else◌, Option, None, Some, Result, IfSome, MatchOption, MatchResult, flat_map, ⊤}
+use Rattle.std.specs.Global.{Vec}
 use Rattle.std.specs.Io.KnownBytes.{Consumes, IsAtEnd}
+use Rattle.std.specs.List.{All}
 use Rattle.compact_str.specs.Capacity.{taken_over}
-use Rattle.compact_str.specs.Text.{size}
+use Rattle.compact_str.specs.Text.{IsText, size}
 use Rattle.compact_str.specs.Value.{PlacedText}
 use Rattle.compact_ext.specs.declared.wire.WireError.{WireError}
 use Rattle.compact_ext.specs.declared.wire.WireError.TheVariants.{TooLong, UnexpectedEnd, Utf8, Io, WriteZero, Reserve}
 use Rattle.compact_ext.specs.declared.wire.records.Records.{Records}
-use Rattle.compact_ext.specs.Wire.{wire, ReadFails}
+use Rattle.compact_ext.specs.Wire.{wire, ReadFails, IsOutsideForm}
 
 -- the bytes that texts are still read from, where the reader's type tells them and the iterator has not given up
 abbrev pub records_left : {R : Type 0} → (R → Option (List ℕ)) → Records R → Option (List ℕ)
@@ -35,9 +37,14 @@ pub record FailsWithin (old new : Option (List ℕ)) (e : WireError) : Type 0 wh
 abbrev pub IsPlacedAsRead : PlacedText → Type 0
 IsPlacedAsRead v = v.placement ≡ taken_over v.text (size v.text)
 
+-- four bytes can tell how many a text takes
+abbrev pub FitsForm : PlacedText → Type 0
+FitsForm v = size v.text < 2 ^ 32
+
 -- a text's form is taken, and it is placed as `read_wire` places it
 pub record TakesForm (old new : Option (List ℕ)) (v : PlacedText) : Type 0 where
   pub form : Consumes old new (wire v.text)
+  pub fits : FitsForm v
   pub placed : IsPlacedAsRead v
 
 -- a text whose form is taken, a fault as `read_wire` tells it, or `None` at the end
@@ -56,4 +63,29 @@ pub record FailsAfterTexts (known : Option (List ℕ)) (e : WireError) : Type 0 
   pub mid : Option (List ℕ)
   pub new : Option (List ℕ)
   pub took : Consumes known mid (flat_map (λ v. wire v.text) texts)
+  pub fits : All FitsForm texts
   pub fails : FailsWithin mid new e
+
+-- a text that has a wire form: four bytes can tell its length
+abbrev pub HasForm : List ℕ → Type 0
+HasForm t = IsText t × size t < 2 ^ 32
+
+-- where a reader has a text's form and other bytes after it, the next text is that one and these bytes are left, or a fault lies not in
+-- the form
+abbrev pub ReadsNextBack : {R : Type 0} → (R → Option (List ℕ)) → Records R → Option (Result PlacedText WireError) → Records R → Type 0
+ReadsNextBack remaining s r t = (text rest : List ℕ) → HasForm text → records_left remaining s ≡ Some (wire text ++ rest)
+    → MatchOption r ⊥ (λ item. MatchResult item (λ v. (v.text ≡ text) × (records_left remaining t ≡ Some rest)) (IsOutsideForm (size text)))
+
+-- a fault that lies in no form: the reader failed, or room was refused
+abbrev pub IsOutsideForms : WireError → Type 0
+IsOutsideForms (Io _) = ⊤
+IsOutsideForms (Reserve _) = ⊤
+IsOutsideForms TooLong = ⊥
+IsOutsideForms UnexpectedEnd = ⊥
+IsOutsideForms Utf8 = ⊥
+IsOutsideForms WriteZero = ⊥
+
+-- where a reader has the forms of some texts and no more, these texts are read, or a fault lies in no form
+pub record ReadsAllBack (known : Option (List ℕ)) (r : Result (Vec PlacedText) WireError) : Type 0 where
+  pub back : (texts : List (List ℕ)) → All HasForm texts → known ≡ Some (flat_map wire texts)
+      → MatchResult r (λ all. map (λ v. v.text) all.items ≡ texts) IsOutsideForms

@@ -5,7 +5,7 @@ ghost use Rattle.std.specs.Iterator.{at_most};
 ghost use Rattle.std.specs.Io.KnownBytes.{IsAtEnd, Keeps};
 ghost use Rattle.std.specs.List.{All};
 ghost use Rattle.compact_str.specs.Text.{utf8};
-ghost use Rattle.compact_ext.specs.Records.{records_left, GivesNext, GivesRecord, FailsAfterTexts, FailsWithin, HasMore, IsPlacedAsRead};
+ghost use Rattle.compact_ext.specs.Records.{records_left, GivesNext, GivesRecord, FailsAfterTexts, FailsWithin, HasMore, IsPlacedAsRead, FitsForm, ReadsAllBack};
 ghost use Rattle.compact_ext.specs.Wire.{wire, claimed_len};
 ghost use Rattle.compact_ext.specs.declared.wire.WireError.TheVariants.{Reserve};
 
@@ -53,11 +53,15 @@ impl<R: BufRead + Drop> Records<R> {
 
     /// All texts that are left, up to the end of the reader: those of 01 00 00 00 61 00 00 00 00 are `"a"` and `""`.
     ///
+    /// Where the reader has whole forms and nothing after them, their texts are read, unless it fails or room is refused.
+    ///
     /// The error is the first fault that `next` gives, or `Reserve` where the vector has no room for one more text. The texts
     /// before it are given up.
     pub fn into_vec(self) -> Result<Vec<CompactString>, WireError>
         ensures ok { IfOk result (λ texts. IfSome (records_left R.remaining self) (λ bytes. bytes ≡ flat_map (λ v. wire v.text) texts.items)) }
+        ensures fits { IfOk result (λ texts. All FitsForm texts.items) }
         ensures placement { IfOk result (λ texts. All IsPlacedAsRead texts.items) }
+        ensures back { ReadsAllBack (records_left R.remaining self) result }
         ensures err { IfErr result (λ e. (e ≡ Reserve (record {})) ⊎ FailsAfterTexts (records_left R.remaining self) e) }
     {
         let alloc = self.alloc;
@@ -119,6 +123,7 @@ fn next_record<R: BufRead>(
 #[inline]
 fn shown_text(alloc: Global, bytes: &[u8]) -> Result<Option<CompactString>, ReserveError>
     ensures ok { IfOk result (λ found. IfSome found (λ v. StartsWith bytes.now (wire v.text))) }
+    ensures fits { IfOk result (λ found. IfSome found FitsForm) }
     ensures placement { IfOk result (λ found. IfSome found IsPlacedAsRead) }
     ensures err { OnErr result ((4 ≤ length bytes.now) × (24 < claimed_len bytes.now)) }
 {
