@@ -1,6 +1,6 @@
 -- Worked examples of the wire form, each by computing.
 use Rattle.std.proofs.Common.{◌≡◌, ◌∷◌, [], take, refl, arith}
-use Rattle.std.specs.Prelude.{replicate}
+use Rattle.std.specs.Prelude.{flat_map, replicate}
 use lib.Utf8.{encode}
 use Rattle.compact_ext.specs.Wire.{wire, claimed_len, IsUnfinished, next_room}
 
@@ -15,6 +15,11 @@ example-empty = refl
 example-three_bytes : wire (0x20AC ∷ []) ≡ 0x03 ∷ 0x00 ∷ 0x00 ∷ 0x00 ∷ 0xE2 ∷ 0x82 ∷ 0xAC ∷ []
 unfolding encode
 example-three_bytes = refl
+
+-- the forms of `a`, nothing and `Hi` in a row
+example-row : flat_map wire ((0x61 ∷ []) ∷ [] ∷ (0x48 ∷ 0x69 ∷ []) ∷ []) ≡ 0x01 ∷ 0x00 ∷ 0x00 ∷ 0x00 ∷ 0x61 ∷ 0x00 ∷ 0x00 ∷ 0x00 ∷ 0x00 ∷ 0x02 ∷ 0x00 ∷ 0x00 ∷ 0x00 ∷ 0x48 ∷ 0x69 ∷ []
+unfolding encode
+example-row = refl
 
 -- 55 letters, and 20 times U+20AC, which take 60 bytes
 example-long : take 5 (wire (replicate 55 0x61)) ≡ 0x37 ∷ 0x00 ∷ 0x00 ∷ 0x00 ∷ 0x61 ∷ []
