@@ -4,7 +4,7 @@
 #   bench/run.sh [FOLDER]
 #
 # It needs `rt`, `rustc` and `objcopy`, proves and builds what it times, and prints a line for each workload and then a table.
-# From nothing the proofs take twelve to eighteen minutes on four processors; once an earlier run has proved the crates, in any
+# From nothing the proofs take twelve to twenty minutes on four processors; once an earlier run has proved the crates, in any
 # checkout on the machine, it takes three to four minutes in all. A ratio is this library's time over that of the other type:
 # below 1 this library is faster. The status is 1 if two types differ in a checksum.
 #
