@@ -1,5 +1,5 @@
 //! Changes of a representation's text that may have to make room first, or to make the text its own.
-ghost use Rattle.std.specs.Prelude.{◌≡◌, ◌≤◌, length, Some, OnOk, OnErr, IsTrue, false};
+ghost use Rattle.std.specs.Prelude.{◌≡◌, ◌≤◌, [], length, Some, OnOk, OnErr, IsTrue, false};
 ghost use Rattle.compact_repr.specs.Text.{text_of};
 ghost use Rattle.compact_repr.specs.Cut.{IsBoundary};
 ghost use Rattle.compact_repr.specs.Capacity.{fits_in_place, room_asks};
@@ -55,6 +55,23 @@ impl<P: Policy> Repr<P> {
             unreachable!();
         }
         Ok(())
+    }
+
+    /// Takes out what stands from one boundary to another, in bytes, once the bytes are the value's own. An error changes
+    /// nothing.
+    #[inline]
+    #[tactic(auto, using(crate::proofs::TextFacts::text_facts, crate::proofs::Changes::removal_facts))]
+    pub fn cut_out(&mut self, start: usize, end: usize) -> Result<(), ReserveError>
+        requires order { start ≤ end }
+        requires first { IsBoundary self.old.text start }
+        requires last { IsBoundary self.old.text end }
+        ensures ok { OnOk result (replaced P.growth self.old start end [] ≡ Some self.new) }
+        ensures err { OnErr result ((self.new ≡ self.old) × IsTrue (replace_asks self.old start end [])) }
+    {
+        if self.cut_out_in_place(start, end) {
+            return Ok(());
+        }
+        self.replace_once_owned(start, end, "")
     }
 
     /// Replaces what stands from one boundary to another, in bytes, once the bytes are the value's own and have room for the
