@@ -3,6 +3,7 @@ pub mod Ascii
 pub mod Cuts
 pub mod Shifts
 pub mod Ends
+pub mod Appends
 pub mod Parts
 pub mod ReplacedRows
 pub mod TextFacts
