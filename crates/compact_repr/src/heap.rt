@@ -123,21 +123,6 @@ impl HeapBuffer {
         true
     }
 
-    /// `push_str` of at most 32 bytes, which stand where it is called: there is no loop, and nothing to call.
-    #[inline(always)]
-    pub fn push_at_once(&mut self, text: &str) -> bool
-        requires { length text.now ≤ 32 }
-        ensures fits { IsTrue result ↔ (size self.old.text + length text.now ≤ self.old.capacity) }
-        ensures pushed { IsTrue result → self.new ≡ record { text = self.old.text ++ text_of text.now; capacity = self.old.capacity } }
-        ensures full { result ≡ false → self.new ≡ self.old }
-    {
-        if !self.has_room(text.len()) {
-            return false;
-        }
-        append::put_short(&mut self.bytes, text.as_bytes());
-        true
-    }
-
     /// Replaces what stands from one boundary to another by `text` where the outcome fits, and takes no memory. Answers
     /// whether it fitted; if not, nothing has changed. Positions are in bytes.
     #[inline(always)]

@@ -1,7 +1,7 @@
 //! Bytes that are put behind those of a vector, where it has reserved room for them.
 //!
 //! A vector that is behind a reference would be looked at again for each byte, so it is taken out of its place meanwhile.
-ghost use Rattle.std.specs.Prelude.{◌≡◌, ◌+◌, ◌-◌, ◌≤◌, ◌++◌, length, take, drop, replicate};
+ghost use Rattle.std.specs.Prelude.{◌≡◌, ◌+◌, ◌-◌, ◌<◌, ◌≤◌, ◌++◌, length, take, drop, replicate};
 ghost use Rattle.std.specs.Vec.{vec_len, vec_capacity};
 
 use std::mem;
@@ -9,9 +9,23 @@ use std::mem;
 /// As many bytes are put at once.
 const BLOCK: usize = 32;
 
+/// Puts any bytes behind those of a vector. A few are put where it is called: there is no loop, and nothing to call.
+#[inline(always)]
+pub fn put_all(bytes: &mut Vec<u8>, source: &[u8])
+    requires { vec_len bytes.old + length source.now ≤ vec_capacity bytes.old }
+    ensures items { bytes.new.items ≡ bytes.old.items ++ source.now }
+    ensures capacity { vec_capacity bytes.new ≡ vec_capacity bytes.old }
+{
+    if source.len() <= BLOCK {
+        put_short(bytes, source);
+    } else {
+        put_long(bytes, source);
+    }
+}
+
 /// Puts at most 32 bytes behind those of a vector.
 #[inline(always)]
-pub fn put_short(bytes: &mut Vec<u8>, source: &[u8])
+fn put_short(bytes: &mut Vec<u8>, source: &[u8])
     requires short { length source.now ≤ 32 }
     requires room { vec_len bytes.old + length source.now ≤ vec_capacity bytes.old }
     ensures items { bytes.new.items ≡ bytes.old.items ++ source.now }
@@ -31,19 +45,16 @@ pub fn put_short(bytes: &mut Vec<u8>, source: &[u8])
     }
 }
 
-/// Puts any bytes behind those of a vector: by whole blocks, and then the last ones, of which some may come again.
+/// Puts more than 32 bytes behind those of a vector: by whole blocks, and then the last ones, of which some may come again.
 #[inline(never)]
 #[tactic(auto, using(crate::proofs::Appends::joined_ends, crate::proofs::Appends::one_more))]
-pub fn put_all(bytes: &mut Vec<u8>, source: &[u8])
-    requires { vec_len bytes.old + length source.now ≤ vec_capacity bytes.old }
+fn put_long(bytes: &mut Vec<u8>, source: &[u8])
+    requires long { 32 < length source.now }
+    requires room { vec_len bytes.old + length source.now ≤ vec_capacity bytes.old }
     ensures items { bytes.new.items ≡ bytes.old.items ++ source.now }
     ensures capacity { vec_capacity bytes.new ≡ vec_capacity bytes.old }
 {
     let count = source.len();
-    if count <= BLOCK {
-        put_short(bytes, source);
-        return;
-    }
     let mut row = taken(bytes);
     let len = row.len();
     for i in 0..count / BLOCK {

@@ -1,6 +1,6 @@
 use Rattle.std.proofs.Common.{◌+◌, ◌-◌, ◌*◌, ◌∙◌, length, arith}
 use Rattle.compact_repr.proofs.Appends.{joined_ends, one_more}
-use Rattle.compact_repr.proofs.heap.append.put_all.Goals as goal
+use Rattle.compact_repr.proofs.heap.append.put_long.Goals as goal
 
 pub loop-i-preserved : goal.loop-i-preserved
 loop-i-preserved c = (
