@@ -1,24 +1,22 @@
 //! A text of at most 24 bytes that stands in the value itself, packed.
 #![tactic(auto, using(crate::proofs::PackedFacts::packed_facts))]
 
-ghost use Rattle.std.specs.Prelude.{◌≡◌, ◌+◌, ◌-◌, ◌≤◌, ◌<◌, ℕ, List, [], ◌∷◌, ◌++◌, length, take, false, IsTrue, ◌↔◌, MatchOption};
-ghost use Rattle.std.specs.Str.{IsUtf8};
+ghost use Rattle.std.specs.Prelude.{◌≡◌, ◌+◌, ◌-◌, ◌≤◌, ◌<◌, ℕ, List, [], ◌∷◌, ◌++◌, length, false, IsTrue, ◌↔◌, MatchOption};
 ghost use Rattle.compact_repr.specs.Text.{size, utf8, text_of, IsText, ascii_lowercase, ascii_uppercase};
 ghost use Rattle.compact_repr.specs.Cut.{IsBoundary, before, replaced_text};
-ghost use Rattle.compact_repr.specs.Packed.{IsPackedFor, packed_len, packed_text};
+ghost use Rattle.compact_repr.specs.Packed.{IsPackedFor};
 ghost use Rattle.compact_repr.specs.Kept.{KeepsChars};
 
 mod compare;
+mod packed;
 
 use crate::rows;
-use crate::words::{begins_ascii, insert_byte, pack, remove_byte, row_end, with_last_byte};
+use crate::words::{insert_byte, pack, remove_byte};
+use packed::{ended, is_packed, length_of, mark, marked};
 use std::marker::Model;
 
 /// The most bytes that stand inline.
 pub const INLINE_CAPACITY: usize = 24;
-
-/// The greatest last byte of a packed text: behind a text of 23 bytes.
-const GREATEST_LAST_BYTE: usize = 215;
 
 /// A contract sees the text. The bytes hold its length too: the last of them is 192 and the length, unless the text has 24
 /// bytes and so ends there, in a byte of at most 191. What stands between the text and the last byte is open.
@@ -248,74 +246,5 @@ impl InlineBuffer {
             return None;
         }
         Some(InlineBuffer { bytes: *bytes })
-    }
-}
-
-/// Whether the bytes stand for a text. Where all but the last are ASCII that is known by their words, unless the last byte
-/// can only be of another character.
-#[inline(always)]
-fn is_packed(bytes: &[u8; 24]) -> bool
-    ensures { IsTrue result ↔ IsPackedFor bytes.now (packed_text bytes.now) }
-{
-    let last = row_end(bytes);
-    if last > GREATEST_LAST_BYTE {
-        return false;
-    }
-    if begins_ascii(bytes) && (last < 128 || last >= 192) {
-        return true;
-    }
-    match std::str::from_utf8(&bytes[..length_of(bytes)]) {
-        Ok(_) => true,
-        Err(_) => false,
-    }
-}
-
-/// How many bytes of text packed bytes hold, as the last one says. It takes no branch.
-#[inline(always)]
-fn length_of(bytes: &[u8; 24]) -> usize
-    requires { packed_len bytes.now ≤ 24 }
-    ensures { result ≡ packed_len bytes.now }
-{
-    let len = row_end(bytes).wrapping_sub(192);
-    if len < INLINE_CAPACITY {
-        len
-    } else {
-        INLINE_CAPACITY
-    }
-}
-
-/// Writes the length of the text that stands first. A text of 24 bytes leaves no place for it, and needs none.
-#[inline(always)]
-fn mark(bytes: &mut [u8; 24], len: usize)
-    requires fits { len ≤ 24 }
-    requires text { IsUtf8 (take len bytes.old) }
-    ensures { IsPackedFor bytes.new (text_of (take len bytes.old)) }
-{
-    if len < INLINE_CAPACITY {
-        bytes[INLINE_CAPACITY - 1] = 192 + len as u8;
-    }
-}
-
-/// The row with the length of the text that stands first, which is shorter than the row, as a part of its last word.
-#[inline(always)]
-fn ended(row: &[u8; 24], len: usize) -> [u8; 24]
-    requires short { len < 24 }
-    requires text { IsUtf8 (take len row.now) }
-    ensures { IsPackedFor result (text_of (take len row.now)) }
-{
-    with_last_byte(row, 192 + len as u8)
-}
-
-/// The same of a text that may be all of the row, which then stays as it is.
-#[inline(always)]
-fn marked(row: &[u8; 24], len: usize) -> [u8; 24]
-    requires fits { len ≤ 24 }
-    requires text { IsUtf8 (take len row.now) }
-    ensures { IsPackedFor result (text_of (take len row.now)) }
-{
-    if len < INLINE_CAPACITY {
-        ended(row, len)
-    } else {
-        *row
     }
 }
