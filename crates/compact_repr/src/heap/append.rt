@@ -33,7 +33,6 @@ pub fn put_short(bytes: &mut Vec<u8>, source: &[u8])
 
 /// Puts any bytes behind those of a vector: by whole blocks, and then the last ones, of which some may come again.
 #[inline(never)]
-#[tactic(auto, using(crate::proofs::Appends::joined_ends, crate::proofs::Appends::one_more))]
 pub fn put_all(bytes: &mut Vec<u8>, source: &[u8])
     requires { vec_len bytes.old + length source.now ≤ vec_capacity bytes.old }
     ensures items { bytes.new.items ≡ bytes.old.items ++ source.now }
@@ -56,7 +55,6 @@ pub fn put_all(bytes: &mut Vec<u8>, source: &[u8])
 
 /// Makes a vector `len` bytes long, by zeros behind its bytes. Where a few are wanted and there is room, it is one write.
 #[inline(always)]
-#[tactic(auto, using(crate::proofs::Appends::zeros_within))]
 pub fn open(bytes: &mut Vec<u8>, len: usize)
     requires longer { vec_len bytes.old ≤ len }
     requires room { len ≤ vec_capacity bytes.old }
