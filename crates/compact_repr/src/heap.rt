@@ -123,7 +123,7 @@ impl HeapBuffer {
         true
     }
 
-    /// `push_str` of at most 32 bytes, which stand where it is called: there is no loop, and nothing to call.
+    /// `push_str` of at most 32 bytes. It is compiled where it is called, and has no loop and calls nothing.
     #[inline(always)]
     pub fn push_at_once(&mut self, text: &str) -> bool
         requires { length text.now ≤ 32 }

@@ -53,7 +53,8 @@ pub fn put_all(bytes: &mut Vec<u8>, source: &[u8])
     give_back(bytes, row);
 }
 
-/// Makes a vector `len` bytes long, by zeros behind its bytes. Where a few are wanted and there is room, it is one write.
+/// Puts zeros behind the bytes of a vector until it is `len` bytes long: a block of them at once, where it has the room and
+/// no more are wanted.
 #[inline(always)]
 pub fn open(bytes: &mut Vec<u8>, len: usize)
     requires longer { vec_len bytes.old ≤ len }
@@ -73,7 +74,7 @@ pub fn open(bytes: &mut Vec<u8>, len: usize)
     }
 }
 
-/// Puts zeros behind the bytes of a vector until it is `len` bytes long.
+/// Puts zeros behind the bytes of a vector, one by one, until it is `len` bytes long.
 #[inline(never)]
 #[tactic(auto, using(crate::proofs::Appends::one_more_zero))]
 pub fn put_zeros(bytes: &mut Vec<u8>, len: usize)
@@ -140,15 +141,17 @@ fn piece<const N: usize>(source: &[u8], at: usize) -> [u8; N]
 /// The vector, in whose place an empty one stays until it is given back.
 #[inline(always)]
 fn taken(bytes: &mut Vec<u8>) -> Vec<u8>
-    ensures { result ≡ bytes.old }
+    ensures value { result ≡ bytes.old }
+    ensures left { vec_capacity bytes.new ≡ 0 }
 {
     let alloc = *bytes.allocator();
     mem::replace(bytes, Vec::new(alloc))
 }
 
-/// Puts a vector back in the place from which it was taken. What stood there has no memory, and is not dropped.
+/// Puts a vector back in the place from which it was taken. What stands there has no memory, so nothing frees it.
 #[inline(always)]
 fn give_back(bytes: &mut Vec<u8>, row: Vec<u8>)
+    requires { vec_capacity bytes.old ≡ 0 }
     ensures { bytes.new ≡ row }
 {
     mem::forget(mem::replace(bytes, row));
