@@ -47,7 +47,6 @@ fn put_short(bytes: &mut Vec<u8>, source: &[u8])
 
 /// Puts more than 32 bytes behind those of a vector: by whole blocks, and then the last ones, of which some may come again.
 #[inline(never)]
-#[tactic(auto, using(crate::proofs::Appends::joined_ends, crate::proofs::Appends::one_more))]
 fn put_long(bytes: &mut Vec<u8>, source: &[u8])
     requires long { 32 < length source.now }
     requires room { vec_len bytes.old + length source.now ≤ vec_capacity bytes.old }
@@ -65,9 +64,9 @@ fn put_long(bytes: &mut Vec<u8>, source: &[u8])
     give_back(bytes, row);
 }
 
-/// Makes a vector `len` bytes long, by zeros behind its bytes. Where a few are wanted and there is room, it is one write.
+/// Puts zeros behind the bytes of a vector until it is `len` bytes long: a block of them at once, where it has the room and
+/// no more are wanted.
 #[inline(always)]
-#[tactic(auto, using(crate::proofs::Appends::zeros_within))]
 pub fn open(bytes: &mut Vec<u8>, len: usize)
     requires longer { vec_len bytes.old ≤ len }
     requires room { len ≤ vec_capacity bytes.old }
@@ -86,7 +85,7 @@ pub fn open(bytes: &mut Vec<u8>, len: usize)
     }
 }
 
-/// Puts zeros behind the bytes of a vector until it is `len` bytes long.
+/// Puts zeros behind the bytes of a vector, one by one, until it is `len` bytes long.
 #[inline(never)]
 #[tactic(auto, using(crate::proofs::Appends::one_more_zero))]
 pub fn put_zeros(bytes: &mut Vec<u8>, len: usize)
@@ -153,15 +152,17 @@ fn piece<const N: usize>(source: &[u8], at: usize) -> [u8; N]
 /// The vector, in whose place an empty one stays until it is given back.
 #[inline(always)]
 fn taken(bytes: &mut Vec<u8>) -> Vec<u8>
-    ensures { result ≡ bytes.old }
+    ensures value { result ≡ bytes.old }
+    ensures left { vec_capacity bytes.new ≡ 0 }
 {
     let alloc = *bytes.allocator();
     mem::replace(bytes, Vec::new(alloc))
 }
 
-/// Puts a vector back in the place from which it was taken. What stood there has no memory, and is not dropped.
+/// Puts a vector back in the place from which it was taken. What stands there has no memory, so nothing frees it.
 #[inline(always)]
 fn give_back(bytes: &mut Vec<u8>, row: Vec<u8>)
+    requires { vec_capacity bytes.old ≡ 0 }
     ensures { bytes.new ≡ row }
 {
     mem::forget(mem::replace(bytes, row));

@@ -1,4 +1,4 @@
-use Rattle.std.proofs.Common.{◌≡◌, ◌+◌, [], ◌∷◌, ◌++◌, ◌∙◌, sym, ap, take, drop, length, arith, refl}
+use Rattle.std.proofs.Common.{◌≡◌, ◌+◌, [], ◌∷◌, ◌++◌, ◌∙◌, sym, take, drop, length, arith, refl}
 use Rattle.std.specs.List.{replace_range}
 use Rattle.std.proofs.lemmas.List.{take_at}
 use Rattle.compact_repr.proofs.Ascii.{ascii-inserted, utf8-ascii-inserted, size-ascii-inserted}

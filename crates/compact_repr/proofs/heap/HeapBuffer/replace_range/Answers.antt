@@ -1,4 +1,4 @@
-use Rattle.std.proofs.Common.{◌≡◌, ℕ, ◌+◌, ◌-◌, ◌++◌, ◌∙◌, ap, sym, take, drop, length, replicate, arith, refl}
+use Rattle.std.proofs.Common.{◌≡◌, ℕ, ◌+◌, ◌-◌, ◌++◌, ◌∙◌, ap, sym, take, drop, length, arith, refl}
 use Rattle.std.proofs.lemmas.List.{take_at}
 use Rattle.std.specs.List.{replace_range}
 use Rattle.compact_repr.specs.Text.{text_of}

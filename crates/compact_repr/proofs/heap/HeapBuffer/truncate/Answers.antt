@@ -1,5 +1,4 @@
 use Rattle.std.proofs.Common.{arith, refl}
-use Rattle.std.specs.Str.{IsUtf8}
 use Rattle.compact_repr.proofs.Cuts.{text_of-take, utf8-take}
 use Rattle.compact_repr.proofs.Texts.{size-text_of}
 use Rattle.compact_repr.proofs.HeapTexts.{shown-text, shown-capacity}

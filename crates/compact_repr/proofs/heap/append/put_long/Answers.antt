@@ -12,5 +12,5 @@ loop-i-preserved c = (
 
 pub returns-clause-items : goal.returns-clause-items
 returns-clause-items c =
-    rw (c.give_back.ensures, c.put-2.ensures.items, c.truncate.ensures.items, c.loop-i.invariant.0, c.piece-2.ensures, ← c.taken-row.ensures)
+    rw (c.give_back.ensures, c.put-2.ensures.items, c.truncate.ensures.items, c.loop-i.invariant.0, c.piece-2.ensures, ← c.taken-row.ensures.value)
     (joined_ends c.taken-row.result.items c.args.source.now c.len-len.result (32 * c.loop-i.i) (length c.args.source.now - 32) 32 (omega arith) (omega arith) (omega arith))
