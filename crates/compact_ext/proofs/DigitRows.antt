@@ -1,5 +1,5 @@
 -- Digits that are written into a row from the last to the first.
-use Rattle.std.proofs.Common.{◌≡◌, ℕ, zero, suc, ◌+◌, ◌-◌, ◌*◌, ◌/◌, ◌%◌, ◌^◌, ◌<◌, ◌≤◌, Bool, true, ◌&&◌, T, eqb, List, [], ◌∷◌, ◌++◌, length, get_or, refl, ap, ap₂, ◌∙◌, add-one, inl, inr, arith, eq-zero-or-pos, eqb→eq, append_assoc, length-append, sym, set, take, drop, take-take}
+use Rattle.std.proofs.Common.{◌≡◌, ℕ, zero, suc, ◌+◌, ◌-◌, ◌*◌, ◌/◌, ◌%◌, ◌^◌, ◌<◌, ◌≤◌, Bool, true, false, ◌&&◌, T, eqb, List, [], ◌∷◌, ◌++◌, length, get_or, refl, ap, ap₂, ◌∙◌, add-one, zero-add, inl, inr, arith, eq-zero-or-pos, eqb→eq, append_assoc, length-append, sym, set, take, drop, take-take}
 use lib.Ieee.Fits.{and_l, and_r}
 use Rattle.std.proofs.Math.Seq.{set_split, take-append_seam, drop-append-add}
 use Rattle.std.proofs.lemmas.Fmt.{decimal_digit, decimal_step, length-decimal-le}
@@ -115,7 +115,7 @@ written-behind row s t at e h =
     let first : take at (s ++ rest) ≡ s = ap (λ (n : ℕ). take n (s ++ rest)) e ∙ take-append_seam s rest in
     let last : drop (at + length t) (s ++ rest) ≡ drop (length (s ++ t)) row =
     ap (λ (n : ℕ). drop (n + length t) (s ++ rest)) e ∙ drop-append-add s rest (length t) ∙ drop-drop (length t) (length s) row ∙ ap (λ (n : ℕ). drop n row) (sym (length-append s t)) in
-    ap₂ (λ (x y : List ℕ). x ++ (t ++ y)) first last ∙ sym (append_assoc s t _)
+    rw (zero-add (length s), zero-add (length (s ++ t))) (ap₂ (λ (x y : List ℕ). x ++ (t ++ y)) first last ∙ sym (append_assoc s t _))
 
 pub sign-most : (s : Bool) → length (sign_text s) ≤ 1
 sign-most true = omega arith

@@ -1,9 +1,10 @@
 //! How a text is read.
-ghost use Rattle.std.specs.Prelude.{◌≡◌, ◌+◌, ◌^◌, ◌<◌, ◌≤◌, ◌++◌, length, take, drop, IfOk, IfErr, IsErrOf, MatchResult, OnOk, IsTrue, vec_len, IsUtf8};
+ghost use Rattle.std.specs.Prelude.{◌≡◌, ◌+◌, ◌^◌, ◌<◌, ◌≤◌, ◌++◌, length, take, drop, IfOk, IfErr, IsErrOf, MatchResult, OnOk, IsTrue, false, vec_len, IsUtf8};
 ghost use Rattle.std.specs.Int.{w32, to_le_bytes};
 ghost use Rattle.std.specs.Vec.{vec_capacity};
 ghost use Rattle.std.specs.Io.KnownBytes.{Consumes};
 ghost use Rattle.compact_str.specs.Text.{size, utf8};
+ghost use Rattle.compact_repr.specs.Packed.{packed_len};
 ghost use Rattle.compact_str.specs.Capacity.{inlined, on_heap, taken_over};
 ghost use Rattle.compact_ext.specs.declared.wire.WireError.TheVariants.{Utf8 as utf8_fault};
 ghost use Rattle.compact_ext.specs.Wire.{wire, ReadFails, ReadsBack, StopsBelow, TextFails, next_room};
@@ -99,16 +100,29 @@ fn packed(alloc: Global, room: &mut [u8; 24], len: usize) -> Result<CompactStrin
     ensures placement { IfOk result (λ v. v.placement ≡ inlined) }
     ensures err { IfErr result (λ e. (e ≡ utf8_fault) × ¬ IsUtf8 (take len room.old)) }
 {
-    if len < INLINE_CAPACITY {
-        room[INLINE_CAPACITY - 1] = 192 + len as u8;
-    } else if room[INLINE_CAPACITY - 1] >= 192 {
-        // No text ends so, and a shorter one would be told by it.
+    if !tell_len(room, len) {
         return Err(WireError::Utf8);
     }
     match CompactString::from_packed(alloc, room) {
         Some(value) => Ok(value),
         None => Err(WireError::Utf8),
     }
+}
+
+/// Makes the last byte of the room tell how many bytes have come. 24 bytes tell it by themselves, unless they end in a byte that
+/// is a length: then answers `false`, since no text ends so.
+#[inline(always)]
+fn tell_len(room: &mut [u8; 24], len: usize) -> bool
+    requires { len ≤ 24 }
+    ensures told { IsTrue result → packed_len room.new ≡ len }
+    ensures front { IsTrue result → take len room.new ≡ take len room.old }
+    ensures no_text { result ≡ false → ¬ IsUtf8 (take len room.old) }
+{
+    if len < INLINE_CAPACITY {
+        room[INLINE_CAPACITY - 1] = 192 + len as u8;
+        return true;
+    }
+    room[INLINE_CAPACITY - 1] < 192
 }
 
 /// Reads a text of so many bytes, of which nothing is copied once it has come.
