@@ -146,9 +146,9 @@ fn replace_range<P: Policy>(
 fn drain<P: Policy>(value: &mut PolicyString<P>, start: Bound<usize>, end: Bound<usize>) -> Reply<P>
     ensures { Step P.growth value.old (Edit.Drain start end) result value.new }
 {
-    if value.check_range(start, end).is_none() {
+    let Some(_) = value.check_range(start, end) else {
         return Reply::BadPosition;
-    }
+    };
     match copy_of_range(value, start, end) {
         Ok(range) => match take_out(value, start, end) {
             Ok(()) => Reply::Text(range),
