@@ -10,6 +10,9 @@
 //! the types take: the bytes of a value, and those in memory for each of a million short words in a vector, for which it runs
 //! itself anew, once for each type.
 //!
+//! With the arguments `once NAME PLACE COUNT` it only runs a workload for the type at a place, 0 for the first one of the table,
+//! which `instructions.sh` counts.
+//!
 //! What it reads of its environment: `BENCH_TURNS`, another number of turns; `BENCH_ONLY`, the beginnings of the names of
 //! the workloads that are run, with nothing else; `BENCH_TO`, the folder that gets the figures as `speed.txt` and
 //! `speed.svg`, unless only some workloads are run or in fewer turns; `BENCH_TOLD`, what these say of time and place.
@@ -276,14 +279,21 @@ fn run() -> Option<()> {
     agree.then_some(())
 }
 
+/// Runs so many operations of a workload for the type at a place. `None` says that there is no such one.
+fn run_once(name: &str, place: &str, count: &str) -> Option<()> {
+    let workload = workloads().into_iter().find(|each| each.name == name)?;
+    let run = workload.runs.get(place.parse::<usize>().ok()?)?;
+    black_box(run(black_box(count.parse().ok()?)));
+    Some(())
+}
+
 fn main() -> ExitCode {
-    let arguments: Vec<String> = env::args().collect();
-    let done = if let [_, word, place] = arguments.as_slice()
-        && word == HOLD
-    {
-        place.parse().ok().and_then(hold)
-    } else {
-        run()
+    let arguments: Vec<String> = env::args().skip(1).collect();
+    let arguments: Vec<&str> = arguments.iter().map(String::as_str).collect();
+    let done = match arguments.as_slice() {
+        [HOLD, place] => place.parse().ok().and_then(hold),
+        ["once", name, place, count] => run_once(name, place, count),
+        _ => run(),
     };
     done.map_or(ExitCode::FAILURE, |()| ExitCode::SUCCESS)
 }
