@@ -22,17 +22,35 @@ ROOT = os.path.dirname(os.path.dirname(os.path.abspath(__file__)))
 UNPROVED = re.compile(r"^fn (\S+): (?:not proved|no proof: (?!it calls))", re.M)
 
 
+def read(path):
+    with open(path, encoding="utf-8") as it:
+        return it.read()
+
+
+def write(path, text):
+    with open(path, "w", encoding="utf-8") as it:
+        it.write(text)
+
+
 class Body:
     """A wrong body: its name, and the file, the old and the new text of each of its changes."""
 
     def __init__(self, name):
         self.name, self.changes = name, []
 
+    def put_into(self, texts, crate):
+        """Puts its changes into the texts of files, and says whether each old text stood there just once."""
+        fits = True
+        for file, old, new in self.changes:
+            text = texts.get(file) or read(f"{crate}/{file}")
+            fits = fits and text.count(old) == 1
+            texts[file] = text.replace(old, new)
+        return fits
+
     def place(self, crate):
         """The file that it changes, and there where its function begins and what its name is; `None` where it changes none."""
         file, old, _ = self.changes[0]
-        with open(f"{crate}/{file}", encoding="utf-8") as it:
-            text = it.read()
+        text = read(f"{crate}/{file}")
         above = list(re.finditer(r"\bfn (\w+)", text[: text.find(old) + len(old)]))
         return (file, above[-1].start(), above[-1][1]) if above and file.startswith("src/") else None
 
@@ -40,60 +58,52 @@ class Body:
 def bodies_of(path):
     """The wrong bodies of a file. One that stands alone needs no name but the file's."""
     bodies, file, old, name = [], None, None, os.path.basename(path).removesuffix(".edit")
-    with open(path, encoding="utf-8") as it:
-        for line in it.read().split("\n"):
-            word, _, text = line.partition(" ")
-            if word == "#":
-                name = text
-            elif word == "file:":
-                file = text
-            elif word == "old:":
-                old = text
-            elif word == "new:":
-                if not bodies or bodies[-1].name != name:
-                    bodies.append(Body(name))
-                bodies[-1].changes.append((file, old, text))
+    for line in read(path).split("\n"):
+        word, _, text = line.partition(" ")
+        if word == "#":
+            name = text
+        elif word == "file:":
+            file = text
+        elif word == "old:":
+            old = text
+        elif word == "new:":
+            if not bodies or bodies[-1].name != name:
+                bodies.append(Body(name))
+            bodies[-1].changes.append((file, old, text))
     return bodies
 
 
 def unproved(crate, bodies):
     """The functions whose own proof fails in a check of the crate with these wrong bodies, and whether the crate is refused."""
-    was, texts = {}, {}
+    texts = {}
     for body in bodies:
-        for file, old, new in body.changes:
-            if file not in was:
-                with open(f"{crate}/{file}", encoding="utf-8") as it:
-                    was[file] = texts[file] = it.read()
-            if texts[file].count(old) != 1:
-                sys.exit(f"{crate}: {body.name}: the old text does not stand in {file} just once")
-            texts[file] = texts[file].replace(old, new)
+        body.put_into(texts, crate)
+    was = {file: read(f"{crate}/{file}") for file in texts}
     try:
         for file, text in texts.items():
-            with open(f"{crate}/{file}", "w", encoding="utf-8") as it:
-                it.write(text)
+            write(f"{crate}/{file}", text)
         ran = subprocess.run(["rt", "check"], cwd=crate, stdin=subprocess.DEVNULL, stdout=subprocess.PIPE, stderr=subprocess.STDOUT, text=True, errors="replace")
     finally:
         for file, text in was.items():
-            with open(f"{crate}/{file}", "w", encoding="utf-8") as it:
-                it.write(text)
+            write(f"{crate}/{file}", text)
     return UNPROVED.findall(ran.stdout), "\nlogic=not-proved" in ran.stdout
 
 
 def try_together(crate, bodies):
     """Tries wrong bodies of one crate, says what came of each, and returns how many were refused."""
-    places = {body: body.place(crate) for body in bodies}
-    together = [body for body in bodies if places[body] and list(places.values()).count(places[body]) == 1]
+    places = {body: body.place(crate) for body in bodies if body.put_into({}, crate)}
+    together = [body for body in places if places[body] and list(places.values()).count(places[body]) == 1]
     found = unproved(crate, together)[0] if together else []
     count = 0
     for body in bodies:
-        function = places[body] and places[body][2]
+        function = places.get(body) and places[body][2]
         by = [it for it in found if it.endswith(f"::{function}")]
         # Two functions of one name may stand in the crate: both are to be found then.
-        if body not in together or len(by) < sum(places[it][2] == function for it in together):
+        if body in places and (body not in together or len(by) < sum(places[it][2] == function for it in together)):
             by, is_refused = unproved(crate, [body])
             by = [it for it in by if is_refused and function in (None, it.rpartition("::")[2])]
-        count += bool(by)
-        said = f"refused by the proof of {' or '.join(by)}" if by else "NOT REFUSED"
+        count += body in places and bool(by)
+        said = f"refused by the proof of {function or ' and '.join(by)}" if by else "NOT REFUSED" if body in places else "ITS OLD TEXT IS GONE"
         print(f"{os.path.basename(crate)}: {body.name}: {said}", flush=True)
     return count
 
