@@ -1,13 +1,13 @@
 -- Digits that are written into a row from the last to the first.
-use Rattle.std.proofs.Common.{◌≡◌, ℕ, zero, suc, ◌+◌, ◌-◌, ◌*◌, ◌/◌, ◌%◌, ◌^◌, ◌<◌, ◌≤◌, Bool, true, ◌&&◌, T, eqb, List, [], ◌∷◌, ◌++◌, length, get_or, refl, ap, ap₂, ◌∙◌, add-one, inl, inr, arith, eq-zero-or-pos, eqb→eq, append_assoc, length-append, sym, set, take, drop, take-take}
+use Rattle.std.proofs.Common.{◌≡◌, ℕ, zero, suc, ◌+◌, ◌-◌, ◌*◌, ◌/◌, ◌%◌, ◌^◌, ◌<◌, ◌≤◌, Bool, true, false, ◌&&◌, T, eqb, List, [], ◌∷◌, ◌++◌, length, get_or, refl, ap, ap₂, ◌∙◌, add-one, zero-add, inl, inr, arith, eq-zero-or-pos, eqb→eq, append_assoc, length-append, sym, set, take, drop, take-take}
 use lib.Ieee.Fits.{and_l, and_r}
-use Rattle.std.proofs.Math.Seq.{set_split}
+use Rattle.std.proofs.Math.Seq.{set_split, take-append_seam, drop-append-add}
 use Rattle.std.proofs.lemmas.Fmt.{decimal_digit, decimal_step, length-decimal-le}
-use Rattle.std.proofs.lemmas.List.{length-drop, length-take-le, drop_at, take-append-le, set_comm}
-use Rattle.std.specs.Fmt.{decimal}
+use Rattle.std.proofs.lemmas.List.{length-drop, length-take-le, drop_at, take-append-le, set_comm, drop-drop}
+use Rattle.std.specs.Fmt.{decimal, sign_text}
 use Rattle.itoa.proofs.Decimal.{length_one, length_two, decimal_two, decimal_pair, length_pair, decimal_four, length_four}
 use Rattle.compact_ext.specs.declared.num.digits.TheConstants.{PAIRS}
-use Rattle.compact_ext.specs.Digits.{two_digits, written}
+use Rattle.compact_ext.specs.Digits.{two_digits, written, number_text}
 
 -- how many digits there are, by the power of ten that is reached
 
@@ -106,3 +106,22 @@ pair_before row start at n low fits e within =
     ∙ ap (written row start) (sym (decimal_pair n low fits))
 
 pub ruleset digit_rows = (length_four, length_pair, four_written, pair_before)
+
+-- a sign, and then the digits behind it
+
+pub written-behind : (row s t : List ℕ) (at : ℕ) → at ≡ length s → length s ≤ length row → written (written row 0 s) at t ≡ written row 0 (s ++ t)
+written-behind row s t at e h =
+    let rest : List ℕ = drop (length s) row in
+    let first : take at (s ++ rest) ≡ s = ap (λ (n : ℕ). take n (s ++ rest)) e ∙ take-append_seam s rest in
+    let last : drop (at + length t) (s ++ rest) ≡ drop (length (s ++ t)) row =
+    ap (λ (n : ℕ). drop (n + length t) (s ++ rest)) e ∙ drop-append-add s rest (length t) ∙ drop-drop (length t) (length s) row ∙ ap (λ (n : ℕ). drop n row) (sym (length-append s t)) in
+    rw (zero-add (length s), zero-add (length (s ++ t))) (ap₂ (λ (x y : List ℕ). x ++ (t ++ y)) first last ∙ sym (append_assoc s t _))
+
+pub sign-most : (s : Bool) → length (sign_text s) ≤ 1
+sign-most true = omega arith
+sign-most false = omega arith
+
+pub number-count : (s : Bool) (n start count : ℕ) → start ≡ length (sign_text s) → count ≡ length (decimal n) → start + count ≡ length (number_text s n)
+number-count s n start count e f = omega (arith, e, f, length-append (sign_text s) (decimal n))
+
+pub ruleset sign_rows = (written-behind, length-written, sign-most, number-count)

@@ -5,6 +5,7 @@ pub mod Collecting
 pub mod ForCallers
 pub mod Examples
 pub mod WireForms
+pub mod PackedRooms
 pub mod RecordLists
 pub mod WireFacts
 pub mod WireExamples

@@ -1,5 +1,5 @@
 -- What a change gives, in plain facts.
-use Rattle.std.proofs.Common.{◌≡◌, ℕ, ◌+◌, ◌-◌, ◌≤◌, List, ◌++◌, Some, true, false, arith, append-nil}
+use Rattle.std.proofs.Common.{◌≡◌, ℕ, ◌+◌, ◌-◌, ◌≤◌, List, [], ◌++◌, Some, true, false, arith, append-nil}
 use Rattle.std.proofs.lemmas.Grind.{common_steps}
 use Rattle.compact_repr.specs.Text.{size}
 use Rattle.compact_repr.specs.Value.{PlacedText, placed, is_static}
@@ -25,5 +25,12 @@ pub replaced-in_place : (g : Growth) (v w : PlacedText) (i j n : ℕ) (s : List 
     → w ≡ placed (replaced_text v.text i j s) v.placement → replaced g v i j s ≡ Some w
 replaced-in_place g v w i j n s k o fits e = grind (arith, common_steps)
 
+pub cut_out-in_place : (g : Growth) (v w : PlacedText) (i j : ℕ) → is_static v.placement.place ≡ false → w ≡ placed (replaced_text v.text i j []) v.placement
+    → replaced g v i j [] ≡ Some w
+cut_out-in_place g v w i j o e = grind (arith, common_steps)
+
 -- of an append
 pub ruleset append_facts = (empty_text, pushed-in_place)
+
+-- of a removal
+pub ruleset removal_facts = (cut_out-in_place)

@@ -1,16 +1,24 @@
--- What a heap buffer shows: the text that the first bytes of its vector spell, and its capacity.
-use Rattle.std.proofs.Common.{◌≡◌, ℕ, ◌≤◌, List, length, take, ap}
+-- What a heap buffer shows: the text that the bytes of its vector spell, and its capacity.
+use Rattle.std.proofs.Common.{◌≡◌, ℕ, List, ◌++◌, length, take, drop, ap, sym, ◌∙◌, arith}
+use Rattle.std.proofs.lemmas.List.{take_all, take_at}
 use Rattle.std.specs.Str.{IsUtf8}
 use Rattle.compact_repr.specs.Text.{size, text_of}
 use Rattle.compact_repr.specs.Value.{HeapText}
-use Rattle.compact_repr.proofs.Texts.{size-front}
+use Rattle.compact_repr.proofs.Texts.{size-text_of}
 
-pub shown-text : {h : HeapText} {capacity : ℕ} (n : ℕ) (bytes : List ℕ) → record { text = text_of (take n bytes); capacity = capacity } ≡ h → text_of (take n bytes) ≡ h.text
-shown-text n bytes e = ap (λ (h : HeapText). h.text) e
+pub shown-text : {h : HeapText} {capacity : ℕ} (bytes : List ℕ) → record { text = text_of bytes; capacity = capacity } ≡ h → text_of bytes ≡ h.text
+shown-text bytes e = ap (λ (h : HeapText). h.text) e
 
 pub shown-capacity : {h : HeapText} {capacity : ℕ} (t : List ℕ) → record { text = t; capacity = capacity } ≡ h → capacity ≡ h.capacity
 shown-capacity t e = ap (λ (h : HeapText). h.capacity) e
 
-pub shown-size : {h : HeapText} (bytes : List ℕ) (n capacity : ℕ) → record { text = text_of (take n bytes); capacity = capacity } ≡ h
-    → IsUtf8 (take n bytes) → n ≤ length bytes → size h.text ≡ n
-shown-size bytes n capacity e u held = size-front bytes n (shown-text n bytes e) u held
+pub shown-size : {h : HeapText} {capacity : ℕ} (bytes : List ℕ) → record { text = text_of bytes; capacity = capacity } ≡ h → IsUtf8 bytes → size h.text ≡ length bytes
+shown-size bytes e u = ap size (sym (shown-text bytes e)) ∙ size-text_of bytes u
+
+-- all the items of a vector
+pub whole : (items : List ℕ) (len : ℕ) → len ≡ length items → take len items ≡ items
+whole items len e = take_all len items (omega arith)
+
+-- what a slice of all the items of a vector leaves there
+pub written : (items row : List ℕ) (len : ℕ) → length row ≡ length items → len ≡ length items → take len (row ++ drop (length row) items) ≡ row
+written items row len same e = take_at row (drop (length row) items) len (omega arith)

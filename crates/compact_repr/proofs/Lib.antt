@@ -3,11 +3,10 @@ pub mod Ascii
 pub mod Cuts
 pub mod Shifts
 pub mod Ends
+pub mod Appends
 pub mod Parts
 pub mod ReplacedRows
 pub mod TextFacts
-pub mod PackedTexts
-pub mod Examples
 pub mod HeapTexts
 pub mod Strings
 pub mod Changes
@@ -17,6 +16,12 @@ pub mod ChangedWords
 pub mod ChangedRows
 pub mod ByteOrder
 pub mod SameRows
+pub mod PackedRows
+pub mod PackedTexts
+pub mod PackedEdits
+pub mod PackedFacts
+pub mod AsciiRows
+pub mod Examples
 pub mod Letters
 pub mod Keeping
 pub mod Middles

@@ -1,11 +1,13 @@
 -- Lists of bytes as numbers, and as words of eight bytes.
-use Rattle.std.proofs.Common.{◌≡◌, ℕ, ◌+◌, ◌-◌, ◌*◌, ◌/◌, ◌%◌, ◌^◌, ◌<◌, ◌≤◌, List, [], ◌∷◌, ◌++◌, length, take, drop, get_or, refl, ap, sym, ◌∙◌, subst, arith, length-append}
+use Rattle.std.proofs.Common.{◌≡◌, ℕ, ◌+◌, ◌-◌, ◌*◌, ◌/◌, ◌%◌, ◌^◌, ◌<◌, ◌≤◌, List, [], ◌∷◌, ◌++◌, length, take, drop, get_or, refl, ap, sym, ◌∙◌, subst, arith, length-append, ⊎_elim}
 use Prim.Native.Nat.{zero, suc}
-use Rattle.std.specs.Prelude.{replicate}
+use Rattle.std.specs.Prelude.{replicate, bit_or, min}
+use Rattle.std.proofs.lemmas.Bool.{cases_lt}
 use Rattle.std.specs.Int.{to_le_bytes, from_le_bytes, w64}
-use Rattle.std.proofs.Math.Nat.{mul_assoc}
-use Rattle.std.proofs.lemmas.Nat.{pow-add, shr_high, shr_le, mod_low, le_bytes_8, from_le_bytes-to_le_bytes_8}
-use Rattle.std.proofs.lemmas.List.{length-take-le, length-drop, length-replicate, take-append-drop, take_all, drop-drop, get_or-drop}
+use Rattle.std.specs.Int.Bits.{or_zero_l, or_zero_r, or_self, or_shifted_r}
+use Rattle.std.proofs.Math.Nat.{mul_assoc, mod-eq_of_lt}
+use Rattle.std.proofs.lemmas.Nat.{pow-add, pow_pos, shr_high, mod_low, or_block, le_bytes_8, from_le_bytes-to_le_bytes_8}
+use Rattle.std.proofs.lemmas.List.{length-take-le, length-drop, length-replicate, take-append-drop, take-take, drop-take, take_all, drop_all, take_at, drop-drop, get_or-drop}
 use Rattle.compact_repr.specs.Words.{number, bytes_of}
 
 -- what the type of a row of bytes says of its items
@@ -140,22 +142,129 @@ number_last xs k from all held start end =
     ∙ number-drop past (drop at xs) (AllBytes-drop at xs all) (omega arith)
     ∙ ap number (drop-drop past at xs ∙ ap (λ (m : ℕ). drop m xs) place)
 
--- two reads of k bytes, one from the start and one that ends at the end, of which the bytes that both read are kept once
-pub halves : (xs : List ℕ) (k low last : ℕ) → AllBytes xs → k ≤ length xs → length xs ≤ k + k
-    → low ≡ number (take k xs) → last ≡ number (take k (drop (length xs - k) xs))
-    → low + last / 2 ^ (8 * (k + k - length xs)) * 2 ^ (8 * k) ≡ number xs
-halves xs k low last all held most front back =
-    let high : last / 2 ^ (8 * (k + k - length xs)) ≡ number (drop k xs) = rw back (number_last xs k k all held held most) in
-    let parts = number_parts k xs held in
-    rw (front, high) (omega (arith, parts))
+-- the second eight bytes of a row, or as many as there are: the last eight of it, without those that stand before
+pub number_second : (xs : List ℕ) (at : ℕ) → AllBytes xs → 8 ≤ length xs → at ≡ min (length xs - 8) 8
+    → number (take 8 (drop at xs)) / 2 ^ (8 * (8 - at)) ≡ number (take 8 (drop 8 xs))
+number_second xs at all held is =
+    ⊎_elim
+    (λ (short : length xs < 16).
+    let place : at ≡ length xs - 8 = omega arith in
+    let past : 8 * (8 - at) ≡ 8 * (8 + 8 - length xs) = omega arith in
+    ap (λ (n : ℕ). number (take 8 (drop n xs)) / 2 ^ (8 * (8 - at))) place
+    ∙ ap (λ (n : ℕ). number (take 8 (drop (length xs - 8) xs)) / 2 ^ n) past
+    ∙ number_last xs 8 8 all held held (omega arith)
+    ∙ ap number (sym (take_all 8 (drop 8 xs) (omega (arith, length-drop 8 xs)))))
+    (λ (long : 16 ≤ length xs).
+    let place : at ≡ 8 = omega arith in
+    let past : 8 * (8 - at) ≡ 0 = omega arith in
+    ap (λ (n : ℕ). number (take 8 (drop at xs)) / 2 ^ n) past
+    ∙ ap (λ (n : ℕ). number (take 8 (drop n xs)) / 2 ^ 0) place
+    ∙ omega arith)
+    (cases_lt (length xs) 16)
 
--- what is read is below the number of values that k bytes have, and so is what is left of it
-pub upper_half-lt : (xs : List ℕ) (k last past : ℕ) → AllBytes xs → k ≤ length xs → last ≡ number (take k (drop (length xs - k) xs)) → last / 2 ^ past < 2 ^ (8 * k)
-upper_half-lt xs k last past all held back =
+-- the bytes that follow the first sixteen, by the last eight of the row
+pub number_third : (xs : List ℕ) (count : ℕ) → AllBytes xs → 8 ≤ length xs → length xs ≤ 24 → count ≡ length xs - 16
+    → number (take 8 (drop (length xs - 8) xs)) / 2 ^ (8 * (8 - count)) ≡ number (drop 16 xs)
+number_third xs count all held most is =
+    ⊎_elim
+    (λ (short : length xs < 16).
+    let last : List ℕ = drop (length xs - 8) xs in
+    let whole : length last ≡ 8 = length-drop (length xs - 8) xs ∙ omega arith in
+    let below = number_front 8 last (AllBytes-drop (length xs - 8) xs all) (omega (arith, whole)) in
+    let past : 8 * (8 - count) ≡ 64 = omega arith in
+    ap (λ (n : ℕ). number (take 8 last) / 2 ^ n) past
+    ∙ omega (arith, below)
+    ∙ ap number (sym (drop_all 16 xs (omega arith))))
+    (λ (long : 16 ≤ length xs).
+    let past : 8 * (8 - count) ≡ 8 * (16 + 8 - length xs) = omega arith in
+    ap (λ (n : ℕ). number (take 8 (drop (length xs - 8) xs)) / 2 ^ n) past
+    ∙ number_last xs 8 16 all held long (omega arith))
+    (cases_lt (length xs) 16)
+
+-- a number, and one that has the same below 2 ^ k, are together the second
+or_same : (k high low : ℕ) → low < 2 ^ k → bit_or low (high * 2 ^ k + low) ≡ high * 2 ^ k + low
+or_same k high low below =
+    let alone : low ≡ 0 * 2 ^ k + low = omega arith in
+    ap (λ (n : ℕ). bit_or n (high * 2 ^ k + low)) alone
+    ∙ or_block k 0 high low low below below
+    ∙ ap (λ (n : ℕ). n * 2 ^ k + bit_or low low) (or_zero_l high)
+    ∙ ap (λ (n : ℕ). high * 2 ^ k + n) (or_self low)
+
+-- at most eight bytes make a number that a word holds
+pub number-below_word : (xs : List ℕ) → AllBytes xs → length xs ≤ 8 → number xs < 2 ^ 64
+number-below_word xs all most =
+    let gap : List ℕ = replicate (8 - length xs) 0 in
+    let eight : length (xs ++ gap) ≡ 8 = length-append xs gap ∙ ap (λ (m : ℕ). length xs + m) (length-replicate (8 - length xs) 0) ∙ omega arith in
+    let below : number (xs ++ gap) < 2 ^ 64 = subst (λ (m : ℕ). number (xs ++ gap) < 2 ^ (8 * m)) eight (number-lt (xs ++ gap) (AllBytes-append xs gap all (AllBytes-zeros (8 - length xs)))) in
+    subst (λ (n : ℕ). n < 2 ^ 64) (number-append-zeros xs (8 - length xs)) below
+
+-- two reads of k bytes, one from the start and one that ends at the end: what both read is the same in both
+pub two_reads : (xs : List ℕ) (k first last : ℕ) → AllBytes xs → k ≤ length xs → length xs ≤ k + k → length xs ≤ 8
+    → first ≡ number (take k xs) → last ≡ number (take k (drop (length xs - k) xs))
+    → bit_or first (last * 2 ^ (8 * (length xs - k)) % 2 ^ 64) ≡ number xs
+two_reads xs k first last all held most word front back =
     let at : ℕ = length xs - k in
-    let read = number_front k (drop at xs) (AllBytes-drop at xs all) (omega (arith, length-drop at xs)) in
-    let kept = shr_le last past in
-    omega (arith, read, kept, back)
+    let over : ℕ = k - at in
+    let rest : List ℕ = drop at xs in
+    let both : List ℕ = take over rest in
+    let before : ℕ = number (take at xs) in
+    let every : AllBytes rest = AllBytes-drop at xs all in
+    let length_rest : length rest ≡ k = length-drop at xs ∙ omega arith in
+    let last_is : last ≡ number rest = back ∙ ap number (take_all k rest (omega (arith, length_rest))) in
+    let whole : number xs ≡ number rest * 2 ^ (8 * at) + before = number_parts at xs (omega arith) in
+    let sum : at + over ≡ k = omega arith in
+    let cut : drop at (take k xs) ≡ both = ap (λ (n : ℕ). drop at (take n xs)) (sym sum) ∙ drop-take at over xs in
+    let first_is : first ≡ number both * 2 ^ (8 * at) + before =
+    front ∙ number_parts at (take k xs) (omega (arith, length-take-le k xs held))
+    ∙ ap (λ (ys : List ℕ). number ys * 2 ^ (8 * at) + number (take at (take k xs))) cut
+    ∙ ap (λ (ys : List ℕ). number both * 2 ^ (8 * at) + number ys) (take-take at k xs (omega arith)) in
+    let read : number rest ≡ number (drop over rest) * 2 ^ (8 * over) + number both = number_parts over rest (omega (arith, length_rest)) in
+    let once : bit_or (number both) (number rest) ≡ number rest =
+    ap (λ (n : ℕ). bit_or (number both) n) read ∙ or_same (8 * over) (number (drop over rest)) (number both) (number_front over rest every (omega (arith, length_rest))) ∙ sym read in
+    let fits : number xs < 2 ^ 64 = number-below_word xs all word in
+    let shifted : last * 2 ^ (8 * at) % 2 ^ 64 ≡ number rest * 2 ^ (8 * at) + 0 =
+    ap (λ (n : ℕ). n * 2 ^ (8 * at) % 2 ^ 64) last_is ∙ mod-eq_of_lt (omega (arith, whole, fits)) ∙ omega arith in
+    ap (λ (n : ℕ). bit_or n (last * 2 ^ (8 * at) % 2 ^ 64)) first_is
+    ∙ ap (λ (n : ℕ). bit_or (number both * 2 ^ (8 * at) + before) n) shifted
+    ∙ or_block (8 * at) (number both) (number rest) before 0 (number_front at xs all (omega arith)) (pow_pos (8 * at))
+    ∙ ap (λ (n : ℕ). n * 2 ^ (8 * at) + bit_or before 0) once
+    ∙ ap (λ (n : ℕ). number rest * 2 ^ (8 * at) + n) (or_zero_r before)
+    ∙ sym whole
 
-pub lower_half-lt : (xs : List ℕ) (k low : ℕ) → AllBytes xs → k ≤ length xs → low ≡ number (take k xs) → low < 2 ^ (8 * k)
-lower_half-lt xs k low all held front = let read = number_front k xs all held in omega (arith, read, front)
+-- a word of seven bytes, and one byte more as the eighth
+pub bytes_of-with_last : (word byte : ℕ) → word < 2 ^ 56 → byte < 256 → bytes_of (bit_or word (byte * 2 ^ 56)) ≡ take 7 (bytes_of word) ++ byte ∷ []
+bytes_of-with_last word byte seven small =
+    let bytes : List ℕ = bytes_of word in
+    let front : List ℕ = take 7 bytes in
+    let all : AllBytes bytes = AllBytes-bytes_of word in
+    let length_front : length front ≡ 7 = length-take-le 7 bytes (omega (arith, length-bytes_of word)) in
+    let same : number bytes ≡ word = number-bytes_of word (omega arith) in
+    let front_is : number front ≡ word =
+    sym (number-take 7 bytes all (omega (arith, length-bytes_of word))) ∙ ap (λ (n : ℕ). n % 2 ^ 56) same ∙ mod-eq_of_lt seven in
+    let one : number (byte ∷ []) ≡ byte = omega arith in
+    let both : number (front ++ byte ∷ []) ≡ byte * 2 ^ 56 + word =
+    number-append front (byte ∷ [])
+    ∙ ap (λ (n : ℕ). number (byte ∷ []) * 2 ^ (8 * n) + number front) length_front
+    ∙ ap (λ (n : ℕ). n * 2 ^ 56 + number front) one
+    ∙ ap (λ (n : ℕ). byte * 2 ^ 56 + n) front_is in
+    let each : AllBytes (front ++ byte ∷ []) = AllBytes-append front (byte ∷ []) (AllBytes-take 7 bytes all) (AllBytes-cons byte [] small (λ i. omega arith)) in
+    let eight : length (front ++ byte ∷ []) ≡ 8 = length-append front (byte ∷ []) ∙ omega (arith, length_front) in
+    ap bytes_of (or_shifted_r byte 56 word seven ∙ sym both) ∙ bytes_of-number (front ++ byte ∷ []) each eight
+
+-- a word with another byte as the eighth
+pub bytes_of-other_last : (word byte given : ℕ) → word < 2 ^ 64 → byte < 256 → given ≡ byte
+    → bytes_of (bit_or (word % 2 ^ 56) (given * 2 ^ 56 % 2 ^ 64)) ≡ take 7 (bytes_of word) ++ byte ∷ []
+bytes_of-other_last word byte given fits small is =
+    let kept : given * 2 ^ 56 % 2 ^ 64 ≡ byte * 2 ^ 56 = ap (λ (n : ℕ). n * 2 ^ 56 % 2 ^ 64) is ∙ mod-eq_of_lt (omega arith) in
+    let bytes : List ℕ = bytes_of word in
+    let front : List ℕ = take 7 bytes in
+    let all : AllBytes bytes = AllBytes-bytes_of word in
+    let length_front : length front ≡ 7 = length-take-le 7 bytes (omega (arith, length-bytes_of word)) in
+    let low : word % 2 ^ 56 ≡ number front =
+    ap (λ (n : ℕ). n % 2 ^ 56) (sym (number-bytes_of word fits)) ∙ number-take 7 bytes all (omega (arith, length-bytes_of word)) in
+    let spelled : bytes_of (word % 2 ^ 56) ≡ front ++ replicate (8 - length front) 0 =
+    ap bytes_of low ∙ bytes_of-number_short front (AllBytes-take 7 bytes all) (omega (arith, length_front)) in
+    ap (λ (n : ℕ). bytes_of (bit_or (word % 2 ^ 56) n)) kept
+    ∙ bytes_of-with_last (word % 2 ^ 56) byte (omega arith) small
+    ∙ ap (λ (ys : List ℕ). take 7 ys ++ byte ∷ []) spelled
+    ∙ ap (λ (ys : List ℕ). ys ++ byte ∷ []) (take_at front (replicate (8 - length front) 0) 7 length_front)

@@ -1,15 +1,16 @@
 -- What 24 bytes stand for.
-use Rattle.std.proofs.Common.{◌≡◌, ℕ, ◌+◌, ◌-◌, ◌/◌, ◌<◌, ◌≤◌, List, [], ◌∷◌, ◌++◌, length, take, get_or, ap, sym, ◌∙◌, subst, arith, length-append, inl, inr, ⊎_elim}
+use Rattle.std.proofs.Common.{◌≡◌, ℕ, ◌+◌, ◌-◌, ◌/◌, ◌<◌, ◌≤◌, List, [], ◌∷◌, ◌++◌, length, take, get_or, refl, ap, sym, ◌∙◌, subst, arith, length-append, append_assoc, inl, inr, ⊎_elim}
 use Prim.Native.Nat.{suc}
+use Rattle.std.specs.Prelude.{replicate}
 use Rattle.std.specs.Str.{IsUtf8}
 use Rattle.std.proofs.lemmas.Bool.{lt-ltb, le-ltb, ltb-true, cond-true, cond-false, cond_both, cases_lt}
-use Rattle.std.proofs.lemmas.List.{append-nil, length-take-le, take_all, get_or_push, get_or-append-add, get_or-set_same, take-set-le, length-set}
+use Rattle.std.proofs.lemmas.List.{append-nil, length-take-le, length-replicate, take_all, take_at, take-take, take-append-le, get_or_push, get_or-append-add, get_or-set_same, take-set-le, length-set}
 use Rattle.std.proofs.lemmas.Str.{length-encode, len_utf8_bounds, encodes-chars, scalars-chars, chars-encodes}
 use lib.Dec.{ltb}
 use lib.ListN.{set}
 use lib.Utf8.{encode, encodes, next}
 use Rattle.compact_repr.specs.Text.{size, utf8, text_of}
-use Rattle.compact_repr.specs.Packed.{IsPackedFor, packed_len, packed_text}
+use Rattle.compact_repr.specs.Packed.{IsPackedFor, packed_len, packed_text, packed_bytes}
 use Rattle.compact_repr.proofs.Texts.{length-utf8, size-text_of}
 
 -- the last byte, if there is one, is at most 191
@@ -53,8 +54,11 @@ low-last : (bytes : List ℕ) (n : ℕ) → IsUtf8 bytes → length bytes ≡ su
 low-last bytes n u e = subst (λ (ys : List ℕ). get_or ys n 0 < 192) u.1.1 (low-utf8 u.0 n (ap length u.1.1 ∙ e))
 
 -- the length is 24 where the last byte is low, and what the last byte says where it is not
-len-full : (bytes : List ℕ) → get_or bytes 23 0 < 192 → packed_len bytes ≡ 24
+pub len-full : (bytes : List ℕ) → get_or bytes 23 0 < 192 → packed_len bytes ≡ 24
 len-full bytes low = cond-true _ _ _ (lt-ltb (get_or bytes 23 0) 192 low)
+
+pub len-high : (bytes : List ℕ) → 192 ≤ get_or bytes 23 0 → packed_len bytes ≡ get_or bytes 23 0 - 192
+len-high bytes high = cond-false _ _ _ (le-ltb (get_or bytes 23 0) 192 high)
 
 len-short : (bytes : List ℕ) (n : ℕ) → get_or bytes 23 0 ≡ 192 + n → packed_len bytes ≡ n
 len-short bytes n last =
@@ -146,6 +150,18 @@ stands-marked bytes n all short u =
     subst (λ (ys : List ℕ). IsPackedFor now (text_of ys)) front
     (stands-short now n same short (subst IsUtf8 (sym front) u) (get_or-set_same bytes 23 (192 + n) 0 (omega arith)))
 
+-- the same where the row is written anew
+pub stands-ended : (bytes : List ℕ) (n : ℕ) → length bytes ≡ 24 → n < 24 → IsUtf8 (take n bytes)
+    → IsPackedFor (take 23 bytes ++ (192 + n) ∷ []) (text_of (take n bytes))
+stands-ended bytes n all short u =
+    let before : List ℕ = take 23 bytes in
+    let now : List ℕ = before ++ (192 + n) ∷ [] in
+    let begun : length before ≡ 23 = length-take-le 23 bytes (omega arith) in
+    let front : take n now ≡ take n bytes = take-append-le n before ((192 + n) ∷ []) (omega (arith, begun)) ∙ take-take n 23 bytes (omega arith) in
+    let same : length now ≡ 24 = length-append before ((192 + n) ∷ []) ∙ omega (arith, begun) in
+    subst (λ (ys : List ℕ). IsPackedFor now (text_of ys)) front
+    (stands-short now n same short (subst IsUtf8 (sym front) u) (get_or_push before (192 + n) 0 23 begun))
+
 -- bytes whose length is at most 24, and whose first bytes are a text
 pub stands-read : (bytes : List ℕ) → length bytes ≡ 24 → packed_len bytes ≤ 24 → IsUtf8 (take (packed_len bytes) bytes)
     → IsPackedFor bytes (packed_text bytes)
@@ -165,3 +181,26 @@ stands-read bytes all most u =
     absurd (omega (arith, low, high)))
     (cases_lt n 24))
     (cases_lt last 192)
+
+-- the packed bytes of a text
+pub stands-packed : (bytes : List ℕ) → IsUtf8 bytes → length bytes ≤ 24 → IsPackedFor (packed_bytes bytes) (text_of bytes)
+stands-packed bytes u most =
+    let n : ℕ = length bytes in
+    let row : List ℕ = packed_bytes bytes in
+    ⊎_elim
+    (λ (short : n < 24).
+    let zeros : List ℕ = replicate (23 - n) 0 in
+    let last : ℕ = 192 + n in
+    let begun : length (bytes ++ zeros) ≡ 23 = length-append bytes zeros ∙ ap (λ (k : ℕ). n + k) (length-replicate (23 - n) 0) ∙ omega arith in
+    let is : row ≡ (bytes ++ zeros) ++ last ∷ [] = cond-true _ _ _ (lt-ltb n 24 short) in
+    let all : length row ≡ 24 = ap length is ∙ length-append (bytes ++ zeros) (last ∷ []) ∙ ap (λ (k : ℕ). k + 1) begun in
+    let front : take n row ≡ bytes = ap (take n) (is ∙ append_assoc bytes zeros (last ∷ [])) ∙ take_at bytes (zeros ++ last ∷ []) n refl in
+    let end : get_or row 23 0 ≡ last = ap (λ (ys : List ℕ). get_or ys 23 0) is ∙ get_or_push (bytes ++ zeros) last 0 23 begun in
+    subst (λ (ys : List ℕ). IsPackedFor row (text_of ys)) front (stands-short row n all short (subst IsUtf8 (sym front) u) end))
+    (λ (long : 24 ≤ n).
+    let full : n ≡ 24 = omega arith in
+    let is : row ≡ bytes = cond-false _ _ _ (le-ltb n 24 long) in
+    let front : take n bytes ≡ bytes = take_all n bytes (omega arith) in
+    let stands : IsPackedFor bytes (text_of bytes) = subst (λ (ys : List ℕ). IsPackedFor bytes (text_of ys)) front (stands-full bytes n full full (subst IsUtf8 (sym front) u)) in
+    subst (λ (ys : List ℕ). IsPackedFor ys (text_of bytes)) (sym is) stands)
+    (cases_lt n 24)

@@ -8,3 +8,4 @@ pub mod Stored
 pub mod Words
 pub mod Loan
 pub mod Packed
+pub mod AtOnce

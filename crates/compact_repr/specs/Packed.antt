@@ -1,5 +1,5 @@
 -- A text of at most 24 bytes packed into 24 bytes, which hold its length too.
-use Rattle.std.specs.Prelude.{◌≡◌, ℕ, ◌+◌, ◌-◌, ◌≤◌, ◌⊎◌, List, take, slice_index, nat_lt, if◌then◌else◌}
+use Rattle.std.specs.Prelude.{◌≡◌, ℕ, ◌+◌, ◌-◌, ◌≤◌, ◌⊎◌, List, [], ◌∷◌, ◌++◌, length, take, replicate, slice_index, nat_lt, if◌then◌else◌}
 use Rattle.compact_repr.specs.Text.{size, utf8, text_of, IsText}
 
 -- The 24 bytes stand for t: a t of 24 bytes is all of them; a shorter one is the first of them, and the last is 192 and its
@@ -15,3 +15,7 @@ packed_len bytes = if nat_lt (slice_index bytes 23) 192 then 24 else slice_index
 -- the text that they stand for, where they stand for one
 abbrev pub packed_text : List ℕ → List ℕ
 packed_text bytes = text_of (take (packed_len bytes) bytes)
+
+-- the bytes of a text, packed with zeros between them and the length
+abbrev pub packed_bytes : List ℕ → List ℕ
+packed_bytes bytes = if nat_lt (length bytes) 24 then bytes ++ replicate (23 - length bytes) 0 ++ (192 + length bytes) ∷ [] else bytes

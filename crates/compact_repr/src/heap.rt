@@ -1,44 +1,37 @@
-//! A text in a vector of bytes on the heap, beside its length. Its capacity is the vector's.
-ghost use Rattle.std.specs.Prelude.{◌≡◌, ◌+◌, ◌-◌, ◌≤◌, ◌<◌, ◌^◌, [], ◌∷◌, ◌++◌, length, take, true, false, IfOk, OnOk, OnErr, IsTrue, ◌↔◌, map, replicate};
-ghost use Rattle.std.specs.Char.{to_ascii_lowercase, to_ascii_uppercase};
-ghost use Rattle.std.specs.List.{replace_range};
-ghost use Rattle.std.specs.Vec.{vec_len, vec_capacity};
+//! A text in a vector of bytes on the heap. Its capacity is the vector's.
+ghost use Rattle.std.specs.Prelude.{◌≡◌, ◌+◌, ◌-◌, ◌≤◌, ◌<◌, ◌^◌, [], ◌∷◌, ◌++◌, length, false, IfOk, OnOk, OnErr, IsTrue, ◌↔◌};
 ghost use Rattle.std.specs.String.{string_bytes, string_capacity};
-ghost use Rattle.compact_repr.specs.Text.{size, utf8, text_of, IsText, ascii_lowercase, ascii_uppercase};
-ghost use Rattle.std.specs.Str.{IsUtf8};
+ghost use Rattle.compact_repr.specs.Text.{size, utf8, text_of, IsText};
 ghost use Rattle.compact_repr.specs.Cut.{IsBoundary, before, replaced_text};
 ghost use Rattle.compact_repr.specs.Kept.{KeepsChars};
 
+mod append;
+mod each;
 mod out;
 
 use crate::rows;
 use std::alloc::{AllocError, Global};
 use std::marker::Model;
-use std::mem;
 
-/// The text is the first `len` bytes of the vector. What stands behind them was text once, or zeros that were written
-/// ahead, and may be written over: so an edit within what the vector has is a write in a slice, and asks for room once.
+/// The bytes of the vector are the text, and no more. What the vector has reserved behind them may hold old bytes.
 ///
-/// The vector grows by calls that say exactly what it has reserved afterwards, and so the capacity needs no field.
+/// The vector changes by calls that say exactly what it has reserved afterwards, and so the capacity needs no field.
 #[derive(Drop)]
 pub struct HeapBuffer {
     bytes: Vec<u8>,
-    len: usize,
 }
 
 impl Model for HeapBuffer {
-    ghost use Rattle.std.specs.Prelude.{◌≤◌, length, take};
     ghost use Rattle.std.specs.Str.{IsUtf8};
-    ghost use Rattle.std.specs.List.{replace_range};
     ghost use Rattle.std.specs.Vec.{vec_capacity};
     ghost use Rattle.compact_repr.specs.Text.{text_of};
     ghost use Rattle.compact_repr.specs.Value.{HeapText};
 
     ghost Value = { HeapText };
 
-    ghost view = { λ b. record { text = text_of (take b.len b.bytes.items); capacity = vec_capacity b.bytes } };
+    ghost view = { λ b. record { text = text_of b.bytes.items; capacity = vec_capacity b.bytes } };
 
-    ghost invariant = { λ b. IsUtf8 (take b.len b.bytes.items) × (b.len ≤ length b.bytes.items) };
+    ghost invariant = { λ b. IsUtf8 b.bytes.items };
 }
 
 impl HeapBuffer {
@@ -47,10 +40,8 @@ impl HeapBuffer {
     pub fn with_capacity(alloc: Global, capacity: usize) -> Result<Self, AllocError>
         ensures { IfOk result (λ b. b ≡ record { text = []; capacity = capacity }) }
     {
-        Ok(HeapBuffer {
-            bytes: Vec::with_capacity(alloc, capacity)?,
-            len: 0,
-        })
+        let bytes = Vec::with_capacity(alloc, capacity)?;
+        Ok(HeapBuffer { bytes })
     }
 
     /// A copy of `text` in a new buffer with room for `capacity` bytes, at least as many as the text has.
@@ -59,17 +50,9 @@ impl HeapBuffer {
         requires { length text.now ≤ capacity }
         ensures { IfOk result (λ b. b ≡ record { text = text_of text.now; capacity = capacity }) }
     {
-        let len = text.len();
         let mut bytes = Vec::with_capacity(alloc, capacity)?;
-        if len > capacity || bytes.extend_from_slice(text.as_bytes()).is_err() {
-            unreachable!();
-        }
-        if bytes.capacity() == capacity {
-            return Ok(HeapBuffer { bytes, len });
-        }
-        // It stays as it was, but `extend_from_slice` does not say so.
-        let bytes = copied_by_bytes(alloc, text.as_bytes(), capacity)?;
-        Ok(HeapBuffer { bytes, len })
+        append::put_all(&mut bytes, text.as_bytes());
+        Ok(HeapBuffer { bytes })
     }
 
     /// Takes `text` over, with its capacity.
@@ -78,8 +61,7 @@ impl HeapBuffer {
         ensures fits { size result.text ≤ result.capacity }
     {
         let bytes = text.into_bytes();
-        let len = bytes.len();
-        HeapBuffer { bytes, len }
+        HeapBuffer { bytes }
     }
 
     /// The length in bytes.
@@ -90,7 +72,7 @@ impl HeapBuffer {
         ensures small { result < 2 ^ 63 }
         ensures text { IsText self.now.text }
     {
-        self.len
+        self.bytes.len()
     }
 
     /// How many bytes have room.
@@ -106,7 +88,7 @@ impl HeapBuffer {
     pub fn has_room(&self, additional: usize) -> bool
         ensures { IsTrue result ↔ (size self.now.text + additional ≤ self.now.capacity) }
     {
-        additional <= self.bytes.capacity() - self.len
+        additional <= self.bytes.capacity() - self.bytes.len()
     }
 
     /// The text.
@@ -115,7 +97,7 @@ impl HeapBuffer {
         ensures bytes { result.now ≡ utf8 self.now.text }
         ensures text { text_of result.now ≡ self.now.text }
     {
-        unsafe { std::str::from_utf8_unchecked(&self.bytes.as_slice()[..self.len]) }
+        unsafe { std::str::from_utf8_unchecked(self.bytes.as_slice()) }
     }
 
     /// Makes room for `capacity` bytes in all. An error changes nothing.
@@ -134,28 +116,10 @@ impl HeapBuffer {
         ensures pushed { IsTrue result → self.new ≡ record { text = self.old.text ++ text_of text.now; capacity = self.old.capacity } }
         ensures full { result ≡ false → self.new ≡ self.old }
     {
-        let end = self.len + text.len();
-        if !write_behind(&mut self.bytes, self.len, text.as_bytes()) {
+        if !self.has_room(text.len()) {
             return false;
         }
-        self.len = end;
-        true
-    }
-
-    /// Appends `text`, of at most 32 bytes, where the vector has bytes for it. Answers whether it has; if not, nothing has
-    /// changed.
-    #[inline(always)]
-    pub fn push_at_once(&mut self, text: &str) -> bool
-        requires { length text.now ≤ 32 }
-        ensures fits { IsTrue result → size self.old.text + length text.now ≤ self.old.capacity }
-        ensures pushed { IsTrue result → self.new ≡ record { text = self.old.text ++ text_of text.now; capacity = self.old.capacity } }
-        ensures full { result ≡ false → self.new ≡ self.old }
-    {
-        let reached = self.len + text.len();
-        if !write_on(&mut self.bytes, self.len, text.as_bytes()) {
-            return false;
-        }
-        self.len = reached;
+        append::put_all(&mut self.bytes, text.as_bytes());
         true
     }
 
@@ -171,11 +135,18 @@ impl HeapBuffer {
         ensures within { size self.new.text ≤ self.old.capacity }
         ensures full { result ≡ false → self.new ≡ self.old }
     {
-        let len = self.len - (end - start) + text.len();
-        if !replace_range(&mut self.bytes, self.len, start, end, text.as_bytes()) {
+        let old = self.bytes.len();
+        let len = old - (end - start) + text.len();
+        if len > self.bytes.capacity() {
             return false;
         }
-        self.len = len;
+        if len > old {
+            append::open(&mut self.bytes, len);
+            rows::replace_range(self.bytes.as_mut_slice(), old, start, end, text.as_bytes());
+        } else {
+            rows::replace_range(self.bytes.as_mut_slice(), old, start, end, text.as_bytes());
+            self.bytes.truncate(len);
+        }
         true
     }
 
@@ -190,10 +161,13 @@ impl HeapBuffer {
         ensures within { size self.new.text ≤ self.old.capacity }
         ensures full { result ≡ false → self.new ≡ self.old }
     {
-        if !insert_byte(&mut self.bytes, self.len, index, byte) {
+        let len = self.bytes.len();
+        if len >= self.bytes.capacity() {
             return false;
         }
-        self.len += 1;
+        // The vector is one byte longer then, whichever byte it is.
+        self.bytes.push_reserved(byte);
+        rows::insert_byte(self.bytes.as_mut_slice(), len, index, byte);
         true
     }
 
@@ -205,8 +179,9 @@ impl HeapBuffer {
         ensures removed { self.new ≡ record { text = replaced_text self.old.text index (index + 1) []; capacity = self.old.capacity } }
         ensures within { size self.new.text ≤ self.old.capacity }
     {
-        remove_byte(&mut self.bytes, self.len, index);
-        self.len -= 1;
+        let len = self.bytes.len();
+        rows::remove_byte(self.bytes.as_mut_slice(), len, index);
+        let _last = self.bytes.take_last();
     }
 
     /// Takes out what stands from one boundary to another, in bytes.
@@ -218,8 +193,9 @@ impl HeapBuffer {
         ensures cut { self.new ≡ record { text = replaced_text self.old.text start end []; capacity = self.old.capacity } }
         ensures within { size self.new.text ≤ self.old.capacity }
     {
-        cut_out(&mut self.bytes, self.len, start, end);
-        self.len -= end - start;
+        let len = self.bytes.len();
+        rows::cut_out(self.bytes.as_mut_slice(), len, start, end);
+        self.bytes.truncate(len - (end - start));
     }
 
     /// Keeps the first `len` bytes, which end at a boundary, and the capacity.
@@ -229,7 +205,7 @@ impl HeapBuffer {
         ensures value { self.new ≡ record { text = before self.old.text len; capacity = self.old.capacity } }
         ensures fits { size self.new.text ≤ self.old.capacity }
     {
-        self.len = len;
+        self.bytes.truncate(len);
     }
 
     /// Leaves the empty text, with the same capacity.
@@ -237,33 +213,7 @@ impl HeapBuffer {
     pub fn clear(&mut self)
         ensures { self.new ≡ record { text = []; capacity = self.old.capacity } }
     {
-        self.len = 0;
-    }
-
-    /// Leaves the empty text, with the same capacity, and writes every byte with zero that the vector has: all that were
-    /// ever written, since the vector is never made shorter.
-    pub fn zeroize(&mut self)
-        ensures { self.new ≡ record { text = []; capacity = self.old.capacity } }
-    {
-        let HeapBuffer { bytes, len } = self;
-        wipe(bytes);
-        *len = 0;
-    }
-
-    /// Makes A to Z small, and keeps the capacity.
-    pub fn make_ascii_lowercase(&mut self)
-        ensures value { self.new ≡ record { text = ascii_lowercase self.old.text; capacity = self.old.capacity } }
-        ensures fits { size self.new.text ≤ self.old.capacity }
-    {
-        make_lowercase(&mut self.bytes, self.len);
-    }
-
-    /// Makes a to z great, and keeps the capacity.
-    pub fn make_ascii_uppercase(&mut self)
-        ensures value { self.new ≡ record { text = ascii_uppercase self.old.text; capacity = self.old.capacity } }
-        ensures fits { size self.new.text ≤ self.old.capacity }
-    {
-        make_uppercase(&mut self.bytes, self.len);
+        self.bytes.clear();
     }
 
     /// Keeps the characters for which `keep`, asked once of each in order, answers true, and the capacity.
@@ -274,213 +224,8 @@ impl HeapBuffer {
         ensures capacity { self.new.capacity ≡ self.old.capacity }
         ensures fits { size self.new.text ≤ self.old.capacity }
     {
-        self.len = retain(&mut self.bytes, self.len, keep);
+        let len = self.bytes.len();
+        let kept = rows::retain(self.bytes.as_mut_slice(), len, keep);
+        self.bytes.truncate(kept);
     }
-}
-
-/// Writes `source` behind the first `len` bytes, where the vector has room for them. Answers whether it has; if not,
-/// nothing has changed.
-#[inline(always)]
-fn write_behind(bytes: &mut Vec<u8>, len: usize, source: &[u8]) -> bool
-    requires stands { len ≤ vec_len bytes.old }
-    ensures fits { IsTrue result ↔ (len + length source.now ≤ vec_capacity bytes.old) }
-    ensures written { IsTrue result → take (len + length source.now) bytes.new.items ≡ take len bytes.old.items ++ source.now }
-    ensures full { result ≡ false → take len bytes.new.items ≡ take len bytes.old.items }
-    ensures longer { vec_len bytes.old ≤ vec_len bytes.new }
-    ensures long { IsTrue result → len + length source.now ≤ vec_len bytes.new }
-    ensures capacity { vec_capacity bytes.new ≡ vec_capacity bytes.old }
-{
-    if !reach(bytes, len + source.len()) {
-        return false;
-    }
-    rows::write(bytes.as_mut_slice(), len, source);
-    true
-}
-
-/// Writes `source`, of at most 32 bytes, behind the first `len` bytes where the vector has as many. Answers whether it has;
-/// if not, nothing has changed.
-#[inline(always)]
-fn write_on(bytes: &mut Vec<u8>, len: usize, source: &[u8]) -> bool
-    requires short { length source.now ≤ 32 }
-    requires stands { len ≤ vec_len bytes.old }
-    ensures fits { IsTrue result → len + length source.now ≤ vec_capacity bytes.old }
-    ensures written { IsTrue result → take (len + length source.now) bytes.new.items ≡ take len bytes.old.items ++ source.now }
-    ensures full { result ≡ false → bytes.new ≡ bytes.old }
-    ensures same { vec_len bytes.new ≡ vec_len bytes.old }
-    ensures long { IsTrue result → len + length source.now ≤ vec_len bytes.new }
-    ensures capacity { vec_capacity bytes.new ≡ vec_capacity bytes.old }
-{
-    if len + source.len() > bytes.len() {
-        return false;
-    }
-    rows::write_at_once(bytes.as_mut_slice(), len, source);
-    true
-}
-
-/// Of the first `len` bytes replaces those from `start` to `end` by `source`, where the vector has room for the outcome.
-/// Answers whether it has; if not, nothing has changed.
-#[inline(always)]
-fn replace_range(bytes: &mut Vec<u8>, len: usize, start: usize, end: usize, source: &[u8]) -> bool
-    requires order { start ≤ end }
-    requires inside { end ≤ len }
-    requires stands { len ≤ vec_len bytes.old }
-    ensures fits { IsTrue result ↔ (len - (end - start) + length source.now ≤ vec_capacity bytes.old) }
-    ensures replaced { IsTrue result → take (len - (end - start) + length source.now) bytes.new.items ≡ replace_range (take len bytes.old.items) start end source.now }
-    ensures full { result ≡ false → take len bytes.new.items ≡ take len bytes.old.items }
-    ensures longer { vec_len bytes.old ≤ vec_len bytes.new }
-    ensures long { IsTrue result → len - (end - start) + length source.now ≤ vec_len bytes.new }
-    ensures capacity { vec_capacity bytes.new ≡ vec_capacity bytes.old }
-{
-    if !reach(bytes, len - (end - start) + source.len()) {
-        return false;
-    }
-    rows::replace_range(bytes.as_mut_slice(), len, start, end, source);
-    true
-}
-
-/// Puts `byte` in at a place of the first `len` bytes, where the vector has room for one more. Answers whether it has;
-/// if not, nothing has changed.
-#[inline(always)]
-fn insert_byte(bytes: &mut Vec<u8>, len: usize, index: usize, byte: u8) -> bool
-    requires inside { index ≤ len }
-    requires stands { len ≤ vec_len bytes.old }
-    ensures fits { IsTrue result ↔ (len + 1 ≤ vec_capacity bytes.old) }
-    ensures inserted { IsTrue result → take (len + 1) bytes.new.items ≡ replace_range (take len bytes.old.items) index index (byte ∷ []) }
-    ensures full { result ≡ false → take len bytes.new.items ≡ take len bytes.old.items }
-    ensures longer { vec_len bytes.old ≤ vec_len bytes.new }
-    ensures long { IsTrue result → len + 1 ≤ vec_len bytes.new }
-    ensures capacity { vec_capacity bytes.new ≡ vec_capacity bytes.old }
-{
-    if !reach(bytes, len + 1) {
-        return false;
-    }
-    rows::insert_byte(bytes.as_mut_slice(), len, index, byte);
-    true
-}
-
-/// Takes the byte at a place of the first `len` bytes out.
-#[inline(always)]
-fn remove_byte(bytes: &mut Vec<u8>, len: usize, index: usize)
-    requires inside { index < len }
-    requires stands { len ≤ vec_len bytes.old }
-    ensures removed { take (len - 1) bytes.new.items ≡ replace_range (take len bytes.old.items) index (index + 1) [] }
-    ensures same { vec_len bytes.new ≡ vec_len bytes.old }
-    ensures capacity { vec_capacity bytes.new ≡ vec_capacity bytes.old }
-{
-    rows::remove_byte(bytes.as_mut_slice(), len, index);
-}
-
-/// Takes the bytes from `start` to `end` out of the first `len` bytes.
-#[inline(always)]
-fn cut_out(bytes: &mut Vec<u8>, len: usize, start: usize, end: usize)
-    requires order { start ≤ end }
-    requires inside { end ≤ len }
-    requires stands { len ≤ vec_len bytes.old }
-    ensures cut { take (len - (end - start)) bytes.new.items ≡ replace_range (take len bytes.old.items) start end [] }
-    ensures same { vec_len bytes.new ≡ vec_len bytes.old }
-    ensures capacity { vec_capacity bytes.new ≡ vec_capacity bytes.old }
-{
-    rows::cut_out(bytes.as_mut_slice(), len, start, end);
-}
-
-/// Writes every byte of the vector with zero.
-fn wipe(bytes: &mut Vec<u8>)
-    ensures zeros { bytes.new.items ≡ replicate (vec_len bytes.old) 0 }
-    ensures same { vec_len bytes.new ≡ vec_len bytes.old }
-    ensures capacity { vec_capacity bytes.new ≡ vec_capacity bytes.old }
-{
-    rows::wipe(bytes.as_mut_slice());
-}
-
-/// Of the first `len` bytes makes A to Z small.
-fn make_lowercase(bytes: &mut Vec<u8>, len: usize)
-    requires { len ≤ vec_len bytes.old }
-    ensures text { take len bytes.new.items ≡ map to_ascii_lowercase (take len bytes.old.items) }
-    ensures same { vec_len bytes.new ≡ vec_len bytes.old }
-    ensures capacity { vec_capacity bytes.new ≡ vec_capacity bytes.old }
-{
-    rows::make_lowercase(bytes.as_mut_slice(), len);
-}
-
-/// Of the first `len` bytes makes a to z great.
-fn make_uppercase(bytes: &mut Vec<u8>, len: usize)
-    requires { len ≤ vec_len bytes.old }
-    ensures text { take len bytes.new.items ≡ map to_ascii_uppercase (take len bytes.old.items) }
-    ensures same { vec_len bytes.new ≡ vec_len bytes.old }
-    ensures capacity { vec_capacity bytes.new ≡ vec_capacity bytes.old }
-{
-    rows::make_uppercase(bytes.as_mut_slice(), len);
-}
-
-/// Of the text in the first `len` bytes keeps the characters that `keep` keeps, and answers how many bytes they take.
-#[inline(always)]
-fn retain<F: FnMut(char) -> bool>(bytes: &mut Vec<u8>, len: usize, keep: F) -> usize
-    requires stands { len ≤ vec_len bytes.old }
-    requires utf8 { IsUtf8 (take len bytes.old.items) }
-    requires callable { F.IsAlwaysCallable keep }
-    ensures text { KeepsChars F.FnMut keep (text_of (take len bytes.old.items)) (text_of (take result bytes.new.items)) }
-    ensures utf8 { IsUtf8 (take result bytes.new.items) }
-    ensures within { result ≤ len }
-    ensures same { vec_len bytes.new ≡ vec_len bytes.old }
-    ensures capacity { vec_capacity bytes.new ≡ vec_capacity bytes.old }
-{
-    rows::retain(bytes.as_mut_slice(), len, keep)
-}
-
-/// Sees to it that the vector has `needed` bytes, if it has reserved as many. Answers whether it has. Where they are there
-/// this is one comparison.
-#[inline(always)]
-fn reach(bytes: &mut Vec<u8>, needed: usize) -> bool
-    ensures fits { IsTrue result ↔ (needed ≤ vec_capacity bytes.old) }
-    ensures same { take (vec_len bytes.old) bytes.new.items ≡ bytes.old.items }
-    ensures longer { vec_len bytes.old ≤ vec_len bytes.new }
-    ensures long { IsTrue result → needed ≤ vec_len bytes.new }
-    ensures capacity { vec_capacity bytes.new ≡ vec_capacity bytes.old }
-{
-    needed <= bytes.len() || lengthen(bytes, needed)
-}
-
-/// How many bytes beyond twice as many as are needed are written ahead.
-const AHEAD: usize = 64;
-
-/// `reach` where the vector has fewer bytes. Zeros are written ahead, so that this is seldom called, yet never all through
-/// a large room of which little is used.
-#[cold]
-#[inline(never)]
-fn lengthen(bytes: &mut Vec<u8>, needed: usize) -> bool
-    requires shorter { vec_len bytes.old < needed }
-    ensures fits { IsTrue result ↔ (needed ≤ vec_capacity bytes.old) }
-    ensures same { take (vec_len bytes.old) bytes.new.items ≡ bytes.old.items }
-    ensures longer { vec_len bytes.old ≤ vec_len bytes.new }
-    ensures long { IsTrue result → needed ≤ vec_len bytes.new }
-    ensures capacity { vec_capacity bytes.new ≡ vec_capacity bytes.old }
-{
-    let capacity = bytes.capacity();
-    if needed > capacity {
-        return false;
-    }
-    let len = needed.saturating_mul(2).saturating_add(AHEAD).min(capacity);
-    // A vector behind a reference would be looked at again for each byte.
-    let alloc = *bytes.allocator();
-    let mut row = mem::replace(bytes, Vec::new(alloc));
-    for _ in row.len()..len {
-        row.push_reserved(0);
-    }
-    *bytes = row;
-    true
-}
-
-/// A copy of `source` in a vector with room for `capacity` bytes and no more.
-#[cold]
-#[inline(never)]
-fn copied_by_bytes(alloc: Global, source: &[u8], capacity: usize) -> Result<Vec<u8>, AllocError>
-    requires { length source.now ≤ capacity }
-    ensures items { IfOk result (λ bytes. bytes.items ≡ source.now) }
-    ensures capacity { IfOk result (λ bytes. vec_capacity bytes ≡ capacity) }
-{
-    let mut bytes = Vec::with_capacity(alloc, capacity)?;
-    for byte in source {
-        bytes.push_reserved(*byte);
-    }
-    Ok(bytes)
 }

@@ -1,40 +1,39 @@
-//! A text of at most 24 bytes that stands in the value itself.
-ghost use Rattle.std.specs.Prelude.{◌≡◌, ◌+◌, ◌-◌, ◌≤◌, ◌<◌, ℕ, List, [], ◌∷◌, ◌++◌, length, take, true, false, IsTrue, ◌↔◌, MatchOption};
-ghost use Rattle.std.specs.Str.{IsUtf8};
+//! A text of at most 24 bytes that stands in the value itself, packed.
+#![tactic(auto, using(crate::proofs::PackedFacts::packed_facts))]
+
+ghost use Rattle.std.specs.Prelude.{◌≡◌, ◌+◌, ◌-◌, ◌≤◌, ◌<◌, ℕ, List, [], ◌∷◌, ◌++◌, length, false, IsTrue, ◌↔◌, MatchOption};
 ghost use Rattle.compact_repr.specs.Text.{size, utf8, text_of, IsText, ascii_lowercase, ascii_uppercase};
 ghost use Rattle.compact_repr.specs.Cut.{IsBoundary, before, replaced_text};
-ghost use Rattle.compact_repr.specs.Packed.{IsPackedFor, packed_len};
+ghost use Rattle.compact_repr.specs.Packed.{IsPackedFor};
 ghost use Rattle.compact_repr.specs.Kept.{KeepsChars};
 
 mod compare;
+mod packed;
 
 use crate::rows;
-use crate::words::{insert_byte, remove_byte, row_of};
+use crate::words::{insert_byte, pack, remove_byte};
+use packed::{ended, is_packed, length_of, mark, marked};
 use std::marker::Model;
 
 /// The most bytes that stand inline.
 pub const INLINE_CAPACITY: usize = 24;
 
-/// The greatest last byte of a packed text: behind a text of 23 bytes.
-const GREATEST_LAST_BYTE: u8 = 215;
-
-/// A contract sees the text. The array comes first, so that its bytes lie at a whole word and move in words.
+/// A contract sees the text. The bytes hold its length too: the last of them is 192 and the length, unless the text has 24
+/// bytes and so ends there, in a byte of at most 191. What stands between the text and the last byte is open.
 #[derive(Drop)]
 pub struct InlineBuffer {
     bytes: [u8; 24],
-    len: usize,
 }
 
 impl Model for InlineBuffer {
-    ghost use Rattle.std.specs.Prelude.{ℕ, List, take, ◌≤◌};
-    ghost use Rattle.std.specs.Str.{IsUtf8};
-    ghost use Rattle.compact_repr.specs.Text.{text_of};
+    ghost use Rattle.std.specs.Prelude.{ℕ, List};
+    ghost use Rattle.compact_repr.specs.Packed.{IsPackedFor, packed_text};
 
     ghost Value = { List ℕ };
 
-    ghost view = { λ b. text_of (take b.len b.bytes) };
+    ghost view = { λ b. packed_text b.bytes };
 
-    ghost invariant = { λ b. (b.len ≤ 24) × IsUtf8 (take b.len b.bytes) };
+    ghost invariant = { λ b. IsPackedFor b.bytes (packed_text b.bytes) };
 }
 
 impl InlineBuffer {
@@ -43,10 +42,9 @@ impl InlineBuffer {
     pub fn empty() -> Self
         ensures { result ≡ [] }
     {
-        InlineBuffer {
-            bytes: [0; INLINE_CAPACITY],
-            len: 0,
-        }
+        let mut bytes = [0; INLINE_CAPACITY];
+        mark(&mut bytes, 0);
+        InlineBuffer { bytes }
     }
 
     /// A copy of `text`.
@@ -56,20 +54,8 @@ impl InlineBuffer {
         ensures { result ≡ text_of text.now }
     {
         InlineBuffer {
-            bytes: row_of(text.as_bytes()),
-            len: text.len(),
+            bytes: pack(text.as_bytes()),
         }
-    }
-
-    /// The first `len` bytes of a row, which are a text. What stands behind them is not looked at.
-    #[inline]
-    pub fn from_row_unchecked(row: &[u8; 24], len: usize) -> Self
-        requires fits { len ≤ 24 }
-        requires text { IsUtf8 (take len row.now) }
-        ensures value { result ≡ text_of (take len row.now) }
-        ensures within { size result ≤ 24 }
-    {
-        InlineBuffer { bytes: *row, len }
     }
 
     /// The same text.
@@ -77,10 +63,7 @@ impl InlineBuffer {
     pub fn duplicate(&self) -> Self
         ensures { result ≡ self.now }
     {
-        InlineBuffer {
-            bytes: self.bytes,
-            len: self.len,
-        }
+        InlineBuffer { bytes: self.bytes }
     }
 
     /// The length in bytes.
@@ -90,7 +73,7 @@ impl InlineBuffer {
         ensures fits { size self.now ≤ 24 }
         ensures text { IsText self.now }
     {
-        self.len
+        length_of(&self.bytes)
     }
 
     /// The text.
@@ -99,7 +82,7 @@ impl InlineBuffer {
         ensures bytes { result.now ≡ utf8 self.now }
         ensures text { text_of result.now ≡ self.now }
     {
-        unsafe { std::str::from_utf8_unchecked(&self.bytes[..self.len]) }
+        unsafe { std::str::from_utf8_unchecked(&self.bytes[..length_of(&self.bytes)]) }
     }
 
     /// Appends `text` where it fits. Answers whether it fitted; if not, nothing has changed.
@@ -109,12 +92,12 @@ impl InlineBuffer {
         ensures pushed { IsTrue result → self.new ≡ self.old ++ text_of text.now }
         ensures full { result ≡ false → self.new ≡ self.old }
     {
-        if text.len() > INLINE_CAPACITY - self.len {
+        let len = length_of(&self.bytes);
+        if text.len() > INLINE_CAPACITY - len {
             return false;
         }
-        let end = self.len + text.len();
-        rows::write_at_once(&mut self.bytes, self.len, text.as_bytes());
-        self.len = end;
+        rows::write_at_once(&mut self.bytes, len, text.as_bytes());
+        mark(&mut self.bytes, len + text.len());
         true
     }
 
@@ -130,12 +113,13 @@ impl InlineBuffer {
         ensures within { size self.new ≤ 24 }
         ensures full { result ≡ false → self.new ≡ self.old }
     {
-        let len = self.len - (end - start) + text.len();
+        let old_len = length_of(&self.bytes);
+        let len = old_len - (end - start) + text.len();
         if len > INLINE_CAPACITY {
             return false;
         }
-        rows::replace_range(&mut self.bytes, self.len, start, end, text.as_bytes());
-        self.len = len;
+        rows::replace_range(&mut self.bytes, old_len, start, end, text.as_bytes());
+        mark(&mut self.bytes, len);
         true
     }
 
@@ -150,11 +134,12 @@ impl InlineBuffer {
         ensures within { size self.new ≤ 24 }
         ensures full { result ≡ false → self.new ≡ self.old }
     {
-        if self.len >= INLINE_CAPACITY {
+        let len = length_of(&self.bytes);
+        if len >= INLINE_CAPACITY {
             return false;
         }
-        self.bytes = insert_byte(&self.bytes, index, byte);
-        self.len += 1;
+        let row = insert_byte(&self.bytes, index, byte);
+        self.bytes = marked(&row, len + 1);
         true
     }
 
@@ -166,8 +151,9 @@ impl InlineBuffer {
         ensures removed { self.new ≡ replaced_text self.old index (index + 1) [] }
         ensures within { size self.new ≤ 24 }
     {
-        self.bytes = remove_byte(&self.bytes, index);
-        self.len -= 1;
+        let len = length_of(&self.bytes);
+        let row = remove_byte(&self.bytes, index);
+        self.bytes = ended(&row, len - 1);
     }
 
     /// Takes out what stands from one boundary to another, in bytes.
@@ -179,8 +165,9 @@ impl InlineBuffer {
         ensures cut { self.new ≡ replaced_text self.old start end [] }
         ensures within { size self.new ≤ 24 }
     {
-        rows::cut_out(&mut self.bytes, self.len, start, end);
-        self.len -= end - start;
+        let len = length_of(&self.bytes);
+        rows::cut_out(&mut self.bytes, len, start, end);
+        mark(&mut self.bytes, len - (end - start));
     }
 
     /// Keeps the first `len` bytes, which end at a boundary.
@@ -190,7 +177,7 @@ impl InlineBuffer {
         ensures text { self.new ≡ before self.old len }
         ensures fits { size self.new ≤ 24 }
     {
-        self.len = len;
+        mark(&mut self.bytes, len);
     }
 
     /// Leaves the empty text.
@@ -198,16 +185,16 @@ impl InlineBuffer {
     pub fn clear(&mut self)
         ensures { self.new ≡ [] }
     {
-        self.len = 0;
+        mark(&mut self.bytes, 0);
     }
 
-    /// Leaves the empty text, and writes every byte with zero, those behind the text too.
+    /// Leaves the empty text, and writes every byte with zero, those behind the text too; only the last one then says that
+    /// there is no text.
     pub fn zeroize(&mut self)
         ensures { self.new ≡ [] }
     {
-        let InlineBuffer { bytes, len } = self;
-        rows::wipe(bytes);
-        *len = 0;
+        rows::wipe(&mut self.bytes);
+        mark(&mut self.bytes, 0);
     }
 
     /// Makes A to Z small.
@@ -215,7 +202,9 @@ impl InlineBuffer {
         ensures text { self.new ≡ ascii_lowercase self.old }
         ensures fits { size self.new ≤ 24 }
     {
-        rows::make_lowercase(&mut self.bytes, self.len);
+        let len = length_of(&self.bytes);
+        rows::make_lowercase(&mut self.bytes, len);
+        mark(&mut self.bytes, len);
     }
 
     /// Makes a to z great.
@@ -223,7 +212,9 @@ impl InlineBuffer {
         ensures text { self.new ≡ ascii_uppercase self.old }
         ensures fits { size self.new ≤ 24 }
     {
-        rows::make_uppercase(&mut self.bytes, self.len);
+        let len = length_of(&self.bytes);
+        rows::make_uppercase(&mut self.bytes, len);
+        mark(&mut self.bytes, len);
     }
 
     /// Keeps the characters for which `keep`, asked once of each in order, answers true.
@@ -233,57 +224,27 @@ impl InlineBuffer {
         ensures text { KeepsChars F.FnMut keep self.old self.new }
         ensures fits { size self.new ≤ 24 }
     {
-        self.len = rows::retain(&mut self.bytes, self.len, keep);
+        let len = length_of(&self.bytes);
+        let kept = rows::retain(&mut self.bytes, len, keep);
+        mark(&mut self.bytes, kept);
     }
 
-    /// The text packed into 24 bytes: the last of them is 192 and the length, unless the text has 24 bytes.
+    /// The 24 bytes, which stand for the text.
     #[inline]
     pub fn packed(&self) -> [u8; 24]
         ensures { IsPackedFor result self.now }
     {
-        let mut bytes = self.bytes;
-        mark(&mut bytes, self.len);
-        bytes
+        self.bytes
     }
 
-    /// The text that `bytes` stand for, or `None` where they stand for none.
+    /// The text that `bytes` stand for, or `None` where they stand for none. ASCII is known by its words.
     #[inline]
     pub fn from_packed(bytes: &[u8; 24]) -> Option<Self>
         ensures { MatchOption result ((t : List ℕ) → ¬ (IsPackedFor bytes.now t)) (λ t. IsPackedFor bytes.now t) }
     {
-        if bytes[INLINE_CAPACITY - 1] > GREATEST_LAST_BYTE {
+        if !is_packed(bytes) {
             return None;
         }
-        let len = length_of(bytes);
-        match std::str::from_utf8(&bytes[..len]) {
-            Ok(_) => Some(InlineBuffer { bytes: *bytes, len }),
-            Err(_) => None,
-        }
-    }
-}
-
-/// How many bytes of text packed bytes hold, as the last one says.
-#[inline(always)]
-fn length_of(bytes: &[u8; 24]) -> usize
-    requires { packed_len bytes.now ≤ 24 }
-    ensures { result ≡ packed_len bytes.now }
-{
-    let len = usize::from(bytes[INLINE_CAPACITY - 1]).wrapping_sub(192);
-    if len < INLINE_CAPACITY {
-        len
-    } else {
-        INLINE_CAPACITY
-    }
-}
-
-/// Writes the length of the text that stands first. A text of 24 bytes leaves no place for it, and needs none.
-#[inline(always)]
-fn mark(bytes: &mut [u8; 24], len: usize)
-    requires fits { len ≤ 24 }
-    requires text { IsUtf8 (take len bytes.old) }
-    ensures { IsPackedFor bytes.new (text_of (take len bytes.old)) }
-{
-    if len < INLINE_CAPACITY {
-        bytes[INLINE_CAPACITY - 1] = 192 + len as u8;
+        Some(InlineBuffer { bytes: *bytes })
     }
 }

@@ -22,4 +22,5 @@ pub use error::ReserveError;
 pub use inline::INLINE_CAPACITY;
 pub use policy::{Policy, Standard};
 pub use repr::Repr;
+pub use repr::in_place::AtOnce;
 pub use repr::room::GREATEST_CAPACITY;

@@ -7,7 +7,7 @@ ghost use Rattle.compact_repr.specs.Stored.{value_of, IsStored};
 
 mod change;
 mod compare;
-mod in_place;
+pub mod in_place;
 mod make;
 mod out;
 mod position;
@@ -23,7 +23,7 @@ use std::marker::{Model, PhantomData};
 /// Where a text stands: in the value itself, on the heap, or in the program.
 #[derive(Drop)]
 pub enum Buffer {
-    Inline(InlineBuffer),
+    Inline([u64; 0], InlineBuffer),
     Heap(HeapBuffer),
     Static(StaticText),
 }
@@ -75,7 +75,7 @@ impl<P: Policy> Repr<P> {
         ensures sound { IsSound self.now }
     {
         match &self.buffer {
-            Buffer::Inline(inline) => inline.len(),
+            Buffer::Inline(_, inline) => inline.len(),
             Buffer::Heap(heap) => heap.len(),
             Buffer::Static(text) => text.len(),
         }
@@ -89,7 +89,7 @@ impl<P: Policy> Repr<P> {
     {
         match &self.buffer {
             Buffer::Heap(heap) => heap.as_str(),
-            Buffer::Inline(inline) => inline.as_str(),
+            Buffer::Inline(_, inline) => inline.as_str(),
             Buffer::Static(text) => text.as_static_str(),
         }
     }
@@ -113,7 +113,7 @@ impl<P: Policy> Repr<P> {
         ensures { result ≡ self.now.placement.capacity }
     {
         match &self.buffer {
-            Buffer::Inline(_) => INLINE_CAPACITY,
+            Buffer::Inline(_, _) => INLINE_CAPACITY,
             Buffer::Heap(heap) => heap.capacity(),
             Buffer::Static(text) => text.len(),
         }
@@ -134,7 +134,7 @@ impl<P: Policy> Repr<P> {
         ensures bytes { IfSome result (λ bytes. IsPackedFor bytes self.now.text) }
     {
         match &self.buffer {
-            Buffer::Inline(inline) => Some(inline.packed()),
+            Buffer::Inline(_, inline) => Some(inline.packed()),
             _ => None,
         }
     }

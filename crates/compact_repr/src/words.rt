@@ -1,8 +1,10 @@
 //! Rows of 24 bytes as three words: each read and each write is of a whole word, and no loop goes over bytes.
 #![tactic(auto)]
 
-ghost use Rattle.std.specs.Prelude.{◌≡◌, ◌+◌, ◌-◌, ◌*◌, ◌^◌, ◌≤◌, ◌<◌, [], ◌∷◌, ◌++◌, length, take, drop, replicate, IsTrue};
+ghost use Rattle.std.specs.Prelude.{◌≡◌, ◌+◌, ◌-◌, ◌*◌, ◌/◌, ◌^◌, ◌≤◌, ◌<◌, ◌∷◌, [], ◌++◌, length, take, drop, slice_index, nat_lt, if◌then◌else◌, bit_or, IsTrue};
+ghost use Rattle.std.specs.Str.{IsAscii};
 ghost use Rattle.compact_repr.specs.Words.{number, bytes_of};
+ghost use Rattle.compact_repr.specs.Packed.{packed_bytes};
 
 /// The eight bytes from a place on, as a word.
 #[inline(always)]
@@ -65,20 +67,40 @@ fn row_of_words(first: u64, second: u64, third: u64) -> [u8; 24]
     row
 }
 
-/// The bytes from a place on, at most eight, as a number. The last eight of the text are read, and those before the place
-/// are shifted out.
+/// A word without its first `count` bytes. It shifts by half of them twice, since one shift may not be of all eight.
 #[inline(always)]
-fn tail(text: &[u8], from: usize) -> u64
-    requires long_enough { 8 ≤ length text.now }
-    requires some { from < length text.now }
-    requires most { length text.now ≤ from + 8 }
-    ensures { result ≡ number (drop from text.now) }
+fn without(word: u64, count: usize) -> u64
+    requires { count ≤ 8 }
+    ensures { result ≡ word / 2 ^ (8 * count) }
 {
-    let len = text.len();
-    load8(text, len - 8) >> (8 * (from + 8 - len))
+    (word >> (4 * count)) >> (4 * count)
 }
 
-/// At most eight bytes as a number. Of two reads, the second ends at the end, and what the first has too is shifted out.
+/// The second eight bytes of a text, or as many as follow the first eight. Of fewer the last eight bytes of the text are
+/// read, and those before the eighth are shifted out.
+#[inline(always)]
+fn second_word(text: &[u8]) -> u64
+    requires { 8 ≤ length text.now }
+    ensures { result ≡ number (take 8 (drop 8 text.now)) }
+{
+    let at = (text.len() - 8).min(8);
+    without(load8(text, at), 8 - at)
+}
+
+/// The bytes that follow the first sixteen, at most eight: the last eight of the text, without those before the sixteenth.
+#[inline(always)]
+fn third_word(text: &[u8]) -> u64
+    requires long_enough { 8 ≤ length text.now }
+    requires most { length text.now ≤ 24 }
+    ensures { result ≡ number (drop 16 text.now) }
+{
+    let len = text.len();
+    let count = len.saturating_sub(16);
+    without(load8(text, len - 8), 8 - count)
+}
+
+/// At most eight bytes as a number. Of two reads the first begins at the start and the second ends at the end; a byte that
+/// both read is the same in both.
 #[inline(always)]
 fn short(text: &[u8]) -> u64
     requires { length text.now ≤ 8 }
@@ -86,16 +108,82 @@ fn short(text: &[u8]) -> u64
 {
     let len = text.len();
     if len >= 4 {
-        let high = load4(text, len - 4) >> (8 * (8 - len));
-        load4(text, 0) + high * 0x1_0000_0000
+        load4(text, 0) | (load4(text, len - 4) << (8 * (len - 4)))
     } else if len >= 2 {
-        let high = load2(text, len - 2) >> (8 * (4 - len));
-        load2(text, 0) + high * 0x1_0000
+        load2(text, 0) | (load2(text, len - 2) << (8 * (len - 2)))
     } else if len == 1 {
         u64::from(text[0])
     } else {
         0
     }
+}
+
+/// The last word of a packed row: with the length of the text as its last byte, where the text leaves that free.
+#[inline(always)]
+fn with_length(word: u64, len: usize) -> u64
+    requires { len ≤ 24 }
+    ensures { result ≡ (if nat_lt len 24 then bit_or word ((192 + len) * 2 ^ 56) else word) }
+{
+    if len < 24 {
+        word | ((192 + len as u64) << 56)
+    } else {
+        word
+    }
+}
+
+/// The packed row of `text`: its bytes, zeros, and its length, or its 24 bytes alone.
+///
+/// From eight bytes on there is no branch on the length.
+#[inline]
+pub fn pack(text: &[u8]) -> [u8; 24]
+    requires { length text.now ≤ 24 }
+    ensures { result ≡ packed_bytes text.now }
+{
+    let len = text.len();
+    if len >= 8 {
+        row_of_words(
+            load8(text, 0),
+            second_word(text),
+            with_length(third_word(text), len),
+        )
+    } else {
+        row_of_words(short(text), 0, with_length(0, len))
+    }
+}
+
+/// The last byte of a row, read with its whole word: so it is there as soon as the word is.
+#[inline(always)]
+pub fn row_end(row: &[u8; 24]) -> usize
+    ensures { result ≡ slice_index row.now 23 }
+{
+    usize::from(last_byte(load8(row, 16)))
+}
+
+/// The row with another last byte. It is written in whole words: a word that is read after one of its bytes was written
+/// alone waits for that byte.
+#[inline(always)]
+pub fn with_last_byte(row: &[u8; 24], last: u8) -> [u8; 24]
+    ensures { result ≡ take 23 row.now ++ last ∷ [] }
+{
+    let third = load8(row, 16) % 0x100_0000_0000_0000;
+    row_of_words(
+        load8(row, 0),
+        load8(row, 8),
+        third | (u64::from(last) << 56),
+    )
+}
+
+/// The highest bit of each byte of a word.
+const HIGH_BITS: u64 = 0x8080_8080_8080_8080;
+
+/// Whether the first 23 bytes of a row are ASCII: three words and a mask.
+#[inline(always)]
+pub fn begins_ascii(row: &[u8; 24]) -> bool
+    ensures { IsTrue result → IsAscii (take 23 row.now) }
+{
+    (load8(row, 0) & HIGH_BITS == 0)
+        & (load8(row, 8) & HIGH_BITS == 0)
+        & (load8(row, 16) % 0x100_0000_0000_0000 & HIGH_BITS == 0)
 }
 
 /// What a byte at a place of a word is multiplied by.
@@ -140,22 +228,6 @@ fn word_remove_byte(word: u64, at: usize, next: u64) -> u64
     (word % unit)
         .wrapping_add(down - down % unit)
         .wrapping_add(next << 56)
-}
-
-/// A row that begins with `text` and ends with zeros.
-#[inline]
-pub fn row_of(text: &[u8]) -> [u8; 24]
-    requires { length text.now ≤ 24 }
-    ensures { result ≡ text.now ++ replicate (24 - length text.now) 0 }
-{
-    let len = text.len();
-    if len > 16 {
-        row_of_words(load8(text, 0), load8(text, 8), tail(text, 16))
-    } else if len > 8 {
-        row_of_words(load8(text, 0), tail(text, 8), 0)
-    } else {
-        row_of_words(short(text), 0, 0)
-    }
 }
 
 /// The row with `byte` put in at a place; what stands from there on moves one place up, and the last byte goes.

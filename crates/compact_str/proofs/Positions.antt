@@ -126,8 +126,8 @@ replaced-by_nothing : (g : Growth) (v w : PlacedText) (i j : ℕ) → replaced g
 replaced-by_nothing g v w i j e = grind (arith, common_steps)
 
 -- that asks where owning does
-pub asks-by_nothing : (v : PlacedText) (i j : ℕ) → IsTrue (replace_asks v i j (text_of [])) → IsTrue (own_asks v)
-asks-by_nothing v i j h = let h : IsTrue (replace_asks v i j []) = rw chars-nil at h in grind (arith, common_steps)
+pub asks-by_nothing : (v : PlacedText) (i j : ℕ) → IsTrue (replace_asks v i j []) → IsTrue (own_asks v)
+asks-by_nothing v i j h = grind (arith, common_steps)
 
 -- and owning asks of a long text alone
 pub owning-long : (v : PlacedText) → IsTrue (own_asks v) → 24 < size v.text

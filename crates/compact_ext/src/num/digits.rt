@@ -1,6 +1,6 @@
 //! The digits of a number, written from the last to the first.
 ghost use Rattle.std.specs.Prelude.{◌≡◌, ◌+◌, ◌<◌, ◌≤◌, length};
-ghost use Rattle.std.specs.Fmt.{decimal};
+ghost use Rattle.std.specs.Fmt.{decimal, sign_text};
 ghost use Rattle.compact_ext.specs.Digits.{two_digits, written, number_text};
 
 /// The two digits of each number below 100, one after another.
@@ -13,19 +13,45 @@ static PAIRS: [u8; 200] = *b"0001020304050607080910111213141516171819\
 /// Writes a minus where the number is negative and the digits of its magnitude at the front of the row. Answers how many
 /// characters they are.
 #[inline]
+#[tactic(auto, using(crate::proofs::DigitRows::sign_rows))]
 pub fn write_number(magnitude: u64, is_negative: bool, row: &mut [u8; 24]) -> usize
     ensures count { result ≡ length (number_text is_negative magnitude) }
     ensures short { result ≤ 21 }
     ensures text { row.new ≡ written row.old 0 (number_text is_negative magnitude) }
 {
+    let start = write_sign(is_negative, row);
     let count = count_digits(magnitude);
+    write_digits(magnitude, count, row, start);
+    start + count
+}
+
+/// `write_number` of a number of eight bits, on whose way no division by ten thousand stands.
+#[inline]
+#[tactic(auto, using(crate::proofs::DigitRows::sign_rows))]
+pub fn write_small_number(magnitude: u8, is_negative: bool, row: &mut [u8; 24]) -> usize
+    ensures count { result ≡ length (number_text is_negative magnitude) }
+    ensures short { result ≤ 21 }
+    ensures text { row.new ≡ written row.old 0 (number_text is_negative magnitude) }
+{
+    let n = u64::from(magnitude);
+    let start = write_sign(is_negative, row);
+    let end = start + count_digits(n);
+    write_last_digits(n, row, start, end);
+    end
+}
+
+/// Writes a minus at the front of the row where the number is negative. Answers where the digits begin.
+#[inline(always)]
+fn write_sign(is_negative: bool, row: &mut [u8; 24]) -> usize
+    ensures start { result ≡ length (sign_text is_negative) }
+    ensures most { result ≤ 1 }
+    ensures text { row.new ≡ written row.old 0 (sign_text is_negative) }
+{
     if !is_negative {
-        write_digits(magnitude, count, row, 0);
-        return count;
+        return 0;
     }
     row[0] = b'-';
-    write_digits(magnitude, count, row, 1);
-    1 + count
+    1
 }
 
 /// How many digits a number has.
@@ -59,12 +85,25 @@ fn write_digits(n: u64, count: usize, row: &mut [u8], start: usize)
         write_pair(four / 100, row, at - 4);
         at -= 4;
     }
-    if left < 100 {
-        write_first(left, row, start);
+    write_last_digits(left, row, start, at);
+}
+
+/// Writes the digits of a number below ten thousand, from a place to another: two from the end where there are more, and
+/// then the first one or two.
+#[inline(always)]
+#[tactic(auto, using(crate::proofs::DigitRows::digit_rows))]
+fn write_last_digits(n: u64, row: &mut [u8], start: usize, end: usize)
+    requires small { n < 10000 }
+    requires place { end ≡ start + length (decimal n) }
+    requires fits { end ≤ length row.old }
+    ensures { row.new ≡ written row.old start (decimal n) }
+{
+    if n < 100 {
+        write_first(n, row, start);
         return;
     }
-    write_pair(left % 100, row, at - 2);
-    write_first(left / 100, row, start);
+    write_pair(n % 100, row, end - 2);
+    write_first(n / 100, row, start);
 }
 
 /// Writes a number of one or two digits.

@@ -1,6 +1,8 @@
 //! The texts of integers of up to 64 bits, two digits at a time.
-ghost use Rattle.std.specs.Prelude.{◌≡◌, ⊤};
+ghost use Rattle.std.specs.Prelude.{◌≡◌, ◌≤◌, take, ⊤};
+ghost use Rattle.std.specs.Str.{IsUtf8};
 ghost use Rattle.std.specs.Fmt.{decimal, signed_decimal};
+ghost use Rattle.compact_str.specs.Text.{text_of};
 ghost use Rattle.compact_str.specs.Value.{placed};
 ghost use Rattle.compact_str.specs.Capacity.{inlined};
 ghost use Rattle.compact_ext.specs.Digits.{number_text};
@@ -8,8 +10,8 @@ ghost use Rattle.compact_ext.specs.Shown.{IsTextOf};
 
 use crate::format::ToCompactStringError;
 use crate::num::ToCompactString;
-use crate::num::digits::write_number;
-use compact_str::{CompactString, Policy, Standard};
+use crate::num::digits::{write_number, write_small_number};
+use compact_str::{CompactString, INLINE_CAPACITY, Policy, Standard};
 use std::alloc::Global;
 
 /// The text of a number, inline.
@@ -20,7 +22,32 @@ fn number_value(alloc: Global, magnitude: u64, is_negative: bool) -> CompactStri
 {
     let mut row = [0; 24];
     let len = write_number(magnitude, is_negative, &mut row);
-    CompactString::from_row_unchecked(alloc, &row, len)
+    packed_value(alloc, &mut row, len)
+}
+
+/// The text of a number of eight bits, inline.
+#[inline]
+#[tactic(auto, using(crate::proofs::NumberTexts::number_rows))]
+fn small_number_value(alloc: Global, magnitude: u8, is_negative: bool) -> CompactString
+    ensures { result ≡ placed (number_text is_negative magnitude) inlined }
+{
+    let mut row = [0; 24];
+    let len = write_small_number(magnitude, is_negative, &mut row);
+    packed_value(alloc, &mut row, len)
+}
+
+/// The value of a row that begins with a text, once its last byte tells how long that is.
+#[inline(always)]
+fn packed_value(alloc: Global, row: &mut [u8; 24], len: usize) -> CompactString
+    requires short { len ≤ 23 }
+    requires text { IsUtf8 (take len row.old) }
+    ensures { result ≡ placed (text_of (take len row.old)) inlined }
+{
+    row[INLINE_CAPACITY - 1] = 192 + len as u8;
+    match CompactString::from_packed(alloc, row) {
+        Some(value) => value,
+        None => unreachable!(),
+    }
 }
 
 /// The text of a number that is not negative.
@@ -41,6 +68,24 @@ pub fn signed(alloc: Global, n: i64) -> Result<CompactString, ToCompactStringErr
     Ok(number_value(alloc, n.unsigned_abs(), n < 0))
 }
 
+/// The text of a number of eight bits that is not negative.
+#[inline]
+#[tactic(auto, using(crate::proofs::NumberTexts::number_values))]
+pub fn small_unsigned(alloc: Global, n: u8) -> Result<CompactString, ToCompactStringError>
+    ensures { IsTextOf ⟦<Standard as Policy>⟧.growth (decimal n) ⊤ result }
+{
+    Ok(small_number_value(alloc, n, false))
+}
+
+/// The text of a number of eight bits that may be negative.
+#[inline]
+#[tactic(auto, using(crate::proofs::NumberTexts::number_values))]
+pub fn small_signed(alloc: Global, n: i8) -> Result<CompactString, ToCompactStringError>
+    ensures { IsTextOf ⟦<Standard as Policy>⟧.growth (signed_decimal n) ⊤ result }
+{
+    Ok(small_number_value(alloc, n.unsigned_abs(), n < 0))
+}
+
 impl ToCompactString for u8 {
     ghost shown = { decimal };
 
@@ -49,7 +94,7 @@ impl ToCompactString for u8 {
     #[inline]
     fn to_compact_string(&self, alloc: Global) -> Result<CompactString, ToCompactStringError> {
         let n: u8 = *self;
-        unsigned(alloc, u64::from(n))
+        small_unsigned(alloc, n)
     }
 }
 
@@ -109,7 +154,7 @@ impl ToCompactString for i8 {
     #[inline]
     fn to_compact_string(&self, alloc: Global) -> Result<CompactString, ToCompactStringError> {
         let n: i8 = *self;
-        signed(alloc, i64::from(n))
+        small_signed(alloc, n)
     }
 }
 

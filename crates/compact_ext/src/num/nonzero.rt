@@ -5,7 +5,7 @@ ghost use Rattle.std.specs.Int.NonZero.{non_zero_u8_get, non_zero_u16_get, non_z
 
 use crate::format::ToCompactStringError;
 use crate::num::ToCompactString;
-use crate::num::integers::{signed, unsigned};
+use crate::num::integers::{signed, small_signed, small_unsigned, unsigned};
 use crate::num::wide::printed;
 use compact_str::CompactString;
 use std::alloc::Global;
@@ -22,7 +22,7 @@ impl ToCompactString for NonZeroU8 {
     #[inline]
     fn to_compact_string(&self, alloc: Global) -> Result<CompactString, ToCompactStringError> {
         let n: u8 = self.get();
-        unsigned(alloc, u64::from(n))
+        small_unsigned(alloc, n)
     }
 }
 
@@ -94,7 +94,7 @@ impl ToCompactString for NonZeroI8 {
     #[inline]
     fn to_compact_string(&self, alloc: Global) -> Result<CompactString, ToCompactStringError> {
         let n: i8 = self.get();
-        signed(alloc, i64::from(n))
+        small_signed(alloc, n)
     }
 }
 

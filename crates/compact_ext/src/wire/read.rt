@@ -1,10 +1,10 @@
 //! How a text is read.
-ghost use Rattle.std.specs.Prelude.{◌≡◌, ◌+◌, ◌^◌, ◌<◌, ◌≤◌, ◌++◌, length, take, drop, IfOk, IfErr, IsErrOf, MatchResult, OnOk, IsTrue, IsFalse, vec_len, IsUtf8};
-ghost use Rattle.std.specs.Str.{IsAscii};
+ghost use Rattle.std.specs.Prelude.{◌≡◌, ◌+◌, ◌^◌, ◌<◌, ◌≤◌, ◌++◌, length, take, drop, IfOk, IfErr, IsErrOf, MatchResult, OnOk, IsTrue, false, vec_len, IsUtf8};
 ghost use Rattle.std.specs.Int.{w32, to_le_bytes};
 ghost use Rattle.std.specs.Vec.{vec_capacity};
 ghost use Rattle.std.specs.Io.KnownBytes.{Consumes};
 ghost use Rattle.compact_str.specs.Text.{size, utf8};
+ghost use Rattle.compact_repr.specs.Packed.{packed_len};
 ghost use Rattle.compact_str.specs.Capacity.{inlined, on_heap, taken_over};
 ghost use Rattle.compact_ext.specs.declared.wire.WireError.TheVariants.{Utf8 as utf8_fault};
 ghost use Rattle.compact_ext.specs.Wire.{wire, ReadFails, ReadsBack, StopsBelow, TextFails, next_room};
@@ -87,49 +87,42 @@ fn read_short<R: Read>(
     if let Err(fault) = fill(&mut room[..len], reader) {
         return Err(fault);
     }
-    copied(alloc, &room, len)
+    packed(alloc, &mut room, len)
 }
 
-/// The text of the first bytes of the room, inline, which is never refused. The room is the value's row as it is.
+/// The text of the first bytes of the room, inline, which is never refused: once the last byte tells how many they are, the room
+/// is the value's own, where they are a text.
 #[inline]
-fn copied(alloc: Global, room: &[u8; 24], len: usize) -> Result<CompactString, WireError>
+fn packed(alloc: Global, room: &mut [u8; 24], len: usize) -> Result<CompactString, WireError>
     requires { len ≤ 24 }
-    ensures ok { IfOk result (λ v. utf8 v.text ≡ take len room.now) }
+    ensures ok { IfOk result (λ v. utf8 v.text ≡ take len room.old) }
     ensures len { IfOk result (λ v. size v.text ≡ len) }
     ensures placement { IfOk result (λ v. v.placement ≡ inlined) }
-    ensures err { IfErr result (λ e. (e ≡ utf8_fault) × ¬ IsUtf8 (take len room.now)) }
+    ensures err { IfErr result (λ e. (e ≡ utf8_fault) × ¬ IsUtf8 (take len room.old)) }
 {
-    if !is_text(room, len) {
+    if !tell_len(room, len) {
         return Err(WireError::Utf8);
     }
-    Ok(CompactString::from_row_unchecked(alloc, room, len))
+    match CompactString::from_packed(alloc, room) {
+        Some(value) => Ok(value),
+        None => Err(WireError::Utf8),
+    }
 }
 
-/// Whether the first bytes of the room are a text. Letters are known at once, since the whole room is looked at, however many
-/// have come.
-#[inline]
-fn is_text(room: &[u8; 24], len: usize) -> bool
+/// Makes the last byte of the room tell how many bytes have come. 24 bytes tell it by themselves, unless they end in a byte that
+/// is a length: then answers `false`, since no text ends so.
+#[inline(always)]
+fn tell_len(room: &mut [u8; 24], len: usize) -> bool
     requires { len ≤ 24 }
-    ensures yes { IsTrue result → IsUtf8 (take len room.now) }
-    ensures no { IsFalse result → ¬ IsUtf8 (take len room.now) }
+    ensures told { IsTrue result → packed_len room.new ≡ len }
+    ensures front { IsTrue result → take len room.new ≡ take len room.old }
+    ensures no_text { result ≡ false → ¬ IsUtf8 (take len room.old) }
 {
-    if is_ascii(room) {
+    if len < INLINE_CAPACITY {
+        room[INLINE_CAPACITY - 1] = 192 + len as u8;
         return true;
     }
-    judge(&room[..len]).is_ok()
-}
-
-/// Whether each byte is an ASCII character. There is no way out of the loop, so that many bytes are looked at in one step.
-#[inline]
-fn is_ascii(bytes: &[u8; 24]) -> bool
-    ensures all { IsTrue result → IsAscii bytes.now }
-    ensures other { IsFalse result → ¬ IsAscii bytes.now }
-{
-    let mut most = 0;
-    for &byte in bytes {
-        most = most.max(byte);
-    }
-    most < 0x80
+    room[INLINE_CAPACITY - 1] < 192
 }
 
 /// Reads a text of so many bytes, of which nothing is copied once it has come.

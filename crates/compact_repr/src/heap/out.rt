@@ -6,14 +6,13 @@ ghost use Rattle.compact_repr.specs.Text.{utf8, text_of};
 use crate::heap::HeapBuffer;
 
 impl HeapBuffer {
-    /// The text with its buffer, of which nothing is copied: what stands behind the text in the vector is cut off.
+    /// The text with its buffer, of which nothing is copied.
     pub fn into_string(self) -> String
         ensures bytes { string_bytes result ≡ utf8 self.text }
         ensures text { text_of (string_bytes result) ≡ self.text }
         ensures capacity { self.capacity ≤ string_capacity result }
     {
-        let HeapBuffer { mut bytes, len, .. } = self;
-        bytes.truncate(len);
+        let HeapBuffer { bytes } = self;
         unsafe { String::from_utf8_unchecked(bytes) }
     }
 }

@@ -14,7 +14,7 @@ impl<P: Policy> Repr<P> {
     pub fn same_text(&self, other: &Self) -> bool
         ensures { result ≡ pointwise nat_eq self.now.text other.now.text }
     {
-        if let (Buffer::Inline(text), Buffer::Inline(other)) = (&self.buffer, &other.buffer) {
+        if let (Buffer::Inline(_, text), Buffer::Inline(_, other)) = (&self.buffer, &other.buffer) {
             return text.same_text(other);
         }
         self.as_str() == other.as_str()

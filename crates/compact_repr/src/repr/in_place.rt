@@ -1,22 +1,191 @@
-//! Changes of a representation's characters where they stand, in bytes of its own. None takes memory.
-ghost use Rattle.std.specs.Prelude.{◌≡◌, false};
-ghost use Rattle.compact_repr.specs.Text.{ascii_lowercase, ascii_uppercase};
+//! Changes of a representation's text where it stands, in bytes of its own. None takes memory, and none moves the text to
+//! another place.
+ghost use Rattle.std.specs.Prelude.{◌≡◌, ◌+◌, ◌-◌, ◌≤◌, ◌<◌, [], ◌∷◌, ◌++◌, length, IsTrue, true, false, ◌↔◌};
+ghost use Rattle.compact_repr.specs.Text.{size, text_of, ascii_lowercase, ascii_uppercase};
+ghost use Rattle.compact_repr.specs.Cut.{IsBoundary, replaced_text};
 ghost use Rattle.compact_repr.specs.Value.{placed, is_static};
-ghost use Rattle.compact_repr.specs.Change.{zeroized};
+ghost use Rattle.compact_repr.specs.Capacity.{fits_in_place};
+ghost use Rattle.compact_repr.specs.Change.{cleared, truncated, zeroized};
+ghost use Rattle.compact_repr.specs.AtOnce.{DoesAtOnce};
 ghost use Rattle.compact_repr.specs.Kept.{KeepsChars};
 
 use crate::inline::InlineBuffer;
 use crate::policy::Policy;
 use crate::repr::{Buffer, Repr};
+use crate::rows::MOST_AT_ONCE;
+use crate::static_text::StaticText;
+
+/// What came of an append that was tried at once.
+#[derive(Clone, Copy, Debug, PartialEq, Eq, Drop)]
+pub enum AtOnce {
+    /// It is done.
+    Done,
+    /// The value has no room of its own for it, and is as it was.
+    NoRoom,
+    /// The text is too long to be tried, and the value is as it was.
+    NotTried,
+}
 
 impl<P: Policy> Repr<P> {
+    /// Appends `text` where the bytes are the value's own and have room. Answers whether that was so; if not, nothing has
+    /// changed.
+    #[inline(always)]
+    pub fn push_in_place(&mut self, text: &str) -> bool
+        ensures fits { result ≡ fits_in_place self.old (length text.now) }
+        ensures pushed { IsTrue result → self.new ≡ placed (self.old.text ++ text_of text.now) self.old.placement }
+        ensures full { result ≡ false → self.new ≡ self.old }
+    {
+        match &mut self.buffer {
+            Buffer::Inline(_, inline) => inline.push_str(text),
+            Buffer::Heap(heap) => heap.push_str(text),
+            Buffer::Static(_) => false,
+        }
+    }
+
+    /// Appends a text of at most 32 bytes where the bytes are the value's own and have room. A longer one is not looked at, so
+    /// that the short way calls nothing.
+    #[inline(always)]
+    pub fn push_at_once(&mut self, text: &str) -> AtOnce
+        ensures { DoesAtOnce self.old text.now result self.new }
+    {
+        if text.len() > MOST_AT_ONCE {
+            return AtOnce::NotTried;
+        }
+        if self.push_in_place(text) {
+            AtOnce::Done
+        } else {
+            AtOnce::NoRoom
+        }
+    }
+
+    /// Replaces what stands from one position to another by `text` where the bytes are the value's own and the outcome
+    /// fits. Answers whether that was so; if not, nothing has changed. Positions are in bytes, between two characters. The
+    /// place and the capacity stay, and no memory is taken.
+    #[inline(always)]
+    pub fn replace_in_place(&mut self, start: usize, end: usize, text: &str) -> bool
+        requires order { start ≤ end }
+        requires first { IsBoundary self.old.text start }
+        requires last { IsBoundary self.old.text end }
+        ensures fits { IsTrue result ↔ ((is_static self.old.placement.place ≡ false) × (size self.old.text + length text.now ≤ self.old.placement.capacity + (end - start))) }
+        ensures replaced { IsTrue result → self.new ≡ placed (replaced_text self.old.text start end (text_of text.now)) self.old.placement }
+        ensures full { result ≡ false → self.new ≡ self.old }
+    {
+        match &mut self.buffer {
+            Buffer::Static(_) => false,
+            Buffer::Inline(_, inline) => inline.replace_range(start, end, text),
+            Buffer::Heap(heap) => heap.replace_range(start, end, text),
+        }
+    }
+
+    /// Takes out what stands from one position to another, in bytes, between two characters, where the bytes are the value's
+    /// own. Answers whether they are; if not, nothing has changed. The place and the capacity stay.
+    #[inline(always)]
+    pub fn cut_out_in_place(&mut self, start: usize, end: usize) -> bool
+        requires order { start ≤ end }
+        requires first { IsBoundary self.old.text start }
+        requires last { IsBoundary self.old.text end }
+        ensures owned { IsTrue result ↔ (is_static self.old.placement.place ≡ false) }
+        ensures cut { IsTrue result → self.new ≡ placed (replaced_text self.old.text start end []) self.old.placement }
+        ensures full { result ≡ false → self.new ≡ self.old }
+    {
+        match &mut self.buffer {
+            Buffer::Static(_) => false,
+            Buffer::Inline(_, inline) => {
+                inline.cut_out(start, end);
+                true
+            }
+            Buffer::Heap(heap) => {
+                heap.cut_out(start, end);
+                true
+            }
+        }
+    }
+
+    /// Puts an ASCII character in at a boundary, in bytes, where the bytes are the value's own and have room. Answers
+    /// whether that was so; if not, nothing has changed.
+    #[inline]
+    pub fn insert_ascii_in_place(&mut self, index: usize, byte: u8) -> bool
+        requires ascii { byte < 128 }
+        requires boundary { IsBoundary self.old.text index }
+        ensures fits { result ≡ fits_in_place self.old 1 }
+        ensures inserted { IsTrue result → self.new ≡ placed (replaced_text self.old.text index index (byte ∷ [])) self.old.placement }
+        ensures full { result ≡ false → self.new ≡ self.old }
+    {
+        match &mut self.buffer {
+            Buffer::Static(_) => false,
+            Buffer::Inline(_, inline) => inline.insert_ascii(index, byte),
+            Buffer::Heap(heap) => heap.insert_ascii(index, byte),
+        }
+    }
+
+    /// Takes the ASCII character out that begins at a boundary, in bytes, where the bytes are the value's own. Answers
+    /// whether they are; if not, nothing has changed.
+    #[inline]
+    pub fn remove_ascii_in_place(&mut self, index: usize) -> bool
+        requires boundary { IsBoundary self.old.text index }
+        requires next { IsBoundary self.old.text (index + 1) }
+        ensures owned { IsTrue result ↔ (is_static self.old.placement.place ≡ false) }
+        ensures removed { IsTrue result → self.new ≡ placed (replaced_text self.old.text index (index + 1) []) self.old.placement }
+        ensures full { result ≡ false → self.new ≡ self.old }
+    {
+        match &mut self.buffer {
+            Buffer::Static(_) => false,
+            Buffer::Inline(_, inline) => {
+                inline.remove_ascii(index);
+                true
+            }
+            Buffer::Heap(heap) => {
+                heap.remove_ascii(index);
+                true
+            }
+        }
+    }
+
+    /// Keeps the first `len` bytes, which end between two characters; from the end on, `len` changes nothing. The place
+    /// stays, and so does an owned capacity: a static text becomes the front of the same static text.
+    #[inline]
+    pub fn truncate(&mut self, len: usize)
+        requires { len < size self.old.text → IsBoundary self.old.text len }
+        ensures { self.new ≡ truncated self.old len }
+    {
+        match &mut self.buffer {
+            Buffer::Static(text) => {
+                if len < text.len() {
+                    *text = text.front(len);
+                }
+            }
+            Buffer::Inline(_, inline) => {
+                if len < inline.len() {
+                    inline.truncate(len);
+                }
+            }
+            Buffer::Heap(heap) => {
+                if len < heap.len() {
+                    heap.truncate(len);
+                }
+            }
+        }
+    }
+
+    /// Leaves the empty text, in its place.
+    #[inline]
+    pub fn clear(&mut self)
+        ensures { self.new ≡ cleared self.old }
+    {
+        match &mut self.buffer {
+            Buffer::Static(text) => *text = StaticText::new(""),
+            Buffer::Inline(_, inline) => inline.clear(),
+            Buffer::Heap(heap) => heap.clear(),
+        }
+    }
+
     /// Makes A to Z small, in the value's own bytes.
     pub fn make_ascii_lowercase(&mut self)
         requires { is_static self.old.placement.place ≡ false }
         ensures { self.new ≡ placed (ascii_lowercase self.old.text) self.old.placement }
     {
         match &mut self.buffer {
-            Buffer::Inline(inline) => inline.make_ascii_lowercase(),
+            Buffer::Inline(_, inline) => inline.make_ascii_lowercase(),
             Buffer::Heap(heap) => heap.make_ascii_lowercase(),
             Buffer::Static(_) => unreachable!(),
         }
@@ -28,7 +197,7 @@ impl<P: Policy> Repr<P> {
         ensures { self.new ≡ placed (ascii_uppercase self.old.text) self.old.placement }
     {
         match &mut self.buffer {
-            Buffer::Inline(inline) => inline.make_ascii_uppercase(),
+            Buffer::Inline(_, inline) => inline.make_ascii_uppercase(),
             Buffer::Heap(heap) => heap.make_ascii_uppercase(),
             Buffer::Static(_) => unreachable!(),
         }
@@ -40,11 +209,12 @@ impl<P: Policy> Repr<P> {
         ensures { self.new ≡ zeroized self.old }
     {
         match &mut self.buffer {
-            Buffer::Inline(inline) => inline.zeroize(),
+            Buffer::Inline(_, inline) => inline.zeroize(),
             Buffer::Heap(heap) => heap.zeroize(),
-            Buffer::Static(_) => self.buffer = Buffer::Inline(InlineBuffer::empty()),
+            Buffer::Static(_) => self.buffer = Buffer::Inline([], InlineBuffer::empty()),
         }
     }
+
     /// Keeps the characters for which `keep`, asked once of each in order, answers true, in the value's own bytes. The place
     /// and the capacity stay.
     #[inline]
@@ -55,7 +225,7 @@ impl<P: Policy> Repr<P> {
         ensures placement { self.new.placement ≡ self.old.placement }
     {
         match &mut self.buffer {
-            Buffer::Inline(inline) => inline.retain(keep),
+            Buffer::Inline(_, inline) => inline.retain(keep),
             Buffer::Heap(heap) => heap.retain(keep),
             Buffer::Static(_) => unreachable!(),
         }

@@ -1,6 +1,5 @@
 //! How a representation is made.
-ghost use Rattle.std.specs.Prelude.{◌≡◌, ◌<◌, ◌≤◌, ℕ, List, length, take, nat_eq, if◌then◌else◌, [], Some, IfOk, OnErr, IsOk, IsTrue, MatchOption, string_bytes};
-ghost use Rattle.std.specs.Str.{IsUtf8};
+ghost use Rattle.std.specs.Prelude.{◌≡◌, ◌<◌, ◌≤◌, ℕ, List, length, nat_eq, if◌then◌else◌, [], Some, IfOk, OnErr, IsOk, IsTrue, MatchOption, string_bytes};
 ghost use Rattle.std.specs.String.{string_capacity};
 ghost use Rattle.compact_repr.specs.Text.{size, text_of};
 ghost use Rattle.compact_repr.specs.Value.{placed};
@@ -23,7 +22,7 @@ impl<P: Policy> Repr<P> {
     pub fn empty(alloc: Global) -> Self
         ensures { result ≡ placed [] inlined }
     {
-        Self::of(alloc, Buffer::Inline(InlineBuffer::empty()))
+        Self::of(alloc, Buffer::Inline([], InlineBuffer::empty()))
     }
 
     /// A copy of `text`: inline up to 24 bytes, which is never refused, else in a new heap buffer.
@@ -36,7 +35,7 @@ impl<P: Policy> Repr<P> {
             return Self::new_long(alloc, text);
         }
         let inline = InlineBuffer::new(text);
-        Ok(Self::of(alloc, Buffer::Inline(inline)))
+        Ok(Self::of(alloc, Buffer::Inline([], inline)))
     }
 
     /// A copy of a `text` of more than 24 bytes.
@@ -61,7 +60,7 @@ impl<P: Policy> Repr<P> {
             return Self::of(alloc, Buffer::Static(StaticText::new(text)));
         }
         let inline = InlineBuffer::new(text);
-        Self::of(alloc, Buffer::Inline(inline))
+        Self::of(alloc, Buffer::Inline([], inline))
     }
 
     /// The text that 24 bytes stand for, inline; `None` where they stand for none.
@@ -70,18 +69,7 @@ impl<P: Policy> Repr<P> {
         ensures { MatchOption result ((t : List ℕ) → ¬ (IsPackedFor bytes.now t)) (λ r. IsPackedFor bytes.now r.text × (r.placement ≡ inlined)) }
     {
         let inline = InlineBuffer::from_packed(bytes)?;
-        Some(Self::of(alloc, Buffer::Inline(inline)))
-    }
-
-    /// The first `len` bytes of a row, which are a text, inline.
-    #[inline]
-    pub fn from_row_unchecked(alloc: Global, row: &[u8; 24], len: usize) -> Self
-        requires fits { len ≤ 24 }
-        requires text { IsUtf8 (take len row.now) }
-        ensures { result ≡ placed (text_of (take len row.now)) inlined }
-    {
-        let inline = InlineBuffer::from_row_unchecked(row, len);
-        Self::of(alloc, Buffer::Inline(inline))
+        Some(Self::of(alloc, Buffer::Inline([], inline)))
     }
 
     /// The empty text with room for `capacity` bytes: inline up to 24, which is never refused, else on the heap.
@@ -106,7 +94,7 @@ impl<P: Policy> Repr<P> {
         let alloc = *text.allocator();
         if text.len() <= INLINE_CAPACITY {
             let inline = InlineBuffer::new(text.as_str());
-            return Self::of(alloc, Buffer::Inline(inline));
+            return Self::of(alloc, Buffer::Inline([], inline));
         }
         Self::of(alloc, Buffer::Heap(HeapBuffer::from_string(text)))
     }
@@ -132,7 +120,10 @@ impl<P: Policy> Repr<P> {
     {
         match &self.buffer {
             Buffer::Static(text) => Ok(Self::of(self.alloc, Buffer::Static(text.duplicate()))),
-            Buffer::Inline(inline) => Ok(Self::of(self.alloc, Buffer::Inline(inline.duplicate()))),
+            Buffer::Inline(_, inline) => Ok(Self::of(
+                self.alloc,
+                Buffer::Inline([], inline.duplicate()),
+            )),
             Buffer::Heap(heap) => Self::new(self.alloc, heap.as_str()),
         }
     }

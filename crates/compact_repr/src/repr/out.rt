@@ -20,7 +20,7 @@ impl<P: Policy> Repr<P> {
         let alloc = self.alloc;
         match self.buffer {
             Buffer::Heap(heap) => Ok(heap.into_string()),
-            Buffer::Inline(inline) => Err(Self::of(alloc, Buffer::Inline(inline))),
+            Buffer::Inline(_, inline) => Err(Self::of(alloc, Buffer::Inline([], inline))),
             Buffer::Static(text) => Err(Self::of(alloc, Buffer::Static(text))),
         }
     }

@@ -18,7 +18,7 @@ impl<P: Policy> Repr<P> {
     {
         match &self.buffer {
             Buffer::Heap(heap) => heap.as_str(),
-            Buffer::Inline(inline) => inline.as_str(),
+            Buffer::Inline(_, inline) => inline.as_str(),
             Buffer::Static(_) => unreachable!(),
         }
     }
@@ -78,7 +78,7 @@ impl<P: Policy> Repr<P> {
         ensures { MatchOption result (is_static self.now.placement.place ≡ false) (λ s. (is_static self.now.placement.place ≡ true) × (text_of s.now ≡ after self.now.text index)) }
     {
         match &self.buffer {
-            Buffer::Inline(_) => None,
+            Buffer::Inline(_, _) => None,
             Buffer::Heap(_) => None,
             Buffer::Static(text) => Some(text.tail(index).as_static_str()),
         }

@@ -35,7 +35,7 @@ impl<P: Policy> Repr<P> {
         ensures { result ≡ fits_in_place self.now additional }
     {
         match &self.buffer {
-            Buffer::Inline(inline) => additional <= INLINE_CAPACITY - inline.len(),
+            Buffer::Inline(_, inline) => additional <= INLINE_CAPACITY - inline.len(),
             Buffer::Heap(heap) => heap.has_room(additional),
             Buffer::Static(_) => false,
         }
@@ -118,7 +118,7 @@ impl<P: Policy> Repr<P> {
         requires { size self.old.text ≤ 24 }
         ensures { self.new ≡ placed self.old.text inlined }
     {
-        self.buffer = Buffer::Inline(InlineBuffer::new(self.as_str()));
+        self.buffer = Buffer::Inline([], InlineBuffer::new(self.as_str()));
     }
 
     /// Moves the text into a heap buffer of `capacity` bytes, at least as many as stand. An error changes nothing.

@@ -9,7 +9,7 @@ ghost use Rattle.compact_str.specs.Edits.{Pops, Writes};
 
 use crate::refused::Refused;
 use crate::string::PolicyString;
-use compact_repr::{Policy, ReserveError};
+use compact_repr::{AtOnce, Policy, ReserveError};
 use std::fmt;
 
 impl<P: Policy> PolicyString<P> {
@@ -27,10 +27,11 @@ impl<P: Policy> PolicyString<P> {
         ensures succeeds { HasRoomFor self.old (length text.now) → IsOk result }
         ensures err { OnErr result ((self.new ≡ self.old) × IsTrue (push_asks self.old (text_of text.now))) }
     {
-        if self.repr.push_at_once(text) {
-            return Ok(());
+        match self.repr.push_at_once(text) {
+            AtOnce::Done => Ok(()),
+            AtOnce::NoRoom => self.repr.push_with_more_room(text),
+            AtOnce::NotTried => self.repr.push_str(text),
         }
-        self.repr.push_str(text)
     }
 
     /// Appends a character, 1 to 4 bytes, as `push_str` appends its text.

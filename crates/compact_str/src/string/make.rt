@@ -1,6 +1,5 @@
 //! How a value is made.
-ghost use Rattle.std.specs.Prelude.{◌≡◌, ◌<◌, ◌≤◌, ℕ, List, [], length, take, nat_eq, if◌then◌else◌, Some, IfOk, IfErr, OnErr, IsOk, IsTrue, MatchOption, string_bytes};
-ghost use Rattle.std.specs.Str.{IsUtf8};
+ghost use Rattle.std.specs.Prelude.{◌≡◌, ◌<◌, ◌≤◌, ℕ, List, [], length, nat_eq, if◌then◌else◌, Some, IfOk, IfErr, OnErr, IsOk, IsTrue, MatchOption, string_bytes};
 ghost use Rattle.std.specs.String.{string_capacity};
 ghost use Rattle.std.specs.Box.{boxed_str_bytes};
 ghost use Rattle.std.specs.Cow.{cow_str_bytes};
@@ -88,22 +87,6 @@ impl<P: Policy> PolicyString<P> {
     {
         let repr = Repr::from_packed(alloc, bytes)?;
         Some(PolicyString { repr })
-    }
-
-    /// The first `len` bytes of `row` as a text, inline, with no check and no memory. What stands behind them is not looked
-    /// at.
-    ///
-    /// It is the caller's to know that they are UTF-8, as of digits that it wrote; where that is not known `from_packed`
-    /// looks. Of a row that begins with `b"abc"` and 3 the text is `"abc"`.
-    #[inline]
-    pub fn from_row_unchecked(alloc: Global, row: &[u8; 24], len: usize) -> Self
-        requires fits { len ≤ 24 }
-        requires text { IsUtf8 (take len row.now) }
-        ensures { result ≡ placed (text_of (take len row.now)) inlined }
-    {
-        PolicyString {
-            repr: Repr::from_row_unchecked(alloc, row, len),
-        }
     }
 
     /// The empty text with room for `capacity` bytes: inline up to 24, which is never refused, else in a heap buffer

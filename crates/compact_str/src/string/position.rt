@@ -158,8 +158,7 @@ impl<P: Policy> PolicyString<P> {
         // The position is in the text, so that what follows the character is too.
         prove!(index < len);
         let character = self.repr.char_at(index);
-        self.repr
-            .replace_with_more_room(index, index + character.len_utf8(), "")?;
+        self.repr.cut_out(index, index + character.len_utf8())?;
         Ok(character)
     }
 
@@ -189,7 +188,7 @@ impl<P: Policy> PolicyString<P> {
         if self.repr.replace_in_place(first, last, text) {
             return Ok(());
         }
-        self.repr.replace_with_more_room(first, last, text)
+        self.repr.replace_once_owned(first, last, text)
     }
 
     /// Splits the text at the boundary `index`, in bytes: keeps what stands before it, in its place, and answers the rest.

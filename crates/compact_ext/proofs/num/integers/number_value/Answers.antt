@@ -4,7 +4,7 @@ use Rattle.std.specs.Str.{IsUtf8}
 use Rattle.compact_ext.proofs.NumberTexts.{take-written, IsUtf8-number}
 use Rattle.compact_ext.proofs.num.integers.number_value.Goals as goal
 
-pub from_row_unchecked-requires-clause-text : goal.from_row_unchecked-requires-clause-text
-from_row_unchecked-requires-clause-text c =
+pub packed_value-requires-clause-text : goal.packed_value-requires-clause-text
+packed_value-requires-clause-text c =
     let e = c.write_number-len.ensures in
     subst (λ (x : List ℕ). IsUtf8 x) (sym (ap (take c.write_number-len.result) e.text ∙ take-written _ _ _ e.count)) (IsUtf8-number _ _ c.ranges.magnitude.fits)

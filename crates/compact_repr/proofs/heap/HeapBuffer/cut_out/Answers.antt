@@ -1,34 +1,26 @@
-use Rattle.std.proofs.Common.{refl, arith, []}
-use Rattle.compact_repr.proofs.Cuts.{boundary-within, size-replaced, text_of-cut_out, utf8-cut_out}
-use Rattle.compact_repr.proofs.HeapTexts.{shown-text, shown-capacity, shown-size}
+use Rattle.std.proofs.Common.{◌≡◌, [], ◌∙◌, ap, take, arith, refl}
+use Rattle.std.specs.List.{replace_range}
+use Rattle.compact_repr.proofs.Cuts.{boundary-within, text_of-cut_out, utf8-cut_out}
+use Rattle.compact_repr.proofs.Texts.{size-text_of}
+use Rattle.compact_repr.proofs.HeapTexts.{shown-text, shown-capacity, shown-size, written, whole}
 use Rattle.compact_repr.proofs.heap.HeapBuffer.cut_out.Goals as goal
 
-pub cut_out-requires-clause-inside : goal.cut_out-requires-clause-inside
-cut_out-requires-clause-inside c =
-    let stands = shown-size _ _ _ c.self.view_is c.self.invariant.0 c.self.invariant.1 in
-    let within = boundary-within _ _ c.requires.last in
-    omega (arith, stands, within)
+now : (c : goal.After-truncate) → c.truncate.new.self.items ≡ replace_range c.self.inside.bytes.items c.args.start c.args.end []
+now c =
+    c.truncate.ensures.items
+    ∙ ap (take _) (written c.self.inside.bytes.items c.cut_out.new.row c.self.inside.bytes.len (omega arith) (omega arith))
+    ∙ c.cut_out.ensures
+    ∙ rw (c.as_mut_slice.ensures.value, c.len-len.ensures, whole c.self.inside.bytes.items c.self.inside.bytes.len (omega arith)) refl
 
-pub overflow_sub-self-2 : goal.overflow_sub-self-2
-overflow_sub-self-2 c =
-    let stands = shown-size _ _ _ c.self.view_is c.self.invariant.0 c.self.invariant.1 in
-    let within = boundary-within _ _ c.requires.last in
-    omega (arith, stands, within)
+pub overflow_sub-len : goal.overflow_sub-len
+overflow_sub-len c = omega (arith, shown-size _ c.self.view_is c.self.invariant, boundary-within _ _ c.requires.last)
 
 pub invariant_of-self : goal.invariant_of-self
-invariant_of-self c = (
-  rw c.cut_out.ensures.cut
-      (utf8-cut_out _ c.args.start c.args.end (shown-text _ _ c.self.view_is) c.self.invariant.0 c.requires.first c.requires.last),
-  omega (arith, c.self.invariant.1, c.cut_out.ensures.same, c.cut_out.new.bytes.ok.0, c.self.inside.bytes.ok.0),
-)
+invariant_of-self c = rw (now c) (utf8-cut_out _ c.args.start c.args.end (shown-text _ c.self.view_is) c.self.invariant c.requires.first c.requires.last)
 
 pub returns-clause-cut : goal.returns-clause-cut
 returns-clause-cut c =
-    rw (c.cut_out.ensures.cut, text_of-cut_out _ c.args.start c.args.end (shown-text _ _ c.self.view_is) c.self.invariant.0 c.requires.first c.requires.last, c.cut_out.ensures.capacity, shown-capacity _ c.self.view_is) refl
+    rw (now c, text_of-cut_out _ c.args.start c.args.end (shown-text _ c.self.view_is) c.self.invariant c.requires.first c.requires.last, c.truncate.ensures.capacity, shown-capacity _ c.self.view_is) refl
 
 pub returns-clause-within : goal.returns-clause-within
-returns-clause-within c =
-    let stands = shown-size _ _ _ c.self.view_is c.self.invariant.0 c.self.invariant.1 in
-    let less = size-replaced c.args.self.now.text [] c.args.start c.args.end c.requires.first c.requires.last c.requires.order in
-    rw (c.cut_out.ensures.cut, text_of-cut_out _ c.args.start c.args.end (shown-text _ _ c.self.view_is) c.self.invariant.0 c.requires.first c.requires.last)
-    (omega (arith, stands, less, shown-capacity _ c.self.view_is, c.self.invariant.1, c.self.inside.bytes.ok.0, c.self.inside.bytes.ok.1))
+returns-clause-within c = omega (arith, size-text_of c.truncate.new.self.items (invariant_of-self c), shown-capacity _ c.self.view_is)

@@ -1,35 +1,30 @@
-use Rattle.std.proofs.Common.{refl, arith}
+use Rattle.std.proofs.Common.{◌≡◌, ◌+◌, [], ◌∷◌, ◌++◌, ◌∙◌, sym, ap, take, arith, refl}
+use Rattle.std.specs.List.{replace_range}
+use Rattle.std.proofs.lemmas.List.{take_at}
+use Rattle.compact_repr.proofs.Ascii.{ascii-removed, utf8-ascii-removed}
 use Rattle.compact_repr.proofs.Cuts.{boundary-within}
-use Rattle.compact_repr.proofs.Ascii.{ascii-removed, utf8-ascii-removed, size-ascii-removed}
-use Rattle.compact_repr.proofs.HeapTexts.{shown-text, shown-capacity, shown-size}
+use Rattle.compact_repr.proofs.Texts.{size-text_of}
+use Rattle.compact_repr.proofs.HeapTexts.{shown-text, shown-capacity, shown-size, written, whole}
 use Rattle.compact_repr.proofs.heap.HeapBuffer.remove_ascii.Goals as goal
 
-pub remove_byte-requires-clause-inside : goal.remove_byte-requires-clause-inside
-remove_byte-requires-clause-inside c =
-    let stands = shown-size _ _ _ c.self.view_is c.self.invariant.0 c.self.invariant.1 in
-    let within = boundary-within _ _ c.requires.next in
-    omega (arith, stands, within)
+now : (c : goal.After-take_last-last) → c.take_last-last.new.self.items ≡ replace_range c.self.inside.bytes.items c.args.index (c.args.index + 1) []
+now c =
+    let left : c.remove_byte.new.row ≡ c.take_last-last.new.self.items ++ c.take_last-last.result ∷ [] =
+    sym (written c.self.inside.bytes.items c.remove_byte.new.row c.self.inside.bytes.len (omega arith) (omega arith)) ∙ c.take_last-last.ensures.items in
+    sym (take_at c.take_last-last.new.self.items (c.take_last-last.result ∷ []) _ (omega arith))
+    ∙ ap (take _) (sym left)
+    ∙ c.remove_byte.ensures
+    ∙ rw (c.as_mut_slice.ensures.value, c.len-len.ensures, whole c.self.inside.bytes.items c.self.inside.bytes.len (omega arith)) refl
 
-pub overflow_sub-self : goal.overflow_sub-self
-overflow_sub-self c =
-    let stands = shown-size _ _ _ c.self.view_is c.self.invariant.0 c.self.invariant.1 in
-    let within = boundary-within _ _ c.requires.next in
-    omega (arith, stands, within)
+pub take_last-last-requires : goal.take_last-last-requires
+take_last-last-requires c = omega (arith, shown-size _ c.self.view_is c.self.invariant, boundary-within _ _ c.requires.next)
 
 pub invariant_of-self : goal.invariant_of-self
-invariant_of-self c = (
-  rw c.remove_byte.ensures.removed
-      (utf8-ascii-removed _ c.args.index (shown-text _ _ c.self.view_is) c.self.invariant.0 c.requires.boundary c.requires.next),
-  omega (arith, c.self.invariant.1, c.remove_byte.ensures.same, c.remove_byte.new.bytes.ok.0, c.self.inside.bytes.ok.0),
-)
+invariant_of-self c = rw (now c) (utf8-ascii-removed _ c.args.index (shown-text _ c.self.view_is) c.self.invariant c.requires.boundary c.requires.next)
 
 pub returns-clause-removed : goal.returns-clause-removed
 returns-clause-removed c =
-    rw (c.remove_byte.ensures.removed, ascii-removed _ c.args.index (shown-text _ _ c.self.view_is) c.self.invariant.0 c.requires.boundary c.requires.next, c.remove_byte.ensures.capacity, shown-capacity _ c.self.view_is) refl
+    rw (now c, ascii-removed _ c.args.index (shown-text _ c.self.view_is) c.self.invariant c.requires.boundary c.requires.next, c.take_last-last.ensures.capacity, shown-capacity _ c.self.view_is) refl
 
 pub returns-clause-within : goal.returns-clause-within
-returns-clause-within c =
-    let stands = shown-size _ _ _ c.self.view_is c.self.invariant.0 c.self.invariant.1 in
-    let less = size-ascii-removed c.args.self.now.text c.args.index c.requires.boundary c.requires.next in
-    rw (c.remove_byte.ensures.removed, ascii-removed _ c.args.index (shown-text _ _ c.self.view_is) c.self.invariant.0 c.requires.boundary c.requires.next)
-    (omega (arith, stands, less, shown-capacity _ c.self.view_is, c.self.invariant.1, c.self.inside.bytes.ok.0, c.self.inside.bytes.ok.1))
+returns-clause-within c = omega (arith, size-text_of c.take_last-last.new.self.items (invariant_of-self c), shown-capacity _ c.self.view_is)

@@ -1,71 +1,55 @@
--- The first bytes spell the text, and so a part of the bytes is replaced where that part of the text is.
-use Rattle.std.proofs.Common.{◌≡◌, length, refl, ap, arith}
-use Rattle.std.proofs.lemmas.Bool.{false≢true}
-use Rattle.compact_repr.specs.Text.{size, text_of}
+use Rattle.std.proofs.Common.{◌≡◌, ℕ, ◌+◌, ◌-◌, ◌++◌, ◌∙◌, ap, sym, take, drop, length, arith, refl}
+use Rattle.std.proofs.lemmas.List.{take_at}
+use Rattle.std.specs.List.{replace_range}
+use Rattle.compact_repr.specs.Text.{text_of}
 use Rattle.compact_repr.proofs.Texts.{size-text_of}
-use Rattle.compact_repr.proofs.Cuts.{boundary-within, size-replaced, text_of-replaced, utf8-replaced}
-use Rattle.compact_repr.proofs.HeapTexts.{shown-text, shown-capacity, shown-size}
+use Rattle.compact_repr.proofs.Cuts.{size-replaced, text_of-replaced, utf8-replaced}
+use Rattle.compact_repr.proofs.HeapTexts.{shown-text, shown-capacity, shown-size, written, whole}
 use Rattle.compact_repr.proofs.heap.HeapBuffer.replace_range.Goals as goal
 
-pub overflow_sub-len-2 : goal.overflow_sub-len-2
-overflow_sub-len-2 c =
-    let stands = shown-size _ _ _ c.self.view_is c.self.invariant.0 c.self.invariant.1 in
-    let within = boundary-within c.args.self.now.text c.args.end c.requires.last in
-    omega (arith, stands, within)
-
-pub replace_range-requires-clause-inside : goal.replace_range-requires-clause-inside
-replace_range-requires-clause-inside c =
-    let stands = shown-size _ _ _ c.self.view_is c.self.invariant.0 c.self.invariant.1 in
-    let within = boundary-within c.args.self.now.text c.args.end c.requires.last in
-    omega (arith, stands, within)
-
-pub returns-then-not-replace_range-clause-fits : goal.returns-then-not-replace_range-clause-fits
-returns-then-not-replace_range-clause-fits c =
-    let stands = shown-size _ _ _ c.self.view_is c.self.invariant.0 c.self.invariant.1 in
-    let within = boundary-within c.args.self.now.text c.args.end c.requires.last in
+longer : (c : goal.After-self-1)
+    → take c.open.new.bytes.len (c.replace_range.new.row ++ drop (length c.replace_range.new.row) c.open.new.bytes.items)
+    ≡ replace_range c.self.inside.bytes.items c.args.start c.args.end c.as_bytes.result.now
+longer c =
     let added : length c.as_bytes.result.now ≡ length c.args.text.now = ap length c.as_bytes.ensures.value in
-    let capacity = shown-capacity _ c.self.view_is in
-    ((λ h. absurd (false≢true h)), (λ h. c.if-not-replace_range.ensures.fits.1 (omega (arith, stands, within, added, capacity, h))))
+    written c.open.new.bytes.items c.replace_range.new.row c.open.new.bytes.len (omega arith) (omega arith)
+    ∙ sym (whole c.replace_range.new.row (c.len-old.result - (c.args.end - c.args.start) + length c.as_bytes.result.now) (omega arith))
+    ∙ c.replace_range.ensures
+    ∙ rw (c.as_mut_slice.ensures.value, c.open.ensures.items, take_at c.self.inside.bytes.items _ c.len-old.result (omega arith)) refl
 
-pub returns-clause-fits : goal.returns-clause-fits
-returns-clause-fits c =
-    let stands = shown-size _ _ _ c.self.view_is c.self.invariant.0 c.self.invariant.1 in
-    let within = boundary-within c.args.self.now.text c.args.end c.requires.last in
-    let added : length c.as_bytes.result.now ≡ length c.args.text.now = ap length c.as_bytes.ensures.value in
-    let capacity = shown-capacity _ c.self.view_is in
-    let fits = c.if-not-replace_range.ensures.fits.0 refl in
-    ((λ _. omega (arith, stands, within, added, capacity, fits)), (λ _. refl))
+within : (c : goal.After-truncate) → c.truncate.new.self.items ≡ replace_range c.self.inside.bytes.items c.args.start c.args.end c.as_bytes-else-len-old.result.now
+within c =
+    let given : length c.as_bytes-else-len-old.result.now ≡ length c.args.text.now = ap length c.as_bytes-else-len-old.ensures.value in
+    c.truncate.ensures.items
+    ∙ ap (take _) (written c.self.inside.bytes.items c.replace_range-else-len-old.new.row c.self.inside.bytes.len (omega arith) (omega arith))
+    ∙ ap (λ (n : ℕ). take (c.len-old.result - (c.args.end - c.args.start) + n) c.replace_range-else-len-old.new.row) (sym given)
+    ∙ c.replace_range-else-len-old.ensures
+    ∙ rw (c.as_mut_slice-else-len-old.ensures.value, whole c.self.inside.bytes.items c.len-old.result (omega arith)) refl
 
-pub invariant_of-self-2 : goal.invariant_of-self-2
-invariant_of-self-2 c =
-    let added : length c.as_bytes.result.now ≡ length c.args.text.now = ap length c.as_bytes.ensures.value in
-    let replaced = c.if-not-replace_range.ensures.replaced refl in
-    let long = c.if-not-replace_range.ensures.long refl in (
-      rw (← added, replaced)
-          (utf8-replaced _ _ _ _ (shown-text _ _ c.self.view_is) c.self.invariant.0 c.as_bytes.ensures.utf8 c.requires.first c.requires.last),
-      omega (arith, added, long, c.replace_range.new.bytes.ok.0),
-    )
+pub invariant_of-self : goal.invariant_of-self
+invariant_of-self c = rw (longer c) (utf8-replaced _ _ _ _ (shown-text _ c.self.view_is) c.self.invariant c.as_bytes.ensures.utf8 c.requires.first c.requires.last)
 
-pub returns-clause-replaced : goal.returns-clause-replaced
-returns-clause-replaced c _ =
-    let added : length c.as_bytes.result.now ≡ length c.args.text.now = ap length c.as_bytes.ensures.value in
-    let replaced = c.if-not-replace_range.ensures.replaced refl in
-    let spelled = text_of-replaced _ _ _ _ (shown-text _ _ c.self.view_is) c.self.invariant.0 c.as_bytes.ensures.utf8 c.requires.first c.requires.last in
-    rw (← added, replaced, spelled, c.if-not-replace_range.ensures.capacity, shown-capacity _ c.self.view_is, c.as_bytes.ensures.value) refl
+pub invariant_of-self-else-len-old : goal.invariant_of-self-else-len-old
+invariant_of-self-else-len-old c =
+    rw (within c) (utf8-replaced _ _ _ _ (shown-text _ c.self.view_is) c.self.invariant c.as_bytes-else-len-old.ensures.utf8 c.requires.first c.requires.last)
 
-pub returns-clause-within : goal.returns-clause-within
-returns-clause-within c =
+pub returns-then-len-old-clause-replaced : goal.returns-then-len-old-clause-replaced
+returns-then-len-old-clause-replaced c _ =
+    let spelled = text_of-replaced _ _ _ _ (shown-text _ c.self.view_is) c.self.invariant c.as_bytes.ensures.utf8 c.requires.first c.requires.last in
+    rw (longer c, spelled, c.open.ensures.capacity, shown-capacity _ c.self.view_is, c.as_bytes.ensures.value) refl
+
+pub returns-else-len-old-clause-replaced : goal.returns-else-len-old-clause-replaced
+returns-else-len-old-clause-replaced c _ =
+    let spelled = text_of-replaced _ _ _ _ (shown-text _ c.self.view_is) c.self.invariant c.as_bytes-else-len-old.ensures.utf8 c.requires.first c.requires.last in
+    rw (within c, spelled, c.truncate.ensures.capacity, shown-capacity _ c.self.view_is, c.as_bytes-else-len-old.ensures.value) refl
+
+pub returns-then-len-old-clause-within : goal.returns-then-len-old-clause-within
+returns-then-len-old-clause-within c =
     let added : length c.as_bytes.result.now ≡ length c.args.text.now = ap length c.as_bytes.ensures.value in
-    let replaced = c.if-not-replace_range.ensures.replaced refl in
-    let stands = shown-size _ _ _ c.self.view_is c.self.invariant.0 c.self.invariant.1 in
-    let spelled = text_of-replaced _ _ _ _ (shown-text _ _ c.self.view_is) c.self.invariant.0 c.as_bytes.ensures.utf8 c.requires.first c.requires.last in
-    let whole = size-replaced c.args.self.now.text (text_of c.as_bytes.result.now) c.args.start c.args.end c.requires.first c.requires.last c.requires.order in
+    let spelled = text_of-replaced _ _ _ _ (shown-text _ c.self.view_is) c.self.invariant c.as_bytes.ensures.utf8 c.requires.first c.requires.last in
+    let size = size-replaced c.args.self.now.text (text_of c.as_bytes.result.now) c.args.start c.args.end c.requires.first c.requires.last c.requires.order in
     let part = size-text_of c.as_bytes.result.now c.as_bytes.ensures.utf8 in
-    let fits = c.if-not-replace_range.ensures.fits.0 refl in
-    rw (← added, replaced, ap size spelled) (omega (arith, stands, whole, part, added, fits, shown-capacity _ c.self.view_is))
+    rw (longer c, spelled) (omega (arith, shown-size _ c.self.view_is c.self.invariant, shown-capacity _ c.self.view_is, size, part, added))
 
-pub returns-then-not-replace_range-clause-within : goal.returns-then-not-replace_range-clause-within
-returns-then-not-replace_range-clause-within c =
-    let stands = shown-size _ _ _ c.self.view_is c.self.invariant.0 c.self.invariant.1 in
-    rw (c.if-not-replace_range.ensures.full refl, shown-text _ _ c.self.view_is)
-    (omega (arith, stands, shown-capacity _ c.self.view_is, c.self.invariant.1, c.self.inside.bytes.ok.0, c.self.inside.bytes.ok.1))
+pub returns-else-len-old-clause-within : goal.returns-else-len-old-clause-within
+returns-else-len-old-clause-within c = omega (arith, size-text_of c.truncate.new.self.items (invariant_of-self-else-len-old c), shown-capacity _ c.self.view_is)

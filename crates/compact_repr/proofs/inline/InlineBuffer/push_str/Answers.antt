@@ -1,21 +1,18 @@
-use Rattle.std.proofs.Common.{refl, arith}
-use Rattle.std.proofs.lemmas.Bool.{false≢true}
-use Rattle.std.proofs.lemmas.Str.{IsUtf8-append}
-use Rattle.compact_repr.proofs.Texts.{size-front}
+use Rattle.std.proofs.Common.{◌∙◌}
+use Rattle.std.proofs.lemmas.Str.{IsUtf8-append, chars-append}
+use Rattle.compact_repr.proofs.PackedTexts.{packed-text, packed-again}
+use Rattle.compact_repr.proofs.PackedEdits.{utf8-seen}
 use Rattle.compact_repr.proofs.inline.InlineBuffer.push_str.Goals as goal
 
-pub returns-then-text-self-clause-fits : goal.returns-then-text-self-clause-fits
-returns-then-text-self-clause-fits c =
-    let stands = size-front _ _ c.self.view_is c.self.invariant.1 (omega arith) in
-    ((λ h. absurd (false≢true h)), (λ h. absurd (omega (arith, stands, h, c.if-text-self.true))))
-
-pub returns-clause-fits : goal.returns-clause-fits
-returns-clause-fits c =
-    let stands = size-front _ _ c.self.view_is c.self.invariant.1 (omega arith) in
-    ((λ _. omega (arith, stands, c.if-text-self.false)), (λ _. refl))
+pub mark-requires-clause-text : goal.mark-requires-clause-text
+mark-requires-clause-text c =
+    rw (← c.as_bytes.ensures.value, c.write_at_once.ensures.behind, c.length_of-len.ensures) (IsUtf8-append _ _ (utf8-seen _ c.self.invariant) c.as_bytes.ensures.utf8)
 
 pub invariant_of-self : goal.invariant_of-self
-invariant_of-self c = (
-  omega (arith, c.if-text-self.false),
-  rw (← c.as_bytes.ensures.value, c.write_at_once.ensures.behind) (IsUtf8-append _ _ c.self.invariant.1 c.as_bytes.ensures.utf8),
-)
+invariant_of-self c = packed-again _ _ c.mark.ensures
+
+pub returns-clause-pushed : goal.returns-clause-pushed
+returns-clause-pushed c _ =
+    packed-text _ _ c.mark.ensures
+    ∙ rw (← c.as_bytes.ensures.value, c.write_at_once.ensures.behind, c.length_of-len.ensures, ← c.self.view_is)
+    (chars-append _ c.as_bytes.result.now (utf8-seen _ c.self.invariant))

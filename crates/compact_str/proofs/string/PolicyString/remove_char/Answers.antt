@@ -20,8 +20,8 @@ overflow_add-index g c =
     let len : c.len-len.result ≡ size c.args.self.now.text = c.len-len.ensures.value ∙ ap (λ (v : PlacedText). size v.text) c.self.view_is in
     omega (arith, within, len, c.len-len.ensures.small, c.len_utf8.ensures.value)
 
-pub replace_with_more_room-requires-clause-last : goal.replace_with_more_room-requires-clause-last
-replace_with_more_room-requires-clause-last g c =
+pub cut_out-requires-clause-last : goal.cut_out-requires-clause-last
+cut_out-requires-clause-last g c =
     let next = c.char_at-character.ensures in
     let tail : after c.args.self.now.text c.args.index ≡ c.char_at-character.result ∷ next.0 = ap (λ (v : PlacedText). after v.text c.args.index) (sym c.self.view_is) ∙ next.1 in
     rw c.len_utf8.ensures.value
@@ -31,15 +31,15 @@ pub returns-clause-ok : goal.returns-clause-ok
 returns-clause-ok g c =
     let next = c.char_at-character.ensures in
     let tail : after c.args.self.now.text c.args.index ≡ c.char_at-character.result ∷ next.0 = ap (λ (v : PlacedText). after v.text c.args.index) (sym c.self.view_is) ∙ next.1 in
-    (replaced-removes g.P.Policy.growth c.args.self.now c.replace_with_more_room.new.self next.0 c.args.index c.char_at-character.result c.len_utf8.result c.requires.boundary tail c.len_utf8.ensures.value (subst (λ (v : PlacedText). replaced g.P.Policy.growth v c.args.index (c.args.index + c.len_utf8.result) [] ≡ Some c.replace_with_more_room.new.self) c.self.view_is (rw chars-nil at c.in_ok-replace_with_more_room.ensures.ok))).0
+    (replaced-removes g.P.Policy.growth c.args.self.now c.cut_out.new.self next.0 c.args.index c.char_at-character.result c.len_utf8.result c.requires.boundary tail c.len_utf8.ensures.value (subst (λ (v : PlacedText). replaced g.P.Policy.growth v c.args.index (c.args.index + c.len_utf8.result) [] ≡ Some c.cut_out.new.self) c.self.view_is c.in_ok-cut_out.ensures.ok)).0
 
 pub returns-clause-character : goal.returns-clause-character
 returns-clause-character g c =
     let next = c.char_at-character.ensures in
     let tail : after c.args.self.now.text c.args.index ≡ c.char_at-character.result ∷ next.0 = ap (λ (v : PlacedText). after v.text c.args.index) (sym c.self.view_is) ∙ next.1 in
-    (replaced-removes g.P.Policy.growth c.args.self.now c.replace_with_more_room.new.self next.0 c.args.index c.char_at-character.result c.len_utf8.result c.requires.boundary tail c.len_utf8.ensures.value (subst (λ (v : PlacedText). replaced g.P.Policy.growth v c.args.index (c.args.index + c.len_utf8.result) [] ≡ Some c.replace_with_more_room.new.self) c.self.view_is (rw chars-nil at c.in_ok-replace_with_more_room.ensures.ok))).1
+    (replaced-removes g.P.Policy.growth c.args.self.now c.cut_out.new.self next.0 c.args.index c.char_at-character.result c.len_utf8.result c.requires.boundary tail c.len_utf8.ensures.value (subst (λ (v : PlacedText). replaced g.P.Policy.growth v c.args.index (c.args.index + c.len_utf8.result) [] ≡ Some c.cut_out.new.self) c.self.view_is c.in_ok-cut_out.ensures.ok)).1
 
-pub returns-in_err-replace_with_more_room-clause-succeeds_short : goal.returns-in_err-replace_with_more_room-clause-succeeds_short
-returns-in_err-replace_with_more_room-clause-succeeds_short g c h =
-    let asks : IsTrue (own_asks c.args.self.now) = subst (λ (v : PlacedText). IsTrue (own_asks v)) c.self.view_is (asks-by_nothing c.self.inside.repr c.args.index _ c.in_err-replace_with_more_room.ensures.err.1) in
+pub returns-in_err-cut_out-clause-succeeds_short : goal.returns-in_err-cut_out-clause-succeeds_short
+returns-in_err-cut_out-clause-succeeds_short g c h =
+    let asks : IsTrue (own_asks c.args.self.now) = subst (λ (v : PlacedText). IsTrue (own_asks v)) c.self.view_is (asks-by_nothing c.self.inside.repr c.args.index _ c.in_err-cut_out.ensures.err.1) in
     absurd (let long = owning-long c.args.self.now asks in omega (arith, h, long))

@@ -1,0 +1,82 @@
+//! What 24 packed bytes tell, and how their last byte is written.
+#![tactic(auto, using(crate::proofs::PackedFacts::packed_facts))]
+
+ghost use Rattle.std.specs.Prelude.{◌≡◌, ◌≤◌, ◌<◌, take, IsTrue, ◌↔◌};
+ghost use Rattle.std.specs.Str.{IsUtf8};
+ghost use Rattle.compact_repr.specs.Text.{text_of};
+ghost use Rattle.compact_repr.specs.Packed.{IsPackedFor, packed_len, packed_text};
+
+use crate::inline::INLINE_CAPACITY;
+use crate::words::{begins_ascii, row_end, with_last_byte};
+
+/// The greatest last byte of a packed text: behind a text of 23 bytes.
+const GREATEST_LAST_BYTE: usize = 215;
+
+/// Whether the bytes stand for a text. Where all but the last are ASCII that is known by their words, unless the last byte
+/// can only be of another character.
+#[inline(always)]
+pub fn is_packed(bytes: &[u8; 24]) -> bool
+    ensures { IsTrue result ↔ IsPackedFor bytes.now (packed_text bytes.now) }
+{
+    let last = row_end(bytes);
+    if last > GREATEST_LAST_BYTE {
+        return false;
+    }
+    if begins_ascii(bytes) && (last < 128 || last >= 192) {
+        return true;
+    }
+    match std::str::from_utf8(&bytes[..length_of(bytes)]) {
+        Ok(_) => true,
+        Err(_) => false,
+    }
+}
+
+/// How many bytes of text packed bytes hold, as the last one says. It takes no branch.
+#[inline(always)]
+pub fn length_of(bytes: &[u8; 24]) -> usize
+    requires { packed_len bytes.now ≤ 24 }
+    ensures { result ≡ packed_len bytes.now }
+{
+    let len = row_end(bytes).wrapping_sub(192);
+    if len < INLINE_CAPACITY {
+        len
+    } else {
+        INLINE_CAPACITY
+    }
+}
+
+/// Writes the length of the text that stands first. A text of 24 bytes leaves no place for it, and needs none.
+#[inline(always)]
+pub fn mark(bytes: &mut [u8; 24], len: usize)
+    requires fits { len ≤ 24 }
+    requires text { IsUtf8 (take len bytes.old) }
+    ensures { IsPackedFor bytes.new (text_of (take len bytes.old)) }
+{
+    if len < INLINE_CAPACITY {
+        bytes[INLINE_CAPACITY - 1] = 192 + len as u8;
+    }
+}
+
+/// The row with the length of the text that stands first, which is shorter than the row, as a part of its last word.
+#[inline(always)]
+pub fn ended(row: &[u8; 24], len: usize) -> [u8; 24]
+    requires short { len < 24 }
+    requires text { IsUtf8 (take len row.now) }
+    ensures { IsPackedFor result (text_of (take len row.now)) }
+{
+    with_last_byte(row, 192 + len as u8)
+}
+
+/// The same of a text that may be all of the row, which then stays as it is.
+#[inline(always)]
+pub fn marked(row: &[u8; 24], len: usize) -> [u8; 24]
+    requires fits { len ≤ 24 }
+    requires text { IsUtf8 (take len row.now) }
+    ensures { IsPackedFor result (text_of (take len row.now)) }
+{
+    if len < INLINE_CAPACITY {
+        ended(row, len)
+    } else {
+        *row
+    }
+}
