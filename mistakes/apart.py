@@ -1,13 +1,13 @@
-"""Tries the wrong bodies of must-fail/ one by one, where the gate tries several at once.
+"""Tries wrong bodies one by one, and says of each whether the proof of its own function refuses it.
 
     python3 mistakes/apart.py [CRATE..]
 
-A file of must-fail/ may hold several wrong bodies, each under a comment line with its name, in functions that are not to
-call one another. The gate asks that the crate with all of them is refused. This asks of each that the proof of its own function
-is refused, and not only that of a function which calls another one. It works on a copy of the repository, and takes each
-file in one check; a wrong body that shares its function with another, or whose function was not tried since it calls
-one that is not proved, gets a check of its own. With no crate named all are tried, which takes an hour of a processor.
-The status is 0 where each wrong body is refused.
+The wrong bodies of a crate are those of crates/CRATE/must-fail, one a file, which the gate tries too, and those of
+mistakes/CRATE, several a file, each under a comment line with its name. With no crate named all are tried.
+
+It works on a copy of the repository. A check takes the bodies of a file together, and says of each function whether its own proof
+fails. A body gets a check of its own where it shares its function with another, where it changes what is no function, and where
+the function was not tried, since one that it calls is not proved either. The status is 0 where each body is refused.
 """
 
 import os
@@ -17,112 +17,116 @@ import subprocess
 import sys
 import tempfile
 
-HERE = os.path.dirname(os.path.abspath(__file__))
-ROOT = os.path.dirname(HERE)
-TESTED = re.compile(r"^fn (\S+): (?:not proved|no proof: (?!it calls))", re.M)
+ROOT = os.path.dirname(os.path.dirname(os.path.abspath(__file__)))
+# A function whose own proof fails, in what a check prints.
+UNPROVED = re.compile(r"^fn (\S+): (?:not proved|no proof: (?!it calls))", re.M)
+
+
+def read(path):
+    with open(path, encoding="utf-8") as it:
+        return it.read()
+
+
+def write(path, text):
+    with open(path, "w", encoding="utf-8") as it:
+        it.write(text)
 
 
 class Body:
-    """A wrong body: its name, and the pairs of old and new text in files of its crate."""
+    """A wrong body: its name, and the file, the old and the new text of each of its changes."""
 
     def __init__(self, name):
-        self.name, self.pairs = name, []
+        self.name, self.changes = name, []
 
-    def put_into(self, texts, folder):
-        for file, old, new in self.pairs:
-            if file not in texts:
-                with open(f"{folder}/{file}", encoding="utf-8") as it:
-                    texts[file] = it.read()
-            if texts[file].count(old) != 1:
-                sys.exit(f"{folder}: {self.name}: the old text is not in {file} just once")
-            texts[file] = texts[file].replace(old, new)
+    def put_into(self, texts, crate):
+        """Puts its changes into the texts of files, and says whether each old text stood there just once."""
+        fits = True
+        for file, old, new in self.changes:
+            text = texts.get(file) or read(f"{crate}/{file}")
+            fits = fits and text.count(old) == 1
+            texts[file] = text.replace(old, new)
+        return fits
 
-    def function(self, folder):
-        """Returns where the function stands that it changes, and that function's name; of a definition the name is None."""
-        file, old, _ = self.pairs[0]
-        with open(f"{folder}/{file}", encoding="utf-8") as it:
-            text = it.read()
-        found = list(re.finditer(r"\bfn (\w+)", text[: text.index(old) + len(old)]))
-        if not found or not file.startswith("src/"):
-            return file, None
-        return (file, found[-1].start()), found[-1][1]
+    def place(self, crate):
+        """The file that it changes, and there where its function begins and what its name is; `None` where it changes none."""
+        file, old, _ = self.changes[0]
+        text = read(f"{crate}/{file}")
+        above = list(re.finditer(r"\bfn (\w+)", text[: text.find(old) + len(old)]))
+        return (file, above[-1].start(), above[-1][1]) if above and file.startswith("src/") else None
 
 
 def bodies_of(path):
-    """Returns the wrong bodies of a file of must-fail/."""
-    found, file, old, name = [], None, None, os.path.basename(path)[: -len(".edit")]
-    with open(path, encoding="utf-8") as it:
-        for line in it.read().split("\n"):
-            if line.startswith("# "):
-                name = line[2:]
-            elif line.startswith("file: "):
-                file = line[len("file: ") :]
-            elif line.startswith("old: "):
-                old = line[len("old: ") :]
-            elif line.startswith("new:"):
-                if not found or found[-1].name != name:
-                    found.append(Body(name))
-                found[-1].pairs.append((file, old, line[len("new:") :].removeprefix(" ")))
-    return found
+    """The wrong bodies of a file. One that stands alone needs no name but the file's."""
+    bodies, file, old, name = [], None, None, os.path.basename(path).removesuffix(".edit")
+    for line in read(path).split("\n"):
+        word, _, text = line.partition(" ")
+        if word == "#":
+            name = text
+        elif word == "file:":
+            file = text
+        elif word == "old:":
+            old = text
+        elif word == "new:":
+            if not bodies or bodies[-1].name != name:
+                bodies.append(Body(name))
+            bodies[-1].changes.append((file, old, text))
+    return bodies
 
 
-def refused(copy, crate, bodies):
-    """Returns the functions that a check of the crate with these wrong bodies refuses for themselves, and whether it refuses the crate."""
-    folder, texts = f"{copy}/crates/{crate}", {}
+def unproved(crate, bodies):
+    """The functions whose own proof fails in a check of the crate with these wrong bodies, and whether the crate is refused."""
+    texts = {}
     for body in bodies:
-        body.put_into(texts, folder)
-    was = {}
-    for file, text in texts.items():
-        with open(f"{folder}/{file}", encoding="utf-8") as it:
-            was[file] = it.read()
-        with open(f"{folder}/{file}", "w", encoding="utf-8") as it:
-            it.write(text)
+        body.put_into(texts, crate)
+    was = {file: read(f"{crate}/{file}") for file in texts}
     try:
-        ran = subprocess.run(["rt", "check"], cwd=folder, stdin=subprocess.DEVNULL, stdout=subprocess.PIPE, stderr=subprocess.STDOUT, text=True, errors="replace")
+        for file, text in texts.items():
+            write(f"{crate}/{file}", text)
+        ran = subprocess.run(["rt", "check"], cwd=crate, stdin=subprocess.DEVNULL, stdout=subprocess.PIPE, stderr=subprocess.STDOUT, text=True, errors="replace")
     finally:
         for file, text in was.items():
-            with open(f"{folder}/{file}", "w", encoding="utf-8") as it:
-                it.write(text)
-    return TESTED.findall(ran.stdout), re.search(r"^logic=not-proved", ran.stdout, re.M) is not None
+            write(f"{crate}/{file}", text)
+    return UNPROVED.findall(ran.stdout), "\nlogic=not-proved" in ran.stdout
 
 
-def try_file(copy, crate, path):
-    """Tries the wrong bodies of a file, says what came of each, and returns how many were not refused."""
-    bodies = bodies_of(path)
-    places = {body: body.function(f"{copy}/crates/{crate}") for body in bodies}
-    starts = [start for start, _ in places.values()]
-    together = [it for it in bodies if places[it][1] and starts.count(places[it][0]) == 1]
-    found = refused(copy, crate, together)[0] if together else []
-    failed = 0
+def try_together(crate, bodies):
+    """Tries wrong bodies of one crate, says what came of each, and returns how many were refused."""
+    places = {body: body.place(crate) for body in bodies if body.put_into({}, crate)}
+    together = [body for body in places if places[body] and list(places.values()).count(places[body]) == 1]
+    found = unproved(crate, together)[0] if together else []
+    count = 0
     for body in bodies:
-        name = places[body][1]
-        by = [it for it in found if it.endswith(f"::{name}")]
-        # a check refuses no function for itself but those that are changed
-        if body in together and len(by) >= sum(places[it][1] == name for it in together):
-            print(f"{crate}: {body.name}: refused by the proof of {' or '.join(by)}", flush=True)
-            continue
-        by, is_refused = refused(copy, crate, [body])
-        is_refused = is_refused and bool(by)
-        print(f"{crate}: {body.name}: {f'refused by the proof of {by[0]}, tried alone' if is_refused else 'NOT REFUSED'}", flush=True)
-        failed += not is_refused
-    return failed
+        function = places.get(body) and places[body][2]
+        by = [it for it in found if it.endswith(f"::{function}")]
+        # Two functions of one name may stand in the crate: both are to be found then.
+        if body in places and (body not in together or len(by) < sum(places[it][2] == function for it in together)):
+            by, is_refused = unproved(crate, [body])
+            by = [it for it in by if is_refused and function in (None, it.rpartition("::")[2])]
+        count += body in places and bool(by)
+        said = f"refused by the proof of {function or ' and '.join(by)}" if by else "NOT REFUSED" if body in places else "ITS OLD TEXT IS GONE"
+        print(f"{os.path.basename(crate)}: {body.name}: {said}", flush=True)
+    return count
+
+
+def edits_in(folder):
+    """The paths of the wrong bodies in a folder, which need not be there."""
+    names = os.listdir(folder) if os.path.isdir(folder) else []
+    return [f"{folder}/{name}" for name in sorted(names) if name.endswith(".edit")]
 
 
 def main(names):
-    failed = tried = 0
+    tried = refused = 0
     with tempfile.TemporaryDirectory() as copy:
-        ignored = shutil.ignore_patterns("out")
-        shutil.copytree(f"{ROOT}/crates", f"{copy}/crates", ignore=ignored)
+        shutil.copytree(f"{ROOT}/crates", f"{copy}/crates", ignore=shutil.ignore_patterns("out", "must-fail"))
         for name in ("crates.txt", "HANDLES"):
             shutil.copy(f"{ROOT}/{name}", copy)
-        for crate in sorted(names or os.listdir(f"{ROOT}/crates")):
-            edits = f"{ROOT}/crates/{crate}/must-fail"
-            for file in sorted(os.listdir(edits)) if os.path.isdir(edits) else ():
-                if file.endswith(".edit") and (names or len(bodies_of(f"{edits}/{file}")) > 1):
-                    tried += len(bodies_of(f"{edits}/{file}"))
-                    failed += try_file(copy, crate, f"{edits}/{file}")
-    print(f"{tried - failed} refused, {failed} not refused")
-    return 1 if failed else 0
+        for name in names or sorted(os.listdir(f"{ROOT}/crates")):
+            alone = [body for path in edits_in(f"{ROOT}/crates/{name}/must-fail") for body in bodies_of(path)]
+            for bodies in [alone] + [bodies_of(path) for path in edits_in(f"{ROOT}/mistakes/{name}")]:
+                tried += len(bodies)
+                refused += try_together(f"{copy}/crates/{name}", bodies)
+    print(f"{tried} wrong bodies: {refused} refused by their own function, {tried - refused} not")
+    return 0 if refused == tried else 1
 
 
 if __name__ == "__main__":

@@ -6,11 +6,10 @@
 # NAME is a file NAME.mistake beside this script; with no name all are tried. Each names a crate and a file of it, and has pairs
 # of lines `old:` and `new:`, of which each old text stands exactly once in that file. Its line `fails:` names a crate of tests
 # and the test that fails: `rt test` proves the mistaken crate, those above it and the tests, and then runs these, so that a
-# test that fails shows as well that no proof refused the mistake. A line `refused:` names in its place the function whose
-# proof refuses the mistake, which `rt check` shows.
+# test that fails shows as well that no proof refused the mistake.
 #
-# --quick runs the tests by `rt try`, before any proof, in a minute or three each. It leaves out what a proof refuses, and a
-# mistake with a line `needs:`, whose test takes all memory and fails there always.
+# --quick runs the tests by `rt try`, before any proof, in a minute or three each. It leaves out a mistake with a line `needs:`,
+# whose test takes all memory and fails there always.
 #
 # What `rt` printed stays in mistakes/out/NAME.log. The status is 0 where each mistake that was tried was found as it says.
 set -eu
@@ -44,13 +43,7 @@ run_tests() {
 
 # Says how a planted mistake was found, or fails.
 judge() {
-    local name=$1 mistake=$here/$1.mistake log=$here/out/$1.log refused tests test
-    refused=$(told "$mistake" refused)
-    if [ -n "$refused" ]; then
-        (cd "$copy/crates/$(told "$mistake" crate)" && rt check) >"$log" 2>&1 || true
-        grep -q "::$refused: no proof" "$log" && echo "$name: refused by the proof of $refused"
-        return
-    fi
+    local name=$1 mistake=$here/$1.mistake log=$here/out/$1.log tests test
     read -r tests test <<<"$(told "$mistake" fails)"
     (cd "$copy/crates/$tests" && run_tests) >"$log" 2>&1 || true
     grep -q "^test $test \.\.\. FAILED" "$log" && echo "$name: found by $test of $tests"
@@ -64,7 +57,7 @@ status=0
 for name in "$@"; do
     name=$(basename "$name" .mistake)
     mistake=$here/$name.mistake
-    if [ $quick = yes ] && grep -q '^needs: \|^refused: ' "$mistake"; then
+    if [ $quick = yes ] && grep -q '^needs: ' "$mistake"; then
         echo "$name: left out"
         continue
     fi
