@@ -51,7 +51,7 @@ impl HeapBuffer {
         ensures { IfOk result (λ b. b ≡ record { text = text_of text.now; capacity = capacity }) }
     {
         let mut bytes = Vec::with_capacity(alloc, capacity)?;
-        append::put_all(&mut bytes, text.as_bytes());
+        append::put_first(&mut bytes, text.as_bytes());
         Ok(HeapBuffer { bytes })
     }
 
@@ -110,7 +110,9 @@ impl HeapBuffer {
     }
 
     /// Appends `text` where it fits, and takes no memory. Answers whether it fitted; if not, nothing has changed.
-    #[inline]
+    ///
+    /// It stands where it is called, so that where the text is known to be short nothing is called.
+    #[inline(always)]
     pub fn push_str(&mut self, text: &str) -> bool
         ensures fits { IsTrue result ↔ (size self.old.text + length text.now ≤ self.old.capacity) }
         ensures pushed { IsTrue result → self.new ≡ record { text = self.old.text ++ text_of text.now; capacity = self.old.capacity } }

@@ -11,7 +11,7 @@ ghost use Rattle.compact_str.specs.Ranges.{IsRange, range_start, range_end};
 ghost use Rattle.compact_str.specs.Drains.{may_cut_out};
 
 use crate::string::PolicyString;
-use crate::string::part::{rare_end, rare_first, rare_part};
+use crate::string::part::rare_end;
 use crate::string::position::ends;
 use compact_repr::{Policy, ReserveError, first_ascii, last_char, middle};
 use std::fmt;
@@ -109,7 +109,7 @@ impl<P: Policy> Drain<'_, P> {
         if text.len() == self.whole {
             middle(text, self.front, self.back)
         } else {
-            rare_part(text, self.front, self.back)
+            self.value.rare_part(self.front, self.back)
         }
     }
 }
@@ -139,8 +139,8 @@ impl<P: Policy> Iterator for Drain<'_, P> {
             self.front = front + 1;
             return Some(character);
         }
-        // It takes the positions and a text of its own, so that the loop need not count what is left.
-        let word = rare_first(self.value.owned_str(), front, back)?;
+        // It takes the positions, so that the loop need not count what is left.
+        let word = self.value.rare_first(front, back)?;
         let Some(character) = char::from_u32((word >> 32) as u32) else {
             unreachable!();
         };

@@ -45,7 +45,21 @@ fn put_short(bytes: &mut Vec<u8>, source: &[u8])
     }
 }
 
-/// Puts more than 32 bytes behind those of a vector: by whole blocks, and then the last ones, of which some may come again.
+/// Puts any bytes behind those of a vector that is not behind a reference.
+#[inline(always)]
+pub fn put_first(row: &mut Vec<u8>, source: &[u8])
+    requires { vec_len row.old + length source.now ≤ vec_capacity row.old }
+    ensures items { row.new.items ≡ row.old.items ++ source.now }
+    ensures capacity { vec_capacity row.new ≡ vec_capacity row.old }
+{
+    if source.len() <= BLOCK {
+        put_short(row, source);
+    } else {
+        put_blocks(row, source);
+    }
+}
+
+/// Puts more than 32 bytes behind those of a vector that is behind a reference.
 #[inline(never)]
 fn put_long(bytes: &mut Vec<u8>, source: &[u8])
     requires long { 32 < length source.now }
@@ -53,15 +67,26 @@ fn put_long(bytes: &mut Vec<u8>, source: &[u8])
     ensures items { bytes.new.items ≡ bytes.old.items ++ source.now }
     ensures capacity { vec_capacity bytes.new ≡ vec_capacity bytes.old }
 {
-    let count = source.len();
     let mut row = taken(bytes);
+    put_blocks(&mut row, source);
+    give_back(bytes, row);
+}
+
+/// Puts more than 32 bytes behind those of a vector: by whole blocks, and then the last ones, of which some may come again.
+#[inline(always)]
+fn put_blocks(row: &mut Vec<u8>, source: &[u8])
+    requires long { 32 < length source.now }
+    requires room { vec_len row.old + length source.now ≤ vec_capacity row.old }
+    ensures items { row.new.items ≡ row.old.items ++ source.now }
+    ensures capacity { vec_capacity row.new ≡ vec_capacity row.old }
+{
+    let count = source.len();
     let len = row.len();
     for i in 0..count / BLOCK {
-        put::<BLOCK>(&mut row, piece::<BLOCK>(source, BLOCK * i));
+        put::<BLOCK>(row, piece::<BLOCK>(source, BLOCK * i));
     }
     row.truncate(len + (count - BLOCK));
-    put::<BLOCK>(&mut row, piece::<BLOCK>(source, count - BLOCK));
-    give_back(bytes, row);
+    put::<BLOCK>(row, piece::<BLOCK>(source, count - BLOCK));
 }
 
 /// Puts zeros behind the bytes of a vector until it is `len` bytes long: a block of them at once, where it has the room and

@@ -37,33 +37,6 @@ fn may_cut(text: &str, index: usize) -> bool
     is_boundary(text, index)
 }
 
-/// As `part`, for what is not expected: it stays out of its caller's loop.
-#[cold]
-#[inline(never)]
-pub fn rare_part(text: &str, start: usize, end: usize) -> &str
-    ensures text { text_of result.now ≡ part (text_of text.now) start end }
-    ensures len { length result.now ≡ size (part (text_of text.now) start end) }
-{
-    part(text, start, end)
-}
-
-/// The first character of what stands from one position to another, for where it is seldom asked: its code in the upper
-/// half of a word, and how many bytes it takes in the lower one. It stays out of its caller's loop, and so does
-/// `rare_end`; neither writes, so what the loop has read it need not read again. And of the upper half of a word the
-/// compiler knows that it fits in 32 bits, so a loop that widens its characters need not widen each of them anew.
-#[cold]
-#[inline(never)]
-pub fn rare_first(text: &str, start: usize, end: usize) -> Option<u64>
-    ensures { MatchOption result (part (text_of text.now) start end ≡ []) (λ w. (c : ℕ) × (rest : List ℕ) × (w ≡ c * 2 ^ 32 + len_utf8 c) × InScalarRange c × (part (text_of text.now) start end ≡ c ∷ rest)) }
-{
-    match first_char(part(text, start, end)) {
-        Some(character) => {
-            Some(u64::from(character) * 0x1_0000_0000 + character.len_utf8() as u64)
-        }
-        None => None,
-    }
-}
-
 /// Where a character ends that begins at `start`, in bytes, by what `rare_first` answers of it.
 #[cold]
 #[inline(never)]
@@ -84,6 +57,35 @@ impl<P: Policy> PolicyString<P> {
         ensures len { length result.now ≡ size self.now.text }
     {
         self.repr.owned_str()
+    }
+
+    /// What stands in the text from one position to another, for what is not expected: it stays out of its caller's loop, with the
+    /// look at where the text stands.
+    #[cold]
+    #[inline(never)]
+    #[tactic(auto, using(compact_repr::proofs::TextFacts::text_facts))]
+    pub(crate) fn rare_part(&self, start: usize, end: usize) -> &str
+        ensures text { text_of result.now ≡ part self.now.text start end }
+        ensures len { length result.now ≡ size (part self.now.text start end) }
+    {
+        part(self.as_str(), start, end)
+    }
+
+    /// The first character of what stands from one position to another, for where it is seldom asked: its code in the upper
+    /// half of a word, and how many bytes it takes in the lower one. It stays out of its caller's loop, and so does
+    /// `rare_end`; neither writes, so what the loop has read it need not read again. And of the upper half of a word the
+    /// compiler knows that it fits in 32 bits, so a loop that widens its characters need not widen each of them anew.
+    #[cold]
+    #[inline(never)]
+    pub(crate) fn rare_first(&self, start: usize, end: usize) -> Option<u64>
+        ensures { MatchOption result (part self.now.text start end ≡ []) (λ w. (c : ℕ) × (rest : List ℕ) × (w ≡ c * 2 ^ 32 + len_utf8 c) × InScalarRange c × (part self.now.text start end ≡ c ∷ rest)) }
+    {
+        match first_char(part(self.as_str(), start, end)) {
+            Some(character) => {
+                Some(u64::from(character) * 0x1_0000_0000 + character.len_utf8() as u64)
+            }
+            None => None,
+        }
     }
 
     /// Takes out what stands from one position to another, in bytes of the value's own. If the text has `whole` bytes these

@@ -57,7 +57,7 @@ rare_end-self-requires g c =
     let bounds = len_utf8_bounds first.0 in
     let word = first.2 in
     let wide : c.in_ok-word.word % 2 ^ 32 ≡ len_utf8 first.0 = search rules in
-    let split : drain_rest d ≡ first.0 ∷ first.1 = rw (sym c.owned_str.ensures.text) first.4 in
+    let split : drain_rest d ≡ first.0 ∷ first.1 = first.4 in
     let taken = front-taken d.value.now.text first.1 d.front d.back first.0 (d.front + c.in_ok-word.word % 2 ^ 32) split (ap (λ w. d.front + w) wide) in
     let fits = taken.1 in
     search rules
@@ -69,7 +69,7 @@ invariant_of-self-2 g c =
     let bounds = len_utf8_bounds first.0 in
     let word = first.2 in
     let wide : c.in_ok-word.word % 2 ^ 32 ≡ len_utf8 first.0 = search rules in
-    let split : drain_rest d ≡ first.0 ∷ first.1 = rw (sym c.owned_str.ensures.text) first.4 in
+    let split : drain_rest d ≡ first.0 ∷ first.1 = first.4 in
     let taken = front-taken d.value.now.text first.1 d.front d.back first.0 c.rare_end-self.result split (c.rare_end-self.ensures ∙ ap (λ w. d.front + w) wide) in
     record { owned = d.owned; within = d.within; range = λ _. taken.2; span = d.span }
 
@@ -80,7 +80,7 @@ returns-clause-steps g c =
     let bounds = len_utf8_bounds first.0 in
     let word = first.2 in
     let wide : c.in_ok-word.word % 2 ^ 32 ≡ len_utf8 first.0 = search rules in
-    let split : drain_rest d ≡ first.0 ∷ first.1 = rw (sym c.owned_str.ensures.text) first.4 in
+    let split : drain_rest d ≡ first.0 ∷ first.1 = first.4 in
     let taken = front-taken d.value.now.text first.1 d.front d.back first.0 c.rare_end-self.result split (c.rare_end-self.ensures ∙ ap (λ w. d.front + w) wide) in
     let scalar = first.3 in
     let is : c.in-Some-from_u32.character ≡ first.0 = search rules in
@@ -93,7 +93,7 @@ returns-clause-goes g c =
     let bounds = len_utf8_bounds first.0 in
     let word = first.2 in
     let wide : c.in_ok-word.word % 2 ^ 32 ≡ len_utf8 first.0 = search rules in
-    let split : drain_rest d ≡ first.0 ∷ first.1 = rw (sym c.owned_str.ensures.text) first.4 in
+    let split : drain_rest d ≡ first.0 ∷ first.1 = first.4 in
     let taken = front-taken d.value.now.text first.1 d.front d.back first.0 c.rare_end-self.result split (c.rare_end-self.ensures ∙ ap (λ w. d.front + w) wide) in
     let before = ap length split in
     let after = ap length taken.0 in

@@ -1,6 +1,6 @@
 use Rattle.std.proofs.Common.{◌≡◌, ◌+◌, ◌*◌, ◌++◌, take}
 use Rattle.std.specs.Vec.{vec_len, vec_capacity}
-use Rattle.compact_repr.proofs.heap.append.put_long.Given as goal
+use Rattle.compact_repr.proofs.heap.append.put_blocks.Given as goal
 
 -- So many blocks of the source stand behind what stood there.
 abbrev pub invariant-loop-i : goal.invariant-loop-i
