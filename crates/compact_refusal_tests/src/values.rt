@@ -202,17 +202,6 @@ pub fn fitted(text: &str) -> Seen<'_> {
     }
 }
 
-/// The name of a value's place.
-pub fn place_of(value: &CompactString) -> &'static str {
-    if value.is_heap_allocated() {
-        "heap"
-    } else if value.as_static_str().is_some() {
-        "static"
-    } else {
-        "inline"
-    }
-}
-
 /// Whether place, capacity and text of a value are these.
 pub fn is_seen(value: &CompactString, seen: Seen<'_>) -> bool {
     let has_room = match seen.capacity {
