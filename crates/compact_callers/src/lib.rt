@@ -11,6 +11,7 @@ mod keys;
 mod lenders;
 #[cfg(test)]
 mod lent;
+mod name_callers;
 mod out_callers;
 mod packed_callers;
 mod plain_callers;
@@ -26,6 +27,7 @@ pub use decode_callers::{broken_rows, decoded_name, through_bytes};
 pub use iterated::{append_fields, long_names, names_by_reference, names_of, path, whole};
 pub use keys::{comes_first, count_of, is_keyword, place_of, set_count, set_rank};
 pub use lenders::{TooLong, emptied, start_anew, take_out, try_to_empty, was_emptied};
+pub use name_callers::{known, pair};
 pub use out_callers::{bytes_of_line, finished_line, name_of};
 pub use packed_callers::{cleaned, have_same_row, through_a_row};
 pub use plain_callers::{

@@ -1,9 +1,8 @@
 //! The interner: numbers and names, refused memory, and many words beside a plain list.
-ghost use Rattle.std.specs.Prelude.{◌≡◌, ◌≤◌, length, slice_get, Some, IfOk};
-ghost use Rattle.compact_str.specs.Text.{text_of};
 
 use compact_edit::{InternError, Interner};
 use compact_testing::memory::{spare, take_all};
+use compact_testing::random::Random;
 use compact_testing::values::letters;
 use std::alloc::Global;
 use std::process::Abort;
@@ -16,37 +15,6 @@ fn assert_name(rt: &impl Abort, names: &Interner, number: u32, name: Option<&str
 /// Asserts how many names there are.
 fn assert_count(rt: &impl Abort, names: &Interner, count: usize) {
     assert_eq!(rt; names.len(), count);
-}
-
-/// A caller: the numbers of a name and of its value, both of which stand at the end.
-fn pair(names: &mut Interner, name: &str, value: &str) -> Result<(u32, u32), InternError>
-    ensures name { IfOk result (λ numbers. slice_get names.new numbers.0 ≡ Some (text_of name.now)) }
-    ensures value { IfOk result (λ numbers. slice_get names.new numbers.1 ≡ Some (text_of value.now)) }
-{
-    let first = names.intern(name)?;
-    let second = names.intern(value)?;
-    Ok((first, second))
-}
-
-/// A caller: the number of a short text that is known to be a name.
-fn known(names: &mut Interner, number: u32, text: &str) -> u32
-    requires short { length text.now ≤ 24 }
-    requires known { slice_get names.old number ≡ Some (text_of text.now) }
-    ensures { slice_get names.new result ≡ Some (text_of text.now) }
-{
-    match names.intern(text) {
-        Ok(number) => number,
-        Err(_) => unreachable!(),
-    }
-}
-
-#[test]
-fn a_pair_has_two_numbers(rt: HostRuntime) {
-    let mut names = Interner::new(rt.alloc());
-    let numbers = pair(&mut names, "a", "b").expect(&rt, "memory");
-    assert_eq!(rt; numbers.0, 0);
-    assert_eq!(rt; numbers.1, 1);
-    assert_eq!(rt; known(&mut names, numbers.1, "b"), 1);
 }
 
 /// The number of a text for which there is memory.
@@ -148,20 +116,6 @@ fn the_texts_before_a_refused_one_are_taken(rt: HostRuntime) {
     assert_count(&rt, &names, 2);
 }
 
-/// Random numbers, as a linear congruence gives them.
-#[derive(Drop)]
-struct Random {
-    state: u64,
-}
-
-impl Random {
-    fn below(&mut self, bound: u64) -> u64 {
-        let product = self.state.wrapping_mul(6364136223846793005);
-        self.state = product.wrapping_add(1442695040888963407);
-        (self.state >> 33).checked_rem(bound).unwrap_or(0)
-    }
-}
-
 /// The word of a number: every third one has more than 24 bytes.
 fn word(rt: &impl Abort, alloc: Global, id: u64) -> String {
     let text = if id.is_multiple_of(3) {
@@ -217,7 +171,7 @@ fn assert_names(rt: &impl Abort, alloc: Global, names: &Interner, list: &PlainLi
 #[test]
 fn many_words_are_numbered_as_in_a_plain_list(rt: HostRuntime) {
     let alloc = rt.alloc();
-    let mut random = Random { state: 1 };
+    let mut random = Random::new(1);
     let mut names = Interner::new(alloc);
     let mut list = PlainList::new(&rt, alloc, 40_000);
     for _ in 0..100_000 {

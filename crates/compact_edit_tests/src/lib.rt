@@ -1,5 +1,5 @@
 //! Tests of `compact_edit`: lists of edits that are run, lists of pushes with what they move, and the interner.
-#![tactic(auto, using(compact_str::proofs::ForCallers::for_callers))]
+#![tactic(auto)]
 
 #[cfg(test)]
 mod interner;

@@ -5,28 +5,10 @@ use compact_edit::{PushReport, run_pushes};
 use compact_str::{Policy, Standard};
 use compact_testing::memory::take_all;
 use compact_testing::policies::{Double, Large, Slow};
+use compact_testing::random::Random;
 use compact_testing::values::letters;
 use std::alloc::Global;
 use std::process::Abort;
-
-/// A linear congruential generator: the state times 6364136223846793005, and 1442695040888963407 more, modulo 2^64. A
-/// draw is its high 31 bits.
-#[derive(Drop)]
-struct Draws {
-    state: u64,
-}
-
-impl Draws {
-    /// The next draw, modulo `bound`.
-    fn below(&mut self, bound: u64) -> usize {
-        let product = self.state.wrapping_mul(6364136223846793005);
-        self.state = product.wrapping_add(1442695040888963407);
-        match (self.state >> 33).checked_rem(bound) {
-            Some(draw) => draw as usize,
-            None => 0,
-        }
-    }
-}
 
 /// A text of so many bytes, at most 40: of characters of one to four bytes where they come out even, else of letters.
 fn text_of(size: usize) -> &'static str {
@@ -67,7 +49,7 @@ impl Totals {
 
 /// Pushes 200 lists of up to 299 texts of up to 40 bytes, drawn from 1 on.
 fn total<P: Policy>(alloc: Global) -> Totals {
-    let mut draws = Draws { state: 1 };
+    let mut draws = Random::new(1);
     let mut totals = Totals {
         bytes: 0,
         moved: 0,
@@ -76,9 +58,9 @@ fn total<P: Policy>(alloc: Global) -> Totals {
     };
     let mut texts = [""; 300];
     for _ in 0..200 {
-        let count = draws.below(300);
+        let count = draws.below(300) as usize;
         for place in 0..300 {
-            texts[place] = text_of(draws.below(41));
+            texts[place] = text_of(draws.below(41) as usize);
         }
         match texts.get(..count) {
             Some(list) => totals.add(&run_pushes::<P>(alloc, list)),

@@ -34,6 +34,11 @@ pub fn assert_prints(rt: &impl Abort, alloc: Global, mut input: &[u8], printed: 
     assert_eq!(rt; output.as_slice(), printed);
 }
 
+/// Asserts what the program prints for an input that is a text.
+pub fn assert_answers(rt: &impl Abort, alloc: Global, input: &str, printed: &str) {
+    assert_prints(rt, alloc, input.as_bytes(), printed.as_bytes());
+}
+
 #[test]
 fn three_edits_are_answered(rt: HostRuntime) {
     assert_prints(

@@ -1,13 +1,6 @@
 //! Sessions that edit by byte position, with what each edit answers.
 
-use crate::lines::assert_prints;
-use std::alloc::Global;
-use std::process::Abort;
-
-/// Asserts what the program prints for an input.
-fn assert_answers(rt: &impl Abort, alloc: Global, input: &str, printed: &str) {
-    assert_prints(rt, alloc, input.as_bytes(), printed.as_bytes());
-}
+use crate::lines::assert_answers;
 
 #[test]
 fn all_edits_of_one_text_follow_one_another(rt: HostRuntime) {

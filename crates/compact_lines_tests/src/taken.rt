@@ -1,13 +1,6 @@
 //! Sessions that take parts out of a text, change its letters and wipe it.
 
-use crate::lines::assert_prints;
-use std::alloc::Global;
-use std::process::Abort;
-
-/// Asserts what the program prints for an input.
-fn assert_answers(rt: &impl Abort, alloc: Global, input: &str, printed: &str) {
-    assert_prints(rt, alloc, input.as_bytes(), printed.as_bytes());
-}
+use crate::lines::assert_answers;
 
 #[test]
 fn a_range_is_drained_and_answered(rt: HostRuntime) {
