@@ -1,14 +1,12 @@
 //! Callers of other modules, called with ample memory.
 
 use crate::callers::{append_field, keyword, label, record_line};
-use crate::name_callers::{known, pair};
 use crate::pushes::{joined, joined_in_doubled_room};
 use crate::taken::{every_second, folded, without_spaces};
 use crate::wire_callers::{
     first_record, next_record, pair_sent_and_received, read_records, receive_field, send_field,
     sent_and_received,
 };
-use compact_edit::Interner;
 use compact_testing::values::{assert_heap, assert_inline, copied, empty, letters};
 
 #[test]
@@ -115,13 +113,4 @@ fn a_field_is_sent_and_received(rt: HostRuntime) {
     assert_eq!(rt; both.len(), 2);
     assert_inline(&rt, &both[0], "name");
     assert_eq!(rt; both[1].as_str(), letters(30));
-}
-
-#[test]
-fn a_pair_has_two_numbers(rt: HostRuntime) {
-    let mut names = Interner::new(rt.alloc());
-    let numbers = pair(&mut names, "a", "b").expect(&rt, "memory");
-    assert_eq!(rt; numbers.0, 0);
-    assert_eq!(rt; numbers.1, 1);
-    assert_eq!(rt; known(&mut names, numbers.1, "b"), 1);
 }
