@@ -4,7 +4,7 @@ use compact_ext::ToCompactString;
 use compact_str::CompactString;
 use compact_testing::values::{assert_inline, assert_seen, buffered, copied};
 use std::alloc::Global;
-use std::num::{NonZeroI128, NonZeroU128};
+use std::num::{NonZeroI128, NonZeroU8, NonZeroU128};
 use std::process::Abort;
 
 /// The text of a value by both names of the call, which agree.
@@ -63,10 +63,21 @@ fn long_numbers_have_these_texts(rt: HostRuntime) {
     ] {
         assert_shown(&rt, alloc, number, text);
     }
+    assert_shown(&rt, alloc, i16::MIN, "-32768");
+    assert_shown(&rt, alloc, i32::MIN, "-2147483648");
+    assert_shown(&rt, alloc, u32::MAX, "4294967295");
+    assert_shown(&rt, alloc, i64::MIN, "-9223372036854775808");
     assert_shown(&rt, alloc, i64::MAX, "9223372036854775807");
     assert_shown(&rt, alloc, 0u128, "0");
     assert_shown(&rt, alloc, -1i128, "-1");
     assert_shown(&rt, alloc, NonZeroU128::MIN, "1");
+    assert_shown(&rt, alloc, NonZeroU8::MAX, "255");
+    let most = shown(&rt, alloc, u128::MAX);
+    let text = "340282366920938463463374607431768211455";
+    assert_seen(&rt, &most, "heap", 39, text);
+    let least = shown(&rt, alloc, i128::MIN);
+    let text = "-170141183460469231731687303715884105728";
+    assert_seen(&rt, &least, "heap", 40, text);
     let least = shown(&rt, alloc, NonZeroI128::MIN);
     let text = "-170141183460469231731687303715884105728";
     assert_seen(&rt, &least, "heap", 40, text);

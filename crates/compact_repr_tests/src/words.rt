@@ -79,45 +79,36 @@ fn remove(rt: &impl Abort, text: &mut Repr<Standard>, at: usize) {
     assert!(rt; text.remove_ascii_in_place(at));
 }
 
-/// A second byte is taken out, so that the zero is seen that came last with the first.
+/// A second byte is taken out, so that a mark is seen in the place of another. What stands before it, behind the text, is open.
 #[test]
 fn a_byte_is_taken_out(rt: HostRuntime) {
     for (at, first, second) in [
-        (
-            0,
-            b"bcdefghijklmnopqrstuvwx\xD7",
-            b"cdefghijklmnopqrstuvwx\0\xD6",
-        ),
-        (
-            7,
-            b"abcdefgijklmnopqrstuvwx\xD7",
-            b"bcdefgijklmnopqrstuvwx\0\xD6",
-        ),
-        (
-            8,
-            b"abcdefghjklmnopqrstuvwx\xD7",
-            b"bcdefghjklmnopqrstuvwx\0\xD6",
-        ),
+        (0, b"bcdefghijklmnopqrstuvwx\xD7", b"cdefghijklmnopqrstuvwx"),
+        (7, b"abcdefgijklmnopqrstuvwx\xD7", b"bcdefgijklmnopqrstuvwx"),
+        (8, b"abcdefghjklmnopqrstuvwx\xD7", b"bcdefghjklmnopqrstuvwx"),
         (
             15,
             b"abcdefghijklmnoqrstuvwx\xD7",
-            b"bcdefghijklmnoqrstuvwx\0\xD6",
+            b"bcdefghijklmnoqrstuvwx",
         ),
         (
             16,
             b"abcdefghijklmnoprstuvwx\xD7",
-            b"bcdefghijklmnoprstuvwx\0\xD6",
+            b"bcdefghijklmnoprstuvwx",
         ),
         (
             23,
             b"abcdefghijklmnopqrstuvw\xD7",
-            b"bcdefghijklmnopqrstuvw\0\xD6",
+            b"bcdefghijklmnopqrstuvw",
         ),
     ] {
         let mut text = copied(&rt, rt.alloc(), "abcdefghijklmnopqrstuvwx");
         remove(&rt, &mut text, at);
         assert_eq!(rt; text.packed(), Some(*first), "{at}");
         remove(&rt, &mut text, 0);
-        assert_eq!(rt; text.packed(), Some(*second), "{at}");
+        let row = text.packed().expect(&rt, "an inline text");
+        assert_eq!(rt; &row[..22], second.as_slice(), "{at}");
+        assert_eq!(rt; row[23], 0xD6, "{at}");
+        assert_eq!(rt; text.as_str().as_bytes(), second.as_slice(), "{at}");
     }
 }

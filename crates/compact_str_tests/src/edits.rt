@@ -52,6 +52,17 @@ pub fn replace(
     value.replace_range(start, end, text).expect(rt, "memory");
 }
 
+/// Takes a range out that is tested first.
+pub fn drain_out(
+    rt: &impl Abort,
+    value: &mut CompactString,
+    start: Bound<usize>,
+    end: Bound<usize>,
+) {
+    assert!(rt; value.check_range(start, end).is_some());
+    drop(value.drain(start, end).expect(rt, "memory"));
+}
+
 /// The text of a value so many times, which is granted.
 pub fn repeated(rt: &impl Abort, value: &CompactString, count: usize) -> CompactString {
     value.repeat(count).expect(rt, "memory")

@@ -123,8 +123,12 @@ fn each_length_is_cut(rt: HostRuntime) {
 }
 
 #[test]
-fn a_character_ends_at_the_last_byte_or_before_it(rt: HostRuntime) {
+fn a_character_ends_at_the_last_byte_or_one_or_two_before_it(rt: HostRuntime) {
     for (count, last) in [
+        (21, "z"),
+        (20, "é"),
+        (19, "€"),
+        (18, "𝄞"),
         (22, "z"),
         (21, "é"),
         (20, "€"),
@@ -136,6 +140,46 @@ fn a_character_ends_at_the_last_byte_or_before_it(rt: HostRuntime) {
     ] {
         let mut value = copied(&rt, rt.alloc(), letters(count));
         append(&rt, &mut value, last);
+        assert_eq!(rt; value.len(), count.saturating_add(last.len()));
+        is_packed_anew(&rt, rt.alloc(), &value);
+        assert_eq!(rt; value.pop(), last.chars().next());
+        assert_inline(&rt, &value, letters(count));
         is_packed_anew(&rt, rt.alloc(), &value);
     }
+}
+
+#[test]
+fn what_stands_behind_a_text_is_not_read(rt: HostRuntime) {
+    for count in 0..24u8 {
+        let mut row = [0xFF; 24];
+        row[23] = 192 + count;
+        for place in 0..count as usize {
+            row[place] = 0x61;
+        }
+        let value = read(&rt, rt.alloc(), &row);
+        assert_inline(&rt, &value, letters(count as usize));
+        is_packed_anew(&rt, rt.alloc(), &value);
+    }
+}
+
+/// Wipes a value, and asserts that its bytes are those of the empty text.
+fn is_wiped(rt: &impl Abort, alloc: Global, mut value: CompactString) {
+    value.zeroize();
+    assert_inline(rt, &value, "");
+    let row = b"\0\0\0\0\0\0\0\0\0\0\0\0\0\0\0\0\0\0\0\0\0\0\0\xC0";
+    assert_eq!(rt; &bytes_of(rt, &value), row);
+    append(rt, &mut value, "ab");
+    is_packed(rt, alloc, &value);
+}
+
+#[test]
+fn a_wiped_value_has_zeros_and_the_mark_of_no_text(rt: HostRuntime) {
+    for count in 0..25 {
+        is_wiped(&rt, rt.alloc(), copied(&rt, rt.alloc(), letters(count)));
+        let mut cut = copied(&rt, rt.alloc(), letters(24));
+        truncate(&rt, &mut cut, count);
+        is_wiped(&rt, rt.alloc(), cut);
+    }
+    is_wiped(&rt, rt.alloc(), copied(&rt, rt.alloc(), "€€€€€€€€"));
+    is_wiped(&rt, rt.alloc(), lasting(rt.alloc(), 30));
 }

@@ -1,10 +1,13 @@
 //! Inline values that grow from 23 bytes to 24, where the text takes the byte of its length, and back, by each edit.
 
-use crate::edits::{insert, insert_str, push, remove, replace, split, truncate};
+use crate::edits::{
+    drain_out, insert, insert_str, push, remove, repeated, replace, split, truncate,
+};
 use crate::packed::is_packed;
 use compact_str::CompactString;
-use compact_testing::values::{append, assert_inline, copied, letters};
+use compact_testing::values::{append, assert_inline, copied, empty, lasting, letters};
 use std::alloc::Global;
+use std::fmt::Write;
 use std::ops::Bound::{Excluded, Included};
 use std::process::Abort;
 
@@ -105,4 +108,97 @@ fn a_full_text_is_cleared_copied_and_moved(rt: HostRuntime) {
     assert_eq!(rt; value.packed(), None);
     value.shrink_to_fit();
     is(&rt, rt.alloc(), &value, letters(24));
+}
+
+#[test]
+fn a_text_is_put_in_and_drained(rt: HostRuntime) {
+    for (index, text) in [
+        (0, "-abcdefghijklmnopqrstuvw"),
+        (11, "abcdefghijk-lmnopqrstuvw"),
+        (23, "abcdefghijklmnopqrstuvw-"),
+    ] {
+        let mut value = short(&rt, rt.alloc());
+        insert_str(&rt, &mut value, index, "-");
+        is(&rt, rt.alloc(), &value, text);
+        drain_out(&rt, &mut value, Included(index), Included(index));
+        is(&rt, rt.alloc(), &value, "abcdefghijklmnopqrstuvw");
+    }
+}
+
+#[test]
+fn a_character_is_not_kept(rt: HostRuntime) {
+    for (character, text) in [
+        ('a', "bcdefghijklmnopqrstuvwx"),
+        ('m', "abcdefghijklnopqrstuvwx"),
+        ('x', "abcdefghijklmnopqrstuvw"),
+    ] {
+        let mut value = full(&rt, rt.alloc());
+        assert!(rt; value.retain(|c| c != '-').is_ok());
+        is(&rt, rt.alloc(), &value, "abcdefghijklmnopqrstuvwx");
+        assert!(rt; value.retain(|c| c != character).is_ok());
+        is(&rt, rt.alloc(), &value, text);
+    }
+}
+
+/// Asserts that a value is full, and takes its last character off.
+fn is_full_once(rt: &impl Abort, alloc: Global, value: &mut CompactString) {
+    is(rt, alloc, value, "abcdefghijklmnopqrstuvwx");
+    assert_eq!(rt; value.pop(), Some('x'));
+    is(rt, alloc, value, "abcdefghijklmnopqrstuvw");
+}
+
+#[test]
+fn items_are_put_behind(rt: HostRuntime) {
+    let mut value = short(&rt, rt.alloc());
+    value.extend_chars(['x']).expect(&rt, "memory");
+    is_full_once(&rt, rt.alloc(), &mut value);
+    value.extend_texts(["", "x"]).expect(&rt, "memory");
+    is_full_once(&rt, rt.alloc(), &mut value);
+    assert!(rt; value.write_str("x").is_ok());
+    is_full_once(&rt, rt.alloc(), &mut value);
+    assert!(rt; write!(value, "{}", 'x').is_ok());
+    is_full_once(&rt, rt.alloc(), &mut value);
+    let mut value = value.add_str("x").ok().expect(&rt, "memory");
+    is_full_once(&rt, rt.alloc(), &mut value);
+}
+
+#[test]
+fn a_full_text_takes_the_place_of_another(rt: HostRuntime) {
+    let mut value = short(&rt, rt.alloc());
+    value
+        .clone_from(&full(&rt, rt.alloc()))
+        .expect(&rt, "memory");
+    is(&rt, rt.alloc(), &value, "abcdefghijklmnopqrstuvwx");
+    value
+        .clone_from(&short(&rt, rt.alloc()))
+        .expect(&rt, "memory");
+    is(&rt, rt.alloc(), &value, "abcdefghijklmnopqrstuvw");
+    let twelve = copied(&rt, rt.alloc(), letters(12));
+    is(&rt, rt.alloc(), &repeated(&rt, &twelve, 2), letters(24));
+}
+
+#[test]
+fn letters_of_a_full_text_change(rt: HostRuntime) {
+    let mut value = full(&rt, rt.alloc());
+    assert!(rt; value.make_ascii_uppercase().is_ok());
+    is(&rt, rt.alloc(), &value, "ABCDEFGHIJKLMNOPQRSTUVWX");
+    assert!(rt; value.make_ascii_lowercase().is_ok());
+    is(&rt, rt.alloc(), &value, "abcdefghijklmnopqrstuvwx");
+    value.reserve(0).expect(&rt, "memory");
+    value.shrink_to_fit();
+    is(&rt, rt.alloc(), &value, "abcdefghijklmnopqrstuvwx");
+}
+
+#[test]
+fn texts_of_other_places_become_inline(rt: HostRuntime) {
+    for count in [22, 23, 24] {
+        let mut value = lasting(rt.alloc(), 25);
+        truncate(&rt, &mut value, count);
+        value.reserve(0).expect(&rt, "memory");
+        is(&rt, rt.alloc(), &value, letters(count));
+        let mut value = empty(&rt, rt.alloc(), 40);
+        append(&rt, &mut value, letters(count));
+        value.shrink_to_fit();
+        is(&rt, rt.alloc(), &value, letters(count));
+    }
 }
