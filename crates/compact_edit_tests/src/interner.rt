@@ -1,6 +1,7 @@
 //! The interner: numbers and names, refused memory, and many words beside a plain list.
 
 use compact_edit::{InternError, Interner};
+use compact_str::ReserveError;
 use compact_testing::memory::{spare, take_all};
 use compact_testing::random::Random;
 use compact_testing::values::letters;
@@ -181,4 +182,15 @@ fn many_words_are_numbered_as_in_a_plain_list(rt: HostRuntime) {
         assert_eq!(rt; number as usize, list.place_of(&rt, id));
     }
     assert_names(&rt, alloc, &names, &list);
+}
+
+#[test]
+fn refusals_are_shown_so(rt: HostRuntime) {
+    let shown = format!(in rt.alloc(); "{}", InternError::Full);
+    assert_eq!(rt; shown.expect(&rt, "memory").as_str(), "interner is full");
+    let refused = InternError::from(ReserveError);
+    assert!(rt; matches!(refused, InternError::Reserve(_)));
+    let shown = format!(in rt.alloc(); "{refused}");
+    let text = "Cannot allocate memory to hold CompactString";
+    assert_eq!(rt; shown.expect(&rt, "memory").as_str(), text);
 }

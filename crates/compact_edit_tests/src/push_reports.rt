@@ -148,6 +148,18 @@ fn a_first_push_is_refused(rt: HostRuntime) {
 }
 
 #[test]
+fn one_of_two_pushes_is_refused(rt: HostRuntime) {
+    let texts = [letters(30), letters(30)];
+    let room = spare(&rt, rt.alloc(), 32);
+    let hog = take_all(&rt, rt.alloc());
+    drop(room);
+    let report = run_pushes::<Standard>(rt.alloc(), &texts);
+    drop(hog);
+    assert_heap(&rt, &report.value, 32, 30);
+    assert_counts(&rt, &report, 0, 1);
+}
+
+#[test]
 fn only_what_fits_inline_is_pushed_with_no_memory(rt: HostRuntime) {
     let texts = [letters(20), letters(5), letters(4), "a", ""];
     let hog = take_all(&rt, rt.alloc());

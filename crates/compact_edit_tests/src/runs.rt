@@ -169,3 +169,18 @@ fn a_drain_that_makes_its_answer_finds_no_room_for_its_text(rt: HostRuntime) {
     was_refused(&rt, replies.as_slice(), 0, true);
     assert_static(&rt, &value, 80);
 }
+
+#[test]
+fn a_drain_of_60_bytes_is_refused_at_each_request(rt: HostRuntime) {
+    let mut value = lasting(rt.alloc(), 60);
+    let mut replies = room_for(&rt, rt.alloc(), 2);
+    let block = spare(&rt, rt.alloc(), 32);
+    let hog = take_all(&rt, rt.alloc());
+    run_drain(&rt, &mut value, 0, 30, &mut replies);
+    drop(block);
+    run_drain(&rt, &mut value, 0, 30, &mut replies);
+    drop(hog);
+    was_refused(&rt, replies.as_slice(), 0, true);
+    was_refused(&rt, replies.as_slice(), 1, true);
+    assert_static(&rt, &value, 60);
+}

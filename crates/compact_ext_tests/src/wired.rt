@@ -52,6 +52,30 @@ fn what_follows_a_form_stays_unread(rt: HostRuntime) {
     assert!(rt; rest.first() == Some(&0x4A));
 }
 
+/// Asserts how an input ends that is no form, and that it is taken whole.
+fn assert_no_form(rt: &impl Abort, alloc: Global, bytes: &[u8], fault: &str) {
+    let mut rest = bytes;
+    assert_eq!(rt; end_of(&read_wire(alloc, &mut rest)), fault);
+    assert_eq!(rt; rest.len(), 0);
+}
+
+#[test]
+fn an_input_that_is_no_form_has_a_fault(rt: HostRuntime) {
+    let alloc = rt.alloc();
+    for (bytes, fault) in [
+        (b"".as_slice(), "end"),
+        (b"\x02\0".as_slice(), "end"),
+        (b"\x01\0\0\0\xFF".as_slice(), "utf8"),
+        (b"\xFF\xFF\xFF\xFFabc".as_slice(), "end"),
+        (b"\x18\0\0\0aaaaaaaaaaaaaaaaaaaaaaa".as_slice(), "end"),
+    ] {
+        assert_no_form(&rt, alloc, bytes, fault);
+    }
+    let form = form_of_letters(&rt, alloc, 55);
+    assert_eq!(rt; form.len(), 59);
+    assert_no_form(&rt, alloc, form.get(..58).unwrap_or(&[]), "end");
+}
+
 #[test]
 fn a_text_is_read_in_pieces(rt: HostRuntime) {
     let alloc = rt.alloc();
@@ -120,6 +144,19 @@ fn a_writer_that_is_full_has_a_beginning(rt: HostRuntime) {
     }
     let whole = Narrow::new(6, 1, Stop::Breaks(7, ErrorKind::Other));
     assert_writes(&rt, &text, whole, "done", &form);
+}
+
+#[test]
+fn a_writer_that_fails_has_a_beginning(rt: HostRuntime) {
+    let text = copied(&rt, rt.alloc(), "Hi");
+    let form: [u8; 6] = [2, 0, 0, 0, 0x48, 0x69];
+    for call in 1..7usize {
+        let out = form.get(..call - 1).unwrap_or(&[]);
+        for kind in [ErrorKind::Other, ErrorKind::Interrupted] {
+            let failing = Narrow::new(6, 1, Stop::Fails(call, kind));
+            assert_writes(&rt, &text, failing, "io", out);
+        }
+    }
 }
 
 #[test]

@@ -46,6 +46,7 @@ fn assert_read(rt: &impl Abort, alloc: Global, text: &str) {
 fn a_text_is_read_wherever_it_is_parted(rt: HostRuntime) {
     assert_read(&rt, rt.alloc(), "");
     assert_read(&rt, rt.alloc(), "aä€𝄞");
+    assert_read(&rt, rt.alloc(), "\u{1F496}");
     assert_read(&rt, rt.alloc(), "€€€€€€€€");
     assert_read(&rt, rt.alloc(), "€€€€€€€€€");
     assert_read(&rt, rt.alloc(), "aä€𝄞aä€𝄞aä€𝄞aä€𝄞");

@@ -1,8 +1,10 @@
 //! Values as they are copied.
 
+use compact_str::CompactString;
 use compact_testing::memory::take_all;
 use compact_testing::values::{
-    append, assert_heap, assert_inline, assert_static, clone_of, empty, lasting, letters,
+    append, assert_heap, assert_inline, assert_seen, assert_static, buffered, clone_of, copied,
+    empty, lasting, letters,
 };
 
 #[test]
@@ -28,4 +30,20 @@ fn a_static_text_is_left_empty_by_an_empty_source(rt: HostRuntime) {
     let source = empty(&rt, rt.alloc(), 100);
     value.clone_from(&source).expect(&rt, "memory");
     assert_static(&rt, &value, 0);
+}
+
+#[test]
+fn a_buffer_with_a_short_text_has_a_clone_inline(rt: HostRuntime) {
+    let buffer = buffered(&rt, rt.alloc(), 11, "hello world");
+    let value = CompactString::from_string_buffer(buffer);
+    assert_seen(&rt, &value, "heap", 11, "hello world");
+    assert_inline(&rt, &clone_of(&rt, &value), "hello world");
+}
+
+#[test]
+fn a_target_keeps_its_room(rt: HostRuntime) {
+    let mut value = empty(&rt, rt.alloc(), 100);
+    let source = copied(&rt, rt.alloc(), letters(30));
+    value.clone_from(&source).expect(&rt, "memory");
+    assert_heap(&rt, &value, 100, 30);
 }

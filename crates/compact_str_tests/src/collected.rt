@@ -1,7 +1,7 @@
 //! What is collected, joined and extended, with values worked out by hand from the rules.
 
 use compact_str::{AsText, CompactString, CompactStringExt, append_all};
-use compact_testing::values::{assert_inline, lasting, letters};
+use compact_testing::values::{assert_inline, assert_seen, lasting, letters};
 use std::alloc::Global;
 use std::borrow::CowStr;
 use std::boxed::BoxedStr;
@@ -125,4 +125,14 @@ fn values_are_put_behind_a_string(rt: HostRuntime) {
     ];
     append_all(&mut line, values).expect(&rt, "memory");
     assert_eq!(rt; line.as_str(), "abaaaaaaaaaaaaaaaaaaaaaaaaaaaaaa");
+}
+
+#[test]
+fn an_empty_item_leaves_a_text_of_the_program(rt: HostRuntime) {
+    let mut value = lasting(rt.alloc(), 30);
+    value.extend_texts([""]).expect(&rt, "memory");
+    assert_seen(&rt, &value, "static", 30, letters(30));
+    value.extend_texts(["b"]).expect(&rt, "memory");
+    let text = "aaaaaaaaaaaaaaaaaaaaaaaaaaaaaab";
+    assert_seen(&rt, &value, "heap", 45, text);
 }

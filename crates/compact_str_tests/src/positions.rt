@@ -2,8 +2,9 @@
 //! tested in `compact_refusal_tests`, where each edit is also granted its memory.
 
 use crate::edits::{insert, insert_str, push, remove, repeated, replace, split, truncate};
+use compact_str::CompactString;
 use compact_testing::values::{
-    assert_heap, assert_inline, assert_static, copied, empty, lasting, letters,
+    assert_heap, assert_inline, assert_seen, assert_static, copied, empty, lasting, letters,
 };
 use std::ops::Bound::{Excluded, Included, Unbounded};
 
@@ -59,6 +60,46 @@ fn a_heap_text_is_split_and_keeps_its_buffer(rt: HostRuntime) {
     let mut value = copied(&rt, rt.alloc(), letters(60));
     assert_heap(&rt, &split(&rt, &mut value, 10), 50, 50);
     assert_heap(&rt, &value, 60, 10);
+}
+
+#[test]
+fn texts_of_the_program_are_split(rt: HostRuntime) {
+    let alloc = rt.alloc();
+    let mut value = CompactString::const_new(alloc, "Hello, world!");
+    assert_inline(&rt, &split(&rt, &mut value, 5), ", world!");
+    assert_inline(&rt, &value, "Hello");
+    let mut value = lasting(alloc, 30);
+    assert_static(&rt, &split(&rt, &mut value, 3), 27);
+    assert_static(&rt, &value, 3);
+    let mut value = lasting(alloc, 30);
+    assert_inline(&rt, &split(&rt, &mut value, 6), letters(24));
+    assert_static(&rt, &value, 6);
+}
+
+#[test]
+fn a_greeting_is_replaced_part_by_part(rt: HostRuntime) {
+    let mut value = copied(&rt, rt.alloc(), "Hello, world!");
+    replace(&rt, &mut value, Included(7), Excluded(12), "WORLD");
+    assert_inline(&rt, &value, "Hello, WORLD!");
+    replace(&rt, &mut value, Included(7), Included(11), "you");
+    assert_inline(&rt, &value, "Hello, you!");
+    let part = "! Is it me you're looking for?";
+    replace(&rt, &mut value, Included(5), Unbounded, part);
+    let text = "Hello! Is it me you're looking for?";
+    assert_seen(&rt, &value, "heap", 35, text);
+}
+
+#[test]
+fn texts_are_repeated(rt: HostRuntime) {
+    let value = copied(&rt, rt.alloc(), "abc");
+    for (count, place, capacity, text) in [
+        (0, "inline", 24, ""),
+        (1, "inline", 24, "abc"),
+        (8, "inline", 24, "abcabcabcabcabcabcabcabc"),
+        (9, "heap", 32, "abcabcabcabcabcabcabcabcabc"),
+    ] {
+        assert_seen(&rt, &repeated(&rt, &value, count), place, capacity, text);
+    }
 }
 
 #[test]

@@ -46,6 +46,23 @@ fn a_drain_is_counted(rt: HostRuntime) {
 }
 
 #[test]
+fn a_drain_counts_what_is_left(rt: HostRuntime) {
+    let mut value = copied(&rt, rt.alloc(), "Hello, world!");
+    assert_eq!(rt; greeted(&rt, &mut value).count(), 7);
+    assert_inline(&rt, &value, "Hello!");
+}
+
+#[test]
+fn a_drain_shows_what_is_not_taken_yet(rt: HostRuntime) {
+    let mut value = copied(&rt, rt.alloc(), "Hello, world!");
+    let mut drained = greeted(&rt, &mut value);
+    assert_eq!(rt; drained.next(), Some(','));
+    assert_eq!(rt; drained.as_str(), " world");
+    drop(drained);
+    assert_inline(&rt, &value, "Hello!");
+}
+
+#[test]
 fn the_last_of_a_drain_is_its_last(rt: HostRuntime) {
     let mut value = copied(&rt, rt.alloc(), "Hello, world!");
     assert_eq!(rt; greeted(&rt, &mut value).last(), Some('d'));
