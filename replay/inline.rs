@@ -1,5 +1,5 @@
 //! Random edits of a text of at most 24 bytes, by Rust's `String`, as `crates/compact_inline_run` makes them: with the seed
-//! that it reads, it prints what that program is to print. `rustc -O replay/inline.rs` is all that it needs.
+//! that it reads, it prints what that program is to print. `replay/inline.sh` writes that down.
 //!
 //! The 24 bytes of a text are those of its definition: a text of 24 bytes is all of them, a shorter one the first of them, and
 //! then the last is 192 and its length. A text that was wiped is 23 zeros, and 192.
