@@ -4,6 +4,7 @@
 
 use crate::memory::{Ask, Ration};
 use compact_str::CompactString;
+use compact_testing::values::place_of;
 use std::alloc::Global;
 
 /// Of the 26 small letters, the 26 great ones and the ten digits those from one place to another.
