@@ -1,7 +1,7 @@
 //! Edits that are drawn.
 
 use compact_edit::Edit;
-use compact_str::{CompactString, Standard};
+use compact_str::Standard;
 use compact_testing::random::Random;
 use std::ops::Bound::{Excluded, Included};
 
@@ -31,12 +31,14 @@ const PIECES: [&str; 16] = [
 ];
 
 /// Answers to the question which characters stay.
-const ANSWERS: [&[bool]; 4] = [
-    &[],
-    &[false],
-    &[true, false, true],
-    &[true, true, true, true, true, false, false, true, false],
-];
+fn answers(random: &mut Random) -> &'static [bool] {
+    match random.below(4) {
+        0 => &[],
+        1 => &[false],
+        2 => &[true, false, true],
+        _ => &[true, true, true, true, true, false, false, true, false],
+    }
+}
 
 fn character(random: &mut Random) -> char {
     let drawn = random.below(16) as usize;
@@ -61,9 +63,9 @@ fn place(random: &mut Random, len: usize) -> usize {
     random.below(len.saturating_add(2) as u64) as usize
 }
 
-/// An edit of a text of so many bytes. Its places may be no boundaries, and its text may have more than 24 bytes.
-fn any_edit<'a>(random: &mut Random, len: usize, other: &'a CompactString) -> Edit<'a, Standard> {
-    match random.below(20) {
+/// The edit of a number that was drawn. Its places may be no boundaries, and its text may have more than 24 bytes.
+fn edit_of(drawn: u64, random: &mut Random, len: usize) -> Edit<'static, Standard> {
+    match drawn {
         0 | 1 => Edit::Push(character(random)),
         2 => Edit::PushStr(piece(random)),
         3 => Edit::PushStr(filling(random, len)),
@@ -79,19 +81,13 @@ fn any_edit<'a>(random: &mut Random, len: usize, other: &'a CompactString) -> Ed
         14 => Edit::Truncate(place(random, len)),
         15 => Edit::SplitOff(place(random, len)),
         16 => Edit::Pop,
-        17 => retain(random),
-        18 => Edit::CloneFrom(other),
+        17 => Edit::Retain(answers(random)),
         _ => rare_edit(random, len),
     }
 }
 
-fn retain<'a>(random: &mut Random) -> Edit<'a, Standard> {
-    let drawn = random.below(4) as usize;
-    Edit::Retain(ANSWERS.get(drawn).copied().unwrap_or(&[]))
-}
-
 /// An edit that leaves the text empty, or as long as it is.
-fn rare_edit<'a>(random: &mut Random, len: usize) -> Edit<'a, Standard> {
+fn rare_edit(random: &mut Random, len: usize) -> Edit<'static, Standard> {
     match random.below(8) {
         0 => Edit::Clear,
         1 => Edit::Zeroize,
@@ -118,11 +114,16 @@ fn len_after(edit: &Edit<Standard>, len: usize) -> usize {
     }
 }
 
-/// An edit of a text of so many bytes, which takes the last character off where it would make a text of more than 24.
-pub fn edit<'a>(random: &mut Random, len: usize, other: &'a CompactString) -> Edit<'a, Standard> {
-    let edit = any_edit(random, len, other);
-    if len_after(&edit, len) > 24 {
-        return Edit::Pop;
+/// An edit of a text of so many bytes, which takes the last character off where it would make a text of more than 24; `None`
+/// where another text is to be copied.
+pub fn edit(random: &mut Random, len: usize) -> Option<Edit<'static, Standard>> {
+    let drawn = random.below(20);
+    if drawn == 18 {
+        return None;
     }
-    edit
+    let edit = edit_of(drawn, random, len);
+    if len_after(&edit, len) > 24 {
+        return Some(Edit::Pop);
+    }
+    Some(edit)
 }

@@ -61,12 +61,17 @@ impl Session {
         }
     }
 
-    /// Runs one edit. A value that was wiped is added as it stands, whole.
+    /// Runs one edit, or copies the other text. A value that was wiped is added as it stands, whole.
     fn run_one(&mut self, alloc: Global) -> Result<Option<Reply<Standard>>, ReserveError> {
+        let len = self.value.len();
+        let Some(edit) = edit(&mut self.random, len) else {
+            self.value.clone_from(&self.other)?;
+            return Ok(Some(Reply::Done));
+        };
+        let is_wiped = matches!(edit, Edit::Zeroize);
         let mut replies = Vec::new(alloc);
-        let edits = [edit(&mut self.random, self.value.len(), &self.other)];
-        run(&mut self.value, &edits, &mut replies)?;
-        if matches!(edits[0], Edit::Zeroize) {
+        run(&mut self.value, &[edit], &mut replies)?;
+        if is_wiped {
             self.checksum.add_row(&self.value);
         }
         Ok(replies.pop())
