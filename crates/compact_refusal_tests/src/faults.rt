@@ -1,7 +1,7 @@
 //! The cases that do not hold, told in a text for which room is made before memory is taken.
 
-use crate::values::place_of;
 use compact_str::CompactString;
+use compact_testing::values::place_of;
 use std::alloc::{AllocError, Global};
 use std::fmt::Write;
 

@@ -4,6 +4,7 @@
 
 use crate::memory::{Ask, Ration};
 use compact_str::CompactString;
+use compact_testing::values::place_of;
 use std::alloc::Global;
 
 /// Of the 26 small letters, the 26 great ones and the ten digits those from one place to another.
@@ -199,17 +200,6 @@ pub fn fitted(text: &str) -> Seen<'_> {
         place: "heap",
         capacity: None,
         text,
-    }
-}
-
-/// The name of a value's place.
-pub fn place_of(value: &CompactString) -> &'static str {
-    if value.is_heap_allocated() {
-        "heap"
-    } else if value.as_static_str().is_some() {
-        "static"
-    } else {
-        "inline"
     }
 }
 

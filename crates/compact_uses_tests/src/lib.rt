@@ -1,15 +1,11 @@
-//! Tests of the programs to copy, and of the interner: what they answer, and the same with no memory left.
+//! Tests of the programs to copy: what they answer, the same with no memory left, and over readers that stop.
 #![tactic(auto, using(compact_str::proofs::ForCallers::for_callers))]
 
-#[cfg(test)]
-mod interner;
-#[cfg(test)]
-mod memory;
 #[cfg(test)]
 mod records;
 #[cfg(test)]
 mod report;
 #[cfg(test)]
-mod tokenizer;
+mod stopped_records;
 #[cfg(test)]
-mod values;
+mod tokenizer;

@@ -1,8 +1,8 @@
 //! The report: columns counted in characters, records that are too short, and refused memory.
 
-use crate::memory::take_all;
-use crate::values::copied;
 use compact_str::CompactString;
+use compact_testing::memory::take_all;
+use compact_testing::values::copied;
 use compact_uses::aligned_rows;
 use std::alloc::Global;
 use std::process::Abort;

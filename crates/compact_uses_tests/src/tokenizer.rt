@@ -1,9 +1,9 @@
 //! The tokenizer: characters of each width, and refused memory.
 
-use crate::memory::take_all;
-use crate::values::{assert_count, assert_name, copied, letters};
 use compact_edit::{InternError, Interner};
 use compact_str::CompactString;
+use compact_testing::memory::take_all;
+use compact_testing::values::{copied, letters};
 use compact_uses::{Kind, Token, tokenize};
 use std::alloc::Global;
 use std::process::Abort;
@@ -11,6 +11,11 @@ use std::process::Abort;
 /// Asserts what a token is made of, and its number.
 fn assert_token(rt: &impl Abort, token: Option<Token>, kind: Kind, name: u32) {
     assert!(rt; token == Some(Token { kind, name }));
+}
+
+/// Asserts the name of a number.
+fn assert_name(rt: &impl Abort, names: &Interner, number: u32, name: Option<&str>) {
+    assert_eq!(rt; names.name(number), name);
 }
 
 /// The tokens of a text, for which there is memory.
@@ -43,7 +48,7 @@ fn characters_of_each_width_are_cut_by_their_kind(rt: HostRuntime) {
     for (number, name) in [(4, "éß字"), (6, "\u{a0}"), (7, "😀")] {
         assert_name(&rt, &names, number, Some(name));
     }
-    assert_count(&rt, &names, 9);
+    assert_eq!(rt; names.len(), 9);
 }
 
 #[test]
@@ -51,7 +56,7 @@ fn an_empty_text_has_no_tokens(rt: HostRuntime) {
     let mut names = Interner::new(rt.alloc());
     let tokens = tokens_of(&rt, rt.alloc(), &mut names, "");
     assert_eq!(rt; tokens.len(), 0);
-    assert_count(&rt, &names, 0);
+    assert_eq!(rt; names.len(), 0);
 }
 
 /// Asserts that a text is refused while there is no memory, and that the one name stands.
@@ -61,7 +66,7 @@ fn is_refused(rt: &impl Abort, alloc: Global, names: &mut Interner, text: &Compa
     drop(hog);
     assert!(rt; matches!(tokens, Err(InternError::Reserve(_))));
     assert_name(rt, names, 0, Some("ab"));
-    assert_count(rt, names, 1);
+    assert_eq!(rt; names.len(), 1);
 }
 
 #[test]

@@ -1,0 +1,106 @@
+//! Values as keys: compared, looked for in a sorted row and in a map, by functions with no proof of their own.
+ghost use Rattle.std.specs.Prelude.{◌≡◌, ◌↔◌, Some, IsTrue, OnOk, IfOk, IfErr};
+ghost use Rattle.std.specs.List.{HoldsAt};
+ghost use Rattle.std.specs.List.Sorted.{IsSorted, IsPartitionPoint};
+ghost use Rattle.std.specs.Option.{unwrap_or};
+ghost use Rattle.std.specs.HashMap.{get};
+ghost use Rattle.std.specs.BTreeMap as sorted;
+ghost use Rattle.compact_str.specs.Order.{same_text, text_cmp, text_order};
+
+use compact_str::{CompactString, sorted_row_is_searchable};
+use std::alloc::AllocFailed;
+use std::cmp::Ordering;
+use std::collections::{BTreeMap, HashMap};
+
+/// Whether a word is the keyword.
+#[tactic(auto, using(compact_str::proofs::ForCallers::for_callers))]
+pub fn is_keyword(word: &CompactString, keyword: &CompactString) -> bool
+    ensures { IsTrue result ↔ (word.now.text ≡ keyword.now.text) }
+{
+    word == keyword
+}
+
+/// Whether a record comes before another.
+pub fn comes_first(first: &CompactString, second: &CompactString) -> bool
+    ensures { IsTrue result ↔ (text_order first.now.text second.now.text ≡ Ordering.Less) }
+{
+    first < second
+}
+
+/// Where a word stands in a sorted row of words. An error is the place where it would stand: the words before it are less,
+/// and those from there on are greater.
+#[tactic(auto, using(compact_str::proofs::ForCallers::for_callers))]
+pub fn place_of(words: &[CompactString], word: &CompactString) -> Result<usize, usize>
+    requires { IsSorted text_cmp words.now }
+    ensures found { IfOk result (HoldsAt (λ w. w.text ≡ word.now.text) words.now) }
+    ensures absent { IfErr result (IsPartitionPoint (λ w. text_cmp w word.now ≡ Ordering.Less) (λ w. text_cmp w word.now ≡ Ordering.Greater) words.now) }
+{
+    sorted_row_is_searchable(words, word);
+    match words.binary_search(word) {
+        Ok(place) => Ok(place),
+        Err(place) => Err(place),
+    }
+}
+
+/// Counts a word.
+pub fn set_count(
+    counts: &mut HashMap<CompactString, u32>,
+    word: CompactString,
+    count: u32,
+) -> Result<(), AllocFailed<(CompactString, u32)>>
+    ensures { OnOk result (get same_text counts.new word ≡ Some count) }
+{
+    counts.insert(word, count)?;
+    Ok(())
+}
+
+/// How often a word was counted; 0 of one that was not.
+pub fn count_of(counts: &HashMap<CompactString, u32>, word: &CompactString) -> u32
+    ensures { result ≡ unwrap_or (get same_text counts.now word.now) 0 }
+{
+    counts.get(word).copied().unwrap_or(0)
+}
+
+/// Sets the rank of a word in a sorted table.
+pub fn set_rank(
+    ranks: &mut BTreeMap<CompactString, u32>,
+    word: CompactString,
+    rank: u32,
+) -> Result<(), AllocFailed<(CompactString, u32)>>
+    ensures { OnOk result (sorted.get text_cmp ranks.new word ≡ Some rank) }
+{
+    ranks.insert(word, rank)?;
+    Ok(())
+}
+
+#[cfg(test)]
+mod tests {
+    use super::*;
+    use compact_testing::values::{copied, lasting, letters};
+    use std::test::Fail;
+
+    #[test]
+    fn a_word_is_found_in_a_sorted_row(rt: HostRuntime) {
+        let alloc = rt.alloc();
+        let mut words = [
+            copied(&rt, alloc, "b"),
+            lasting(alloc, 30),
+            copied(&rt, alloc, "\u{10000}"),
+            copied(&rt, alloc, "\u{fffd}"),
+        ];
+        words.sort_unstable();
+        assert_eq!(rt; place_of(&words, &copied(&rt, alloc, letters(30))), Ok(0));
+        assert_eq!(rt; place_of(&words, &copied(&rt, alloc, "\u{fffd}")), Ok(2));
+        assert_eq!(rt; place_of(&words, &copied(&rt, alloc, "c")), Err(2));
+    }
+
+    #[test]
+    fn a_word_is_counted_wherever_it_stands(rt: HostRuntime) -> Result<(), Fail> {
+        let alloc = rt.alloc();
+        let mut counts = HashMap::new(alloc);
+        set_count(&mut counts, lasting(alloc, 30), 3).map_err(|_| "memory")?;
+        assert_eq!(rt; count_of(&counts, &copied(&rt, alloc, letters(30))), 3);
+        assert_eq!(rt; count_of(&counts, &copied(&rt, alloc, letters(29))), 0);
+        Ok(())
+    }
+}

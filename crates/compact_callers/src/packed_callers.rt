@@ -1,0 +1,80 @@
+//! Callers of the packed form as the writers of tables with rows of a fixed width write them. Each is proved from the
+//! contracts of the calls and the facts for callers alone, with no proof of its own.
+ghost use Rattle.std.specs.Prelude.{◌≡◌, ◌↔◌, ℕ, List, IfSome, IsSome, IsTrue};
+ghost use Rattle.compact_str.specs.Value.{inline};
+ghost use Rattle.compact_str.specs.Capacity.{inlined};
+ghost use Rattle.compact_str.specs.Packed.{IsPackedFor};
+
+use compact_str::CompactString;
+use std::alloc::Global;
+
+/// A key read back from the row of bytes that it was written as; `None` of a key that is not inline, and of no other.
+#[tactic(auto, using(compact_str::proofs::ForCallers::for_callers))]
+pub fn through_a_row(alloc: Global, key: &CompactString) -> Option<CompactString>
+    ensures text { IfSome result (λ copy. copy.text ≡ key.now.text) }
+    ensures inline { IfSome result (λ copy. copy.placement ≡ inlined) }
+    ensures succeeds { key.now.placement.place ≡ inline → IsSome result }
+{
+    let row = key.packed()?;
+    CompactString::from_packed(alloc, &row)
+}
+
+/// Whether two keys are inline and have the same bytes; then they have the same text.
+#[tactic(auto, using(compact_str::proofs::ForCallers::for_callers))]
+pub fn have_same_row(first: &CompactString, second: &CompactString) -> bool
+    ensures { IsTrue result → (first.now.text ≡ second.now.text) }
+{
+    let Some(row) = first.packed() else {
+        return false;
+    };
+    let Some(other) = second.packed() else {
+        return false;
+    };
+    row == other
+}
+
+/// The row of a text as a value made of it has it: with zeros behind the text. `None` of bytes that stand for no text.
+#[tactic(auto, using(compact_str::proofs::ForCallers::for_callers))]
+pub fn cleaned(alloc: Global, row: &[u8; 24]) -> Option<[u8; 24]>
+    ensures { IfSome result (λ clean. (t : List ℕ) → IsPackedFor row.now t → IsPackedFor clean t) }
+{
+    let key = CompactString::from_packed(alloc, row)?;
+    let Ok(copy) = CompactString::new(alloc, key.as_str()) else {
+        return None;
+    };
+    copy.packed()
+}
+
+#[cfg(test)]
+mod tests {
+    use super::*;
+    use compact_testing::values::{assert_inline, copied, lasting};
+
+    #[test]
+    fn a_key_goes_through_a_row(rt: HostRuntime) {
+        let key = copied(&rt, rt.alloc(), "größe");
+        let copy = through_a_row(rt.alloc(), &key).expect(&rt, "an inline key");
+        assert_inline(&rt, &copy, "größe");
+        assert!(rt; through_a_row(rt.alloc(), &lasting(rt.alloc(), 30)).is_none());
+    }
+
+    #[test]
+    fn equal_rows_are_equal_keys(rt: HostRuntime) {
+        let key = copied(&rt, rt.alloc(), "key");
+        assert!(rt; have_same_row(&key, &copied(&rt, rt.alloc(), "key")));
+        assert!(rt; !have_same_row(&key, &copied(&rt, rt.alloc(), "keys")));
+        assert!(rt; !have_same_row(&key, &lasting(rt.alloc(), 30)));
+    }
+
+    #[test]
+    fn what_stands_behind_a_text_is_cleaned(rt: HostRuntime) {
+        let mut row = [0xFF; 24];
+        row[0] = 0x61;
+        row[23] = 0xC1;
+        let clean = cleaned(rt.alloc(), &row).expect(&rt, "bytes of a text");
+        assert_eq!(rt;
+            &clean,
+            b"a\0\0\0\0\0\0\0\0\0\0\0\0\0\0\0\0\0\0\0\0\0\0\xC1"
+        );
+    }
+}

@@ -1,0 +1,192 @@
+//! Callers of the edits as the writers of editors, reports and record readers write them. Each is proved from the
+//! contracts of the calls and the facts for callers alone, with no proof of its own.
+ghost use Rattle.std.specs.Prelude.{◌≡◌, ◌+◌, ◌≤◌, [], ◌∷◌, ◌++◌, length, IfOk, OnOk, OnErr, IsOk, MatchOption, codes, decimal};
+ghost use Rattle.compact_str.specs.Text.{text_of, size};
+ghost use Rattle.compact_str.specs.Cut.{IsBoundary, replaced_text};
+
+use compact_str::{CompactString, ReserveError};
+use std::fmt;
+use std::fmt::Write;
+
+/// Appends a line of a report: a name, an arrow and a value.
+#[tactic(auto, using(compact_str::proofs::ForCallers::for_callers))]
+pub fn append_report(line: &mut CompactString, name: &str, value: &str) -> fmt::Result
+    ensures { OnOk result (line.new.text ≡ line.old.text ++ text_of name.now ++ codes " → " ++ text_of value.now) }
+{
+    write!(line, "{name} → {value}")
+}
+
+/// Appends a count to a report: a name, a colon and the number.
+#[tactic(auto, using(compact_str::proofs::ForCallers::for_callers))]
+pub fn append_count(line: &mut CompactString, name: &str, count: u64) -> fmt::Result
+    ensures { OnOk result (line.new.text ≡ line.old.text ++ text_of name.now ++ codes ": " ++ decimal count) }
+{
+    write!(line, "{name}: {count}")
+}
+
+/// Appends two fields and a comma between them, for which room is made at once: all or, where that is refused, nothing.
+#[tactic(auto, using(compact_str::proofs::ForCallers::for_callers))]
+pub fn append_record(
+    line: &mut CompactString,
+    first: &str,
+    second: &str,
+) -> Result<(), ReserveError>
+    ensures text { OnOk result (line.new.text ≡ line.old.text ++ text_of first.now ++ 44 ∷ text_of second.now) }
+    ensures unchanged { OnErr result (line.new ≡ line.old) }
+{
+    line.reserve(first.len() + 1 + second.len())?;
+    line.push_str(first)?;
+    line.push(',')?;
+    line.push_str(second)
+}
+
+/// Appends two fields, and takes the first off again where the second is refused.
+#[tactic(auto, using(compact_str::proofs::ForCallers::for_callers))]
+pub fn append_pair(line: &mut CompactString, first: &str, second: &str) -> Result<(), ReserveError>
+    ensures text { OnOk result (line.new.text ≡ line.old.text ++ text_of first.now ++ text_of second.now) }
+    ensures rolled_back { OnErr result (line.new.text ≡ line.old.text) }
+{
+    let len = line.len();
+    line.push_str(first)?;
+    if let Err(error) = line.push_str(second) {
+        line.truncate(len);
+        return Err(error);
+    }
+    Ok(())
+}
+
+/// Types two characters at a cursor, a boundary, and answers where the cursor then stands, in bytes.
+#[tactic(auto, using(compact_str::proofs::ForCallers::for_callers))]
+pub fn type_two(
+    line: &mut CompactString,
+    cursor: usize,
+    first: char,
+    second: char,
+) -> Result<usize, ReserveError>
+    requires { IsBoundary line.old.text cursor }
+    ensures text { IfOk result (λ _. line.new.text ≡ replaced_text line.old.text cursor cursor (first ∷ second ∷ [])) }
+    ensures cursor { IfOk result (λ behind. IsBoundary line.new.text behind) }
+{
+    line.insert(cursor, first)?;
+    let next = cursor + first.len_utf8();
+    line.insert(next, second)?;
+    Ok(next + second.len_utf8())
+}
+
+/// Splits a line at a boundary and joins the two parts again.
+pub fn split_and_join(line: &mut CompactString, index: usize) -> Result<(), ReserveError>
+    requires { IsBoundary line.old.text index }
+    ensures { OnOk result (line.new.text ≡ line.old.text) }
+{
+    let tail = line.split_off(index)?;
+    line.push_str(tail.as_str())
+}
+
+/// A copy of a name with a suffix. Where both have at most 24 bytes together it takes no memory.
+pub fn with_suffix(name: &CompactString, suffix: &str) -> Result<CompactString, ReserveError>
+    ensures text { IfOk result (λ v. v.text ≡ name.now.text ++ text_of suffix.now) }
+    ensures succeeds { size name.now.text + length suffix.now ≤ 24 → IsOk result }
+{
+    let mut copy = name.clone()?;
+    copy.push_str(suffix)?;
+    Ok(copy)
+}
+
+/// Leaves the key of a `key=value` field and answers its value; `None`, and the field as it was, where it has no `=`.
+#[tactic(auto, using(compact_str::proofs::ForCallers::for_callers))]
+pub fn split_field(field: &mut CompactString) -> Result<Option<CompactString>, ReserveError>
+    ensures parts { IfOk result (λ value. MatchOption value (field.new ≡ field.old) (λ v. field.old.text ≡ field.new.text ++ text_of (codes "=") ++ v.text)) }
+    ensures unchanged { OnErr result (field.new ≡ field.old) }
+{
+    let Some(at) = field.as_str().find('=') else {
+        return Ok(None);
+    };
+    let value = field.split_off(at + 1)?;
+    field.truncate(at);
+    Ok(Some(value))
+}
+
+#[cfg(test)]
+mod tests {
+    use super::*;
+    use compact_testing::values::{assert_heap, assert_inline, copied, empty, letters};
+
+    #[test]
+    fn a_report_is_written_past_ascii(rt: HostRuntime) {
+        let mut line = copied(&rt, rt.alloc(), "§ ");
+        append_report(&mut line, "größe", "7 µm").expect(&rt, "memory");
+        assert_inline(&rt, &line, "§ größe → 7 µm");
+    }
+
+    #[test]
+    fn a_count_is_written_as_its_digits(rt: HostRuntime) {
+        let mut line = copied(&rt, rt.alloc(), "");
+        append_count(&mut line, "ü", 1024).expect(&rt, "memory");
+        assert_inline(&rt, &line, "ü: 1024");
+    }
+
+    #[test]
+    fn a_record_is_appended_in_one_piece(rt: HostRuntime) {
+        let mut line = copied(&rt, rt.alloc(), "a;");
+        append_record(&mut line, "b", "c").expect(&rt, "memory");
+        assert_inline(&rt, &line, "a;b,c");
+    }
+
+    #[test]
+    fn a_pair_is_appended(rt: HostRuntime) {
+        let mut line = empty(&rt, rt.alloc(), 40);
+        append_pair(&mut line, letters(12), letters(13)).expect(&rt, "memory");
+        assert_heap(&rt, &line, 40, 25);
+    }
+
+    #[test]
+    fn a_cursor_goes_on_by_what_is_typed(rt: HostRuntime) {
+        let mut line = copied(&rt, rt.alloc(), "ab");
+        assert!(rt; line.is_char_boundary(1));
+        let cursor = type_two(&mut line, 1, 'é', 'x').expect(&rt, "memory");
+        assert_eq!(rt; cursor, 4);
+        assert_inline(&rt, &line, "aéxb");
+    }
+
+    #[test]
+    fn a_split_line_is_joined(rt: HostRuntime) {
+        let mut line = copied(&rt, rt.alloc(), "äb");
+        assert!(rt; line.is_char_boundary(2));
+        split_and_join(&mut line, 2).expect(&rt, "memory");
+        assert_inline(&rt, &line, "äb");
+    }
+
+    #[test]
+    fn a_name_has_a_suffix(rt: HostRuntime) {
+        let name = copied(&rt, rt.alloc(), "name");
+        let both = with_suffix(&name, "_1").expect(&rt, "memory");
+        assert_inline(&rt, &name, "name");
+        assert_inline(&rt, &both, "name_1");
+    }
+
+    #[test]
+    fn a_field_is_split_at_its_first_sign(rt: HostRuntime) {
+        let mut field = copied(&rt, rt.alloc(), "clé=a=b");
+        let value = split_field(&mut field).expect(&rt, "memory");
+        assert_inline(&rt, &field, "clé");
+        assert_inline(&rt, &value.expect(&rt, "a value"), "a=b");
+    }
+
+    #[test]
+    fn a_field_with_no_sign_stays(rt: HostRuntime) {
+        let mut field = copied(&rt, rt.alloc(), "clé");
+        let value = split_field(&mut field).expect(&rt, "memory");
+        assert!(rt; value.is_none());
+        assert_inline(&rt, &field, "clé");
+    }
+}
+
+/// Appends a value as it is shown.
+#[tactic(auto, using(compact_str::proofs::ForCallers::for_callers))]
+pub fn append_value(line: &mut CompactString, value: &CompactString) -> fmt::Result
+    ensures { OnOk result (line.new.text ≡ line.old.text ++ value.now.text) }
+{
+    // The proof reads from it which characters the bytes spell that are written.
+    let _text = value.as_str();
+    write!(line, "{value}")
+}

@@ -1,0 +1,59 @@
+//! The writer of a report. It is proved from the contracts and the facts for callers.
+#![tactic(auto, using(compact_str::proofs::ForCallers::for_callers, compact_ext::proofs::ForCallers::shown_facts))]
+
+ghost use Rattle.std.specs.Prelude.{◌≡◌, ◌++◌, IfOk, OnOk};
+ghost use Rattle.compact_callers.specs.Reports.{line_of, lines_of, report_of};
+
+use compact_ext::{ToCompactStringError, format_compact};
+use compact_str::CompactString;
+use std::alloc::Global;
+
+/// What a line of a report tells.
+#[derive(Drop)]
+pub struct Row {
+    pub name: CompactString,
+    pub number: u64,
+}
+
+/// A line of a report: a name, a colon and a number.
+pub fn line(alloc: Global, row: &Row) -> Result<CompactString, ToCompactStringError>
+    ensures { IfOk result (λ v. v.text ≡ line_of row.now) }
+{
+    let (name, number) = (row.name.as_str(), row.number);
+    let line = format_compact!(in alloc; "{name}: {number}\n")?;
+    Ok(line)
+}
+
+/// The lines of a report, one after another.
+pub fn report(alloc: Global, rows: &[Row]) -> Result<CompactString, ToCompactStringError>
+    ensures { IfOk result (λ v. v.text ≡ report_of rows.now) }
+{
+    let mut report = CompactString::default(alloc);
+    for row in rows {
+        let line = line(alloc, row)?;
+        report.push_str(line.as_str())?;
+    }
+    Ok(report)
+}
+
+/// Rows in a list, each with those after it.
+#[derive(Drop)]
+pub enum Rows {
+    End,
+    Then(Row, Box<Rows>),
+}
+
+/// Appends the lines of a list of rows.
+pub fn append_rows(report: &mut CompactString, rows: &Rows) -> Result<(), ToCompactStringError>
+    ensures { OnOk result (report.new.text ≡ report.old.text ++ lines_of rows.now) }
+{
+    match rows {
+        Rows::End => Ok(()),
+        Rows::Then(row, rest) => {
+            let line = line(report.allocator(), row)?;
+            report.push_str(line.as_str())?;
+            append_rows(report, rest)?;
+            Ok(())
+        }
+    }
+}

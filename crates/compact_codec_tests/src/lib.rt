@@ -1,0 +1,11 @@
+//! Tests of `compact_codec`: where bytes and units stop being text.
+#![tactic(auto)]
+
+#[cfg(test)]
+mod readers;
+#[cfg(test)]
+mod utf16;
+#[cfg(test)]
+mod utf16_bytes;
+#[cfg(test)]
+mod utf8;

@@ -1,0 +1,196 @@
+//! The interner: numbers and names, refused memory, and many words beside a plain list.
+
+use compact_edit::{InternError, Interner};
+use compact_str::ReserveError;
+use compact_testing::memory::{spare, take_all};
+use compact_testing::random::Random;
+use compact_testing::values::letters;
+use std::alloc::Global;
+use std::process::Abort;
+
+/// Asserts the name of a number.
+fn assert_name(rt: &impl Abort, names: &Interner, number: u32, name: Option<&str>) {
+    assert_eq!(rt; names.name(number), name);
+}
+
+/// Asserts how many names there are.
+fn assert_count(rt: &impl Abort, names: &Interner, count: usize) {
+    assert_eq!(rt; names.len(), count);
+}
+
+/// The number of a text for which there is memory.
+fn number_of(rt: &impl Abort, names: &mut Interner, text: &str) -> u32 {
+    names.intern(text).expect(rt, "memory")
+}
+
+/// The numbers of texts for which there is memory.
+fn numbers_of(rt: &impl Abort, alloc: Global, names: &mut Interner, texts: &[&str]) -> Vec<u32> {
+    let mut numbers = Vec::new(alloc);
+    names.intern_all(texts, &mut numbers).expect(rt, "memory");
+    numbers
+}
+
+/// Asserts that a list of texts is refused for want of memory.
+fn is_refused(rt: &impl Abort, names: &mut Interner, texts: &[&str], numbers: &mut Vec<u32>) {
+    let taken = names.intern_all(texts, numbers);
+    assert!(rt; matches!(taken, Err(InternError::Reserve(_))));
+}
+
+/// Asserts that a text is refused for want of memory, and that so many names stand.
+fn assert_refused(rt: &impl Abort, names: &mut Interner, text: &str, count: usize) {
+    assert!(rt; matches!(names.intern(text), Err(InternError::Reserve(_))));
+    assert_eq!(rt; names.len(), count);
+}
+
+#[test]
+fn a_text_has_the_place_of_its_first_occurrence(rt: HostRuntime) {
+    let mut names = Interner::new(rt.alloc());
+    let numbers = numbers_of(&rt, rt.alloc(), &mut names, &["a", "b", "a", ""]);
+    assert_eq!(rt; numbers.as_slice(), [0, 1, 0, 2].as_slice());
+    assert_count(&rt, &names, 3);
+    assert_name(&rt, &names, 1, Some("b"));
+    assert_name(&rt, &names, 3, None);
+    for _ in 0..2 {
+        assert_eq!(rt; number_of(&rt, &mut names, letters(25)), 3);
+    }
+}
+
+#[test]
+fn a_short_name_needs_no_memory_and_a_long_text_does(rt: HostRuntime) {
+    let mut names = Interner::new(rt.alloc());
+    number_of(&rt, &mut names, "a");
+    number_of(&rt, &mut names, "b");
+    number_of(&rt, &mut names, "");
+    number_of(&rt, &mut names, letters(25));
+    let hog = take_all(&rt, rt.alloc());
+    assert_eq!(rt; number_of(&rt, &mut names, "a"), 0);
+    assert_refused(&rt, &mut names, letters(30), 4);
+    assert_eq!(rt; number_of(&rt, &mut names, letters(25)), 3);
+    drop(hog);
+    assert_name(&rt, &names, 3, Some(letters(25)));
+    assert_eq!(rt; number_of(&rt, &mut names, letters(30)), 4);
+}
+
+#[test]
+fn the_table_of_the_names_is_refused(rt: HostRuntime) {
+    let mut names = Interner::new(rt.alloc());
+    let hog = take_all(&rt, rt.alloc());
+    assert_refused(&rt, &mut names, "a", 0);
+    drop(hog);
+    assert_eq!(rt; number_of(&rt, &mut names, "a"), 0);
+}
+
+#[test]
+fn the_table_is_refused_behind_the_copy_of_a_text(rt: HostRuntime) {
+    let mut names = Interner::new(rt.alloc());
+    let room = spare(&rt, rt.alloc(), 32);
+    let hog = take_all(&rt, rt.alloc());
+    drop(room);
+    assert_refused(&rt, &mut names, letters(30), 0);
+    drop(hog);
+    assert_eq!(rt; number_of(&rt, &mut names, letters(30)), 0);
+}
+
+#[test]
+fn with_no_room_for_the_numbers_nothing_is_taken(rt: HostRuntime) {
+    let mut names = Interner::new(rt.alloc());
+    let mut numbers = Vec::new(rt.alloc());
+    number_of(&rt, &mut names, "a");
+    let hog = take_all(&rt, rt.alloc());
+    is_refused(&rt, &mut names, &["a", "b"], &mut numbers);
+    drop(hog);
+    assert_eq!(rt; numbers.len(), 0);
+    assert_count(&rt, &names, 1);
+}
+
+#[test]
+fn the_texts_before_a_refused_one_are_taken(rt: HostRuntime) {
+    let mut names = Interner::new(rt.alloc());
+    let mut numbers = Vec::with_capacity(rt.alloc(), 8).expect(&rt, "memory");
+    number_of(&rt, &mut names, "a");
+    number_of(&rt, &mut names, "b");
+    let texts = ["b", "a", letters(30), "b"];
+    let hog = take_all(&rt, rt.alloc());
+    is_refused(&rt, &mut names, &texts, &mut numbers);
+    drop(hog);
+    assert_eq!(rt; numbers.as_slice(), [1, 0].as_slice());
+    assert_count(&rt, &names, 2);
+}
+
+/// The word of a number: every third one has more than 24 bytes.
+fn word(rt: &impl Abort, alloc: Global, id: u64) -> String {
+    let text = if id.is_multiple_of(3) {
+        format!(in alloc; "{id} is the number of this word")
+    } else {
+        format!(in alloc; "{id}")
+    };
+    text.expect(rt, "memory")
+}
+
+/// The words by first occurrence as a plain list, and beside each possible word its place there.
+#[derive(Drop)]
+struct PlainList {
+    words: Vec<u64>,
+    places: Vec<Option<usize>>,
+}
+
+impl PlainList {
+    fn new(rt: &impl Abort, alloc: Global, count: usize) -> PlainList {
+        let mut places = Vec::new(alloc);
+        places.resize(count, None).expect(rt, "memory");
+        PlainList {
+            words: Vec::new(alloc),
+            places,
+        }
+    }
+
+    /// The place of a word, which is put last if it is new.
+    fn place_of(&mut self, rt: &impl Abort, id: u64) -> usize {
+        if let Some(place) = self.places.get(id as usize).copied().flatten() {
+            return place;
+        }
+        let place = self.words.len();
+        self.words.push(id).expect(rt, "memory");
+        if let Some(known) = self.places.get_mut(id as usize) {
+            *known = Some(place);
+        }
+        place
+    }
+}
+
+/// Asserts that each name is the word of the list at its place.
+fn assert_names(rt: &impl Abort, alloc: Global, names: &Interner, list: &PlainList) {
+    assert_eq!(rt; names.len(), list.words.len());
+    for (place, id) in list.words.iter().enumerate() {
+        assert_eq!(rt;
+            names.name(place as u32),
+            Some(word(rt, alloc, *id).as_str())
+        );
+    }
+}
+
+#[test]
+fn many_words_are_numbered_as_in_a_plain_list(rt: HostRuntime) {
+    let alloc = rt.alloc();
+    let mut random = Random::new(1);
+    let mut names = Interner::new(alloc);
+    let mut list = PlainList::new(&rt, alloc, 40_000);
+    for _ in 0..100_000 {
+        let id = random.below(40_000);
+        let text = word(&rt, alloc, id);
+        let number = number_of(&rt, &mut names, text.as_str());
+        assert_eq!(rt; number as usize, list.place_of(&rt, id));
+    }
+    assert_names(&rt, alloc, &names, &list);
+}
+
+#[test]
+fn refusals_are_shown_so(rt: HostRuntime) {
+    let shown = format!(in rt.alloc(); "{}", InternError::Full);
+    assert_eq!(rt; shown.expect(&rt, "memory").as_str(), "interner is full");
+    let refused = InternError::from(ReserveError);
+    assert!(rt; matches!(refused, InternError::Reserve(_)));
+    let shown = format!(in rt.alloc(); "{refused}");
+    let text = "Cannot allocate memory to hold CompactString";
+    assert_eq!(rt; shown.expect(&rt, "memory").as_str(), text);
+}

@@ -1,0 +1,74 @@
+//! The longest lengths and positions, as edits.
+
+use compact_edit::{Edit, Reply, run};
+use compact_str::Standard;
+use compact_testing::values::{assert_inline, copied};
+use std::alloc::Global;
+use std::ops::Bound::{Excluded, Included, Unbounded};
+use std::process::Abort;
+
+/// The name of a reply that answers nothing.
+fn name_of(reply: &Reply<Standard>) -> &'static str {
+    match reply {
+        Reply::Done => "done",
+        Reply::Char(_) => "char",
+        Reply::Text(_) => "text",
+        Reply::BadPosition => "bad position",
+        Reply::Refused(_) => "refused",
+    }
+}
+
+/// Asserts that each edit of `a` is answered by this name, and that the value is as it was.
+fn assert_each(rt: &impl Abort, alloc: Global, edits: &[Edit<Standard>], name: &str) {
+    let mut value = copied(rt, alloc, "a");
+    let mut replies = Vec::new(alloc);
+    run(&mut value, edits, &mut replies).expect(rt, "memory");
+    assert_eq!(rt; replies.len(), edits.len());
+    for reply in &replies {
+        assert_eq!(rt; name_of(reply), name);
+    }
+    assert_inline(rt, &value, "a");
+}
+
+#[test]
+fn the_greatest_position_is_no_boundary(rt: HostRuntime) {
+    let edits = [
+        Edit::Insert(usize::MAX, 'x'),
+        Edit::InsertStr(usize::MAX, ""),
+        Edit::Remove(usize::MAX),
+        Edit::SplitOff(usize::MAX),
+    ];
+    assert_each(&rt, rt.alloc(), &edits, "bad position");
+}
+
+#[test]
+fn the_greatest_bounds_are_no_range(rt: HostRuntime) {
+    let edits = [
+        Edit::ReplaceRange(Included(usize::MAX), Unbounded, "x"),
+        Edit::ReplaceRange(Excluded(usize::MAX), Unbounded, "x"),
+        Edit::ReplaceRange(Unbounded, Included(usize::MAX), "x"),
+        Edit::ReplaceRange(Unbounded, Excluded(usize::MAX), "x"),
+        Edit::Drain(Included(usize::MAX), Unbounded),
+        Edit::Drain(Excluded(usize::MAX), Unbounded),
+        Edit::Drain(Unbounded, Included(usize::MAX)),
+        Edit::Drain(Unbounded, Excluded(usize::MAX)),
+    ];
+    assert_each(&rt, rt.alloc(), &edits, "bad position");
+}
+
+#[test]
+fn a_cut_or_a_shrink_past_the_text_is_done(rt: HostRuntime) {
+    let edits = [Edit::Truncate(usize::MAX), Edit::ShrinkTo(usize::MAX)];
+    assert_each(&rt, rt.alloc(), &edits, "done");
+}
+
+#[test]
+fn room_past_the_limit_is_refused(rt: HostRuntime) {
+    let edits = [
+        Edit::Repeat(usize::MAX),
+        Edit::Repeat(72_057_594_037_927_935),
+        Edit::Reserve(usize::MAX),
+        Edit::Reserve(72_057_594_037_927_934),
+    ];
+    assert_each(&rt, rt.alloc(), &edits, "refused");
+}

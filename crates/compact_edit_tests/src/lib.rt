@@ -1,0 +1,13 @@
+//! Tests of `compact_edit`: lists of edits that are run, lists of pushes with what they move, and the interner.
+#![tactic(auto)]
+
+#[cfg(test)]
+mod interner;
+#[cfg(test)]
+mod lengths;
+#[cfg(test)]
+mod push_reports;
+#[cfg(test)]
+mod random_pushes;
+#[cfg(test)]
+mod runs;

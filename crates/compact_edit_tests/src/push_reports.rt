@@ -1,0 +1,186 @@
+//! Lists of pushes under several growth policies, with what they move; and other calls under those policies.
+
+use compact_edit::{PushReport, run_pushes};
+use compact_str::{Policy, PolicyString, Standard};
+use compact_testing::memory::{spare, take_all};
+use compact_testing::policies::{Double, Large, Slow};
+use compact_testing::values::{append, assert_heap, assert_inline, letters};
+use std::alloc::Global;
+use std::process::Abort;
+
+/// Puts a letter in at a boundary, which is granted.
+fn insert<P: Policy>(rt: &impl Abort, value: &mut PolicyString<P>, index: usize) {
+    assert!(rt; value.is_char_boundary(index));
+    value.insert(index, 'a').expect(rt, "memory");
+}
+
+/// Takes the first letter out, which is granted.
+fn remove_first<P: Policy>(rt: &impl Abort, value: &mut PolicyString<P>) {
+    assert!(rt; 0 < value.len());
+    assert!(rt; value.is_char_boundary(0));
+    assert_eq!(rt; value.remove(0).expect(rt, "memory"), 'a');
+}
+
+/// Asserts how many bytes were moved, and how many pushes refused.
+fn assert_counts<P: Policy>(rt: &impl Abort, report: &PushReport<P>, moved: u64, refused: usize) {
+    assert_eq!(rt; report.moved, moved);
+    assert_eq!(rt; report.refused, refused);
+}
+
+/// Asserts that all of the texts, which are letters, are pushed, what buffer they then have, and how many bytes were
+/// moved.
+fn assert_pushed<P: Policy>(
+    rt: &impl Abort,
+    alloc: Global,
+    texts: &[&str],
+    capacity: usize,
+    count: usize,
+    moved: u64,
+) {
+    let report = run_pushes::<P>(alloc, texts);
+    assert_heap(rt, &report.value, capacity, count);
+    assert_counts(rt, &report, moved, 0);
+}
+
+#[test]
+fn each_growth_moves_the_text_that_stood(rt: HostRuntime) {
+    let alloc = rt.alloc();
+    let texts = [
+        letters(24),
+        letters(1),
+        letters(12),
+        letters(1),
+        letters(18),
+        letters(2),
+    ];
+    let inline = run_pushes::<Standard>(alloc, &texts[..1]);
+    assert_inline(&rt, &inline.value, letters(24));
+    assert_counts(&rt, &inline, 0, 0);
+    assert_pushed::<Standard>(&rt, alloc, &texts[..2], 36, 25, 24);
+    assert_pushed::<Standard>(&rt, alloc, &texts[..3], 37, 37, 49);
+    assert_pushed::<Standard>(&rt, alloc, &texts[..4], 55, 38, 86);
+    assert_pushed::<Standard>(&rt, alloc, &texts[..5], 57, 56, 124);
+    assert_pushed::<Standard>(&rt, alloc, &texts, 84, 58, 180);
+}
+
+#[test]
+fn no_texts_leave_the_empty_value(rt: HostRuntime) {
+    let report = run_pushes::<Standard>(rt.alloc(), &[]);
+    assert_inline(&rt, &report.value, "");
+    assert_counts(&rt, &report, 0, 0);
+}
+
+/// Asserts what a thousand pushes of one byte leave.
+fn assert_thousand<P: Policy>(rt: &impl Abort, alloc: Global, capacity: usize, moved: u64) {
+    let report = run_pushes::<P>(alloc, &["a"; 1000]);
+    assert_eq!(rt; report.value.len(), 1000);
+    assert_eq!(rt; report.value.capacity(), capacity);
+    assert_counts(rt, &report, moved, 0);
+}
+
+#[test]
+fn a_thousand_bytes_are_pushed_one_by_one(rt: HostRuntime) {
+    assert_thousand::<Standard>(&rt, rt.alloc(), 1369, 2696);
+    assert_thousand::<Slow>(&rt, rt.alloc(), 1010, 3970);
+    assert_thousand::<Large>(&rt, rt.alloc(), 4096, 24);
+}
+
+#[test]
+fn buffers_double(rt: HostRuntime) {
+    let alloc = rt.alloc();
+    let texts = [letters(24), "a", letters(24), "a", "a"];
+    assert_pushed::<Double>(&rt, alloc, &texts[..2], 48, 25, 24);
+    assert_pushed::<Double>(&rt, alloc, &texts[..3], 50, 49, 49);
+    assert_pushed::<Double>(&rt, alloc, &texts[..4], 50, 50, 49);
+    assert_pushed::<Double>(&rt, alloc, &texts, 100, 51, 99);
+}
+
+#[test]
+fn buffers_grow_by_a_quarter(rt: HostRuntime) {
+    let alloc = rt.alloc();
+    assert_pushed::<Slow>(&rt, alloc, &[letters(25)], 25, 25, 0);
+    assert_pushed::<Slow>(&rt, alloc, &[letters(25), "a"], 31, 26, 25);
+    let made = PolicyString::<Slow>::new(alloc, letters(25));
+    assert_heap(&rt, &made.expect(&rt, "memory"), 25, 25);
+}
+
+#[test]
+fn a_first_buffer_is_large(rt: HostRuntime) {
+    let alloc = rt.alloc();
+    assert_pushed::<Large>(&rt, alloc, &[letters(25)], 4096, 25, 0);
+    let mut value = PolicyString::<Large>::const_new(alloc, letters(30));
+    remove_first(&rt, &mut value);
+    assert_heap(&rt, &value, 4096, 29);
+}
+
+#[test]
+fn a_shrink_keeps_the_least_capacity(rt: HostRuntime) {
+    let made = PolicyString::<Large>::with_capacity(rt.alloc(), 8192);
+    let mut value = made.expect(&rt, "memory");
+    append(&rt, &mut value, letters(30));
+    assert_heap(&rt, &value, 8192, 30);
+    value.shrink_to_fit();
+    assert_heap(&rt, &value, 4096, 30);
+}
+
+#[test]
+fn a_push_after_a_refused_one_is_done(rt: HostRuntime) {
+    let texts = [letters(24), letters(40), "a"];
+    let room = spare(&rt, rt.alloc(), 36);
+    let hog = take_all(&rt, rt.alloc());
+    drop(room);
+    let report = run_pushes::<Standard>(rt.alloc(), &texts);
+    drop(hog);
+    assert_heap(&rt, &report.value, 36, 25);
+    assert_counts(&rt, &report, 24, 1);
+}
+
+#[test]
+fn a_first_push_is_refused(rt: HostRuntime) {
+    let texts = [letters(70), letters(30)];
+    let room = spare(&rt, rt.alloc(), 32);
+    let hog = take_all(&rt, rt.alloc());
+    drop(room);
+    let report = run_pushes::<Standard>(rt.alloc(), &texts);
+    drop(hog);
+    assert_heap(&rt, &report.value, 32, 30);
+    assert_counts(&rt, &report, 0, 1);
+}
+
+#[test]
+fn one_of_two_pushes_is_refused(rt: HostRuntime) {
+    let texts = [letters(30), letters(30)];
+    let room = spare(&rt, rt.alloc(), 32);
+    let hog = take_all(&rt, rt.alloc());
+    drop(room);
+    let report = run_pushes::<Standard>(rt.alloc(), &texts);
+    drop(hog);
+    assert_heap(&rt, &report.value, 32, 30);
+    assert_counts(&rt, &report, 0, 1);
+}
+
+#[test]
+fn only_what_fits_inline_is_pushed_with_no_memory(rt: HostRuntime) {
+    let texts = [letters(20), letters(5), letters(4), "a", ""];
+    let hog = take_all(&rt, rt.alloc());
+    let report = run_pushes::<Slow>(rt.alloc(), &texts);
+    drop(hog);
+    assert_inline(&rt, &report.value, letters(24));
+    assert_counts(&rt, &report, 0, 2);
+}
+
+#[test]
+fn another_policy_owns_in_its_own_least_buffer(rt: HostRuntime) {
+    let mut value = PolicyString::<Large>::const_new(rt.alloc(), letters(30));
+    remove_first(&rt, &mut value);
+    assert_heap(&rt, &value, 4096, 29);
+    insert(&rt, &mut value, 0);
+    assert_heap(&rt, &value, 4096, 30);
+}
+
+#[test]
+fn another_policy_inserts_in_its_own_least_buffer(rt: HostRuntime) {
+    let mut value = PolicyString::<Large>::const_new(rt.alloc(), letters(30));
+    insert(&rt, &mut value, 30);
+    assert_heap(&rt, &value, 4096, 31);
+}

@@ -1,0 +1,186 @@
+//! Lists of edits that are run, with ample memory and with none.
+
+use compact_edit::{Edit, Reply, run};
+use compact_str::{CompactString, Standard};
+use compact_testing::memory::{spare, take_all};
+use compact_testing::values::{
+    assert_heap, assert_inline, assert_seen, assert_static, copied, lasting, letters,
+};
+use std::alloc::Global;
+use std::ops::Bound::{Excluded, Included};
+use std::process::Abort;
+
+/// Room for so many replies.
+fn room_for(rt: &impl Abort, alloc: Global, count: usize) -> Vec<Reply<Standard>> {
+    Vec::with_capacity(alloc, count).expect(rt, "memory")
+}
+
+/// Runs edits, for whose replies there is room.
+fn run_all(
+    rt: &impl Abort,
+    value: &mut CompactString,
+    edits: &[Edit<Standard>],
+    replies: &mut Vec<Reply<Standard>>,
+) {
+    run(value, edits, replies).expect(rt, "room for the replies");
+}
+
+/// Runs edits, for whose replies there is memory, and asserts that each is done.
+fn all_are_done(
+    rt: &impl Abort,
+    alloc: Global,
+    value: &mut CompactString,
+    edits: &[Edit<Standard>],
+) {
+    let mut replies = Vec::new(alloc);
+    run(value, edits, &mut replies).expect(rt, "memory");
+    assert_eq!(rt; replies.len(), edits.len());
+    for reply in &replies {
+        assert!(rt; matches!(reply, Reply::Done));
+    }
+}
+
+#[test]
+fn each_edit_of_a_list_is_run(rt: HostRuntime) {
+    let mut value = copied(&rt, rt.alloc(), letters(3));
+    let edits = [Edit::PushStr("a"), Edit::Reserve(100), Edit::ShrinkTo(50)];
+    all_are_done(&rt, rt.alloc(), &mut value, &edits);
+    assert_heap(&rt, &value, 50, 4);
+}
+
+/// A list of 40 replies and no room for nine more, even where an allocator rounds a request up.
+fn forty_replies(rt: &impl Abort, alloc: Global) -> Vec<Reply<Standard>> {
+    let mut replies = Vec::with_capacity(alloc, 40).expect(rt, "memory");
+    for _ in 0..40 {
+        replies.push(Reply::Done).expect(rt, "memory");
+    }
+    replies
+}
+
+/// Asserts that a list of nine edits is not begun.
+fn is_not_begun(rt: &impl Abort, value: &mut CompactString, replies: &mut Vec<Reply<Standard>>) {
+    let edits: [Edit<Standard>; 9] = [
+        Edit::Clear,
+        Edit::Clear,
+        Edit::Clear,
+        Edit::Clear,
+        Edit::Clear,
+        Edit::Clear,
+        Edit::Clear,
+        Edit::Clear,
+        Edit::PushStr("x"),
+    ];
+    assert!(rt; run(value, &edits, replies).is_err());
+}
+
+/// No edits are run even so.
+#[test]
+fn a_run_with_no_room_for_replies_runs_nothing(rt: HostRuntime) {
+    let mut value = copied(&rt, rt.alloc(), "abc");
+    let mut replies = forty_replies(&rt, rt.alloc());
+    let hog = take_all(&rt, rt.alloc());
+    is_not_begun(&rt, &mut value, &mut replies);
+    run_all(&rt, &mut value, &[], &mut replies);
+    drop(hog);
+    assert_inline(&rt, &value, "abc");
+    assert_eq!(rt; replies.len(), 40);
+    assert!(rt; matches!(replies.get(39), Some(Reply::Done)));
+}
+
+/// A text of 29 bytes, of which the first two are one character.
+fn text() -> &'static str {
+    "äaaaaaaaaaaaaaaaaaaaaaaaaaaa"
+}
+
+/// Runs edits behind the end of that text and within its first character.
+fn tells_bad_positions(
+    rt: &impl Abort,
+    value: &mut CompactString,
+    replies: &mut Vec<Reply<Standard>>,
+) {
+    let edits = [
+        Edit::Insert(30, 'b'),
+        Edit::SplitOff(30),
+        Edit::Insert(1, 'b'),
+        Edit::InsertStr(1, ""),
+        Edit::Remove(1),
+        Edit::ReplaceRange(Included(1), Excluded(2), ""),
+    ];
+    run_all(rt, value, &edits, replies);
+}
+
+#[test]
+fn a_bad_position_is_told_before_a_refusal(rt: HostRuntime) {
+    let mut lasting = CompactString::const_new(rt.alloc(), text());
+    let mut made = copied(&rt, rt.alloc(), text());
+    let mut replies = room_for(&rt, rt.alloc(), 12);
+    let hog = take_all(&rt, rt.alloc());
+    tells_bad_positions(&rt, &mut lasting, &mut replies);
+    tells_bad_positions(&rt, &mut made, &mut replies);
+    drop(hog);
+    assert_seen(&rt, &lasting, "static", 29, text());
+    assert_seen(&rt, &made, "heap", 32, text());
+    assert_eq!(rt; replies.len(), 12);
+    for reply in &replies {
+        assert!(rt; matches!(reply, Reply::BadPosition));
+    }
+}
+
+/// Asserts what an edit answered: whether it was refused.
+fn was_refused(rt: &impl Abort, replies: &[Reply<Standard>], place: usize, refused: bool) {
+    let reply = replies.get(place).expect(rt, "a reply");
+    assert_eq!(rt; matches!(reply, Reply::Refused(_)), refused);
+}
+
+/// Runs the edit `Drain` of a range.
+fn run_drain(
+    rt: &impl Abort,
+    value: &mut CompactString,
+    first: usize,
+    last: usize,
+    replies: &mut Vec<Reply<Standard>>,
+) {
+    let edits = [Edit::Drain(Included(first), Excluded(last))];
+    run_all(rt, value, &edits, replies);
+}
+
+#[test]
+fn the_answer_of_a_drain_is_refused(rt: HostRuntime) {
+    let mut value = copied(&rt, rt.alloc(), letters(60));
+    let mut replies = room_for(&rt, rt.alloc(), 2);
+    let hog = take_all(&rt, rt.alloc());
+    run_drain(&rt, &mut value, 0, 25, &mut replies);
+    run_drain(&rt, &mut value, 0, 24, &mut replies);
+    drop(hog);
+    was_refused(&rt, replies.as_slice(), 0, true);
+    was_refused(&rt, replies.as_slice(), 1, false);
+    assert_heap(&rt, &value, 60, 36);
+}
+
+#[test]
+fn a_drain_that_makes_its_answer_finds_no_room_for_its_text(rt: HostRuntime) {
+    let mut value = lasting(rt.alloc(), 80);
+    let mut replies = room_for(&rt, rt.alloc(), 1);
+    let block = spare(&rt, rt.alloc(), 32);
+    let hog = take_all(&rt, rt.alloc());
+    drop(block);
+    run_drain(&rt, &mut value, 0, 30, &mut replies);
+    drop(hog);
+    was_refused(&rt, replies.as_slice(), 0, true);
+    assert_static(&rt, &value, 80);
+}
+
+#[test]
+fn a_drain_of_60_bytes_is_refused_at_each_request(rt: HostRuntime) {
+    let mut value = lasting(rt.alloc(), 60);
+    let mut replies = room_for(&rt, rt.alloc(), 2);
+    let block = spare(&rt, rt.alloc(), 32);
+    let hog = take_all(&rt, rt.alloc());
+    run_drain(&rt, &mut value, 0, 30, &mut replies);
+    drop(block);
+    run_drain(&rt, &mut value, 0, 30, &mut replies);
+    drop(hog);
+    was_refused(&rt, replies.as_slice(), 0, true);
+    was_refused(&rt, replies.as_slice(), 1, true);
+    assert_static(&rt, &value, 60);
+}

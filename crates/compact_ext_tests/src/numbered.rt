@@ -1,0 +1,116 @@
+//! Texts of numbers and of other values, with ample memory.
+
+use compact_ext::ToCompactString;
+use compact_str::CompactString;
+use compact_testing::values::{assert_inline, assert_seen, buffered, copied};
+use std::alloc::Global;
+use std::num::{NonZeroI128, NonZeroU8, NonZeroU128};
+use std::process::Abort;
+
+/// The text of a value by both names of the call, which agree.
+fn shown<T: ToCompactString>(rt: &impl Abort, alloc: Global, value: T) -> CompactString
+where
+    T: Drop,
+{
+    let first = value.to_compact_string(alloc).expect(rt, "memory");
+    let second = value.try_to_compact_string(alloc).expect(rt, "memory");
+    assert!(rt; first == second);
+    assert!(rt; first.is_heap_allocated() == second.is_heap_allocated());
+    first
+}
+
+/// Asserts the text of a value, and that it stands inline.
+fn assert_shown<T: ToCompactString + Drop>(rt: &impl Abort, alloc: Global, value: T, text: &str) {
+    assert_inline(rt, &shown(rt, alloc, value), text);
+}
+
+#[test]
+fn numbers_have_these_texts(rt: HostRuntime) {
+    let alloc = rt.alloc();
+    for (number, text) in [
+        (0u8, "0"),
+        (9, "9"),
+        (10, "10"),
+        (99, "99"),
+        (100, "100"),
+        (255, "255"),
+    ] {
+        assert_shown(&rt, alloc, number, text);
+    }
+    for (number, text) in [(9999u16, "9999"), (10000, "10000"), (65535, "65535")] {
+        assert_shown(&rt, alloc, number, text);
+    }
+    for (number, text) in [
+        (-128i8, "-128"),
+        (-100, "-100"),
+        (-99, "-99"),
+        (-10, "-10"),
+        (-9, "-9"),
+        (-1, "-1"),
+        (127, "127"),
+    ] {
+        assert_shown(&rt, alloc, number, text);
+    }
+}
+
+#[test]
+fn long_numbers_have_these_texts(rt: HostRuntime) {
+    let alloc = rt.alloc();
+    for (number, text) in [
+        (9999999999999999999u64, "9999999999999999999"),
+        (10000000000000000000, "10000000000000000000"),
+        (u64::MAX, "18446744073709551615"),
+    ] {
+        assert_shown(&rt, alloc, number, text);
+    }
+    assert_shown(&rt, alloc, i16::MIN, "-32768");
+    assert_shown(&rt, alloc, i32::MIN, "-2147483648");
+    assert_shown(&rt, alloc, u32::MAX, "4294967295");
+    assert_shown(&rt, alloc, i64::MIN, "-9223372036854775808");
+    assert_shown(&rt, alloc, i64::MAX, "9223372036854775807");
+    assert_shown(&rt, alloc, 0u128, "0");
+    assert_shown(&rt, alloc, -1i128, "-1");
+    assert_shown(&rt, alloc, NonZeroU128::MIN, "1");
+    assert_shown(&rt, alloc, NonZeroU8::MAX, "255");
+    let most = shown(&rt, alloc, u128::MAX);
+    let text = "340282366920938463463374607431768211455";
+    assert_seen(&rt, &most, "heap", 39, text);
+    let least = shown(&rt, alloc, i128::MIN);
+    let text = "-170141183460469231731687303715884105728";
+    assert_seen(&rt, &least, "heap", 40, text);
+    let least = shown(&rt, alloc, NonZeroI128::MIN);
+    let text = "-170141183460469231731687303715884105728";
+    assert_seen(&rt, &least, "heap", 40, text);
+}
+
+#[test]
+fn other_values_have_these_texts(rt: HostRuntime) {
+    let alloc = rt.alloc();
+    assert_shown(&rt, alloc, 'a', "a");
+    assert_shown(&rt, alloc, "äb", "äb");
+    assert_shown(&rt, alloc, copied(&rt, alloc, "äb"), "äb");
+    assert_shown(&rt, alloc, buffered(&rt, alloc, 256, "abc"), "abc");
+}
+
+/// Asserts the bytes of a value that stands inline.
+fn assert_packed(rt: &impl Abort, value: &CompactString, bytes: &[u8; 24]) {
+    assert_eq!(rt; &value.packed().expect(rt, "inline"), bytes);
+}
+
+#[test]
+fn numbers_are_packed_so(rt: HostRuntime) {
+    let alloc = rt.alloc();
+    let two = b"42\0\0\0\0\0\0\0\0\0\0\0\0\0\0\0\0\0\0\0\0\0\xc2";
+    assert_packed(&rt, &shown(&rt, alloc, 42u8), two);
+    let twenty = b"-9223372036854775808\0\0\0\xd4";
+    assert_packed(&rt, &shown(&rt, alloc, i64::MIN), twenty);
+}
+
+#[test]
+fn the_first_bytes_of_a_row_are_a_text(rt: HostRuntime) {
+    let row = *b"abcdefghijklmnopqrstuvwx";
+    let value = CompactString::from_row_unchecked(rt.alloc(), &row, 3);
+    assert_inline(&rt, &value, "abc");
+    let value = CompactString::from_row_unchecked(rt.alloc(), &row, 24);
+    assert_inline(&rt, &value, "abcdefghijklmnopqrstuvwx");
+}

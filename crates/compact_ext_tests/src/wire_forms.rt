@@ -1,0 +1,40 @@
+//! Forms of texts on a wire, and the names of what comes of a call.
+
+use compact_ext::wire::WireError;
+use std::alloc::Global;
+use std::process::Abort;
+
+/// The name of a fault.
+pub fn name_of(fault: &WireError) -> &'static str {
+    match fault {
+        WireError::TooLong => "too long",
+        WireError::UnexpectedEnd => "end",
+        WireError::Utf8 => "utf8",
+        WireError::Io(_) => "io",
+        WireError::WriteZero => "zero",
+        WireError::Reserve(_) => "reserve",
+    }
+}
+
+/// The name of the fault that a call ended with, or `done`.
+pub fn end_of<T>(ended: &Result<T, WireError>) -> &'static str {
+    match ended {
+        Ok(_) => "done",
+        Err(fault) => name_of(fault),
+    }
+}
+
+/// A form of so many letters: the length, and each letter.
+pub fn form_of(rt: &impl Abort, alloc: Global, len: u8, letter: &[u8], count: usize) -> Vec<u8> {
+    let mut form = Vec::new(alloc);
+    form.extend_from_slice(&[len, 0, 0, 0]).expect(rt, "memory");
+    for _ in 0..count {
+        form.extend_from_slice(letter).expect(rt, "memory");
+    }
+    form
+}
+
+/// The form of so many letters `a`, at most 255.
+pub fn form_of_letters(rt: &impl Abort, alloc: Global, count: u8) -> Vec<u8> {
+    form_of(rt, alloc, count, b"a", count as usize)
+}

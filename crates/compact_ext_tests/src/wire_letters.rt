@@ -1,0 +1,43 @@
+//! A reader of as many letters as it is asked for, which takes no memory.
+
+use std::io;
+use std::io::Read;
+
+/// Gives the four bytes of a length, and then so many letters `a`, with no memory of its own.
+#[derive(Drop)]
+pub struct Letters {
+    pub head: [u8; 4],
+    pub given: usize,
+    pub letters: usize,
+}
+
+impl Letters {
+    /// A reader that claims `len` bytes and has `letters`.
+    pub fn new(len: u32, letters: usize) -> Self {
+        Letters {
+            head: len.to_le_bytes(),
+            given: 0,
+            letters,
+        }
+    }
+}
+
+impl Read for Letters {
+    fn read(&mut self, buf: &mut [u8]) -> io::Result<usize> {
+        if buf.is_empty() {
+            return Ok(0);
+        }
+        if self.given < 4 {
+            buf[0] = self.head[self.given];
+            self.given += 1;
+            return Ok(1);
+        }
+        let count = buf.len().min(self.letters);
+        for byte in &mut buf[..count] {
+            *byte = b'a';
+        }
+        self.letters -= count;
+        self.given = self.given.saturating_add(count);
+        Ok(count)
+    }
+}

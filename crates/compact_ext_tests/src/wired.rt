@@ -1,0 +1,240 @@
+//! Texts that are written over a wire and read: the bytes, and what each fault has taken or put out. The bytes were written
+//! by hand from the definition of the form.
+
+use crate::wire_forms::{end_of, form_of, form_of_letters};
+use crate::wire_letters::Letters;
+use compact_ext::wire::{WireError, read_wire, write_wire};
+use compact_str::{CompactString, ReserveError};
+use compact_testing::pieces::{Narrow, Pieces, Stop};
+use compact_testing::values::{assert_inline, copied, letters};
+use std::alloc::Global;
+use std::fmt::Write;
+use std::io;
+use std::io::ErrorKind;
+use std::process::Abort;
+
+/// Asserts that a text is written as these bytes.
+fn assert_written(rt: &impl Abort, alloc: Global, text: &str, bytes: &[u8]) {
+    let mut written = Vec::new(alloc);
+    let sent = write_wire(&copied(rt, alloc, text), &mut written);
+    assert!(rt; sent.is_ok());
+    assert_eq!(rt; written.as_slice(), bytes);
+}
+
+#[test]
+fn short_texts_are_written(rt: HostRuntime) {
+    let alloc = rt.alloc();
+    for (text, bytes) in [
+        ("Hi", b"\x02\0\0\0\x48\x69".as_slice()),
+        ("", b"\0\0\0\0".as_slice()),
+        ("€", b"\x03\0\0\0\xE2\x82\xAC".as_slice()),
+    ] {
+        assert_written(&rt, alloc, text, bytes);
+    }
+}
+
+#[test]
+fn long_texts_are_written(rt: HostRuntime) {
+    let alloc = rt.alloc();
+    for len in [25u8, 55] {
+        let form = form_of_letters(&rt, alloc, len);
+        assert_written(&rt, alloc, letters(len as usize), &form);
+    }
+}
+
+#[test]
+fn what_follows_a_form_stays_unread(rt: HostRuntime) {
+    let bytes: [u8; 7] = [2, 0, 0, 0, 0x48, 0x69, 0x4A];
+    let mut rest: &[u8] = &bytes;
+    let text = read_wire(rt.alloc(), &mut rest).expect(&rt, "a text");
+    assert_inline(&rt, &text, "Hi");
+    assert_eq!(rt; rest.len(), 1);
+    assert!(rt; rest.first() == Some(&0x4A));
+}
+
+/// Asserts how an input ends that is no form, and that it is taken whole.
+fn assert_no_form(rt: &impl Abort, alloc: Global, bytes: &[u8], fault: &str) {
+    let mut rest = bytes;
+    assert_eq!(rt; end_of(&read_wire(alloc, &mut rest)), fault);
+    assert_eq!(rt; rest.len(), 0);
+}
+
+#[test]
+fn an_input_that_is_no_form_has_a_fault(rt: HostRuntime) {
+    let alloc = rt.alloc();
+    for (bytes, fault) in [
+        (b"".as_slice(), "end"),
+        (b"\x02\0".as_slice(), "end"),
+        (b"\x01\0\0\0\xFF".as_slice(), "utf8"),
+        (b"\xFF\xFF\xFF\xFFabc".as_slice(), "end"),
+        (b"\x18\0\0\0aaaaaaaaaaaaaaaaaaaaaaa".as_slice(), "end"),
+    ] {
+        assert_no_form(&rt, alloc, bytes, fault);
+    }
+    let form = form_of_letters(&rt, alloc, 55);
+    assert_eq!(rt; form.len(), 59);
+    assert_no_form(&rt, alloc, form.get(..58).unwrap_or(&[]), "end");
+}
+
+#[test]
+fn a_text_is_read_in_pieces(rt: HostRuntime) {
+    let alloc = rt.alloc();
+    let form = form_of(&rt, alloc, 0x3C, "€".as_bytes(), 20);
+    for step in 1..65 {
+        let mut reader = Pieces::new(&form, step, Stop::Never);
+        let text = read_wire(alloc, &mut reader).expect(&rt, "a text");
+        assert_eq!(rt; text.as_bytes(), form.get(4..).unwrap_or(&[]));
+        assert!(rt; text.is_heap_allocated());
+        assert_eq!(rt; text.capacity(), 60);
+        assert_eq!(rt; reader.rest.len(), 0);
+    }
+}
+
+/// Asserts that a reader that gives one byte a call, and stops at one, is not called again, and has given the bytes before.
+fn assert_stops(rt: &impl Abort, alloc: Global, form: &[u8], call: usize, stop: Stop, fault: &str) {
+    let mut reader = Pieces::new(form, 1, stop);
+    assert_eq!(rt; end_of(&read_wire(alloc, &mut reader)), fault);
+    assert_eq!(rt; reader.calls, call);
+    assert_eq!(rt; reader.rest.len().saturating_add(call), form.len() + 1);
+}
+
+/// Asserts that, at each call of a form, for each way to stop.
+fn assert_each_stop(rt: &impl Abort, alloc: Global, form: &[u8]) {
+    for call in 1..form.len() + 1 {
+        assert_stops(
+            rt,
+            alloc,
+            form,
+            call,
+            Stop::Breaks(call, ErrorKind::Other),
+            "io",
+        );
+        let interrupted = Stop::Breaks(call, ErrorKind::Interrupted);
+        assert_stops(rt, alloc, form, call, interrupted, "io");
+        assert_stops(rt, alloc, form, call, Stop::Pauses(call), "end");
+    }
+    let late = Stop::Breaks(form.len() + 1, ErrorKind::Other);
+    let mut reader = Pieces::new(form, 1, late);
+    assert_eq!(rt; end_of(&read_wire(alloc, &mut reader)), "done");
+    assert_eq!(rt; reader.calls, form.len());
+}
+
+#[test]
+fn no_read_is_tried_again(rt: HostRuntime) {
+    let alloc = rt.alloc();
+    assert_each_stop(&rt, alloc, &[2, 0, 0, 0, 0x48, 0x69]);
+    let form = form_of_letters(&rt, alloc, 55);
+    assert_each_stop(&rt, alloc, &form);
+}
+
+/// Asserts how a write to a writer ends, and what has gone out.
+fn assert_writes(rt: &impl Abort, text: &CompactString, mut writer: Narrow, end: &str, out: &[u8]) {
+    assert_eq!(rt; end_of(&write_wire(text, &mut writer)), end);
+    assert_eq!(rt; writer.bytes(), out);
+}
+
+#[test]
+fn a_writer_that_is_full_has_a_beginning(rt: HostRuntime) {
+    let text = copied(&rt, rt.alloc(), "Hi");
+    let form: [u8; 6] = [2, 0, 0, 0, 0x48, 0x69];
+    for room in 0..6 {
+        let out = form.get(..room).unwrap_or(&[]);
+        let full = Narrow::new(room, 5, Stop::Never);
+        assert_writes(&rt, &text, full, "zero", out);
+    }
+    let whole = Narrow::new(6, 1, Stop::Breaks(7, ErrorKind::Other));
+    assert_writes(&rt, &text, whole, "done", &form);
+}
+
+#[test]
+fn a_writer_that_fails_has_a_beginning(rt: HostRuntime) {
+    let text = copied(&rt, rt.alloc(), "Hi");
+    let form: [u8; 6] = [2, 0, 0, 0, 0x48, 0x69];
+    for call in 1..7usize {
+        let out = form.get(..call - 1).unwrap_or(&[]);
+        for kind in [ErrorKind::Other, ErrorKind::Interrupted] {
+            let failing = Narrow::new(6, 1, Stop::Fails(call, kind));
+            assert_writes(&rt, &text, failing, "io", out);
+        }
+    }
+}
+
+#[test]
+fn an_empty_text_needs_four_bytes(rt: HostRuntime) {
+    let text = CompactString::default(rt.alloc());
+    let four: [u8; 4] = [0; 4];
+    assert_writes(&rt, &text, Narrow::new(4, 4, Stop::Never), "done", &four);
+    assert_writes(
+        &rt,
+        &text,
+        Narrow::new(4, 1, Stop::Pauses(5)),
+        "done",
+        &four,
+    );
+}
+
+#[test]
+fn a_long_text_is_read_in_rooms(rt: HostRuntime) {
+    let alloc = rt.alloc();
+    let mut short = Letters::new(0x0010_0001, 1_048_576);
+    assert_eq!(rt; end_of(&read_wire(alloc, &mut short)), "end");
+    assert_eq!(rt; short.given, 4 + 1_048_576);
+    let mut whole = Letters::new(0x0010_0001, 1_048_577);
+    let text = read_wire(alloc, &mut whole).expect(&rt, "a text");
+    assert!(rt; text.is_heap_allocated());
+    assert_eq!(rt; text.len(), 1_048_577);
+    assert_eq!(rt; text.capacity(), 1_048_577);
+}
+
+#[test]
+fn texts_of_each_length_come_back(rt: HostRuntime) {
+    let alloc = rt.alloc();
+    let mut bytes = Vec::new(alloc);
+    for count in 0..80 {
+        let sent = write_wire(&copied(&rt, alloc, letters(count)), &mut bytes);
+        assert!(rt; sent.is_ok());
+    }
+    let mut rest = bytes.as_slice();
+    for count in 0..80 {
+        let text = read_wire(alloc, &mut rest).expect(&rt, "a text");
+        assert_eq!(rt; text.as_str(), letters(count));
+        assert!(rt; text.is_heap_allocated() == (count > 24));
+    }
+    assert_eq!(rt; rest.len(), 0);
+}
+
+/// Asserts how a fault is shown.
+fn assert_shown(rt: &impl Abort, alloc: Global, fault: WireError, text: &str) {
+    let mut shown = CompactString::default(alloc);
+    write!(shown, "{fault}").expect(rt, "memory");
+    assert_eq!(rt; shown.as_str(), text);
+}
+
+#[test]
+fn faults_are_shown(rt: HostRuntime) {
+    let alloc = rt.alloc();
+    assert_shown(
+        &rt,
+        alloc,
+        WireError::TooLong,
+        "text too long for the wire form",
+    );
+    assert_shown(
+        &rt,
+        alloc,
+        WireError::UnexpectedEnd,
+        "unexpected end of input",
+    );
+    assert_shown(&rt, alloc, WireError::Utf8, "invalid utf-8");
+    let failed = WireError::Io(io::Error::other("x"));
+    assert_shown(&rt, alloc, failed, "input or output failed");
+    assert_shown(&rt, alloc, WireError::WriteZero, "writer took no bytes");
+    let refused = WireError::from(ReserveError);
+    assert!(rt; matches!(refused, WireError::Reserve(_)));
+    assert_shown(
+        &rt,
+        alloc,
+        refused,
+        "Cannot allocate memory to hold CompactString",
+    );
+}

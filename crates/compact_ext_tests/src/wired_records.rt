@@ -1,0 +1,221 @@
+//! Texts of a reader that are read one after another until its end. The bytes were written by hand from the definition of
+//! the form.
+
+use crate::wire_forms::name_of;
+use compact_ext::wire::{Records, WireError};
+use compact_str::CompactString;
+use compact_testing::memory::take_all;
+use compact_testing::pieces::{Pieces, Stop};
+use compact_testing::values::{assert_inline, assert_seen, letters};
+use std::alloc::Global;
+use std::io::{BufRead, BufReader, ErrorKind};
+use std::process::Abort;
+
+/// The forms of `a`, of no text and of `Hi`.
+const RECORDS: [u8; 15] = [1, 0, 0, 0, 0x61, 0, 0, 0, 0, 2, 0, 0, 0, 0x48, 0x69];
+
+/// All records of a reader.
+fn read_records<R: BufRead + Drop>(
+    alloc: Global,
+    reader: R,
+) -> Result<Vec<CompactString>, WireError> {
+    Records::new(alloc, reader).into_vec()
+}
+
+/// Asserts that the next record is this text, inline.
+fn assert_next<R: BufRead + Drop>(rt: &impl Abort, records: &mut Records<R>, text: &str) {
+    let item = records.next().expect(rt, "no end");
+    assert_inline(rt, &item.expect(rt, "a text"), text);
+}
+
+/// Asserts that the next record is a fault of this name.
+fn assert_next_fault<R: BufRead + Drop>(rt: &impl Abort, records: &mut Records<R>, fault: &str) {
+    match records.next() {
+        Some(Err(found)) => assert_eq!(rt; name_of(&found), fault),
+        _ => assert!(rt; false),
+    }
+}
+
+/// Asserts that there is no other record, however often it is asked for.
+fn assert_end<R: BufRead + Drop>(rt: &impl Abort, records: &mut Records<R>) {
+    assert!(rt; records.next().is_none());
+    assert!(rt; records.next().is_none());
+}
+
+/// Asserts that the records of some bytes are not collected, with this fault.
+fn assert_not_collected<R: BufRead + Drop>(rt: &impl Abort, alloc: Global, reader: R, fault: &str) {
+    match read_records(alloc, reader) {
+        Ok(_) => assert!(rt; false),
+        Err(found) => assert_eq!(rt; name_of(&found), fault),
+    }
+}
+
+#[test]
+fn each_record_comes_in_its_turn(rt: HostRuntime) {
+    let mut records = Records::new(rt.alloc(), RECORDS.as_slice());
+    for text in ["a", "", "Hi"] {
+        assert_next(&rt, &mut records, text);
+    }
+    assert_end(&rt, &mut records);
+}
+
+#[test]
+fn records_come_in_pieces(rt: HostRuntime) {
+    let alloc = rt.alloc();
+    for step in 1..16 {
+        let pieces = Pieces::new(&RECORDS, step, Stop::Never);
+        let reader = BufReader::with_capacity(alloc, 3, pieces).expect(&rt, "a buffer");
+        let records = read_records(alloc, reader).expect(&rt, "records");
+        assert_eq!(rt; records.len(), 3);
+        for (record, text) in records.iter().zip(["a", "", "Hi"].iter()) {
+            assert_inline(&rt, record, *text);
+        }
+    }
+}
+
+#[test]
+fn no_bytes_are_no_records(rt: HostRuntime) {
+    let none: &[u8] = &[];
+    let records = read_records(rt.alloc(), none).expect(&rt, "records");
+    assert_eq!(rt; records.len(), 0);
+    let first = Records::new(rt.alloc(), none).next();
+    assert!(rt; first.is_none());
+}
+
+/// Asserts what comes of the first bytes of the three records, which end within the third.
+fn assert_cut(rt: &impl Abort, alloc: Global, len: usize) {
+    let bytes = RECORDS.get(..len).unwrap_or(&[]);
+    let mut records = Records::new(alloc, bytes);
+    assert_next(rt, &mut records, "a");
+    assert_next(rt, &mut records, "");
+    assert_next_fault(rt, &mut records, "end");
+    assert_end(rt, &mut records);
+    assert_not_collected(rt, alloc, bytes, "end");
+}
+
+#[test]
+fn an_end_within_a_record_is_a_fault(rt: HostRuntime) {
+    for len in 10..15 {
+        assert_cut(&rt, rt.alloc(), len);
+    }
+}
+
+#[test]
+fn after_a_text_that_is_none_the_next_comes(rt: HostRuntime) {
+    let bytes: [u8; 10] = [1, 0, 0, 0, 0xFF, 1, 0, 0, 0, 0x61];
+    let mut records = Records::new(rt.alloc(), bytes.as_slice());
+    assert_next_fault(&rt, &mut records, "utf8");
+    assert_next(&rt, &mut records, "a");
+    assert_end(&rt, &mut records);
+    assert_not_collected(&rt, rt.alloc(), bytes.as_slice(), "utf8");
+}
+
+/// A reader of the three records that gives five bytes at its first call, and fails from its second on.
+fn failing(rt: &impl Abort, alloc: Global, kind: ErrorKind) -> BufReader<Pieces<'static>> {
+    let pieces = Pieces::new(&RECORDS, 5, Stop::Breaks(2, kind));
+    BufReader::with_capacity(alloc, 8, pieces).expect(rt, "a buffer")
+}
+
+/// Asserts that a failure behind the first record is told, and not tried again.
+fn assert_failure(rt: &impl Abort, alloc: Global, kind: ErrorKind) {
+    let mut records = Records::new(alloc, failing(rt, alloc, kind));
+    assert_next(rt, &mut records, "a");
+    assert_next_fault(rt, &mut records, "io");
+    assert_next_fault(rt, &mut records, "io");
+    assert_not_collected(rt, alloc, failing(rt, alloc, kind), "io");
+}
+
+/// The form of `text`, which has at most 255 bytes, and after it that of `a`.
+fn with_another(rt: &impl Abort, alloc: Global, text: &[u8]) -> Vec<u8> {
+    let mut bytes = Vec::new(alloc);
+    let len = u8::try_from(text.len()).expect(rt, "a short text");
+    let parts: [&[u8]; 4] = [&[len], &[0, 0, 0], text, &[1, 0, 0, 0, 0x61]];
+    for part in parts {
+        bytes.extend_from_slice(part).expect(rt, "memory");
+    }
+    bytes
+}
+
+/// Asserts that a reader has this text, on the heap with just the room that it needs, and then `a`.
+fn assert_long_and_another<R: BufRead + Drop>(
+    rt: &impl Abort,
+    alloc: Global,
+    reader: R,
+    text: &str,
+) {
+    let mut records = Records::new(alloc, reader);
+    let item = records.next().expect(rt, "no end");
+    assert_seen(rt, &item.expect(rt, "a text"), "heap", text.len(), text);
+    assert_next(rt, &mut records, "a");
+    assert_end(rt, &mut records);
+}
+
+// A slice shows the whole form, and a buffer of eight bytes a part of it.
+#[test]
+fn long_records_have_just_their_room(rt: HostRuntime) {
+    let alloc = rt.alloc();
+    for len in [25, 31, 32, 33, 63, 64, 80] {
+        let bytes = with_another(&rt, alloc, letters(len).as_bytes());
+        assert_long_and_another(&rt, alloc, bytes.as_slice(), letters(len));
+        let reader = BufReader::with_capacity(alloc, 8, bytes.as_slice()).expect(&rt, "a buffer");
+        assert_long_and_another(&rt, alloc, reader, letters(len));
+    }
+}
+
+/// Asserts that so many letters, of which one is replaced by a byte that no text has, are a fault, and that `a` comes after it.
+fn assert_broken_and_another(rt: &impl Abort, alloc: Global, len: usize, at: usize) {
+    let mut text = [0x61; 80];
+    if let Some(byte) = text.get_mut(at) {
+        *byte = 0xFF;
+    }
+    let bytes = with_another(rt, alloc, text.get(..len).unwrap_or(&[]));
+    let mut records = Records::new(alloc, bytes.as_slice());
+    assert_next_fault(rt, &mut records, "utf8");
+    assert_next(rt, &mut records, "a");
+    assert_end(rt, &mut records);
+}
+
+#[test]
+fn after_bytes_that_are_no_text_the_next_comes(rt: HostRuntime) {
+    for len in [1usize, 3, 4, 7, 8, 15, 16, 23, 24, 25, 31, 32, 63, 64, 80] {
+        for at in [0, len / 2, len.saturating_sub(1)] {
+            assert_broken_and_another(&rt, rt.alloc(), len, at);
+        }
+    }
+}
+
+// The text has five forms of `b` in it. Refused, only its length is taken, so they are read as records.
+#[test]
+fn where_room_is_refused_the_text_stays_unread(rt: HostRuntime) {
+    let bytes = with_another(
+        &rt,
+        rt.alloc(),
+        b"\x01\0\0\0b\x01\0\0\0b\x01\0\0\0b\x01\0\0\0b\x01\0\0\0b",
+    );
+    let hog = take_all(&rt, rt.alloc());
+    let mut records = Records::new(rt.alloc(), bytes.as_slice());
+    assert_next_fault(&rt, &mut records, "reserve");
+    for text in ["b", "b", "b", "b", "b", "a"] {
+        assert_next(&rt, &mut records, text);
+    }
+    assert_end(&rt, &mut records);
+    drop(hog);
+}
+
+#[test]
+fn a_failure_between_records_is_told(rt: HostRuntime) {
+    for kind in [ErrorKind::Other, ErrorKind::Interrupted] {
+        assert_failure(&rt, rt.alloc(), kind);
+    }
+}
+
+#[test]
+fn records_need_memory_only_where_they_are_collected(rt: HostRuntime) {
+    let hog = take_all(&rt, rt.alloc());
+    let mut records = Records::new(rt.alloc(), RECORDS.as_slice());
+    for text in ["a", "", "Hi"] {
+        assert_next(&rt, &mut records, text);
+    }
+    assert_not_collected(&rt, rt.alloc(), RECORDS.as_slice(), "reserve");
+    drop(hog);
+}

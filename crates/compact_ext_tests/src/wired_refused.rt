@@ -1,0 +1,65 @@
+//! Texts that are written over a wire and read while requests for memory are refused. How much room was asked for shows in
+//! how many bytes the reader had given when it was.
+
+use crate::wire_forms::end_of;
+use crate::wire_letters::Letters;
+use compact_ext::wire::{WireError, read_wire, write_wire};
+use compact_testing::memory::{spare, take_all};
+use compact_testing::values::copied;
+use std::alloc::Global;
+use std::process::Abort;
+
+const MEGABYTE: usize = 1 << 20;
+
+/// Asserts that room for a text of so many bytes is refused once the reader has given `given`, the length among them.
+fn assert_refused(rt: &impl Abort, alloc: Global, len: u32, given: usize) {
+    let mut reader = Letters::new(len, 16 * MEGABYTE);
+    assert_eq!(rt; end_of(&read_wire(alloc, &mut reader)), "reserve");
+    assert_eq!(rt; reader.given, given);
+}
+
+#[test]
+fn a_longer_text_is_refused_after_its_length(rt: HostRuntime) {
+    let hog = take_all(&rt, rt.alloc());
+    for len in [25, 55, u32::MAX] {
+        assert_refused(&rt, rt.alloc(), len, 4);
+    }
+    drop(hog);
+}
+
+/// Asserts what a reader of the greatest length has given, where so much memory in one piece is all that is left.
+fn assert_refused_within(rt: &impl Abort, alloc: Global, left: usize, given: usize) {
+    let block = spare(rt, alloc, left);
+    let hog = take_all(rt, alloc);
+    drop(block);
+    assert_refused(rt, alloc, u32::MAX, given);
+    drop(hog);
+}
+
+// What is left is found by trial with the C library's allocator: it grants one room from 2 megabytes on, two from 6 and
+// three from 10, since it takes more than it is asked for and keeps a room until its bytes are moved.
+
+#[test]
+fn the_second_room_is_refused(rt: HostRuntime) {
+    assert_refused_within(&rt, rt.alloc(), 3 * MEGABYTE, 4 + MEGABYTE);
+}
+
+#[test]
+fn the_third_room_is_refused(rt: HostRuntime) {
+    assert_refused_within(&rt, rt.alloc(), 7 * MEGABYTE, 4 + 2 * MEGABYTE);
+}
+
+#[test]
+fn the_fourth_room_is_refused(rt: HostRuntime) {
+    assert_refused_within(&rt, rt.alloc(), 13 * MEGABYTE, 4 + 4 * MEGABYTE);
+}
+
+#[test]
+fn a_vector_with_no_room_is_a_writer_that_fails(rt: HostRuntime) {
+    let text = copied(&rt, rt.alloc(), "Hi");
+    let mut bytes = Vec::new(rt.alloc());
+    let hog = take_all(&rt, rt.alloc());
+    assert!(rt; matches!(write_wire(&text, &mut bytes), Err(WireError::Io(_))));
+    drop(hog);
+    assert_eq!(rt; bytes.len(), 0);
+}

@@ -1,0 +1,106 @@
+//! Wire forms that come and go in pieces: a reader that ends at each of its bytes, and a writer that stops at each.
+
+use crate::wire_forms::{end_of, form_of_letters};
+use compact_ext::wire::{read_wire, write_wire};
+use compact_str::CompactString;
+use compact_testing::pieces::{Narrow, Pieces, Stop};
+use compact_testing::values::{assert_inline, assert_seen, copied, letters};
+use std::alloc::Global;
+use std::io::ErrorKind;
+use std::process::Abort;
+
+/// Asserts that each beginning of a form is an input that ends too early, and is taken whole.
+fn assert_beginnings(rt: &impl Abort, alloc: Global, form: &[u8], step: usize) {
+    for count in 0..form.len() {
+        let mut reader = Pieces::new(form.get(..count).unwrap_or(&[]), step, Stop::Never);
+        assert_eq!(rt; end_of(&read_wire(alloc, &mut reader)), "end");
+        assert_eq!(rt; reader.rest.len(), 0);
+    }
+}
+
+#[test]
+fn each_beginning_of_a_form_ends_too_early(rt: HostRuntime) {
+    let short = form_of_letters(&rt, rt.alloc(), 24);
+    assert_eq!(rt; short.len(), 28);
+    assert_beginnings(&rt, rt.alloc(), &short, 1);
+    assert_beginnings(&rt, rt.alloc(), &short, 5);
+    let long = form_of_letters(&rt, rt.alloc(), 30);
+    assert_beginnings(&rt, rt.alloc(), &long, 1);
+    assert_beginnings(&rt, rt.alloc(), &long, 5);
+}
+
+#[test]
+fn a_text_comes_byte_by_byte(rt: HostRuntime) {
+    let form = form_of_letters(&rt, rt.alloc(), 24);
+    let text = read_wire(rt.alloc(), &mut Pieces::new(&form, 1, Stop::Never)).expect(&rt, "a text");
+    assert_inline(&rt, &text, letters(24));
+    let form = form_of_letters(&rt, rt.alloc(), 25);
+    let text = read_wire(rt.alloc(), &mut Pieces::new(&form, 1, Stop::Never)).expect(&rt, "a text");
+    assert_seen(&rt, &text, "heap", 25, letters(25));
+}
+
+/// Asserts that bytes that are no text are told so once they have come, with what follows unread.
+fn assert_broken(rt: &impl Abort, alloc: Global, bytes: &[u8], left: usize) {
+    let mut reader = Pieces::new(bytes, 1, Stop::Never);
+    assert_eq!(rt; end_of(&read_wire(alloc, &mut reader)), "utf8");
+    assert_eq!(rt; reader.rest.len(), left);
+    assert_eq!(rt; reader.calls.saturating_add(left), bytes.len());
+}
+
+#[test]
+fn broken_bytes_come_one_by_one(rt: HostRuntime) {
+    assert_broken(&rt, rt.alloc(), b"\x02\0\0\0\xC0\x80", 0);
+    assert_broken(&rt, rt.alloc(), b"\x03\0\0\0\xED\xA0\x80\x41\x42", 2);
+    assert_broken(&rt, rt.alloc(), b"\x02\0\0\0\xE2\x82\xAC", 1);
+    assert_broken(
+        &rt,
+        rt.alloc(),
+        b"\x1A\0\0\0aaaaaaaaaaaaaaaaaaaaaaaa\xE2\x82\xAC",
+        1,
+    );
+}
+
+/// Asserts how a text is written by a writer that takes one byte a call, and what has gone out.
+fn assert_sent(rt: &impl Abort, text: &CompactString, stop: Stop, end: &str, out: &[u8]) {
+    let mut writer = Narrow::new(256, 1, stop);
+    assert_eq!(rt; end_of(&write_wire(text, &mut writer)), end);
+    assert_eq!(rt; writer.bytes(), out);
+}
+
+#[test]
+fn a_long_text_stops_at_each_byte(rt: HostRuntime) {
+    let text = copied(&rt, rt.alloc(), letters(30));
+    let form = form_of_letters(&rt, rt.alloc(), 30);
+    assert_sent(&rt, &text, Stop::Never, "done", &form);
+    for call in 1..form.len() + 1 {
+        let out = form.get(..call - 1).unwrap_or(&[]);
+        assert_sent(&rt, &text, Stop::Fails(call, ErrorKind::Other), "io", out);
+        assert_sent(
+            &rt,
+            &text,
+            Stop::Fails(call, ErrorKind::Interrupted),
+            "io",
+            out,
+        );
+        assert_sent(&rt, &text, Stop::Pauses(call), "zero", out);
+    }
+}
+
+/// Asserts that a claim of the greatest length is told by how its reader ends, which has given `count` bytes of the text.
+fn assert_claimed(rt: &impl Abort, alloc: Global, count: usize) {
+    let bytes = b"\xFF\xFF\xFF\xFFabc";
+    let call = count.saturating_add(5);
+    let mut reader = Pieces::new(bytes, 1, Stop::Fails(call, ErrorKind::Other));
+    assert_eq!(rt; end_of(&read_wire(alloc, &mut reader)), "io");
+    assert_eq!(rt; reader.rest.len().saturating_add(count), 3);
+    let mut reader = Pieces::new(bytes, 1, Stop::Pauses(call));
+    assert_eq!(rt; end_of(&read_wire(alloc, &mut reader)), "end");
+    assert_eq!(rt; reader.rest.len().saturating_add(count), 3);
+}
+
+#[test]
+fn the_greatest_length_needs_its_bytes(rt: HostRuntime) {
+    for count in 0..4 {
+        assert_claimed(&rt, rt.alloc(), count);
+    }
+}

@@ -1,0 +1,15 @@
+//! Tests of `compact_lines`: sessions of lines, lines that are no commands, and readers and writers that stop.
+#![tactic(auto)]
+
+#[cfg(test)]
+mod growth;
+#[cfg(test)]
+mod lines;
+#[cfg(test)]
+mod no_commands;
+#[cfg(test)]
+mod sessions;
+#[cfg(test)]
+mod stopped;
+#[cfg(test)]
+mod taken;

@@ -1,0 +1,13 @@
+//! Tests of `compact_repr`, of what a caller sees of it: representations of texts in each of the three places.
+#![tactic(auto, using(compact_repr::proofs::TextFacts::text_facts))]
+
+#[cfg(test)]
+mod changes;
+#[cfg(test)]
+mod rows;
+#[cfg(test)]
+mod static_text;
+#[cfg(test)]
+mod values;
+#[cfg(test)]
+mod words;

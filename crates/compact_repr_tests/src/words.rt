@@ -1,0 +1,114 @@
+//! Inline texts as their 24 bytes, at each length where another read begins or ends, and at each end of each word of eight
+//! bytes. Behind the text stand zeros, and last, where the text leaves it free, 192 and the length.
+
+use crate::values::copied;
+use compact_repr::{Repr, Standard};
+use std::alloc::Global;
+use std::ops::Range;
+use std::process::Abort;
+
+/// Texts of which the beginnings are taken: letters, and characters of two and three bytes, all of 128 and above.
+const TEXTS: [&str; 3] = ["abcdefghijklmnopqrstuvwx", "äöüßäöüßäöüß", "€äöüßäöüßäöüß"];
+
+/// The row is the text, then zeros, and the mark of its length.
+fn begins(rt: &impl Abort, alloc: Global, text: &str) {
+    assert!(rt; text.len() <= 24);
+    let mark = (192 + text.len()) as u8;
+    let made = copied(rt, alloc, text);
+    let row = made.packed().expect(rt, "an inline text");
+    for (place, byte) in row.iter().enumerate() {
+        let behind = if place == 23 { mark } else { 0 };
+        assert_eq!(rt;
+            *byte,
+            text.as_bytes().get(place).copied().unwrap_or(behind),
+            "{text}, {place}"
+        );
+    }
+    assert_eq!(rt; made.as_str(), text);
+}
+
+/// The same of each beginning whose length is in the range.
+fn each_begins(rt: &impl Abort, alloc: Global, lens: Range<usize>) -> usize {
+    let mut count = 0usize;
+    for text in TEXTS {
+        for len in lens.start..lens.end {
+            if let Some(part) = text.get(..len) {
+                begins(rt, alloc, part);
+                count = count.saturating_add(1);
+            }
+        }
+    }
+    count
+}
+
+/// Of the letters there are 9 beginnings, of the others 5 and 4.
+#[test]
+fn rows_of_one_word(rt: HostRuntime) {
+    assert_eq!(rt; each_begins(&rt, rt.alloc(), 0..9), 18);
+}
+
+/// Of the letters there are 16 beginnings, of the others 8 each.
+#[test]
+fn rows_of_more_words(rt: HostRuntime) {
+    assert_eq!(rt; each_begins(&rt, rt.alloc(), 9..25), 32);
+}
+
+/// The last byte of the row is the text's own.
+#[test]
+fn a_byte_is_put_in(rt: HostRuntime) {
+    for (at, row) in [
+        (0, b"-abcdefghijklmnopqrstuvw"),
+        (7, b"abcdefg-hijklmnopqrstuvw"),
+        (8, b"abcdefgh-ijklmnopqrstuvw"),
+        (15, b"abcdefghijklmno-pqrstuvw"),
+        (16, b"abcdefghijklmnop-qrstuvw"),
+        (23, b"abcdefghijklmnopqrstuvw-"),
+    ] {
+        let mut text = copied(&rt, rt.alloc(), "abcdefghijklmnopqrstuvw");
+        assert!(rt; text.is_char_boundary(at));
+        assert!(rt; text.insert_ascii_in_place(at, b'-'));
+        assert_eq!(rt; text.packed(), Some(*row), "{at}");
+    }
+}
+
+/// Takes the byte at a place out.
+fn remove(rt: &impl Abort, text: &mut Repr<Standard>, at: usize) {
+    assert!(rt; at < 24);
+    assert!(rt; text.is_char_boundary(at));
+    assert!(rt; text.is_char_boundary(at + 1));
+    assert!(rt; text.remove_ascii_in_place(at));
+}
+
+/// A second byte is taken out, so that a mark is seen in the place of another. What stands before it, behind the text, is open.
+#[test]
+fn a_byte_is_taken_out(rt: HostRuntime) {
+    for (at, first, second) in [
+        (0, b"bcdefghijklmnopqrstuvwx\xD7", b"cdefghijklmnopqrstuvwx"),
+        (7, b"abcdefgijklmnopqrstuvwx\xD7", b"bcdefgijklmnopqrstuvwx"),
+        (8, b"abcdefghjklmnopqrstuvwx\xD7", b"bcdefghjklmnopqrstuvwx"),
+        (
+            15,
+            b"abcdefghijklmnoqrstuvwx\xD7",
+            b"bcdefghijklmnoqrstuvwx",
+        ),
+        (
+            16,
+            b"abcdefghijklmnoprstuvwx\xD7",
+            b"bcdefghijklmnoprstuvwx",
+        ),
+        (
+            23,
+            b"abcdefghijklmnopqrstuvw\xD7",
+            b"bcdefghijklmnopqrstuvw",
+        ),
+    ] {
+        let mut text = copied(&rt, rt.alloc(), "abcdefghijklmnopqrstuvwx");
+        remove(&rt, &mut text, at);
+        assert_eq!(rt; text.packed(), Some(*first), "{at}");
+        remove(&rt, &mut text, 0);
+        let row = text.packed().expect(&rt, "an inline text");
+        assert_eq!(rt; &row[..22], second.as_slice(), "{at}");
+        assert_eq!(rt; row[23], 0xD6, "{at}");
+        assert_eq!(rt; text.as_str().as_bytes(), second.as_slice(), "{at}");
+    }
+}

@@ -1,0 +1,93 @@
+//! Buffers whose bytes lie in pieces, parted at each place.
+
+use crate::drips::Drips;
+use bytes::Buf;
+use compact_str::{CompactString, FromUtf8Error};
+use compact_testing::memory::take_all;
+use compact_testing::values::{assert_fitted, letters};
+use std::alloc::Global;
+use std::process::Abort;
+
+/// What two pieces give, of which none remains.
+fn of_two(
+    rt: &impl Abort,
+    alloc: Global,
+    bytes: &[u8],
+    place: usize,
+) -> Result<CompactString, FromUtf8Error> {
+    let first = bytes.get(..place).unwrap_or(&[]);
+    let second = bytes.get(place..).unwrap_or(&[]);
+    let mut both = Buf::chain(first, second);
+    let made = CompactString::from_utf8_buf(alloc, &mut both);
+    assert_eq!(rt; both.remaining(), 0);
+    made
+}
+
+/// What bytes give of which no two lie together.
+fn of_drips(rt: &impl Abort, alloc: Global, bytes: &[u8]) -> Result<CompactString, FromUtf8Error> {
+    let mut drips = Drips { rest: bytes };
+    let made = CompactString::from_utf8_buf(alloc, &mut drips);
+    assert_eq!(rt; drips.rest.len(), 0);
+    made
+}
+
+/// Asserts that a text is read wherever it is parted.
+fn assert_read(rt: &impl Abort, alloc: Global, text: &str) {
+    let bytes = text.as_bytes();
+    for place in 0..bytes.len() + 1 {
+        let made = of_two(rt, alloc, bytes, place).ok().expect(rt, "a text");
+        assert_fitted(rt, &made, text);
+    }
+    let made = of_drips(rt, alloc, bytes).ok().expect(rt, "a text");
+    assert_fitted(rt, &made, text);
+}
+
+#[test]
+fn a_text_is_read_wherever_it_is_parted(rt: HostRuntime) {
+    assert_read(&rt, rt.alloc(), "");
+    assert_read(&rt, rt.alloc(), "aä€𝄞");
+    assert_read(&rt, rt.alloc(), "\u{1F496}");
+    assert_read(&rt, rt.alloc(), "€€€€€€€€");
+    assert_read(&rt, rt.alloc(), "€€€€€€€€€");
+    assert_read(&rt, rt.alloc(), "aä€𝄞aä€𝄞aä€𝄞aä€𝄞");
+}
+
+/// Asserts that broken bytes have one fault wherever they are parted.
+fn assert_broken(rt: &impl Abort, alloc: Global, bytes: &[u8], fault: FromUtf8Error) {
+    for place in 0..bytes.len() + 1 {
+        assert!(rt; of_two(rt, alloc, bytes, place).err() == Some(fault));
+    }
+    assert!(rt; of_drips(rt, alloc, bytes).err() == Some(fault));
+}
+
+/// A fault at a place, of a broken part of so many bytes, or open at the end.
+fn fault(valid_up_to: usize, error_len: Option<usize>) -> FromUtf8Error {
+    FromUtf8Error::Utf8 {
+        valid_up_to,
+        error_len,
+    }
+}
+
+#[test]
+fn broken_bytes_have_one_fault_wherever_they_are_parted(rt: HostRuntime) {
+    assert_broken(&rt, rt.alloc(), b"\xE2\x82A", fault(0, Some(2)));
+    assert_broken(&rt, rt.alloc(), b"\xC3\xA4\xED\xA0\x80", fault(2, Some(1)));
+    assert_broken(&rt, rt.alloc(), b"a\xF0\x9F\x92", fault(1, None));
+    let short = b"\0\0\0\0\0\0\0\0\0\0\0\0\0\0\0\0\0\0\0\0\0\0\0\xC0";
+    assert_broken(&rt, rt.alloc(), short, fault(23, Some(1)));
+    let long = b"aaaaaaaaaaaaaaaaaaaaaaaa\xF4\x90\x80\x80";
+    assert_broken(&rt, rt.alloc(), long, fault(24, Some(1)));
+}
+
+#[test]
+fn drips_of_24_bytes_need_no_memory(rt: HostRuntime) {
+    let hog = take_all(&rt, rt.alloc());
+    assert_read(&rt, rt.alloc(), "€€€€€€€€");
+    assert_broken(&rt, rt.alloc(), b"a\xF0\x9F\x92", fault(1, None));
+    let mut drips = Drips {
+        rest: letters(25).as_bytes(),
+    };
+    let made = CompactString::from_utf8_buf(rt.alloc(), &mut drips);
+    assert!(rt; matches!(made, Err(FromUtf8Error::Reserve(_))));
+    drop(hog);
+}

@@ -1,0 +1,177 @@
+//! Values as they are compared and hashed. The order of the many texts was worked out by a program in Python, which sorts
+//! by code points.
+
+use compact_str::CompactString;
+use compact_testing::values::{
+    append, assert_heap, assert_static, buffered, copied, empty, lasting, letters,
+};
+use std::alloc::{AllocError, Global};
+use std::cmp::Ordering;
+use std::hash::{DefaultHasher, Hash, Hasher};
+use std::process::Abort;
+
+/// What a hasher makes of a value.
+fn hash_of(value: &CompactString) -> u64 {
+    let mut hasher = DefaultHasher::new();
+    value.hash(&mut hasher);
+    hasher.finish()
+}
+
+/// What it makes of a `str`.
+fn hash_of_str(text: &str) -> u64 {
+    let mut hasher = DefaultHasher::new();
+    text.hash(&mut hasher);
+    hasher.finish()
+}
+
+/// Asserts that two values are the same in each way.
+fn assert_same(rt: &impl Abort, value: &CompactString, other: &CompactString) {
+    assert!(rt; value == other);
+    assert!(rt; other == value);
+    assert_eq!(rt; value.cmp(other), Ordering::Equal);
+    assert_eq!(rt; value.partial_cmp(other), Some(Ordering::Equal));
+    assert_eq!(rt; hash_of(value), hash_of(other));
+    assert_eq!(rt; hash_of(value), hash_of_str(other.as_str()));
+}
+
+/// Asserts that a value comes before another.
+fn assert_less(rt: &impl Abort, value: &CompactString, other: &CompactString) {
+    assert!(rt; value != other);
+    assert_eq!(rt; value.cmp(other), Ordering::Less);
+    assert_eq!(rt; other.cmp(value), Ordering::Greater);
+    assert_eq!(rt; value.partial_cmp(other), Some(Ordering::Less));
+}
+
+#[test]
+fn places_and_capacities_have_no_part(rt: HostRuntime) {
+    let borrowed = lasting(rt.alloc(), 30);
+    let made = copied(&rt, rt.alloc(), letters(30));
+    let text = buffered(&rt, rt.alloc(), 90, letters(30));
+    let taken_over = CompactString::from_string_buffer(text);
+    assert_static(&rt, &borrowed, 30);
+    assert_heap(&rt, &made, 32, 30);
+    assert_heap(&rt, &taken_over, 90, 30);
+    assert_same(&rt, &borrowed, &made);
+    assert_same(&rt, &made, &taken_over);
+    assert_same(&rt, &taken_over, &borrowed);
+}
+
+/// Keeps the first three bytes.
+fn cut_to_3(rt: &impl Abort, value: &mut CompactString) {
+    assert!(rt; value.is_char_boundary(3));
+    value.truncate(3);
+}
+
+#[test]
+fn what_stood_behind_a_text_has_no_part(rt: HostRuntime) {
+    let short = copied(&rt, rt.alloc(), "äb");
+    let mut inline = copied(&rt, rt.alloc(), "äbcdefghijklmn");
+    cut_to_3(&rt, &mut inline);
+    assert_same(&rt, &short, &inline);
+    let mut heap = empty(&rt, rt.alloc(), 60);
+    append(&rt, &mut heap, "äbcdefghijklmnopqrstuvwxyz0123456789");
+    cut_to_3(&rt, &mut heap);
+    assert_same(&rt, &inline, &heap);
+}
+
+#[test]
+fn texts_are_in_this_order(rt: HostRuntime) {
+    let texts = ["", "a", "ab", "b", "\u{fffd}", "\u{10000}"];
+    for i in 1..texts.len() {
+        let value = copied(&rt, rt.alloc(), texts[i - 1]);
+        assert_less(&rt, &value, &copied(&rt, rt.alloc(), texts[i]));
+    }
+}
+
+#[test]
+fn the_first_place_that_differs_decides_at_any_length(rt: HostRuntime) {
+    for count in 0..40 {
+        let mut less = copied(&rt, rt.alloc(), letters(count));
+        let mut greater = copied(&rt, rt.alloc(), letters(count));
+        assert_same(&rt, &less, &greater);
+        append(&rt, &mut less, "\u{ffff}zz");
+        assert_less(&rt, &greater, &less);
+        append(&rt, &mut greater, "\u{10000}");
+        assert_less(&rt, &less, &greater);
+    }
+}
+
+#[test]
+fn a_value_hashes_as_its_str(rt: HostRuntime) {
+    for count in 0..65 {
+        let text = letters(count);
+        assert_eq!(rt; hash_of(&copied(&rt, rt.alloc(), text)), hash_of_str(text));
+        assert_eq!(rt; hash_of(&lasting(rt.alloc(), count)), hash_of_str(text));
+    }
+}
+
+/// A generator of numbers.
+fn next(state: &mut u64) -> u64 {
+    *state = state
+        .wrapping_mul(6_364_136_223_846_793_005)
+        .wrapping_add(1_442_695_040_888_963_407);
+    *state >> 33
+}
+
+/// Characters of each width, and at the ends of the widths.
+const CHARACTERS: [char; 16] = [
+    'a',
+    'b',
+    'z',
+    '\u{7f}',
+    '\u{80}',
+    'é',
+    '\u{7ff}',
+    '\u{800}',
+    '€',
+    '\u{d7ff}',
+    '\u{e000}',
+    '\u{fffd}',
+    '\u{ffff}',
+    '\u{10000}',
+    '\u{1f600}',
+    '\u{10ffff}',
+];
+
+/// The next text: of up to 8 characters, after 26 letters in every fourth.
+fn next_text(rt: &impl Abort, alloc: Global, state: &mut u64) -> CompactString {
+    let mut text = CompactString::default(alloc);
+    if next(state) % 4 == 0 {
+        append(rt, &mut text, letters(26));
+    }
+    for _ in 0..next(state) % 9 {
+        let character = CHARACTERS[(next(state) % 16) as usize];
+        text.push(character).expect(rt, "memory");
+    }
+    text
+}
+
+/// 2000 texts.
+fn texts(rt: &impl Abort, alloc: Global) -> Result<Vec<CompactString>, AllocError> {
+    let mut state = 0x1234_5678_9abc_def1;
+    let mut texts = Vec::with_capacity(alloc, 2000)?;
+    for _ in 0..2000 {
+        texts.push(next_text(rt, alloc, &mut state))?;
+    }
+    Ok(texts)
+}
+
+/// A checksum of texts in their order, by FNV-1a over each text and a byte FF.
+fn checksum(texts: &[CompactString]) -> u64 {
+    let mut sum: u64 = 0xcbf2_9ce4_8422_2325;
+    for text in texts {
+        for byte in text.as_bytes() {
+            sum = (sum ^ u64::from(*byte)).wrapping_mul(0x100_0000_01b3);
+        }
+        sum = (sum ^ 0xff).wrapping_mul(0x100_0000_01b3);
+    }
+    sum
+}
+
+#[test]
+fn many_texts_are_sorted_by_their_characters(rt: HostRuntime) {
+    let mut texts = texts(&rt, rt.alloc()).expect(&rt, "memory");
+    assert_eq!(rt; checksum(&texts), 0x09d0_5973_d45d_07b5);
+    texts.as_mut_slice().sort_unstable();
+    assert_eq!(rt; checksum(&texts), 0x6be0_90d3_3511_8755);
+}

@@ -1,0 +1,243 @@
+//! Bytes and units that are decoded. Texts and faults are those of the Unicode Standard, worked by hand.
+
+use bytes::Buf;
+use compact_str::{CompactString, FromUtf8Error, FromUtf16Error, ReserveError, Utf16Error};
+use compact_testing::memory::take_all;
+use compact_testing::values::{assert_inline, letters};
+use std::alloc::{AllocError, Global};
+use std::process::Abort;
+
+/// Asserts that the bytes are no text, with the fault at that place, and which text they give lossily.
+fn assert_broken(
+    rt: &impl Abort,
+    alloc: Global,
+    bytes: &[u8],
+    valid_up_to: usize,
+    error_len: Option<usize>,
+    text: &str,
+) {
+    let fault = CompactString::from_utf8(alloc, bytes).err();
+    assert!(rt;
+        fault
+            == Some(FromUtf8Error::Utf8 {
+                valid_up_to,
+                error_len
+            }),
+        "{bytes:?}: {fault:?}"
+    );
+    let lossy = CompactString::from_utf8_lossy(alloc, bytes).expect(rt, "memory");
+    assert_eq!(rt; lossy.as_str(), text);
+    assert!(rt; lossy.is_heap_allocated() == (text.len() > 24));
+}
+
+#[test]
+fn broken_bytes_are_told_and_replaced(rt: HostRuntime) {
+    for (bytes, valid_up_to, error_len, text) in [
+        (
+            b"\0\0\0\0\0\0\0\0\0\0\0\0\0\0\0\0\0\0\0\0\0\0\0\xC0".as_slice(),
+            23,
+            Some(1),
+            "\0\0\0\0\0\0\0\0\0\0\0\0\0\0\0\0\0\0\0\0\0\0\0\u{FFFD}",
+        ),
+        (b"\xF0\x9F".as_slice(), 0, None, "\u{FFFD}"),
+        (
+            b"\xF0\x9F\xC8\x84".as_slice(),
+            0,
+            Some(2),
+            "\u{FFFD}\u{204}",
+        ),
+        (
+            b"\xED\xA0\x80".as_slice(),
+            0,
+            Some(1),
+            "\u{FFFD}\u{FFFD}\u{FFFD}",
+        ),
+        (b"\xC0\x80".as_slice(), 0, Some(1), "\u{FFFD}\u{FFFD}"),
+        (
+            b"\xF4\x90\x80\x80".as_slice(),
+            0,
+            Some(1),
+            "\u{FFFD}\u{FFFD}\u{FFFD}\u{FFFD}",
+        ),
+        (b"\xE1\x80\x41".as_slice(), 0, Some(2), "\u{FFFD}A"),
+        (b"\x61\xE2\x82".as_slice(), 1, None, "a\u{FFFD}"),
+    ] {
+        assert_broken(&rt, rt.alloc(), bytes, valid_up_to, error_len, text);
+    }
+}
+
+/// Asserts that a short text was made, which stands inline.
+fn assert_text<E: Drop>(rt: &impl Abort, made: Result<CompactString, E>, text: &str) {
+    assert_inline(rt, &made.ok().expect(rt, "a text"), text);
+}
+
+/// Asserts that 30 letters were made, on the heap.
+fn assert_letters<E: Drop>(rt: &impl Abort, made: Result<CompactString, E>) {
+    let made = made.ok().expect(rt, "a text");
+    assert_eq!(rt; made.as_str(), letters(30));
+    assert!(rt; made.is_heap_allocated());
+}
+
+/// Asserts that each decoder makes this short text of its form.
+fn assert_forms(
+    rt: &impl Abort,
+    alloc: Global,
+    text: &str,
+    units: &[u16],
+    little: &[u8],
+    big: &[u8],
+) {
+    let bytes = text.as_bytes();
+    assert_text(rt, CompactString::from_utf8(alloc, bytes), text);
+    assert_text(rt, CompactString::from_utf8_lossy(alloc, bytes), text);
+    assert_text(rt, CompactString::from_utf16(alloc, units), text);
+    assert_text(rt, CompactString::from_utf16_lossy(alloc, units), text);
+    assert_text(rt, CompactString::from_utf16le(alloc, little), text);
+    assert_text(rt, CompactString::from_utf16le_lossy(alloc, little), text);
+    assert_text(rt, CompactString::from_utf16be(alloc, big), text);
+    assert_text(rt, CompactString::from_utf16be_lossy(alloc, big), text);
+}
+
+#[test]
+fn each_form_of_a_text_is_taken(rt: HostRuntime) {
+    for (text, units, little, big) in [
+        ("", [].as_slice(), b"".as_slice(), b"".as_slice()),
+        (
+            "é",
+            [0xE9].as_slice(),
+            b"\xE9\0".as_slice(),
+            b"\0\xE9".as_slice(),
+        ),
+        (
+            "Aä",
+            [0x41, 0xE4].as_slice(),
+            b"A\0\xE4\0".as_slice(),
+            b"\0A\0\xE4".as_slice(),
+        ),
+        (
+            "𝄞",
+            [0xD834, 0xDD1E].as_slice(),
+            b"\x34\xD8\x1E\xDD".as_slice(),
+            b"\xD8\x34\xDD\x1E".as_slice(),
+        ),
+    ] {
+        assert_forms(&rt, rt.alloc(), text, units, little, big);
+    }
+}
+
+/// Asserts that the units are no text, and which text they give lossily.
+fn assert_lone(rt: &impl Abort, alloc: Global, units: &[u16], text: &str) {
+    let strict = CompactString::from_utf16(alloc, units);
+    assert!(rt; matches!(strict, Err(FromUtf16Error::Utf16(_))));
+    let lossy = CompactString::from_utf16_lossy(alloc, units).expect(rt, "memory");
+    assert_eq!(rt; lossy.as_str(), text);
+}
+
+#[test]
+fn lone_surrogates_are_told_and_replaced(rt: HostRuntime) {
+    for (units, text) in [
+        (
+            [0xD834, 0xDD1E, 0x6D, 0x75, 0x73, 0xDD1E, 0x69, 0x63, 0xD834].as_slice(),
+            "𝄞mus\u{FFFD}ic\u{FFFD}",
+        ),
+        ([0xDC00, 0xD800].as_slice(), "\u{FFFD}\u{FFFD}"),
+        ([0xD800, 0xD834, 0xDD1E].as_slice(), "\u{FFFD}\u{1D11E}"),
+    ] {
+        assert_lone(&rt, rt.alloc(), units, text);
+    }
+}
+
+#[test]
+fn units_of_a_text_are_taken(rt: HostRuntime) {
+    let alloc = rt.alloc();
+    assert_text(
+        &rt,
+        CompactString::from_utf16(alloc, &[0xD834, 0xDD1E]),
+        "𝄞",
+    );
+    assert_text(
+        &rt,
+        CompactString::from_utf16(alloc, &[0x20AC; 8]),
+        "€€€€€€€€",
+    );
+    assert_letters(&rt, CompactString::from_utf16(alloc, &[0x61; 30]));
+}
+
+/// Asserts that units are no text.
+fn assert_no_text(rt: &impl Abort, made: Result<CompactString, FromUtf16Error>) {
+    assert!(rt; matches!(made, Err(FromUtf16Error::Utf16(_))));
+}
+
+#[test]
+fn broken_bytes_of_units_are_told_and_replaced(rt: HostRuntime) {
+    let alloc = rt.alloc();
+    for (odd, text) in [
+        (b"\x3D\xD8\x6F".as_slice(), "\u{FFFD}\u{FFFD}"),
+        (b"A\0B".as_slice(), "A\u{FFFD}"),
+    ] {
+        assert_no_text(&rt, CompactString::from_utf16le(alloc, odd));
+        assert_text(&rt, CompactString::from_utf16le_lossy(alloc, odd), text);
+    }
+    let lone = b"\xD8\x3D\xDC\x6F\x20\x0D\x26\x40\xDE\x0F";
+    assert_no_text(&rt, CompactString::from_utf16be(alloc, lone));
+    let text = "\u{1F46F}\u{200D}\u{2640}\u{FFFD}";
+    assert_text(&rt, CompactString::from_utf16be_lossy(alloc, lone), text);
+}
+
+#[test]
+fn a_buffer_that_is_known_to_be_a_text_is_read_to_its_end(rt: HostRuntime) {
+    let mut known = "abc".as_bytes();
+    let made = CompactString::from_utf8_buf_unchecked(rt.alloc(), &mut known);
+    assert_text(&rt, made, "abc");
+    assert_eq!(rt; known.remaining(), 0);
+}
+
+/// Bytes and units that are here already are judged first, and a buffer is read first.
+#[test]
+fn faults_are_told_before_memory_is_asked_for(rt: HostRuntime) {
+    let alloc = rt.alloc();
+    let hog = take_all(&rt, alloc);
+    let fault = CompactString::from_utf8(alloc, b"aaaaaaaaaaaaaaaaaaaaaaaaaaaaa\xFF").err();
+    assert!(rt;
+        fault
+            == Some(FromUtf8Error::Utf8 {
+                valid_up_to: 29,
+                error_len: Some(1)
+            })
+    );
+    assert_no_text(&rt, CompactString::from_utf16(alloc, &[0xDC00; 30]));
+    assert_no_text(&rt, CompactString::from_utf16le(alloc, &[0x61; 59]));
+    let mut broken = b"\xFFaaaaaaaaaaaaaaaaaaaaaaaaaaaaa".as_slice();
+    let refused = CompactString::from_utf8_buf(alloc, &mut broken).err();
+    assert!(rt; refused == Some(FromUtf8Error::Reserve(ReserveError)));
+    drop(hog);
+}
+
+/// Asserts how an error is shown.
+fn is_shown(rt: &impl Abort, made: Result<String, AllocError>, text: &str) {
+    assert_eq!(rt; made.expect(rt, "memory").as_str(), text);
+}
+
+#[test]
+fn errors_show_these_texts(rt: HostRuntime) {
+    let alloc = rt.alloc();
+    let broken = FromUtf8Error::Utf8 {
+        valid_up_to: 0,
+        error_len: None,
+    };
+    is_shown(&rt, format!(in alloc; "{broken}"), "invalid utf-8");
+    let lone = FromUtf16Error::Utf16(Utf16Error);
+    let text = "invalid utf-16: lone surrogate found";
+    is_shown(&rt, format!(in alloc; "{lone}"), text);
+}
+
+#[test]
+fn refusals_show_this_text(rt: HostRuntime) {
+    let alloc = rt.alloc();
+    let text = "Cannot allocate memory to hold CompactString";
+    let refused = FromUtf8Error::from(ReserveError);
+    assert!(rt; refused == FromUtf8Error::Reserve(ReserveError));
+    is_shown(&rt, format!(in alloc; "{refused}"), text);
+    let refused = FromUtf16Error::from(ReserveError);
+    is_shown(&rt, format!(in alloc; "{refused}"), text);
+}

@@ -1,0 +1,114 @@
+//! Values as they are handed on, with ample memory.
+
+use compact_str::{CompactString, FromJsonError};
+use compact_testing::values::{
+    append, assert_heap, assert_inline, buffered, copied, empty, lasting, letters,
+};
+use serde_json::{Value, json};
+use std::alloc::{AllocError, Global};
+use std::borrow::CowStr;
+use std::process::Abort;
+
+/// A value of 60 bytes of room, in which a text of 40 was cut to `"äb"`.
+fn shortened(rt: &impl Abort, alloc: Global) -> CompactString {
+    let mut value = empty(rt, alloc, 60);
+    append(rt, &mut value, "äbcdefghijklmnopqrstuvwxyz0123456789");
+    assert!(rt; value.is_char_boundary(3));
+    value.truncate(3);
+    value
+}
+
+#[test]
+fn what_leaves_has_this_room(rt: HostRuntime) {
+    let alloc = rt.alloc();
+    let text = buffered(&rt, alloc, 90, letters(30));
+    let value = CompactString::from_string_buffer(text);
+    let text = value.into_string().expect(&rt, "memory");
+    assert_eq!(rt; text.capacity(), 90);
+    let value = CompactString::from_string_buffer(text);
+    assert_heap(&rt, &value, 90, 30);
+    let bytes = value.into_vec().expect(&rt, "memory");
+    assert_eq!(rt; bytes.capacity(), 90);
+    let bytes = copied(&rt, alloc, "äb").into_bytes().expect(&rt, "memory");
+    assert_eq!(rt; bytes.as_slice(), [0xc3, 0xa4, 0x62].as_slice());
+    assert_eq!(rt; bytes.capacity(), 24);
+}
+
+#[test]
+fn boxes_and_shared_texts_have_the_text(rt: HostRuntime) {
+    let alloc = rt.alloc();
+    let boxed = copied(&rt, alloc, "äb")
+        .into_boxed_str()
+        .expect(&rt, "memory");
+    assert_eq!(rt; boxed.as_str(), "äb");
+    let boxed = shortened(&rt, alloc).into_boxed_str().expect(&rt, "memory");
+    assert_eq!(rt; boxed.as_str(), "äb");
+    let shared = shortened(&rt, alloc).into_rc().expect(&rt, "memory");
+    assert_eq!(rt; shared.as_str(), "äb");
+    let shared = lasting(alloc, 30).into_rc().expect(&rt, "memory");
+    assert_eq!(rt; shared.as_str(), letters(30));
+}
+
+/// Asserts that a text is borrowed, or that it is owned.
+fn is_lent(rt: &impl Abort, cow: CowStr<'_>, text: &str, is_borrowed: bool) {
+    assert!(rt; matches!(cow, CowStr::Borrowed(_)) == is_borrowed);
+    assert_eq!(rt; cow.as_str(), text);
+}
+
+#[test]
+fn a_static_text_is_borrowed_and_others_are_owned(rt: HostRuntime) {
+    let alloc = rt.alloc();
+    let cow = lasting(alloc, 30).into_cow().expect(&rt, "memory");
+    is_lent(&rt, cow, letters(30), true);
+    let cow = copied(&rt, alloc, "äb").into_cow().expect(&rt, "memory");
+    is_lent(&rt, cow, "äb", false);
+    let value = shortened(&rt, alloc);
+    is_lent(&rt, value.as_cow(), "äb", true);
+    is_lent(&rt, value.into_cow().expect(&rt, "memory"), "äb", false);
+}
+
+/// The JSON value of a text.
+fn json_of(rt: &impl Abort, value: &CompactString) -> Value {
+    value.to_json().expect(rt, "memory")
+}
+
+/// Asserts how a JSON value is printed.
+fn is_printed(rt: &impl Abort, alloc: Global, json: &Value, text: &str) {
+    assert_eq!(rt; json.to_string(alloc).expect(rt, "memory").as_str(), text);
+}
+
+/// The value of a JSON string.
+fn value_of(rt: &impl Abort, alloc: Global, json: &Value) -> CompactString {
+    CompactString::from_json(alloc, json).expect(rt, "a string")
+}
+
+#[test]
+fn a_value_is_a_json_string(rt: HostRuntime) {
+    let alloc = rt.alloc();
+    let json = json_of(&rt, &copied(&rt, alloc, "abc"));
+    is_printed(&rt, alloc, &json, "\"abc\"");
+    let json = json_of(&rt, &copied(&rt, alloc, "ä\"\n"));
+    is_printed(&rt, alloc, &json, "\"ä\\\"\\n\"");
+    let json = json_of(&rt, &lasting(alloc, 30));
+    assert_heap(&rt, &value_of(&rt, alloc, &json), 32, 30);
+}
+
+/// Asserts that a JSON value is no string.
+fn is_no_string(rt: &impl Abort, alloc: Global, made: Result<Value, AllocError>) {
+    let json = made.expect(rt, "memory");
+    let read: Result<CompactString, FromJsonError> = CompactString::from_json(alloc, &json);
+    assert!(rt; matches!(read, Err(FromJsonError::NotAString)));
+}
+
+#[test]
+fn only_a_json_string_is_taken(rt: HostRuntime) {
+    let alloc = rt.alloc();
+    let json = json!(in alloc; "abc").expect(&rt, "memory");
+    assert_inline(&rt, &value_of(&rt, alloc, &json), "abc");
+    is_no_string(&rt, alloc, json!(in alloc; 1));
+    is_no_string(&rt, alloc, json!(in alloc; null));
+    is_no_string(&rt, alloc, json!(in alloc; true));
+    is_no_string(&rt, alloc, json!(in alloc; []));
+    is_no_string(&rt, alloc, json!(in alloc; {}));
+    is_no_string(&rt, alloc, json!(in alloc; ["abc"]));
+}

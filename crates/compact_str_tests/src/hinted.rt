@@ -1,0 +1,142 @@
+//! Items whose hint tells nothing or too much, where there is memory: each call gives what the items give.
+
+use crate::hints::with_hint;
+use compact_str::{CompactString, CompactStringExt, append_all};
+use compact_testing::values::{assert_fitted, assert_inline, assert_seen, copied, letters};
+use std::alloc::Global;
+use std::process::Abort;
+
+/// Asserts what is collected of a few items, which needs no memory.
+pub fn assert_collected(rt: &impl Abort, alloc: Global, too_much: bool) {
+    let characters = ['a', 'b', 'c'];
+    let texts = ["a", "", "bc"];
+    let made = CompactString::from_chars(alloc, with_hint(&characters, too_much).copied());
+    assert_inline(rt, &made.expect(rt, "no memory is needed"), "abc");
+    let made = CompactString::from_texts(alloc, with_hint(&texts, too_much));
+    assert_inline(rt, &made.expect(rt, "no memory is needed"), "abc");
+    let made = with_hint(&texts, too_much).concat_compact(alloc);
+    assert_inline(rt, &made.expect(rt, "no memory is needed"), "abc");
+    let made = with_hint(&texts, too_much).join_compact(alloc, "-");
+    assert_inline(rt, &made.expect(rt, "no memory is needed"), "a--bc");
+}
+
+/// Asserts what the library's trait collects of them.
+pub fn assert_collected_by_trait(rt: &impl Abort, alloc: Global, too_much: bool) {
+    let characters = ['a', 'b', 'c'];
+    let made: CompactString = with_hint(&characters, too_much)
+        .copied()
+        .collect(alloc)
+        .expect(rt, "no memory is needed");
+    assert_inline(rt, &made, "abc");
+    let made: CompactString = with_hint(&characters, too_much)
+        .collect(alloc)
+        .expect(rt, "no memory is needed");
+    assert_inline(rt, &made, "abc");
+    let made: CompactString = with_hint(&["a", "", "bc"], too_much)
+        .collect(alloc)
+        .expect(rt, "no memory is needed");
+    assert_inline(rt, &made, "abc");
+}
+
+/// Asserts that a value is extended up to 24 bytes, which needs no memory.
+pub fn assert_extended(rt: &impl Abort, alloc: Global, too_much: bool) {
+    let mut value = CompactString::default(alloc);
+    let characters = ['ä', '€'];
+    let texts = [letters(5), "", letters(5)];
+    let ended = value.extend_chars(with_hint(&characters, too_much).copied());
+    assert!(rt; ended.is_ok());
+    assert!(rt; value.extend_texts(with_hint(&texts, too_much)).is_ok());
+    assert_inline(rt, &value, "ä€aaaaaaaaaa");
+    assert!(rt;
+        value
+            .extend(with_hint(&characters, too_much).copied())
+            .is_ok()
+    );
+    assert!(rt; value.extend(with_hint(&['x'], too_much)).is_ok());
+    assert!(rt; value.extend(with_hint(&["yz", ""], too_much)).is_ok());
+    assert_inline(rt, &value, "ä€aaaaaaaaaaä€xyz");
+}
+
+/// Asserts that values are put behind a `String` that has room for them.
+pub fn assert_appended(
+    rt: &impl Abort,
+    mut line: String,
+    values: &[CompactString],
+    too_much: bool,
+) -> String {
+    assert!(rt; append_all(&mut line, with_hint(values, too_much)).is_ok());
+    assert_eq!(rt; line.as_str(), "abc");
+    line.clear();
+    line
+}
+
+#[test]
+fn short_texts_are_what_the_items_give(rt: HostRuntime) {
+    for too_much in [false, true] {
+        assert_collected(&rt, rt.alloc(), too_much);
+        assert_collected_by_trait(&rt, rt.alloc(), too_much);
+        assert_extended(&rt, rt.alloc(), too_much);
+    }
+}
+
+#[test]
+fn a_string_is_given_what_the_items_give(rt: HostRuntime) {
+    let values = [
+        copied(&rt, rt.alloc(), "a"),
+        copied(&rt, rt.alloc(), ""),
+        copied(&rt, rt.alloc(), "bc"),
+    ];
+    let line = assert_appended(&rt, String::new(rt.alloc()), &values, false);
+    let line = assert_appended(&rt, line, &values, true);
+    assert_eq!(rt; line.len(), 0);
+}
+
+/// Asserts what is made of more than 24 bytes, on the heap.
+fn assert_long(rt: &impl Abort, alloc: Global, too_much: bool) {
+    let euros = ['€'; 9];
+    let texts = [letters(20), "", letters(5)];
+    let made = CompactString::from_chars(alloc, with_hint(&euros, too_much).copied());
+    assert_fitted(rt, &made.expect(rt, "memory"), "€€€€€€€€€");
+    let made = CompactString::from_texts(alloc, with_hint(&texts, too_much));
+    assert_fitted(rt, &made.expect(rt, "memory"), letters(25));
+    let made = with_hint(&texts, too_much).concat_compact(alloc);
+    assert_fitted(rt, &made.expect(rt, "memory"), letters(25));
+    let made = with_hint(&texts, too_much).join_compact(alloc, letters(10));
+    assert_fitted(rt, &made.expect(rt, "memory"), letters(45));
+    let made: CompactString = with_hint(&euros, too_much)
+        .collect(alloc)
+        .expect(rt, "memory");
+    assert_fitted(rt, &made, "€€€€€€€€€");
+}
+
+#[test]
+fn long_texts_are_what_the_items_give(rt: HostRuntime) {
+    assert_long(&rt, rt.alloc(), false);
+    assert_long(&rt, rt.alloc(), true);
+}
+
+/// Extends a static text of 30 bytes by nothing and by a letter, and 24 bytes by a letter: room is made item by item, by the
+/// half of what stands.
+fn assert_room(rt: &impl Abort, alloc: Global, too_much: bool) {
+    let mut value = CompactString::const_new(alloc, letters(30));
+    assert!(rt; value.extend_texts(with_hint(&["", ""], too_much)).is_ok());
+    assert_seen(rt, &value, "static", 30, letters(30));
+    assert!(rt; value.extend_texts(with_hint(&["a"], too_much)).is_ok());
+    assert_seen(rt, &value, "heap", 45, letters(31));
+    let mut value = copied(rt, alloc, letters(24));
+    let letter = ['a'];
+    assert!(rt;
+        value
+            .extend_chars(with_hint(&letter, too_much).copied())
+            .is_ok()
+    );
+    assert_seen(rt, &value, "heap", 36, letters(25));
+    assert!(rt; value.extend(with_hint(&["a", ""], too_much)).is_ok());
+    assert_seen(rt, &value, "heap", 36, letters(26));
+}
+
+#[test]
+fn an_extension_makes_room_for_what_came(rt: HostRuntime) {
+    assert_room(&rt, rt.alloc(), false);
+    assert_room(&rt, rt.alloc(), true);
+}

@@ -1,0 +1,74 @@
+//! Values as they are made, with ample memory.
+
+use compact_str::CompactString;
+use compact_testing::values::{
+    assert_heap, assert_inline, assert_seen, assert_static, buffered, lasting, letters,
+};
+use std::borrow::CowStr;
+use std::mem::size_of;
+
+#[test]
+fn texts_are_copied_into_just_their_room(rt: HostRuntime) {
+    for (count, place, capacity) in [
+        (0, "inline", 24),
+        (2, "inline", 24),
+        (24, "inline", 24),
+        (25, "heap", 32),
+        (32, "heap", 32),
+        (33, "heap", 33),
+    ] {
+        let text = letters(count);
+        let made = CompactString::new(rt.alloc(), text).expect(&rt, "memory");
+        assert_seen(&rt, &made, place, capacity, text);
+        let made = CompactString::try_new(rt.alloc(), text).expect(&rt, "memory");
+        assert_seen(&rt, &made, place, capacity, text);
+        let made = CompactString::from_str(rt.alloc(), text).expect(&rt, "memory");
+        assert_seen(&rt, &made, place, capacity, text);
+    }
+}
+
+#[test]
+fn texts_of_the_program_are_static_if_they_are_long(rt: HostRuntime) {
+    let value = lasting(rt.alloc(), 30);
+    assert_static(&rt, &value, 30);
+    assert_eq!(rt; value.as_static_str(), Some(letters(30)));
+    let short = CompactString::const_new(rt.alloc(), "abc");
+    assert_inline(&rt, &short, "abc");
+}
+
+#[test]
+fn strings_are_taken_over_or_move_inline(rt: HostRuntime) {
+    for (room, text, place, capacity) in [
+        (100, "", "inline", 24),
+        (256, "abc", "inline", 24),
+        (30, letters(30), "heap", 30),
+        (31, letters(30), "heap", 31),
+        (100, letters(30), "heap", 100),
+    ] {
+        let value = CompactString::from(buffered(&rt, rt.alloc(), room, text));
+        assert_seen(&rt, &value, place, capacity, text);
+        let owned = CowStr::Owned(buffered(&rt, rt.alloc(), room, text));
+        let value = CompactString::from_cow(rt.alloc(), owned).expect(&rt, "memory");
+        assert_seen(&rt, &value, place, capacity, text);
+    }
+}
+
+#[test]
+fn string_buffers_are_taken_over_with_short_texts_too(rt: HostRuntime) {
+    let none = CompactString::from_string_buffer(buffered(&rt, rt.alloc(), 100, ""));
+    assert_heap(&rt, &none, 100, 0);
+    let unbuffered = CompactString::from_string_buffer(String::new(rt.alloc()));
+    assert_inline(&rt, &unbuffered, "");
+}
+
+#[test]
+fn a_capacity_taken_over_is_not_raised(rt: HostRuntime) {
+    let mut value = CompactString::from(buffered(&rt, rt.alloc(), 26, letters(26)));
+    value.shrink_to_fit();
+    assert_heap(&rt, &value, 26, 26);
+}
+
+#[test]
+fn a_value_takes_40_bytes(rt: HostRuntime) {
+    assert_eq!(rt; size_of::<CompactString>(), 40);
+}

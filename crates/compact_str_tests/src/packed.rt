@@ -1,0 +1,185 @@
+//! Inline values as their 24 bytes, by rows that are written out.
+
+use crate::edits::truncate;
+use compact_str::CompactString;
+use compact_testing::values::{append, assert_inline, copied, empty, lasting, letters};
+use std::alloc::Global;
+use std::process::Abort;
+
+/// The 24 bytes of a value that is inline.
+fn bytes_of(rt: &impl Abort, value: &CompactString) -> [u8; 24] {
+    value.packed().expect(rt, "an inline value")
+}
+
+/// The text that 24 bytes stand for.
+fn read(rt: &impl Abort, alloc: Global, bytes: &[u8; 24]) -> CompactString {
+    CompactString::from_packed(alloc, bytes).expect(rt, "bytes of a text")
+}
+
+/// Asserts that a value is inline, that its bytes are its text and its length, and that they are read as the same text.
+pub fn is_packed(rt: &impl Abort, alloc: Global, value: &CompactString) {
+    let bytes = bytes_of(rt, value);
+    let text = value.as_str();
+    let len = text.len();
+    assert!(rt; len <= 24);
+    assert_eq!(rt; &bytes[..len], text.as_bytes());
+    assert!(rt; len == 24 || bytes[23] as usize == 192 + len);
+    assert_inline(rt, &read(rt, alloc, &bytes), text);
+}
+
+/// The same of a value that is made of the text at once, where zeros stand between the text and its length.
+fn is_packed_anew(rt: &impl Abort, alloc: Global, value: &CompactString) {
+    is_packed(rt, alloc, value);
+    let made = copied(rt, alloc, value.as_str());
+    is_packed(rt, alloc, &made);
+    let bytes = bytes_of(rt, &made);
+    let len = made.len();
+    assert!(rt; len <= 24);
+    assert!(rt; len == 24 || bytes[len..23].iter().all(|byte| *byte == 0));
+}
+
+#[test]
+fn rows_of_made_values(rt: HostRuntime) {
+    let mut row = [0; 24];
+    row[23] = 0xC0;
+    assert_eq!(rt; bytes_of(&rt, &CompactString::default(rt.alloc())), row);
+    for (text, row) in [
+        ("", b"\0\0\0\0\0\0\0\0\0\0\0\0\0\0\0\0\0\0\0\0\0\0\0\xC0"),
+        ("hello world", b"hello world\0\0\0\0\0\0\0\0\0\0\0\0\xCB"),
+        (letters(16), b"aaaaaaaaaaaaaaaa\0\0\0\0\0\0\0\xD0"),
+        (letters(23), b"aaaaaaaaaaaaaaaaaaaaaaa\xD7"),
+        ("i am 24 characters long!", b"i am 24 characters long!"),
+    ] {
+        assert_eq!(rt; &bytes_of(&rt, &copied(&rt, rt.alloc(), text)), row);
+    }
+}
+
+#[test]
+fn the_last_byte_of_24_is_of_the_text_or_its_length(rt: HostRuntime) {
+    let euros = bytes_of(&rt, &copied(&rt, rt.alloc(), "€€€€€€€€"));
+    assert_eq!(rt; euros[23], 0xAC);
+    let mut cut = copied(&rt, rt.alloc(), letters(24));
+    truncate(&rt, &mut cut, 3);
+    assert_eq!(rt; bytes_of(&rt, &cut)[23], 0xC3);
+    is_packed(&rt, rt.alloc(), &cut);
+}
+
+#[test]
+fn only_inline_values_have_the_bytes(rt: HostRuntime) {
+    assert_eq!(rt; lasting(rt.alloc(), 25).packed(), None);
+    assert_eq!(rt; copied(&rt, rt.alloc(), letters(25)).packed(), None);
+    assert_eq!(rt; empty(&rt, rt.alloc(), 25).packed(), None);
+    assert!(rt; lasting(rt.alloc(), 24).packed().is_some());
+    assert!(rt; copied(&rt, rt.alloc(), letters(24)).packed().is_some());
+}
+
+#[test]
+fn bytes_that_stand_for_a_text_are_read(rt: HostRuntime) {
+    assert_inline(&rt, &read(&rt, rt.alloc(), &[0x61; 24]), letters(24));
+    let mut row = [0xFF; 24];
+    row[0] = 0x61;
+    row[23] = 0xC1;
+    assert_inline(&rt, &read(&rt, rt.alloc(), &row), "a");
+    row[23] = 0xC0;
+    assert_inline(&rt, &read(&rt, rt.alloc(), &row), "");
+}
+
+#[test]
+fn bytes_that_stand_for_no_text_are_refused(rt: HostRuntime) {
+    for (first, last) in [(0, 0xD8), (0, 0xFF), (0xFF, 0xC1)] {
+        let mut row = [0; 24];
+        row[0] = first;
+        row[23] = last;
+        assert!(rt; CompactString::from_packed(rt.alloc(), &row).is_none());
+    }
+    assert!(rt; CompactString::from_packed(rt.alloc(), &[0x80; 24]).is_none());
+}
+
+#[test]
+fn each_length_is_packed(rt: HostRuntime) {
+    let mut value = CompactString::default(rt.alloc());
+    is_packed_anew(&rt, rt.alloc(), &value);
+    for count in 0..24u8 {
+        append(
+            &rt,
+            &mut value,
+            "abcdefghijklmnopqrstuvwx"
+                .get(count as usize..count as usize + 1)
+                .unwrap_or(""),
+        );
+        is_packed_anew(&rt, rt.alloc(), &value);
+    }
+    assert_inline(&rt, &value, "abcdefghijklmnopqrstuvwx");
+}
+
+#[test]
+fn each_length_is_cut(rt: HostRuntime) {
+    let mut value = copied(&rt, rt.alloc(), "abcdefghijklmnopqrstuvwx");
+    for _ in 0..24u8 {
+        assert!(rt; value.pop().is_some());
+        is_packed_anew(&rt, rt.alloc(), &value);
+    }
+    assert_inline(&rt, &value, "");
+}
+
+#[test]
+fn a_character_ends_at_the_last_byte_or_one_or_two_before_it(rt: HostRuntime) {
+    for (count, last) in [
+        (21, "z"),
+        (20, "é"),
+        (19, "€"),
+        (18, "𝄞"),
+        (22, "z"),
+        (21, "é"),
+        (20, "€"),
+        (19, "𝄞"),
+        (23, "z"),
+        (22, "é"),
+        (21, "€"),
+        (20, "𝄞"),
+    ] {
+        let mut value = copied(&rt, rt.alloc(), letters(count));
+        append(&rt, &mut value, last);
+        assert_eq!(rt; value.len(), count.saturating_add(last.len()));
+        is_packed_anew(&rt, rt.alloc(), &value);
+        assert_eq!(rt; value.pop(), last.chars().next());
+        assert_inline(&rt, &value, letters(count));
+        is_packed_anew(&rt, rt.alloc(), &value);
+    }
+}
+
+#[test]
+fn what_stands_behind_a_text_is_not_read(rt: HostRuntime) {
+    for count in 0..24u8 {
+        let mut row = [0xFF; 24];
+        row[23] = 192 + count;
+        for place in 0..count as usize {
+            row[place] = 0x61;
+        }
+        let value = read(&rt, rt.alloc(), &row);
+        assert_inline(&rt, &value, letters(count as usize));
+        is_packed_anew(&rt, rt.alloc(), &value);
+    }
+}
+
+/// Wipes a value, and asserts that its bytes are those of the empty text.
+fn is_wiped(rt: &impl Abort, alloc: Global, mut value: CompactString) {
+    value.zeroize();
+    assert_inline(rt, &value, "");
+    let row = b"\0\0\0\0\0\0\0\0\0\0\0\0\0\0\0\0\0\0\0\0\0\0\0\xC0";
+    assert_eq!(rt; &bytes_of(rt, &value), row);
+    append(rt, &mut value, "ab");
+    is_packed(rt, alloc, &value);
+}
+
+#[test]
+fn a_wiped_value_has_zeros_and_the_mark_of_no_text(rt: HostRuntime) {
+    for count in 0..25 {
+        is_wiped(&rt, rt.alloc(), copied(&rt, rt.alloc(), letters(count)));
+        let mut cut = copied(&rt, rt.alloc(), letters(24));
+        truncate(&rt, &mut cut, count);
+        is_wiped(&rt, rt.alloc(), cut);
+    }
+    is_wiped(&rt, rt.alloc(), copied(&rt, rt.alloc(), "€€€€€€€€"));
+    is_wiped(&rt, rt.alloc(), lasting(rt.alloc(), 30));
+}

@@ -1,0 +1,22 @@
+//! Random numbers.
+
+/// A linear congruential generator: the state times 6364136223846793005, and 1442695040888963407 more, modulo 2^64. A
+/// draw is its high 31 bits.
+#[derive(Drop)]
+pub struct Random {
+    state: u64,
+}
+
+impl Random {
+    /// A generator that begins with this state.
+    pub fn new(state: u64) -> Self {
+        Random { state }
+    }
+
+    /// The next draw, modulo `bound`.
+    pub fn below(&mut self, bound: u64) -> u64 {
+        let product = self.state.wrapping_mul(6364136223846793005);
+        self.state = product.wrapping_add(1442695040888963407);
+        (self.state >> 33).checked_rem(bound).unwrap_or(0)
+    }
+}
