@@ -105,12 +105,3 @@ fn numbers_are_packed_so(rt: HostRuntime) {
     let twenty = b"-9223372036854775808\0\0\0\xd4";
     assert_packed(&rt, &shown(&rt, alloc, i64::MIN), twenty);
 }
-
-#[test]
-fn the_first_bytes_of_a_row_are_a_text(rt: HostRuntime) {
-    let row = *b"abcdefghijklmnopqrstuvwx";
-    let value = CompactString::from_row_unchecked(rt.alloc(), &row, 3);
-    assert_inline(&rt, &value, "abc");
-    let value = CompactString::from_row_unchecked(rt.alloc(), &row, 24);
-    assert_inline(&rt, &value, "abcdefghijklmnopqrstuvwx");
-}

@@ -68,6 +68,9 @@ fn an_input_that_is_no_form_has_a_fault(rt: HostRuntime) {
         (b"\x01\0\0\0\xFF".as_slice(), "utf8"),
         (b"\xFF\xFF\xFF\xFFabc".as_slice(), "end"),
         (b"\x18\0\0\0aaaaaaaaaaaaaaaaaaaaaaa".as_slice(), "end"),
+        // As packed bytes these 24 would be the text "a".
+        (b"\x18\0\0\0aaaaaaaaaaaaaaaaaaaaaaa\xC1".as_slice(), "utf8"),
+        (b"\x17\0\0\0aaaaaaaaaaaaaaaaaaaaaa\xC1".as_slice(), "utf8"),
     ] {
         assert_no_form(&rt, alloc, bytes, fault);
     }

@@ -69,6 +69,6 @@ fn a_capacity_taken_over_is_not_raised(rt: HostRuntime) {
 }
 
 #[test]
-fn a_value_takes_40_bytes(rt: HostRuntime) {
-    assert_eq!(rt; size_of::<CompactString>(), 40);
+fn a_value_takes_32_bytes(rt: HostRuntime) {
+    assert_eq!(rt; size_of::<CompactString>(), 32);
 }
