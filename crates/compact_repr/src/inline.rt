@@ -85,6 +85,16 @@ impl InlineBuffer {
         unsafe { std::str::from_utf8_unchecked(&self.bytes[..length_of(&self.bytes)]) }
     }
 
+    /// The text, by a call, for a loop that is seldom over a short text.
+    #[cold]
+    #[inline(never)]
+    pub fn as_str_apart(&self) -> &str
+        ensures bytes { result.now ≡ utf8 self.now }
+        ensures text { text_of result.now ≡ self.now }
+    {
+        self.as_str()
+    }
+
     /// Appends `text` where it fits. Answers whether it fitted; if not, nothing has changed.
     #[inline]
     pub fn push_str(&mut self, text: &str) -> bool
@@ -188,8 +198,7 @@ impl InlineBuffer {
         mark(&mut self.bytes, 0);
     }
 
-    /// Leaves the empty text, and writes every byte with zero, those behind the text too; only the last one then says that
-    /// there is no text.
+    /// Leaves the empty text, and writes every byte with zero but the last, which says that there is no text.
     pub fn zeroize(&mut self)
         ensures { self.new ≡ [] }
     {

@@ -141,11 +141,8 @@ impl<P: Policy> Iterator for Drain<'_, P> {
         }
         // It takes the positions, so that the loop need not count what is left.
         let word = self.value.rare_first(front, back)?;
-        let Some(character) = char::from_u32((word >> 32) as u32) else {
-            unreachable!();
-        };
         self.front = rare_end(front, word);
-        Some(character)
+        Some(unsafe { char::from_u32_unchecked((word >> 32) as u32) })
     }
 
     /// How many characters are left: at least a quarter of the bytes, and at most as many.

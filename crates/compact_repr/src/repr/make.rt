@@ -26,7 +26,7 @@ impl<P: Policy> Repr<P> {
     }
 
     /// A copy of `text`: inline up to 24 bytes, which is never refused, else in a new heap buffer.
-    #[inline]
+    #[inline(always)]
     pub fn new(alloc: Global, text: &str) -> Result<Self, ReserveError>
         ensures ok { IfOk result (λ r. made P.growth (text_of text.now) ≡ Some r) }
         ensures err { OnErr result (IsTrue (new_room_asks (length text.now))) }
@@ -38,8 +38,8 @@ impl<P: Policy> Repr<P> {
         Ok(Self::of(alloc, Buffer::Inline([], inline)))
     }
 
-    /// A copy of a `text` of more than 24 bytes.
-    #[inline]
+    /// A copy of a `text` of more than 24 bytes. It stands apart, so that a short text is made where the call stands.
+    #[inline(never)]
     fn new_long(alloc: Global, text: &str) -> Result<Self, ReserveError>
         requires { 24 < length text.now }
         ensures { IfOk result (λ r. made P.growth (text_of text.now) ≡ Some r) }

@@ -9,7 +9,8 @@ use crate::policy::Policy;
 use crate::repr::{Buffer, Repr};
 
 impl<P: Policy> Repr<P> {
-    /// The text of a value that is not static. In a loop it is found out once, and not at each turn, where the text stands.
+    /// The text of a value that is not static. In a loop over a heap text it is found out once, and not at each turn, where the
+    /// text stands: so that the loop is short, an inline text is read by a call.
     #[inline(always)]
     pub fn owned_str(&self) -> &str
         requires { is_static self.now.placement.place ≡ false }
@@ -18,7 +19,7 @@ impl<P: Policy> Repr<P> {
     {
         match &self.buffer {
             Buffer::Heap(heap) => heap.as_str(),
-            Buffer::Inline(_, inline) => inline.as_str(),
+            Buffer::Inline(_, inline) => inline.as_str_apart(),
             Buffer::Static(_) => unreachable!(),
         }
     }

@@ -83,7 +83,7 @@ returns-clause-steps g c =
     let split : drain_rest d ≡ first.0 ∷ first.1 = first.4 in
     let taken = front-taken d.value.now.text first.1 d.front d.back first.0 c.rare_end-self.result split (c.rare_end-self.ensures ∙ ap (λ w. d.front + w) wide) in
     let scalar = first.3 in
-    let is : c.in-Some-from_u32.character ≡ first.0 = search rules in
+    let is : c.from_u32_unchecked.result ≡ first.0 = search rules in
     record { lender = refl; leaves = refl; step = split ∙ ap (λ l. first.0 ∷ l) (sym taken.0) ∙ ap (λ w. w ∷ part d.value.now.text c.rare_end-self.result d.back) (sym is) }
 
 pub returns-clause-goes : goal.returns-clause-goes
