@@ -55,7 +55,7 @@ pub fn put_first(row: &mut Vec<u8>, source: &[u8])
     if source.len() <= BLOCK {
         put_short(row, source);
     } else {
-        put_blocks(row, source);
+        put_more(row, source);
     }
 }
 
@@ -68,11 +68,32 @@ fn put_long(bytes: &mut Vec<u8>, source: &[u8])
     ensures capacity { vec_capacity bytes.new ≡ vec_capacity bytes.old }
 {
     let mut row = taken(bytes);
-    put_blocks(&mut row, source);
+    put_more(&mut row, source);
     give_back(bytes, row);
 }
 
-/// Puts more than 32 bytes behind those of a vector: by whole blocks, and then the last ones, of which some may come again.
+/// Puts more than 32 bytes behind those of a vector: up to 256 as their two ends, so that no loop ends at a length that is hard
+/// to foresee.
+#[inline(always)]
+fn put_more(row: &mut Vec<u8>, source: &[u8])
+    requires long { 32 < length source.now }
+    requires room { vec_len row.old + length source.now ≤ vec_capacity row.old }
+    ensures items { row.new.items ≡ row.old.items ++ source.now }
+    ensures capacity { vec_capacity row.new ≡ vec_capacity row.old }
+{
+    let count = source.len();
+    if count <= 64 {
+        put_ends::<32>(row, source);
+    } else if count <= 128 {
+        put_ends::<64>(row, source);
+    } else if count <= 256 {
+        put_ends::<128>(row, source);
+    } else {
+        put_blocks(row, source);
+    }
+}
+
+/// Puts many bytes behind those of a vector: by whole blocks, and then the last ones, of which some may come again.
 #[inline(always)]
 fn put_blocks(row: &mut Vec<u8>, source: &[u8])
     requires long { 32 < length source.now }
