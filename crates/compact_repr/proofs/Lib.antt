@@ -21,6 +21,7 @@ pub mod PackedTexts
 pub mod PackedEdits
 pub mod PackedFacts
 pub mod AsciiRows
+pub mod PackedOrder
 pub mod Examples
 pub mod Letters
 pub mod Keeping

@@ -1,9 +1,14 @@
 //! How two short texts are compared.
 ghost use Rattle.std.specs.Prelude.{◌≡◌, nat_eq};
-ghost use Rattle.std.specs.Cmp.Lexicographic.{pointwise};
+ghost use Rattle.std.specs.Cmp.Lexicographic.{pointwise, slice_cmp};
+ghost use Rattle.std.specs.Ordering.{nat_cmp};
 
 use crate::inline::InlineBuffer;
 use crate::words::{row_end, same_row};
+use std::cmp::Ordering;
+
+/// The last byte of the packed empty text.
+const EMPTY: usize = 192;
 
 impl InlineBuffer {
     /// Whether the texts are the same. The same three words are the same text, and other last bytes are other texts: a text of
@@ -18,5 +23,19 @@ impl InlineBuffer {
             return same;
         }
         self.as_str() == other.as_str()
+    }
+
+    /// The order of the texts. Where neither is empty and the first bytes differ nothing else is looked at. It stands aside, so
+    /// that which of two bytes is less is reckoned and not branched on.
+    #[inline(never)]
+    #[tactic(auto, using(crate::proofs::ByteOrder::order_facts))]
+    pub fn text_cmp(&self, other: &Self) -> Ordering
+        ensures { result ≡ slice_cmp nat_cmp self.now other.now }
+    {
+        let (first, others) = (self.bytes[0], other.bytes[0]);
+        if row_end(&self.bytes) != EMPTY && row_end(&other.bytes) != EMPTY && first != others {
+            return first.cmp(&others);
+        }
+        self.as_str().cmp(other.as_str())
     }
 }

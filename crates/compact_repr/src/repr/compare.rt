@@ -26,6 +26,9 @@ impl<P: Policy> Repr<P> {
     pub fn text_cmp(&self, other: &Self) -> Ordering
         ensures { result ≡ slice_cmp nat_cmp self.now.text other.now.text }
     {
+        if let (Buffer::Inline(_, text), Buffer::Inline(_, other)) = (&self.buffer, &other.buffer) {
+            return text.text_cmp(other);
+        }
         byte_order(self.as_str(), other.as_str())
     }
 }
