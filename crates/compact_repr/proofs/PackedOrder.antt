@@ -1,16 +1,15 @@
 -- The order of two texts by their packed bytes.
-use Rattle.std.proofs.Common.{◌≡◌, ℕ, ◌+◌, ◌-◌, ◌<◌, ◌≤◌, List, length, take, get_or, ap, ap₂, sym, ◌∙◌, arith, ⊎_elim}
+use Rattle.std.proofs.Common.{◌≡◌, ℕ, ◌<◌, ◌≤◌, List, length, take, get_or, ap, ap₂, sym, ◌∙◌, arith, ⊎_elim}
 use Rattle.std.specs.Prelude.{◌≢◌, slice_index_or}
-use Rattle.std.specs.Str.{IsUtf8}
 use Rattle.std.specs.Cmp.Lexicographic.{slice_cmp}
 use Rattle.std.specs.Ordering.{nat_cmp}
 use Rattle.std.proofs.lemmas.Bool.{cases_lt}
 use Rattle.std.proofs.lemmas.List.{get_or-take, length-take-le}
-use Rattle.compact_repr.specs.Text.{utf8, text_of}
+use Rattle.compact_repr.specs.Text.{utf8}
 use Rattle.compact_repr.specs.Packed.{IsPackedFor, packed_len, packed_text}
 use Rattle.compact_repr.proofs.Texts.{utf8-text_of}
 use Rattle.compact_repr.proofs.ByteOrder.{utf8-order, first-decides}
-use Rattle.compact_repr.proofs.PackedTexts.{len-full, len-high, packed-utf8, packed-seen}
+use Rattle.compact_repr.proofs.PackedTexts.{len-full, len-high, packed-utf8}
 use Rattle.compact_repr.proofs.PackedEdits.{len-fits}
 
 -- a text that is not empty begins where its packed bytes do

@@ -1,4 +1,4 @@
-use Rattle.std.proofs.Common.{◌≡◌, ℕ, List, [], ◌∷◌, take, drop, get_or, ap, sym, ◌∙◌, arith}
+use Rattle.std.proofs.Common.{◌≡◌, ℕ, List, [], ◌∷◌, drop, get_or, ap, sym, ◌∙◌, arith}
 use Rattle.std.proofs.lemmas.List.{length-drop, take_all, drop-drop, get_or-drop}
 use Rattle.compact_repr.specs.Words.{bytes_of}
 use Rattle.compact_repr.proofs.words.row_end.Goals as goal

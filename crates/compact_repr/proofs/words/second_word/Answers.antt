@@ -1,4 +1,4 @@
-use Rattle.std.proofs.Common.{ℕ, arith}
+use Rattle.std.proofs.Common.{ℕ}
 use Rattle.compact_repr.proofs.Numbers.{number_second}
 use Rattle.compact_repr.proofs.words.second_word.Goals as goal
 
