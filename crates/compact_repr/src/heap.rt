@@ -45,7 +45,7 @@ impl HeapBuffer {
     }
 
     /// A copy of `text` in a new buffer with room for `capacity` bytes, at least as many as the text has.
-    #[inline]
+    #[inline(always)]
     pub fn copy_of(alloc: Global, text: &str, capacity: usize) -> Result<Self, AllocError>
         requires { length text.now ≤ capacity }
         ensures { IfOk result (λ b. b ≡ record { text = text_of text.now; capacity = capacity }) }

@@ -86,7 +86,6 @@ impl InlineBuffer {
     }
 
     /// The text, by a call, for a loop that is seldom over a short text.
-    #[cold]
     #[inline(never)]
     pub fn as_str_apart(&self) -> &str
         ensures bytes { result.now ≡ utf8 self.now }

@@ -149,7 +149,7 @@ pub fn put_zeros(bytes: &mut Vec<u8>, len: usize)
 }
 
 /// Puts bytes, at least `N` and at most twice as many, as the first `N` and the last `N` of them. Of the first it keeps
-/// those that do not come again, and both are read before the vector is touched.
+/// those that do not come again. Each is read right before it is put, so that it needs no place on the stack.
 #[inline(always)]
 #[tactic(auto, using(crate::proofs::Appends::joined_ends))]
 fn put_ends<const N: usize>(bytes: &mut Vec<u8>, source: &[u8])
@@ -160,13 +160,11 @@ fn put_ends<const N: usize>(bytes: &mut Vec<u8>, source: &[u8])
     ensures capacity { vec_capacity bytes.new ≡ vec_capacity bytes.old }
 {
     let rest = source.len() - N;
-    let first = piece::<N>(source, 0);
-    let last = piece::<N>(source, rest);
     let mut row = taken(bytes);
     let len = row.len();
-    put::<N>(&mut row, first);
+    put::<N>(&mut row, piece::<N>(source, 0));
     row.truncate(len + rest);
-    put::<N>(&mut row, last);
+    put::<N>(&mut row, piece::<N>(source, rest));
     give_back(bytes, row);
 }
 
