@@ -260,7 +260,7 @@ fn a_part_is_cut_out(rt: HostRuntime) {
     assert_eq!(rt; text.capacity(), 32);
 }
 
-/// A large room is filled byte by byte, past each place up to which bytes are written ahead.
+/// A large room is filled byte by byte, up to its last one.
 #[test]
 fn a_room_is_filled(rt: HostRuntime) {
     let mut text = empty(&rt, rt.alloc(), 1000);
