@@ -85,15 +85,6 @@ impl InlineBuffer {
         unsafe { std::str::from_utf8_unchecked(&self.bytes[..length_of(&self.bytes)]) }
     }
 
-    /// The text, by a call, for a loop that is seldom over a short text.
-    #[inline(never)]
-    pub fn as_str_apart(&self) -> &str
-        ensures bytes { result.now ≡ utf8 self.now }
-        ensures text { text_of result.now ≡ self.now }
-    {
-        self.as_str()
-    }
-
     /// Appends `text` where it fits. Answers whether it fitted; if not, nothing has changed.
     #[inline]
     pub fn push_str(&mut self, text: &str) -> bool

@@ -3,10 +3,10 @@ use Rattle.std.proofs.Common.{◌≡◌, Some, true, false, ℕ, ◌+◌, ◌-�
 use Rattle.std.proofs.lemmas.Grind.{common_steps}
 use Rattle.std.proofs.lemmas.Bool.{cond-true, cond-false, lt-leb, le-leb}
 use Rattle.std.proofs.lemmas.Bool.Decides.{nat_tests}
-use Rattle.std.proofs.lemmas.Str.{len_utf8_bounds, chars-nil}
+use Rattle.std.proofs.lemmas.Str.{len_utf8_bounds}
 use Rattle.std.specs.Prelude.{IsTrue, option_map}
 use Rattle.std.specs.Char.{len_utf8, is_ascii}
-use Rattle.compact_repr.specs.Text.{size, text_of}
+use Rattle.compact_repr.specs.Text.{size}
 use Rattle.compact_repr.specs.Cut.{IsCut, IsBoundary, before, after, replaced_text}
 use Rattle.compact_repr.specs.Value.{PlacedText, placed, is_static}
 use Rattle.compact_repr.specs.Capacity.{Growth, kept, owned, own_asks}

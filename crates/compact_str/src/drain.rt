@@ -105,12 +105,13 @@ impl<P: Policy> Drain<'_, P> {
         ensures text { text_of result.now ≡ drain_rest self.now }
         ensures len { length result.now ≡ size (drain_rest self.now) }
     {
-        let text = self.value.owned_str();
-        if text.len() == self.whole {
-            middle(text, self.front, self.back)
-        } else {
-            self.value.rare_part(self.front, self.back)
+        // An inline text is short: the loop has one way of reading alone, that of the heap.
+        if let Some(text) = self.value.heap_str() {
+            if text.len() == self.whole {
+                return middle(text, self.front, self.back);
+            }
         }
+        self.value.rare_part(self.front, self.back)
     }
 }
 

@@ -1,5 +1,5 @@
 //! What stands at a position of a representation's text, in bytes.
-ghost use Rattle.std.specs.Prelude.{◌≡◌, ◌-◌, ◌<◌, ◌≤◌, ℕ, List, [], ◌∷◌, ◌++◌, length, true, false, IsTrue, ◌↔◌, MatchOption};
+ghost use Rattle.std.specs.Prelude.{◌≡◌, ◌-◌, ◌<◌, ◌≤◌, ℕ, List, [], ◌∷◌, ◌++◌, length, true, false, IsTrue, ◌↔◌, IfSome, MatchOption};
 ghost use Rattle.compact_repr.specs.Text.{size, utf8, text_of};
 ghost use Rattle.compact_repr.specs.Cut.{IsBoundary, after, middle};
 ghost use Rattle.compact_repr.specs.Value.{is_static};
@@ -9,18 +9,15 @@ use crate::policy::Policy;
 use crate::repr::{Buffer, Repr};
 
 impl<P: Policy> Repr<P> {
-    /// The text of a value that is not static. In a loop over a heap text it is found out once, and not at each turn, where the
-    /// text stands: so that the loop is short, an inline text is read by a call.
+    /// The text of a heap value; `None` of any other. In a loop it is found out once, and not at each turn, where the text stands.
     #[inline(always)]
-    pub fn owned_str(&self) -> &str
-        requires { is_static self.now.placement.place ≡ false }
-        ensures bytes { result.now ≡ utf8 self.now.text }
-        ensures text { text_of result.now ≡ self.now.text }
+    pub fn heap_str(&self) -> Option<&str>
+        ensures bytes { IfSome result (λ s. s.now ≡ utf8 self.now.text) }
+        ensures text { IfSome result (λ s. text_of s.now ≡ self.now.text) }
     {
         match &self.buffer {
-            Buffer::Heap(heap) => heap.as_str(),
-            Buffer::Inline(_, inline) => inline.as_str_apart(),
-            Buffer::Static(_) => unreachable!(),
+            Buffer::Heap(heap) => Some(heap.as_str()),
+            _ => None,
         }
     }
 

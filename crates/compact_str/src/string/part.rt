@@ -1,5 +1,5 @@
 //! What stands from one position to another, for any two positions.
-ghost use Rattle.std.specs.Prelude.{◌≡◌, ℕ, ◌+◌, ◌*◌, ◌%◌, ◌^◌, ◌<◌, ◌≤◌, List, [], ◌∷◌, length, MatchOption, true, false};
+ghost use Rattle.std.specs.Prelude.{◌≡◌, ℕ, ◌+◌, ◌*◌, ◌%◌, ◌^◌, ◌<◌, ◌≤◌, List, [], ◌∷◌, length, IfSome, MatchOption, true, false};
 ghost use Rattle.std.specs.Char.{len_utf8, InScalarRange};
 ghost use Rattle.compact_repr.specs.Text.{size, text_of};
 ghost use Rattle.compact_repr.specs.Value.{is_static};
@@ -48,15 +48,14 @@ pub fn rare_end(start: usize, word: u64) -> usize
 }
 
 impl<P: Policy> PolicyString<P> {
-    /// The text of a value that is not static.
+    /// The text of a heap value; `None` of any other.
     #[inline(always)]
     #[tactic(auto, using(compact_repr::proofs::TextFacts::text_facts))]
-    pub(crate) fn owned_str(&self) -> &str
-        requires { is_static self.now.placement.place ≡ false }
-        ensures text { text_of result.now ≡ self.now.text }
-        ensures len { length result.now ≡ size self.now.text }
+    pub(crate) fn heap_str(&self) -> Option<&str>
+        ensures text { IfSome result (λ s. text_of s.now ≡ self.now.text) }
+        ensures len { IfSome result (λ s. length s.now ≡ size self.now.text) }
     {
-        self.repr.owned_str()
+        self.repr.heap_str()
     }
 
     /// What stands in the text from one position to another, for what is not expected: it stays out of its caller's loop, with the

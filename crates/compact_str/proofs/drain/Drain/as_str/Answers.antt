@@ -4,8 +4,8 @@ use Rattle.compact_str.proofs.drain.Drain.as_str.Goals as goal
 
 pub middle-requires-clause-first : goal.middle-requires-clause-first
 middle-requires-clause-first g c =
-    rw c.owned_str-text.ensures.text (range-may_cut_out _ _ _ (c.args.self.now.range (omega (arith, c.if-text-self.true, c.owned_str-text.ensures.len)))).1
+    rw c.in-Some.ensures.text (range-may_cut_out _ _ _ (c.args.self.now.range (omega (arith, c.if-text-self.true, c.in-Some.ensures.len)))).1
 
 pub middle-requires-clause-last : goal.middle-requires-clause-last
 middle-requires-clause-last g c =
-    rw c.owned_str-text.ensures.text (range-may_cut_out _ _ _ (c.args.self.now.range (omega (arith, c.if-text-self.true, c.owned_str-text.ensures.len)))).2
+    rw c.in-Some.ensures.text (range-may_cut_out _ _ _ (c.args.self.now.range (omega (arith, c.if-text-self.true, c.in-Some.ensures.len)))).2

@@ -1,6 +1,5 @@
 -- The character that begins at the position, and what stands after it.
 use Rattle.std.proofs.Common.{◌≡◌, ◌+◌, ◌∷◌, [], Some, sym, ap, ◌∙◌, subst, arith}
-use Rattle.std.proofs.lemmas.Str.{chars-nil}
 use Rattle.std.specs.Char.{len_utf8}
 use Rattle.compact_repr.specs.Text.{size}
 use Rattle.compact_repr.specs.Cut.{IsBoundary, after}
