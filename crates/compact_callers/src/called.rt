@@ -1,13 +1,14 @@
 //! Callers of other modules, called with ample memory.
 
 use crate::callers::{append_field, keyword, label, record_line};
+use crate::checks::{assert_heap, assert_inline, copied, empty};
 use crate::pushes::{joined, joined_in_doubled_room};
 use crate::taken::{every_second, folded, without_spaces};
 use crate::wire_callers::{
     first_record, next_record, pair_sent_and_received, read_records, receive_field, send_field,
     sent_and_received,
 };
-use compact_testing::values::{assert_heap, assert_inline, copied, empty, letters};
+use compact_testing::values::letters;
 
 #[test]
 fn keywords_and_labels_are_short(rt: HostRuntime) {

@@ -76,7 +76,8 @@ pub fn set_rank(
 #[cfg(test)]
 mod tests {
     use super::*;
-    use compact_testing::values::{copied, lasting, letters};
+    use crate::checks::copied;
+    use compact_testing::values::{lasting, letters};
     use std::test::Fail;
 
     #[test]

@@ -48,7 +48,8 @@ pub fn cleaned(alloc: Global, row: &[u8; 24]) -> Option<[u8; 24]>
 #[cfg(test)]
 mod tests {
     use super::*;
-    use compact_testing::values::{assert_inline, copied, lasting};
+    use crate::checks::{assert_inline, copied};
+    use compact_testing::values::lasting;
 
     #[test]
     fn a_key_goes_through_a_row(rt: HostRuntime) {

@@ -109,7 +109,8 @@ pub fn split_field(field: &mut CompactString) -> Result<Option<CompactString>, R
 #[cfg(test)]
 mod tests {
     use super::*;
-    use compact_testing::values::{assert_heap, assert_inline, copied, empty, letters};
+    use crate::checks::{assert_heap, assert_inline, copied, empty};
+    use compact_testing::values::letters;
 
     #[test]
     fn a_report_is_written_past_ascii(rt: HostRuntime) {

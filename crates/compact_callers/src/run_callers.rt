@@ -5,10 +5,12 @@ ghost use Rattle.compact_str.specs.Text.{text_of};
 ghost use Rattle.compact_str.specs.Capacity.{Growth, IsLawful};
 ghost use Rattle.compact_str.specs.Change.{cleared, pushed};
 
+#[cfg(test)]
+use crate::checks::{assert_heap, assert_inline, copied};
 use compact_edit::{Edit, Reply, run};
 use compact_str::{CompactString, Policy, PolicyString, ReserveError};
 #[cfg(test)]
-use compact_testing::values::{assert_heap, assert_inline, copied, letters};
+use compact_testing::values::letters;
 use std::alloc::Global;
 
 /// Puts a text in brackets by two edits, and answers whether both are done.

@@ -1,8 +1,8 @@
 //! The interner: numbers and names, refused memory, and many words beside a plain list.
 
+use crate::checks::{spare, take_all};
 use compact_edit::{InternError, Interner};
 use compact_str::ReserveError;
-use compact_testing::memory::{spare, take_all};
 use compact_testing::random::Random;
 use compact_testing::values::letters;
 use std::alloc::Global;

@@ -1,8 +1,8 @@
 //! The longest lengths and positions, as edits.
 
+use crate::checks::{assert_inline, copied};
 use compact_edit::{Edit, Reply, run};
 use compact_str::Standard;
-use compact_testing::values::{assert_inline, copied};
 use std::alloc::Global;
 use std::ops::Bound::{Excluded, Included, Unbounded};
 use std::process::Abort;

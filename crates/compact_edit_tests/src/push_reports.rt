@@ -1,10 +1,10 @@
 //! Lists of pushes under several growth policies, with what they move; and other calls under those policies.
 
+use crate::checks::{append, assert_heap, assert_inline, spare, take_all};
 use compact_edit::{PushReport, run_pushes};
 use compact_str::{Policy, PolicyString, Standard};
-use compact_testing::memory::{spare, take_all};
 use compact_testing::policies::{Double, Large, Slow};
-use compact_testing::values::{append, assert_heap, assert_inline, letters};
+use compact_testing::values::letters;
 use std::alloc::Global;
 use std::process::Abort;
 

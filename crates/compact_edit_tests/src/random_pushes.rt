@@ -1,9 +1,9 @@
 //! Two hundred random lists of texts, pushed under each growth policy. The numbers come from a program in Python that
 //! draws the same lists and follows the rules of growth.
 
+use crate::checks::take_all;
 use compact_edit::{PushReport, run_pushes};
 use compact_str::{Policy, Standard};
-use compact_testing::memory::take_all;
 use compact_testing::policies::{Double, Large, Slow};
 use compact_testing::random::Random;
 use compact_testing::values::letters;

@@ -1,11 +1,11 @@
 //! Lists of edits that are run, with ample memory and with none.
 
+use crate::checks::{
+    assert_heap, assert_inline, assert_seen, assert_static, copied, spare, take_all,
+};
 use compact_edit::{Edit, Reply, run};
 use compact_str::{CompactString, Standard};
-use compact_testing::memory::{spare, take_all};
-use compact_testing::values::{
-    assert_heap, assert_inline, assert_seen, assert_static, copied, lasting, letters,
-};
+use compact_testing::values::{lasting, letters};
 use std::alloc::Global;
 use std::ops::Bound::{Excluded, Included};
 use std::process::Abort;

@@ -1,8 +1,9 @@
 //! Texts of formats, with ample memory.
 
+use crate::checks::assert_inline;
 use compact_ext::{ToCompactStringError, format_compact};
 use compact_str::{CompactString, ReserveError};
-use compact_testing::values::{assert_inline, letters};
+use compact_testing::values::letters;
 use std::alloc::Global;
 use std::fmt;
 use std::fmt::Display;

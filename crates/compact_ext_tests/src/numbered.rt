@@ -1,8 +1,8 @@
 //! Texts of numbers and of other values, with ample memory.
 
+use crate::checks::{assert_inline, assert_seen, buffered, copied};
 use compact_ext::ToCompactString;
 use compact_str::CompactString;
-use compact_testing::values::{assert_inline, assert_seen, buffered, copied};
 use std::alloc::Global;
 use std::num::{NonZeroI128, NonZeroU8, NonZeroU128};
 use std::process::Abort;

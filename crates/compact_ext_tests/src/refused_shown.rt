@@ -1,9 +1,9 @@
 //! Texts of formats while requests for memory are refused, beside what `compact_refusal_tests` tries of each call.
 
+use crate::checks::{assert_inline, buffered, take_all};
 use compact_ext::{ToCompactString, ToCompactStringError, format_compact};
 use compact_str::{CompactString, ReserveError};
-use compact_testing::memory::take_all;
-use compact_testing::values::{assert_inline, buffered, letters};
+use compact_testing::values::letters;
 use std::fmt;
 use std::fmt::Display;
 

@@ -1,12 +1,13 @@
 //! Texts that are written over a wire and read: the bytes, and what each fault has taken or put out. The bytes were written
 //! by hand from the definition of the form.
 
+use crate::checks::{assert_inline, copied};
 use crate::wire_forms::{end_of, form_of, form_of_letters};
 use crate::wire_letters::Letters;
 use compact_ext::wire::{WireError, read_wire, write_wire};
 use compact_str::{CompactString, ReserveError};
 use compact_testing::pieces::{Narrow, Pieces, Stop};
-use compact_testing::values::{assert_inline, copied, letters};
+use compact_testing::values::letters;
 use std::alloc::Global;
 use std::fmt::Write;
 use std::io;

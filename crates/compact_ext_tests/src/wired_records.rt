@@ -1,12 +1,12 @@
 //! Texts of a reader that are read one after another until its end. The bytes were written by hand from the definition of
 //! the form.
 
+use crate::checks::{assert_inline, assert_seen, take_all};
 use crate::wire_forms::name_of;
 use compact_ext::wire::{Records, WireError};
 use compact_str::CompactString;
-use compact_testing::memory::take_all;
 use compact_testing::pieces::{Pieces, Stop};
-use compact_testing::values::{assert_inline, assert_seen, letters};
+use compact_testing::values::letters;
 use std::alloc::Global;
 use std::io::{BufRead, BufReader, ErrorKind};
 use std::process::Abort;

@@ -1,11 +1,10 @@
 //! Texts that are written over a wire and read while requests for memory are refused. How much room was asked for shows in
 //! how many bytes the reader had given when it was.
 
+use crate::checks::{copied, spare, take_all};
 use crate::wire_forms::end_of;
 use crate::wire_letters::Letters;
 use compact_ext::wire::{WireError, read_wire, write_wire};
-use compact_testing::memory::{spare, take_all};
-use compact_testing::values::copied;
 use std::alloc::Global;
 use std::process::Abort;
 

@@ -1,10 +1,11 @@
 //! Wire forms that come and go in pieces: a reader that ends at each of its bytes, and a writer that stops at each.
 
+use crate::checks::{assert_inline, assert_seen, copied};
 use crate::wire_forms::{end_of, form_of_letters};
 use compact_ext::wire::{read_wire, write_wire};
 use compact_str::CompactString;
 use compact_testing::pieces::{Narrow, Pieces, Stop};
-use compact_testing::values::{assert_inline, assert_seen, copied, letters};
+use compact_testing::values::letters;
 use std::alloc::Global;
 use std::io::ErrorKind;
 use std::process::Abort;

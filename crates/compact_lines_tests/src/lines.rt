@@ -1,7 +1,7 @@
 //! Sessions of lines, and readers and writers that fail.
 
+use crate::checks::take_all;
 use compact_lines::run_lines;
-use compact_testing::memory::take_all;
 use std::alloc::Global;
 use std::io;
 use std::io::{Read, Write};

@@ -1,10 +1,10 @@
 //! Buffers whose bytes lie in pieces, parted at each place.
 
+use crate::checks::{assert_fitted, take_all};
 use crate::drips::Drips;
 use bytes::Buf;
 use compact_str::{CompactString, FromUtf8Error};
-use compact_testing::memory::take_all;
-use compact_testing::values::{assert_fitted, letters};
+use compact_testing::values::letters;
 use std::alloc::Global;
 use std::process::Abort;
 

@@ -1,9 +1,8 @@
 //! Values as they are changed, with ample memory.
 
+use crate::checks::{append, assert_heap, assert_inline, assert_seen, copied, empty};
 use compact_str::CompactString;
-use compact_testing::values::{
-    append, assert_heap, assert_inline, assert_seen, copied, empty, letters,
-};
+use compact_testing::values::letters;
 
 #[test]
 fn an_append_grows_the_buffer_by_half(rt: HostRuntime) {

@@ -1,11 +1,11 @@
 //! Values as they are copied.
 
-use compact_str::CompactString;
-use compact_testing::memory::take_all;
-use compact_testing::values::{
+use crate::checks::{
     append, assert_heap, assert_inline, assert_seen, assert_static, buffered, clone_of, copied,
-    empty, lasting, letters,
+    empty, take_all,
 };
+use compact_str::CompactString;
+use compact_testing::values::{lasting, letters};
 
 #[test]
 fn a_clone_has_just_the_capacity_of_its_text(rt: HostRuntime) {

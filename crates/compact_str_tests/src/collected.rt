@@ -1,7 +1,8 @@
 //! What is collected, joined and extended, with values worked out by hand from the rules.
 
+use crate::checks::{assert_inline, assert_seen};
 use compact_str::{AsText, CompactString, CompactStringExt, append_all};
-use compact_testing::values::{assert_inline, assert_seen, lasting, letters};
+use compact_testing::values::{lasting, letters};
 use std::alloc::Global;
 use std::borrow::CowStr;
 use std::boxed::BoxedStr;

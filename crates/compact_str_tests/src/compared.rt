@@ -1,10 +1,9 @@
 //! Values as they are compared and hashed. The order of the many texts was worked out by a program in Python, which sorts
 //! by code points.
 
+use crate::checks::{append, assert_heap, assert_static, buffered, copied, empty};
 use compact_str::CompactString;
-use compact_testing::values::{
-    append, assert_heap, assert_static, buffered, copied, empty, lasting, letters,
-};
+use compact_testing::values::{lasting, letters};
 use std::alloc::{AllocError, Global};
 use std::cmp::Ordering;
 use std::hash::{DefaultHasher, Hash, Hasher};

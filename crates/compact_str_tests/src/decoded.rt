@@ -1,9 +1,9 @@
 //! Bytes and units that are decoded. Texts and faults are those of the Unicode Standard, worked by hand.
 
+use crate::checks::{assert_inline, take_all};
 use bytes::Buf;
 use compact_str::{CompactString, FromUtf8Error, FromUtf16Error, ReserveError, Utf16Error};
-use compact_testing::memory::take_all;
-use compact_testing::values::{assert_inline, letters};
+use compact_testing::values::letters;
 use std::alloc::{AllocError, Global};
 use std::process::Abort;
 

@@ -1,9 +1,8 @@
 //! Values as they are handed on, with ample memory.
 
+use crate::checks::{append, assert_heap, assert_inline, buffered, copied, empty};
 use compact_str::{CompactString, FromJsonError};
-use compact_testing::values::{
-    append, assert_heap, assert_inline, buffered, copied, empty, lasting, letters,
-};
+use compact_testing::values::{lasting, letters};
 use serde_json::{Value, json};
 use std::alloc::{AllocError, Global};
 use std::borrow::CowStr;

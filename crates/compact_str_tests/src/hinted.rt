@@ -1,8 +1,9 @@
 //! Items whose hint tells nothing or too much, where there is memory: each call gives what the items give.
 
+use crate::checks::{assert_fitted, assert_inline, assert_seen, copied};
 use crate::hints::with_hint;
 use compact_str::{CompactString, CompactStringExt, append_all};
-use compact_testing::values::{assert_fitted, assert_inline, assert_seen, copied, letters};
+use compact_testing::values::letters;
 use std::alloc::Global;
 use std::process::Abort;
 

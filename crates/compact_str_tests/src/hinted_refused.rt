@@ -1,12 +1,12 @@
 //! The same where no memory is left: up to 24 bytes nothing is refused, and more is, whatever the hint.
 
+use crate::checks::{assert_inline, copied, take_all};
 use crate::hinted::{
     assert_appended, assert_collected, assert_collected_by_trait, assert_extended,
 };
 use crate::hints::with_hint;
 use compact_str::{CompactString, CompactStringExt, append_all};
-use compact_testing::memory::take_all;
-use compact_testing::values::{assert_inline, copied, letters};
+use compact_testing::values::letters;
 use std::alloc::{AllocError, Global};
 use std::process::Abort;
 

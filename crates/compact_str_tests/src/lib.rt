@@ -7,6 +7,8 @@ mod buffers;
 #[cfg(test)]
 mod changed;
 #[cfg(test)]
+mod checks;
+#[cfg(test)]
 mod cloned;
 #[cfg(test)]
 mod collected;

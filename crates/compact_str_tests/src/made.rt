@@ -1,9 +1,8 @@
 //! Values as they are made, with ample memory.
 
+use crate::checks::{assert_heap, assert_inline, assert_seen, assert_static, buffered};
 use compact_str::CompactString;
-use compact_testing::values::{
-    assert_heap, assert_inline, assert_seen, assert_static, buffered, lasting, letters,
-};
+use compact_testing::values::{lasting, letters};
 use std::borrow::CowStr;
 use std::mem::size_of;
 

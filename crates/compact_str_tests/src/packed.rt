@@ -1,8 +1,9 @@
 //! Inline values as their 24 bytes, by rows that are written out.
 
+use crate::checks::{append, assert_inline, copied, empty};
 use crate::edits::truncate;
 use compact_str::CompactString;
-use compact_testing::values::{append, assert_inline, copied, empty, lasting, letters};
+use compact_testing::values::{lasting, letters};
 use std::alloc::Global;
 use std::process::Abort;
 

@@ -1,11 +1,12 @@
 //! Inline values that grow from 23 bytes to 24, where the text takes the byte of its length, and back, by each edit.
 
+use crate::checks::{append, assert_inline, copied, empty};
 use crate::edits::{
     drain_out, insert, insert_str, push, remove, repeated, replace, split, truncate,
 };
 use crate::packed::is_packed;
 use compact_str::CompactString;
-use compact_testing::values::{append, assert_inline, copied, empty, lasting, letters};
+use compact_testing::values::{lasting, letters};
 use std::alloc::Global;
 use std::fmt::Write;
 use std::ops::Bound::{Excluded, Included};

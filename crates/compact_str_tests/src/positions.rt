@@ -1,11 +1,10 @@
 //! Values as they are edited at their end and by byte position, with ample memory. Which place and capacity they then have is
 //! tested in `compact_refusal_tests`, where each edit is also granted its memory.
 
+use crate::checks::{assert_heap, assert_inline, assert_seen, assert_static, copied, empty};
 use crate::edits::{insert, insert_str, push, remove, repeated, replace, split, truncate};
 use compact_str::CompactString;
-use compact_testing::values::{
-    assert_heap, assert_inline, assert_seen, assert_static, copied, empty, lasting, letters,
-};
+use compact_testing::values::{lasting, letters};
 use std::ops::Bound::{Excluded, Included, Unbounded};
 
 #[test]

@@ -1,8 +1,8 @@
 //! What holds while every request for memory is refused, beside what `compact_refusal_tests` tries of each call.
 
+use crate::checks::{append, assert_heap, assert_inline, copied, empty, take_all};
 use compact_str::CompactString;
-use compact_testing::memory::take_all;
-use compact_testing::values::{append, assert_heap, assert_inline, copied, empty, letters};
+use compact_testing::values::letters;
 use std::alloc::{AllocError, Global};
 use std::fmt::Write;
 use std::process::Abort;

@@ -1,7 +1,8 @@
 //! Heap texts that were longer before: what is appended or put in then stands where bytes of the longer text stood.
 
+use crate::checks::{append, assert_heap, assert_seen, copied};
 use compact_str::CompactString;
-use compact_testing::values::{append, assert_heap, assert_seen, copied, letters};
+use compact_testing::values::letters;
 use std::process::Abort;
 
 /// Keeps the first `len` bytes, which end at a boundary.

@@ -2,8 +2,9 @@
 //!
 //! What a format made is handed to a function as it is: a test that answered each error would be dear to prove.
 
+use crate::checks::copied;
 use compact_str::{CompactString, FromJsonError, ReserveError};
-use compact_testing::values::{copied, lasting, letters};
+use compact_testing::values::{lasting, letters};
 use std::alloc::AllocError;
 use std::process::Abort;
 

@@ -1,10 +1,8 @@
 //! What is taken out of a text, and what of it is changed.
 
+use crate::checks::{append, assert_heap, assert_inline, assert_static, copied, take_all};
 use compact_str::{CompactString, Drain, Standard};
-use compact_testing::memory::take_all;
-use compact_testing::values::{
-    append, assert_heap, assert_inline, assert_static, copied, lasting, letters,
-};
+use compact_testing::values::{lasting, letters};
 use std::fmt::Write;
 use std::ops::Bound;
 use std::ops::Bound::{Excluded, Included, Unbounded};

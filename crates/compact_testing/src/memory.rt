@@ -1,7 +1,6 @@
 //! A process with no memory left.
 
 use std::alloc::{AllocError, Global};
-use std::process::Abort;
 
 /// All memory that this process can get, so that each request is refused until this is dropped.
 #[derive(Drop)]
@@ -15,13 +14,8 @@ impl Hog {
     }
 }
 
-/// Takes the whole address space.
-pub fn take_all(rt: &impl Abort, alloc: Global) -> Hog {
-    take_blocks(alloc).expect(rt, "room for the list of blocks")
-}
-
 /// Takes the whole address space, in ever smaller blocks that nothing writes to.
-fn take_blocks(alloc: Global) -> Result<Hog, AllocError> {
+pub fn take_blocks(alloc: Global) -> Result<Hog, AllocError> {
     let mut blocks = Vec::with_capacity(alloc, 60_000)?;
     let mut size = 1usize << 46;
     for _ in 0..100_000 {
@@ -40,9 +34,4 @@ fn take_blocks(alloc: Global) -> Result<Hog, AllocError> {
         }
     }
     Ok(Hog { blocks })
-}
-
-/// A block that is given back once a hog stands, so that just one request of its size is granted.
-pub fn spare(rt: &impl Abort, alloc: Global, size: usize) -> Vec<u8> {
-    Vec::with_capacity(alloc, size).expect(rt, "a spare block")
 }

@@ -1,8 +1,7 @@
 //! Records: fields of a line, what is written and read back, faults with their lines, and a reader that fails.
 
+use crate::checks::{copied, spare, take_all};
 use compact_str::CompactString;
-use compact_testing::memory::{spare, take_all};
-use compact_testing::values::copied;
 use compact_uses::{
     Fault, LineError, RecordsCause, RecordsError, fields_of, line_of, read_records,
 };

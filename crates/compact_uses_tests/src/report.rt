@@ -1,8 +1,7 @@
 //! The report: columns counted in characters, records that are too short, and refused memory.
 
+use crate::checks::{copied, take_all};
 use compact_str::CompactString;
-use compact_testing::memory::take_all;
-use compact_testing::values::copied;
 use compact_uses::aligned_rows;
 use std::alloc::Global;
 use std::process::Abort;

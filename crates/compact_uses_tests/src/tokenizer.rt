@@ -1,9 +1,9 @@
 //! The tokenizer: characters of each width, and refused memory.
 
+use crate::checks::{copied, take_all};
 use compact_edit::{InternError, Interner};
 use compact_str::CompactString;
-use compact_testing::memory::take_all;
-use compact_testing::values::{copied, letters};
+use compact_testing::values::letters;
 use compact_uses::{Kind, Token, tokenize};
 use std::alloc::Global;
 use std::process::Abort;

@@ -1,0 +1,50 @@
+//! What a test takes for granted or asserts: it ends the test where that does not hold. A library may hold no such function.
+
+use compact_str::{CompactString, Policy, PolicyString};
+use compact_testing::memory::{Hog, take_blocks};
+use compact_testing::values::place_of;
+use std::alloc::Global;
+use std::process::Abort;
+
+/// A copy of `text`.
+pub fn copied(rt: &impl Abort, alloc: Global, text: &str) -> CompactString {
+    CompactString::new(alloc, text).expect(rt, "memory")
+}
+
+/// `text` in a buffer of just that capacity.
+pub fn buffered(rt: &impl Abort, alloc: Global, capacity: usize, text: &str) -> String {
+    let mut buffer = String::with_capacity(alloc, capacity).expect(rt, "memory");
+    buffer.push_str(text).expect(rt, "memory");
+    buffer
+}
+
+/// Asserts place, length, capacity and text of a value.
+pub fn assert_seen<P: Policy>(
+    rt: &impl Abort,
+    value: &PolicyString<P>,
+    place: &str,
+    capacity: usize,
+    text: &str,
+) {
+    assert_eq!(rt; place_of(value), place);
+    assert_eq!(rt; value.capacity(), capacity);
+    assert_eq!(rt; value.as_str(), text);
+    assert_eq!(rt; value.len(), text.len());
+    assert_eq!(rt; value.as_bytes(), text.as_bytes());
+    assert!(rt; value.is_empty() == text.is_empty());
+}
+
+/// Asserts that a value stands inline with this text.
+pub fn assert_inline<P: Policy>(rt: &impl Abort, value: &PolicyString<P>, text: &str) {
+    assert_seen(rt, value, "inline", 24, text);
+}
+
+/// Takes the whole address space.
+pub fn take_all(rt: &impl Abort, alloc: Global) -> Hog {
+    take_blocks(alloc).expect(rt, "room for the list of blocks")
+}
+
+/// A block that is given back once a hog stands, so that just one request of its size is granted.
+pub fn spare(rt: &impl Abort, alloc: Global, size: usize) -> Vec<u8> {
+    Vec::with_capacity(alloc, size).expect(rt, "a spare block")
+}
