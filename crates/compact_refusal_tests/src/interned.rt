@@ -9,7 +9,7 @@ use compact_edit::{InternError, Interner};
 use std::alloc::Global;
 
 /// What the first name of an interner asks for beside its copy.
-pub const TABLE: [Ask; 4] = [New(72), New(64), New(360), New(1)];
+pub const TABLE: [Ask; 4] = [New(72), New(64), New(288), New(1)];
 
 /// Each case of the interner.
 pub fn cases(alloc: Global, ration: &mut Ration, faults: &mut Faults) {
@@ -90,7 +90,7 @@ fn grows(alloc: Global, ration: &mut Ration) -> bool {
     for len in 1..9 {
         holds &= takes(ration, &mut names, letters(0, len), &[]);
     }
-    let asks = [More(144), More(128), More(720)];
+    let asks = [More(144), More(128), More(576)];
     holds &= takes(ration, &mut names, letters(0, 9), &asks);
     for len in 0..10 {
         holds &= finds(&mut names, letters(0, len), len as u32);
