@@ -2,6 +2,7 @@
 
 mod clones;
 mod compare;
+mod deref;
 pub mod end;
 pub mod json;
 mod kept;

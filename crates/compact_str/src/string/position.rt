@@ -2,6 +2,7 @@
 ghost use Rattle.std.specs.Prelude.{◌≡◌, ℕ, ◌+◌, ◌-◌, ◌^◌, ◌<◌, ◌≤◌, ◌↔◌, ◌∷◌, [], length, Some, None, IfOk, OnOk, OnErr, IsOk, IsTrue, MatchOption, false};
 ghost use Rattle.std.specs.Char.{len_utf8};
 ghost use Rattle.std.specs.Range.Bound.{start_index, end_index};
+ghost use Rattle.std.specs.Str.{IsCharBoundary};
 ghost use Rattle.compact_repr.specs.Text.{size, utf8, text_of};
 ghost use Rattle.compact_repr.specs.Cut.{IsCut, IsBoundary, before, after, middle, replaced_text};
 ghost use Rattle.compact_repr.specs.Value.{placed, is_static};
@@ -19,11 +20,14 @@ use std::ops::Bound;
 impl<P: Policy> PolicyString<P> {
     /// Whether `index`, in bytes, is a boundary: 0, the length, or where a character begins.
     ///
-    /// In `"äb"` 0, 2 and 3 are.
+    /// In `"äb"` 0, 2 and 3 are. After it the text may be cut there as a `&str`, as by `&value[..index]`.
     #[inline]
     pub fn is_char_boundary(&self, index: usize) -> bool
-        ensures { IsTrue result ↔ IsBoundary self.now.text index }
+        ensures text { IsTrue result ↔ IsBoundary self.now.text index }
+        ensures bytes { IsTrue result → IsCharBoundary (utf8 self.now.text) index }
     {
+        // The proof reads from it that the bytes are a text.
+        let _bytes = self.as_str();
         self.repr.is_char_boundary(index)
     }
 
