@@ -22,3 +22,4 @@ pub mod Collects
 pub mod Json
 pub mod Fitted
 pub mod Decoded
+pub mod Fields

@@ -4,6 +4,7 @@ mod clones;
 mod compare;
 mod deref;
 pub mod end;
+mod fields;
 pub mod json;
 mod kept;
 mod letters;
