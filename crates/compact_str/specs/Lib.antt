@@ -23,3 +23,4 @@ pub mod Json
 pub mod Fitted
 pub mod Decoded
 pub mod Fields
+pub mod Lookups

@@ -9,6 +9,7 @@ pub mod json;
 mod kept;
 mod letters;
 mod look;
+mod lookup;
 mod make;
 mod out;
 pub mod part;
@@ -16,6 +17,7 @@ pub mod position;
 mod repeat;
 mod room;
 mod show;
+mod std_lookup;
 
 use compact_repr::{Policy, Repr, Standard};
 use std::marker::Model;

@@ -1,0 +1,28 @@
+//! A value that is a key of the maps and sets of `indexmap` is looked up by its text.
+ghost use Rattle.std.specs.Cmp.Lexicographic.{bytes_decides, nat_list_eq_equiv};
+ghost use Rattle.std.specs.Hash as fed;
+ghost use Rattle.std.proofs.Common.{ap, ◌∙◌};
+ghost use Rattle.std.specs.Str.{bytes_eq};
+ghost use Rattle.compact_repr.specs.Text.{utf8};
+ghost use Rattle.compact_repr.proofs.ByteOrder.{utf8-same};
+
+use crate::string::PolicyString;
+use compact_repr::Policy;
+use indexmap::Equivalent;
+
+impl<P: Policy> Equivalent<PolicyString<P>> for &str {
+    ghost equivalent = { λ q v. bytes_eq q.now (utf8 v.text) };
+
+    ghost respects_hash = { λ q v h. ap fed.str ((bytes_decides q.now (utf8 v.text)).0 h) };
+
+    ghost respects_eq = { λ q x y h.
+        nat_list_eq_equiv.congr q.now (utf8 x.text) (utf8 y.text) h ∙ utf8-same x.text y.text };
+
+    /// Whether the key has this text.
+    ///
+    /// So `map.get("abc")` finds a key `"abc"`, and no value is made for it.
+    #[inline]
+    fn equivalent(&self, key: &PolicyString<P>) -> bool {
+        *self == key.as_str()
+    }
+}
