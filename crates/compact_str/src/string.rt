@@ -1,8 +1,10 @@
 //! The string type.
 
+mod as_bytes;
 mod clones;
 mod compare;
 mod deref;
+mod empty;
 pub mod end;
 mod fields;
 pub mod json;
