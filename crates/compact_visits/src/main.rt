@@ -1,0 +1,61 @@
+//! The program: reads visits as lines of JSON on standard input, and writes as lines of JSON from where they came.
+//!
+//! A line that is no visit is answered by a line that says where it fails and why, and the others are counted all the same. The
+//! status is 1 then, and 0 where each line was counted.
+#![tactic(auto, using(compact_str::proofs::ForCallers::for_callers))]
+
+mod fault;
+mod sources;
+#[cfg(test)]
+mod tests;
+mod visit;
+
+use anyhow::Result;
+use fault::Fault;
+use serde::Serialize;
+use sources::Sources;
+use std::alloc::Global;
+use std::io;
+use std::io::{BufRead, BufReader, BufWriter, Read, Write};
+use std::process::ExitCode;
+use visit::Visit;
+
+fn main(rt: HostRuntime) -> ExitCode {
+    let mut reader = rt.stdin();
+    let mut writer = io::writer(&rt);
+    match count_visits(rt.alloc(), &mut reader, &mut writer) {
+        Ok(true) => ExitCode::SUCCESS,
+        Ok(false) | Err(_) => ExitCode::FAILURE,
+    }
+}
+
+/// Counts the visits that a reader has, one a line. It writes a line for each that is none, and then one for each source.
+///
+/// The answer is whether each line was a visit. An error says that the reader or the writer failed, or that no memory was found.
+fn count_visits<R: Read, W: Write>(alloc: Global, reader: &mut R, writer: &mut W) -> Result<bool> {
+    let mut writer = BufWriter::new(alloc, writer)?;
+    let mut sources = Sources::new(alloc);
+    let mut all_counted = true;
+    for (index, line) in BufReader::new(alloc, reader)?.split(alloc, b'\n').enumerate() {
+        match serde_json::from_slice::<Visit>(alloc, line?.as_slice()) {
+            Ok(visit) => sources.count(alloc, visit)?,
+            Err(error) => {
+                all_counted = false;
+                let fault = Fault::new(alloc, index.saturating_add(1), &error)?;
+                write_line(alloc, &mut writer, &fault)?;
+            }
+        }
+    }
+    for source in &sources.into_sorted(alloc)? {
+        write_line(alloc, &mut writer, source)?;
+    }
+    writer.flush()?;
+    Ok(all_counted)
+}
+
+/// Writes a value as a line of JSON.
+fn write_line<T: Serialize, W: Write>(alloc: Global, writer: &mut W, value: &T) -> Result<()> {
+    let line = serde_json::to_string(alloc, value)?;
+    writeln!(writer, "{line}")?;
+    Ok(())
+}

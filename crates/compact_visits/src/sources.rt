@@ -1,0 +1,79 @@
+//! From where the visitors came.
+
+use crate::visit::{Visit, host_of};
+use anyhow::Result;
+use compact_str::CompactString;
+use serde::Serialize;
+use std::alloc::Global;
+use std::cmp::Reverse;
+use std::collections::HashMap;
+
+/// A host from where visitors came, as a line of the output tells it. It is none for those of whom no host is known.
+#[derive(Debug, Drop, PartialEq, Serialize)]
+pub struct Source {
+    pub host: Option<CompactString>,
+    pub visits: u64,
+    /// The pages and the tags, each once, in the order in which they came first.
+    pub pages: Vec<CompactString>,
+    pub tags: Vec<CompactString>,
+}
+
+impl Source {
+    fn new(alloc: Global, host: &str) -> Result<Self> {
+        let host = if host.is_empty() { None } else { Some(CompactString::new(alloc, host)?) };
+        Ok(Self { host, visits: 0, pages: Vec::new(alloc), tags: Vec::new(alloc) })
+    }
+
+    fn add(&mut self, page: CompactString, tags: Vec<CompactString>) -> Result<()> {
+        self.visits = self.visits.saturating_add(1);
+        add_once(&mut self.pages, page)?;
+        for tag in tags {
+            add_once(&mut self.tags, tag)?;
+        }
+        Ok(())
+    }
+}
+
+/// Puts a text behind others, if it is none of them.
+fn add_once(texts: &mut Vec<CompactString>, text: CompactString) -> Result<()> {
+    if !texts.contains(&text) {
+        texts.push(text)?;
+    }
+    Ok(())
+}
+
+/// The sources by their hosts.
+#[derive(Drop)]
+pub struct Sources {
+    by_host: HashMap<CompactString, Source>,
+}
+
+impl Sources {
+    pub fn new(alloc: Global) -> Self {
+        Self { by_host: HashMap::new(alloc) }
+    }
+
+    /// Counts a visit. The map is asked by the `&str` of the host, so that only a new host takes a value.
+    pub fn count(&mut self, alloc: Global, visit: Visit) -> Result<()> {
+        let Visit { page, referrer, tags } = visit;
+        let host = host_of(referrer.as_deref().unwrap_or(""));
+        if !self.by_host.contains_key(host) {
+            let key = CompactString::new(alloc, host)?;
+            self.by_host.insert(key, Source::new(alloc, host)?)?;
+        }
+        if let Some(source) = self.by_host.get_mut(host) {
+            source.add(page, tags)?;
+        }
+        Ok(())
+    }
+
+    /// The sources, the one with the most visits first, and of those with as many by their hosts.
+    pub fn into_sorted(self, alloc: Global) -> Result<Vec<Source>> {
+        let mut sources = Vec::new(alloc);
+        for source in self.by_host.into_values() {
+            sources.push(source)?;
+        }
+        sources.sort_by(|a, b| (Reverse(a.visits), &a.host).cmp(&(Reverse(b.visits), &b.host)))?;
+        Ok(sources)
+    }
+}
