@@ -13,7 +13,9 @@ mod laws;
 mod refused;
 mod string;
 
-pub use compact_repr::{GREATEST_CAPACITY, INLINE_CAPACITY, Policy, ReserveError, Standard};
+pub use compact_repr::{
+    GREATEST_CAPACITY, INLINE_CAPACITY, Policy, ReserveError, Standard, standard_grows_by_half,
+};
 pub use decode::error::{FromUtf8Error, FromUtf16Error, Utf16Error};
 pub use drain::Drain;
 pub use iter::{AsText, CompactStringExt, append_all};
