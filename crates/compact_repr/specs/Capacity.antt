@@ -17,6 +17,10 @@ pub record IsLawful (g : Growth) : Type 0 where
   pub grows : g.denominator < g.numerator
   pub small : g.numerator + g.denominator ≤ 255
 
+-- how the capacity of a `CompactString` grows: from 32 bytes, by half
+abbrev pub standard_growth : Growth
+standard_growth = record { least = 32; numerator = 3; denominator = 2 }
+
 -- the greatest capacity that may be asked for, 2 ^ 56 - 2
 abbrev pub greatest : ℕ
 greatest = 72057594037927934

@@ -20,7 +20,7 @@ pub use block::{Block, Padded};
 pub use cut::{cut_is_before_and_after, first_ascii, first_char, last_char, middle};
 pub use error::ReserveError;
 pub use inline::INLINE_CAPACITY;
-pub use policy::{Policy, Standard};
+pub use policy::{Policy, Standard, standard_grows_by_half};
 pub use repr::Repr;
 pub use repr::in_place::AtOnce;
 pub use repr::room::GREATEST_CAPACITY;

@@ -1,6 +1,6 @@
 //! How the capacity of a heap buffer grows.
 ghost use Rattle.std.specs.Prelude.{◌≡◌, ℕ};
-ghost use Rattle.compact_repr.specs.Capacity.{Growth, IsLawful};
+ghost use Rattle.compact_repr.specs.Capacity.{Growth, IsLawful, standard_growth};
 
 /// The least capacity of a heap buffer, and the ratio of a growth, `NUM / DEN`.
 ///
@@ -53,3 +53,8 @@ impl Policy for Standard {
 
     ghost lawful = { record { above_inline = lit≤ tt; below_limit = lit≤ tt; divides = lit≤ tt; grows = lit< tt; small = lit≤ tt } };
 }
+
+/// A law, and the function does nothing: a heap buffer of `Standard` has at least 32 bytes, and grows by half.
+pub fn standard_grows_by_half()
+    ensures { ⟦<Standard as Policy>⟧.growth ≡ standard_growth }
+{}

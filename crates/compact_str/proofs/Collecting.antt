@@ -230,19 +230,20 @@ module _ {S T E : Type 0} (steps : S → Option T → S → Type 0) (s : S) (rea
   finished-err t (Ok v) h e y = tt
   finished-err t (Err _) h e y = (xs, t, y, subst (λ l. 24 < size l) e h)
 
--- of texts that are appended to a `String` with the text t, which leaves the text u
+-- of texts that are appended to a `String` with the text t, which leaves the text u and a capacity
 module _ {U S T : Type 0} (becomes : U → S → Type 0) (steps : S → Option T → S → Type 0) (f : T → List ℕ) (iter : U) (capacity : ℕ) (t u : List ℕ) where
   pub strings-ran : {E : Type 0} (r : Result (Unit {0}) E) → OnOk r ((it : S) × (xs : List T) × becomes iter it × Drains steps it xs × (u ≡ t ++ flat_map f xs))
       → OnOk r ((it : S) × becomes iter it × WholeRun steps it (λ p. u ≡ t ++ flat_map f p.items))
   strings-ran (Ok _) (it, xs, b, d, e) = (it, b, whole-run steps it xs (λ ys. u ≡ t ++ flat_map f ys) d e)
   strings-ran (Err _) h = tt
 
-  pub strings-succeed : {E : Type 0} (n : ℕ) (r : Result (Unit {0}) E) → size t ≡ n → OnErr r ((it : S) × becomes iter it × StopsWithout steps f it capacity t u)
-      → ((it : S) → becomes iter it → HoldsAlong steps it (λ xs. n + size (flat_map f xs) ≤ capacity)) → IsOk r
-  strings-succeed n (Ok _) e o h = refl
-  strings-succeed n (Err _) e (it, b, o) h =
+  -- where all fit the capacity `first` that it has at the call, and the one that it has by then is no less
+  pub strings-succeed : {E : Type 0} (first n : ℕ) (r : Result (Unit {0}) E) → size t ≡ n → first ≤ capacity → OnErr r ((it : S) × becomes iter it × StopsWithout steps f it capacity t u)
+      → ((it : S) → becomes iter it → HoldsAlong steps it (λ xs. n + size (flat_map f xs) ≤ first)) → IsOk r
+  strings-succeed first n (Ok _) e grows o h = refl
+  strings-succeed first n (Err _) e grows (it, b, o) h =
       let more = h it b (o.0 ++ o.1 ∷ []) o.2 (yields-next steps it o.3.0 o.2 o.0 o.1 o.3.1 o.3.2) in
-      absurd (omega (arith, more, size-next f o.0 o.1, o.5, ap size o.4, size-append t (flat_map f o.0), e))
+      absurd (omega (arith, more, grows, size-next f o.0 o.1, o.5, ap size o.4, size-append t (flat_map f o.0), e))
 
 -- items that are read through v
 pub joined-map : {A B : Type 0} (separator : List ℕ) (h : B → List ℕ) (v : A → B) (xs : List A) → joined separator h (map v xs) ≡ joined separator (λ x. h (v x)) xs

@@ -1,11 +1,15 @@
-//! Laws of the edits, of packed bytes and of the order. Each function does nothing; its contract is the law.
+//! Laws of the edits, of packed bytes, of the order and of the hash. Each function does nothing; its contract is the law.
 ghost use Rattle.compact_str.specs.Laws.{RemovalUndoesInsertion, TruncationUndoesAppend, AppendUndoesSplit, CloneIsEqual, DecodingUndoesEncoding, PackedBytesStandForOneText};
+ghost use Rattle.std.specs.Prelude.{◌≡◌};
+ghost use Rattle.std.specs.Hash as fed;
 ghost use Rattle.std.specs.Ordering.{ordering_index};
 ghost use Rattle.std.specs.List.Sorted.{IsSorted, IsNonDecreasingBy};
+ghost use Rattle.compact_repr.specs.Text.{utf8};
 ghost use Rattle.compact_str.specs.Order.{ByteOrderIsTextOrder, text_cmp};
 
 use crate::string::PolicyString;
 use compact_repr::Policy;
+use std::hash::Hash;
 
 /// Where `insert` put a character in, `remove` may be called and is never refused: it takes out that character, and the
 /// text is then as before.
@@ -44,6 +48,11 @@ pub fn packed_bytes_stand_for_one_text()
 #[tactic(auto, using(compact_repr::proofs::ByteOrder::order_facts))]
 pub fn byte_order_is_text_order()
     ensures { ByteOrderIsTextOrder }
+{}
+
+/// A value feeds a hasher just what the `str` of its text feeds.
+pub fn hash_is_that_of_the_str<P: Policy>(value: &PolicyString<P>)
+    ensures { ⟦<PolicyString<P> as Hash>⟧.hash_input value.now ≡ fed.str (utf8 value.now.text) }
 {}
 
 /// In a sorted row the comparisons with any value rise, as the clauses of `binary_search` ask. A caller names the row and

@@ -13,14 +13,16 @@ mod laws;
 mod refused;
 mod string;
 
-pub use compact_repr::{GREATEST_CAPACITY, INLINE_CAPACITY, Policy, ReserveError, Standard};
+pub use compact_repr::{
+    GREATEST_CAPACITY, INLINE_CAPACITY, Policy, ReserveError, Standard, standard_grows_by_half,
+};
 pub use decode::error::{FromUtf8Error, FromUtf16Error, Utf16Error};
 pub use drain::Drain;
 pub use iter::{AsText, CompactStringExt, append_all};
 pub use laws::{
     append_undoes_split, byte_order_is_text_order, clone_is_equal, decoding_undoes_encoding,
-    packed_bytes_stand_for_one_text, removal_undoes_insertion, sorted_row_is_searchable,
-    truncation_undoes_append,
+    hash_is_that_of_the_str, packed_bytes_stand_for_one_text, removal_undoes_insertion,
+    sorted_row_is_searchable, truncation_undoes_append,
 };
 pub use refused::Refused;
 pub use string::json::FromJsonError;

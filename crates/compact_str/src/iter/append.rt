@@ -11,9 +11,9 @@ use compact_repr::ReserveError;
 
 /// Appends each text of `items` to `line` in turn, up to the first that is refused: values become part of a `String`.
 ///
-/// An error says that no memory was found for one of them, for which the capacity at the call had no room; then those
-/// before it are appended, and those behind it are not asked for. A `String` of `"a"` and the values `"b"` and `"c"` give
-/// `"abc"`.
+/// An error says that no memory was found for one of them, for which the line had no room as it had grown by then; then
+/// those before it are appended, and those behind it are not asked for. The capacity never shrinks. A `String` of `"a"` and
+/// the values `"b"` and `"c"` give `"abc"`.
 pub fn append_all<T: AsText, U: IntoIterator<Item = T>>(
     line: &mut String,
     items: U,
@@ -21,7 +21,8 @@ pub fn append_all<T: AsText, U: IntoIterator<Item = T>>(
     requires { IsFiniteIterable U.into_iter_gives U.IntoIter.can_next U.IntoIter.remaining items }
     ensures text { OnOk result ((it : U.IntoIter) × U.into_iter_gives items it × WholeRun U.IntoIter.next_gives it (λ run. text_of (string_bytes line.new) ≡ text_of (string_bytes line.old) ++ flat_map T.spells run.items)) }
     ensures succeeds { ((it : U.IntoIter) → U.into_iter_gives items it → HoldsAlong U.IntoIter.next_gives it (λ xs. length (string_bytes line.old) + size (flat_map T.spells xs) ≤ string_capacity line.old)) → IsOk result }
-    ensures err { OnErr result ((it : U.IntoIter) × U.into_iter_gives items it × StopsWithout U.IntoIter.next_gives T.spells it (string_capacity line.old) (text_of (string_bytes line.old)) (text_of (string_bytes line.new))) }
+    ensures capacity { string_capacity line.old ≤ string_capacity line.new }
+    ensures err { OnErr result ((it : U.IntoIter) × U.into_iter_gives items it × StopsWithout U.IntoIter.next_gives T.spells it (string_capacity line.new) (text_of (string_bytes line.old)) (text_of (string_bytes line.new))) }
 {
     append_texts(line, items)
 }
@@ -33,7 +34,8 @@ fn append_texts<T: AsText, U: IntoIterator<Item = T>>(
 ) -> Result<(), ReserveError>
     requires { IsFiniteIterable U.into_iter_gives U.IntoIter.can_next U.IntoIter.remaining items }
     ensures ok { OnOk result ((it : U.IntoIter) × (xs : List T) × U.into_iter_gives items it × Drains U.IntoIter.next_gives it xs × (text_of (string_bytes line.new) ≡ text_of (string_bytes line.old) ++ flat_map T.spells xs)) }
-    ensures err { OnErr result ((it : U.IntoIter) × U.into_iter_gives items it × StopsWithout U.IntoIter.next_gives T.spells it (string_capacity line.old) (text_of (string_bytes line.old)) (text_of (string_bytes line.new))) }
+    ensures capacity { string_capacity line.old ≤ string_capacity line.new }
+    ensures err { OnErr result ((it : U.IntoIter) × U.into_iter_gives items it × StopsWithout U.IntoIter.next_gives T.spells it (string_capacity line.new) (text_of (string_bytes line.old)) (text_of (string_bytes line.new))) }
 {
     for item in items {
         append_text(line, item.text())?;
@@ -41,16 +43,19 @@ fn append_texts<T: AsText, U: IntoIterator<Item = T>>(
     Ok(())
 }
 
-/// Appends one text.
+/// Appends one text, for which room is made first: so a refusal leaves the capacity that had no room for it.
 #[inline]
 #[tactic(auto, using(compact_repr::proofs::TextFacts::text_facts, crate::proofs::CollectFacts::string_facts))]
 fn append_text(line: &mut String, text: &str) -> Result<(), ReserveError>
     ensures ok { OnOk result (text_of (string_bytes line.new) ≡ text_of (string_bytes line.old) ++ text_of text.now) }
-    ensures err { OnErr result ((text_of (string_bytes line.new) ≡ text_of (string_bytes line.old)) × (string_capacity line.old < size (text_of (string_bytes line.old)) + length text.now)) }
     ensures capacity { string_capacity line.old ≤ string_capacity line.new }
+    ensures err { OnErr result ((text_of (string_bytes line.new) ≡ text_of (string_bytes line.old)) × (string_capacity line.new < size (text_of (string_bytes line.old)) + length text.now)) }
 {
+    if line.reserve(text.len()).is_err() {
+        return Err(ReserveError);
+    }
     match line.push_str(text) {
         Ok(()) => Ok(()),
-        Err(_) => Err(ReserveError),
+        Err(_) => unreachable!(),
     }
 }

@@ -20,7 +20,6 @@ returns-in_err-append_text-clause-err g c =
           arith,
           c.in_err-append_text.ensures.err.1,
           ap size stays,
-          c.loop-item.invariant.capacity,
           size-text_of c.text.result.now c.text.utf8,
           ap size c.text.ensures,
         ),
