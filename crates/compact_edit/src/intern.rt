@@ -1,19 +1,13 @@
 //! Names by number.
 ghost use Rattle.std.specs.Prelude.{◌≡◌, ◌+◌, ◌<◌, ◌≤◌, ◌↔◌, ◌⊎◌, ℕ, List, [], ◌∷◌, ◌++◌, length, Some, IsOk, IsSome, IfOk, IfErr, OnOk, OnErr, option_map, slice_get, vec_len, vec_capacity};
 ghost use Rattle.std.specs.Prelude.{false};
-ghost use Rattle.std.specs.Cmp.Lexicographic.{bytes_decides, nat_list_eq_equiv};
-ghost use Rattle.std.specs.Hash as fed;
-ghost use Rattle.std.proofs.Common.{ap, ◌∙◌};
-ghost use Rattle.std.specs.Str.{bytes_eq};
-ghost use Rattle.compact_str.proofs.TextBytes.{utf8-same};
 ghost use Rattle.compact_str.specs.Text.{size, text_of, utf8};
 ghost use Rattle.compact_edit.specs.declared.intern.InternError.TheVariants.{Reserve};
 ghost use Rattle.compact_edit.specs.Names.{firsts, texts_of, is_among, IsRefusal, Takes, StopsAt};
 
 use compact_str::{CompactString, ReserveError};
-use indexmap::{Equivalent, IndexSet};
+use indexmap::IndexSet;
 use std::alloc::Global;
-use std::hash::Hash;
 use std::marker::Model;
 use thiserror::Error;
 
@@ -62,25 +56,6 @@ impl Model for Interner {
     ghost invariant = { λ s. IsUnique same_text s.names × (length s.names.keys ≤ 4294967295) };
 }
 
-/// A text that is looked for among the names. No copy of it is made, so that a known name asks for no memory.
-#[derive(Clone, Copy, PartialEq, Eq, Hash)]
-struct Wanted<'a> {
-    text: &'a str,
-}
-
-impl<'a> Equivalent<CompactString> for Wanted<'a> {
-    ghost equivalent = { λ w name. bytes_eq w.text.now (utf8 name.text) };
-
-    ghost respects_hash = { λ w name h. ap fed.str ((bytes_decides w.text.now (utf8 name.text)).0 h) };
-
-    ghost respects_eq = { λ w x y h. nat_list_eq_equiv.congr w.text.now (utf8 x.text) (utf8 y.text) h ∙ utf8-same x.text y.text };
-
-    #[inline]
-    fn equivalent(&self, key: &CompactString) -> bool {
-        self.text == key.as_str()
-    }
-}
-
 impl Interner {
     /// No names, which takes no memory.
     pub fn new(alloc: Global) -> Interner
@@ -112,7 +87,7 @@ impl Interner {
 
     /// The number of `text`: its own if it is a name, else the next one, and `text` is the last name then.
     ///
-    /// A name is found by its bytes and asks for no memory, so that it is never refused. Of a new text `Reserve` says that
+    /// A name is found by its bytes, and no copy is made of it: so a known name asks for no memory and is never refused. Of a new text `Reserve` says that
     /// no memory was found for its copy, or for the table of the names, and `Full` that 2^32 - 1 names stand. After an
     /// error the names are as they were. On a new interner `intern("a")` is 0, `intern("b")` is 1, and `intern("a")` is 0
     /// again.
@@ -125,7 +100,7 @@ impl Interner {
         ensures err { OnErr result (self.new ≡ self.old) }
         ensures why { IfErr result (IsRefusal self.old (text_of text.now)) }
     {
-        if let Some(known) = self.names.get_index_of(Wanted { text }) {
+        if let Some(known) = self.names.get_index_of(text) {
             return Ok(known as u32);
         }
         self.add(text)
