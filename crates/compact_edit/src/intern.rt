@@ -160,12 +160,14 @@ impl Interner {
     ///
     /// Room for all numbers is made first. Where that is refused the error is `Reserve`, no text is taken, and the list is
     /// as it was. At a text that `intern` refuses it stops with that error: the texts before it are taken, and their
-    /// numbers stand in the list. Of `a`, `b`, `a` and the empty text a new interner gives 0, 1, 0 and 2.
+    /// numbers stand in the list. No texts are never refused. Of `a`, `b`, `a` and the empty text a new interner gives 0, 1,
+    /// 0 and 2.
     #[tactic(auto, using(crate::proofs::NameFacts::list_facts))]
     pub fn intern_all(&mut self, texts: &[&str], numbers: &mut Vec<u32>) -> Result<(), InternError>
         ensures ok { OnOk result (Takes self.old (texts_of texts.now) numbers.old.items self.new numbers.new.items) }
         ensures err { IfErr result (λ error. (error ≡ Reserve (record {})) × (self.new ≡ self.old) × (numbers.new.items ≡ numbers.old.items) × (vec_capacity numbers.old < vec_len numbers.old + length texts.now) ⊎ StopsAt self.old (texts_of texts.now) numbers.old.items self.new numbers.new.items error) }
         ensures kept { (n : ℕ) (name : List ℕ) → slice_get self.old n ≡ Some name → slice_get self.new n ≡ Some name }
+        ensures empty { texts.now ≡ [] → IsOk result }
     {
         let _distinct = self.len();
         if numbers.reserve(texts.len()).is_err() {
