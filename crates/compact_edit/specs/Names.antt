@@ -1,6 +1,7 @@
 -- Names by first occurrence, and their numbers.
-use Rattle.std.specs.Prelude.{◌≡◌, ◌<◌, ℕ, List, [], ◌∷◌, ◌++◌, Bool, false, not, filter, length, map, nat_eq, slice_get, Some}
+use Rattle.std.specs.Prelude.{◌≡◌, ◌<◌, ◌+◌, ◌⊎◌, ℕ, List, [], ◌∷◌, ◌++◌, Bool, false, not, filter, length, map, nat_eq, slice_get, vec_len, vec_capacity, Some}
 use Rattle.std.specs.Borrow.{Bor}
+use Rattle.std.specs.Global.{Vec}
 use Rattle.std.specs.List.{list_any, AllZip}
 use Rattle.std.specs.Cmp.Lexicographic.{pointwise}
 use Rattle.compact_str.specs.Text.{text_of}
@@ -44,6 +45,18 @@ pub record StopsAt (before texts : List (List ℕ)) (listed : List ℕ) (after :
   pub parts : texts ≡ taken ++ refused ∷ rest
   pub takes : Takes before taken listed after now_listed
   pub why : IsRefusal after refused error
+
+-- No text is taken, since the list, which stays as it was, has less room than there are texts, and more is refused.
+pub record FindsNoRoom (before texts : List (List ℕ)) (listed : Vec ℕ) (after : List (List ℕ)) (now_listed : Vec ℕ) (error : InternError) : Type 0 where
+  pub refused : error ≡ Reserve (record {})
+  pub names : after ≡ before
+  pub numbers : now_listed.items ≡ listed.items
+  pub room : vec_capacity listed < vec_len listed + length texts
+
+-- Not all texts are taken: there is no room for their numbers, or one of them is refused.
+abbrev pub StopsEarly : List (List ℕ) → List (List ℕ) → Vec ℕ → List (List ℕ) → Vec ℕ → InternError → Type 0
+StopsEarly before texts listed after now_listed error =
+    FindsNoRoom before texts listed after now_listed error ⊎ StopsAt before texts listed.items after now_listed.items error
 
 -- the texts of a row
 abbrev pub texts_of : List (Bor (List ℕ)) → List (List ℕ)

@@ -1,9 +1,8 @@
 //! Names by number.
-ghost use Rattle.std.specs.Prelude.{◌≡◌, ◌+◌, ◌<◌, ◌≤◌, ◌↔◌, ◌⊎◌, ℕ, List, [], ◌∷◌, ◌++◌, length, Some, IsOk, IsSome, IfOk, IfErr, OnOk, OnErr, option_map, slice_get, vec_len, vec_capacity};
+ghost use Rattle.std.specs.Prelude.{◌≡◌, ◌<◌, ◌≤◌, ◌↔◌, ℕ, List, [], ◌∷◌, ◌++◌, length, Some, IsOk, IsSome, IfOk, IfErr, OnOk, OnErr, option_map, slice_get};
 ghost use Rattle.std.specs.Prelude.{false};
 ghost use Rattle.compact_str.specs.Text.{size, text_of, utf8};
-ghost use Rattle.compact_edit.specs.declared.intern.InternError.TheVariants.{Reserve};
-ghost use Rattle.compact_edit.specs.Names.{firsts, texts_of, is_among, IsRefusal, Takes, StopsAt};
+ghost use Rattle.compact_edit.specs.Names.{firsts, texts_of, is_among, IsRefusal, Takes, StopsEarly};
 
 use compact_str::{CompactString, ReserveError};
 use indexmap::IndexSet;
@@ -95,7 +94,8 @@ impl Interner {
     pub fn intern(&mut self, text: &str) -> Result<u32, InternError>
         ensures names { OnOk result (self.new ≡ firsts (self.old ++ text_of text.now ∷ [])) }
         ensures number { IfOk result (λ n. slice_get self.new n ≡ Some (text_of text.now)) }
-        ensures kept { (n : ℕ) (name : List ℕ) → slice_get self.old n ≡ Some name → slice_get self.new n ≡ Some name }
+        ensures kept { (n : ℕ) (name : List ℕ)
+            → slice_get self.old n ≡ Some name → slice_get self.new n ≡ Some name }
         ensures succeeds { (n : ℕ) → slice_get self.old n ≡ Some (text_of text.now) → IsOk result }
         ensures err { OnErr result (self.new ≡ self.old) }
         ensures why { IfErr result (IsRefusal self.old (text_of text.now)) }
@@ -114,7 +114,8 @@ impl Interner {
         requires new { is_among self.old (text_of text.now) ≡ false }
         ensures names { OnOk result (self.new ≡ firsts (self.old ++ text_of text.now ∷ [])) }
         ensures number { IfOk result (λ n. slice_get self.new n ≡ Some (text_of text.now)) }
-        ensures kept { (n : ℕ) (name : List ℕ) → slice_get self.old n ≡ Some name → slice_get self.new n ≡ Some name }
+        ensures kept { (n : ℕ) (name : List ℕ)
+            → slice_get self.old n ≡ Some name → slice_get self.new n ≡ Some name }
         ensures err { OnErr result (self.new ≡ self.old) }
         ensures why { IfErr result (IsRefusal self.old (text_of text.now)) }
     {
@@ -135,12 +136,15 @@ impl Interner {
     ///
     /// Room for all numbers is made first. Where that is refused the error is `Reserve`, no text is taken, and the list is
     /// as it was. At a text that `intern` refuses it stops with that error: the texts before it are taken, and their
-    /// numbers stand in the list. Of `a`, `b`, `a` and the empty text a new interner gives 0, 1, 0 and 2.
+    /// numbers stand in the list. No texts are never refused. Of `a`, `b`, `a` and the empty text a new interner gives 0, 1,
+    /// 0 and 2.
     #[tactic(auto, using(crate::proofs::NameFacts::list_facts))]
     pub fn intern_all(&mut self, texts: &[&str], numbers: &mut Vec<u32>) -> Result<(), InternError>
         ensures ok { OnOk result (Takes self.old (texts_of texts.now) numbers.old.items self.new numbers.new.items) }
-        ensures err { IfErr result (λ error. (error ≡ Reserve (record {})) × (self.new ≡ self.old) × (numbers.new.items ≡ numbers.old.items) × (vec_capacity numbers.old < vec_len numbers.old + length texts.now) ⊎ StopsAt self.old (texts_of texts.now) numbers.old.items self.new numbers.new.items error) }
-        ensures kept { (n : ℕ) (name : List ℕ) → slice_get self.old n ≡ Some name → slice_get self.new n ≡ Some name }
+        ensures err { IfErr result (StopsEarly self.old (texts_of texts.now) numbers.old self.new numbers.new) }
+        ensures kept { (n : ℕ) (name : List ℕ)
+            → slice_get self.old n ≡ Some name → slice_get self.new n ≡ Some name }
+        ensures empty { texts.now ≡ [] → IsOk result }
     {
         let _distinct = self.len();
         if numbers.reserve(texts.len()).is_err() {
