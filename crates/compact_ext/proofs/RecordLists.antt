@@ -1,5 +1,7 @@
 -- The texts that were collected until the end spell the bytes that a reader had.
 use Rattle.std.proofs.Common.{◌≡◌, ◌⊎◌, ℕ, zero, suc, ◌+◌, ◌<◌, ◌≤◌, List, [], ◌∷◌, ◌++◌, length, map, Option, None, Some, IfSome, Result, Ok, Err, IfOk, IfErr, refl, IsSomeAnd, slice_get, MatchResult, inl, inr, arith, sym, ap, subst, ◌∙◌, append_assoc, append-nil, length-append}
+use Rattle.std.specs.Prelude.{◌==◌, if◌then◌else◌, Bool, false}
+use Rattle.std.proofs.lemmas.Bool.Decides.{nat_tests}
 use Rattle.std.specs.Global.{Vec}
 use Rattle.std.specs.Vec.{vec_len, vec_capacity}
 use Rattle.std.specs.List.{All, FoldsTo, flat_map}
@@ -16,7 +18,7 @@ use Rattle.compact_ext.specs.declared.wire.WireError.TheVariants.{TooLong, Unexp
 use Rattle.compact_ext.specs.declared.wire.records.Records.{Records}
 use Rattle.compact_ext.specs.Wire.{wire, ReadFails, IsOutsideForm}
 use Rattle.compact_ext.proofs.WireForms.{form-tells, length-wire, outside-form, told-text}
-use Rattle.compact_ext.specs.Records.{records_left, GivesRecord, FailsAfterTexts, FailsWithin, HasBegun, HasMore, HasForm, IsOutsideForms, IsPlacedAsRead, FitsForm, ReadsAllBack, ReadsNextBack, TakesForm}
+use Rattle.compact_ext.specs.Records.{records_left, left_behind, GivesRecord, GivesNext, FailsAfterTexts, FailsWithin, HasBegun, HasMore, HasForm, IsOutsideForms, IsPlacedAsRead, FitsForm, ReadsAllBack, ReadsNextBack, TakesForm}
 
 -- a reader that failed before it gave any byte
 
@@ -61,7 +63,27 @@ more-shown (Some []) [] starts some = absurd (some refl)
 more-shown (Some []) (x ∷ shown) starts some = absurd (omega (arith, ap length starts))
 more-shown (Some (y ∷ ys)) shown starts some = omega arith
 
-pub ruleset record_steps = (failed-at_once, failed-unread, record-read, more-shown)
+-- an iterator that may go on gives what its reader does
+
+going-on : {A : Type 0} (n : ℕ) (x : Option A) → 0 < n → (if n == 0 then None else x) ≡ x
+going-on n x more =
+    let other : (n == 0) ≡ false = grind (arith, nat_tests) in
+    ap (λ (b : Bool). if b then None else x) other
+
+left-known : {R : Type 0} (remaining : R → Option (List ℕ)) (s : Records R) → 0 < s.calls_left → records_left remaining s ≡ remaining s.reader
+left-known remaining s more = going-on s.calls_left (remaining s.reader) more
+
+behind-known : {R : Type 0} (remaining : R → Option (List ℕ)) (r : Option (Result PlacedText WireError)) (t : Records R) → 0 < t.calls_left → left_behind remaining r t ≡ remaining t.reader
+behind-known remaining (Some (Err (Io error))) t more = refl
+behind-known remaining r t more = left-known remaining t more
+
+pub gives-record : {R : Type 0} (remaining : R → Option (List ℕ)) (s t : Records R) (r : Option (Result PlacedText WireError)) → 0 < s.calls_left → 0 < t.calls_left
+    → GivesNext (remaining s.reader) r (remaining t.reader) → GivesRecord remaining s r t
+gives-record remaining s t r before after gives =
+    subst (λ (old : Option (List ℕ)). GivesNext old r (left_behind remaining r t)) (sym (left-known remaining s before))
+    (subst (λ (new : Option (List ℕ)). GivesNext (remaining s.reader) r new) (sym (behind-known remaining r t after)) gives)
+
+pub ruleset record_steps = (failed-at_once, failed-unread, record-read, more-shown, gives-record)
 
 abbrev spelled : List PlacedText → List ℕ
 spelled = flat_map (λ v. wire v.text)
@@ -91,7 +113,7 @@ module _ {R : Type 0} (remaining : R → Option (List ℕ)) where
       let none = none-left _ (subst (λ (u : Records R). IsAtEnd (records_left remaining u)) (sym same) end) in
       ([], sym (ap (λ (v : Vec PlacedText). v.items) grown) ∙ sym (append-nil old.items), (none, All-nil FitsForm, All-nil IsPlacedAsRead))
   gathered s t (item ∷ items) old new (j, step, steps) end (p, (y, is, grown), grows) =
-      let took = subst (λ (x : Result PlacedText WireError). MatchResult x (TakesForm (records_left remaining s) (records_left remaining j)) (λ e. FailsWithin (records_left remaining s) (remaining j.reader) e)) (sym is) step in
+      let took = subst (λ (x : Result PlacedText WireError). GivesRecord remaining s (Some x) j) (sym is) step in
       let (texts, all, (left, fits, placed)) = gathered j t items p new steps end grows in (
         y ∷ texts,
         all ∙ ap (λ l. l ++ texts) grown.0 ∙ append_assoc old.items (y ∷ []) texts,
@@ -131,7 +153,7 @@ fails-later old mid v e gave f = record {
 
 module _ {R : Type 0} (remaining : R → Option (List ℕ)) where
   abbrev Gave : Records R → Records R → Result PlacedText WireError → Type 0
-  Gave s j x = MatchResult x (TakesForm (records_left remaining s) (records_left remaining j)) (λ e. FailsWithin (records_left remaining s) (remaining j.reader) e)
+  Gave s j x = GivesRecord remaining s (Some x) j
 
   -- the last item is the first that held a fault
   stopped : (s t : Records R) (items : List (Result PlacedText WireError)) (i : ℕ) (e : WireError) → length items ≡ i + 1 → Yields (GivesRecord remaining) s items t
@@ -141,7 +163,7 @@ module _ {R : Type 0} (remaining : R → Option (List ℕ)) where
   stopped s t (x ∷ items) zero e long (j, step, steps) last before = record {
     texts = [];
     mid = records_left remaining s;
-    new = remaining j.reader;
+    new = left_behind remaining (Some (Err e)) j;
     took = Consumes-nil (records_left remaining s);
     fits = All-nil FitsForm;
     fails = subst (Gave s j) (sym last) step;
@@ -248,4 +270,4 @@ next-back remaining s t (Some (Ok v)) gives = λ (text rest : List ℕ) (form : 
     told-text text rest v.text _ form.1 gives.fits (subst (λ o. Consumes o (records_left remaining t) (wire v.text)) is gives.form)
 next-back remaining s t (Some (Err e)) gives = λ (text rest : List ℕ) (form : HasForm text) (is : records_left remaining s ≡ Some (wire text ++ rest)).
     let fails = gives.fails in
-    outside-form text rest fails.taken _ e form.0 form.1 (subst (λ o. Consumes o (remaining t.reader) fails.taken) is fails.bytes) fails.fault
+    outside-form text rest fails.taken _ e form.0 form.1 (subst (λ o. Consumes o (left_behind remaining (Some (Err e)) t) fails.taken) is fails.bytes) fails.fault

@@ -1,5 +1,5 @@
 -- What an iterator over the wire forms of a reader gives.
-use Rattle.std.specs.Prelude.{◌≡◌, ◌^◌, ◌<◌, ◌==◌, ◌++◌, ℕ, List, length, map, if◌then◌else◌, Option, None, Some, Result, IfSome, MatchOption, MatchResult, flat_map, ⊤}
+use Rattle.std.specs.Prelude.{◌≡◌, ◌^◌, ◌<◌, ◌==◌, ◌++◌, ℕ, List, length, map, if◌then◌else◌, Option, None, Some, Result, Err, IfSome, MatchOption, MatchResult, flat_map, ⊤}
 use Rattle.std.specs.Global.{Vec}
 use Rattle.std.specs.Io.KnownBytes.{Consumes, IsAtEnd}
 use Rattle.std.specs.List.{All}
@@ -51,11 +51,17 @@ pub record TakesForm (old new : Option (List ℕ)) (v : PlacedText) : Type 0 whe
 abbrev pub GivesNext : Option (List ℕ) → Option (Result PlacedText WireError) → Option (List ℕ) → Type 0
 GivesNext old r new = MatchOption r (IsAtEnd old) (λ item. MatchResult item (TakesForm old new) (λ e. FailsWithin old new e))
 
--- the same of an iterator, which has not given up where it gives a text
-abbrev pub GivesRecord : {R : Type 0} → (R → Option (List ℕ)) → Records R → Option (Result PlacedText WireError) → Records R → Type 0
-GivesRecord remaining s r t = MatchOption r (IsAtEnd (records_left remaining s)) (λ item. MatchResult item
-    (TakesForm (records_left remaining s) (records_left remaining t))
-    (λ e. FailsWithin (records_left remaining s) (remaining t.reader) e))
+-- the bytes behind what a call of `next` gave: those that texts are still read from. Where the reader failed the iterator may have
+-- given up, so they are the reader's own.
+abbrev pub left_behind : {R : Type 0} → (R → Option (List ℕ)) → Option (Result PlacedText WireError)
+    → Records R → Option (List ℕ)
+left_behind remaining (Some (Err (Io _))) t = remaining t.reader
+left_behind remaining _ t = records_left remaining t
+
+-- the same of an iterator, which has not given up but where its reader failed
+abbrev pub GivesRecord : {R : Type 0} → (R → Option (List ℕ)) → Records R
+    → Option (Result PlacedText WireError) → Records R → Type 0
+GivesRecord remaining s r t = GivesNext (records_left remaining s) r (left_behind remaining r t)
 
 -- some texts' forms were taken, and then comes a fault as `read_wire` tells it
 pub record FailsAfterTexts (known : Option (List ℕ)) (e : WireError) : Type 0 where
