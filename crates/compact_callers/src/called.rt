@@ -1,62 +1,63 @@
 //! Callers of other modules, called with ample memory.
 
 use crate::callers::{append_field, keyword, label, record_line};
-use crate::checks::{assert_heap, assert_inline, copied, empty};
 use crate::pushes::{joined, joined_in_doubled_room};
 use crate::taken::{every_second, folded, without_spaces};
 use crate::wire_callers::{
     first_record, next_record, pair_sent_and_received, read_records, receive_field, send_field,
     sent_and_received,
 };
+use compact_str::CompactString;
+use compact_testing::seen::Seen;
 use compact_testing::values::letters;
 
 #[test]
 fn keywords_and_labels_are_short(rt: HostRuntime) {
     let word = keyword(rt.alloc(), "while").expect(&rt, "memory");
-    assert_inline(&rt, &word, "while");
+    assert_eq!(rt; Seen::of(&word), Seen::inline("while"));
     let line = label(rt.alloc(), "name", "value").expect(&rt, "memory");
-    assert_inline(&rt, &line, "name:value");
+    assert_eq!(rt; Seen::of(&line), Seen::inline("name:value"));
 }
 
 #[test]
 fn records_are_written_over_one_another(rt: HostRuntime) {
-    let mut line = empty(&rt, rt.alloc(), 100);
+    let mut line = CompactString::with_capacity(rt.alloc(), 100).expect(&rt, "memory");
     record_line(&mut line, letters(20), letters(10)).expect(&rt, "memory");
     append_field(&mut line, letters(3)).expect(&rt, "memory");
-    assert_heap(&rt, &line, 100, 33);
+    assert_eq!(rt; Seen::of(&line), Seen::heap(100, letters(33)));
     record_line(&mut line, "a", "").expect(&rt, "memory");
-    assert_heap(&rt, &line, 100, 1);
+    assert_eq!(rt; Seen::of(&line), Seen::heap(100, letters(1)));
 }
 
 #[test]
 fn parts_are_joined(rt: HostRuntime) {
     let line = joined(rt.alloc(), &[letters(24), "", "a"]).expect(&rt, "memory");
-    assert_heap(&rt, &line.0, 36, 25);
+    assert_eq!(rt; Seen::of(&line.0), Seen::heap(36, letters(25)));
     assert_eq!(rt; line.1, 24);
     let doubled = joined_in_doubled_room(rt.alloc(), &[letters(24), "a"]);
-    assert_heap(&rt, &doubled.value, 48, 25);
+    assert_eq!(rt; Seen::of(&doubled.value), Seen::heap(48, letters(25)));
     assert_eq!(rt; doubled.moved, 24);
     assert_eq!(rt; doubled.refused, 0);
 }
 
 #[test]
 fn every_second_character_is_kept(rt: HostRuntime) {
-    let mut value = copied(&rt, rt.alloc(), "aäb𝄞c");
+    let mut value = CompactString::new(rt.alloc(), "aäb𝄞c").expect(&rt, "memory");
     assert!(rt; every_second(&mut value).is_ok());
-    assert_inline(&rt, &value, "abc");
-    let mut long = copied(&rt, rt.alloc(), letters(60));
+    assert_eq!(rt; Seen::of(&value), Seen::inline("abc"));
+    let mut long = CompactString::new(rt.alloc(), letters(60)).expect(&rt, "memory");
     assert!(rt; every_second(&mut long).is_ok());
-    assert_heap(&rt, &long, 60, 30);
-    let mut spaced = copied(&rt, rt.alloc(), " a a ");
+    assert_eq!(rt; Seen::of(&long), Seen::heap(60, letters(30)));
+    let mut spaced = CompactString::new(rt.alloc(), " a a ").expect(&rt, "memory");
     assert!(rt; without_spaces(&mut spaced).is_ok());
-    assert_inline(&rt, &spaced, "aa");
+    assert_eq!(rt; Seen::of(&spaced), Seen::inline("aa"));
 }
 
 #[test]
 fn only_ascii_letters_are_folded(rt: HostRuntime) {
-    let great = copied(&rt, rt.alloc(), "GRüßE, JüRGEN ❤");
+    let great = CompactString::new(rt.alloc(), "GRüßE, JüRGEN ❤").expect(&rt, "memory");
     let small = folded(&great).expect(&rt, "memory");
-    assert_inline(&rt, &small, "grüße, jürgen ❤");
+    assert_eq!(rt; Seen::of(&small), Seen::inline("grüße, jürgen ❤"));
 }
 
 /// The forms of `a`, of no text and of `Hi`.
@@ -68,7 +69,7 @@ fn a_reader_tells_its_next_record_and_its_end(rt: HostRuntime) {
     let mut rest: &[u8] = &RECORDS;
     for text in ["a", "", "Hi"] {
         let record = next_record(alloc, &mut rest).expect(&rt, "a record");
-        assert_inline(&rt, &record.expect(&rt, "no end"), text);
+        assert_eq!(rt; Seen::of(&record.expect(&rt, "no end")), Seen::inline(text));
     }
     let end = next_record(alloc, &mut rest).expect(&rt, "an end");
     assert!(rt; end.is_none());
@@ -79,14 +80,14 @@ fn records_are_read_to_their_end(rt: HostRuntime) {
     let records = read_records(rt.alloc(), RECORDS.as_slice()).expect(&rt, "records");
     assert_eq!(rt; records.len(), 3);
     for (record, text) in records.iter().zip(["a", "", "Hi"].iter()) {
-        assert_inline(&rt, record, *text);
+        assert_eq!(rt; Seen::of(record), Seen::inline(*text));
     }
 }
 
 #[test]
 fn the_first_record_is_read_alone(rt: HostRuntime) {
     let first = first_record(rt.alloc(), RECORDS.as_slice()).expect(&rt, "no fault");
-    assert_inline(&rt, &first.expect(&rt, "a record"), "a");
+    assert_eq!(rt; Seen::of(&first.expect(&rt, "a record")), Seen::inline("a"));
 }
 
 #[test]
@@ -100,18 +101,22 @@ fn no_bytes_have_no_first_record(rt: HostRuntime) {
 fn a_field_is_sent_and_received(rt: HostRuntime) {
     let alloc = rt.alloc();
     let mut bytes = Vec::new(alloc);
-    let name = copied(&rt, alloc, "name");
-    let sent = send_field(&name, &copied(&rt, alloc, letters(30)), &mut bytes);
+    let name = CompactString::new(alloc, "name").expect(&rt, "memory");
+    let sent = send_field(
+        &name,
+        &CompactString::new(alloc, letters(30)).expect(&rt, "memory"),
+        &mut bytes,
+    );
     assert!(rt; sent.is_ok());
     assert_eq!(rt; bytes.len(), 42);
     let mut rest = bytes.as_slice();
     let (key, value) = receive_field(alloc, &mut rest).expect(&rt, "a field");
-    assert_inline(&rt, &key, "name");
+    assert_eq!(rt; Seen::of(&key), Seen::inline("name"));
     assert_eq!(rt; value.as_str(), letters(30));
     let back = sent_and_received(alloc, &value).expect(&rt, "a text");
     assert!(rt; back == value);
     let both = pair_sent_and_received(alloc, &name, &value).expect(&rt, "two texts");
     assert_eq!(rt; both.len(), 2);
-    assert_inline(&rt, &both[0], "name");
+    assert_eq!(rt; Seen::of(&both[0]), Seen::inline("name"));
     assert_eq!(rt; both[1].as_str(), letters(30));
 }

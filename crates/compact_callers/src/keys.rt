@@ -76,7 +76,7 @@ pub fn set_rank(
 #[cfg(test)]
 mod tests {
     use super::*;
-    use crate::checks::copied;
+    use compact_str::CompactString;
     use compact_testing::values::{lasting, letters};
     use std::test::Fail;
 
@@ -84,15 +84,33 @@ mod tests {
     fn a_word_is_found_in_a_sorted_row(rt: HostRuntime) {
         let alloc = rt.alloc();
         let mut words = [
-            copied(&rt, alloc, "b"),
+            CompactString::new(alloc, "b").expect(&rt, "memory"),
             lasting(alloc, 30),
-            copied(&rt, alloc, "\u{10000}"),
-            copied(&rt, alloc, "\u{fffd}"),
+            CompactString::new(alloc, "\u{10000}").expect(&rt, "memory"),
+            CompactString::new(alloc, "\u{fffd}").expect(&rt, "memory"),
         ];
         words.sort_unstable();
-        assert_eq!(rt; place_of(&words, &copied(&rt, alloc, letters(30))), Ok(0));
-        assert_eq!(rt; place_of(&words, &copied(&rt, alloc, "\u{fffd}")), Ok(2));
-        assert_eq!(rt; place_of(&words, &copied(&rt, alloc, "c")), Err(2));
+        assert_eq!(rt;
+            place_of(
+                &words,
+                &CompactString::new(alloc, letters(30)).expect(&rt, "memory")
+            ),
+            Ok(0)
+        );
+        assert_eq!(rt;
+            place_of(
+                &words,
+                &CompactString::new(alloc, "\u{fffd}").expect(&rt, "memory")
+            ),
+            Ok(2)
+        );
+        assert_eq!(rt;
+            place_of(
+                &words,
+                &CompactString::new(alloc, "c").expect(&rt, "memory")
+            ),
+            Err(2)
+        );
     }
 
     #[test]
@@ -100,8 +118,20 @@ mod tests {
         let alloc = rt.alloc();
         let mut counts = HashMap::new(alloc);
         set_count(&mut counts, lasting(alloc, 30), 3).map_err(|_| "memory")?;
-        assert_eq!(rt; count_of(&counts, &copied(&rt, alloc, letters(30))), 3);
-        assert_eq!(rt; count_of(&counts, &copied(&rt, alloc, letters(29))), 0);
+        assert_eq!(rt;
+            count_of(
+                &counts,
+                &CompactString::new(alloc, letters(30)).expect(&rt, "memory")
+            ),
+            3
+        );
+        assert_eq!(rt;
+            count_of(
+                &counts,
+                &CompactString::new(alloc, letters(29)).expect(&rt, "memory")
+            ),
+            0
+        );
         Ok(())
     }
 }

@@ -4,8 +4,6 @@
 #[cfg(test)]
 mod called;
 mod callers;
-#[cfg(test)]
-mod checks;
 pub mod collect_callers;
 mod decode_callers;
 mod iterated;

@@ -48,22 +48,33 @@ pub fn cleaned(alloc: Global, row: &[u8; 24]) -> Option<[u8; 24]>
 #[cfg(test)]
 mod tests {
     use super::*;
-    use crate::checks::{assert_inline, copied};
+    use compact_str::CompactString;
+    use compact_testing::seen::Seen;
     use compact_testing::values::lasting;
 
     #[test]
     fn a_key_goes_through_a_row(rt: HostRuntime) {
-        let key = copied(&rt, rt.alloc(), "größe");
+        let key = CompactString::new(rt.alloc(), "größe").expect(&rt, "memory");
         let copy = through_a_row(rt.alloc(), &key).expect(&rt, "an inline key");
-        assert_inline(&rt, &copy, "größe");
+        assert_eq!(rt; Seen::of(&copy), Seen::inline("größe"));
         assert!(rt; through_a_row(rt.alloc(), &lasting(rt.alloc(), 30)).is_none());
     }
 
     #[test]
     fn equal_rows_are_equal_keys(rt: HostRuntime) {
-        let key = copied(&rt, rt.alloc(), "key");
-        assert!(rt; have_same_row(&key, &copied(&rt, rt.alloc(), "key")));
-        assert!(rt; !have_same_row(&key, &copied(&rt, rt.alloc(), "keys")));
+        let key = CompactString::new(rt.alloc(), "key").expect(&rt, "memory");
+        assert!(rt;
+            have_same_row(
+                &key,
+                &CompactString::new(rt.alloc(), "key").expect(&rt, "memory")
+            )
+        );
+        assert!(rt;
+            !have_same_row(
+                &key,
+                &CompactString::new(rt.alloc(), "keys").expect(&rt, "memory")
+            )
+        );
         assert!(rt; !have_same_row(&key, &lasting(rt.alloc(), 30)));
     }
 

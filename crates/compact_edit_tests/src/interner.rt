@@ -1,8 +1,8 @@
 //! The interner: numbers and names, refused memory, and many words beside a plain list.
 
-use crate::checks::{spare, take_all};
 use compact_edit::{InternError, Interner};
 use compact_str::ReserveError;
+use compact_testing::memory::take_all;
 use compact_testing::random::Random;
 use compact_testing::values::letters;
 use std::alloc::Global;
@@ -62,7 +62,7 @@ fn a_short_name_needs_no_memory_and_a_long_text_does(rt: HostRuntime) {
     number_of(&rt, &mut names, "b");
     number_of(&rt, &mut names, "");
     number_of(&rt, &mut names, letters(25));
-    let hog = take_all(&rt, rt.alloc());
+    let hog = take_all(rt.alloc()).expect(&rt, "room for the list of blocks");
     assert_eq!(rt; number_of(&rt, &mut names, "a"), 0);
     assert_refused(&rt, &mut names, letters(30), 4);
     assert_eq!(rt; number_of(&rt, &mut names, letters(25)), 3);
@@ -74,7 +74,7 @@ fn a_short_name_needs_no_memory_and_a_long_text_does(rt: HostRuntime) {
 #[test]
 fn the_table_of_the_names_is_refused(rt: HostRuntime) {
     let mut names = Interner::new(rt.alloc());
-    let hog = take_all(&rt, rt.alloc());
+    let hog = take_all(rt.alloc()).expect(&rt, "room for the list of blocks");
     assert_refused(&rt, &mut names, "a", 0);
     drop(hog);
     assert_eq!(rt; number_of(&rt, &mut names, "a"), 0);
@@ -83,8 +83,8 @@ fn the_table_of_the_names_is_refused(rt: HostRuntime) {
 #[test]
 fn the_table_is_refused_behind_the_copy_of_a_text(rt: HostRuntime) {
     let mut names = Interner::new(rt.alloc());
-    let room = spare(&rt, rt.alloc(), 32);
-    let hog = take_all(&rt, rt.alloc());
+    let room = Vec::<u8>::with_capacity(rt.alloc(), 32).expect(&rt, "a spare block");
+    let hog = take_all(rt.alloc()).expect(&rt, "room for the list of blocks");
     drop(room);
     assert_refused(&rt, &mut names, letters(30), 0);
     drop(hog);
@@ -96,7 +96,7 @@ fn with_no_room_for_the_numbers_nothing_is_taken(rt: HostRuntime) {
     let mut names = Interner::new(rt.alloc());
     let mut numbers = Vec::new(rt.alloc());
     number_of(&rt, &mut names, "a");
-    let hog = take_all(&rt, rt.alloc());
+    let hog = take_all(rt.alloc()).expect(&rt, "room for the list of blocks");
     is_refused(&rt, &mut names, &["a", "b"], &mut numbers);
     drop(hog);
     assert_eq!(rt; numbers.len(), 0);
@@ -110,7 +110,7 @@ fn the_texts_before_a_refused_one_are_taken(rt: HostRuntime) {
     number_of(&rt, &mut names, "a");
     number_of(&rt, &mut names, "b");
     let texts = ["b", "a", letters(30), "b"];
-    let hog = take_all(&rt, rt.alloc());
+    let hog = take_all(rt.alloc()).expect(&rt, "room for the list of blocks");
     is_refused(&rt, &mut names, &texts, &mut numbers);
     drop(hog);
     assert_eq!(rt; numbers.as_slice(), [1, 0].as_slice());

@@ -1,8 +1,8 @@
 //! The longest lengths and positions, as edits.
 
-use crate::checks::{assert_inline, copied};
 use compact_edit::{Edit, Reply, run};
-use compact_str::Standard;
+use compact_str::{CompactString, Standard};
+use compact_testing::seen::Seen;
 use std::alloc::Global;
 use std::ops::Bound::{Excluded, Included, Unbounded};
 use std::process::Abort;
@@ -20,14 +20,14 @@ fn name_of(reply: &Reply<Standard>) -> &'static str {
 
 /// Asserts that each edit of `a` is answered by this name, and that the value is as it was.
 fn assert_each(rt: &impl Abort, alloc: Global, edits: &[Edit<Standard>], name: &str) {
-    let mut value = copied(rt, alloc, "a");
+    let mut value = CompactString::new(alloc, "a").expect(rt, "memory");
     let mut replies = Vec::new(alloc);
     run(&mut value, edits, &mut replies).expect(rt, "memory");
     assert_eq!(rt; replies.len(), edits.len());
     for reply in &replies {
         assert_eq!(rt; name_of(reply), name);
     }
-    assert_inline(rt, &value, "a");
+    assert_eq!(rt; Seen::of(&value), Seen::inline("a"));
 }
 
 #[test]

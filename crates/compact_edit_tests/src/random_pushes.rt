@@ -1,9 +1,9 @@
 //! Two hundred random lists of texts, pushed under each growth policy. The numbers come from a program in Python that
 //! draws the same lists and follows the rules of growth.
 
-use crate::checks::take_all;
 use compact_edit::{PushReport, run_pushes};
 use compact_str::{Policy, Standard};
+use compact_testing::memory::take_all;
 use compact_testing::policies::{Double, Large, Slow};
 use compact_testing::random::Random;
 use compact_testing::values::letters;
@@ -111,7 +111,7 @@ fn random_lists_in_large_buffers(rt: HostRuntime) {
 
 #[test]
 fn random_lists_with_no_memory(rt: HostRuntime) {
-    let hog = take_all(&rt, rt.alloc());
+    let hog = take_all(rt.alloc()).expect(&rt, "room for the list of blocks");
     let standard = total::<Standard>(rt.alloc());
     let slow = total::<Slow>(rt.alloc());
     drop(hog);

@@ -1,10 +1,9 @@
 //! Lists of edits that are run, with ample memory and with none.
 
-use crate::checks::{
-    assert_heap, assert_inline, assert_seen, assert_static, copied, spare, take_all,
-};
 use compact_edit::{Edit, Reply, run};
 use compact_str::{CompactString, Standard};
+use compact_testing::memory::take_all;
+use compact_testing::seen::Seen;
 use compact_testing::values::{lasting, letters};
 use std::alloc::Global;
 use std::ops::Bound::{Excluded, Included};
@@ -42,10 +41,10 @@ fn all_are_done(
 
 #[test]
 fn each_edit_of_a_list_is_run(rt: HostRuntime) {
-    let mut value = copied(&rt, rt.alloc(), letters(3));
+    let mut value = CompactString::new(rt.alloc(), letters(3)).expect(&rt, "memory");
     let edits = [Edit::PushStr("a"), Edit::Reserve(100), Edit::ShrinkTo(50)];
     all_are_done(&rt, rt.alloc(), &mut value, &edits);
-    assert_heap(&rt, &value, 50, 4);
+    assert_eq!(rt; Seen::of(&value), Seen::heap(50, letters(4)));
 }
 
 /// A list of 40 replies and no room for nine more, even where an allocator rounds a request up.
@@ -76,13 +75,13 @@ fn is_not_begun(rt: &impl Abort, value: &mut CompactString, replies: &mut Vec<Re
 /// No edits are run even so.
 #[test]
 fn a_run_with_no_room_for_replies_runs_nothing(rt: HostRuntime) {
-    let mut value = copied(&rt, rt.alloc(), "abc");
+    let mut value = CompactString::new(rt.alloc(), "abc").expect(&rt, "memory");
     let mut replies = forty_replies(&rt, rt.alloc());
-    let hog = take_all(&rt, rt.alloc());
+    let hog = take_all(rt.alloc()).expect(&rt, "room for the list of blocks");
     is_not_begun(&rt, &mut value, &mut replies);
     run_all(&rt, &mut value, &[], &mut replies);
     drop(hog);
-    assert_inline(&rt, &value, "abc");
+    assert_eq!(rt; Seen::of(&value), Seen::inline("abc"));
     assert_eq!(rt; replies.len(), 40);
     assert!(rt; matches!(replies.get(39), Some(Reply::Done)));
 }
@@ -112,14 +111,14 @@ fn tells_bad_positions(
 #[test]
 fn a_bad_position_is_told_before_a_refusal(rt: HostRuntime) {
     let mut lasting = CompactString::const_new(rt.alloc(), text());
-    let mut made = copied(&rt, rt.alloc(), text());
+    let mut made = CompactString::new(rt.alloc(), text()).expect(&rt, "memory");
     let mut replies = room_for(&rt, rt.alloc(), 12);
-    let hog = take_all(&rt, rt.alloc());
+    let hog = take_all(rt.alloc()).expect(&rt, "room for the list of blocks");
     tells_bad_positions(&rt, &mut lasting, &mut replies);
     tells_bad_positions(&rt, &mut made, &mut replies);
     drop(hog);
-    assert_seen(&rt, &lasting, "static", 29, text());
-    assert_seen(&rt, &made, "heap", 32, text());
+    assert_eq!(rt; Seen::of(&lasting), Seen::at("static", 29, text()));
+    assert_eq!(rt; Seen::of(&made), Seen::at("heap", 32, text()));
     assert_eq!(rt; replies.len(), 12);
     for reply in &replies {
         assert!(rt; matches!(reply, Reply::BadPosition));
@@ -146,41 +145,41 @@ fn run_drain(
 
 #[test]
 fn the_answer_of_a_drain_is_refused(rt: HostRuntime) {
-    let mut value = copied(&rt, rt.alloc(), letters(60));
+    let mut value = CompactString::new(rt.alloc(), letters(60)).expect(&rt, "memory");
     let mut replies = room_for(&rt, rt.alloc(), 2);
-    let hog = take_all(&rt, rt.alloc());
+    let hog = take_all(rt.alloc()).expect(&rt, "room for the list of blocks");
     run_drain(&rt, &mut value, 0, 25, &mut replies);
     run_drain(&rt, &mut value, 0, 24, &mut replies);
     drop(hog);
     was_refused(&rt, replies.as_slice(), 0, true);
     was_refused(&rt, replies.as_slice(), 1, false);
-    assert_heap(&rt, &value, 60, 36);
+    assert_eq!(rt; Seen::of(&value), Seen::heap(60, letters(36)));
 }
 
 #[test]
 fn a_drain_that_makes_its_answer_finds_no_room_for_its_text(rt: HostRuntime) {
     let mut value = lasting(rt.alloc(), 80);
     let mut replies = room_for(&rt, rt.alloc(), 1);
-    let block = spare(&rt, rt.alloc(), 32);
-    let hog = take_all(&rt, rt.alloc());
+    let block = Vec::<u8>::with_capacity(rt.alloc(), 32).expect(&rt, "a spare block");
+    let hog = take_all(rt.alloc()).expect(&rt, "room for the list of blocks");
     drop(block);
     run_drain(&rt, &mut value, 0, 30, &mut replies);
     drop(hog);
     was_refused(&rt, replies.as_slice(), 0, true);
-    assert_static(&rt, &value, 80);
+    assert_eq!(rt; Seen::of(&value), Seen::fixed(letters(80)));
 }
 
 #[test]
 fn a_drain_of_60_bytes_is_refused_at_each_request(rt: HostRuntime) {
     let mut value = lasting(rt.alloc(), 60);
     let mut replies = room_for(&rt, rt.alloc(), 2);
-    let block = spare(&rt, rt.alloc(), 32);
-    let hog = take_all(&rt, rt.alloc());
+    let block = Vec::<u8>::with_capacity(rt.alloc(), 32).expect(&rt, "a spare block");
+    let hog = take_all(rt.alloc()).expect(&rt, "room for the list of blocks");
     run_drain(&rt, &mut value, 0, 30, &mut replies);
     drop(block);
     run_drain(&rt, &mut value, 0, 30, &mut replies);
     drop(hog);
     was_refused(&rt, replies.as_slice(), 0, true);
     was_refused(&rt, replies.as_slice(), 1, true);
-    assert_static(&rt, &value, 60);
+    assert_eq!(rt; Seen::of(&value), Seen::fixed(letters(60)));
 }

@@ -1,8 +1,8 @@
 //! Texts of formats, with ample memory.
 
-use crate::checks::assert_inline;
 use compact_ext::{ToCompactStringError, format_compact};
 use compact_str::{CompactString, ReserveError};
+use compact_testing::seen::Seen;
 use compact_testing::values::letters;
 use std::alloc::Global;
 use std::fmt;
@@ -28,24 +28,24 @@ fn text_of(rt: &impl Abort, made: Result<CompactString, ToCompactStringError>) -
 fn formats_have_these_texts(rt: HostRuntime) {
     let alloc = rt.alloc();
     let text = text_of(&rt, format_compact!(in alloc; "{}-{:04}", 7, 42));
-    assert_inline(&rt, &text, "7-0042");
+    assert_eq!(rt; Seen::of(&text), Seen::inline("7-0042"));
     let text = text_of(&rt, format_compact!(in alloc; "a literal"));
-    assert_inline(&rt, &text, "a literal");
+    assert_eq!(rt; Seen::of(&text), Seen::inline("a literal"));
     let text = text_of(&rt, format_compact!(in alloc; ""));
-    assert_inline(&rt, &text, "");
+    assert_eq!(rt; Seen::of(&text), Seen::inline(""));
     let text = text_of(&rt, format_compact!(in alloc; "{{{}}}", true));
-    assert_inline(&rt, &text, "{true}");
+    assert_eq!(rt; Seen::of(&text), Seen::inline("{true}"));
 }
 
 #[test]
 fn options_are_kept(rt: HostRuntime) {
     let alloc = rt.alloc();
     let text = text_of(&rt, format_compact!(in alloc; "{:?}", "a\n"));
-    assert_inline(&rt, &text, "\"a\\n\"");
+    assert_eq!(rt; Seen::of(&text), Seen::inline("\"a\\n\""));
     let text = text_of(&rt, format_compact!(in alloc; "{:>8}|{:<3}|", "äb", 7));
-    assert_inline(&rt, &text, "      äb|7  |");
+    assert_eq!(rt; Seen::of(&text), Seen::inline("      äb|7  |"));
     let text = text_of(&rt, format_compact!(in alloc; "{:#x} {:#b}", 255, 5));
-    assert_inline(&rt, &text, "0xff 0b101");
+    assert_eq!(rt; Seen::of(&text), Seen::inline("0xff 0b101"));
 }
 
 #[test]
@@ -53,16 +53,16 @@ fn arguments_may_have_names(rt: HostRuntime) {
     let alloc = rt.alloc();
     let place = "€";
     let text = text_of(&rt, format_compact!(in alloc; "{place}{sum}", sum = -12));
-    assert_inline(&rt, &text, "€-12");
+    assert_eq!(rt; Seen::of(&text), Seen::inline("€-12"));
     let text = text_of(&rt, format_compact!(in alloc; "{0}{1}{0}", 'a', 'b'));
-    assert_inline(&rt, &text, "aba");
+    assert_eq!(rt; Seen::of(&text), Seen::inline("aba"));
 }
 
 #[test]
 fn twenty_four_bytes_stand_inline_and_more_on_the_heap(rt: HostRuntime) {
     let alloc = rt.alloc();
     let text = text_of(&rt, format_compact!(in alloc; "{}{}", letters(20), 1234));
-    assert_inline(&rt, &text, "aaaaaaaaaaaaaaaaaaaa1234");
+    assert_eq!(rt; Seen::of(&text), Seen::inline("aaaaaaaaaaaaaaaaaaaa1234"));
     let text = text_of(&rt, format_compact!(in alloc; "{}{}", letters(20), 12345));
     assert!(rt; text.is_heap_allocated());
     assert_eq!(rt; text.as_str(), "aaaaaaaaaaaaaaaaaaaa12345");

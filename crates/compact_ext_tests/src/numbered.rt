@@ -1,8 +1,9 @@
 //! Texts of numbers and of other values, with ample memory.
 
-use crate::checks::{assert_inline, assert_seen, buffered, copied};
 use compact_ext::ToCompactString;
 use compact_str::CompactString;
+use compact_testing::seen::Seen;
+use compact_testing::values::string_with_room;
 use std::alloc::Global;
 use std::num::{NonZeroI128, NonZeroU8, NonZeroU128};
 use std::process::Abort;
@@ -21,7 +22,7 @@ where
 
 /// Asserts the text of a value, and that it stands inline.
 fn assert_shown<T: ToCompactString + Drop>(rt: &impl Abort, alloc: Global, value: T, text: &str) {
-    assert_inline(rt, &shown(rt, alloc, value), text);
+    assert_eq!(rt; Seen::of(&shown(rt, alloc, value)), Seen::inline(text));
 }
 
 #[test]
@@ -74,13 +75,13 @@ fn long_numbers_have_these_texts(rt: HostRuntime) {
     assert_shown(&rt, alloc, NonZeroU8::MAX, "255");
     let most = shown(&rt, alloc, u128::MAX);
     let text = "340282366920938463463374607431768211455";
-    assert_seen(&rt, &most, "heap", 39, text);
+    assert_eq!(rt; Seen::of(&most), Seen::at("heap", 39, text));
     let least = shown(&rt, alloc, i128::MIN);
     let text = "-170141183460469231731687303715884105728";
-    assert_seen(&rt, &least, "heap", 40, text);
+    assert_eq!(rt; Seen::of(&least), Seen::at("heap", 40, text));
     let least = shown(&rt, alloc, NonZeroI128::MIN);
     let text = "-170141183460469231731687303715884105728";
-    assert_seen(&rt, &least, "heap", 40, text);
+    assert_eq!(rt; Seen::of(&least), Seen::at("heap", 40, text));
 }
 
 #[test]
@@ -88,8 +89,18 @@ fn other_values_have_these_texts(rt: HostRuntime) {
     let alloc = rt.alloc();
     assert_shown(&rt, alloc, 'a', "a");
     assert_shown(&rt, alloc, "äb", "äb");
-    assert_shown(&rt, alloc, copied(&rt, alloc, "äb"), "äb");
-    assert_shown(&rt, alloc, buffered(&rt, alloc, 256, "abc"), "abc");
+    assert_shown(
+        &rt,
+        alloc,
+        CompactString::new(alloc, "äb").expect(&rt, "memory"),
+        "äb",
+    );
+    assert_shown(
+        &rt,
+        alloc,
+        string_with_room(alloc, 256, "abc").expect(&rt, "memory"),
+        "abc",
+    );
 }
 
 /// Asserts the bytes of a value that stands inline.

@@ -1,9 +1,10 @@
 //! Texts of formats while requests for memory are refused, beside what `compact_refusal_tests` tries of each call.
 
-use crate::checks::{assert_inline, buffered, take_all};
 use compact_ext::{ToCompactString, ToCompactStringError, format_compact};
 use compact_str::{CompactString, ReserveError};
-use compact_testing::values::letters;
+use compact_testing::memory::take_all;
+use compact_testing::seen::Seen;
+use compact_testing::values::{letters, string_with_room};
 use std::fmt;
 use std::fmt::Display;
 
@@ -27,23 +28,22 @@ fn is_refused(made: Result<CompactString, ToCompactStringError>) -> bool {
 #[test]
 fn formats_and_strings_of_24_bytes_need_no_memory(rt: HostRuntime) {
     let alloc = rt.alloc();
-    let string = buffered(&rt, alloc, 30, "i am 24 characters long!");
-    let hog = take_all(&rt, alloc);
+    let string = string_with_room(alloc, 30, "i am 24 characters long!").expect(&rt, "memory");
+    let hog = take_all(alloc).expect(&rt, "room for the list of blocks");
     let text = string.to_compact_string(alloc);
-    assert_inline(
-        &rt,
-        &text.expect(&rt, "no memory is needed"),
-        "i am 24 characters long!",
+    assert_eq!(rt;
+        Seen::of(&text.expect(&rt, "no memory is needed")),
+        Seen::inline("i am 24 characters long!")
     );
     let text = format_compact!(in alloc; "{}-{}", 7, "a").expect(&rt, "no memory is needed");
-    assert_inline(&rt, &text, "7-a");
+    assert_eq!(rt; Seen::of(&text), Seen::inline("7-a"));
     drop(hog);
 }
 
 #[test]
 fn a_refusal_that_is_hidden_is_told(rt: HostRuntime) {
     let alloc = rt.alloc();
-    let hog = take_all(&rt, alloc);
+    let hog = take_all(alloc).expect(&rt, "room for the list of blocks");
     assert!(rt; is_refused(format_compact!(in alloc; "{}", Hiding(1))));
     assert!(rt; is_refused(format_compact!(in alloc; "{}a", Hiding(2))));
     drop(hog);

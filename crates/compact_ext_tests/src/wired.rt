@@ -1,12 +1,12 @@
 //! Texts that are written over a wire and read: the bytes, and what each fault has taken or put out. The bytes were written
 //! by hand from the definition of the form.
 
-use crate::checks::{assert_inline, copied};
 use crate::wire_forms::{end_of, form_of, form_of_letters};
 use crate::wire_letters::Letters;
 use compact_ext::wire::{WireError, read_wire, write_wire};
 use compact_str::{CompactString, ReserveError};
 use compact_testing::pieces::{Narrow, Pieces, Stop};
+use compact_testing::seen::Seen;
 use compact_testing::values::letters;
 use std::alloc::Global;
 use std::fmt::Write;
@@ -17,7 +17,10 @@ use std::process::Abort;
 /// Asserts that a text is written as these bytes.
 fn assert_written(rt: &impl Abort, alloc: Global, text: &str, bytes: &[u8]) {
     let mut written = Vec::new(alloc);
-    let sent = write_wire(&copied(rt, alloc, text), &mut written);
+    let sent = write_wire(
+        &CompactString::new(alloc, text).expect(rt, "memory"),
+        &mut written,
+    );
     assert!(rt; sent.is_ok());
     assert_eq!(rt; written.as_slice(), bytes);
 }
@@ -48,7 +51,7 @@ fn what_follows_a_form_stays_unread(rt: HostRuntime) {
     let bytes: [u8; 7] = [2, 0, 0, 0, 0x48, 0x69, 0x4A];
     let mut rest: &[u8] = &bytes;
     let text = read_wire(rt.alloc(), &mut rest).expect(&rt, "a text");
-    assert_inline(&rt, &text, "Hi");
+    assert_eq!(rt; Seen::of(&text), Seen::inline("Hi"));
     assert_eq!(rt; rest.len(), 1);
     assert!(rt; rest.first() == Some(&0x4A));
 }
@@ -139,7 +142,7 @@ fn assert_writes(rt: &impl Abort, text: &CompactString, mut writer: Narrow, end:
 
 #[test]
 fn a_writer_that_is_full_has_a_beginning(rt: HostRuntime) {
-    let text = copied(&rt, rt.alloc(), "Hi");
+    let text = CompactString::new(rt.alloc(), "Hi").expect(&rt, "memory");
     let form: [u8; 6] = [2, 0, 0, 0, 0x48, 0x69];
     for room in 0..6 {
         let out = form.get(..room).unwrap_or(&[]);
@@ -152,7 +155,7 @@ fn a_writer_that_is_full_has_a_beginning(rt: HostRuntime) {
 
 #[test]
 fn a_writer_that_fails_has_a_beginning(rt: HostRuntime) {
-    let text = copied(&rt, rt.alloc(), "Hi");
+    let text = CompactString::new(rt.alloc(), "Hi").expect(&rt, "memory");
     let form: [u8; 6] = [2, 0, 0, 0, 0x48, 0x69];
     for call in 1..7usize {
         let out = form.get(..call - 1).unwrap_or(&[]);
@@ -195,7 +198,10 @@ fn texts_of_each_length_come_back(rt: HostRuntime) {
     let alloc = rt.alloc();
     let mut bytes = Vec::new(alloc);
     for count in 0..80 {
-        let sent = write_wire(&copied(&rt, alloc, letters(count)), &mut bytes);
+        let sent = write_wire(
+            &CompactString::new(alloc, letters(count)).expect(&rt, "memory"),
+            &mut bytes,
+        );
         assert!(rt; sent.is_ok());
     }
     let mut rest = bytes.as_slice();

@@ -1,11 +1,12 @@
 //! Texts of a reader that are read one after another until its end. The bytes were written by hand from the definition of
 //! the form.
 
-use crate::checks::{assert_inline, assert_seen, take_all};
 use crate::wire_forms::name_of;
 use compact_ext::wire::{Records, WireError};
 use compact_str::CompactString;
+use compact_testing::memory::take_all;
 use compact_testing::pieces::{Pieces, Stop};
+use compact_testing::seen::Seen;
 use compact_testing::values::letters;
 use std::alloc::Global;
 use std::io::{BufRead, BufReader, ErrorKind};
@@ -25,7 +26,7 @@ fn read_records<R: BufRead + Drop>(
 /// Asserts that the next record is this text, inline.
 fn assert_next<R: BufRead + Drop>(rt: &impl Abort, records: &mut Records<R>, text: &str) {
     let item = records.next().expect(rt, "no end");
-    assert_inline(rt, &item.expect(rt, "a text"), text);
+    assert_eq!(rt; Seen::of(&item.expect(rt, "a text")), Seen::inline(text));
 }
 
 /// Asserts that the next record is a fault of this name.
@@ -68,7 +69,7 @@ fn records_come_in_pieces(rt: HostRuntime) {
         let records = read_records(alloc, reader).expect(&rt, "records");
         assert_eq!(rt; records.len(), 3);
         for (record, text) in records.iter().zip(["a", "", "Hi"].iter()) {
-            assert_inline(&rt, record, *text);
+            assert_eq!(rt; Seen::of(record), Seen::inline(*text));
         }
     }
 }
@@ -145,7 +146,10 @@ fn assert_long_and_another<R: BufRead + Drop>(
 ) {
     let mut records = Records::new(alloc, reader);
     let item = records.next().expect(rt, "no end");
-    assert_seen(rt, &item.expect(rt, "a text"), "heap", text.len(), text);
+    assert_eq!(rt;
+        Seen::of(&item.expect(rt, "a text")),
+        Seen::at("heap", text.len(), text)
+    );
     assert_next(rt, &mut records, "a");
     assert_end(rt, &mut records);
 }
@@ -192,7 +196,7 @@ fn where_room_is_refused_the_text_stays_unread(rt: HostRuntime) {
         rt.alloc(),
         b"\x01\0\0\0b\x01\0\0\0b\x01\0\0\0b\x01\0\0\0b\x01\0\0\0b",
     );
-    let hog = take_all(&rt, rt.alloc());
+    let hog = take_all(rt.alloc()).expect(&rt, "room for the list of blocks");
     let mut records = Records::new(rt.alloc(), bytes.as_slice());
     assert_next_fault(&rt, &mut records, "reserve");
     for text in ["b", "b", "b", "b", "b", "a"] {
@@ -211,7 +215,7 @@ fn a_failure_between_records_is_told(rt: HostRuntime) {
 
 #[test]
 fn records_need_memory_only_where_they_are_collected(rt: HostRuntime) {
-    let hog = take_all(&rt, rt.alloc());
+    let hog = take_all(rt.alloc()).expect(&rt, "room for the list of blocks");
     let mut records = Records::new(rt.alloc(), RECORDS.as_slice());
     for text in ["a", "", "Hi"] {
         assert_next(&rt, &mut records, text);

@@ -1,10 +1,11 @@
 //! Texts that are written over a wire and read while requests for memory are refused. How much room was asked for shows in
 //! how many bytes the reader had given when it was.
 
-use crate::checks::{copied, spare, take_all};
 use crate::wire_forms::end_of;
 use crate::wire_letters::Letters;
 use compact_ext::wire::{WireError, read_wire, write_wire};
+use compact_str::CompactString;
+use compact_testing::memory::take_all;
 use std::alloc::Global;
 use std::process::Abort;
 
@@ -19,7 +20,7 @@ fn assert_refused(rt: &impl Abort, alloc: Global, len: u32, given: usize) {
 
 #[test]
 fn a_longer_text_is_refused_after_its_length(rt: HostRuntime) {
-    let hog = take_all(&rt, rt.alloc());
+    let hog = take_all(rt.alloc()).expect(&rt, "room for the list of blocks");
     for len in [25, 55, u32::MAX] {
         assert_refused(&rt, rt.alloc(), len, 4);
     }
@@ -28,8 +29,8 @@ fn a_longer_text_is_refused_after_its_length(rt: HostRuntime) {
 
 /// Asserts what a reader of the greatest length has given, where so much memory in one piece is all that is left.
 fn assert_refused_within(rt: &impl Abort, alloc: Global, left: usize, given: usize) {
-    let block = spare(rt, alloc, left);
-    let hog = take_all(rt, alloc);
+    let block = Vec::<u8>::with_capacity(alloc, left).expect(rt, "a spare block");
+    let hog = take_all(alloc).expect(rt, "room for the list of blocks");
     drop(block);
     assert_refused(rt, alloc, u32::MAX, given);
     drop(hog);
@@ -55,9 +56,9 @@ fn the_fourth_room_is_refused(rt: HostRuntime) {
 
 #[test]
 fn a_vector_with_no_room_is_a_writer_that_fails(rt: HostRuntime) {
-    let text = copied(&rt, rt.alloc(), "Hi");
+    let text = CompactString::new(rt.alloc(), "Hi").expect(&rt, "memory");
     let mut bytes = Vec::new(rt.alloc());
-    let hog = take_all(&rt, rt.alloc());
+    let hog = take_all(rt.alloc()).expect(&rt, "room for the list of blocks");
     assert!(rt; matches!(write_wire(&text, &mut bytes), Err(WireError::Io(_))));
     drop(hog);
     assert_eq!(rt; bytes.len(), 0);

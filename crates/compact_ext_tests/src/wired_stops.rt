@@ -1,10 +1,10 @@
 //! Wire forms that come and go in pieces: a reader that ends at each of its bytes, and a writer that stops at each.
 
-use crate::checks::{assert_inline, assert_seen, copied};
 use crate::wire_forms::{end_of, form_of_letters};
 use compact_ext::wire::{read_wire, write_wire};
 use compact_str::CompactString;
 use compact_testing::pieces::{Narrow, Pieces, Stop};
+use compact_testing::seen::Seen;
 use compact_testing::values::letters;
 use std::alloc::Global;
 use std::io::ErrorKind;
@@ -34,10 +34,10 @@ fn each_beginning_of_a_form_ends_too_early(rt: HostRuntime) {
 fn a_text_comes_byte_by_byte(rt: HostRuntime) {
     let form = form_of_letters(&rt, rt.alloc(), 24);
     let text = read_wire(rt.alloc(), &mut Pieces::new(&form, 1, Stop::Never)).expect(&rt, "a text");
-    assert_inline(&rt, &text, letters(24));
+    assert_eq!(rt; Seen::of(&text), Seen::inline(letters(24)));
     let form = form_of_letters(&rt, rt.alloc(), 25);
     let text = read_wire(rt.alloc(), &mut Pieces::new(&form, 1, Stop::Never)).expect(&rt, "a text");
-    assert_seen(&rt, &text, "heap", 25, letters(25));
+    assert_eq!(rt; Seen::of(&text), Seen::at("heap", 25, letters(25)));
 }
 
 /// Asserts that bytes that are no text are told so once they have come, with what follows unread.
@@ -70,7 +70,7 @@ fn assert_sent(rt: &impl Abort, text: &CompactString, stop: Stop, end: &str, out
 
 #[test]
 fn a_long_text_stops_at_each_byte(rt: HostRuntime) {
-    let text = copied(&rt, rt.alloc(), letters(30));
+    let text = CompactString::new(rt.alloc(), letters(30)).expect(&rt, "memory");
     let form = form_of_letters(&rt, rt.alloc(), 30);
     assert_sent(&rt, &text, Stop::Never, "done", &form);
     for call in 1..form.len() + 1 {

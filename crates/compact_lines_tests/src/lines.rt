@@ -1,7 +1,7 @@
 //! Sessions of lines, and readers and writers that fail.
 
-use crate::checks::take_all;
 use compact_lines::run_lines;
+use compact_testing::memory::take_all;
 use std::alloc::Global;
 use std::io;
 use std::io::{Read, Write};
@@ -170,7 +170,7 @@ fn a_failing_writer_is_told_where_it_is_written_to(rt: HostRuntime) {
 fn no_memory_for_a_line_is_told(rt: HostRuntime) {
     let mut output = Vec::with_capacity(rt.alloc(), 1000).expect(&rt, "memory");
     let mut input: &[u8] = b"clear\n";
-    let hog = take_all(&rt, rt.alloc());
+    let hog = take_all(rt.alloc()).expect(&rt, "room for the list of blocks");
     assert_eq!(rt; run_lines(rt.alloc(), &mut input, &mut output), 1);
     drop(hog);
     assert_eq!(rt; output.len(), 0);

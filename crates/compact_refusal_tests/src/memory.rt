@@ -92,7 +92,7 @@ impl Ration {
     pub fn take_rest(&mut self) {
         let mut size = GREATEST;
         for _ in 0..GREATEST / STEP {
-            self.take_blocks(size);
+            self.take_all(size);
             size = size.saturating_sub(STEP);
         }
     }
@@ -104,13 +104,13 @@ impl Ration {
             if size <= GREATEST {
                 break;
             }
-            self.take_blocks(size);
+            self.take_all(size);
             size /= 2;
         }
     }
 
     /// Takes all blocks of a size, to which nothing is written.
-    fn take_blocks(&mut self, size: usize) {
+    fn take_all(&mut self, size: usize) {
         for _ in 0..80_000 {
             if !self.take(size) {
                 break;

@@ -1,9 +1,10 @@
 //! Buffers whose bytes lie in pieces, parted at each place.
 
-use crate::checks::{assert_fitted, take_all};
 use crate::drips::Drips;
 use bytes::Buf;
 use compact_str::{CompactString, FromUtf8Error};
+use compact_testing::memory::take_all;
+use compact_testing::seen::is_fitted;
 use compact_testing::values::letters;
 use std::alloc::Global;
 use std::process::Abort;
@@ -36,10 +37,10 @@ fn assert_read(rt: &impl Abort, alloc: Global, text: &str) {
     let bytes = text.as_bytes();
     for place in 0..bytes.len() + 1 {
         let made = of_two(rt, alloc, bytes, place).ok().expect(rt, "a text");
-        assert_fitted(rt, &made, text);
+        assert!(rt; is_fitted(&made, text));
     }
     let made = of_drips(rt, alloc, bytes).ok().expect(rt, "a text");
-    assert_fitted(rt, &made, text);
+    assert!(rt; is_fitted(&made, text));
 }
 
 #[test]
@@ -81,7 +82,7 @@ fn broken_bytes_have_one_fault_wherever_they_are_parted(rt: HostRuntime) {
 
 #[test]
 fn drips_of_24_bytes_need_no_memory(rt: HostRuntime) {
-    let hog = take_all(&rt, rt.alloc());
+    let hog = take_all(rt.alloc()).expect(&rt, "room for the list of blocks");
     assert_read(&rt, rt.alloc(), "€€€€€€€€");
     assert_broken(&rt, rt.alloc(), b"a\xF0\x9F\x92", fault(1, None));
     let mut drips = Drips {

@@ -1,7 +1,7 @@
 //! What is collected, joined and extended, with values worked out by hand from the rules.
 
-use crate::checks::{assert_inline, assert_seen};
 use compact_str::{AsText, CompactString, CompactStringExt, append_all};
+use compact_testing::seen::Seen;
 use compact_testing::values::{lasting, letters};
 use std::alloc::Global;
 use std::borrow::CowStr;
@@ -37,7 +37,10 @@ fn assert_long(rt: &impl Abort, value: &CompactString, text: &str, len: usize) {
 
 #[test]
 fn characters_are_inline_up_to_24_bytes(rt: HostRuntime) {
-    assert_inline(&rt, &euros(&rt, rt.alloc(), 8), "€€€€€€€€");
+    assert_eq!(rt;
+        Seen::of(&euros(&rt, rt.alloc(), 8)),
+        Seen::inline("€€€€€€€€")
+    );
     assert_long(&rt, &euros(&rt, rt.alloc(), 9), "€€€€€€€€€", 27);
 }
 
@@ -51,10 +54,16 @@ fn texts_are_collected(rt: HostRuntime) {
     let numbers = "1 2 3 4 5 6 7 8 9 10 11 12 13 14 15 16 17 18 19 20";
     let text = "1234567891011121314151617181920";
     assert_long(&rt, &words(&rt, rt.alloc(), numbers), text, 31);
-    assert_inline(&rt, &gathered(&rt, rt.alloc(), &[""; 30]), "");
-    assert_inline(&rt, &gathered(&rt, rt.alloc(), &[]), "");
+    assert_eq!(rt;
+        Seen::of(&gathered(&rt, rt.alloc(), &[""; 30])),
+        Seen::inline("")
+    );
+    assert_eq!(rt; Seen::of(&gathered(&rt, rt.alloc(), &[])), Seen::inline(""));
     let parts = [letters(20), letters(4)];
-    assert_inline(&rt, &gathered(&rt, rt.alloc(), &parts), letters(24));
+    assert_eq!(rt;
+        Seen::of(&gathered(&rt, rt.alloc(), &parts)),
+        Seen::inline(letters(24))
+    );
 }
 
 #[test]
@@ -70,14 +79,17 @@ fn items_are_joined_and_concatenated(rt: HostRuntime) {
         (["a", ""].as_slice(), "-", "a-"),
         (["", "", "b"].as_slice(), "-", "--b"),
     ] {
-        assert_inline(&rt, &joined(&rt, rt.alloc(), texts, separator), text);
+        assert_eq!(rt;
+            Seen::of(&joined(&rt, rt.alloc(), texts, separator)),
+            Seen::inline(text)
+        );
     }
     let parts = ["hello", " ", "world", "!"];
     let value = parts
         .into_iter()
         .concat_compact(rt.alloc())
         .expect(&rt, "memory");
-    assert_inline(&rt, &value, "hello world!");
+    assert_eq!(rt; Seen::of(&value), Seen::inline("hello world!"));
 }
 
 /// The five kinds of text, each collected alone.
@@ -102,7 +114,7 @@ fn each_kind(rt: &impl Abort, alloc: Global) -> CompactString {
 #[test]
 fn the_five_kinds_of_text_are_items(rt: HostRuntime) {
     let value = each_kind(&rt, rt.alloc());
-    assert_inline(&rt, &value, "abcde");
+    assert_eq!(rt; Seen::of(&value), Seen::inline("abcde"));
     assert_eq!(rt; (&value).text(), "abcde");
 }
 
@@ -112,9 +124,9 @@ fn texts_by_value_are_items_of_the_traits_of_the_library(rt: HostRuntime) {
         .into_iter()
         .collect(rt.alloc())
         .expect(&rt, "memory");
-    assert_inline(&rt, &value, "abc");
+    assert_eq!(rt; Seen::of(&value), Seen::inline("abc"));
     value.extend(["äb€", "x"]).expect(&rt, "memory");
-    assert_inline(&rt, &value, "abcäb€x");
+    assert_eq!(rt; Seen::of(&value), Seen::inline("abcäb€x"));
 }
 
 #[test]
@@ -132,8 +144,8 @@ fn values_are_put_behind_a_string(rt: HostRuntime) {
 fn an_empty_item_leaves_a_text_of_the_program(rt: HostRuntime) {
     let mut value = lasting(rt.alloc(), 30);
     value.extend_texts([""]).expect(&rt, "memory");
-    assert_seen(&rt, &value, "static", 30, letters(30));
+    assert_eq!(rt; Seen::of(&value), Seen::at("static", 30, letters(30)));
     value.extend_texts(["b"]).expect(&rt, "memory");
     let text = "aaaaaaaaaaaaaaaaaaaaaaaaaaaaaab";
-    assert_seen(&rt, &value, "heap", 45, text);
+    assert_eq!(rt; Seen::of(&value), Seen::at("heap", 45, text));
 }

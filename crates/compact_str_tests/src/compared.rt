@@ -1,9 +1,9 @@
 //! Values as they are compared and hashed. The order of the many texts was worked out by a program in Python, which sorts
 //! by code points.
 
-use crate::checks::{append, assert_heap, assert_static, buffered, copied, empty};
 use compact_str::CompactString;
-use compact_testing::values::{lasting, letters};
+use compact_testing::seen::Seen;
+use compact_testing::values::{lasting, letters, string_with_room};
 use std::alloc::{AllocError, Global};
 use std::cmp::Ordering;
 use std::hash::{DefaultHasher, Hash, Hasher};
@@ -44,12 +44,12 @@ fn assert_less(rt: &impl Abort, value: &CompactString, other: &CompactString) {
 #[test]
 fn places_and_capacities_have_no_part(rt: HostRuntime) {
     let borrowed = lasting(rt.alloc(), 30);
-    let made = copied(&rt, rt.alloc(), letters(30));
-    let text = buffered(&rt, rt.alloc(), 90, letters(30));
+    let made = CompactString::new(rt.alloc(), letters(30)).expect(&rt, "memory");
+    let text = string_with_room(rt.alloc(), 90, letters(30)).expect(&rt, "memory");
     let taken_over = CompactString::from_string_buffer(text);
-    assert_static(&rt, &borrowed, 30);
-    assert_heap(&rt, &made, 32, 30);
-    assert_heap(&rt, &taken_over, 90, 30);
+    assert_eq!(rt; Seen::of(&borrowed), Seen::fixed(letters(30)));
+    assert_eq!(rt; Seen::of(&made), Seen::heap(32, letters(30)));
+    assert_eq!(rt; Seen::of(&taken_over), Seen::heap(90, letters(30)));
     assert_same(&rt, &borrowed, &made);
     assert_same(&rt, &made, &taken_over);
     assert_same(&rt, &taken_over, &borrowed);
@@ -63,12 +63,13 @@ fn cut_to_3(rt: &impl Abort, value: &mut CompactString) {
 
 #[test]
 fn what_stood_behind_a_text_has_no_part(rt: HostRuntime) {
-    let short = copied(&rt, rt.alloc(), "äb");
-    let mut inline = copied(&rt, rt.alloc(), "äbcdefghijklmn");
+    let short = CompactString::new(rt.alloc(), "äb").expect(&rt, "memory");
+    let mut inline = CompactString::new(rt.alloc(), "äbcdefghijklmn").expect(&rt, "memory");
     cut_to_3(&rt, &mut inline);
     assert_same(&rt, &short, &inline);
-    let mut heap = empty(&rt, rt.alloc(), 60);
-    append(&rt, &mut heap, "äbcdefghijklmnopqrstuvwxyz0123456789");
+    let mut heap = CompactString::with_capacity(rt.alloc(), 60).expect(&rt, "memory");
+    heap.push_str("äbcdefghijklmnopqrstuvwxyz0123456789")
+        .expect(&rt, "memory");
     cut_to_3(&rt, &mut heap);
     assert_same(&rt, &inline, &heap);
 }
@@ -77,20 +78,24 @@ fn what_stood_behind_a_text_has_no_part(rt: HostRuntime) {
 fn texts_are_in_this_order(rt: HostRuntime) {
     let texts = ["", "a", "ab", "b", "\u{fffd}", "\u{10000}"];
     for i in 1..texts.len() {
-        let value = copied(&rt, rt.alloc(), texts[i - 1]);
-        assert_less(&rt, &value, &copied(&rt, rt.alloc(), texts[i]));
+        let value = CompactString::new(rt.alloc(), texts[i - 1]).expect(&rt, "memory");
+        assert_less(
+            &rt,
+            &value,
+            &CompactString::new(rt.alloc(), texts[i]).expect(&rt, "memory"),
+        );
     }
 }
 
 #[test]
 fn the_first_place_that_differs_decides_at_any_length(rt: HostRuntime) {
     for count in 0..40 {
-        let mut less = copied(&rt, rt.alloc(), letters(count));
-        let mut greater = copied(&rt, rt.alloc(), letters(count));
+        let mut less = CompactString::new(rt.alloc(), letters(count)).expect(&rt, "memory");
+        let mut greater = CompactString::new(rt.alloc(), letters(count)).expect(&rt, "memory");
         assert_same(&rt, &less, &greater);
-        append(&rt, &mut less, "\u{ffff}zz");
+        less.push_str("\u{ffff}zz").expect(&rt, "memory");
         assert_less(&rt, &greater, &less);
-        append(&rt, &mut greater, "\u{10000}");
+        greater.push_str("\u{10000}").expect(&rt, "memory");
         assert_less(&rt, &less, &greater);
     }
 }
@@ -99,7 +104,10 @@ fn the_first_place_that_differs_decides_at_any_length(rt: HostRuntime) {
 fn a_value_hashes_as_its_str(rt: HostRuntime) {
     for count in 0..65 {
         let text = letters(count);
-        assert_eq!(rt; hash_of(&copied(&rt, rt.alloc(), text)), hash_of_str(text));
+        assert_eq!(rt;
+            hash_of(&CompactString::new(rt.alloc(), text).expect(&rt, "memory")),
+            hash_of_str(text)
+        );
         assert_eq!(rt; hash_of(&lasting(rt.alloc(), count)), hash_of_str(text));
     }
 }
@@ -136,7 +144,7 @@ const CHARACTERS: [char; 16] = [
 fn next_text(rt: &impl Abort, alloc: Global, state: &mut u64) -> CompactString {
     let mut text = CompactString::default(alloc);
     if next(state) % 4 == 0 {
-        append(rt, &mut text, letters(26));
+        text.push_str(letters(26)).expect(rt, "memory");
     }
     for _ in 0..next(state) % 9 {
         let character = CHARACTERS[(next(state) % 16) as usize];

@@ -1,8 +1,9 @@
 //! Bytes and units that are decoded. Texts and faults are those of the Unicode Standard, worked by hand.
 
-use crate::checks::{assert_inline, take_all};
 use bytes::Buf;
 use compact_str::{CompactString, FromUtf8Error, FromUtf16Error, ReserveError, Utf16Error};
+use compact_testing::memory::take_all;
+use compact_testing::seen::Seen;
 use compact_testing::values::letters;
 use std::alloc::{AllocError, Global};
 use std::process::Abort;
@@ -68,7 +69,10 @@ fn broken_bytes_are_told_and_replaced(rt: HostRuntime) {
 
 /// Asserts that a short text was made, which stands inline.
 fn assert_text<E: Drop>(rt: &impl Abort, made: Result<CompactString, E>, text: &str) {
-    assert_inline(rt, &made.ok().expect(rt, "a text"), text);
+    assert_eq!(rt;
+        Seen::of(&made.ok().expect(rt, "a text")),
+        Seen::inline(text)
+    );
 }
 
 /// Asserts that 30 letters were made, on the heap.
@@ -196,7 +200,7 @@ fn a_buffer_that_is_known_to_be_a_text_is_read_to_its_end(rt: HostRuntime) {
 #[test]
 fn faults_are_told_before_memory_is_asked_for(rt: HostRuntime) {
     let alloc = rt.alloc();
-    let hog = take_all(&rt, alloc);
+    let hog = take_all(alloc).expect(&rt, "room for the list of blocks");
     let fault = CompactString::from_utf8(alloc, b"aaaaaaaaaaaaaaaaaaaaaaaaaaaaa\xFF").err();
     assert!(rt;
         fault

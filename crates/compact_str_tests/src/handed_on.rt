@@ -1,8 +1,8 @@
 //! Values as they are handed on, with ample memory.
 
-use crate::checks::{append, assert_heap, assert_inline, buffered, copied, empty};
 use compact_str::{CompactString, FromJsonError};
-use compact_testing::values::{lasting, letters};
+use compact_testing::seen::Seen;
+use compact_testing::values::{lasting, letters, string_with_room};
 use serde_json::{Value, json};
 use std::alloc::{AllocError, Global};
 use std::borrow::CowStr;
@@ -10,8 +10,10 @@ use std::process::Abort;
 
 /// A value of 60 bytes of room, in which a text of 40 was cut to `"äb"`.
 fn shortened(rt: &impl Abort, alloc: Global) -> CompactString {
-    let mut value = empty(rt, alloc, 60);
-    append(rt, &mut value, "äbcdefghijklmnopqrstuvwxyz0123456789");
+    let mut value = CompactString::with_capacity(alloc, 60).expect(rt, "memory");
+    value
+        .push_str("äbcdefghijklmnopqrstuvwxyz0123456789")
+        .expect(rt, "memory");
     assert!(rt; value.is_char_boundary(3));
     value.truncate(3);
     value
@@ -20,15 +22,18 @@ fn shortened(rt: &impl Abort, alloc: Global) -> CompactString {
 #[test]
 fn what_leaves_has_this_room(rt: HostRuntime) {
     let alloc = rt.alloc();
-    let text = buffered(&rt, alloc, 90, letters(30));
+    let text = string_with_room(alloc, 90, letters(30)).expect(&rt, "memory");
     let value = CompactString::from_string_buffer(text);
     let text = value.into_string().expect(&rt, "memory");
     assert_eq!(rt; text.capacity(), 90);
     let value = CompactString::from_string_buffer(text);
-    assert_heap(&rt, &value, 90, 30);
+    assert_eq!(rt; Seen::of(&value), Seen::heap(90, letters(30)));
     let bytes = value.into_vec().expect(&rt, "memory");
     assert_eq!(rt; bytes.capacity(), 90);
-    let bytes = copied(&rt, alloc, "äb").into_bytes().expect(&rt, "memory");
+    let bytes = CompactString::new(alloc, "äb")
+        .expect(&rt, "memory")
+        .into_bytes()
+        .expect(&rt, "memory");
     assert_eq!(rt; bytes.as_slice(), [0xc3, 0xa4, 0x62].as_slice());
     assert_eq!(rt; bytes.capacity(), 24);
 }
@@ -36,7 +41,8 @@ fn what_leaves_has_this_room(rt: HostRuntime) {
 #[test]
 fn boxes_and_shared_texts_have_the_text(rt: HostRuntime) {
     let alloc = rt.alloc();
-    let boxed = copied(&rt, alloc, "äb")
+    let boxed = CompactString::new(alloc, "äb")
+        .expect(&rt, "memory")
         .into_boxed_str()
         .expect(&rt, "memory");
     assert_eq!(rt; boxed.as_str(), "äb");
@@ -59,7 +65,10 @@ fn a_static_text_is_borrowed_and_others_are_owned(rt: HostRuntime) {
     let alloc = rt.alloc();
     let cow = lasting(alloc, 30).into_cow().expect(&rt, "memory");
     is_lent(&rt, cow, letters(30), true);
-    let cow = copied(&rt, alloc, "äb").into_cow().expect(&rt, "memory");
+    let cow = CompactString::new(alloc, "äb")
+        .expect(&rt, "memory")
+        .into_cow()
+        .expect(&rt, "memory");
     is_lent(&rt, cow, "äb", false);
     let value = shortened(&rt, alloc);
     is_lent(&rt, value.as_cow(), "äb", true);
@@ -84,12 +93,18 @@ fn value_of(rt: &impl Abort, alloc: Global, json: &Value) -> CompactString {
 #[test]
 fn a_value_is_a_json_string(rt: HostRuntime) {
     let alloc = rt.alloc();
-    let json = json_of(&rt, &copied(&rt, alloc, "abc"));
+    let json = json_of(&rt, &CompactString::new(alloc, "abc").expect(&rt, "memory"));
     is_printed(&rt, alloc, &json, "\"abc\"");
-    let json = json_of(&rt, &copied(&rt, alloc, "ä\"\n"));
+    let json = json_of(
+        &rt,
+        &CompactString::new(alloc, "ä\"\n").expect(&rt, "memory"),
+    );
     is_printed(&rt, alloc, &json, "\"ä\\\"\\n\"");
     let json = json_of(&rt, &lasting(alloc, 30));
-    assert_heap(&rt, &value_of(&rt, alloc, &json), 32, 30);
+    assert_eq!(rt;
+        Seen::of(&value_of(&rt, alloc, &json)),
+        Seen::heap(32, letters(30))
+    );
 }
 
 /// Asserts that a JSON value is no string.
@@ -103,7 +118,7 @@ fn is_no_string(rt: &impl Abort, alloc: Global, made: Result<Value, AllocError>)
 fn only_a_json_string_is_taken(rt: HostRuntime) {
     let alloc = rt.alloc();
     let json = json!(in alloc; "abc").expect(&rt, "memory");
-    assert_inline(&rt, &value_of(&rt, alloc, &json), "abc");
+    assert_eq!(rt; Seen::of(&value_of(&rt, alloc, &json)), Seen::inline("abc"));
     is_no_string(&rt, alloc, json!(in alloc; 1));
     is_no_string(&rt, alloc, json!(in alloc; null));
     is_no_string(&rt, alloc, json!(in alloc; true));

@@ -1,8 +1,8 @@
 //! Items whose hint tells nothing or too much, where there is memory: each call gives what the items give.
 
-use crate::checks::{assert_fitted, assert_inline, assert_seen, copied};
 use crate::hints::with_hint;
 use compact_str::{CompactString, CompactStringExt, append_all};
+use compact_testing::seen::{Seen, is_fitted};
 use compact_testing::values::letters;
 use std::alloc::Global;
 use std::process::Abort;
@@ -12,13 +12,25 @@ pub fn assert_collected(rt: &impl Abort, alloc: Global, too_much: bool) {
     let characters = ['a', 'b', 'c'];
     let texts = ["a", "", "bc"];
     let made = CompactString::from_chars(alloc, with_hint(&characters, too_much).copied());
-    assert_inline(rt, &made.expect(rt, "no memory is needed"), "abc");
+    assert_eq!(rt;
+        Seen::of(&made.expect(rt, "no memory is needed")),
+        Seen::inline("abc")
+    );
     let made = CompactString::from_texts(alloc, with_hint(&texts, too_much));
-    assert_inline(rt, &made.expect(rt, "no memory is needed"), "abc");
+    assert_eq!(rt;
+        Seen::of(&made.expect(rt, "no memory is needed")),
+        Seen::inline("abc")
+    );
     let made = with_hint(&texts, too_much).concat_compact(alloc);
-    assert_inline(rt, &made.expect(rt, "no memory is needed"), "abc");
+    assert_eq!(rt;
+        Seen::of(&made.expect(rt, "no memory is needed")),
+        Seen::inline("abc")
+    );
     let made = with_hint(&texts, too_much).join_compact(alloc, "-");
-    assert_inline(rt, &made.expect(rt, "no memory is needed"), "a--bc");
+    assert_eq!(rt;
+        Seen::of(&made.expect(rt, "no memory is needed")),
+        Seen::inline("a--bc")
+    );
 }
 
 /// Asserts what the library's trait collects of them.
@@ -28,15 +40,15 @@ pub fn assert_collected_by_trait(rt: &impl Abort, alloc: Global, too_much: bool)
         .copied()
         .collect(alloc)
         .expect(rt, "no memory is needed");
-    assert_inline(rt, &made, "abc");
+    assert_eq!(rt; Seen::of(&made), Seen::inline("abc"));
     let made: CompactString = with_hint(&characters, too_much)
         .collect(alloc)
         .expect(rt, "no memory is needed");
-    assert_inline(rt, &made, "abc");
+    assert_eq!(rt; Seen::of(&made), Seen::inline("abc"));
     let made: CompactString = with_hint(&["a", "", "bc"], too_much)
         .collect(alloc)
         .expect(rt, "no memory is needed");
-    assert_inline(rt, &made, "abc");
+    assert_eq!(rt; Seen::of(&made), Seen::inline("abc"));
 }
 
 /// Asserts that a value is extended up to 24 bytes, which needs no memory.
@@ -47,7 +59,7 @@ pub fn assert_extended(rt: &impl Abort, alloc: Global, too_much: bool) {
     let ended = value.extend_chars(with_hint(&characters, too_much).copied());
     assert!(rt; ended.is_ok());
     assert!(rt; value.extend_texts(with_hint(&texts, too_much)).is_ok());
-    assert_inline(rt, &value, "ä€aaaaaaaaaa");
+    assert_eq!(rt; Seen::of(&value), Seen::inline("ä€aaaaaaaaaa"));
     assert!(rt;
         value
             .extend(with_hint(&characters, too_much).copied())
@@ -55,7 +67,7 @@ pub fn assert_extended(rt: &impl Abort, alloc: Global, too_much: bool) {
     );
     assert!(rt; value.extend(with_hint(&['x'], too_much)).is_ok());
     assert!(rt; value.extend(with_hint(&["yz", ""], too_much)).is_ok());
-    assert_inline(rt, &value, "ä€aaaaaaaaaaä€xyz");
+    assert_eq!(rt; Seen::of(&value), Seen::inline("ä€aaaaaaaaaaä€xyz"));
 }
 
 /// Asserts that values are put behind a `String` that has room for them.
@@ -83,9 +95,9 @@ fn short_texts_are_what_the_items_give(rt: HostRuntime) {
 #[test]
 fn a_string_is_given_what_the_items_give(rt: HostRuntime) {
     let values = [
-        copied(&rt, rt.alloc(), "a"),
-        copied(&rt, rt.alloc(), ""),
-        copied(&rt, rt.alloc(), "bc"),
+        CompactString::new(rt.alloc(), "a").expect(&rt, "memory"),
+        CompactString::new(rt.alloc(), "").expect(&rt, "memory"),
+        CompactString::new(rt.alloc(), "bc").expect(&rt, "memory"),
     ];
     let line = assert_appended(&rt, String::new(rt.alloc()), &values, false);
     let line = assert_appended(&rt, line, &values, true);
@@ -97,17 +109,17 @@ fn assert_long(rt: &impl Abort, alloc: Global, too_much: bool) {
     let euros = ['€'; 9];
     let texts = [letters(20), "", letters(5)];
     let made = CompactString::from_chars(alloc, with_hint(&euros, too_much).copied());
-    assert_fitted(rt, &made.expect(rt, "memory"), "€€€€€€€€€");
+    assert!(rt; is_fitted(&made.expect(rt, "memory"), "€€€€€€€€€"));
     let made = CompactString::from_texts(alloc, with_hint(&texts, too_much));
-    assert_fitted(rt, &made.expect(rt, "memory"), letters(25));
+    assert!(rt; is_fitted(&made.expect(rt, "memory"), letters(25)));
     let made = with_hint(&texts, too_much).concat_compact(alloc);
-    assert_fitted(rt, &made.expect(rt, "memory"), letters(25));
+    assert!(rt; is_fitted(&made.expect(rt, "memory"), letters(25)));
     let made = with_hint(&texts, too_much).join_compact(alloc, letters(10));
-    assert_fitted(rt, &made.expect(rt, "memory"), letters(45));
+    assert!(rt; is_fitted(&made.expect(rt, "memory"), letters(45)));
     let made: CompactString = with_hint(&euros, too_much)
         .collect(alloc)
         .expect(rt, "memory");
-    assert_fitted(rt, &made, "€€€€€€€€€");
+    assert!(rt; is_fitted(&made, "€€€€€€€€€"));
 }
 
 #[test]
@@ -121,19 +133,19 @@ fn long_texts_are_what_the_items_give(rt: HostRuntime) {
 fn assert_room(rt: &impl Abort, alloc: Global, too_much: bool) {
     let mut value = CompactString::const_new(alloc, letters(30));
     assert!(rt; value.extend_texts(with_hint(&["", ""], too_much)).is_ok());
-    assert_seen(rt, &value, "static", 30, letters(30));
+    assert_eq!(rt; Seen::of(&value), Seen::at("static", 30, letters(30)));
     assert!(rt; value.extend_texts(with_hint(&["a"], too_much)).is_ok());
-    assert_seen(rt, &value, "heap", 45, letters(31));
-    let mut value = copied(rt, alloc, letters(24));
+    assert_eq!(rt; Seen::of(&value), Seen::at("heap", 45, letters(31)));
+    let mut value = CompactString::new(alloc, letters(24)).expect(rt, "memory");
     let letter = ['a'];
     assert!(rt;
         value
             .extend_chars(with_hint(&letter, too_much).copied())
             .is_ok()
     );
-    assert_seen(rt, &value, "heap", 36, letters(25));
+    assert_eq!(rt; Seen::of(&value), Seen::at("heap", 36, letters(25)));
     assert!(rt; value.extend(with_hint(&["a", ""], too_much)).is_ok());
-    assert_seen(rt, &value, "heap", 36, letters(26));
+    assert_eq!(rt; Seen::of(&value), Seen::at("heap", 36, letters(26)));
 }
 
 #[test]

@@ -1,18 +1,19 @@
 //! The same where no memory is left: up to 24 bytes nothing is refused, and more is, whatever the hint.
 
-use crate::checks::{assert_inline, copied, take_all};
 use crate::hinted::{
     assert_appended, assert_collected, assert_collected_by_trait, assert_extended,
 };
 use crate::hints::with_hint;
 use compact_str::{CompactString, CompactStringExt, append_all};
+use compact_testing::memory::take_all;
+use compact_testing::seen::Seen;
 use compact_testing::values::letters;
 use std::alloc::{AllocError, Global};
 use std::process::Abort;
 
 #[test]
 fn no_hint_asks_for_memory(rt: HostRuntime) {
-    let hog = take_all(&rt, rt.alloc());
+    let hog = take_all(rt.alloc()).expect(&rt, "room for the list of blocks");
     for too_much in [false, true] {
         assert_collected(&rt, rt.alloc(), too_much);
         assert_collected_by_trait(&rt, rt.alloc(), too_much);
@@ -23,9 +24,12 @@ fn no_hint_asks_for_memory(rt: HostRuntime) {
 
 #[test]
 fn a_string_with_room_is_given_the_texts(rt: HostRuntime) {
-    let values = [copied(&rt, rt.alloc(), "a"), copied(&rt, rt.alloc(), "bc")];
+    let values = [
+        CompactString::new(rt.alloc(), "a").expect(&rt, "memory"),
+        CompactString::new(rt.alloc(), "bc").expect(&rt, "memory"),
+    ];
     let line = String::with_capacity(rt.alloc(), 32).expect(&rt, "memory");
-    let hog = take_all(&rt, rt.alloc());
+    let hog = take_all(rt.alloc()).expect(&rt, "room for the list of blocks");
     let line = assert_appended(&rt, line, &values, false);
     let line = assert_appended(&rt, line, &values, true);
     drop(hog);
@@ -56,7 +60,7 @@ fn assert_refused(rt: &impl Abort, alloc: Global, too_much: bool) {
 
 #[test]
 fn more_than_24_bytes_are_refused(rt: HostRuntime) {
-    let hog = take_all(&rt, rt.alloc());
+    let hog = take_all(rt.alloc()).expect(&rt, "room for the list of blocks");
     assert_refused(&rt, rt.alloc(), false);
     assert_refused(&rt, rt.alloc(), true);
     drop(hog);
@@ -70,22 +74,22 @@ fn assert_stops(rt: &impl Abort, alloc: Global, too_much: bool) {
             .extend_texts(with_hint(&[letters(20), letters(4), "b", ""], too_much))
             .is_err()
     );
-    assert_inline(rt, &value, letters(24));
+    assert_eq!(rt; Seen::of(&value), Seen::inline(letters(24)));
     assert!(rt; value.extend(with_hint(&["", "b"], too_much)).is_err());
     assert!(rt; value.extend(with_hint(&['b'], too_much)).is_err());
-    assert_inline(rt, &value, letters(24));
+    assert_eq!(rt; Seen::of(&value), Seen::inline(letters(24)));
     let mut value = CompactString::default(alloc);
     assert!(rt;
         value
             .extend_chars(with_hint(&['€'; 9], too_much).copied())
             .is_err()
     );
-    assert_inline(rt, &value, "€€€€€€€€");
+    assert_eq!(rt; Seen::of(&value), Seen::inline("€€€€€€€€"));
 }
 
 #[test]
 fn an_extension_stops_at_what_is_refused(rt: HostRuntime) {
-    let hog = take_all(&rt, rt.alloc());
+    let hog = take_all(rt.alloc()).expect(&rt, "room for the list of blocks");
     assert_stops(&rt, rt.alloc(), false);
     assert_stops(&rt, rt.alloc(), true);
     drop(hog);
@@ -95,13 +99,13 @@ fn an_extension_stops_at_what_is_refused(rt: HostRuntime) {
 fn a_string_stops_at_the_value_that_is_refused(rt: HostRuntime) {
     let alloc = rt.alloc();
     let values = [
-        copied(&rt, alloc, "ab"),
-        copied(&rt, alloc, letters(80)),
-        copied(&rt, alloc, "c"),
+        CompactString::new(alloc, "ab").expect(&rt, "memory"),
+        CompactString::new(alloc, letters(80)).expect(&rt, "memory"),
+        CompactString::new(alloc, "c").expect(&rt, "memory"),
     ];
     let mut first = String::with_capacity(alloc, 40).expect(&rt, "memory");
     let mut second = String::with_capacity(alloc, 40).expect(&rt, "memory");
-    let hog = take_all(&rt, alloc);
+    let hog = take_all(alloc).expect(&rt, "room for the list of blocks");
     assert!(rt; append_all(&mut first, with_hint(&values, false)).is_err());
     assert!(rt; append_all(&mut second, with_hint(&values, true)).is_err());
     drop(hog);

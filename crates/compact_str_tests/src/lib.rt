@@ -7,8 +7,6 @@ mod buffers;
 #[cfg(test)]
 mod changed;
 #[cfg(test)]
-mod checks;
-#[cfg(test)]
 mod cloned;
 #[cfg(test)]
 mod collected;

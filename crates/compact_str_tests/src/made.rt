@@ -1,8 +1,8 @@
 //! Values as they are made, with ample memory.
 
-use crate::checks::{assert_heap, assert_inline, assert_seen, assert_static, buffered};
 use compact_str::CompactString;
-use compact_testing::values::{lasting, letters};
+use compact_testing::seen::Seen;
+use compact_testing::values::{lasting, letters, string_with_room};
 use std::borrow::CowStr;
 use std::mem::size_of;
 
@@ -18,21 +18,21 @@ fn texts_are_copied_into_just_their_room(rt: HostRuntime) {
     ] {
         let text = letters(count);
         let made = CompactString::new(rt.alloc(), text).expect(&rt, "memory");
-        assert_seen(&rt, &made, place, capacity, text);
+        assert_eq!(rt; Seen::of(&made), Seen::at(place, capacity, text));
         let made = CompactString::try_new(rt.alloc(), text).expect(&rt, "memory");
-        assert_seen(&rt, &made, place, capacity, text);
+        assert_eq!(rt; Seen::of(&made), Seen::at(place, capacity, text));
         let made = CompactString::from_str(rt.alloc(), text).expect(&rt, "memory");
-        assert_seen(&rt, &made, place, capacity, text);
+        assert_eq!(rt; Seen::of(&made), Seen::at(place, capacity, text));
     }
 }
 
 #[test]
 fn texts_of_the_program_are_static_if_they_are_long(rt: HostRuntime) {
     let value = lasting(rt.alloc(), 30);
-    assert_static(&rt, &value, 30);
+    assert_eq!(rt; Seen::of(&value), Seen::fixed(letters(30)));
     assert_eq!(rt; value.as_static_str(), Some(letters(30)));
     let short = CompactString::const_new(rt.alloc(), "abc");
-    assert_inline(&rt, &short, "abc");
+    assert_eq!(rt; Seen::of(&short), Seen::inline("abc"));
 }
 
 #[test]
@@ -44,27 +44,33 @@ fn strings_are_taken_over_or_move_inline(rt: HostRuntime) {
         (31, letters(30), "heap", 31),
         (100, letters(30), "heap", 100),
     ] {
-        let value = CompactString::from(buffered(&rt, rt.alloc(), room, text));
-        assert_seen(&rt, &value, place, capacity, text);
-        let owned = CowStr::Owned(buffered(&rt, rt.alloc(), room, text));
+        let value = CompactString::from(string_with_room(rt.alloc(), room, text).expect(
+            &rt, "memory",
+        ));
+        assert_eq!(rt; Seen::of(&value), Seen::at(place, capacity, text));
+        let owned = CowStr::Owned(string_with_room(rt.alloc(), room, text).expect(&rt, "memory"));
         let value = CompactString::from_cow(rt.alloc(), owned).expect(&rt, "memory");
-        assert_seen(&rt, &value, place, capacity, text);
+        assert_eq!(rt; Seen::of(&value), Seen::at(place, capacity, text));
     }
 }
 
 #[test]
 fn string_buffers_are_taken_over_with_short_texts_too(rt: HostRuntime) {
-    let none = CompactString::from_string_buffer(buffered(&rt, rt.alloc(), 100, ""));
-    assert_heap(&rt, &none, 100, 0);
+    let none = CompactString::from_string_buffer(string_with_room(rt.alloc(), 100, "").expect(
+        &rt, "memory",
+    ));
+    assert_eq!(rt; Seen::of(&none), Seen::heap(100, letters(0)));
     let unbuffered = CompactString::from_string_buffer(String::new(rt.alloc()));
-    assert_inline(&rt, &unbuffered, "");
+    assert_eq!(rt; Seen::of(&unbuffered), Seen::inline(""));
 }
 
 #[test]
 fn a_capacity_taken_over_is_not_raised(rt: HostRuntime) {
-    let mut value = CompactString::from(buffered(&rt, rt.alloc(), 26, letters(26)));
+    let mut value = CompactString::from(string_with_room(rt.alloc(), 26, letters(26)).expect(
+        &rt, "memory",
+    ));
     value.shrink_to_fit();
-    assert_heap(&rt, &value, 26, 26);
+    assert_eq!(rt; Seen::of(&value), Seen::heap(26, letters(26)));
 }
 
 #[test]

@@ -1,8 +1,8 @@
 //! Inline values as their 24 bytes, by rows that are written out.
 
-use crate::checks::{append, assert_inline, copied, empty};
 use crate::edits::truncate;
 use compact_str::CompactString;
+use compact_testing::seen::Seen;
 use compact_testing::values::{lasting, letters};
 use std::alloc::Global;
 use std::process::Abort;
@@ -25,13 +25,13 @@ pub fn is_packed(rt: &impl Abort, alloc: Global, value: &CompactString) {
     assert!(rt; len <= 24);
     assert_eq!(rt; &bytes[..len], text.as_bytes());
     assert!(rt; len == 24 || bytes[23] as usize == 192 + len);
-    assert_inline(rt, &read(rt, alloc, &bytes), text);
+    assert_eq!(rt; Seen::of(&read(rt, alloc, &bytes)), Seen::inline(text));
 }
 
 /// The same of a value that is made of the text at once, where zeros stand between the text and its length.
 fn is_packed_anew(rt: &impl Abort, alloc: Global, value: &CompactString) {
     is_packed(rt, alloc, value);
-    let made = copied(rt, alloc, value.as_str());
+    let made = CompactString::new(alloc, value.as_str()).expect(rt, "memory");
     is_packed(rt, alloc, &made);
     let bytes = bytes_of(rt, &made);
     let len = made.len();
@@ -51,15 +51,24 @@ fn rows_of_made_values(rt: HostRuntime) {
         (letters(23), b"aaaaaaaaaaaaaaaaaaaaaaa\xD7"),
         ("i am 24 characters long!", b"i am 24 characters long!"),
     ] {
-        assert_eq!(rt; &bytes_of(&rt, &copied(&rt, rt.alloc(), text)), row);
+        assert_eq!(rt;
+            &bytes_of(
+                &rt,
+                &CompactString::new(rt.alloc(), text).expect(&rt, "memory")
+            ),
+            row
+        );
     }
 }
 
 #[test]
 fn the_last_byte_of_24_is_of_the_text_or_its_length(rt: HostRuntime) {
-    let euros = bytes_of(&rt, &copied(&rt, rt.alloc(), "€€€€€€€€"));
+    let euros = bytes_of(
+        &rt,
+        &CompactString::new(rt.alloc(), "€€€€€€€€").expect(&rt, "memory"),
+    );
     assert_eq!(rt; euros[23], 0xAC);
-    let mut cut = copied(&rt, rt.alloc(), letters(24));
+    let mut cut = CompactString::new(rt.alloc(), letters(24)).expect(&rt, "memory");
     truncate(&rt, &mut cut, 3);
     assert_eq!(rt; bytes_of(&rt, &cut)[23], 0xC3);
     is_packed(&rt, rt.alloc(), &cut);
@@ -68,21 +77,39 @@ fn the_last_byte_of_24_is_of_the_text_or_its_length(rt: HostRuntime) {
 #[test]
 fn only_inline_values_have_the_bytes(rt: HostRuntime) {
     assert_eq!(rt; lasting(rt.alloc(), 25).packed(), None);
-    assert_eq!(rt; copied(&rt, rt.alloc(), letters(25)).packed(), None);
-    assert_eq!(rt; empty(&rt, rt.alloc(), 25).packed(), None);
+    assert_eq!(rt;
+        CompactString::new(rt.alloc(), letters(25))
+            .expect(&rt, "memory")
+            .packed(),
+        None
+    );
+    assert_eq!(rt;
+        CompactString::with_capacity(rt.alloc(), 25)
+            .expect(&rt, "memory")
+            .packed(),
+        None
+    );
     assert!(rt; lasting(rt.alloc(), 24).packed().is_some());
-    assert!(rt; copied(&rt, rt.alloc(), letters(24)).packed().is_some());
+    assert!(rt;
+        CompactString::new(rt.alloc(), letters(24))
+            .expect(&rt, "memory")
+            .packed()
+            .is_some()
+    );
 }
 
 #[test]
 fn bytes_that_stand_for_a_text_are_read(rt: HostRuntime) {
-    assert_inline(&rt, &read(&rt, rt.alloc(), &[0x61; 24]), letters(24));
+    assert_eq!(rt;
+        Seen::of(&read(&rt, rt.alloc(), &[0x61; 24])),
+        Seen::inline(letters(24))
+    );
     let mut row = [0xFF; 24];
     row[0] = 0x61;
     row[23] = 0xC1;
-    assert_inline(&rt, &read(&rt, rt.alloc(), &row), "a");
+    assert_eq!(rt; Seen::of(&read(&rt, rt.alloc(), &row)), Seen::inline("a"));
     row[23] = 0xC0;
-    assert_inline(&rt, &read(&rt, rt.alloc(), &row), "");
+    assert_eq!(rt; Seen::of(&read(&rt, rt.alloc(), &row)), Seen::inline(""));
 }
 
 #[test]
@@ -101,26 +128,28 @@ fn each_length_is_packed(rt: HostRuntime) {
     let mut value = CompactString::default(rt.alloc());
     is_packed_anew(&rt, rt.alloc(), &value);
     for count in 0..24u8 {
-        append(
-            &rt,
-            &mut value,
-            "abcdefghijklmnopqrstuvwx"
-                .get(count as usize..count as usize + 1)
-                .unwrap_or(""),
-        );
+        value
+            .push_str(
+                "abcdefghijklmnopqrstuvwx"
+                    .get(count as usize..count as usize + 1)
+                    .unwrap_or(""),
+            )
+            .expect(&rt, "memory");
         is_packed_anew(&rt, rt.alloc(), &value);
     }
-    assert_inline(&rt, &value, "abcdefghijklmnopqrstuvwx");
+    assert_eq!(rt; Seen::of(&value), Seen::inline("abcdefghijklmnopqrstuvwx"));
 }
 
 #[test]
 fn each_length_is_cut(rt: HostRuntime) {
-    let mut value = copied(&rt, rt.alloc(), "abcdefghijklmnopqrstuvwx");
+    let mut value = CompactString::new(rt.alloc(), "abcdefghijklmnopqrstuvwx").expect(
+        &rt, "memory",
+    );
     for _ in 0..24u8 {
         assert!(rt; value.pop().is_some());
         is_packed_anew(&rt, rt.alloc(), &value);
     }
-    assert_inline(&rt, &value, "");
+    assert_eq!(rt; Seen::of(&value), Seen::inline(""));
 }
 
 #[test]
@@ -139,12 +168,12 @@ fn a_character_ends_at_the_last_byte_or_one_or_two_before_it(rt: HostRuntime) {
         (21, "€"),
         (20, "𝄞"),
     ] {
-        let mut value = copied(&rt, rt.alloc(), letters(count));
-        append(&rt, &mut value, last);
+        let mut value = CompactString::new(rt.alloc(), letters(count)).expect(&rt, "memory");
+        value.push_str(last).expect(&rt, "memory");
         assert_eq!(rt; value.len(), count.saturating_add(last.len()));
         is_packed_anew(&rt, rt.alloc(), &value);
         assert_eq!(rt; value.pop(), last.chars().next());
-        assert_inline(&rt, &value, letters(count));
+        assert_eq!(rt; Seen::of(&value), Seen::inline(letters(count)));
         is_packed_anew(&rt, rt.alloc(), &value);
     }
 }
@@ -158,7 +187,7 @@ fn what_stands_behind_a_text_is_not_read(rt: HostRuntime) {
             row[place] = 0x61;
         }
         let value = read(&rt, rt.alloc(), &row);
-        assert_inline(&rt, &value, letters(count as usize));
+        assert_eq!(rt; Seen::of(&value), Seen::inline(letters(count as usize)));
         is_packed_anew(&rt, rt.alloc(), &value);
     }
 }
@@ -166,21 +195,29 @@ fn what_stands_behind_a_text_is_not_read(rt: HostRuntime) {
 /// Wipes a value, and asserts that its bytes are those of the empty text.
 fn is_wiped(rt: &impl Abort, alloc: Global, mut value: CompactString) {
     value.zeroize();
-    assert_inline(rt, &value, "");
+    assert_eq!(rt; Seen::of(&value), Seen::inline(""));
     let row = b"\0\0\0\0\0\0\0\0\0\0\0\0\0\0\0\0\0\0\0\0\0\0\0\xC0";
     assert_eq!(rt; &bytes_of(rt, &value), row);
-    append(rt, &mut value, "ab");
+    value.push_str("ab").expect(rt, "memory");
     is_packed(rt, alloc, &value);
 }
 
 #[test]
 fn a_wiped_value_has_zeros_and_the_mark_of_no_text(rt: HostRuntime) {
     for count in 0..25 {
-        is_wiped(&rt, rt.alloc(), copied(&rt, rt.alloc(), letters(count)));
-        let mut cut = copied(&rt, rt.alloc(), letters(24));
+        is_wiped(
+            &rt,
+            rt.alloc(),
+            CompactString::new(rt.alloc(), letters(count)).expect(&rt, "memory"),
+        );
+        let mut cut = CompactString::new(rt.alloc(), letters(24)).expect(&rt, "memory");
         truncate(&rt, &mut cut, count);
         is_wiped(&rt, rt.alloc(), cut);
     }
-    is_wiped(&rt, rt.alloc(), copied(&rt, rt.alloc(), "€€€€€€€€"));
+    is_wiped(
+        &rt,
+        rt.alloc(),
+        CompactString::new(rt.alloc(), "€€€€€€€€").expect(&rt, "memory"),
+    );
     is_wiped(&rt, rt.alloc(), lasting(rt.alloc(), 30));
 }

@@ -1,11 +1,11 @@
 //! Inline values that grow from 23 bytes to 24, where the text takes the byte of its length, and back, by each edit.
 
-use crate::checks::{append, assert_inline, copied, empty};
 use crate::edits::{
     drain_out, insert, insert_str, push, remove, repeated, replace, split, truncate,
 };
 use crate::packed::is_packed;
 use compact_str::CompactString;
+use compact_testing::seen::Seen;
 use compact_testing::values::{lasting, letters};
 use std::alloc::Global;
 use std::fmt::Write;
@@ -14,24 +14,24 @@ use std::process::Abort;
 
 /// 23 letters.
 fn short(rt: &impl Abort, alloc: Global) -> CompactString {
-    copied(rt, alloc, "abcdefghijklmnopqrstuvw")
+    CompactString::new(alloc, "abcdefghijklmnopqrstuvw").expect(rt, "memory")
 }
 
 /// 24 letters.
 fn full(rt: &impl Abort, alloc: Global) -> CompactString {
-    copied(rt, alloc, "abcdefghijklmnopqrstuvwx")
+    CompactString::new(alloc, "abcdefghijklmnopqrstuvwx").expect(rt, "memory")
 }
 
 /// Asserts that a value is inline with this text, and its bytes with it.
 fn is(rt: &impl Abort, alloc: Global, value: &CompactString, text: &str) {
-    assert_inline(rt, value, text);
+    assert_eq!(rt; Seen::of(value), Seen::inline(text));
     is_packed(rt, alloc, value);
 }
 
 #[test]
 fn appends_and_pops(rt: HostRuntime) {
     let mut value = short(&rt, rt.alloc());
-    append(&rt, &mut value, "x");
+    value.push_str("x").expect(&rt, "memory");
     is(&rt, rt.alloc(), &value, "abcdefghijklmnopqrstuvwx");
     assert_eq!(rt; value.pop(), Some('x'));
     is(&rt, rt.alloc(), &value, "abcdefghijklmnopqrstuvw");
@@ -62,7 +62,7 @@ fn characters_are_put_in_and_taken_out(rt: HostRuntime) {
 
 #[test]
 fn texts_are_put_in(rt: HostRuntime) {
-    let mut value = copied(&rt, rt.alloc(), letters(21));
+    let mut value = CompactString::new(rt.alloc(), letters(21)).expect(&rt, "memory");
     insert_str(&rt, &mut value, 1, "");
     insert_str(&rt, &mut value, 20, "€");
     is(&rt, rt.alloc(), &value, "aaaaaaaaaaaaaaaaaaaa€a");
@@ -103,7 +103,7 @@ fn a_full_text_is_cleared_copied_and_moved(rt: HostRuntime) {
     value.clear();
     is(&rt, rt.alloc(), &value, "");
     is(&rt, rt.alloc(), &copy, "abcdefghijklmnopqrstuvwx");
-    append(&rt, &mut value, letters(25));
+    value.push_str(letters(25)).expect(&rt, "memory");
     assert_eq!(rt; value.packed(), None);
     truncate(&rt, &mut value, 24);
     assert_eq!(rt; value.packed(), None);
@@ -174,7 +174,7 @@ fn a_full_text_takes_the_place_of_another(rt: HostRuntime) {
         .clone_from(&short(&rt, rt.alloc()))
         .expect(&rt, "memory");
     is(&rt, rt.alloc(), &value, "abcdefghijklmnopqrstuvw");
-    let twelve = copied(&rt, rt.alloc(), letters(12));
+    let twelve = CompactString::new(rt.alloc(), letters(12)).expect(&rt, "memory");
     is(&rt, rt.alloc(), &repeated(&rt, &twelve, 2), letters(24));
 }
 
@@ -197,8 +197,8 @@ fn texts_of_other_places_become_inline(rt: HostRuntime) {
         truncate(&rt, &mut value, count);
         value.reserve(0).expect(&rt, "memory");
         is(&rt, rt.alloc(), &value, letters(count));
-        let mut value = empty(&rt, rt.alloc(), 40);
-        append(&rt, &mut value, letters(count));
+        let mut value = CompactString::with_capacity(rt.alloc(), 40).expect(&rt, "memory");
+        value.push_str(letters(count)).expect(&rt, "memory");
         value.shrink_to_fit();
         is(&rt, rt.alloc(), &value, letters(count));
     }

@@ -1,18 +1,18 @@
 //! Values as they are edited at their end and by byte position, with ample memory. Which place and capacity they then have is
 //! tested in `compact_refusal_tests`, where each edit is also granted its memory.
 
-use crate::checks::{assert_heap, assert_inline, assert_seen, assert_static, copied, empty};
 use crate::edits::{insert, insert_str, push, remove, repeated, replace, split, truncate};
 use compact_str::CompactString;
+use compact_testing::seen::Seen;
 use compact_testing::values::{lasting, letters};
 use std::ops::Bound::{Excluded, Included, Unbounded};
 
 #[test]
 fn characters_are_pushed_and_popped(rt: HostRuntime) {
-    let mut value = empty(&rt, rt.alloc(), 0);
+    let mut value = CompactString::with_capacity(rt.alloc(), 0).expect(&rt, "memory");
     for (character, text) in [('a', "a"), ('ä', "aä"), ('𝄞', "aä𝄞")] {
         push(&rt, &mut value, character);
-        assert_inline(&rt, &value, text);
+        assert_eq!(rt; Seen::of(&value), Seen::inline(text));
     }
     for (character, text) in [
         (Some('𝄞'), "aä"),
@@ -21,83 +21,98 @@ fn characters_are_pushed_and_popped(rt: HostRuntime) {
         (None, ""),
     ] {
         assert_eq!(rt; value.pop(), character);
-        assert_inline(&rt, &value, text);
+        assert_eq!(rt; Seen::of(&value), Seen::inline(text));
     }
 }
 
 #[test]
 fn characters_and_texts_are_inserted(rt: HostRuntime) {
-    let mut value = copied(&rt, rt.alloc(), "äb");
+    let mut value = CompactString::new(rt.alloc(), "äb").expect(&rt, "memory");
     for (index, character, text) in [(2, '𝄞', "ä𝄞b"), (0, 'x', "xä𝄞b"), (8, 'y', "xä𝄞by")] {
         insert(&rt, &mut value, index, character);
-        assert_inline(&rt, &value, text);
+        assert_eq!(rt; Seen::of(&value), Seen::inline(text));
     }
     insert_str(&rt, &mut value, 3, "cd");
-    assert_inline(&rt, &value, "xäcd𝄞by");
+    assert_eq!(rt; Seen::of(&value), Seen::inline("xäcd𝄞by"));
 }
 
 #[test]
 fn characters_are_removed(rt: HostRuntime) {
-    let mut value = copied(&rt, rt.alloc(), "äb𝄞");
+    let mut value = CompactString::new(rt.alloc(), "äb𝄞").expect(&rt, "memory");
     for (index, character, text) in [(2, 'b', "ä𝄞"), (0, 'ä', "𝄞")] {
         assert_eq!(rt; remove(&rt, &mut value, index), character);
-        assert_inline(&rt, &value, text);
+        assert_eq!(rt; Seen::of(&value), Seen::inline(text));
     }
 }
 
 #[test]
 fn texts_are_truncated(rt: HostRuntime) {
-    let mut value = copied(&rt, rt.alloc(), "äb𝄞");
+    let mut value = CompactString::new(rt.alloc(), "äb𝄞").expect(&rt, "memory");
     for (len, text) in [(9, "äb𝄞"), (7, "äb𝄞"), (2, "ä"), (0, "")] {
         truncate(&rt, &mut value, len);
-        assert_inline(&rt, &value, text);
+        assert_eq!(rt; Seen::of(&value), Seen::inline(text));
     }
 }
 
 #[test]
 fn a_heap_text_is_split_and_keeps_its_buffer(rt: HostRuntime) {
-    let mut value = copied(&rt, rt.alloc(), letters(60));
-    assert_heap(&rt, &split(&rt, &mut value, 10), 50, 50);
-    assert_heap(&rt, &value, 60, 10);
+    let mut value = CompactString::new(rt.alloc(), letters(60)).expect(&rt, "memory");
+    assert_eq!(rt;
+        Seen::of(&split(&rt, &mut value, 10)),
+        Seen::heap(50, letters(50))
+    );
+    assert_eq!(rt; Seen::of(&value), Seen::heap(60, letters(10)));
 }
 
 #[test]
 fn texts_of_the_program_are_split(rt: HostRuntime) {
     let alloc = rt.alloc();
     let mut value = CompactString::const_new(alloc, "Hello, world!");
-    assert_inline(&rt, &split(&rt, &mut value, 5), ", world!");
-    assert_inline(&rt, &value, "Hello");
+    assert_eq!(rt;
+        Seen::of(&split(&rt, &mut value, 5)),
+        Seen::inline(", world!")
+    );
+    assert_eq!(rt; Seen::of(&value), Seen::inline("Hello"));
     let mut value = lasting(alloc, 30);
-    assert_static(&rt, &split(&rt, &mut value, 3), 27);
-    assert_static(&rt, &value, 3);
+    assert_eq!(rt;
+        Seen::of(&split(&rt, &mut value, 3)),
+        Seen::fixed(letters(27))
+    );
+    assert_eq!(rt; Seen::of(&value), Seen::fixed(letters(3)));
     let mut value = lasting(alloc, 30);
-    assert_inline(&rt, &split(&rt, &mut value, 6), letters(24));
-    assert_static(&rt, &value, 6);
+    assert_eq!(rt;
+        Seen::of(&split(&rt, &mut value, 6)),
+        Seen::inline(letters(24))
+    );
+    assert_eq!(rt; Seen::of(&value), Seen::fixed(letters(6)));
 }
 
 #[test]
 fn a_greeting_is_replaced_part_by_part(rt: HostRuntime) {
-    let mut value = copied(&rt, rt.alloc(), "Hello, world!");
+    let mut value = CompactString::new(rt.alloc(), "Hello, world!").expect(&rt, "memory");
     replace(&rt, &mut value, Included(7), Excluded(12), "WORLD");
-    assert_inline(&rt, &value, "Hello, WORLD!");
+    assert_eq!(rt; Seen::of(&value), Seen::inline("Hello, WORLD!"));
     replace(&rt, &mut value, Included(7), Included(11), "you");
-    assert_inline(&rt, &value, "Hello, you!");
+    assert_eq!(rt; Seen::of(&value), Seen::inline("Hello, you!"));
     let part = "! Is it me you're looking for?";
     replace(&rt, &mut value, Included(5), Unbounded, part);
     let text = "Hello! Is it me you're looking for?";
-    assert_seen(&rt, &value, "heap", 35, text);
+    assert_eq!(rt; Seen::of(&value), Seen::at("heap", 35, text));
 }
 
 #[test]
 fn texts_are_repeated(rt: HostRuntime) {
-    let value = copied(&rt, rt.alloc(), "abc");
+    let value = CompactString::new(rt.alloc(), "abc").expect(&rt, "memory");
     for (count, place, capacity, text) in [
         (0, "inline", 24, ""),
         (1, "inline", 24, "abc"),
         (8, "inline", 24, "abcabcabcabcabcabcabcabc"),
         (9, "heap", 32, "abcabcabcabcabcabcabcabcabc"),
     ] {
-        assert_seen(&rt, &repeated(&rt, &value, count), place, capacity, text);
+        assert_eq!(rt;
+            Seen::of(&repeated(&rt, &value, count)),
+            Seen::at(place, capacity, text)
+        );
     }
 }
 
@@ -114,9 +129,9 @@ fn ranges_are_replaced(rt: HostRuntime) {
         ("Xcdef", Unbounded, Excluded(1), "YZ", "YZcdef"),
         ("YZcdef", Unbounded, Unbounded, "ä", "ä"),
     ] {
-        let mut value = copied(&rt, rt.alloc(), before);
+        let mut value = CompactString::new(rt.alloc(), before).expect(&rt, "memory");
         replace(&rt, &mut value, start, end, text);
-        assert_inline(&rt, &value, after);
+        assert_eq!(rt; Seen::of(&value), Seen::inline(after));
     }
 }
 
@@ -124,13 +139,13 @@ fn ranges_are_replaced(rt: HostRuntime) {
 fn an_empty_static_text_repeated_once_is_inline(rt: HostRuntime) {
     let mut value = lasting(rt.alloc(), 30);
     value.clear();
-    assert_static(&rt, &value, 0);
-    assert_inline(&rt, &repeated(&rt, &value, 1), "");
+    assert_eq!(rt; Seen::of(&value), Seen::fixed(letters(0)));
+    assert_eq!(rt; Seen::of(&repeated(&rt, &value, 1)), Seen::inline(""));
 }
 
 #[test]
 fn boundaries_are_where_characters_begin_and_end(rt: HostRuntime) {
-    let value = copied(&rt, rt.alloc(), "äb𝄞");
+    let value = CompactString::new(rt.alloc(), "äb𝄞").expect(&rt, "memory");
     for (index, boundary) in [
         (0, true),
         (1, false),
@@ -148,7 +163,7 @@ fn boundaries_are_where_characters_begin_and_end(rt: HostRuntime) {
 
 #[test]
 fn bounds_make_a_range_or_none(rt: HostRuntime) {
-    let value = copied(&rt, rt.alloc(), "äb");
+    let value = CompactString::new(rt.alloc(), "äb").expect(&rt, "memory");
     for (start, end, range) in [
         (Excluded(1), Excluded(3), Some((2, 3))),
         (Unbounded, Included(2), Some((0, 3))),

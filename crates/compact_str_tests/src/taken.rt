@@ -1,7 +1,8 @@
 //! What is taken out of a text, and what of it is changed.
 
-use crate::checks::{append, assert_heap, assert_inline, assert_static, copied, take_all};
 use compact_str::{CompactString, Drain, Standard};
+use compact_testing::memory::take_all;
+use compact_testing::seen::Seen;
 use compact_testing::values::{lasting, letters};
 use std::fmt::Write;
 use std::ops::Bound;
@@ -26,21 +27,21 @@ fn greeted<'a>(rt: &impl Abort, value: &'a mut CompactString) -> Drain<'a, Stand
 
 #[test]
 fn a_drain_gives_its_characters_from_both_ends(rt: HostRuntime) {
-    let mut value = copied(&rt, rt.alloc(), "Hello, world!");
+    let mut value = CompactString::new(rt.alloc(), "Hello, world!").expect(&rt, "memory");
     let mut drained = greeted(&rt, &mut value);
     assert!(rt; drained.size_hint() == (2, Some(7)));
     assert_eq!(rt; drained.next(), Some(','));
     assert_eq!(rt; drained.next_back(), Some('d'));
     assert_eq!(rt; drained.as_str(), " worl");
     drop(drained);
-    assert_inline(&rt, &value, "Hello!");
+    assert_eq!(rt; Seen::of(&value), Seen::inline("Hello!"));
 }
 
 #[test]
 fn a_drain_is_counted(rt: HostRuntime) {
-    let mut value = copied(&rt, rt.alloc(), "Hello, world!");
+    let mut value = CompactString::new(rt.alloc(), "Hello, world!").expect(&rt, "memory");
     assert_eq!(rt; greeted(&rt, &mut value).as_str().chars().count(), 7);
-    assert_inline(&rt, &value, "Hello!");
+    assert_eq!(rt; Seen::of(&value), Seen::inline("Hello!"));
 }
 
 /// How many characters are drained. That a number holds it, the length of what is left tells the proof.
@@ -53,48 +54,51 @@ fn drained_count(rt: &impl Abort, value: &mut CompactString) -> usize {
 
 #[test]
 fn a_drain_counts_what_is_left(rt: HostRuntime) {
-    let mut value = copied(&rt, rt.alloc(), "Hello, world!");
+    let mut value = CompactString::new(rt.alloc(), "Hello, world!").expect(&rt, "memory");
     assert_eq!(rt; drained_count(&rt, &mut value), 7);
-    assert_inline(&rt, &value, "Hello!");
+    assert_eq!(rt; Seen::of(&value), Seen::inline("Hello!"));
 }
 
 #[test]
 fn a_drain_shows_what_is_not_taken_yet(rt: HostRuntime) {
-    let mut value = copied(&rt, rt.alloc(), "Hello, world!");
+    let mut value = CompactString::new(rt.alloc(), "Hello, world!").expect(&rt, "memory");
     let mut drained = greeted(&rt, &mut value);
     assert_eq!(rt; drained.next(), Some(','));
     assert_eq!(rt; drained.as_str(), " world");
     drop(drained);
-    assert_inline(&rt, &value, "Hello!");
+    assert_eq!(rt; Seen::of(&value), Seen::inline("Hello!"));
 }
 
 #[test]
 fn the_last_of_a_drain_is_its_last(rt: HostRuntime) {
-    let mut value = copied(&rt, rt.alloc(), "Hello, world!");
+    let mut value = CompactString::new(rt.alloc(), "Hello, world!").expect(&rt, "memory");
     assert_eq!(rt; greeted(&rt, &mut value).last(), Some('d'));
-    assert_inline(&rt, &value, "Hello!");
+    assert_eq!(rt; Seen::of(&value), Seen::inline("Hello!"));
 }
 
 #[test]
 fn the_last_of_a_drain_from_the_back_is_its_first(rt: HostRuntime) {
-    let mut value = copied(&rt, rt.alloc(), "Hello, world!");
+    let mut value = CompactString::new(rt.alloc(), "Hello, world!").expect(&rt, "memory");
     assert_eq!(rt; greeted(&rt, &mut value).rev().last(), Some(','));
-    assert_inline(&rt, &value, "Hello!");
+    assert_eq!(rt; Seen::of(&value), Seen::inline("Hello!"));
 }
 
 #[test]
 fn a_drain_prints_what_is_left(rt: HostRuntime) {
-    let mut value = copied(&rt, rt.alloc(), "Hello, world!");
-    let mut printed = copied(&rt, rt.alloc(), "");
+    let mut value = CompactString::new(rt.alloc(), "Hello, world!").expect(&rt, "memory");
+    let mut printed = CompactString::new(rt.alloc(), "").expect(&rt, "memory");
     let drained = greeted(&rt, &mut value);
     assert!(rt; write!(printed, "{drained:>9}{drained:?}").is_ok());
     drop(drained);
-    assert_inline(&rt, &printed, ", worldDrain(\", world\")");
+    assert_eq!(rt;
+        Seen::of(&printed),
+        Seen::inline(", worldDrain(\", world\")")
+    );
 }
 
 #[test]
 fn the_ends_of_a_drain_meet(rt: HostRuntime) {
-    let mut value = copied(&rt, rt.alloc(), "𝄞🦄𝄢");
+    let mut value = CompactString::new(rt.alloc(), "𝄞🦄𝄢").expect(&rt, "memory");
     let mut drained = drain(&rt, &mut value, Unbounded, Unbounded);
     assert_eq!(rt; drained.next_back(), Some('𝄢'));
     assert_eq!(rt; drained.next(), Some('𝄞'));
@@ -103,32 +107,32 @@ fn the_ends_of_a_drain_meet(rt: HostRuntime) {
     assert_eq!(rt; drained.next_back(), None);
     assert_eq!(rt; drained.next(), None);
     drop(drained);
-    assert_inline(&rt, &value, "");
+    assert_eq!(rt; Seen::of(&value), Seen::inline(""));
 }
 
 #[test]
 fn bounds_of_a_drain_may_be_of_any_kind(rt: HostRuntime) {
-    let mut value = copied(&rt, rt.alloc(), "abcäef");
+    let mut value = CompactString::new(rt.alloc(), "abcäef").expect(&rt, "memory");
     drop(drain(&rt, &mut value, Excluded(0), Included(1)));
-    assert_inline(&rt, &value, "acäef");
+    assert_eq!(rt; Seen::of(&value), Seen::inline("acäef"));
     drop(drain(&rt, &mut value, Excluded(3), Unbounded));
-    assert_inline(&rt, &value, "acä");
+    assert_eq!(rt; Seen::of(&value), Seen::inline("acä"));
     drop(drain(&rt, &mut value, Unbounded, Excluded(2)));
-    assert_inline(&rt, &value, "ä");
+    assert_eq!(rt; Seen::of(&value), Seen::inline("ä"));
 }
 
 #[test]
 fn a_drain_of_nothing_makes_a_static_text_its_own(rt: HostRuntime) {
     let mut value = lasting(rt.alloc(), 30);
     drop(drain(&rt, &mut value, Included(0), Excluded(0)));
-    assert_heap(&rt, &value, 32, 30);
+    assert_eq!(rt; Seen::of(&value), Seen::heap(32, letters(30)));
     drop(drain(&rt, &mut value, Included(3), Excluded(27)));
-    assert_heap(&rt, &value, 32, 6);
+    assert_eq!(rt; Seen::of(&value), Seen::heap(32, letters(6)));
 }
 
 #[test]
 fn retain_asks_once_for_each_character(rt: HostRuntime) {
-    let mut value = copied(&rt, rt.alloc(), "äb𝄞d€");
+    let mut value = CompactString::new(rt.alloc(), "äb𝄞d€").expect(&rt, "memory");
     let mut asked: usize = 0;
     let kept = value.retain(|character| {
         asked = asked.saturating_add(1);
@@ -136,7 +140,7 @@ fn retain_asks_once_for_each_character(rt: HostRuntime) {
     });
     assert!(rt; kept.is_ok());
     assert_eq!(rt; asked, 5);
-    assert_inline(&rt, &value, "b𝄞€");
+    assert_eq!(rt; Seen::of(&value), Seen::inline("b𝄞€"));
 }
 
 #[test]
@@ -144,51 +148,51 @@ fn retaining_all_makes_a_static_text_its_own(rt: HostRuntime) {
     let mut value = lasting(rt.alloc(), 30);
     assert!(rt; value.is_char_boundary(10));
     value.truncate(10);
-    assert_static(&rt, &value, 10);
+    assert_eq!(rt; Seen::of(&value), Seen::fixed(letters(10)));
     assert!(rt; value.retain(|_| true).is_ok());
-    assert_inline(&rt, &value, letters(10));
+    assert_eq!(rt; Seen::of(&value), Seen::inline(letters(10)));
 }
 
 #[test]
 fn only_ascii_letters_change(rt: HostRuntime) {
-    let value = copied(&rt, rt.alloc(), "Grüße, Jürgen ❤");
+    let value = CompactString::new(rt.alloc(), "Grüße, Jürgen ❤").expect(&rt, "memory");
     let great = value.to_ascii_uppercase().expect(&rt, "memory");
-    assert_inline(&rt, &great, "GRüßE, JüRGEN ❤");
+    assert_eq!(rt; Seen::of(&great), Seen::inline("GRüßE, JüRGEN ❤"));
     let small = great.to_ascii_lowercase().expect(&rt, "memory");
-    assert_inline(&rt, &small, "grüße, jürgen ❤");
+    assert_eq!(rt; Seen::of(&small), Seen::inline("grüße, jürgen ❤"));
 }
 
 #[test]
 fn letters_change_in_place(rt: HostRuntime) {
-    let mut value = copied(&rt, rt.alloc(), "[AbZz`@{É]");
+    let mut value = CompactString::new(rt.alloc(), "[AbZz`@{É]").expect(&rt, "memory");
     assert!(rt; value.make_ascii_uppercase().is_ok());
-    assert_inline(&rt, &value, "[ABZZ`@{É]");
+    assert_eq!(rt; Seen::of(&value), Seen::inline("[ABZZ`@{É]"));
     assert!(rt; value.make_ascii_lowercase().is_ok());
-    assert_inline(&rt, &value, "[abzz`@{É]");
+    assert_eq!(rt; Seen::of(&value), Seen::inline("[abzz`@{É]"));
     let mut long = lasting(rt.alloc(), 30);
     assert!(rt; long.make_ascii_lowercase().is_ok());
-    assert_heap(&rt, &long, 32, 30);
+    assert_eq!(rt; Seen::of(&long), Seen::heap(32, letters(30)));
 }
 
 #[test]
 fn zeroize_empties_a_value_in_its_place(rt: HostRuntime) {
-    let mut value = copied(&rt, rt.alloc(), "secret");
+    let mut value = CompactString::new(rt.alloc(), "secret").expect(&rt, "memory");
     value.zeroize();
-    assert_inline(&rt, &value, "");
-    let mut long = copied(&rt, rt.alloc(), letters(40));
+    assert_eq!(rt; Seen::of(&value), Seen::inline(""));
+    let mut long = CompactString::new(rt.alloc(), letters(40)).expect(&rt, "memory");
     long.zeroize();
-    assert_heap(&rt, &long, 40, 0);
-    append(&rt, &mut long, "a");
-    assert_heap(&rt, &long, 40, 1);
+    assert_eq!(rt; Seen::of(&long), Seen::heap(40, letters(0)));
+    long.push_str("a").expect(&rt, "memory");
+    assert_eq!(rt; Seen::of(&long), Seen::heap(40, letters(1)));
     let mut borrowed = lasting(rt.alloc(), 30);
     borrowed.zeroize();
-    assert_inline(&rt, &borrowed, "");
+    assert_eq!(rt; Seen::of(&borrowed), Seen::inline(""));
 }
 
 #[test]
 fn a_refusal_of_retain_has_asked_nothing(rt: HostRuntime) {
     let mut value = lasting(rt.alloc(), 30);
-    let hog = take_all(&rt, rt.alloc());
+    let hog = take_all(rt.alloc()).expect(&rt, "room for the list of blocks");
     let mut asked = false;
     let kept = value.retain(|_| {
         asked = true;
@@ -197,17 +201,17 @@ fn a_refusal_of_retain_has_asked_nothing(rt: HostRuntime) {
     drop(hog);
     assert!(rt; kept.is_err());
     assert!(rt; !asked);
-    assert_static(&rt, &value, 30);
+    assert_eq!(rt; Seen::of(&value), Seen::fixed(letters(30)));
 }
 
 #[test]
 fn letters_of_a_long_text_are_refused(rt: HostRuntime) {
     let mut value = lasting(rt.alloc(), 30);
-    let hog = take_all(&rt, rt.alloc());
+    let hog = take_all(rt.alloc()).expect(&rt, "room for the list of blocks");
     assert!(rt; value.make_ascii_lowercase().is_err());
     assert!(rt; value.make_ascii_uppercase().is_err());
     assert!(rt; value.to_ascii_lowercase().is_err());
     assert!(rt; value.to_ascii_uppercase().is_err());
     drop(hog);
-    assert_static(&rt, &value, 30);
+    assert_eq!(rt; Seen::of(&value), Seen::fixed(letters(30)));
 }

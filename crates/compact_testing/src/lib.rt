@@ -6,4 +6,5 @@ pub mod memory;
 pub mod pieces;
 pub mod policies;
 pub mod random;
+pub mod seen;
 pub mod values;

@@ -15,7 +15,7 @@ impl Hog {
 }
 
 /// Takes the whole address space, in ever smaller blocks that nothing writes to.
-pub fn take_blocks(alloc: Global) -> Result<Hog, AllocError> {
+pub fn take_all(alloc: Global) -> Result<Hog, AllocError> {
     let mut blocks = Vec::with_capacity(alloc, 60_000)?;
     let mut size = 1usize << 46;
     for _ in 0..100_000 {

@@ -3,7 +3,7 @@
 //! No function here has a clause, so that the proof of a test carries nothing of the values that it looks at.
 
 use compact_str::{CompactString, Policy, PolicyString};
-use std::alloc::Global;
+use std::alloc::{AllocError, Global};
 
 /// So many letters `a`, at most 80. It is a function so that a proof need not carry each letter.
 pub fn letters(count: usize) -> &'static str {
@@ -15,6 +15,13 @@ pub fn letters(count: usize) -> &'static str {
 /// So many letters of the program.
 pub fn lasting(alloc: Global, count: usize) -> CompactString {
     CompactString::const_new(alloc, letters(count))
+}
+
+/// A text in a buffer of just that capacity.
+pub fn string_with_room(alloc: Global, capacity: usize, text: &str) -> Result<String, AllocError> {
+    let mut buffer = String::with_capacity(alloc, capacity)?;
+    buffer.push_str(text)?;
+    Ok(buffer)
 }
 
 /// The name of a value's place.

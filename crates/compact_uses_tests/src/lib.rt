@@ -2,8 +2,6 @@
 #![tactic(auto, using(compact_str::proofs::ForCallers::for_callers))]
 
 #[cfg(test)]
-mod checks;
-#[cfg(test)]
 mod records;
 #[cfg(test)]
 mod report;

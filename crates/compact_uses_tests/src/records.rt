@@ -1,7 +1,7 @@
 //! Records: fields of a line, what is written and read back, faults with their lines, and a reader that fails.
 
-use crate::checks::{copied, spare, take_all};
 use compact_str::CompactString;
+use compact_testing::memory::take_all;
 use compact_uses::{
     Fault, LineError, RecordsCause, RecordsError, fields_of, line_of, read_records,
 };
@@ -39,13 +39,22 @@ fn assert_fields(rt: &impl Abort, fields: &Vec<CompactString>, texts: &[&str]) {
 
 /// Asserts the fields of a line.
 fn assert_line(rt: &impl Abort, alloc: Global, line: &str, texts: &[&str]) {
-    let fields = fields_of(alloc, ',', &copied(rt, alloc, line)).expect(rt, "a record");
+    let fields = fields_of(
+        alloc,
+        ',',
+        &CompactString::new(alloc, line).expect(rt, "memory"),
+    )
+    .expect(rt, "a record");
     assert_fields(rt, &fields, texts);
 }
 
 /// Asserts that a line is no record.
 fn assert_fault(rt: &impl Abort, alloc: Global, line: &str, fault: Fault) {
-    let fields = fields_of(alloc, ',', &copied(rt, alloc, line));
+    let fields = fields_of(
+        alloc,
+        ',',
+        &CompactString::new(alloc, line).expect(rt, "memory"),
+    );
     assert!(rt; matches!(fields, Err(LineError::Fault(told)) if told == fault));
 }
 
@@ -63,7 +72,10 @@ fn a_line_has_its_fields(rt: HostRuntime) {
 #[test]
 fn fields_are_written_in_quotes(rt: HostRuntime) {
     let alloc = rt.alloc();
-    let fields = [copied(&rt, alloc, "a"), copied(&rt, alloc, "b\",")];
+    let fields = [
+        CompactString::new(alloc, "a").expect(&rt, "memory"),
+        CompactString::new(alloc, "b\",").expect(&rt, "memory"),
+    ];
     let line = line_of(alloc, ',', &fields).expect(&rt, "memory");
     assert_eq!(rt; line.as_str(), "\"a\",\"b\"\",\"");
 }
@@ -119,7 +131,7 @@ fn with_no_memory_nothing_is_read(rt: HostRuntime) {
     let alloc = rt.alloc();
     let mut records = Vec::new(alloc);
     let mut input = "a,b\n".as_bytes();
-    let hog = take_all(&rt, alloc);
+    let hog = take_all(alloc).expect(&rt, "room for the list of blocks");
     let read = read_records(alloc, ',', &mut input, &mut records);
     drop(hog);
     let cause = RecordsCause::Reserve;
@@ -133,8 +145,8 @@ fn no_memory_for_the_bytes_of_a_line_is_told_as_such(rt: HostRuntime) {
     let alloc = rt.alloc();
     let mut records = Vec::new(alloc);
     let mut input = "a,b\n".as_bytes();
-    let room = spare(&rt, alloc, 8192);
-    let hog = take_all(&rt, alloc);
+    let room = Vec::<u8>::with_capacity(alloc, 8192).expect(&rt, "a spare block");
+    let hog = take_all(alloc).expect(&rt, "room for the list of blocks");
     drop(room);
     let read = read_records(alloc, ',', &mut input, &mut records);
     drop(hog);

@@ -1,7 +1,7 @@
 //! The report: columns counted in characters, records that are too short, and refused memory.
 
-use crate::checks::{copied, take_all};
 use compact_str::CompactString;
+use compact_testing::memory::take_all;
 use compact_uses::aligned_rows;
 use std::alloc::Global;
 use std::process::Abort;
@@ -10,7 +10,9 @@ use std::process::Abort;
 fn fields_of(rt: &impl Abort, alloc: Global, texts: &[&str]) -> Vec<CompactString> {
     let mut fields = Vec::new(alloc);
     for text in texts {
-        fields.push(copied(rt, alloc, text)).expect(rt, "memory");
+        fields
+            .push(CompactString::new(alloc, text).expect(rt, "memory"))
+            .expect(rt, "memory");
     }
     fields
 }
@@ -45,7 +47,7 @@ fn no_records_have_no_lines(rt: HostRuntime) {
 fn a_refused_report_leaves_the_records(rt: HostRuntime) {
     let alloc = rt.alloc();
     let table = [fields_of(&rt, alloc, &["a", "b"])];
-    let hog = take_all(&rt, alloc);
+    let hog = take_all(alloc).expect(&rt, "room for the list of blocks");
     let lines = aligned_rows(alloc, &table);
     drop(hog);
     assert!(rt; lines.is_err());

@@ -1,8 +1,8 @@
 //! The tokenizer: characters of each width, and refused memory.
 
-use crate::checks::{copied, take_all};
 use compact_edit::{InternError, Interner};
 use compact_str::CompactString;
+use compact_testing::memory::take_all;
 use compact_testing::values::letters;
 use compact_uses::{Kind, Token, tokenize};
 use std::alloc::Global;
@@ -20,7 +20,12 @@ fn assert_name(rt: &impl Abort, names: &Interner, number: u32, name: Option<&str
 
 /// The tokens of a text, for which there is memory.
 fn tokens_of(rt: &impl Abort, alloc: Global, names: &mut Interner, text: &str) -> Vec<Token> {
-    tokenize(alloc, names, &copied(rt, alloc, text)).expect(rt, "memory")
+    tokenize(
+        alloc,
+        names,
+        &CompactString::new(alloc, text).expect(rt, "memory"),
+    )
+    .expect(rt, "memory")
 }
 
 /// The kind that a letter stands for.
@@ -61,7 +66,7 @@ fn an_empty_text_has_no_tokens(rt: HostRuntime) {
 
 /// Asserts that a text is refused while there is no memory, and that the one name stands.
 fn is_refused(rt: &impl Abort, alloc: Global, names: &mut Interner, text: &CompactString) {
-    let hog = take_all(rt, alloc);
+    let hog = take_all(alloc).expect(rt, "room for the list of blocks");
     let tokens = tokenize(alloc, names, text);
     drop(hog);
     assert!(rt; matches!(tokens, Err(InternError::Reserve(_))));
@@ -74,7 +79,7 @@ fn a_refused_list_of_tokens_or_a_long_word_leaves_the_names(rt: HostRuntime) {
     let mut names = Interner::new(rt.alloc());
     assert_eq!(rt; names.intern("ab").expect(&rt, "memory"), 0);
     for text in ["ab ab", letters(30)] {
-        let text = copied(&rt, rt.alloc(), text);
+        let text = CompactString::new(rt.alloc(), text).expect(&rt, "memory");
         is_refused(&rt, rt.alloc(), &mut names, &text);
     }
 }
