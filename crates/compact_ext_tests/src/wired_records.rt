@@ -68,8 +68,8 @@ fn records_come_in_pieces(rt: HostRuntime) {
         let reader = BufReader::with_capacity(alloc, 3, pieces).expect(&rt, "a buffer");
         let records = read_records(alloc, reader).expect(&rt, "records");
         assert_eq!(rt; records.len(), 3);
-        for (record, text) in records.iter().zip(["a", "", "Hi"].iter()) {
-            assert_eq!(rt; Seen::of(record), Seen::inline(*text));
+        for (record, text) in records.iter().zip(["a", "", "Hi"]) {
+            assert_eq!(rt; Seen::of(record), Seen::inline(text));
         }
     }
 }
