@@ -61,10 +61,23 @@ fn row_of_words(first: u64, second: u64, third: u64) -> [u8; 24]
     ensures { result ≡ bytes_of first ++ bytes_of second ++ bytes_of third }
 {
     let mut row = [0u8; 24];
-    row[..8].copy_from_slice(&first.to_le_bytes());
-    row[8..16].copy_from_slice(&second.to_le_bytes());
-    row[16..].copy_from_slice(&third.to_le_bytes());
+    store8(&mut row[..8], first);
+    store8(&mut row[8..16], second);
+    store8(&mut row[16..], third);
     row
+}
+
+/// Writes a word over eight bytes.
+#[inline(always)]
+#[tactic(auto, unfolding(crate::specs::Words::bytes_of))]
+fn store8(bytes: &mut [u8], word: u64)
+    requires { length bytes.old ≡ 8 }
+    ensures { bytes.new ≡ bytes_of word }
+{
+    match bytes.first_chunk_mut::<8>() {
+        Some(chunk) => *chunk = word.to_le_bytes(),
+        None => unreachable!(),
+    }
 }
 
 /// A word without its first `count` bytes. It shifts by half of them twice, since one shift may not be of all eight.

@@ -32,23 +32,25 @@ impl<P: Policy> Repr<P> {
         ensures err { OnErr result (IsTrue (new_room_asks (length text.now))) }
     {
         if text.len() > INLINE_CAPACITY {
-            return Self::new_long(alloc, text);
+            let heap = Self::long_copy(alloc, text)?;
+            return Ok(Self::of(alloc, Buffer::Heap(heap)));
         }
         let inline = InlineBuffer::new(text);
         Ok(Self::of(alloc, Buffer::Inline([], inline)))
     }
 
-    /// A copy of a `text` of more than 24 bytes. It stands apart, so that a short text is made where the call stands.
+    /// A copy of a `text` of more than 24 bytes. It stands apart, so that a short text is made where the call stands, and it
+    /// answers the buffer alone, so that the place of its answer is not that of the value.
     #[inline(never)]
-    fn new_long(alloc: Global, text: &str) -> Result<Self, ReserveError>
+    fn long_copy(alloc: Global, text: &str) -> Result<HeapBuffer, ReserveError>
         requires { 24 < length text.now }
-        ensures { IfOk result (λ r. made P.growth (text_of text.now) ≡ Some r) }
+        ensures { IfOk result (λ h. made P.growth (text_of text.now) ≡ Some (placed h.text (on_heap h.capacity))) }
     {
         let Some(capacity) = allowed_capacity::<P>(text.len()) else {
             return Err(ReserveError);
         };
         let heap = HeapBuffer::copy_of(alloc, text, capacity)?;
-        Ok(Self::of(alloc, Buffer::Heap(heap)))
+        Ok(heap)
     }
 
     /// A text of the program, which is not copied if it is longer than 24 bytes.
