@@ -2,7 +2,7 @@
 
 use crate::callers::{append_field, keyword, label, record_line};
 use crate::pushes::{joined, joined_in_doubled_room};
-use crate::taken::{every_second, folded, without_spaces};
+use crate::taken::{every_second, every_second_told, folded, note_spaces, without_spaces};
 use crate::wire_callers::{
     first_record, next_record, pair_sent_and_received, read_records, receive_field, send_field,
     sent_and_received,
@@ -51,6 +51,20 @@ fn every_second_character_is_kept(rt: HostRuntime) {
     let mut spaced = CompactString::new(rt.alloc(), " a a ").expect(&rt, "memory");
     assert!(rt; without_spaces(&mut spaced).is_ok());
     assert_eq!(rt; Seen::of(&spaced), Seen::inline("aa"));
+}
+
+#[test]
+fn a_lent_test_tells_its_state(rt: HostRuntime) {
+    let mut value = copied(&rt, rt.alloc(), "aäb𝄞c");
+    assert!(rt; matches!(every_second_told(&mut value), Ok(true)));
+    assert_inline(&rt, &value, "abc");
+    let mut seen = false;
+    assert!(rt; note_spaces(&mut value, &mut seen).is_ok());
+    assert!(rt; !seen);
+    let mut spaced = copied(&rt, rt.alloc(), "a b");
+    assert!(rt; note_spaces(&mut spaced, &mut seen).is_ok());
+    assert!(rt; seen);
+    assert_inline(&rt, &spaced, "ab");
 }
 
 #[test]

@@ -2,8 +2,9 @@
 //! callers.
 #![tactic(auto, using(compact_str::proofs::ForCallers::for_callers))]
 
-ghost use Rattle.std.specs.Prelude.{◌≡◌, ◌+◌, ◌++◌, List, map, flat_map, fold, filter, ◌==◌, not, IfOk, OnOk, OnErr, codes, string_bytes};
+ghost use Rattle.std.specs.Prelude.{◌≡◌, ℕ, ◌+◌, ◌<◌, ◌≤◌, ◌++◌, List, [], map, flat_map, fold, filter, ◌==◌, not, IfOk, OnOk, OnErr, codes, string_bytes};
 ghost use Rattle.std.specs.Char.{to_ascii_uppercase};
+ghost use Rattle.std.specs.String.{string_capacity};
 ghost use Rattle.compact_str.specs.Text.{text_of, size};
 ghost use Rattle.compact_str.specs.Order.{text_in};
 ghost use Rattle.compact_str.specs.Collects.{joined};
@@ -126,6 +127,30 @@ pub fn append_letters(line: &mut CompactString, name: &str) -> Result<(), Reserv
 /// Puts values behind a `String`.
 pub fn append_values(line: &mut String, values: Vec<CompactString>) -> Result<(), ReserveError>
     ensures { OnOk result (text_of (string_bytes line.new) ≡ text_of (string_bytes line.old) ++ flat_map text_in values.items) }
+{
+    append_all(line, values)
+}
+
+/// Puts values in place of what stands in a `String`. Where one is refused the line is empty, and never has it less room
+/// than before: what it had room for then still fits.
+pub fn rewrite_line(line: &mut String, values: Vec<CompactString>) -> Result<(), ReserveError>
+    ensures text { OnOk result (text_of (string_bytes line.new) ≡ flat_map text_in values.items) }
+    ensures room { string_capacity line.old ≤ string_capacity line.new }
+    ensures empty { OnErr result (string_bytes line.new ≡ []) }
+{
+    line.clear();
+    match append_all(line, values) {
+        Ok(()) => Ok(()),
+        Err(error) => {
+            line.clear();
+            Err(error)
+        }
+    }
+}
+
+/// Puts values behind a `String`. A refusal says that some text did not fit the room that the line had by then.
+pub fn fill_line(line: &mut String, values: Vec<CompactString>) -> Result<(), ReserveError>
+    ensures { OnErr result ((text : List ℕ) × (string_capacity line.new < size (text_of (string_bytes line.new)) + size text)) }
 {
     append_all(line, values)
 }

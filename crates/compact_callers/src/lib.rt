@@ -36,7 +36,9 @@ pub use plain_callers::{
 };
 pub use pushes::{joined, joined_in_doubled_room};
 pub use run_callers::{Doubling, bracket, refill, rewrite};
-pub use taken::{every_second, folded, move_range, take_range, without_spaces};
+pub use taken::{
+    every_second, every_second_told, folded, move_range, note_spaces, take_range, without_spaces,
+};
 pub use wire_callers::{
     first_record, next_record, pair_sent_and_received, read_records, receive_field, send_field,
     sent_and_received,

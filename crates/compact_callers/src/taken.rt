@@ -3,7 +3,7 @@
 ghost use Rattle.std.specs.Prelude.{◌≡◌, ◌++◌, ◌∷◌, [], OnOk, OnErr, IfOk, MatchOption, not, false, filter, ◌==◌};
 ghost use Rattle.compact_str.specs.Text.{text_of, ascii_lowercase};
 ghost use Rattle.compact_str.specs.Cut.{middle, replaced_text};
-ghost use Rattle.compact_str.specs.Kept.{kept_by};
+ghost use Rattle.compact_str.specs.Kept.{kept_by, left_by};
 ghost use Rattle.compact_str.specs.Ranges.{IsRange, range_start, range_end};
 
 use compact_str::{CompactString, ReserveError};
@@ -59,6 +59,18 @@ pub fn without_spaces(line: &mut CompactString) -> Result<(), ReserveError>
     line.retain(|character| character != ' ')
 }
 
+/// Takes every space out, and notes that there was one. Where that is refused nothing is noted.
+pub fn note_spaces(line: &mut CompactString, seen: &mut bool) -> Result<(), ReserveError>
+    ensures unchanged { OnErr result ((line.new ≡ line.old) × (seen.new ≡ seen.old)) }
+{
+    let mut keep = |character| {
+        let is_space = character == ' ';
+        *seen = *seen || is_space;
+        !is_space
+    };
+    line.retain_by(&mut keep)
+}
+
 /// Keeps every second character, from the first on.
 pub fn every_second(line: &mut CompactString) -> Result<(), ReserveError>
     ensures text { OnOk result (line.new.text ≡ kept_by (λ skip c. (not skip, not skip)) false line.old.text) }
@@ -70,4 +82,18 @@ pub fn every_second(line: &mut CompactString) -> Result<(), ReserveError>
         skip = keep;
         keep
     })
+}
+
+/// The same, and answers whether the last character was kept. Of the empty text it was not.
+pub fn every_second_told(line: &mut CompactString) -> Result<bool, ReserveError>
+    ensures text { IfOk result (λ last. last ≡ left_by (λ skip c. (not skip, not skip)) false line.old.text) }
+    ensures unchanged { OnErr result (line.new ≡ line.old) }
+{
+    let mut skip = false;
+    let mut keep = |_| {
+        skip = !skip;
+        skip
+    };
+    line.retain_by(&mut keep)?;
+    Ok(skip)
 }

@@ -109,10 +109,10 @@ a_truncation_past_the_end_is_done : Steps two (Truncate 9) Done two
 a_truncation_past_the_end_is_done = ((λ within. absurd (omega (arith, within))), (refl, refl))
 
 a_static_text_is_split_in_place : Steps (static_letters 30) (SplitOff 3) (Text (static_letters 27)) (static_letters 3)
-a_static_text_is_split_in_place = ((letters 3, letters 27, record { parts = refl; position = refl }), (static_letters 27, refl, refl, refl))
+a_static_text_is_split_in_place = ((letters 3, letters 27, record { parts = refl; position = refl }), (static_letters 27, refl, record { leaves = refl; stays = refl }))
 
 a_short_tail_is_inline : Steps (static_letters 30) (SplitOff 6) (Text (inline_text (letters 24))) (static_letters 6)
-a_short_tail_is_inline = ((letters 6, letters 24, record { parts = refl; position = refl }), (inline_text (letters 24), refl, refl, refl))
+a_short_tail_is_inline = ((letters 6, letters 24, record { parts = refl; position = refl }), (inline_text (letters 24), refl, record { leaves = refl; stays = refl }))
 
 an_empty_replacement_makes_a_static_text_its_own : (s : Bor (List ℕ)) → text_of s.now ≡ [] → Steps (static_letters 30) (ReplaceRange (Included 0) (Excluded 0) s) Done (heap_letters 30 32)
 an_empty_replacement_makes_a_static_text_its_own s is =

@@ -2,13 +2,13 @@
 use Rattle.std.specs.Prelude.{◌≡◌, ℕ, ◌<◌, Bool, ◌||◌, false, Option, Some, IsTrue, [], ◌∷◌}
 use Rattle.std.specs.Char.{len_utf8}
 use Rattle.compact_str.specs.Text.{text_of, size}
-use Rattle.compact_str.specs.Cut.{IsBoundary, before, middle}
-use Rattle.compact_str.specs.Value.{PlacedText, placed}
-use Rattle.compact_str.specs.Capacity.{Growth, kept, new_room_asks, room_asks, own_asks}
+use Rattle.compact_str.specs.Cut.{IsBoundary, middle}
+use Rattle.compact_str.specs.Value.{PlacedText}
+use Rattle.compact_str.specs.Capacity.{Growth, new_room_asks, room_asks, own_asks}
 use Rattle.compact_str.specs.Change.{made, pushed, push_asks, cleared, reserved, truncated, Shrinks, inserted, replaced, replace_asks, lowercased, uppercased, retained, zeroized}
 use Rattle.compact_str.specs.Kept.{kept_by, by_answers}
 use Rattle.compact_str.specs.Clones.{cloned_from, clone_from_asks}
-use Rattle.compact_str.specs.Edits.{Removes, Pops, split_tail, split_asks, repeated, repeat_asks}
+use Rattle.compact_str.specs.Edits.{Removes, Pops, SplitsOff, split_asks, repeated, repeat_asks}
 use Rattle.compact_str.specs.Ranges.{IsRange, range_start, range_end}
 use Rattle.compact_edit.specs.declared.edit.Edit.{Edit}
 use Rattle.compact_edit.specs.declared.edit.Edit.TheVariants.{Push, PushStr, Pop, Insert, InsertStr, Remove, Truncate, Clear, SplitOff, ReplaceRange, Drain, Retain, Reserve, ShrinkTo, ShrinkToFit, MakeLower, MakeUpper, Zeroize, Repeat, CloneFrom}
@@ -71,9 +71,7 @@ EditDoes g v (InsertStr p s) reply w = (reply ≡ Done) × (inserted g v p (text
 EditDoes g v (Remove p) reply w = (c : ℕ) × (reply ≡ Char (Some c)) × Removes g v p c w
 EditDoes g v (Truncate n) reply w = (reply ≡ Done) × (w ≡ truncated v n)
 EditDoes g v Clear reply w = (reply ≡ Done) × (w ≡ cleared v)
-EditDoes g v (SplitOff p) reply w =
-    (tail : PlacedText) × (reply ≡ Text tail) × (split_tail g v p ≡ Some tail)
-    × (w ≡ placed (before v.text p) (kept v (before v.text p)))
+EditDoes g v (SplitOff p) reply w = (tail : PlacedText) × (reply ≡ Text tail) × SplitsOff g v p tail w
 EditDoes g v (ReplaceRange start end s) reply w =
     (reply ≡ Done) × (replaced g v (range_start start) (range_end v.text end) (text_of s.now) ≡ Some w)
 EditDoes g v (Drain start end) reply w =

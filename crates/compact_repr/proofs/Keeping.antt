@@ -10,7 +10,7 @@ use lib.ListN.{get_or}
 use Rattle.std.proofs.Math.Seq.{drop-cons}
 use lib.Utf8.{encode, encodes}
 use Rattle.compact_repr.specs.Text.{text_of}
-use Rattle.compact_repr.specs.Kept.{KeepsChars}
+use Rattle.compact_repr.specs.Kept.{KeepsCharsTo}
 use Rattle.compact_repr.proofs.Cuts.{text_of-last}
 
 -- what stands behind the character that begins at a place
@@ -24,28 +24,28 @@ pub utf8-behind_char : (row rest : List ℕ) (at c : ℕ) → IsUtf8 (drop at ro
 utf8-behind_char row rest at c u e = subst IsUtf8 (sym (drop_past_char row rest at c e)) (IsUtf8-past_char (drop at row) rest c u e)
 
 -- one more character in front
-keeps-step : {F : Type 0} (g : Mut F (ℕ × Unit {0}) Bool) (f h : F) (c : ℕ) (b : Bool) (t u : List ℕ) → Called g f (c, tt) b h → KeepsChars g h t u → KeepsChars g f (c ∷ t) (cond b (c ∷ u) u)
-keeps-step g f h c true t u s k = (true ∷ k.0, k.1, omega (arith, k.2), (h, s, k.3), ap (λ l. c ∷ l) k.4)
-keeps-step g f h c false t u s k = (false ∷ k.0, k.1, omega (arith, k.2), (h, s, k.3), k.4)
+keeps-step : {F : Type 0} (g : Mut F (ℕ × Unit {0}) Bool) (f h last : F) (c : ℕ) (b : Bool) (t u : List ℕ) → Called g f (c, tt) b h → KeepsCharsTo g h t u last → KeepsCharsTo g f (c ∷ t) (cond b (c ∷ u) u) last
+keeps-step g f h last c true t u s k = (true ∷ k.0, omega (arith, k.1), (h, s, k.2), ap (λ l. c ∷ l) k.3)
+keeps-step g f h last c false t u s k = (false ∷ k.0, omega (arith, k.1), (h, s, k.2), k.3)
 
-pub keeps-nil : {F : Type 0} (g : Mut F (ℕ × Unit {0}) Bool) (f : F) → KeepsChars g f [] []
-keeps-nil g f = ([], f, refl, refl, refl)
+pub keeps-nil : {F : Type 0} (g : Mut F (ℕ × Unit {0}) Bool) (f : F) → KeepsCharsTo g f [] [] f
+keeps-nil g f = ([], refl, refl, refl)
 
 -- what is kept of the rest goes on what is kept so far
 abbrev pub GoesOn : {F : Type 0} → Mut F (ℕ × Unit {0}) Bool → F → List ℕ → F → List ℕ → List ℕ → Type 0
-GoesOn g first whole f done rest = (u : List ℕ) → KeepsChars g f rest u → KeepsChars g first whole (done ++ u)
+GoesOn {F} g first whole f done rest = (u : List ℕ) (last : F) → KeepsCharsTo g f rest u last → KeepsCharsTo g first whole (done ++ u) last
 
 pub goes_on-kept : {F : Type 0} (g : Mut F (ℕ × Unit {0}) Bool) (first f h : F) (whole t r done : List ℕ) (c : ℕ) → t ≡ c ∷ r → Called g f (c, tt) true h → GoesOn g first whole f done t → GoesOn g first whole h (done ++ c ∷ []) r
-goes_on-kept g first f h whole t r done c e called so u k =
-    subst (λ (l : List ℕ). KeepsChars g first whole l) (sym (append_assoc done (c ∷ []) u))
-    (so (c ∷ u) (subst (λ (x : List ℕ). KeepsChars g f x (c ∷ u)) (sym e) (keeps-step g f h c true r u called k)))
+goes_on-kept g first f h whole t r done c e called so u last k =
+    subst (λ (l : List ℕ). KeepsCharsTo g first whole l last) (sym (append_assoc done (c ∷ []) u))
+    (so (c ∷ u) last (subst (λ (x : List ℕ). KeepsCharsTo g f x (c ∷ u) last) (sym e) (keeps-step g f h last c true r u called k)))
 
 pub goes_on-dropped : {F : Type 0} (g : Mut F (ℕ × Unit {0}) Bool) (first f h : F) (whole t r done : List ℕ) (c : ℕ) → t ≡ c ∷ r → Called g f (c, tt) false h → GoesOn g first whole f done t → GoesOn g first whole h done r
-goes_on-dropped g first f h whole t r done c e called so u k =
-    so u (subst (λ (x : List ℕ). KeepsChars g f x u) (sym e) (keeps-step g f h c false r u called k))
+goes_on-dropped g first f h whole t r done c e called so u last k =
+    so u last (subst (λ (x : List ℕ). KeepsCharsTo g f x u last) (sym e) (keeps-step g f h last c false r u called k))
 
-pub goes_on-end : {F : Type 0} (g : Mut F (ℕ × Unit {0}) Bool) (first f : F) (whole done : List ℕ) → GoesOn g first whole f done [] → KeepsChars g first whole done
-goes_on-end g first f whole done so = subst (λ (l : List ℕ). KeepsChars g first whole l) (append-nil done) (so [] (keeps-nil g f))
+pub goes_on-end : {F : Type 0} (g : Mut F (ℕ × Unit {0}) Bool) (first f : F) (whole done : List ℕ) → GoesOn g first whole f done [] → KeepsCharsTo g first whole done f
+goes_on-end g first f whole done so = subst (λ (l : List ℕ). KeepsCharsTo g first whole l f) (append-nil done) (so [] f (keeps-nil g f))
 
 -- the bytes of a text with a character written behind them
 pub utf8-put : (bytes : List ℕ) (c : ℕ) → IsScalar c → IsUtf8 bytes → IsUtf8 (bytes ++ encode c)
@@ -89,9 +89,9 @@ stands-dropped g first f h whole row kept read n c said says called e u stands =
     (u, stands.1, goes_on-dropped g first f h whole (text_of (drop read row)) (text_of (drop (read + n) row)) (text_of (take kept row)) c rest (subst (λ (b : Bool). Called g f (c, tt) b h) says called) stands.2)
 
 pub stands-first : {F : Type 0} (g : Mut F (ℕ × Unit {0}) Bool) (first : F) (row : List ℕ) → IsUtf8 row → Stands g first (text_of row) first row 0 0
-stands-first g first row u = (u, IsUtf8-nil, λ v k. subst (λ (l : List ℕ). KeepsChars g first (text_of row) l) (ap (λ (l : List ℕ). l ++ v) (sym chars-nil)) k)
+stands-first g first row u = (u, IsUtf8-nil, λ v last k. subst (λ (l : List ℕ). KeepsCharsTo g first (text_of row) l last) (ap (λ (l : List ℕ). l ++ v) (sym chars-nil)) k)
 
-pub stands-last : {F : Type 0} (g : Mut F (ℕ × Unit {0}) Bool) (first f : F) (whole row : List ℕ) (kept read : ℕ) → length row ≤ read → Stands g first whole f row kept read → KeepsChars g first whole (text_of (take kept row))
+pub stands-last : {F : Type 0} (g : Mut F (ℕ × Unit {0}) Bool) (first f : F) (whole row : List ℕ) (kept read : ℕ) → length row ≤ read → Stands g first whole f row kept read → KeepsCharsTo g first whole (text_of (take kept row)) f
 stands-last g first f whole row kept read h stands =
     let none : text_of (drop read row) ≡ [] = ap (λ (l : List ℕ). text_of l) (drop_all read row h) ∙ chars-nil in
     goes_on-end g first f whole (text_of (take kept row)) (subst (λ (l : List ℕ). GoesOn g first whole f (text_of (take kept row)) l) none stands.2)

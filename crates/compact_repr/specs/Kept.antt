@@ -1,17 +1,32 @@
 -- Characters that a test keeps.
-use Rattle.std.specs.Prelude.{ℕ, List, [], ◌∷◌, Bool, true, drop, if◌then◌else◌}
-use Rattle.std.specs.List.Retain.{IsFiltered}
+use Rattle.std.specs.Prelude.{◌≡◌, ℕ, List, [], ◌∷◌, Bool, true, length, drop, if◌then◌else◌}
+use Rattle.std.specs.List.{items_where_true}
+use Rattle.std.specs.List.Retain.{IsFiltered, ReturnsInTurn}
 use Rattle.std.specs.Fn.{Called, Mut}
 
 -- u has the characters of t, in order, of which the test said true: it was called once at each, in order, from f on
 abbrev pub KeepsChars : {F : Type 0} → Mut F (ℕ × Unit {0}) Bool → F → List ℕ → List ℕ → Type 0
 KeepsChars test f t u = IsFiltered (λ p c b q. Called test p (c, tt) b q) f t u
 
+-- std's `IsFiltered`, with what the test is then: it was asked of each element and no more, and that left g
+abbrev pub IsFilteredTo : {F X : Type 0} → (F → X → Bool → F → Type 0) → F → List X → List X → F → Type 0
+IsFilteredTo calls f xs ys g =
+    (answers : List Bool) × (length answers ≡ length xs) × ReturnsInTurn calls f answers xs g × (ys ≡ items_where_true answers xs)
+
+-- `KeepsChars`, with what the test is then
+abbrev pub KeepsCharsTo : {F : Type 0} → Mut F (ℕ × Unit {0}) Bool → F → List ℕ → List ℕ → F → Type 0
+KeepsCharsTo test f t u g = IsFilteredTo (λ p c b q. Called test p (c, tt) b q) f t u g
+
 -- the characters of a text that a rule keeps: it goes from a state on, and says of a state and a character whether that
 -- stays, and the next state
 abbrev pub kept_by : {S : Type 0} → (S → ℕ → Bool × S) → S → List ℕ → List ℕ
 kept_by rule s [] = []
 kept_by rule s (c ∷ cs) = if (rule s c).0 then c ∷ kept_by rule (rule s c).1 cs else kept_by rule (rule s c).1 cs
+
+-- the state that it has then
+abbrev pub left_by : {S : Type 0} → (S → ℕ → Bool × S) → S → List ℕ → S
+left_by rule s [] = s
+left_by rule s (c ∷ cs) = left_by rule (rule s c).1 cs
 
 -- the next of some answers; where they have run out it is `true`
 abbrev pub next_answer : List Bool → Bool

@@ -3,7 +3,7 @@ ghost use Rattle.std.specs.Prelude.{◌≡◌, ◌+◌, ◌-◌, ◌≤◌, ◌<
 ghost use Rattle.std.specs.String.{string_bytes, string_capacity};
 ghost use Rattle.compact_repr.specs.Text.{size, utf8, text_of, IsText};
 ghost use Rattle.compact_repr.specs.Cut.{IsBoundary, before, replaced_text};
-ghost use Rattle.compact_repr.specs.Kept.{KeepsChars};
+ghost use Rattle.compact_repr.specs.Kept.{KeepsCharsTo};
 
 mod append;
 mod each;
@@ -220,9 +220,10 @@ impl HeapBuffer {
 
     /// Keeps the characters for which `keep`, asked once of each in order, answers true, and the capacity.
     #[inline]
-    pub fn retain<F: FnMut(char) -> bool>(&mut self, keep: F)
-        requires { F.IsAlwaysCallable keep }
-        ensures text { KeepsChars F.FnMut keep self.old.text self.new.text }
+    pub fn retain<F: FnMut(char) -> bool>(&mut self, keep: &mut F)
+        requires { F.IsAlwaysCallable keep.old }
+        ensures text { KeepsCharsTo F.FnMut keep.old self.old.text self.new.text keep.new }
+        ensures callable { F.IsAlwaysCallable keep.new }
         ensures capacity { self.new.capacity ≡ self.old.capacity }
         ensures fits { size self.new.text ≤ self.old.capacity }
     {

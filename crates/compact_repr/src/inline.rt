@@ -5,7 +5,7 @@ ghost use Rattle.std.specs.Prelude.{◌≡◌, ◌+◌, ◌-◌, ◌≤◌, ◌<
 ghost use Rattle.compact_repr.specs.Text.{size, utf8, text_of, IsText, ascii_lowercase, ascii_uppercase};
 ghost use Rattle.compact_repr.specs.Cut.{IsBoundary, before, replaced_text};
 ghost use Rattle.compact_repr.specs.Packed.{IsPackedFor};
-ghost use Rattle.compact_repr.specs.Kept.{KeepsChars};
+ghost use Rattle.compact_repr.specs.Kept.{KeepsCharsTo};
 
 mod compare;
 mod packed;
@@ -218,9 +218,10 @@ impl InlineBuffer {
 
     /// Keeps the characters for which `keep`, asked once of each in order, answers true.
     #[inline]
-    pub fn retain<F: FnMut(char) -> bool>(&mut self, keep: F)
-        requires { F.IsAlwaysCallable keep }
-        ensures text { KeepsChars F.FnMut keep self.old self.new }
+    pub fn retain<F: FnMut(char) -> bool>(&mut self, keep: &mut F)
+        requires { F.IsAlwaysCallable keep.old }
+        ensures text { KeepsCharsTo F.FnMut keep.old self.old self.new keep.new }
+        ensures callable { F.IsAlwaysCallable keep.new }
         ensures fits { size self.new ≤ 24 }
     {
         let len = length_of(&self.bytes);

@@ -3,7 +3,11 @@ use Rattle.std.proofs.Common.{◌≡◌, ℕ, List, [], ◌∷◌, Bool, true, f
 use Rattle.std.proofs.lemmas.Bool.{cond-true, cond-false}
 use Rattle.std.specs.List.{items_where_true}
 use Rattle.std.specs.List.Retain.{IsFiltered, ReturnsInTurn}
-use Rattle.compact_repr.specs.Kept.{kept_by}
+use Rattle.compact_repr.specs.Kept.{IsFilteredTo, kept_by, left_by}
+
+-- what the test is then may be forgotten
+pub filtered : {F X : Type 0} (calls : F → X → Bool → F → Type 0) (f g : F) (xs ys : List X) → IsFilteredTo calls f xs ys g → IsFiltered calls f xs ys
+filtered calls f g xs ys h = (h.0, g, h.1, h.2, h.3)
 
 module _ {F S : Type 0} (calls : F → ℕ → Bool → F → Type 0) (state : F → S) (rule : S → ℕ → Bool × S)
     (obeys : (p : F) (c : ℕ) (b : Bool) (q : F) → calls p c b q → (b ≡ (rule (state p) c).0) × (state q ≡ (rule (state p) c).1)) where
@@ -20,6 +24,28 @@ module _ {F S : Type 0} (calls : F → ℕ → Bool → F → Type 0) (state : F
       let rest = in_turn cs bs said.0 q (omega (arith, e)) said.2 ∙ ap (λ (s : S). kept_by rule s cs) one.1 in
       rest ∙ sym (cond-false _ _ _ (sym one.0))
 
+  moves : (t : List ℕ) (answers : List Bool) (p q : F) → length answers ≡ length t → ReturnsInTurn calls p answers t q → state q ≡ left_by rule (state p) t
+  moves [] [] p q e said = ap state (sym said)
+  moves [] (b ∷ bs) p q e said = absurd (omega (arith, e))
+  moves (c ∷ cs) [] p q e said = absurd (omega (arith, e))
+  moves (c ∷ cs) (b ∷ bs) p q e said =
+      let one = obeys p c b said.0 said.1 in
+      moves cs bs said.0 q (omega (arith, e)) said.2 ∙ ap (λ (s : S). left_by rule s cs) one.1
+
   -- a test that answers by a rule keeps what the rule keeps
   pub kept-by_rule : (p : F) (t u : List ℕ) → IsFiltered calls p t u → u ≡ kept_by rule (state p) t
   kept-by_rule p t u h = h.4 ∙ in_turn t h.0 p h.1 h.2 h.3
+
+  -- and has then the state that the rule goes to
+  pub left-by_rule : (p q : F) (t u : List ℕ) → IsFilteredTo calls p t u q → state q ≡ left_by rule (state p) t
+  left-by_rule p q t u h = moves t h.0 p q h.1 h.2
+
+-- what no call changes is as it was, such as which place a test notes its answers in
+module _ {F X S : Type 0} (calls : F → X → Bool → F → Type 0) (state : F → S) (same : (p : F) (x : X) (b : Bool) (q : F) → calls p x b q → state q ≡ state p) where
+  stays : (xs : List X) (answers : List Bool) (p q : F) → ReturnsInTurn calls p answers xs q → state q ≡ state p
+  stays xs [] p q said = ap state (sym said)
+  stays [] (b ∷ bs) p q said = absurd said
+  stays (x ∷ xs) (b ∷ bs) p q said = stays xs bs said.0 q said.2 ∙ same p x b said.0 said.1
+
+  pub unchanged : (p q : F) (xs ys : List X) → IsFilteredTo calls p xs ys q → state q ≡ state p
+  unchanged p q xs ys h = stays xs h.0 p q h.2

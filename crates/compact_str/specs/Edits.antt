@@ -31,6 +31,11 @@ tail_placement g v tail = if is_static v.placement.place then Some (lasting tail
 abbrev pub split_tail : Growth → PlacedText → ℕ → Option PlacedText
 split_tail g v index = let tail = after v.text index in option_map (placed tail) (tail_placement g v tail)
 
+-- v is split at a position: the tail leaves, and what stands before it stays in its place
+pub record SplitsOff (g : Growth) (v : PlacedText) (index : ℕ) (tail w : PlacedText) : Type 0 where
+  pub leaves : split_tail g v index ≡ Some tail
+  pub stays : let front = before v.text index in w ≡ placed front (kept v front)
+
 abbrev pub split_asks : PlacedText → ℕ → Bool
 split_asks v index = not (is_static v.placement.place) && new_room_asks (size (after v.text index))
 

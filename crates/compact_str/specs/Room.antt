@@ -1,7 +1,9 @@
 -- When a text is sure to fit.
-use Rattle.std.specs.Prelude.{◌≡◌, ℕ, ◌+◌, ◌≤◌, false, max, if◌then◌else◌}
+use Rattle.std.specs.Prelude.{◌≡◌, ℕ, ◌+◌, ◌≤◌, [], false, max, if◌then◌else◌, Result, IfOk, OnOk, OnErr, IsOk, Some, IsTrue}
 use Rattle.compact_repr.specs.Text.{size}
 use Rattle.compact_repr.specs.Value.{PlacedText, is_static}
+use Rattle.compact_repr.specs.Capacity.{Growth, new_room_asks, room_asks}
+use Rattle.compact_repr.specs.Change.{with_room, reserved}
 
 -- v's bytes are its own, and may be changed in place
 abbrev pub IsOwned : PlacedText → Type 0
@@ -18,3 +20,19 @@ sure_capacity v = max 24 (own_capacity v)
 -- n more bytes fit v with no memory
 abbrev pub HasRoomFor : PlacedText → ℕ → Type 0
 HasRoomFor v n = size v.text + n ≤ sure_capacity v
+
+-- r is the empty text with room for n bytes; up to 24 are never refused
+pub record IsRoomFor {E : Type 0} (g : Growth) (n : ℕ) (r : Result PlacedText E) : Type 0 where
+  pub ok : IfOk r (λ v. with_room g n ≡ Some v)
+  pub text : IfOk r (λ v. v.text ≡ [])
+  pub room : IfOk r (λ v. HasRoomFor v n)
+  pub succeeds : n ≤ 24 → IsOk r
+  pub err : OnErr r (IsTrue (new_room_asks n))
+
+-- v has made room for n more bytes, which leaves w, or is as it was where that is refused
+pub record Reserves {E : Type 0} (g : Growth) (v : PlacedText) (n : ℕ) (r : Result (Unit {0}) E) (w : PlacedText) : Type 0 where
+  pub ok : OnOk r (reserved g v n ≡ Some w)
+  pub text : w.text ≡ v.text
+  pub room : OnOk r (HasRoomFor w n)
+  pub succeeds : HasRoomFor v n → IsOk r
+  pub err : OnErr r ((w ≡ v) × IsTrue (room_asks v n))

@@ -7,7 +7,7 @@ ghost use Rattle.compact_repr.specs.Value.{placed, is_static};
 ghost use Rattle.compact_repr.specs.Capacity.{fits_in_place};
 ghost use Rattle.compact_repr.specs.Change.{cleared, truncated, zeroized};
 ghost use Rattle.compact_repr.specs.AtOnce.{DoesAtOnce};
-ghost use Rattle.compact_repr.specs.Kept.{KeepsChars};
+ghost use Rattle.compact_repr.specs.Kept.{KeepsCharsTo};
 
 use crate::inline::InlineBuffer;
 use crate::policy::Policy;
@@ -218,10 +218,11 @@ impl<P: Policy> Repr<P> {
     /// Keeps the characters for which `keep`, asked once of each in order, answers true, in the value's own bytes. The place
     /// and the capacity stay.
     #[inline]
-    pub fn retain<F: FnMut(char) -> bool>(&mut self, keep: F)
+    pub fn retain<F: FnMut(char) -> bool>(&mut self, keep: &mut F)
         requires owned { is_static self.old.placement.place ≡ false }
-        requires callable { F.IsAlwaysCallable keep }
-        ensures text { KeepsChars F.FnMut keep self.old.text self.new.text }
+        requires callable { F.IsAlwaysCallable keep.old }
+        ensures text { KeepsCharsTo F.FnMut keep.old self.old.text self.new.text keep.new }
+        ensures callable { F.IsAlwaysCallable keep.new }
         ensures placement { self.new.placement ≡ self.old.placement }
     {
         match &mut self.buffer {

@@ -3,18 +3,19 @@ ghost use Rattle.std.specs.Prelude.{◌≡◌, ◌+◌, ◌≤◌, ◌<◌, ◌+
 ghost use Rattle.std.specs.Char.{len_utf8, encode_utf8, IsScalar};
 ghost use Rattle.std.specs.Str.{IsUtf8};
 ghost use Rattle.compact_repr.specs.Text.{text_of};
-ghost use Rattle.compact_repr.specs.Kept.{KeepsChars};
+ghost use Rattle.compact_repr.specs.Kept.{KeepsCharsTo};
 
 use super::write;
 
 /// Of the text in the first `len` bytes of `row` moves to the front the characters for which `keep`, asked once of each in
 /// order, answers true. Answers how many bytes they take.
 #[inline(always)]
-pub fn retain<F: FnMut(char) -> bool>(row: &mut [u8], len: usize, keep: F) -> usize
+pub fn retain<F: FnMut(char) -> bool>(row: &mut [u8], len: usize, keep: &mut F) -> usize
     requires long_enough { len ≤ length row.old }
     requires utf8 { IsUtf8 (take len row.old) }
-    requires callable { F.IsAlwaysCallable keep }
-    ensures text { KeepsChars F.FnMut keep (text_of (take len row.old)) (text_of (take result row.new)) }
+    requires callable { F.IsAlwaysCallable keep.old }
+    ensures text { KeepsCharsTo F.FnMut keep.old (text_of (take len row.old)) (text_of (take result row.new)) keep.new }
+    ensures callable { F.IsAlwaysCallable keep.new }
     ensures utf8 { IsUtf8 (take result row.new) }
     ensures within { result ≤ len }
 {
@@ -23,10 +24,11 @@ pub fn retain<F: FnMut(char) -> bool>(row: &mut [u8], len: usize, keep: F) -> us
 
 /// `retain` of a whole row. It goes once over the row, and a character moves where it is kept.
 #[inline(always)]
-fn move_kept<F: FnMut(char) -> bool>(row: &mut [u8], mut keep: F) -> usize
+fn move_kept<F: FnMut(char) -> bool>(row: &mut [u8], keep: &mut F) -> usize
     requires utf8 { IsUtf8 row.old }
-    requires callable { F.IsAlwaysCallable keep }
-    ensures text { KeepsChars F.FnMut keep (text_of row.old) (text_of (take result row.new)) }
+    requires callable { F.IsAlwaysCallable keep.old }
+    ensures text { KeepsCharsTo F.FnMut keep.old (text_of row.old) (text_of (take result row.new)) keep.new }
+    ensures callable { F.IsAlwaysCallable keep.new }
     ensures utf8 { IsUtf8 (take result row.new) }
     ensures within { result ≤ length row.old }
 {

@@ -2,7 +2,7 @@
 ghost use Rattle.std.specs.Prelude.{◌≡◌, ◌≤◌, Some, OnOk, OnErr, IsOk, IsTrue};
 ghost use Rattle.compact_repr.specs.Text.{size};
 ghost use Rattle.compact_repr.specs.Capacity.{owned, own_asks};
-ghost use Rattle.compact_repr.specs.Kept.{KeepsChars};
+ghost use Rattle.compact_repr.specs.Kept.{KeepsChars, KeepsCharsTo};
 ghost use Rattle.compact_str.specs.Room.{IsOwned};
 
 use crate::string::PolicyString;
@@ -16,12 +16,28 @@ impl<P: Policy> PolicyString<P> {
     /// bytes; then nothing has changed, and `keep` was not asked. It never comes of an owned value. Of `"a-b-c"` with
     /// `|character| character != '-'` it keeps `"abc"`.
     #[inline]
-    pub fn retain<F: FnMut(char) -> bool>(&mut self, keep: F) -> Result<(), ReserveError>
+    pub fn retain<F: FnMut(char) -> bool>(&mut self, mut keep: F) -> Result<(), ReserveError>
         requires { F.IsAlwaysCallable keep }
         ensures text { OnOk result (KeepsChars F.FnMut keep self.old.text self.new.text) }
         ensures placement { OnOk result (owned P.growth self.old ≡ Some self.new.placement) }
         ensures succeeds { IsOwned self.old → IsOk result }
         ensures succeeds_short { size self.old.text ≤ 24 → IsOk result }
+        ensures err { OnErr result ((self.new ≡ self.old) × IsTrue (own_asks self.old)) }
+    {
+        self.retain_by(&mut keep)
+    }
+
+    /// `retain` with a test that is lent. So the clauses can tell that it was asked of each character and no more, and that it
+    /// was not asked before a refusal: whoever counts in it knows the count.
+    #[inline]
+    pub fn retain_by<F: FnMut(char) -> bool>(&mut self, keep: &mut F) -> Result<(), ReserveError>
+        requires { F.IsAlwaysCallable keep.old }
+        ensures text { OnOk result (KeepsCharsTo F.FnMut keep.old self.old.text self.new.text keep.new) }
+        ensures placement { OnOk result (owned P.growth self.old ≡ Some self.new.placement) }
+        ensures succeeds { IsOwned self.old → IsOk result }
+        ensures succeeds_short { size self.old.text ≤ 24 → IsOk result }
+        ensures callable { F.IsAlwaysCallable keep.new }
+        ensures unasked { OnErr result (keep.new ≡ keep.old) }
         ensures err { OnErr result ((self.new ≡ self.old) × IsTrue (own_asks self.old)) }
     {
         self.make_owned()?;

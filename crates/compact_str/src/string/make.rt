@@ -1,5 +1,5 @@
 //! How a value is made.
-ghost use Rattle.std.specs.Prelude.{◌≡◌, ◌<◌, ◌≤◌, ℕ, List, [], length, nat_eq, if◌then◌else◌, Some, IfOk, IfErr, OnErr, IsOk, IsTrue, MatchOption, string_bytes};
+ghost use Rattle.std.specs.Prelude.{◌≡◌, ◌<◌, ◌≤◌, ℕ, List, [], length, nat_eq, if◌then◌else◌, Some, IfOk, IfErr, IsOk, IsTrue, MatchOption, string_bytes};
 ghost use Rattle.std.specs.String.{string_capacity};
 ghost use Rattle.std.specs.Box.{boxed_str_bytes};
 ghost use Rattle.std.specs.Cow.{cow_str_bytes};
@@ -7,8 +7,8 @@ ghost use Rattle.compact_repr.specs.Text.{text_of};
 ghost use Rattle.compact_repr.specs.Packed.{IsPackedFor};
 ghost use Rattle.compact_repr.specs.Value.{placed, is_heap};
 ghost use Rattle.compact_repr.specs.Capacity.{inlined, on_heap, new_room_asks, lasting, taken_over};
-ghost use Rattle.compact_repr.specs.Change.{made, with_room};
-ghost use Rattle.compact_str.specs.Room.{HasRoomFor};
+ghost use Rattle.compact_repr.specs.Change.{made};
+ghost use Rattle.compact_str.specs.Room.{IsRoomFor};
 ghost use Rattle.compact_str.specs.Made.{IsNewOf, TakesCow, IsFreeCow};
 
 use crate::refused::Refused;
@@ -95,11 +95,7 @@ impl<P: Policy> PolicyString<P> {
     /// An error says that no memory was found, or that `capacity` is past 2^56 - 2; it never comes up to 24 bytes.
     /// `CompactString::with_capacity(alloc, 30)?` has capacity 32, and no append up to that is refused.
     pub fn with_capacity(alloc: Global, capacity: usize) -> Result<Self, ReserveError>
-        ensures ok { IfOk result (λ v. with_room P.growth capacity ≡ Some v) }
-        ensures text { IfOk result (λ v. v.text ≡ []) }
-        ensures room { IfOk result (λ v. HasRoomFor v capacity) }
-        ensures succeeds { capacity ≤ 24 → IsOk result }
-        ensures err { OnErr result (IsTrue (new_room_asks capacity)) }
+        ensures { IsRoomFor P.growth capacity result }
     {
         match Repr::with_capacity(alloc, capacity) {
             Ok(repr) => Ok(PolicyString { repr }),
@@ -109,11 +105,7 @@ impl<P: Policy> PolicyString<P> {
 
     /// `with_capacity` under its other name, with the same value and the same error.
     pub fn try_with_capacity(alloc: Global, capacity: usize) -> Result<Self, ReserveError>
-        ensures ok { IfOk result (λ v. with_room P.growth capacity ≡ Some v) }
-        ensures text { IfOk result (λ v. v.text ≡ []) }
-        ensures room { IfOk result (λ v. HasRoomFor v capacity) }
-        ensures succeeds { capacity ≤ 24 → IsOk result }
-        ensures err { OnErr result (IsTrue (new_room_asks capacity)) }
+        ensures { IsRoomFor P.growth capacity result }
     {
         Self::with_capacity(alloc, capacity)
     }

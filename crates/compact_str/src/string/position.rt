@@ -5,11 +5,11 @@ ghost use Rattle.std.specs.Range.Bound.{start_index, end_index};
 ghost use Rattle.std.specs.Str.{IsCharBoundary};
 ghost use Rattle.compact_repr.specs.Text.{size, utf8, text_of};
 ghost use Rattle.compact_repr.specs.Cut.{IsCut, IsBoundary, before, after, middle, replaced_text};
-ghost use Rattle.compact_repr.specs.Value.{placed, is_static};
-ghost use Rattle.compact_repr.specs.Capacity.{room_asks, own_asks, kept};
+ghost use Rattle.compact_repr.specs.Value.{is_static};
+ghost use Rattle.compact_repr.specs.Capacity.{room_asks, own_asks};
 ghost use Rattle.compact_str.specs.Room.{IsOwned, HasRoomFor, sure_capacity};
 ghost use Rattle.compact_repr.specs.Change.{inserted, replaced, replace_asks};
-ghost use Rattle.compact_str.specs.Edits.{Removes, split_tail, split_asks};
+ghost use Rattle.compact_str.specs.Edits.{Removes, SplitsOff, split_asks};
 ghost use Rattle.compact_str.specs.Ranges.{IsRange, range_start, range_end};
 
 use crate::string::PolicyString;
@@ -204,7 +204,7 @@ impl<P: Policy> PolicyString<P> {
     #[tactic(auto, using(compact_repr::proofs::TextFacts::text_facts, crate::proofs::EditFacts::position_facts))]
     pub fn split_off(&mut self, index: usize) -> Result<Self, ReserveError>
         requires { IsBoundary self.old.text index }
-        ensures ok { IfOk result (λ tail. (split_tail P.growth self.old index ≡ Some tail) × (let front = before self.old.text index in self.new ≡ placed front (kept self.old front))) }
+        ensures ok { IfOk result (λ tail. SplitsOff P.growth self.old index tail self.new) }
         ensures text { IfOk result (λ tail. (self.new.text ≡ before self.old.text index) × (tail.text ≡ after self.old.text index)) }
         ensures cut { IfOk result (λ tail. IsCut self.old.text index self.new.text tail.text) }
         ensures boundaries { IsOk result → (i : ℕ) → i ≤ index → IsBoundary self.old.text i → IsBoundary self.new.text i }

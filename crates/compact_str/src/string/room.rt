@@ -1,8 +1,8 @@
 //! How room is made and given back.
-ghost use Rattle.std.specs.Prelude.{◌≡◌, Some, OnOk, OnErr, IsOk, IsTrue};
-ghost use Rattle.compact_repr.specs.Capacity.{room_asks, own_asks};
-ghost use Rattle.compact_repr.specs.Change.{reserved, made_owned, Shrinks};
-ghost use Rattle.compact_str.specs.Room.{IsOwned, HasRoomFor};
+ghost use Rattle.std.specs.Prelude.{◌≡◌, Some, OnOk, OnErr, IsTrue};
+ghost use Rattle.compact_repr.specs.Capacity.{own_asks};
+ghost use Rattle.compact_repr.specs.Change.{made_owned, Shrinks};
+ghost use Rattle.compact_str.specs.Room.{IsOwned, Reserves};
 
 use crate::string::PolicyString;
 use compact_repr::{Policy, ReserveError};
@@ -16,11 +16,7 @@ impl<P: Policy> PolicyString<P> {
     /// After `reserve(100)` no append or insertion is refused until 100 bytes have been put in.
     #[inline]
     pub fn reserve(&mut self, additional: usize) -> Result<(), ReserveError>
-        ensures ok { OnOk result (reserved P.growth self.old additional ≡ Some self.new) }
-        ensures text { self.new.text ≡ self.old.text }
-        ensures room { OnOk result (HasRoomFor self.new additional) }
-        ensures succeeds { HasRoomFor self.old additional → IsOk result }
-        ensures err { OnErr result ((self.new ≡ self.old) × IsTrue (room_asks self.old additional)) }
+        ensures { Reserves P.growth self.old additional result self.new }
     {
         self.repr.reserve(additional)
     }
@@ -28,11 +24,7 @@ impl<P: Policy> PolicyString<P> {
     /// `reserve` under its other name, with the same outcome and the same error.
     #[inline]
     pub fn try_reserve(&mut self, additional: usize) -> Result<(), ReserveError>
-        ensures ok { OnOk result (reserved P.growth self.old additional ≡ Some self.new) }
-        ensures text { self.new.text ≡ self.old.text }
-        ensures room { OnOk result (HasRoomFor self.new additional) }
-        ensures succeeds { HasRoomFor self.old additional → IsOk result }
-        ensures err { OnErr result ((self.new ≡ self.old) × IsTrue (room_asks self.old additional)) }
+        ensures { Reserves P.growth self.old additional result self.new }
     {
         self.reserve(additional)
     }

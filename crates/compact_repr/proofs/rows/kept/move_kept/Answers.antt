@@ -5,10 +5,13 @@ use Rattle.compact_repr.proofs.rows.kept.move_kept.Goals.{then-keep, else-keep, 
 use Rattle.compact_repr.proofs.rows.kept.move_kept.Goals as goal
 
 pub loop-read-init : goal.loop-read-init
-loop-read-init g c = (search of_calls, omega arith, omega arith, stands-first g.F.FnMut c.args.keep c.args.row.now c.requires.utf8)
+loop-read-init g c = (search of_calls, omega arith, omega arith, stands-first g.F.FnMut c.args.keep.now c.args.row.now c.requires.utf8)
 
 pub returns-clause-text : goal.returns-clause-text
-returns-clause-text g c = stands-last g.F.FnMut c.args.keep c.loop-read.keep (text_of c.args.row.now) c.loop-read.row c.loop-read.kept c.loop-read.read (omega arith) c.loop-read.invariant.3
+returns-clause-text g c = stands-last g.F.FnMut c.args.keep.now c.loop-read.keep (text_of c.args.row.now) c.loop-read.row c.loop-read.kept c.loop-read.read (omega arith) c.loop-read.invariant.3
+
+pub returns-clause-callable : goal.returns-clause-callable
+returns-clause-callable g c = c.loop-read.invariant.0
 
 pub returns-clause-utf8 : goal.returns-clause-utf8
 returns-clause-utf8 g c = c.loop-read.invariant.3.1
@@ -20,15 +23,15 @@ pub loop-character-preserved : goal.loop-character-preserved
 loop-character-preserved g c =
     let inv = c.loop-character.invariant in
     let next = c.in-Some.ensures in
-    let stands : Stands g.F.FnMut c.args.keep (text_of c.args.row.now) c.keep.new.self c.if-keep.row c.if-keep.kept (c.loop-character.read + 1) =
+    let stands : Stands g.F.FnMut c.args.keep.now (text_of c.args.row.now) c.keep.new.self c.if-keep.row c.if-keep.kept (c.loop-character.read + 1) =
     elim c.if-keep.branch [
       | then-keep w ↦
           rw (w.kept-is, w.row-is)
-          (stands-kept g.F.FnMut c.args.keep c.loop-character.keep c.keep.new.self (text_of c.args.row.now) c.loop-character.row w.put.new.row c.loop-character.kept c.loop-character.read 1 c.in-Some.character c.keep.result
+          (stands-kept g.F.FnMut c.args.keep.now c.loop-character.keep c.keep.new.self (text_of c.args.row.now) c.loop-character.row w.put.new.row c.loop-character.kept c.loop-character.read 1 c.in-Some.character c.keep.result
           w.if-keep.true c.keep.ensures next.scalar inv.1 next.encoded (next.rest refl) w.put.ensures.front w.put.ensures.behind inv.3)
       | else-keep w ↦
           rw (w.kept-is, w.row-is)
-          (stands-dropped g.F.FnMut c.args.keep c.loop-character.keep c.keep.new.self (text_of c.args.row.now) c.loop-character.row c.loop-character.kept c.loop-character.read 1 c.in-Some.character c.keep.result
+          (stands-dropped g.F.FnMut c.args.keep.now c.loop-character.keep c.keep.new.self (text_of c.args.row.now) c.loop-character.row c.loop-character.kept c.loop-character.read 1 c.in-Some.character c.keep.result
           w.if-keep.false c.keep.ensures next.encoded (next.rest refl) inv.3)
     ] in
     let order : (c.if-keep.kept ≤ c.loop-character.read + 1) × (c.loop-character.read + 1 ≤ length c.if-keep.row) × (length c.if-keep.row ≡ length c.loop-character.row) =
@@ -42,15 +45,15 @@ pub loop-read-preserved-then-read-row : goal.loop-read-preserved-then-read-row
 loop-read-preserved-then-read-row g c =
     let inv = c.loop-character.invariant in
     let next = c.char_from-character.ensures in
-    let stands : Stands g.F.FnMut c.args.keep (text_of c.args.row.now) c.keep-then-read-row.new.self c.if-keep-2.row c.if-keep-2.kept (c.loop-character.read + c.char_from-character.result.1) =
+    let stands : Stands g.F.FnMut c.args.keep.now (text_of c.args.row.now) c.keep-then-read-row.new.self c.if-keep-2.row c.if-keep-2.kept (c.loop-character.read + c.char_from-character.result.1) =
     elim c.if-keep-2.branch [
       | then-keep-2 w ↦
           rw (w.kept-is, w.row-is)
-          (stands-kept g.F.FnMut c.args.keep c.loop-character.keep c.keep-then-read-row.new.self (text_of c.args.row.now) c.loop-character.row w.put-then-keep-2.new.row c.loop-character.kept c.loop-character.read c.char_from-character.result.1 c.char_from-character.result.0 c.keep-then-read-row.result
+          (stands-kept g.F.FnMut c.args.keep.now c.loop-character.keep c.keep-then-read-row.new.self (text_of c.args.row.now) c.loop-character.row w.put-then-keep-2.new.row c.loop-character.kept c.loop-character.read c.char_from-character.result.1 c.char_from-character.result.0 c.keep-then-read-row.result
           w.if-keep-2.true c.keep-then-read-row.ensures next.scalar inv.1 next.encoded next.rest w.put-then-keep-2.ensures.front w.put-then-keep-2.ensures.behind inv.3)
       | else-keep-2 w ↦
           rw (w.kept-is, w.row-is)
-          (stands-dropped g.F.FnMut c.args.keep c.loop-character.keep c.keep-then-read-row.new.self (text_of c.args.row.now) c.loop-character.row c.loop-character.kept c.loop-character.read c.char_from-character.result.1 c.char_from-character.result.0 c.keep-then-read-row.result
+          (stands-dropped g.F.FnMut c.args.keep.now c.loop-character.keep c.keep-then-read-row.new.self (text_of c.args.row.now) c.loop-character.row c.loop-character.kept c.loop-character.read c.char_from-character.result.1 c.char_from-character.result.0 c.keep-then-read-row.result
           w.if-keep-2.false c.keep-then-read-row.ensures next.encoded next.rest inv.3)
     ] in
     let order : (c.if-keep-2.kept ≤ c.loop-character.read + c.char_from-character.result.1) × (c.loop-character.read + c.char_from-character.result.1 ≤ length c.if-keep-2.row) =
