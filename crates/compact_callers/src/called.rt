@@ -3,10 +3,12 @@
 use crate::callers::{append_field, keyword, label, record_line};
 use crate::pushes::{joined, joined_in_doubled_room};
 use crate::taken::{every_second, every_second_told, folded, note_spaces, without_spaces};
+use crate::token_callers::{learn, numbers_of};
 use crate::wire_callers::{
     first_record, next_record, pair_sent_and_received, read_records, receive_field, send_field,
     sent_and_received,
 };
+use compact_edit::Interner;
 use compact_str::CompactString;
 use compact_testing::seen::Seen;
 use compact_testing::values::letters;
@@ -133,4 +135,22 @@ fn a_field_is_sent_and_received(rt: HostRuntime) {
     assert_eq!(rt; both.len(), 2);
     assert_eq!(rt; Seen::of(&both[0]), Seen::inline("name"));
     assert_eq!(rt; both[1].as_str(), letters(30));
+}
+
+#[test]
+fn a_text_is_learnt_once(rt: HostRuntime) {
+    let mut names = Interner::new(rt.alloc());
+    let text = CompactString::new(rt.alloc(), "ab, 12 ab").expect(&rt, "memory");
+    let count = learn(rt.alloc(), &mut names, &text).expect(&rt, "memory");
+    assert_eq!(rt; count, 4);
+    let count = learn(rt.alloc(), &mut names, &text).expect(&rt, "memory");
+    assert_eq!(rt; count, 0);
+}
+
+#[test]
+fn a_text_is_a_row_of_numbers(rt: HostRuntime) {
+    let mut names = Interner::new(rt.alloc());
+    let text = CompactString::new(rt.alloc(), "ab, 12 ab").expect(&rt, "memory");
+    let numbers = numbers_of(rt.alloc(), &mut names, &text).expect(&rt, "memory");
+    assert_eq!(rt; numbers.as_slice(), [0, 1, 2, 3, 2, 0].as_slice());
 }

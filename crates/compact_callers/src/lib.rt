@@ -20,6 +20,7 @@ pub mod report_callers;
 mod run_callers;
 pub mod shown_callers;
 mod taken;
+mod token_callers;
 mod wire_callers;
 
 pub use callers::{append_field, keyword, label, record_line};
@@ -39,6 +40,7 @@ pub use run_callers::{Doubling, bracket, refill, rewrite};
 pub use taken::{
     every_second, every_second_told, folded, move_range, note_spaces, take_range, without_spaces,
 };
+pub use token_callers::{learn, numbers_of};
 pub use wire_callers::{
     first_record, next_record, pair_sent_and_received, read_records, receive_field, send_field,
     sent_and_received,

@@ -1,10 +1,14 @@
 -- Lines that are answered one by one.
-use Rattle.std.proofs.Common.{rules, codes, ◌≡◌, ℕ, ◌<◌, List, [], ◌∷◌, ◌++◌, length, Option, Some, None, IfSome, sym, refl, ap, ◌∙◌, append_assoc, append-nil, IsTrue, Result, Ok, Err, IfOk, OnOk, OnErr, Bool, true}
+use Rattle.std.proofs.Common.{rules, codes, ◌≡◌, ℕ, ◌<◌, List, [], ◌∷◌, ◌++◌, ◌+◌, ◌-◌, length, take, drop, get_or, Option, Some, None, IfSome, sym, refl, ap, ◌∙◌, append_assoc, append-nil, take-append-drop, subst, IsTrue, Result, Ok, Err, IfOk, OnOk, OnErr, Bool, true, inl, inr}
 use Rattle.std.specs.Option.{option_map}
 use Rattle.std.specs.List.{concat}
 use Rattle.std.specs.Io.KnownBytes.{Appends, Keeps, IsAtEnd}
 use Rattle.std.specs.Io.BufRead.{drop_through, take_through, strip_last, DropsThrough}
 use Rattle.std.specs.Str.{IsUtf8, is_utf8}
+use Rattle.std.proofs.KnownBytes.{Keeps-refl}
+use Rattle.std.proofs.lemmas.Grind.{flat_map-append}
+use Rattle.std.proofs.lemmas.List.{drop_more, take_rest}
+use Rattle.std.specs.Borrow.{Bor}
 use Rattle.std.proofs.lemmas.Str.{is_utf8-from_IsUtf8}
 use Rattle.compact_str.proofs.ForCallers.{broken-is_utf8}
 use Rattle.compact_str.specs.Value.{PlacedText}
@@ -20,7 +24,7 @@ use Rattle.compact_lines.specs.declared.command.Command.TheVariants as commands
 use Rattle.compact_lines.specs.declared.command.Command.{Command}
 use Rattle.compact_lines.specs.Sessions.{Executes, command_asks}
 use Rattle.compact_lines.specs.Words.{to, line_command, command_itself, edit_itself, command_of, answers_of}
-use Rattle.compact_lines.specs.Lines.{AnswersCommand, DoesOrRefuses, outcome_line, value_line, AnswersLine, AnswersLines, AppendsAnswers, IsFirstLine}
+use Rattle.compact_lines.specs.Lines.{AnswersCommand, DoesOrRefuses, outcome_line, value_line, AnswersLine, AnswersLines, AppendsAnswers, IsFirstLine, bytes_of, AppendsFront, AppendsPart, AppendsSomeAnswers}
 
 -- the growth of the program's value
 abbrev pub standard : Growth
@@ -43,6 +47,60 @@ appends-kept (Some known) (Some bs) (Some cs) xs first kept = kept ∙ first
 pub appends-nothing : (a : Option (List ℕ)) → Appends a a []
 appends-nothing None = tt
 appends-nothing (Some known) = sym (append-nil known)
+
+-- what was written of some bytes
+
+pub front-none : (old new : Option (List ℕ)) (bytes : List ℕ) → Keeps old new → AppendsFront old new bytes
+front-none old new bytes kept =
+    record { written = []; unwritten = bytes; parts = refl; appended = appends-kept old old new [] (appends-nothing old) kept }
+
+pub front-all : (old new : Option (List ℕ)) (bytes : List ℕ) → Appends old new bytes → AppendsFront old new bytes
+front-all old new bytes all = record { written = bytes; unwritten = []; parts = sym (append-nil bytes); appended = all }
+
+pub front-first : (old new : Option (List ℕ)) (head tail : List ℕ) → AppendsFront old new head → AppendsFront old new (head ++ tail)
+front-first old new head tail front = record {
+  written = front.written;
+  unwritten = front.unwritten ++ tail;
+  parts = ap (λ l. l ++ tail) front.parts ∙ append_assoc front.written front.unwritten tail;
+  appended = front.appended;
+}
+
+pub front-second : (old mid new : Option (List ℕ)) (head tail : List ℕ) → Appends old mid head → AppendsFront mid new tail → AppendsFront old new (head ++ tail)
+front-second old mid new head tail first front = record {
+  written = head ++ front.written;
+  unwritten = front.unwritten;
+  parts = ap (λ l. head ++ l) front.parts ∙ sym (append_assoc head front.written front.unwritten);
+  appended = appends-both old mid new head front.written first front.appended;
+}
+
+-- n bytes go from what is left to what was written
+pub written-more : (all done rest now : List ℕ) (n : ℕ) (old mid new : Option (List ℕ)) → all ≡ done ++ rest → now ≡ take (length rest - n) (drop n rest)
+    → Appends old mid done → Appends mid new (take n rest) → (x : List ℕ) × (all ≡ x ++ now) × Appends old new x
+written-more all done rest now n old mid new split is first more = (
+  done ++ take n rest,
+  split
+      ∙ ap (λ l. done ++ l) (sym (take-append-drop n rest))
+      ∙ sym (append_assoc done (take n rest) (drop n rest))
+      ∙ ap (λ l. (done ++ take n rest) ++ l) (sym (is ∙ take_rest rest n)),
+  appends-both old mid new done (take n rest) first more,
+)
+
+pub written-same : (all done rest now : List ℕ) (old mid new : Option (List ℕ)) → all ≡ done ++ rest → now ≡ rest
+    → Appends old mid done → Keeps mid new → (x : List ℕ) × (all ≡ x ++ now) × Appends old new x
+written-same all done rest now old mid new split is first kept =
+    (done, split ∙ ap (λ l. done ++ l) (sym is), appends-kept old mid new done first kept)
+
+-- some texts are written, and the next in part
+pub texts-stopped : {X E : Type 0} (r : Result X E) (texts : List (Bor (List ℕ))) (i : ℕ) (d : Bor (List ℕ)) (old mid new : Option (List ℕ)) → i < length texts
+    → Appends old mid (bytes_of (take i texts)) → AppendsFront mid new (get_or texts i d).now → OnErr r (AppendsFront old new (bytes_of texts))
+texts-stopped (Ok x) texts i d old mid new within first front = tt
+texts-stopped (Err e) texts i d old mid new within first front =
+    let text = (get_or texts i d).now in
+    let others = bytes_of (drop (i + 1) texts) in
+    let parts : bytes_of (take i texts) ++ (text ++ others) ≡ bytes_of texts =
+    sym (flat_map-append (λ (t : Bor (List ℕ)). t.now) (take i texts) (get_or texts i d ∷ drop (i + 1) texts))
+    ∙ ap bytes_of (ap (λ x. take i texts ++ x) (sym (drop_more texts i d within)) ∙ take-append-drop i texts) in
+    subst (λ l. AppendsFront old new l) parts (front-second old mid new (bytes_of (take i texts)) (text ++ others) first (front-first mid new text others front))
 
 -- after the first lines comes one more
 pub answers-more : (g : Growth) (v w u : PlacedText) (known left : Option (List ℕ)) (answers : List (List ℕ)) (line answer : List ℕ)
@@ -75,6 +133,31 @@ command-answered (Ok x) g v w u command outcome old mid new ok err first same se
       outcome_line outcome ++ value_line w,
       (outcome, refl, does-or-refuses g v w command outcome ok err),
       appends-both old mid new (outcome_line outcome) (value_line w) first line,
+    )
+
+-- a command that is executed, and whose lines are written in part, is answered in part
+
+pub outcome-stopped : {X E : Type 0} (r : Result X E) (g : Growth) (v w : PlacedText) (command : Command) (outcome : Result (Reply Standard) ReserveError) (old new : Option (List ℕ))
+    → IfOk outcome (λ reply. Executes g v command reply w) → OnErr outcome ((w ≡ v) × IsTrue (command_asks command))
+    → AppendsFront old new (outcome_line outcome)
+    → OnErr r ((answer : List ℕ) × AnswersCommand g v (Some command) answer w × AppendsFront old new answer)
+outcome-stopped (Ok x) g v w command outcome old new ok err front = tt
+outcome-stopped (Err e) g v w command outcome old new ok err front = (
+  outcome_line outcome ++ value_line w,
+  (outcome, refl, does-or-refuses g v w command outcome ok err),
+  front-first old new (outcome_line outcome) (value_line w) front,
+)
+
+pub value-stopped : {X E : Type 0} (r : Result X E) (g : Growth) (v w u : PlacedText) (command : Command) (outcome : Result (Reply Standard) ReserveError)
+    (old mid new : Option (List ℕ)) → IfOk outcome (λ reply. Executes g v command reply w) → OnErr outcome ((w ≡ v) × IsTrue (command_asks command))
+    → Appends old mid (outcome_line outcome) → u ≡ w → OnErr r (AppendsFront mid new (value_line u))
+    → OnErr r ((answer : List ℕ) × AnswersCommand g v (Some command) answer w × AppendsFront old new answer)
+value-stopped (Ok x) g v w u command outcome old mid new ok err first same second = tt
+value-stopped (Err e) g v w u command outcome old mid new ok err first same second =
+    let line = rw same at second in (
+      outcome_line outcome ++ value_line w,
+      (outcome, refl, does-or-refuses g v w command outcome ok err),
+      front-second old mid new (outcome_line outcome) (value_line w) first line,
     )
 
 step-same : (g : Growth) (v w : PlacedText) (a b : Edit Standard) → (IsLegal v a → IsLegal v b) → (IsLegal v b → IsLegal v a)
@@ -150,6 +233,20 @@ pub no-command : {X E : Type 0} (r : Result X E) (g : Growth) (v : PlacedText) (
 no-command (Err e) g v old new wrote = tt
 no-command (Ok x) g v old new wrote = (codes "?\n", (refl, refl), wrote)
 
+-- and what is written of it is a part of the answer of its line
+pub part-of-line : {X E : Type 0} (r : Result X E) (g : Growth) (v w : PlacedText) (command : Option Command) (line : List ℕ) (old new : Option (List ℕ))
+    → line_command line ≡ option_map command_itself command
+    → OnErr r ((answer : List ℕ) × AnswersCommand g v command answer w × AppendsFront old new answer)
+    → OnErr r (AppendsPart g v line old new)
+part-of-line (Ok x) g v w command line old new is answered = tt
+part-of-line (Err e) g v w command line old new is answered =
+    inr (answered.0, w, rw is (answered-itself g v w command answered.0 answered.1), answered.2)
+
+pub no-command-stopped : {X E : Type 0} (r : Result X E) (g : Growth) (v : PlacedText) (old new : Option (List ℕ)) → OnErr r (AppendsFront old new (codes "?\n"))
+    → OnErr r ((answer : List ℕ) × AnswersCommand g v None answer v × AppendsFront old new answer)
+no-command-stopped (Ok x) g v old new wrote = tt
+no-command-stopped (Err e) g v old new wrote = (codes "?\n", (refl, refl), wrote)
+
 concat-snoc : (xss : List (List ℕ)) (ys : List ℕ) → concat (xss ++ ys ∷ []) ≡ concat xss ++ ys
 concat-snoc [] ys = append-nil ys
 concat-snoc (xs ∷ xss) ys = ap (λ z. xs ++ z) (concat-snoc xss ys) ∙ sym (append_assoc xs (concat xss) ys)
@@ -198,3 +295,34 @@ so-far-more g v w u known now next old mid new kept taken line so_far takes some
   rw (concat-snoc so_far.0 answered.0) (appends-kept old new kept (concat so_far.0 ++ answered.0)
       (appends-both old mid new (concat so_far.0) answered.0 so_far.4 answered.2) keeps),
 )
+
+-- the session may stop before any line is read, after some lines, or within an answer
+
+pub stopped-at-first : {X E : Type 0} (r : Result X E) (g : Growth) (v : PlacedText) (known old : Option (List ℕ)) → OnErr r (AppendsSomeAnswers g v known old old)
+stopped-at-first (Ok x) g v known old = tt
+stopped-at-first (Err e) g v known old = ([], known, v, (refl, refl), front-none old old [] (Keeps-refl old))
+
+pub stopped-after : {X E : Type 0} (r : Result X E) (g : Growth) (v w : PlacedText) (known now old new : Option (List ℕ)) → AnswersSoFar g v known now old new w
+    → OnErr r (AppendsSomeAnswers g v known old new)
+stopped-after (Ok x) g v w known now old new so_far = tt
+stopped-after (Err e) g v w known now old new so_far = (so_far.0, so_far.1, w, so_far.2, front-all old new (concat so_far.0) so_far.4)
+
+within-part : (g : Growth) (v w : PlacedText) (known now old mid new : Option (List ℕ)) (taken line : List ℕ)
+    → AnswersSoFar g v known now old mid w → IfSome now (λ bytes. taken ≡ take_through 10 bytes) → 0 < length taken
+    → line ≡ strip_last 10 taken → AppendsPart g w line mid new → AppendsSomeAnswers g v known old new
+within-part g v w known now old mid new taken line so_far takes some stripped (inl kept) =
+    (so_far.0, so_far.1, w, so_far.2, front-all old new (concat so_far.0) (appends-kept old mid new (concat so_far.0) so_far.4 kept))
+within-part g v w known now old mid new taken line so_far takes some stripped (inr part) = (
+  so_far.0 ++ part.0 ∷ [],
+  option_map (λ bytes. drop_through 10 bytes) so_far.1,
+  part.1,
+  answers-more g v w part.1 known so_far.1 so_far.0 line part.0 so_far.2 (first-line now so_far.1 taken line so_far.3 takes some stripped) part.2,
+  rw (concat-snoc so_far.0 part.0) (front-second old mid new (concat so_far.0) part.0 so_far.4 part.3),
+)
+
+pub stopped-within : {X E : Type 0} (r : Result X E) (g : Growth) (v w : PlacedText) (known now old mid new : Option (List ℕ)) (taken line : List ℕ)
+    → AnswersSoFar g v known now old mid w → IfSome now (λ bytes. taken ≡ take_through 10 bytes) → 0 < length taken
+    → line ≡ strip_last 10 taken → AppendsPart g w line mid new → OnErr r (AppendsSomeAnswers g v known old new)
+stopped-within (Ok x) g v w known now old mid new taken line so_far takes some stripped part = tt
+stopped-within (Err e) g v w known now old mid new taken line so_far takes some stripped part =
+    within-part g v w known now old mid new taken line so_far takes some stripped part

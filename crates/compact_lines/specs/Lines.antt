@@ -1,11 +1,12 @@
 -- What the lines of the input are answered. A line ends with the byte 10, which the last may lack.
-use Rattle.std.specs.Prelude.{◌≡◌, ◌<◌, ℕ, List, [], ◌∷◌, ◌++◌, length, codes, Option, None, Some, IfSome, IsTrue, Result, Ok, Err}
+use Rattle.std.specs.Prelude.{◌≡◌, ◌<◌, ℕ, List, [], ◌∷◌, ◌++◌, ◌⊎◌, length, flat_map, codes, Option, None, Some, IfSome, IsTrue, Result, Ok, Err}
+use Rattle.std.specs.Borrow.{Bor}
 use Rattle.std.specs.Option.{option_map}
 use Rattle.std.specs.List.{concat}
 use Rattle.std.specs.Char.{encode_utf8}
 use Rattle.std.specs.Fmt.{decimal}
 use Rattle.std.specs.Io.BufRead.{first_piece, drop_through}
-use Rattle.std.specs.Io.KnownBytes.{IsAtEnd, Appends}
+use Rattle.std.specs.Io.KnownBytes.{IsAtEnd, Appends, Keeps}
 use Rattle.compact_str.specs.Text.{utf8, size}
 use Rattle.compact_str.specs.Value.{Place, inline, heap, static, PlacedText}
 use Rattle.compact_str.specs.Capacity.{Growth}
@@ -16,6 +17,17 @@ use Rattle.compact_edit.specs.declared.edit.Reply.TheVariants.{Done, Char, Text,
 use Rattle.compact_lines.specs.declared.command.Command.{Command}
 use Rattle.compact_lines.specs.Sessions.{Executes, command_asks}
 use Rattle.compact_lines.specs.Words.{line_command}
+
+-- the bytes of some texts, one after another
+abbrev pub bytes_of : List (Bor (List ℕ)) → List ℕ
+bytes_of texts = flat_map (λ t. t.now) texts
+
+-- what a writer has taken grew by a front of the bytes, which may be none of them or all
+pub record AppendsFront (old new : Option (List ℕ)) (bytes : List ℕ) : Type 0 where
+  pub written : List ℕ
+  pub unwritten : List ℕ
+  pub parts : bytes ≡ written ++ unwritten
+  pub appended : Appends old new written
 
 -- the line that a reply is written as
 abbrev pub reply_line : Reply Standard → List ℕ
@@ -59,6 +71,11 @@ AnswersCommand g v (Some command) answer w =
 abbrev pub AnswersLine : Growth → PlacedText → List ℕ → List ℕ → PlacedText → Type 0
 AnswersLine g v line answer w = AnswersCommand g v (line_command line) answer w
 
+-- what a writer has taken stayed, or grew by a front of what the line may be answered from v on
+abbrev pub AppendsPart : Growth → PlacedText → List ℕ → Option (List ℕ) → Option (List ℕ) → Type 0
+AppendsPart g v line old new =
+    Keeps old new ⊎ ((answer : List ℕ) × (w : PlacedText) × AnswersLine g v line answer w × AppendsFront old new answer)
+
 -- the line is the first one of the known bytes
 abbrev pub IsFirstLine : Option (List ℕ) → List ℕ → Type 0
 IsFirstLine known line = IfSome known (λ bytes. (0 < length bytes) × (line ≡ first_piece 10 bytes))
@@ -78,3 +95,9 @@ AnswersAll g v known answers w = (left : Option (List ℕ)) × IsAtEnd left × A
 abbrev pub AppendsAnswers : Growth → PlacedText → Option (List ℕ) → Option (List ℕ) → Option (List ℕ) → PlacedText → Type 0
 AppendsAnswers g v known old new w =
     (answers : List (List ℕ)) × AnswersAll g v known answers w × Appends old new (concat answers)
+
+-- from v some first lines of the known bytes, or none, are answered so, and what a writer has taken grew by a front of that
+abbrev pub AppendsSomeAnswers : Growth → PlacedText → Option (List ℕ) → Option (List ℕ) → Option (List ℕ) → Type 0
+AppendsSomeAnswers g v known old new =
+    (answers : List (List ℕ)) × (left : Option (List ℕ)) × (w : PlacedText) × AnswersLines g v known answers left w
+    × AppendsFront old new (concat answers)

@@ -4,5 +4,6 @@
 mod command;
 mod lines;
 mod session;
+mod write;
 
 pub use lines::run_lines;

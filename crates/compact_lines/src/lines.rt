@@ -1,15 +1,17 @@
 //! Lines in, lines out.
-ghost use Rattle.std.specs.Prelude.{◌≡◌, ◌≤◌, List, ℕ, [], OnOk, Some};
+ghost use Rattle.std.specs.Prelude.{◌≡◌, ◌≤◌, List, ℕ, [], OnErr, OnOk, Some};
 ghost use Rattle.std.specs.Io.BufRead.{strip_last};
 ghost use Rattle.std.specs.Io.KnownBytes.{Appends};
 ghost use Rattle.compact_str.specs.Value.{placed, PlacedText};
 ghost use Rattle.compact_str.specs.Capacity.{inlined};
-ghost use Rattle.compact_lines.specs.Lines.{AnswersLine, AnswersCommand, AppendsAnswers, outcome_line, reply_line, value_line};
+ghost use Rattle.compact_lines.specs.Lines.{AnswersLine, AnswersCommand, AppendsAnswers, AppendsFront, AppendsPart, AppendsSomeAnswers, outcome_line, reply_line, value_line};
 
 use crate::command::{Command, answers, parse};
 use crate::session::Session;
+use crate::write::write_texts;
 use compact_edit::Reply;
 use compact_str::{CompactString, Policy, ReserveError, Standard};
+use itoa::Buffer;
 use std::alloc::Global;
 use std::io;
 use std::io::{BufRead, BufReader, Read, Write};
@@ -21,10 +23,14 @@ use std::io::{BufRead, BufReader, Read, Write};
 /// gives the one line `?` and changes nothing. Each answer goes out in pieces, and the writer is flushed after it.
 ///
 /// Where the bytes of the reader are known, 0 says that all their lines were answered, one by one from the empty value on;
-/// and where those of the writer are known, that just these answers have come behind them.
+/// and where those of the writer are known, that just these answers have come behind them. 1 says that what has come behind
+/// them is a front of the answers to some first lines.
 pub fn run_lines<R: Read, W: Write>(alloc: Global, reader: &mut R, writer: &mut W) -> u8
     ensures status { result ≤ 1 }
-    ensures answers { result ≡ 0 → (w : PlacedText) × AppendsAnswers ⟦<Standard as Policy>⟧.growth (placed [] inlined) (R.remaining reader.old) (W.contents writer.old) (W.contents writer.new) w }
+    ensures answers { result ≡ 0 → (w : PlacedText) × AppendsAnswers ⟦<Standard as Policy>⟧.growth
+        (placed [] inlined) (R.remaining reader.old) (W.contents writer.old) (W.contents writer.new) w }
+    ensures stopped { result ≡ 1 → AppendsSomeAnswers ⟦<Standard as Policy>⟧.growth
+        (placed [] inlined) (R.remaining reader.old) (W.contents writer.old) (W.contents writer.new) }
 {
     match answer_input(alloc, reader, writer) {
         Ok(()) => 0,
@@ -34,7 +40,10 @@ pub fn run_lines<R: Read, W: Write>(alloc: Global, reader: &mut R, writer: &mut 
 
 /// Answers each line of a reader, from the empty value on.
 fn answer_input<R: Read, W: Write>(alloc: Global, reader: &mut R, writer: &mut W) -> io::Result<()>
-    ensures { OnOk result ((w : PlacedText) × AppendsAnswers ⟦<Standard as Policy>⟧.growth (placed [] inlined) (R.remaining reader.old) (W.contents writer.old) (W.contents writer.new) w) }
+    ensures ok { OnOk result ((w : PlacedText) × AppendsAnswers ⟦<Standard as Policy>⟧.growth
+        (placed [] inlined) (R.remaining reader.old) (W.contents writer.old) (W.contents writer.new) w) }
+    ensures err { OnErr result (AppendsSomeAnswers ⟦<Standard as Policy>⟧.growth
+        (placed [] inlined) (R.remaining reader.old) (W.contents writer.old) (W.contents writer.new)) }
 {
     let mut reader = BufReader::new(alloc, reader)?;
     let mut session = Session::new(alloc)?;
@@ -48,7 +57,10 @@ fn answer_lines<B: BufRead, W: Write>(
     reader: &mut B,
     writer: &mut W,
 ) -> io::Result<()>
-    ensures { OnOk result (AppendsAnswers ⟦<Standard as Policy>⟧.growth session.old (B.remaining reader.old) (W.contents writer.old) (W.contents writer.new) session.new) }
+    ensures ok { OnOk result (AppendsAnswers ⟦<Standard as Policy>⟧.growth
+        session.old (B.remaining reader.old) (W.contents writer.old) (W.contents writer.new) session.new) }
+    ensures err { OnErr result (AppendsSomeAnswers ⟦<Standard as Policy>⟧.growth
+        session.old (B.remaining reader.old) (W.contents writer.old) (W.contents writer.new)) }
 {
     let mut line = Vec::new(alloc);
     for _ in 0..u64::MAX {
@@ -81,14 +93,18 @@ fn answer_line<W: Write>(
     line: &[u8],
     writer: &mut W,
 ) -> io::Result<()>
-    ensures { OnOk result ((answer : List ℕ) × AnswersLine ⟦<Standard as Policy>⟧.growth session.old line.now answer session.new × Appends (W.contents writer.old) (W.contents writer.new) answer) }
+    ensures ok { OnOk result ((answer : List ℕ)
+        × AnswersLine ⟦<Standard as Policy>⟧.growth session.old line.now answer session.new
+        × Appends (W.contents writer.old) (W.contents writer.new) answer) }
+    ensures err { OnErr result (AppendsPart ⟦<Standard as Policy>⟧.growth
+        session.old line.now (W.contents writer.old) (W.contents writer.new)) }
 {
     let Ok(line) = std::str::from_utf8(line) else {
-        return writer.write_all(b"?\n");
+        return write_texts(&["?\n"], writer);
     };
     let answers = answers(alloc, line)?;
     let Some(command) = parse(line, answers.as_slice()) else {
-        return writer.write_all(b"?\n");
+        return write_texts(&["?\n"], writer);
     };
     answer_command(session, command, writer)
 }
@@ -99,7 +115,12 @@ fn answer_command<W: Write>(
     command: Command,
     writer: &mut W,
 ) -> io::Result<()>
-    ensures { OnOk result ((answer : List ℕ) × AnswersCommand ⟦<Standard as Policy>⟧.growth session.old (Some command.entry) answer session.new × Appends (W.contents writer.old) (W.contents writer.new) answer) }
+    ensures ok { OnOk result ((answer : List ℕ)
+        × AnswersCommand ⟦<Standard as Policy>⟧.growth session.old (Some command.entry) answer session.new
+        × Appends (W.contents writer.old) (W.contents writer.new) answer) }
+    ensures err { OnErr result ((answer : List ℕ)
+        × AnswersCommand ⟦<Standard as Policy>⟧.growth session.old (Some command.entry) answer session.new
+        × AppendsFront (W.contents writer.old) (W.contents writer.new) answer) }
 {
     let outcome = session.execute(command);
     write_outcome(&outcome, writer)?;
@@ -111,31 +132,36 @@ fn write_outcome<W: Write>(
     outcome: &Result<Reply<Standard>, ReserveError>,
     writer: &mut W,
 ) -> io::Result<()>
-    ensures { OnOk result (Appends (W.contents writer.old) (W.contents writer.new) (outcome_line outcome.now)) }
+    ensures ok { OnOk result (Appends (W.contents writer.old) (W.contents writer.new) (outcome_line outcome.now)) }
+    ensures err { OnErr result (AppendsFront (W.contents writer.old) (W.contents writer.new) (outcome_line outcome.now)) }
 {
     match outcome {
         Ok(reply) => write_reply(reply, writer),
-        Err(_) => writer.write_all(b"refused\n"),
+        Err(_) => write_texts(&["refused\n"], writer),
     }
 }
 
 /// Writes the line of a reply.
 fn write_reply<W: Write>(reply: &Reply<Standard>, writer: &mut W) -> io::Result<()>
-    ensures { OnOk result (Appends (W.contents writer.old) (W.contents writer.new) (reply_line reply.now)) }
+    ensures ok { OnOk result (Appends (W.contents writer.old) (W.contents writer.new) (reply_line reply.now)) }
+    ensures err { OnErr result (AppendsFront (W.contents writer.old) (W.contents writer.new) (reply_line reply.now)) }
 {
     match reply {
-        Reply::Done => writer.write_all(b"done\n"),
-        Reply::Char(Some(character)) => writeln!(writer, "char {character}"),
-        Reply::Char(None) => writer.write_all(b"none\n"),
-        Reply::Text(text) => writeln!(writer, "text {}", text.as_str()),
-        Reply::BadPosition => writer.write_all(b"bad position\n"),
-        Reply::Refused(_) => writer.write_all(b"refused\n"),
+        Reply::Done => write_texts(&["done\n"], writer),
+        Reply::Char(Some(character)) => {
+            write_texts(&["char ", character.encode_utf8(&mut [0; 4]), "\n"], writer)
+        }
+        Reply::Char(None) => write_texts(&["none\n"], writer),
+        Reply::Text(text) => write_texts(&["text ", text.as_str(), "\n"], writer),
+        Reply::BadPosition => write_texts(&["bad position\n"], writer),
+        Reply::Refused(_) => write_texts(&["refused\n"], writer),
     }
 }
 
 /// Writes the line of a value.
 fn write_value<W: Write>(value: &CompactString, writer: &mut W) -> io::Result<()>
-    ensures { OnOk result (Appends (W.contents writer.old) (W.contents writer.new) (value_line value.now)) }
+    ensures ok { OnOk result (Appends (W.contents writer.old) (W.contents writer.new) (value_line value.now)) }
+    ensures err { OnErr result (AppendsFront (W.contents writer.old) (W.contents writer.new) (value_line value.now)) }
 {
     let place = if value.is_heap_allocated() {
         "heap"
@@ -144,7 +170,12 @@ fn write_value<W: Write>(value: &CompactString, writer: &mut W) -> io::Result<()
     } else {
         "inline"
     };
-    let len = value.len();
-    let capacity = value.capacity();
-    writeln!(writer, "{place} {len} {capacity} {}", value.as_str())
+    let mut len_buffer = Buffer::new();
+    let mut capacity_buffer = Buffer::new();
+    let len = len_buffer.format(value.len());
+    let capacity = capacity_buffer.format(value.capacity());
+    write_texts(
+        &[place, " ", len, " ", capacity, " ", value.as_str(), "\n"],
+        writer,
+    )
 }

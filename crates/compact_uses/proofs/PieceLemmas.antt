@@ -81,6 +81,10 @@ cut-joined front now full bytes len u h joined is =
     ∙ rw (text_of-take bytes len refl u h, text_of-drop bytes len refl u h) (ap (λ x. front ++ x) (sym (before-after (text_of bytes) len)))
     ∙ joined
 
+pub next-text : (bytes later : List ℕ) (len c : ℕ) → IsUtf8 bytes → IsBoundary (text_of bytes) len → drop len bytes ≡ encode_utf8 c ++ later
+    → text_of (drop len bytes) ≡ c ∷ text_of later
+next-text bytes later len c u h e = text_of-drop bytes len refl u h ∙ text_of-next bytes later len c u h e
+
 -- a piece has a character just where it has a byte
 
 pub no-text : (bytes : List ℕ) (is_empty : Bool) → is_empty ≡ (length bytes == 0) → is_empty ≡ true → text_of bytes ≡ []

@@ -1,5 +1,5 @@
 -- What stays of tokens while names come in.
-use Rattle.std.proofs.Common.{◌≡◌, ℕ, ◌+◌, ◌<◌, ◌≤◌, List, [], ◌∷◌, ◌++◌, Bool, true, false, not, IsTrue, ◌↔◌, Option, Some, None, length, slice_get, slice_index_or, flat_map, map, refl, ap, ap₂, sym, ◌∙◌, arith, append-nil, append_assoc, length-append}
+use Rattle.std.proofs.Common.{◌≡◌, ℕ, ◌+◌, ◌<◌, ◌≤◌, List, [], ◌∷◌, ◌++◌, Bool, true, false, not, IsTrue, ◌↔◌, Option, Some, None, Result, Ok, Err, OnErr, length, slice_get, slice_index_or, flat_map, map, refl, ap, ap₂, sym, subst, ◌∙◌, arith, append-nil, append_assoc, length-append}
 use Rattle.std.proofs.lemmas.Grind.{common_steps, flat_map-append}
 use Rattle.std.proofs.lemmas.List.{map-append, length-map}
 use Rattle.std.proofs.lemmas.List.Filters.{length-filter_both}
@@ -15,7 +15,7 @@ use Rattle.compact_edit.proofs.TakenTexts.{still-distinct}
 use Rattle.compact_uses.specs.declared.tokenizer.Kind.{Kind}
 use Rattle.compact_uses.specs.declared.tokenizer.Kind.TheVariants.{Word, Number, Space, Mark}
 use Rattle.compact_uses.specs.declared.tokenizer.Token.{Token}
-use Rattle.compact_uses.specs.Tokens.{kind_of, goes_on, token_text, last_kind, IsToken, AreNamesOf, ArePartedBehind}
+use Rattle.compact_uses.specs.Tokens.{kind_of, goes_on, token_text, last_kind, IsToken, AreNamesOf, AreNamesOfFront, AreParted, ArePartedBehind, BeginsApart}
 
 -- each name keeps its number
 abbrev KeepsNumbers : List (List ℕ) → List (List ℕ) → Type 0
@@ -180,3 +180,51 @@ few-names before names tokens rest text are all joined =
       length-append (flat_map (token_text names) tokens) rest,
       ap length joined,
     )
+
+-- the names where a piece is refused: its text is no name, or it is and there is no room for the token
+
+front-without : (before names : List (List ℕ)) (tokens : List Token) (kind : Kind) (piece others : List ℕ) → All (IsToken names) tokens → AreParted tokens
+    → goes_on (last_kind Mark tokens) kind ≡ false → 0 < length piece → All (λ c. kind_of c ≡ kind) piece → AreNamesOf before names tokens
+    → AreNamesOfFront before names (flat_map (token_text names) tokens ++ piece ++ others)
+front-without before names tokens kind [] others all parted follows filled alike are = absurd (lt_irrefl 0 filled)
+front-without before names tokens kind (c ∷ piece) others all parted follows filled alike are = record {
+  tokens = tokens;
+  rest = (c ∷ piece) ++ others;
+  joined = sym (append_assoc (flat_map (token_text names) tokens) (c ∷ piece) others);
+  alike = all;
+  parted = parted;
+  apart = ap (λ k. goes_on (last_kind Mark tokens) k) (recursion_from_All (λ x. kind_of x ≡ kind) (c ∷ piece) alike).0 ∙ follows;
+  named = are;
+}
+
+pub front-with : (before names after : List (List ℕ)) (tokens : List Token) (token : Token) (piece others : List ℕ) → KeepsNumbers names after
+    → All (IsToken names) tokens → AreParted tokens → goes_on (last_kind Mark tokens) token.kind ≡ false → slice_get after token.name ≡ Some piece
+    → after ≡ firsts (names ++ piece ∷ []) → 0 < length piece → All (λ c. kind_of c ≡ token.kind) piece → (token.kind ≡ Mark → length piece ≤ 1)
+    → BeginsApart token.kind others → AreNamesOf before names tokens
+    → AreNamesOfFront before after (flat_map (token_text names) tokens ++ piece ++ others)
+front-with before names after tokens token piece others keep all parted follows at is filled alike single apart are = record {
+  tokens = tokens ++ token ∷ [];
+  rest = others;
+  joined = ap (λ t. t ++ others) (put-joined names after tokens token piece keep all at);
+  alike = put-tokens names after tokens token piece keep all at filled alike single;
+  parted = parted-push Mark tokens token parted follows;
+  apart = subst (λ k. BeginsApart k others) (sym (last-push Mark tokens token)) apart;
+  named = put-names before names after tokens token piece keep all at is are;
+}
+
+pub front-left : {X E : Type 0} (r : Result X E) (names now : List (List ℕ)) (tokens : List Token) (kind : Kind) (piece : List ℕ) → now ≡ names
+    → All (IsToken names) tokens → AreParted tokens → goes_on (last_kind Mark tokens) kind ≡ false → 0 < length piece → All (λ c. kind_of c ≡ kind) piece
+    → OnErr r ((before : List (List ℕ)) (others : List ℕ) → AreNamesOf before names tokens → BeginsApart kind others
+    → AreNamesOfFront before now (flat_map (token_text names) tokens ++ piece ++ others))
+front-left (Ok x) names now tokens kind piece same all parted follows filled alike = tt
+front-left (Err e) names now tokens kind piece same all parted follows filled alike =
+    λ before others are apart. rw same (front-without before names tokens kind piece others all parted follows filled alike are)
+
+-- the tokens, the piece and what stands behind it are the text
+pub front-of : {X E : Type 0} (r : Result X E) (before names : List (List ℕ)) (text full : List ℕ) → text ≡ full → AreNamesOfFront before names text
+    → OnErr r (AreNamesOfFront before names full)
+front-of (Ok x) before names text full same front = tt
+front-of (Err e) before names text full same front = subst (λ t. AreNamesOfFront before names t) same front
+
+pub begins-apart : (kind : Kind) (text more : List ℕ) (c : ℕ) → text ≡ c ∷ more → goes_on kind (kind_of c) ≡ false → BeginsApart kind text
+begins-apart kind text more c is apart = rw is apart

@@ -1,4 +1,5 @@
 pub mod Tokens
 pub mod Columns
 pub mod Lines
+pub mod Reading
 pub mod Records

@@ -1,5 +1,5 @@
 -- Tokens: what each is made of, and its text among the names of an interner.
-use Rattle.std.specs.Prelude.{◌≡◌, ◌<◌, ◌++◌, ℕ, List, [], length, map, slice_get, if◌then◌else◌, ⊤}
+use Rattle.std.specs.Prelude.{◌≡◌, ◌<◌, ◌++◌, ℕ, List, [], flat_map, length, map, slice_get, if◌then◌else◌, ⊤}
 use Rattle.std.specs.Option.{unwrap_or}
 use Rattle.std.specs.List.{All}
 use Rattle.std.specs.Char.{is_whitespace}
@@ -65,3 +65,19 @@ IsTokenRefusal names Full = length names ≡ 4294967295
 -- the names are distinct: those that stood at first, and the texts of the tokens, by first occurrence
 abbrev pub AreNamesOf : List (List ℕ) → List (List ℕ) → List Token → Type 0
 AreNamesOf before names tokens = (firsts names ≡ names) × (names ≡ firsts (before ++ map (token_text names) tokens))
+
+-- the text does not begin with a character that goes on with a token of this kind
+abbrev pub BeginsApart : Kind → List ℕ → Type 0
+BeginsApart kind [] = Unit
+BeginsApart kind (c ∷ cs) = goes_on kind (kind_of c) ≡ false
+
+-- The names are distinct: those that stood at first, and the texts of the first tokens of the text, by first occurrence. With
+-- the last of these tokens the rest of the text does not go on.
+pub record AreNamesOfFront (before names : List (List ℕ)) (text : List ℕ) : Type 0 where
+  pub tokens : List Token
+  pub rest : List ℕ
+  pub joined : flat_map (token_text names) tokens ++ rest ≡ text
+  pub alike : All (IsToken names) tokens
+  pub parted : AreParted tokens
+  pub apart : BeginsApart (last_kind Mark tokens) rest
+  pub named : AreNamesOf before names tokens

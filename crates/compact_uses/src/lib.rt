@@ -6,7 +6,8 @@ mod report;
 mod tokenizer;
 
 pub use records::{
-    Fault, LineError, Place, RecordsCause, RecordsError, fields_of, line_of, read_records,
+    Fault, LineError, RecordsCause, RecordsError, fields_of, line_of,
+    plain_fields_read_as_themselves, read_records,
 };
 pub use report::aligned_rows;
 pub use tokenizer::{Kind, Token, tokenize};

@@ -11,7 +11,7 @@ mod read;
 mod write;
 
 use compact_str::CompactString;
-pub use read::{Fault, LineError, Place, fields_of};
+pub use read::{Fault, LineError, fields_of, plain_fields_read_as_themselves};
 use std::alloc::Global;
 use std::io;
 use std::io::{BufRead, BufReader, ErrorKind, Read};

@@ -1,10 +1,10 @@
 //! A text cut into words, numbers, white space and marks, each interned.
-ghost use Rattle.std.specs.Prelude.{◌≡◌, ◌++◌, ℕ, List, flat_map, slice_get, Some, IsOk, IfOk, IfErr, OnOk};
+ghost use Rattle.std.specs.Prelude.{◌≡◌, ◌++◌, ℕ, List, flat_map, slice_get, Some, IsOk, IfOk, IfErr, OnOk, OnErr};
 ghost use Rattle.std.specs.List.{All};
 ghost use Rattle.compact_uses.specs.Tokens.{kind_of, token_text, IsToken, IsTokenRefusal};
 ghost use Rattle.std.specs.Prelude.{◌+◌, ◌≤◌, [], false, length};
 ghost use Rattle.compact_str.specs.Text.{text_of};
-ghost use Rattle.compact_uses.specs.Tokens.{goes_on, last_kind, AreNamesOf, AreParted};
+ghost use Rattle.compact_uses.specs.Tokens.{goes_on, last_kind, AreNamesOf, AreNamesOfFront, AreParted, BeginsApart};
 ghost use Rattle.compact_uses.specs.declared.tokenizer.Kind.{Kind};
 ghost use Rattle.compact_uses.specs.declared.tokenizer.Kind.TheVariants.{Mark};
 
@@ -59,9 +59,10 @@ fn goes_on(kind: Kind, next: Kind) -> bool
 /// Each is as long as can be: no token goes on where the one before it ends. A mark is one character.
 ///
 /// The names are then those that stood and the texts of the tokens, by first occurrence. An error says that no memory was
-/// found, or that no number was left for a name, of which 2^32 - 1 stand then; of the empty text it never comes. In any case
-/// names keep their numbers, and no more come in than the text has characters. Of `ab, 12` the tokens are the word `ab`, the
-/// mark `,`, a space and the number `12`.
+/// found, or that no number was left for a name, of which 2^32 - 1 stand then; of the empty text it never comes. After an
+/// error the names are those that stood and the texts of the first tokens, up to some place. In any case names keep their
+/// numbers, and no more come in than the text has characters. Of `ab, 12` the tokens are the word `ab`, the mark `,`, a space
+/// and the number `12`.
 pub fn tokenize(
     alloc: Global,
     names: &mut Interner,
@@ -74,6 +75,7 @@ pub fn tokenize(
     ensures kept { (n : ℕ) (name : List ℕ) → slice_get names.old n ≡ Some name → slice_get names.new n ≡ Some name }
     ensures bound { length names.new ≤ length names.old + length text.now.text }
     ensures empty { text.now.text ≡ [] → IsOk result }
+    ensures front { OnErr result (AreNamesOfFront names.old names.new text.now.text) }
     ensures err { IfErr result (IsTokenRefusal names.new) }
 {
     let _distinct = names.len();
@@ -118,6 +120,10 @@ fn put(
     ensures kept { (n : ℕ) (name : List ℕ) → slice_get names.old n ≡ Some name → slice_get names.new n ≡ Some name }
     ensures bound { length names.new ≤ length names.old + length (text_of piece.now) }
     ensures empty { text_of piece.now ≡ [] → IsOk result }
+    ensures front { OnErr result ((before : List (List ℕ)) (others : List ℕ)
+        → AreNamesOf before names.old tokens.old.items → BeginsApart kind others
+        → AreNamesOfFront before names.new
+        (flat_map (token_text names.old) tokens.old.items ++ text_of piece.now ++ others)) }
     ensures err { IfErr result (IsTokenRefusal names.new) }
 {
     if piece.is_empty() {

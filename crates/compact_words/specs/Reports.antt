@@ -1,8 +1,11 @@
 -- The report of the most frequent words of a text.
-use Rattle.std.specs.Prelude.{◌≡◌, ◌≤◌, ℕ, List, [], ◌∷◌, decimal, flat_map, length, map, slice_get, take, ⊤}
+use Rattle.std.specs.Prelude.{◌≡◌, ◌≤◌, ℕ, List, [], ◌∷◌, ◌++◌, decimal, Option, flat_map, length, map, slice_get, take, ⊤}
 use Rattle.std.specs.Global.{Vec}
 use Rattle.std.specs.List.{All}
 use Rattle.std.specs.Option.{unwrap_or}
+use Rattle.std.specs.Io.KnownBytes.{Appends}
+use Rattle.compact_str.specs.Utf8Text.{utf8_lossy_text}
+use Rattle.compact_str.specs.Text.{ascii_lowercase, utf8}
 use Rattle.compact_str.specs.Value.{PlacedText}
 use Rattle.compact_str.specs.Order.{text_in}
 use Rattle.compact_edit.specs.declared.intern.InternError.{InternError}
@@ -37,3 +40,16 @@ pub record IsReport (text : List ℕ) (most : ℕ) (lines : List (List ℕ)) : T
 abbrev pub IsReportRefusal : List ℕ → InternError → Type 0
 IsReportRefusal text (Reserve error) = ⊤
 IsReportRefusal text Full = 4294967295 ≤ length text
+
+-- the text of some bytes whose words are counted: U+FFFD stands for what is no text, and ASCII letters are made small
+abbrev pub counted_text : List ℕ → List ℕ
+counted_text bytes = ascii_lowercase (utf8_lossy_text bytes)
+
+-- the bytes of some lines, each with its end
+abbrev pub bytes_of_lines : List (List ℕ) → List ℕ
+bytes_of_lines lines = flat_map (λ line. utf8 line ++ 10 ∷ []) lines
+
+-- what a writer has taken grew by the lines of a report of the text
+abbrev pub AppendsReport : List ℕ → ℕ → Option (List ℕ) → Option (List ℕ) → Type 0
+AppendsReport text most old new =
+    (lines : List (List ℕ)) × IsReport text most lines × Appends old new (bytes_of_lines lines)

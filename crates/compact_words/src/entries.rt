@@ -1,5 +1,5 @@
 //! How often each word of a text stands there, and which are the most frequent.
-ghost use Rattle.std.specs.Prelude.{◌≡◌, ◌<◌, ℕ, length, slice_index, IfOk};
+ghost use Rattle.std.specs.Prelude.{◌≡◌, ◌<◌, ℕ, length, slice_index, IfOk, IsOk};
 ghost use Rattle.compact_words.specs.Entries.{word_count, entries_before, IsRanking};
 
 use compact_uses::{Kind, Token};
@@ -15,19 +15,24 @@ pub struct Entry {
 
 /// The words among some tokens, the most frequent first, and of those that are as frequent the one with the lower number.
 ///
-/// An error says that no memory was found.
+/// An error says that no memory was found; of no names it never comes.
 pub fn ranking(alloc: Global, tokens: &[Token], names: u32) -> Result<Vec<Entry>, AllocError>
-    ensures { IfOk result (λ ranks. IsRanking (entries_before tokens.now names) ranks.items) }
+    ensures ranks { IfOk result (λ ranks. IsRanking (entries_before tokens.now names) ranks.items) }
+    ensures empty { names ≡ 0 → IsOk result }
 {
     let mut ranks = entries(alloc, tokens, names)?;
     ranks.sort_by_key(|entry| Reverse(entry.count))?;
     Ok(ranks)
 }
 
-/// The words among some tokens, in the order of their numbers.
+/// The words among some tokens, in the order of their numbers. Of no names it is never refused.
 fn entries(alloc: Global, tokens: &[Token], names: u32) -> Result<Vec<Entry>, AllocError>
-    ensures { IfOk result (λ entries. entries.items ≡ entries_before tokens.now names) }
+    ensures entries { IfOk result (λ entries. entries.items ≡ entries_before tokens.now names) }
+    ensures empty { names ≡ 0 → IsOk result }
 {
+    if names == 0 {
+        return Ok(Vec::new(alloc));
+    }
     let counts = word_counts(alloc, tokens, names)?;
     let mut entries = Vec::new(alloc);
     for name in 0..names {
@@ -42,7 +47,8 @@ fn entries(alloc: Global, tokens: &[Token], names: u32) -> Result<Vec<Entry>, Al
 /// How many tokens are the word with each number.
 fn word_counts(alloc: Global, tokens: &[Token], names: u32) -> Result<Vec<usize>, AllocError>
     ensures len { IfOk result (λ counts. length counts.items ≡ names) }
-    ensures counts { IfOk result (λ counts. (n : ℕ) → n < names → slice_index counts.items n ≡ word_count tokens.now n) }
+    ensures counts { IfOk result (λ counts. (n : ℕ) → n < names
+        → slice_index counts.items n ≡ word_count tokens.now n) }
 {
     let mut counts = Vec::from_elem(alloc, 0usize, names as usize)?;
     for token in tokens {

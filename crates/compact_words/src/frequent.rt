@@ -13,7 +13,8 @@ use std::alloc::Global;
 /// A line for each of the `most` most frequent words of a text, `| word | count |`, in columns of one width.
 ///
 /// Of words that are as frequent the one that stands first in the text comes first. An error says that no memory was
-/// found, or that the text has more distinct tokens than there are numbers, and so 2^32 - 1 characters or more.
+/// found, or that the text has more distinct tokens than there are numbers, and so 2^32 - 1 characters or more; of the
+/// empty text it never comes.
 pub fn frequent_words(
     alloc: Global,
     text: &CompactString,
@@ -21,6 +22,7 @@ pub fn frequent_words(
 ) -> Result<Vec<CompactString>, InternError>
     ensures report { IfOk result (λ lines. IsReport text.now.text most (map text_in lines.items)) }
     ensures err { IfErr result (IsReportRefusal text.now.text) }
+    ensures empty { text.now.text ≡ [] → IsOk result }
 {
     let mut names = Interner::new(alloc);
     let tokens = tokenize(alloc, &mut names, text)?;
@@ -39,7 +41,8 @@ fn table_of(
     ranks: &[Entry],
     most: usize,
 ) -> Result<Vec<Vec<CompactString>>, ReserveError>
-    ensures records { IfOk result (λ table. map (λ fields. map text_in fields.items) table.items ≡ map (fields_of names.now) (take most ranks.now)) }
+    ensures records { IfOk result (λ table. map (λ fields. map text_in fields.items) table.items
+        ≡ map (fields_of names.now) (take most ranks.now)) }
     ensures empty { take most ranks.now ≡ [] → IsOk result }
 {
     let shown = &ranks[..usize::min(most, ranks.len())];

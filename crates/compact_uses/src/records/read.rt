@@ -1,7 +1,8 @@
 //! How the fields of a line are read.
 ghost use Rattle.std.specs.Prelude.{◌≡◌, ◌∷◌, ℕ, List, map, Ok, IfOk, IfErr, OnOk};
 ghost use Rattle.compact_str.specs.Order.{text_in};
-ghost use Rattle.compact_uses.specs.Lines.{effect_of, read, fields_of, IsFault};
+ghost use Rattle.compact_uses.specs.Lines.{read, fields_of, IsFault, ReadsPlainFields};
+ghost use Rattle.compact_uses.specs.Reading.{part_of, HasEffect};
 
 use compact_str::{CompactString, ReserveError};
 use std::alloc::Global;
@@ -27,7 +28,7 @@ pub enum LineError {
 
 /// Where a reader stands in a field.
 #[derive(Clone, Copy, Debug, PartialEq, Eq)]
-pub enum Place {
+enum Place {
     /// At its start.
     Start,
     /// Within a field with no quotes.
@@ -53,7 +54,7 @@ enum Effect {
 
 /// What a character does at a place.
 fn effect_of(separator: char, place: Place, character: char) -> Effect
-    ensures { result ≡ effect_of separator place character }
+    ensures { HasEffect separator place character result }
 {
     match place {
         Place::Start if character == '"' => Effect::Skip(Place::Quoted),
@@ -110,11 +111,22 @@ pub fn fields_of(
     Ok(done)
 }
 
+/// A law: fields that have no separator and do not begin with a quote are read as they are where separators part them.
+pub fn plain_fields_read_as_themselves()
+    ensures { ReadsPlainFields }
+{}
+
 impl Reading {
     /// Reads one character.
     fn take(&mut self, separator: char, character: char) -> Result<(), LineError>
-        ensures ok { OnOk result ((rest : List ℕ) → read separator self.old.place (map text_in self.old.done.items) self.old.field.text (character ∷ rest) ≡ read separator self.new.place (map text_in self.new.done.items) self.new.field.text rest) }
-        ensures err { IfErr result (λ error. (rest : List ℕ) → IsFault (read separator self.old.place (map text_in self.old.done.items) self.old.field.text (character ∷ rest)) error) }
+        ensures ok { OnOk result ((rest : List ℕ)
+            → read separator (part_of self.old.place) (map text_in self.old.done.items) self.old.field.text
+            (character ∷ rest)
+            ≡ read separator (part_of self.new.place) (map text_in self.new.done.items) self.new.field.text
+            rest) }
+        ensures err { IfErr result (λ error. (rest : List ℕ) → IsFault
+            (read separator (part_of self.old.place) (map text_in self.old.done.items) self.old.field.text
+            (character ∷ rest)) error) }
     {
         match effect_of(separator, self.place, character) {
             Effect::Keep(place) => {

@@ -2,7 +2,7 @@ use Rattle.std.proofs.Common.{◌≡◌, ◌++◌, ◌∷◌, [], sym, arith, ap
 use Rattle.std.proofs.lemmas.Grind.{common_steps}
 use Rattle.compact_str.specs.Text.{text_of}
 use Rattle.compact_uses.proofs.PieceLemmas.{no-text, filled-text}
-use Rattle.compact_uses.proofs.TokenLemmas.{put-joined, put-names, put-tokens, one-name, parted-push, last-apart, none-apart}
+use Rattle.compact_uses.proofs.TokenLemmas.{put-joined, put-names, put-tokens, one-name, parted-push, last-apart, none-apart, front-left, front-with}
 use Rattle.compact_uses.specs.declared.tokenizer.Kind.TheVariants.{Mark}
 use Rattle.compact_uses.proofs.tokenizer.put.Goals as goal
 
@@ -47,3 +47,15 @@ returns-then-is_err-clause-bound c = one-name _ _ _ c.in_ok-name.ensures.names (
 
 pub returns-clause-bound : goal.returns-clause-bound
 returns-clause-bound c = one-name _ _ _ c.in_ok-name.ensures.names (filled-text c.args.piece.now c.is_empty.result c.utf8.piece c.is_empty.ensures c.if-is_empty.false)
+
+pub returns-in_err-name-clause-front : goal.returns-in_err-name-clause-front
+returns-in_err-name-clause-front c =
+    let filled = filled-text c.args.piece.now c.is_empty.result c.utf8.piece c.is_empty.ensures c.if-is_empty.false in
+    front-left _ _ _ _ c.args.kind _ c.in_err-name.ensures.err c.requires.tokens c.requires.parted c.requires.follows filled c.requires.alike
+
+pub returns-then-is_err-clause-front : goal.returns-then-is_err-clause-front
+returns-then-is_err-clause-front c =
+    let filled = filled-text c.args.piece.now c.is_empty.result c.utf8.piece c.is_empty.ensures c.if-is_empty.false in
+    λ before others are apart. front-with before _ _ _ (record { kind = c.args.kind; name = c.in_ok-name.name }) _ others c.intern.ensures.kept
+    c.requires.tokens c.requires.parted c.requires.follows c.in_ok-name.ensures.number c.in_ok-name.ensures.names filled c.requires.alike
+    c.requires.single apart are

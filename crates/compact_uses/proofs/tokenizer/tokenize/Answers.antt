@@ -6,8 +6,8 @@ use Rattle.compact_str.specs.Cut.{before, after}
 use Rattle.compact_str.proofs.ForCallers.{before-after, text_of-take}
 use Rattle.compact_str.proofs.TextBytes.{boundary-bytes}
 use Rattle.compact_edit.specs.Names.{firsts}
-use Rattle.compact_uses.proofs.PieceLemmas.{next-character, first-character, first-piece, start-boundary, whole-piece, cut-joined, none-next}
-use Rattle.compact_uses.proofs.TokenLemmas.{alike-push, alike-one, goes_on-same, goes_on-no-mark, push-some, one-character, none-alike, few-names}
+use Rattle.compact_uses.proofs.PieceLemmas.{next-character, first-character, first-piece, start-boundary, whole-piece, cut-joined, none-next, next-text}
+use Rattle.compact_uses.proofs.TokenLemmas.{alike-push, alike-one, goes_on-same, goes_on-no-mark, push-some, one-character, none-alike, few-names, front-of, begins-apart}
 use Rattle.compact_uses.specs.Tokens.{goes_on}
 use Rattle.compact_uses.proofs.tokenizer.tokenize.Goals as goal
 
@@ -130,3 +130,20 @@ returns-in_err-put-2-clause-bound c =
 pub returns-clause-bound : goal.returns-clause-bound
 returns-clause-bound c =
     omega (arith, c.put-2.ensures.bound, few-names _ _ _ _ _ c.loop-character.invariant.names c.loop-character.invariant.tokens c.loop-character.invariant.joined)
+
+pub returns-in_err-put-clause-front : goal.returns-in_err-put-clause-front
+returns-in_err-put-clause-front c =
+    let bytes : List ℕ = c.loop-character.rest.now in
+    let len = c.loop-character.len in
+    let later = next-text bytes _ len c.in-Some.character c.loop-character.invariant.is_text c.loop-character.invariant.boundary
+    (c.loop-character.invariant.here ∙ c.in-Some.ensures.steps.0) in
+    let apart : goes_on c.loop-character.kind c.kind_of-next.result ≡ false = sym c.goes_on.ensures ∙ c.if-goes_on.false in
+    let others = begins-apart c.loop-character.kind (text_of (drop len bytes)) _ c.in-Some.character later (rw (sym c.kind_of-next.ensures) apart) in
+    let full = cut-joined _ _ _ bytes len c.loop-character.invariant.is_text c.loop-character.invariant.boundary c.loop-character.invariant.joined refl in
+    front-of _ _ _ _ _ (rw c.split_at.ensures.front full)
+    (c.in_err-put.ensures.front _ (text_of (drop len bytes)) c.loop-character.invariant.names others)
+
+pub returns-in_err-put-2-clause-front : goal.returns-in_err-put-2-clause-front
+returns-in_err-put-2-clause-front c =
+    front-of _ _ _ _ _ (append-nil _ ∙ c.loop-character.invariant.joined)
+    (c.in_err-put-2.ensures.front _ [] c.loop-character.invariant.names tt)

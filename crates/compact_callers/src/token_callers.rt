@@ -1,0 +1,47 @@
+//! Callers of the tokenizer, as users write them, each proved with no proof file.
+#![tactic(auto, using(compact_str::proofs::ForCallers::for_callers))]
+
+ghost use Rattle.std.specs.Prelude.{◌≡◌, ◌-◌, ◌≤◌, ℕ, List, [], length, map, slice_get, Some, IfOk, IsOk, OnErr};
+ghost use Rattle.compact_uses.specs.Tokens.{AreNamesOf, AreNamesOfFront};
+ghost use Rattle.compact_uses.specs.declared.tokenizer.Token.{Token};
+
+use compact_edit::{InternError, Interner};
+use compact_str::{CompactString, ReserveError};
+use compact_uses::tokenize;
+use std::alloc::Global;
+
+/// Learns the words and the other tokens of a text, and answers how many new ones there were: at most one a character.
+///
+/// Where memory is refused, those of a front of the text have been learnt, and no others.
+pub fn learn(
+    alloc: Global,
+    names: &mut Interner,
+    text: &CompactString,
+) -> Result<usize, InternError>
+    ensures count { IfOk result (λ count. count ≡ length names.new - length names.old) }
+    ensures most { IfOk result (λ count. count ≤ length text.now.text) }
+    ensures front { OnErr result (AreNamesOfFront names.old names.new text.now.text) }
+    ensures empty { text.now.text ≡ [] → IsOk result }
+{
+    let before = names.len();
+    tokenize(alloc, names, text)?;
+    Ok(names.len().saturating_sub(before))
+}
+
+/// The numbers of the tokens of a text, in order. In any case names that stood keep their numbers.
+pub fn numbers_of(
+    alloc: Global,
+    names: &mut Interner,
+    text: &CompactString,
+) -> Result<Vec<u32>, InternError>
+    ensures numbers { IfOk result (λ numbers. (tokens : List Token)
+        × AreNamesOf names.old names.new tokens × (numbers.items ≡ map (λ token. token.name) tokens)) }
+    ensures kept { (n : ℕ) (name : List ℕ)
+        → slice_get names.old n ≡ Some name → slice_get names.new n ≡ Some name }
+{
+    let tokens = tokenize(alloc, names, text)?;
+    match tokens.iter().map(|token| token.name).collect(alloc) {
+        Ok(numbers) => Ok(numbers),
+        Err(_) => Err(InternError::Reserve(ReserveError)),
+    }
+}
