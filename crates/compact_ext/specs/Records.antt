@@ -1,5 +1,5 @@
 -- What an iterator over the wire forms of a reader gives.
-use Rattle.std.specs.Prelude.{◌≡◌, ◌^◌, ◌<◌, ◌==◌, ◌++◌, ℕ, List, length, map, if◌then◌else◌, Option, None, Some, Result, Err, IfSome, MatchOption, MatchResult, flat_map, ⊤}
+use Rattle.std.specs.Prelude.{◌≡◌, ◌^◌, ◌<◌, ◌==◌, ◌++◌, ℕ, List, [], ◌∷◌, length, map, if◌then◌else◌, Option, None, Some, Result, Err, IfSome, MatchOption, MatchResult, flat_map, ⊤}
 use Rattle.std.specs.Global.{Vec}
 use Rattle.std.specs.Io.KnownBytes.{Consumes, IsAtEnd}
 use Rattle.std.specs.List.{All}
@@ -63,14 +63,27 @@ abbrev pub GivesRecord : {R : Type 0} → (R → Option (List ℕ)) → Records 
     → Option (Result PlacedText WireError) → Records R → Type 0
 GivesRecord remaining s r t = GivesNext (records_left remaining s) r (left_behind remaining r t)
 
+-- the forms of these texts were taken, and each is placed as `read_wire` places it
+pub record TakesForms (old new : Option (List ℕ)) (texts : List PlacedText) : Type 0 where
+  pub forms : Consumes old new (flat_map (λ v. wire v.text) texts)
+  pub fit : All FitsForm texts
+  pub placed : All IsPlacedAsRead texts
+
 -- some texts' forms were taken, and then comes a fault as `read_wire` tells it
 pub record FailsAfterTexts (known : Option (List ℕ)) (e : WireError) : Type 0 where
   pub texts : List PlacedText
   pub mid : Option (List ℕ)
   pub new : Option (List ℕ)
-  pub took : Consumes known mid (flat_map (λ v. wire v.text) texts)
-  pub fits : All FitsForm texts
+  pub took : TakesForms known mid texts
   pub fails : FailsWithin mid new e
+
+-- the form of a text was taken, after those of others or of none, and the vector had no room for it
+pub record FindsNoRoom (known : Option (List ℕ)) (e : WireError) : Type 0 where
+  pub texts : List PlacedText
+  pub last : PlacedText
+  pub mid : Option (List ℕ)
+  pub took : TakesForms known mid (texts ++ last ∷ [])
+  pub refused : e ≡ Reserve (record {})
 
 -- a text that has a wire form: four bytes can tell its length
 abbrev pub HasForm : List ℕ → Type 0
@@ -82,16 +95,13 @@ abbrev pub ReadsNextBack : {R : Type 0} → (R → Option (List ℕ)) → Record
 ReadsNextBack remaining s r t = (text rest : List ℕ) → HasForm text → records_left remaining s ≡ Some (wire text ++ rest)
     → MatchOption r ⊥ (λ item. MatchResult item (λ v. (v.text ≡ text) × (records_left remaining t ≡ Some rest)) (IsOutsideForm (size text)))
 
--- a fault that lies in no form: the reader failed, or room was refused
-abbrev pub IsOutsideForms : WireError → Type 0
-IsOutsideForms (Io _) = ⊤
-IsOutsideForms (Reserve _) = ⊤
-IsOutsideForms TooLong = ⊥
-IsOutsideForms UnexpectedEnd = ⊥
-IsOutsideForms Utf8 = ⊥
-IsOutsideForms WriteZero = ⊥
+-- a fault that lies not in the forms of these texts: the reader failed, or room for one of them was refused
+abbrev pub IsOutsideForms : List (List ℕ) → WireError → Type 0
+IsOutsideForms texts (Io _) = ⊤
+IsOutsideForms texts (Reserve _) = 0 < length texts
+IsOutsideForms texts _ = ⊥
 
--- where a reader has the forms of some texts and no more, these texts are read, or a fault lies in no form
+-- where a reader has the forms of some texts and no more, these texts are read, or a fault lies not in the forms
 pub record ReadsAllBack (known : Option (List ℕ)) (r : Result (Vec PlacedText) WireError) : Type 0 where
   pub back : (texts : List (List ℕ)) → All HasForm texts → known ≡ Some (flat_map wire texts)
-      → MatchResult r (λ all. map (λ v. v.text) all.items ≡ texts) IsOutsideForms
+      → MatchResult r (λ all. map (λ v. v.text) all.items ≡ texts) (IsOutsideForms texts)

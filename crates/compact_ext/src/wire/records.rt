@@ -5,9 +5,8 @@ ghost use Rattle.std.specs.Iterator.{at_most};
 ghost use Rattle.std.specs.Io.KnownBytes.{IsAtEnd, Keeps};
 ghost use Rattle.std.specs.List.{All};
 ghost use Rattle.compact_str.specs.Text.{utf8};
-ghost use Rattle.compact_ext.specs.Records.{records_left, GivesNext, GivesRecord, FailsAfterTexts, FailsWithin, HasMore, IsPlacedAsRead, FitsForm, ReadsAllBack};
+ghost use Rattle.compact_ext.specs.Records.{records_left, GivesNext, GivesRecord, FailsAfterTexts, FindsNoRoom, HasMore, IsPlacedAsRead, FitsForm, ReadsAllBack};
 ghost use Rattle.compact_ext.specs.Wire.{wire, claimed_len};
-ghost use Rattle.compact_ext.specs.declared.wire.WireError.TheVariants.{Reserve};
 
 use super::read::number_of;
 use super::{WireError, read_wire};
@@ -55,17 +54,26 @@ impl<R: BufRead + Drop> Records<R> {
     ///
     /// Where the reader has whole forms and nothing after them, their texts are read, unless it fails or room is refused.
     ///
-    /// The error is the first fault that `next` gives, or `Reserve` where the vector has no room for one more text. The texts
-    /// before it are given up.
+    /// The error is the first fault that `next` gives, or `Reserve` where the vector has no room for a text that came. The
+    /// texts before it are given up. So a reader with nothing in it is refused only if it fails.
     pub fn into_vec(self) -> Result<Vec<CompactString>, WireError>
         ensures ok { IfOk result (λ texts. IfSome (records_left R.remaining self) (λ bytes. bytes ≡ flat_map (λ v. wire v.text) texts.items)) }
         ensures fits { IfOk result (λ texts. All FitsForm texts.items) }
         ensures placement { IfOk result (λ texts. All IsPlacedAsRead texts.items) }
         ensures back { ReadsAllBack (records_left R.remaining self) result }
-        ensures err { IfErr result (λ e. (e ≡ Reserve (record {})) ⊎ FailsAfterTexts (records_left R.remaining self) e) }
+        ensures err { IfErr result (λ e. FailsAfterTexts (records_left R.remaining self) e ⊎ FindsNoRoom (records_left R.remaining self) e) }
     {
-        let alloc = self.alloc;
-        self.try_collect(alloc)
+        let mut texts = Vec::new(self.alloc);
+        for item in self {
+            let text = match item {
+                Ok(text) => text,
+                Err(fault) => return Err(fault),
+            };
+            if texts.push(text).is_err() {
+                return Err(WireError::Reserve(ReserveError));
+            }
+        }
+        Ok(texts)
     }
 }
 
