@@ -40,6 +40,6 @@ pub use pushes::{joined, joined_in_doubled_room};
 pub use run_callers::{Doubling, bracket, refill, rewrite};
 pub use taken::{every_second, folded, move_range, take_range, without_spaces};
 pub use wire_callers::{
-    first_record, next_record, pair_sent_and_received, read_records, receive_field, send_field,
-    sent_and_received,
+    first_record, next_record, pair_sent_and_received, read_records, read_texts, receive_field,
+    send_field, sent_and_received,
 };

@@ -6,10 +6,10 @@ ghost use Rattle.std.specs.Io.KnownBytes.{Appends, Consumes, IsAtEnd, Keeps};
 ghost use Rattle.compact_str.specs.Capacity.{taken_over};
 ghost use Rattle.compact_str.specs.Text.{size};
 ghost use Rattle.compact_ext.specs.Wire.{wire, IsOutsideForm};
-ghost use Rattle.compact_ext.specs.Records.{HasForm};
+ghost use Rattle.compact_ext.specs.Records.{HasForm, HasTexts};
 
 use compact_ext::wire::{Records, WireError, read_wire, write_wire};
-use compact_str::CompactString;
+use compact_str::{CompactString, ReserveError};
 use std::alloc::Global;
 use std::io::{BufRead, Read, Write};
 
@@ -117,4 +117,26 @@ pub fn first_record<R: BufRead + Drop>(
     ensures back { (text rest : List ℕ) → HasForm text → R.remaining reader ≡ Some (wire text ++ rest) → MatchResult result (λ found. MatchOption found ⊥ (λ v. v.text ≡ text)) (IsOutsideForm (size text)) }
 {
     Records::new(alloc, reader).next().transpose()
+}
+
+/// The texts of a reader until its end. A record that is no text is passed over.
+#[tactic(auto, using(compact_ext::proofs::WireFacts::passed_texts))]
+pub fn read_texts<R: BufRead + Drop>(
+    alloc: Global,
+    reader: R,
+) -> Result<Vec<CompactString>, WireError>
+    ensures { IfOk result (λ texts. IfSome (R.remaining reader) (λ bytes. HasTexts bytes (map (λ v. v.text) texts.items))) }
+{
+    let mut texts = Vec::new(alloc);
+    for item in Records::new(alloc, reader) {
+        let text = match item {
+            Ok(text) => text,
+            Err(WireError::Utf8) => continue,
+            Err(fault) => return Err(fault),
+        };
+        if texts.push(text).is_err() {
+            return Err(WireError::Reserve(ReserveError));
+        }
+    }
+    Ok(texts)
 }

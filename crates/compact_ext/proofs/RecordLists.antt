@@ -10,6 +10,7 @@ use Rattle.std.specs.Io.{StartsWith}
 use Rattle.std.specs.Io.KnownBytes.{Consumes, IsAtEnd, Keeps}
 use Rattle.std.specs.Iterator.Runs.{Run, SomeRun, YieldsRun, EndsAtFirstErr}
 use Rattle.std.proofs.lemmas.List.Elements.{All-nil, All-cons, All-append, All-head, All-tail}
+use Rattle.std.proofs.lemmas.List.{map-append}
 use Rattle.std.proofs.lemmas.Grind.{flat_map-append}
 use Rattle.std.proofs.KnownBytes.{Consumes-nil, Consumes-trans, Keeps-refl}
 use Rattle.compact_str.specs.Text.{size}
@@ -17,9 +18,10 @@ use Rattle.compact_str.specs.Value.{PlacedText}
 use Rattle.compact_ext.specs.declared.wire.WireError.{WireError}
 use Rattle.compact_ext.specs.declared.wire.WireError.TheVariants.{TooLong, UnexpectedEnd, Utf8, Io, WriteZero, Reserve}
 use Rattle.compact_ext.specs.declared.wire.records.Records.{Records}
+use Rattle.compact_ext.specs.Records.HasTexts.{none, text, no_text}
 use Rattle.compact_ext.specs.Wire.{wire, ReadFails, IsOutsideForm}
 use Rattle.compact_ext.proofs.WireForms.{form-tells, length-wire, outside-form, told-text}
-use Rattle.compact_ext.specs.Records.{records_left, left_behind, GivesRecord, GivesNext, FailsAfterTexts, FindsNoRoom, TakesForms, FailsWithin, HasBegun, HasMore, HasForm, IsOutsideForms, IsPlacedAsRead, FitsForm, ReadsAllBack, ReadsNextBack, TakesForm}
+use Rattle.compact_ext.specs.Records.{records_left, left_behind, GivesRecord, GivesNext, FailsAfterTexts, FindsNoRoom, TakesForms, TakesTexts, HasTexts, FailsWithin, HasBegun, HasMore, HasForm, IsOutsideForms, IsPlacedAsRead, FitsForm, ReadsAllBack, ReadsNextBack, TakesForm}
 
 -- a reader that failed before it gave any byte
 
@@ -210,3 +212,34 @@ next-back remaining s t (Some (Ok v)) gives = λ (text rest : List ℕ) (form : 
 next-back remaining s t (Some (Err e)) gives = λ (text rest : List ℕ) (form : HasForm text) (is : records_left remaining s ≡ Some (wire text ++ rest)).
     let fails = gives.fails in
     outside-form text rest fails.taken _ e form.0 form.1 (subst (λ o. Consumes o (left_behind remaining (Some (Err e)) t) fails.taken) is fails.bytes) fails.fault
+
+-- texts that were taken one after another, with forms of no text between them
+
+pub passes-none : (old new : Option (List ℕ)) (texts : List PlacedText) → new ≡ old → texts ≡ [] → TakesTexts old new texts
+passes-none old new texts same empty = record {
+  taken = [];
+  bytes = subst (λ (known : Option (List ℕ)). Consumes old known []) (sym same) (Consumes-nil old);
+  has = subst (λ (l : List PlacedText). HasTexts [] (map (λ (v : PlacedText). v.text) l)) (sym empty) none;
+}
+
+pub passes-text : (old mid new : Option (List ℕ)) (texts : List PlacedText) (v : PlacedText) → TakesTexts old mid texts → TakesForm mid new v → TakesTexts old new (texts ++ v ∷ [])
+passes-text old mid new texts v passed last = record {
+  taken = passed.taken ++ wire v.text;
+  bytes = Consumes-trans old mid new passed.taken (wire v.text) passed.bytes last.form;
+  has = subst (HasTexts (passed.taken ++ wire v.text)) (sym (map-append (λ (w : PlacedText). w.text) texts (v ∷ []))) (text v.text last.fits passed.has);
+}
+
+pub passes-no_text : (old mid new : Option (List ℕ)) (texts : List PlacedText) → TakesTexts old mid texts → FailsWithin mid new Utf8 → TakesTexts old new texts
+passes-no_text old mid new texts passed fault = record {
+  taken = passed.taken ++ fault.fails.taken;
+  bytes = Consumes-trans old mid new passed.taken fault.fails.taken passed.bytes fault.fails.bytes;
+  has = no_text fault.fails.taken fault.fails.fault passed.has;
+}
+
+-- what was taken up to the end is all
+pub passes-all : (old new : Option (List ℕ)) (texts : List PlacedText) → TakesTexts old new texts → IsAtEnd new → IfSome old (λ bytes. HasTexts bytes (map (λ v. v.text) texts))
+passes-all None new texts passed end = tt
+passes-all (Some xs) None texts passed end = absurd passed.bytes
+passes-all (Some xs) (Some ys) texts passed end =
+    let all : xs ≡ passed.taken = passed.bytes ∙ ap (λ (l : List ℕ). passed.taken ++ l) end ∙ append-nil passed.taken in
+    subst (λ (l : List ℕ). HasTexts l (map (λ (v : PlacedText). v.text) texts)) (sym all) passed.has

@@ -1,5 +1,5 @@
 -- What an iterator over the wire forms of a reader gives.
-use Rattle.std.specs.Prelude.{◌≡◌, ◌^◌, ◌<◌, ◌==◌, ◌++◌, ℕ, List, [], ◌∷◌, length, map, if◌then◌else◌, Option, None, Some, Result, Err, IfSome, MatchOption, MatchResult, flat_map, ⊤}
+use Rattle.std.specs.Prelude.{◌≡◌, ◌^◌, ◌<◌, ◌==◌, ◌++◌, ◌+◌, ℕ, List, [], ◌∷◌, length, drop, map, if◌then◌else◌, Option, None, Some, Result, Err, IfSome, MatchOption, MatchResult, flat_map, IsUtf8, ⊤}
 use Rattle.std.specs.Global.{Vec}
 use Rattle.std.specs.Io.KnownBytes.{Consumes, IsAtEnd}
 use Rattle.std.specs.List.{All}
@@ -9,7 +9,7 @@ use Rattle.compact_str.specs.Value.{PlacedText}
 use Rattle.compact_ext.specs.declared.wire.WireError.{WireError}
 use Rattle.compact_ext.specs.declared.wire.WireError.TheVariants.{TooLong, UnexpectedEnd, Utf8, Io, WriteZero, Reserve}
 use Rattle.compact_ext.specs.declared.wire.records.Records.{Records}
-use Rattle.compact_ext.specs.Wire.{wire, ReadFails, IsOutsideForm}
+use Rattle.compact_ext.specs.Wire.{wire, claimed_len, ReadFails, IsOutsideForm}
 
 -- the bytes that texts are still read from, where the reader's type tells them and the iterator has not given up
 abbrev pub records_left : {R : Type 0} → (R → Option (List ℕ)) → Records R → Option (List ℕ)
@@ -105,3 +105,21 @@ IsOutsideForms texts _ = ⊥
 pub record ReadsAllBack (known : Option (List ℕ)) (r : Result (Vec PlacedText) WireError) : Type 0 where
   pub back : (texts : List (List ℕ)) → All HasForm texts → known ≡ Some (flat_map wire texts)
       → MatchResult r (λ all. map (λ v. v.text) all.items ≡ texts) (IsOutsideForms texts)
+
+-- a whole form whose bytes are no text
+abbrev pub IsFormOfNoText : List ℕ → Type 0
+IsFormOfNoText form = (length form ≡ 4 + claimed_len form) × ¬ IsUtf8 (drop 4 form)
+
+-- the bytes are forms in a row, and these are the texts of those that have one, in their order
+pub data HasTexts : List ℕ → List (List ℕ) → Type 0 where
+  none : HasTexts [] []
+  text : {bytes : List ℕ} {texts : List (List ℕ)} (t : List ℕ) → size t < 2 ^ 32
+      → HasTexts bytes texts → HasTexts (bytes ++ wire t) (texts ++ t ∷ [])
+  no_text : {bytes : List ℕ} {texts : List (List ℕ)} (form : List ℕ) → IsFormOfNoText form
+      → HasTexts bytes texts → HasTexts (bytes ++ form) texts
+
+-- bytes were taken that have these texts
+pub record TakesTexts (old new : Option (List ℕ)) (texts : List PlacedText) : Type 0 where
+  pub taken : List ℕ
+  pub bytes : Consumes old new taken
+  pub has : HasTexts taken (map (λ v. v.text) texts)
