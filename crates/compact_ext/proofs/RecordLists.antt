@@ -1,14 +1,14 @@
 -- The texts that were collected until the end spell the bytes that a reader had.
-use Rattle.std.proofs.Common.{◌≡◌, ◌⊎◌, ℕ, zero, suc, ◌+◌, ◌<◌, ◌≤◌, List, [], ◌∷◌, ◌++◌, length, map, Option, None, Some, IfSome, Result, Ok, Err, IfOk, IfErr, refl, IsSomeAnd, slice_get, MatchResult, inl, inr, arith, sym, ap, subst, ◌∙◌, append_assoc, append-nil, length-append}
+use Rattle.std.proofs.Common.{◌≡◌, ◌⊎◌, ℕ, ◌+◌, ◌<◌, ◌≤◌, ◌^◌, List, [], ◌∷◌, ◌++◌, length, take, drop, map, Option, None, Some, IfSome, Result, Ok, Err, IfOk, IfErr, refl, MatchResult, inl, inr, arith, sym, ap, subst, ◌∙◌, append_assoc, append-nil, length-append}
 use Rattle.std.specs.Prelude.{◌==◌, if◌then◌else◌, Bool, false}
 use Rattle.std.proofs.lemmas.Bool.Decides.{nat_tests}
 use Rattle.std.specs.Global.{Vec}
-use Rattle.std.specs.Vec.{vec_len, vec_capacity}
-use Rattle.std.specs.List.{All, FoldsTo, flat_map}
-use Rattle.std.specs.Iterator.{Yields, TryCollects}
+use Rattle.std.specs.List.{All, flat_map}
 use Rattle.std.specs.Io.{StartsWith}
+use Rattle.std.specs.Str.{IsUtf8}
+use Rattle.std.specs.Int.{w32, to_le_bytes}
+use Rattle.std.proofs.Transfers.{starts_with_length}
 use Rattle.std.specs.Io.KnownBytes.{Consumes, IsAtEnd, Keeps}
-use Rattle.std.specs.Iterator.Runs.{Run, SomeRun, YieldsRun, EndsAtFirstErr}
 use Rattle.std.proofs.lemmas.List.Elements.{All-nil, All-cons, All-append, All-head, All-tail}
 use Rattle.std.proofs.lemmas.List.{map-append}
 use Rattle.std.proofs.lemmas.Grind.{flat_map-append}
@@ -20,8 +20,8 @@ use Rattle.compact_ext.specs.declared.wire.WireError.TheVariants.{TooLong, Unexp
 use Rattle.compact_ext.specs.declared.wire.records.Records.{Records}
 use Rattle.compact_ext.specs.Records.HasTexts.{none, text, no_text}
 use Rattle.compact_ext.specs.Wire.{wire, ReadFails, IsOutsideForm}
-use Rattle.compact_ext.proofs.WireForms.{form-tells, length-wire, outside-form, told-text}
-use Rattle.compact_ext.specs.Records.{records_left, left_behind, GivesRecord, GivesNext, FailsAfterTexts, FindsNoRoom, TakesForms, TakesTexts, HasTexts, FailsWithin, HasBegun, HasMore, HasForm, IsOutsideForms, IsPlacedAsRead, FitsForm, ReadsAllBack, ReadsNextBack, TakesForm}
+use Rattle.compact_ext.proofs.WireForms.{form-whole, form-tells, length-wire, outside-form, told-text}
+use Rattle.compact_ext.specs.Records.{records_left, left_behind, GivesRecord, GivesNext, FailsAfterTexts, FindsNoRoom, ShowsNoForm, TakesForms, TakesTexts, HasTexts, FailsWithin, HasBegun, HasMore, HasForm, IsOutsideForms, IsPlacedAsRead, FitsForm, ReadsAllBack, ReadsNextBack, TakesForm}
 
 -- a reader that failed before it gave any byte
 
@@ -87,6 +87,20 @@ gives-record remaining s t r before after gives =
     (subst (λ (new : Option (List ℕ)). GivesNext (remaining s.reader) r new) (sym (behind-known remaining r t after)) gives)
 
 pub ruleset record_steps = (failed-at_once, failed-unread, record-read, more-shown, gives-record)
+
+-- where no whole form stands at the front
+
+pub short-shows_none : (shown : List ℕ) → length shown < 4 → ShowsNoForm shown
+short-shows_none shown short = λ (t : List ℕ) (form : HasForm t) (begins : StartsWith shown (wire t)).
+    absurd (omega (arith, length-wire t, starts_with_length shown (wire t) begins))
+
+pub cut-shows_none : (shown : List ℕ) (n : ℕ) → n < 2 ^ 32 → to_le_bytes w32 n ≡ take 4 shown → length shown < 4 + n → ShowsNoForm shown
+cut-shows_none shown n small head cut = λ (t : List ℕ) (form : HasForm t) (begins : StartsWith shown (wire t)).
+    absurd (omega (arith, (form-whole shown t n small form.1 begins head).0, length-wire t, starts_with_length shown (wire t) begins, cut))
+
+pub broken-shows_none : (shown : List ℕ) (n : ℕ) → n < 2 ^ 32 → to_le_bytes w32 n ≡ take 4 shown → ¬ IsUtf8 (take n (drop 4 shown)) → ShowsNoForm shown
+broken-shows_none shown n small head broken = λ (t : List ℕ) (form : HasForm t) (begins : StartsWith shown (wire t)).
+    broken (subst IsUtf8 (form-whole shown t n small form.1 begins head).1 (t, (form.0, refl)))
 
 abbrev spelled : List PlacedText → List ℕ
 spelled = flat_map (λ v. wire v.text)

@@ -1,6 +1,7 @@
 -- What an iterator over the wire forms of a reader gives.
 use Rattle.std.specs.Prelude.{◌≡◌, ◌^◌, ◌<◌, ◌==◌, ◌++◌, ◌+◌, ℕ, List, [], ◌∷◌, length, drop, map, if◌then◌else◌, Option, None, Some, Result, Err, IfSome, MatchOption, MatchResult, flat_map, IsUtf8, ⊤}
 use Rattle.std.specs.Global.{Vec}
+use Rattle.std.specs.Io.{StartsWith}
 use Rattle.std.specs.Io.KnownBytes.{Consumes, IsAtEnd}
 use Rattle.std.specs.List.{All}
 use Rattle.compact_str.specs.Capacity.{taken_over}
@@ -88,6 +89,10 @@ pub record FindsNoRoom (known : Option (List ℕ)) (e : WireError) : Type 0 wher
 -- a text that has a wire form: four bytes can tell its length
 abbrev pub HasForm : List ℕ → Type 0
 HasForm t = IsText t × size t < 2 ^ 32
+
+-- no whole form of a text stands at the front of the bytes
+abbrev pub ShowsNoForm : List ℕ → Type 0
+ShowsNoForm bytes = (t : List ℕ) → HasForm t → ¬ StartsWith bytes (wire t)
 
 -- where a reader has a text's form and other bytes after it, the next text is that one and these bytes are left, or a fault lies not in
 -- the form

@@ -1,11 +1,11 @@
 //! The texts of a reader, one after another until its end.
-ghost use Rattle.std.specs.Prelude.{◌≡◌, ◌⊎◌, ◌<◌, ◌≤◌, length, flat_map, IfOk, IfSome, IfErr, OnErr, IsUtf8};
+ghost use Rattle.std.specs.Prelude.{◌≡◌, ◌⊎◌, ◌<◌, ◌≤◌, length, flat_map, IfOk, IfSome, IfNone, IfErr, OnErr, IsUtf8};
 ghost use Rattle.std.specs.Io.{StartsWith};
 ghost use Rattle.std.specs.Iterator.{at_most};
 ghost use Rattle.std.specs.Io.KnownBytes.{IsAtEnd, Keeps};
 ghost use Rattle.std.specs.List.{All};
 ghost use Rattle.compact_str.specs.Text.{utf8};
-ghost use Rattle.compact_ext.specs.Records.{records_left, GivesNext, GivesRecord, FailsAfterTexts, FindsNoRoom, HasMore, IsPlacedAsRead, FitsForm, ReadsAllBack};
+ghost use Rattle.compact_ext.specs.Records.{records_left, GivesNext, GivesRecord, FailsAfterTexts, FindsNoRoom, HasMore, IsPlacedAsRead, FitsForm, ReadsAllBack, ShowsNoForm};
 ghost use Rattle.compact_ext.specs.Wire.{wire, claimed_len};
 
 use super::read::number_of;
@@ -126,11 +126,12 @@ fn next_record<R: BufRead>(
     }
 }
 
-/// The text whose form the bytes begin with, or `None` where the form is not whole there, or has no text in it. The error
-/// says that room for a text of more than 24 bytes was refused.
+/// The text whose form the bytes begin with, or `None` where no whole form of a text stands there. The error says that room
+/// for a text of more than 24 bytes was refused.
 #[inline]
 fn shown_text(alloc: Global, bytes: &[u8]) -> Result<Option<CompactString>, ReserveError>
     ensures ok { IfOk result (λ found. IfSome found (λ v. StartsWith bytes.now (wire v.text))) }
+    ensures none { IfOk result (λ found. IfNone found (ShowsNoForm bytes.now)) }
     ensures fits { IfOk result (λ found. IfSome found FitsForm) }
     ensures placement { IfOk result (λ found. IfSome found IsPlacedAsRead) }
     ensures err { OnErr result ((4 ≤ length bytes.now) × (24 < claimed_len bytes.now)) }
@@ -142,28 +143,30 @@ fn shown_text(alloc: Global, bytes: &[u8]) -> Result<Option<CompactString>, Rese
     if len > rest.len() || !is_utf8(&rest[..len]) {
         return Ok(None);
     }
-    copy_of(alloc, &rest[..len])
+    match copy_of(alloc, &rest[..len]) {
+        Ok(text) => Ok(Some(text)),
+        Err(error) => Err(error),
+    }
 }
 
 /// A text of the bytes, which are one: inline up to 24 bytes, and a longer one on the heap with just the capacity that it
-/// needs. The error says that room for that was refused. It is never `None`.
+/// needs. The error says that room for that was refused.
 #[inline]
-fn copy_of(alloc: Global, bytes: &[u8]) -> Result<Option<CompactString>, ReserveError>
+fn copy_of(alloc: Global, bytes: &[u8]) -> Result<CompactString, ReserveError>
     requires { IsUtf8 bytes.now }
-    ensures text { IfOk result (λ found. IfSome found (λ v. utf8 v.text ≡ bytes.now)) }
-    ensures placement { IfOk result (λ found. IfSome found IsPlacedAsRead) }
+    ensures text { IfOk result (λ v. utf8 v.text ≡ bytes.now) }
+    ensures placement { IfOk result IsPlacedAsRead }
     ensures err { OnErr result (24 < length bytes.now) }
 {
     if bytes.len() <= INLINE_CAPACITY {
-        let text = CompactString::from_utf8_unchecked(alloc, bytes)?;
-        return Ok(Some(text));
+        return CompactString::from_utf8_unchecked(alloc, bytes);
     }
     let mut copy = Vec::with_capacity(alloc, bytes.len())?;
     copy.extend_from_slice(bytes)?;
     if copy.capacity() != bytes.len() {
-        // The capacity stays as it was, but `extend_from_slice` does not say so.
-        return Ok(None);
+        // The capacity stays as it was, but `extend_from_slice` says only that it does not shrink.
+        return Err(ReserveError);
     }
     let text = unsafe { String::from_utf8_unchecked(copy) };
-    Ok(Some(CompactString::from(text)))
+    Ok(CompactString::from(text))
 }
