@@ -35,13 +35,11 @@ failed-unread old error = failed-at_once old old error (Keeps-refl old)
 
 -- a form that had begun was not read
 
-has-begun : (known : Option (List ℕ)) (e : WireError) → HasMore known → HasBegun known e
-has-begun known TooLong more = tt
-has-begun known UnexpectedEnd more = more
-has-begun known Utf8 more = tt
-has-begun known (Io error) more = tt
-has-begun known WriteZero more = tt
-has-begun known (Reserve error) more = tt
+has-begun : (known mid new : Option (List ℕ)) (e : WireError) → HasMore known → ReadFails mid new e → HasBegun known e
+has-begun known mid new TooLong more f = absurd f.fault
+has-begun known mid new WriteZero more f = absurd f.fault
+has-begun known mid new UnexpectedEnd more f = more
+has-begun known mid new e more f = tt
 
 fails-unmoved : (old mid new : Option (List ℕ)) (e : WireError) → Keeps old mid → ReadFails mid new e → ReadFails old new e
 fails-unmoved None mid new e same f = record { taken = f.taken; bytes = tt; fault = f.fault }
@@ -57,7 +55,7 @@ pub record-read : (old mid new : Option (List ℕ)) (r : Result PlacedText WireE
     → IfErr r (λ e. ReadFails mid new e)
     → MatchResult r (TakesForm old new) (λ e. FailsWithin old new e)
 record-read old mid new (Ok v) same more ok fits placed err = record { form = took-unmoved old mid new (wire v.text) same ok; fits = fits; placed = placed }
-record-read old mid new (Err e) same more ok fits placed err = record { fails = fails-unmoved old mid new e same err; begun = has-begun old e more }
+record-read old mid new (Err e) same more ok fits placed err = record { fails = fails-unmoved old mid new e same err; begun = has-begun old mid new e more err }
 
 -- known bytes that a reader shows some of are there
 pub more-shown : (known : Option (List ℕ)) (shown : List ℕ) → IfSome known (λ xs. StartsWith xs shown) → ¬ (length shown ≡ 0) → HasMore known

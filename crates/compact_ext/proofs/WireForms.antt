@@ -53,20 +53,12 @@ front-second old mid new head tail h w = record {
 
 pub write-fails : (old new : Option (List ℕ)) (t : List ℕ) (e : WireError) → size t < 2 ^ 32 → WritesFront old new (wire t) → IsWriterFault e → WriteFails old new t e
 write-fails old new t TooLong h w f = absurd f
-write-fails old new t UnexpectedEnd h w f = absurd f
-write-fails old new t Utf8 h w f = absurd f
-write-fails old new t (Io error) h w f = (h, w)
-write-fails old new t WriteZero h w f = (h, w)
-write-fails old new t (Reserve error) h w f = absurd f
+write-fails old new t e h w f = (h, w, f)
 
 -- what stops a read of some bytes stops one of more, of which others came before
 stop-more : (n len : ℕ) (new : Option (List ℕ)) (e : WireError) → n ≤ len → IsStop n new e → IsStop len new e
-stop-more n len new TooLong h s = absurd s
-stop-more n len new UnexpectedEnd h s = s
-stop-more n len new Utf8 h s = absurd s
-stop-more n len new (Io error) h s = s
-stop-more n len new WriteZero h s = absurd s
 stop-more n len new (Reserve error) h s = omega (arith, h, s)
+stop-more n len new e h s = s
 
 pub stops-later : (old mid new : Option (List ℕ)) (front : List ℕ) (n len : ℕ) (e : WireError) → Consumes old mid front → StopsBelow mid new n e → length front + n ≤ len
     → StopsBelow old new len e
@@ -85,8 +77,8 @@ unfinished : (n : ℕ) (taken : List ℕ) → n < 2 ^ 32 → length taken < n �
 unfinished n taken fits short = omega (arith, claimed n taken fits, short)
 
 pub read-fails : (old mid new : Option (List ℕ)) (n : ℕ) (e : WireError) → n < 2 ^ 32 → Consumes old mid (to_le_bytes w32 n) → TextFails mid new n e → ReadFails old new e
-read-fails old mid new n TooLong fits h f = absurd f
-read-fails old mid new n WriteZero fits h f = absurd f
+read-fails old mid new n TooLong fits h s = absurd s.cause
+read-fails old mid new n WriteZero fits h s = absurd s.cause
 read-fails old mid new n UnexpectedEnd fits h s = record {
   taken = to_le_bytes w32 n ++ s.taken;
   bytes = Consumes-trans old mid new (to_le_bytes w32 n) s.taken h s.bytes;

@@ -20,21 +20,20 @@ records_left remaining s = if s.calls_left == 0 then None else remaining s.reade
 abbrev pub HasMore : Option (List ℕ) → Type 0
 HasMore known = IfSome known (λ bytes. 0 < length bytes)
 
--- an end that came too early came within a form
+-- an end that came too early came within a form, and a reader has no text that is too long and no writer
 abbrev pub HasBegun : Option (List ℕ) → WireError → Type 0
 HasBegun known UnexpectedEnd = HasMore known
-HasBegun known (Io _) = ⊤
-HasBegun known (Reserve _) = ⊤
-HasBegun known Utf8 = ⊤
-HasBegun known TooLong = ⊤
-HasBegun known WriteZero = ⊤
+HasBegun known TooLong = ⊥
+HasBegun known WriteZero = ⊥
+HasBegun known _ = ⊤
 
 -- a fault as `read_wire` tells it, of a form that had begun
 pub record FailsWithin (old new : Option (List ℕ)) (e : WireError) : Type 0 where
   pub fails : ReadFails old new e
   pub begun : HasBegun old e
 
--- a text is placed as `read_wire` places it: inline up to 24 bytes, and else on the heap with just the capacity that it needs
+-- a text is placed as `read_wire` places it: inline up to 24 bytes, and else on the heap with just the capacity
+-- that it needs
 abbrev pub IsPlacedAsRead : PlacedText → Type 0
 IsPlacedAsRead v = v.placement ≡ taken_over v.text (size v.text)
 
@@ -50,10 +49,11 @@ pub record TakesForm (old new : Option (List ℕ)) (v : PlacedText) : Type 0 whe
 
 -- a text whose form is taken, a fault as `read_wire` tells it, or `None` at the end
 abbrev pub GivesNext : Option (List ℕ) → Option (Result PlacedText WireError) → Option (List ℕ) → Type 0
-GivesNext old r new = MatchOption r (IsAtEnd old) (λ item. MatchResult item (TakesForm old new) (λ e. FailsWithin old new e))
+GivesNext old r new =
+    MatchOption r (IsAtEnd old) (λ item. MatchResult item (TakesForm old new) (FailsWithin old new))
 
--- the bytes behind what a call of `next` gave: those that texts are still read from. Where the reader failed the iterator may have
--- given up, so they are the reader's own.
+-- the bytes behind what a call of `next` gave: those that texts are still read from. Where the reader failed the
+-- iterator may have given up, so they are the reader's own.
 abbrev pub left_behind : {R : Type 0} → (R → Option (List ℕ)) → Option (Result PlacedText WireError)
     → Records R → Option (List ℕ)
 left_behind remaining (Some (Err (Io _))) t = remaining t.reader
@@ -94,11 +94,14 @@ HasForm t = IsText t × size t < 2 ^ 32
 abbrev pub ShowsNoForm : List ℕ → Type 0
 ShowsNoForm bytes = (t : List ℕ) → HasForm t → ¬ StartsWith bytes (wire t)
 
--- where a reader has a text's form and other bytes after it, the next text is that one and these bytes are left, or a fault lies not in
--- the form
-abbrev pub ReadsNextBack : {R : Type 0} → (R → Option (List ℕ)) → Records R → Option (Result PlacedText WireError) → Records R → Type 0
-ReadsNextBack remaining s r t = (text rest : List ℕ) → HasForm text → records_left remaining s ≡ Some (wire text ++ rest)
-    → MatchOption r ⊥ (λ item. MatchResult item (λ v. (v.text ≡ text) × (records_left remaining t ≡ Some rest)) (IsOutsideForm (size text)))
+-- where a reader has a text's form and other bytes after it, the next text is that one and these bytes are left,
+-- or a fault lies not in the form
+abbrev pub ReadsNextBack : {R : Type 0} → (R → Option (List ℕ)) → Records R
+    → Option (Result PlacedText WireError) → Records R → Type 0
+ReadsNextBack remaining s r t =
+    (text rest : List ℕ) → HasForm text → records_left remaining s ≡ Some (wire text ++ rest)
+    → MatchOption r ⊥ (λ item. MatchResult item
+        (λ v. (v.text ≡ text) × (records_left remaining t ≡ Some rest)) (IsOutsideForm (size text)))
 
 -- a fault that lies not in the forms of these texts: the reader failed, or room for one of them was refused
 abbrev pub IsOutsideForms : List (List ℕ) → WireError → Type 0
