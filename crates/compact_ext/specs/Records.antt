@@ -48,7 +48,8 @@ pub record TakesForm (old new : Option (List ℕ)) (v : PlacedText) : Type 0 whe
   pub placed : IsPlacedAsRead v
 
 -- a text whose form is taken, a fault as `read_wire` tells it, or `None` at the end
-abbrev pub GivesNext : Option (List ℕ) → Option (Result PlacedText WireError) → Option (List ℕ) → Type 0
+abbrev pub GivesNext : Option (List ℕ) → Option (Result PlacedText WireError)
+    → Option (List ℕ) → Type 0
 GivesNext old r new =
     MatchOption r (IsAtEnd old) (λ item. MatchResult item (TakesForm old new) (FailsWithin old new))
 
@@ -101,7 +102,7 @@ abbrev pub ReadsNextBack : {R : Type 0} → (R → Option (List ℕ)) → Record
 ReadsNextBack remaining s r t =
     (text rest : List ℕ) → HasForm text → records_left remaining s ≡ Some (wire text ++ rest)
     → MatchOption r ⊥ (λ item. MatchResult item
-        (λ v. (v.text ≡ text) × (records_left remaining t ≡ Some rest)) (IsOutsideForm (size text)))
+    (λ v. (v.text ≡ text) × (records_left remaining t ≡ Some rest)) (IsOutsideForm (size text)))
 
 -- a fault that lies not in the forms of these texts: the reader failed, or room for one of them was refused
 abbrev pub IsOutsideForms : List (List ℕ) → WireError → Type 0
@@ -110,7 +111,8 @@ IsOutsideForms texts (Reserve _) = 0 < length texts
 IsOutsideForms texts _ = ⊥
 
 -- where a reader has the forms of some texts and no more, these texts are read, or a fault lies not in the forms
-pub record ReadsAllBack (known : Option (List ℕ)) (r : Result (Vec PlacedText) WireError) : Type 0 where
+pub record ReadsAllBack (known : Option (List ℕ)) (r : Result (Vec PlacedText) WireError)
+    : Type 0 where
   pub back : (texts : List (List ℕ)) → All HasForm texts → known ≡ Some (flat_map wire texts)
       → MatchResult r (λ all. map (λ v. v.text) all.items ≡ texts) (IsOutsideForms texts)
 

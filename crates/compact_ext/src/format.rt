@@ -53,13 +53,16 @@ struct Collector {
 }
 
 impl Write for Collector {
-    ghost write_str_gives = { λ c bytes d. Writes ⟦<Standard as Policy>⟧.growth c.value bytes d.value };
+    ghost write_str_gives = { λ c bytes d.
+        Writes ⟦<Standard as Policy>⟧.growth c.value bytes d.value };
 
     #[inline]
     fn write_str(&mut self, s: &str) -> fmt::Result
-        ensures ok { OnOk result (Writes ⟦<Standard as Policy>⟧.growth self.old.value s.now self.new.value) }
+        ensures ok { OnOk result
+            (Writes ⟦<Standard as Policy>⟧.growth self.old.value s.now self.new.value) }
         ensures still { OnOk result (self.new.is_refused ≡ self.old.is_refused) }
-        ensures err { OnErr result ((self.new.value ≡ self.old.value) × IsTrue self.new.is_refused) }
+        ensures err { OnErr result
+            ((self.new.value ≡ self.old.value) × IsTrue self.new.is_refused) }
         ensures asks { OnErr result (IsTrue (push_asks self.old.value (text_of s.now))) }
     {
         match self.value.write_str(s) {

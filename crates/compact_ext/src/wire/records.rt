@@ -57,11 +57,15 @@ impl<R: BufRead + Drop> Records<R> {
     /// The error is the first fault that `next` gives, or `Reserve` where the vector has no room for a text that came. The
     /// texts before it are given up. So a reader with nothing in it is refused only if it fails.
     pub fn into_vec(self) -> Result<Vec<CompactString>, WireError>
-        ensures ok { IfOk result (λ texts. IfSome (records_left R.remaining self) (λ bytes. bytes ≡ flat_map (λ v. wire v.text) texts.items)) }
+        ensures ok { IfOk result (λ texts.
+            IfSome (records_left R.remaining self) (λ bytes.
+            bytes ≡ flat_map (λ v. wire v.text) texts.items)) }
         ensures fits { IfOk result (λ texts. All FitsForm texts.items) }
         ensures placement { IfOk result (λ texts. All IsPlacedAsRead texts.items) }
         ensures back { ReadsAllBack (records_left R.remaining self) result }
-        ensures err { IfErr result (λ e. FailsAfterTexts (records_left R.remaining self) e ⊎ FindsNoRoom (records_left R.remaining self) e) }
+        ensures err { IfErr result (λ e.
+            FailsAfterTexts (records_left R.remaining self) e
+            ⊎ FindsNoRoom (records_left R.remaining self) e) }
     {
         let mut texts = Vec::new(self.alloc);
         for item in self {
