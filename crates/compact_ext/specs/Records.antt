@@ -3,6 +3,7 @@ use Rattle.std.specs.Prelude.{◌≡◌, ◌^◌, ◌<◌, ◌==◌, ◌++◌, �
 use Rattle.std.specs.Global.{Vec}
 use Rattle.std.specs.Io.{StartsWith}
 use Rattle.std.specs.Io.KnownBytes.{Consumes, IsAtEnd}
+use Rattle.std.specs.Iterator.{Count, at_most}
 use Rattle.std.specs.List.{All}
 use Rattle.compact_str.specs.Capacity.{taken_over}
 use Rattle.compact_str.specs.Text.{IsText, size}
@@ -15,6 +16,10 @@ use Rattle.compact_ext.specs.Wire.{wire, claimed_len, ReadFails, IsOutsideForm}
 -- the bytes that texts are still read from, where the reader's type tells them and the iterator has not given up
 abbrev pub records_left : {R : Type 0} → (R → Option (List ℕ)) → Records R → Option (List ℕ)
 records_left remaining s = if s.calls_left == 0 then None else remaining s.reader
+
+-- no more calls than these give something
+abbrev pub calls_to_come : {R : Type 0} → Records R → Count
+calls_to_come s = at_most s.calls_left
 
 -- known bytes are left
 abbrev pub HasMore : Option (List ℕ) → Type 0

@@ -1,11 +1,10 @@
 //! The texts of a reader, one after another until its end.
 ghost use Rattle.std.specs.Prelude.{◌≡◌, ◌⊎◌, ◌<◌, ◌≤◌, length, flat_map, IfOk, IfSome, IfNone, IfErr, OnErr, IsUtf8};
 ghost use Rattle.std.specs.Io.{StartsWith};
-ghost use Rattle.std.specs.Iterator.{at_most};
 ghost use Rattle.std.specs.Io.KnownBytes.{IsAtEnd, Keeps};
 ghost use Rattle.std.specs.List.{All};
 ghost use Rattle.compact_str.specs.Text.{utf8};
-ghost use Rattle.compact_ext.specs.Records.{records_left, GivesNext, GivesRecord, FailsAfterTexts, FindsNoRoom, HasMore, IsPlacedAsRead, FitsForm, ReadsAllBack, ShowsNoForm};
+ghost use Rattle.compact_ext.specs.Records.{records_left, calls_to_come, GivesNext, GivesRecord, FailsAfterTexts, FindsNoRoom, HasMore, IsPlacedAsRead, FitsForm, ReadsAllBack, ShowsNoForm};
 ghost use Rattle.compact_ext.specs.Wire.{wire, claimed_len};
 
 use super::read::number_of;
@@ -86,7 +85,7 @@ impl<R: BufRead + Drop> Iterator for Records<R> {
 
     ghost next_gives = { GivesRecord R.remaining };
 
-    ghost remaining = { λ s. at_most s.calls_left };
+    ghost remaining = { λ s. calls_to_come s };
 
     /// The next text, or `None` at the end.
     #[tactic(auto, using(crate::proofs::RecordLists::record_steps))]
