@@ -5,10 +5,11 @@ use crate::pushes::{joined, joined_in_doubled_room};
 use crate::taken::{every_second, every_second_told, folded, note_spaces, without_spaces};
 use crate::token_callers::{learn, numbers_of};
 use crate::wire_callers::{
-    first_record, next_record, pair_sent_and_received, read_records, receive_field, send_field,
-    sent_and_received,
+    first_record, next_record, pair_sent_and_received, read_records, read_texts, receive_field,
+    send_field, sent_and_received,
 };
 use compact_edit::Interner;
+use compact_ext::wire::WireError;
 use compact_str::CompactString;
 use compact_testing::seen::Seen;
 use compact_testing::values::letters;
@@ -98,6 +99,27 @@ fn records_are_read_to_their_end(rt: HostRuntime) {
     for (record, text) in records.iter().zip(["a", "", "Hi"].iter()) {
         assert_eq!(rt; Seen::of(record), Seen::inline(*text));
     }
+}
+
+/// The forms of `a` and of two bytes that are no text, of no text, of one byte that is none, and of `Hi`.
+const MIXED: [u8; 26] = [
+    1, 0, 0, 0, 0x61, 2, 0, 0, 0, 0xC3, 0x28, 0, 0, 0, 0, 1, 0, 0, 0, 0xFF, 2, 0, 0, 0, 0x48, 0x69,
+];
+
+#[test]
+fn what_is_no_text_is_passed_over(rt: HostRuntime) {
+    let texts = read_texts(rt.alloc(), MIXED.as_slice()).expect(&rt, "texts");
+    assert_eq!(rt; texts.len(), 3);
+    for (found, text) in texts.iter().zip(["a", "", "Hi"].iter()) {
+        assert_inline(&rt, found, *text);
+    }
+}
+
+#[test]
+fn a_cut_behind_what_is_no_text_is_told(rt: HostRuntime) {
+    let cut = MIXED.get(..25).expect(&rt, "bytes");
+    let found = read_texts(rt.alloc(), cut);
+    assert!(rt; matches!(found, Err(WireError::UnexpectedEnd)));
 }
 
 #[test]

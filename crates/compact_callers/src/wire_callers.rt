@@ -6,10 +6,10 @@ ghost use Rattle.std.specs.Io.KnownBytes.{Appends, Consumes, IsAtEnd, Keeps};
 ghost use Rattle.compact_str.specs.Capacity.{taken_over};
 ghost use Rattle.compact_str.specs.Text.{size};
 ghost use Rattle.compact_ext.specs.Wire.{wire, IsOutsideForm};
-ghost use Rattle.compact_ext.specs.Records.{HasForm};
+ghost use Rattle.compact_ext.specs.Records.{HasForm, HasTexts};
 
 use compact_ext::wire::{Records, WireError, read_wire, write_wire};
-use compact_str::CompactString;
+use compact_str::{CompactString, ReserveError};
 use std::alloc::Global;
 use std::io::{BufRead, Read, Write};
 
@@ -20,7 +20,9 @@ pub fn send_field<W: Write>(
     value: &CompactString,
     writer: &mut W,
 ) -> Result<(), WireError>
-    ensures { OnOk result (Appends (W.contents writer.old) (W.contents writer.new) (wire name.now.text ++ wire value.now.text)) }
+    ensures { OnOk result
+        (Appends (W.contents writer.old) (W.contents writer.new)
+        (wire name.now.text ++ wire value.now.text)) }
 {
     write_wire(name, writer)?;
     write_wire(value, writer)
@@ -32,7 +34,9 @@ pub fn receive_field<R: Read>(
     alloc: Global,
     reader: &mut R,
 ) -> Result<(CompactString, CompactString), WireError>
-    ensures { IfOk result (λ field. Consumes (R.remaining reader.old) (R.remaining reader.new) (wire field.0.text ++ wire field.1.text)) }
+    ensures { IfOk result (λ field.
+        Consumes (R.remaining reader.old) (R.remaining reader.new)
+        (wire field.0.text ++ wire field.1.text)) }
 {
     let name = read_wire(alloc, reader)?;
     let value = read_wire(alloc, reader)?;
@@ -57,7 +61,8 @@ pub fn pair_sent_and_received(
     name: &CompactString,
     value: &CompactString,
 ) -> Result<Vec<CompactString>, WireError>
-    ensures { IfOk result (λ back. map (λ v. v.text) back.items ≡ name.now.text ∷ value.now.text ∷ []) }
+    ensures { IfOk result (λ back.
+        map (λ v. v.text) back.items ≡ name.now.text ∷ value.now.text ∷ []) }
 {
     let mut bytes = Vec::new(alloc);
     write_wire(name, &mut bytes)?;
@@ -100,8 +105,10 @@ pub fn read_records<R: BufRead + Drop>(
     alloc: Global,
     reader: R,
 ) -> Result<Vec<CompactString>, WireError>
-    ensures taken { IfOk result (λ records. IfSome (R.remaining reader) (λ bytes. bytes ≡ flat_map (λ v. wire v.text) records.items)) }
-    ensures placed { IfOk result (λ records. All (λ v. v.placement ≡ taken_over v.text (size v.text)) records.items) }
+    ensures taken { IfOk result (λ records.
+        IfSome (R.remaining reader) (λ bytes. bytes ≡ flat_map (λ v. wire v.text) records.items)) }
+    ensures placed { IfOk result (λ records.
+        All (λ v. v.placement ≡ taken_over v.text (size v.text)) records.items) }
 {
     Records::new(alloc, reader).into_vec()
 }
@@ -112,9 +119,37 @@ pub fn first_record<R: BufRead + Drop>(
     alloc: Global,
     reader: R,
 ) -> Result<Option<CompactString>, WireError>
-    ensures taken { IfOk result (λ found. IfSome found (λ v. IfSome (R.remaining reader) (λ bytes. StartsWith bytes (wire v.text)))) }
-    ensures placed { IfOk result (λ found. IfSome found (λ v. v.placement ≡ taken_over v.text (size v.text))) }
-    ensures back { (text rest : List ℕ) → HasForm text → R.remaining reader ≡ Some (wire text ++ rest) → MatchResult result (λ found. MatchOption found ⊥ (λ v. v.text ≡ text)) (IsOutsideForm (size text)) }
+    ensures taken { IfOk result (λ found. IfSome found (λ v.
+        IfSome (R.remaining reader) (λ bytes. StartsWith bytes (wire v.text)))) }
+    ensures placed { IfOk result (λ found.
+        IfSome found (λ v. v.placement ≡ taken_over v.text (size v.text))) }
+    ensures back { (text rest : List ℕ) → HasForm text
+        → R.remaining reader ≡ Some (wire text ++ rest)
+        → MatchResult result (λ found. MatchOption found ⊥ (λ v. v.text ≡ text))
+        (IsOutsideForm (size text)) }
 {
     Records::new(alloc, reader).next().transpose()
+}
+
+/// The texts of a reader until its end. A record that is no text is passed over.
+#[tactic(auto, using(compact_ext::proofs::WireFacts::passed_texts))]
+pub fn read_texts<R: BufRead + Drop>(
+    alloc: Global,
+    reader: R,
+) -> Result<Vec<CompactString>, WireError>
+    ensures { IfOk result (λ texts.
+        IfSome (R.remaining reader) (λ bytes. HasTexts bytes (map (λ v. v.text) texts.items))) }
+{
+    let mut texts = Vec::new(alloc);
+    for item in Records::new(alloc, reader) {
+        let text = match item {
+            Ok(text) => text,
+            Err(WireError::Utf8) => continue,
+            Err(fault) => return Err(fault),
+        };
+        if texts.push(text).is_err() {
+            return Err(WireError::Reserve(ReserveError));
+        }
+    }
+    Ok(texts)
 }

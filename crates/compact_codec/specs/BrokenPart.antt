@@ -1,7 +1,9 @@
 -- Where bytes stop being text, and the part that is broken there (Unicode Standard, 3.9, D93a and D93b).
-use Rattle.std.specs.Prelude.{◌≡◌, ◌↔◌, ◌⊎◌, ℕ, ◌<◌, ◌≤◌, List, ◌++◌, length, take, drop, Option, IsNone, unwrap_or}
+use Rattle.std.specs.Prelude.{◌≡◌, ◌↔◌, ◌⊎◌, ℕ, ◌<◌, ◌≤◌, List, ◌++◌, length, take, drop, Option, IsNone, Result, IsOk, IfOk, IfErr, OnErr, unwrap_or}
+use denote.Ref.{Bor}
 use Rattle.std.specs.Str.{IsUtf8}
 use Rattle.std.specs.Str.Lossy.{utf8_valid_len, utf8_error_len}
+use Rattle.compact_codec.specs.declared.utf8.Utf8Fault.{Utf8Fault}
 use Rattle.compact_codec.specs.Utf8Table.{IsWellFormedSequence}
 
 -- the first n of the bytes encode a text, and no longer front does
@@ -30,11 +32,20 @@ pub record IsMaximalSubpart (bs : List ℕ) (n : ℕ) : Type 0 where
 -- the length of the broken part at the front of the bytes: None where it is all of them and they begin a
 -- well-formed sequence, so that more bytes could complete it
 abbrev pub IsBrokenPart : List ℕ → Option ℕ → Type 0
-IsBrokenPart bs part = IsMaximalSubpart bs (unwrap_or part (length bs)) × (IsNone part ↔ BeginsSequence bs)
+IsBrokenPart bs part =
+    IsMaximalSubpart bs (unwrap_or part (length bs)) × (IsNone part ↔ BeginsSequence bs)
 
 -- after the longest front that is text, which is not all of the bytes, comes a broken part of this length
 abbrev pub IsUtf8Fault : List ℕ → ℕ → Option ℕ → Type 0
-IsUtf8Fault bs valid_up_to error_len = IsLongestFront bs valid_up_to × IsBrokenPart (drop valid_up_to bs) error_len
+IsUtf8Fault bs valid_up_to error_len =
+    IsLongestFront bs valid_up_to × IsBrokenPart (drop valid_up_to bs) error_len
+
+-- what a judge says of the bytes: that they are a text, or else where they stop being one
+pub record Judges (bs : List ℕ) (r : Result (Bor (List ℕ)) Utf8Fault) : Type 0 where
+  pub exact : IsOk r ↔ IsUtf8 bs
+  pub text : IfOk r (λ text. (text.now ≡ bs) × IsUtf8 bs)
+  pub fault : IfErr r (λ fault. IsUtf8Fault bs fault.valid_up_to fault.error_len)
+  pub broken : OnErr r (¬ (IsUtf8 bs))
 
 -- bytes that are no text have one fault: the place and the length that the judge tells
 abbrev pub FaultIsTheOne : Type 0

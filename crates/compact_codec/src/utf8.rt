@@ -3,7 +3,7 @@ ghost use Rattle.std.specs.Prelude.{◌≡◌, ◌↔◌, ◌+◌, ◌<◌, ◌�
 ghost use Rattle.std.specs.Str.{IsAscii};
 ghost use Rattle.compact_codec.specs.Text.{text_of};
 ghost use Rattle.compact_codec.specs.Utf8Table.{TableIsTheEncodings};
-ghost use Rattle.compact_codec.specs.BrokenPart.{IsUtf8Fault, FaultIsTheOne};
+ghost use Rattle.compact_codec.specs.BrokenPart.{IsUtf8Fault, Judges, FaultIsTheOne};
 ghost use Rattle.compact_codec.specs.Utf8Text.{utf8_lossy_text, replacement_text, BeginsWithChunk, BytesEncodeOneText, Utf8LossyTextIsTheOne, Utf8LossyTextOfText};
 
 use std::simd::prelude::*;
@@ -30,10 +30,7 @@ const WINDOW: usize = 8192;
 /// `[0xE1, 0x80, 0x41]` is at fault at its start, with a broken part of 2 bytes.
 #[inline]
 pub fn judge(bytes: &[u8]) -> Result<&str, Utf8Fault>
-    ensures exact { IsOk result ↔ IsUtf8 bytes.now }
-    ensures text { IfOk result (λ text. (text.now ≡ bytes.now) × IsUtf8 bytes.now) }
-    ensures fault { IfErr result (λ fault. IsUtf8Fault bytes.now fault.valid_up_to fault.error_len) }
-    ensures broken { OnErr result (¬ (IsUtf8 bytes.now)) }
+    ensures { Judges bytes.now result }
 {
     if bytes.len() < LONG {
         return judge_short(bytes);
@@ -63,10 +60,7 @@ pub fn is_utf8(bytes: &[u8]) -> bool
 #[inline(never)]
 fn judge_short(bytes: &[u8]) -> Result<&str, Utf8Fault>
     requires { length bytes.now < 64 }
-    ensures exact { IsOk result ↔ IsUtf8 bytes.now }
-    ensures text { IfOk result (λ text. (text.now ≡ bytes.now) × IsUtf8 bytes.now) }
-    ensures fault { IfErr result (λ fault. IsUtf8Fault bytes.now fault.valid_up_to fault.error_len) }
-    ensures broken { OnErr result (¬ (IsUtf8 bytes.now)) }
+    ensures { Judges bytes.now result }
 {
     if !is_short_ascii(bytes) {
         return judge_in_order(bytes);
@@ -152,10 +146,7 @@ fn is_ascii(block: u8x64) -> bool
 fn judge_in_windows(bytes: &[u8], at: usize) -> Result<&str, Utf8Fault>
     requires within { at ≤ length bytes.now }
     requires text { IsUtf8 (take at bytes.now) }
-    ensures exact { IsOk result ↔ IsUtf8 bytes.now }
-    ensures text { IfOk result (λ text. (text.now ≡ bytes.now) × IsUtf8 bytes.now) }
-    ensures fault { IfErr result (λ fault. IsUtf8Fault bytes.now fault.valid_up_to fault.error_len) }
-    ensures broken { OnErr result (¬ (IsUtf8 bytes.now)) }
+    ensures { Judges bytes.now result }
 {
     let end = text_in_windows(bytes, at);
     if end < bytes.len() {
@@ -209,10 +200,7 @@ fn back_in_character(bytes: &[u8], at: usize) -> usize
 fn judge_onward(bytes: &[u8], at: usize) -> Result<&str, Utf8Fault>
     requires within { at ≤ length bytes.now }
     requires text { IsUtf8 (take at bytes.now) }
-    ensures exact { IsOk result ↔ IsUtf8 bytes.now }
-    ensures text { IfOk result (λ text. (text.now ≡ bytes.now) × IsUtf8 bytes.now) }
-    ensures fault { IfErr result (λ fault. IsUtf8Fault bytes.now fault.valid_up_to fault.error_len) }
-    ensures broken { OnErr result (¬ (IsUtf8 bytes.now)) }
+    ensures { Judges bytes.now result }
 {
     judge_from(bytes, text_before_fault(bytes, at))
 }
@@ -321,10 +309,7 @@ fn lead_at(bytes: &[u8], at: usize) -> usize
 fn judge_from(bytes: &[u8], at: usize) -> Result<&str, Utf8Fault>
     requires within { at ≤ length bytes.now }
     requires text { IsUtf8 (take at bytes.now) }
-    ensures exact { IsOk result ↔ IsUtf8 bytes.now }
-    ensures text { IfOk result (λ text. (text.now ≡ bytes.now) × IsUtf8 bytes.now) }
-    ensures fault { IfErr result (λ fault. IsUtf8Fault bytes.now fault.valid_up_to fault.error_len) }
-    ensures broken { OnErr result (¬ (IsUtf8 bytes.now)) }
+    ensures { Judges bytes.now result }
 {
     match judge_in_order(&bytes[at..]) {
         Ok(_) => Ok(unsafe { std::str::from_utf8_unchecked(bytes) }),
@@ -337,10 +322,7 @@ fn judge_from(bytes: &[u8], at: usize) -> Result<&str, Utf8Fault>
 
 // The same, from the first byte to the fault and no further.
 fn judge_in_order(bytes: &[u8]) -> Result<&str, Utf8Fault>
-    ensures exact { IsOk result ↔ IsUtf8 bytes.now }
-    ensures text { IfOk result (λ text. (text.now ≡ bytes.now) × IsUtf8 bytes.now) }
-    ensures fault { IfErr result (λ fault. IsUtf8Fault bytes.now fault.valid_up_to fault.error_len) }
-    ensures broken { OnErr result (¬ (IsUtf8 bytes.now)) }
+    ensures { Judges bytes.now result }
 {
     match std::str::from_utf8(bytes) {
         Ok(text) => Ok(text),
@@ -372,8 +354,10 @@ pub fn chunk_at(bytes: &[u8], fault: Utf8Fault) -> Chunk<'_>
     requires { IsUtf8Fault bytes.now fault.valid_up_to fault.error_len }
     ensures chunk { BeginsWithChunk bytes.now result.text.now result.broken.now result.rest.now }
     ensures lossy { utf8_lossy_text bytes.now
-        ≡ text_of result.text.now ++ (replacement_text result.broken.now ++ utf8_lossy_text result.rest.now) }
-    ensures len { length result.text.now + (length result.broken.now + length result.rest.now) ≡ length bytes.now }
+        ≡ text_of result.text.now
+        ++ (replacement_text result.broken.now ++ utf8_lossy_text result.rest.now) }
+    ensures len { length result.text.now + (length result.broken.now + length result.rest.now)
+        ≡ length bytes.now }
     ensures broken { 0 < length result.broken.now }
 {
     let (front, after) = bytes.split_at(fault.valid_up_to);
@@ -397,8 +381,10 @@ pub fn chunk_at(bytes: &[u8], fault: Utf8Fault) -> Chunk<'_>
 pub fn first_chunk(bytes: &[u8]) -> Chunk<'_>
     ensures chunk { BeginsWithChunk bytes.now result.text.now result.broken.now result.rest.now }
     ensures lossy { utf8_lossy_text bytes.now
-        ≡ text_of result.text.now ++ (replacement_text result.broken.now ++ utf8_lossy_text result.rest.now) }
-    ensures len { length result.text.now + (length result.broken.now + length result.rest.now) ≡ length bytes.now }
+        ≡ text_of result.text.now
+        ++ (replacement_text result.broken.now ++ utf8_lossy_text result.rest.now) }
+    ensures len { length result.text.now + (length result.broken.now + length result.rest.now)
+        ≡ length bytes.now }
     ensures whole { length result.broken.now ≡ 0 → length result.rest.now ≡ 0 }
     ensures shorter { 0 < length bytes.now → length result.rest.now < length bytes.now }
 {

@@ -1,24 +1,27 @@
 -- The texts that were collected until the end spell the bytes that a reader had.
-use Rattle.std.proofs.Common.{◌≡◌, ◌⊎◌, ℕ, zero, suc, ◌+◌, ◌<◌, ◌≤◌, List, [], ◌∷◌, ◌++◌, length, map, Option, None, Some, IfSome, Result, Ok, Err, IfOk, IfErr, refl, IsSomeAnd, slice_get, MatchResult, inl, inr, arith, sym, ap, subst, ◌∙◌, append_assoc, append-nil, length-append}
+use Rattle.std.proofs.Common.{◌≡◌, ◌⊎◌, ℕ, ◌+◌, ◌<◌, ◌≤◌, ◌^◌, List, [], ◌∷◌, ◌++◌, length, take, drop, map, Option, None, Some, IfSome, Result, Ok, Err, IfOk, IfErr, refl, MatchResult, inl, inr, arith, sym, ap, subst, ◌∙◌, append_assoc, append-nil, length-append}
 use Rattle.std.specs.Prelude.{◌==◌, if◌then◌else◌, Bool, false}
 use Rattle.std.proofs.lemmas.Bool.Decides.{nat_tests}
 use Rattle.std.specs.Global.{Vec}
-use Rattle.std.specs.Vec.{vec_len, vec_capacity}
-use Rattle.std.specs.List.{All, FoldsTo, flat_map}
-use Rattle.std.specs.Iterator.{Yields, TryCollects}
+use Rattle.std.specs.List.{All, flat_map}
 use Rattle.std.specs.Io.{StartsWith}
+use Rattle.std.specs.Str.{IsUtf8}
+use Rattle.std.specs.Int.{w32, to_le_bytes}
+use Rattle.std.proofs.Transfers.{starts_with_length}
 use Rattle.std.specs.Io.KnownBytes.{Consumes, IsAtEnd, Keeps}
-use Rattle.std.specs.Iterator.Runs.{Run, SomeRun, YieldsRun, EndsAtFirstErr}
-use Rattle.std.proofs.lemmas.List.Elements.{All-nil, All-cons, All-head, All-tail}
+use Rattle.std.proofs.lemmas.List.Elements.{All-nil, All-cons, All-append, All-head, All-tail}
+use Rattle.std.proofs.lemmas.List.{map-append}
+use Rattle.std.proofs.lemmas.Grind.{flat_map-append}
 use Rattle.std.proofs.KnownBytes.{Consumes-nil, Consumes-trans, Keeps-refl}
 use Rattle.compact_str.specs.Text.{size}
 use Rattle.compact_str.specs.Value.{PlacedText}
 use Rattle.compact_ext.specs.declared.wire.WireError.{WireError}
 use Rattle.compact_ext.specs.declared.wire.WireError.TheVariants.{TooLong, UnexpectedEnd, Utf8, Io, WriteZero, Reserve}
 use Rattle.compact_ext.specs.declared.wire.records.Records.{Records}
+use Rattle.compact_ext.specs.Records.HasTexts.{none, text, no_text}
 use Rattle.compact_ext.specs.Wire.{wire, ReadFails, IsOutsideForm}
-use Rattle.compact_ext.proofs.WireForms.{form-tells, length-wire, outside-form, told-text}
-use Rattle.compact_ext.specs.Records.{records_left, left_behind, GivesRecord, GivesNext, FailsAfterTexts, FailsWithin, HasBegun, HasMore, HasForm, IsOutsideForms, IsPlacedAsRead, FitsForm, ReadsAllBack, ReadsNextBack, TakesForm}
+use Rattle.compact_ext.proofs.WireForms.{form-whole, form-tells, length-wire, outside-form, told-text}
+use Rattle.compact_ext.specs.Records.{records_left, left_behind, GivesRecord, GivesNext, FailsAfterTexts, FindsNoRoom, ShowsNoForm, TakesForms, TakesTexts, HasTexts, FailsWithin, HasBegun, HasMore, HasForm, IsOutsideForms, IsPlacedAsRead, FitsForm, ReadsAllBack, ReadsNextBack, TakesForm}
 
 -- a reader that failed before it gave any byte
 
@@ -32,13 +35,11 @@ failed-unread old error = failed-at_once old old error (Keeps-refl old)
 
 -- a form that had begun was not read
 
-has-begun : (known : Option (List ℕ)) (e : WireError) → HasMore known → HasBegun known e
-has-begun known TooLong more = tt
-has-begun known UnexpectedEnd more = more
-has-begun known Utf8 more = tt
-has-begun known (Io error) more = tt
-has-begun known WriteZero more = tt
-has-begun known (Reserve error) more = tt
+has-begun : (known mid new : Option (List ℕ)) (e : WireError) → HasMore known → ReadFails mid new e → HasBegun known e
+has-begun known mid new TooLong more f = absurd f.fault
+has-begun known mid new WriteZero more f = absurd f.fault
+has-begun known mid new UnexpectedEnd more f = more
+has-begun known mid new e more f = tt
 
 fails-unmoved : (old mid new : Option (List ℕ)) (e : WireError) → Keeps old mid → ReadFails mid new e → ReadFails old new e
 fails-unmoved None mid new e same f = record { taken = f.taken; bytes = tt; fault = f.fault }
@@ -54,7 +55,7 @@ pub record-read : (old mid new : Option (List ℕ)) (r : Result PlacedText WireE
     → IfErr r (λ e. ReadFails mid new e)
     → MatchResult r (TakesForm old new) (λ e. FailsWithin old new e)
 record-read old mid new (Ok v) same more ok fits placed err = record { form = took-unmoved old mid new (wire v.text) same ok; fits = fits; placed = placed }
-record-read old mid new (Err e) same more ok fits placed err = record { fails = fails-unmoved old mid new e same err; begun = has-begun old e more }
+record-read old mid new (Err e) same more ok fits placed err = record { fails = fails-unmoved old mid new e same err; begun = has-begun old mid new e more err }
 
 -- known bytes that a reader shows some of are there
 pub more-shown : (known : Option (List ℕ)) (shown : List ℕ) → IfSome known (λ xs. StartsWith xs shown) → ¬ (length shown ≡ 0) → HasMore known
@@ -85,110 +86,43 @@ gives-record remaining s t r before after gives =
 
 pub ruleset record_steps = (failed-at_once, failed-unread, record-read, more-shown, gives-record)
 
+-- where no whole form stands at the front
+
+pub short-shows_none : (shown : List ℕ) → length shown < 4 → ShowsNoForm shown
+short-shows_none shown short = λ (t : List ℕ) (form : HasForm t) (begins : StartsWith shown (wire t)).
+    absurd (omega (arith, length-wire t, starts_with_length shown (wire t) begins))
+
+pub cut-shows_none : (shown : List ℕ) (n : ℕ) → n < 2 ^ 32 → to_le_bytes w32 n ≡ take 4 shown → length shown < 4 + n → ShowsNoForm shown
+cut-shows_none shown n small head cut = λ (t : List ℕ) (form : HasForm t) (begins : StartsWith shown (wire t)).
+    absurd (omega (arith, (form-whole shown t n small form.1 begins head).0, length-wire t, starts_with_length shown (wire t) begins, cut))
+
+pub broken-shows_none : (shown : List ℕ) (n : ℕ) → n < 2 ^ 32 → to_le_bytes w32 n ≡ take 4 shown → ¬ IsUtf8 (take n (drop 4 shown)) → ShowsNoForm shown
+broken-shows_none shown n small head broken = λ (t : List ℕ) (form : HasForm t) (begins : StartsWith shown (wire t)).
+    broken (subst IsUtf8 (form-whole shown t n small form.1 begins head).1 (t, (form.0, refl)))
+
 abbrev spelled : List PlacedText → List ℕ
 spelled = flat_map (λ v. wire v.text)
 
-none-left : (known : Option (List ℕ)) → IsAtEnd known → IfSome known (λ bytes. bytes ≡ [])
-none-left None end = tt
-none-left (Some xs) end = end
+-- texts that were taken one after another
 
-one-before : (old new : Option (List ℕ)) (front rest : List ℕ) → Consumes old new front → IfSome new (λ bytes. bytes ≡ rest) → IfSome old (λ bytes. bytes ≡ front ++ rest)
-one-before None new front rest took is = tt
-one-before (Some xs) None front rest took is = absurd took
-one-before (Some xs) (Some ys) front rest took is = took ∙ ap (λ l. front ++ l) is
+pub takes-none : (known : Option (List ℕ)) → TakesForms known known []
+takes-none known = record { forms = Consumes-nil known; fit = All-nil FitsForm; placed = All-nil IsPlacedAsRead }
 
--- texts whose forms are all that was left
-abbrev Spelled : Option (List ℕ) → List PlacedText → Type 0
-Spelled known texts = IfSome known (λ bytes. bytes ≡ spelled texts) × All FitsForm texts × All IsPlacedAsRead texts
+spelled-last : (texts : List PlacedText) (v : PlacedText) → spelled texts ++ wire v.text ≡ spelled (texts ++ v ∷ [])
+spelled-last texts v = ap (λ l. spelled texts ++ l) (sym (append-nil (wire v.text))) ∙ sym (flat_map-append (λ (w : PlacedText). wire w.text) texts (v ∷ []))
 
--- what `extend` makes of a vector
-abbrev Grows : Vec PlacedText → List PlacedText → Vec PlacedText → Type 0
-Grows v xs w = (w.items ≡ v.items ++ xs) × (vec_len w ≡ vec_len v + length xs) × (vec_capacity v ≤ vec_capacity w)
-
-module _ {R : Type 0} (remaining : R → Option (List ℕ)) where
-  gathered : (s t : Records R) (items : List (Result PlacedText WireError)) (old new : Vec PlacedText) → Yields (GivesRecord remaining) s items t → IsAtEnd (records_left remaining t)
-      → FoldsTo (λ p x q. (y : PlacedText) × (Ok y ≡ x) × Grows p (y ∷ []) q) old items new
-      → (texts : List PlacedText) × (new.items ≡ old.items ++ texts) × Spelled (records_left remaining s) texts
-  gathered s t [] old new same end grown =
-      let none = none-left _ (subst (λ (u : Records R). IsAtEnd (records_left remaining u)) (sym same) end) in
-      ([], sym (ap (λ (v : Vec PlacedText). v.items) grown) ∙ sym (append-nil old.items), (none, All-nil FitsForm, All-nil IsPlacedAsRead))
-  gathered s t (item ∷ items) old new (j, step, steps) end (p, (y, is, grown), grows) =
-      let took = subst (λ (x : Result PlacedText WireError). GivesRecord remaining s (Some x) j) (sym is) step in
-      let (texts, all, (left, fits, placed)) = gathered j t items p new steps end grows in (
-        y ∷ texts,
-        all ∙ ap (λ l. l ++ texts) grown.0 ∙ append_assoc old.items (y ∷ []) texts,
-        (one-before _ _ (wire y.text) (spelled texts) took.form left, All-cons FitsForm y texts took.fits fits, All-cons IsPlacedAsRead y texts took.placed placed),
-      )
-
-  abbrev Collected : Records R → Vec PlacedText → Type 0
-  Collected s = TryCollects (GivesRecord remaining) (λ x y. y ≡ x) (λ xs v. (v.items ≡ xs) × (vec_len v ≡ length xs)) Grows s
-
-  collected : (s : Records R) (all : Vec PlacedText) → Collected s all → Spelled (records_left remaining s) all.items
-  collected s new (items, old, (u, (t, given, end)), none, grown) =
-      let (texts, all, is) = gathered s t items old new given end grown in
-      let same : new.items ≡ texts = all ∙ ap (λ l. l ++ texts) none.0 in
-      subst (Spelled (records_left remaining s)) (sym same) is
-
-  pub records-collected : (s : Records R) (r : Result (Vec PlacedText) WireError) → IfOk r (Collected s) → IfOk r (λ all. IfSome (records_left remaining s) (λ bytes. bytes ≡ spelled all.items))
-  records-collected s (Err e) ran = tt
-  records-collected s (Ok new) ran = (collected s new ran).0
-
-  pub records-fit : (s : Records R) (r : Result (Vec PlacedText) WireError) → IfOk r (Collected s) → IfOk r (λ all. All FitsForm all.items)
-  records-fit s (Err e) ran = tt
-  records-fit s (Ok new) ran = (collected s new ran).1
-
-  pub records-placed : (s : Records R) (r : Result (Vec PlacedText) WireError) → IfOk r (Collected s) → IfOk r (λ all. All IsPlacedAsRead all.items)
-  records-placed s (Err e) ran = tt
-  records-placed s (Ok new) ran = (collected s new ran).2
-
-fails-later : (old mid : Option (List ℕ)) (v : PlacedText) (e : WireError) → TakesForm old mid v → FailsAfterTexts mid e → FailsAfterTexts old e
-fails-later old mid v e gave f = record {
-  texts = v ∷ f.texts;
-  mid = f.mid;
-  new = f.new;
-  took = Consumes-trans old mid f.mid (wire v.text) (spelled f.texts) gave.form f.took;
-  fits = All-cons FitsForm v f.texts gave.fits f.fits;
-  fails = f.fails;
+pub takes-more : (old mid new : Option (List ℕ)) (texts : List PlacedText) (v : PlacedText) → TakesForms old mid texts → TakesForm mid new v → TakesForms old new (texts ++ v ∷ [])
+takes-more old mid new texts v took last = record {
+  forms = subst (Consumes old new) (spelled-last texts v) (Consumes-trans old mid new (spelled texts) (wire v.text) took.forms last.form);
+  fit = All-append FitsForm texts (v ∷ []) took.fit (All-cons FitsForm v [] last.fits (All-nil FitsForm));
+  placed = All-append IsPlacedAsRead texts (v ∷ []) took.placed (All-cons IsPlacedAsRead v [] last.placed (All-nil IsPlacedAsRead));
 }
 
-module _ {R : Type 0} (remaining : R → Option (List ℕ)) where
-  abbrev Gave : Records R → Records R → Result PlacedText WireError → Type 0
-  Gave s j x = GivesRecord remaining s (Some x) j
-
-  -- the last item is the first that held a fault
-  stopped : (s t : Records R) (items : List (Result PlacedText WireError)) (i : ℕ) (e : WireError) → length items ≡ i + 1 → Yields (GivesRecord remaining) s items t
-      → IsSomeAnd (slice_get items i) (λ x. Err e ≡ x) → ((k : ℕ) → k < i → IsSomeAnd (slice_get items k) (λ x. (y : PlacedText) × (Ok y ≡ x)))
-      → FailsAfterTexts (records_left remaining s) e
-  stopped s t [] i e long steps last before = absurd (omega (arith, long))
-  stopped s t (x ∷ items) zero e long (j, step, steps) last before = record {
-    texts = [];
-    mid = records_left remaining s;
-    new = left_behind remaining (Some (Err e)) j;
-    took = Consumes-nil (records_left remaining s);
-    fits = All-nil FitsForm;
-    fails = subst (Gave s j) (sym last) step;
-  }
-  stopped s t (x ∷ items) (suc i) e long (j, step, steps) last before =
-      let (y, is) = before 0 (omega arith) in
-      fails-later _ _ y e (subst (Gave s j) (sym is) step) (stopped j t items i e (omega (arith, long)) steps last (λ (k : ℕ) (h : k < i). before (suc k) (omega (arith, h))))
-
-  run-stopped : (s : Records R) (p : Run (GivesRecord remaining)) (e : WireError) → p.from ≡ s → EndsAtFirstErr p (λ x y. y ≡ x) e → FailsAfterTexts (records_left remaining s) e
-  unfolding YieldsRun
-  run-stopped s p e from (i, long, last, before) =
-      let ((t, steps, end), reads) = p.gave in
-      subst (λ (u : Records R). FailsAfterTexts (records_left remaining u) e) from
-      (stopped p.from t p.items i e (sym p.long ∙ long) steps
-      (subst (λ (x : Option (Result PlacedText WireError)). IsSomeAnd x (λ y. Err e ≡ y)) (reads i) last)
-      (λ (k : ℕ) (h : k < i). subst (λ (x : Option (Result PlacedText WireError)). IsSomeAnd x (λ z. (y : PlacedText) × (Ok y ≡ z))) (reads k) (before k h)))
-
-  pub records-stopped : (A : Type 0) (s : Records R) (r : Result (Vec PlacedText) WireError)
-      → IfErr r (λ e. ((full : A) × (e ≡ Reserve (record {}))) ⊎ SomeRun (GivesRecord remaining) s (λ p. EndsAtFirstErr p (λ x y. y ≡ x) e))
-      → IfErr r (λ e. (e ≡ Reserve (record {})) ⊎ FailsAfterTexts (records_left remaining s) e)
-  records-stopped A s (Ok all) h = tt
-  records-stopped A s (Err e) h = elim h [
-    | inl z ↦ inl z.1
-    | inr g ↦ inr (run-stopped s g.0 e g.1 g.2)
-  ]
+-- what was taken up to the end is all
+pub takes-all : (old new : Option (List ℕ)) (texts : List PlacedText) → TakesForms old new texts → IsAtEnd new → IfSome old (λ bytes. bytes ≡ spelled texts)
+takes-all None new texts took end = tt
+takes-all (Some xs) None texts took end = absurd took.forms
+takes-all (Some xs) (Some ys) texts took end = took.forms ∙ ap (λ l. spelled texts ++ l) end ∙ append-nil (spelled texts)
 
 -- The texts of forms are those that were written.
 
@@ -209,42 +143,61 @@ no-forms [] is = refl
 no-forms (t ∷ rest) is = absurd (omega (arith, ap length is, length-append (wire t) (flat_map wire rest), length-wire t))
 
 -- a fault that is none of one form is none of all
-outside-forms : (n : ℕ) (e : WireError) → IsOutsideForm n e → IsOutsideForms e
-outside-forms n TooLong h = absurd h
-outside-forms n UnexpectedEnd h = absurd h
-outside-forms n Utf8 h = absurd h
-outside-forms n (Io error) h = tt
-outside-forms n WriteZero h = absurd h
-outside-forms n (Reserve error) h = tt
+outside-forms : (n : ℕ) (texts : List (List ℕ)) (e : WireError) → 0 < length texts → IsOutsideForm n e → IsOutsideForms texts e
+outside-forms n texts TooLong some h = absurd h
+outside-forms n texts UnexpectedEnd some h = absurd h
+outside-forms n texts Utf8 some h = absurd h
+outside-forms n texts (Io error) some h = tt
+outside-forms n texts WriteZero some h = absurd h
+outside-forms n texts (Reserve error) some h = some
 
 -- after the last form there is none to fail
-none-fails : (new : Option (List ℕ)) (e : WireError) → FailsWithin (Some []) new e → IsOutsideForms e
-none-fails None e f = absurd f.fails.bytes
-none-fails (Some more) TooLong f = absurd f.fails.fault
-none-fails (Some more) UnexpectedEnd f = absurd (omega (arith, f.begun))
-none-fails (Some more) Utf8 f = absurd (omega (arith, f.fails.fault.0, ap length f.fails.bytes, length-append f.fails.taken more))
-none-fails (Some more) (Io error) f = tt
-none-fails (Some more) WriteZero f = absurd f.fails.fault
-none-fails (Some more) (Reserve error) f = tt
+none-fails : (texts : List (List ℕ)) (new : Option (List ℕ)) (e : WireError) → FailsWithin (Some []) new e → IsOutsideForms texts e
+none-fails texts None e f = absurd f.fails.bytes
+none-fails texts (Some more) TooLong f = absurd f.fails.fault
+none-fails texts (Some more) UnexpectedEnd f = absurd (omega (arith, f.begun))
+none-fails texts (Some more) Utf8 f = absurd (omega (arith, f.fails.fault.0, ap length f.fails.bytes, length-append f.fails.taken more))
+none-fails texts (Some more) (Io error) f = tt
+none-fails texts (Some more) WriteZero f = absurd f.fails.fault
+none-fails texts (Some more) (Reserve error) f = absurd (omega (arith, f.fails.fault.0, ap length f.fails.bytes, length-append f.fails.taken more))
 
-one-fails : (rest : List (List ℕ)) (left : List ℕ) (new : Option (List ℕ)) (e : WireError) → All HasForm rest → left ≡ flat_map wire rest → FailsWithin (Some left) new e → IsOutsideForms e
-one-fails [] left new e forms is f = none-fails new e (subst (λ l. FailsWithin (Some l) new e) is f)
-one-fails (t ∷ rest) left new e forms is f =
+one-fails : (texts rest : List (List ℕ)) (left : List ℕ) (new : Option (List ℕ)) (e : WireError) → length rest ≤ length texts → All HasForm rest → left ≡ flat_map wire rest
+    → FailsWithin (Some left) new e → IsOutsideForms texts e
+one-fails texts [] left new e fewer forms is f = none-fails texts new e (subst (λ l. FailsWithin (Some l) new e) is f)
+one-fails texts (t ∷ rest) left new e fewer forms is f =
     let form = All-head HasForm t rest forms in
     let taken = subst (λ l. Consumes (Some l) new f.fails.taken) is f.fails.bytes in
-    outside-forms (size t) e (outside-form t (flat_map wire rest) f.fails.taken new e form.0 form.1 taken f.fails.fault)
+    outside-forms (size t) texts e (omega (arith, fewer)) (outside-form t (flat_map wire rest) f.fails.taken new e form.0 form.1 taken f.fails.fault)
 
-later-fails : (texts : List (List ℕ)) (e : WireError) → All HasForm texts → FailsAfterTexts (Some (flat_map wire texts)) e → IsOutsideForms e
-later-fails texts e forms f = left-fails f.mid f.took f.fails
+-- texts whose forms were taken are no more than those that stood there
+fewer-left : (texts rest : List (List ℕ)) (found : List PlacedText) → texts ≡ map (λ v. v.text) found ++ rest → length rest ≤ length texts
+fewer-left texts rest found all = omega (arith, ap length all, length-append (map (λ (v : PlacedText). v.text) found) rest)
+
+later-fails : (texts : List (List ℕ)) (e : WireError) → All HasForm texts → FailsAfterTexts (Some (flat_map wire texts)) e → IsOutsideForms texts e
+later-fails texts e forms f = left-fails f.mid f.took.forms f.fails
   where
-    left-fails : (mid : Option (List ℕ)) → Consumes (Some (flat_map wire texts)) mid (spelled f.texts) → FailsWithin mid f.new e → IsOutsideForms e
+    left-fails : (mid : Option (List ℕ)) → Consumes (Some (flat_map wire texts)) mid (spelled f.texts) → FailsWithin mid f.new e → IsOutsideForms texts e
     left-fails None took fails = absurd took
     left-fails (Some left) took fails =
-        let (rest, all, is, last) = same-texts texts f.texts left forms f.fits took in
-        one-fails rest left f.new e last is fails
+        let (rest, all, is, last) = same-texts texts f.texts left forms f.took.fit took in
+        one-fails texts rest left f.new e (fewer-left texts rest f.texts all) last is fails
+
+-- the form of a text was taken, so there is one
+some-taken : (texts : List (List ℕ)) (mid : Option (List ℕ)) (found : List PlacedText) (v : PlacedText) → All HasForm texts → TakesForms (Some (flat_map wire texts)) mid (found ++ v ∷ [])
+    → 0 < length texts
+some-taken [] None found v forms took = absurd took.forms
+some-taken [] (Some left) found v forms took =
+    let long = length-append (spelled (found ++ v ∷ [])) left in
+    let front : length (spelled (found ++ v ∷ [])) ≡ length (spelled found) + length (wire v.text) =
+    ap length (sym (spelled-last found v)) ∙ length-append (spelled found) (wire v.text) in
+    absurd (omega (arith, ap length took.forms, long, front, length-wire v.text))
+some-taken (t ∷ texts) mid found v forms took = omega arith
 
 abbrev Fails : Option (List ℕ) → WireError → Type 0
-Fails known e = (e ≡ Reserve (record {})) ⊎ FailsAfterTexts known e
+Fails known e = FailsAfterTexts known e ⊎ FindsNoRoom known e
+
+room-fails : (texts : List (List ℕ)) (e : WireError) → All HasForm texts → FindsNoRoom (Some (flat_map wire texts)) e → IsOutsideForms texts e
+room-fails texts e forms f = subst (IsOutsideForms texts) (sym f.refused) (some-taken texts f.mid f.texts f.last forms f.took)
 
 pub records-back : (known : Option (List ℕ)) (r : Result (Vec PlacedText) WireError) → IfOk r (λ all. IfSome known (λ bytes. bytes ≡ spelled all.items)) → IfOk r (λ all. All FitsForm all.items)
     → IfErr r (Fails known) → ReadsAllBack known r
@@ -257,8 +210,8 @@ records-back known (Ok all) took fits err = record {
 records-back known (Err e) took fits err = record {
   back = λ (texts : List (List ℕ)) (forms : All HasForm texts) (is : known ≡ Some (flat_map wire texts)).
       elim (subst (λ o. Fails o e) is err) [
-        | inl z ↦ subst IsOutsideForms (sym z) tt
-        | inr g ↦ later-fails texts e forms g
+        | inl g ↦ later-fails texts e forms g
+        | inr g ↦ room-fails texts e forms g
       ];
 }
 
@@ -271,3 +224,34 @@ next-back remaining s t (Some (Ok v)) gives = λ (text rest : List ℕ) (form : 
 next-back remaining s t (Some (Err e)) gives = λ (text rest : List ℕ) (form : HasForm text) (is : records_left remaining s ≡ Some (wire text ++ rest)).
     let fails = gives.fails in
     outside-form text rest fails.taken _ e form.0 form.1 (subst (λ o. Consumes o (left_behind remaining (Some (Err e)) t) fails.taken) is fails.bytes) fails.fault
+
+-- texts that were taken one after another, with forms of no text between them
+
+pub passes-none : (old new : Option (List ℕ)) (texts : List PlacedText) → new ≡ old → texts ≡ [] → TakesTexts old new texts
+passes-none old new texts same empty = record {
+  taken = [];
+  bytes = subst (λ (known : Option (List ℕ)). Consumes old known []) (sym same) (Consumes-nil old);
+  has = subst (λ (l : List PlacedText). HasTexts [] (map (λ (v : PlacedText). v.text) l)) (sym empty) none;
+}
+
+pub passes-text : (old mid new : Option (List ℕ)) (texts : List PlacedText) (v : PlacedText) → TakesTexts old mid texts → TakesForm mid new v → TakesTexts old new (texts ++ v ∷ [])
+passes-text old mid new texts v passed last = record {
+  taken = passed.taken ++ wire v.text;
+  bytes = Consumes-trans old mid new passed.taken (wire v.text) passed.bytes last.form;
+  has = subst (HasTexts (passed.taken ++ wire v.text)) (sym (map-append (λ (w : PlacedText). w.text) texts (v ∷ []))) (text v.text last.fits passed.has);
+}
+
+pub passes-no_text : (old mid new : Option (List ℕ)) (texts : List PlacedText) → TakesTexts old mid texts → FailsWithin mid new Utf8 → TakesTexts old new texts
+passes-no_text old mid new texts passed fault = record {
+  taken = passed.taken ++ fault.fails.taken;
+  bytes = Consumes-trans old mid new passed.taken fault.fails.taken passed.bytes fault.fails.bytes;
+  has = no_text fault.fails.taken fault.fails.fault passed.has;
+}
+
+-- what was taken up to the end is all
+pub passes-all : (old new : Option (List ℕ)) (texts : List PlacedText) → TakesTexts old new texts → IsAtEnd new → IfSome old (λ bytes. HasTexts bytes (map (λ v. v.text) texts))
+passes-all None new texts passed end = tt
+passes-all (Some xs) None texts passed end = absurd passed.bytes
+passes-all (Some xs) (Some ys) texts passed end =
+    let all : xs ≡ passed.taken = passed.bytes ∙ ap (λ (l : List ℕ). passed.taken ++ l) end ∙ append-nil passed.taken in
+    subst (λ (l : List ℕ). HasTexts l (map (λ (v : PlacedText). v.text) texts)) (sym all) passed.has

@@ -53,20 +53,12 @@ front-second old mid new head tail h w = record {
 
 pub write-fails : (old new : Option (List ℕ)) (t : List ℕ) (e : WireError) → size t < 2 ^ 32 → WritesFront old new (wire t) → IsWriterFault e → WriteFails old new t e
 write-fails old new t TooLong h w f = absurd f
-write-fails old new t UnexpectedEnd h w f = absurd f
-write-fails old new t Utf8 h w f = absurd f
-write-fails old new t (Io error) h w f = (h, w)
-write-fails old new t WriteZero h w f = (h, w)
-write-fails old new t (Reserve error) h w f = absurd f
+write-fails old new t e h w f = (h, w, f)
 
 -- what stops a read of some bytes stops one of more, of which others came before
 stop-more : (n len : ℕ) (new : Option (List ℕ)) (e : WireError) → n ≤ len → IsStop n new e → IsStop len new e
-stop-more n len new TooLong h s = absurd s
-stop-more n len new UnexpectedEnd h s = s
-stop-more n len new Utf8 h s = absurd s
-stop-more n len new (Io error) h s = s
-stop-more n len new WriteZero h s = absurd s
 stop-more n len new (Reserve error) h s = omega (arith, h, s)
+stop-more n len new e h s = s
 
 pub stops-later : (old mid new : Option (List ℕ)) (front : List ℕ) (n len : ℕ) (e : WireError) → Consumes old mid front → StopsBelow mid new n e → length front + n ≤ len
     → StopsBelow old new len e
@@ -85,8 +77,8 @@ unfinished : (n : ℕ) (taken : List ℕ) → n < 2 ^ 32 → length taken < n �
 unfinished n taken fits short = omega (arith, claimed n taken fits, short)
 
 pub read-fails : (old mid new : Option (List ℕ)) (n : ℕ) (e : WireError) → n < 2 ^ 32 → Consumes old mid (to_le_bytes w32 n) → TextFails mid new n e → ReadFails old new e
-read-fails old mid new n TooLong fits h f = absurd f
-read-fails old mid new n WriteZero fits h f = absurd f
+read-fails old mid new n TooLong fits h s = absurd s.cause
+read-fails old mid new n WriteZero fits h s = absurd s.cause
 read-fails old mid new n UnexpectedEnd fits h s = record {
   taken = to_le_bytes w32 n ++ s.taken;
   bytes = Consumes-trans old mid new (to_le_bytes w32 n) s.taken h s.bytes;
@@ -126,19 +118,19 @@ form-shown shown t n head within is =
     let whole : wire t ≡ take (4 + n) shown = ap (λ k. to_le_bytes w32 k ++ utf8 t) same ∙ ap (λ l. l ++ utf8 t) head ∙ ap (λ l. take 4 shown ++ l) is ∙ sym (take-add 4 n shown) in
     ap (λ k. take k shown) (length-wire t ∙ ap (λ k. 4 + k) same) ∙ sym whole
 
--- a text that was made of bytes, if one was, is that of the form that these bytes end
-pub form-found : {E : Type 0} (shown front : List ℕ) (n : ℕ) (r : Result (Option PlacedText) E) → to_le_bytes w32 n ≡ take 4 shown → 4 + n ≤ length shown → front ≡ take n (drop 4 shown)
-    → IfOk r (λ found. IfSome found (λ v. utf8 v.text ≡ front)) → IfOk r (λ found. IfSome found (λ v. StartsWith shown (wire v.text)))
-form-found shown front n (Ok None) head within same made = tt
-form-found shown front n (Ok (Some v)) head within same made = form-shown shown v.text n head within (made ∙ same)
-form-found shown front n (Err e) head within same made = tt
+-- a form that stands at the front has the length that the first bytes tell, and its bytes behind them
+pub form-whole : (shown t : List ℕ) (n : ℕ) → n < 2 ^ 32 → size t < 2 ^ 32 → StartsWith shown (wire t) → to_le_bytes w32 n ≡ take 4 shown → (n ≡ size t) × (utf8 t ≡ take n (drop 4 shown))
+form-whole shown t n small fits begins head =
+    let whole : take (4 + size t) shown ≡ wire t = ap (λ k. take k shown) (sym (length-wire t)) ∙ begins in
+    let first : take 4 shown ≡ to_le_bytes w32 (size t) = sym (take-take 4 (4 + size t) shown (omega arith)) ∙ ap (take 4) whole in
+    let same : n ≡ size t = sym (from_le_bytes-to_le_bytes_4 n small) ∙ ap (from_le_bytes w32) (head ∙ first) ∙ from_le_bytes-to_le_bytes_4 (size t) fits in
+    let parts : take 4 shown ++ take (size t) (drop 4 shown) ≡ wire t = sym (take-add 4 (size t) shown) ∙ whole in
+    let rest : take (size t) (drop 4 shown) ≡ utf8 t = ap (drop 4) (ap (λ l. l ++ take (size t) (drop 4 shown)) (sym first) ∙ parts) in
+    (same, sym rest ∙ ap (λ k. take k (drop 4 shown)) (sym same))
 
--- a text that was made of as many bytes as four can tell, if one was, takes no more
-pub form-fits : {E : Type 0} (n : ℕ) (rest : List ℕ) (r : Result (Option PlacedText) E) → n < 2 ^ 32 → n ≤ length rest → IfOk r (λ found. IfSome found (λ v. utf8 v.text ≡ take n rest))
-    → IfOk r (λ found. IfSome found (λ v. size v.text < 2 ^ 32))
-form-fits n rest (Ok None) fits within made = tt
-form-fits n rest (Ok (Some v)) fits within made = omega (arith, length-utf8 v.text, ap length made, length-take-le n rest within, fits)
-form-fits n rest (Err e) fits within made = tt
+-- a text that takes as many bytes as four can tell takes no more
+pub form-fits : (n : ℕ) (t rest : List ℕ) → n < 2 ^ 32 → n ≤ length rest → utf8 t ≡ take n rest → size t < 2 ^ 32
+form-fits n t rest fits within made = omega (arith, length-utf8 t, ap length made, length-take-le n rest within, fits)
 
 -- a form that a reader shows, and that is then passed over, is what was taken
 pub took-shown : (old mid new : Option (List ℕ)) (limit : Option ℕ) (shown t : List ℕ) (n : ℕ) → n ≡ size t → StartsWith shown (wire t) → IfSome old (λ xs. StartsWith xs shown) → IfSome old (λ xs. length shown ≡ 0 → xs ≡ [])

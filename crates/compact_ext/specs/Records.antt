@@ -1,7 +1,9 @@
 -- What an iterator over the wire forms of a reader gives.
-use Rattle.std.specs.Prelude.{◌≡◌, ◌^◌, ◌<◌, ◌==◌, ◌++◌, ℕ, List, length, map, if◌then◌else◌, Option, None, Some, Result, Err, IfSome, MatchOption, MatchResult, flat_map, ⊤}
+use Rattle.std.specs.Prelude.{◌≡◌, ◌^◌, ◌<◌, ◌==◌, ◌++◌, ◌+◌, ℕ, List, [], ◌∷◌, length, drop, map, if◌then◌else◌, Option, None, Some, Result, Err, IfSome, MatchOption, MatchResult, flat_map, IsUtf8, ⊤}
 use Rattle.std.specs.Global.{Vec}
+use Rattle.std.specs.Io.{StartsWith}
 use Rattle.std.specs.Io.KnownBytes.{Consumes, IsAtEnd}
+use Rattle.std.specs.Iterator.{Count, at_most}
 use Rattle.std.specs.List.{All}
 use Rattle.compact_str.specs.Capacity.{taken_over}
 use Rattle.compact_str.specs.Text.{IsText, size}
@@ -9,31 +11,34 @@ use Rattle.compact_str.specs.Value.{PlacedText}
 use Rattle.compact_ext.specs.declared.wire.WireError.{WireError}
 use Rattle.compact_ext.specs.declared.wire.WireError.TheVariants.{TooLong, UnexpectedEnd, Utf8, Io, WriteZero, Reserve}
 use Rattle.compact_ext.specs.declared.wire.records.Records.{Records}
-use Rattle.compact_ext.specs.Wire.{wire, ReadFails, IsOutsideForm}
+use Rattle.compact_ext.specs.Wire.{wire, claimed_len, ReadFails, IsOutsideForm}
 
 -- the bytes that texts are still read from, where the reader's type tells them and the iterator has not given up
 abbrev pub records_left : {R : Type 0} → (R → Option (List ℕ)) → Records R → Option (List ℕ)
 records_left remaining s = if s.calls_left == 0 then None else remaining s.reader
 
+-- no more calls than these give something
+abbrev pub calls_to_come : {R : Type 0} → Records R → Count
+calls_to_come s = at_most s.calls_left
+
 -- known bytes are left
 abbrev pub HasMore : Option (List ℕ) → Type 0
 HasMore known = IfSome known (λ bytes. 0 < length bytes)
 
--- an end that came too early came within a form
+-- an end that came too early came within a form, and a reader has no text that is too long and no writer
 abbrev pub HasBegun : Option (List ℕ) → WireError → Type 0
 HasBegun known UnexpectedEnd = HasMore known
-HasBegun known (Io _) = ⊤
-HasBegun known (Reserve _) = ⊤
-HasBegun known Utf8 = ⊤
-HasBegun known TooLong = ⊤
-HasBegun known WriteZero = ⊤
+HasBegun known TooLong = ⊥
+HasBegun known WriteZero = ⊥
+HasBegun known _ = ⊤
 
 -- a fault as `read_wire` tells it, of a form that had begun
 pub record FailsWithin (old new : Option (List ℕ)) (e : WireError) : Type 0 where
   pub fails : ReadFails old new e
   pub begun : HasBegun old e
 
--- a text is placed as `read_wire` places it: inline up to 24 bytes, and else on the heap with just the capacity that it needs
+-- a text is placed as `read_wire` places it: inline up to 24 bytes, and else on the heap with just the capacity
+-- that it needs
 abbrev pub IsPlacedAsRead : PlacedText → Type 0
 IsPlacedAsRead v = v.placement ≡ taken_over v.text (size v.text)
 
@@ -48,11 +53,13 @@ pub record TakesForm (old new : Option (List ℕ)) (v : PlacedText) : Type 0 whe
   pub placed : IsPlacedAsRead v
 
 -- a text whose form is taken, a fault as `read_wire` tells it, or `None` at the end
-abbrev pub GivesNext : Option (List ℕ) → Option (Result PlacedText WireError) → Option (List ℕ) → Type 0
-GivesNext old r new = MatchOption r (IsAtEnd old) (λ item. MatchResult item (TakesForm old new) (λ e. FailsWithin old new e))
+abbrev pub GivesNext : Option (List ℕ) → Option (Result PlacedText WireError)
+    → Option (List ℕ) → Type 0
+GivesNext old r new =
+    MatchOption r (IsAtEnd old) (λ item. MatchResult item (TakesForm old new) (FailsWithin old new))
 
--- the bytes behind what a call of `next` gave: those that texts are still read from. Where the reader failed the iterator may have
--- given up, so they are the reader's own.
+-- the bytes behind what a call of `next` gave: those that texts are still read from. Where the reader failed the
+-- iterator may have given up, so they are the reader's own.
 abbrev pub left_behind : {R : Type 0} → (R → Option (List ℕ)) → Option (Result PlacedText WireError)
     → Records R → Option (List ℕ)
 left_behind remaining (Some (Err (Io _))) t = remaining t.reader
@@ -63,35 +70,71 @@ abbrev pub GivesRecord : {R : Type 0} → (R → Option (List ℕ)) → Records 
     → Option (Result PlacedText WireError) → Records R → Type 0
 GivesRecord remaining s r t = GivesNext (records_left remaining s) r (left_behind remaining r t)
 
+-- the forms of these texts were taken, and each is placed as `read_wire` places it
+pub record TakesForms (old new : Option (List ℕ)) (texts : List PlacedText) : Type 0 where
+  pub forms : Consumes old new (flat_map (λ v. wire v.text) texts)
+  pub fit : All FitsForm texts
+  pub placed : All IsPlacedAsRead texts
+
 -- some texts' forms were taken, and then comes a fault as `read_wire` tells it
 pub record FailsAfterTexts (known : Option (List ℕ)) (e : WireError) : Type 0 where
   pub texts : List PlacedText
   pub mid : Option (List ℕ)
   pub new : Option (List ℕ)
-  pub took : Consumes known mid (flat_map (λ v. wire v.text) texts)
-  pub fits : All FitsForm texts
+  pub took : TakesForms known mid texts
   pub fails : FailsWithin mid new e
+
+-- the form of a text was taken, after those of others or of none, and the vector had no room for it
+pub record FindsNoRoom (known : Option (List ℕ)) (e : WireError) : Type 0 where
+  pub texts : List PlacedText
+  pub last : PlacedText
+  pub mid : Option (List ℕ)
+  pub took : TakesForms known mid (texts ++ last ∷ [])
+  pub refused : e ≡ Reserve (record {})
 
 -- a text that has a wire form: four bytes can tell its length
 abbrev pub HasForm : List ℕ → Type 0
 HasForm t = IsText t × size t < 2 ^ 32
 
--- where a reader has a text's form and other bytes after it, the next text is that one and these bytes are left, or a fault lies not in
--- the form
-abbrev pub ReadsNextBack : {R : Type 0} → (R → Option (List ℕ)) → Records R → Option (Result PlacedText WireError) → Records R → Type 0
-ReadsNextBack remaining s r t = (text rest : List ℕ) → HasForm text → records_left remaining s ≡ Some (wire text ++ rest)
-    → MatchOption r ⊥ (λ item. MatchResult item (λ v. (v.text ≡ text) × (records_left remaining t ≡ Some rest)) (IsOutsideForm (size text)))
+-- no whole form of a text stands at the front of the bytes
+abbrev pub ShowsNoForm : List ℕ → Type 0
+ShowsNoForm bytes = (t : List ℕ) → HasForm t → ¬ StartsWith bytes (wire t)
 
--- a fault that lies in no form: the reader failed, or room was refused
-abbrev pub IsOutsideForms : WireError → Type 0
-IsOutsideForms (Io _) = ⊤
-IsOutsideForms (Reserve _) = ⊤
-IsOutsideForms TooLong = ⊥
-IsOutsideForms UnexpectedEnd = ⊥
-IsOutsideForms Utf8 = ⊥
-IsOutsideForms WriteZero = ⊥
+-- where a reader has a text's form and other bytes after it, the next text is that one and these bytes are left,
+-- or a fault lies not in the form
+abbrev pub ReadsNextBack : {R : Type 0} → (R → Option (List ℕ)) → Records R
+    → Option (Result PlacedText WireError) → Records R → Type 0
+ReadsNextBack remaining s r t =
+    (text rest : List ℕ) → HasForm text → records_left remaining s ≡ Some (wire text ++ rest)
+    → MatchOption r ⊥ (λ item. MatchResult item
+    (λ v. (v.text ≡ text) × (records_left remaining t ≡ Some rest)) (IsOutsideForm (size text)))
 
--- where a reader has the forms of some texts and no more, these texts are read, or a fault lies in no form
-pub record ReadsAllBack (known : Option (List ℕ)) (r : Result (Vec PlacedText) WireError) : Type 0 where
+-- a fault that lies not in the forms of these texts: the reader failed, or room for one of them was refused
+abbrev pub IsOutsideForms : List (List ℕ) → WireError → Type 0
+IsOutsideForms texts (Io _) = ⊤
+IsOutsideForms texts (Reserve _) = 0 < length texts
+IsOutsideForms texts _ = ⊥
+
+-- where a reader has the forms of some texts and no more, these texts are read, or a fault lies not in the forms
+pub record ReadsAllBack (known : Option (List ℕ)) (r : Result (Vec PlacedText) WireError)
+    : Type 0 where
   pub back : (texts : List (List ℕ)) → All HasForm texts → known ≡ Some (flat_map wire texts)
-      → MatchResult r (λ all. map (λ v. v.text) all.items ≡ texts) IsOutsideForms
+      → MatchResult r (λ all. map (λ v. v.text) all.items ≡ texts) (IsOutsideForms texts)
+
+-- a whole form whose bytes are no text
+abbrev pub IsFormOfNoText : List ℕ → Type 0
+IsFormOfNoText form = (length form ≡ 4 + claimed_len form) × ¬ IsUtf8 (drop 4 form)
+
+-- the bytes are forms in a row, and these are the texts of those that have one, in their order
+pub data HasTexts : List ℕ → List (List ℕ) → Type 0 where
+  none : HasTexts [] []
+  text : {bytes : List ℕ} {texts : List (List ℕ)} (t : List ℕ) → size t < 2 ^ 32
+      → HasTexts bytes texts → HasTexts (bytes ++ wire t) (texts ++ t ∷ [])
+  no_text : {bytes : List ℕ} {texts : List (List ℕ)} (form : List ℕ) → IsFormOfNoText form
+      → HasTexts bytes texts → HasTexts (bytes ++ form) texts
+
+-- bytes were taken that have these texts
+pub record TakesTexts (old new : Option (List ℕ)) (texts : List PlacedText) : Type 0 where
+  pub taken : List ℕ
+  pub bytes : Consumes old new taken
+  pub has : HasTexts taken (map (λ v. v.text) texts)

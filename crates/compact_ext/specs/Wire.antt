@@ -27,19 +27,12 @@ pub record WritesFront (old new : Option (List ℕ)) (all : List ℕ) : Type 0 w
 abbrev pub IsWriterFault : WireError → Type 0
 IsWriterFault (Io _) = ⊤
 IsWriterFault WriteZero = ⊤
-IsWriterFault TooLong = ⊥
-IsWriterFault UnexpectedEnd = ⊥
-IsWriterFault Utf8 = ⊥
-IsWriterFault (Reserve _) = ⊥
+IsWriterFault _ = ⊥
 
--- what stands after a fault of `write_wire`: a text that is too long wrote nothing, and each other one is as the writer said
+-- what stands after a fault of `write_wire`: a text that is too long wrote nothing, and each other fault is the writer's
 abbrev pub WriteFails : Option (List ℕ) → Option (List ℕ) → List ℕ → WireError → Type 0
 WriteFails old new t TooLong = (2 ^ 32 ≤ size t) × Keeps old new
-WriteFails old new t (Io _) = (size t < 2 ^ 32) × WritesFront old new (wire t)
-WriteFails old new t WriteZero = (size t < 2 ^ 32) × WritesFront old new (wire t)
-WriteFails old new t UnexpectedEnd = ⊥
-WriteFails old new t Utf8 = ⊥
-WriteFails old new t (Reserve _) = ⊥
+WriteFails old new t e = (size t < 2 ^ 32) × WritesFront old new (wire t) × IsWriterFault e
 
 -- the bytes end within the four of the length, or before as many have come as these claim
 abbrev pub IsUnfinished : List ℕ → Type 0
@@ -49,10 +42,10 @@ IsUnfinished bytes = 4 ≤ length bytes → length bytes < 4 + claimed_len bytes
 abbrev pub IsReadFault : List ℕ → Option (List ℕ) → WireError → Type 0
 IsReadFault taken new UnexpectedEnd = IsUnfinished taken × IsAtEnd new
 IsReadFault taken new (Io _) = IsUnfinished taken
-IsReadFault taken new (Reserve _) = (4 ≤ length taken) × (24 < claimed_len taken) × (length taken < 4 + claimed_len taken)
+IsReadFault taken new (Reserve _) =
+    (4 ≤ length taken) × (24 < claimed_len taken) × (length taken < 4 + claimed_len taken)
 IsReadFault taken new Utf8 = (length taken ≡ 4 + claimed_len taken) × ¬ IsUtf8 (drop 4 taken)
-IsReadFault taken new TooLong = ⊥
-IsReadFault taken new WriteZero = ⊥
+IsReadFault taken new _ = ⊥
 
 -- what stands after a fault of `read_wire`
 pub record ReadFails (old new : Option (List ℕ)) (e : WireError) : Type 0 where
@@ -64,19 +57,18 @@ pub record ReadFails (old new : Option (List ℕ)) (e : WireError) : Type 0 wher
 abbrev pub IsOutsideForm : ℕ → WireError → Type 0
 IsOutsideForm n (Io _) = ⊤
 IsOutsideForm n (Reserve _) = 24 < n
-IsOutsideForm n TooLong = ⊥
-IsOutsideForm n UnexpectedEnd = ⊥
-IsOutsideForm n Utf8 = ⊥
-IsOutsideForm n WriteZero = ⊥
+IsOutsideForm n _ = ⊥
 
--- where a reader has a form and other bytes after it, that text is read and those bytes are left, or a fault lies not in the form
+-- where a reader has a form and other bytes after it, that text is read and those bytes are left, or a fault lies
+-- not in the form
 pub record ReadsBack (old new : Option (List ℕ)) (r : Result PlacedText WireError) : Type 0 where
   pub back : (t rest : List ℕ) → IsText t → size t < 2 ^ 32 → old ≡ Some (wire t ++ rest)
       → MatchResult r (λ v. (v.text ≡ t) × (new ≡ Some rest)) (IsOutsideForm (size t))
 
 -- where a form begins it tells its text and what comes after it
 abbrev pub FormTellsText : Type 0
-FormTellsText = (t s rest more : List ℕ) → size t < 2 ^ 32 → size s < 2 ^ 32 → wire t ++ rest ≡ wire s ++ more → (t ≡ s) × (rest ≡ more)
+FormTellsText = (t s rest more : List ℕ) → size t < 2 ^ 32 → size s < 2 ^ 32
+    → wire t ++ rest ≡ wire s ++ more → (t ≡ s) × (rest ≡ more)
 
 -- the room that is made at first, whatever length is claimed
 abbrev pub first_room : ℕ
@@ -91,9 +83,7 @@ abbrev pub IsStop : ℕ → Option (List ℕ) → WireError → Type 0
 IsStop n new UnexpectedEnd = IsAtEnd new
 IsStop n new (Io _) = ⊤
 IsStop n new (Reserve _) = 24 < n
-IsStop n new Utf8 = ⊥
-IsStop n new TooLong = ⊥
-IsStop n new WriteZero = ⊥
+IsStop n new _ = ⊥
 
 -- fewer than n bytes were taken, and then the read of them stopped
 pub record StopsBelow (old new : Option (List ℕ)) (n : ℕ) (e : WireError) : Type 0 where
@@ -112,8 +102,4 @@ pub record TakesNoText (old new : Option (List ℕ)) (n : ℕ) : Type 0 where
 -- what stands after a fault of a read of a text of n bytes
 abbrev pub TextFails : Option (List ℕ) → Option (List ℕ) → ℕ → WireError → Type 0
 TextFails old new n Utf8 = TakesNoText old new n
-TextFails old new n UnexpectedEnd = StopsBelow old new n UnexpectedEnd
-TextFails old new n (Io error) = StopsBelow old new n (Io error)
-TextFails old new n (Reserve error) = StopsBelow old new n (Reserve error)
-TextFails old new n TooLong = ⊥
-TextFails old new n WriteZero = ⊥
+TextFails old new n e = StopsBelow old new n e

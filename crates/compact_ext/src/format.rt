@@ -1,6 +1,7 @@
 //! Texts made of formats.
 ghost use Rattle.std.specs.Prelude.{◌≡◌, IfOk, IfSome, IsTrue, OnOk, OnErr};
 ghost use Rattle.compact_str.specs.Text.{text_of};
+ghost use Rattle.compact_str.specs.Change.{push_asks};
 ghost use Rattle.compact_str.specs.Edits.{Writes};
 ghost use Rattle.compact_str.specs.Fitted.{IsFitted};
 
@@ -52,12 +53,17 @@ struct Collector {
 }
 
 impl Write for Collector {
-    ghost write_str_gives = { λ c bytes d. Writes ⟦<Standard as Policy>⟧.growth c.value bytes d.value };
+    ghost write_str_gives = { λ c bytes d.
+        Writes ⟦<Standard as Policy>⟧.growth c.value bytes d.value };
 
     #[inline]
     fn write_str(&mut self, s: &str) -> fmt::Result
-        ensures ok { OnOk result (Writes ⟦<Standard as Policy>⟧.growth self.old.value s.now self.new.value × (self.new.is_refused ≡ self.old.is_refused)) }
-        ensures err { OnErr result ((self.new.value ≡ self.old.value) × IsTrue self.new.is_refused) }
+        ensures ok { OnOk result
+            (Writes ⟦<Standard as Policy>⟧.growth self.old.value s.now self.new.value) }
+        ensures still { OnOk result (self.new.is_refused ≡ self.old.is_refused) }
+        ensures err { OnErr result
+            ((self.new.value ≡ self.old.value) × IsTrue self.new.is_refused) }
+        ensures asks { OnErr result (IsTrue (push_asks self.old.value (text_of s.now))) }
     {
         match self.value.write_str(s) {
             Ok(()) => Ok(()),

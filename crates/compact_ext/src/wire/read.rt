@@ -32,11 +32,13 @@ const FIRST_ROOM: usize = 1 << 20;
 /// is full.
 #[inline]
 pub fn read_wire<R: Read>(alloc: Global, reader: &mut R) -> Result<CompactString, WireError>
-    ensures ok { IfOk result (λ v. Consumes (R.remaining reader.old) (R.remaining reader.new) (wire v.text)) }
+    ensures ok { IfOk result (λ v.
+        Consumes (R.remaining reader.old) (R.remaining reader.new) (wire v.text)) }
     ensures fits { IfOk result (λ v. size v.text < 2 ^ 32) }
     ensures placement { IfOk result (λ v. v.placement ≡ taken_over v.text (size v.text)) }
     ensures back { ReadsBack (R.remaining reader.old) (R.remaining reader.new) result }
-    ensures err { IfErr result (λ e. ReadFails (R.remaining reader.old) (R.remaining reader.new) e) }
+    ensures err { IfErr result (λ e.
+        ReadFails (R.remaining reader.old) (R.remaining reader.new) e) }
 {
     let len = match read_len(reader) {
         Ok(len) => len as usize,
@@ -52,8 +54,10 @@ pub fn read_wire<R: Read>(alloc: Global, reader: &mut R) -> Result<CompactString
 /// Reads the length, from four bytes with the low one first.
 #[inline]
 fn read_len<R: Read>(reader: &mut R) -> Result<u32, WireError>
-    ensures ok { IfOk result (λ len. Consumes (R.remaining reader.old) (R.remaining reader.new) (to_le_bytes w32 len)) }
-    ensures err { IfErr result (λ e. ReadFails (R.remaining reader.old) (R.remaining reader.new) e) }
+    ensures ok { IfOk result (λ len.
+        Consumes (R.remaining reader.old) (R.remaining reader.new) (to_le_bytes w32 len)) }
+    ensures err { IfErr result (λ e.
+        ReadFails (R.remaining reader.old) (R.remaining reader.new) e) }
 {
     let mut head = [0u8; 4];
     if let Err(fault) = fill(&mut head, reader) {
@@ -78,10 +82,12 @@ fn read_short<R: Read>(
     reader: &mut R,
 ) -> Result<CompactString, WireError>
     requires { len ≤ 24 }
-    ensures ok { IfOk result (λ v. Consumes (R.remaining reader.old) (R.remaining reader.new) (utf8 v.text)) }
+    ensures ok { IfOk result (λ v.
+        Consumes (R.remaining reader.old) (R.remaining reader.new) (utf8 v.text)) }
     ensures len { IfOk result (λ v. size v.text ≡ len) }
     ensures placement { IfOk result (λ v. v.placement ≡ inlined) }
-    ensures err { IfErr result (λ e. TextFails (R.remaining reader.old) (R.remaining reader.new) len e) }
+    ensures err { IfErr result (λ e.
+        TextFails (R.remaining reader.old) (R.remaining reader.new) len e) }
 {
     let mut room = [0u8; INLINE_CAPACITY];
     if let Err(fault) = fill(&mut room[..len], reader) {
@@ -129,10 +135,12 @@ fn tell_len(room: &mut [u8; 24], len: usize) -> bool
 fn read_long<R: Read>(alloc: Global, len: usize, reader: &mut R) -> Result<CompactString, WireError>
     requires long { 24 < len }
     requires fits { len < 2 ^ 32 }
-    ensures ok { IfOk result (λ v. Consumes (R.remaining reader.old) (R.remaining reader.new) (utf8 v.text)) }
+    ensures ok { IfOk result (λ v.
+        Consumes (R.remaining reader.old) (R.remaining reader.new) (utf8 v.text)) }
     ensures len { IfOk result (λ v. size v.text ≡ len) }
     ensures placement { IfOk result (λ v. v.placement ≡ on_heap len) }
-    ensures err { IfErr result (λ e. TextFails (R.remaining reader.old) (R.remaining reader.new) len e) }
+    ensures err { IfErr result (λ e.
+        TextFails (R.remaining reader.old) (R.remaining reader.new) len e) }
 {
     let bytes = match read_bytes(alloc, len, reader) {
         Ok(bytes) => bytes,
@@ -149,10 +157,12 @@ fn read_long<R: Read>(alloc: Global, len: usize, reader: &mut R) -> Result<Compa
 fn read_bytes<R: Read>(alloc: Global, len: usize, reader: &mut R) -> Result<Vec<u8>, WireError>
     requires long { 24 < len }
     requires fits { len < 2 ^ 32 }
-    ensures ok { IfOk result (λ bytes. Consumes (R.remaining reader.old) (R.remaining reader.new) bytes.items) }
+    ensures ok { IfOk result (λ bytes.
+        Consumes (R.remaining reader.old) (R.remaining reader.new) bytes.items) }
     ensures len { IfOk result (λ bytes. vec_len bytes ≡ len) }
     ensures capacity { IfOk result (λ bytes. vec_capacity bytes ≡ len) }
-    ensures err { IfErr result (λ e. StopsBelow (R.remaining reader.old) (R.remaining reader.new) len e) }
+    ensures err { IfErr result (λ e.
+        StopsBelow (R.remaining reader.old) (R.remaining reader.new) len e) }
 {
     let mut bytes = Vec::new(alloc);
     while bytes.len() < len {
@@ -184,7 +194,8 @@ fn make_room(bytes: &mut Vec<u8>, room: usize) -> bool
     requires { vec_len bytes.old < room }
     ensures front { take (vec_len bytes.old) bytes.new.items ≡ bytes.old.items }
     ensures len { IsTrue result → vec_len bytes.new ≡ room }
-    ensures capacity { IsTrue result → vec_capacity bytes.old ≤ room → vec_capacity bytes.new ≡ room }
+    ensures capacity { IsTrue result →
+        vec_capacity bytes.old ≤ room → vec_capacity bytes.new ≡ room }
 {
     if bytes.reserve_exact(room - bytes.len()).is_err() || bytes.resize(room, 0).is_err() {
         return false;
@@ -196,9 +207,11 @@ fn make_room(bytes: &mut Vec<u8>, room: usize) -> bool
 /// Fills the buffer with what comes, or says why no more came.
 #[inline]
 fn fill<R: Read>(buffer: &mut [u8], reader: &mut R) -> Result<(), WireError>
-    ensures ok { OnOk result (Consumes (R.remaining reader.old) (R.remaining reader.new) buffer.new) }
+    ensures ok { OnOk result
+        (Consumes (R.remaining reader.old) (R.remaining reader.new) buffer.new) }
     ensures len { length buffer.new ≡ length buffer.old }
-    ensures err { IfErr result (λ e. StopsBelow (R.remaining reader.old) (R.remaining reader.new) (length buffer.old) e) }
+    ensures err { IfErr result (λ e.
+        StopsBelow (R.remaining reader.old) (R.remaining reader.new) (length buffer.old) e) }
 {
     let mut at = 0;
     while at < buffer.len() {

@@ -1,13 +1,11 @@
 //! The texts of a reader, one after another until its end.
-ghost use Rattle.std.specs.Prelude.{◌≡◌, ◌⊎◌, ◌<◌, ◌≤◌, length, flat_map, IfOk, IfSome, IfErr, OnErr, IsUtf8};
+ghost use Rattle.std.specs.Prelude.{◌≡◌, ◌⊎◌, ◌<◌, ◌≤◌, length, flat_map, IfOk, IfSome, IfNone, IfErr, OnErr, IsUtf8};
 ghost use Rattle.std.specs.Io.{StartsWith};
-ghost use Rattle.std.specs.Iterator.{at_most};
 ghost use Rattle.std.specs.Io.KnownBytes.{IsAtEnd, Keeps};
 ghost use Rattle.std.specs.List.{All};
 ghost use Rattle.compact_str.specs.Text.{utf8};
-ghost use Rattle.compact_ext.specs.Records.{records_left, GivesNext, GivesRecord, FailsAfterTexts, FailsWithin, HasMore, IsPlacedAsRead, FitsForm, ReadsAllBack};
+ghost use Rattle.compact_ext.specs.Records.{records_left, calls_to_come, GivesNext, GivesRecord, FailsAfterTexts, FindsNoRoom, HasMore, IsPlacedAsRead, FitsForm, ReadsAllBack, ShowsNoForm};
 ghost use Rattle.compact_ext.specs.Wire.{wire, claimed_len};
-ghost use Rattle.compact_ext.specs.declared.wire.WireError.TheVariants.{Reserve};
 
 use super::read::number_of;
 use super::{WireError, read_wire};
@@ -55,17 +53,30 @@ impl<R: BufRead + Drop> Records<R> {
     ///
     /// Where the reader has whole forms and nothing after them, their texts are read, unless it fails or room is refused.
     ///
-    /// The error is the first fault that `next` gives, or `Reserve` where the vector has no room for one more text. The texts
-    /// before it are given up.
+    /// The error is the first fault that `next` gives, or `Reserve` where the vector has no room for a text that came. The
+    /// texts before it are given up. So a reader with nothing in it is refused only if it fails.
     pub fn into_vec(self) -> Result<Vec<CompactString>, WireError>
-        ensures ok { IfOk result (λ texts. IfSome (records_left R.remaining self) (λ bytes. bytes ≡ flat_map (λ v. wire v.text) texts.items)) }
+        ensures ok { IfOk result (λ texts.
+            IfSome (records_left R.remaining self) (λ bytes.
+            bytes ≡ flat_map (λ v. wire v.text) texts.items)) }
         ensures fits { IfOk result (λ texts. All FitsForm texts.items) }
         ensures placement { IfOk result (λ texts. All IsPlacedAsRead texts.items) }
         ensures back { ReadsAllBack (records_left R.remaining self) result }
-        ensures err { IfErr result (λ e. (e ≡ Reserve (record {})) ⊎ FailsAfterTexts (records_left R.remaining self) e) }
+        ensures err { IfErr result (λ e.
+            FailsAfterTexts (records_left R.remaining self) e
+            ⊎ FindsNoRoom (records_left R.remaining self) e) }
     {
-        let alloc = self.alloc;
-        self.try_collect(alloc)
+        let mut texts = Vec::new(self.alloc);
+        for item in self {
+            let text = match item {
+                Ok(text) => text,
+                Err(fault) => return Err(fault),
+            };
+            if texts.push(text).is_err() {
+                return Err(WireError::Reserve(ReserveError));
+            }
+        }
+        Ok(texts)
     }
 }
 
@@ -74,7 +85,7 @@ impl<R: BufRead + Drop> Iterator for Records<R> {
 
     ghost next_gives = { GivesRecord R.remaining };
 
-    ghost remaining = { λ s. at_most s.calls_left };
+    ghost remaining = { λ s. calls_to_come s };
 
     /// The next text, or `None` at the end.
     #[tactic(auto, using(crate::proofs::RecordLists::record_steps))]
@@ -118,11 +129,12 @@ fn next_record<R: BufRead>(
     }
 }
 
-/// The text whose form the bytes begin with, or `None` where the form is not whole there, or has no text in it. The error
-/// says that room for a text of more than 24 bytes was refused.
+/// The text whose form the bytes begin with, or `None` where no whole form of a text stands there. The error says that room
+/// for a text of more than 24 bytes was refused.
 #[inline]
 fn shown_text(alloc: Global, bytes: &[u8]) -> Result<Option<CompactString>, ReserveError>
     ensures ok { IfOk result (λ found. IfSome found (λ v. StartsWith bytes.now (wire v.text))) }
+    ensures none { IfOk result (λ found. IfNone found (ShowsNoForm bytes.now)) }
     ensures fits { IfOk result (λ found. IfSome found FitsForm) }
     ensures placement { IfOk result (λ found. IfSome found IsPlacedAsRead) }
     ensures err { OnErr result ((4 ≤ length bytes.now) × (24 < claimed_len bytes.now)) }
@@ -134,28 +146,30 @@ fn shown_text(alloc: Global, bytes: &[u8]) -> Result<Option<CompactString>, Rese
     if len > rest.len() || !is_utf8(&rest[..len]) {
         return Ok(None);
     }
-    copy_of(alloc, &rest[..len])
+    match copy_of(alloc, &rest[..len]) {
+        Ok(text) => Ok(Some(text)),
+        Err(error) => Err(error),
+    }
 }
 
 /// A text of the bytes, which are one: inline up to 24 bytes, and a longer one on the heap with just the capacity that it
-/// needs. The error says that room for that was refused. It is never `None`.
+/// needs. The error says that room for that was refused.
 #[inline]
-fn copy_of(alloc: Global, bytes: &[u8]) -> Result<Option<CompactString>, ReserveError>
+fn copy_of(alloc: Global, bytes: &[u8]) -> Result<CompactString, ReserveError>
     requires { IsUtf8 bytes.now }
-    ensures text { IfOk result (λ found. IfSome found (λ v. utf8 v.text ≡ bytes.now)) }
-    ensures placement { IfOk result (λ found. IfSome found IsPlacedAsRead) }
+    ensures text { IfOk result (λ v. utf8 v.text ≡ bytes.now) }
+    ensures placement { IfOk result IsPlacedAsRead }
     ensures err { OnErr result (24 < length bytes.now) }
 {
     if bytes.len() <= INLINE_CAPACITY {
-        let text = CompactString::from_utf8_unchecked(alloc, bytes)?;
-        return Ok(Some(text));
+        return CompactString::from_utf8_unchecked(alloc, bytes);
     }
     let mut copy = Vec::with_capacity(alloc, bytes.len())?;
     copy.extend_from_slice(bytes)?;
     if copy.capacity() != bytes.len() {
-        // The capacity stays as it was, but `extend_from_slice` does not say so.
-        return Ok(None);
+        // The capacity stays as it was, but `extend_from_slice` says only that it does not shrink.
+        return Err(ReserveError);
     }
     let text = unsafe { String::from_utf8_unchecked(copy) };
-    Ok(Some(CompactString::from(text)))
+    Ok(CompactString::from(text))
 }

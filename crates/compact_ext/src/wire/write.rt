@@ -18,10 +18,12 @@ use std::io::Write;
 /// of it and is not the whole. There is no other error, and no memory is needed.
 #[inline]
 pub fn write_wire<W: Write>(text: &CompactString, writer: &mut W) -> Result<(), WireError>
-    ensures ok { OnOk result (Appends (W.contents writer.old) (W.contents writer.new) (wire text.now.text)) }
+    ensures ok { OnOk result
+        (Appends (W.contents writer.old) (W.contents writer.new) (wire text.now.text)) }
     ensures fits { OnOk result (size text.now.text < 2 ^ 32) }
     ensures sound { IsSound text.now }
-    ensures err { IfErr result (λ e. WriteFails (W.contents writer.old) (W.contents writer.new) text.now.text e) }
+    ensures err { IfErr result (λ e.
+        WriteFails (W.contents writer.old) (W.contents writer.new) text.now.text e) }
 {
     let bytes = text.as_bytes();
     let Ok(len) = u32::try_from(text.len()) else {
@@ -37,7 +39,8 @@ pub fn write_wire<W: Write>(text: &CompactString, writer: &mut W) -> Result<(), 
 #[inline]
 fn write_each<W: Write>(bytes: &[u8], writer: &mut W) -> Result<(), WireError>
     ensures ok { OnOk result (Appends (W.contents writer.old) (W.contents writer.new) bytes.now) }
-    ensures err { IfErr result (λ e. WritesFront (W.contents writer.old) (W.contents writer.new) bytes.now) }
+    ensures err { IfErr result (λ e.
+        WritesFront (W.contents writer.old) (W.contents writer.new) bytes.now) }
     ensures fault { IfErr result IsWriterFault }
 {
     let mut rest = bytes;

@@ -1,16 +1,36 @@
 -- A text that follows its length is the text of the form.
-use Rattle.std.proofs.Common.{ap, arith, rules, take, ◌∙◌}
-use Rattle.compact_ext.proofs.WireForms.{form-found, form-fits}
+use Rattle.std.proofs.Common.{◌<◌, ◌^◌, ap, arith, rules, take, drop, sym, subst, ◌∙◌}
+use Rattle.std.specs.Str.{IsUtf8}
+use Rattle.std.proofs.lemmas.Grind.{common_steps}
+use Rattle.compact_ext.proofs.WireForms.{form-shown, form-fits}
+use Rattle.compact_ext.proofs.RecordLists.{cut-shows_none, broken-shows_none}
 use Rattle.compact_ext.proofs.wire.records.shown_text.Goals as goal
+use Rattle.compact_ext.proofs.wire.records.shown_text.Goals.{then-len-rest-via-then-len-rest, then-len-rest-via-else-len-rest+then-not-is_utf8}
 
-pub returns-clause-ok : goal.returns-clause-ok
-returns-clause-ok c =
+pub returns-in-Ok-clause-ok : goal.returns-in-Ok-clause-ok
+returns-in-Ok-clause-ok c =
     let split = c.in-Some.ensures.cases in
     let len = c.number_of-len.result in
-    form-found c.args.bytes.now _ len _ (c.number_of-len.ensures ∙ split.0) (omega (arith, split.2, c.if-len-rest.false)) (ap (take len) split.1) c.copy_of.ensures.text
+    let made = c.in-Ok.ensures.text ∙ ap (take len) split.1 in
+    form-shown c.args.bytes.now c.in-Ok.text.text len (c.number_of-len.ensures ∙ split.0) (omega (arith, split.2, c.if-len-rest.false)) made
 
-pub returns-clause-fits : goal.returns-clause-fits
-returns-clause-fits c =
+pub returns-in-Ok-clause-fits : goal.returns-in-Ok-clause-fits
+returns-in-Ok-clause-fits c =
+    let split = c.in-Some.ensures.cases in
+    form-fits c.number_of-len.result c.in-Ok.text.text _ (search rules) (omega (arith, split.2, c.if-len-rest.false)) c.in-Ok.ensures.text
+
+-- a length beyond what is shown, or bytes that are no text
+pub returns-then-len-rest-clause-none : goal.returns-then-len-rest-clause-none
+returns-then-len-rest-clause-none c =
     let split = c.in-Some.ensures.cases in
     let len = c.number_of-len.result in
-    form-fits len _ _ (search rules) (omega (arith, split.2, c.if-len-rest.false)) c.copy_of.ensures.text
+    let small : len < 2 ^ 32 = search rules in
+    let head = c.number_of-len.ensures ∙ split.0 in
+    elim c.then-len-rest.branch [
+      | then-len-rest-via-then-len-rest w ↦ cut-shows_none c.args.bytes.now len small head (omega (arith, split.2, w.if-len-rest.true))
+      | then-len-rest-via-else-len-rest+then-not-is_utf8 w ↦
+          broken-shows_none c.args.bytes.now len small head (λ (text : IsUtf8 (take len (drop 4 c.args.bytes.now))).
+          let shown : IsUtf8 (take len c.in-Some.rest.now) = subst (λ l. IsUtf8 (take len l)) (sym split.1) text in
+          let yes = w.is_utf8.ensures.1 shown in
+          absurd (grind (arith, common_steps, yes, w.if-not-is_utf8.true)))
+    ]
