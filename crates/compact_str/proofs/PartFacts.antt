@@ -39,8 +39,8 @@ pub word-test : {t s literal : List ℕ} {same : Bool} (word : List ℕ) → sca
     → same ≡ pointwise nat_eq s literal → s ≡ utf8 t → text_of s ≡ t
     → (IsTrue same → t ≡ word) × (t ≡ word → IsTrue same)
 word-test {t} {s} {literal} word scalar spelled test bytes text = (
-    (λ answer. sym text ∙ ap text_of (same_text s literal (sym answer ∙ test) ∙ sym spelled) ∙ chars-encodes word scalar),
-    (λ is. test ∙ (bytes_decides s literal).1 (bytes ∙ ap utf8 is ∙ spelled)),
+  (λ answer. sym text ∙ ap text_of (same_text s literal (sym answer ∙ test) ∙ sym spelled) ∙ chars-encodes word scalar),
+  (λ is. test ∙ (bytes_decides s literal).1 (bytes ∙ ap utf8 is ∙ spelled)),
 )
 
 pub ruleset part_facts = (cut-text, written-bytes, append-nil)
