@@ -58,16 +58,16 @@ fn every_second_character_is_kept(rt: HostRuntime) {
 
 #[test]
 fn a_lent_test_tells_its_state(rt: HostRuntime) {
-    let mut value = copied(&rt, rt.alloc(), "aäb𝄞c");
+    let mut value = CompactString::new(rt.alloc(), "aäb𝄞c").expect(&rt, "memory");
     assert!(rt; matches!(every_second_told(&mut value), Ok(true)));
-    assert_inline(&rt, &value, "abc");
+    assert_eq!(rt; Seen::of(&value), Seen::inline("abc"));
     let mut seen = false;
     assert!(rt; note_spaces(&mut value, &mut seen).is_ok());
     assert!(rt; !seen);
-    let mut spaced = copied(&rt, rt.alloc(), "a b");
+    let mut spaced = CompactString::new(rt.alloc(), "a b").expect(&rt, "memory");
     assert!(rt; note_spaces(&mut spaced, &mut seen).is_ok());
     assert!(rt; seen);
-    assert_inline(&rt, &spaced, "ab");
+    assert_eq!(rt; Seen::of(&spaced), Seen::inline("ab"));
 }
 
 #[test]
@@ -111,7 +111,7 @@ fn what_is_no_text_is_passed_over(rt: HostRuntime) {
     let texts = read_texts(rt.alloc(), MIXED.as_slice()).expect(&rt, "texts");
     assert_eq!(rt; texts.len(), 3);
     for (found, text) in texts.iter().zip(["a", "", "Hi"].iter()) {
-        assert_inline(&rt, found, *text);
+        assert_eq!(rt; Seen::of(found), Seen::inline(*text));
     }
 }
 

@@ -15,3 +15,4 @@ pub mod LawLemmas
 pub mod TextBytes
 pub mod ForCallers
 pub mod Examples
+pub mod PartFacts

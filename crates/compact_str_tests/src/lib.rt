@@ -21,6 +21,8 @@ mod drips;
 #[cfg(test)]
 mod edits;
 #[cfg(test)]
+mod fields;
+#[cfg(test)]
 mod handed_on;
 #[cfg(test)]
 mod hinted;

@@ -3,8 +3,10 @@
 use compact_str::CompactString;
 use compact_testing::seen::Seen;
 use compact_testing::values::{lasting, letters, string_with_room};
+use std::alloc::Global;
 use std::borrow::CowStr;
 use std::mem::size_of;
+use std::process::Abort;
 
 #[test]
 fn texts_are_copied_into_just_their_room(rt: HostRuntime) {
@@ -52,6 +54,45 @@ fn strings_are_taken_over_or_move_inline(rt: HostRuntime) {
         let value = CompactString::from_cow(rt.alloc(), owned).expect(&rt, "memory");
         assert_eq!(rt; Seen::of(&value), Seen::at(place, capacity, text));
     }
+}
+
+#[test]
+fn bytes_and_boxes_are_taken_over_or_move_inline(rt: HostRuntime) {
+    for (room, text, place, capacity) in [
+        (100, "", "inline", 24),
+        (256, "abc", "inline", 24),
+        (90, letters(30), "heap", 90),
+        (100, letters(40), "heap", 100),
+    ] {
+        let bytes = string_with_room(rt.alloc(), room, text)
+            .expect(&rt, "memory")
+            .into_bytes();
+        let value = CompactString::try_from(bytes).expect(&rt, "a text");
+        assert_eq!(rt; Seen::of(&value), Seen::at(place, capacity, text));
+        let boxed = string_with_room(rt.alloc(), room, text)
+            .expect(&rt, "memory")
+            .into_boxed_str();
+        assert_eq!(rt;
+            Seen::of(&CompactString::from(boxed)),
+            Seen::at(place, capacity, text)
+        );
+    }
+}
+
+/// Asserts that bytes are no text, and that they come back as they were.
+fn are_no_text(rt: &impl Abort, alloc: Global, bytes: &[u8]) {
+    let vector = Vec::from_slice(alloc, bytes).expect(rt, "memory");
+    match CompactString::try_from(vector) {
+        Ok(_) => panic!(rt; "these bytes are no text"),
+        Err(error) => assert_eq!(rt; error.as_bytes(), bytes),
+    }
+}
+
+#[test]
+fn bytes_that_are_no_text_come_back(rt: HostRuntime) {
+    are_no_text(&rt, rt.alloc(), &[0xc3]);
+    are_no_text(&rt, rt.alloc(), &[0x61, 0xff]);
+    are_no_text(&rt, rt.alloc(), &[0xed, 0xa0, 0x80]);
 }
 
 #[test]

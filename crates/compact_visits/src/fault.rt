@@ -16,12 +16,20 @@ pub struct Fault {
 impl Fault {
     /// An error of the reader of JSON in the line of a number. The reader was given that line alone, so what it says of lines is
     /// left out.
-    pub fn new(alloc: Global, line: usize, error: &serde_json::Error) -> Result<Self, std::fmt::Error> {
+    pub fn new(
+        alloc: Global,
+        line: usize,
+        error: &serde_json::Error,
+    ) -> Result<Self, std::fmt::Error> {
         let mut said = CompactString::const_new(alloc, "");
         write!(said, "{error}")?;
         if let Some(end) = said.find(" at line ") {
             said.truncate(end);
         }
-        Ok(Self { line, column: error.column(), error: said })
+        Ok(Self {
+            line,
+            column: error.column(),
+            error: said,
+        })
     }
 }

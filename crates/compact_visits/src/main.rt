@@ -36,7 +36,10 @@ fn count_visits<R: Read, W: Write>(alloc: Global, reader: &mut R, writer: &mut W
     let mut writer = BufWriter::new(alloc, writer)?;
     let mut sources = Sources::new(alloc);
     let mut all_counted = true;
-    for (index, line) in BufReader::new(alloc, reader)?.split(alloc, b'\n').enumerate() {
+    for (index, line) in BufReader::new(alloc, reader)?
+        .split(alloc, b'\n')
+        .enumerate()
+    {
         match serde_json::from_slice::<Visit>(alloc, line?.as_slice()) {
             Ok(visit) => sources.count(alloc, visit)?,
             Err(error) => {

@@ -20,8 +20,17 @@ pub struct Source {
 
 impl Source {
     fn new(alloc: Global, host: &str) -> Result<Self> {
-        let host = if host.is_empty() { None } else { Some(CompactString::new(alloc, host)?) };
-        Ok(Self { host, visits: 0, pages: Vec::new(alloc), tags: Vec::new(alloc) })
+        let host = if host.is_empty() {
+            None
+        } else {
+            Some(CompactString::new(alloc, host)?)
+        };
+        Ok(Self {
+            host,
+            visits: 0,
+            pages: Vec::new(alloc),
+            tags: Vec::new(alloc),
+        })
     }
 
     fn add(&mut self, page: CompactString, tags: Vec<CompactString>) -> Result<()> {
@@ -50,12 +59,18 @@ pub struct Sources {
 
 impl Sources {
     pub fn new(alloc: Global) -> Self {
-        Self { by_host: HashMap::new(alloc) }
+        Self {
+            by_host: HashMap::new(alloc),
+        }
     }
 
     /// Counts a visit. The map is asked by the `&str` of the host, so that only a new host takes a value.
     pub fn count(&mut self, alloc: Global, visit: Visit) -> Result<()> {
-        let Visit { page, referrer, tags } = visit;
+        let Visit {
+            page,
+            referrer,
+            tags,
+        } = visit;
         let host = host_of(referrer.as_deref().unwrap_or(""));
         if !self.by_host.contains_key(host) {
             let key = CompactString::new(alloc, host)?;

@@ -1,0 +1,162 @@
+//! Callers of the methods of `&str` on a value, and of what takes a `&str`, as they are written over a `String`.
+#![tactic(auto, using(compact_str::proofs::ForCallers::for_callers))]
+
+ghost use Rattle.std.specs.Prelude.{◌≡◌, ◌+◌, ◌^◌, ◌≤◌, ◌++◌, length, IfOk, OnOk, OnErr, IsOk, MatchOption, codes};
+ghost use Rattle.compact_str.specs.Text.{text_of, size, utf8};
+
+use compact_str::{CompactString, ReserveError};
+use compact_testing::seen::Seen;
+use std::alloc::{AllocError, Global};
+use std::convert::AsStr;
+
+/// Leaves the key of a `key=value` field and answers its value; `None`, and the field as it was, where it has no `=`.
+pub fn split_at_sign(field: &mut CompactString) -> Result<Option<CompactString>, ReserveError>
+    ensures parts { IfOk result (λ value. MatchOption value (field.new ≡ field.old)
+        (λ v. field.old.text ≡ field.new.text ++ codes "=" ++ v.text)) }
+    ensures unchanged { OnErr result (field.new ≡ field.old) }
+{
+    let Some(at) = field.find('=') else {
+        return Ok(None);
+    };
+    let value = field.split_off(at + 1)?;
+    field.truncate(at);
+    Ok(Some(value))
+}
+
+/// How many bytes a text has.
+fn bytes_in(text: &str) -> usize
+    ensures { result ≡ length text.now }
+{
+    text.len()
+}
+
+/// How many bytes two values have, of which each is handed on as a `&str`.
+pub fn bytes_of_both(first: &CompactString, second: &CompactString) -> Option<usize>
+    ensures { MatchOption result (2 ^ 64 ≤ size first.now.text + size second.now.text)
+        (λ n. n ≡ size first.now.text + size second.now.text) }
+{
+    bytes_in(first).checked_add(bytes_in(second))
+}
+
+/// Appends a value to another.
+pub fn append_other(line: &mut CompactString, other: &CompactString) -> Result<(), ReserveError>
+    ensures text { OnOk result (line.new.text ≡ line.old.text ++ other.now.text) }
+    ensures unchanged { OnErr result (line.new ≡ line.old) }
+    ensures succeeds { size line.old.text + size other.now.text ≤ 24 → IsOk result }
+{
+    line.push_str(other)
+}
+
+/// The number that a line has between its spaces.
+pub fn number_in(line: &CompactString) -> Option<u32> {
+    line.trim().parse::<u32>().ok()
+}
+
+/// The bytes of the longest word of a line.
+pub fn longest_word(line: &CompactString) -> usize {
+    line.split_whitespace()
+        .map(|word| word.len())
+        .max()
+        .unwrap_or(0)
+}
+
+/// How many lines of a text have more than spaces.
+pub fn filled_lines(text: &CompactString) -> usize {
+    text.lines()
+        .filter(|line| !line.trim_start().is_empty())
+        .count()
+}
+
+/// How many characters a value has.
+pub fn characters_of(line: &CompactString) -> usize
+    ensures { result ≡ length line.now.text }
+{
+    line.chars().count()
+}
+
+/// A name as it is shown: `"none"` of none.
+pub fn shown_name(name: &Option<CompactString>) -> &str
+    ensures { MatchOption name.now (result.now ≡ codes "none") (λ v. text_of result.now ≡ v.text) }
+{
+    name.as_deref().unwrap_or("none")
+}
+
+/// How many bytes a text has, whatever holds it.
+pub fn weight<T: AsStr>(text: &T) -> usize
+    ensures { result ≡ length (T.text text.now) }
+{
+    text.as_str().len()
+}
+
+/// How many bytes a value has.
+pub fn weight_of(value: &CompactString) -> usize
+    ensures { result ≡ size value.now.text }
+{
+    weight(value)
+}
+
+/// The texts of a row in one `String`, with commas.
+pub fn with_commas(alloc: Global, row: &[CompactString]) -> Result<String, AllocError> {
+    row.join(alloc, ",")
+}
+
+#[cfg(test)]
+mod tests {
+    use super::*;
+
+    #[test]
+    fn a_field_is_split(rt: HostRuntime) {
+        let mut field = CompactString::new(rt.alloc(), "clé=a=b").expect(&rt, "memory");
+        let value = split_at_sign(&mut field).expect(&rt, "memory");
+        assert_eq!(rt; Seen::of(&field), Seen::inline("clé"));
+        assert_eq!(rt;
+            Seen::of(&value.expect(&rt, "a value")),
+            Seen::inline("a=b")
+        );
+        assert!(rt; matches!(split_at_sign(&mut field), Ok(None)));
+    }
+
+    #[test]
+    fn a_value_is_handed_on_as_a_text(rt: HostRuntime) {
+        let mut line = CompactString::new(rt.alloc(), "é").expect(&rt, "memory");
+        let other = CompactString::new(rt.alloc(), "ab").expect(&rt, "memory");
+        assert_eq!(rt; bytes_of_both(&line, &other), Some(4));
+        assert_eq!(rt; weight_of(&line), 2);
+        append_other(&mut line, &other).expect(&rt, "memory");
+        assert_eq!(rt; Seen::of(&line), Seen::inline("éab"));
+        assert_eq!(rt; characters_of(&line), 3);
+    }
+
+    #[test]
+    fn a_line_is_read(rt: HostRuntime) {
+        let line = CompactString::new(rt.alloc(), " 42\n").expect(&rt, "memory");
+        assert_eq!(rt; number_in(&line), Some(42));
+        assert_eq!(rt;
+            filled_lines(&CompactString::new(rt.alloc(), "a\n \nb").expect(&rt, "memory")),
+            2
+        );
+        assert_eq!(rt;
+            longest_word(&CompactString::new(rt.alloc(), "a bcé d").expect(&rt, "memory")),
+            4
+        );
+        assert_eq!(rt;
+            number_in(&CompactString::new(rt.alloc(), "x").expect(&rt, "memory")),
+            None
+        );
+    }
+
+    #[test]
+    fn a_name_is_shown(rt: HostRuntime) {
+        assert_eq!(rt;
+            shown_name(&Some(CompactString::new(rt.alloc(), "zoë").expect(&rt, "memory"))),
+            "zoë"
+        );
+        assert_eq!(rt; shown_name(&None), "none");
+        let row = [
+            CompactString::new(rt.alloc(), "a").expect(&rt, "memory"),
+            CompactString::new(rt.alloc(), "é").expect(&rt, "memory"),
+        ];
+        let joined = with_commas(rt.alloc(), &row).expect(&rt, "memory");
+        assert_eq!(rt; joined.as_str(), "a,é");
+    }
+}

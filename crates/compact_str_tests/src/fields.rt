@@ -1,0 +1,118 @@
+//! Values as they are written and read by serde, as JSON.
+
+use compact_str::CompactString;
+use compact_testing::seen::is_fitted;
+use compact_testing::values::lasting;
+use std::alloc::Global;
+use std::process::Abort;
+
+/// A text of `count` bytes: as many of the characters as go into it, and letters before them.
+fn filled(rt: &impl Abort, alloc: Global, character: &str, count: usize) -> CompactString {
+    let mut text = CompactString::new(alloc, "").expect(rt, "memory");
+    let width = character.len().max(1);
+    for _ in 0..count % width {
+        text.push_str("x").expect(rt, "memory");
+    }
+    for _ in 0..count / width {
+        text.push_str(character).expect(rt, "memory");
+    }
+    text
+}
+
+/// What is written of a value.
+fn written(rt: &impl Abort, alloc: Global, value: &CompactString) -> String {
+    serde_json::to_string(alloc, value).expect(rt, "memory")
+}
+
+/// The value that a JSON text is.
+fn read(rt: &impl Abort, alloc: Global, text: &str) -> CompactString {
+    serde_json::from_str(alloc, text).expect(rt, "a JSON string")
+}
+
+/// Asserts that a value is written as its text between quotes, and is read back with its text, in the value up to 24 bytes.
+fn goes_round(rt: &impl Abort, alloc: Global, value: &CompactString) {
+    let json = written(rt, alloc, value);
+    let inner = json.strip_prefix('"').expect(rt, "a quote");
+    assert_eq!(rt; inner.strip_suffix('"'), Some(value.as_str()));
+    assert!(rt; is_fitted(&read(rt, alloc, json.as_str()), value.as_str()));
+}
+
+/// Asserts this of texts of each length up to 60 bytes.
+fn all_go_round(rt: &impl Abort, alloc: Global, character: &str) {
+    for count in 0..=60 {
+        let text = filled(rt, alloc, character, count);
+        assert_eq!(rt; text.len(), count);
+        goes_round(rt, alloc, &text);
+    }
+}
+
+#[test]
+fn texts_of_every_width_and_length_are_read_back(rt: HostRuntime) {
+    for character in ["a", "é", "€", "𝄞"] {
+        all_go_round(&rt, rt.alloc(), character);
+    }
+}
+
+#[test]
+fn a_static_value_is_written_too(rt: HostRuntime) {
+    goes_round(&rt, rt.alloc(), &lasting(rt.alloc(), 30));
+    goes_round(&rt, rt.alloc(), &lasting(rt.alloc(), 3));
+}
+
+/// Asserts how a value is written, and that it is read back.
+fn is_written(rt: &impl Abort, alloc: Global, value: &CompactString, json: &str) {
+    assert_eq!(rt; written(rt, alloc, value).as_str(), json);
+    assert!(rt; is_fitted(&read(rt, alloc, json), value.as_str()));
+}
+
+#[test]
+fn what_json_escapes_is_read_back(rt: HostRuntime) {
+    let alloc = rt.alloc();
+    for (text, json) in [
+        ("a\"b", r#""a\"b""#),
+        ("\\", r#""\\""#),
+        ("ä\n", r#""ä\n""#),
+        ("\u{1}", r#""\u0001""#),
+        (
+            "a line of more than 24 bytes\n",
+            r#""a line of more than 24 bytes\n""#,
+        ),
+    ] {
+        is_written(
+            &rt,
+            alloc,
+            &CompactString::new(alloc, text).expect(&rt, "memory"),
+            json,
+        );
+    }
+}
+
+#[test]
+fn escapes_that_no_writer_makes_are_read(rt: HostRuntime) {
+    let alloc = rt.alloc();
+    assert!(rt; is_fitted(&read(&rt, alloc, r#""\u00eb""#), "ë"));
+    assert!(rt; is_fitted(&read(&rt, alloc, r#""\ud834\udd1e""#), "𝄞"));
+    assert!(rt; is_fitted(&read(&rt, alloc, r#" "a\/b" "#), "a/b"));
+}
+
+/// Asserts that a JSON text is no text.
+fn is_no_text(rt: &impl Abort, alloc: Global, json: &str) {
+    let read: Result<CompactString, serde_json::Error> = serde_json::from_str(alloc, json);
+    assert!(rt; read.is_err());
+}
+
+#[test]
+fn only_a_json_string_is_read(rt: HostRuntime) {
+    for json in [
+        "12",
+        "null",
+        "true",
+        "[\"a\"]",
+        "{\"a\":\"b\"}",
+        "\"a",
+        "",
+        "\"\\ud834\"",
+    ] {
+        is_no_text(&rt, rt.alloc(), json);
+    }
+}
