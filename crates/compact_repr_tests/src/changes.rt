@@ -2,7 +2,6 @@
 
 use crate::values::{borrowed, copied, empty, reserve};
 use compact_repr::{Repr, Standard};
-use compact_str::CompactString;
 use std::process::Abort;
 
 /// Replaces one range after another, once all that the call asks for is seen to hold, and asserts each outcome.
@@ -72,7 +71,7 @@ fn assert_cut(rt: &impl Abort, text: &mut Repr<Standard>, steps: &[(usize, usize
 
 #[test]
 fn inline(rt: HostRuntime) {
-    let mut text = CompactString::new(rt.alloc(), "äb𝄞").expect(&rt, "memory");
+    let mut text = copied(&rt, rt.alloc(), "äb𝄞");
     for index in 0..9 {
         assert_eq!(rt;
             text.is_char_boundary(index),
@@ -102,9 +101,7 @@ fn inline(rt: HostRuntime) {
 
 #[test]
 fn heap(rt: HostRuntime) {
-    let mut text = CompactString::new(rt.alloc(), "äb𝄞0123456789012345678901234").expect(
-        &rt, "memory",
-    );
+    let mut text = copied(&rt, rt.alloc(), "äb𝄞0123456789012345678901234");
     assert_eq!(rt; text.capacity(), 32);
     assert_replaced(
         &rt,
@@ -130,7 +127,7 @@ fn digits() -> &'static str {
 /// The tail is longer than two blocks of 64 bytes, and its old and new places overlap.
 #[test]
 fn long_tail(rt: HostRuntime) {
-    let mut text = CompactString::new(rt.alloc(), digits()).expect(&rt, "memory");
+    let mut text = copied(&rt, rt.alloc(), digits());
     reserve(&rt, &mut text, 2);
     for (start, end, with, front) in [
         (0, 0, "ab", "ab"),
@@ -175,7 +172,7 @@ fn of_the_program(rt: HostRuntime) {
 
 #[test]
 fn one_character_inline(rt: HostRuntime) {
-    let mut text = CompactString::new(rt.alloc(), "äb𝄞0123456789012345").expect(&rt, "memory");
+    let mut text = copied(&rt, rt.alloc(), "äb𝄞0123456789012345");
     assert_dashes(
         &rt,
         &mut text,
@@ -197,9 +194,7 @@ fn one_character_inline(rt: HostRuntime) {
 
 #[test]
 fn one_character_on_the_heap(rt: HostRuntime) {
-    let mut text = CompactString::new(rt.alloc(), "äb𝄞0123456789012345678901").expect(
-        &rt, "memory",
-    );
+    let mut text = copied(&rt, rt.alloc(), "äb𝄞0123456789012345678901");
     assert_dashes(
         &rt,
         &mut text,
@@ -247,15 +242,13 @@ fn nothing_in_place_of_the_program(rt: HostRuntime) {
 /// A part is taken out in each place that is the value's own.
 #[test]
 fn a_part_is_cut_out(rt: HostRuntime) {
-    let mut text = CompactString::new(rt.alloc(), "äb𝄞xyz").expect(&rt, "memory");
+    let mut text = copied(&rt, rt.alloc(), "äb𝄞xyz");
     assert_cut(
         &rt,
         &mut text,
         &[(2, 7, true, "äxyz"), (5, 5, true, "äxyz"), (0, 5, true, "")],
     );
-    let mut text = CompactString::new(rt.alloc(), "äb𝄞0123456789012345678901234").expect(
-        &rt, "memory",
-    );
+    let mut text = copied(&rt, rt.alloc(), "äb𝄞0123456789012345678901234");
     assert_cut(
         &rt,
         &mut text,
@@ -270,7 +263,7 @@ fn a_part_is_cut_out(rt: HostRuntime) {
 /// A large room is filled byte by byte, up to its last one.
 #[test]
 fn a_room_is_filled(rt: HostRuntime) {
-    let mut text = CompactString::with_capacity(rt.alloc(), 1000).expect(&rt, "memory");
+    let mut text = empty(&rt, rt.alloc(), 1000);
     for _pushed in 0..500 {
         assert!(rt; text.push_in_place("ab"));
     }

@@ -5,7 +5,6 @@
 
 use crate::values::{copied, empty, reserve};
 use compact_repr::{Repr, Standard};
-use compact_str::CompactString;
 use std::alloc::Global;
 use std::process::Abort;
 
@@ -77,7 +76,7 @@ fn assert_replaced(
 
 /// The text as it is made, with room for `additional` more bytes.
 fn with_room(rt: &impl Abort, alloc: Global, text: &str, additional: usize) -> Repr<Standard> {
-    let mut made = CompactString::new(alloc, text).expect(rt, "memory");
+    let mut made = copied(rt, alloc, text);
     reserve(rt, &mut made, additional);
     assert_eq!(rt;
         made.is_heap_allocated(),
@@ -88,10 +87,7 @@ fn with_room(rt: &impl Abort, alloc: Global, text: &str, additional: usize) -> R
 
 /// The text on the heap, in a buffer with room for `additional` more bytes.
 fn on_the_heap(rt: &impl Abort, alloc: Global, text: &str, additional: usize) -> Repr<Standard> {
-    let mut made = CompactString::with_capacity(
-        alloc,
-        text.len().saturating_add(additional).max(25),
-    ).expect(rt, "memory");
+    let mut made = empty(rt, alloc, text.len().saturating_add(additional).max(25));
     assert!(rt; made.push_in_place(text));
     assert!(rt; made.is_heap_allocated());
     made

@@ -3,7 +3,6 @@
 
 use crate::values::copied;
 use compact_repr::{Repr, Standard};
-use compact_str::CompactString;
 use std::alloc::Global;
 use std::ops::Range;
 use std::process::Abort;
@@ -15,7 +14,7 @@ const TEXTS: [&str; 3] = ["abcdefghijklmnopqrstuvwx", "äöüßäöüßäöüß"
 fn begins(rt: &impl Abort, alloc: Global, text: &str) {
     assert!(rt; text.len() <= 24);
     let mark = (192 + text.len()) as u8;
-    let made = CompactString::new(alloc, text).expect(rt, "memory");
+    let made = copied(rt, alloc, text);
     let row = made.packed().expect(rt, "an inline text");
     for (place, byte) in row.iter().enumerate() {
         let behind = if place == 23 { mark } else { 0 };
@@ -65,9 +64,7 @@ fn a_byte_is_put_in(rt: HostRuntime) {
         (16, b"abcdefghijklmnop-qrstuvw"),
         (23, b"abcdefghijklmnopqrstuvw-"),
     ] {
-        let mut text = CompactString::new(rt.alloc(), "abcdefghijklmnopqrstuvw").expect(
-            &rt, "memory",
-        );
+        let mut text = copied(&rt, rt.alloc(), "abcdefghijklmnopqrstuvw");
         assert!(rt; text.is_char_boundary(at));
         assert!(rt; text.insert_ascii_in_place(at, b'-'));
         assert_eq!(rt; text.packed(), Some(*row), "{at}");
@@ -105,9 +102,7 @@ fn a_byte_is_taken_out(rt: HostRuntime) {
             b"bcdefghijklmnopqrstuvw",
         ),
     ] {
-        let mut text = CompactString::new(rt.alloc(), "abcdefghijklmnopqrstuvwx").expect(
-            &rt, "memory",
-        );
+        let mut text = copied(&rt, rt.alloc(), "abcdefghijklmnopqrstuvwx");
         remove(&rt, &mut text, at);
         assert_eq!(rt; text.packed(), Some(*first), "{at}");
         remove(&rt, &mut text, 0);
