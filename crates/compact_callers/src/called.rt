@@ -96,8 +96,8 @@ fn a_reader_tells_its_next_record_and_its_end(rt: HostRuntime) {
 fn records_are_read_to_their_end(rt: HostRuntime) {
     let records = read_records(rt.alloc(), RECORDS.as_slice()).expect(&rt, "records");
     assert_eq!(rt; records.len(), 3);
-    for (record, text) in records.iter().zip(["a", "", "Hi"].iter()) {
-        assert_eq!(rt; Seen::of(record), Seen::inline(*text));
+    for (record, text) in records.iter().zip(["a", "", "Hi"]) {
+        assert_eq!(rt; Seen::of(record), Seen::inline(text));
     }
 }
 
@@ -110,8 +110,8 @@ const MIXED: [u8; 26] = [
 fn what_is_no_text_is_passed_over(rt: HostRuntime) {
     let texts = read_texts(rt.alloc(), MIXED.as_slice()).expect(&rt, "texts");
     assert_eq!(rt; texts.len(), 3);
-    for (found, text) in texts.iter().zip(["a", "", "Hi"].iter()) {
-        assert_eq!(rt; Seen::of(found), Seen::inline(*text));
+    for (found, text) in texts.iter().zip(["a", "", "Hi"]) {
+        assert_eq!(rt; Seen::of(found), Seen::inline(text));
     }
 }
 
