@@ -89,11 +89,11 @@ pub fn every_second_told(line: &mut CompactString) -> Result<bool, ReserveError>
     ensures text { IfOk result (λ last. last ≡ left_by (λ skip c. (not skip, not skip)) false line.old.text) }
     ensures unchanged { OnErr result (line.new ≡ line.old) }
 {
-    let mut skip = false;
+    let mut kept = false;
     let mut keep = |_| {
-        skip = !skip;
-        skip
+        kept = !kept;
+        kept
     };
     line.retain_by(&mut keep)?;
-    Ok(skip)
+    Ok(kept)
 }
