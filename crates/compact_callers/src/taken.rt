@@ -86,7 +86,7 @@ pub fn every_second(line: &mut CompactString) -> Result<(), ReserveError>
 
 /// The same, and answers whether the last character was kept. Of the empty text it was not.
 pub fn every_second_told(line: &mut CompactString) -> Result<bool, ReserveError>
-    ensures text { IfOk result (λ last. last ≡ left_by (λ skip c. (not skip, not skip)) false line.old.text) }
+    ensures last { IfOk result (λ b. b ≡ left_by (λ kept c. (not kept, not kept)) false line.old.text) }
     ensures unchanged { OnErr result (line.new ≡ line.old) }
 {
     let mut kept = false;

@@ -1,6 +1,7 @@
 -- Texts that come one after another: collected, joined with a separator, and appended.
 use Rattle.std.specs.Prelude.{◌≡◌, ℕ, ◌+◌, ◌<◌, List, [], ◌∷◌, ◌++◌, Option, Some, IsTrue, length, drop, flat_map}
-use Rattle.std.specs.Iterator.{Drains, Yields, YieldsThen}
+use Rattle.std.specs.Iterator.{Drains, HoldsAlong, Yields, YieldsThen}
+use Rattle.std.specs.Iterator.Runs.{WholeRun}
 use Rattle.compact_repr.specs.Text.{size}
 use Rattle.compact_repr.specs.Value.{PlacedText}
 use Rattle.compact_repr.specs.Capacity.{Growth}
@@ -18,6 +19,18 @@ joined separator spells xs = drop (length separator) (flat_map (λ x. separator 
 -- the text of one character
 abbrev pub alone : ℕ → List ℕ
 alone c = c ∷ []
+
+-- P holds of the iterator that an iterable becomes
+abbrev pub OfIterator : {U S : Type 0} → (U → S → Type 0) → U → (S → Type 0) → Type 0
+OfIterator {S = S} becomes iterable P = (it : S) × becomes iterable it × P it
+
+-- P holds of the items that an iterable gives in one whole run
+abbrev pub OfItems : {U S A : Type 0} → (U → S → Type 0) → (S → Option A → S → Type 0) → U → (List A → Type 0) → Type 0
+OfItems becomes steps iterable P = OfIterator becomes iterable (λ it. WholeRun steps it (λ run. P run.items))
+
+-- P holds of whatever items an iterable may have given at any time
+abbrev pub OfAllItems : {U S A : Type 0} → (U → S → Type 0) → (S → Option A → S → Type 0) → U → (List A → Type 0) → Type 0
+OfAllItems {S = S} becomes steps iterable P = (it : S) → becomes iterable it → HoldsAlong steps it P
 
 module _ {S A : Type 0} (steps : S → Option A → S → Type 0) where
   -- all items of an iterator are appended in turn

@@ -1,10 +1,9 @@
 //! Texts that are appended to a `String`.
 ghost use Rattle.std.specs.Prelude.{◌≡◌, ◌+◌, ◌<◌, ◌≤◌, List, ◌++◌, flat_map, OnOk, OnErr, IsOk, length, string_bytes};
-ghost use Rattle.std.specs.Iterator.{Drains, HoldsAlong, IsFiniteIterable};
-ghost use Rattle.std.specs.Iterator.Runs.{WholeRun};
+ghost use Rattle.std.specs.Iterator.{Drains, IsFiniteIterable};
 ghost use Rattle.std.specs.String.{string_capacity};
 ghost use Rattle.compact_repr.specs.Text.{size, text_of};
-ghost use Rattle.compact_str.specs.Collects.{StopsWithout};
+ghost use Rattle.compact_str.specs.Collects.{OfIterator, OfItems, OfAllItems, StopsWithout};
 
 use crate::iter::AsText;
 use compact_repr::ReserveError;
@@ -19,10 +18,10 @@ pub fn append_all<T: AsText, U: IntoIterator<Item = T>>(
     items: U,
 ) -> Result<(), ReserveError>
     requires { IsFiniteIterable U.into_iter_gives U.IntoIter.can_next U.IntoIter.remaining items }
-    ensures text { OnOk result ((it : U.IntoIter) × U.into_iter_gives items it × WholeRun U.IntoIter.next_gives it (λ run. text_of (string_bytes line.new) ≡ text_of (string_bytes line.old) ++ flat_map T.spells run.items)) }
-    ensures succeeds { ((it : U.IntoIter) → U.into_iter_gives items it → HoldsAlong U.IntoIter.next_gives it (λ xs. length (string_bytes line.old) + size (flat_map T.spells xs) ≤ string_capacity line.old)) → IsOk result }
+    ensures text { OnOk result (OfItems U.into_iter_gives U.IntoIter.next_gives items (λ xs. text_of (string_bytes line.new) ≡ text_of (string_bytes line.old) ++ flat_map T.spells xs)) }
+    ensures succeeds { OfAllItems U.into_iter_gives U.IntoIter.next_gives items (λ xs. length (string_bytes line.old) + size (flat_map T.spells xs) ≤ string_capacity line.old) → IsOk result }
     ensures capacity { string_capacity line.old ≤ string_capacity line.new }
-    ensures err { OnErr result ((it : U.IntoIter) × U.into_iter_gives items it × StopsWithout U.IntoIter.next_gives T.spells it (string_capacity line.new) (text_of (string_bytes line.old)) (text_of (string_bytes line.new))) }
+    ensures err { OnErr result (OfIterator U.into_iter_gives items (λ it. StopsWithout U.IntoIter.next_gives T.spells it (string_capacity line.new) (text_of (string_bytes line.old)) (text_of (string_bytes line.new)))) }
 {
     append_texts(line, items)
 }
@@ -35,7 +34,7 @@ fn append_texts<T: AsText, U: IntoIterator<Item = T>>(
     requires { IsFiniteIterable U.into_iter_gives U.IntoIter.can_next U.IntoIter.remaining items }
     ensures ok { OnOk result ((it : U.IntoIter) × (xs : List T) × U.into_iter_gives items it × Drains U.IntoIter.next_gives it xs × (text_of (string_bytes line.new) ≡ text_of (string_bytes line.old) ++ flat_map T.spells xs)) }
     ensures capacity { string_capacity line.old ≤ string_capacity line.new }
-    ensures err { OnErr result ((it : U.IntoIter) × U.into_iter_gives items it × StopsWithout U.IntoIter.next_gives T.spells it (string_capacity line.new) (text_of (string_bytes line.old)) (text_of (string_bytes line.new))) }
+    ensures err { OnErr result (OfIterator U.into_iter_gives items (λ it. StopsWithout U.IntoIter.next_gives T.spells it (string_capacity line.new) (text_of (string_bytes line.old)) (text_of (string_bytes line.new)))) }
 {
     for item in items {
         append_text(line, item.text())?;

@@ -1,10 +1,9 @@
 //! What comes one after another, collected into a value.
 ghost use Rattle.std.specs.Prelude.{◌≡◌, ◌+◌, ◌≤◌, List, ℕ, flat_map, fold, map, IfOk, OnErr, IsOk};
-ghost use Rattle.std.specs.Iterator.{Drains, HoldsAlong, IsFiniteIterable};
-ghost use Rattle.std.specs.Iterator.Runs.{WholeRun};
+ghost use Rattle.std.specs.Iterator.{Drains, IsFiniteIterable};
 ghost use Rattle.compact_repr.specs.Text.{size};
 ghost use Rattle.compact_str.specs.Fitted.{IsFitted};
-ghost use Rattle.compact_str.specs.Collects.{PassesInline, alone};
+ghost use Rattle.compact_str.specs.Collects.{OfIterator, OfItems, OfAllItems, PassesInline, alone};
 
 use crate::iter::AsText;
 use crate::iter::gather::Gathered;
@@ -21,7 +20,7 @@ fn collect_pieces<P: Policy, T: Piece, U: IntoIterator<Item = T>>(
     requires { IsFiniteIterable U.into_iter_gives U.IntoIter.can_next U.IntoIter.remaining iter }
     ensures ok { IfOk result (λ v. (it : U.IntoIter) × (xs : List T) × U.into_iter_gives iter it × Drains U.IntoIter.next_gives it xs × (v.text ≡ flat_map T.letters xs)) }
     ensures fitted { IfOk result IsFitted }
-    ensures err { OnErr result ((it : U.IntoIter) × U.into_iter_gives iter it × PassesInline U.IntoIter.next_gives (flat_map T.letters) it) }
+    ensures err { OnErr result (OfIterator U.into_iter_gives iter (λ it. PassesInline U.IntoIter.next_gives (flat_map T.letters) it)) }
 {
     let mut gathered = Gathered::new(alloc);
     for piece in iter {
@@ -41,11 +40,11 @@ impl<P: Policy> PolicyString<P> {
         texts: U,
     ) -> Result<Self, ReserveError>
         requires { IsFiniteIterable U.into_iter_gives U.IntoIter.can_next U.IntoIter.remaining texts }
-        ensures text { IfOk result (λ v. (it : U.IntoIter) × U.into_iter_gives texts it × WholeRun U.IntoIter.next_gives it (λ run. v.text ≡ flat_map T.spells run.items)) }
-        ensures size { IfOk result (λ v. (it : U.IntoIter) × U.into_iter_gives texts it × WholeRun U.IntoIter.next_gives it (λ run. size v.text ≡ fold (λ n text. n + size (T.spells text)) 0 run.items)) }
+        ensures text { IfOk result (λ v. OfItems U.into_iter_gives U.IntoIter.next_gives texts (λ xs. v.text ≡ flat_map T.spells xs)) }
+        ensures size { IfOk result (λ v. OfItems U.into_iter_gives U.IntoIter.next_gives texts (λ xs. size v.text ≡ fold (λ n text. n + size (T.spells text)) 0 xs)) }
         ensures fitted { IfOk result IsFitted }
-        ensures succeeds { ((it : U.IntoIter) → U.into_iter_gives texts it → HoldsAlong U.IntoIter.next_gives it (λ xs. size (flat_map T.spells xs) ≤ 24)) → IsOk result }
-        ensures err { OnErr result ((it : U.IntoIter) × U.into_iter_gives texts it × PassesInline U.IntoIter.next_gives (flat_map T.spells) it) }
+        ensures succeeds { OfAllItems U.into_iter_gives U.IntoIter.next_gives texts (λ xs. size (flat_map T.spells xs) ≤ 24) → IsOk result }
+        ensures err { OnErr result (OfIterator U.into_iter_gives texts (λ it. PassesInline U.IntoIter.next_gives (flat_map T.spells) it)) }
     {
         collect_pieces(alloc, texts)
     }
@@ -60,10 +59,10 @@ impl<P: Policy> PolicyString<P> {
         characters: U,
     ) -> Result<Self, ReserveError>
         requires { IsFiniteIterable U.into_iter_gives U.IntoIter.can_next U.IntoIter.remaining characters }
-        ensures text { IfOk result (λ v. (it : U.IntoIter) × U.into_iter_gives characters it × WholeRun U.IntoIter.next_gives it (λ run. v.text ≡ run.items)) }
+        ensures text { IfOk result (λ v. OfItems U.into_iter_gives U.IntoIter.next_gives characters (λ xs. v.text ≡ xs)) }
         ensures fitted { IfOk result IsFitted }
-        ensures succeeds { ((it : U.IntoIter) → U.into_iter_gives characters it → HoldsAlong U.IntoIter.next_gives it (λ xs. size xs ≤ 24)) → IsOk result }
-        ensures err { OnErr result ((it : U.IntoIter) × U.into_iter_gives characters it × PassesInline U.IntoIter.next_gives (λ xs. xs) it) }
+        ensures succeeds { OfAllItems U.into_iter_gives U.IntoIter.next_gives characters (λ xs. size xs ≤ 24) → IsOk result }
+        ensures err { OnErr result (OfIterator U.into_iter_gives characters (λ it. PassesInline U.IntoIter.next_gives (λ xs. xs) it)) }
     {
         collect_pieces(alloc, characters)
     }
@@ -82,8 +81,8 @@ impl<P: Policy, T: AsText> FromIterator<T> for PolicyString<P> {
         requires { IsFiniteIterable U.into_iter_gives U.IntoIter.can_next U.IntoIter.remaining texts }
         ensures text { IfOk result (λ v. (it : U.IntoIter) × (xs : List T) × U.into_iter_gives texts it × Drains U.IntoIter.next_gives it xs × (v.text ≡ flat_map T.spells xs)) }
         ensures fitted { IfOk result IsFitted }
-        ensures succeeds { ((it : U.IntoIter) → U.into_iter_gives texts it → HoldsAlong U.IntoIter.next_gives it (λ xs. size (flat_map T.spells xs) ≤ 24)) → IsOk result }
-        ensures err { OnErr result ((it : U.IntoIter) × U.into_iter_gives texts it × PassesInline U.IntoIter.next_gives (flat_map T.spells) it) }
+        ensures succeeds { OfAllItems U.into_iter_gives U.IntoIter.next_gives texts (λ xs. size (flat_map T.spells xs) ≤ 24) → IsOk result }
+        ensures err { OnErr result (OfIterator U.into_iter_gives texts (λ it. PassesInline U.IntoIter.next_gives (flat_map T.spells) it)) }
     {
         match collect_pieces(alloc, texts) {
             Ok(value) => Ok(value),
@@ -106,8 +105,8 @@ impl<P: Policy> FromIterator<char> for PolicyString<P> {
         requires { IsFiniteIterable U.into_iter_gives U.IntoIter.can_next U.IntoIter.remaining characters }
         ensures text { IfOk result (λ v. (it : U.IntoIter) × (xs : List ℕ) × U.into_iter_gives characters it × Drains U.IntoIter.next_gives it xs × (v.text ≡ xs)) }
         ensures fitted { IfOk result IsFitted }
-        ensures succeeds { ((it : U.IntoIter) → U.into_iter_gives characters it → HoldsAlong U.IntoIter.next_gives it (λ xs. size xs ≤ 24)) → IsOk result }
-        ensures err { OnErr result ((it : U.IntoIter) × U.into_iter_gives characters it × PassesInline U.IntoIter.next_gives (λ xs. xs) it) }
+        ensures succeeds { OfAllItems U.into_iter_gives U.IntoIter.next_gives characters (λ xs. size xs ≤ 24) → IsOk result }
+        ensures err { OnErr result (OfIterator U.into_iter_gives characters (λ it. PassesInline U.IntoIter.next_gives (λ xs. xs) it)) }
     {
         match collect_pieces(alloc, characters) {
             Ok(value) => Ok(value),
@@ -130,8 +129,8 @@ impl<'a, P: Policy> FromIterator<&'a char> for PolicyString<P> {
         requires { IsFiniteIterable U.into_iter_gives U.IntoIter.can_next U.IntoIter.remaining references }
         ensures text { IfOk result (λ v. (it : U.IntoIter) × (xs : List _) × U.into_iter_gives references it × Drains U.IntoIter.next_gives it xs × (v.text ≡ map (λ c. c.now) xs)) }
         ensures fitted { IfOk result IsFitted }
-        ensures succeeds { ((it : U.IntoIter) → U.into_iter_gives references it → HoldsAlong U.IntoIter.next_gives it (λ xs. size (map (λ c. c.now) xs) ≤ 24)) → IsOk result }
-        ensures err { OnErr result ((it : U.IntoIter) × U.into_iter_gives references it × PassesInline U.IntoIter.next_gives (λ xs. map (λ c. c.now) xs) it) }
+        ensures succeeds { OfAllItems U.into_iter_gives U.IntoIter.next_gives references (λ xs. size (map (λ c. c.now) xs) ≤ 24) → IsOk result }
+        ensures err { OnErr result (OfIterator U.into_iter_gives references (λ it. PassesInline U.IntoIter.next_gives (λ xs. map (λ c. c.now) xs) it)) }
     {
         match collect_pieces(alloc, references) {
             Ok(value) => Ok(value),

@@ -1,11 +1,10 @@
 //! What comes one after another, appended to a value.
 ghost use Rattle.std.specs.Prelude.{◌≡◌, ◌≤◌, List, ◌++◌, flat_map, map, OnOk, OnErr, IsOk};
-ghost use Rattle.std.specs.Iterator.{HoldsAlong, IsFiniteIterable};
-ghost use Rattle.std.specs.Iterator.Runs.{WholeRun};
+ghost use Rattle.std.specs.Iterator.{IsFiniteIterable};
 ghost use Rattle.compact_repr.specs.Text.{size};
 ghost use Rattle.compact_repr.specs.Cut.{IsBoundary, before};
 ghost use Rattle.compact_str.specs.Room.{HasRoomFor, sure_capacity};
-ghost use Rattle.compact_str.specs.Collects.{Appends, AppendsAll, AppendsUpToRefused, alone};
+ghost use Rattle.compact_str.specs.Collects.{OfIterator, OfItems, OfAllItems, Appends, AppendsAll, AppendsUpToRefused, alone};
 
 use crate::iter::AsText;
 use crate::iter::piece::Piece;
@@ -19,9 +18,9 @@ fn extend_pieces<P: Policy, T: Piece, U: IntoIterator<Item = T>>(
     iter: U,
 ) -> Result<(), ReserveError>
     requires { IsFiniteIterable U.into_iter_gives U.IntoIter.can_next U.IntoIter.remaining iter }
-    ensures ok { OnOk result ((it : U.IntoIter) × U.into_iter_gives iter it × AppendsAll U.IntoIter.next_gives P.growth T.letters it value.old value.new) }
-    ensures succeeds { ((it : U.IntoIter) → U.into_iter_gives iter it → HoldsAlong U.IntoIter.next_gives it (λ xs. HasRoomFor value.old (size (flat_map T.letters xs)))) → IsOk result }
-    ensures err { OnErr result ((it : U.IntoIter) × U.into_iter_gives iter it × AppendsUpToRefused U.IntoIter.next_gives P.growth T.letters it value.old value.new) }
+    ensures ok { OnOk result (OfIterator U.into_iter_gives iter (λ it. AppendsAll U.IntoIter.next_gives P.growth T.letters it value.old value.new)) }
+    ensures succeeds { OfAllItems U.into_iter_gives U.IntoIter.next_gives iter (λ xs. HasRoomFor value.old (size (flat_map T.letters xs))) → IsOk result }
+    ensures err { OnErr result (OfIterator U.into_iter_gives iter (λ it. AppendsUpToRefused U.IntoIter.next_gives P.growth T.letters it value.old value.new)) }
 {
     for piece in iter {
         piece.push_to(value)?;
@@ -40,13 +39,13 @@ impl<P: Policy> PolicyString<P> {
         texts: U,
     ) -> Result<(), ReserveError>
         requires { IsFiniteIterable U.into_iter_gives U.IntoIter.can_next U.IntoIter.remaining texts }
-        ensures ok { OnOk result ((it : U.IntoIter) × U.into_iter_gives texts it × AppendsAll U.IntoIter.next_gives P.growth T.spells it self.old self.new) }
-        ensures text { OnOk result ((it : U.IntoIter) × U.into_iter_gives texts it × WholeRun U.IntoIter.next_gives it (λ run. self.new.text ≡ self.old.text ++ flat_map T.spells run.items)) }
+        ensures ok { OnOk result (OfIterator U.into_iter_gives texts (λ it. AppendsAll U.IntoIter.next_gives P.growth T.spells it self.old self.new)) }
+        ensures text { OnOk result (OfItems U.into_iter_gives U.IntoIter.next_gives texts (λ xs. self.new.text ≡ self.old.text ++ flat_map T.spells xs)) }
         ensures boundary { IsBoundary self.new.text (size self.old.text) }
         ensures front { before self.new.text (size self.old.text) ≡ self.old.text }
         ensures room { sure_capacity self.old ≤ sure_capacity self.new }
-        ensures succeeds { ((it : U.IntoIter) → U.into_iter_gives texts it → HoldsAlong U.IntoIter.next_gives it (λ xs. HasRoomFor self.old (size (flat_map T.spells xs)))) → IsOk result }
-        ensures err { OnErr result ((it : U.IntoIter) × U.into_iter_gives texts it × AppendsUpToRefused U.IntoIter.next_gives P.growth T.spells it self.old self.new) }
+        ensures succeeds { OfAllItems U.into_iter_gives U.IntoIter.next_gives texts (λ xs. HasRoomFor self.old (size (flat_map T.spells xs))) → IsOk result }
+        ensures err { OnErr result (OfIterator U.into_iter_gives texts (λ it. AppendsUpToRefused U.IntoIter.next_gives P.growth T.spells it self.old self.new)) }
     {
         extend_pieces(self, texts)
     }
@@ -61,13 +60,13 @@ impl<P: Policy> PolicyString<P> {
         characters: U,
     ) -> Result<(), ReserveError>
         requires { IsFiniteIterable U.into_iter_gives U.IntoIter.can_next U.IntoIter.remaining characters }
-        ensures ok { OnOk result ((it : U.IntoIter) × U.into_iter_gives characters it × AppendsAll U.IntoIter.next_gives P.growth alone it self.old self.new) }
-        ensures text { OnOk result ((it : U.IntoIter) × U.into_iter_gives characters it × WholeRun U.IntoIter.next_gives it (λ run. self.new.text ≡ self.old.text ++ run.items)) }
+        ensures ok { OnOk result (OfIterator U.into_iter_gives characters (λ it. AppendsAll U.IntoIter.next_gives P.growth alone it self.old self.new)) }
+        ensures text { OnOk result (OfItems U.into_iter_gives U.IntoIter.next_gives characters (λ xs. self.new.text ≡ self.old.text ++ xs)) }
         ensures boundary { IsBoundary self.new.text (size self.old.text) }
         ensures front { before self.new.text (size self.old.text) ≡ self.old.text }
         ensures room { sure_capacity self.old ≤ sure_capacity self.new }
-        ensures succeeds { ((it : U.IntoIter) → U.into_iter_gives characters it → HoldsAlong U.IntoIter.next_gives it (λ xs. HasRoomFor self.old (size xs))) → IsOk result }
-        ensures err { OnErr result ((it : U.IntoIter) × U.into_iter_gives characters it × AppendsUpToRefused U.IntoIter.next_gives P.growth alone it self.old self.new) }
+        ensures succeeds { OfAllItems U.into_iter_gives U.IntoIter.next_gives characters (λ xs. HasRoomFor self.old (size xs)) → IsOk result }
+        ensures err { OnErr result (OfIterator U.into_iter_gives characters (λ it. AppendsUpToRefused U.IntoIter.next_gives P.growth alone it self.old self.new)) }
     {
         extend_pieces(self, characters)
     }
@@ -79,10 +78,10 @@ impl<P: Policy, T: AsText> Extend<T> for PolicyString<P> {
     /// `extend_texts`, whose error is here that of the library's trait.
     fn extend<U: IntoIterator<Item = T>>(&mut self, texts: U) -> Result<(), AllocError>
         requires { IsFiniteIterable U.into_iter_gives U.IntoIter.can_next U.IntoIter.remaining texts }
-        ensures ok { OnOk result ((it : U.IntoIter) × U.into_iter_gives texts it × AppendsAll U.IntoIter.next_gives P.growth T.spells it self.old self.new) }
-        ensures text { OnOk result ((it : U.IntoIter) × U.into_iter_gives texts it × WholeRun U.IntoIter.next_gives it (λ run. self.new.text ≡ self.old.text ++ flat_map T.spells run.items)) }
-        ensures succeeds { ((it : U.IntoIter) → U.into_iter_gives texts it → HoldsAlong U.IntoIter.next_gives it (λ xs. HasRoomFor self.old (size (flat_map T.spells xs)))) → IsOk result }
-        ensures err { OnErr result ((it : U.IntoIter) × U.into_iter_gives texts it × AppendsUpToRefused U.IntoIter.next_gives P.growth T.spells it self.old self.new) }
+        ensures ok { OnOk result (OfIterator U.into_iter_gives texts (λ it. AppendsAll U.IntoIter.next_gives P.growth T.spells it self.old self.new)) }
+        ensures text { OnOk result (OfItems U.into_iter_gives U.IntoIter.next_gives texts (λ xs. self.new.text ≡ self.old.text ++ flat_map T.spells xs)) }
+        ensures succeeds { OfAllItems U.into_iter_gives U.IntoIter.next_gives texts (λ xs. HasRoomFor self.old (size (flat_map T.spells xs))) → IsOk result }
+        ensures err { OnErr result (OfIterator U.into_iter_gives texts (λ it. AppendsUpToRefused U.IntoIter.next_gives P.growth T.spells it self.old self.new)) }
     {
         match self.extend_texts(texts) {
             Ok(()) => Ok(()),
@@ -97,10 +96,10 @@ impl<P: Policy> Extend<char> for PolicyString<P> {
     /// `extend_chars`, whose error is here that of the library's trait.
     fn extend<U: IntoIterator<Item = char>>(&mut self, characters: U) -> Result<(), AllocError>
         requires { IsFiniteIterable U.into_iter_gives U.IntoIter.can_next U.IntoIter.remaining characters }
-        ensures ok { OnOk result ((it : U.IntoIter) × U.into_iter_gives characters it × AppendsAll U.IntoIter.next_gives P.growth alone it self.old self.new) }
-        ensures text { OnOk result ((it : U.IntoIter) × U.into_iter_gives characters it × WholeRun U.IntoIter.next_gives it (λ run. self.new.text ≡ self.old.text ++ run.items)) }
-        ensures succeeds { ((it : U.IntoIter) → U.into_iter_gives characters it → HoldsAlong U.IntoIter.next_gives it (λ xs. HasRoomFor self.old (size xs))) → IsOk result }
-        ensures err { OnErr result ((it : U.IntoIter) × U.into_iter_gives characters it × AppendsUpToRefused U.IntoIter.next_gives P.growth alone it self.old self.new) }
+        ensures ok { OnOk result (OfIterator U.into_iter_gives characters (λ it. AppendsAll U.IntoIter.next_gives P.growth alone it self.old self.new)) }
+        ensures text { OnOk result (OfItems U.into_iter_gives U.IntoIter.next_gives characters (λ xs. self.new.text ≡ self.old.text ++ xs)) }
+        ensures succeeds { OfAllItems U.into_iter_gives U.IntoIter.next_gives characters (λ xs. HasRoomFor self.old (size xs)) → IsOk result }
+        ensures err { OnErr result (OfIterator U.into_iter_gives characters (λ it. AppendsUpToRefused U.IntoIter.next_gives P.growth alone it self.old self.new)) }
     {
         match self.extend_chars(characters) {
             Ok(()) => Ok(()),
@@ -115,10 +114,10 @@ impl<'a, P: Policy> Extend<&'a char> for PolicyString<P> {
     /// `extend_chars` of the characters that are referred to.
     fn extend<U: IntoIterator<Item = &'a char>>(&mut self, references: U) -> Result<(), AllocError>
         requires { IsFiniteIterable U.into_iter_gives U.IntoIter.can_next U.IntoIter.remaining references }
-        ensures ok { OnOk result ((it : U.IntoIter) × U.into_iter_gives references it × AppendsAll U.IntoIter.next_gives P.growth (λ c. alone c.now) it self.old self.new) }
-        ensures text { OnOk result ((it : U.IntoIter) × U.into_iter_gives references it × WholeRun U.IntoIter.next_gives it (λ run. self.new.text ≡ self.old.text ++ map (λ c. c.now) run.items)) }
-        ensures succeeds { ((it : U.IntoIter) → U.into_iter_gives references it → HoldsAlong U.IntoIter.next_gives it (λ xs. HasRoomFor self.old (size (map (λ c. c.now) xs)))) → IsOk result }
-        ensures err { OnErr result ((it : U.IntoIter) × U.into_iter_gives references it × AppendsUpToRefused U.IntoIter.next_gives P.growth (λ c. alone c.now) it self.old self.new) }
+        ensures ok { OnOk result (OfIterator U.into_iter_gives references (λ it. AppendsAll U.IntoIter.next_gives P.growth (λ c. alone c.now) it self.old self.new)) }
+        ensures text { OnOk result (OfItems U.into_iter_gives U.IntoIter.next_gives references (λ xs. self.new.text ≡ self.old.text ++ map (λ c. c.now) xs)) }
+        ensures succeeds { OfAllItems U.into_iter_gives U.IntoIter.next_gives references (λ xs. HasRoomFor self.old (size (map (λ c. c.now) xs))) → IsOk result }
+        ensures err { OnErr result (OfIterator U.into_iter_gives references (λ it. AppendsUpToRefused U.IntoIter.next_gives P.growth (λ c. alone c.now) it self.old self.new)) }
     {
         match extend_pieces(self, references) {
             Ok(()) => Ok(()),

@@ -4,9 +4,9 @@ use Rattle.compact_callers.specs.contracts.taken.fn.every_second_told.keep as cl
 use Rattle.compact_callers.proofs.taken.every_second_told.Goals as goal
 
 -- the state goes by the rule, and stands where it stood at the call
-pub returns-clause-text : goal.returns-clause-text
-returns-clause-text c =
+pub returns-clause-last : goal.returns-clause-last
+returns-clause-last c =
     let calls = c.in_ok-retain_by.ensures.text in
-    let last = left-by_rule _ (λ f. (closure.captures f).skip) (λ (skip : Bool) (x : ℕ). (not skip, not skip)) (λ p x b q k. search rules) _ _ _ _ calls in
+    let last = left-by_rule _ (λ f. (closure.captures f).kept) (λ (kept : Bool) (x : ℕ). (not kept, not kept)) (λ p x b q k. search rules) _ _ _ _ calls in
     let place : c.retain_by.new.keep.0.ghost_name ≡ _ = unchanged _ (λ f. f.0.ghost_name) (λ p x b q k. search rules) _ _ _ _ calls in
     search (last, place, rules)
