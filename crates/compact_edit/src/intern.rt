@@ -140,8 +140,10 @@ impl Interner {
     /// 0 and 2.
     #[tactic(auto, using(crate::proofs::NameFacts::list_facts))]
     pub fn intern_all(&mut self, texts: &[&str], numbers: &mut Vec<u32>) -> Result<(), InternError>
-        ensures ok { OnOk result (Takes self.old (texts_of texts.now) numbers.old.items self.new numbers.new.items) }
-        ensures err { IfErr result (StopsEarly self.old (texts_of texts.now) numbers.old self.new numbers.new) }
+        ensures ok { OnOk result (Takes self.old (texts_of texts.now) numbers.old.items
+            self.new numbers.new.items) }
+        ensures err { IfErr result (StopsEarly self.old (texts_of texts.now) numbers.old
+            self.new numbers.new) }
         ensures kept { (n : ℕ) (name : List ℕ)
             → slice_get self.old n ≡ Some name → slice_get self.new n ≡ Some name }
         ensures empty { texts.now ≡ [] → IsOk result }

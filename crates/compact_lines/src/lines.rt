@@ -132,8 +132,10 @@ fn write_outcome<W: Write>(
     outcome: &Result<Reply<Standard>, ReserveError>,
     writer: &mut W,
 ) -> io::Result<()>
-    ensures ok { OnOk result (Appends (W.contents writer.old) (W.contents writer.new) (outcome_line outcome.now)) }
-    ensures err { OnErr result (AppendsFront (W.contents writer.old) (W.contents writer.new) (outcome_line outcome.now)) }
+    ensures ok { OnOk result (Appends (W.contents writer.old) (W.contents writer.new)
+        (outcome_line outcome.now)) }
+    ensures err { OnErr result (AppendsFront (W.contents writer.old) (W.contents writer.new)
+        (outcome_line outcome.now)) }
 {
     match outcome {
         Ok(reply) => write_reply(reply, writer),
@@ -143,8 +145,10 @@ fn write_outcome<W: Write>(
 
 /// Writes the line of a reply.
 fn write_reply<W: Write>(reply: &Reply<Standard>, writer: &mut W) -> io::Result<()>
-    ensures ok { OnOk result (Appends (W.contents writer.old) (W.contents writer.new) (reply_line reply.now)) }
-    ensures err { OnErr result (AppendsFront (W.contents writer.old) (W.contents writer.new) (reply_line reply.now)) }
+    ensures ok { OnOk result (Appends (W.contents writer.old) (W.contents writer.new)
+        (reply_line reply.now)) }
+    ensures err { OnErr result (AppendsFront (W.contents writer.old) (W.contents writer.new)
+        (reply_line reply.now)) }
 {
     match reply {
         Reply::Done => write_texts(&["done\n"], writer),
@@ -160,8 +164,10 @@ fn write_reply<W: Write>(reply: &Reply<Standard>, writer: &mut W) -> io::Result<
 
 /// Writes the line of a value.
 fn write_value<W: Write>(value: &CompactString, writer: &mut W) -> io::Result<()>
-    ensures ok { OnOk result (Appends (W.contents writer.old) (W.contents writer.new) (value_line value.now)) }
-    ensures err { OnErr result (AppendsFront (W.contents writer.old) (W.contents writer.new) (value_line value.now)) }
+    ensures ok { OnOk result (Appends (W.contents writer.old) (W.contents writer.new)
+        (value_line value.now)) }
+    ensures err { OnErr result (AppendsFront (W.contents writer.old) (W.contents writer.new)
+        (value_line value.now)) }
 {
     let place = if value.is_heap_allocated() {
         "heap"

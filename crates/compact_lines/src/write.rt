@@ -8,8 +8,10 @@ use std::io::{ErrorKind, Write};
 
 /// Writes each text in turn. An error leaves a front of their bytes written.
 pub fn write_texts<W: Write>(texts: &[&str], writer: &mut W) -> io::Result<()>
-    ensures ok { OnOk result (Appends (W.contents writer.old) (W.contents writer.new) (bytes_of texts.now)) }
-    ensures err { OnErr result (AppendsFront (W.contents writer.old) (W.contents writer.new) (bytes_of texts.now)) }
+    ensures ok { OnOk result (Appends (W.contents writer.old) (W.contents writer.new)
+        (bytes_of texts.now)) }
+    ensures err { OnErr result (AppendsFront (W.contents writer.old) (W.contents writer.new)
+        (bytes_of texts.now)) }
 {
     for text in texts {
         write_whole(text.as_bytes(), writer)?;
@@ -20,7 +22,8 @@ pub fn write_texts<W: Write>(texts: &[&str], writer: &mut W) -> io::Result<()>
 /// Writes all of the bytes. An error leaves a front of them written. An interrupted call is made again.
 fn write_whole<W: Write>(bytes: &[u8], writer: &mut W) -> io::Result<()>
     ensures ok { OnOk result (Appends (W.contents writer.old) (W.contents writer.new) bytes.now) }
-    ensures err { OnErr result (AppendsFront (W.contents writer.old) (W.contents writer.new) bytes.now) }
+    ensures err { OnErr result (AppendsFront (W.contents writer.old) (W.contents writer.new)
+        bytes.now) }
 {
     let mut rest = bytes;
     for _ in 0..u64::MAX {

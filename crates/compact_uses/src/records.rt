@@ -48,8 +48,10 @@ pub fn read_records<R: Read>(
     reader: &mut R,
     records: &mut Vec<Vec<CompactString>>,
 ) -> Result<(), RecordsError>
-    ensures ok { OnOk result (IfSome (R.remaining reader.old) (λ bytes. ReadsAll separator bytes records.old.items records.new.items)) }
-    ensures err { IfErr result (λ error. IfSome (R.remaining reader.old) (λ bytes. ReadsUpTo separator bytes records.old.items records.new.items error.cause)) }
+    ensures ok { OnOk result (IfSome (R.remaining reader.old) (λ bytes.
+        ReadsAll separator bytes records.old.items records.new.items)) }
+    ensures err { IfErr result (λ error. IfSome (R.remaining reader.old) (λ bytes.
+        ReadsUpTo separator bytes records.old.items records.new.items error.cause)) }
     ensures line { IfErr result (λ error. IsLineAfter records.old.items records.new.items error.line) }
     ensures kept { take (length records.old.items) records.new.items ≡ records.old.items }
 {
@@ -70,8 +72,10 @@ fn read_lines<R: Read>(
     reader: &mut R,
     records: &mut Vec<Vec<CompactString>>,
 ) -> Result<(), RecordsCause>
-    ensures ok { OnOk result (IfSome (R.remaining reader.old) (λ bytes. ReadsAll separator bytes records.old.items records.new.items)) }
-    ensures err { IfErr result (λ cause. IfSome (R.remaining reader.old) (λ bytes. ReadsUpTo separator bytes records.old.items records.new.items cause)) }
+    ensures ok { OnOk result (IfSome (R.remaining reader.old) (λ bytes.
+        ReadsAll separator bytes records.old.items records.new.items)) }
+    ensures err { IfErr result (λ cause. IfSome (R.remaining reader.old) (λ bytes.
+        ReadsUpTo separator bytes records.old.items records.new.items cause)) }
     ensures behind { (read : List (Vec PlacedText)) × (records.new.items ≡ records.old.items ++ read) }
 {
     let Ok(reader) = BufReader::new(alloc, reader) else {
@@ -108,7 +112,9 @@ fn take_line(
     bytes: &[u8],
     records: &mut Vec<Vec<CompactString>>,
 ) -> Result<(), RecordsCause>
-    ensures ok { OnOk result ((fields : Vec PlacedText) × (records.new.items ≡ records.old.items ++ fields ∷ []) × IsRecordOf separator bytes.now fields) }
+    ensures ok { OnOk result ((fields : Vec PlacedText)
+        × (records.new.items ≡ records.old.items ++ fields ∷ [])
+        × IsRecordOf separator bytes.now fields) }
     ensures err { OnErr result (records.new.items ≡ records.old.items) }
     ensures cause { IfErr result (IsCauseAt separator bytes.now) }
 {

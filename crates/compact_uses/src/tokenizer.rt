@@ -68,11 +68,13 @@ pub fn tokenize(
     names: &mut Interner,
     text: &CompactString,
 ) -> Result<Vec<Token>, InternError>
-    ensures joined { IfOk result (λ tokens. flat_map (token_text names.new) tokens.items ≡ text.now.text) }
+    ensures joined { IfOk result (λ tokens.
+        flat_map (token_text names.new) tokens.items ≡ text.now.text) }
     ensures parted { IfOk result (λ tokens. AreParted tokens.items) }
     ensures tokens { IfOk result (λ tokens. All (IsToken names.new) tokens.items) }
     ensures names { IfOk result (λ tokens. AreNamesOf names.old names.new tokens.items) }
-    ensures kept { (n : ℕ) (name : List ℕ) → slice_get names.old n ≡ Some name → slice_get names.new n ≡ Some name }
+    ensures kept { (n : ℕ) (name : List ℕ)
+        → slice_get names.old n ≡ Some name → slice_get names.new n ≡ Some name }
     ensures bound { length names.new ≤ length names.old + length text.now.text }
     ensures empty { text.now.text ≡ [] → IsOk result }
     ensures front { OnErr result (AreNamesOfFront names.old names.new text.now.text) }
@@ -112,12 +114,17 @@ fn put(
     requires first { text_of piece.now ≡ [] → tokens.old.items ≡ [] }
     requires parted { AreParted tokens.old.items }
     requires follows { goes_on (last_kind Mark tokens.old.items) kind ≡ false }
-    ensures joined { OnOk result (flat_map (token_text names.new) tokens.new.items ≡ flat_map (token_text names.old) tokens.old.items ++ text_of piece.now) }
+    ensures joined { OnOk result (flat_map (token_text names.new) tokens.new.items
+        ≡ flat_map (token_text names.old) tokens.old.items ++ text_of piece.now) }
     ensures parted { OnOk result (AreParted tokens.new.items) }
-    ensures last { OnOk result ((next : Kind) → goes_on kind next ≡ false → goes_on (last_kind Mark tokens.new.items) next ≡ false) }
+    ensures last { OnOk result ((next : Kind)
+        → goes_on kind next ≡ false → goes_on (last_kind Mark tokens.new.items) next ≡ false) }
     ensures tokens { OnOk result (All (IsToken names.new) tokens.new.items) }
-    ensures names { OnOk result ((before : List (List ℕ)) → AreNamesOf before names.old tokens.old.items → AreNamesOf before names.new tokens.new.items) }
-    ensures kept { (n : ℕ) (name : List ℕ) → slice_get names.old n ≡ Some name → slice_get names.new n ≡ Some name }
+    ensures names { OnOk result ((before : List (List ℕ))
+        → AreNamesOf before names.old tokens.old.items
+        → AreNamesOf before names.new tokens.new.items) }
+    ensures kept { (n : ℕ) (name : List ℕ)
+        → slice_get names.old n ≡ Some name → slice_get names.new n ≡ Some name }
     ensures bound { length names.new ≤ length names.old + length (text_of piece.now) }
     ensures empty { text_of piece.now ≡ [] → IsOk result }
     ensures front { OnErr result ((before : List (List ℕ)) (others : List ℕ)

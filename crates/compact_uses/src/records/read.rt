@@ -84,7 +84,8 @@ pub fn fields_of(
     separator: char,
     line: &CompactString,
 ) -> Result<Vec<CompactString>, LineError>
-    ensures fields { IfOk result (λ fields. fields_of separator line.now.text ≡ Ok (map text_in fields.items)) }
+    ensures fields { IfOk result (λ fields.
+        fields_of separator line.now.text ≡ Ok (map text_in fields.items)) }
     ensures fault { IfErr result (IsFault (fields_of separator line.now.text)) }
 {
     let mut reading = Reading {
@@ -120,13 +121,13 @@ impl Reading {
     /// Reads one character.
     fn take(&mut self, separator: char, character: char) -> Result<(), LineError>
         ensures ok { OnOk result ((rest : List ℕ)
-            → read separator (part_of self.old.place) (map text_in self.old.done.items) self.old.field.text
-            (character ∷ rest)
-            ≡ read separator (part_of self.new.place) (map text_in self.new.done.items) self.new.field.text
-            rest) }
+            → read separator (part_of self.old.place) (map text_in self.old.done.items)
+            self.old.field.text (character ∷ rest)
+            ≡ read separator (part_of self.new.place) (map text_in self.new.done.items)
+            self.new.field.text rest) }
         ensures err { IfErr result (λ error. (rest : List ℕ) → IsFault
-            (read separator (part_of self.old.place) (map text_in self.old.done.items) self.old.field.text
-            (character ∷ rest)) error) }
+            (read separator (part_of self.old.place) (map text_in self.old.done.items)
+            self.old.field.text (character ∷ rest)) error) }
     {
         match effect_of(separator, self.place, character) {
             Effect::Keep(place) => {
