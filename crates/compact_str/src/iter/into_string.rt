@@ -1,13 +1,12 @@
 //! A `String` that values are appended to, or collected into, by the traits of the library.
-ghost use Rattle.std.specs.Prelude.{◌≡◌, ◌+◌, ◌≤◌, List, ◌++◌, flat_map, IfOk, OnOk, OnErr, IsOk, length, string_bytes};
-ghost use Rattle.std.specs.Iterator.{HoldsAlong, IsFiniteIterable};
-ghost use Rattle.std.specs.Iterator.Runs.{WholeRun};
+ghost use Rattle.std.specs.Prelude.{◌≡◌, ◌+◌, ◌≤◌, List, ◌++◌, flat_map, IfOk, OnOk, OnErr, string_bytes};
+ghost use Rattle.std.specs.Iterator.{Drains, IsFiniteIterable};
 ghost use Rattle.std.specs.String.{string_capacity};
 ghost use Rattle.compact_repr.specs.Text.{size, text_of};
-ghost use Rattle.compact_str.specs.Collects.{StopsWithout};
+ghost use Rattle.compact_str.specs.Collects.{OfIterator, StopsWithout};
 ghost use Rattle.compact_str.specs.Order.{text_in};
 
-use crate::iter::append_all;
+use crate::iter::append::append_texts;
 use crate::string::PolicyString;
 use compact_repr::Policy;
 use std::alloc::{AllocError, Global};
@@ -22,17 +21,15 @@ impl<P: Policy> Extend<PolicyString<P>> for String {
         values: U,
     ) -> Result<(), AllocError>
         requires { IsFiniteIterable U.into_iter_gives U.IntoIter.can_next U.IntoIter.remaining values }
-        ensures text { OnOk result ((it : U.IntoIter) × U.into_iter_gives values it
-            × WholeRun U.IntoIter.next_gives it (λ run. text_of (string_bytes self.new)
-            ≡ text_of (string_bytes self.old) ++ flat_map text_in run.items)) }
-        ensures succeeds { ((it : U.IntoIter) → U.into_iter_gives values it
-            → HoldsAlong U.IntoIter.next_gives it (λ xs. length (string_bytes self.old)
-            + size (flat_map text_in xs) ≤ string_capacity self.old)) → IsOk result }
-        ensures err { OnErr result ((it : U.IntoIter) × U.into_iter_gives values it
-            × StopsWithout U.IntoIter.next_gives text_in it (string_capacity self.old)
-            (text_of (string_bytes self.old)) (text_of (string_bytes self.new))) }
+        ensures ok { OnOk result ((it : U.IntoIter) × (xs : List _) × U.into_iter_gives values it
+            × Drains U.IntoIter.next_gives it xs
+            × (text_of (string_bytes self.new) ≡ text_of (string_bytes self.old) ++ flat_map text_in xs)) }
+        ensures capacity { string_capacity self.old ≤ string_capacity self.new }
+        ensures err { OnErr result (OfIterator U.into_iter_gives values
+            (λ it. StopsWithout U.IntoIter.next_gives text_in it (string_capacity self.new)
+                (text_of (string_bytes self.old)) (text_of (string_bytes self.new)))) }
     {
-        match append_all(self, values) {
+        match append_texts(self, values) {
             Ok(()) => Ok(()),
             Err(_) => Err(AllocError),
         }
@@ -50,12 +47,11 @@ impl<P: Policy> FromIterator<PolicyString<P>> for String {
         values: U,
     ) -> Result<Self, AllocError>
         requires { IsFiniteIterable U.into_iter_gives U.IntoIter.can_next U.IntoIter.remaining values }
-        ensures text { IfOk result (λ s. (it : U.IntoIter) × U.into_iter_gives values it
-            × WholeRun U.IntoIter.next_gives it (λ run.
-            text_of (string_bytes s) ≡ flat_map text_in run.items)) }
+        ensures text { IfOk result (λ s. (it : U.IntoIter) × (xs : List _) × U.into_iter_gives values it
+            × Drains U.IntoIter.next_gives it xs × (text_of (string_bytes s) ≡ flat_map text_in xs)) }
     {
         let mut line = String::new(alloc);
-        match append_all(&mut line, values) {
+        match append_texts(&mut line, values) {
             Ok(()) => Ok(line),
             Err(_) => Err(AllocError),
         }

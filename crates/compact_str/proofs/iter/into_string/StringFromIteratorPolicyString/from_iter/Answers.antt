@@ -8,5 +8,5 @@ use Rattle.compact_str.proofs.iter.into_string.StringFromIteratorPolicyString.fr
 pub returns-in-Ok : goal.returns-in-Ok
 returns-in-Ok g c =
     let empty : text_of (string_bytes c.new-line.result) ≡ [] = ap text_of c.new-line.ensures.bytes ∙ chars-nil in
-    let (it, gives, (run, from, whole, text)) = c.in-Ok.ensures.text in
-    record { text = (it, gives, (run, from, whole, text ∙ ap (λ (t : List ℕ). t ++ flat_map text_in run.items) empty)) }
+    let (it, xs, gives, whole, text) = c.in-Ok.ensures.ok in
+    record { text = (it, xs, gives, whole, text ∙ ap (λ (t : List ℕ). t ++ flat_map text_in xs) empty) }
