@@ -25,7 +25,8 @@ pub fn append_field(line: &mut CompactString, field: &str) -> Result<(), Reserve
 
 /// A line of a report: a name, a colon and a value.
 pub fn label(alloc: Global, name: &str, value: &str) -> Result<CompactString, ReserveError>
-    ensures text { IfOk result (λ v. v.text ≡ text_of name.now ++ text_of (codes ":") ++ text_of value.now) }
+    ensures text { IfOk result
+        (λ v. v.text ≡ text_of name.now ++ text_of (codes ":") ++ text_of value.now) }
 {
     let mut line = CompactString::new(alloc, name)?;
     line.push_str(":")?;

@@ -15,7 +15,8 @@ use std::alloc::{AllocError, Global};
 
 /// A path of its parts.
 pub fn path(alloc: Global, parts: &[&str]) -> Result<CompactString, ReserveError>
-    ensures text { IfOk result (λ v. v.text ≡ joined (codes "/") (λ part. text_of part.now) parts.now) }
+    ensures text { IfOk result
+        (λ v. v.text ≡ joined (codes "/") (λ part. text_of part.now) parts.now) }
     ensures place { IfOk result IsFitted }
 {
     parts.iter().copied().join_compact(alloc, "/")
@@ -27,7 +28,9 @@ pub fn joined_parts(
     parts: Vec<&str>,
     separator: &str,
 ) -> Result<CompactString, ReserveError>
-    ensures { IfOk result (λ v. v.text ≡ joined (text_of separator.now) (λ part. text_of part.now) parts.entry.items) }
+    ensures { IfOk result
+        (λ v. v.text ≡ joined (text_of separator.now)
+        (λ part. text_of part.now) parts.entry.items) }
 {
     parts.into_iter().join_compact(alloc, separator)
 }
@@ -97,14 +100,16 @@ pub fn without_spaces(alloc: Global, line: &str) -> Result<CompactString, Reserv
 
 /// Appends the fields of a record to a line.
 pub fn append_fields(line: &mut CompactString, fields: &[&str]) -> Result<(), ReserveError>
-    ensures { OnOk result (line.new.text ≡ line.old.text ++ flat_map (λ field. text_of field.now) fields.now) }
+    ensures { OnOk result
+        (line.new.text ≡ line.old.text ++ flat_map (λ field. text_of field.now) fields.now) }
 {
     line.extend_texts(fields.iter().copied())
 }
 
 /// Appends all fields, or leaves the text as it was.
 pub fn append_all_or_none(line: &mut CompactString, fields: &[&str]) -> Result<(), ReserveError>
-    ensures text { OnOk result (line.new.text ≡ line.old.text ++ flat_map (λ field. text_of field.now) fields.now) }
+    ensures text { OnOk result
+        (line.new.text ≡ line.old.text ++ flat_map (λ field. text_of field.now) fields.now) }
     ensures unchanged { OnErr result (line.new.text ≡ line.old.text) }
 {
     let len = line.len();
@@ -126,7 +131,9 @@ pub fn append_letters(line: &mut CompactString, name: &str) -> Result<(), Reserv
 
 /// Puts values behind a `String`.
 pub fn append_values(line: &mut String, values: Vec<CompactString>) -> Result<(), ReserveError>
-    ensures { OnOk result (text_of (string_bytes line.new) ≡ text_of (string_bytes line.old) ++ flat_map text_in values.items) }
+    ensures { OnOk result
+        (text_of (string_bytes line.new)
+        ≡ text_of (string_bytes line.old) ++ flat_map text_in values.items) }
 {
     append_all(line, values)
 }
@@ -150,7 +157,9 @@ pub fn rewrite_line(line: &mut String, values: Vec<CompactString>) -> Result<(),
 
 /// Puts values behind a `String`. A refusal says that some text did not fit the room that the line had by then.
 pub fn fill_line(line: &mut String, values: Vec<CompactString>) -> Result<(), ReserveError>
-    ensures { OnErr result ((text : List ℕ) × (string_capacity line.new < size (text_of (string_bytes line.new)) + size text)) }
+    ensures { OnErr result
+        ((text : List ℕ) × (string_capacity line.new
+        < size (text_of (string_bytes line.new)) + size text)) }
 {
     append_all(line, values)
 }

@@ -51,7 +51,9 @@ fn append_all<T: Spelled, I: Iterator<Item = T> + Drop>(
 ) -> Result<(), ReserveError>
     requires can { I.can_next parts }
     requires ends { IsFinite (I.remaining parts) }
-    ensures { OnOk result (WholeRun I.next_gives parts (λ run. line.new.text ≡ line.old.text ++ flat_map T.letters run.items)) }
+    ensures { OnOk result
+        (WholeRun I.next_gives parts
+        (λ run. line.new.text ≡ line.old.text ++ flat_map T.letters run.items)) }
 {
     for part in parts {
         line.push_str(part.spelled())?;
@@ -66,8 +68,11 @@ fn gather<T: Spelled, I: Iterator<Item = T> + Drop>(
 ) -> Result<CompactString, ReserveError>
     requires can { I.can_next parts }
     requires ends { IsFinite (I.remaining parts) }
-    ensures text { IfOk result (λ v. WholeRun I.next_gives parts (λ run. v.text ≡ flat_map T.letters run.items)) }
-    ensures size { IfOk result (λ v. WholeRun I.next_gives parts (λ run. size v.text ≡ fold (λ n part. n + size (T.letters part)) 0 run.items)) }
+    ensures text { IfOk result
+        (λ v. WholeRun I.next_gives parts (λ run. v.text ≡ flat_map T.letters run.items)) }
+    ensures size { IfOk result
+        (λ v. WholeRun I.next_gives parts
+        (λ run. size v.text ≡ fold (λ n part. n + size (T.letters part)) 0 run.items)) }
 {
     let mut line = CompactString::default(alloc);
     append_all(&mut line, parts)?;
@@ -83,7 +88,10 @@ pub trait Lines: Iterator {
         Self::Item: Spelled,
         requires can { Self.can_next self }
         requires ends { IsFinite (Self.remaining self) }
-        ensures { IfOk result (λ v. WholeRun Self.next_gives self (λ run. v.text ≡ flat_map (λ part. Self.Item.letters part ++ text_of end.now) run.items)) }
+        ensures { IfOk result
+            (λ v. WholeRun Self.next_gives self
+            (λ run. v.text ≡ flat_map
+            (λ part. Self.Item.letters part ++ text_of end.now) run.items)) }
     {
         let mut lines = CompactString::default(alloc);
         for part in self {
@@ -98,7 +106,8 @@ impl<I: Iterator> Lines for I {}
 
 /// A path of parts that are borrowed, by copies.
 pub fn path(alloc: Global, parts: &[&str]) -> Result<CompactString, ReserveError>
-    ensures { IfOk result (λ v. v.text ≡ flat_map (λ part. text_of part.now ++ text_of (codes "/")) parts.now) }
+    ensures { IfOk result
+        (λ v. v.text ≡ flat_map (λ part. text_of part.now ++ text_of (codes "/")) parts.now) }
 {
     parts.iter().copied().join_lines(alloc, "/")
 }
@@ -112,7 +121,8 @@ pub fn whole(alloc: Global, parts: &[&str]) -> Result<CompactString, ReserveErro
 
 /// Appends the fields of a record.
 pub fn append_fields(line: &mut CompactString, fields: &[&str]) -> Result<(), ReserveError>
-    ensures { OnOk result (line.new.text ≡ line.old.text ++ flat_map (λ field. text_of field.now) fields.now) }
+    ensures { OnOk result
+        (line.new.text ≡ line.old.text ++ flat_map (λ field. text_of field.now) fields.now) }
 {
     append_all(line, fields.iter().copied())
 }

@@ -33,7 +33,9 @@ pub fn comes_first(first: &CompactString, second: &CompactString) -> bool
 pub fn place_of(words: &[CompactString], word: &CompactString) -> Result<usize, usize>
     requires { IsSorted text_cmp words.now }
     ensures found { IfOk result (HoldsAt (λ w. w.text ≡ word.now.text) words.now) }
-    ensures absent { IfErr result (IsPartitionPoint (λ w. text_cmp w word.now ≡ Ordering.Less) (λ w. text_cmp w word.now ≡ Ordering.Greater) words.now) }
+    ensures absent { IfErr result
+        (IsPartitionPoint (λ w. text_cmp w word.now ≡ Ordering.Less)
+        (λ w. text_cmp w word.now ≡ Ordering.Greater) words.now) }
 {
     sorted_row_is_searchable(words, word);
     match words.binary_search(word) {

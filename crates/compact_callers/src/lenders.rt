@@ -35,8 +35,11 @@ fn lend_to_empty<P: Policy>(
     value: &mut PolicyString<P>,
     most: usize,
 ) -> Result<Emptying<'_, P>, TooLong>
-    ensures* refused { sem 𝓛 (RestsIfErr (the_row P.row P.Policy) value.entry (λ guard. guard.value.ghost_name) result (λ v. v ≡ value.old)) }
-    ensures same_reference { IfOk result (λ guard. guard.value.ghost_name ≡ value.entry.ghost_name) }
+    ensures* refused { sem 𝓛
+        (RestsIfErr (the_row P.row P.Policy) value.entry (λ guard. guard.value.ghost_name) result
+        (λ v. v ≡ value.old)) }
+    ensures same_reference { IfOk result
+        (λ guard. guard.value.ghost_name ≡ value.entry.ghost_name) }
     ensures text { IfOk result (λ guard. guard.value.now ≡ value.old) }
     ensures len { OnErr result (most < size value.old.text) }
 {
@@ -94,7 +97,8 @@ pub fn try_to_empty(value: &mut CompactString, most: usize) -> bool
 
 /// Lends `value` out to be emptied, if it has a text.
 fn lend_unless_empty<P: Policy>(value: &mut PolicyString<P>) -> Option<Emptying<'_, P>>
-    ensures same_reference { IfSome result (λ guard. guard.value.ghost_name ≡ value.entry.ghost_name) }
+    ensures same_reference { IfSome result
+        (λ guard. guard.value.ghost_name ≡ value.entry.ghost_name) }
     ensures text { IfSome result (λ guard. guard.value.now ≡ value.old) }
     ensures none { IfNone result (value.old.text ≡ []) }
 {

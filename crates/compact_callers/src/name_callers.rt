@@ -8,8 +8,10 @@ use compact_edit::{InternError, Interner};
 
 /// The numbers of a name and of its value, both of which stand at the end.
 pub fn pair(names: &mut Interner, name: &str, value: &str) -> Result<(u32, u32), InternError>
-    ensures name { IfOk result (λ numbers. slice_get names.new numbers.0 ≡ Some (text_of name.now)) }
-    ensures value { IfOk result (λ numbers. slice_get names.new numbers.1 ≡ Some (text_of value.now)) }
+    ensures name { IfOk result
+        (λ numbers. slice_get names.new numbers.0 ≡ Some (text_of name.now)) }
+    ensures value { IfOk result
+        (λ numbers. slice_get names.new numbers.1 ≡ Some (text_of value.now)) }
 {
     let first = names.intern(name)?;
     let second = names.intern(value)?;

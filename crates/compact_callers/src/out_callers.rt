@@ -11,7 +11,8 @@ use std::alloc::Global;
 
 /// A line of two fields as a `String`.
 pub fn finished_line(alloc: Global, first: &str, second: &str) -> Result<String, ReserveError>
-    ensures { IfOk result (λ s. text_of (string_bytes s) ≡ text_of first.now ++ text_of second.now) }
+    ensures { IfOk result
+        (λ s. text_of (string_bytes s) ≡ text_of first.now ++ text_of second.now) }
 {
     let mut line = CompactString::new(alloc, first)?;
     line.push_str(second)?;
@@ -32,7 +33,8 @@ pub fn bytes_of_line(line: CompactString) -> Result<Vec<u8>, Refused<CompactStri
 
 /// The name that a JSON value has; `None` of one that is no string.
 pub fn name_of(alloc: Global, value: &Value) -> Result<Option<CompactString>, ReserveError>
-    ensures { IfOk result (λ name. IfSome name (λ v. json_view value.now ≡ json_string (utf8 v.text))) }
+    ensures { IfOk result
+        (λ name. IfSome name (λ v. json_view value.now ≡ json_string (utf8 v.text))) }
 {
     match CompactString::from_json(alloc, value) {
         Ok(name) => Ok(Some(name)),

@@ -11,7 +11,8 @@ use std::fmt::Write;
 /// Appends a line of a report: a name, an arrow and a value.
 #[tactic(auto, using(compact_str::proofs::ForCallers::for_callers))]
 pub fn append_report(line: &mut CompactString, name: &str, value: &str) -> fmt::Result
-    ensures { OnOk result (line.new.text ≡ line.old.text ++ text_of name.now ++ codes " → " ++ text_of value.now) }
+    ensures { OnOk result
+        (line.new.text ≡ line.old.text ++ text_of name.now ++ codes " → " ++ text_of value.now) }
 {
     write!(line, "{name} → {value}")
 }
@@ -19,7 +20,8 @@ pub fn append_report(line: &mut CompactString, name: &str, value: &str) -> fmt::
 /// Appends a count to a report: a name, a colon and the number.
 #[tactic(auto, using(compact_str::proofs::ForCallers::for_callers))]
 pub fn append_count(line: &mut CompactString, name: &str, count: u64) -> fmt::Result
-    ensures { OnOk result (line.new.text ≡ line.old.text ++ text_of name.now ++ codes ": " ++ decimal count) }
+    ensures { OnOk result
+        (line.new.text ≡ line.old.text ++ text_of name.now ++ codes ": " ++ decimal count) }
 {
     write!(line, "{name}: {count}")
 }
@@ -31,7 +33,8 @@ pub fn append_record(
     first: &str,
     second: &str,
 ) -> Result<(), ReserveError>
-    ensures text { OnOk result (line.new.text ≡ line.old.text ++ text_of first.now ++ 44 ∷ text_of second.now) }
+    ensures text { OnOk result
+        (line.new.text ≡ line.old.text ++ text_of first.now ++ 44 ∷ text_of second.now) }
     ensures unchanged { OnErr result (line.new ≡ line.old) }
 {
     line.reserve(first.len() + 1 + second.len())?;
@@ -43,7 +46,8 @@ pub fn append_record(
 /// Appends two fields, and takes the first off again where the second is refused.
 #[tactic(auto, using(compact_str::proofs::ForCallers::for_callers))]
 pub fn append_pair(line: &mut CompactString, first: &str, second: &str) -> Result<(), ReserveError>
-    ensures text { OnOk result (line.new.text ≡ line.old.text ++ text_of first.now ++ text_of second.now) }
+    ensures text { OnOk result
+        (line.new.text ≡ line.old.text ++ text_of first.now ++ text_of second.now) }
     ensures rolled_back { OnErr result (line.new.text ≡ line.old.text) }
 {
     let len = line.len();
@@ -64,7 +68,8 @@ pub fn type_two(
     second: char,
 ) -> Result<usize, ReserveError>
     requires { IsBoundary line.old.text cursor }
-    ensures text { IfOk result (λ _. line.new.text ≡ replaced_text line.old.text cursor cursor (first ∷ second ∷ [])) }
+    ensures text { IfOk result
+        (λ _. line.new.text ≡ replaced_text line.old.text cursor cursor (first ∷ second ∷ [])) }
     ensures cursor { IfOk result (λ behind. IsBoundary line.new.text behind) }
 {
     line.insert(cursor, first)?;
@@ -95,7 +100,9 @@ pub fn with_suffix(name: &CompactString, suffix: &str) -> Result<CompactString, 
 /// Leaves the key of a `key=value` field and answers its value; `None`, and the field as it was, where it has no `=`.
 #[tactic(auto, using(compact_str::proofs::ForCallers::for_callers))]
 pub fn split_field(field: &mut CompactString) -> Result<Option<CompactString>, ReserveError>
-    ensures parts { IfOk result (λ value. MatchOption value (field.new ≡ field.old) (λ v. field.old.text ≡ field.new.text ++ text_of (codes "=") ++ v.text)) }
+    ensures parts { IfOk result
+        (λ value. MatchOption value (field.new ≡ field.old)
+        (λ v. field.old.text ≡ field.new.text ++ text_of (codes "=") ++ v.text)) }
     ensures unchanged { OnErr result (field.new ≡ field.old) }
 {
     let Some(at) = field.as_str().find('=') else {

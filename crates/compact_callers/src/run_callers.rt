@@ -69,7 +69,10 @@ pub fn refill(
     value: &mut PolicyString<Doubling>,
     text: &str,
 ) -> Result<bool, ReserveError>
-    ensures { IfOk result (λ done. OnTrue done (pushed ⟦<Doubling as Policy>⟧.growth (cleared value.old) (text_of text.now) ≡ Some value.new)) }
+    ensures { IfOk result
+        (λ done. OnTrue done
+        (pushed ⟦<Doubling as Policy>⟧.growth (cleared value.old) (text_of text.now)
+        ≡ Some value.new)) }
 {
     let edits = [Edit::Clear, Edit::PushStr(text)];
     let mut replies = Vec::new(alloc);

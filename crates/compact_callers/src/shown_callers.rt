@@ -59,7 +59,8 @@ pub fn version(
     minor: u8,
     patch: u16,
 ) -> Result<CompactString, ToCompactStringError>
-    ensures { IfOk result (λ v. v.text ≡ decimal major ++ codes "." ++ decimal minor ++ codes "." ++ decimal patch) }
+    ensures { IfOk result
+        (λ v. v.text ≡ decimal major ++ codes "." ++ decimal minor ++ codes "." ++ decimal patch) }
 {
     let text = format_compact!(in alloc; "{major}.{minor}.{patch}")?;
     Ok(text)
@@ -71,7 +72,8 @@ pub fn change(
     name: &str,
     difference: i64,
 ) -> Result<CompactString, ToCompactStringError>
-    ensures { IfOk result (λ v. v.text ≡ text_of name.now ++ codes " → " ++ signed_decimal difference) }
+    ensures { IfOk result
+        (λ v. v.text ≡ text_of name.now ++ codes " → " ++ signed_decimal difference) }
 {
     let text = format_compact!(in alloc; "{name} → {difference}")?;
     Ok(text)

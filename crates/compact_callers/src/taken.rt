@@ -19,8 +19,12 @@ pub fn move_range(
     to: &mut CompactString,
 ) -> Result<(), ReserveError>
     requires { IsRange from.old.text start end }
-    ensures moved { OnOk result (to.new.text ≡ to.old.text ++ middle from.old.text (range_start start) (range_end from.old.text end)) }
-    ensures left { OnOk result (from.new.text ≡ replaced_text from.old.text (range_start start) (range_end from.old.text end) [] ++ 46 ∷ []) }
+    ensures moved { OnOk result
+        (to.new.text ≡ to.old.text
+        ++ middle from.old.text (range_start start) (range_end from.old.text end)) }
+    ensures left { OnOk result
+        (from.new.text ≡ replaced_text from.old.text (range_start start)
+        (range_end from.old.text end) [] ++ 46 ∷ []) }
 {
     let drained = from.drain(start, end)?;
     to.push_str(drained.as_str())?;
@@ -36,7 +40,9 @@ pub fn take_range(
     end: Bound<usize>,
 ) -> Result<Option<char>, ReserveError>
     requires { IsRange value.old.text start end }
-    ensures left { OnOk result (value.new.text ≡ replaced_text value.old.text (range_start start) (range_end value.old.text end) []) }
+    ensures left { OnOk result
+        (value.new.text ≡ replaced_text value.old.text (range_start start)
+        (range_end value.old.text end) []) }
     ensures unchanged { OnErr result (value.new ≡ value.old) }
 {
     let mut drained = value.drain(start, end)?;
@@ -73,7 +79,8 @@ pub fn note_spaces(line: &mut CompactString, seen: &mut bool) -> Result<(), Rese
 
 /// Keeps every second character, from the first on.
 pub fn every_second(line: &mut CompactString) -> Result<(), ReserveError>
-    ensures text { OnOk result (line.new.text ≡ kept_by (λ skip c. (not skip, not skip)) false line.old.text) }
+    ensures text { OnOk result
+        (line.new.text ≡ kept_by (λ skip c. (not skip, not skip)) false line.old.text) }
     ensures unchanged { OnErr result (line.new ≡ line.old) }
 {
     let mut skip = false;
@@ -86,7 +93,8 @@ pub fn every_second(line: &mut CompactString) -> Result<(), ReserveError>
 
 /// The same, and answers whether the last character was kept. Of the empty text it was not.
 pub fn every_second_told(line: &mut CompactString) -> Result<bool, ReserveError>
-    ensures last { IfOk result (λ b. b ≡ left_by (λ kept c. (not kept, not kept)) false line.old.text) }
+    ensures last { IfOk result
+        (λ b. b ≡ left_by (λ kept c. (not kept, not kept)) false line.old.text) }
     ensures unchanged { OnErr result (line.new ≡ line.old) }
 {
     let mut kept = false;

@@ -35,7 +35,8 @@ pub fn numbers_of(
     text: &CompactString,
 ) -> Result<Vec<u32>, InternError>
     ensures numbers { IfOk result (λ numbers. (tokens : List Token)
-        × AreNamesOf names.old names.new tokens × (numbers.items ≡ map (λ token. token.name) tokens)) }
+        × AreNamesOf names.old names.new tokens
+        × (numbers.items ≡ map (λ token. token.name) tokens)) }
     ensures kept { (n : ℕ) (name : List ℕ)
         → slice_get names.old n ≡ Some name → slice_get names.new n ≡ Some name }
 {

@@ -112,7 +112,8 @@ pub fn push_utf16_bytes_lossy<S: TextSink>(
     order: ByteOrder,
     bytes: &[u8],
 ) -> Result<(), S::Error>
-    ensures { OnOk result (S.text made.new ≡ S.text made.old ++ utf16_bytes_lossy_text order bytes.now) }
+    ensures { OnOk result
+        (S.text made.new ≡ S.text made.old ++ utf16_bytes_lossy_text order bytes.now) }
 {
     let mut rest = bytes;
     while !rest.is_empty() {

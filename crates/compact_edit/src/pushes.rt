@@ -27,10 +27,14 @@ pub struct PushReport<P: Policy> {
 /// most five times N. Texts of 24, 1 and 12 bytes give 37 bytes with a capacity of 37, and `moved` is 24 + 25.
 pub fn run_pushes<P: Policy>(alloc: Global, texts: &[&str]) -> PushReport<P>
     ensures run { PushesTo P P.growth texts.now result.value result.moved result.refused }
-    ensures text { result.refused ≡ 0 → result.value.text ≡ flat_map (λ text. text_of text.now) texts.now }
-    ensures succeeds { size (flat_map (λ text. text_of text.now) texts.now) ≤ 24 → result.refused ≡ 0 }
-    ensures moved { (P.growth.numerator - P.growth.denominator) * result.moved ≤ (P.growth.numerator + P.growth.denominator) * size result.value.text }
-    ensures capacity { result.value.placement.capacity ≤ max P.growth.least (P.growth.numerator * size result.value.text / P.growth.denominator) }
+    ensures text { result.refused ≡ 0
+        → result.value.text ≡ flat_map (λ text. text_of text.now) texts.now }
+    ensures succeeds { size (flat_map (λ text. text_of text.now) texts.now) ≤ 24
+        → result.refused ≡ 0 }
+    ensures moved { (P.growth.numerator - P.growth.denominator) * result.moved
+        ≤ (P.growth.numerator + P.growth.denominator) * size result.value.text }
+    ensures capacity { result.value.placement.capacity
+        ≤ max P.growth.least (P.growth.numerator * size result.value.text / P.growth.denominator) }
 {
     let mut value = PolicyString::<P>::default(alloc);
     let mut moved = 0;
@@ -52,9 +56,11 @@ pub fn run_pushes<P: Policy>(alloc: Global, texts: &[&str]) -> PushReport<P>
 ///
 /// A push that changes the place changes the capacity too, so only that is looked at.
 fn push_counted<P: Policy>(value: &mut PolicyString<P>, text: &str) -> Result<u64, ReserveError>
-    ensures ok { IfOk result (λ bytes. pushed P.growth value.old (text_of text.now) ≡ Some value.new) }
+    ensures ok { IfOk result
+        (λ bytes. pushed P.growth value.old (text_of text.now) ≡ Some value.new) }
     ensures bytes { IfOk result (λ bytes. bytes ≡ moved_by value.old value.new) }
-    ensures err { OnErr result ((value.new ≡ value.old) × IsTrue (push_asks value.old (text_of text.now))) }
+    ensures err { OnErr result
+        ((value.new ≡ value.old) × IsTrue (push_asks value.old (text_of text.now))) }
 {
     let len = value.len();
     let capacity = value.capacity();

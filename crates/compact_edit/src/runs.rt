@@ -23,9 +23,11 @@ pub fn run<P: Policy>(
     edits: &[Edit<P>],
     replies: &mut Vec<Reply<P>>,
 ) -> Result<(), ReserveError>
-    ensures run { OnOk result (RunsTo P.growth value.old edits.now replies.old.items replies.new.items value.new) }
+    ensures run { OnOk result
+        (RunsTo P.growth value.old edits.now replies.old.items replies.new.items value.new) }
     ensures count { OnOk result (vec_len replies.new ≡ vec_len replies.old + length edits.now) }
-    ensures succeeds { vec_len replies.old + length edits.now ≤ vec_capacity replies.old → IsOk result }
+    ensures succeeds { vec_len replies.old + length edits.now ≤ vec_capacity replies.old
+        → IsOk result }
     ensures err { OnErr result ((value.new ≡ value.old) × (replies.new.items ≡ replies.old.items)) }
     ensures empty { edits.now ≡ [] → IsOk result }
 {
@@ -166,8 +168,12 @@ fn copy_of_range<P: Policy>(
     end: Bound<usize>,
 ) -> Result<PolicyString<P>, ReserveError>
     requires { IsRange value.now.text start end }
-    ensures ok { IfOk result (λ v. made P.growth (middle value.now.text (range_start start) (range_end value.now.text end)) ≡ Some v) }
-    ensures err { OnErr result (IsTrue (new_room_asks (size (middle value.now.text (range_start start) (range_end value.now.text end))))) }
+    ensures ok { IfOk result
+        (λ v. made P.growth (middle value.now.text (range_start start)
+        (range_end value.now.text end)) ≡ Some v) }
+    ensures err { OnErr result
+        (IsTrue (new_room_asks
+        (size (middle value.now.text (range_start start) (range_end value.now.text end))))) }
 {
     PolicyString::new(value.allocator(), value.range(start, end))
 }
@@ -179,7 +185,9 @@ fn take_out<P: Policy>(
     end: Bound<usize>,
 ) -> Result<(), ReserveError>
     requires { IsRange value.old.text start end }
-    ensures ok { OnOk result (replaced P.growth value.old (range_start start) (range_end value.old.text end) [] ≡ Some value.new) }
+    ensures ok { OnOk result
+        (replaced P.growth value.old (range_start start) (range_end value.old.text end) []
+        ≡ Some value.new) }
     ensures err { OnErr result ((value.new ≡ value.old) × IsTrue (own_asks value.old)) }
 {
     drop(value.drain(start, end)?);
@@ -188,7 +196,9 @@ fn take_out<P: Policy>(
 
 /// Keeps the characters whose answer is `true`, and those that have none.
 fn retain<P: Policy>(value: &mut PolicyString<P>, answers: &[bool]) -> Result<(), ReserveError>
-    ensures ok { OnOk result (retained P.growth value.old (kept_by by_answers answers.now value.old.text) ≡ Some value.new) }
+    ensures ok { OnOk result
+        (retained P.growth value.old (kept_by by_answers answers.now value.old.text)
+        ≡ Some value.new) }
     ensures err { OnErr result ((value.new ≡ value.old) × IsTrue (own_asks value.old)) }
 {
     let mut rest = answers;

@@ -30,7 +30,8 @@ pub trait ToCompactString {
     /// The error is always `Reserve`, and says that no memory was found, or that the text is longer than 2^56 - 2 bytes.
     /// It never comes of an integer of up to 64 bits, of a `bool` or a `char`, nor up to 24 bytes.
     fn to_compact_string(&self, alloc: Global) -> Result<CompactString, ToCompactStringError>
-        ensures { IsTextOf ⟦<Standard as Policy>⟧.growth (shown self.now) (IsShort self.now) result };
+        ensures { IsTextOf ⟦<Standard as Policy>⟧.growth (shown self.now)
+            (IsShort self.now) result };
 
     /// `to_compact_string` under its other name, with the same value and the same error.
     #[inline]
@@ -40,7 +41,8 @@ pub trait ToCompactString {
     ) -> Result<CompactString, ToCompactStringError>
     where
         Self: Sized,
-        ensures { IsTextOf ⟦<Standard as Policy>⟧.growth (shown self.now) (IsShort self.now) result }
+        ensures { IsTextOf ⟦<Standard as Policy>⟧.growth (shown self.now)
+            (IsShort self.now) result }
     {
         self.to_compact_string(alloc)
     }

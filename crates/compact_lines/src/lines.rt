@@ -28,9 +28,11 @@ use std::io::{BufRead, BufReader, Read, Write};
 pub fn run_lines<R: Read, W: Write>(alloc: Global, reader: &mut R, writer: &mut W) -> u8
     ensures status { result ≤ 1 }
     ensures answers { result ≡ 0 → (w : PlacedText) × AppendsAnswers ⟦<Standard as Policy>⟧.growth
-        (placed [] inlined) (R.remaining reader.old) (W.contents writer.old) (W.contents writer.new) w }
+        (placed [] inlined) (R.remaining reader.old) (W.contents writer.old) (W.contents
+        writer.new) w }
     ensures stopped { result ≡ 1 → AppendsSomeAnswers ⟦<Standard as Policy>⟧.growth
-        (placed [] inlined) (R.remaining reader.old) (W.contents writer.old) (W.contents writer.new) }
+        (placed [] inlined) (R.remaining reader.old) (W.contents writer.old) (W.contents
+        writer.new) }
 {
     match answer_input(alloc, reader, writer) {
         Ok(()) => 0,
@@ -41,9 +43,11 @@ pub fn run_lines<R: Read, W: Write>(alloc: Global, reader: &mut R, writer: &mut 
 /// Answers each line of a reader, from the empty value on.
 fn answer_input<R: Read, W: Write>(alloc: Global, reader: &mut R, writer: &mut W) -> io::Result<()>
     ensures ok { OnOk result ((w : PlacedText) × AppendsAnswers ⟦<Standard as Policy>⟧.growth
-        (placed [] inlined) (R.remaining reader.old) (W.contents writer.old) (W.contents writer.new) w) }
+        (placed [] inlined) (R.remaining reader.old) (W.contents writer.old) (W.contents
+        writer.new) w) }
     ensures err { OnErr result (AppendsSomeAnswers ⟦<Standard as Policy>⟧.growth
-        (placed [] inlined) (R.remaining reader.old) (W.contents writer.old) (W.contents writer.new)) }
+        (placed [] inlined) (R.remaining reader.old) (W.contents writer.old) (W.contents
+        writer.new)) }
 {
     let mut reader = BufReader::new(alloc, reader)?;
     let mut session = Session::new(alloc)?;
@@ -116,10 +120,12 @@ fn answer_command<W: Write>(
     writer: &mut W,
 ) -> io::Result<()>
     ensures ok { OnOk result ((answer : List ℕ)
-        × AnswersCommand ⟦<Standard as Policy>⟧.growth session.old (Some command.entry) answer session.new
+        × AnswersCommand ⟦<Standard as Policy>⟧.growth session.old (Some
+        command.entry) answer session.new
         × Appends (W.contents writer.old) (W.contents writer.new) answer) }
     ensures err { OnErr result ((answer : List ℕ)
-        × AnswersCommand ⟦<Standard as Policy>⟧.growth session.old (Some command.entry) answer session.new
+        × AnswersCommand ⟦<Standard as Policy>⟧.growth session.old (Some
+        command.entry) answer session.new
         × AppendsFront (W.contents writer.old) (W.contents writer.new) answer) }
 {
     let outcome = session.execute(command);

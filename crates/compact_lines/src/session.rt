@@ -55,7 +55,9 @@ impl Session {
     /// Does what `command` asks for. An error says that the value it makes was refused, of which only `new`, `cap` and
     /// `clonefrom` make one, and the session's value is as it was.
     pub fn execute(&mut self, command: Command) -> Result<Reply<Standard>, ReserveError>
-        ensures ok { IfOk result (λ reply. Executes ⟦<Standard as Policy>⟧.growth self.old command.entry reply self.new) }
+        ensures ok { IfOk result
+            (λ reply. Executes ⟦<Standard as Policy>⟧.growth self.old command.entry reply
+            self.new) }
         ensures err { OnErr result ((self.new ≡ self.old) × IsTrue (command_asks command.entry)) }
     {
         match command {

@@ -114,7 +114,8 @@ impl Block {
     #[inline(always)]
     pub fn push_behind(&mut self, separator: &Padded, text: &str) -> bool
         ensures fits { IsTrue result ↔ ((length text.now ≤ 32) × (size self.old + 48 ≤ 1024)) }
-        ensures pushed { IsTrue result → self.new ≡ (self.old ++ separator.now) ++ text_of text.now }
+        ensures pushed { IsTrue result
+            → self.new ≡ (self.old ++ separator.now) ++ text_of text.now }
         ensures full { result ≡ false → self.new ≡ self.old }
     {
         if text.len() > rows::MOST_AT_ONCE {

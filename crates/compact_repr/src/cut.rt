@@ -51,7 +51,8 @@ pub fn char_at(text: &str, index: usize) -> char
 /// The first character where it is one of ASCII, else `None`; so it is of the empty text.
 #[inline(always)]
 pub fn first_ascii(text: &str) -> Option<char>
-    ensures { MatchOption result ((c : ℕ) (rest : List ℕ) → text_of text.now ≡ c ∷ rest → 128 ≤ c) (λ c. (len_utf8 c ≡ 1) × ((rest : List ℕ) × (text_of text.now ≡ c ∷ rest))) }
+    ensures { MatchOption result ((c : ℕ) (rest : List ℕ) → text_of text.now ≡ c ∷ rest → 128 ≤ c)
+        (λ c. (len_utf8 c ≡ 1) × ((rest : List ℕ) × (text_of text.now ≡ c ∷ rest))) }
 {
     if text.is_empty() {
         return None;
@@ -67,7 +68,8 @@ pub fn first_ascii(text: &str) -> Option<char>
 /// The first character; `None` of the empty text.
 #[inline]
 pub fn first_char(text: &str) -> Option<char>
-    ensures { MatchOption result (text_of text.now ≡ []) (λ c. (rest : List ℕ) × (text_of text.now ≡ c ∷ rest)) }
+    ensures { MatchOption result (text_of text.now ≡ [])
+        (λ c. (rest : List ℕ) × (text_of text.now ≡ c ∷ rest)) }
 {
     match text.chars().next() {
         Some(character) => Some(character),
@@ -78,7 +80,8 @@ pub fn first_char(text: &str) -> Option<char>
 /// The last character, found from the end; `None` of the empty text.
 #[inline]
 pub fn last_char(text: &str) -> Option<char>
-    ensures { MatchOption result (text_of text.now ≡ []) (λ c. (front : List ℕ) × (text_of text.now ≡ front ++ c ∷ [])) }
+    ensures { MatchOption result (text_of text.now ≡ [])
+        (λ c. (front : List ℕ) × (text_of text.now ≡ front ++ c ∷ [])) }
 {
     let mut chars = text.chars();
     match chars.next_back() {

@@ -57,7 +57,8 @@ impl HeapBuffer {
 
     /// Takes `text` over, with its capacity.
     pub fn from_string(text: String) -> Self
-        ensures value { result ≡ record { text = text_of (string_bytes text); capacity = string_capacity text } }
+        ensures value { result
+            ≡ record { text = text_of (string_bytes text); capacity = string_capacity text } }
         ensures fits { size result.text ≤ result.capacity }
     {
         let bytes = text.into_bytes();
@@ -115,7 +116,11 @@ impl HeapBuffer {
     #[inline(always)]
     pub fn push_str(&mut self, text: &str) -> bool
         ensures fits { IsTrue result ↔ (size self.old.text + length text.now ≤ self.old.capacity) }
-        ensures pushed { IsTrue result → self.new ≡ record { text = self.old.text ++ text_of text.now; capacity = self.old.capacity } }
+        ensures pushed { IsTrue result
+            → self.new ≡ record {
+              text = self.old.text ++ text_of text.now;
+              capacity = self.old.capacity;
+            } }
         ensures full { result ≡ false → self.new ≡ self.old }
     {
         if !self.has_room(text.len()) {
@@ -132,8 +137,13 @@ impl HeapBuffer {
         requires order { start ≤ end }
         requires first { IsBoundary self.old.text start }
         requires last { IsBoundary self.old.text end }
-        ensures fits { IsTrue result ↔ (size self.old.text + length text.now ≤ self.old.capacity + (end - start)) }
-        ensures replaced { IsTrue result → self.new ≡ record { text = replaced_text self.old.text start end (text_of text.now); capacity = self.old.capacity } }
+        ensures fits { IsTrue result
+            ↔ (size self.old.text + length text.now ≤ self.old.capacity + (end - start)) }
+        ensures replaced { IsTrue result
+            → self.new ≡ record {
+              text = replaced_text self.old.text start end (text_of text.now);
+              capacity = self.old.capacity;
+            } }
         ensures within { size self.new.text ≤ self.old.capacity }
         ensures full { result ≡ false → self.new ≡ self.old }
     {
@@ -159,7 +169,11 @@ impl HeapBuffer {
         requires ascii { byte < 128 }
         requires boundary { IsBoundary self.old.text index }
         ensures fits { IsTrue result ↔ (size self.old.text + 1 ≤ self.old.capacity) }
-        ensures inserted { IsTrue result → self.new ≡ record { text = replaced_text self.old.text index index (byte ∷ []); capacity = self.old.capacity } }
+        ensures inserted { IsTrue result
+            → self.new ≡ record {
+              text = replaced_text self.old.text index index (byte ∷ []);
+              capacity = self.old.capacity;
+            } }
         ensures within { size self.new.text ≤ self.old.capacity }
         ensures full { result ≡ false → self.new ≡ self.old }
     {
@@ -178,7 +192,11 @@ impl HeapBuffer {
     pub fn remove_ascii(&mut self, index: usize)
         requires boundary { IsBoundary self.old.text index }
         requires next { IsBoundary self.old.text (index + 1) }
-        ensures removed { self.new ≡ record { text = replaced_text self.old.text index (index + 1) []; capacity = self.old.capacity } }
+        ensures removed { self.new
+            ≡ record {
+              text = replaced_text self.old.text index (index + 1) [];
+              capacity = self.old.capacity;
+            } }
         ensures within { size self.new.text ≤ self.old.capacity }
     {
         let len = self.bytes.len();
@@ -192,7 +210,11 @@ impl HeapBuffer {
         requires order { start ≤ end }
         requires first { IsBoundary self.old.text start }
         requires last { IsBoundary self.old.text end }
-        ensures cut { self.new ≡ record { text = replaced_text self.old.text start end []; capacity = self.old.capacity } }
+        ensures cut { self.new
+            ≡ record {
+              text = replaced_text self.old.text start end [];
+              capacity = self.old.capacity;
+            } }
         ensures within { size self.new.text ≤ self.old.capacity }
     {
         let len = self.bytes.len();
@@ -204,7 +226,8 @@ impl HeapBuffer {
     #[inline]
     pub fn truncate(&mut self, len: usize)
         requires { IsBoundary self.old.text len }
-        ensures value { self.new ≡ record { text = before self.old.text len; capacity = self.old.capacity } }
+        ensures value { self.new
+            ≡ record { text = before self.old.text len; capacity = self.old.capacity } }
         ensures fits { size self.new.text ≤ self.old.capacity }
     {
         self.bytes.truncate(len);

@@ -109,7 +109,8 @@ impl InlineBuffer {
         requires first { IsBoundary self.old start }
         requires last { IsBoundary self.old end }
         ensures fits { IsTrue result ↔ (size self.old + length text.now ≤ 24 + (end - start)) }
-        ensures replaced { IsTrue result → self.new ≡ replaced_text self.old start end (text_of text.now) }
+        ensures replaced { IsTrue result
+            → self.new ≡ replaced_text self.old start end (text_of text.now) }
         ensures within { size self.new ≤ 24 }
         ensures full { result ≡ false → self.new ≡ self.old }
     {
@@ -130,7 +131,8 @@ impl InlineBuffer {
         requires ascii { byte < 128 }
         requires boundary { IsBoundary self.old index }
         ensures fits { IsTrue result ↔ (size self.old + 1 ≤ 24) }
-        ensures inserted { IsTrue result → self.new ≡ replaced_text self.old index index (byte ∷ []) }
+        ensures inserted { IsTrue result
+            → self.new ≡ replaced_text self.old index index (byte ∷ []) }
         ensures within { size self.new ≤ 24 }
         ensures full { result ≡ false → self.new ≡ self.old }
     {
@@ -240,7 +242,8 @@ impl InlineBuffer {
     /// The text that `bytes` stand for, or `None` where they stand for none. ASCII is known by its words.
     #[inline]
     pub fn from_packed(bytes: &[u8; 24]) -> Option<Self>
-        ensures { MatchOption result ((t : List ℕ) → ¬ (IsPackedFor bytes.now t)) (λ t. IsPackedFor bytes.now t) }
+        ensures { MatchOption result ((t : List ℕ) → ¬ (IsPackedFor bytes.now t))
+            (λ t. IsPackedFor bytes.now t) }
     {
         if !is_packed(bytes) {
             return None;

@@ -20,7 +20,8 @@ pub fn replace_range(row: &mut [u8], len: usize, start: usize, end: usize, sourc
     requires within { end ≤ len }
     requires long_enough { len ≤ length row.old }
     requires room { len + length source.now ≤ length row.old + (end - start) }
-    ensures { take (len - (end - start) + length source.now) row.new ≡ replace_range (take len row.old) start end source.now }
+    ensures { take (len - (end - start) + length source.now) row.new
+        ≡ replace_range (take len row.old) start end source.now }
 {
     shift(row, end, start + source.len(), len - end);
     write(row, start, source);

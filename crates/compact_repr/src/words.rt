@@ -221,7 +221,8 @@ fn last_byte(word: u64) -> u8
 #[inline(always)]
 fn word_insert_byte(word: u64, at: usize, byte: u8) -> u64
     requires { at < 8 }
-    ensures { bytes_of result ≡ take at (bytes_of word) ++ byte ∷ take (7 - at) (drop at (bytes_of word)) }
+    ensures { bytes_of result
+        ≡ take at (bytes_of word) ++ byte ∷ take (7 - at) (drop at (bytes_of word)) }
 {
     let before = word % unit(at);
     before
@@ -234,7 +235,8 @@ fn word_insert_byte(word: u64, at: usize, byte: u8) -> u64
 #[inline(always)]
 fn word_remove_byte(word: u64, at: usize, next: u64) -> u64
     requires { at < 8 }
-    ensures { bytes_of result ≡ take at (bytes_of word) ++ drop (at + 1) (bytes_of word) ++ take 1 (bytes_of next) }
+    ensures { bytes_of result
+        ≡ take at (bytes_of word) ++ drop (at + 1) (bytes_of word) ++ take 1 (bytes_of next) }
 {
     let unit = unit(at);
     let down = word >> 8;

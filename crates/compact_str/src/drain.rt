@@ -58,11 +58,19 @@ impl<P: Policy> PolicyString<P> {
         end: Bound<usize>,
     ) -> Result<Drain<'_, P>, ReserveError>
         requires { IsRange self.old.text start end }
-        ensures* refused { sem 𝓛 (RestsIfErr (the_row P.row P.Policy) self.entry drain_lender result (λ v. v ≡ self.old)) }
+        ensures* refused { sem 𝓛
+            (RestsIfErr (the_row P.row P.Policy) self.entry drain_lender result
+            (λ v. v ≡ self.old)) }
         ensures same_reference { IfOk result (λ d. drain_lender d ≡ self.entry.ghost_name) }
-        ensures rest { IfOk result (λ d. drain_rest d ≡ middle self.old.text (range_start start) (range_end self.old.text end)) }
-        ensures leaves { IfOk result (λ d. replaced P.growth self.old (range_start start) (range_end self.old.text end) [] ≡ Some (drain_leaves d)) }
-        ensures text { IfOk result (λ d. (drain_leaves d).text ≡ replaced_text self.old.text (range_start start) (range_end self.old.text end) []) }
+        ensures rest { IfOk result
+            (λ d. drain_rest d ≡ middle self.old.text (range_start start)
+            (range_end self.old.text end)) }
+        ensures leaves { IfOk result
+            (λ d. replaced P.growth self.old (range_start start) (range_end self.old.text end) []
+            ≡ Some (drain_leaves d)) }
+        ensures text { IfOk result
+            (λ d. (drain_leaves d).text
+            ≡ replaced_text self.old.text (range_start start) (range_end self.old.text end) []) }
         ensures succeeds { IsOwned self.old → IsOk result }
         ensures succeeds_short { size self.old.text ≤ 24 → IsOk result }
         ensures err { OnErr result (IsTrue (own_asks self.old)) }

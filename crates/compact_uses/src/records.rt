@@ -52,7 +52,8 @@ pub fn read_records<R: Read>(
         ReadsAll separator bytes records.old.items records.new.items)) }
     ensures err { IfErr result (λ error. IfSome (R.remaining reader.old) (λ bytes.
         ReadsUpTo separator bytes records.old.items records.new.items error.cause)) }
-    ensures line { IfErr result (λ error. IsLineAfter records.old.items records.new.items error.line) }
+    ensures line { IfErr result
+        (λ error. IsLineAfter records.old.items records.new.items error.line) }
     ensures kept { take (length records.old.items) records.new.items ≡ records.old.items }
 {
     let before = records.len();
@@ -76,7 +77,8 @@ fn read_lines<R: Read>(
         ReadsAll separator bytes records.old.items records.new.items)) }
     ensures err { IfErr result (λ cause. IfSome (R.remaining reader.old) (λ bytes.
         ReadsUpTo separator bytes records.old.items records.new.items cause)) }
-    ensures behind { (read : List (Vec PlacedText)) × (records.new.items ≡ records.old.items ++ read) }
+    ensures behind { (read : List (Vec PlacedText))
+        × (records.new.items ≡ records.old.items ++ read) }
 {
     let Ok(reader) = BufReader::new(alloc, reader) else {
         return Err(RecordsCause::Reserve);

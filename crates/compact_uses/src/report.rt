@@ -16,8 +16,11 @@ pub fn aligned_rows(
     alloc: Global,
     table: &[Vec<CompactString>],
 ) -> Result<Vec<CompactString>, ReserveError>
-    ensures rows { IfOk result (λ lines. map text_in lines.items ≡ map (λ fields. row_text (widths_of table.now) fields.items) table.now) }
-    ensures widths { IfOk result (λ lines. All (λ line. length line.text ≡ row_width (widths_of table.now)) lines.items) }
+    ensures rows { IfOk result
+        (λ lines. map text_in lines.items
+        ≡ map (λ fields. row_text (widths_of table.now) fields.items) table.now) }
+    ensures widths { IfOk result
+        (λ lines. All (λ line. length line.text ≡ row_width (widths_of table.now)) lines.items) }
     ensures empty { table.now ≡ [] → IsOk result }
 {
     let widths = widths_of(alloc, table)?;

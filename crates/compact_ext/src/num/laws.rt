@@ -5,7 +5,8 @@ ghost use Rattle.std.specs.Fmt.{decimal};
 /// The text of a number below 10 is its digit, and that of any other is the text of a tenth of it, and its last digit.
 pub fn numbers_go_digit_by_digit()
     ensures one { (n : ℕ) → n < 10 → decimal n ≡ (48 + n) ∷ [] }
-    ensures more { (n : ℕ) → 10 ≤ n → n < 2 ^ 128 → decimal n ≡ decimal (n / 10) ++ (48 + n % 10) ∷ [] }
+    ensures more { (n : ℕ) → 10 ≤ n → n < 2 ^ 128
+        → decimal n ≡ decimal (n / 10) ++ (48 + n % 10) ∷ [] }
 {}
 
 /// The digits of a number of up to 64 bits are at most 20, and of up to 128 bits at most 39.

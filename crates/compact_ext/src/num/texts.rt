@@ -11,7 +11,8 @@ use std::alloc::Global;
 /// A copy of a text.
 #[inline]
 pub fn text_copy(alloc: Global, text: &str) -> Result<CompactString, ToCompactStringError>
-    ensures { IsTextOf ⟦<Standard as Policy>⟧.growth (text_of text.now) (length text.now ≤ 24) result }
+    ensures { IsTextOf ⟦<Standard as Policy>⟧.growth (text_of text.now)
+        (length text.now ≤ 24) result }
 {
     match CompactString::new(alloc, text) {
         Ok(value) => Ok(value),

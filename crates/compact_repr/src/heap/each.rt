@@ -20,7 +20,8 @@ impl HeapBuffer {
 
     /// Makes A to Z small, and keeps the capacity.
     pub fn make_ascii_lowercase(&mut self)
-        ensures value { self.new ≡ record { text = ascii_lowercase self.old.text; capacity = self.old.capacity } }
+        ensures value { self.new
+            ≡ record { text = ascii_lowercase self.old.text; capacity = self.old.capacity } }
         ensures fits { size self.new.text ≤ self.old.capacity }
     {
         let len = self.bytes.len();
@@ -29,7 +30,8 @@ impl HeapBuffer {
 
     /// Makes a to z great, and keeps the capacity.
     pub fn make_ascii_uppercase(&mut self)
-        ensures value { self.new ≡ record { text = ascii_uppercase self.old.text; capacity = self.old.capacity } }
+        ensures value { self.new
+            ≡ record { text = ascii_uppercase self.old.text; capacity = self.old.capacity } }
         ensures fits { size self.new.text ≤ self.old.capacity }
     {
         let len = self.bytes.len();

@@ -15,7 +15,8 @@ impl<P: Policy> Repr<P> {
     #[tactic(auto, using(crate::proofs::TextFacts::text_facts, crate::proofs::Changes::append_facts))]
     pub fn push_str(&mut self, text: &str) -> Result<(), ReserveError>
         ensures ok { OnOk result (pushed P.growth self.old (text_of text.now) ≡ Some self.new) }
-        ensures err { OnErr result ((self.new ≡ self.old) × IsTrue (push_asks self.old (text_of text.now))) }
+        ensures err { OnErr result
+            ((self.new ≡ self.old) × IsTrue (push_asks self.old (text_of text.now))) }
     {
         if self.push_in_place(text) {
             return Ok(());
@@ -29,7 +30,8 @@ impl<P: Policy> Repr<P> {
     pub fn push_with_more_room(&mut self, text: &str) -> Result<(), ReserveError>
         requires { fits_in_place self.old (length text.now) ≡ false }
         ensures ok { OnOk result (pushed P.growth self.old (text_of text.now) ≡ Some self.new) }
-        ensures err { OnErr result ((self.new ≡ self.old) × IsTrue (push_asks self.old (text_of text.now))) }
+        ensures err { OnErr result
+            ((self.new ≡ self.old) × IsTrue (push_asks self.old (text_of text.now))) }
     {
         if text.is_empty() {
             return Ok(());
@@ -47,8 +49,10 @@ impl<P: Policy> Repr<P> {
     #[inline(never)]
     pub fn insert_with_more_room(&mut self, index: usize, text: &str) -> Result<(), ReserveError>
         requires { IsBoundary self.old.text index }
-        ensures ok { OnOk result (inserted P.growth self.old index (text_of text.now) ≡ Some self.new) }
-        ensures err { OnErr result ((self.new ≡ self.old) × IsTrue (room_asks self.old (length text.now))) }
+        ensures ok { OnOk result
+            (inserted P.growth self.old index (text_of text.now) ≡ Some self.new) }
+        ensures err { OnErr result
+            ((self.new ≡ self.old) × IsTrue (room_asks self.old (length text.now))) }
     {
         self.reserve(text.len())?;
         if !self.replace_in_place(index, index, text) {
@@ -66,7 +70,8 @@ impl<P: Policy> Repr<P> {
         requires first { IsBoundary self.old.text start }
         requires last { IsBoundary self.old.text end }
         ensures ok { OnOk result (replaced P.growth self.old start end [] ≡ Some self.new) }
-        ensures err { OnErr result ((self.new ≡ self.old) × IsTrue (replace_asks self.old start end [])) }
+        ensures err { OnErr result
+            ((self.new ≡ self.old) × IsTrue (replace_asks self.old start end [])) }
     {
         if self.cut_out_in_place(start, end) {
             return Ok(());
@@ -87,8 +92,10 @@ impl<P: Policy> Repr<P> {
         requires order { start ≤ end }
         requires first { IsBoundary self.old.text start }
         requires last { IsBoundary self.old.text end }
-        ensures ok { OnOk result (replaced P.growth self.old start end (text_of text.now) ≡ Some self.new) }
-        ensures err { OnErr result ((self.new ≡ self.old) × IsTrue (replace_asks self.old start end (text_of text.now))) }
+        ensures ok { OnOk result
+            (replaced P.growth self.old start end (text_of text.now) ≡ Some self.new) }
+        ensures err { OnErr result
+            ((self.new ≡ self.old) × IsTrue (replace_asks self.old start end (text_of text.now))) }
     {
         let replaced = end - start;
         if text.len() <= replaced {

@@ -32,7 +32,8 @@ impl<P: Policy> Repr<P> {
     #[inline(always)]
     pub fn push_in_place(&mut self, text: &str) -> bool
         ensures fits { result ≡ fits_in_place self.old (length text.now) }
-        ensures pushed { IsTrue result → self.new ≡ placed (self.old.text ++ text_of text.now) self.old.placement }
+        ensures pushed { IsTrue result
+            → self.new ≡ placed (self.old.text ++ text_of text.now) self.old.placement }
         ensures full { result ≡ false → self.new ≡ self.old }
     {
         match &mut self.buffer {
@@ -66,8 +67,13 @@ impl<P: Policy> Repr<P> {
         requires order { start ≤ end }
         requires first { IsBoundary self.old.text start }
         requires last { IsBoundary self.old.text end }
-        ensures fits { IsTrue result ↔ ((is_static self.old.placement.place ≡ false) × (size self.old.text + length text.now ≤ self.old.placement.capacity + (end - start))) }
-        ensures replaced { IsTrue result → self.new ≡ placed (replaced_text self.old.text start end (text_of text.now)) self.old.placement }
+        ensures fits { IsTrue result
+            ↔ ((is_static self.old.placement.place ≡ false)
+            × (size self.old.text + length text.now
+            ≤ self.old.placement.capacity + (end - start))) }
+        ensures replaced { IsTrue result
+            → self.new ≡ placed (replaced_text self.old.text start end
+            (text_of text.now)) self.old.placement }
         ensures full { result ≡ false → self.new ≡ self.old }
     {
         match &mut self.buffer {
@@ -85,7 +91,8 @@ impl<P: Policy> Repr<P> {
         requires first { IsBoundary self.old.text start }
         requires last { IsBoundary self.old.text end }
         ensures owned { IsTrue result ↔ (is_static self.old.placement.place ≡ false) }
-        ensures cut { IsTrue result → self.new ≡ placed (replaced_text self.old.text start end []) self.old.placement }
+        ensures cut { IsTrue result
+            → self.new ≡ placed (replaced_text self.old.text start end []) self.old.placement }
         ensures full { result ≡ false → self.new ≡ self.old }
     {
         match &mut self.buffer {
@@ -108,7 +115,9 @@ impl<P: Policy> Repr<P> {
         requires ascii { byte < 128 }
         requires boundary { IsBoundary self.old.text index }
         ensures fits { result ≡ fits_in_place self.old 1 }
-        ensures inserted { IsTrue result → self.new ≡ placed (replaced_text self.old.text index index (byte ∷ [])) self.old.placement }
+        ensures inserted { IsTrue result
+            → self.new ≡ placed (replaced_text self.old.text index index
+            (byte ∷ [])) self.old.placement }
         ensures full { result ≡ false → self.new ≡ self.old }
     {
         match &mut self.buffer {
@@ -125,7 +134,9 @@ impl<P: Policy> Repr<P> {
         requires boundary { IsBoundary self.old.text index }
         requires next { IsBoundary self.old.text (index + 1) }
         ensures owned { IsTrue result ↔ (is_static self.old.placement.place ≡ false) }
-        ensures removed { IsTrue result → self.new ≡ placed (replaced_text self.old.text index (index + 1) []) self.old.placement }
+        ensures removed { IsTrue result
+            → self.new ≡ placed (replaced_text self.old.text index
+            (index + 1) []) self.old.placement }
         ensures full { result ≡ false → self.new ≡ self.old }
     {
         match &mut self.buffer {

@@ -44,7 +44,8 @@ impl<P: Policy> Repr<P> {
     #[inline(never)]
     fn long_copy(alloc: Global, text: &str) -> Result<HeapBuffer, ReserveError>
         requires { 24 < length text.now }
-        ensures { IfOk result (λ h. made P.growth (text_of text.now) ≡ Some (placed h.text (on_heap h.capacity))) }
+        ensures { IfOk result
+            (λ h. made P.growth (text_of text.now) ≡ Some (placed h.text (on_heap h.capacity))) }
     {
         let Some(capacity) = allowed_capacity::<P>(text.len()) else {
             return Err(ReserveError);
@@ -68,7 +69,8 @@ impl<P: Policy> Repr<P> {
     /// The text that 24 bytes stand for, inline; `None` where they stand for none.
     #[inline]
     pub fn from_packed(alloc: Global, bytes: &[u8; 24]) -> Option<Self>
-        ensures { MatchOption result ((t : List ℕ) → ¬ (IsPackedFor bytes.now t)) (λ r. IsPackedFor bytes.now r.text × (r.placement ≡ inlined)) }
+        ensures { MatchOption result ((t : List ℕ) → ¬ (IsPackedFor bytes.now t))
+            (λ r. IsPackedFor bytes.now r.text × (r.placement ≡ inlined)) }
     {
         let inline = InlineBuffer::from_packed(bytes)?;
         Some(Self::of(alloc, Buffer::Inline([], inline)))
@@ -91,7 +93,8 @@ impl<P: Policy> Repr<P> {
 
     /// Takes `text` over: up to 24 bytes inline, else with its buffer, of which nothing is copied.
     pub fn from_string(text: String) -> Self
-        ensures { let t = text_of (string_bytes text) in result ≡ placed t (taken_over t (string_capacity text)) }
+        ensures { let t = text_of (string_bytes text)
+            in result ≡ placed t (taken_over t (string_capacity text)) }
     {
         let alloc = *text.allocator();
         if text.len() <= INLINE_CAPACITY {
@@ -103,7 +106,9 @@ impl<P: Policy> Repr<P> {
 
     /// Takes `text` over with its buffer, of which nothing is copied. One with no buffer is inline and empty.
     pub fn from_string_buffer(text: String) -> Self
-        ensures { let t = text_of (string_bytes text) in result ≡ placed t (if nat_eq (string_capacity text) 0 then inlined else on_heap (string_capacity text)) }
+        ensures { let t = text_of (string_bytes text)
+            in result ≡ placed t (if nat_eq (string_capacity text) 0 then inlined
+            else on_heap (string_capacity text)) }
     {
         let alloc = *text.allocator();
         if text.capacity() == 0 {

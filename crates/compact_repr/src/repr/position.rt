@@ -42,7 +42,8 @@ impl<P: Policy> Repr<P> {
     /// The last character, found from the end; `None` of the empty text.
     #[inline]
     pub fn last_char(&self) -> Option<char>
-        ensures { MatchOption result (self.now.text ≡ []) (λ c. (front : List ℕ) × (self.now.text ≡ front ++ c ∷ [])) }
+        ensures { MatchOption result (self.now.text ≡ [])
+            (λ c. (front : List ℕ) × (self.now.text ≡ front ++ c ∷ [])) }
     {
         cut::last_char(self.as_str())
     }
@@ -73,7 +74,9 @@ impl<P: Policy> Repr<P> {
     #[inline]
     pub fn static_tail(&self, index: usize) -> Option<&'static str>
         requires { IsBoundary self.now.text index }
-        ensures { MatchOption result (is_static self.now.placement.place ≡ false) (λ s. (is_static self.now.placement.place ≡ true) × (text_of s.now ≡ after self.now.text index)) }
+        ensures { MatchOption result (is_static self.now.placement.place ≡ false)
+            (λ s. (is_static self.now.placement.place ≡ true)
+            × (text_of s.now ≡ after self.now.text index)) }
     {
         match &self.buffer {
             Buffer::Inline(_, _) => None,

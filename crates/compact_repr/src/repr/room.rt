@@ -21,7 +21,8 @@ impl<P: Policy> Repr<P> {
     pub fn reserve(&mut self, additional: usize) -> Result<(), ReserveError>
         ensures ok { OnOk result (reserved P.growth self.old additional ≡ Some self.new) }
         ensures room { OnOk result (IsTrue (fits_in_place self.new additional)) }
-        ensures err { OnErr result ((self.new ≡ self.old) × IsTrue (room_asks self.old additional)) }
+        ensures err { OnErr result
+            ((self.new ≡ self.old) × IsTrue (room_asks self.old additional)) }
     {
         if self.fits_in_place(additional) {
             return Ok(());
@@ -48,7 +49,8 @@ impl<P: Policy> Repr<P> {
         requires { fits_in_place self.old additional ≡ false }
         ensures ok { OnOk result (reserved P.growth self.old additional ≡ Some self.new) }
         ensures room { OnOk result (IsTrue (fits_in_place self.new additional)) }
-        ensures err { OnErr result ((self.new ≡ self.old) × IsTrue (room_asks self.old additional)) }
+        ensures err { OnErr result
+            ((self.new ≡ self.old) × IsTrue (room_asks self.old additional)) }
     {
         let len = self.len();
         let Some(needed) = len.checked_add(additional) else {
@@ -124,7 +126,8 @@ impl<P: Policy> Repr<P> {
     /// Moves the text into a heap buffer of `capacity` bytes, at least as many as stand. An error changes nothing.
     fn move_to_heap(&mut self, capacity: usize) -> Result<(), ReserveError>
         requires fits { size self.old.text ≤ capacity }
-        requires grows { IsTrue (is_heap self.old.placement.place) → self.old.placement.capacity ≤ capacity }
+        requires grows { IsTrue (is_heap self.old.placement.place)
+            → self.old.placement.capacity ≤ capacity }
         ensures ok { OnOk result (self.new ≡ placed self.old.text (on_heap capacity)) }
         ensures err { OnErr result (self.new ≡ self.old) }
     {
@@ -141,7 +144,9 @@ impl<P: Policy> Repr<P> {
 /// The capacity of a heap buffer for `needed` bytes where `len` stand; `None` is past the greatest.
 fn grown_capacity<P: Policy>(len: usize, needed: usize) -> Option<usize>
     requires { len < 2 ^ 63 }
-    ensures { let c = max P.growth.least (max needed (P.growth.numerator * len / P.growth.denominator)) in result ≡ (if nat_le c greatest then Some c else None) }
+    ensures { let c = max P.growth.least
+        (max needed (P.growth.numerator * len / P.growth.denominator))
+        in result ≡ (if nat_le c greatest then Some c else None) }
 {
     let Some(product) = len.checked_mul(P::NUM) else {
         return None;
@@ -151,7 +156,8 @@ fn grown_capacity<P: Policy>(len: usize, needed: usize) -> Option<usize>
 
 /// The capacity of a heap buffer for `wanted` bytes, at least that of the policy; `None` is past the greatest.
 pub(super) fn allowed_capacity<P: Policy>(wanted: usize) -> Option<usize>
-    ensures { let c = max P.growth.least wanted in result ≡ (if nat_le c greatest then Some c else None) }
+    ensures { let c = max P.growth.least wanted
+        in result ≡ (if nat_le c greatest then Some c else None) }
 {
     let capacity = wanted.max(P::MIN_HEAP);
     if capacity > GREATEST_CAPACITY {

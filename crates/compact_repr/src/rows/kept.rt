@@ -14,7 +14,8 @@ pub fn retain<F: FnMut(char) -> bool>(row: &mut [u8], len: usize, keep: &mut F) 
     requires long_enough { len ≤ length row.old }
     requires utf8 { IsUtf8 (take len row.old) }
     requires callable { F.IsAlwaysCallable keep.old }
-    ensures text { KeepsCharsTo F.FnMut keep.old (text_of (take len row.old)) (text_of (take result row.new)) keep.new }
+    ensures text { KeepsCharsTo F.FnMut keep.old (text_of (take len row.old))
+        (text_of (take result row.new)) keep.new }
     ensures callable { F.IsAlwaysCallable keep.new }
     ensures utf8 { IsUtf8 (take result row.new) }
     ensures within { result ≤ len }
@@ -27,7 +28,8 @@ pub fn retain<F: FnMut(char) -> bool>(row: &mut [u8], len: usize, keep: &mut F) 
 fn move_kept<F: FnMut(char) -> bool>(row: &mut [u8], keep: &mut F) -> usize
     requires utf8 { IsUtf8 row.old }
     requires callable { F.IsAlwaysCallable keep.old }
-    ensures text { KeepsCharsTo F.FnMut keep.old (text_of row.old) (text_of (take result row.new)) keep.new }
+    ensures text { KeepsCharsTo F.FnMut keep.old (text_of row.old)
+        (text_of (take result row.new)) keep.new }
     ensures callable { F.IsAlwaysCallable keep.new }
     ensures utf8 { IsUtf8 (take result row.new) }
     ensures within { result ≤ length row.old }
@@ -59,7 +61,8 @@ fn move_kept<F: FnMut(char) -> bool>(row: &mut [u8], keep: &mut F) -> usize
 #[inline(always)]
 fn ascii_at(row: &[u8], at: usize) -> Option<char>
     requires utf8 { IsUtf8 (drop at row.now) }
-    ensures encoded { IfSome result (λ c. drop at row.now ≡ encode_utf8 c ++ drop (at + 1) row.now) }
+    ensures encoded { IfSome result
+        (λ c. drop at row.now ≡ encode_utf8 c ++ drop (at + 1) row.now) }
     ensures width { IfSome result (λ c. 1 ≡ len_utf8 c) }
     ensures within { IsSome result → at + 1 ≤ length row.now }
     ensures rest { IsSome result → IsUtf8 (drop (at + 1) row.now) }

@@ -27,7 +27,8 @@ impl PolicyString<Standard> {
         ensures fitted { IfOk result IsFitted }
         ensures consumed { OnOk result (B.unread buf.new ≡ []) }
         ensures kept { B.kept buf.new ≡ B.kept buf.old }
-        ensures succeeds { IsUtf8 (B.unread buf.old) → length (B.unread buf.old) ≤ 24 → IsOk result }
+        ensures succeeds { IsUtf8 (B.unread buf.old) → length (B.unread buf.old) ≤ 24
+            → IsOk result }
         ensures err { IfErr result (IsUtf8BufRefusal (B.unread buf.old) (B.unread buf.new)) }
     {
         if buf.remaining() <= INLINE_CAPACITY {
@@ -62,7 +63,9 @@ impl PolicyString<Standard> {
         ensures consumed { OnOk result (B.unread buf.new ≡ []) }
         ensures kept { B.kept buf.new ≡ B.kept buf.old }
         ensures succeeds { length (B.unread buf.old) ≤ 24 → IsOk result }
-        ensures err { OnErr result (IsTrue (new_room_asks (length (B.unread buf.old))) × IsEndOf (B.unread buf.new) (B.unread buf.old)) }
+        ensures err { OnErr result
+            (IsTrue (new_room_asks (length (B.unread buf.old)))
+            × IsEndOf (B.unread buf.new) (B.unread buf.old)) }
     {
         if buf.remaining() <= INLINE_CAPACITY {
             let mut row = [0; INLINE_CAPACITY];

@@ -28,7 +28,8 @@ pub fn fill(row: &mut [u8; 256], units: &[u16]) -> Filled
     ensures few { result.taken ≤ 512 }
     ensures len { result.len ≤ 256 }
     ensures utf8 { IsUtf8 (take result.len row.new) }
-    ensures text { text_of (take result.len row.new) ++ utf16_lossy_text (drop result.taken units.now) ≡ utf16_lossy_text units.now }
+    ensures text { text_of (take result.len row.new)
+        ++ utf16_lossy_text (drop result.taken units.now) ≡ utf16_lossy_text units.now }
 {
     let mut taken = 0;
     let mut len = 0;

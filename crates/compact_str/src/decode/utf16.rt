@@ -27,7 +27,8 @@ impl PolicyString<Standard> {
     pub fn from_utf16(alloc: Global, units: &[u16]) -> Result<CompactString, FromUtf16Error>
         ensures text { IfOk result (λ v. UnitsEncode units.now v.text) }
         ensures fitted { IfOk result IsFitted }
-        ensures succeeds { (text : List ℕ) → UnitsEncode units.now text → size text ≤ 24 → IsOk result }
+        ensures succeeds { (text : List ℕ) → UnitsEncode units.now text → size text ≤ 24
+            → IsOk result }
         ensures err { IfErr result (IsUtf16Refusal units.now) }
     {
         if !utf16::is_utf16(units) {
@@ -74,7 +75,8 @@ impl PolicyString<Standard> {
     pub fn from_utf16le(alloc: Global, bytes: &[u8]) -> Result<CompactString, FromUtf16Error>
         ensures text { IfOk result (λ v. PairsEncode LittleEndian bytes.now v.text) }
         ensures fitted { IfOk result IsFitted }
-        ensures succeeds { (text : List ℕ) → PairsEncode LittleEndian bytes.now text → size text ≤ 24 → IsOk result }
+        ensures succeeds { (text : List ℕ) → PairsEncode LittleEndian bytes.now text
+            → size text ≤ 24 → IsOk result }
         ensures err { IfErr result (IsUtf16BytesRefusal LittleEndian bytes.now) }
     {
         from_bytes(alloc, ByteOrder::LittleEndian, bytes)
@@ -88,7 +90,8 @@ impl PolicyString<Standard> {
     pub fn from_utf16be(alloc: Global, bytes: &[u8]) -> Result<CompactString, FromUtf16Error>
         ensures text { IfOk result (λ v. PairsEncode BigEndian bytes.now v.text) }
         ensures fitted { IfOk result IsFitted }
-        ensures succeeds { (text : List ℕ) → PairsEncode BigEndian bytes.now text → size text ≤ 24 → IsOk result }
+        ensures succeeds { (text : List ℕ) → PairsEncode BigEndian bytes.now text → size text ≤ 24
+            → IsOk result }
         ensures err { IfErr result (IsUtf16BytesRefusal BigEndian bytes.now) }
     {
         from_bytes(alloc, ByteOrder::BigEndian, bytes)
@@ -128,7 +131,8 @@ fn from_bytes(
 ) -> Result<CompactString, FromUtf16Error>
     ensures text { IfOk result (λ v. PairsEncode order bytes.now v.text) }
     ensures fitted { IfOk result IsFitted }
-    ensures succeeds { (text : List ℕ) → PairsEncode order bytes.now text → size text ≤ 24 → IsOk result }
+    ensures succeeds { (text : List ℕ) → PairsEncode order bytes.now text → size text ≤ 24
+        → IsOk result }
     ensures err { IfErr result (IsUtf16BytesRefusal order bytes.now) }
 {
     if !utf16_bytes::is_utf16(order, bytes) {

@@ -26,7 +26,8 @@ impl PolicyString<Standard> {
     #[inline]
     #[tactic(auto, using(compact_repr::proofs::TextFacts::text_facts, crate::proofs::FittedTexts::strict_facts))]
     pub fn from_utf8(alloc: Global, bytes: &[u8]) -> Result<CompactString, FromUtf8Error>
-        ensures ok { IfOk result (λ v. made ⟦<Standard as Policy>⟧.growth (text_of bytes.now) ≡ Some v) }
+        ensures ok { IfOk result
+            (λ v. made ⟦<Standard as Policy>⟧.growth (text_of bytes.now) ≡ Some v) }
         ensures text { IfOk result (λ v. v.text ≡ text_of bytes.now) }
         ensures encoded { IfOk result (λ v. BytesEncode bytes.now v.text) }
         ensures valid { OnOk result (IsUtf8 bytes.now) }

@@ -18,10 +18,18 @@ pub fn append_all<T: AsText, U: IntoIterator<Item = T>>(
     items: U,
 ) -> Result<(), ReserveError>
     requires { IsFiniteIterable U.into_iter_gives U.IntoIter.can_next U.IntoIter.remaining items }
-    ensures text { OnOk result (OfItems U.into_iter_gives U.IntoIter.next_gives items (λ xs. text_of (string_bytes line.new) ≡ text_of (string_bytes line.old) ++ flat_map T.spells xs)) }
-    ensures succeeds { OfAllItems U.into_iter_gives U.IntoIter.next_gives items (λ xs. length (string_bytes line.old) + size (flat_map T.spells xs) ≤ string_capacity line.old) → IsOk result }
+    ensures text { OnOk result
+        (OfItems U.into_iter_gives U.IntoIter.next_gives items
+        (λ xs. text_of (string_bytes line.new)
+        ≡ text_of (string_bytes line.old) ++ flat_map T.spells xs)) }
+    ensures succeeds { OfAllItems U.into_iter_gives U.IntoIter.next_gives items
+        (λ xs. length (string_bytes line.old) + size (flat_map T.spells xs)
+        ≤ string_capacity line.old) → IsOk result }
     ensures capacity { string_capacity line.old ≤ string_capacity line.new }
-    ensures err { OnErr result (OfIterator U.into_iter_gives items (λ it. StopsWithout U.IntoIter.next_gives T.spells it (string_capacity line.new) (text_of (string_bytes line.old)) (text_of (string_bytes line.new)))) }
+    ensures err { OnErr result
+        (OfIterator U.into_iter_gives items
+        (λ it. StopsWithout U.IntoIter.next_gives T.spells it (string_capacity line.new)
+        (text_of (string_bytes line.old)) (text_of (string_bytes line.new)))) }
 {
     append_texts(line, items)
 }
@@ -32,9 +40,16 @@ pub fn append_texts<T: AsText, U: IntoIterator<Item = T>>(
     items: U,
 ) -> Result<(), ReserveError>
     requires { IsFiniteIterable U.into_iter_gives U.IntoIter.can_next U.IntoIter.remaining items }
-    ensures ok { OnOk result ((it : U.IntoIter) × (xs : List T) × U.into_iter_gives items it × Drains U.IntoIter.next_gives it xs × (text_of (string_bytes line.new) ≡ text_of (string_bytes line.old) ++ flat_map T.spells xs)) }
+    ensures ok { OnOk result
+        ((it : U.IntoIter) × (xs : List T) × U.into_iter_gives items it
+        × Drains U.IntoIter.next_gives it xs
+        × (text_of (string_bytes line.new)
+        ≡ text_of (string_bytes line.old) ++ flat_map T.spells xs)) }
     ensures capacity { string_capacity line.old ≤ string_capacity line.new }
-    ensures err { OnErr result (OfIterator U.into_iter_gives items (λ it. StopsWithout U.IntoIter.next_gives T.spells it (string_capacity line.new) (text_of (string_bytes line.old)) (text_of (string_bytes line.new)))) }
+    ensures err { OnErr result
+        (OfIterator U.into_iter_gives items
+        (λ it. StopsWithout U.IntoIter.next_gives T.spells it (string_capacity line.new)
+        (text_of (string_bytes line.old)) (text_of (string_bytes line.new)))) }
 {
     for item in items {
         append_text(line, item.text())?;
@@ -46,9 +61,12 @@ pub fn append_texts<T: AsText, U: IntoIterator<Item = T>>(
 #[inline]
 #[tactic(auto, using(compact_repr::proofs::TextFacts::text_facts, crate::proofs::CollectFacts::string_facts))]
 fn append_text(line: &mut String, text: &str) -> Result<(), ReserveError>
-    ensures ok { OnOk result (text_of (string_bytes line.new) ≡ text_of (string_bytes line.old) ++ text_of text.now) }
+    ensures ok { OnOk result
+        (text_of (string_bytes line.new) ≡ text_of (string_bytes line.old) ++ text_of text.now) }
     ensures capacity { string_capacity line.old ≤ string_capacity line.new }
-    ensures err { OnErr result ((text_of (string_bytes line.new) ≡ text_of (string_bytes line.old)) × (string_capacity line.new < size (text_of (string_bytes line.old)) + length text.now)) }
+    ensures err { OnErr result
+        ((text_of (string_bytes line.new) ≡ text_of (string_bytes line.old))
+        × (string_capacity line.new < size (text_of (string_bytes line.old)) + length text.now)) }
 {
     if line.reserve(text.len()).is_err() {
         return Err(ReserveError);

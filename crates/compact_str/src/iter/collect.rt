@@ -18,9 +18,13 @@ fn collect_pieces<P: Policy, T: Piece, U: IntoIterator<Item = T>>(
     iter: U,
 ) -> Result<PolicyString<P>, ReserveError>
     requires { IsFiniteIterable U.into_iter_gives U.IntoIter.can_next U.IntoIter.remaining iter }
-    ensures ok { IfOk result (λ v. (it : U.IntoIter) × (xs : List T) × U.into_iter_gives iter it × Drains U.IntoIter.next_gives it xs × (v.text ≡ flat_map T.letters xs)) }
+    ensures ok { IfOk result
+        (λ v. (it : U.IntoIter) × (xs : List T) × U.into_iter_gives iter it
+        × Drains U.IntoIter.next_gives it xs × (v.text ≡ flat_map T.letters xs)) }
     ensures fitted { IfOk result IsFitted }
-    ensures err { OnErr result (OfIterator U.into_iter_gives iter (λ it. PassesInline U.IntoIter.next_gives (flat_map T.letters) it)) }
+    ensures err { OnErr result
+        (OfIterator U.into_iter_gives iter
+        (λ it. PassesInline U.IntoIter.next_gives (flat_map T.letters) it)) }
 {
     let mut gathered = Gathered::new(alloc);
     for piece in iter {
@@ -39,12 +43,20 @@ impl<P: Policy> PolicyString<P> {
         alloc: Global,
         texts: U,
     ) -> Result<Self, ReserveError>
-        requires { IsFiniteIterable U.into_iter_gives U.IntoIter.can_next U.IntoIter.remaining texts }
-        ensures text { IfOk result (λ v. OfItems U.into_iter_gives U.IntoIter.next_gives texts (λ xs. v.text ≡ flat_map T.spells xs)) }
-        ensures size { IfOk result (λ v. OfItems U.into_iter_gives U.IntoIter.next_gives texts (λ xs. size v.text ≡ fold (λ n text. n + size (T.spells text)) 0 xs)) }
+        requires { IsFiniteIterable U.into_iter_gives U.IntoIter.can_next U.IntoIter.remaining
+            texts }
+        ensures text { IfOk result
+            (λ v. OfItems U.into_iter_gives U.IntoIter.next_gives texts
+            (λ xs. v.text ≡ flat_map T.spells xs)) }
+        ensures size { IfOk result
+            (λ v. OfItems U.into_iter_gives U.IntoIter.next_gives texts
+            (λ xs. size v.text ≡ fold (λ n text. n + size (T.spells text)) 0 xs)) }
         ensures fitted { IfOk result IsFitted }
-        ensures succeeds { OfAllItems U.into_iter_gives U.IntoIter.next_gives texts (λ xs. size (flat_map T.spells xs) ≤ 24) → IsOk result }
-        ensures err { OnErr result (OfIterator U.into_iter_gives texts (λ it. PassesInline U.IntoIter.next_gives (flat_map T.spells) it)) }
+        ensures succeeds { OfAllItems U.into_iter_gives U.IntoIter.next_gives texts
+            (λ xs. size (flat_map T.spells xs) ≤ 24) → IsOk result }
+        ensures err { OnErr result
+            (OfIterator U.into_iter_gives texts
+            (λ it. PassesInline U.IntoIter.next_gives (flat_map T.spells) it)) }
     {
         collect_pieces(alloc, texts)
     }
@@ -58,11 +70,16 @@ impl<P: Policy> PolicyString<P> {
         alloc: Global,
         characters: U,
     ) -> Result<Self, ReserveError>
-        requires { IsFiniteIterable U.into_iter_gives U.IntoIter.can_next U.IntoIter.remaining characters }
-        ensures text { IfOk result (λ v. OfItems U.into_iter_gives U.IntoIter.next_gives characters (λ xs. v.text ≡ xs)) }
+        requires { IsFiniteIterable U.into_iter_gives U.IntoIter.can_next U.IntoIter.remaining
+            characters }
+        ensures text { IfOk result
+            (λ v. OfItems U.into_iter_gives U.IntoIter.next_gives characters (λ xs. v.text ≡ xs)) }
         ensures fitted { IfOk result IsFitted }
-        ensures succeeds { OfAllItems U.into_iter_gives U.IntoIter.next_gives characters (λ xs. size xs ≤ 24) → IsOk result }
-        ensures err { OnErr result (OfIterator U.into_iter_gives characters (λ it. PassesInline U.IntoIter.next_gives (λ xs. xs) it)) }
+        ensures succeeds { OfAllItems U.into_iter_gives U.IntoIter.next_gives characters
+            (λ xs. size xs ≤ 24) → IsOk result }
+        ensures err { OnErr result
+            (OfIterator U.into_iter_gives characters
+            (λ it. PassesInline U.IntoIter.next_gives (λ xs. xs) it)) }
     {
         collect_pieces(alloc, characters)
     }
@@ -78,11 +95,17 @@ impl<P: Policy, T: AsText> FromIterator<T> for PolicyString<P> {
     /// `collect` calls it by that trait, and so tells a caller the text and place, but not that it is never refused up to
     /// 24 bytes.
     fn from_iter<U: IntoIterator<Item = T>>(alloc: Global, texts: U) -> Result<Self, AllocError>
-        requires { IsFiniteIterable U.into_iter_gives U.IntoIter.can_next U.IntoIter.remaining texts }
-        ensures text { IfOk result (λ v. (it : U.IntoIter) × (xs : List T) × U.into_iter_gives texts it × Drains U.IntoIter.next_gives it xs × (v.text ≡ flat_map T.spells xs)) }
+        requires { IsFiniteIterable U.into_iter_gives U.IntoIter.can_next U.IntoIter.remaining
+            texts }
+        ensures text { IfOk result
+            (λ v. (it : U.IntoIter) × (xs : List T) × U.into_iter_gives texts it
+            × Drains U.IntoIter.next_gives it xs × (v.text ≡ flat_map T.spells xs)) }
         ensures fitted { IfOk result IsFitted }
-        ensures succeeds { OfAllItems U.into_iter_gives U.IntoIter.next_gives texts (λ xs. size (flat_map T.spells xs) ≤ 24) → IsOk result }
-        ensures err { OnErr result (OfIterator U.into_iter_gives texts (λ it. PassesInline U.IntoIter.next_gives (flat_map T.spells) it)) }
+        ensures succeeds { OfAllItems U.into_iter_gives U.IntoIter.next_gives texts
+            (λ xs. size (flat_map T.spells xs) ≤ 24) → IsOk result }
+        ensures err { OnErr result
+            (OfIterator U.into_iter_gives texts
+            (λ it. PassesInline U.IntoIter.next_gives (flat_map T.spells) it)) }
     {
         match collect_pieces(alloc, texts) {
             Ok(value) => Ok(value),
@@ -102,11 +125,17 @@ impl<P: Policy> FromIterator<char> for PolicyString<P> {
         alloc: Global,
         characters: U,
     ) -> Result<Self, AllocError>
-        requires { IsFiniteIterable U.into_iter_gives U.IntoIter.can_next U.IntoIter.remaining characters }
-        ensures text { IfOk result (λ v. (it : U.IntoIter) × (xs : List ℕ) × U.into_iter_gives characters it × Drains U.IntoIter.next_gives it xs × (v.text ≡ xs)) }
+        requires { IsFiniteIterable U.into_iter_gives U.IntoIter.can_next U.IntoIter.remaining
+            characters }
+        ensures text { IfOk result
+            (λ v. (it : U.IntoIter) × (xs : List ℕ) × U.into_iter_gives characters it
+            × Drains U.IntoIter.next_gives it xs × (v.text ≡ xs)) }
         ensures fitted { IfOk result IsFitted }
-        ensures succeeds { OfAllItems U.into_iter_gives U.IntoIter.next_gives characters (λ xs. size xs ≤ 24) → IsOk result }
-        ensures err { OnErr result (OfIterator U.into_iter_gives characters (λ it. PassesInline U.IntoIter.next_gives (λ xs. xs) it)) }
+        ensures succeeds { OfAllItems U.into_iter_gives U.IntoIter.next_gives characters
+            (λ xs. size xs ≤ 24) → IsOk result }
+        ensures err { OnErr result
+            (OfIterator U.into_iter_gives characters
+            (λ it. PassesInline U.IntoIter.next_gives (λ xs. xs) it)) }
     {
         match collect_pieces(alloc, characters) {
             Ok(value) => Ok(value),
@@ -126,11 +155,17 @@ impl<'a, P: Policy> FromIterator<&'a char> for PolicyString<P> {
         alloc: Global,
         references: U,
     ) -> Result<Self, AllocError>
-        requires { IsFiniteIterable U.into_iter_gives U.IntoIter.can_next U.IntoIter.remaining references }
-        ensures text { IfOk result (λ v. (it : U.IntoIter) × (xs : List _) × U.into_iter_gives references it × Drains U.IntoIter.next_gives it xs × (v.text ≡ map (λ c. c.now) xs)) }
+        requires { IsFiniteIterable U.into_iter_gives U.IntoIter.can_next U.IntoIter.remaining
+            references }
+        ensures text { IfOk result
+            (λ v. (it : U.IntoIter) × (xs : List _) × U.into_iter_gives references it
+            × Drains U.IntoIter.next_gives it xs × (v.text ≡ map (λ c. c.now) xs)) }
         ensures fitted { IfOk result IsFitted }
-        ensures succeeds { OfAllItems U.into_iter_gives U.IntoIter.next_gives references (λ xs. size (map (λ c. c.now) xs) ≤ 24) → IsOk result }
-        ensures err { OnErr result (OfIterator U.into_iter_gives references (λ it. PassesInline U.IntoIter.next_gives (λ xs. map (λ c. c.now) xs) it)) }
+        ensures succeeds { OfAllItems U.into_iter_gives U.IntoIter.next_gives references
+            (λ xs. size (map (λ c. c.now) xs) ≤ 24) → IsOk result }
+        ensures err { OnErr result
+            (OfIterator U.into_iter_gives references
+            (λ it. PassesInline U.IntoIter.next_gives (λ xs. map (λ c. c.now) xs) it)) }
     {
         match collect_pieces(alloc, references) {
             Ok(value) => Ok(value),

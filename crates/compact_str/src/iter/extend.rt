@@ -18,9 +18,15 @@ fn extend_pieces<P: Policy, T: Piece, U: IntoIterator<Item = T>>(
     iter: U,
 ) -> Result<(), ReserveError>
     requires { IsFiniteIterable U.into_iter_gives U.IntoIter.can_next U.IntoIter.remaining iter }
-    ensures ok { OnOk result (OfIterator U.into_iter_gives iter (λ it. AppendsAll U.IntoIter.next_gives P.growth T.letters it value.old value.new)) }
-    ensures succeeds { OfAllItems U.into_iter_gives U.IntoIter.next_gives iter (λ xs. HasRoomFor value.old (size (flat_map T.letters xs))) → IsOk result }
-    ensures err { OnErr result (OfIterator U.into_iter_gives iter (λ it. AppendsUpToRefused U.IntoIter.next_gives P.growth T.letters it value.old value.new)) }
+    ensures ok { OnOk result
+        (OfIterator U.into_iter_gives iter
+        (λ it. AppendsAll U.IntoIter.next_gives P.growth T.letters it value.old value.new)) }
+    ensures succeeds { OfAllItems U.into_iter_gives U.IntoIter.next_gives iter
+        (λ xs. HasRoomFor value.old (size (flat_map T.letters xs))) → IsOk result }
+    ensures err { OnErr result
+        (OfIterator U.into_iter_gives iter
+        (λ it. AppendsUpToRefused U.IntoIter.next_gives P.growth T.letters it value.old
+        value.new)) }
 {
     for piece in iter {
         piece.push_to(value)?;
@@ -38,14 +44,23 @@ impl<P: Policy> PolicyString<P> {
         &mut self,
         texts: U,
     ) -> Result<(), ReserveError>
-        requires { IsFiniteIterable U.into_iter_gives U.IntoIter.can_next U.IntoIter.remaining texts }
-        ensures ok { OnOk result (OfIterator U.into_iter_gives texts (λ it. AppendsAll U.IntoIter.next_gives P.growth T.spells it self.old self.new)) }
-        ensures text { OnOk result (OfItems U.into_iter_gives U.IntoIter.next_gives texts (λ xs. self.new.text ≡ self.old.text ++ flat_map T.spells xs)) }
+        requires { IsFiniteIterable U.into_iter_gives U.IntoIter.can_next U.IntoIter.remaining
+            texts }
+        ensures ok { OnOk result
+            (OfIterator U.into_iter_gives texts
+            (λ it. AppendsAll U.IntoIter.next_gives P.growth T.spells it self.old self.new)) }
+        ensures text { OnOk result
+            (OfItems U.into_iter_gives U.IntoIter.next_gives texts
+            (λ xs. self.new.text ≡ self.old.text ++ flat_map T.spells xs)) }
         ensures boundary { IsBoundary self.new.text (size self.old.text) }
         ensures front { before self.new.text (size self.old.text) ≡ self.old.text }
         ensures room { sure_capacity self.old ≤ sure_capacity self.new }
-        ensures succeeds { OfAllItems U.into_iter_gives U.IntoIter.next_gives texts (λ xs. HasRoomFor self.old (size (flat_map T.spells xs))) → IsOk result }
-        ensures err { OnErr result (OfIterator U.into_iter_gives texts (λ it. AppendsUpToRefused U.IntoIter.next_gives P.growth T.spells it self.old self.new)) }
+        ensures succeeds { OfAllItems U.into_iter_gives U.IntoIter.next_gives texts
+            (λ xs. HasRoomFor self.old (size (flat_map T.spells xs))) → IsOk result }
+        ensures err { OnErr result
+            (OfIterator U.into_iter_gives texts
+            (λ it. AppendsUpToRefused U.IntoIter.next_gives P.growth T.spells it self.old
+            self.new)) }
     {
         extend_pieces(self, texts)
     }
@@ -59,14 +74,22 @@ impl<P: Policy> PolicyString<P> {
         &mut self,
         characters: U,
     ) -> Result<(), ReserveError>
-        requires { IsFiniteIterable U.into_iter_gives U.IntoIter.can_next U.IntoIter.remaining characters }
-        ensures ok { OnOk result (OfIterator U.into_iter_gives characters (λ it. AppendsAll U.IntoIter.next_gives P.growth alone it self.old self.new)) }
-        ensures text { OnOk result (OfItems U.into_iter_gives U.IntoIter.next_gives characters (λ xs. self.new.text ≡ self.old.text ++ xs)) }
+        requires { IsFiniteIterable U.into_iter_gives U.IntoIter.can_next U.IntoIter.remaining
+            characters }
+        ensures ok { OnOk result
+            (OfIterator U.into_iter_gives characters
+            (λ it. AppendsAll U.IntoIter.next_gives P.growth alone it self.old self.new)) }
+        ensures text { OnOk result
+            (OfItems U.into_iter_gives U.IntoIter.next_gives characters
+            (λ xs. self.new.text ≡ self.old.text ++ xs)) }
         ensures boundary { IsBoundary self.new.text (size self.old.text) }
         ensures front { before self.new.text (size self.old.text) ≡ self.old.text }
         ensures room { sure_capacity self.old ≤ sure_capacity self.new }
-        ensures succeeds { OfAllItems U.into_iter_gives U.IntoIter.next_gives characters (λ xs. HasRoomFor self.old (size xs)) → IsOk result }
-        ensures err { OnErr result (OfIterator U.into_iter_gives characters (λ it. AppendsUpToRefused U.IntoIter.next_gives P.growth alone it self.old self.new)) }
+        ensures succeeds { OfAllItems U.into_iter_gives U.IntoIter.next_gives characters
+            (λ xs. HasRoomFor self.old (size xs)) → IsOk result }
+        ensures err { OnErr result
+            (OfIterator U.into_iter_gives characters
+            (λ it. AppendsUpToRefused U.IntoIter.next_gives P.growth alone it self.old self.new)) }
     {
         extend_pieces(self, characters)
     }
@@ -77,11 +100,20 @@ impl<P: Policy, T: AsText> Extend<T> for PolicyString<P> {
 
     /// `extend_texts`, whose error is here that of the library's trait.
     fn extend<U: IntoIterator<Item = T>>(&mut self, texts: U) -> Result<(), AllocError>
-        requires { IsFiniteIterable U.into_iter_gives U.IntoIter.can_next U.IntoIter.remaining texts }
-        ensures ok { OnOk result (OfIterator U.into_iter_gives texts (λ it. AppendsAll U.IntoIter.next_gives P.growth T.spells it self.old self.new)) }
-        ensures text { OnOk result (OfItems U.into_iter_gives U.IntoIter.next_gives texts (λ xs. self.new.text ≡ self.old.text ++ flat_map T.spells xs)) }
-        ensures succeeds { OfAllItems U.into_iter_gives U.IntoIter.next_gives texts (λ xs. HasRoomFor self.old (size (flat_map T.spells xs))) → IsOk result }
-        ensures err { OnErr result (OfIterator U.into_iter_gives texts (λ it. AppendsUpToRefused U.IntoIter.next_gives P.growth T.spells it self.old self.new)) }
+        requires { IsFiniteIterable U.into_iter_gives U.IntoIter.can_next U.IntoIter.remaining
+            texts }
+        ensures ok { OnOk result
+            (OfIterator U.into_iter_gives texts
+            (λ it. AppendsAll U.IntoIter.next_gives P.growth T.spells it self.old self.new)) }
+        ensures text { OnOk result
+            (OfItems U.into_iter_gives U.IntoIter.next_gives texts
+            (λ xs. self.new.text ≡ self.old.text ++ flat_map T.spells xs)) }
+        ensures succeeds { OfAllItems U.into_iter_gives U.IntoIter.next_gives texts
+            (λ xs. HasRoomFor self.old (size (flat_map T.spells xs))) → IsOk result }
+        ensures err { OnErr result
+            (OfIterator U.into_iter_gives texts
+            (λ it. AppendsUpToRefused U.IntoIter.next_gives P.growth T.spells it self.old
+            self.new)) }
     {
         match self.extend_texts(texts) {
             Ok(()) => Ok(()),
@@ -95,11 +127,19 @@ impl<P: Policy> Extend<char> for PolicyString<P> {
 
     /// `extend_chars`, whose error is here that of the library's trait.
     fn extend<U: IntoIterator<Item = char>>(&mut self, characters: U) -> Result<(), AllocError>
-        requires { IsFiniteIterable U.into_iter_gives U.IntoIter.can_next U.IntoIter.remaining characters }
-        ensures ok { OnOk result (OfIterator U.into_iter_gives characters (λ it. AppendsAll U.IntoIter.next_gives P.growth alone it self.old self.new)) }
-        ensures text { OnOk result (OfItems U.into_iter_gives U.IntoIter.next_gives characters (λ xs. self.new.text ≡ self.old.text ++ xs)) }
-        ensures succeeds { OfAllItems U.into_iter_gives U.IntoIter.next_gives characters (λ xs. HasRoomFor self.old (size xs)) → IsOk result }
-        ensures err { OnErr result (OfIterator U.into_iter_gives characters (λ it. AppendsUpToRefused U.IntoIter.next_gives P.growth alone it self.old self.new)) }
+        requires { IsFiniteIterable U.into_iter_gives U.IntoIter.can_next U.IntoIter.remaining
+            characters }
+        ensures ok { OnOk result
+            (OfIterator U.into_iter_gives characters
+            (λ it. AppendsAll U.IntoIter.next_gives P.growth alone it self.old self.new)) }
+        ensures text { OnOk result
+            (OfItems U.into_iter_gives U.IntoIter.next_gives characters
+            (λ xs. self.new.text ≡ self.old.text ++ xs)) }
+        ensures succeeds { OfAllItems U.into_iter_gives U.IntoIter.next_gives characters
+            (λ xs. HasRoomFor self.old (size xs)) → IsOk result }
+        ensures err { OnErr result
+            (OfIterator U.into_iter_gives characters
+            (λ it. AppendsUpToRefused U.IntoIter.next_gives P.growth alone it self.old self.new)) }
     {
         match self.extend_chars(characters) {
             Ok(()) => Ok(()),
@@ -113,11 +153,21 @@ impl<'a, P: Policy> Extend<&'a char> for PolicyString<P> {
 
     /// `extend_chars` of the characters that are referred to.
     fn extend<U: IntoIterator<Item = &'a char>>(&mut self, references: U) -> Result<(), AllocError>
-        requires { IsFiniteIterable U.into_iter_gives U.IntoIter.can_next U.IntoIter.remaining references }
-        ensures ok { OnOk result (OfIterator U.into_iter_gives references (λ it. AppendsAll U.IntoIter.next_gives P.growth (λ c. alone c.now) it self.old self.new)) }
-        ensures text { OnOk result (OfItems U.into_iter_gives U.IntoIter.next_gives references (λ xs. self.new.text ≡ self.old.text ++ map (λ c. c.now) xs)) }
-        ensures succeeds { OfAllItems U.into_iter_gives U.IntoIter.next_gives references (λ xs. HasRoomFor self.old (size (map (λ c. c.now) xs))) → IsOk result }
-        ensures err { OnErr result (OfIterator U.into_iter_gives references (λ it. AppendsUpToRefused U.IntoIter.next_gives P.growth (λ c. alone c.now) it self.old self.new)) }
+        requires { IsFiniteIterable U.into_iter_gives U.IntoIter.can_next U.IntoIter.remaining
+            references }
+        ensures ok { OnOk result
+            (OfIterator U.into_iter_gives references
+            (λ it. AppendsAll U.IntoIter.next_gives P.growth
+            (λ c. alone c.now) it self.old self.new)) }
+        ensures text { OnOk result
+            (OfItems U.into_iter_gives U.IntoIter.next_gives references
+            (λ xs. self.new.text ≡ self.old.text ++ map (λ c. c.now) xs)) }
+        ensures succeeds { OfAllItems U.into_iter_gives U.IntoIter.next_gives references
+            (λ xs. HasRoomFor self.old (size (map (λ c. c.now) xs))) → IsOk result }
+        ensures err { OnErr result
+            (OfIterator U.into_iter_gives references
+            (λ it. AppendsUpToRefused U.IntoIter.next_gives P.growth
+            (λ c. alone c.now) it self.old self.new)) }
     {
         match extend_pieces(self, references) {
             Ok(()) => Ok(()),

@@ -65,7 +65,8 @@ impl<P: Policy> Gathered<P> {
         text: &str,
     ) -> Result<(), ReserveError>
         requires same { IfSome padded.now (λ p. p ≡ text_of separator.now) }
-        ensures ok { OnOk result (self.new ≡ (self.old ++ text_of separator.now) ++ text_of text.now) }
+        ensures ok { OnOk result
+            (self.new ≡ (self.old ++ text_of separator.now) ++ text_of text.now) }
         ensures err { OnErr result (24 < size self.old + length separator.now + length text.now) }
     {
         if let Some(padded) = padded {
@@ -79,7 +80,8 @@ impl<P: Policy> Gathered<P> {
     /// The same where the two do not go together.
     #[inline(never)]
     fn push_apart(&mut self, separator: &str, text: &str) -> Result<(), ReserveError>
-        ensures ok { OnOk result (self.new ≡ (self.old ++ text_of separator.now) ++ text_of text.now) }
+        ensures ok { OnOk result
+            (self.new ≡ (self.old ++ text_of separator.now) ++ text_of text.now) }
         ensures err { OnErr result (24 < size self.old + length separator.now + length text.now) }
     {
         self.push_str(separator)?;

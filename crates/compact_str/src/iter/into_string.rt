@@ -20,14 +20,16 @@ impl<P: Policy> Extend<PolicyString<P>> for String {
         &mut self,
         values: U,
     ) -> Result<(), AllocError>
-        requires { IsFiniteIterable U.into_iter_gives U.IntoIter.can_next U.IntoIter.remaining values }
+        requires { IsFiniteIterable U.into_iter_gives U.IntoIter.can_next U.IntoIter.remaining
+            values }
         ensures ok { OnOk result ((it : U.IntoIter) × (xs : List _) × U.into_iter_gives values it
             × Drains U.IntoIter.next_gives it xs
-            × (text_of (string_bytes self.new) ≡ text_of (string_bytes self.old) ++ flat_map text_in xs)) }
+            × (text_of (string_bytes self.new)
+            ≡ text_of (string_bytes self.old) ++ flat_map text_in xs)) }
         ensures capacity { string_capacity self.old ≤ string_capacity self.new }
         ensures err { OnErr result (OfIterator U.into_iter_gives values
             (λ it. StopsWithout U.IntoIter.next_gives text_in it (string_capacity self.new)
-                (text_of (string_bytes self.old)) (text_of (string_bytes self.new)))) }
+            (text_of (string_bytes self.old)) (text_of (string_bytes self.new)))) }
     {
         match append_texts(self, values) {
             Ok(()) => Ok(()),
@@ -46,9 +48,11 @@ impl<P: Policy> FromIterator<PolicyString<P>> for String {
         alloc: Global,
         values: U,
     ) -> Result<Self, AllocError>
-        requires { IsFiniteIterable U.into_iter_gives U.IntoIter.can_next U.IntoIter.remaining values }
-        ensures text { IfOk result (λ s. (it : U.IntoIter) × (xs : List _) × U.into_iter_gives values it
-            × Drains U.IntoIter.next_gives it xs × (text_of (string_bytes s) ≡ flat_map text_in xs)) }
+        requires { IsFiniteIterable U.into_iter_gives U.IntoIter.can_next U.IntoIter.remaining
+            values }
+        ensures text { IfOk result (λ s. (it : U.IntoIter) × (xs : List _)
+            × U.into_iter_gives values it × Drains U.IntoIter.next_gives it xs
+            × (text_of (string_bytes s) ≡ flat_map text_in xs)) }
     {
         let mut line = String::new(alloc);
         match append_texts(&mut line, values) {

@@ -24,9 +24,12 @@ pub trait CompactStringExt: Iterator {
         Self::Item: AsText,
         requires can { Self.can_next self }
         requires ends { IsFinite (Self.remaining self) }
-        ensures text { IfOk result (λ v. WholeRun Self.next_gives self (λ run. v.text ≡ flat_map Self.Item.spells run.items)) }
+        ensures text { IfOk result
+            (λ v. WholeRun Self.next_gives self
+            (λ run. v.text ≡ flat_map Self.Item.spells run.items)) }
         ensures fitted { IfOk result IsFitted }
-        ensures succeeds { HoldsAlong Self.next_gives self (λ xs. size (flat_map Self.Item.spells xs) ≤ 24) → IsOk result }
+        ensures succeeds { HoldsAlong Self.next_gives self
+            (λ xs. size (flat_map Self.Item.spells xs) ≤ 24) → IsOk result }
         ensures err { OnErr result (PassesInline Self.next_gives (flat_map Self.Item.spells) self) }
     {
         CompactString::from_texts(alloc, self)
@@ -47,10 +50,14 @@ pub trait CompactStringExt: Iterator {
         Self::Item: AsText,
         requires can { Self.can_next self }
         requires ends { IsFinite (Self.remaining self) }
-        ensures text { IfOk result (λ v. WholeRun Self.next_gives self (λ run. v.text ≡ joined (text_of separator.now) Self.Item.spells run.items)) }
+        ensures text { IfOk result
+            (λ v. WholeRun Self.next_gives self
+            (λ run. v.text ≡ joined (text_of separator.now) Self.Item.spells run.items)) }
         ensures fitted { IfOk result IsFitted }
-        ensures succeeds { HoldsAlong Self.next_gives self (λ xs. size (joined (text_of separator.now) Self.Item.spells xs) ≤ 24) → IsOk result }
-        ensures err { OnErr result (PassesInline Self.next_gives (joined (text_of separator.now) Self.Item.spells) self) }
+        ensures succeeds { HoldsAlong Self.next_gives self
+            (λ xs. size (joined (text_of separator.now) Self.Item.spells xs) ≤ 24) → IsOk result }
+        ensures err { OnErr result
+            (PassesInline Self.next_gives (joined (text_of separator.now) Self.Item.spells) self) }
     {
         join_pieces(alloc, self, separator)
     }
@@ -66,9 +73,12 @@ fn join_pieces<P: Policy, T: AsText, I: Iterator<Item = T> + Drop>(
 ) -> Result<PolicyString<P>, ReserveError>
     requires can { I.can_next pieces }
     requires ends { IsFinite (I.remaining pieces) }
-    ensures ok { IfOk result (λ v. (xs : List T) × Drains I.next_gives pieces xs × (v.text ≡ joined (text_of separator.now) T.spells xs)) }
+    ensures ok { IfOk result
+        (λ v. (xs : List T) × Drains I.next_gives pieces xs
+        × (v.text ≡ joined (text_of separator.now) T.spells xs)) }
     ensures fitted { IfOk result IsFitted }
-    ensures err { OnErr result (PassesInline I.next_gives (joined (text_of separator.now) T.spells) pieces) }
+    ensures err { OnErr result
+        (PassesInline I.next_gives (joined (text_of separator.now) T.spells) pieces) }
 {
     let mut pieces = pieces;
     let mut gathered = Gathered::new(alloc);

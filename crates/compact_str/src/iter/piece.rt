@@ -19,7 +19,8 @@ pub trait Piece: Drop {
     fn push_to<P: Policy>(&self, value: &mut PolicyString<P>) -> Result<(), ReserveError>
         ensures ok { OnOk result (pushed P.growth value.old (letters self.now) ≡ Some value.new) }
         ensures succeeds { HasRoomFor value.old (size (letters self.now)) → IsOk result }
-        ensures err { OnErr result ((value.new ≡ value.old) × IsTrue (push_asks value.old (letters self.now))) };
+        ensures err { OnErr result
+            ((value.new ≡ value.old) × IsTrue (push_asks value.old (letters self.now))) };
 
     /// Takes the piece behind what has come. An error comes only where that makes more than 24 bytes.
     fn gather_into<P: Policy>(&self, gathered: &mut Gathered<P>) -> Result<(), ReserveError>

@@ -42,7 +42,8 @@ impl<P: Policy> PolicyString<P> {
         ensures text { OnOk result (self.new.text ≡ source.now.text) }
         ensures succeeds { size source.now.text ≤ sure_capacity self.old → IsOk result }
         ensures copies_in_place { is_heap source.now.placement.place ≡ false → IsOk result }
-        ensures err { OnErr result ((self.new ≡ self.old) × IsTrue (clone_from_asks self.old source.now)) }
+        ensures err { OnErr result
+            ((self.new ≡ self.old) × IsTrue (clone_from_asks self.old source.now)) }
     {
         let len = source.len();
         let stays = self.as_static_str().is_none() && len <= self.capacity();

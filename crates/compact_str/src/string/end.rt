@@ -25,7 +25,8 @@ impl<P: Policy> PolicyString<P> {
         ensures text { OnOk result (self.new.text ≡ self.old.text ++ text_of text.now) }
         ensures room { OnOk result (sure_capacity self.old ≤ sure_capacity self.new) }
         ensures succeeds { HasRoomFor self.old (length text.now) → IsOk result }
-        ensures err { OnErr result ((self.new ≡ self.old) × IsTrue (push_asks self.old (text_of text.now))) }
+        ensures err { OnErr result
+            ((self.new ≡ self.old) × IsTrue (push_asks self.old (text_of text.now))) }
     {
         match self.repr.push_at_once(text) {
             AtOnce::Done => Ok(()),
@@ -44,7 +45,8 @@ impl<P: Policy> PolicyString<P> {
         ensures text { OnOk result (self.new.text ≡ self.old.text ++ character ∷ []) }
         ensures room { OnOk result (sure_capacity self.old ≤ sure_capacity self.new) }
         ensures succeeds { HasRoomFor self.old (len_utf8 character) → IsOk result }
-        ensures err { OnErr result ((self.new ≡ self.old) × IsTrue (push_asks self.old (character ∷ []))) }
+        ensures err { OnErr result
+            ((self.new ≡ self.old) × IsTrue (push_asks self.old (character ∷ []))) }
     {
         let mut bytes = [0; 4];
         self.push_str(encoded(character, &mut bytes))
@@ -59,7 +61,8 @@ impl<P: Policy> PolicyString<P> {
         ensures text { IfOk result (λ v. v.text ≡ self.text ++ text_of text.now) }
         ensures room { IfOk result (λ v. sure_capacity self ≤ sure_capacity v) }
         ensures succeeds { HasRoomFor self (length text.now) → IsOk result }
-        ensures err { IfErr result (λ e. (e.value ≡ self) × IsTrue (push_asks self (text_of text.now))) }
+        ensures err { IfErr result
+            (λ e. (e.value ≡ self) × IsTrue (push_asks self (text_of text.now))) }
     {
         match self.push_str(text) {
             Ok(()) => Ok(self),
@@ -75,7 +78,8 @@ impl<P: Policy> PolicyString<P> {
     #[tactic(auto, using(compact_repr::proofs::TextFacts::text_facts, crate::proofs::EditFacts::position_facts))]
     pub fn pop(&mut self) -> Option<char>
         ensures pops { Pops self.old result self.new }
-        ensures text { MatchOption result (self.old.text ≡ []) (λ c. self.old.text ≡ self.new.text ++ c ∷ []) }
+        ensures text { MatchOption result (self.old.text ≡ [])
+            (λ c. self.old.text ≡ self.new.text ++ c ∷ []) }
     {
         let character = self.repr.last_char()?;
         self.repr.truncate(self.repr.len() - character.len_utf8());
@@ -93,7 +97,8 @@ impl<P: Policy> PolicyString<P> {
         requires { len < size self.old.text → IsBoundary self.old.text len }
         ensures value { self.new ≡ truncated self.old len }
         ensures text { self.new.text ≡ before self.old.text len }
-        ensures boundaries { (i : ℕ) → i ≤ len → IsBoundary self.old.text i → IsBoundary self.new.text i }
+        ensures boundaries { (i : ℕ) → i ≤ len → IsBoundary self.old.text i
+            → IsBoundary self.new.text i }
     {
         self.repr.truncate(len);
     }
@@ -122,7 +127,8 @@ impl<P: Policy> fmt::Write for PolicyString<P> {
         ensures text { OnOk result (self.new.text ≡ self.old.text ++ text_of text.now) }
         ensures room { OnOk result (sure_capacity self.old ≤ sure_capacity self.new) }
         ensures succeeds { HasRoomFor self.old (length text.now) → IsOk result }
-        ensures err { OnErr result ((self.new ≡ self.old) × IsTrue (push_asks self.old (text_of text.now))) }
+        ensures err { OnErr result
+            ((self.new ≡ self.old) × IsTrue (push_asks self.old (text_of text.now))) }
     {
         match self.push_str(text) {
             Ok(()) => Ok(()),

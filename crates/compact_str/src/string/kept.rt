@@ -32,7 +32,8 @@ impl<P: Policy> PolicyString<P> {
     #[inline]
     pub fn retain_by<F: FnMut(char) -> bool>(&mut self, keep: &mut F) -> Result<(), ReserveError>
         requires { F.IsAlwaysCallable keep.old }
-        ensures text { OnOk result (KeepsCharsTo F.FnMut keep.old self.old.text self.new.text keep.new) }
+        ensures text { OnOk result
+            (KeepsCharsTo F.FnMut keep.old self.old.text self.new.text keep.new) }
         ensures placement { OnOk result (owned P.growth self.old ≡ Some self.new.placement) }
         ensures succeeds { IsOwned self.old → IsOk result }
         ensures succeeds_short { size self.old.text ≤ 24 → IsOk result }

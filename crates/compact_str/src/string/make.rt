@@ -82,8 +82,10 @@ impl<P: Policy> PolicyString<P> {
     /// a last byte C1 the text is `"a"`.
     #[inline]
     pub fn from_packed(alloc: Global, bytes: &[u8; 24]) -> Option<Self>
-        ensures value { MatchOption result ((t : List ℕ) → ¬ (IsPackedFor bytes.now t)) (λ v. IsPackedFor bytes.now v.text × (v.placement ≡ inlined)) }
-        ensures succeeds { (t : List ℕ) → IsPackedFor bytes.now t → (result ≡ Some (placed t inlined)) }
+        ensures value { MatchOption result ((t : List ℕ) → ¬ (IsPackedFor bytes.now t))
+            (λ v. IsPackedFor bytes.now v.text × (v.placement ≡ inlined)) }
+        ensures succeeds { (t : List ℕ) → IsPackedFor bytes.now t
+            → (result ≡ Some (placed t inlined)) }
     {
         let repr = Repr::from_packed(alloc, bytes)?;
         Some(PolicyString { repr })
@@ -115,7 +117,9 @@ impl<P: Policy> PolicyString<P> {
     /// It is never refused. A string that has a buffer, as every one that is not empty, is on the heap with the string's
     /// capacity in bytes, even below 24; one that has none is inline and empty.
     pub fn from_string_buffer(text: String) -> Self
-        ensures value { let t = text_of (string_bytes text) in result ≡ placed t (if nat_eq (string_capacity text) 0 then inlined else on_heap (string_capacity text)) }
+        ensures value { let t = text_of (string_bytes text)
+            in result ≡ placed t (if nat_eq (string_capacity text) 0 then inlined
+            else on_heap (string_capacity text)) }
         ensures place { 0 < length (string_bytes text) → IsTrue (is_heap result.placement.place) }
     {
         PolicyString {
@@ -146,7 +150,8 @@ impl<P: Policy> PolicyString<P> {
         ensures ok { IfOk result (λ v. made P.growth (text_of (boxed_str_bytes text)) ≡ Some v) }
         ensures text { IfOk result (λ v. v.text ≡ text_of (boxed_str_bytes text)) }
         ensures succeeds { length (boxed_str_bytes text) ≤ 24 → IsOk result }
-        ensures err { IfErr result (λ e. (e.value ≡ text) × IsTrue (new_room_asks (length (boxed_str_bytes text)))) }
+        ensures err { IfErr result
+            (λ e. (e.value ≡ text) × IsTrue (new_room_asks (length (boxed_str_bytes text)))) }
     {
         match Self::new(alloc, text.as_str()) {
             Ok(value) => Ok(value),

@@ -26,9 +26,11 @@ impl<P: Policy> PolicyString<P> {
     pub fn into_string(self) -> Result<String, Refused<Self>>
         ensures bytes { IfOk result (λ s. string_bytes s ≡ utf8 self.text) }
         ensures text { IfOk result (λ s. text_of (string_bytes s) ≡ self.text) }
-        ensures capacity { IsTrue (is_heap self.placement.place) → IfOk result (λ s. self.placement.capacity ≤ string_capacity s) }
+        ensures capacity { IsTrue (is_heap self.placement.place)
+            → IfOk result (λ s. self.placement.capacity ≤ string_capacity s) }
         ensures succeeds { IsTrue (is_heap self.placement.place) → IsOk result }
-        ensures err { IfErr result (λ e. (e.value ≡ self) × (is_heap self.placement.place ≡ false)) }
+        ensures err { IfErr result
+            (λ e. (e.value ≡ self) × (is_heap self.placement.place ≡ false)) }
     {
         match self.repr.into_heap_string() {
             Ok(text) => Ok(text),
@@ -46,9 +48,11 @@ impl<P: Policy> PolicyString<P> {
     pub fn into_vec(self) -> Result<Vec<u8>, Refused<Self>>
         ensures bytes { IfOk result (λ v. v.items ≡ utf8 self.text) }
         ensures text { IfOk result (λ v. text_of v.items ≡ self.text) }
-        ensures capacity { IsTrue (is_heap self.placement.place) → IfOk result (λ v. self.placement.capacity ≤ vec_capacity v) }
+        ensures capacity { IsTrue (is_heap self.placement.place)
+            → IfOk result (λ v. self.placement.capacity ≤ vec_capacity v) }
         ensures succeeds { IsTrue (is_heap self.placement.place) → IsOk result }
-        ensures err { IfErr result (λ e. (e.value ≡ self) × (is_heap self.placement.place ≡ false)) }
+        ensures err { IfErr result
+            (λ e. (e.value ≡ self) × (is_heap self.placement.place ≡ false)) }
     {
         match self.into_string() {
             Ok(text) => Ok(text.into_bytes()),
@@ -85,7 +89,8 @@ impl<P: Policy> PolicyString<P> {
         ensures bytes { IfOk result (λ b. boxed_str_bytes b ≡ utf8 self.text) }
         ensures text { IfOk result (λ b. text_of (boxed_str_bytes b) ≡ self.text) }
         ensures succeeds { IsTrue (is_heap self.placement.place) → IsOk result }
-        ensures err { IfErr result (λ e. (e.value ≡ self) × (is_heap self.placement.place ≡ false)) }
+        ensures err { IfErr result
+            (λ e. (e.value ≡ self) × (is_heap self.placement.place ≡ false)) }
     {
         match self.into_string() {
             Ok(text) => Ok(text.into_boxed_str()),
@@ -116,10 +121,13 @@ impl<P: Policy> PolicyString<P> {
         ensures bytes { IfOk result (λ c. cow_str_bytes c ≡ utf8 self.text) }
         ensures text { IfOk result (λ c. text_of (cow_str_bytes c) ≡ self.text) }
         ensures borrowed { IsTrue (is_static self.placement.place) → IfOk result IsBorrowedStr }
-        ensures owned { is_static self.placement.place ≡ false → IfOk result (λ c. ¬ IsBorrowedStr c) }
+        ensures owned { is_static self.placement.place ≡ false
+            → IfOk result (λ c. ¬ IsBorrowedStr c) }
         ensures succeeds_static { IsTrue (is_static self.placement.place) → IsOk result }
         ensures succeeds_heap { IsTrue (is_heap self.placement.place) → IsOk result }
-        ensures err { IfErr result (λ e. (e.value ≡ self) × (is_static self.placement.place ≡ false) × (is_heap self.placement.place ≡ false)) }
+        ensures err { IfErr result
+            (λ e. (e.value ≡ self) × (is_static self.placement.place ≡ false)
+            × (is_heap self.placement.place ≡ false)) }
     {
         if let Some(text) = self.repr.as_static_str() {
             return Ok(CowStr::Borrowed(text));

@@ -77,7 +77,9 @@ impl<P: Policy> PolicyString<P> {
     #[cold]
     #[inline(never)]
     pub(crate) fn rare_first(&self, start: usize, end: usize) -> Option<u64>
-        ensures { MatchOption result (part self.now.text start end ≡ []) (λ w. (c : ℕ) × (rest : List ℕ) × (w ≡ c * 2 ^ 32 + len_utf8 c) × InScalarRange c × (part self.now.text start end ≡ c ∷ rest)) }
+        ensures { MatchOption result (part self.now.text start end ≡ [])
+            (λ w. (c : ℕ) × (rest : List ℕ) × (w ≡ c * 2 ^ 32 + len_utf8 c) × InScalarRange c
+            × (part self.now.text start end ≡ c ∷ rest)) }
     {
         match first_char(part(self.as_str(), start, end)) {
             Some(character) => {

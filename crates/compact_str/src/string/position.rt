@@ -38,7 +38,9 @@ impl<P: Policy> PolicyString<P> {
     /// `Excluded(3)` it answers 2 and 3. The pair serves `replace_range` as `Included` and `Excluded` bounds.
     #[tactic(auto, using(compact_repr::proofs::TextFacts::text_facts, crate::proofs::EditFacts::position_facts))]
     pub fn check_range(&self, start: Bound<usize>, end: Bound<usize>) -> Option<(usize, usize)>
-        ensures { MatchOption result (¬ IsRange self.now.text start end) (λ range. IsRange self.now.text start end × (range.0 ≡ range_start start) × (range.1 ≡ range_end self.now.text end)) }
+        ensures { MatchOption result (¬ IsRange self.now.text start end)
+            (λ range. IsRange self.now.text start end × (range.0 ≡ range_start start)
+            × (range.1 ≡ range_end self.now.text end)) }
     {
         let text = self.as_str();
         let (first, last) = ends(start, end, text.len())?;
@@ -56,8 +58,10 @@ impl<P: Policy> PolicyString<P> {
     #[tactic(auto, using(compact_repr::proofs::TextFacts::text_facts, crate::proofs::EditFacts::position_facts))]
     pub fn range(&self, start: Bound<usize>, end: Bound<usize>) -> &str
         requires { IsRange self.now.text start end }
-        ensures bytes { result.now ≡ utf8 (middle self.now.text (range_start start) (range_end self.now.text end)) }
-        ensures text { text_of result.now ≡ middle self.now.text (range_start start) (range_end self.now.text end) }
+        ensures bytes { result.now
+            ≡ utf8 (middle self.now.text (range_start start) (range_end self.now.text end)) }
+        ensures text { text_of result.now
+            ≡ middle self.now.text (range_start start) (range_end self.now.text end) }
         ensures len { length result.now ≡ range_end self.now.text end - range_start start }
     {
         let Some((first, last)) = ends(start, end, self.len()) else {
@@ -76,14 +80,17 @@ impl<P: Policy> PolicyString<P> {
     #[tactic(auto, using(compact_repr::proofs::TextFacts::text_facts, crate::proofs::EditFacts::insertion_facts))]
     pub fn insert_str(&mut self, index: usize, text: &str) -> Result<(), ReserveError>
         requires { IsBoundary self.old.text index }
-        ensures ok { OnOk result (inserted P.growth self.old index (text_of text.now) ≡ Some self.new) }
-        ensures text { OnOk result (self.new.text ≡ replaced_text self.old.text index index (text_of text.now)) }
+        ensures ok { OnOk result
+            (inserted P.growth self.old index (text_of text.now) ≡ Some self.new) }
+        ensures text { OnOk result
+            (self.new.text ≡ replaced_text self.old.text index index (text_of text.now)) }
         ensures place { OnOk result (IsBoundary self.new.text index) }
         ensures behind { OnOk result (IsBoundary self.new.text (index + length text.now)) }
         ensures behind_fits { OnOk result (index + length text.now < 2 ^ 64) }
         ensures room { OnOk result (sure_capacity self.old ≤ sure_capacity self.new) }
         ensures succeeds { HasRoomFor self.old (length text.now) → IsOk result }
-        ensures err { OnErr result ((self.new ≡ self.old) × IsTrue (room_asks self.old (size (text_of text.now)))) }
+        ensures err { OnErr result
+            ((self.new ≡ self.old) × IsTrue (room_asks self.old (size (text_of text.now)))) }
     {
         // The proof reads from it that the text is short of 2^63 bytes.
         let _len = self.repr.len();
@@ -100,14 +107,17 @@ impl<P: Policy> PolicyString<P> {
     #[inline]
     pub fn insert(&mut self, index: usize, character: char) -> Result<(), ReserveError>
         requires { IsBoundary self.old.text index }
-        ensures ok { OnOk result (inserted P.growth self.old index (character ∷ []) ≡ Some self.new) }
-        ensures text { OnOk result (self.new.text ≡ replaced_text self.old.text index index (character ∷ [])) }
+        ensures ok { OnOk result
+            (inserted P.growth self.old index (character ∷ []) ≡ Some self.new) }
+        ensures text { OnOk result
+            (self.new.text ≡ replaced_text self.old.text index index (character ∷ [])) }
         ensures place { OnOk result (IsBoundary self.new.text index) }
         ensures behind { OnOk result (IsBoundary self.new.text (index + len_utf8 character)) }
         ensures behind_fits { OnOk result (index + len_utf8 character < 2 ^ 64) }
         ensures room { OnOk result (sure_capacity self.old ≤ sure_capacity self.new) }
         ensures succeeds { HasRoomFor self.old (len_utf8 character) → IsOk result }
-        ensures err { OnErr result ((self.new ≡ self.old) × IsTrue (room_asks self.old (len_utf8 character))) }
+        ensures err { OnErr result
+            ((self.new ≡ self.old) × IsTrue (room_asks self.old (len_utf8 character))) }
     {
         // The proof reads from it that the text is short of 2^63 bytes.
         let _len = self.repr.len();
@@ -130,8 +140,10 @@ impl<P: Policy> PolicyString<P> {
         requires boundary { IsBoundary self.old.text index }
         requires within { index < size self.old.text }
         ensures ok { IfOk result (λ c. Removes P.growth self.old index c self.new) }
-        ensures text { IfOk result (λ c. self.new.text ≡ replaced_text self.old.text index (index + len_utf8 c) []) }
-        ensures character { IfOk result (λ c. after self.old.text index ≡ c ∷ after self.new.text index) }
+        ensures text { IfOk result
+            (λ c. self.new.text ≡ replaced_text self.old.text index (index + len_utf8 c) []) }
+        ensures character { IfOk result
+            (λ c. after self.old.text index ≡ c ∷ after self.new.text index) }
         ensures succeeds { IsOwned self.old → IsOk result }
         ensures succeeds_short { size self.old.text ≤ 24 → IsOk result }
         ensures err { OnErr result ((self.new ≡ self.old) × IsTrue (own_asks self.old)) }
@@ -152,8 +164,10 @@ impl<P: Policy> PolicyString<P> {
         requires boundary { IsBoundary self.old.text index }
         requires within { index < size self.old.text }
         ensures ok { IfOk result (λ c. Removes P.growth self.old index c self.new) }
-        ensures text { IfOk result (λ c. self.new.text ≡ replaced_text self.old.text index (index + len_utf8 c) []) }
-        ensures character { IfOk result (λ c. after self.old.text index ≡ c ∷ after self.new.text index) }
+        ensures text { IfOk result
+            (λ c. self.new.text ≡ replaced_text self.old.text index (index + len_utf8 c) []) }
+        ensures character { IfOk result
+            (λ c. after self.old.text index ≡ c ∷ after self.new.text index) }
         ensures succeeds { IsOwned self.old → IsOk result }
         ensures succeeds_short { size self.old.text ≤ 24 → IsOk result }
         ensures err { OnErr result ((self.new ≡ self.old) × IsTrue (own_asks self.old)) }
@@ -180,11 +194,20 @@ impl<P: Policy> PolicyString<P> {
         text: &str,
     ) -> Result<(), ReserveError>
         requires { IsRange self.old.text start end }
-        ensures ok { OnOk result (replaced P.growth self.old (range_start start) (range_end self.old.text end) (text_of text.now) ≡ Some self.new) }
-        ensures text { OnOk result (self.new.text ≡ replaced_text self.old.text (range_start start) (range_end self.old.text end) (text_of text.now)) }
-        ensures succeeds { HasRoomFor self.old (length text.now - (range_end self.old.text end - range_start start)) → IsOk result }
-        ensures succeeds_owned { IsOwned self.old → range_start start + length text.now ≤ range_end self.old.text end → IsOk result }
-        ensures err { OnErr result ((self.new ≡ self.old) × IsTrue (replace_asks self.old (range_start start) (range_end self.old.text end) (text_of text.now))) }
+        ensures ok { OnOk result
+            (replaced P.growth self.old (range_start start) (range_end self.old.text end)
+            (text_of text.now) ≡ Some self.new) }
+        ensures text { OnOk result
+            (self.new.text ≡ replaced_text self.old.text (range_start start)
+            (range_end self.old.text end) (text_of text.now)) }
+        ensures succeeds { HasRoomFor self.old
+            (length text.now - (range_end self.old.text end - range_start start)) → IsOk result }
+        ensures succeeds_owned { IsOwned self.old
+            → range_start start + length text.now ≤ range_end self.old.text end → IsOk result }
+        ensures err { OnErr result
+            ((self.new ≡ self.old)
+            × IsTrue (replace_asks self.old (range_start start) (range_end self.old.text end)
+            (text_of text.now))) }
     {
         let Some((first, last)) = ends(start, end, self.len()) else {
             unreachable!();
@@ -205,9 +228,12 @@ impl<P: Policy> PolicyString<P> {
     pub fn split_off(&mut self, index: usize) -> Result<Self, ReserveError>
         requires { IsBoundary self.old.text index }
         ensures ok { IfOk result (λ tail. SplitsOff P.growth self.old index tail self.new) }
-        ensures text { IfOk result (λ tail. (self.new.text ≡ before self.old.text index) × (tail.text ≡ after self.old.text index)) }
+        ensures text { IfOk result
+            (λ tail. (self.new.text ≡ before self.old.text index)
+            × (tail.text ≡ after self.old.text index)) }
         ensures cut { IfOk result (λ tail. IsCut self.old.text index self.new.text tail.text) }
-        ensures boundaries { IsOk result → (i : ℕ) → i ≤ index → IsBoundary self.old.text i → IsBoundary self.new.text i }
+        ensures boundaries { IsOk result → (i : ℕ) → i ≤ index → IsBoundary self.old.text i
+            → IsBoundary self.new.text i }
         ensures succeeds { size self.old.text ≤ index + 24 → IsOk result }
         ensures succeeds_static { IsTrue (is_static self.old.placement.place) → IsOk result }
         ensures err { OnErr result ((self.new ≡ self.old) × IsTrue (split_asks self.old index)) }
@@ -225,7 +251,8 @@ impl<P: Policy> PolicyString<P> {
 /// Where a range of a text of `len` bytes begins and ends, in bytes; `None` only where an end of it is past the text.
 #[inline]
 pub fn ends(start: Bound<usize>, end: Bound<usize>, len: usize) -> Option<(usize, usize)>
-    ensures { MatchOption result (¬ ((start_index start ≤ len) × (end_index end len ≤ len))) (λ range. (range.0 ≡ start_index start) × (range.1 ≡ end_index end len)) }
+    ensures { MatchOption result (¬ ((start_index start ≤ len) × (end_index end len ≤ len)))
+        (λ range. (range.0 ≡ start_index start) × (range.1 ≡ end_index end len)) }
 {
     let first = match start {
         Bound::Included(index) => index,

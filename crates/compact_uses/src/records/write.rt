@@ -17,7 +17,8 @@ pub fn line_of(
     fields: &[CompactString],
 ) -> Result<CompactString, ReserveError>
     ensures text { IfOk result (λ line. line.text ≡ line_of separator (map text_in fields.now)) }
-    ensures reads_back { separator ≢ quote → fields.now ≢ [] → IfOk result (λ line. fields_of separator line.text ≡ Ok (map text_in fields.now)) }
+    ensures reads_back { separator ≢ quote → fields.now ≢ []
+        → IfOk result (λ line. fields_of separator line.text ≡ Ok (map text_in fields.now)) }
     ensures succeeds { size (line_of separator (map text_in fields.now)) ≤ 24 → IsOk result }
 {
     let mut line = CompactString::default(alloc);
