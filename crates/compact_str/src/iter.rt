@@ -5,7 +5,6 @@ mod as_text;
 mod collect;
 mod extend;
 pub(crate) mod gather;
-mod into_string;
 mod join;
 mod piece;
 
