@@ -5,6 +5,7 @@ mod as_text;
 mod collect;
 mod extend;
 pub(crate) mod gather;
+mod into_string;
 mod join;
 mod piece;
 

@@ -129,6 +129,21 @@ fn values_are_put_behind_a_string(rt: HostRuntime) {
 }
 
 #[test]
+fn a_string_is_extended_by_values_and_collected_of_them(rt: HostRuntime) {
+    let alloc = rt.alloc();
+    let mut line = String::from_str(alloc, "a").expect(&rt, "memory");
+    let values = [CompactString::const_new(alloc, "é"), lasting(alloc, 30)];
+    line.extend(values).expect(&rt, "memory");
+    assert_eq!(rt; line.as_str(), "aéaaaaaaaaaaaaaaaaaaaaaaaaaaaaaa");
+    let values = [
+        CompactString::const_new(alloc, "b"),
+        CompactString::const_new(alloc, ""),
+    ];
+    let whole: String = values.into_iter().collect(alloc).expect(&rt, "memory");
+    assert_eq!(rt; whole.as_str(), "b");
+}
+
+#[test]
 fn an_empty_item_leaves_a_text_of_the_program(rt: HostRuntime) {
     let mut value = lasting(rt.alloc(), 30);
     value.extend_texts([""]).expect(&rt, "memory");

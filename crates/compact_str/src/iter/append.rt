@@ -27,7 +27,7 @@ pub fn append_all<T: AsText, U: IntoIterator<Item = T>>(
 }
 
 /// The same, with the items as a list.
-fn append_texts<T: AsText, U: IntoIterator<Item = T>>(
+pub(crate) fn append_texts<T: AsText, U: IntoIterator<Item = T>>(
     line: &mut String,
     items: U,
 ) -> Result<(), ReserveError>
