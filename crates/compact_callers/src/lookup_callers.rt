@@ -17,7 +17,8 @@ use std::collections::{BTreeMap, BTreeSet, HashMap, HashSet};
 
 /// How often a word was counted.
 pub fn count_by_text(counts: &HashMap<CompactString, u32>, word: &str) -> u32
-    ensures { result ≡ unwrap_or (hashed.get_by (λ k. bytes_eq word.now (utf8 k.text)) counts.now) 0 }
+    ensures { result
+        ≡ unwrap_or (hashed.get_by (λ k. bytes_eq word.now (utf8 k.text)) counts.now) 0 }
 {
     counts.get(word).copied().unwrap_or(0)
 }
@@ -34,7 +35,8 @@ pub fn forget(counts: &mut HashMap<CompactString, u32>, word: &str) {
 
 /// The rank of a word.
 pub fn rank_by_text(ranks: &BTreeMap<CompactString, u32>, word: &str) -> u32
-    ensures { result ≡ unwrap_or (sorted.get_by (λ k. slice_cmp nat_cmp word.now (utf8 k.text)) ranks.now) 0 }
+    ensures { result
+        ≡ unwrap_or (sorted.get_by (λ k. slice_cmp nat_cmp word.now (utf8 k.text)) ranks.now) 0 }
 {
     ranks.get(word).copied().unwrap_or(0)
 }
@@ -55,7 +57,8 @@ pub fn place_by_text(row: &IndexMap<CompactString, u32>, word: &str) -> Option<u
 
 /// What stands in a row for a word.
 pub fn held_by_text(row: &IndexMap<CompactString, u32>, word: &str) -> u32
-    ensures { result ≡ unwrap_or (ordered.get_by (λ k. bytes_eq word.now (utf8 k.text)) row.now) 0 }
+    ensures { result
+        ≡ unwrap_or (ordered.get_by (λ k. bytes_eq word.now (utf8 k.text)) row.now) 0 }
 {
     row.get(word).copied().unwrap_or(0)
 }

@@ -21,7 +21,8 @@ impl<P: Policy> Extend<PolicyString<P>> for String {
         &mut self,
         values: U,
     ) -> Result<(), AllocError>
-        requires { IsFiniteIterable U.into_iter_gives U.IntoIter.can_next U.IntoIter.remaining values }
+        requires { IsFiniteIterable U.into_iter_gives U.IntoIter.can_next
+            U.IntoIter.remaining values }
         ensures ok { OnOk result ((it : U.IntoIter) × (xs : List PlacedText)
             × U.into_iter_gives values it × Drains U.IntoIter.next_gives it xs
             × (text_of (string_bytes self.new)
@@ -47,7 +48,8 @@ impl<P: Policy> FromIterator<PolicyString<P>> for String {
         alloc: Global,
         values: U,
     ) -> Result<Self, AllocError>
-        requires { IsFiniteIterable U.into_iter_gives U.IntoIter.can_next U.IntoIter.remaining values }
+        requires { IsFiniteIterable U.into_iter_gives U.IntoIter.can_next
+            U.IntoIter.remaining values }
         ensures text { IfOk result (λ s. (it : U.IntoIter) × (xs : List PlacedText)
             × U.into_iter_gives values it × Drains U.IntoIter.next_gives it xs
             × (text_of (string_bytes s) ≡ flat_map text_in xs)) }
