@@ -39,6 +39,8 @@ mod packed_edits;
 #[cfg(test)]
 mod positions;
 #[cfg(test)]
+mod read_fields;
+#[cfg(test)]
 mod refused;
 #[cfg(test)]
 mod shortened;

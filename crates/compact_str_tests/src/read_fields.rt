@@ -1,0 +1,100 @@
+//! How much memory serde takes to read a record of short texts: no more than the reader takes for itself, since a record that
+//! borrows its texts of the input is read with as much.
+
+use compact_str::CompactString;
+use compact_testing::memory::take_blocks;
+use serde::Deserialize;
+use std::alloc::{AllocError, Global};
+use std::process::Abort;
+
+/// What is read: four texts, of which each would be a buffer of a `String`.
+const RECORD: &str = r#"{"a":"1","b":"zoë","c":"3","d":"of 24 bytes and no more."}"#;
+
+/// A record that borrows its texts.
+#[derive(Drop, Deserialize)]
+struct Borrowed<'a> {
+    a: &'a str,
+    b: &'a str,
+    c: &'a str,
+    d: &'a str,
+}
+
+/// A record of values.
+#[derive(Drop, Deserialize)]
+struct Values {
+    a: CompactString,
+    b: CompactString,
+    c: CompactString,
+    d: CompactString,
+}
+
+/// A record of strings.
+#[derive(Drop, Deserialize)]
+struct Strings {
+    a: String,
+    b: String,
+    c: String,
+    d: String,
+}
+
+/// So many blocks of each size that a small request takes. The list of them stays, so that it leaves no room.
+fn blocks_of_each_size(alloc: Global, count: usize) -> Result<Vec<Vec<u8>>, AllocError> {
+    let mut blocks = Vec::with_capacity(alloc, 1000)?;
+    for step in 1..60usize {
+        for _ in 0..count {
+            blocks.push(Vec::with_capacity(alloc, step.saturating_mul(16).saturating_add(8))?)?;
+        }
+    }
+    Ok(blocks)
+}
+
+/// Whether the record that borrows is read.
+fn reads_borrowed(alloc: Global) -> bool {
+    let read: Result<Borrowed<'_>, serde_json::Error> = serde_json::from_str(alloc, RECORD);
+    match read {
+        Ok(it) => [it.a, it.b, it.c, it.d] == ["1", "zoë", "3", "of 24 bytes and no more."],
+        Err(_) => false,
+    }
+}
+
+/// Whether the record of values is.
+fn reads_values(alloc: Global) -> bool {
+    let read: Result<Values, serde_json::Error> = serde_json::from_str(alloc, RECORD);
+    match read {
+        Ok(it) => it.a.len() == 1 && it.b.len() == 4 && it.c.len() == 1 && it.d.len() == 24,
+        Err(_) => false,
+    }
+}
+
+/// Whether the record of strings is.
+fn reads_strings(alloc: Global) -> bool {
+    let read: Result<Strings, serde_json::Error> = serde_json::from_str(alloc, RECORD);
+    match read {
+        Ok(it) => it.a.len() == 1 && it.b.len() == 4 && it.c.len() == 1 && it.d.len() == 24,
+        Err(_) => false,
+    }
+}
+
+/// Which of the three are read where so many blocks of each size are all memory that is left.
+fn are_read(rt: &impl Abort, alloc: Global, count: usize) -> [bool; 3] {
+    let mut blocks = blocks_of_each_size(alloc, count).expect(rt, "memory");
+    let hog = take_blocks(alloc).expect(rt, "room for the list of blocks");
+    blocks.clear();
+    let read = [
+        reads_borrowed(alloc),
+        reads_values(alloc),
+        reads_strings(alloc),
+    ];
+    drop(hog);
+    read
+}
+
+#[test]
+fn with_no_memory_no_record_is_read(rt: HostRuntime) {
+    assert_eq!(rt; are_read(&rt, rt.alloc(), 0), [false, false, false]);
+}
+
+#[test]
+fn with_a_block_of_each_size_all_but_strings_are_read(rt: HostRuntime) {
+    assert_eq!(rt; are_read(&rt, rt.alloc(), 1), [true, true, false]);
+}
