@@ -9,7 +9,7 @@ use Rattle.compact_str.specs.Capacity.{taken_over}
 use Rattle.compact_str.specs.Text.{IsText, size}
 use Rattle.compact_str.specs.Value.{PlacedText}
 use Rattle.compact_ext.specs.declared.wire.WireError.{WireError}
-use Rattle.compact_ext.specs.declared.wire.WireError.TheVariants.{TooLong, UnexpectedEnd, Utf8, Io, WriteZero, Reserve}
+use Rattle.compact_ext.specs.declared.wire.WireError.TheVariants.{TooLong, UnexpectedEnd, Io, WriteZero, Reserve}
 use Rattle.compact_ext.specs.declared.wire.records.Records.{Records}
 use Rattle.compact_ext.specs.Wire.{wire, claimed_len, ReadFails, IsOutsideForm}
 

@@ -1,4 +1,4 @@
-use Rattle.std.proofs.Common.{◌≡◌, ◌+◌, ℕ, List, take, slice_set, arith}
+use Rattle.std.proofs.Common.{◌+◌, take, slice_set, arith}
 use Rattle.compact_str.specs.Text.{text_of}
 use Rattle.compact_str.specs.Value.{placed}
 use Rattle.compact_repr.specs.Packed.{IsPackedFor}

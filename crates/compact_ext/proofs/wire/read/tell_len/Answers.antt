@@ -1,8 +1,8 @@
-use Rattle.std.proofs.Common.{◌≡◌, ◌+◌, ◌≤◌, ℕ, slice_index, slice_set, arith, ◌∙◌}
+use Rattle.std.proofs.Common.{◌≡◌, ◌+◌, ◌≤◌, slice_index, slice_set, arith, ◌∙◌}
 use Rattle.std.proofs.lemmas.Bool.Decides.{nat_tests}
 use Rattle.std.proofs.lemmas.List.{get_or-set_same, take-set-le}
 use Rattle.compact_ext.proofs.PackedRooms.{no_text-high}
-use Rattle.compact_repr.proofs.PackedTexts.{len-full, len-high}
+use Rattle.compact_repr.proofs.PackedTexts.{len-high}
 use Rattle.compact_ext.proofs.wire.read.tell_len.Goals as goal
 
 pub returns-then-len-lt-INLINE_CAPACITY-clause-told : goal.returns-then-len-lt-INLINE_CAPACITY-clause-told
