@@ -5,11 +5,11 @@ use crate::pushes::{joined, joined_in_doubled_room};
 use crate::taken::{every_second, every_second_told, folded, note_spaces, without_spaces};
 use crate::token_callers::{learn, numbers_of};
 use crate::wire_callers::{
-    first_record, next_record, pair_sent_and_received, read_records, read_texts, receive_field,
-    send_field, sent_and_received,
+    first_record, next_record, next_text, pair_sent_and_received, read_records, read_texts,
+    receive_field, send_field, sent_and_received,
 };
 use compact_edit::Interner;
-use compact_ext::wire::WireError;
+use compact_ext::wire::{Records, WireError};
 use compact_str::CompactString;
 use compact_testing::seen::Seen;
 use compact_testing::values::letters;
@@ -105,6 +105,16 @@ fn records_are_read_to_their_end(rt: HostRuntime) {
 const MIXED: [u8; 26] = [
     1, 0, 0, 0, 0x61, 2, 0, 0, 0, 0xC3, 0x28, 0, 0, 0, 0, 1, 0, 0, 0, 0xFF, 2, 0, 0, 0, 0x48, 0x69,
 ];
+
+#[test]
+fn one_record_that_is_no_text_is_passed_over(rt: HostRuntime) {
+    let mut records = Records::new(rt.alloc(), MIXED.as_slice());
+    for text in ["a", "", "Hi"] {
+        let found = next_text(&mut records).expect(&rt, "no end");
+        assert_eq!(rt; Seen::of(&found.expect(&rt, "a text")), Seen::inline(text));
+    }
+    assert!(rt; next_text(&mut records).is_none());
+}
 
 #[test]
 fn what_is_no_text_is_passed_over(rt: HostRuntime) {

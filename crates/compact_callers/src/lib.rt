@@ -47,6 +47,6 @@ pub use taken::{
 };
 pub use token_callers::{learn, numbers_of};
 pub use wire_callers::{
-    first_record, next_record, pair_sent_and_received, read_records, read_texts, receive_field,
-    send_field, sent_and_received,
+    first_record, next_record, next_text, pair_sent_and_received, read_records, read_texts,
+    receive_field, send_field, sent_and_received,
 };

@@ -1,12 +1,13 @@
 //! Callers that write texts over a wire and read them, as users write them.
-ghost use Rattle.std.specs.Prelude.{◌≡◌, ◌++◌, ◌∷◌, [], ℕ, List, map, Some, IfOk, IfSome, OnOk, MatchOption, MatchResult, IsTrue};
+ghost use Rattle.std.specs.Prelude.{◌≡◌, ◌⊎◌, ◌++◌, ◌∷◌, [], ℕ, List, Option, map, Some, IfOk, IfSome, OnOk, MatchOption, MatchResult, IsTrue};
 ghost use Rattle.std.specs.List.{All, flat_map};
 ghost use Rattle.std.specs.Io.{StartsWith};
 ghost use Rattle.std.specs.Io.KnownBytes.{Appends, Consumes, IsAtEnd, Keeps};
 ghost use Rattle.compact_str.specs.Capacity.{taken_over};
 ghost use Rattle.compact_str.specs.Text.{size};
 ghost use Rattle.compact_ext.specs.Wire.{wire, IsOutsideForm};
-ghost use Rattle.compact_ext.specs.Records.{HasForm, HasTexts};
+ghost use Rattle.compact_ext.specs.Records.{records_left, left_behind, GivesNext, GivesRecord, FailsWithin, HasForm, HasTexts};
+ghost use Rattle.compact_ext.specs.declared.wire.WireError.TheVariants.{Utf8};
 
 use compact_ext::wire::{Records, WireError, read_wire, write_wire};
 use compact_str::{CompactString, ReserveError};
@@ -129,6 +130,22 @@ pub fn first_record<R: BufRead + Drop>(
         (IsOutsideForm (size text)) }
 {
     Records::new(alloc, reader).next().transpose()
+}
+
+/// The next text of some records. One record before it that is no text is passed over.
+#[tactic(auto, using(compact_ext::proofs::WireFacts::wire_facts))]
+pub fn next_text<R: BufRead + Drop>(
+    records: &mut Records<R>,
+) -> Option<Result<CompactString, WireError>>
+    ensures { GivesRecord R.remaining records.old result records.new
+        ⊎ ((behind : Option (List ℕ))
+        × FailsWithin (records_left R.remaining records.old) behind Utf8
+        × GivesNext behind result (left_behind R.remaining result records.new)) }
+{
+    match records.next() {
+        Some(Err(WireError::Utf8)) => records.next(),
+        item => item,
+    }
 }
 
 /// The texts of a reader until its end. A record that is no text is passed over.
