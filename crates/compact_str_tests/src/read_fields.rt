@@ -2,7 +2,7 @@
 //! borrows its texts of the input is read with as much.
 
 use compact_str::CompactString;
-use compact_testing::memory::take_blocks;
+use compact_testing::memory::take_all;
 use serde::Deserialize;
 use std::alloc::{AllocError, Global};
 use std::process::Abort;
@@ -78,7 +78,7 @@ fn reads_strings(alloc: Global) -> bool {
 /// Which of the three are read where so many blocks of each size are all memory that is left.
 fn are_read(rt: &impl Abort, alloc: Global, count: usize) -> [bool; 3] {
     let mut blocks = blocks_of_each_size(alloc, count).expect(rt, "memory");
-    let hog = take_blocks(alloc).expect(rt, "room for the list of blocks");
+    let hog = take_all(alloc).expect(rt, "room for the list of blocks");
     blocks.clear();
     let read = [
         reads_borrowed(alloc),
