@@ -2,7 +2,7 @@
 //! callers.
 #![tactic(auto, using(compact_str::proofs::ForCallers::for_callers))]
 
-ghost use Rattle.std.specs.Prelude.{◌≡◌, ℕ, ◌+◌, ◌<◌, ◌≤◌, ◌++◌, List, [], map, flat_map, fold, filter, ◌==◌, not, IfOk, OnOk, OnErr, codes, string_bytes};
+ghost use Rattle.std.specs.Prelude.{◌≡◌, ℕ, ◌+◌, ◌≤◌, ◌++◌, List, [], map, flat_map, fold, filter, ◌==◌, not, IfOk, OnOk, OnErr, codes, string_bytes};
 ghost use Rattle.std.specs.Char.{to_ascii_uppercase};
 ghost use Rattle.std.specs.String.{string_capacity};
 ghost use Rattle.compact_str.specs.Text.{text_of, size};
@@ -153,13 +153,4 @@ pub fn rewrite_line(line: &mut String, values: Vec<CompactString>) -> Result<(),
             Err(error)
         }
     }
-}
-
-/// Puts values behind a `String`. A refusal says that some text did not fit the room that the line had by then.
-pub fn fill_line(line: &mut String, values: Vec<CompactString>) -> Result<(), ReserveError>
-    ensures { OnErr result
-        ((text : List ℕ) × (string_capacity line.new
-        < size (text_of (string_bytes line.new)) + size text)) }
-{
-    append_all(line, values)
 }
