@@ -12,7 +12,7 @@ use compact_edit::Interner;
 use compact_ext::wire::{Records, WireError};
 use compact_str::CompactString;
 use compact_testing::seen::Seen;
-use compact_testing::values::letters;
+use compact_testing::values::{letters, place_of};
 
 #[test]
 fn keywords_and_labels_are_short(rt: HostRuntime) {
@@ -97,7 +97,8 @@ fn records_are_read_to_their_end(rt: HostRuntime) {
     let records = read_records(rt.alloc(), RECORDS.as_slice()).expect(&rt, "records");
     assert_eq!(rt; records.len(), 3);
     for (record, text) in records.iter().zip(["a", "", "Hi"]) {
-        assert_eq!(rt; Seen::of(record), Seen::inline(text));
+        assert_eq!(rt; record.as_str(), text);
+        assert_eq!(rt; place_of(record), "inline");
     }
 }
 
@@ -121,7 +122,8 @@ fn what_is_no_text_is_passed_over(rt: HostRuntime) {
     let texts = read_texts(rt.alloc(), MIXED.as_slice()).expect(&rt, "texts");
     assert_eq!(rt; texts.len(), 3);
     for (found, text) in texts.iter().zip(["a", "", "Hi"]) {
-        assert_eq!(rt; Seen::of(found), Seen::inline(text));
+        assert_eq!(rt; found.as_str(), text);
+        assert_eq!(rt; place_of(found), "inline");
     }
 }
 

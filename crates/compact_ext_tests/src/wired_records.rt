@@ -7,7 +7,7 @@ use compact_str::CompactString;
 use compact_testing::memory::take_all;
 use compact_testing::pieces::{Pieces, Stop};
 use compact_testing::seen::Seen;
-use compact_testing::values::letters;
+use compact_testing::values::{letters, place_of};
 use std::alloc::Global;
 use std::io::{BufRead, BufReader, ErrorKind};
 use std::process::Abort;
@@ -69,7 +69,8 @@ fn records_come_in_pieces(rt: HostRuntime) {
         let records = read_records(alloc, reader).expect(&rt, "records");
         assert_eq!(rt; records.len(), 3);
         for (record, text) in records.iter().zip(["a", "", "Hi"]) {
-            assert_eq!(rt; Seen::of(record), Seen::inline(text));
+            assert_eq!(rt; record.as_str(), text);
+            assert_eq!(rt; place_of(record), "inline");
         }
     }
 }
