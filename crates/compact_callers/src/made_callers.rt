@@ -7,8 +7,6 @@ ghost use Rattle.std.specs.Box.{boxed_str_bytes};
 ghost use Rattle.compact_str.specs.Text.{text_of, utf8};
 
 use compact_str::CompactString;
-use compact_testing::seen::Seen;
-use compact_testing::values::letters;
 use smallvec::SmallVec;
 use std::alloc::{AllocError, AllocFailed, Global};
 use std::boxed::BoxedStr;
@@ -83,58 +81,4 @@ pub fn lent_bytes(value: &CompactString) -> usize
     ensures { result ≡ length (utf8 value.now.text) }
 {
     count_in(value)
-}
-
-#[cfg(test)]
-mod tests {
-    use super::*;
-    use compact_testing::values::letters;
-
-    #[test]
-    fn a_line_is_taken(rt: HostRuntime) {
-        let mut line = CompactString::new(rt.alloc(), letters(30)).expect(&rt, "memory");
-        let taken = take_line(&mut line).expect(&rt, "no memory is needed");
-        assert_eq!(rt; Seen::of(&taken), Seen::heap(32, letters(30)));
-        assert_eq!(rt; Seen::of(&line), Seen::inline(""));
-    }
-
-    #[test]
-    fn a_row_has_its_names(rt: HostRuntime) {
-        let first = CompactString::new(rt.alloc(), "a").expect(&rt, "memory");
-        let Ok(row) = row_of(
-            rt.alloc(),
-            first,
-            CompactString::new(rt.alloc(), "é").expect(&rt, "memory"),
-        ) else {
-            panic!(rt; "two of four names need no memory");
-        };
-        assert_eq!(rt; Seen::of(&row[0]), Seen::inline("a"));
-        assert_eq!(rt; Seen::of(&row[1]), Seen::inline("é"));
-    }
-
-    #[test]
-    fn a_note_begins_empty(rt: HostRuntime) {
-        let mut notes = HashMap::new(rt.alloc());
-        assert!(rt; append_note(&mut notes, 7, "a").is_ok());
-        assert!(rt; append_note(&mut notes, 7, "é").is_ok());
-        assert_eq!(rt;
-            Seen::of(notes.get(&7).expect(&rt, "a note")),
-            Seen::inline("aé")
-        );
-    }
-
-    #[test]
-    fn buffers_are_taken_over(rt: HostRuntime) {
-        let bytes = Vec::from_slice(rt.alloc(), "é".as_bytes()).expect(&rt, "memory");
-        assert_eq!(rt;
-            Seen::of(&text_in(bytes).expect(&rt, "a text")),
-            Seen::inline("é")
-        );
-        let bytes = Vec::from_slice(rt.alloc(), &[0xc3]).expect(&rt, "memory");
-        assert!(rt; text_in(bytes).is_err());
-        let boxed = BoxedStr::from_str(rt.alloc(), letters(30)).expect(&rt, "memory");
-        let value = unboxed(boxed);
-        assert_eq!(rt; value.as_str(), letters(30));
-        assert_eq!(rt; lent_bytes(&value), 30);
-    }
 }

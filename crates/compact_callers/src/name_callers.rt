@@ -29,12 +29,3 @@ pub fn known(names: &mut Interner, number: u32, text: &str) -> u32
         Err(_) => unreachable!(),
     }
 }
-
-#[test]
-fn a_pair_has_two_numbers(rt: HostRuntime) {
-    let mut names = Interner::new(rt.alloc());
-    let numbers = pair(&mut names, "a", "b").expect(&rt, "memory");
-    assert_eq!(rt; numbers.0, 0);
-    assert_eq!(rt; numbers.1, 1);
-    assert_eq!(rt; known(&mut names, numbers.1, "b"), 1);
-}

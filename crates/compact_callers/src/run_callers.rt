@@ -7,10 +7,6 @@ ghost use Rattle.compact_str.specs.Change.{cleared, pushed};
 
 use compact_edit::{Edit, Reply, run};
 use compact_str::{CompactString, Policy, PolicyString, ReserveError};
-#[cfg(test)]
-use compact_testing::seen::Seen;
-#[cfg(test)]
-use compact_testing::values::letters;
 use std::alloc::Global;
 
 /// Puts a text in brackets by two edits, and answers whether both are done.
@@ -81,32 +77,4 @@ pub fn refill(
         Some(Reply::Done) => Ok(true),
         _ => Ok(false),
     }
-}
-
-#[test]
-fn a_text_is_put_in_brackets(rt: HostRuntime) {
-    let mut value = CompactString::new(rt.alloc(), "ab").expect(&rt, "memory");
-    assert!(rt; bracket(rt.alloc(), &mut value).expect(&rt, "memory"));
-    assert_eq!(rt; Seen::of(&value), Seen::inline("[ab]"));
-}
-
-#[test]
-fn replies_come_after_those_of_an_earlier_run(rt: HostRuntime) {
-    let mut value = CompactString::new(rt.alloc(), "ab").expect(&rt, "memory");
-    let mut replies = Vec::new(rt.alloc());
-    rewrite(&mut value, "c", &mut replies).expect(&rt, "memory");
-    rewrite(&mut value, letters(24), &mut replies).expect(&rt, "memory");
-    assert_eq!(rt; replies.len(), 4);
-    assert_eq!(rt; Seen::of(&value), Seen::inline(letters(24)));
-}
-
-#[test]
-fn a_buffer_of_ones_own_policy_is_refilled(rt: HostRuntime) {
-    let made = PolicyString::<Doubling>::new(rt.alloc(), letters(25));
-    let mut value = made.expect(&rt, "memory");
-    assert_eq!(rt; Seen::of(&value), Seen::heap(64, letters(25)));
-    assert!(rt; refill(rt.alloc(), &mut value, letters(70)).expect(&rt, "memory"));
-    assert_eq!(rt; Seen::of(&value), Seen::heap(70, letters(70)));
-    value.push('a').expect(&rt, "memory");
-    assert_eq!(rt; Seen::of(&value), Seen::heap(140, letters(71)));
 }

@@ -1,8 +1,9 @@
 //! Values that tests start from, and what a test sees of a value.
 //!
-//! No function here has a clause, so that the proof of a test carries nothing of the values that it looks at.
+//! No function here has a clause, so that the proof of a test carries nothing of the values that it looks at. A test that takes
+//! for granted how its value came about makes it here.
 
-use compact_str::{CompactString, Policy, PolicyString};
+use compact_str::{CompactString, Policy, PolicyString, ReserveError};
 use std::alloc::{AllocError, Global};
 
 /// So many letters `a`, at most 80. It is a function so that a proof need not carry each letter.
@@ -15,6 +16,21 @@ pub fn letters(count: usize) -> &'static str {
 /// So many letters of the program.
 pub fn lasting(alloc: Global, count: usize) -> CompactString {
     CompactString::const_new(alloc, letters(count))
+}
+
+/// A value with this text.
+pub fn value_of(alloc: Global, text: &str) -> Result<CompactString, ReserveError> {
+    CompactString::new(alloc, text)
+}
+
+/// An empty value with that much room.
+pub fn with_room(alloc: Global, capacity: usize) -> Result<CompactString, ReserveError> {
+    CompactString::with_capacity(alloc, capacity)
+}
+
+/// Appends a text.
+pub fn append(value: &mut CompactString, text: &str) -> Result<(), ReserveError> {
+    value.push_str(text)
 }
 
 /// A text in a buffer of just that capacity.

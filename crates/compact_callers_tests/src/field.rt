@@ -1,0 +1,34 @@
+//! Tests of the callers in `field_callers.rt`.
+
+use compact_callers::field_callers::{read_name, read_person, write_person};
+use compact_str::CompactString;
+use compact_testing::seen::Seen;
+
+/// A person that has each kind of field.
+const WRITTEN: &str =
+    r#"{"firstName":"zoë","tags":["a","a tag of more than 24 bytes, on the heap"],"note":null}"#;
+
+#[test]
+fn a_person_is_read(rt: HostRuntime) {
+    let text = r#"{"firstName":"zo\u00eb","tags":["a","b"],"note":"n"}"#;
+    let person = read_person(rt.alloc(), text).expect(&rt, "a person");
+    assert_eq!(rt; Seen::of(&person.first_name), Seen::inline("zoë"));
+    assert_eq!(rt; person.tags.len(), 2);
+    assert_eq!(rt; person.note.as_deref(), Some("n"));
+}
+
+#[test]
+fn a_person_that_is_written_is_read_back(rt: HostRuntime) {
+    let person = read_person(rt.alloc(), WRITTEN).expect(&rt, "a person");
+    let written = write_person(rt.alloc(), &person).expect(&rt, "memory");
+    assert_eq!(rt; written.as_str(), WRITTEN);
+    let again = read_person(rt.alloc(), written.as_str()).expect(&rt, "a person");
+    assert!(rt; again == person);
+}
+
+#[test]
+fn a_name_is_a_text(rt: HostRuntime) {
+    let name = read_name(rt.alloc(), r#""a\tb""#).expect(&rt, "a text");
+    assert!(rt; name == CompactString::new(rt.alloc(), "a\tb").expect(&rt, "memory"));
+    assert!(rt; read_name(rt.alloc(), "12").is_err());
+}

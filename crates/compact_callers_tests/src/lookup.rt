@@ -1,0 +1,88 @@
+//! Tests of the callers in `lookup_callers.rt`.
+
+use compact_callers::keys::{set_count, set_rank};
+use compact_callers::lookup_callers::{
+    count_by_text, forget, held_by_text, is_in_both, place_by_text, rank_by_text, total,
+};
+use compact_str::CompactString;
+use indexmap::IndexMap;
+use std::collections::{BTreeMap, BTreeSet, HashMap, HashSet};
+
+#[test]
+fn a_count_is_found_by_its_text(rt: HostRuntime) {
+    let alloc = rt.alloc();
+    let mut counts = HashMap::new(alloc);
+    assert!(rt;
+        set_count(
+            &mut counts,
+            CompactString::new(alloc, "total").expect(&rt, "memory"),
+            3
+        )
+        .is_ok()
+    );
+    assert_eq!(rt; count_by_text(&counts, "total"), 3);
+    assert_eq!(rt; total(&counts), 3);
+    assert_eq!(rt; count_by_text(&counts, "tota"), 0);
+    forget(&mut counts, "total");
+    assert_eq!(rt; total(&counts), 0);
+}
+
+#[test]
+fn a_rank_is_found_by_its_text(rt: HostRuntime) {
+    let alloc = rt.alloc();
+    let mut ranks = BTreeMap::new(alloc);
+    assert!(rt;
+        set_rank(
+            &mut ranks,
+            CompactString::new(alloc, "b").expect(&rt, "memory"),
+            2
+        )
+        .is_ok()
+    );
+    assert!(rt;
+        set_rank(
+            &mut ranks,
+            CompactString::new(alloc, "é").expect(&rt, "memory"),
+            3
+        )
+        .is_ok()
+    );
+    assert_eq!(rt; rank_by_text(&ranks, "é"), 3);
+    assert_eq!(rt; rank_by_text(&ranks, "a"), 0);
+}
+
+#[test]
+fn a_word_is_found_in_sets(rt: HostRuntime) {
+    let alloc = rt.alloc();
+    let mut words = HashSet::new(alloc);
+    let mut sorted_words = BTreeSet::new(alloc);
+    assert!(rt;
+        words
+            .insert(CompactString::new(alloc, "a").expect(&rt, "memory"))
+            .is_ok()
+    );
+    assert!(rt;
+        sorted_words
+            .insert(CompactString::new(alloc, "a").expect(&rt, "memory"))
+            .is_ok()
+    );
+    assert!(rt; is_in_both(&words, &sorted_words, "a"));
+    assert!(rt; !is_in_both(&words, &sorted_words, "b"));
+}
+
+#[test]
+fn a_place_is_found_by_its_text(rt: HostRuntime) {
+    let alloc = rt.alloc();
+    let mut row = IndexMap::new(alloc);
+    assert!(rt;
+        row.insert(CompactString::new(alloc, "b").expect(&rt, "memory"), 1)
+            .is_ok()
+    );
+    assert!(rt;
+        row.insert(CompactString::new(alloc, "a").expect(&rt, "memory"), 2)
+            .is_ok()
+    );
+    assert_eq!(rt; place_by_text(&row, "a"), Some(1));
+    assert_eq!(rt; held_by_text(&row, "a"), 2);
+    assert_eq!(rt; place_by_text(&row, "c"), None);
+}

@@ -1,0 +1,34 @@
+//! Tests of the callers in `run_callers.rt`.
+
+use compact_callers::run_callers::{Doubling, bracket, refill, rewrite};
+use compact_str::{CompactString, PolicyString};
+use compact_testing::seen::Seen;
+use compact_testing::values::letters;
+
+#[test]
+fn a_text_is_put_in_brackets(rt: HostRuntime) {
+    let mut value = CompactString::new(rt.alloc(), "ab").expect(&rt, "memory");
+    assert!(rt; bracket(rt.alloc(), &mut value).expect(&rt, "memory"));
+    assert_eq!(rt; Seen::of(&value), Seen::inline("[ab]"));
+}
+
+#[test]
+fn replies_come_after_those_of_an_earlier_run(rt: HostRuntime) {
+    let mut value = CompactString::new(rt.alloc(), "ab").expect(&rt, "memory");
+    let mut replies = Vec::new(rt.alloc());
+    rewrite(&mut value, "c", &mut replies).expect(&rt, "memory");
+    rewrite(&mut value, letters(24), &mut replies).expect(&rt, "memory");
+    assert_eq!(rt; replies.len(), 4);
+    assert_eq!(rt; Seen::of(&value), Seen::inline(letters(24)));
+}
+
+#[test]
+fn a_buffer_of_ones_own_policy_is_refilled(rt: HostRuntime) {
+    let made = PolicyString::<Doubling>::new(rt.alloc(), letters(25));
+    let mut value = made.expect(&rt, "memory");
+    assert_eq!(rt; Seen::of(&value), Seen::heap(64, letters(25)));
+    assert!(rt; refill(rt.alloc(), &mut value, letters(70)).expect(&rt, "memory"));
+    assert_eq!(rt; Seen::of(&value), Seen::heap(70, letters(70)));
+    value.push('a').expect(&rt, "memory");
+    assert_eq!(rt; Seen::of(&value), Seen::heap(140, letters(71)));
+}

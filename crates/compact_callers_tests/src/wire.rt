@@ -1,0 +1,104 @@
+//! Tests of the callers in `wire_callers.rt`.
+
+use compact_callers::wire_callers::{
+    first_record, next_record, next_text, pair_sent_and_received, read_records, read_texts,
+    receive_field, send_field, sent_and_received,
+};
+use compact_ext::wire::{Records, WireError};
+use compact_str::CompactString;
+use compact_testing::seen::Seen;
+use compact_testing::values::{letters, place_of};
+
+/// The forms of `a`, of no text and of `Hi`.
+const RECORDS: [u8; 15] = [1, 0, 0, 0, 0x61, 0, 0, 0, 0, 2, 0, 0, 0, 0x48, 0x69];
+
+#[test]
+fn a_reader_tells_its_next_record_and_its_end(rt: HostRuntime) {
+    let alloc = rt.alloc();
+    let mut rest: &[u8] = &RECORDS;
+    for text in ["a", "", "Hi"] {
+        let record = next_record(alloc, &mut rest).expect(&rt, "a record");
+        assert_eq!(rt; Seen::of(&record.expect(&rt, "no end")), Seen::inline(text));
+    }
+    let end = next_record(alloc, &mut rest).expect(&rt, "an end");
+    assert!(rt; end.is_none());
+}
+
+#[test]
+fn records_are_read_to_their_end(rt: HostRuntime) {
+    let records = read_records(rt.alloc(), RECORDS.as_slice()).expect(&rt, "records");
+    assert_eq!(rt; records.len(), 3);
+    for (record, text) in records.iter().zip(["a", "", "Hi"]) {
+        assert_eq!(rt; record.as_str(), text);
+        assert_eq!(rt; place_of(record), "inline");
+    }
+}
+
+/// The forms of `a` and of two bytes that are no text, of no text, of one byte that is none, and of `Hi`.
+const MIXED: [u8; 26] = [
+    1, 0, 0, 0, 0x61, 2, 0, 0, 0, 0xC3, 0x28, 0, 0, 0, 0, 1, 0, 0, 0, 0xFF, 2, 0, 0, 0, 0x48, 0x69,
+];
+
+#[test]
+fn one_record_that_is_no_text_is_passed_over(rt: HostRuntime) {
+    let mut records = Records::new(rt.alloc(), MIXED.as_slice());
+    for text in ["a", "", "Hi"] {
+        let found = next_text(&mut records).expect(&rt, "no end");
+        assert_eq!(rt; Seen::of(&found.expect(&rt, "a text")), Seen::inline(text));
+    }
+    assert!(rt; next_text(&mut records).is_none());
+}
+
+#[test]
+fn what_is_no_text_is_passed_over(rt: HostRuntime) {
+    let texts = read_texts(rt.alloc(), MIXED.as_slice()).expect(&rt, "texts");
+    assert_eq!(rt; texts.len(), 3);
+    for (found, text) in texts.iter().zip(["a", "", "Hi"]) {
+        assert_eq!(rt; found.as_str(), text);
+        assert_eq!(rt; place_of(found), "inline");
+    }
+}
+
+#[test]
+fn a_cut_behind_what_is_no_text_is_told(rt: HostRuntime) {
+    let cut = MIXED.get(..25).expect(&rt, "bytes");
+    let found = read_texts(rt.alloc(), cut);
+    assert!(rt; matches!(found, Err(WireError::UnexpectedEnd)));
+}
+
+#[test]
+fn the_first_record_is_read_alone(rt: HostRuntime) {
+    let first = first_record(rt.alloc(), RECORDS.as_slice()).expect(&rt, "no fault");
+    assert_eq!(rt; Seen::of(&first.expect(&rt, "a record")), Seen::inline("a"));
+}
+
+#[test]
+fn no_bytes_have_no_first_record(rt: HostRuntime) {
+    let none: &[u8] = &[];
+    let first = first_record(rt.alloc(), none).expect(&rt, "no fault");
+    assert!(rt; first.is_none());
+}
+
+#[test]
+fn a_field_is_sent_and_received(rt: HostRuntime) {
+    let alloc = rt.alloc();
+    let mut bytes = Vec::new(alloc);
+    let name = CompactString::new(alloc, "name").expect(&rt, "memory");
+    let sent = send_field(
+        &name,
+        &CompactString::new(alloc, letters(30)).expect(&rt, "memory"),
+        &mut bytes,
+    );
+    assert!(rt; sent.is_ok());
+    assert_eq!(rt; bytes.len(), 42);
+    let mut rest = bytes.as_slice();
+    let (key, value) = receive_field(alloc, &mut rest).expect(&rt, "a field");
+    assert_eq!(rt; Seen::of(&key), Seen::inline("name"));
+    assert_eq!(rt; value.as_str(), letters(30));
+    let back = sent_and_received(alloc, &value).expect(&rt, "a text");
+    assert!(rt; back == value);
+    let both = pair_sent_and_received(alloc, &name, &value).expect(&rt, "two texts");
+    assert_eq!(rt; both.len(), 2);
+    assert_eq!(rt; Seen::of(&both[0]), Seen::inline("name"));
+    assert_eq!(rt; both[1].as_str(), letters(30));
+}
