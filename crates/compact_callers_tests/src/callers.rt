@@ -1,9 +1,8 @@
 //! Tests of the callers in `callers.rt`.
 
 use compact_callers::callers::{append_field, keyword, label, record_line};
-use compact_str::CompactString;
 use compact_testing::seen::Seen;
-use compact_testing::values::letters;
+use compact_testing::values::{letters, with_room};
 
 #[test]
 fn keywords_and_labels_are_short(rt: HostRuntime) {
@@ -15,7 +14,7 @@ fn keywords_and_labels_are_short(rt: HostRuntime) {
 
 #[test]
 fn records_are_written_over_one_another(rt: HostRuntime) {
-    let mut line = CompactString::with_capacity(rt.alloc(), 100).expect(&rt, "memory");
+    let mut line = with_room(rt.alloc(), 100).expect(&rt, "memory");
     record_line(&mut line, letters(20), letters(10)).expect(&rt, "memory");
     append_field(&mut line, letters(3)).expect(&rt, "memory");
     assert_eq!(rt; Seen::of(&line), Seen::heap(100, letters(33)));

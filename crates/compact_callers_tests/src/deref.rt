@@ -4,12 +4,12 @@ use compact_callers::deref_callers::{
     append_other, bytes_of_both, characters_of, filled_lines, longest_word, number_in, shown_name,
     split_at_sign, weight_of, with_commas,
 };
-use compact_str::CompactString;
 use compact_testing::seen::Seen;
+use compact_testing::values::value_of;
 
 #[test]
 fn a_field_is_split(rt: HostRuntime) {
-    let mut field = CompactString::new(rt.alloc(), "clé=a=b").expect(&rt, "memory");
+    let mut field = value_of(rt.alloc(), "clé=a=b").expect(&rt, "memory");
     let value = split_at_sign(&mut field).expect(&rt, "memory");
     assert_eq!(rt; Seen::of(&field), Seen::inline("clé"));
     assert_eq!(rt;
@@ -21,8 +21,8 @@ fn a_field_is_split(rt: HostRuntime) {
 
 #[test]
 fn a_value_is_handed_on_as_a_text(rt: HostRuntime) {
-    let mut line = CompactString::new(rt.alloc(), "é").expect(&rt, "memory");
-    let other = CompactString::new(rt.alloc(), "ab").expect(&rt, "memory");
+    let mut line = value_of(rt.alloc(), "é").expect(&rt, "memory");
+    let other = value_of(rt.alloc(), "ab").expect(&rt, "memory");
     assert_eq!(rt; bytes_of_both(&line, &other), Some(4));
     assert_eq!(rt; weight_of(&line), 2);
     append_other(&mut line, &other).expect(&rt, "memory");
@@ -32,18 +32,18 @@ fn a_value_is_handed_on_as_a_text(rt: HostRuntime) {
 
 #[test]
 fn a_line_is_read(rt: HostRuntime) {
-    let line = CompactString::new(rt.alloc(), " 42\n").expect(&rt, "memory");
+    let line = value_of(rt.alloc(), " 42\n").expect(&rt, "memory");
     assert_eq!(rt; number_in(&line), Some(42));
     assert_eq!(rt;
-        filled_lines(&CompactString::new(rt.alloc(), "a\n \nb").expect(&rt, "memory")),
+        filled_lines(&value_of(rt.alloc(), "a\n \nb").expect(&rt, "memory")),
         2
     );
     assert_eq!(rt;
-        longest_word(&CompactString::new(rt.alloc(), "a bcé d").expect(&rt, "memory")),
+        longest_word(&value_of(rt.alloc(), "a bcé d").expect(&rt, "memory")),
         4
     );
     assert_eq!(rt;
-        number_in(&CompactString::new(rt.alloc(), "x").expect(&rt, "memory")),
+        number_in(&value_of(rt.alloc(), "x").expect(&rt, "memory")),
         None
     );
 }
@@ -51,13 +51,13 @@ fn a_line_is_read(rt: HostRuntime) {
 #[test]
 fn a_name_is_shown(rt: HostRuntime) {
     assert_eq!(rt;
-        shown_name(&Some(CompactString::new(rt.alloc(), "zoë").expect(&rt, "memory"))),
+        shown_name(&Some(value_of(rt.alloc(), "zoë").expect(&rt, "memory"))),
         "zoë"
     );
     assert_eq!(rt; shown_name(&None), "none");
     let row = [
-        CompactString::new(rt.alloc(), "a").expect(&rt, "memory"),
-        CompactString::new(rt.alloc(), "é").expect(&rt, "memory"),
+        value_of(rt.alloc(), "a").expect(&rt, "memory"),
+        value_of(rt.alloc(), "é").expect(&rt, "memory"),
     ];
     let joined = with_commas(rt.alloc(), &row).expect(&rt, "memory");
     assert_eq!(rt; joined.as_str(), "a,é");

@@ -1,8 +1,8 @@
 //! Tests of the callers in `field_callers.rt`.
 
 use compact_callers::field_callers::{read_name, read_person, write_person};
-use compact_str::CompactString;
 use compact_testing::seen::Seen;
+use compact_testing::values::value_of;
 
 /// A person that has each kind of field.
 const WRITTEN: &str =
@@ -29,6 +29,6 @@ fn a_person_that_is_written_is_read_back(rt: HostRuntime) {
 #[test]
 fn a_name_is_a_text(rt: HostRuntime) {
     let name = read_name(rt.alloc(), r#""a\tb""#).expect(&rt, "a text");
-    assert!(rt; name == CompactString::new(rt.alloc(), "a\tb").expect(&rt, "memory"));
+    assert!(rt; name == value_of(rt.alloc(), "a\tb").expect(&rt, "memory"));
     assert!(rt; read_name(rt.alloc(), "12").is_err());
 }

@@ -4,6 +4,7 @@ use compact_callers::iterated::{
     append_fields, long_names, names_by_reference, names_of, path, whole,
 };
 use compact_str::{CompactString, ReserveError};
+use compact_testing::values::value_of;
 
 #[test]
 fn borrowed_parts_are_joined(rt: HostRuntime) -> Result<(), ReserveError> {
@@ -26,7 +27,7 @@ fn fields_are_appended(rt: HostRuntime) -> Result<(), ReserveError> {
 #[test]
 fn names_are_gathered(rt: HostRuntime) -> Result<(), ReserveError> {
     let first = CompactString::const_new(rt.alloc(), "first");
-    let last = CompactString::new(rt.alloc(), " and the last of all the names")?;
+    let last = value_of(rt.alloc(), " and the last of all the names")?;
     let names = [first, last];
     let mapped = names_of(rt.alloc(), &names)?;
     assert_eq!(rt; mapped.as_str(), "first and the last of all the names");

@@ -1,8 +1,7 @@
 //! Tests of the callers in `keys.rt`.
 
 use compact_callers::keys::{count_of, place_of, set_count};
-use compact_str::CompactString;
-use compact_testing::values::{lasting, letters};
+use compact_testing::values::{lasting, letters, value_of};
 use std::collections::HashMap;
 use std::test::Fail;
 
@@ -10,31 +9,22 @@ use std::test::Fail;
 fn a_word_is_found_in_a_sorted_row(rt: HostRuntime) {
     let alloc = rt.alloc();
     let mut words = [
-        CompactString::new(alloc, "b").expect(&rt, "memory"),
+        value_of(alloc, "b").expect(&rt, "memory"),
         lasting(alloc, 30),
-        CompactString::new(alloc, "\u{10000}").expect(&rt, "memory"),
-        CompactString::new(alloc, "\u{fffd}").expect(&rt, "memory"),
+        value_of(alloc, "\u{10000}").expect(&rt, "memory"),
+        value_of(alloc, "\u{fffd}").expect(&rt, "memory"),
     ];
     words.sort_unstable();
     assert_eq!(rt;
-        place_of(
-            &words,
-            &CompactString::new(alloc, letters(30)).expect(&rt, "memory")
-        ),
+        place_of(&words, &value_of(alloc, letters(30)).expect(&rt, "memory")),
         Ok(0)
     );
     assert_eq!(rt;
-        place_of(
-            &words,
-            &CompactString::new(alloc, "\u{fffd}").expect(&rt, "memory")
-        ),
+        place_of(&words, &value_of(alloc, "\u{fffd}").expect(&rt, "memory")),
         Ok(2)
     );
     assert_eq!(rt;
-        place_of(
-            &words,
-            &CompactString::new(alloc, "c").expect(&rt, "memory")
-        ),
+        place_of(&words, &value_of(alloc, "c").expect(&rt, "memory")),
         Err(2)
     );
 }
@@ -45,17 +35,11 @@ fn a_word_is_counted_wherever_it_stands(rt: HostRuntime) -> Result<(), Fail> {
     let mut counts = HashMap::new(alloc);
     set_count(&mut counts, lasting(alloc, 30), 3).map_err(|_| "memory")?;
     assert_eq!(rt;
-        count_of(
-            &counts,
-            &CompactString::new(alloc, letters(30)).expect(&rt, "memory")
-        ),
+        count_of(&counts, &value_of(alloc, letters(30)).expect(&rt, "memory")),
         3
     );
     assert_eq!(rt;
-        count_of(
-            &counts,
-            &CompactString::new(alloc, letters(29)).expect(&rt, "memory")
-        ),
+        count_of(&counts, &value_of(alloc, letters(29)).expect(&rt, "memory")),
         0
     );
     Ok(())

@@ -4,7 +4,7 @@ use compact_callers::keys::{set_count, set_rank};
 use compact_callers::lookup_callers::{
     count_by_text, forget, held_by_text, is_in_both, place_by_text, rank_by_text, total,
 };
-use compact_str::CompactString;
+use compact_testing::values::value_of;
 use indexmap::IndexMap;
 use std::collections::{BTreeMap, BTreeSet, HashMap, HashSet};
 
@@ -15,7 +15,7 @@ fn a_count_is_found_by_its_text(rt: HostRuntime) {
     assert!(rt;
         set_count(
             &mut counts,
-            CompactString::new(alloc, "total").expect(&rt, "memory"),
+            value_of(alloc, "total").expect(&rt, "memory"),
             3
         )
         .is_ok()
@@ -31,22 +31,8 @@ fn a_count_is_found_by_its_text(rt: HostRuntime) {
 fn a_rank_is_found_by_its_text(rt: HostRuntime) {
     let alloc = rt.alloc();
     let mut ranks = BTreeMap::new(alloc);
-    assert!(rt;
-        set_rank(
-            &mut ranks,
-            CompactString::new(alloc, "b").expect(&rt, "memory"),
-            2
-        )
-        .is_ok()
-    );
-    assert!(rt;
-        set_rank(
-            &mut ranks,
-            CompactString::new(alloc, "é").expect(&rt, "memory"),
-            3
-        )
-        .is_ok()
-    );
+    assert!(rt; set_rank(&mut ranks, value_of(alloc, "b").expect(&rt, "memory"), 2).is_ok());
+    assert!(rt; set_rank(&mut ranks, value_of(alloc, "é").expect(&rt, "memory"), 3).is_ok());
     assert_eq!(rt; rank_by_text(&ranks, "é"), 3);
     assert_eq!(rt; rank_by_text(&ranks, "a"), 0);
 }
@@ -58,12 +44,12 @@ fn a_word_is_found_in_sets(rt: HostRuntime) {
     let mut sorted_words = BTreeSet::new(alloc);
     assert!(rt;
         words
-            .insert(CompactString::new(alloc, "a").expect(&rt, "memory"))
+            .insert(value_of(alloc, "a").expect(&rt, "memory"))
             .is_ok()
     );
     assert!(rt;
         sorted_words
-            .insert(CompactString::new(alloc, "a").expect(&rt, "memory"))
+            .insert(value_of(alloc, "a").expect(&rt, "memory"))
             .is_ok()
     );
     assert!(rt; is_in_both(&words, &sorted_words, "a"));
@@ -75,11 +61,11 @@ fn a_place_is_found_by_its_text(rt: HostRuntime) {
     let alloc = rt.alloc();
     let mut row = IndexMap::new(alloc);
     assert!(rt;
-        row.insert(CompactString::new(alloc, "b").expect(&rt, "memory"), 1)
+        row.insert(value_of(alloc, "b").expect(&rt, "memory"), 1)
             .is_ok()
     );
     assert!(rt;
-        row.insert(CompactString::new(alloc, "a").expect(&rt, "memory"), 2)
+        row.insert(value_of(alloc, "a").expect(&rt, "memory"), 2)
             .is_ok()
     );
     assert_eq!(rt; place_by_text(&row, "a"), Some(1));

@@ -1,15 +1,14 @@
 //! Tests of the callers in `made_callers.rt`.
 
 use compact_callers::made_callers::{append_note, lent_bytes, row_of, take_line, text_in, unboxed};
-use compact_str::CompactString;
 use compact_testing::seen::Seen;
-use compact_testing::values::letters;
+use compact_testing::values::{letters, value_of};
 use std::boxed::BoxedStr;
 use std::collections::HashMap;
 
 #[test]
 fn a_line_is_taken(rt: HostRuntime) {
-    let mut line = CompactString::new(rt.alloc(), letters(30)).expect(&rt, "memory");
+    let mut line = value_of(rt.alloc(), letters(30)).expect(&rt, "memory");
     let taken = take_line(&mut line).expect(&rt, "no memory is needed");
     assert_eq!(rt; Seen::of(&taken), Seen::heap(32, letters(30)));
     assert_eq!(rt; Seen::of(&line), Seen::inline(""));
@@ -17,11 +16,11 @@ fn a_line_is_taken(rt: HostRuntime) {
 
 #[test]
 fn a_row_has_its_names(rt: HostRuntime) {
-    let first = CompactString::new(rt.alloc(), "a").expect(&rt, "memory");
+    let first = value_of(rt.alloc(), "a").expect(&rt, "memory");
     let Ok(row) = row_of(
         rt.alloc(),
         first,
-        CompactString::new(rt.alloc(), "é").expect(&rt, "memory"),
+        value_of(rt.alloc(), "é").expect(&rt, "memory"),
     ) else {
         panic!(rt; "two of four names need no memory");
     };

@@ -1,13 +1,12 @@
 //! Tests of the callers in `packed_callers.rt`.
 
 use compact_callers::packed_callers::{cleaned, have_same_row, through_a_row};
-use compact_str::CompactString;
 use compact_testing::seen::Seen;
-use compact_testing::values::lasting;
+use compact_testing::values::{lasting, value_of};
 
 #[test]
 fn a_key_goes_through_a_row(rt: HostRuntime) {
-    let key = CompactString::new(rt.alloc(), "größe").expect(&rt, "memory");
+    let key = value_of(rt.alloc(), "größe").expect(&rt, "memory");
     let copy = through_a_row(rt.alloc(), &key).expect(&rt, "an inline key");
     assert_eq!(rt; Seen::of(&copy), Seen::inline("größe"));
     assert!(rt; through_a_row(rt.alloc(), &lasting(rt.alloc(), 30)).is_none());
@@ -15,19 +14,9 @@ fn a_key_goes_through_a_row(rt: HostRuntime) {
 
 #[test]
 fn equal_rows_are_equal_keys(rt: HostRuntime) {
-    let key = CompactString::new(rt.alloc(), "key").expect(&rt, "memory");
-    assert!(rt;
-        have_same_row(
-            &key,
-            &CompactString::new(rt.alloc(), "key").expect(&rt, "memory")
-        )
-    );
-    assert!(rt;
-        !have_same_row(
-            &key,
-            &CompactString::new(rt.alloc(), "keys").expect(&rt, "memory")
-        )
-    );
+    let key = value_of(rt.alloc(), "key").expect(&rt, "memory");
+    assert!(rt; have_same_row(&key, &value_of(rt.alloc(), "key").expect(&rt, "memory")));
+    assert!(rt; !have_same_row(&key, &value_of(rt.alloc(), "keys").expect(&rt, "memory")));
     assert!(rt; !have_same_row(&key, &lasting(rt.alloc(), 30)));
 }
 

@@ -4,58 +4,58 @@ use compact_callers::part_callers::{
     append_address, append_request, first_of, first_two_bytes, is_abc, key_and_value,
     number_and_name, trimmed, unmarked,
 };
-use compact_str::CompactString;
+use compact_testing::values::value_of;
 
 #[test]
 fn an_address_is_appended(rt: HostRuntime) {
-    let mut line = CompactString::new(rt.alloc(), "> ").expect(&rt, "memory");
-    let host = CompactString::new(rt.alloc(), "zoë.example").expect(&rt, "memory");
+    let mut line = value_of(rt.alloc(), "> ").expect(&rt, "memory");
+    let host = value_of(rt.alloc(), "zoë.example").expect(&rt, "memory");
     append_address(&mut line, "http", &host, 8080, "a").expect(&rt, "memory");
     assert_eq!(rt; line.as_str(), "> http://zoë.example:8080/a");
 }
 
 #[test]
 fn a_request_is_appended(rt: HostRuntime) {
-    let mut line = CompactString::new(rt.alloc(), "").expect(&rt, "memory");
-    let host = CompactString::new(rt.alloc(), "h").expect(&rt, "memory");
+    let mut line = value_of(rt.alloc(), "").expect(&rt, "memory");
+    let host = value_of(rt.alloc(), "h").expect(&rt, "memory");
     append_request(&mut line, "GET", &host, 1, "ä").expect(&rt, "memory");
     assert_eq!(rt; line.as_str(), "GET h:1/ä");
 }
 
 #[test]
 fn a_word_is_known(rt: HostRuntime) {
-    assert!(rt; is_abc(&CompactString::new(rt.alloc(), "abc").expect(&rt, "memory")));
-    assert!(rt; !is_abc(&CompactString::new(rt.alloc(), "abcd").expect(&rt, "memory")));
+    assert!(rt; is_abc(&value_of(rt.alloc(), "abc").expect(&rt, "memory")));
+    assert!(rt; !is_abc(&value_of(rt.alloc(), "abcd").expect(&rt, "memory")));
     assert_eq!(rt;
-        first_of(&CompactString::new(rt.alloc(), "éa").expect(&rt, "memory")),
+        first_of(&value_of(rt.alloc(), "éa").expect(&rt, "memory")),
         Some('é')
     );
     assert_eq!(rt;
-        first_of(&CompactString::new(rt.alloc(), "").expect(&rt, "memory")),
+        first_of(&value_of(rt.alloc(), "").expect(&rt, "memory")),
         None
     );
 }
 
 #[test]
 fn a_text_is_cut_at_a_sign(rt: HostRuntime) {
-    let field = CompactString::new(rt.alloc(), "clé=a=b").expect(&rt, "memory");
+    let field = value_of(rt.alloc(), "clé=a=b").expect(&rt, "memory");
     assert_eq!(rt; key_and_value(&field), Some(("clé", "a=b")));
-    let title = CompactString::new(rt.alloc(), "1§é").expect(&rt, "memory");
+    let title = value_of(rt.alloc(), "1§é").expect(&rt, "memory");
     assert_eq!(rt; number_and_name(&title), Some(("1", "é")));
     assert_eq!(rt; number_and_name(&field), None);
 }
 
 #[test]
 fn what_stands_at_the_ends_is_left_out(rt: HostRuntime) {
-    let name = CompactString::new(rt.alloc(), "x-é").expect(&rt, "memory");
+    let name = value_of(rt.alloc(), "x-é").expect(&rt, "memory");
     assert_eq!(rt; unmarked(&name), Some("é"));
     assert_eq!(rt;
-        trimmed(&CompactString::new(rt.alloc(), " a b\n").expect(&rt, "memory")),
+        trimmed(&value_of(rt.alloc(), " a b\n").expect(&rt, "memory")),
         "a b"
     );
     assert_eq!(rt; first_two_bytes(&name), "x-");
     assert_eq!(rt;
-        first_two_bytes(&CompactString::new(rt.alloc(), "aé").expect(&rt, "memory")),
+        first_two_bytes(&value_of(rt.alloc(), "aé").expect(&rt, "memory")),
         ""
     );
 }

@@ -4,41 +4,40 @@ use compact_callers::plain_callers::{
     append_count, append_pair, append_record, append_report, split_and_join, split_field, type_two,
     with_suffix,
 };
-use compact_str::CompactString;
 use compact_testing::seen::Seen;
-use compact_testing::values::letters;
+use compact_testing::values::{letters, value_of, with_room};
 
 #[test]
 fn a_report_is_written_past_ascii(rt: HostRuntime) {
-    let mut line = CompactString::new(rt.alloc(), "§ ").expect(&rt, "memory");
+    let mut line = value_of(rt.alloc(), "§ ").expect(&rt, "memory");
     append_report(&mut line, "größe", "7 µm").expect(&rt, "memory");
     assert_eq!(rt; Seen::of(&line), Seen::inline("§ größe → 7 µm"));
 }
 
 #[test]
 fn a_count_is_written_as_its_digits(rt: HostRuntime) {
-    let mut line = CompactString::new(rt.alloc(), "").expect(&rt, "memory");
+    let mut line = value_of(rt.alloc(), "").expect(&rt, "memory");
     append_count(&mut line, "ü", 1024).expect(&rt, "memory");
     assert_eq!(rt; Seen::of(&line), Seen::inline("ü: 1024"));
 }
 
 #[test]
 fn a_record_is_appended_in_one_piece(rt: HostRuntime) {
-    let mut line = CompactString::new(rt.alloc(), "a;").expect(&rt, "memory");
+    let mut line = value_of(rt.alloc(), "a;").expect(&rt, "memory");
     append_record(&mut line, "b", "c").expect(&rt, "memory");
     assert_eq!(rt; Seen::of(&line), Seen::inline("a;b,c"));
 }
 
 #[test]
 fn a_pair_is_appended(rt: HostRuntime) {
-    let mut line = CompactString::with_capacity(rt.alloc(), 40).expect(&rt, "memory");
+    let mut line = with_room(rt.alloc(), 40).expect(&rt, "memory");
     append_pair(&mut line, letters(12), letters(13)).expect(&rt, "memory");
     assert_eq!(rt; Seen::of(&line), Seen::heap(40, letters(25)));
 }
 
 #[test]
 fn a_cursor_goes_on_by_what_is_typed(rt: HostRuntime) {
-    let mut line = CompactString::new(rt.alloc(), "ab").expect(&rt, "memory");
+    let mut line = value_of(rt.alloc(), "ab").expect(&rt, "memory");
     assert!(rt; line.is_char_boundary(1));
     let cursor = type_two(&mut line, 1, 'é', 'x').expect(&rt, "memory");
     assert_eq!(rt; cursor, 4);
@@ -47,7 +46,7 @@ fn a_cursor_goes_on_by_what_is_typed(rt: HostRuntime) {
 
 #[test]
 fn a_split_line_is_joined(rt: HostRuntime) {
-    let mut line = CompactString::new(rt.alloc(), "äb").expect(&rt, "memory");
+    let mut line = value_of(rt.alloc(), "äb").expect(&rt, "memory");
     assert!(rt; line.is_char_boundary(2));
     split_and_join(&mut line, 2).expect(&rt, "memory");
     assert_eq!(rt; Seen::of(&line), Seen::inline("äb"));
@@ -55,7 +54,7 @@ fn a_split_line_is_joined(rt: HostRuntime) {
 
 #[test]
 fn a_name_has_a_suffix(rt: HostRuntime) {
-    let name = CompactString::new(rt.alloc(), "name").expect(&rt, "memory");
+    let name = value_of(rt.alloc(), "name").expect(&rt, "memory");
     let both = with_suffix(&name, "_1").expect(&rt, "memory");
     assert_eq!(rt; Seen::of(&name), Seen::inline("name"));
     assert_eq!(rt; Seen::of(&both), Seen::inline("name_1"));
@@ -63,7 +62,7 @@ fn a_name_has_a_suffix(rt: HostRuntime) {
 
 #[test]
 fn a_field_is_split_at_its_first_sign(rt: HostRuntime) {
-    let mut field = CompactString::new(rt.alloc(), "clé=a=b").expect(&rt, "memory");
+    let mut field = value_of(rt.alloc(), "clé=a=b").expect(&rt, "memory");
     let value = split_field(&mut field).expect(&rt, "memory");
     assert_eq!(rt; Seen::of(&field), Seen::inline("clé"));
     assert_eq!(rt;
@@ -74,7 +73,7 @@ fn a_field_is_split_at_its_first_sign(rt: HostRuntime) {
 
 #[test]
 fn a_field_with_no_sign_stays(rt: HostRuntime) {
-    let mut field = CompactString::new(rt.alloc(), "clé").expect(&rt, "memory");
+    let mut field = value_of(rt.alloc(), "clé").expect(&rt, "memory");
     let value = split_field(&mut field).expect(&rt, "memory");
     assert!(rt; value.is_none());
     assert_eq!(rt; Seen::of(&field), Seen::inline("clé"));

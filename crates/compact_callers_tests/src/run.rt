@@ -1,20 +1,20 @@
 //! Tests of the callers in `run_callers.rt`.
 
 use compact_callers::run_callers::{Doubling, bracket, refill, rewrite};
-use compact_str::{CompactString, PolicyString};
+use compact_str::PolicyString;
 use compact_testing::seen::Seen;
-use compact_testing::values::letters;
+use compact_testing::values::{letters, value_of};
 
 #[test]
 fn a_text_is_put_in_brackets(rt: HostRuntime) {
-    let mut value = CompactString::new(rt.alloc(), "ab").expect(&rt, "memory");
+    let mut value = value_of(rt.alloc(), "ab").expect(&rt, "memory");
     assert!(rt; bracket(rt.alloc(), &mut value).expect(&rt, "memory"));
     assert_eq!(rt; Seen::of(&value), Seen::inline("[ab]"));
 }
 
 #[test]
 fn replies_come_after_those_of_an_earlier_run(rt: HostRuntime) {
-    let mut value = CompactString::new(rt.alloc(), "ab").expect(&rt, "memory");
+    let mut value = value_of(rt.alloc(), "ab").expect(&rt, "memory");
     let mut replies = Vec::new(rt.alloc());
     rewrite(&mut value, "c", &mut replies).expect(&rt, "memory");
     rewrite(&mut value, letters(24), &mut replies).expect(&rt, "memory");

@@ -5,9 +5,8 @@ use compact_callers::wire_callers::{
     receive_field, send_field, sent_and_received,
 };
 use compact_ext::wire::{Records, WireError};
-use compact_str::CompactString;
 use compact_testing::seen::Seen;
-use compact_testing::values::{letters, place_of};
+use compact_testing::values::{letters, place_of, value_of};
 
 /// The forms of `a`, of no text and of `Hi`.
 const RECORDS: [u8; 15] = [1, 0, 0, 0, 0x61, 0, 0, 0, 0, 2, 0, 0, 0, 0x48, 0x69];
@@ -83,10 +82,10 @@ fn no_bytes_have_no_first_record(rt: HostRuntime) {
 fn a_field_is_sent_and_received(rt: HostRuntime) {
     let alloc = rt.alloc();
     let mut bytes = Vec::new(alloc);
-    let name = CompactString::new(alloc, "name").expect(&rt, "memory");
+    let name = value_of(alloc, "name").expect(&rt, "memory");
     let sent = send_field(
         &name,
-        &CompactString::new(alloc, letters(30)).expect(&rt, "memory"),
+        &value_of(alloc, letters(30)).expect(&rt, "memory"),
         &mut bytes,
     );
     assert!(rt; sent.is_ok());

@@ -1,8 +1,9 @@
 //! The longest lengths and positions, as edits.
 
 use compact_edit::{Edit, Reply, run};
-use compact_str::{CompactString, Standard};
+use compact_str::Standard;
 use compact_testing::seen::Seen;
+use compact_testing::values::value_of;
 use std::alloc::Global;
 use std::ops::Bound::{Excluded, Included, Unbounded};
 use std::process::Abort;
@@ -20,7 +21,7 @@ fn name_of(reply: &Reply<Standard>) -> &'static str {
 
 /// Asserts that each edit of `a` is answered by this name, and that the value is as it was.
 fn assert_each(rt: &impl Abort, alloc: Global, edits: &[Edit<Standard>], name: &str) {
-    let mut value = CompactString::new(alloc, "a").expect(rt, "memory");
+    let mut value = value_of(alloc, "a").expect(rt, "memory");
     let mut replies = Vec::new(alloc);
     run(&mut value, edits, &mut replies).expect(rt, "memory");
     assert_eq!(rt; replies.len(), edits.len());

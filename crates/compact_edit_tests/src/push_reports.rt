@@ -5,7 +5,7 @@ use compact_str::{Policy, PolicyString, Standard};
 use compact_testing::memory::take_all;
 use compact_testing::policies::{Double, Large, Slow};
 use compact_testing::seen::Seen;
-use compact_testing::values::letters;
+use compact_testing::values::{append, letters};
 use std::alloc::Global;
 use std::process::Abort;
 
@@ -124,7 +124,7 @@ fn a_first_buffer_is_large(rt: HostRuntime) {
 fn a_shrink_keeps_the_least_capacity(rt: HostRuntime) {
     let made = PolicyString::<Large>::with_capacity(rt.alloc(), 8192);
     let mut value = made.expect(&rt, "memory");
-    value.push_str(letters(30)).expect(&rt, "memory");
+    append(&mut value, letters(30)).expect(&rt, "memory");
     assert_eq!(rt; Seen::of(&value), Seen::heap(8192, letters(30)));
     value.shrink_to_fit();
     assert_eq!(rt; Seen::of(&value), Seen::heap(4096, letters(30)));

@@ -4,7 +4,7 @@ use compact_edit::{Edit, Reply, run};
 use compact_str::{CompactString, Standard};
 use compact_testing::memory::take_all;
 use compact_testing::seen::Seen;
-use compact_testing::values::{lasting, letters};
+use compact_testing::values::{lasting, letters, value_of};
 use std::alloc::Global;
 use std::ops::Bound::{Excluded, Included};
 use std::process::Abort;
@@ -41,7 +41,7 @@ fn all_are_done(
 
 #[test]
 fn each_edit_of_a_list_is_run(rt: HostRuntime) {
-    let mut value = CompactString::new(rt.alloc(), letters(3)).expect(&rt, "memory");
+    let mut value = value_of(rt.alloc(), letters(3)).expect(&rt, "memory");
     let edits = [Edit::PushStr("a"), Edit::Reserve(100), Edit::ShrinkTo(50)];
     all_are_done(&rt, rt.alloc(), &mut value, &edits);
     assert_eq!(rt; Seen::of(&value), Seen::heap(50, letters(4)));
@@ -75,7 +75,7 @@ fn is_not_begun(rt: &impl Abort, value: &mut CompactString, replies: &mut Vec<Re
 /// No edits are run even so.
 #[test]
 fn a_run_with_no_room_for_replies_runs_nothing(rt: HostRuntime) {
-    let mut value = CompactString::new(rt.alloc(), "abc").expect(&rt, "memory");
+    let mut value = value_of(rt.alloc(), "abc").expect(&rt, "memory");
     let mut replies = forty_replies(&rt, rt.alloc());
     let hog = take_all(rt.alloc()).expect(&rt, "room for the list of blocks");
     is_not_begun(&rt, &mut value, &mut replies);
@@ -111,7 +111,7 @@ fn tells_bad_positions(
 #[test]
 fn a_bad_position_is_told_before_a_refusal(rt: HostRuntime) {
     let mut lasting = CompactString::const_new(rt.alloc(), text());
-    let mut made = CompactString::new(rt.alloc(), text()).expect(&rt, "memory");
+    let mut made = value_of(rt.alloc(), text()).expect(&rt, "memory");
     let mut replies = room_for(&rt, rt.alloc(), 12);
     let hog = take_all(rt.alloc()).expect(&rt, "room for the list of blocks");
     tells_bad_positions(&rt, &mut lasting, &mut replies);
@@ -145,7 +145,7 @@ fn run_drain(
 
 #[test]
 fn the_answer_of_a_drain_is_refused(rt: HostRuntime) {
-    let mut value = CompactString::new(rt.alloc(), letters(60)).expect(&rt, "memory");
+    let mut value = value_of(rt.alloc(), letters(60)).expect(&rt, "memory");
     let mut replies = room_for(&rt, rt.alloc(), 2);
     let hog = take_all(rt.alloc()).expect(&rt, "room for the list of blocks");
     run_drain(&rt, &mut value, 0, 25, &mut replies);

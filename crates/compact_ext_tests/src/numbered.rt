@@ -3,7 +3,7 @@
 use compact_ext::ToCompactString;
 use compact_str::CompactString;
 use compact_testing::seen::Seen;
-use compact_testing::values::string_with_room;
+use compact_testing::values::{string_with_room, value_of};
 use std::alloc::Global;
 use std::num::{NonZeroI128, NonZeroU8, NonZeroU128};
 use std::process::Abort;
@@ -92,7 +92,7 @@ fn other_values_have_these_texts(rt: HostRuntime) {
     assert_shown(
         &rt,
         alloc,
-        CompactString::new(alloc, "äb").expect(&rt, "memory"),
+        value_of(alloc, "äb").expect(&rt, "memory"),
         "äb",
     );
     assert_shown(

@@ -7,7 +7,7 @@ use compact_ext::wire::{WireError, read_wire, write_wire};
 use compact_str::{CompactString, ReserveError};
 use compact_testing::pieces::{Narrow, Pieces, Stop};
 use compact_testing::seen::Seen;
-use compact_testing::values::letters;
+use compact_testing::values::{letters, value_of};
 use std::alloc::Global;
 use std::fmt::Write;
 use std::io;
@@ -17,10 +17,7 @@ use std::process::Abort;
 /// Asserts that a text is written as these bytes.
 fn assert_written(rt: &impl Abort, alloc: Global, text: &str, bytes: &[u8]) {
     let mut written = Vec::new(alloc);
-    let sent = write_wire(
-        &CompactString::new(alloc, text).expect(rt, "memory"),
-        &mut written,
-    );
+    let sent = write_wire(&value_of(alloc, text).expect(rt, "memory"), &mut written);
     assert!(rt; sent.is_ok());
     assert_eq!(rt; written.as_slice(), bytes);
 }
@@ -142,7 +139,7 @@ fn assert_writes(rt: &impl Abort, text: &CompactString, mut writer: Narrow, end:
 
 #[test]
 fn a_writer_that_is_full_has_a_beginning(rt: HostRuntime) {
-    let text = CompactString::new(rt.alloc(), "Hi").expect(&rt, "memory");
+    let text = value_of(rt.alloc(), "Hi").expect(&rt, "memory");
     let form: [u8; 6] = [2, 0, 0, 0, 0x48, 0x69];
     for room in 0..6 {
         let out = form.get(..room).unwrap_or(&[]);
@@ -155,7 +152,7 @@ fn a_writer_that_is_full_has_a_beginning(rt: HostRuntime) {
 
 #[test]
 fn a_writer_that_fails_has_a_beginning(rt: HostRuntime) {
-    let text = CompactString::new(rt.alloc(), "Hi").expect(&rt, "memory");
+    let text = value_of(rt.alloc(), "Hi").expect(&rt, "memory");
     let form: [u8; 6] = [2, 0, 0, 0, 0x48, 0x69];
     for call in 1..7usize {
         let out = form.get(..call - 1).unwrap_or(&[]);
@@ -199,7 +196,7 @@ fn texts_of_each_length_come_back(rt: HostRuntime) {
     let mut bytes = Vec::new(alloc);
     for count in 0..80 {
         let sent = write_wire(
-            &CompactString::new(alloc, letters(count)).expect(&rt, "memory"),
+            &value_of(alloc, letters(count)).expect(&rt, "memory"),
             &mut bytes,
         );
         assert!(rt; sent.is_ok());

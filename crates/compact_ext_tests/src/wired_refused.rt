@@ -4,8 +4,8 @@
 use crate::wire_forms::end_of;
 use crate::wire_letters::Letters;
 use compact_ext::wire::{WireError, read_wire, write_wire};
-use compact_str::CompactString;
 use compact_testing::memory::take_all;
+use compact_testing::values::value_of;
 use std::alloc::Global;
 use std::process::Abort;
 
@@ -56,7 +56,7 @@ fn the_fourth_room_is_refused(rt: HostRuntime) {
 
 #[test]
 fn a_vector_with_no_room_is_a_writer_that_fails(rt: HostRuntime) {
-    let text = CompactString::new(rt.alloc(), "Hi").expect(&rt, "memory");
+    let text = value_of(rt.alloc(), "Hi").expect(&rt, "memory");
     let mut bytes = Vec::new(rt.alloc());
     let hog = take_all(rt.alloc()).expect(&rt, "room for the list of blocks");
     assert!(rt; matches!(write_wire(&text, &mut bytes), Err(WireError::Io(_))));

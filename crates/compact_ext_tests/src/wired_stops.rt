@@ -5,7 +5,7 @@ use compact_ext::wire::{read_wire, write_wire};
 use compact_str::CompactString;
 use compact_testing::pieces::{Narrow, Pieces, Stop};
 use compact_testing::seen::Seen;
-use compact_testing::values::letters;
+use compact_testing::values::{letters, value_of};
 use std::alloc::Global;
 use std::io::ErrorKind;
 use std::process::Abort;
@@ -70,7 +70,7 @@ fn assert_sent(rt: &impl Abort, text: &CompactString, stop: Stop, end: &str, out
 
 #[test]
 fn a_long_text_stops_at_each_byte(rt: HostRuntime) {
-    let text = CompactString::new(rt.alloc(), letters(30)).expect(&rt, "memory");
+    let text = value_of(rt.alloc(), letters(30)).expect(&rt, "memory");
     let form = form_of_letters(&rt, rt.alloc(), 30);
     assert_sent(&rt, &text, Stop::Never, "done", &form);
     for call in 1..form.len() + 1 {

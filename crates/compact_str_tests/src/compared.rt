@@ -3,7 +3,7 @@
 
 use compact_str::CompactString;
 use compact_testing::seen::Seen;
-use compact_testing::values::{lasting, letters, string_with_room};
+use compact_testing::values::{append, lasting, letters, string_with_room, value_of, with_room};
 use std::alloc::{AllocError, Global};
 use std::cmp::Ordering;
 use std::hash::{DefaultHasher, Hash, Hasher};
@@ -44,7 +44,7 @@ fn assert_less(rt: &impl Abort, value: &CompactString, other: &CompactString) {
 #[test]
 fn places_and_capacities_have_no_part(rt: HostRuntime) {
     let borrowed = lasting(rt.alloc(), 30);
-    let made = CompactString::new(rt.alloc(), letters(30)).expect(&rt, "memory");
+    let made = value_of(rt.alloc(), letters(30)).expect(&rt, "memory");
     let text = string_with_room(rt.alloc(), 90, letters(30)).expect(&rt, "memory");
     let taken_over = CompactString::from_string_buffer(text);
     assert_eq!(rt; Seen::of(&borrowed), Seen::fixed(letters(30)));
@@ -63,13 +63,12 @@ fn cut_to_3(rt: &impl Abort, value: &mut CompactString) {
 
 #[test]
 fn what_stood_behind_a_text_has_no_part(rt: HostRuntime) {
-    let short = CompactString::new(rt.alloc(), "äb").expect(&rt, "memory");
-    let mut inline = CompactString::new(rt.alloc(), "äbcdefghijklmn").expect(&rt, "memory");
+    let short = value_of(rt.alloc(), "äb").expect(&rt, "memory");
+    let mut inline = value_of(rt.alloc(), "äbcdefghijklmn").expect(&rt, "memory");
     cut_to_3(&rt, &mut inline);
     assert_same(&rt, &short, &inline);
-    let mut heap = CompactString::with_capacity(rt.alloc(), 60).expect(&rt, "memory");
-    heap.push_str("äbcdefghijklmnopqrstuvwxyz0123456789")
-        .expect(&rt, "memory");
+    let mut heap = with_room(rt.alloc(), 60).expect(&rt, "memory");
+    append(&mut heap, "äbcdefghijklmnopqrstuvwxyz0123456789").expect(&rt, "memory");
     cut_to_3(&rt, &mut heap);
     assert_same(&rt, &inline, &heap);
 }
@@ -78,11 +77,11 @@ fn what_stood_behind_a_text_has_no_part(rt: HostRuntime) {
 fn texts_are_in_this_order(rt: HostRuntime) {
     let texts = ["", "a", "ab", "b", "\u{fffd}", "\u{10000}"];
     for i in 1..texts.len() {
-        let value = CompactString::new(rt.alloc(), texts[i - 1]).expect(&rt, "memory");
+        let value = value_of(rt.alloc(), texts[i - 1]).expect(&rt, "memory");
         assert_less(
             &rt,
             &value,
-            &CompactString::new(rt.alloc(), texts[i]).expect(&rt, "memory"),
+            &value_of(rt.alloc(), texts[i]).expect(&rt, "memory"),
         );
     }
 }
@@ -90,12 +89,12 @@ fn texts_are_in_this_order(rt: HostRuntime) {
 #[test]
 fn the_first_place_that_differs_decides_at_any_length(rt: HostRuntime) {
     for count in 0..40 {
-        let mut less = CompactString::new(rt.alloc(), letters(count)).expect(&rt, "memory");
-        let mut greater = CompactString::new(rt.alloc(), letters(count)).expect(&rt, "memory");
+        let mut less = value_of(rt.alloc(), letters(count)).expect(&rt, "memory");
+        let mut greater = value_of(rt.alloc(), letters(count)).expect(&rt, "memory");
         assert_same(&rt, &less, &greater);
-        less.push_str("\u{ffff}zz").expect(&rt, "memory");
+        append(&mut less, "\u{ffff}zz").expect(&rt, "memory");
         assert_less(&rt, &greater, &less);
-        greater.push_str("\u{10000}").expect(&rt, "memory");
+        append(&mut greater, "\u{10000}").expect(&rt, "memory");
         assert_less(&rt, &less, &greater);
     }
 }
@@ -105,7 +104,7 @@ fn a_value_hashes_as_its_str(rt: HostRuntime) {
     for count in 0..65 {
         let text = letters(count);
         assert_eq!(rt;
-            hash_of(&CompactString::new(rt.alloc(), text).expect(&rt, "memory")),
+            hash_of(&value_of(rt.alloc(), text).expect(&rt, "memory")),
             hash_of_str(text)
         );
         assert_eq!(rt; hash_of(&lasting(rt.alloc(), count)), hash_of_str(text));
@@ -144,7 +143,7 @@ const CHARACTERS: [char; 16] = [
 fn next_text(rt: &impl Abort, alloc: Global, state: &mut u64) -> CompactString {
     let mut text = CompactString::default(alloc);
     if next(state) % 4 == 0 {
-        text.push_str(letters(26)).expect(rt, "memory");
+        append(&mut text, letters(26)).expect(rt, "memory");
     }
     for _ in 0..next(state) % 9 {
         let character = CHARACTERS[(next(state) % 16) as usize];

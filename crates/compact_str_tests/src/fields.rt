@@ -2,19 +2,19 @@
 
 use compact_str::CompactString;
 use compact_testing::seen::is_fitted;
-use compact_testing::values::lasting;
+use compact_testing::values::{append, lasting, value_of};
 use std::alloc::Global;
 use std::process::Abort;
 
 /// A text of `count` bytes: as many of the characters as go into it, and letters before them.
 fn filled(rt: &impl Abort, alloc: Global, character: &str, count: usize) -> CompactString {
-    let mut text = CompactString::new(alloc, "").expect(rt, "memory");
+    let mut text = value_of(alloc, "").expect(rt, "memory");
     let width = character.len().max(1);
     for _ in 0..count % width {
-        text.push_str("x").expect(rt, "memory");
+        append(&mut text, "x").expect(rt, "memory");
     }
     for _ in 0..count / width {
-        text.push_str(character).expect(rt, "memory");
+        append(&mut text, character).expect(rt, "memory");
     }
     text
 }
@@ -81,7 +81,7 @@ fn what_json_escapes_is_read_back(rt: HostRuntime) {
         is_written(
             &rt,
             alloc,
-            &CompactString::new(alloc, text).expect(&rt, "memory"),
+            &value_of(alloc, text).expect(&rt, "memory"),
             json,
         );
     }

@@ -2,7 +2,7 @@
 
 use compact_str::{CompactString, FromJsonError};
 use compact_testing::seen::Seen;
-use compact_testing::values::{lasting, letters, string_with_room};
+use compact_testing::values::{lasting, letters, string_with_room, value_of, with_room};
 use serde_json::{Value, json};
 use std::alloc::{AllocError, Global};
 use std::borrow::CowStr;
@@ -10,7 +10,7 @@ use std::process::Abort;
 
 /// A value of 60 bytes of room, in which a text of 40 was cut to `"äb"`.
 fn shortened(rt: &impl Abort, alloc: Global) -> CompactString {
-    let mut value = CompactString::with_capacity(alloc, 60).expect(rt, "memory");
+    let mut value = with_room(alloc, 60).expect(rt, "memory");
     value
         .push_str("äbcdefghijklmnopqrstuvwxyz0123456789")
         .expect(rt, "memory");
@@ -30,7 +30,7 @@ fn what_leaves_has_this_room(rt: HostRuntime) {
     assert_eq!(rt; Seen::of(&value), Seen::heap(90, letters(30)));
     let bytes = value.into_vec().expect(&rt, "memory");
     assert_eq!(rt; bytes.capacity(), 90);
-    let bytes = CompactString::new(alloc, "äb")
+    let bytes = value_of(alloc, "äb")
         .expect(&rt, "memory")
         .into_bytes()
         .expect(&rt, "memory");
@@ -41,7 +41,7 @@ fn what_leaves_has_this_room(rt: HostRuntime) {
 #[test]
 fn boxes_and_shared_texts_have_the_text(rt: HostRuntime) {
     let alloc = rt.alloc();
-    let boxed = CompactString::new(alloc, "äb")
+    let boxed = value_of(alloc, "äb")
         .expect(&rt, "memory")
         .into_boxed_str()
         .expect(&rt, "memory");
@@ -65,7 +65,7 @@ fn a_static_text_is_borrowed_and_others_are_owned(rt: HostRuntime) {
     let alloc = rt.alloc();
     let cow = lasting(alloc, 30).into_cow().expect(&rt, "memory");
     is_lent(&rt, cow, letters(30), true);
-    let cow = CompactString::new(alloc, "äb")
+    let cow = value_of(alloc, "äb")
         .expect(&rt, "memory")
         .into_cow()
         .expect(&rt, "memory");
@@ -86,23 +86,20 @@ fn is_printed(rt: &impl Abort, alloc: Global, json: &Value, text: &str) {
 }
 
 /// The value of a JSON string.
-fn value_of(rt: &impl Abort, alloc: Global, json: &Value) -> CompactString {
+fn value_in(rt: &impl Abort, alloc: Global, json: &Value) -> CompactString {
     CompactString::from_json(alloc, json).expect(rt, "a string")
 }
 
 #[test]
 fn a_value_is_a_json_string(rt: HostRuntime) {
     let alloc = rt.alloc();
-    let json = json_of(&rt, &CompactString::new(alloc, "abc").expect(&rt, "memory"));
+    let json = json_of(&rt, &value_of(alloc, "abc").expect(&rt, "memory"));
     is_printed(&rt, alloc, &json, "\"abc\"");
-    let json = json_of(
-        &rt,
-        &CompactString::new(alloc, "ä\"\n").expect(&rt, "memory"),
-    );
+    let json = json_of(&rt, &value_of(alloc, "ä\"\n").expect(&rt, "memory"));
     is_printed(&rt, alloc, &json, "\"ä\\\"\\n\"");
     let json = json_of(&rt, &lasting(alloc, 30));
     assert_eq!(rt;
-        Seen::of(&value_of(&rt, alloc, &json)),
+        Seen::of(&value_in(&rt, alloc, &json)),
         Seen::heap(32, letters(30))
     );
 }
@@ -118,7 +115,7 @@ fn is_no_string(rt: &impl Abort, alloc: Global, made: Result<Value, AllocError>)
 fn only_a_json_string_is_taken(rt: HostRuntime) {
     let alloc = rt.alloc();
     let json = json!(in alloc; "abc").expect(&rt, "memory");
-    assert_eq!(rt; Seen::of(&value_of(&rt, alloc, &json)), Seen::inline("abc"));
+    assert_eq!(rt; Seen::of(&value_in(&rt, alloc, &json)), Seen::inline("abc"));
     is_no_string(&rt, alloc, json!(in alloc; 1));
     is_no_string(&rt, alloc, json!(in alloc; null));
     is_no_string(&rt, alloc, json!(in alloc; true));

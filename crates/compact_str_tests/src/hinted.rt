@@ -3,7 +3,7 @@
 use crate::hints::with_hint;
 use compact_str::{CompactString, CompactStringExt, append_all};
 use compact_testing::seen::{Seen, is_fitted};
-use compact_testing::values::letters;
+use compact_testing::values::{letters, value_of};
 use std::alloc::Global;
 use std::process::Abort;
 
@@ -95,9 +95,9 @@ fn short_texts_are_what_the_items_give(rt: HostRuntime) {
 #[test]
 fn a_string_is_given_what_the_items_give(rt: HostRuntime) {
     let values = [
-        CompactString::new(rt.alloc(), "a").expect(&rt, "memory"),
-        CompactString::new(rt.alloc(), "").expect(&rt, "memory"),
-        CompactString::new(rt.alloc(), "bc").expect(&rt, "memory"),
+        value_of(rt.alloc(), "a").expect(&rt, "memory"),
+        value_of(rt.alloc(), "").expect(&rt, "memory"),
+        value_of(rt.alloc(), "bc").expect(&rt, "memory"),
     ];
     let line = assert_appended(&rt, String::new(rt.alloc()), &values, false);
     let line = assert_appended(&rt, line, &values, true);
@@ -136,7 +136,7 @@ fn assert_room(rt: &impl Abort, alloc: Global, too_much: bool) {
     assert_eq!(rt; Seen::of(&value), Seen::at("static", 30, letters(30)));
     assert!(rt; value.extend_texts(with_hint(&["a"], too_much)).is_ok());
     assert_eq!(rt; Seen::of(&value), Seen::at("heap", 45, letters(31)));
-    let mut value = CompactString::new(alloc, letters(24)).expect(rt, "memory");
+    let mut value = value_of(alloc, letters(24)).expect(rt, "memory");
     let letter = ['a'];
     assert!(rt;
         value

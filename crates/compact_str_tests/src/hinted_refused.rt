@@ -7,7 +7,7 @@ use crate::hints::with_hint;
 use compact_str::{CompactString, CompactStringExt, append_all};
 use compact_testing::memory::take_all;
 use compact_testing::seen::Seen;
-use compact_testing::values::letters;
+use compact_testing::values::{letters, value_of};
 use std::alloc::{AllocError, Global};
 use std::process::Abort;
 
@@ -25,8 +25,8 @@ fn no_hint_asks_for_memory(rt: HostRuntime) {
 #[test]
 fn a_string_with_room_is_given_the_texts(rt: HostRuntime) {
     let values = [
-        CompactString::new(rt.alloc(), "a").expect(&rt, "memory"),
-        CompactString::new(rt.alloc(), "bc").expect(&rt, "memory"),
+        value_of(rt.alloc(), "a").expect(&rt, "memory"),
+        value_of(rt.alloc(), "bc").expect(&rt, "memory"),
     ];
     let line = String::with_capacity(rt.alloc(), 32).expect(&rt, "memory");
     let hog = take_all(rt.alloc()).expect(&rt, "room for the list of blocks");
@@ -99,9 +99,9 @@ fn an_extension_stops_at_what_is_refused(rt: HostRuntime) {
 fn a_string_stops_at_the_value_that_is_refused(rt: HostRuntime) {
     let alloc = rt.alloc();
     let values = [
-        CompactString::new(alloc, "ab").expect(&rt, "memory"),
-        CompactString::new(alloc, letters(80)).expect(&rt, "memory"),
-        CompactString::new(alloc, "c").expect(&rt, "memory"),
+        value_of(alloc, "ab").expect(&rt, "memory"),
+        value_of(alloc, letters(80)).expect(&rt, "memory"),
+        value_of(alloc, "c").expect(&rt, "memory"),
     ];
     let mut first = String::with_capacity(alloc, 40).expect(&rt, "memory");
     let mut second = String::with_capacity(alloc, 40).expect(&rt, "memory");

@@ -3,7 +3,7 @@
 use crate::edits::truncate;
 use compact_str::CompactString;
 use compact_testing::seen::Seen;
-use compact_testing::values::{lasting, letters};
+use compact_testing::values::{append, lasting, letters, value_of, with_room};
 use std::alloc::Global;
 use std::process::Abort;
 
@@ -31,7 +31,7 @@ pub fn is_packed(rt: &impl Abort, alloc: Global, value: &CompactString) {
 /// The same of a value that is made of the text at once, where zeros stand between the text and its length.
 fn is_packed_anew(rt: &impl Abort, alloc: Global, value: &CompactString) {
     is_packed(rt, alloc, value);
-    let made = CompactString::new(alloc, value.as_str()).expect(rt, "memory");
+    let made = value_of(alloc, value.as_str()).expect(rt, "memory");
     is_packed(rt, alloc, &made);
     let bytes = bytes_of(rt, &made);
     let len = made.len();
@@ -52,10 +52,7 @@ fn rows_of_made_values(rt: HostRuntime) {
         ("i am 24 characters long!", b"i am 24 characters long!"),
     ] {
         assert_eq!(rt;
-            &bytes_of(
-                &rt,
-                &CompactString::new(rt.alloc(), text).expect(&rt, "memory")
-            ),
+            &bytes_of(&rt, &value_of(rt.alloc(), text).expect(&rt, "memory")),
             row
         );
     }
@@ -63,12 +60,9 @@ fn rows_of_made_values(rt: HostRuntime) {
 
 #[test]
 fn the_last_byte_of_24_is_of_the_text_or_its_length(rt: HostRuntime) {
-    let euros = bytes_of(
-        &rt,
-        &CompactString::new(rt.alloc(), "€€€€€€€€").expect(&rt, "memory"),
-    );
+    let euros = bytes_of(&rt, &value_of(rt.alloc(), "€€€€€€€€").expect(&rt, "memory"));
     assert_eq!(rt; euros[23], 0xAC);
-    let mut cut = CompactString::new(rt.alloc(), letters(24)).expect(&rt, "memory");
+    let mut cut = value_of(rt.alloc(), letters(24)).expect(&rt, "memory");
     truncate(&rt, &mut cut, 3);
     assert_eq!(rt; bytes_of(&rt, &cut)[23], 0xC3);
     is_packed(&rt, rt.alloc(), &cut);
@@ -78,20 +72,18 @@ fn the_last_byte_of_24_is_of_the_text_or_its_length(rt: HostRuntime) {
 fn only_inline_values_have_the_bytes(rt: HostRuntime) {
     assert_eq!(rt; lasting(rt.alloc(), 25).packed(), None);
     assert_eq!(rt;
-        CompactString::new(rt.alloc(), letters(25))
+        value_of(rt.alloc(), letters(25))
             .expect(&rt, "memory")
             .packed(),
         None
     );
     assert_eq!(rt;
-        CompactString::with_capacity(rt.alloc(), 25)
-            .expect(&rt, "memory")
-            .packed(),
+        with_room(rt.alloc(), 25).expect(&rt, "memory").packed(),
         None
     );
     assert!(rt; lasting(rt.alloc(), 24).packed().is_some());
     assert!(rt;
-        CompactString::new(rt.alloc(), letters(24))
+        value_of(rt.alloc(), letters(24))
             .expect(&rt, "memory")
             .packed()
             .is_some()
@@ -142,9 +134,7 @@ fn each_length_is_packed(rt: HostRuntime) {
 
 #[test]
 fn each_length_is_cut(rt: HostRuntime) {
-    let mut value = CompactString::new(rt.alloc(), "abcdefghijklmnopqrstuvwx").expect(
-        &rt, "memory",
-    );
+    let mut value = value_of(rt.alloc(), "abcdefghijklmnopqrstuvwx").expect(&rt, "memory");
     for _ in 0..24u8 {
         assert!(rt; value.pop().is_some());
         is_packed_anew(&rt, rt.alloc(), &value);
@@ -168,8 +158,8 @@ fn a_character_ends_at_the_last_byte_or_one_or_two_before_it(rt: HostRuntime) {
         (21, "€"),
         (20, "𝄞"),
     ] {
-        let mut value = CompactString::new(rt.alloc(), letters(count)).expect(&rt, "memory");
-        value.push_str(last).expect(&rt, "memory");
+        let mut value = value_of(rt.alloc(), letters(count)).expect(&rt, "memory");
+        append(&mut value, last).expect(&rt, "memory");
         assert_eq!(rt; value.len(), count.saturating_add(last.len()));
         is_packed_anew(&rt, rt.alloc(), &value);
         assert_eq!(rt; value.pop(), last.chars().next());
@@ -198,7 +188,7 @@ fn is_wiped(rt: &impl Abort, alloc: Global, mut value: CompactString) {
     assert_eq!(rt; Seen::of(&value), Seen::inline(""));
     let row = b"\0\0\0\0\0\0\0\0\0\0\0\0\0\0\0\0\0\0\0\0\0\0\0\xC0";
     assert_eq!(rt; &bytes_of(rt, &value), row);
-    value.push_str("ab").expect(rt, "memory");
+    append(&mut value, "ab").expect(rt, "memory");
     is_packed(rt, alloc, &value);
 }
 
@@ -208,16 +198,16 @@ fn a_wiped_value_has_zeros_and_the_mark_of_no_text(rt: HostRuntime) {
         is_wiped(
             &rt,
             rt.alloc(),
-            CompactString::new(rt.alloc(), letters(count)).expect(&rt, "memory"),
+            value_of(rt.alloc(), letters(count)).expect(&rt, "memory"),
         );
-        let mut cut = CompactString::new(rt.alloc(), letters(24)).expect(&rt, "memory");
+        let mut cut = value_of(rt.alloc(), letters(24)).expect(&rt, "memory");
         truncate(&rt, &mut cut, count);
         is_wiped(&rt, rt.alloc(), cut);
     }
     is_wiped(
         &rt,
         rt.alloc(),
-        CompactString::new(rt.alloc(), "€€€€€€€€").expect(&rt, "memory"),
+        value_of(rt.alloc(), "€€€€€€€€").expect(&rt, "memory"),
     );
     is_wiped(&rt, rt.alloc(), lasting(rt.alloc(), 30));
 }

@@ -6,7 +6,7 @@ use crate::edits::{
 use crate::packed::is_packed;
 use compact_str::CompactString;
 use compact_testing::seen::Seen;
-use compact_testing::values::{lasting, letters};
+use compact_testing::values::{append, lasting, letters, value_of, with_room};
 use std::alloc::Global;
 use std::fmt::Write;
 use std::ops::Bound::{Excluded, Included};
@@ -14,12 +14,12 @@ use std::process::Abort;
 
 /// 23 letters.
 fn short(rt: &impl Abort, alloc: Global) -> CompactString {
-    CompactString::new(alloc, "abcdefghijklmnopqrstuvw").expect(rt, "memory")
+    value_of(alloc, "abcdefghijklmnopqrstuvw").expect(rt, "memory")
 }
 
 /// 24 letters.
 fn full(rt: &impl Abort, alloc: Global) -> CompactString {
-    CompactString::new(alloc, "abcdefghijklmnopqrstuvwx").expect(rt, "memory")
+    value_of(alloc, "abcdefghijklmnopqrstuvwx").expect(rt, "memory")
 }
 
 /// Asserts that a value is inline with this text, and its bytes with it.
@@ -62,7 +62,7 @@ fn characters_are_put_in_and_taken_out(rt: HostRuntime) {
 
 #[test]
 fn texts_are_put_in(rt: HostRuntime) {
-    let mut value = CompactString::new(rt.alloc(), letters(21)).expect(&rt, "memory");
+    let mut value = value_of(rt.alloc(), letters(21)).expect(&rt, "memory");
     insert_str(&rt, &mut value, 1, "");
     insert_str(&rt, &mut value, 20, "€");
     is(&rt, rt.alloc(), &value, "aaaaaaaaaaaaaaaaaaaa€a");
@@ -103,7 +103,7 @@ fn a_full_text_is_cleared_copied_and_moved(rt: HostRuntime) {
     value.clear();
     is(&rt, rt.alloc(), &value, "");
     is(&rt, rt.alloc(), &copy, "abcdefghijklmnopqrstuvwx");
-    value.push_str(letters(25)).expect(&rt, "memory");
+    append(&mut value, letters(25)).expect(&rt, "memory");
     assert_eq!(rt; value.packed(), None);
     truncate(&rt, &mut value, 24);
     assert_eq!(rt; value.packed(), None);
@@ -174,7 +174,7 @@ fn a_full_text_takes_the_place_of_another(rt: HostRuntime) {
         .clone_from(&short(&rt, rt.alloc()))
         .expect(&rt, "memory");
     is(&rt, rt.alloc(), &value, "abcdefghijklmnopqrstuvw");
-    let twelve = CompactString::new(rt.alloc(), letters(12)).expect(&rt, "memory");
+    let twelve = value_of(rt.alloc(), letters(12)).expect(&rt, "memory");
     is(&rt, rt.alloc(), &repeated(&rt, &twelve, 2), letters(24));
 }
 
@@ -197,8 +197,8 @@ fn texts_of_other_places_become_inline(rt: HostRuntime) {
         truncate(&rt, &mut value, count);
         value.reserve(0).expect(&rt, "memory");
         is(&rt, rt.alloc(), &value, letters(count));
-        let mut value = CompactString::with_capacity(rt.alloc(), 40).expect(&rt, "memory");
-        value.push_str(letters(count)).expect(&rt, "memory");
+        let mut value = with_room(rt.alloc(), 40).expect(&rt, "memory");
+        append(&mut value, letters(count)).expect(&rt, "memory");
         value.shrink_to_fit();
         is(&rt, rt.alloc(), &value, letters(count));
     }

@@ -4,12 +4,12 @@
 use crate::edits::{insert, insert_str, push, remove, repeated, replace, split, truncate};
 use compact_str::CompactString;
 use compact_testing::seen::Seen;
-use compact_testing::values::{lasting, letters};
+use compact_testing::values::{lasting, letters, value_of, with_room};
 use std::ops::Bound::{Excluded, Included, Unbounded};
 
 #[test]
 fn characters_are_pushed_and_popped(rt: HostRuntime) {
-    let mut value = CompactString::with_capacity(rt.alloc(), 0).expect(&rt, "memory");
+    let mut value = with_room(rt.alloc(), 0).expect(&rt, "memory");
     for (character, text) in [('a', "a"), ('ä', "aä"), ('𝄞', "aä𝄞")] {
         push(&rt, &mut value, character);
         assert_eq!(rt; Seen::of(&value), Seen::inline(text));
@@ -27,7 +27,7 @@ fn characters_are_pushed_and_popped(rt: HostRuntime) {
 
 #[test]
 fn characters_and_texts_are_inserted(rt: HostRuntime) {
-    let mut value = CompactString::new(rt.alloc(), "äb").expect(&rt, "memory");
+    let mut value = value_of(rt.alloc(), "äb").expect(&rt, "memory");
     for (index, character, text) in [(2, '𝄞', "ä𝄞b"), (0, 'x', "xä𝄞b"), (8, 'y', "xä𝄞by")] {
         insert(&rt, &mut value, index, character);
         assert_eq!(rt; Seen::of(&value), Seen::inline(text));
@@ -38,7 +38,7 @@ fn characters_and_texts_are_inserted(rt: HostRuntime) {
 
 #[test]
 fn characters_are_removed(rt: HostRuntime) {
-    let mut value = CompactString::new(rt.alloc(), "äb𝄞").expect(&rt, "memory");
+    let mut value = value_of(rt.alloc(), "äb𝄞").expect(&rt, "memory");
     for (index, character, text) in [(2, 'b', "ä𝄞"), (0, 'ä', "𝄞")] {
         assert_eq!(rt; remove(&rt, &mut value, index), character);
         assert_eq!(rt; Seen::of(&value), Seen::inline(text));
@@ -47,7 +47,7 @@ fn characters_are_removed(rt: HostRuntime) {
 
 #[test]
 fn texts_are_truncated(rt: HostRuntime) {
-    let mut value = CompactString::new(rt.alloc(), "äb𝄞").expect(&rt, "memory");
+    let mut value = value_of(rt.alloc(), "äb𝄞").expect(&rt, "memory");
     for (len, text) in [(9, "äb𝄞"), (7, "äb𝄞"), (2, "ä"), (0, "")] {
         truncate(&rt, &mut value, len);
         assert_eq!(rt; Seen::of(&value), Seen::inline(text));
@@ -56,7 +56,7 @@ fn texts_are_truncated(rt: HostRuntime) {
 
 #[test]
 fn a_heap_text_is_split_and_keeps_its_buffer(rt: HostRuntime) {
-    let mut value = CompactString::new(rt.alloc(), letters(60)).expect(&rt, "memory");
+    let mut value = value_of(rt.alloc(), letters(60)).expect(&rt, "memory");
     assert_eq!(rt;
         Seen::of(&split(&rt, &mut value, 10)),
         Seen::heap(50, letters(50))
@@ -89,7 +89,7 @@ fn texts_of_the_program_are_split(rt: HostRuntime) {
 
 #[test]
 fn a_greeting_is_replaced_part_by_part(rt: HostRuntime) {
-    let mut value = CompactString::new(rt.alloc(), "Hello, world!").expect(&rt, "memory");
+    let mut value = value_of(rt.alloc(), "Hello, world!").expect(&rt, "memory");
     replace(&rt, &mut value, Included(7), Excluded(12), "WORLD");
     assert_eq!(rt; Seen::of(&value), Seen::inline("Hello, WORLD!"));
     replace(&rt, &mut value, Included(7), Included(11), "you");
@@ -102,7 +102,7 @@ fn a_greeting_is_replaced_part_by_part(rt: HostRuntime) {
 
 #[test]
 fn texts_are_repeated(rt: HostRuntime) {
-    let value = CompactString::new(rt.alloc(), "abc").expect(&rt, "memory");
+    let value = value_of(rt.alloc(), "abc").expect(&rt, "memory");
     for (count, place, capacity, text) in [
         (0, "inline", 24, ""),
         (1, "inline", 24, "abc"),
@@ -129,7 +129,7 @@ fn ranges_are_replaced(rt: HostRuntime) {
         ("Xcdef", Unbounded, Excluded(1), "YZ", "YZcdef"),
         ("YZcdef", Unbounded, Unbounded, "ä", "ä"),
     ] {
-        let mut value = CompactString::new(rt.alloc(), before).expect(&rt, "memory");
+        let mut value = value_of(rt.alloc(), before).expect(&rt, "memory");
         replace(&rt, &mut value, start, end, text);
         assert_eq!(rt; Seen::of(&value), Seen::inline(after));
     }
@@ -145,7 +145,7 @@ fn an_empty_static_text_repeated_once_is_inline(rt: HostRuntime) {
 
 #[test]
 fn boundaries_are_where_characters_begin_and_end(rt: HostRuntime) {
-    let value = CompactString::new(rt.alloc(), "äb𝄞").expect(&rt, "memory");
+    let value = value_of(rt.alloc(), "äb𝄞").expect(&rt, "memory");
     for (index, boundary) in [
         (0, true),
         (1, false),
@@ -163,7 +163,7 @@ fn boundaries_are_where_characters_begin_and_end(rt: HostRuntime) {
 
 #[test]
 fn bounds_make_a_range_or_none(rt: HostRuntime) {
-    let value = CompactString::new(rt.alloc(), "äb").expect(&rt, "memory");
+    let value = value_of(rt.alloc(), "äb").expect(&rt, "memory");
     for (start, end, range) in [
         (Excluded(1), Excluded(3), Some((2, 3))),
         (Unbounded, Included(2), Some((0, 3))),

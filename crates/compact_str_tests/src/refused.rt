@@ -3,7 +3,7 @@
 use compact_str::CompactString;
 use compact_testing::memory::take_all;
 use compact_testing::seen::Seen;
-use compact_testing::values::letters;
+use compact_testing::values::{append, letters, value_of, with_room};
 use std::alloc::{AllocError, Global};
 use std::fmt::Write;
 use std::process::Abort;
@@ -25,8 +25,8 @@ fn each_request_is_refused_until_the_hog_is_dropped(rt: HostRuntime) {
 
 #[test]
 fn a_shrink_with_no_memory_leaves_the_capacity(rt: HostRuntime) {
-    let mut value = CompactString::with_capacity(rt.alloc(), 100).expect(&rt, "memory");
-    value.push_str(letters(30)).expect(&rt, "memory");
+    let mut value = with_room(rt.alloc(), 100).expect(&rt, "memory");
+    append(&mut value, letters(30)).expect(&rt, "memory");
     let hog = take_all(rt.alloc()).expect(&rt, "room for the list of blocks");
     value.shrink_to(50);
     assert_eq!(rt; Seen::of(&value), Seen::heap(100, letters(30)));
@@ -39,9 +39,9 @@ fn a_shrink_with_no_memory_leaves_the_capacity(rt: HostRuntime) {
 
 #[test]
 fn each_of_these_is_refused_and_leaves_the_value(rt: HostRuntime) {
-    let source = CompactString::new(rt.alloc(), letters(60)).expect(&rt, "memory");
-    let mut long = CompactString::new(rt.alloc(), letters(60)).expect(&rt, "memory");
-    let mut value = CompactString::new(rt.alloc(), "abc").expect(&rt, "memory");
+    let source = value_of(rt.alloc(), letters(60)).expect(&rt, "memory");
+    let mut long = value_of(rt.alloc(), letters(60)).expect(&rt, "memory");
+    let mut value = value_of(rt.alloc(), "abc").expect(&rt, "memory");
     assert!(rt; long.is_char_boundary(10));
     let hog = take_all(rt.alloc()).expect(&rt, "room for the list of blocks");
     assert!(rt; value.clone_from(&source).is_err());
@@ -72,7 +72,7 @@ fn back(rt: &impl Abort, value: CompactString) -> CompactString {
 
 #[test]
 fn a_value_that_becomes_no_string_is_handed_back(rt: HostRuntime) {
-    let value = CompactString::new(rt.alloc(), "abc").expect(&rt, "memory");
+    let value = value_of(rt.alloc(), "abc").expect(&rt, "memory");
     let hog = take_all(rt.alloc()).expect(&rt, "room for the list of blocks");
     let value = back(&rt, value);
     drop(hog);

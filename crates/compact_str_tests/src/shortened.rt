@@ -2,7 +2,7 @@
 
 use compact_str::CompactString;
 use compact_testing::seen::Seen;
-use compact_testing::values::letters;
+use compact_testing::values::{append, letters, value_of};
 use std::process::Abort;
 
 /// Keeps the first `len` bytes, which end at a boundary.
@@ -19,15 +19,15 @@ fn insert(rt: &impl Abort, value: &mut CompactString, index: usize, text: &str) 
 
 #[test]
 fn an_append_writes_over_what_was_cut(rt: HostRuntime) {
-    let mut value = CompactString::new(rt.alloc(), letters(49)).expect(&rt, "memory");
+    let mut value = value_of(rt.alloc(), letters(49)).expect(&rt, "memory");
     truncate(&rt, &mut value, 3);
-    value.push_str("bc").expect(&rt, "memory");
+    append(&mut value, "bc").expect(&rt, "memory");
     assert_eq!(rt; Seen::of(&value), Seen::at("heap", 49, "aaabc"));
 }
 
 #[test]
 fn an_append_goes_on_past_what_was_cut(rt: HostRuntime) {
-    let mut value = CompactString::new(rt.alloc(), letters(30)).expect(&rt, "memory");
+    let mut value = value_of(rt.alloc(), letters(30)).expect(&rt, "memory");
     truncate(&rt, &mut value, 3);
     value
         .push_str("0123456789 0123456789 0123456")
@@ -40,11 +40,11 @@ fn an_append_goes_on_past_what_was_cut(rt: HostRuntime) {
 
 #[test]
 fn a_growth_keeps_the_text_and_not_what_was_cut(rt: HostRuntime) {
-    let mut value = CompactString::new(rt.alloc(), letters(49)).expect(&rt, "memory");
+    let mut value = value_of(rt.alloc(), letters(49)).expect(&rt, "memory");
     truncate(&rt, &mut value, 2);
-    value.push_str(letters(48)).expect(&rt, "memory");
+    append(&mut value, letters(48)).expect(&rt, "memory");
     assert_eq!(rt; Seen::of(&value), Seen::heap(50, letters(50)));
-    value.push_str("a").expect(&rt, "memory");
+    append(&mut value, "a").expect(&rt, "memory");
     assert_eq!(rt; Seen::of(&value), Seen::heap(75, letters(51)));
     truncate(&rt, &mut value, 1);
     insert(&rt, &mut value, 0, "xy");
@@ -53,7 +53,7 @@ fn a_growth_keeps_the_text_and_not_what_was_cut(rt: HostRuntime) {
 
 #[test]
 fn a_text_is_put_in_before_what_was_cut(rt: HostRuntime) {
-    let mut value = CompactString::new(rt.alloc(), letters(49)).expect(&rt, "memory");
+    let mut value = value_of(rt.alloc(), letters(49)).expect(&rt, "memory");
     truncate(&rt, &mut value, 4);
     insert(&rt, &mut value, 2, "-+-");
     insert(&rt, &mut value, 3, "0");

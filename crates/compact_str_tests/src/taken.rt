@@ -3,7 +3,7 @@
 use compact_str::{CompactString, Drain, Standard};
 use compact_testing::memory::take_all;
 use compact_testing::seen::Seen;
-use compact_testing::values::{lasting, letters};
+use compact_testing::values::{append, lasting, letters, value_of};
 use std::fmt::Write;
 use std::ops::Bound;
 use std::ops::Bound::{Excluded, Included, Unbounded};
@@ -27,7 +27,7 @@ fn greeted<'a>(rt: &impl Abort, value: &'a mut CompactString) -> Drain<'a, Stand
 
 #[test]
 fn a_drain_gives_its_characters_from_both_ends(rt: HostRuntime) {
-    let mut value = CompactString::new(rt.alloc(), "Hello, world!").expect(&rt, "memory");
+    let mut value = value_of(rt.alloc(), "Hello, world!").expect(&rt, "memory");
     let mut drained = greeted(&rt, &mut value);
     assert!(rt; drained.size_hint() == (2, Some(7)));
     assert_eq!(rt; drained.next(), Some(','));
@@ -39,7 +39,7 @@ fn a_drain_gives_its_characters_from_both_ends(rt: HostRuntime) {
 
 #[test]
 fn a_drain_is_counted(rt: HostRuntime) {
-    let mut value = CompactString::new(rt.alloc(), "Hello, world!").expect(&rt, "memory");
+    let mut value = value_of(rt.alloc(), "Hello, world!").expect(&rt, "memory");
     assert_eq!(rt; greeted(&rt, &mut value).as_str().chars().count(), 7);
     assert_eq!(rt; Seen::of(&value), Seen::inline("Hello!"));
 }
@@ -54,14 +54,14 @@ fn drained_count(rt: &impl Abort, value: &mut CompactString) -> usize {
 
 #[test]
 fn a_drain_counts_what_is_left(rt: HostRuntime) {
-    let mut value = CompactString::new(rt.alloc(), "Hello, world!").expect(&rt, "memory");
+    let mut value = value_of(rt.alloc(), "Hello, world!").expect(&rt, "memory");
     assert_eq!(rt; drained_count(&rt, &mut value), 7);
     assert_eq!(rt; Seen::of(&value), Seen::inline("Hello!"));
 }
 
 #[test]
 fn a_drain_shows_what_is_not_taken_yet(rt: HostRuntime) {
-    let mut value = CompactString::new(rt.alloc(), "Hello, world!").expect(&rt, "memory");
+    let mut value = value_of(rt.alloc(), "Hello, world!").expect(&rt, "memory");
     let mut drained = greeted(&rt, &mut value);
     assert_eq!(rt; drained.next(), Some(','));
     assert_eq!(rt; drained.as_str(), " world");
@@ -71,22 +71,22 @@ fn a_drain_shows_what_is_not_taken_yet(rt: HostRuntime) {
 
 #[test]
 fn the_last_of_a_drain_is_its_last(rt: HostRuntime) {
-    let mut value = CompactString::new(rt.alloc(), "Hello, world!").expect(&rt, "memory");
+    let mut value = value_of(rt.alloc(), "Hello, world!").expect(&rt, "memory");
     assert_eq!(rt; greeted(&rt, &mut value).last(), Some('d'));
     assert_eq!(rt; Seen::of(&value), Seen::inline("Hello!"));
 }
 
 #[test]
 fn the_last_of_a_drain_from_the_back_is_its_first(rt: HostRuntime) {
-    let mut value = CompactString::new(rt.alloc(), "Hello, world!").expect(&rt, "memory");
+    let mut value = value_of(rt.alloc(), "Hello, world!").expect(&rt, "memory");
     assert_eq!(rt; greeted(&rt, &mut value).rev().last(), Some(','));
     assert_eq!(rt; Seen::of(&value), Seen::inline("Hello!"));
 }
 
 #[test]
 fn a_drain_prints_what_is_left(rt: HostRuntime) {
-    let mut value = CompactString::new(rt.alloc(), "Hello, world!").expect(&rt, "memory");
-    let mut printed = CompactString::new(rt.alloc(), "").expect(&rt, "memory");
+    let mut value = value_of(rt.alloc(), "Hello, world!").expect(&rt, "memory");
+    let mut printed = value_of(rt.alloc(), "").expect(&rt, "memory");
     let drained = greeted(&rt, &mut value);
     assert!(rt; write!(printed, "{drained:>9}{drained:?}").is_ok());
     drop(drained);
@@ -98,7 +98,7 @@ fn a_drain_prints_what_is_left(rt: HostRuntime) {
 
 #[test]
 fn the_ends_of_a_drain_meet(rt: HostRuntime) {
-    let mut value = CompactString::new(rt.alloc(), "𝄞🦄𝄢").expect(&rt, "memory");
+    let mut value = value_of(rt.alloc(), "𝄞🦄𝄢").expect(&rt, "memory");
     let mut drained = drain(&rt, &mut value, Unbounded, Unbounded);
     assert_eq!(rt; drained.next_back(), Some('𝄢'));
     assert_eq!(rt; drained.next(), Some('𝄞'));
@@ -112,7 +112,7 @@ fn the_ends_of_a_drain_meet(rt: HostRuntime) {
 
 #[test]
 fn bounds_of_a_drain_may_be_of_any_kind(rt: HostRuntime) {
-    let mut value = CompactString::new(rt.alloc(), "abcäef").expect(&rt, "memory");
+    let mut value = value_of(rt.alloc(), "abcäef").expect(&rt, "memory");
     drop(drain(&rt, &mut value, Excluded(0), Included(1)));
     assert_eq!(rt; Seen::of(&value), Seen::inline("acäef"));
     drop(drain(&rt, &mut value, Excluded(3), Unbounded));
@@ -132,7 +132,7 @@ fn a_drain_of_nothing_makes_a_static_text_its_own(rt: HostRuntime) {
 
 #[test]
 fn retain_asks_once_for_each_character(rt: HostRuntime) {
-    let mut value = CompactString::new(rt.alloc(), "äb𝄞d€").expect(&rt, "memory");
+    let mut value = value_of(rt.alloc(), "äb𝄞d€").expect(&rt, "memory");
     let mut asked: usize = 0;
     let kept = value.retain(|character| {
         asked = asked.saturating_add(1);
@@ -155,7 +155,7 @@ fn retaining_all_makes_a_static_text_its_own(rt: HostRuntime) {
 
 #[test]
 fn only_ascii_letters_change(rt: HostRuntime) {
-    let value = CompactString::new(rt.alloc(), "Grüße, Jürgen ❤").expect(&rt, "memory");
+    let value = value_of(rt.alloc(), "Grüße, Jürgen ❤").expect(&rt, "memory");
     let great = value.to_ascii_uppercase().expect(&rt, "memory");
     assert_eq!(rt; Seen::of(&great), Seen::inline("GRüßE, JüRGEN ❤"));
     let small = great.to_ascii_lowercase().expect(&rt, "memory");
@@ -164,7 +164,7 @@ fn only_ascii_letters_change(rt: HostRuntime) {
 
 #[test]
 fn letters_change_in_place(rt: HostRuntime) {
-    let mut value = CompactString::new(rt.alloc(), "[AbZz`@{É]").expect(&rt, "memory");
+    let mut value = value_of(rt.alloc(), "[AbZz`@{É]").expect(&rt, "memory");
     assert!(rt; value.make_ascii_uppercase().is_ok());
     assert_eq!(rt; Seen::of(&value), Seen::inline("[ABZZ`@{É]"));
     assert!(rt; value.make_ascii_lowercase().is_ok());
@@ -176,13 +176,13 @@ fn letters_change_in_place(rt: HostRuntime) {
 
 #[test]
 fn zeroize_empties_a_value_in_its_place(rt: HostRuntime) {
-    let mut value = CompactString::new(rt.alloc(), "secret").expect(&rt, "memory");
+    let mut value = value_of(rt.alloc(), "secret").expect(&rt, "memory");
     value.zeroize();
     assert_eq!(rt; Seen::of(&value), Seen::inline(""));
-    let mut long = CompactString::new(rt.alloc(), letters(40)).expect(&rt, "memory");
+    let mut long = value_of(rt.alloc(), letters(40)).expect(&rt, "memory");
     long.zeroize();
     assert_eq!(rt; Seen::of(&long), Seen::heap(40, letters(0)));
-    long.push_str("a").expect(&rt, "memory");
+    append(&mut long, "a").expect(&rt, "memory");
     assert_eq!(rt; Seen::of(&long), Seen::heap(40, letters(1)));
     let mut borrowed = lasting(rt.alloc(), 30);
     borrowed.zeroize();

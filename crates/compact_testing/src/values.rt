@@ -29,7 +29,7 @@ pub fn with_room(alloc: Global, capacity: usize) -> Result<CompactString, Reserv
 }
 
 /// Appends a text.
-pub fn append(value: &mut CompactString, text: &str) -> Result<(), ReserveError> {
+pub fn append<P: Policy>(value: &mut PolicyString<P>, text: &str) -> Result<(), ReserveError> {
     value.push_str(text)
 }
 

@@ -2,6 +2,7 @@
 
 use compact_str::CompactString;
 use compact_testing::memory::take_all;
+use compact_testing::values::value_of;
 use compact_uses::{
     Fault, LineError, RecordsCause, RecordsError, fields_of, line_of, read_records,
 };
@@ -39,22 +40,15 @@ fn assert_fields(rt: &impl Abort, fields: &Vec<CompactString>, texts: &[&str]) {
 
 /// Asserts the fields of a line.
 fn assert_line(rt: &impl Abort, alloc: Global, line: &str, texts: &[&str]) {
-    let fields = fields_of(
-        alloc,
-        ',',
-        &CompactString::new(alloc, line).expect(rt, "memory"),
-    )
-    .expect(rt, "a record");
+    let fields = fields_of(alloc, ',', &value_of(alloc, line).expect(rt, "memory")).expect(
+        rt, "a record",
+    );
     assert_fields(rt, &fields, texts);
 }
 
 /// Asserts that a line is no record.
 fn assert_fault(rt: &impl Abort, alloc: Global, line: &str, fault: Fault) {
-    let fields = fields_of(
-        alloc,
-        ',',
-        &CompactString::new(alloc, line).expect(rt, "memory"),
-    );
+    let fields = fields_of(alloc, ',', &value_of(alloc, line).expect(rt, "memory"));
     assert!(rt; matches!(fields, Err(LineError::Fault(told)) if told == fault));
 }
 
@@ -73,8 +67,8 @@ fn a_line_has_its_fields(rt: HostRuntime) {
 fn fields_are_written_in_quotes(rt: HostRuntime) {
     let alloc = rt.alloc();
     let fields = [
-        CompactString::new(alloc, "a").expect(&rt, "memory"),
-        CompactString::new(alloc, "b\",").expect(&rt, "memory"),
+        value_of(alloc, "a").expect(&rt, "memory"),
+        value_of(alloc, "b\",").expect(&rt, "memory"),
     ];
     let line = line_of(alloc, ',', &fields).expect(&rt, "memory");
     assert_eq!(rt; line.as_str(), "\"a\",\"b\"\",\"");

@@ -2,6 +2,7 @@
 
 use compact_str::CompactString;
 use compact_testing::memory::take_all;
+use compact_testing::values::value_of;
 use compact_uses::aligned_rows;
 use std::alloc::Global;
 use std::process::Abort;
@@ -11,7 +12,7 @@ fn fields_of(rt: &impl Abort, alloc: Global, texts: &[&str]) -> Vec<CompactStrin
     let mut fields = Vec::new(alloc);
     for text in texts {
         fields
-            .push(CompactString::new(alloc, text).expect(rt, "memory"))
+            .push(value_of(alloc, text).expect(rt, "memory"))
             .expect(rt, "memory");
     }
     fields

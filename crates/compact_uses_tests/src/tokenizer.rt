@@ -3,7 +3,7 @@
 use compact_edit::{InternError, Interner};
 use compact_str::CompactString;
 use compact_testing::memory::take_all;
-use compact_testing::values::letters;
+use compact_testing::values::{letters, value_of};
 use compact_uses::{Kind, Token, tokenize};
 use std::alloc::Global;
 use std::process::Abort;
@@ -20,12 +20,7 @@ fn assert_name(rt: &impl Abort, names: &Interner, number: u32, name: Option<&str
 
 /// The tokens of a text, for which there is memory.
 fn tokens_of(rt: &impl Abort, alloc: Global, names: &mut Interner, text: &str) -> Vec<Token> {
-    tokenize(
-        alloc,
-        names,
-        &CompactString::new(alloc, text).expect(rt, "memory"),
-    )
-    .expect(rt, "memory")
+    tokenize(alloc, names, &value_of(alloc, text).expect(rt, "memory")).expect(rt, "memory")
 }
 
 /// The kind that a letter stands for.
@@ -79,7 +74,7 @@ fn a_refused_list_of_tokens_or_a_long_word_leaves_the_names(rt: HostRuntime) {
     let mut names = Interner::new(rt.alloc());
     assert_eq!(rt; names.intern("ab").expect(&rt, "memory"), 0);
     for text in ["ab ab", letters(30)] {
-        let text = CompactString::new(rt.alloc(), text).expect(&rt, "memory");
+        let text = value_of(rt.alloc(), text).expect(&rt, "memory");
         is_refused(&rt, rt.alloc(), &mut names, &text);
     }
 }
