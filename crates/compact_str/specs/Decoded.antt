@@ -1,6 +1,7 @@
 -- Why bytes or units were not decoded.
 use Rattle.std.specs.Prelude.{◌≡◌, ℕ, List, [], length, drop, IsTrue}
-use Rattle.std.specs.Str.{IsUtf8}
+use Rattle.std.specs.Str.{IsUtf8, valid_up_to, error_len}
+use Rattle.std.specs.declared.str.Utf8Error.{Utf8Error}
 use Rattle.compact_codec.specs.BrokenPart.{IsUtf8Fault}
 use Rattle.compact_codec.specs.Utf16Text.{IsUtf16, UnitsEncode}
 use Rattle.compact_codec.specs.Utf16Bytes.{units_of, ArePairs, IsUtf16Bytes}
@@ -15,6 +16,10 @@ use Rattle.compact_str.specs.declared.decode.error.FromUtf16Error.TheVariants.{U
 -- the bytes that are left of these, once a beginning of them is taken
 abbrev pub IsEndOf : List ℕ → List ℕ → Type 0
 IsEndOf left bytes = (n : ℕ) × (left ≡ drop n bytes)
+
+-- std's error tells of bytes that are no text where they stop being one, and how long the broken part is
+pub record IsFaultOf (bytes : List ℕ) (e : Utf8Error) : Type 0 where
+  pub fault : IsUtf8Fault bytes (valid_up_to e) (error_len e)
 
 -- a slice of bytes encodes no text, and the error tells where; or it encodes one, for which memory was refused
 abbrev pub IsUtf8Refusal : List ℕ → FromUtf8Error → Type 0

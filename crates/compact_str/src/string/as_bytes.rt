@@ -1,12 +1,13 @@
 //! A value where bytes or a path are wanted, and a value made of bytes or a box with no copy.
-ghost use Rattle.std.specs.Prelude.{◌≡◌, ℕ, Some, IsOk, MatchResult};
+ghost use Rattle.std.specs.Prelude.{◌≡◌, ◌↔◌, ℕ, Some, IsOk, MatchResult};
 ghost use Rattle.std.specs.Str.{IsUtf8};
 ghost use Rattle.std.specs.Vec.{vec_capacity};
-ghost use Rattle.std.specs.String.{from_utf8_error_vec};
+ghost use Rattle.std.specs.String.{from_utf8_error_vec, from_utf8_error_cause};
 ghost use Rattle.std.specs.Box.{boxed_str_bytes};
 ghost use Rattle.compact_repr.specs.Text.{utf8, text_of};
 ghost use Rattle.compact_repr.specs.Value.{placed};
 ghost use Rattle.compact_repr.specs.Capacity.{taken_over};
+ghost use Rattle.compact_str.specs.Decoded.{IsFaultOf};
 
 use crate::string::PolicyString;
 use compact_repr::Policy;
@@ -60,16 +61,20 @@ impl<P: Policy> AsPath for PolicyString<P> {
 impl<P: Policy> TryFrom<Vec<u8>> for PolicyString<P> {
     type Error = FromUtf8Error;
 
-    ghost try_from_gives = { λ b r. MatchResult r
+    ghost try_from_gives = { λ b r. (IsOk r ↔ IsUtf8 b.items) × MatchResult r
         (λ v. let t = text_of b.items in v ≡ placed t (taken_over t (vec_capacity b)))
-        (λ e. from_utf8_error_vec e ≡ b) × (IsUtf8 b.items → IsOk r) };
+        (λ e. (from_utf8_error_vec e ≡ b) × IsFaultOf b.items (from_utf8_error_cause e)) };
 
     /// Takes the bytes over as `From<String>` does, if they are a text, and hands them back in the error if they are none.
     ///
     /// No memory is asked for. The bytes 61 62 give `"ab"`, and C3 alone none.
     fn try_from(bytes: Vec<u8>) -> Result<Self, FromUtf8Error> {
         match String::from_utf8(bytes) {
-            Ok(text) => Ok(Self::from(text)),
+            Ok(text) => {
+                // The proof reads from it that the bytes are a text.
+                let _bytes = text.as_str();
+                Ok(Self::from(text))
+            }
             Err(error) => Err(error),
         }
     }
