@@ -23,13 +23,13 @@ pub fn append_field(line: &mut CompactString, field: &str) -> Result<(), Reserve
     line.push_str(field)
 }
 
-/// A line of a report: a name, a colon and a value.
+/// A line of a report: a name, a colon, a space and a value.
 pub fn label(alloc: Global, name: &str, value: &str) -> Result<CompactString, ReserveError>
     ensures text { IfOk result
-        (λ v. v.text ≡ text_of name.now ++ text_of (codes ":") ++ text_of value.now) }
+        (λ line. line.text ≡ text_of name.now ++ text_of (codes ": ") ++ text_of value.now) }
 {
     let mut line = CompactString::new(alloc, name)?;
-    line.push_str(":")?;
+    line.push_str(": ")?;
     line.push_str(value)?;
     Ok(line)
 }

@@ -9,7 +9,7 @@ fn keywords_and_labels_are_short(rt: HostRuntime) {
     let word = keyword(rt.alloc(), "while").expect(&rt, "memory");
     assert_eq!(rt; Seen::of(&word), Seen::inline("while"));
     let line = label(rt.alloc(), "name", "value").expect(&rt, "memory");
-    assert_eq!(rt; Seen::of(&line), Seen::inline("name:value"));
+    assert_eq!(rt; Seen::of(&line), Seen::inline("name: value"));
 }
 
 #[test]
