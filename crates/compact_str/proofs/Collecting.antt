@@ -17,7 +17,7 @@ use Rattle.compact_repr.specs.Value.{PlacedText}
 use Rattle.compact_repr.specs.Capacity.{Growth}
 use Rattle.compact_repr.specs.Change.{pushed}
 use Rattle.compact_str.specs.Room.{HasRoomFor, sure_capacity}
-use Rattle.compact_str.specs.Collects.{Appends, AppendsAll, AppendsUpToRefused, PassesInline, StopsWithout, alone, joined}
+use Rattle.compact_str.specs.Collects.{Appends, AppendsAll, AppendsUpToRefused, PassesInline, GivesText, StopsWithout, alone, joined}
 use Rattle.compact_repr.proofs.Texts.{size-append, size-text_of}
 use Rattle.compact_repr.proofs.Changes.{pushed-text}
 use Rattle.compact_str.proofs.Rooms.{pushed-sure}
@@ -244,6 +244,12 @@ module _ {U S T : Type 0} (becomes : U → S → Type 0) (steps : S → Option T
   strings-succeed first n (Err _) e grows (it, b, o) h =
       let more = h it b (o.0 ++ o.1 ∷ []) o.2 (yields-next steps it o.3.0 o.2 o.0 o.1 o.3.1 o.3.2) in
       absurd (omega (arith, more, grows, size-next f o.0 o.1, o.5, ap size o.4, size-append t (flat_map f o.0), e))
+
+  -- where no text stood before, those that came up to the refused one make some
+  pub stopped-gives : t ≡ [] → (it : S) × becomes iter it × StopsWithout steps f it capacity t u → (it : S) × becomes iter it × GivesText steps (flat_map f) it
+  stopped-gives empty (it, b, o) =
+      let so_far : u ≡ flat_map f o.0 = o.4 ∙ ap (λ l. l ++ flat_map f o.0) empty in
+      (it, b, (o.0 ++ o.1 ∷ [], o.2, yields-next steps it o.3.0 o.2 o.0 o.1 o.3.1 o.3.2, omega (arith, size-next f o.0 o.1, o.5, ap size so_far)))
 
 -- items that are read through v
 pub joined-map : {A B : Type 0} (separator : List ℕ) (h : B → List ℕ) (v : A → B) (xs : List A) → joined separator h (map v xs) ≡ joined separator (λ x. h (v x)) xs

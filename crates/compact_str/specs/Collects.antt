@@ -46,6 +46,10 @@ module _ {S A : Type 0} (steps : S → Option A → S → Type 0) where
   abbrev pub PassesInline : (List A → List ℕ) → S → Type 0
   PassesInline spells s = (xs : List A) × (t : S) × Yields steps s xs t × (24 < size (spells xs))
 
+  -- items that an iterator gave make a text that is not empty
+  abbrev pub GivesText : (List A → List ℕ) → S → Type 0
+  GivesText spells s = (xs : List A) × (t : S) × Yields steps s xs t × (0 < size (spells xs))
+
   -- the items before one that is refused are joined to a text t, which leaves u, and there that one is past a capacity
   abbrev pub StopsWithout : (A → List ℕ) → S → ℕ → List ℕ → List ℕ → Type 0
   StopsWithout spells s capacity t u =

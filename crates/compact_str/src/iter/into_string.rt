@@ -1,9 +1,9 @@
 //! A `String` that values are appended to, or collected into, by the traits of the library.
-ghost use Rattle.std.specs.Prelude.{◌≡◌, ◌+◌, ◌≤◌, List, ◌++◌, flat_map, IfOk, OnOk, OnErr, string_bytes};
+ghost use Rattle.std.specs.Prelude.{◌≡◌, ◌+◌, ◌≤◌, List, ◌++◌, flat_map, IfOk, IsOk, OnOk, OnErr, string_bytes};
 ghost use Rattle.std.specs.Iterator.{Drains, IsFiniteIterable};
 ghost use Rattle.std.specs.String.{string_capacity};
 ghost use Rattle.compact_repr.specs.Text.{size, text_of};
-ghost use Rattle.compact_str.specs.Collects.{OfIterator, StopsWithout};
+ghost use Rattle.compact_str.specs.Collects.{OfIterator, OfAllItems, GivesText, StopsWithout};
 ghost use Rattle.compact_str.specs.Order.{text_in};
 
 use crate::iter::append::append_texts;
@@ -44,6 +44,8 @@ impl<P: Policy> FromIterator<PolicyString<P>> for String {
     ghost from_iter_gives = { λ xs s. text_of (string_bytes s) ≡ flat_map text_in xs };
 
     /// The texts of the values, one after another, appended to an empty `String`.
+    ///
+    /// An error says that no memory was found for them; it comes only where they are not all empty.
     fn from_iter<U: IntoIterator<Item = PolicyString<P>>>(
         alloc: Global,
         values: U,
@@ -53,6 +55,10 @@ impl<P: Policy> FromIterator<PolicyString<P>> for String {
         ensures text { IfOk result (λ s. (it : U.IntoIter) × (xs : List _)
             × U.into_iter_gives values it × Drains U.IntoIter.next_gives it xs
             × (text_of (string_bytes s) ≡ flat_map text_in xs)) }
+        ensures succeeds { OfAllItems U.into_iter_gives U.IntoIter.next_gives values
+            (λ xs. size (flat_map text_in xs) ≡ 0) → IsOk result }
+        ensures err { OnErr result (OfIterator U.into_iter_gives values
+            (λ it. GivesText U.IntoIter.next_gives (flat_map text_in) it)) }
     {
         let mut line = String::new(alloc);
         match append_texts(&mut line, values) {
