@@ -134,7 +134,7 @@ pub fn mixed_rows(alloc: Global) -> Result<Vec<Vec<u8>>, AllocError> {
 }
 
 /// The bytes of such texts, of which each with a number one below a multiple of 64 is FF.
-pub fn broken_rows(alloc: Global) -> Result<Vec<Vec<u8>>, AllocError> {
+pub fn invalid_rows(alloc: Global) -> Result<Vec<Vec<u8>>, AllocError> {
     let mut rows = mixed_rows(alloc)?;
     for row in rows.iter_mut() {
         for byte in row.iter_mut().skip(63).step_by(64) {

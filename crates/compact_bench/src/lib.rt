@@ -156,13 +156,13 @@ pub extern "C" fn cs_bench_utf8_mixed(alloc: Global, n: u64) -> u64 {
     workloads::decode::utf8_mixed(alloc, n).unwrap_or(u64::MAX)
 }
 
-/// Decodes 1024 such bytes, of which 16 are broken, lossily from UTF-8.
+/// Decodes 1024 such bytes, of which 16 are invalid, lossily from UTF-8.
 #[unsafe(no_mangle)]
 pub extern "C" fn cs_bench_utf8_lossy(alloc: Global, n: u64) -> u64 {
     workloads::decode::utf8_lossy(alloc, n).unwrap_or(u64::MAX)
 }
 
-/// Decodes 1024 such bytes, of which none is broken, lossily from UTF-8.
+/// Decodes 1024 such bytes, of which none is invalid, lossily from UTF-8.
 #[unsafe(no_mangle)]
 pub extern "C" fn cs_bench_utf8_lossy_valid(alloc: Global, n: u64) -> u64 {
     workloads::decode::utf8_lossy_valid(alloc, n).unwrap_or(u64::MAX)

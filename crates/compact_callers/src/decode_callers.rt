@@ -7,17 +7,17 @@ ghost use Rattle.compact_str.specs.Utf8Text.{utf8_lossy_text};
 use compact_str::{CompactString, FromUtf8Error, ReserveError};
 use std::alloc::Global;
 
-/// Decodes each row of a list, and counts those that are broken: a row that is refused for memory is none.
+/// Decodes each row of a list, and counts those that are invalid: a row that is refused for memory is none.
 #[tactic(auto, using(compact_str::proofs::ForCallers::for_callers, compact_str::proofs::ForCallers::decoding))]
-pub fn broken_rows(alloc: Global, rows: &[&[u8]]) -> usize
+pub fn invalid_rows(alloc: Global, rows: &[&[u8]]) -> usize
     ensures { result ≡ length (filter (λ row. not (is_utf8 row.now)) rows.now) }
 {
-    rows.iter().filter(|row| is_broken(alloc, **row)).count()
+    rows.iter().filter(|row| is_invalid(alloc, **row)).count()
 }
 
 /// Whether bytes encode no text.
 #[tactic(auto, using(compact_str::proofs::ForCallers::decoding))]
-fn is_broken(alloc: Global, bytes: &[u8]) -> bool
+fn is_invalid(alloc: Global, bytes: &[u8]) -> bool
     ensures { result ≡ not (is_utf8 bytes.now) }
 {
     matches!(
@@ -26,11 +26,11 @@ fn is_broken(alloc: Global, bytes: &[u8]) -> bool
     )
 }
 
-/// A name of which broken parts are replaced, and whether there were any.
+/// A name of which invalid sequences are replaced, and whether there were any.
 #[tactic(auto, using(compact_str::proofs::ForCallers::for_callers, compact_str::proofs::ForCallers::decoding))]
 pub fn decoded_name(alloc: Global, bytes: &[u8]) -> Result<(CompactString, bool), ReserveError>
     ensures text { IfOk result (λ answer. answer.0.text ≡ utf8_lossy_text bytes.now) }
-    ensures broken { IfOk result (λ answer. IsTrue answer.1 ↔ ¬ (IsUtf8 bytes.now)) }
+    ensures invalid { IfOk result (λ answer. IsTrue answer.1 ↔ ¬ (IsUtf8 bytes.now)) }
     ensures succeeds { size (utf8_lossy_text bytes.now) ≤ 24 → IsOk result }
 {
     match CompactString::from_utf8(alloc, bytes) {
@@ -43,7 +43,7 @@ pub fn decoded_name(alloc: Global, bytes: &[u8]) -> Result<(CompactString, bool)
     }
 }
 
-/// The text of a value, by way of its bytes. It is never told to be broken.
+/// The text of a value, by way of its bytes. It is never told to be invalid.
 #[tactic(auto, using(compact_str::proofs::ForCallers::for_callers, compact_str::proofs::ForCallers::decoding))]
 pub fn through_bytes(alloc: Global, value: &CompactString) -> Result<CompactString, ReserveError>
     ensures text { IfOk result (λ copy. copy.text ≡ value.now.text) }

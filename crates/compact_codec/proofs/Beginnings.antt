@@ -5,9 +5,9 @@ use Rattle.std.proofs.lemmas.Bool.Decides.{nat_tests}
 use Rattle.std.specs.Int.{is_in_range}
 use Rattle.std.specs.Str.Lossy.{second_byte_min, second_byte_max}
 use Rattle.compact_codec.specs.Utf8Table.{TableRow, FitsRow, FitsSomeRow, sequence_table, trailing_bytes, IsInByteRange, IsWellFormedSequence}
-use Rattle.compact_codec.specs.BrokenPart.{BeginsSequence}
+use Rattle.compact_codec.specs.InvalidSequence.{IsPrefixOfSequence}
 
--- the bytes fit the front of a row
+-- the bytes fit the start of a row
 abbrev pub Begins : TableRow → List ℕ → Type 0
 Begins rs [] = Unit {0}
 Begins [] (b ∷ bs) = ⊥
@@ -51,10 +51,10 @@ completed_one (row ∷ rows) bs h f = ⊎_elim
     (λ later. let rest = completed_one rows bs h.1 later in (rest.0, inr rest.1))
     f
 
-pub begins_from : (bs : List ℕ) → BeginsSequence bs → BeginsOneOf sequence_table bs
+pub begins_from : (bs : List ℕ) → IsPrefixOfSequence bs → BeginsOneOf sequence_table bs
 begins_from bs h = begins_one sequence_table bs h.0 h.1
 
-pub begins_to : (bs : List ℕ) → BeginsOneOf sequence_table bs → BeginsSequence bs
+pub begins_to : (bs : List ℕ) → BeginsOneOf sequence_table bs → IsPrefixOfSequence bs
 begins_to bs h =
     let two : HasBytes (trailing_bytes ∷ []) = (omega arith, tt) in
     let three : HasBytes (trailing_bytes ∷ trailing_bytes ∷ []) = (omega arith, two) in
@@ -106,7 +106,7 @@ row_cases a h =
     (cases_lt a 0xE1))
     (cases_lt a 0xE0)
 
-pub one_begins : (a : ℕ) → Leads a → BeginsSequence (a ∷ [])
+pub one_begins : (a : ℕ) → Leads a → IsPrefixOfSequence (a ∷ [])
 one_begins a h = begins_to (a ∷ [])
     (⊎_elim (λ is. inr (inl (((omega arith, omega arith), tt))))
     (⊎_elim (λ is. inr (inr (inl (((omega arith, omega arith), tt)))))
@@ -118,7 +118,7 @@ one_begins a h = begins_to (a ∷ [])
     ((λ is. inr (inr (inr (inr (inr (inr (inr (inr (inl (((omega arith, omega arith), tt))))))))))))))))))
     (row_cases a h))
 
-pub two_begin : (a b : ℕ) → Leads a → follows a b ≡ true → BeginsSequence (a ∷ b ∷ [])
+pub two_begin : (a b : ℕ) → Leads a → follows a b ≡ true → IsPrefixOfSequence (a ∷ b ∷ [])
 two_begin a b h f = begins_to (a ∷ b ∷ [])
     (⊎_elim (λ is. let second : (0x80 ≤ b) × (b ≤ 0xBF) = grind (arith, nat_tests) in inr (inl (((omega arith, omega arith), (second, tt)))))
     (⊎_elim (λ is. let second : (0xA0 ≤ b) × (b ≤ 0xBF) = grind (arith, nat_tests) in inr (inr (inl (((omega arith, omega arith), (second, tt))))))
@@ -130,7 +130,7 @@ two_begin a b h f = begins_to (a ∷ b ∷ [])
     ((λ is. let second : (0x80 ≤ b) × (b ≤ 0x8F) = grind (arith, nat_tests) in inr (inr (inr (inr (inr (inr (inr (inr (inl (((omega arith, omega arith), (second, tt)))))))))))))))))))
     (row_cases a h))
 
-pub three_begin : (a b d : ℕ) → 0xE0 ≤ a → Leads a → follows a b ≡ true → IsInByteRange trailing_bytes d → BeginsSequence (a ∷ b ∷ d ∷ [])
+pub three_begin : (a b d : ℕ) → 0xE0 ≤ a → Leads a → follows a b ≡ true → IsInByteRange trailing_bytes d → IsPrefixOfSequence (a ∷ b ∷ d ∷ [])
 three_begin a b d wide h f id = begins_to (a ∷ b ∷ d ∷ [])
     (⊎_elim (λ is. absurd (omega arith))
     (⊎_elim (λ is. let second : (0xA0 ≤ b) × (b ≤ 0xBF) = grind (arith, nat_tests) in inr (inr (inl (((omega arith, omega arith), (second, (id, tt)))))))
@@ -142,7 +142,7 @@ three_begin a b d wide h f id = begins_to (a ∷ b ∷ d ∷ [])
     ((λ is. let second : (0x80 ≤ b) × (b ≤ 0x8F) = grind (arith, nat_tests) in inr (inr (inr (inr (inr (inr (inr (inr (inl (((omega arith, omega arith), (second, (id, tt))))))))))))))))))))
     (row_cases a h))
 
-pub one_from : (a : ℕ) → BeginsSequence (a ∷ []) → (a ≤ 0x7F) ⊎ Leads a
+pub one_from : (a : ℕ) → IsPrefixOfSequence (a ∷ []) → (a ≤ 0x7F) ⊎ Leads a
 one_from a h =
     ⊎_elim (λ f. inl f.0.1)
     (⊎_elim (λ f. inr (omega arith, omega arith))
@@ -156,7 +156,7 @@ one_from a h =
     ((λ none. absurd none))))))))))
     (begins_from (a ∷ []) h)
 
-pub two_from : (a b : ℕ) (rest : List ℕ) → BeginsSequence (a ∷ b ∷ rest) → Leads a × (follows a b ≡ true)
+pub two_from : (a b : ℕ) (rest : List ℕ) → IsPrefixOfSequence (a ∷ b ∷ rest) → Leads a × (follows a b ≡ true)
 two_from a b rest h =
     ⊎_elim (λ f. absurd f.1)
     (⊎_elim (λ f. let first = f.0 in let second = f.1.0 in ((omega arith, omega arith), grind (arith, nat_tests)))
@@ -170,7 +170,7 @@ two_from a b rest h =
     ((λ none. absurd none))))))))))
     (begins_from (a ∷ b ∷ rest) h)
 
-pub three_from : (a b d : ℕ) (rest : List ℕ) → BeginsSequence (a ∷ b ∷ d ∷ rest) → (0xE0 ≤ a) × IsInByteRange trailing_bytes d
+pub three_from : (a b d : ℕ) (rest : List ℕ) → IsPrefixOfSequence (a ∷ b ∷ d ∷ rest) → (0xE0 ≤ a) × IsInByteRange trailing_bytes d
 three_from a b d rest h =
     ⊎_elim (λ f. absurd f.1)
     (⊎_elim (λ f. absurd f.1.1)
@@ -184,7 +184,7 @@ three_from a b d rest h =
     ((λ none. absurd none))))))))))
     (begins_from (a ∷ b ∷ d ∷ rest) h)
 
-pub four_from : (a b d e : ℕ) (rest : List ℕ) → BeginsSequence (a ∷ b ∷ d ∷ e ∷ rest) → IsWellFormedSequence (a ∷ b ∷ d ∷ e ∷ [])
+pub four_from : (a b d e : ℕ) (rest : List ℕ) → IsPrefixOfSequence (a ∷ b ∷ d ∷ e ∷ rest) → IsWellFormedSequence (a ∷ b ∷ d ∷ e ∷ [])
 four_from a b d e rest h =
     ⊎_elim (λ f. absurd f.1)
     (⊎_elim (λ f. absurd f.1.1)
@@ -199,5 +199,5 @@ four_from a b d e rest h =
     (begins_from (a ∷ b ∷ d ∷ e ∷ rest) h)
 
 -- a well-formed sequence begins one
-pub begins_well_formed : (bs : List ℕ) → IsWellFormedSequence bs → BeginsSequence bs
+pub begins_well_formed : (bs : List ℕ) → IsWellFormedSequence bs → IsPrefixOfSequence bs
 begins_well_formed bs well = ([], subst IsWellFormedSequence (sym (append-nil bs)) well)

@@ -1,10 +1,9 @@
 pub mod Rows
 pub mod Beginnings
 pub mod Parts
-pub mod LoneUnits
+pub mod UnpairedSurrogates
 pub mod LossyReading
 pub mod UnitsReading
 pub mod PairsReading
 pub mod WorkedExamples
-pub mod ForReaders
-pub mod StringSink
+pub mod ForDecoders

@@ -8,8 +8,8 @@ use Rattle.compact_codec.specs.declared.utf16_bytes.ByteOrder.{ByteOrder}
 use Rattle.compact_codec.specs.declared.utf16_bytes.ByteOrder.TheVariants.{LittleEndian, BigEndian}
 use Rattle.compact_codec.specs.Text.{replacement_character}
 use Rattle.compact_codec.specs.Utf16Text.{AreUnits, IsUtf16, utf16_lossy_text, IsUtf16Step}
-use Rattle.compact_codec.specs.Utf16Bytes.{unit_of, unit_bytes, units_of, ArePairs, odd_byte_text, IsUtf16Bytes, utf16_bytes_lossy_text, BeginsWithBrokenBytes, IsUtf16BytesStep, AreBytes, PairsAreTheUnits, Utf16BytesLossyTextIsTheOne, Utf16BytesLossyTextOfText}
-use Rattle.compact_codec.proofs.UnitsReading.{first_step_within, utf16_lossy_text-step, lone_is_no_text, rest_is_text, longer_is_text, utf16_lossy_text_is, utf16_lossy_text_of_text}
+use Rattle.compact_codec.specs.Utf16Bytes.{unit_of, unit_bytes, units_of, ArePairs, odd_byte_text, IsUtf16Bytes, utf16_bytes_lossy_text, BeginsWithInvalidBytes, IsUtf16BytesStep, AreBytes, PairsAreTheUnits, Utf16BytesLossyTextIsUnique, Utf16BytesLossyTextOfText}
+use Rattle.compact_codec.proofs.UnitsReading.{first_step_within, utf16_lossy_text-step, unpaired_is_no_text, rest_is_text, longer_is_text, utf16_lossy_text_is, utf16_lossy_text_of_text}
 
 -- units and their bytes
 
@@ -65,12 +65,12 @@ AreUnits-units_of order (a ∷ b ∷ bytes) all zero d within =
 AreUnits-units_of order (a ∷ b ∷ bytes) all (suc k) d within =
     AreUnits-units_of order bytes (AreBytes-rest b bytes (AreBytes-rest a (b ∷ bytes) all)) k d (omega arith)
 
-pub utf16_bytes_lossy_text_is : Utf16BytesLossyTextIsTheOne
+pub utf16_bytes_lossy_text_is : Utf16BytesLossyTextIsUnique
 unfolding utf16_bytes_lossy_text
 utf16_bytes_lossy_text_is order bytes text all =
     let units = units_of order bytes in
     let fits = AreUnits-units_of order bytes all in (
-      λ (front, is, same). same ∙ ap (λ t. t ++ odd_byte_text bytes) ((utf16_lossy_text_is units front fits).0 is),
+      λ (prefix, is, same). same ∙ ap (λ t. t ++ odd_byte_text bytes) ((utf16_lossy_text_is units prefix fits).0 is),
       λ same. (utf16_lossy_text units, (utf16_lossy_text_is units (utf16_lossy_text units) fits).1 refl, same),
     )
 
@@ -105,20 +105,20 @@ units_of-append order [] ys p = refl
 units_of-append order (a ∷ []) ys p = absurd p
 units_of-append order (a ∷ b ∷ xs) ys p = ap (λ l. unit_of order a b ∷ l) (units_of-append order xs ys p)
 
--- the step at the front
+-- the step at the start
 
-pub front_units : (order : ByteOrder) (bytes : List ℕ) (first : ℕ) → slice_get (units_of order bytes) 0 ≡ Some first
+pub units_at_start : (order : ByteOrder) (bytes : List ℕ) (first : ℕ) → slice_get (units_of order bytes) 0 ≡ Some first
     → units_of order bytes ≡ first ∷ units_of order (drop 2 bytes)
-front_units order [] first is = cc
-front_units order (a ∷ []) first is = cc
-front_units order (a ∷ b ∷ bytes) first is = let same : unit_of order a b ≡ first = cc in ap (λ u. u ∷ units_of order bytes) same
+units_at_start order [] first is = cc
+units_at_start order (a ∷ []) first is = cc
+units_at_start order (a ∷ b ∷ bytes) first is = let same : unit_of order a b ≡ first = cc in ap (λ u. u ∷ units_of order bytes) same
 
 -- all that a step over units says of the bytes
 pub record StepsOver (order : ByteOrder) (bytes : List ℕ) (o : Option ℕ) (n : ℕ) : Type 0 where
   pub step : IsUtf16BytesStep order bytes o n
   pub taken : (0 < n) × (n ≤ length bytes)
   pub lossy : utf16_bytes_lossy_text order bytes ≡ unwrap_or o replacement_character ∷ utf16_bytes_lossy_text order (drop n bytes)
-  pub broken : IfNone o (¬ (IsUtf16Bytes order bytes))
+  pub invalid : IfNone o (¬ (IsUtf16Bytes order bytes))
 
 abbrev step_of : (order : ByteOrder) (bytes : List ℕ) (o : Option ℕ) (n m : ℕ) → m ≡ 2 * n → IsUtf16Step (units_of order bytes) o n → IsUtf16BytesStep order bytes o m
 step_of order bytes (Some c) n m double is =
@@ -126,9 +126,9 @@ step_of order bytes (Some c) n m double is =
     (is.0, pairs.0, pairs.1, pairs.2 ∙ is.2)
 step_of order bytes None n m double is = let one = is.1 in inl (is.0, omega arith)
 
-none_is_broken : (order : ByteOrder) (bytes : List ℕ) (o : Option ℕ) (n : ℕ) → IsUtf16Step (units_of order bytes) o n → IfNone o (¬ (IsUtf16Bytes order bytes))
-none_is_broken order bytes (Some c) n is = search rules
-none_is_broken order bytes None n is = λ text. lone_is_no_text (units_of order bytes) is.0 text.1
+none_is_invalid : (order : ByteOrder) (bytes : List ℕ) (o : Option ℕ) (n : ℕ) → IsUtf16Step (units_of order bytes) o n → IfNone o (¬ (IsUtf16Bytes order bytes))
+none_is_invalid order bytes (Some c) n is = search rules
+none_is_invalid order bytes None n is = λ text. unpaired_is_no_text (units_of order bytes) is.0 text.1
 
 pub steps_over : (order : ByteOrder) (bytes : List ℕ) (o : Option ℕ) (n m : ℕ) → m ≡ 2 * n → IsUtf16Step (units_of order bytes) o n → StepsOver order bytes o m
 unfolding utf16_bytes_lossy_text
@@ -142,7 +142,7 @@ steps_over order bytes o n m double is =
       taken = (omega arith, omega arith);
       lossy = ap (λ t. t ++ odd_byte_text bytes) (utf16_lossy_text-step (units_of order bytes) o n is)
           ∙ (λ i. unwrap_or o replacement_character ∷ (utf16_lossy_text (sym pairs.3 i) ++ sym pairs.4 i));
-      broken = none_is_broken order bytes o n is;
+      invalid = none_is_invalid order bytes o n is;
     }
 
 from_at : (bytes : List ℕ) (at : ℕ) → take (length bytes - at) (drop at bytes) ≡ drop at bytes
@@ -154,7 +154,7 @@ pub pair_step : (order : ByteOrder) (bytes : List ℕ) (first : ℕ) (second o :
 pair_step order bytes first second o n first_is second_is step =
     let rest = units_of order (drop 2 bytes) in
     let known : slice_get rest 0 ≡ second = ap (λ l. slice_get (units_of order l) 0) (sym (from_at bytes 2)) ∙ sym second_is in
-    steps_over order bytes o n (2 * n) refl (subst (λ l. IsUtf16Step l o n) (sym (front_units order bytes first (sym first_is))) (step rest known))
+    steps_over order bytes o n (2 * n) refl (subst (λ l. IsUtf16Step l o n) (sym (units_at_start order bytes first (sym first_is))) (step rest known))
 
 utf16_lossy_text-nil : utf16_lossy_text [] ≡ []
 utf16_lossy_text-nil = ap (map (λ o. unwrap_or o 0xFFFD)) utf16_chars-nil
@@ -166,21 +166,21 @@ odd_step order (a ∷ []) one = record {
   step = inr (refl, refl);
   taken = (omega arith, omega arith);
   lossy = ap (λ t. t ++ replacement_character ∷ []) utf16_lossy_text-nil ∙ ap (λ t. replacement_character ∷ (t ++ [])) (sym utf16_lossy_text-nil);
-  broken = λ text. text.0;
+  invalid = λ text. text.0;
 }
 odd_step order (a ∷ b ∷ bytes) one = absurd (omega arith)
 
--- a judge's step
+-- a step of validation
 
 rest_is_bytes : (order : ByteOrder) (xs ys : List ℕ) → IsUtf16Bytes order xs → IsUtf16Bytes order (xs ++ ys) → IsUtf16Bytes order ys
-rest_is_bytes order xs ys front whole =
-    (ArePairs-rest xs ys front.0 whole.0, rest_is_text (units_of order xs) (units_of order ys) front.1 (subst IsUtf16 (units_of-append order xs ys front.0) whole.1))
+rest_is_bytes order xs ys prefix whole =
+    (ArePairs-rest xs ys prefix.0 whole.0, rest_is_text (units_of order xs) (units_of order ys) prefix.1 (subst IsUtf16 (units_of-append order xs ys prefix.0) whole.1))
 
-broken_is_no_text : (order : ByteOrder) (bytes : List ℕ) (n : ℕ) → BeginsWithBrokenBytes order bytes n → ¬ (IsUtf16Bytes order bytes)
-broken_is_no_text order bytes n broken text = ⊎_elim
-    (λ lone. lone_is_no_text (units_of order bytes) lone.0 text.1)
+invalid_is_no_text : (order : ByteOrder) (bytes : List ℕ) (n : ℕ) → BeginsWithInvalidBytes order bytes n → ¬ (IsUtf16Bytes order bytes)
+invalid_is_no_text order bytes n invalid text = ⊎_elim
+    (λ unpaired. unpaired_is_no_text (units_of order bytes) unpaired.0 text.1)
     (λ odd. odd_is_no_text order bytes odd.0 text)
-    broken
+    invalid
   where
     odd_is_no_text : (order : ByteOrder) (bytes : List ℕ) → length bytes ≡ 1 → ¬ (IsUtf16Bytes order bytes)
     odd_is_no_text order [] one text = absurd (omega arith)
@@ -189,24 +189,24 @@ broken_is_no_text order bytes n broken text = ⊎_elim
 
 pub passed_step : (order : ByteOrder) (bytes : List ℕ) (at n : ℕ) (o : Option ℕ) → IsUtf16Bytes order (take at bytes) → is_some o ≡ true
     → IsUtf16BytesStep order (take (length bytes - at) (drop at bytes)) o n → IsUtf16Bytes order (take (at + n) bytes)
-passed_step order bytes at n None front some is = absurd (false≢true some)
-passed_step order bytes at n (Some c) front some is =
+passed_step order bytes at n None prefix some is = absurd (false≢true some)
+passed_step order bytes at n (Some c) prefix some is =
     let step = subst (λ l. IsUtf16BytesStep order l (Some c) n) (from_at bytes at) is in
     let xs = take at bytes in
     let ys = take n (drop at bytes) in
     let longer : IsUtf16Bytes order (xs ++ ys) = (
-      ArePairs-append xs ys front.0 step.2,
-      subst IsUtf16 (sym (units_of-append order xs ys front.0)) (longer_is_text (units_of order xs) (units_of order ys) c front.1 step.0 step.3),
+      ArePairs-append xs ys prefix.0 step.2,
+      subst IsUtf16 (sym (units_of-append order xs ys prefix.0)) (longer_is_text (units_of order xs) (units_of order ys) c prefix.1 step.0 step.3),
     ) in
     subst (IsUtf16Bytes order) (sym (take-add at n bytes)) longer
 
 pub stopped_step : (order : ByteOrder) (bytes : List ℕ) (at n : ℕ) (o : Option ℕ) → IsUtf16Bytes order (take at bytes) → is_some o ≡ false
     → IsUtf16BytesStep order (take (length bytes - at) (drop at bytes)) o n → ¬ (IsUtf16Bytes order bytes)
-stopped_step order bytes at n None front none is whole =
-    let broken = subst (λ l. BeginsWithBrokenBytes order l n) (from_at bytes at) is in
-    broken_is_no_text order (drop at bytes) n broken
-    (rest_is_bytes order (take at bytes) (drop at bytes) front (subst (IsUtf16Bytes order) (sym (take-append-drop at bytes)) whole))
-stopped_step order bytes at n (Some c) front none is whole = absurd (true≢false none)
+stopped_step order bytes at n None prefix none is whole =
+    let invalid = subst (λ l. BeginsWithInvalidBytes order l n) (from_at bytes at) is in
+    invalid_is_no_text order (drop at bytes) n invalid
+    (rest_is_bytes order (take at bytes) (drop at bytes) prefix (subst (IsUtf16Bytes order) (sym (take-append-drop at bytes)) whole))
+stopped_step order bytes at n (Some c) prefix none is whole = absurd (true≢false none)
 
 -- the bytes of a text's own units
 

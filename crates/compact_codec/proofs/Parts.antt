@@ -1,4 +1,4 @@
--- The longest front that is text, and the broken part after it, beside std's words for both.
+-- The longest valid prefix, and the invalid sequence after it, beside std's words for both.
 use Rattle.std.proofs.Common.{◌≡◌, ℕ, zero, suc, ◌+◌, ◌<◌, ◌≤◌, ◌⊎◌, true, false, cond, List, [], ◌∷◌, length, take, drop, Option, Some, None, slice_index, IsUtf8, encode_utf8, refl, sym, ap, subst, ◌∙◌, arith, inl, inr, ⊎_elim, true≢false, append-nil, length-drop, take_all, take-add, min, ◌-◌, take-append-drop, drop-drop, take_at, le_refl}
 use Rattle.std.specs.Prelude.{◌==◌, nat_lt, IsNone}
 use Rattle.std.specs.Int.{is_in_range}
@@ -9,17 +9,17 @@ use Rattle.std.proofs.lemmas.Bool.Decides.{nat_tests}
 use Rattle.std.proofs.lemmas.Str.{IsUtf8-from_is_utf8, is_utf8-from_IsUtf8, IsUtf8-append, IsUtf8-drop, IsAscii-append, IsAscii-take, IsUtf8-from_ascii, IsCharBoundary-from_take, length-encode, len_utf8_bounds}
 use Rattle.std.proofs.lemmas.List.{length-take, length-take-le, drop-take, take-take}
 use Rattle.compact_codec.specs.Utf8Table.{trailing_bytes, IsInByteRange, IsWellFormedSequence}
-use Rattle.compact_codec.specs.BrokenPart.{IsLongestFront, BeginsSequence, IsUnconvertible, IsMaximalSubpart, IsBrokenPart, IsUtf8Fault, FaultIsTheOne}
+use Rattle.compact_codec.specs.InvalidSequence.{IsLongestValidPrefix, IsPrefixOfSequence, IsUnconvertible, IsMaximalSubpart, IsErrorLen, IsUtf8Error, Utf8ErrorIsUnique}
 use Rattle.compact_codec.proofs.Rows.{character-IsWellFormedSequence}
 use Rattle.compact_codec.proofs.Beginnings.{Leads, follows, one_begins, two_begin, three_begin, one_from, two_from, three_from, four_from}
 
--- the longest front
+-- the longest valid prefix
 
-longest_front_up_to : (bs : List ℕ) (m : ℕ)
+longest_prefix_up_to : (bs : List ℕ) (m : ℕ)
     → IsUtf8 (take (valid_len_up_to bs m) bs) × ((k : ℕ) → valid_len_up_to bs m < k → k ≤ m → ¬ (IsUtf8 (take k bs))) × (valid_len_up_to bs m ≤ m)
-longest_front_up_to bs zero = (([], (refl, refl)), λ k above within. absurd (omega arith), omega arith)
-longest_front_up_to bs (suc m) =
-    let rest = longest_front_up_to bs m in
+longest_prefix_up_to bs zero = (([], (refl, refl)), λ k above within. absurd (omega arith), omega arith)
+longest_prefix_up_to bs (suc m) =
+    let rest = longest_prefix_up_to bs m in
     ⊎_elim
     (λ yes.
     let is : valid_len_up_to bs (suc m) ≡ suc m = cond-true _ _ _ yes in
@@ -38,19 +38,19 @@ longest_front_up_to bs (suc m) =
     ))
     (cases_Bool (is_utf8 (take (suc m) bs)))
 
-pub utf8_valid_len-IsLongestFront : (bs : List ℕ) → IsLongestFront bs (utf8_valid_len bs)
+pub utf8_valid_len-IsLongestValidPrefix : (bs : List ℕ) → IsLongestValidPrefix bs (utf8_valid_len bs)
 unfolding utf8_valid_len
-utf8_valid_len-IsLongestFront bs =
-    let all = longest_front_up_to bs (length bs) in
-    record { within = all.2; front = all.0; longest = all.1 }
+utf8_valid_len-IsLongestValidPrefix bs =
+    let all = longest_prefix_up_to bs (length bs) in
+    record { within = all.2; prefix = all.0; longest = all.1 }
 
--- there is one longest front
-pub same_front : (bs : List ℕ) (n m : ℕ) → IsLongestFront bs n → IsLongestFront bs m → n ≡ m
-same_front bs n m p q =
+-- there is one longest prefix
+pub same_valid_prefix : (bs : List ℕ) (n m : ℕ) → IsLongestValidPrefix bs n → IsLongestValidPrefix bs m → n ≡ m
+same_valid_prefix bs n m p q =
     let n_within = p.within in
     let m_within = q.within in
-    ⊎_elim (λ (less : n < m). absurd (p.longest m less q.within q.front))
-    (λ (from : m ≤ n). ⊎_elim (λ (less : m < n). absurd (q.longest n less p.within p.front)) (λ (to : n ≤ m). omega arith) (cases_lt m n))
+    ⊎_elim (λ (less : n < m). absurd (p.longest m less q.within q.prefix))
+    (λ (from : m ≤ n). ⊎_elim (λ (less : m < n). absurd (q.longest n less p.within p.prefix)) (λ (to : n ≤ m). omega arith) (cases_lt m n))
     (cases_lt n m)
 
 pub length-IsWellFormedSequence : (bs : List ℕ) → IsWellFormedSequence bs → 1 ≤ length bs
@@ -64,13 +64,13 @@ IsUtf8-IsWellFormedSequence bs well =
     (one.0 ∷ [], (and_from _ true one.1 refl, append-nil (encode_utf8 one.0) ∙ one.2))
 
 -- after it, no well-formed sequence stands
-pub unconvertible_after_front : (bs : List ℕ) (n : ℕ) → IsLongestFront bs n → IsUnconvertible (drop n bs)
-unconvertible_after_front bs n f k well =
+pub unconvertible_after_prefix : (bs : List ℕ) (n : ℕ) → IsLongestValidPrefix bs n → IsUnconvertible (drop n bs)
+unconvertible_after_prefix bs n f k well =
     let rest = drop n bs in
     let some = length-IsWellFormedSequence _ well in
     let left = length-drop n bs in
     let taken : length (take k rest) ≡ min k (length rest) = length-take k rest in
-    let longer : IsUtf8 (take (n + k) bs) = subst IsUtf8 (sym (take-add n k bs)) (IsUtf8-append _ _ f.front (IsUtf8-IsWellFormedSequence _ well)) in
+    let longer : IsUtf8 (take (n + k) bs) = subst IsUtf8 (sym (take-add n k bs)) (IsUtf8-append _ _ f.prefix (IsUtf8-IsWellFormedSequence _ well)) in
     ⊎_elim
     (λ (past : length bs < n + k).
     let whole : take (n + k) bs ≡ take (length bs) bs = take_all (n + k) bs (omega arith) ∙ sym (take_all (length bs) bs (omega arith)) in
@@ -78,29 +78,29 @@ unconvertible_after_front bs n f k well =
     (λ (within : n + k ≤ length bs). f.longest (n + k) (omega arith) within longer)
     (cases_lt (length bs) (n + k))
 
--- the broken part
+-- the invalid sequence
 
-pub open_end : (bs : List ℕ) → 1 ≤ length bs → IsUnconvertible bs → BeginsSequence bs → IsBrokenPart bs None
+pub open_end : (bs : List ℕ) → 1 ≤ length bs → IsUnconvertible bs → IsPrefixOfSequence bs → IsErrorLen bs None
 open_end bs some un begins = (
   record {
     some = some;
     within = omega arith;
     unconvertible = un;
-    begins = inr (subst BeginsSequence (sym (take_all (length bs) bs (omega arith))) begins);
+    begins = inr (subst IsPrefixOfSequence (sym (take_all (length bs) bs (omega arith))) begins);
     longest = λ m above within. absurd (omega arith);
   },
   (λ _. begins, λ _. refl),
 )
 
-closed_part : (bs : List ℕ) (n : ℕ) → 1 ≤ n → n ≤ length bs → IsUnconvertible bs → (n ≡ 1) ⊎ BeginsSequence (take n bs)
-    → ((m : ℕ) → n < m → m ≤ length bs → ¬ (BeginsSequence (take m bs))) → (n ≡ length bs → ¬ (BeginsSequence bs))
-    → IsBrokenPart bs (Some n)
+closed_part : (bs : List ℕ) (n : ℕ) → 1 ≤ n → n ≤ length bs → IsUnconvertible bs → (n ≡ 1) ⊎ IsPrefixOfSequence (take n bs)
+    → ((m : ℕ) → n < m → m ≤ length bs → ¬ (IsPrefixOfSequence (take m bs))) → (n ≡ length bs → ¬ (IsPrefixOfSequence bs))
+    → IsErrorLen bs (Some n)
 closed_part bs n some within un begins longest whole = (
   record { some = some; within = within; unconvertible = un; begins = begins; longest = longest },
   (
     λ none. absurd (true≢false none),
     λ all. ⊎_elim
-        (λ (less : n < length bs). absurd (longest (length bs) less (omega arith) (subst BeginsSequence (sym (take_all (length bs) bs (omega arith))) all)))
+        (λ (less : n < length bs). absurd (longest (length bs) less (omega arith) (subst IsPrefixOfSequence (sym (take_all (length bs) bs (omega arith))) all)))
         (λ (from : length bs ≤ n). absurd (whole (omega arith) all))
         (cases_lt n (length bs)),
   ),
@@ -108,7 +108,7 @@ closed_part bs n some within un begins longest whole = (
 
 -- one byte, where it leads no sequence, or where the second byte does not follow it
 pub one_byte : (bs : List ℕ) → 1 ≤ length bs → IsUnconvertible bs
-    → ¬ (Leads (slice_index bs 0)) ⊎ ((2 ≤ length bs) × (follows (slice_index bs 0) (slice_index bs 1) ≡ false)) → IsBrokenPart bs (Some 1)
+    → ¬ (Leads (slice_index bs 0)) ⊎ ((2 ≤ length bs) × (follows (slice_index bs 0) (slice_index bs 1) ≡ false)) → IsErrorLen bs (Some 1)
 one_byte [] some un why = absurd (omega arith)
 one_byte (a ∷ []) some un why =
     closed_part (a ∷ []) 1 (omega arith) (omega arith) un (inl refl) (λ m above within. absurd (omega arith))
@@ -122,14 +122,14 @@ one_byte (a ∷ b ∷ rest) some un why =
     (longer wrong)
     (λ _ begins. wrong (two_from a b rest begins))
   where
-    longer : (Leads a × (follows a b ≡ true) → ⊥) → (m : ℕ) → 1 < m → m ≤ length (a ∷ b ∷ rest) → ¬ (BeginsSequence (take m (a ∷ b ∷ rest)))
+    longer : (Leads a × (follows a b ≡ true) → ⊥) → (m : ℕ) → 1 < m → m ≤ length (a ∷ b ∷ rest) → ¬ (IsPrefixOfSequence (take m (a ∷ b ∷ rest)))
     longer wrong zero above within begins = absurd (omega arith)
     longer wrong (suc zero) above within begins = absurd (omega arith)
     longer wrong (suc (suc k)) above within begins = wrong (two_from a b (take k rest) begins)
 
 -- two bytes, where the third does not go on
 pub two_bytes : (bs : List ℕ) → 3 ≤ length bs → IsUnconvertible bs → Leads (slice_index bs 0) → follows (slice_index bs 0) (slice_index bs 1) ≡ true
-    → ¬ (IsInByteRange trailing_bytes (slice_index bs 2)) → IsBrokenPart bs (Some 2)
+    → ¬ (IsInByteRange trailing_bytes (slice_index bs 2)) → IsErrorLen bs (Some 2)
 two_bytes [] long un leads second third = absurd (omega arith)
 two_bytes (a ∷ []) long un leads second third = absurd (omega arith)
 two_bytes (a ∷ b ∷ []) long un leads second third = absurd (omega arith)
@@ -137,7 +137,7 @@ two_bytes (a ∷ b ∷ d ∷ rest) long un leads second third =
     closed_part (a ∷ b ∷ d ∷ rest) 2 (omega arith) (omega arith) un (inr (two_begin a b leads second)) longer
     (λ same. absurd (omega arith))
   where
-    longer : (m : ℕ) → 2 < m → m ≤ length (a ∷ b ∷ d ∷ rest) → ¬ (BeginsSequence (take m (a ∷ b ∷ d ∷ rest)))
+    longer : (m : ℕ) → 2 < m → m ≤ length (a ∷ b ∷ d ∷ rest) → ¬ (IsPrefixOfSequence (take m (a ∷ b ∷ d ∷ rest)))
     longer zero above within begins = absurd (omega arith)
     longer (suc zero) above within begins = absurd (omega arith)
     longer (suc (suc zero)) above within begins = absurd (omega arith)
@@ -154,7 +154,7 @@ wide a b rest un leads second = ⊎_elim
 
 -- three bytes, where a fourth stands
 pub three_bytes : (bs : List ℕ) → 4 ≤ length bs → IsUnconvertible bs → Leads (slice_index bs 0) → follows (slice_index bs 0) (slice_index bs 1) ≡ true
-    → IsInByteRange trailing_bytes (slice_index bs 2) → IsBrokenPart bs (Some 3)
+    → IsInByteRange trailing_bytes (slice_index bs 2) → IsErrorLen bs (Some 3)
 three_bytes [] long un leads second third = absurd (omega arith)
 three_bytes (a ∷ []) long un leads second third = absurd (omega arith)
 three_bytes (a ∷ b ∷ []) long un leads second third = absurd (omega arith)
@@ -164,7 +164,7 @@ three_bytes (a ∷ b ∷ d ∷ e ∷ rest) long un leads second third =
     (inr (three_begin a b d (wide a b (d ∷ e ∷ rest) un leads second) leads second third)) longer
     (λ same. absurd (omega arith))
   where
-    longer : (m : ℕ) → 3 < m → m ≤ length (a ∷ b ∷ d ∷ e ∷ rest) → ¬ (BeginsSequence (take m (a ∷ b ∷ d ∷ e ∷ rest)))
+    longer : (m : ℕ) → 3 < m → m ≤ length (a ∷ b ∷ d ∷ e ∷ rest) → ¬ (IsPrefixOfSequence (take m (a ∷ b ∷ d ∷ e ∷ rest)))
     longer zero above within begins = absurd (omega arith)
     longer (suc zero) above within begins = absurd (omega arith)
     longer (suc (suc zero)) above within begins = absurd (omega arith)
@@ -172,19 +172,19 @@ three_bytes (a ∷ b ∷ d ∷ e ∷ rest) long un leads second third =
     longer (suc (suc (suc (suc k)))) above within begins = un 4 (four_from a b d e (take k rest) begins)
 
 -- the bytes end within a sequence
-pub ends_after_one : (bs : List ℕ) → 1 ≤ length bs → length bs < 2 → IsUnconvertible bs → Leads (slice_index bs 0) → IsBrokenPart bs None
+pub ends_after_one : (bs : List ℕ) → 1 ≤ length bs → length bs < 2 → IsUnconvertible bs → Leads (slice_index bs 0) → IsErrorLen bs None
 ends_after_one [] some short un leads = absurd (omega arith)
 ends_after_one (a ∷ []) some short un leads = open_end (a ∷ []) (omega arith) un (one_begins a leads)
 ends_after_one (a ∷ b ∷ rest) some short un leads = absurd (omega arith)
 
-pub ends_after_two : (bs : List ℕ) → 2 ≤ length bs → length bs < 3 → IsUnconvertible bs → Leads (slice_index bs 0) → follows (slice_index bs 0) (slice_index bs 1) ≡ true → IsBrokenPart bs None
+pub ends_after_two : (bs : List ℕ) → 2 ≤ length bs → length bs < 3 → IsUnconvertible bs → Leads (slice_index bs 0) → follows (slice_index bs 0) (slice_index bs 1) ≡ true → IsErrorLen bs None
 ends_after_two [] some short un leads second = absurd (omega arith)
 ends_after_two (a ∷ []) some short un leads second = absurd (omega arith)
 ends_after_two (a ∷ b ∷ []) some short un leads second = open_end (a ∷ b ∷ []) (omega arith) un (two_begin a b leads second)
 ends_after_two (a ∷ b ∷ d ∷ rest) some short un leads second = absurd (omega arith)
 
 pub ends_after_three : (bs : List ℕ) → 3 ≤ length bs → length bs < 4 → IsUnconvertible bs → Leads (slice_index bs 0) → follows (slice_index bs 0) (slice_index bs 1) ≡ true
-    → IsInByteRange trailing_bytes (slice_index bs 2) → IsBrokenPart bs None
+    → IsInByteRange trailing_bytes (slice_index bs 2) → IsErrorLen bs None
 ends_after_three [] some short un leads second third = absurd (omega arith)
 ends_after_three (a ∷ []) some short un leads second third = absurd (omega arith)
 ends_after_three (a ∷ b ∷ []) some short un leads second third = absurd (omega arith)
@@ -204,11 +204,11 @@ trailing_from a h = grind (arith, nat_tests)
 not_trailing_from : (a : ℕ) → is_in_range 0x80 0xBF a ≡ false → ¬ (IsInByteRange trailing_bytes a)
 not_trailing_from a h is = grind (arith, nat_tests)
 
--- std's word for the length of the broken part says the Standard's maximal subpart
-pub utf8_error_len-IsBrokenPart : (bs : List ℕ) → 1 ≤ length bs → IsUnconvertible bs → IsBrokenPart bs (utf8_error_len bs)
+-- std's word for the length of the invalid sequence says the Standard's maximal subpart
+pub utf8_error_len-IsErrorLen : (bs : List ℕ) → 1 ≤ length bs → IsUnconvertible bs → IsErrorLen bs (utf8_error_len bs)
 unfolding utf8_error_len
-utf8_error_len-IsBrokenPart bs some un =
-    let P : Option ℕ → Type 0 = λ o. IsBrokenPart bs o in
+utf8_error_len-IsErrorLen bs some un =
+    let P : Option ℕ → Type 0 = λ o. IsErrorLen bs o in
     let a = slice_index bs 0 in
     let b = slice_index bs 1 in
     let d = slice_index bs 2 in
@@ -234,7 +234,7 @@ utf8_error_len-IsBrokenPart bs some un =
     (λ first. after_one (leads_from a first))
     (λ no_first. one_byte bs some un (inl (not_leads_from a no_first))))
 
--- there is one maximal subpart, and one length of a broken part
+-- there is one maximal subpart, and one length of an invalid sequence
 pub same_part : (bs : List ℕ) (n m : ℕ) → IsMaximalSubpart bs n → IsMaximalSubpart bs m → n ≡ m
 same_part bs n m p q =
     let n_some = p.some in
@@ -247,104 +247,104 @@ same_part bs n m p q =
     (λ from. ⊎_elim (λ less. absurd (longer m n q p less)) (λ to. omega arith) (cases_lt m n))
     (cases_lt n m)
 
--- a fault of bytes that are no text, by std's words
-pub fault_by_std : (bs : List ℕ) → ¬ (IsUtf8 bs) → IsUtf8Fault bs (utf8_valid_len bs) (utf8_error_len (drop (utf8_valid_len bs) bs))
-fault_by_std bs bad =
+-- an error of bytes that are no text, by std's words
+pub error_by_std : (bs : List ℕ) → ¬ (IsUtf8 bs) → IsUtf8Error bs (utf8_valid_len bs) (utf8_error_len (drop (utf8_valid_len bs) bs))
+error_by_std bs bad =
     let n = utf8_valid_len bs in
-    let front = utf8_valid_len-IsLongestFront bs in
-    let within = front.within in
-    let un = unconvertible_after_front bs n front in
+    let prefix = utf8_valid_len-IsLongestValidPrefix bs in
+    let within = prefix.within in
+    let un = unconvertible_after_prefix bs n prefix in
     let short : n < length bs = ⊎_elim (λ less. less)
-    (λ (from : length bs ≤ n). absurd (bad (subst IsUtf8 (take_all n bs from) front.front)))
+    (λ (from : length bs ≤ n). absurd (bad (subst IsUtf8 (take_all n bs from) prefix.prefix)))
     (cases_lt n (length bs)) in
-    (front, utf8_error_len-IsBrokenPart (drop n bs) (omega (arith, length-drop n bs)) un)
+    (prefix, utf8_error_len-IsErrorLen (drop n bs) (omega (arith, length-drop n bs)) un)
 
--- bytes with a fault are no text
-pub fault_is_no_text : (bs : List ℕ) (n : ℕ) (part : Option ℕ) → IsUtf8Fault bs n part → ¬ (IsUtf8 bs)
-fault_is_no_text bs n part fault whole =
-    let some = fault.1.0.some in
-    let within = fault.1.0.within in
+-- bytes with an error are no text
+pub error_is_no_text : (bs : List ℕ) (n : ℕ) (part : Option ℕ) → IsUtf8Error bs n part → ¬ (IsUtf8 bs)
+error_is_no_text bs n part error whole =
+    let some = error.1.0.some in
+    let within = error.1.0.within in
     let left = length-drop n bs in
-    fault.0.longest (length bs) (omega arith) (omega arith) (subst IsUtf8 (sym (take_all (length bs) bs (omega arith))) whole)
+    error.0.longest (length bs) (omega arith) (omega arith) (subst IsUtf8 (sym (take_all (length bs) bs (omega arith))) whole)
 
 none_from : (o : Option ℕ) → IsNone o → o ≡ None
 none_from None h = refl
 none_from (Some n) h = absurd (true≢false h)
 
-same_length : (bs : List ℕ) (p q : Option ℕ) → IsBrokenPart bs p → IsBrokenPart bs q → p ≡ q
+same_length : (bs : List ℕ) (p q : Option ℕ) → IsErrorLen bs p → IsErrorLen bs q → p ≡ q
 same_length bs None q is_p is_q = sym (none_from q (is_q.1.1 (is_p.1.0 refl)))
 same_length bs (Some n) None is_p is_q = absurd (true≢false (is_p.1.1 (is_q.1.0 refl)))
 same_length bs (Some n) (Some m) is_p is_q = ap Some (same_part bs n m is_p.0 is_q.0)
 
-pub fault_is : FaultIsTheOne
-fault_is bs n part bad = (
+pub error_is : Utf8ErrorIsUnique
+error_is bs n part bad = (
   λ is.
-      let std = fault_by_std bs bad in
-      let same : n ≡ utf8_valid_len bs = same_front bs n (utf8_valid_len bs) is.0 std.0 in
-      (same, same_length (drop n bs) part (utf8_error_len (drop n bs)) is.1 (subst (λ k. IsBrokenPart (drop k bs) (utf8_error_len (drop k bs))) (sym same) std.1)),
+      let std = error_by_std bs bad in
+      let same : n ≡ utf8_valid_len bs = same_valid_prefix bs n (utf8_valid_len bs) is.0 std.0 in
+      (same, same_length (drop n bs) part (utf8_error_len (drop n bs)) is.1 (subst (λ k. IsErrorLen (drop k bs) (utf8_error_len (drop k bs))) (sym same) std.1)),
   λ are.
-      let std = fault_by_std bs bad in
-      let front : IsLongestFront bs n = subst (IsLongestFront bs) (sym are.0) std.0 in
-      (front, subst (IsBrokenPart (drop n bs)) (sym are.1) (subst (λ k. IsBrokenPart (drop k bs) (utf8_error_len (drop k bs))) (sym are.0) std.1)),
+      let std = error_by_std bs bad in
+      let prefix : IsLongestValidPrefix bs n = subst (IsLongestValidPrefix bs) (sym are.0) std.0 in
+      (prefix, subst (IsErrorLen (drop n bs)) (sym are.1) (subst (λ k. IsErrorLen (drop k bs) (utf8_error_len (drop k bs))) (sym are.0) std.1)),
 )
 
--- a fault after bytes that are known to be text
+-- an error after bytes that are known to be text
 
 text_after : (bs : List ℕ) (at : ℕ) → IsUtf8 bs → at ≤ length bs → IsUtf8 (take at bs) → IsUtf8 (drop at bs)
-text_after bs at whole within front = IsUtf8-drop bs at whole (IsCharBoundary-from_take bs at whole within front)
+text_after bs at whole within prefix = IsUtf8-drop bs at whole (IsCharBoundary-from_take bs at whole within prefix)
 
 pub rest_at : (bs : List ℕ) (at : ℕ) → take (length bs - at) (drop at bs) ≡ drop at bs
 rest_at bs at = take_all (length bs - at) (drop at bs) (omega (arith, length-drop at bs))
 
 pub whole_from : (bs : List ℕ) (at : ℕ) → IsUtf8 (take at bs) → IsUtf8 (take (length bs - at) (drop at bs)) → IsUtf8 bs
-whole_from bs at front rest =
-    subst IsUtf8 (take-append-drop at bs) (IsUtf8-append (take at bs) (drop at bs) front (subst IsUtf8 (rest_at bs at) rest))
+whole_from bs at prefix rest =
+    subst IsUtf8 (take-append-drop at bs) (IsUtf8-append (take at bs) (drop at bs) prefix (subst IsUtf8 (rest_at bs at) rest))
 
-pub broken_from : (bs : List ℕ) (at : ℕ) → at ≤ length bs → IsUtf8 (take at bs) → ¬ (IsUtf8 (take (length bs - at) (drop at bs))) → ¬ (IsUtf8 bs)
-broken_from bs at within front bad whole = bad (subst IsUtf8 (sym (rest_at bs at)) (text_after bs at whole within front))
+pub invalid_from : (bs : List ℕ) (at : ℕ) → at ≤ length bs → IsUtf8 (take at bs) → ¬ (IsUtf8 (take (length bs - at) (drop at bs))) → ¬ (IsUtf8 bs)
+invalid_from bs at within prefix bad whole = bad (subst IsUtf8 (sym (rest_at bs at)) (text_after bs at whole within prefix))
 
-front_from : (bs : List ℕ) (at n : ℕ) → at ≤ length bs → IsUtf8 (take at bs) → IsLongestFront (drop at bs) n → IsLongestFront bs (at + n)
-front_from bs at n within front f =
+prefix_from : (bs : List ℕ) (at n : ℕ) → at ≤ length bs → IsUtf8 (take at bs) → IsLongestValidPrefix (drop at bs) n → IsLongestValidPrefix bs (at + n)
+prefix_from bs at n within prefix f =
     let f_within = f.within in
     let left = length-drop at bs in
     record {
       within = omega arith;
-      front = subst IsUtf8 (sym (take-add at n bs)) (IsUtf8-append (take at bs) (take n (drop at bs)) front f.front);
+      prefix = subst IsUtf8 (sym (take-add at n bs)) (IsUtf8-append (take at bs) (take n (drop at bs)) prefix f.prefix);
       longest = λ m above m_within text.
           let k = m - at in
           let m_is : m ≡ at + k = omega arith in
           let len : length (take m bs) ≡ m = length-take-le m bs m_within in
-          let at_front : take at (take m bs) ≡ take at bs = ap (λ j. take at (take j bs)) m_is ∙ ap (take at) (take-add at k bs) ∙ take_at (take at bs) (take k (drop at bs)) at (length-take-le at bs within) in
+          let at_prefix : take at (take m bs) ≡ take at bs = ap (λ j. take at (take j bs)) m_is ∙ ap (take at) (take-add at k bs) ∙ take_at (take at bs) (take k (drop at bs)) at (length-take-le at bs within) in
           let rest : drop at (take m bs) ≡ take k (drop at bs) = ap (λ j. drop at (take j bs)) m_is ∙ drop-take at k bs in
           f.longest k (omega arith) (omega arith)
-          (subst IsUtf8 rest (text_after (take m bs) at text (omega arith) (subst IsUtf8 (sym at_front) front)));
+          (subst IsUtf8 rest (text_after (take m bs) at text (omega arith) (subst IsUtf8 (sym at_prefix) prefix)));
     }
 
-pub fault_from : (bs : List ℕ) (at n : ℕ) (part : Option ℕ) → at ≤ length bs → IsUtf8 (take at bs) → IsUtf8Fault (take (length bs - at) (drop at bs)) n part → IsUtf8Fault bs (at + n) part
-fault_from bs at n part within front fault =
-    let here = subst (λ l. IsUtf8Fault l n part) (rest_at bs at) fault in
-    (front_from bs at n within front here.0, subst (λ l. IsBrokenPart l part) (drop-drop n at bs) here.1)
+pub error_from : (bs : List ℕ) (at n : ℕ) (part : Option ℕ) → at ≤ length bs → IsUtf8 (take at bs) → IsUtf8Error (take (length bs - at) (drop at bs)) n part → IsUtf8Error bs (at + n) part
+error_from bs at n part within prefix error =
+    let here = subst (λ l. IsUtf8Error l n part) (rest_at bs at) error in
+    (prefix_from bs at n within prefix here.0, subst (λ l. IsErrorLen l part) (drop-drop n at bs) here.1)
 
 -- a further window of text
 pub longer_window : (bs : List ℕ) (at end : ℕ) → at ≤ end → IsUtf8 (take at bs) → IsUtf8 (take (end - at) (drop at bs)) → IsUtf8 (take end bs)
-longer_window bs at end order front window =
+longer_window bs at end order prefix window =
     let end_is : at + (end - at) ≡ end = omega arith in
-    subst (λ j. IsUtf8 (take j bs)) end_is (subst IsUtf8 (sym (take-add at (end - at) bs)) (IsUtf8-append (take at bs) (take (end - at) (drop at bs)) front window))
+    subst (λ j. IsUtf8 (take j bs)) end_is (subst IsUtf8 (sym (take-add at (end - at) bs)) (IsUtf8-append (take at bs) (take (end - at) (drop at bs)) prefix window))
 
 -- a further block of ASCII, also one that begins before the end of what was passed
 pub longer_ascii : (bs : List ℕ) (at n : ℕ) → IsAscii (take at bs) → IsAscii (take n (drop at bs)) → IsAscii (take (at + n) bs)
-longer_ascii bs at n front block = subst IsAscii (sym (take-add at n bs)) (IsAscii-append (take at bs) (take n (drop at bs)) front block)
+longer_ascii bs at n prefix block = subst IsAscii (sym (take-add at n bs)) (IsAscii-append (take at bs) (take n (drop at bs)) prefix block)
 
-pub front_of_ascii : (bs : List ℕ) (at last : ℕ) → last ≤ at → IsAscii (take at bs) → IsAscii (take last bs)
-front_of_ascii bs at last order front = subst IsAscii (take-take last at bs order) (IsAscii-take (take at bs) last front)
+pub ascii_prefix : (bs : List ℕ) (at last : ℕ) → last ≤ at → IsAscii (take at bs) → IsAscii (take last bs)
+ascii_prefix bs at last order prefix = subst IsAscii (take-take last at bs order) (IsAscii-take (take at bs) last prefix)
 
 pub ascii_to_end : (bs : List ℕ) (at last n : ℕ) → last ≤ at → length bs ≤ last + n → IsAscii (take at bs) → IsAscii (take n (drop last bs)) → IsAscii (take (length bs) bs)
-ascii_to_end bs at last n order reaches front block =
-    subst IsAscii (take_all (last + n) bs reaches ∙ sym (take_all (length bs) bs (le_refl _))) (longer_ascii bs last n (front_of_ascii bs at last order front) block)
+ascii_to_end bs at last n order reaches prefix block =
+    subst IsAscii (take_all (last + n) bs reaches ∙ sym (take_all (length bs) bs (le_refl _))) (longer_ascii bs last n (ascii_prefix bs at last order prefix) block)
 
 pub ascii_by_ends : (bs : List ℕ) (n : ℕ) → n ≤ length bs → length bs ≤ n + n → IsAscii (take n bs) → IsAscii (take (length bs - (length bs - n)) (drop (length bs - n) bs))
     → IsUtf8 bs
-ascii_by_ends bs n fits short front back =
+ascii_by_ends bs n fits short prefix back =
     let last = length bs - n in
-    let whole = ascii_to_end bs n last (length bs - last) (omega arith) (omega arith) front back in
+    let whole = ascii_to_end bs n last (length bs - last) (omega arith) (omega arith) prefix back in
     IsUtf8-from_ascii bs (subst IsAscii (take_all (length bs) bs (le_refl _)) whole)

@@ -1,4 +1,4 @@
--- Units of UTF-16, and the characters and lone units that they fall into.
+-- Units of UTF-16, and the characters and unpaired surrogates that they fall into.
 use Rattle.std.proofs.Common.{rules, ◌≡◌, ℕ, zero, suc, ◌+◌, ◌-◌, ◌*◌, ◌/◌, ◌%◌, ◌^◌, ◌<◌, ◌≤◌, ◌⊎◌, Bool, true, false, not, List, [], ◌∷◌, ◌++◌, map, length, take, drop, get_or, Option, Some, None, refl, sym, ap, subst, ◌∙◌, arith, inl, inr, ⊎_elim, append_assoc, append-nil, length-append, length-drop, take_all, take-append-drop, take-add, drop_at, get_or-drop, Bor}
 use Rattle.std.specs.Prelude.{unwrap_or, is_some, IfNone, slice_get, slice_index}
 use Rattle.std.specs.Char.{IsScalar}
@@ -14,7 +14,7 @@ use Rattle.std.specs.Slice.{IsItemAt}
 use Rattle.std.proofs.lemmas.Str.{utf16_chars-nil, utf16_chars_lone, utf16_chars_pair}
 use lib.Utf8.{scalar, scalar_cases, low_scalar}
 use Rattle.compact_codec.specs.Text.{replacement_character}
-use Rattle.compact_codec.specs.Utf16Text.{AreUnits, IsHighSurrogate, IsLowSurrogate, UnitsEncode, IsUtf16, BeginsWithLowSurrogate, BeginsWithLoneSurrogate, IsUtf16LossyText, utf16_lossy_text, IsUtf16Step, UnitsEncodeOneText, Utf16IsThePaired, Utf16LossyTextIsTheOne, Utf16LossyTextOfText}
+use Rattle.compact_codec.specs.Utf16Text.{AreUnits, IsHighSurrogate, IsLowSurrogate, UnitsEncode, IsUtf16, BeginsWithLowSurrogate, BeginsWithUnpairedSurrogate, IsUtf16LossyText, utf16_lossy_text, IsUtf16Step, UnitsEncodeOneText, Utf16HasNoUnpairedSurrogate, Utf16LossyTextIsUnique, Utf16LossyTextOfText}
 use Rattle.compact_codec.proofs.Rows.{high_scalar}
 
 pub scalar_top : (c : ℕ) → IsScalar c → c < 0x11_0000
@@ -76,22 +76,22 @@ units_encode_one_text units text other is is_too = one_text text other is.0 is_t
         let both = encode_utf16_same c d (flat_map encode_utf16 cs) (flat_map encode_utf16 ds) c_all.0 d_all.0 same in
         λ i. both.0 i ∷ one_text cs ds c_all.1 d_all.1 both.1 i
 
--- a lone unit begins no character
-pub lone_begins_none : (units : List ℕ) (c : ℕ) (rest : List ℕ) → BeginsWithLoneSurrogate units → IsScalar c → units ≡ encode_utf16 c ++ rest → ⊥
-lone_begins_none [] c rest lone is same = absurd lone
-lone_begins_none (u ∷ units) c rest lone is same =
+-- an unpaired surrogate begins no character
+pub unpaired_begins_none : (units : List ℕ) (c : ℕ) (rest : List ℕ) → BeginsWithUnpairedSurrogate units → IsScalar c → units ≡ encode_utf16 c ++ rest → ⊥
+unpaired_begins_none [] c rest unpaired is same = absurd unpaired
+unpaired_begins_none (u ∷ units) c rest unpaired is same =
     let top = scalar_top c is in
     let apart = scalar_apart c is in
     ⊎_elim
     (λ one.
     let parts = same ∙ ap (λ l. l ++ rest) (one_unit c one) in
     let first : u ≡ c = ap (λ l. get_or l 0 0) parts in
-    ⊎_elim (λ low. absurd (omega arith)) (λ high. let high_is = high.0 in absurd (omega arith)) lone)
+    ⊎_elim (λ low. absurd (omega arith)) (λ high. let high_is = high.0 in absurd (omega arith)) unpaired)
     (λ two.
     let parts = same ∙ ap (λ l. l ++ rest) (two_units c two) in
     let first : u ≡ 0xD800 + (c - 0x1_0000) / 0x400 = ap (λ l. get_or l 0 0) parts in
     let after : units ≡ (0xDC00 + (c - 0x1_0000) % 0x400) ∷ rest = ap (drop 1) parts in
-    ⊎_elim (λ low. absurd (omega arith)) (λ high. high.1 (subst BeginsWithLowSurrogate (sym after) (omega arith, omega arith))) lone)
+    ⊎_elim (λ low. absurd (omega arith)) (λ high. high.1 (subst BeginsWithLowSurrogate (sym after) (omega arith, omega arith))) unpaired)
     (cases_lt c 0x1_0000)
 
 -- what std reads at a step
@@ -111,15 +111,15 @@ chars_at_character c rest is =
     ap (λ l. utf16_chars (l ++ rest)) (two_units c two) ∙ utf16_chars_pair u v rest pair ∙ ap (λ d. Some d ∷ utf16_chars rest) value)
     (cases_lt c 0x1_0000)
 
-pub chars_at_lone : (units : List ℕ) → BeginsWithLoneSurrogate units → utf16_chars units ≡ None ∷ utf16_chars (drop 1 units)
-chars_at_lone [] lone = absurd lone
-chars_at_lone (u ∷ []) lone =
-    let in_range : (0xD800 ≤ u) × (u < 0xE000) = ⊎_elim (λ low. (omega arith, omega arith)) (λ high. let is = high.0 in (omega arith, omega arith)) lone in
+pub chars_at_unpaired : (units : List ℕ) → BeginsWithUnpairedSurrogate units → utf16_chars units ≡ None ∷ utf16_chars (drop 1 units)
+chars_at_unpaired [] unpaired = absurd unpaired
+chars_at_unpaired (u ∷ []) unpaired =
+    let in_range : (0xD800 ≤ u) × (u < 0xE000) = ⊎_elim (λ low. (omega arith, omega arith)) (λ high. let is = high.0 in (omega arith, omega arith)) unpaired in
     utf16_chars_lone u [] (λ pair. let low = pair.2 in absurd (omega arith)) ∙ ap (λ o. o ∷ utf16_chars []) (lone_unit_char_surrogate u in_range.0 in_range.1)
-chars_at_lone (u ∷ v ∷ rest) lone =
-    let in_range : (0xD800 ≤ u) × (u < 0xE000) = ⊎_elim (λ low. (omega arith, omega arith)) (λ high. let is = high.0 in (omega arith, omega arith)) lone in
+chars_at_unpaired (u ∷ v ∷ rest) unpaired =
+    let in_range : (0xD800 ≤ u) × (u < 0xE000) = ⊎_elim (λ low. (omega arith, omega arith)) (λ high. let is = high.0 in (omega arith, omega arith)) unpaired in
     utf16_chars_lone u (v ∷ rest)
-    (λ pair. ⊎_elim (λ low. let below = pair.1 in absurd (omega arith)) (λ high. let from = pair.2 in let to = pair.3 in high.1 (omega arith, omega arith)) lone)
+    (λ pair. ⊎_elim (λ low. let below = pair.1 in absurd (omega arith)) (λ high. let from = pair.2 in let to = pair.3 in high.1 (omega arith, omega arith)) unpaired)
     ∙ ap (λ o. o ∷ utf16_chars (v ∷ rest)) (lone_unit_char_surrogate u in_range.0 in_range.1)
 
 -- one step, and the text that is read
@@ -134,9 +134,9 @@ utf16_lossy_text-step units (Some c) n is =
     let parts : units ≡ encode_utf16 c ++ drop n units = sym (take-append-drop n units) ∙ ap (λ l. l ++ drop n units) is.2 in
     ap (map (λ o. unwrap_or o 0xFFFD)) (ap utf16_chars parts ∙ chars_at_character c (drop n units) is.0)
 utf16_lossy_text-step units None n is =
-    ap (map (λ o. unwrap_or o 0xFFFD)) (chars_at_lone units is.0) ∙ ap (λ k. replacement_character ∷ utf16_lossy_text (drop k units)) (sym is.1)
+    ap (map (λ o. unwrap_or o 0xFFFD)) (chars_at_unpaired units is.0) ∙ ap (λ k. replacement_character ∷ utf16_lossy_text (drop k units)) (sym is.1)
 
--- units begin with a character or with a lone unit
+-- units begin with a character or with an unpaired surrogate
 module _ (u : ℕ) (units : List ℕ) where
   abbrev pub BeginsCharacter : Type 0
   BeginsCharacter = (c : ℕ) × (rest : List ℕ) × IsScalar c × (u ∷ units ≡ encode_utf16 c ++ rest)
@@ -150,8 +150,8 @@ pair_units_of u v c rest is high low =
     let second : v ≡ 0xDC00 + (c - 0x1_0000) % 0x400 = omega arith in
     (λ i. first i ∷ second i ∷ rest) ∙ ap (λ l. l ++ rest) (sym (two_units c (omega arith)))
 
-pub begins_or_lone : (u : ℕ) (units : List ℕ) → u < 2 ^ 16 → BeginsCharacter u units ⊎ BeginsWithLoneSurrogate (u ∷ units)
-begins_or_lone u units fits = ⊎_elim
+pub begins_or_unpaired : (u : ℕ) (units : List ℕ) → u < 2 ^ 16 → BeginsCharacter u units ⊎ BeginsWithUnpairedSurrogate (u ∷ units)
+begins_or_unpaired u units fits = ⊎_elim
     (λ (below : u < 0xD800). inl (own_character u units (low_scalar u below) (omega arith)))
     (λ (from : 0xD800 ≤ u). ⊎_elim
     (λ (surrogate : u < 0xE000). ⊎_elim
@@ -162,7 +162,7 @@ begins_or_lone u units fits = ⊎_elim
     (cases_lt u 0xE000))
     (cases_lt u 0xD800)
   where
-    by_second : (units : List ℕ) → IsHighSurrogate u → BeginsCharacter u units ⊎ BeginsWithLoneSurrogate (u ∷ units)
+    by_second : (units : List ℕ) → IsHighSurrogate u → BeginsCharacter u units ⊎ BeginsWithUnpairedSurrogate (u ∷ units)
     by_second [] high = inr (inr (high, λ none. none))
     by_second (v ∷ rest) high = ⊎_elim
         (λ (below : v < 0xDC00). inr (inr (high, λ low. let low_from = low.0 in absurd (omega arith))))
@@ -198,11 +198,11 @@ lossy_within (suc fuel) (u ∷ units) le all = ⊎_elim
     let text_is : c ∷ utf16_lossy_text rest ≡ utf16_lossy_text (u ∷ units) =
     sym (ap (map (λ o. unwrap_or o 0xFFFD)) (ap utf16_chars p.3 ∙ chars_at_character c rest p.2)) in
     subst (IsUtf16LossyText (u ∷ units)) text_is (inl (rest, p.2, p.3, later)))
-    (λ lone.
+    (λ unpaired.
     let later = lossy_within fuel units (omega arith) (AreUnits-drop (u ∷ units) 1 all) in
-    let text_is : replacement_character ∷ utf16_lossy_text units ≡ utf16_lossy_text (u ∷ units) = sym (ap (map (λ o. unwrap_or o 0xFFFD)) (chars_at_lone (u ∷ units) lone)) in
-    subst (IsUtf16LossyText (u ∷ units)) text_is (inr (refl, lone, later)))
-    (begins_or_lone u units (AreUnits-first u units all))
+    let text_is : replacement_character ∷ utf16_lossy_text units ≡ utf16_lossy_text (u ∷ units) = sym (ap (map (λ o. unwrap_or o 0xFFFD)) (chars_at_unpaired (u ∷ units) unpaired)) in
+    subst (IsUtf16LossyText (u ∷ units)) text_is (inr (refl, unpaired, later)))
+    (begins_or_unpaired u units (AreUnits-first u units all))
 
 one_lossy : (units other text more : List ℕ) → units ≡ other → IsUtf16LossyText units text → IsUtf16LossyText other more → text ≡ more
 one_lossy units other [] [] same is is_too = refl
@@ -211,40 +211,40 @@ one_lossy units other [] (d ∷ more) same is is_too = absurd (some_left other d
     some_left : (units : List ℕ) (c : ℕ) (text : List ℕ) → IsUtf16LossyText units (c ∷ text) → units ≡ [] → ⊥
     some_left units c text is none = ⊎_elim
         (λ p. omega (arith, ap length (sym p.2 ∙ none), length-append (encode_utf16 c) p.0, (length-encode_utf16 c).0))
-        (λ p. subst BeginsWithLoneSurrogate none p.1)
+        (λ p. subst BeginsWithUnpairedSurrogate none p.1)
         is
 one_lossy units other (c ∷ text) [] same is is_too = ⊎_elim
     (λ p. absurd (omega (arith, ap length (sym p.2 ∙ same ∙ is_too), length-append (encode_utf16 c) p.0, (length-encode_utf16 c).0)))
-    (λ p. absurd (subst BeginsWithLoneSurrogate (same ∙ is_too) p.1))
+    (λ p. absurd (subst BeginsWithUnpairedSurrogate (same ∙ is_too) p.1))
     is
 one_lossy units other (c ∷ text) (d ∷ more) same is is_too = ⊎_elim
     (λ p. ⊎_elim
     (λ q.
     let both = encode_utf16_same c d p.0 q.0 p.1 q.1 (sym p.2 ∙ same ∙ q.2) in
     λ i. both.0 i ∷ one_lossy p.0 q.0 text more both.1 p.3 q.3 i)
-    (λ q. absurd (lone_begins_none other c p.0 q.1 p.1 (sym same ∙ p.2)))
+    (λ q. absurd (unpaired_begins_none other c p.0 q.1 p.1 (sym same ∙ p.2)))
     is_too)
     (λ p. ⊎_elim
-    (λ q. absurd (lone_begins_none units d q.0 p.1 q.1 (same ∙ q.2)))
+    (λ q. absurd (unpaired_begins_none units d q.0 p.1 q.1 (same ∙ q.2)))
     (λ q.
     let first : c ≡ d = p.0 ∙ sym q.0 in
     λ i. first i ∷ one_lossy (drop 1 units) (drop 1 other) text more (ap (drop 1) same) p.2 q.2 i)
     is_too)
     is
 
-pub utf16_lossy_text_is : Utf16LossyTextIsTheOne
+pub utf16_lossy_text_is : Utf16LossyTextIsUnique
 utf16_lossy_text_is units text all =
     let std = lossy_within (length units) units (omega arith) all in
     (λ is. one_lossy units units text (utf16_lossy_text units) refl is std, λ same. subst (IsUtf16LossyText units) (sym same) std)
 
 -- units that are text
 
-pub lone_is_no_text : (units : List ℕ) → BeginsWithLoneSurrogate units → ¬ (IsUtf16 units)
-lone_is_no_text units lone (text, is) = by_text text is
+pub unpaired_is_no_text : (units : List ℕ) → BeginsWithUnpairedSurrogate units → ¬ (IsUtf16 units)
+unpaired_is_no_text units unpaired (text, is) = by_text text is
   where
     by_text : (text : List ℕ) → UnitsEncode units text → ⊥
-    by_text [] is = subst BeginsWithLoneSurrogate (sym is.1) lone
-    by_text (c ∷ text) is = lone_begins_none units c (flat_map encode_utf16 text) lone (and_parts _ _ is.0).0 (sym is.1)
+    by_text [] is = subst BeginsWithUnpairedSurrogate (sym is.1) unpaired
+    by_text (c ∷ text) is = unpaired_begins_none units c (flat_map encode_utf16 text) unpaired (and_parts _ _ is.0).0 (sym is.1)
 
 pub rest_is_text : (xs ys : List ℕ) → IsUtf16 xs → IsUtf16 (xs ++ ys) → IsUtf16 ys
 rest_is_text xs ys (text, is) (whole, are) = by_text text whole xs is.0 is.1 are.0 are.1
@@ -271,40 +271,40 @@ longer_is_text xs ys c (text, is) c_is ys_is = (text ++ c ∷ [], (all_of text i
     parts_of [] = append-nil (encode_utf16 c)
     parts_of (d ∷ text) = ap (λ l. encode_utf16 d ++ l) (parts_of text) ∙ sym (append_assoc (encode_utf16 d) (flat_map encode_utf16 text) (encode_utf16 c))
 
-pub lone_after_front : (units : List ℕ) (n : ℕ) → IsUtf16 (take n units) → BeginsWithLoneSurrogate (drop n units) → ¬ (IsUtf16 units)
-lone_after_front units n front lone whole =
-    lone_is_no_text (drop n units) lone (rest_is_text (take n units) (drop n units) front (subst IsUtf16 (sym (take-append-drop n units)) whole))
+pub unpaired_after_prefix : (units : List ℕ) (n : ℕ) → IsUtf16 (take n units) → BeginsWithUnpairedSurrogate (drop n units) → ¬ (IsUtf16 units)
+unpaired_after_prefix units n prefix unpaired whole =
+    unpaired_is_no_text (drop n units) unpaired (rest_is_text (take n units) (drop n units) prefix (subst IsUtf16 (sym (take-append-drop n units)) whole))
 
-pub broken_step : (units : List ℕ) (o : Option ℕ) (n : ℕ) → IsUtf16Step units o n → IfNone o (¬ (IsUtf16 units))
-broken_step units (Some c) n is = search rules
-broken_step units None n is = lone_is_no_text units is.0
+pub invalid_step : (units : List ℕ) (o : Option ℕ) (n : ℕ) → IsUtf16Step units o n → IfNone o (¬ (IsUtf16 units))
+invalid_step units (Some c) n is = search rules
+invalid_step units None n is = unpaired_is_no_text units is.0
 
--- a step of a judge, over the units from `at` on
+-- a step of validation, over the units from `at` on
 pub from_at : (units : List ℕ) (at : ℕ) → take (length units - at) (drop at units) ≡ drop at units
 from_at units at = take_all (length units - at) (drop at units) (omega (arith, length-drop at units))
 
 pub passed_step : (units : List ℕ) (at n : ℕ) (o : Option ℕ) → IsUtf16 (take at units) → is_some o ≡ true → IsUtf16Step (take (length units - at) (drop at units)) o n
     → IsUtf16 (take (at + n) units)
-passed_step units at n None front some is = absurd (false≢true some)
-passed_step units at n (Some c) front some is =
+passed_step units at n None prefix some is = absurd (false≢true some)
+passed_step units at n (Some c) prefix some is =
     let step = subst (λ l. IsUtf16Step l (Some c) n) (from_at units at) is in
-    subst IsUtf16 (sym (take-add at n units)) (longer_is_text (take at units) (take n (drop at units)) c front step.0 step.2)
+    subst IsUtf16 (sym (take-add at n units)) (longer_is_text (take at units) (take n (drop at units)) c prefix step.0 step.2)
 
 pub stopped_step : (units : List ℕ) (at n : ℕ) (o : Option ℕ) → IsUtf16 (take at units) → is_some o ≡ false
     → IsUtf16Step (take (length units - at) (drop at units)) o n → ¬ (IsUtf16 units)
-stopped_step units at n None front none is = lone_after_front units at front (subst BeginsWithLoneSurrogate (from_at units at) is.0)
-stopped_step units at n (Some c) front none is = absurd (true≢false none)
+stopped_step units at n None prefix none is = unpaired_after_prefix units at prefix (subst BeginsWithUnpairedSurrogate (from_at units at) is.0)
+stopped_step units at n (Some c) prefix none is = absurd (true≢false none)
 
 -- what `get` gives, copied
 pub copied_item : (units : List ℕ) (i : ℕ) (r : Option (Bor ℕ)) → IsItemAt units i r → option_copied r ≡ slice_get units i
 copied_item units i None is = sym (slice_get_past units i (ltb-false _ _ (sym is.0)))
 copied_item units i (Some x) is = sym (slice_get_read units (length units) i x.now refl (ltb-true _ _ (sym is.0)) is.1)
 
--- the step at the front, from the first unit and what the second may be
-pub front_step : (units : List ℕ) (second o : Option ℕ) (n : ℕ) → 0 < length units → second ≡ slice_get units 1
+-- the step at the start, from the first unit and what the second may be
+pub step_at_start : (units : List ℕ) (second o : Option ℕ) (n : ℕ) → 0 < length units → second ≡ slice_get units 1
     → ((rest : List ℕ) → slice_get rest 0 ≡ second → IsUtf16Step (slice_index units 0 ∷ rest) o n) → IsUtf16Step units o n
-front_step [] second o n some is known = absurd (omega arith)
-front_step (u ∷ units) second o n some is known = known units (sym is)
+step_at_start [] second o n some is known = absurd (omega arith)
+step_at_start (u ∷ units) second o n some is known = known units (sym is)
 
 -- and std's test for them
 
@@ -333,10 +333,10 @@ paired_within (suc fuel) (u ∷ units) le all paired = ⊎_elim
     let later = paired_within fuel rest (shorter_after fuel (u ∷ units) c rest p.3 le) (subst AreUnits (sym (rest_is_drop (u ∷ units) c rest p.3)) (AreUnits-drop (u ∷ units) (length (encode_utf16 c)) all))
     (sym (ap (list_any is_unpaired) chars_are) ∙ paired) in
     (c ∷ later.0, (and_from _ _ p.2 later.1.0, ap (λ l. encode_utf16 c ++ l) later.1.1 ∙ sym p.3)))
-    (λ lone. absurd (true≢false (sym (ap (list_any is_unpaired) (chars_at_lone (u ∷ units) lone)) ∙ paired)))
-    (begins_or_lone u units (AreUnits-first u units all))
+    (λ unpaired. absurd (true≢false (sym (ap (list_any is_unpaired) (chars_at_unpaired (u ∷ units) unpaired)) ∙ paired)))
+    (begins_or_unpaired u units (AreUnits-first u units all))
 
-pub paired_is : Utf16IsThePaired
+pub paired_is : Utf16HasNoUnpairedSurrogate
 paired_is units all = (
   λ (text, is). ap has_unpaired_surrogate (sym is.1 ∙ sym (append-nil (flat_map encode_utf16 text)))
       ∙ ap (list_any is_unpaired) (has_none text [] is.0 ∙ ap (λ os. map (λ c. Some c) text ++ os) utf16_chars-nil) ∙ none_unpaired text,

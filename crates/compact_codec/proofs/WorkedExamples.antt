@@ -11,14 +11,14 @@ use Rattle.std.proofs.lemmas.Str.{is_utf8-from_IsUtf8}
 use Rattle.compact_codec.specs.declared.utf16_bytes.ByteOrder.TheVariants.{LittleEndian, BigEndian}
 use Rattle.compact_codec.specs.Text.{utf8, text_of}
 use Rattle.compact_codec.specs.Utf8Table.{IsWellFormedSequence}
-use Rattle.compact_codec.specs.BrokenPart.{IsUtf8Fault}
+use Rattle.compact_codec.specs.InvalidSequence.{IsUtf8Error}
 use Rattle.compact_codec.specs.Utf8Text.{BytesEncode, utf8_lossy_text, IsUtf8LossyText, BeginsWithChunk}
 use Rattle.compact_codec.specs.Utf16Text.{utf16, UnitsEncode, IsUtf16, IsUtf16Step, utf16_lossy_text}
 use Rattle.compact_codec.specs.Utf16Bytes.{unit_bytes, units_of, IsUtf16Bytes, IsUtf16BytesStep, utf16_bytes_lossy_text}
 use Rattle.compact_codec.proofs.Beginnings.{begins_well_formed, two_from}
-use Rattle.compact_codec.proofs.Parts.{fault_is}
-use Rattle.compact_codec.proofs.LossyReading.{utf8_lossy_text_is, faulty_chunk}
-use Rattle.compact_codec.proofs.UnitsReading.{lone_is_no_text}
+use Rattle.compact_codec.proofs.Parts.{error_is}
+use Rattle.compact_codec.proofs.LossyReading.{utf8_lossy_text_is, invalid_chunk}
+use Rattle.compact_codec.proofs.UnitsReading.{unpaired_is_no_text}
 
 -- the four characters by which the Standard shows the encoding forms (3.9) and schemes (3.10)
 abbrev four_characters : List ℕ
@@ -103,72 +103,72 @@ overlong_is_not well = let leads = (two_from 0xC0 0x80 [] (begins_well_formed (0
 no_text : (bs : List ℕ) → is_utf8 bs ≡ false → ¬ (IsUtf8 bs)
 no_text bs fails text = false≢true (sym fails ∙ is_utf8-from_IsUtf8 bs text)
 
-fault_of_c0_80 : IsUtf8Fault (0xC0 ∷ 0x80 ∷ []) 0 (Some 1)
+error_of_c0_80 : IsUtf8Error (0xC0 ∷ 0x80 ∷ []) 0 (Some 1)
 unfolding is_utf8 chars encode_utf8 utf8_valid_len utf8_error_len
-fault_of_c0_80 = (fault_is (0xC0 ∷ 0x80 ∷ []) 0 (Some 1) (no_text (0xC0 ∷ 0x80 ∷ []) refl)).1 (refl, refl)
+error_of_c0_80 = (error_is (0xC0 ∷ 0x80 ∷ []) 0 (Some 1) (no_text (0xC0 ∷ 0x80 ∷ []) refl)).1 (refl, refl)
 
 text_of_c0_80 : IsUtf8LossyText (0xC0 ∷ 0x80 ∷ []) (0xFFFD ∷ 0xFFFD ∷ [])
 unfolding utf8_lossy_text is_utf8 chars encode_utf8 utf8_valid_len utf8_error_len utf8_lossy
 text_of_c0_80 = (utf8_lossy_text_is (0xC0 ∷ 0x80 ∷ []) (0xFFFD ∷ 0xFFFD ∷ [])).1 refl
 
-fault_of_e0_80_80 : IsUtf8Fault (0xE0 ∷ 0x80 ∷ 0x80 ∷ []) 0 (Some 1)
+error_of_e0_80_80 : IsUtf8Error (0xE0 ∷ 0x80 ∷ 0x80 ∷ []) 0 (Some 1)
 unfolding is_utf8 chars encode_utf8 utf8_valid_len utf8_error_len
-fault_of_e0_80_80 = (fault_is (0xE0 ∷ 0x80 ∷ 0x80 ∷ []) 0 (Some 1) (no_text (0xE0 ∷ 0x80 ∷ 0x80 ∷ []) refl)).1 (refl, refl)
+error_of_e0_80_80 = (error_is (0xE0 ∷ 0x80 ∷ 0x80 ∷ []) 0 (Some 1) (no_text (0xE0 ∷ 0x80 ∷ 0x80 ∷ []) refl)).1 (refl, refl)
 
 text_of_e0_80_80 : IsUtf8LossyText (0xE0 ∷ 0x80 ∷ 0x80 ∷ []) (0xFFFD ∷ 0xFFFD ∷ 0xFFFD ∷ [])
 unfolding utf8_lossy_text is_utf8 chars encode_utf8 utf8_valid_len utf8_error_len utf8_lossy
 text_of_e0_80_80 = (utf8_lossy_text_is (0xE0 ∷ 0x80 ∷ 0x80 ∷ []) (0xFFFD ∷ 0xFFFD ∷ 0xFFFD ∷ [])).1 refl
 
-fault_of_ed_a0_80 : IsUtf8Fault (0xED ∷ 0xA0 ∷ 0x80 ∷ []) 0 (Some 1)
+error_of_ed_a0_80 : IsUtf8Error (0xED ∷ 0xA0 ∷ 0x80 ∷ []) 0 (Some 1)
 unfolding is_utf8 chars encode_utf8 utf8_valid_len utf8_error_len
-fault_of_ed_a0_80 = (fault_is (0xED ∷ 0xA0 ∷ 0x80 ∷ []) 0 (Some 1) (no_text (0xED ∷ 0xA0 ∷ 0x80 ∷ []) refl)).1 (refl, refl)
+error_of_ed_a0_80 = (error_is (0xED ∷ 0xA0 ∷ 0x80 ∷ []) 0 (Some 1) (no_text (0xED ∷ 0xA0 ∷ 0x80 ∷ []) refl)).1 (refl, refl)
 
 text_of_ed_a0_80 : IsUtf8LossyText (0xED ∷ 0xA0 ∷ 0x80 ∷ []) (0xFFFD ∷ 0xFFFD ∷ 0xFFFD ∷ [])
 unfolding utf8_lossy_text is_utf8 chars encode_utf8 utf8_valid_len utf8_error_len utf8_lossy
 text_of_ed_a0_80 = (utf8_lossy_text_is (0xED ∷ 0xA0 ∷ 0x80 ∷ []) (0xFFFD ∷ 0xFFFD ∷ 0xFFFD ∷ [])).1 refl
 
-fault_of_f4_90_80_80 : IsUtf8Fault (0xF4 ∷ 0x90 ∷ 0x80 ∷ 0x80 ∷ []) 0 (Some 1)
+error_of_f4_90_80_80 : IsUtf8Error (0xF4 ∷ 0x90 ∷ 0x80 ∷ 0x80 ∷ []) 0 (Some 1)
 unfolding is_utf8 chars encode_utf8 utf8_valid_len utf8_error_len
-fault_of_f4_90_80_80 = (fault_is (0xF4 ∷ 0x90 ∷ 0x80 ∷ 0x80 ∷ []) 0 (Some 1) (no_text (0xF4 ∷ 0x90 ∷ 0x80 ∷ 0x80 ∷ []) refl)).1 (refl, refl)
+error_of_f4_90_80_80 = (error_is (0xF4 ∷ 0x90 ∷ 0x80 ∷ 0x80 ∷ []) 0 (Some 1) (no_text (0xF4 ∷ 0x90 ∷ 0x80 ∷ 0x80 ∷ []) refl)).1 (refl, refl)
 
 text_of_f4_90_80_80 : IsUtf8LossyText (0xF4 ∷ 0x90 ∷ 0x80 ∷ 0x80 ∷ []) (0xFFFD ∷ 0xFFFD ∷ 0xFFFD ∷ 0xFFFD ∷ [])
 unfolding utf8_lossy_text is_utf8 chars encode_utf8 utf8_valid_len utf8_error_len utf8_lossy
 text_of_f4_90_80_80 = (utf8_lossy_text_is (0xF4 ∷ 0x90 ∷ 0x80 ∷ 0x80 ∷ []) (0xFFFD ∷ 0xFFFD ∷ 0xFFFD ∷ 0xFFFD ∷ [])).1 refl
 
-fault_of_e1_80_41 : IsUtf8Fault (0xE1 ∷ 0x80 ∷ 0x41 ∷ []) 0 (Some 2)
+error_of_e1_80_41 : IsUtf8Error (0xE1 ∷ 0x80 ∷ 0x41 ∷ []) 0 (Some 2)
 unfolding is_utf8 chars encode_utf8 utf8_valid_len utf8_error_len
-fault_of_e1_80_41 = (fault_is (0xE1 ∷ 0x80 ∷ 0x41 ∷ []) 0 (Some 2) (no_text (0xE1 ∷ 0x80 ∷ 0x41 ∷ []) refl)).1 (refl, refl)
+error_of_e1_80_41 = (error_is (0xE1 ∷ 0x80 ∷ 0x41 ∷ []) 0 (Some 2) (no_text (0xE1 ∷ 0x80 ∷ 0x41 ∷ []) refl)).1 (refl, refl)
 
 text_of_e1_80_41 : IsUtf8LossyText (0xE1 ∷ 0x80 ∷ 0x41 ∷ []) (0xFFFD ∷ 0x41 ∷ [])
 unfolding utf8_lossy_text is_utf8 chars encode_utf8 utf8_valid_len utf8_error_len utf8_lossy
 text_of_e1_80_41 = (utf8_lossy_text_is (0xE1 ∷ 0x80 ∷ 0x41 ∷ []) (0xFFFD ∷ 0x41 ∷ [])).1 refl
 
-fault_of_61_e2_82 : IsUtf8Fault (0x61 ∷ 0xE2 ∷ 0x82 ∷ []) 1 None
+error_of_61_e2_82 : IsUtf8Error (0x61 ∷ 0xE2 ∷ 0x82 ∷ []) 1 None
 unfolding is_utf8 chars encode_utf8 utf8_valid_len utf8_error_len
-fault_of_61_e2_82 = (fault_is (0x61 ∷ 0xE2 ∷ 0x82 ∷ []) 1 None (no_text (0x61 ∷ 0xE2 ∷ 0x82 ∷ []) refl)).1 (refl, refl)
+error_of_61_e2_82 = (error_is (0x61 ∷ 0xE2 ∷ 0x82 ∷ []) 1 None (no_text (0x61 ∷ 0xE2 ∷ 0x82 ∷ []) refl)).1 (refl, refl)
 
 text_of_61_e2_82 : IsUtf8LossyText (0x61 ∷ 0xE2 ∷ 0x82 ∷ []) (0x61 ∷ 0xFFFD ∷ [])
 unfolding utf8_lossy_text is_utf8 chars encode_utf8 utf8_valid_len utf8_error_len utf8_lossy
 text_of_61_e2_82 = (utf8_lossy_text_is (0x61 ∷ 0xE2 ∷ 0x82 ∷ []) (0x61 ∷ 0xFFFD ∷ [])).1 refl
 
-fault_of_f0_9f : IsUtf8Fault (0xF0 ∷ 0x9F ∷ []) 0 None
+error_of_f0_9f : IsUtf8Error (0xF0 ∷ 0x9F ∷ []) 0 None
 unfolding is_utf8 chars encode_utf8 utf8_valid_len utf8_error_len
-fault_of_f0_9f = (fault_is (0xF0 ∷ 0x9F ∷ []) 0 None (no_text (0xF0 ∷ 0x9F ∷ []) refl)).1 (refl, refl)
+error_of_f0_9f = (error_is (0xF0 ∷ 0x9F ∷ []) 0 None (no_text (0xF0 ∷ 0x9F ∷ []) refl)).1 (refl, refl)
 
 text_of_f0_9f : IsUtf8LossyText (0xF0 ∷ 0x9F ∷ []) (0xFFFD ∷ [])
 unfolding utf8_lossy_text is_utf8 chars encode_utf8 utf8_valid_len utf8_error_len utf8_lossy
 text_of_f0_9f = (utf8_lossy_text_is (0xF0 ∷ 0x9F ∷ []) (0xFFFD ∷ [])).1 refl
 
-fault_of_f0_9f_c8_84 : IsUtf8Fault (0xF0 ∷ 0x9F ∷ 0xC8 ∷ 0x84 ∷ []) 0 (Some 2)
+error_of_f0_9f_c8_84 : IsUtf8Error (0xF0 ∷ 0x9F ∷ 0xC8 ∷ 0x84 ∷ []) 0 (Some 2)
 unfolding is_utf8 chars encode_utf8 utf8_valid_len utf8_error_len
-fault_of_f0_9f_c8_84 = (fault_is (0xF0 ∷ 0x9F ∷ 0xC8 ∷ 0x84 ∷ []) 0 (Some 2) (no_text (0xF0 ∷ 0x9F ∷ 0xC8 ∷ 0x84 ∷ []) refl)).1 (refl, refl)
+error_of_f0_9f_c8_84 = (error_is (0xF0 ∷ 0x9F ∷ 0xC8 ∷ 0x84 ∷ []) 0 (Some 2) (no_text (0xF0 ∷ 0x9F ∷ 0xC8 ∷ 0x84 ∷ []) refl)).1 (refl, refl)
 
 text_of_f0_9f_c8_84 : IsUtf8LossyText (0xF0 ∷ 0x9F ∷ 0xC8 ∷ 0x84 ∷ []) (0xFFFD ∷ 0x204 ∷ [])
 unfolding utf8_lossy_text is_utf8 chars encode_utf8 utf8_valid_len utf8_error_len utf8_lossy
 text_of_f0_9f_c8_84 = (utf8_lossy_text_is (0xF0 ∷ 0x9F ∷ 0xC8 ∷ 0x84 ∷ []) (0xFFFD ∷ 0x204 ∷ [])).1 refl
 
 chunk_of_61_e2_82 : BeginsWithChunk (0x61 ∷ 0xE2 ∷ 0x82 ∷ []) (0x61 ∷ []) (0xE2 ∷ 0x82 ∷ []) []
-chunk_of_61_e2_82 = (faulty_chunk (0x61 ∷ 0xE2 ∷ 0x82 ∷ []) 1 None fault_of_61_e2_82).0
+chunk_of_61_e2_82 = (invalid_chunk (0x61 ∷ 0xE2 ∷ 0x82 ∷ []) 1 None error_of_61_e2_82).0
 
 -- the Standard's examples of U+FFFD for maximal subparts (3.9, Tables 3-8 to 3-11)
 
@@ -193,16 +193,16 @@ pair_is_text : IsUtf16 (0xD834 ∷ 0xDD1E ∷ [])
 pair_is_text = (0x1D11E ∷ [], (refl, refl))
 
 low_surrogate_is_no_text : ¬ (IsUtf16 (0xDC00 ∷ 0xD800 ∷ []))
-low_surrogate_is_no_text = lone_is_no_text (0xDC00 ∷ 0xD800 ∷ []) (inl (omega arith, omega arith))
+low_surrogate_is_no_text = unpaired_is_no_text (0xDC00 ∷ 0xD800 ∷ []) (inl (omega arith, omega arith))
 
 high_surrogate_is_no_text : ¬ (IsUtf16 (0xD834 ∷ 0x0041 ∷ []))
-high_surrogate_is_no_text = lone_is_no_text (0xD834 ∷ 0x0041 ∷ []) (inr ((omega arith, omega arith), λ low. let from = low.0 in omega arith))
+high_surrogate_is_no_text = unpaired_is_no_text (0xD834 ∷ 0x0041 ∷ []) (inr ((omega arith, omega arith), λ low. let from = low.0 in omega arith))
 
 step_of_pair : IsUtf16Step (0xD834 ∷ 0xDD1E ∷ 0x0041 ∷ []) (Some 0x1D11E) 2
 step_of_pair = (refl, omega arith, refl)
 
-step_of_lone : IsUtf16Step (0xDC00 ∷ 0x0041 ∷ []) None 1
-step_of_lone = (inl (omega arith, omega arith), refl)
+step_of_unpaired : IsUtf16Step (0xDC00 ∷ 0x0041 ∷ []) None 1
+step_of_unpaired = (inl (omega arith, omega arith), refl)
 
 step_of_pair_bytes : IsUtf16BytesStep LittleEndian (0x34 ∷ 0xD8 ∷ 0x1E ∷ 0xDD ∷ 0x41 ∷ []) (Some 0x1D11E) 4
 step_of_pair_bytes = (refl, omega arith, tt, refl)
@@ -216,22 +216,22 @@ pair_bytes_are_text = (tt, pair_is_text)
 odd_bytes_are_no_text : ¬ (IsUtf16Bytes LittleEndian (0x41 ∷ 0x00 ∷ 0x42 ∷ []))
 odd_bytes_are_no_text text = text.0
 
-two_lone : utf16_lossy_text (0xDC00 ∷ 0xD800 ∷ []) ≡ 0xFFFD ∷ 0xFFFD ∷ []
+two_unpaired : utf16_lossy_text (0xDC00 ∷ 0xD800 ∷ []) ≡ 0xFFFD ∷ 0xFFFD ∷ []
 unfolding utf16_chars
-two_lone = refl
+two_unpaired = refl
 
-lone_then_pair : utf16_lossy_text (0xD800 ∷ 0xD834 ∷ 0xDD1E ∷ []) ≡ 0xFFFD ∷ 0x1D11E ∷ []
+unpaired_then_pair : utf16_lossy_text (0xD800 ∷ 0xD834 ∷ 0xDD1E ∷ []) ≡ 0xFFFD ∷ 0x1D11E ∷ []
 unfolding utf16_chars
-lone_then_pair = refl
+unpaired_then_pair = refl
 
 odd_byte_last : utf16_bytes_lossy_text LittleEndian (0x41 ∷ 0x00 ∷ 0x42 ∷ []) ≡ 0x41 ∷ 0xFFFD ∷ []
 unfolding utf16_bytes_lossy_text utf16_chars
 odd_byte_last = refl
 
-lone_then_odd : utf16_bytes_lossy_text LittleEndian (0x3D ∷ 0xD8 ∷ 0x6F ∷ []) ≡ 0xFFFD ∷ 0xFFFD ∷ []
+unpaired_then_odd : utf16_bytes_lossy_text LittleEndian (0x3D ∷ 0xD8 ∷ 0x6F ∷ []) ≡ 0xFFFD ∷ 0xFFFD ∷ []
 unfolding utf16_bytes_lossy_text utf16_chars
-lone_then_odd = refl
+unpaired_then_odd = refl
 
-lone_last : utf16_bytes_lossy_text BigEndian (0xD8 ∷ 0x3D ∷ 0xDC ∷ 0x6F ∷ 0x20 ∷ 0x0D ∷ 0x26 ∷ 0x40 ∷ 0xDE ∷ 0x0F ∷ []) ≡ 0x1F46F ∷ 0x200D ∷ 0x2640 ∷ 0xFFFD ∷ []
+unpaired_last : utf16_bytes_lossy_text BigEndian (0xD8 ∷ 0x3D ∷ 0xDC ∷ 0x6F ∷ 0x20 ∷ 0x0D ∷ 0x26 ∷ 0x40 ∷ 0xDE ∷ 0x0F ∷ []) ≡ 0x1F46F ∷ 0x200D ∷ 0x2640 ∷ 0xFFFD ∷ []
 unfolding utf16_bytes_lossy_text utf16_chars
-lone_last = refl
+unpaired_last = refl

@@ -1,6 +1,6 @@
 pub mod Text
 pub mod Utf8Table
-pub mod BrokenPart
+pub mod InvalidSequence
 pub mod Utf8Text
 pub mod Utf16Text
 pub mod Utf16Bytes

@@ -15,6 +15,6 @@ utf8 t = encode_utf8_all t
 abbrev pub text_of : List ℕ → List ℕ
 text_of bytes = chars bytes
 
--- U+FFFD, which stands in a text for a broken part
+-- U+FFFD, which stands in a text for an invalid sequence
 abbrev pub replacement_character : ℕ
 replacement_character = 0xFFFD

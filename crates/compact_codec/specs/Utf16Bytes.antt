@@ -6,7 +6,7 @@ use Rattle.std.specs.List.{flat_map}
 use Rattle.compact_codec.specs.declared.utf16_bytes.ByteOrder.{ByteOrder}
 use Rattle.compact_codec.specs.declared.utf16_bytes.ByteOrder.TheVariants.{LittleEndian, BigEndian}
 use Rattle.compact_codec.specs.Text.{replacement_character}
-use Rattle.compact_codec.specs.Utf16Text.{UnitsEncode, IsUtf16, BeginsWithLoneSurrogate, IsUtf16LossyText, utf16_lossy_text}
+use Rattle.compact_codec.specs.Utf16Text.{UnitsEncode, IsUtf16, BeginsWithUnpairedSurrogate, IsUtf16LossyText, utf16_lossy_text}
 
 -- the unit of two bytes: the low byte comes first in little-endian order, and the high byte in big-endian order
 abbrev pub unit_of : ByteOrder → ℕ → ℕ → ℕ
@@ -40,25 +40,25 @@ odd_byte_text (first ∷ second ∷ bytes) = odd_byte_text bytes
 abbrev pub IsUtf16Bytes : ByteOrder → List ℕ → Type 0
 IsUtf16Bytes order bytes = ArePairs bytes × IsUtf16 (units_of order bytes)
 
--- the text of the bytes with one U+FFFD for each lone surrogate, and one at the end for an odd last byte
+-- the text of the bytes with one U+FFFD for each unpaired surrogate, and one at the end for an odd last byte
 abbrev pub IsUtf16BytesLossyText : ByteOrder → List ℕ → List ℕ → Type 0
 IsUtf16BytesLossyText order bytes text =
-    (front : List ℕ) × IsUtf16LossyText (units_of order bytes) front × (text ≡ front ++ odd_byte_text bytes)
+    (prefix : List ℕ) × IsUtf16LossyText (units_of order bytes) prefix × (text ≡ prefix ++ odd_byte_text bytes)
 
 -- that text
 unfoldable pub utf16_bytes_lossy_text : ByteOrder → List ℕ → List ℕ
 utf16_bytes_lossy_text order bytes = utf16_lossy_text (units_of order bytes) ++ odd_byte_text bytes
 
--- the first n bytes are a lone surrogate, or the odd last byte alone
-abbrev pub BeginsWithBrokenBytes : ByteOrder → List ℕ → ℕ → Type 0
-BeginsWithBrokenBytes order bytes n =
-    (BeginsWithLoneSurrogate (units_of order bytes) × (n ≡ 2)) ⊎ ((length bytes ≡ 1) × (n ≡ 1))
+-- the first n bytes are an unpaired surrogate, or the odd last byte alone
+abbrev pub BeginsWithInvalidBytes : ByteOrder → List ℕ → ℕ → Type 0
+BeginsWithInvalidBytes order bytes n =
+    (BeginsWithUnpairedSurrogate (units_of order bytes) × (n ≡ 2)) ⊎ ((length bytes ≡ 1) × (n ≡ 1))
 
--- at the front of the bytes stands this character in the first n of them, or else n bytes that are broken
+-- at the start of the bytes stands this character in the first n of them, or else n bytes that are invalid
 abbrev pub IsUtf16BytesStep : ByteOrder → List ℕ → Option ℕ → ℕ → Type 0
 IsUtf16BytesStep order bytes (Some c) n =
     IsScalar c × (n ≤ length bytes) × ArePairs (take n bytes) × (units_of order (take n bytes) ≡ encode_utf16 c)
-IsUtf16BytesStep order bytes None n = BeginsWithBrokenBytes order bytes n
+IsUtf16BytesStep order bytes None n = BeginsWithInvalidBytes order bytes n
 
 -- the numbers are bytes
 abbrev pub AreBytes : List ℕ → Type 0
@@ -73,8 +73,8 @@ PairsAreTheUnits =
     → flat_map (unit_bytes order) (units_of order bytes) ≡ bytes)
 
 -- bytes have one lossy text and no other
-abbrev pub Utf16BytesLossyTextIsTheOne : Type 0
-Utf16BytesLossyTextIsTheOne = (order : ByteOrder) (bytes text : List ℕ) → AreBytes bytes
+abbrev pub Utf16BytesLossyTextIsUnique : Type 0
+Utf16BytesLossyTextIsUnique = (order : ByteOrder) (bytes text : List ℕ) → AreBytes bytes
     → IsUtf16BytesLossyText order bytes text ↔ (text ≡ utf16_bytes_lossy_text order bytes)
 
 -- the bytes of a text's units have that text as their lossy text

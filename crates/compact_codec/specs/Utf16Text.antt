@@ -29,43 +29,43 @@ UnitsEncode units text = IsText text × (utf16 text ≡ units)
 abbrev pub IsUtf16 : List ℕ → Type 0
 IsUtf16 units = (text : List ℕ) × UnitsEncode units text
 
--- the unit at the front is the second of a pair
+-- the unit at the start is the second of a pair
 abbrev pub BeginsWithLowSurrogate : List ℕ → Type 0
 BeginsWithLowSurrogate [] = ⊥
 BeginsWithLowSurrogate (u ∷ units) = IsLowSurrogate u
 
--- the unit at the front is a surrogate that is in no pair
-abbrev pub BeginsWithLoneSurrogate : List ℕ → Type 0
-BeginsWithLoneSurrogate [] = ⊥
-BeginsWithLoneSurrogate (u ∷ units) = IsLowSurrogate u ⊎ (IsHighSurrogate u × ¬ (BeginsWithLowSurrogate units))
+-- the unit at the start is an unpaired surrogate
+abbrev pub BeginsWithUnpairedSurrogate : List ℕ → Type 0
+BeginsWithUnpairedSurrogate [] = ⊥
+BeginsWithUnpairedSurrogate (u ∷ units) = IsLowSurrogate u ⊎ (IsHighSurrogate u × ¬ (BeginsWithLowSurrogate units))
 
--- the text is read from the units with one U+FFFD for each lone surrogate
+-- the text is read from the units with one U+FFFD for each unpaired surrogate
 abbrev pub IsUtf16LossyText : List ℕ → List ℕ → Type 0
 IsUtf16LossyText units [] = units ≡ []
 IsUtf16LossyText units (c ∷ text) =
     ((rest : List ℕ) × IsScalar c × (units ≡ encode_utf16 c ++ rest) × IsUtf16LossyText rest text)
-    ⊎ ((c ≡ replacement_character) × BeginsWithLoneSurrogate units × IsUtf16LossyText (drop 1 units) text)
+    ⊎ ((c ≡ replacement_character) × BeginsWithUnpairedSurrogate units × IsUtf16LossyText (drop 1 units) text)
 
 -- that text
 abbrev pub utf16_lossy_text : List ℕ → List ℕ
 utf16_lossy_text units = utf16_lossy_chars units
 
--- at the front of the units stands this character in its first n units, or else one lone surrogate
+-- at the start of the units stands this character in its first n units, or else one unpaired surrogate
 abbrev pub IsUtf16Step : List ℕ → Option ℕ → ℕ → Type 0
 IsUtf16Step units (Some c) n = IsScalar c × (n ≤ length units) × (take n units ≡ encode_utf16 c)
-IsUtf16Step units None n = BeginsWithLoneSurrogate units × (n ≡ 1)
+IsUtf16Step units None n = BeginsWithUnpairedSurrogate units × (n ≡ 1)
 
 -- units encode at most one text
 abbrev pub UnitsEncodeOneText : Type 0
 UnitsEncodeOneText = (units text other : List ℕ) → UnitsEncode units text → UnitsEncode units other → text ≡ other
 
 -- the units that some text gives are those in which no surrogate is unpaired
-abbrev pub Utf16IsThePaired : Type 0
-Utf16IsThePaired = (units : List ℕ) → AreUnits units → IsUtf16 units ↔ (has_unpaired_surrogate units ≡ false)
+abbrev pub Utf16HasNoUnpairedSurrogate : Type 0
+Utf16HasNoUnpairedSurrogate = (units : List ℕ) → AreUnits units → IsUtf16 units ↔ (has_unpaired_surrogate units ≡ false)
 
 -- units have one lossy text and no other
-abbrev pub Utf16LossyTextIsTheOne : Type 0
-Utf16LossyTextIsTheOne = (units text : List ℕ) → AreUnits units
+abbrev pub Utf16LossyTextIsUnique : Type 0
+Utf16LossyTextIsUnique = (units text : List ℕ) → AreUnits units
     → IsUtf16LossyText units text ↔ (text ≡ utf16_lossy_text units)
 
 -- a text's own units have that text as their lossy text

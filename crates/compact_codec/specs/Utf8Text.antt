@@ -1,15 +1,15 @@
--- The text of bytes: the one that they encode, and the one with U+FFFD for each broken part.
+-- The text of bytes: the one that they encode, and the one with U+FFFD for each invalid sequence.
 use Rattle.std.specs.Prelude.{◌≡◌, ◌≢◌, ◌↔◌, ◌⊎◌, ℕ, List, [], ◌∷◌, ◌++◌, length, drop}
 use Rattle.std.specs.Char.{IsScalar, encode_utf8}
 use Rattle.std.specs.Str.Lossy.{utf8_lossy}
 use Rattle.compact_codec.specs.Text.{IsText, utf8, text_of, replacement_character}
-use Rattle.compact_codec.specs.BrokenPart.{IsLongestFront, IsMaximalSubpart}
+use Rattle.compact_codec.specs.InvalidSequence.{IsLongestValidPrefix, IsMaximalSubpart}
 
 -- the bytes encode this text
 abbrev pub BytesEncode : List ℕ → List ℕ → Type 0
 BytesEncode bytes text = IsText text × (utf8 text ≡ bytes)
 
--- the text is read from the bytes with one U+FFFD for each broken part: a character stands for its own
+-- the text is read from the bytes with one U+FFFD for each invalid sequence: a character stands for its own
 -- bytes, and U+FFFD for a maximal subpart where no character's bytes begin
 abbrev pub IsUtf8LossyText : List ℕ → List ℕ → Type 0
 IsUtf8LossyText bytes [] = bytes ≡ []
@@ -21,26 +21,26 @@ IsUtf8LossyText bytes (c ∷ text) =
 unfoldable pub utf8_lossy_text : List ℕ → List ℕ
 utf8_lossy_text bytes = text_of (utf8_lossy bytes)
 
--- what stands in a text for these bytes, which are broken: U+FFFD, and nothing for no bytes
+-- what stands in a text for these bytes, which are invalid: U+FFFD, and nothing for no bytes
 abbrev pub replacement_text : List ℕ → List ℕ
 replacement_text [] = []
 replacement_text (b ∷ bs) = replacement_character ∷ []
 
--- the bytes begin with a chunk: their longest front that is text and the broken part after it, which is empty
--- only where nothing follows the front; then comes the rest
-pub record BeginsWithChunk (bytes text broken rest : List ℕ) : Type 0 where
-  pub parts : bytes ≡ text ++ (broken ++ rest)
-  pub front : IsLongestFront bytes (length text)
-  pub whole : broken ≡ [] → rest ≡ []
-  pub subpart : broken ≢ [] → IsMaximalSubpart (broken ++ rest) (length broken)
+-- the bytes begin with a chunk: their longest valid prefix and the invalid sequence after it, which is empty only where
+-- nothing follows the prefix; then comes the rest
+pub record BeginsWithChunk (bytes valid invalid rest : List ℕ) : Type 0 where
+  pub parts : bytes ≡ valid ++ (invalid ++ rest)
+  pub prefix : IsLongestValidPrefix bytes (length valid)
+  pub whole : invalid ≡ [] → rest ≡ []
+  pub subpart : invalid ≢ [] → IsMaximalSubpart (invalid ++ rest) (length invalid)
 
 -- bytes encode at most one text
 abbrev pub BytesEncodeOneText : Type 0
 BytesEncodeOneText = (bytes text other : List ℕ) → BytesEncode bytes text → BytesEncode bytes other → text ≡ other
 
 -- bytes have one lossy text and no other
-abbrev pub Utf8LossyTextIsTheOne : Type 0
-Utf8LossyTextIsTheOne = (bytes text : List ℕ) → IsUtf8LossyText bytes text ↔ (text ≡ utf8_lossy_text bytes)
+abbrev pub Utf8LossyTextIsUnique : Type 0
+Utf8LossyTextIsUnique = (bytes text : List ℕ) → IsUtf8LossyText bytes text ↔ (text ≡ utf8_lossy_text bytes)
 
 -- a text's own bytes have that text as their lossy text
 abbrev pub Utf8LossyTextOfText : Type 0

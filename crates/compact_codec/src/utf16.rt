@@ -2,15 +2,15 @@
 ghost use Rattle.std.specs.Prelude.{◌≡◌, ◌↔◌, ◌<◌, ◌≤◌, ◌∷◌, ℕ, List, drop, length, unwrap_or, slice_get, IfNone, IsTrue};
 ghost use Rattle.compact_codec.specs.Text.{replacement_character};
 ghost use Rattle.std.specs.Char.Utf16.{is_high_surrogate, is_low_surrogate};
-ghost use Rattle.compact_codec.specs.Utf16Text.{IsUtf16, IsUtf16Step, utf16_lossy_text, UnitsEncodeOneText, Utf16IsThePaired, Utf16LossyTextIsTheOne, Utf16LossyTextOfText};
+ghost use Rattle.compact_codec.specs.Utf16Text.{IsUtf16, IsUtf16Step, utf16_lossy_text, UnitsEncodeOneText, Utf16HasNoUnpairedSurrogate, Utf16LossyTextIsUnique, Utf16LossyTextOfText};
 
-/// What a reader takes from units in one step.
+/// What a decoder takes from units in one step.
 #[derive(Clone, Copy, Debug, PartialEq, Eq)]
 pub struct Utf16Step {
-    /// The character at the front, or `None` for a part that is broken: a lossy reader puts U+FFFD, by
+    /// The first character, or `None` for an unpaired surrogate or an odd last byte: a lossy decoder puts U+FFFD, by
     /// `unwrap_or(char::REPLACEMENT_CHARACTER)`.
     pub character: Option<char>,
-    /// How many units it took, 1 or 2; where the reader goes over bytes, how many bytes, 1, 2 or 4.
+    /// How many units it took, 1 or 2; where the decoder goes over bytes, how many bytes, 1, 2 or 4.
     pub taken: usize,
 }
 
@@ -43,9 +43,9 @@ pub(crate) fn step_over(first: u16, second: Option<u16>) -> Utf16Step
     }
 }
 
-/// The character at the front of the units, or `None` for a lone surrogate, which takes one unit.
+/// The first character of the units, or `None` for an unpaired surrogate, which takes one unit.
 ///
-/// `[0xD834, 0xDD1E]` is U+1D11E in two units; `[0xD834, 0x0041]` begins with a lone unit.
+/// `[0xD834, 0xDD1E]` is U+1D11E in two units; `[0xD834, 0x0041]` begins with an unpaired surrogate.
 #[inline]
 pub fn first_character(units: &[u16]) -> Utf16Step
     requires { 0 < length units.now }
@@ -53,13 +53,14 @@ pub fn first_character(units: &[u16]) -> Utf16Step
     ensures taken { (0 < result.taken) × (result.taken ≤ length units.now) }
     ensures few { result.taken ≤ 2 }
     ensures lossy { utf16_lossy_text units.now
-        ≡ unwrap_or result.character replacement_character ∷ utf16_lossy_text (drop result.taken units.now) }
-    ensures broken { IfNone result.character (¬ (IsUtf16 units.now)) }
+        ≡ unwrap_or result.character replacement_character
+        ∷ utf16_lossy_text (drop result.taken units.now) }
+    ensures invalid { IfNone result.character (¬ (IsUtf16 units.now)) }
 {
     step_over(units[0], units.get(1).copied())
 }
 
-/// Whether some text gives the units: no surrogate is lone.
+/// Whether some text gives the units: no surrogate is unpaired.
 ///
 /// `[0xD834, 0xDD1E]` is text, `[0x0061, 0xDC00]` is none.
 // The loop has no way out, so that many units are looked at in one step.
@@ -67,12 +68,12 @@ pub fn is_utf16(units: &[u16]) -> bool
     ensures { IsTrue result ↔ IsUtf16 units.now }
 {
     let mut after_high = false;
-    let mut lone = false;
+    let mut unpaired = false;
     for &unit in units {
-        lone |= after_high ^ is_low(unit);
+        unpaired |= after_high ^ is_low(unit);
         after_high = is_high(unit);
     }
-    !lone && !after_high
+    !unpaired && !after_high
 }
 
 // Whether the unit is the first of a pair.
@@ -97,13 +98,13 @@ pub fn units_encode_one_text()
 {}
 
 /// A law: the units that some text gives are those in which no surrogate is unpaired, by std's test.
-pub fn text_is_the_paired_units()
-    ensures { Utf16IsThePaired }
+pub fn utf16_has_no_unpaired_surrogate()
+    ensures { Utf16HasNoUnpairedSurrogate }
 {}
 
 /// A law: units have one lossy text, and it is the one that std's word tells.
 pub fn units_have_one_lossy_text()
-    ensures { Utf16LossyTextIsTheOne }
+    ensures { Utf16LossyTextIsUnique }
 {}
 
 /// A law: a text's own units have that text as their lossy text.

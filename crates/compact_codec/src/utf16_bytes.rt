@@ -1,7 +1,7 @@
 //! Bytes read as UTF-16, two bytes a unit (Unicode Standard, 3.10). A byte order mark is a character here.
 ghost use Rattle.std.specs.Prelude.{◌≡◌, ◌↔◌, ◌<◌, ◌≤◌, ◌∷◌, drop, length, unwrap_or, slice_get, IsSome, IfNone, IsTrue};
 ghost use Rattle.compact_codec.specs.Text.{replacement_character};
-ghost use Rattle.compact_codec.specs.Utf16Bytes.{unit_of, units_of, IsUtf16Bytes, IsUtf16BytesStep, utf16_bytes_lossy_text, PairsAreTheUnits, Utf16BytesLossyTextIsTheOne, Utf16BytesLossyTextOfText};
+ghost use Rattle.compact_codec.specs.Utf16Bytes.{unit_of, units_of, IsUtf16Bytes, IsUtf16BytesStep, utf16_bytes_lossy_text, PairsAreTheUnits, Utf16BytesLossyTextIsUnique, Utf16BytesLossyTextOfText};
 
 use crate::utf16::{Utf16Step, step_over};
 
@@ -17,7 +17,7 @@ pub enum ByteOrder {
 impl ByteOrder {
     /// The unit of two bytes. `3D D8` is D83D in little-endian order.
     #[inline]
-    pub fn unit(self, first: u8, second: u8) -> u16
+    pub fn code_unit(self, first: u8, second: u8) -> u16
         ensures { result ≡ unit_of self first second }
     {
         match self {
@@ -27,22 +27,22 @@ impl ByteOrder {
     }
 }
 
-// The unit at the front, if two bytes are left.
+// The first unit, if two bytes are left.
 #[inline]
-fn front_unit(order: ByteOrder, bytes: &[u8]) -> Option<u16>
+fn first_code_unit(order: ByteOrder, bytes: &[u8]) -> Option<u16>
     ensures unit { result ≡ slice_get (units_of order bytes.now) 0 }
     ensures some { IsSome result ↔ (2 ≤ length bytes.now) }
 {
     if bytes.len() < 2 {
         return None;
     }
-    Some(order.unit(bytes[0], bytes[1]))
+    Some(order.code_unit(bytes[0], bytes[1]))
 }
 
-/// The character at the front of the bytes, or `None` for a lone surrogate, which takes two bytes, or for
+/// The first character of the bytes, or `None` for an unpaired surrogate, which takes two bytes, or for
 /// an odd last byte, which takes one.
 ///
-/// In little-endian order `3D D8 6F` begins with a lone unit of two bytes, and ends with an odd byte.
+/// In little-endian order `3D D8 6F` begins with an unpaired surrogate of two bytes, and ends with an odd byte.
 #[inline]
 pub fn first_character(order: ByteOrder, bytes: &[u8]) -> Utf16Step
     requires { 0 < length bytes.now }
@@ -50,16 +50,17 @@ pub fn first_character(order: ByteOrder, bytes: &[u8]) -> Utf16Step
     ensures taken { (0 < result.taken) × (result.taken ≤ length bytes.now) }
     ensures few { result.taken ≤ 4 }
     ensures lossy { utf16_bytes_lossy_text order bytes.now
-        ≡ unwrap_or result.character replacement_character ∷ utf16_bytes_lossy_text order (drop result.taken bytes.now) }
-    ensures broken { IfNone result.character (¬ (IsUtf16Bytes order bytes.now)) }
+        ≡ unwrap_or result.character replacement_character
+        ∷ utf16_bytes_lossy_text order (drop result.taken bytes.now) }
+    ensures invalid { IfNone result.character (¬ (IsUtf16Bytes order bytes.now)) }
 {
-    let Some(first) = front_unit(order, bytes) else {
+    let Some(first) = first_code_unit(order, bytes) else {
         return Utf16Step {
             character: None,
             taken: 1,
         };
     };
-    let second = front_unit(order, &bytes[2..]);
+    let second = first_code_unit(order, &bytes[2..]);
     let step = step_over(first, second);
     Utf16Step {
         character: step.character,
@@ -67,7 +68,7 @@ pub fn first_character(order: ByteOrder, bytes: &[u8]) -> Utf16Step
     }
 }
 
-/// Whether the bytes are those of some text's units: no surrogate is lone, and no byte is left over.
+/// Whether the bytes are those of some text's units: no surrogate is unpaired, and no byte is left over.
 ///
 /// In little-endian order `41 00` is text, `41 00 42` is none.
 pub fn is_utf16(order: ByteOrder, bytes: &[u8]) -> bool
@@ -91,7 +92,7 @@ pub fn pairs_are_the_units()
 
 /// A law: bytes have one lossy text, that of their units with U+FFFD at the end for an odd last byte.
 pub fn bytes_have_one_lossy_text()
-    ensures { Utf16BytesLossyTextIsTheOne }
+    ensures { Utf16BytesLossyTextIsUnique }
 {}
 
 /// A law: the bytes of a text's own units have that text as their lossy text.

@@ -3,67 +3,67 @@ ghost use Rattle.std.specs.Prelude.{◌≡◌, ◌↔◌, ◌+◌, ◌<◌, ◌�
 ghost use Rattle.std.specs.Str.{IsAscii};
 ghost use Rattle.compact_codec.specs.Text.{text_of};
 ghost use Rattle.compact_codec.specs.Utf8Table.{TableIsTheEncodings};
-ghost use Rattle.compact_codec.specs.BrokenPart.{IsUtf8Fault, Judges, FaultIsTheOne};
-ghost use Rattle.compact_codec.specs.Utf8Text.{utf8_lossy_text, replacement_text, BeginsWithChunk, BytesEncodeOneText, Utf8LossyTextIsTheOne, Utf8LossyTextOfText};
+ghost use Rattle.compact_codec.specs.InvalidSequence.{IsUtf8Error, Validates, Utf8ErrorIsUnique};
+ghost use Rattle.compact_codec.specs.Utf8Text.{utf8_lossy_text, replacement_text, BeginsWithChunk, BytesEncodeOneText, Utf8LossyTextIsUnique, Utf8LossyTextOfText};
 
 use std::simd::prelude::*;
 
 /// Where bytes stop being UTF-8.
 #[derive(Clone, Copy, Debug, PartialEq, Eq)]
-pub struct Utf8Fault {
-    /// How many bytes the longest front has that encodes a text.
+pub struct Utf8Error {
+    /// How many bytes the longest prefix has that encodes a text.
     pub valid_up_to: usize,
-    /// How many bytes the broken part after it has, from 1 to 3, or `None` where the input ends inside a
-    /// sequence that more bytes could complete.
+    /// How many bytes the invalid sequence after it has, from 1 to 3, or `None` where the input ends inside a sequence that
+    /// more bytes could complete.
     pub error_len: Option<usize>,
 }
 
-// From this many bytes on, a judge of whole blocks is faster than one that goes in order.
-const LONG: usize = 64;
+// The bytes of a block. From so many on, whole blocks are validated faster than bytes in order.
+const BLOCK_LEN: usize = 64;
 
-// How many bytes that judge takes at a time.
-const WINDOW: usize = 8192;
+// The most bytes that are validated at a time.
+const MAX_WINDOW_LEN: usize = 8192;
 
 /// The text that the bytes encode, or where they stop being one.
 ///
-/// `[0x61, 0xE2, 0x82]` is at fault after 1 byte, with an open end: one byte more could make it `a€`.
-/// `[0xE1, 0x80, 0x41]` is at fault at its start, with a broken part of 2 bytes.
+/// `[0x61, 0xE2, 0x82]` has its error after 1 byte, with an open end: one byte more could make it `a€`.
+/// `[0xE1, 0x80, 0x41]` has its error at its start, with an invalid sequence of 2 bytes.
 #[inline]
-pub fn judge(bytes: &[u8]) -> Result<&str, Utf8Fault>
-    ensures { Judges bytes.now result }
+pub fn validate(bytes: &[u8]) -> Result<&str, Utf8Error>
+    ensures { Validates bytes.now result }
 {
-    if bytes.len() < LONG {
-        return judge_short(bytes);
+    if bytes.len() < BLOCK_LEN {
+        return validate_short(bytes);
     }
-    let letters = ascii_front(bytes);
+    let letters = ascii_prefix_len(bytes);
     if letters < bytes.len() {
-        return judge_in_windows(bytes, letters);
+        return validate_in_windows(bytes, letters);
     }
     Ok(unsafe { std::str::from_utf8_unchecked(bytes) })
 }
 
 /// Whether the bytes encode a text. Of a short text in ASCII that is known with no call, so a caller that has many of them
-/// asks this in place of `judge`.
+/// asks this in place of `validate`.
 ///
 /// It is `true` of `[0xE2, 0x82, 0xAC]`, which encodes `€`, and `false` of `[0xE2, 0x82]`.
 #[inline]
 pub fn is_utf8(bytes: &[u8]) -> bool
     ensures { IsTrue result ↔ IsUtf8 bytes.now }
 {
-    if bytes.len() < LONG && is_short_ascii(bytes) {
+    if bytes.len() < BLOCK_LEN && is_short_ascii(bytes) {
         return true;
     }
-    judge(bytes).is_ok()
+    validate(bytes).is_ok()
 }
 
-// The same as `judge`, of fewer bytes. It stands apart, so that what judges many bytes keeps its registers.
+// The same as `validate`, of fewer bytes. It stands apart, so that what validates many bytes keeps its registers.
 #[inline(never)]
-fn judge_short(bytes: &[u8]) -> Result<&str, Utf8Fault>
+fn validate_short(bytes: &[u8]) -> Result<&str, Utf8Error>
     requires { length bytes.now < 64 }
-    ensures { Judges bytes.now result }
+    ensures { Validates bytes.now result }
 {
     if !is_short_ascii(bytes) {
-        return judge_in_order(bytes);
+        return validate_in_order(bytes);
     }
     Ok(unsafe { std::str::from_utf8_unchecked(bytes) })
 }
@@ -89,45 +89,45 @@ fn is_short_ascii(bytes: &[u8]) -> bool
     false
 }
 
-// Whether the first `row` bytes and the last `row` are ASCII characters, which are all of the bytes.
+// Whether the first `len` bytes and the last `len` are ASCII characters, which are all of the bytes.
 #[inline(always)]
-fn ends_are_ascii(bytes: &[u8], row: usize) -> bool
-    requires within { row ≤ length bytes.now }
-    requires short { length bytes.now ≤ row + row }
+fn ends_are_ascii(bytes: &[u8], len: usize) -> bool
+    requires within { len ≤ length bytes.now }
+    requires short { length bytes.now ≤ len + len }
     ensures { IsTrue result → IsUtf8 bytes.now }
 {
-    is_ascii_row(&bytes[..row]) && is_ascii_row(&bytes[bytes.len() - row..])
+    is_ascii_slice(&bytes[..len]) && is_ascii_slice(&bytes[bytes.len() - len..])
 }
 
-// Whether each byte of a row is an ASCII character. There is no way out of the loop, so that many bytes are looked at in one
-// step.
+// Whether each byte of a slice is an ASCII character. There is no way out of the loop, so that many bytes are looked at in
+// one step.
 #[inline(always)]
-fn is_ascii_row(row: &[u8]) -> bool
-    ensures { IsTrue result → IsAscii row.now }
+fn is_ascii_slice(bytes: &[u8]) -> bool
+    ensures { IsTrue result → IsAscii bytes.now }
 {
     let mut most = 0;
-    for &byte in row {
+    for &byte in bytes {
         most = most.max(byte);
     }
     most < 0x80
 }
 
-// How many bytes at the front are ASCII characters, as whole blocks show it. The last block ends with the bytes, so that it
+// How many bytes at the start are ASCII characters, as whole blocks show it. The last block ends with the bytes, so that it
 // may begin before the one ahead of it has ended.
-fn ascii_front(bytes: &[u8]) -> usize
+fn ascii_prefix_len(bytes: &[u8]) -> usize
     requires { 64 ≤ length bytes.now }
     ensures within { result ≤ length bytes.now }
     ensures text { IsUtf8 (take result bytes.now) }
 {
-    let last = bytes.len() - LONG;
+    let last = bytes.len() - BLOCK_LEN;
     let mut at = 0;
     while at < last {
-        if !is_ascii(u8x64::from_slice(&bytes[at..])) {
+        if !is_ascii_block(u8x64::from_slice(&bytes[at..])) {
             return at;
         }
-        at += LONG;
+        at += BLOCK_LEN;
     }
-    if is_ascii(u8x64::from_slice(&bytes[last..])) {
+    if is_ascii_block(u8x64::from_slice(&bytes[last..])) {
         bytes.len()
     } else {
         last
@@ -136,35 +136,35 @@ fn ascii_front(bytes: &[u8]) -> usize
 
 // Whether each byte of a block is an ASCII character.
 #[inline(always)]
-fn is_ascii(block: u8x64) -> bool
+fn is_ascii_block(block: u8x64) -> bool
     ensures { IsTrue result → IsAscii block }
 {
     block.simd_ge(u8x64::splat(0x80)).to_bitmask() == 0
 }
 
-// The same as `judge`, where the bytes before `at` are known to be text. What is a text has one window after the other.
-fn judge_in_windows(bytes: &[u8], at: usize) -> Result<&str, Utf8Fault>
+// The same as `validate`, where the bytes before `at` are known to be text. What is a text has one window after the other.
+fn validate_in_windows(bytes: &[u8], at: usize) -> Result<&str, Utf8Error>
     requires within { at ≤ length bytes.now }
     requires text { IsUtf8 (take at bytes.now) }
-    ensures { Judges bytes.now result }
+    ensures { Validates bytes.now result }
 {
-    let end = text_in_windows(bytes, at);
+    let end = valid_len_in_windows(bytes, at);
     if end < bytes.len() {
-        return judge_onward(bytes, end);
+        return validate_onward(bytes, end);
     }
     Ok(unsafe { std::str::from_utf8_unchecked(bytes) })
 }
 
-// How many bytes at the front are text, where those before `from` are known to be, as whole windows show it.
-fn text_in_windows(bytes: &[u8], from: usize) -> usize
+// How many bytes at the start are valid, where those before `from` are known to be, as whole windows show it.
+fn valid_len_in_windows(bytes: &[u8], from: usize) -> usize
     requires within { from ≤ length bytes.now }
     requires text { IsUtf8 (take from bytes.now) }
     ensures within { result ≤ length bytes.now }
     ensures text { IsUtf8 (take result bytes.now) }
 {
     let mut at = from;
-    while bytes.len() - at >= LONG {
-        let end = window_end(bytes, at, WINDOW);
+    while bytes.len() - at >= BLOCK_LEN {
+        let end = window_end(bytes, at, MAX_WINDOW_LEN);
         if !simdutf8::is_utf8(&bytes[at..end]) {
             break;
         }
@@ -195,44 +195,44 @@ fn back_in_character(bytes: &[u8], at: usize) -> usize
     if bytes[at] & 0xC0 == 0x80 { at - 1 } else { at }
 }
 
-// The same as `judge`, where the bytes before `at` are known to be text, and a fault is likely to come soon.
+// The same as `validate`, where the bytes before `at` are known to be text, and an error is likely to come soon.
 #[inline]
-fn judge_onward(bytes: &[u8], at: usize) -> Result<&str, Utf8Fault>
+fn validate_onward(bytes: &[u8], at: usize) -> Result<&str, Utf8Error>
     requires within { at ≤ length bytes.now }
     requires text { IsUtf8 (take at bytes.now) }
-    ensures { Judges bytes.now result }
+    ensures { Validates bytes.now result }
 {
-    judge_from(bytes, text_before_fault(bytes, at))
+    validate_from(bytes, valid_len_before_error(bytes, at))
 }
 
-// How many bytes at the front are text, where those before `from` are known to be. Where twice the next `LONG` look whole,
-// windows double while they are text, so that no more is judged than some times what stands before the fault.
-fn text_before_fault(bytes: &[u8], from: usize) -> usize
+// How many bytes at the start are valid, where those before `from` are known to be. Where twice the next `BLOCK_LEN` look
+// whole, windows double while they are text, so that no more is validated than some times what stands before the error.
+fn valid_len_before_error(bytes: &[u8], from: usize) -> usize
     requires within { from ≤ length bytes.now }
     requires text { IsUtf8 (take from bytes.now) }
     ensures within { result ≤ length bytes.now }
     ensures text { IsUtf8 (take result bytes.now) }
 {
-    let mut at = text_by_guess(bytes, text_by_guess(bytes, from));
-    if at - from < 2 * (LONG - 4) {
+    let mut at = valid_len_by_guess(bytes, valid_len_by_guess(bytes, from));
+    if at - from < 2 * (BLOCK_LEN - 4) {
         return at;
     }
-    let mut width = LONG;
-    while bytes.len() - at >= LONG {
+    let mut width = BLOCK_LEN;
+    while bytes.len() - at >= BLOCK_LEN {
         let end = window_end(bytes, at, width);
         let window = &bytes[at..end];
         if !simdutf8::is_utf8(window) {
             break;
         }
         at = end;
-        width = (2 * width).min(WINDOW);
+        width = (2 * width).min(MAX_WINDOW_LEN);
     }
-    text_by_halves(bytes, at, width / 2)
+    valid_len_by_halves(bytes, at, width / 2)
 }
 
-// The same, where the window from `from` on is no text, and `most` is half its width: each half is judged, or left to the
+// The same, where the window from `from` on is no text, and `most` is half its width: each half is validated, or left to the
 // next.
-fn text_by_halves(bytes: &[u8], from: usize, most: usize) -> usize
+fn valid_len_by_halves(bytes: &[u8], from: usize, most: usize) -> usize
     requires within { from ≤ length bytes.now }
     requires text { IsUtf8 (take from bytes.now) }
     requires wide { most ≤ 8192 }
@@ -241,7 +241,7 @@ fn text_by_halves(bytes: &[u8], from: usize, most: usize) -> usize
 {
     let mut at = from;
     let mut width = most;
-    while width >= LONG && bytes.len() - at >= LONG {
+    while width >= BLOCK_LEN && bytes.len() - at >= BLOCK_LEN {
         let end = window_end(bytes, at, width);
         let half = &bytes[at..end];
         if simdutf8::is_utf8(half) {
@@ -249,21 +249,21 @@ fn text_by_halves(bytes: &[u8], from: usize, most: usize) -> usize
         }
         width /= 2;
     }
-    text_by_guess(bytes, at)
+    valid_len_by_guess(bytes, at)
 }
 
-// The same, as far as a guess at the next `LONG` bytes is found right.
-fn text_by_guess(bytes: &[u8], from: usize) -> usize
+// The same, as far as a guess at the next `BLOCK_LEN` bytes is found right.
+fn valid_len_by_guess(bytes: &[u8], from: usize) -> usize
     requires within { from ≤ length bytes.now }
     requires text { IsUtf8 (take from bytes.now) }
     ensures onward { from ≤ result }
     ensures within { result ≤ length bytes.now }
     ensures text { IsUtf8 (take result bytes.now) }
 {
-    if bytes.len() - from < LONG {
+    if bytes.len() - from < BLOCK_LEN {
         return from;
     }
-    let end = from + likely_len(&bytes[from..from + LONG]);
+    let end = from + likely_valid_len(&bytes[from..from + BLOCK_LEN]);
     let guessed = &bytes[from..end];
     if !guessed.is_empty() && simdutf8::is_utf8(guessed) {
         end
@@ -275,7 +275,7 @@ fn text_by_guess(bytes: &[u8], from: usize) -> usize
 // How many of the bytes are likely to be text, up to the last character: whether each byte goes on a character is
 // compared with whether those before it want one that does, for all bytes in one step. It is a guess, and what it is
 // good for is speed: a wrong one costs time alone.
-fn likely_len(bytes: &[u8]) -> usize
+fn likely_valid_len(bytes: &[u8]) -> usize
     requires { length bytes.now ≡ 64 }
     ensures { result ≤ 64 }
 {
@@ -286,7 +286,7 @@ fn likely_len(bytes: &[u8]) -> usize
     let widest = block.simd_ge(u8x64::splat(0xF0)).to_bitmask();
     let due = leads.wrapping_shl(1) | wide.wrapping_shl(2) | widest.wrapping_shl(3);
     let end = (high ^ leads ^ due).trailing_zeros() as usize;
-    if end == 0 || end < LONG && bytes[end] & 0xC0 == 0x80 {
+    if end == 0 || end < BLOCK_LEN && bytes[end] & 0xC0 == 0x80 {
         return end;
     }
     let lead = lead_at(bytes, lead_at(bytes, end - 1));
@@ -305,96 +305,96 @@ fn lead_at(bytes: &[u8], at: usize) -> usize
     }
 }
 
-// The same as `judge`, where the bytes before `at` are known to be text.
-fn judge_from(bytes: &[u8], at: usize) -> Result<&str, Utf8Fault>
+// The same as `validate`, where the bytes before `at` are known to be text.
+fn validate_from(bytes: &[u8], at: usize) -> Result<&str, Utf8Error>
     requires within { at ≤ length bytes.now }
     requires text { IsUtf8 (take at bytes.now) }
-    ensures { Judges bytes.now result }
+    ensures { Validates bytes.now result }
 {
-    match judge_in_order(&bytes[at..]) {
+    match validate_in_order(&bytes[at..]) {
         Ok(_) => Ok(unsafe { std::str::from_utf8_unchecked(bytes) }),
-        Err(fault) => Err(Utf8Fault {
-            valid_up_to: at + fault.valid_up_to,
-            error_len: fault.error_len,
+        Err(error) => Err(Utf8Error {
+            valid_up_to: at + error.valid_up_to,
+            error_len: error.error_len,
         }),
     }
 }
 
-// The same, from the first byte to the fault and no further.
-fn judge_in_order(bytes: &[u8]) -> Result<&str, Utf8Fault>
-    ensures { Judges bytes.now result }
+// The same, from the first byte to the error and no further.
+fn validate_in_order(bytes: &[u8]) -> Result<&str, Utf8Error>
+    ensures { Validates bytes.now result }
 {
     match std::str::from_utf8(bytes) {
         Ok(text) => Ok(text),
-        Err(error) => Err(Utf8Fault {
+        Err(error) => Err(Utf8Error {
             valid_up_to: error.valid_up_to(),
             error_len: error.error_len(),
         }),
     }
 }
 
-/// What a lossy reader takes from bytes in one step, and what is left.
+/// What a lossy decoder takes from bytes in one step, and what is left.
 #[derive(Clone, Copy, Debug, PartialEq, Eq)]
-pub struct Chunk<'a> {
-    /// The longest front that encodes a text.
-    pub text: &'a str,
-    /// The broken part after it, for which one U+FFFD stands; empty only where nothing follows the front.
-    pub broken: &'a [u8],
+pub struct Utf8Chunk<'a> {
+    /// The longest prefix that encodes a text.
+    pub valid: &'a str,
+    /// The invalid sequence after it, for which one U+FFFD stands; empty only where nothing follows the prefix.
+    pub invalid: &'a [u8],
     /// The bytes after both, which are read next.
     pub rest: &'a [u8],
 }
 
-/// The first chunk of bytes whose fault is known. It judges nothing again, so that a reader can let `judge`
-/// find the fault.
+/// The first chunk of bytes whose error is known. It validates nothing again, so that a decoder can let `validate` find the
+/// error.
 ///
-/// `[0x61, 0xC0, 0x80]` has its fault after 1 byte, with a broken part of 1 byte: the chunk is `a`, the broken
-/// byte C0 and the rest 80.
+/// `[0x61, 0xC0, 0x80]` has its error after 1 byte, with an invalid sequence of 1 byte: the chunk is `a`, the invalid byte
+/// C0 and the rest 80.
 #[inline]
-pub fn chunk_at(bytes: &[u8], fault: Utf8Fault) -> Chunk<'_>
-    requires { IsUtf8Fault bytes.now fault.valid_up_to fault.error_len }
-    ensures chunk { BeginsWithChunk bytes.now result.text.now result.broken.now result.rest.now }
+pub fn chunk_at(bytes: &[u8], error: Utf8Error) -> Utf8Chunk<'_>
+    requires { IsUtf8Error bytes.now error.valid_up_to error.error_len }
+    ensures chunk { BeginsWithChunk bytes.now result.valid.now result.invalid.now result.rest.now }
     ensures lossy { utf8_lossy_text bytes.now
-        ≡ text_of result.text.now
-        ++ (replacement_text result.broken.now ++ utf8_lossy_text result.rest.now) }
-    ensures len { length result.text.now + (length result.broken.now + length result.rest.now)
+        ≡ text_of result.valid.now
+        ++ (replacement_text result.invalid.now ++ utf8_lossy_text result.rest.now) }
+    ensures len { length result.valid.now + (length result.invalid.now + length result.rest.now)
         ≡ length bytes.now }
-    ensures broken { 0 < length result.broken.now }
+    ensures invalid { 0 < length result.invalid.now }
 {
-    let (front, after) = bytes.split_at(fault.valid_up_to);
-    let broken_len = fault.error_len.unwrap_or(after.len());
-    let (broken, rest) = after.split_at(broken_len);
-    Chunk {
-        text: unsafe { std::str::from_utf8_unchecked(front) },
-        broken,
+    let (prefix, after) = bytes.split_at(error.valid_up_to);
+    let invalid_len = error.error_len.unwrap_or(after.len());
+    let (invalid, rest) = after.split_at(invalid_len);
+    Utf8Chunk {
+        valid: unsafe { std::str::from_utf8_unchecked(prefix) },
+        invalid,
         rest,
     }
 }
 
 /// The first chunk of the bytes. No bytes are the chunk of three empty parts.
 ///
-/// It judges some times as many bytes as stand before the fault, so that a reader can go on after each broken
-/// part. Of bytes that are likely to be text, `judge` and `chunk_at` are the faster way.
+/// It validates some times as many bytes as stand before the error, so that a decoder can go on after each invalid sequence.
+/// Of bytes that are likely to be text, `validate` and `chunk_at` are the faster way.
 ///
-/// `[0x61, 0xC0, 0x80]` is `a`, the broken byte C0 and the rest 80, whose chunk is no text and the broken
-/// byte 80: the lossy text is `a` and two U+FFFD.
+/// `[0x61, 0xC0, 0x80]` is `a`, the invalid byte C0 and the rest 80, whose chunk is no text and the invalid byte 80: the
+/// lossy text is `a` and two U+FFFD.
 #[inline]
-pub fn first_chunk(bytes: &[u8]) -> Chunk<'_>
-    ensures chunk { BeginsWithChunk bytes.now result.text.now result.broken.now result.rest.now }
+pub fn first_chunk(bytes: &[u8]) -> Utf8Chunk<'_>
+    ensures chunk { BeginsWithChunk bytes.now result.valid.now result.invalid.now result.rest.now }
     ensures lossy { utf8_lossy_text bytes.now
-        ≡ text_of result.text.now
-        ++ (replacement_text result.broken.now ++ utf8_lossy_text result.rest.now) }
-    ensures len { length result.text.now + (length result.broken.now + length result.rest.now)
+        ≡ text_of result.valid.now
+        ++ (replacement_text result.invalid.now ++ utf8_lossy_text result.rest.now) }
+    ensures len { length result.valid.now + (length result.invalid.now + length result.rest.now)
         ≡ length bytes.now }
-    ensures whole { length result.broken.now ≡ 0 → length result.rest.now ≡ 0 }
+    ensures whole { length result.invalid.now ≡ 0 → length result.rest.now ≡ 0 }
     ensures shorter { 0 < length bytes.now → length result.rest.now < length bytes.now }
 {
-    match judge_onward(bytes, 0) {
-        Ok(text) => Chunk {
-            text,
-            broken: &[],
+    match validate_onward(bytes, 0) {
+        Ok(valid) => Utf8Chunk {
+            valid,
+            invalid: &[],
             rest: &[],
         },
-        Err(fault) => chunk_at(bytes, fault),
+        Err(error) => chunk_at(bytes, error),
     }
 }
 
@@ -409,14 +409,14 @@ pub fn bytes_encode_one_text()
     ensures { BytesEncodeOneText }
 {}
 
-/// A law: bytes that are no text have one fault, and std's words for its place and its length tell it.
-pub fn bytes_have_one_fault()
-    ensures { FaultIsTheOne }
+/// A law: bytes that are no text have one error, and std's words for its place and its length tell it.
+pub fn bytes_have_one_error()
+    ensures { Utf8ErrorIsUnique }
 {}
 
 /// A law: bytes have one lossy text, and it is the one that std's word tells.
 pub fn bytes_have_one_lossy_text()
-    ensures { Utf8LossyTextIsTheOne }
+    ensures { Utf8LossyTextIsUnique }
 {}
 
 /// A law: a text's own bytes have that text as their lossy text.

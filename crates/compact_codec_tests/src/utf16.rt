@@ -1,9 +1,9 @@
-//! Units read step by step and judged as a whole: lone units, pairs, and pairs at each edge of the two ranges.
+//! Units read step by step and validated as a whole: unpaired surrogates, pairs, and pairs at each edge of the two ranges.
 
 use compact_codec::utf16::{first_character, is_utf16};
 use std::process::Abort;
 
-/// The units are read in these steps: a character, or `None` for a lone unit, and how many units it takes.
+/// The units are read in these steps: a character, or `None` for an unpaired surrogate, and how many units it takes.
 fn assert_steps(rt: &impl Abort, units: &[u16], steps: &[(Option<char>, usize)]) {
     let mut rest = units;
     for (character, taken) in steps {
@@ -17,7 +17,7 @@ fn assert_steps(rt: &impl Abort, units: &[u16], steps: &[(Option<char>, usize)])
 }
 
 #[test]
-fn lone_units_are_steps_of_their_own(rt: HostRuntime) {
+fn unpaired_surrogates_are_steps_of_their_own(rt: HostRuntime) {
     assert_steps(&rt, &[], &[]);
     let cases: [(&[u16], &[(Option<char>, usize)]); 4] = [
         (&[0xDC00, 0xD800], &[(None, 1), (None, 1)]),

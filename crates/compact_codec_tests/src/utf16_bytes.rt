@@ -1,9 +1,9 @@
-//! Bytes read as units, two a unit, in each order: step by step, and judged as a whole.
+//! Bytes read as units, two a unit, in each order: step by step, and validated as a whole.
 
 use compact_codec::utf16_bytes::{ByteOrder, first_character, is_utf16};
 use std::process::Abort;
 
-/// The bytes are read in these steps: a character, or `None` for a broken part, and how many bytes it takes.
+/// The bytes are read in these steps: a character, or `None` for an invalid sequence, and how many bytes it takes.
 fn assert_steps(rt: &impl Abort, order: ByteOrder, bytes: &[u8], steps: &[(Option<char>, usize)]) {
     let mut rest = bytes;
     for (character, taken) in steps {

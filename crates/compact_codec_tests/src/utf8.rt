@@ -1,32 +1,32 @@
-//! Bytes judged as a whole and read chunk by chunk: texts, where each fault is placed, the Standard's examples, long input,
-//! and every input of two bytes.
+//! Bytes validated as a whole and read chunk by chunk: texts, where each error is placed, the Standard's examples, long
+//! input, and every input of two bytes.
 
-use compact_codec::utf8::{Utf8Fault, chunk_at, first_chunk, is_utf8, judge};
+use compact_codec::utf8::{Utf8Error, chunk_at, first_chunk, is_utf8, validate};
 use std::process::Abort;
 
-/// The bytes fall into these chunks: a text, and how many bytes are broken after it.
+/// The bytes fall into these chunks: a text, and how many bytes are invalid after it.
 fn assert_chunks(rt: &impl Abort, bytes: &[u8], chunks: &[(&str, usize)]) {
     let mut rest = bytes;
-    for (text, broken) in chunks {
+    for (text, invalid) in chunks {
         let chunk = first_chunk(rest);
-        assert!(rt; chunk.text == *text);
-        assert_eq!(rt; chunk.broken.len(), *broken);
+        assert!(rt; chunk.valid == *text);
+        assert_eq!(rt; chunk.invalid.len(), *invalid);
         rest = chunk.rest;
     }
     assert!(rt; rest.is_empty());
 }
 
-/// The bytes are no text: where the fault lies, and how long it is, or `None` where they end too soon.
-fn assert_fault(rt: &impl Abort, bytes: &[u8], valid_up_to: usize, error_len: Option<usize>) {
+/// The bytes are no text: where the error lies, and how long it is, or `None` where they end too soon.
+fn assert_error(rt: &impl Abort, bytes: &[u8], valid_up_to: usize, error_len: Option<usize>) {
     assert!(rt; !is_utf8(bytes), "{bytes:?}");
-    let fault = judge(bytes).err();
+    let error = validate(bytes).err();
     assert!(rt;
-        fault
-            == Some(Utf8Fault {
+        error
+            == Some(Utf8Error {
                 valid_up_to,
                 error_len
             }),
-        "{bytes:?}: {fault:?}"
+        "{bytes:?}: {error:?}"
     );
 }
 
@@ -42,7 +42,7 @@ fn texts_are_taken(rt: HostRuntime) {
         (b"\xF0\x9F\x91\xAF", "\u{1F46F}"),
     ];
     for (bytes, text) in cases {
-        assert!(rt; judge(bytes) == Ok(text), "{bytes:?}");
+        assert!(rt; validate(bytes) == Ok(text), "{bytes:?}");
         assert!(rt; is_utf8(bytes), "{bytes:?}");
     }
 }
@@ -55,14 +55,14 @@ fn each_byte_of_a_short_text_is_looked_at(rt: HostRuntime) {
         for at in 0..len {
             bytes[at] = 0xFF;
             assert!(rt; !is_utf8(&bytes[..len]), "{len}, {at}");
-            assert!(rt; judge(&bytes[..len]).is_err(), "{len}, {at}");
+            assert!(rt; validate(&bytes[..len]).is_err(), "{len}, {at}");
             bytes[at] = b'a';
         }
     }
 }
 
 #[test]
-fn faults_are_placed(rt: HostRuntime) {
+fn errors_are_placed(rt: HostRuntime) {
     let cases: [(&[u8], usize, Option<usize>); 11] = [
         (b"\xC0\x80", 0, Some(1)),
         (b"\xE0\x80\x80", 0, Some(1)),
@@ -81,31 +81,31 @@ fn faults_are_placed(rt: HostRuntime) {
         ),
     ];
     for (bytes, valid_up_to, error_len) in cases {
-        assert_fault(&rt, bytes, valid_up_to, error_len);
+        assert_error(&rt, bytes, valid_up_to, error_len);
     }
 }
 
 #[test]
-fn long_input_is_judged_as_short(rt: HostRuntime) {
+fn long_input_is_validated_as_short(rt: HostRuntime) {
     let mut bytes = [b'a'; 20000];
-    assert!(rt; judge(&bytes).is_ok());
+    assert!(rt; validate(&bytes).is_ok());
     // A character across the end of the first 8192 bytes.
     bytes[8190] = 0xE2;
     bytes[8191] = 0x82;
     bytes[8192] = 0xAC;
-    assert!(rt; judge(&bytes).is_ok());
+    assert!(rt; validate(&bytes).is_ok());
     bytes[19999] = 0xE2;
-    assert_fault(&rt, &bytes, 19999, None);
+    assert_error(&rt, &bytes, 19999, None);
     bytes[15000] = 0xF4;
     bytes[15001] = 0x90;
-    assert_fault(&rt, &bytes, 15000, Some(1));
+    assert_error(&rt, &bytes, 15000, Some(1));
     bytes[64] = 0xE1;
     bytes[65] = 0x80;
-    assert_fault(&rt, &bytes, 64, Some(2));
+    assert_error(&rt, &bytes, 64, Some(2));
 }
 
 #[test]
-fn each_broken_part_is_one_chunk(rt: HostRuntime) {
+fn each_invalid_sequence_is_one_chunk(rt: HostRuntime) {
     let cases: [(&[u8], &[(&str, usize)]); 8] = [
         (b"", &[("", 0)]),
         (b"\xC0\x80", &[("", 1), ("", 1)]),
@@ -178,40 +178,40 @@ fn the_examples_of_the_standard(rt: HostRuntime) {
 }
 
 #[test]
-fn a_chunk_is_made_from_its_fault(rt: HostRuntime) {
-    let Err(fault) = judge(b"\x61\xC0\x80") else {
+fn a_chunk_is_made_from_its_error(rt: HostRuntime) {
+    let Err(error) = validate(b"\x61\xC0\x80") else {
         panic!(rt; "C0 is no text");
     };
-    let chunk = chunk_at(b"\x61\xC0\x80", fault);
-    assert!(rt; chunk.text == "a");
-    assert!(rt; chunk.broken == b"\xC0".as_slice());
+    let chunk = chunk_at(b"\x61\xC0\x80", error);
+    assert!(rt; chunk.valid == "a");
+    assert!(rt; chunk.invalid == b"\xC0".as_slice());
     assert!(rt; chunk.rest == b"\x80".as_slice());
 }
 
-/// How many of all inputs of two bytes are texts, and how many have each fault; by another decoder.
+/// How many of all inputs of two bytes are texts, and how many have each error; by another decoder.
 #[test]
 fn all_inputs_of_two_bytes(rt: HostRuntime) {
     let mut texts = 0u32;
-    let mut broken_at_first = 0u32;
-    let mut broken_at_second = 0u32;
+    let mut invalid_at_first = 0u32;
+    let mut invalid_at_second = 0u32;
     let mut open_at_first = 0u32;
     let mut open_at_second = 0u32;
     for first in 0..=255u8 {
         for second in 0..=255u8 {
-            match judge(&[first, second]) {
+            match validate(&[first, second]) {
                 Ok(_) => texts = texts.saturating_add(1),
-                Err(fault) => match (fault.valid_up_to, fault.error_len) {
-                    (0, Some(_)) => broken_at_first = broken_at_first.saturating_add(1),
+                Err(error) => match (error.valid_up_to, error.error_len) {
+                    (0, Some(_)) => invalid_at_first = invalid_at_first.saturating_add(1),
                     (0, None) => open_at_first = open_at_first.saturating_add(1),
-                    (_, Some(_)) => broken_at_second = broken_at_second.saturating_add(1),
+                    (_, Some(_)) => invalid_at_second = invalid_at_second.saturating_add(1),
                     (_, None) => open_at_second = open_at_second.saturating_add(1),
                 },
             }
         }
     }
     assert_eq!(rt; texts, 18304);
-    assert_eq!(rt; broken_at_first, 29632);
-    assert_eq!(rt; broken_at_second, 9856);
+    assert_eq!(rt; invalid_at_first, 29632);
+    assert_eq!(rt; invalid_at_second, 9856);
     assert_eq!(rt; open_at_first, 1216);
     assert_eq!(rt; open_at_second, 6528);
 }

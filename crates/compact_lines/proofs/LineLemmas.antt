@@ -10,7 +10,7 @@ use Rattle.std.proofs.lemmas.Grind.{flat_map-append}
 use Rattle.std.proofs.lemmas.List.{drop_more, take_rest}
 use Rattle.std.specs.Borrow.{Bor}
 use Rattle.std.proofs.lemmas.Str.{is_utf8-from_IsUtf8}
-use Rattle.compact_str.proofs.ForCallers.{broken-is_utf8}
+use Rattle.compact_str.proofs.ForCallers.{invalid-is_utf8}
 use Rattle.compact_str.specs.Value.{PlacedText}
 use Rattle.compact_str.specs.Capacity.{Growth}
 use Rattle.compact_str.specs.declared.Standard.{Standard}
@@ -209,7 +209,7 @@ answered-itself g v w None answer is = is
 answered-itself g v w (Some command) answer is = (is.0, is.1, does-itself g v w command is.0 is.2)
 
 pub broken-line : (line : List ℕ) → ¬ (IsUtf8 line) → line_command line ≡ None
-broken-line line broken = rw (broken-is_utf8 line broken) refl
+broken-line line broken = rw (invalid-is_utf8 line broken) refl
 
 -- the command that is read from the text of a line is that of the line
 pub text-line : (line text : List ℕ) (bits items : List Bool) (command : Option Command) → (text ≡ line) × IsUtf8 line → bits ≡ items

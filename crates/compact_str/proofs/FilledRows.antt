@@ -1,19 +1,22 @@
 -- A row of bytes into which characters are written.
-use Rattle.std.proofs.Common.{◌≡◌, ◌⊎◌, ⊎_elim, inl, inr, true, false, cond, ltb, get_or, Some, drop-cons, add-one, ◌/◌, ◌%◌, ℕ, ◌+◌, ◌-◌, ◌<◌, ◌≤◌, List, [], ◌∷◌, ◌++◌, length, take, drop, set, length-set, refl, sym, ap, subst, ◌∙◌, arith, append_assoc, drop-drop, length-drop}
+use Rattle.std.proofs.Common.{◌≡◌, ◌⊎◌, ⊎_elim, inl, inr, true, false, cond, ltb, get_or, Some, drop-cons, add-one, ◌/◌, ◌%◌, ℕ, ◌+◌, ◌-◌, ◌<◌, ◌≤◌, List, [], ◌∷◌, ◌++◌, length, take, drop, set, length-set, refl, sym, ap, subst, ◌∙◌, arith, append-nil, append_assoc, drop-drop, length-drop}
 use Rattle.std.specs.Char.{IsScalar, encode_utf8}
 use Rattle.std.specs.Str.{IsUtf8}
 use Rattle.std.specs.Int.{is_in_range}
 use Rattle.std.proofs.lemmas.Grind.{take-set_at}
-use Rattle.std.proofs.lemmas.Str.{chars-append, IsUtf8-append, IsUtf8-encode}
+use Rattle.std.proofs.lemmas.Str.{chars-append, chars-encodes, IsUtf8-append, IsUtf8-encode}
 use Rattle.compact_repr.specs.Text.{text_of}
 use Rattle.compact_codec.specs.Utf16Text.{utf16_lossy_text}
 use Rattle.compact_codec.proofs.UnitsReading.{from_at, utf16_lossy_text-step}
 use Rattle.compact_codec.proofs.Rows.{encode_one, encode_two, encode_three, high_scalar}
 use Rattle.std.proofs.str.Utf16.{one_unit}
-use Rattle.std.proofs.lemmas.Bool.{cases_lt, cond-true, cond-false, lt-ltb, le-ltb, leb-false, and_cases}
+use Rattle.std.proofs.lemmas.Bool.{cases_lt, and_from, cond-true, cond-false, lt-ltb, le-ltb, leb-false, and_cases}
 use Rattle.std.proofs.lemmas.List.{take-set-le}
 use lib.Utf8.{low_scalar}
-use Rattle.compact_codec.proofs.StringSink.{chars-encode_utf8}
+
+-- a character's own bytes spell it
+text_of-encode_utf8 : (c : ℕ) → IsScalar c → text_of (encode_utf8 c) ≡ c ∷ []
+text_of-encode_utf8 c is = ap text_of (sym (append-nil (encode_utf8 c))) ∙ chars-encodes (c ∷ []) (and_from _ true is refl)
 
 -- a byte is put behind those that stand at the front
 pub byte_behind : (row front : List ℕ) (i n y : ℕ) → take i row ≡ front → n ≡ i + 1 → i < length row → take n (set row i y) ≡ front ++ y ∷ []
@@ -23,7 +26,7 @@ byte_behind row front i n y is next within = take-set_at row i n y next within �
 pub character_behind : (whole left more bytes next : List ℕ) (c : ℕ) → text_of bytes ++ left ≡ whole → left ≡ c ∷ more → next ≡ bytes ++ encode_utf8 c
     → IsUtf8 bytes → IsScalar c → (text_of next ++ more ≡ whole) × IsUtf8 next
 character_behind whole left more bytes next c so_far begins is utf8 scalar =
-    let own : text_of (encode_utf8 c) ≡ c ∷ [] = chars-encode_utf8 c scalar in
+    let own : text_of (encode_utf8 c) ≡ c ∷ [] = text_of-encode_utf8 c scalar in
     let spelled : text_of next ≡ text_of bytes ++ (c ∷ []) = ap text_of is ∙ chars-append bytes (encode_utf8 c) utf8 ∙ ap (λ t. text_of bytes ++ t) own in (
       ap (λ t. t ++ more) spelled ∙ append_assoc (text_of bytes) (c ∷ []) more ∙ ap (λ t. text_of bytes ++ t) (sym begins) ∙ so_far,
       subst IsUtf8 (sym is) (IsUtf8-append bytes (encode_utf8 c) utf8 (IsUtf8-encode c scalar)),

@@ -85,11 +85,11 @@ mark-text : text_of (0xEF ∷ 0xBF ∷ 0xBD ∷ []) ≡ replacement_character �
 unfolding chars
 mark-text = refl
 
--- a front and U+FFFD for the broken part behind it were appended, and the rest is cut once more
-pub chunk-read : (whole old half new front broken rest more : List ℕ) → old ++ (front ++ (replacement_text broken ++ rest)) ≡ whole → 0 < length broken
+-- a prefix and U+FFFD for the invalid sequence behind it were appended, and the rest is cut once more
+pub chunk-read : (whole old half new front invalid rest more : List ℕ) → old ++ (front ++ (replacement_text invalid ++ rest)) ≡ whole → 0 < length invalid
     → rest ≡ more → half ≡ old ++ front → new ≡ half ++ text_of (0xEF ∷ 0xBF ∷ 0xBD ∷ []) → new ++ more ≡ whole
-chunk-read whole old half new front broken rest more e some r h n =
-    let marked : replacement_text broken ≡ replacement_character ∷ [] = replacement_text-some broken some in
+chunk-read whole old half new front invalid rest more e some r h n =
+    let marked : replacement_text invalid ≡ replacement_character ∷ [] = replacement_text-some invalid some in
     let made : new ≡ (old ++ front) ++ (replacement_character ∷ []) = n ∙ rw (h, mark-text) refl in
     rw (made, sym r) (append_assoc (old ++ front) (replacement_character ∷ []) rest ∙ append_assoc old front (replacement_character ∷ rest))
     ∙ ap (λ (t : List ℕ). old ++ (front ++ (t ++ rest))) (sym marked) ∙ e

@@ -126,7 +126,7 @@ pub ruleset for_callers = (
 )
 
 -- for callers that decode bytes: the lossy text of bytes that encode one, and the test of std's that says whether they do
-pub broken-is_utf8 : (bytes : List ℕ) → ¬ (IsUtf8 bytes) → is_utf8 bytes ≡ false
-broken-is_utf8 bytes none = false_from_ne_true (is_utf8 bytes) (λ t. none (IsUtf8-from_is_utf8 bytes t))
+pub invalid-is_utf8 : (bytes : List ℕ) → ¬ (IsUtf8 bytes) → is_utf8 bytes ≡ false
+invalid-is_utf8 bytes none = false_from_ne_true (is_utf8 bytes) (λ t. none (IsUtf8-from_is_utf8 bytes t))
 
-pub ruleset decoding = (utf8_lossy_text-IsUtf8, is_utf8-from_IsUtf8, broken-is_utf8)
+pub ruleset decoding = (utf8_lossy_text-IsUtf8, is_utf8-from_IsUtf8, invalid-is_utf8)

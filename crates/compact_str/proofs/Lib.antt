@@ -4,7 +4,7 @@ pub mod Letters
 pub mod Drains
 pub mod Kept
 pub mod Repeats
-pub mod Faults
+pub mod Utf8Errors
 pub mod FilledRows
 pub mod FittedTexts
 pub mod EditFacts

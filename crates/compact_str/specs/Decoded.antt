@@ -2,7 +2,7 @@
 use Rattle.std.specs.Prelude.{◌≡◌, ℕ, List, [], length, drop, IsTrue}
 use Rattle.std.specs.Str.{IsUtf8, valid_up_to, error_len}
 use Rattle.std.specs.declared.str.Utf8Error.{Utf8Error}
-use Rattle.compact_codec.specs.BrokenPart.{IsUtf8Fault}
+use Rattle.compact_codec.specs.InvalidSequence.{IsUtf8Error}
 use Rattle.compact_codec.specs.Utf16Text.{IsUtf16, UnitsEncode}
 use Rattle.compact_codec.specs.Utf16Bytes.{units_of, ArePairs, IsUtf16Bytes}
 use Rattle.compact_codec.specs.declared.utf16_bytes.ByteOrder.{ByteOrder}
@@ -17,19 +17,19 @@ use Rattle.compact_str.specs.declared.decode.error.FromUtf16Error.TheVariants.{U
 abbrev pub IsEndOf : List ℕ → List ℕ → Type 0
 IsEndOf left bytes = (n : ℕ) × (left ≡ drop n bytes)
 
--- std's error tells of bytes that are no text where they stop being one, and how long the broken part is
-pub record IsFaultOf (bytes : List ℕ) (e : Utf8Error) : Type 0 where
-  pub fault : IsUtf8Fault bytes (valid_up_to e) (error_len e)
+-- std's error tells of bytes that are no text where they stop being one, and how long the invalid sequence is
+pub record IsErrorOf (bytes : List ℕ) (e : Utf8Error) : Type 0 where
+  pub error : IsUtf8Error bytes (valid_up_to e) (error_len e)
 
 -- a slice of bytes encodes no text, and the error tells where; or it encodes one, for which memory was refused
 abbrev pub IsUtf8Refusal : List ℕ → FromUtf8Error → Type 0
-IsUtf8Refusal bytes (Utf8 valid_up_to error_len) = ¬ (IsUtf8 bytes) × IsUtf8Fault bytes valid_up_to error_len
+IsUtf8Refusal bytes (Utf8 valid_up_to error_len) = ¬ (IsUtf8 bytes) × IsUtf8Error bytes valid_up_to error_len
 IsUtf8Refusal bytes (Reserve _) = IsUtf8 bytes × IsTrue (new_room_asks (length bytes))
 
 -- a reader of these bytes that leaves those took them all, and they encode no text; or it took a beginning of them, and was
--- refused memory before it judged them
+-- refused memory before it validated them
 abbrev pub IsUtf8BufRefusal : List ℕ → List ℕ → FromUtf8Error → Type 0
-IsUtf8BufRefusal bytes left (Utf8 valid_up_to error_len) = ¬ (IsUtf8 bytes) × IsUtf8Fault bytes valid_up_to error_len × (left ≡ [])
+IsUtf8BufRefusal bytes left (Utf8 valid_up_to error_len) = ¬ (IsUtf8 bytes) × IsUtf8Error bytes valid_up_to error_len × (left ≡ [])
 IsUtf8BufRefusal bytes left (Reserve _) = IsTrue (new_room_asks (length bytes)) × IsEndOf left bytes
 
 -- units encode no text; or they encode one, for which memory was refused

@@ -12,7 +12,7 @@ pub mod utf8;
 use crate::string::CompactString;
 use compact_repr::{INLINE_CAPACITY, ReserveError};
 
-/// What stands in a text for a broken part.
+/// What stands in a text for an invalid sequence.
 const REPLACEMENT: &str = "\u{FFFD}";
 
 /// Appends `text` to a fitted value, which stays so. Where it leaves the value itself, room is also made for `more` bytes

@@ -53,16 +53,16 @@ fn a_text_is_read_wherever_it_is_parted(rt: HostRuntime) {
     assert_read(&rt, rt.alloc(), "aä€𝄞aä€𝄞aä€𝄞aä€𝄞");
 }
 
-/// Asserts that broken bytes have one fault wherever they are parted.
-fn assert_broken(rt: &impl Abort, alloc: Global, bytes: &[u8], fault: FromUtf8Error) {
+/// Asserts that invalid bytes have one error wherever they are parted.
+fn assert_invalid(rt: &impl Abort, alloc: Global, bytes: &[u8], error: FromUtf8Error) {
     for place in 0..bytes.len() + 1 {
-        assert!(rt; of_two(rt, alloc, bytes, place).err() == Some(fault));
+        assert!(rt; of_two(rt, alloc, bytes, place).err() == Some(error));
     }
-    assert!(rt; of_drips(rt, alloc, bytes).err() == Some(fault));
+    assert!(rt; of_drips(rt, alloc, bytes).err() == Some(error));
 }
 
-/// A fault at a place, of a broken part of so many bytes, or open at the end.
-fn fault(valid_up_to: usize, error_len: Option<usize>) -> FromUtf8Error {
+/// An error at a place, of an invalid sequence of so many bytes, or open at the end.
+fn error_at(valid_up_to: usize, error_len: Option<usize>) -> FromUtf8Error {
     FromUtf8Error::Utf8 {
         valid_up_to,
         error_len,
@@ -70,21 +70,26 @@ fn fault(valid_up_to: usize, error_len: Option<usize>) -> FromUtf8Error {
 }
 
 #[test]
-fn broken_bytes_have_one_fault_wherever_they_are_parted(rt: HostRuntime) {
-    assert_broken(&rt, rt.alloc(), b"\xE2\x82A", fault(0, Some(2)));
-    assert_broken(&rt, rt.alloc(), b"\xC3\xA4\xED\xA0\x80", fault(2, Some(1)));
-    assert_broken(&rt, rt.alloc(), b"a\xF0\x9F\x92", fault(1, None));
+fn invalid_bytes_have_one_error_wherever_they_are_parted(rt: HostRuntime) {
+    assert_invalid(&rt, rt.alloc(), b"\xE2\x82A", error_at(0, Some(2)));
+    assert_invalid(
+        &rt,
+        rt.alloc(),
+        b"\xC3\xA4\xED\xA0\x80",
+        error_at(2, Some(1)),
+    );
+    assert_invalid(&rt, rt.alloc(), b"a\xF0\x9F\x92", error_at(1, None));
     let short = b"\0\0\0\0\0\0\0\0\0\0\0\0\0\0\0\0\0\0\0\0\0\0\0\xC0";
-    assert_broken(&rt, rt.alloc(), short, fault(23, Some(1)));
+    assert_invalid(&rt, rt.alloc(), short, error_at(23, Some(1)));
     let long = b"aaaaaaaaaaaaaaaaaaaaaaaa\xF4\x90\x80\x80";
-    assert_broken(&rt, rt.alloc(), long, fault(24, Some(1)));
+    assert_invalid(&rt, rt.alloc(), long, error_at(24, Some(1)));
 }
 
 #[test]
 fn drips_of_24_bytes_need_no_memory(rt: HostRuntime) {
     let hog = take_all(rt.alloc()).expect(&rt, "room for the list of blocks");
     assert_read(&rt, rt.alloc(), "€€€€€€€€");
-    assert_broken(&rt, rt.alloc(), b"a\xF0\x9F\x92", fault(1, None));
+    assert_invalid(&rt, rt.alloc(), b"a\xF0\x9F\x92", error_at(1, None));
     let mut drips = Drips {
         rest: letters(25).as_bytes(),
     };

@@ -1,4 +1,4 @@
-//! Bytes and units that are decoded. Texts and faults are those of the Unicode Standard, worked by hand.
+//! Bytes and units that are decoded. Texts and errors are those of the Unicode Standard, worked by hand.
 
 use bytes::Buf;
 use compact_str::{CompactString, FromUtf8Error, FromUtf16Error, ReserveError, Utf16Error};
@@ -8,8 +8,8 @@ use compact_testing::values::letters;
 use std::alloc::{AllocError, Global};
 use std::process::Abort;
 
-/// Asserts that the bytes are no text, with the fault at that place, and which text they give lossily.
-fn assert_broken(
+/// Asserts that the bytes are no text, with the error at that place, and which text they give lossily.
+fn assert_invalid(
     rt: &impl Abort,
     alloc: Global,
     bytes: &[u8],
@@ -17,14 +17,14 @@ fn assert_broken(
     error_len: Option<usize>,
     text: &str,
 ) {
-    let fault = CompactString::from_utf8(alloc, bytes).err();
+    let error = CompactString::from_utf8(alloc, bytes).err();
     assert!(rt;
-        fault
+        error
             == Some(FromUtf8Error::Utf8 {
                 valid_up_to,
                 error_len
             }),
-        "{bytes:?}: {fault:?}"
+        "{bytes:?}: {error:?}"
     );
     let lossy = CompactString::from_utf8_lossy(alloc, bytes).expect(rt, "memory");
     assert_eq!(rt; lossy.as_str(), text);
@@ -32,7 +32,7 @@ fn assert_broken(
 }
 
 #[test]
-fn broken_bytes_are_told_and_replaced(rt: HostRuntime) {
+fn invalid_bytes_are_told_and_replaced(rt: HostRuntime) {
     for (bytes, valid_up_to, error_len, text) in [
         (
             b"\0\0\0\0\0\0\0\0\0\0\0\0\0\0\0\0\0\0\0\0\0\0\0\xC0".as_slice(),
@@ -63,7 +63,7 @@ fn broken_bytes_are_told_and_replaced(rt: HostRuntime) {
         (b"\xE1\x80\x41".as_slice(), 0, Some(2), "\u{FFFD}A"),
         (b"\x61\xE2\x82".as_slice(), 1, None, "a\u{FFFD}"),
     ] {
-        assert_broken(&rt, rt.alloc(), bytes, valid_up_to, error_len, text);
+        assert_invalid(&rt, rt.alloc(), bytes, valid_up_to, error_len, text);
     }
 }
 
@@ -130,7 +130,7 @@ fn each_form_of_a_text_is_taken(rt: HostRuntime) {
 }
 
 /// Asserts that the units are no text, and which text they give lossily.
-fn assert_lone(rt: &impl Abort, alloc: Global, units: &[u16], text: &str) {
+fn assert_unpaired(rt: &impl Abort, alloc: Global, units: &[u16], text: &str) {
     let strict = CompactString::from_utf16(alloc, units);
     assert!(rt; matches!(strict, Err(FromUtf16Error::Utf16(_))));
     let lossy = CompactString::from_utf16_lossy(alloc, units).expect(rt, "memory");
@@ -138,7 +138,7 @@ fn assert_lone(rt: &impl Abort, alloc: Global, units: &[u16], text: &str) {
 }
 
 #[test]
-fn lone_surrogates_are_told_and_replaced(rt: HostRuntime) {
+fn unpaired_surrogates_are_told_and_replaced(rt: HostRuntime) {
     for (units, text) in [
         (
             [0xD834, 0xDD1E, 0x6D, 0x75, 0x73, 0xDD1E, 0x69, 0x63, 0xD834].as_slice(),
@@ -147,7 +147,7 @@ fn lone_surrogates_are_told_and_replaced(rt: HostRuntime) {
         ([0xDC00, 0xD800].as_slice(), "\u{FFFD}\u{FFFD}"),
         ([0xD800, 0xD834, 0xDD1E].as_slice(), "\u{FFFD}\u{1D11E}"),
     ] {
-        assert_lone(&rt, rt.alloc(), units, text);
+        assert_unpaired(&rt, rt.alloc(), units, text);
     }
 }
 
@@ -173,7 +173,7 @@ fn assert_no_text(rt: &impl Abort, made: Result<CompactString, FromUtf16Error>) 
 }
 
 #[test]
-fn broken_bytes_of_units_are_told_and_replaced(rt: HostRuntime) {
+fn invalid_bytes_of_units_are_told_and_replaced(rt: HostRuntime) {
     let alloc = rt.alloc();
     for (odd, text) in [
         (b"\x3D\xD8\x6F".as_slice(), "\u{FFFD}\u{FFFD}"),
@@ -182,10 +182,14 @@ fn broken_bytes_of_units_are_told_and_replaced(rt: HostRuntime) {
         assert_no_text(&rt, CompactString::from_utf16le(alloc, odd));
         assert_text(&rt, CompactString::from_utf16le_lossy(alloc, odd), text);
     }
-    let lone = b"\xD8\x3D\xDC\x6F\x20\x0D\x26\x40\xDE\x0F";
-    assert_no_text(&rt, CompactString::from_utf16be(alloc, lone));
+    let unpaired = b"\xD8\x3D\xDC\x6F\x20\x0D\x26\x40\xDE\x0F";
+    assert_no_text(&rt, CompactString::from_utf16be(alloc, unpaired));
     let text = "\u{1F46F}\u{200D}\u{2640}\u{FFFD}";
-    assert_text(&rt, CompactString::from_utf16be_lossy(alloc, lone), text);
+    assert_text(
+        &rt,
+        CompactString::from_utf16be_lossy(alloc, unpaired),
+        text,
+    );
 }
 
 #[test]
@@ -196,14 +200,14 @@ fn a_buffer_that_is_known_to_be_a_text_is_read_to_its_end(rt: HostRuntime) {
     assert_eq!(rt; known.remaining(), 0);
 }
 
-/// Bytes and units that are here already are judged first, and a buffer is read first.
+/// Bytes and units that are here already are validated first, and a buffer is read first.
 #[test]
-fn faults_are_told_before_memory_is_asked_for(rt: HostRuntime) {
+fn errors_are_told_before_memory_is_asked_for(rt: HostRuntime) {
     let alloc = rt.alloc();
     let hog = take_all(alloc).expect(&rt, "room for the list of blocks");
-    let fault = CompactString::from_utf8(alloc, b"aaaaaaaaaaaaaaaaaaaaaaaaaaaaa\xFF").err();
+    let error = CompactString::from_utf8(alloc, b"aaaaaaaaaaaaaaaaaaaaaaaaaaaaa\xFF").err();
     assert!(rt;
-        fault
+        error
             == Some(FromUtf8Error::Utf8 {
                 valid_up_to: 29,
                 error_len: Some(1)
@@ -211,8 +215,8 @@ fn faults_are_told_before_memory_is_asked_for(rt: HostRuntime) {
     );
     assert_no_text(&rt, CompactString::from_utf16(alloc, &[0xDC00; 30]));
     assert_no_text(&rt, CompactString::from_utf16le(alloc, &[0x61; 59]));
-    let mut broken = b"\xFFaaaaaaaaaaaaaaaaaaaaaaaaaaaaa".as_slice();
-    let refused = CompactString::from_utf8_buf(alloc, &mut broken).err();
+    let mut invalid = b"\xFFaaaaaaaaaaaaaaaaaaaaaaaaaaaaa".as_slice();
+    let refused = CompactString::from_utf8_buf(alloc, &mut invalid).err();
     assert!(rt; refused == Some(FromUtf8Error::Reserve(ReserveError)));
     drop(hog);
 }
@@ -225,14 +229,14 @@ fn is_shown(rt: &impl Abort, made: Result<String, AllocError>, text: &str) {
 #[test]
 fn errors_show_these_texts(rt: HostRuntime) {
     let alloc = rt.alloc();
-    let broken = FromUtf8Error::Utf8 {
+    let invalid = FromUtf8Error::Utf8 {
         valid_up_to: 0,
         error_len: None,
     };
-    is_shown(&rt, format!(in alloc; "{broken}"), "invalid utf-8");
-    let lone = FromUtf16Error::Utf16(Utf16Error);
+    is_shown(&rt, format!(in alloc; "{invalid}"), "invalid utf-8");
+    let unpaired = FromUtf16Error::Utf16(Utf16Error);
     let text = "invalid utf-16: lone surrogate found";
-    is_shown(&rt, format!(in alloc; "{lone}"), text);
+    is_shown(&rt, format!(in alloc; "{unpaired}"), text);
 }
 
 #[test]

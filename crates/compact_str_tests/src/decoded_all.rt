@@ -16,9 +16,9 @@ fn mix(sum: u64, number: u64) -> u64 {
     sum.wrapping_mul(31).wrapping_add(number)
 }
 
-/// 255 of bytes that are a text, else eight times the place of the fault and the length of the broken part, 0 where the end
-/// is open.
-fn fault_of(rt: &impl Abort, alloc: Global, bytes: &[u8]) -> u64 {
+/// 255 of bytes that are a text, else eight times the place of the error and the length of the invalid sequence, 0 where the
+/// end is open.
+fn error_of(rt: &impl Abort, alloc: Global, bytes: &[u8]) -> u64 {
     match CompactString::from_utf8(alloc, bytes) {
         Ok(_) => 255,
         Err(
@@ -53,11 +53,11 @@ fn all_inputs_of_two_bytes(rt: HostRuntime) {
     let mut sum = 0;
     for first in 0..=255 {
         for second in 0..=255 {
-            let fault = fault_of(&rt, rt.alloc(), &[first, second]);
-            if fault == 255 {
+            let error = error_of(&rt, rt.alloc(), &[first, second]);
+            if error == 255 {
                 texts = texts.wrapping_add(1);
             }
-            sum = mix_lossy(&rt, rt.alloc(), mix(sum, fault), &[first, second]);
+            sum = mix_lossy(&rt, rt.alloc(), mix(sum, error), &[first, second]);
         }
     }
     assert_eq!(rt; texts, 18304);
@@ -71,11 +71,11 @@ fn all_inputs_of_three_bytes_at_the_bounds(rt: HostRuntime) {
     for first in BOUNDS {
         for second in BOUNDS {
             for third in BOUNDS {
-                let fault = fault_of(&rt, rt.alloc(), &[first, second, third]);
-                if fault == 255 {
+                let error = error_of(&rt, rt.alloc(), &[first, second, third]);
+                if error == 255 {
                     texts = texts.wrapping_add(1);
                 }
-                sum = mix_lossy(&rt, rt.alloc(), mix(sum, fault), &[first, second, third]);
+                sum = mix_lossy(&rt, rt.alloc(), mix(sum, error), &[first, second, third]);
             }
         }
     }
@@ -122,12 +122,12 @@ impl Generator {
     }
 }
 
-/// The checksum of the lossy texts of the next hundred broken inputs, of 1 to 40 bytes.
+/// The checksum of the lossy texts of the next hundred invalid inputs, of 1 to 40 bytes.
 fn hundred(rt: &impl Abort, alloc: Global, generator: &mut Generator) -> u64 {
     let mut sum = 0;
-    let mut broken = 0u32;
+    let mut invalid = 0u32;
     for _ in 0..1000 {
-        if broken == 100 {
+        if invalid == 100 {
             return sum;
         }
         let mut row = [0; 40];
@@ -135,16 +135,16 @@ fn hundred(rt: &impl Abort, alloc: Global, generator: &mut Generator) -> u64 {
         for byte in row.iter_mut().take(len) {
             *byte = generator.byte();
         }
-        if fault_of(rt, alloc, &row[..len]) != 255 {
+        if error_of(rt, alloc, &row[..len]) != 255 {
             sum = mix_lossy(rt, alloc, sum, &row[..len]);
-            broken = broken.wrapping_add(1);
+            invalid = invalid.wrapping_add(1);
         }
     }
     0
 }
 
 #[test]
-fn two_thousand_broken_inputs(rt: HostRuntime) {
+fn two_thousand_invalid_inputs(rt: HostRuntime) {
     let mut generator = Generator {
         state: 0x9e37_79b9_7f4a_7c15,
     };

@@ -1,7 +1,7 @@
 //! Values decoded from bytes and units of 1024 bytes.
 ghost use Rattle.std.specs.Prelude.{◌<◌};
 
-use crate::inputs::{TEXTS, broken_rows, long_words, mixed_rows, mixed_texts, units};
+use crate::inputs::{TEXTS, invalid_rows, long_words, mixed_rows, mixed_texts, units};
 use crate::ring::Ring;
 use compact_str::{CompactString, ReserveError};
 use std::alloc::Global;
@@ -16,12 +16,12 @@ pub fn utf8_mixed(alloc: Global, n: u64) -> Result<u64, ReserveError> {
     strict(alloc, n, mixed_texts(alloc)?)
 }
 
-/// Decodes such texts lossily, of which each byte with a number one below a multiple of 64 is broken.
+/// Decodes such texts lossily, of which each byte with a number one below a multiple of 64 is invalid.
 pub fn utf8_lossy(alloc: Global, n: u64) -> Result<u64, ReserveError> {
-    lossy(alloc, n, broken_rows(alloc)?)
+    lossy(alloc, n, invalid_rows(alloc)?)
 }
 
-/// Decodes such texts lossily, of which nothing is broken.
+/// Decodes such texts lossily, of which nothing is invalid.
 pub fn utf8_lossy_valid(alloc: Global, n: u64) -> Result<u64, ReserveError> {
     lossy(alloc, n, mixed_rows(alloc)?)
 }
@@ -41,7 +41,7 @@ pub fn utf16(alloc: Global, n: u64) -> Result<u64, ReserveError> {
     Ok(ring.sum())
 }
 
-/// Decodes each text in turn, as they are known to be texts only when they are judged.
+/// Decodes each text in turn, as they are known to be texts only when they are validated.
 fn strict(alloc: Global, n: u64, texts: Vec<String>) -> Result<u64, ReserveError> {
     let mut ring = Ring::new(alloc)?;
     for i in 0..n as usize {

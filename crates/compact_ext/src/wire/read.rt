@@ -10,7 +10,7 @@ ghost use Rattle.compact_ext.specs.declared.wire.WireError.TheVariants.{Utf8 as 
 ghost use Rattle.compact_ext.specs.Wire.{wire, ReadFails, ReadsBack, StopsBelow, TextFails, next_room};
 
 use super::WireError;
-use compact_codec::utf8::judge;
+use compact_codec::utf8::validate;
 use compact_str::{CompactString, INLINE_CAPACITY, ReserveError};
 use std::alloc::Global;
 use std::io::Read;
@@ -146,7 +146,7 @@ fn read_long<R: Read>(alloc: Global, len: usize, reader: &mut R) -> Result<Compa
         Ok(bytes) => bytes,
         Err(fault) => return Err(fault),
     };
-    if judge(&bytes).is_err() {
+    if validate(&bytes).is_err() {
         return Err(WireError::Utf8);
     }
     let text = unsafe { String::from_utf8_unchecked(bytes) };

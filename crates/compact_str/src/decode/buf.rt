@@ -18,8 +18,8 @@ impl PolicyString<Standard> {
     /// The text that all bytes of a buffer encode in UTF-8, in however many pieces they lie: inline up to 24 bytes, which is
     /// never refused for memory, and else on the heap in a buffer that holds it.
     ///
-    /// All bytes are taken, and then they are judged. The error `Utf8` tells where they stop being a text. `Reserve` says
-    /// that no memory was found; then a beginning of the bytes may be taken, and they are not judged. A buffer of F0 and
+    /// All bytes are taken, and then they are validated. The error `Utf8` tells where they stop being a text. `Reserve` says
+    /// that no memory was found; then a beginning of the bytes may be taken, and they are not validated. A buffer of F0 and
     /// 9F 92 96 in two pieces gives U+1F496.
     #[tactic(auto, using(compact_repr::proofs::TextFacts::text_facts, crate::proofs::FittedTexts::buf_facts))]
     pub fn from_utf8_buf<B: Buf>(alloc: Global, buf: &mut B) -> Result<CompactString, FromUtf8Error>
@@ -39,10 +39,10 @@ impl PolicyString<Standard> {
             Ok(bytes) => bytes,
             Err(error) => return Err(FromUtf8Error::Reserve(error)),
         };
-        if let Err(fault) = utf8::judge(bytes.as_slice()) {
+        if let Err(error) = utf8::validate(bytes.as_slice()) {
             return Err(FromUtf8Error::Utf8 {
-                valid_up_to: fault.valid_up_to,
-                error_len: fault.error_len,
+                valid_up_to: error.valid_up_to,
+                error_len: error.error_len,
             });
         }
         Ok(Self::from(unsafe { String::from_utf8_unchecked(bytes) }))
@@ -50,8 +50,8 @@ impl PolicyString<Standard> {
 
     /// The text that all bytes of a buffer encode in UTF-8, as of `from_utf8_buf`, where they are known to encode one.
     ///
-    /// Nothing is judged: that they do is the caller's condition. An error says that no memory was found; it never comes up
-    /// to 24 bytes, and a beginning of the bytes may be taken.
+    /// Nothing is validated: that they do is the caller's condition. An error says that no memory was found; it never comes
+    /// up to 24 bytes, and a beginning of the bytes may be taken.
     #[tactic(auto, using(compact_repr::proofs::TextFacts::text_facts, crate::proofs::FittedTexts::buf_facts))]
     pub fn from_utf8_buf_unchecked<B: Buf>(
         alloc: Global,

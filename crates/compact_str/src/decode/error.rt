@@ -12,10 +12,10 @@ pub enum FromUtf8Error {
     /// They encode no text.
     #[error("invalid utf-8")]
     Utf8 {
-        /// How many bytes the longest front has that encodes a text.
+        /// How many bytes the longest prefix has that encodes a text.
         valid_up_to: usize,
-        /// How many bytes the broken part after it has, from 1 to 3, or `None` where the input ends inside a
-        /// sequence that more bytes could complete.
+        /// How many bytes the invalid sequence after it has, from 1 to 3, or `None` where the input ends inside a sequence
+        /// that more bytes could complete.
         error_len: Option<usize>,
     },
     /// Room was refused.

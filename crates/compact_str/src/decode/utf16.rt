@@ -21,9 +21,9 @@ impl PolicyString<Standard> {
     /// The text that the units encode in UTF-16, inline up to 24 bytes, which is never refused for memory, and else on the
     /// heap in a buffer that holds it.
     ///
-    /// The units are judged before memory is asked for. The error `Utf16` says that a surrogate is in no pair, and `Reserve`
-    /// that no memory was found. `[0xD834, 0xDD1E]` gives U+1D11E, and `[0xD834, 0x0041]` is refused.
-    #[tactic(auto, using(compact_codec::proofs::ForReaders::strict_reading))]
+    /// The units are validated before memory is asked for. The error `Utf16` says that a surrogate is in no pair, and
+    /// `Reserve` that no memory was found. `[0xD834, 0xDD1E]` gives U+1D11E, and `[0xD834, 0x0041]` is refused.
+    #[tactic(auto, using(compact_codec::proofs::ForDecoders::strict_decoding))]
     pub fn from_utf16(alloc: Global, units: &[u16]) -> Result<CompactString, FromUtf16Error>
         ensures text { IfOk result (λ v. UnitsEncode units.now v.text) }
         ensures fitted { IfOk result IsFitted }
@@ -46,7 +46,7 @@ impl PolicyString<Standard> {
     /// It is inline up to 24 bytes, and else on the heap in a buffer that holds it. An error says that no memory was found,
     /// or that the length in bytes would be past 2^56 - 2; it never comes of a text of at most 24 bytes.
     /// `[0xD834, 0x0041]` gives U+FFFD and `A`.
-    #[tactic(auto, using(compact_repr::proofs::TextFacts::text_facts, compact_codec::proofs::ForReaders::reading, crate::proofs::FittedTexts::part_facts))]
+    #[tactic(auto, using(compact_repr::proofs::TextFacts::text_facts, compact_codec::proofs::ForDecoders::lossy_decoding, crate::proofs::FittedTexts::part_facts))]
     pub fn from_utf16_lossy(alloc: Global, units: &[u16]) -> Result<CompactString, ReserveError>
         ensures { IsFittedOf (utf16_lossy_text units.now) result }
     {
@@ -70,8 +70,8 @@ impl PolicyString<Standard> {
     /// The text that the bytes encode in UTF-16, two bytes a unit, the low byte first: inline up to 24 bytes, which is
     /// never refused for memory, and else on the heap in a buffer that holds it. A byte order mark is a character.
     ///
-    /// The bytes are judged before memory is asked for. The error `Utf16` says that a surrogate is in no pair, or that the
-    /// bytes are odd in number, and `Reserve` that no memory was found. `41 00` is `"A"`.
+    /// The bytes are validated before memory is asked for. The error `Utf16` says that a surrogate is in no pair, or that
+    /// the bytes are odd in number, and `Reserve` that no memory was found. `41 00` is `"A"`.
     pub fn from_utf16le(alloc: Global, bytes: &[u8]) -> Result<CompactString, FromUtf16Error>
         ensures text { IfOk result (λ v. PairsEncode LittleEndian bytes.now v.text) }
         ensures fitted { IfOk result IsFitted }
@@ -85,8 +85,8 @@ impl PolicyString<Standard> {
     /// The text that the bytes encode in UTF-16, two bytes a unit, the high byte first: inline up to 24 bytes, which is
     /// never refused for memory, and else on the heap in a buffer that holds it. A byte order mark is a character.
     ///
-    /// The bytes are judged before memory is asked for. The error `Utf16` says that a surrogate is in no pair, or that the
-    /// bytes are odd in number, and `Reserve` that no memory was found. `00 41` is `"A"`.
+    /// The bytes are validated before memory is asked for. The error `Utf16` says that a surrogate is in no pair, or that
+    /// the bytes are odd in number, and `Reserve` that no memory was found. `00 41` is `"A"`.
     pub fn from_utf16be(alloc: Global, bytes: &[u8]) -> Result<CompactString, FromUtf16Error>
         ensures text { IfOk result (λ v. PairsEncode BigEndian bytes.now v.text) }
         ensures fitted { IfOk result IsFitted }
@@ -123,7 +123,7 @@ impl PolicyString<Standard> {
 }
 
 /// The text that the bytes encode, two bytes a unit.
-#[tactic(auto, using(compact_codec::proofs::ForReaders::strict_reading))]
+#[tactic(auto, using(compact_codec::proofs::ForDecoders::strict_decoding))]
 fn from_bytes(
     alloc: Global,
     order: ByteOrder,
@@ -144,8 +144,8 @@ fn from_bytes(
     }
 }
 
-/// The text of the bytes, two bytes a unit, with U+FFFD for what is broken.
-#[tactic(auto, using(compact_repr::proofs::TextFacts::text_facts, compact_codec::proofs::ForReaders::reading, crate::proofs::FittedTexts::first_facts))]
+/// The text of the bytes, two bytes a unit, with U+FFFD for what is invalid.
+#[tactic(auto, using(compact_repr::proofs::TextFacts::text_facts, compact_codec::proofs::ForDecoders::lossy_decoding, crate::proofs::FittedTexts::first_facts))]
 fn from_bytes_lossy(
     alloc: Global,
     order: ByteOrder,

@@ -3,7 +3,7 @@ ghost use Rattle.std.specs.Prelude.{◌≡◌, ◌<◌, ◌≤◌, ◌++◌, len
 ghost use Rattle.std.specs.Str.{IsUtf8};
 ghost use Rattle.compact_repr.specs.Text.{text_of};
 ghost use Rattle.compact_repr.specs.Change.{made};
-ghost use Rattle.compact_codec.specs.BrokenPart.{IsUtf8Fault};
+ghost use Rattle.compact_codec.specs.InvalidSequence.{IsUtf8Error};
 ghost use Rattle.compact_codec.specs.Utf8Text.{BytesEncode, utf8_lossy_text};
 ghost use Rattle.compact_str.specs.Fitted.{IsFittedOf};
 ghost use Rattle.compact_str.specs.Made.{IsNewOf};
@@ -12,7 +12,7 @@ ghost use Rattle.compact_str.specs.Decoded.{IsUtf8Refusal};
 use crate::decode::error::FromUtf8Error;
 use crate::decode::{REPLACEMENT, push_fitted};
 use crate::string::{CompactString, PolicyString};
-use compact_codec::utf8::{self, Utf8Fault};
+use compact_codec::utf8::{self, Utf8Error};
 use compact_repr::{Policy, ReserveError, Standard};
 use std::alloc::Global;
 
@@ -20,9 +20,9 @@ impl PolicyString<Standard> {
     /// The text that the bytes encode in UTF-8, as `new` makes it: inline up to 24 bytes, which is never refused for
     /// memory, else in a heap buffer of 32 bytes or as many as there are.
     ///
-    /// The bytes are judged before memory is asked for. The error `Utf8` tells where they stop being a text, and `Reserve`
-    /// says that they are one, for which `new` was refused. `[0x61, 0xE2, 0x82]` is at fault after 1 byte, and the end is
-    /// open; of `[0xC3, 0xA9]` the text is `"é"`.
+    /// The bytes are validated before memory is asked for. The error `Utf8` tells where they stop being a text, and
+    /// `Reserve` says that they are one, for which `new` was refused. `[0x61, 0xE2, 0x82]` has its error after 1 byte, and
+    /// the end is open; of `[0xC3, 0xA9]` the text is `"é"`.
     #[inline]
     #[tactic(auto, using(compact_repr::proofs::TextFacts::text_facts, crate::proofs::FittedTexts::strict_facts))]
     pub fn from_utf8(alloc: Global, bytes: &[u8]) -> Result<CompactString, FromUtf8Error>
@@ -34,38 +34,38 @@ impl PolicyString<Standard> {
         ensures succeeds { IsUtf8 bytes.now → length bytes.now ≤ 24 → IsOk result }
         ensures err { IfErr result (IsUtf8Refusal bytes.now) }
     {
-        match utf8::judge(bytes) {
+        match utf8::validate(bytes) {
             Ok(text) => match Self::new(alloc, text) {
                 Ok(value) => Ok(value),
                 Err(error) => Err(FromUtf8Error::Reserve(error)),
             },
-            Err(fault) => Err(FromUtf8Error::Utf8 {
-                valid_up_to: fault.valid_up_to,
-                error_len: fault.error_len,
+            Err(error) => Err(FromUtf8Error::Utf8 {
+                valid_up_to: error.valid_up_to,
+                error_len: error.error_len,
             }),
         }
     }
 
-    /// The text of the bytes in UTF-8, with one U+FFFD for each broken part: the longest run of bytes there that begins a
-    /// character, or one byte. Bytes that encode a text give that text.
+    /// The text of the bytes in UTF-8, with one U+FFFD for each invalid sequence: the longest run of bytes there that begins
+    /// a character, or one byte. Bytes that encode a text give that text.
     ///
     /// It is inline up to 24 bytes, and else on the heap in a buffer that holds it. An error says that no memory was found,
     /// or that the length in bytes would be past 2^56 - 2; it never comes of a text of at most 24 bytes.
     /// `[0xE1, 0x80, 0x41]` gives U+FFFD and `A`, and `[0xC0, 0x80]` two U+FFFD.
     #[inline]
-    #[tactic(auto, using(compact_repr::proofs::TextFacts::text_facts, compact_codec::proofs::ForReaders::reading, crate::proofs::FittedTexts::new_facts))]
+    #[tactic(auto, using(compact_repr::proofs::TextFacts::text_facts, compact_codec::proofs::ForDecoders::lossy_decoding, crate::proofs::FittedTexts::new_facts))]
     pub fn from_utf8_lossy(alloc: Global, bytes: &[u8]) -> Result<CompactString, ReserveError>
         ensures { IsFittedOf (utf8_lossy_text bytes.now) result }
     {
-        match utf8::judge(bytes) {
+        match utf8::validate(bytes) {
             Ok(text) => Self::new(alloc, text),
-            Err(fault) => from_broken(alloc, bytes, fault),
+            Err(error) => from_invalid(alloc, bytes, error),
         }
     }
 
     /// The text that the bytes encode in UTF-8, as `new` makes it, where they are known to encode one.
     ///
-    /// Nothing is judged: that they do is the caller's condition, and `from_utf8` tells. An error says that `new` was
+    /// Nothing is validated: that they do is the caller's condition, and `from_utf8` tells. An error says that `new` was
     /// refused; it never comes up to 24 bytes.
     #[inline]
     pub fn from_utf8_unchecked(alloc: Global, bytes: &[u8]) -> Result<CompactString, ReserveError>
@@ -76,19 +76,23 @@ impl PolicyString<Standard> {
     }
 }
 
-/// The text of bytes of which the fault is known, chunk by chunk.
-#[tactic(auto, using(compact_repr::proofs::TextFacts::text_facts, compact_codec::proofs::ForReaders::reading, crate::proofs::FittedTexts::part_facts))]
-fn from_broken(alloc: Global, bytes: &[u8], fault: Utf8Fault) -> Result<CompactString, ReserveError>
-    requires { IsUtf8Fault bytes.now fault.valid_up_to fault.error_len }
+/// The text of bytes of which the error is known, chunk by chunk.
+#[tactic(auto, using(compact_repr::proofs::TextFacts::text_facts, compact_codec::proofs::ForDecoders::lossy_decoding, crate::proofs::FittedTexts::part_facts))]
+fn from_invalid(
+    alloc: Global,
+    bytes: &[u8],
+    error: Utf8Error,
+) -> Result<CompactString, ReserveError>
+    requires { IsUtf8Error bytes.now error.valid_up_to error.error_len }
     ensures { IsFittedOf (utf8_lossy_text bytes.now) result }
 {
     let mut made = CompactString::default(alloc);
-    let mut chunk = utf8::chunk_at(bytes, fault);
-    while !chunk.broken.is_empty() {
-        push_fitted(&mut made, chunk.text, chunk.rest.len().saturating_add(3))?;
+    let mut chunk = utf8::chunk_at(bytes, error);
+    while !chunk.invalid.is_empty() {
+        push_fitted(&mut made, chunk.valid, chunk.rest.len().saturating_add(3))?;
         push_fitted(&mut made, REPLACEMENT, chunk.rest.len())?;
         chunk = utf8::first_chunk(chunk.rest);
     }
-    push_fitted(&mut made, chunk.text, 0)?;
+    push_fitted(&mut made, chunk.valid, 0)?;
     Ok(made)
 }

@@ -7,7 +7,7 @@ ghost use Rattle.std.specs.Box.{boxed_str_bytes};
 ghost use Rattle.compact_repr.specs.Text.{utf8, text_of};
 ghost use Rattle.compact_repr.specs.Value.{placed};
 ghost use Rattle.compact_repr.specs.Capacity.{taken_over};
-ghost use Rattle.compact_str.specs.Decoded.{IsFaultOf};
+ghost use Rattle.compact_str.specs.Decoded.{IsErrorOf};
 
 use crate::string::PolicyString;
 use compact_repr::Policy;
@@ -63,7 +63,7 @@ impl<P: Policy> TryFrom<Vec<u8>> for PolicyString<P> {
 
     ghost try_from_gives = { λ b r. (IsOk r ↔ IsUtf8 b.items) × MatchResult r
         (λ v. let t = text_of b.items in v ≡ placed t (taken_over t (vec_capacity b)))
-        (λ e. (from_utf8_error_vec e ≡ b) × IsFaultOf b.items (from_utf8_error_cause e)) };
+        (λ e. (from_utf8_error_vec e ≡ b) × IsErrorOf b.items (from_utf8_error_cause e)) };
 
     /// Takes the bytes over as `From<String>` does, if they are a text, and hands them back in the error if they are none.
     ///

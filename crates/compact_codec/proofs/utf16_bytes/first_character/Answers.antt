@@ -10,12 +10,12 @@ returns-in_default-clause-lossy c =
 
 pub returns-clause-step : goal.returns-clause-step
 returns-clause-step c =
-    (pair_step c.args.order c.args.bytes.now c.in-Some.first _ _ _ c.in-Some.ensures.unit c.front_unit-second.ensures.unit c.step_over-step.ensures.step).step
+    (pair_step c.args.order c.args.bytes.now c.in-Some.first _ _ _ c.in-Some.ensures.unit c.first_code_unit-second.ensures.unit c.step_over-step.ensures.step).step
 
 pub returns-clause-lossy : goal.returns-clause-lossy
 returns-clause-lossy c =
-    (pair_step c.args.order c.args.bytes.now c.in-Some.first _ _ _ c.in-Some.ensures.unit c.front_unit-second.ensures.unit c.step_over-step.ensures.step).lossy
+    (pair_step c.args.order c.args.bytes.now c.in-Some.first _ _ _ c.in-Some.ensures.unit c.first_code_unit-second.ensures.unit c.step_over-step.ensures.step).lossy
 
-pub returns-clause-broken : goal.returns-clause-broken
-returns-clause-broken c =
-    (pair_step c.args.order c.args.bytes.now c.in-Some.first _ _ _ c.in-Some.ensures.unit c.front_unit-second.ensures.unit c.step_over-step.ensures.step).broken
+pub returns-clause-invalid : goal.returns-clause-invalid
+returns-clause-invalid c =
+    (pair_step c.args.order c.args.bytes.now c.in-Some.first _ _ _ c.in-Some.ensures.unit c.first_code_unit-second.ensures.unit c.step_over-step.ensures.step).invalid

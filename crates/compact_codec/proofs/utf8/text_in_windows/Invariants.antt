@@ -1,9 +1,0 @@
-use Rattle.std.proofs.Common.{◌-◌, ◌≤◌, length, take, IsUtf8}
-use Rattle.compact_codec.proofs.utf8.text_in_windows.Given as goal
-
--- the windows that were passed are text
-abbrev pub invariant-loop-at : goal.invariant-loop-at
-invariant-loop-at l = (l.at ≤ length l.bytes) × IsUtf8 (take l.at l.bytes)
-
-abbrev pub decreases-loop-at : goal.decreases-loop-at
-decreases-loop-at l = length l.bytes - l.at
