@@ -5,7 +5,9 @@ use Rattle.std.proofs.Math.Seq.{set_split, take-append_seam, drop-append-add}
 use Rattle.std.proofs.lemmas.Fmt.{decimal_digit, decimal_step, length-decimal-le}
 use Rattle.std.proofs.lemmas.List.{length-drop, length-take-le, drop_at, take-append-le, set_comm, drop-drop}
 use Rattle.std.specs.Fmt.{decimal, sign_text}
-use Rattle.itoa.proofs.Decimal.{length_one, length_two, decimal_two, decimal_pair, length_pair, decimal_four, length_four}
+use Rattle.std.specs.Int.{from_le_bytes, w16}
+use Rattle.compact_repr.specs.Words.{number}
+use Rattle.itoa.proofs.Decimal.{length_one, length_two, decimal_two, decimal_pair, length_pair}
 use Rattle.compact_ext.specs.declared.num.digits.TheConstants.{PAIRS}
 use Rattle.compact_ext.specs.Digits.{two_digits, written, number_text}
 
@@ -76,6 +78,12 @@ pub pair_written : (row : List ℕ) (at p : ℕ) → p < 100 → at + 2 ≤ leng
     → set (set row at (get_or PAIRS (p * 2) 0)) (at + 1) (get_or PAIRS (p * 2 + 1) 0) ≡ written row at (two_digits p)
 pair_written row at p h k = let e = pair-among 100 p tt h in rw (e.0, e.1) (set_two-written row at (48 + p / 10) (48 + p % 10) k)
 
+-- and so they are read, as a number of two bytes
+pub pair_number : (p : ℕ) → p < 100 → from_le_bytes w16 (get_or PAIRS (p * 2) 0 ∷ get_or PAIRS (p * 2 + 1) 0 ∷ []) ≡ number (two_digits p)
+pair_number p h = let e = pair-among 100 p tt h in rw (e.0, e.1) (omega arith)
+
+pub ruleset pairs_read = (pair_number)
+
 -- one digit, or two
 
 pub one_written : (row : List ℕ) (at n : ℕ) → n < 10 → at < length row → set row at (48 + n) ≡ written row at (decimal n)
@@ -86,17 +94,7 @@ two_written row at n low high = ap (written row at) (sym (decimal_two n low high
 
 pub ruleset first_digits = (length_one, length_two, one_written, two_written)
 
--- the last four digits, and then what stands before them
-
-pub four_written : (row : List ℕ) (start at n : ℕ) → 10000 ≤ n → n < 2 ^ 64 → at ≡ start + length (decimal n) → at ≤ length row
-    → written (written (written row (at - 2) (two_digits (n % 10000 % 100))) (at - 4) (two_digits (n % 10000 / 100))) start (decimal (n / 10000)) ≡ written row start (decimal n)
-four_written row start at n low fits e within =
-    let long = length_four n low fits in
-    let high_pair = two_digits (n % 10000 / 100) in
-    let low_pair = two_digits (n % 10000 % 100) in
-    ap (λ (r : List ℕ). written r start (decimal (n / 10000))) (written-before row high_pair low_pair (at - 4) (at - 2) (omega (arith, long)) (omega (arith, long)))
-    ∙ written-before row (decimal (n / 10000)) (high_pair ++ low_pair) start (at - 4) (omega (arith, long)) (omega (arith, long))
-    ∙ ap (written row start) (sym (decimal_four n low fits))
+-- the last two digits, and then what stands before them
 
 pub pair_before : (row : List ℕ) (start at n : ℕ) → 100 ≤ n → n < 2 ^ 64 → at ≡ start + length (decimal n) → at ≤ length row
     → written (written row (at - 2) (two_digits (n % 100))) start (decimal (n / 100)) ≡ written row start (decimal n)
@@ -105,7 +103,7 @@ pair_before row start at n low fits e within =
     written-before row (decimal (n / 100)) (two_digits (n % 100)) start (at - 2) (omega (arith, long)) (omega (arith, long))
     ∙ ap (written row start) (sym (decimal_pair n low fits))
 
-pub ruleset digit_rows = (length_four, length_pair, four_written, pair_before)
+pub ruleset digit_rows = (length_pair, pair_before)
 
 -- a sign, and then the digits behind it
 

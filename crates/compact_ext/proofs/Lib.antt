@@ -1,4 +1,5 @@
 pub mod DigitRows
+pub mod DigitWords
 pub mod NumberTexts
 pub mod ShownTexts
 pub mod Collecting

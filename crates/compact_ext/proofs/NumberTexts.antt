@@ -1,9 +1,10 @@
 -- The text of a number as bytes, which are ASCII and few.
-use Rattle.std.proofs.Common.{◌≡◌, ℕ, ◌^◌, ◌<◌, ◌≤◌, Bool, true, false, List, length, take, Some, ap, sym, ◌∙◌, arith}
+use Rattle.std.proofs.Common.{◌≡◌, ℕ, ◌^◌, ◌<◌, ◌≤◌, Bool, true, false, List, ◌++◌, length, take, replicate, Some, ap, sym, ◌∙◌, arith}
 use Rattle.std.proofs.lemmas.Str.{chars-IsAscii, IsUtf8-from_ascii}
 use Rattle.std.proofs.lemmas.Str.Ascii.{IsAscii-cons}
 use Rattle.std.proofs.lemmas.Fmt.{IsAscii-decimal, length-decimal-le}
 use Rattle.std.proofs.Math.Seq.{take-append_seam}
+use Rattle.std.proofs.lemmas.List.{take_at}
 use Rattle.std.proofs.lemmas.Grind.{common_steps}
 use Rattle.std.specs.Str.{IsAscii, IsUtf8}
 use Rattle.compact_str.specs.Text.{size, text_of}
@@ -24,6 +25,10 @@ length-number false n h = let e = length-decimal-le 20 n (omega arith) (omega ar
 -- what is written at the front of a row is its first bytes
 pub take-written : (row bytes : List ℕ) (n : ℕ) → n ≡ length bytes → take n (written row 0 bytes) ≡ bytes
 take-written row bytes n e = ap (λ (k : ℕ). take k (written row 0 bytes)) e ∙ take-append_seam bytes _
+
+-- and what stands before zeros
+pub take-number : (row bytes : List ℕ) (n k : ℕ) → row ≡ bytes ++ replicate k 0 → n ≡ length bytes → take n row ≡ bytes
+take-number row bytes n k e same = ap (take n) e ∙ take_at bytes (replicate k 0) n (sym same)
 
 pub IsUtf8-number : (s : Bool) (n : ℕ) → n < 2 ^ 64 → IsUtf8 (number_text s n)
 IsUtf8-number s n h = IsUtf8-from_ascii _ (IsAscii-number s n h)

@@ -6,6 +6,13 @@ use Rattle.std.specs.Fmt.{decimal, sign_text}
 abbrev pub two_digits : ℕ → List ℕ
 two_digits n = (48 + n / 10) ∷ (48 + n % 10) ∷ []
 
+-- the four digits of a number below 10,000, and the eight of one below 100,000,000
+abbrev pub four_digits : ℕ → List ℕ
+four_digits n = two_digits (n / 100) ++ two_digits (n % 100)
+
+abbrev pub eight_digits : ℕ → List ℕ
+eight_digits n = four_digits (n / 10000) ++ four_digits (n % 10000)
+
 -- the row with some bytes in place of what stood from a place on
 abbrev pub written : List ℕ → ℕ → List ℕ → List ℕ
 written row at bytes = take at row ++ (bytes ++ drop (at + length bytes) row)

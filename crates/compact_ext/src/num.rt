@@ -8,6 +8,7 @@ mod laws;
 mod nonzero;
 mod texts;
 mod wide;
+mod words;
 
 use crate::format::ToCompactStringError;
 use compact_str::{CompactString, Policy, Standard};

@@ -1,6 +1,7 @@
-//! The digits of a number, written from the last to the first.
+//! How many digits a number has, and those of a number of eight bits, written from the last to the first.
 ghost use Rattle.std.specs.Prelude.{◌≡◌, ◌+◌, ◌<◌, ◌≤◌, length};
 ghost use Rattle.std.specs.Fmt.{decimal, sign_text};
+ghost use Rattle.compact_repr.specs.Words.{number};
 ghost use Rattle.compact_ext.specs.Digits.{two_digits, written, number_text};
 
 /// The two digits of each number below 100, one after another.
@@ -12,20 +13,6 @@ static PAIRS: [u8; 200] = *b"0001020304050607080910111213141516171819\
 
 /// Writes a minus where the number is negative and the digits of its magnitude at the front of the row. Answers how many
 /// characters they are.
-#[inline]
-#[tactic(auto, using(crate::proofs::DigitRows::sign_rows))]
-pub fn write_number(magnitude: u64, is_negative: bool, row: &mut [u8; 24]) -> usize
-    ensures count { result ≡ length (number_text is_negative magnitude) }
-    ensures short { result ≤ 21 }
-    ensures text { row.new ≡ written row.old 0 (number_text is_negative magnitude) }
-{
-    let start = write_sign(is_negative, row);
-    let count = count_digits(magnitude);
-    write_digits(magnitude, count, row, start);
-    start + count
-}
-
-/// `write_number` of a number of eight bits, on whose way no division by ten thousand stands.
 #[inline]
 #[tactic(auto, using(crate::proofs::DigitRows::sign_rows))]
 pub fn write_small_number(magnitude: u8, is_negative: bool, row: &mut [u8; 24]) -> usize
@@ -57,7 +44,7 @@ fn write_sign(is_negative: bool, row: &mut [u8; 24]) -> usize
 /// How many digits a number has.
 #[inline]
 #[tactic(auto, using(crate::proofs::DigitRows::digit_counts))]
-fn count_digits(n: u64) -> usize
+pub fn count_digits(n: u64) -> usize
     ensures count { result ≡ length (decimal n) }
     ensures short { result ≤ 20 }
 {
@@ -65,27 +52,6 @@ fn count_digits(n: u64) -> usize
         return 1;
     }
     n.ilog10() as usize + 1
-}
-
-/// Writes the digits of a number, of which there are `count`, from a place on: four at a time from the end, then two, then
-/// the first one or two.
-#[inline]
-#[tactic(auto, using(crate::proofs::DigitRows::digit_rows))]
-fn write_digits(n: u64, count: usize, row: &mut [u8], start: usize)
-    requires count { count ≡ length (decimal n) }
-    requires fits { start + count ≤ length row.old }
-    ensures { row.new ≡ written row.old start (decimal n) }
-{
-    let mut left = n;
-    let mut at = start + count;
-    while left >= 10_000 {
-        let four = left % 10_000;
-        left /= 10_000;
-        write_pair(four % 100, row, at - 2);
-        write_pair(four / 100, row, at - 4);
-        at -= 4;
-    }
-    write_last_digits(left, row, start, at);
 }
 
 /// Writes the digits of a number below ten thousand, from a place to another: two from the end where there are more, and
@@ -133,4 +99,15 @@ fn write_pair(n: u64, row: &mut [u8], at: usize)
     let (tens, ones) = (PAIRS[place], PAIRS[place + 1]);
     row[at] = tens;
     row[at + 1] = ones;
+}
+
+/// The two digits of a number below 100, the first as the lowest byte.
+#[inline(always)]
+#[tactic(auto, using(crate::proofs::DigitRows::pairs_read))]
+pub fn pair(n: u64) -> u64
+    requires { n < 100 }
+    ensures { result ≡ number (two_digits n) }
+{
+    let place = n as usize * 2;
+    u64::from(u16::from_le_bytes([PAIRS[place], PAIRS[place + 1]]))
 }

@@ -10,7 +10,8 @@ ghost use Rattle.compact_ext.specs.Shown.{IsTextOf};
 
 use crate::format::ToCompactStringError;
 use crate::num::ToCompactString;
-use crate::num::digits::{write_number, write_small_number};
+use crate::num::digits::write_small_number;
+use crate::num::words::number_row;
 use compact_str::{CompactString, INLINE_CAPACITY, Policy, Standard};
 use std::alloc::Global;
 
@@ -20,8 +21,7 @@ use std::alloc::Global;
 fn number_value(alloc: Global, magnitude: u64, is_negative: bool) -> CompactString
     ensures { result ≡ placed (number_text is_negative magnitude) inlined }
 {
-    let mut row = [0; 24];
-    let len = write_number(magnitude, is_negative, &mut row);
+    let (mut row, len) = number_row(magnitude, is_negative);
     packed_value(alloc, &mut row, len)
 }
 
