@@ -1,6 +1,10 @@
 pub mod PieceLemmas
 pub mod TokenLemmas
 pub mod RowLemmas
+pub mod FieldParts
+pub mod LineReading
+pub mod LineLaws
 pub mod LineLemmas
+pub mod LineExamples
 pub mod RecordLemmas
 pub mod ShortLines

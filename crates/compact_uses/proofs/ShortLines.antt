@@ -9,7 +9,7 @@ use Rattle.compact_str.specs.Value.{PlacedText}
 use Rattle.compact_str.specs.Order.{text_in}
 use Rattle.compact_str.specs.Room.{HasRoomFor}
 use Rattle.compact_str.proofs.ForCallers.{size-append}
-use Rattle.compact_uses.proofs.LineLemmas.{not_same}
+use Rattle.compact_uses.proofs.FieldParts.{not-same}
 use Rattle.compact_uses.specs.Lines.{quote, escaped, quoted, line_of}
 
 escaped-append : (a b : List ℕ) → escaped (a ++ b) ≡ escaped a ++ escaped b
@@ -57,7 +57,7 @@ pub size-quote : (c : ℕ) → c ≡ quote → size (escaped (c ∷ [])) ≡ 2
 size-quote c is = rw is refl
 
 pub size-other : (c : ℕ) → c ≢ quote → size (escaped (c ∷ [])) ≡ len_utf8 c + 0
-size-other c apart = rw (not_same c apart) refl
+size-other c apart = rw (not-same c quote apart) refl
 
 pub not-refused : (v : PlacedText) (n : ℕ) → size v.text + n ≤ 24 → (HasRoomFor v n → false ≡ true) → ⊥
 not-refused v n small succeeds = true≢false (sym (succeeds (omega arith)))

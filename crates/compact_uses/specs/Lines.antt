@@ -1,5 +1,6 @@
--- Lines of fields, parted by a character, with quotes.
-use Rattle.std.specs.Prelude.{◌≡◌, ◌≢◌, ℕ, List, flat_map, slice_get, Some, [], ◌∷◌, ◌++◌, Result, Ok, Err, if◌then◌else◌, nat_eq, ⊤}
+-- A line of fields with a separator between each two, as in RFC 4180, section 2, with any character for its comma. The end of
+-- a line is a character like any other here.
+use Rattle.std.specs.Prelude.{◌≡◌, ◌≢◌, ◌⊎◌, ℕ, List, flat_map, slice_get, Some, [], ◌∷◌, ◌++◌, if◌then◌else◌, nat_eq, ⊤}
 use Rattle.std.specs.List.{All}
 use Rattle.compact_uses.specs.declared.records.read.Fault.{Fault}
 use Rattle.compact_uses.specs.declared.records.read.Fault.TheVariants.{OpenQuote, TextBehindQuote}
@@ -10,76 +11,97 @@ use Rattle.compact_uses.specs.declared.records.read.LineError.TheVariants as err
 abbrev pub quote : ℕ
 quote = 34
 
--- where within a field a part of a line ends: at its start, in one with no quotes, within quotes, or behind a quote in such
-pub data Part : Type 0 where
-  at_start : Part
-  unquoted : Part
-  in_quotes : Part
-  behind_quote : Part
-
--- what was read at the end of a line, of whole fields and the last one
-abbrev pub at_end : Part → List (List ℕ) → List ℕ → Result (List (List ℕ)) Fault
-at_end at_start done field = Ok (done ++ field ∷ [])
-at_end unquoted done field = Ok (done ++ field ∷ [])
-at_end in_quotes done field = Err OpenQuote
-at_end behind_quote done field = Ok (done ++ field ∷ [])
-
--- what is read of some characters, behind whole fields and the part of one
-abbrev pub read : ℕ → Part → List (List ℕ) → List ℕ → List ℕ → Result (List (List ℕ)) Fault
-read separator part done field [] = at_end part done field
-read separator at_start done field (c ∷ cs) =
-    if nat_eq c quote then read separator in_quotes done field cs
-    else if nat_eq c separator then read separator at_start (done ++ field ∷ []) [] cs
-    else read separator unquoted done (field ++ c ∷ []) cs
-read separator unquoted done field (c ∷ cs) =
-    if nat_eq c separator then read separator at_start (done ++ field ∷ []) [] cs
-    else read separator unquoted done (field ++ c ∷ []) cs
-read separator in_quotes done field (c ∷ cs) =
-    if nat_eq c quote then read separator behind_quote done field cs
-    else read separator in_quotes done (field ++ c ∷ []) cs
-read separator behind_quote done field (c ∷ cs) =
-    if nat_eq c quote then read separator in_quotes done (field ++ c ∷ []) cs
-    else if nat_eq c separator then read separator at_start (done ++ field ∷ []) [] cs
-    else Err TextBehindQuote
-
--- the fields of a line, or why it is no record
-abbrev pub fields_of : ℕ → List ℕ → Result (List (List ℕ)) Fault
-fields_of separator line = read separator at_start [] [] line
-
--- the error is for want of memory, or the fault that was read
-abbrev pub IsFault : Result (List (List ℕ)) Fault → LineError → Type 0
-IsFault r (error.Reserve e) = ⊤
-IsFault r (error.Fault fault) = r ≡ Err fault
+-- the field has no separator, and does not begin with a quote; a quote further on is allowed here, but not by the RFC
+pub record IsPlain (separator : ℕ) (field : List ℕ) : Type 0 where
+  pub inside : All (λ c. c ≢ separator) field
+  pub front : slice_get field 0 ≢ Some quote
 
 -- each quote of a text stands twice
 abbrev pub escaped : List ℕ → List ℕ
 escaped [] = []
 escaped (c ∷ cs) = if nat_eq c quote then quote ∷ quote ∷ escaped cs else c ∷ escaped cs
 
+-- the field between two quotes, with each of its own twice
 abbrev pub quoted : List ℕ → List ℕ
 quoted field = quote ∷ (escaped field ++ quote ∷ [])
 
--- the fields of a record as a line, each in quotes
+-- the field is written so: plain, as it is; or in quotes, but not where it is a quote that parts the fields
+abbrev pub IsWritten : ℕ → List ℕ → List ℕ → Type 0
+IsWritten separator field form =
+    (IsPlain separator field × (form ≡ field)) ⊎ ((separator ≢ quote) × (form ≡ quoted field))
+
+-- the line begins with these fields, each as it is written and with a separator behind it, and this is the rest
+abbrev pub BeginsWith : ℕ → List ℕ → List (List ℕ) → List ℕ → Type 0
+BeginsWith separator line [] rest = line ≡ rest
+BeginsWith separator line (field ∷ fields) rest =
+    (form behind : List ℕ) × IsWritten separator field form × (line ≡ form ++ separator ∷ behind)
+    × BeginsWith separator behind fields rest
+
+-- the line is these fields: all but the last have a separator behind them, and there is a last one
+abbrev pub IsLineOf : ℕ → List ℕ → List (List ℕ) → Type 0
+IsLineOf separator line fields =
+    (front : List (List ℕ)) × (last form : List ℕ) × (fields ≡ front ++ last ∷ []) × BeginsWith separator line front form
+    × IsWritten separator last form
+
+-- what stands here is no field, for this fault: it begins with a quote and none ends it, or something other than a separator
+-- stands behind the one that does
+abbrev pub IsBrokenField : ℕ → List ℕ → Fault → Type 0
+IsBrokenField separator rest OpenQuote = (text : List ℕ) × (rest ≡ quote ∷ escaped text)
+IsBrokenField separator rest TextBehindQuote =
+    (text : List ℕ) × (c : ℕ) × (behind : List ℕ) × (rest ≡ quoted text ++ c ∷ behind) × (c ≢ quote) × (c ≢ separator)
+
+-- the line is no record, for this fault, which comes behind its first fields
+abbrev pub IsBroken : ℕ → List ℕ → Fault → Type 0
+IsBroken separator line fault =
+    (separator ≢ quote) × (front : List (List ℕ)) × (rest : List ℕ) × BeginsWith separator line front rest
+    × IsBrokenField separator rest fault
+
+-- the line reads as these fields: it is these, no others, and not broken
+pub record ReadsAs (separator : ℕ) (line : List ℕ) (fields : List (List ℕ)) : Type 0 where
+  pub is : IsLineOf separator line fields
+  pub alone : (others : List (List ℕ)) → IsLineOf separator line others → others ≡ fields
+  pub whole : (fault : Fault) → ¬ (IsBroken separator line fault)
+
+-- the line breaks for this fault, for no other, and is no fields
+pub record BreaksFor (separator : ℕ) (line : List ℕ) (fault : Fault) : Type 0 where
+  pub is : IsBroken separator line fault
+  pub alone : (other : Fault) → IsBroken separator line other → other ≡ fault
+  pub none : (fields : List (List ℕ)) → ¬ (IsLineOf separator line fields)
+
+-- the error is for want of memory, or the fault for which the line breaks
+abbrev pub IsFault : ℕ → List ℕ → LineError → Type 0
+IsFault separator line (error.Reserve e) = ⊤
+IsFault separator line (error.Fault fault) = BreaksFor separator line fault
+
+-- fields read as themselves, each written plain or in quotes, as it likes
+abbrev pub ReadsAsWritten : Type 0
+ReadsAsWritten =
+    (separator : ℕ) (line : List ℕ) (fields : List (List ℕ)) → IsLineOf separator line fields → ReadsAs separator line fields
+
+-- each line reads as some fields, or breaks
+abbrev pub ReadsOrBreaks : Type 0
+ReadsOrBreaks =
+    (separator : ℕ) (line : List ℕ)
+    → ((fields : List (List ℕ)) × ReadsAs separator line fields) ⊎ ((fault : Fault) × BreaksFor separator line fault)
+
+-- the fields as a line, each in quotes
 abbrev pub line_of : ℕ → List (List ℕ) → List ℕ
 line_of separator [] = []
 line_of separator (field ∷ fields) = quoted field ++ flat_map (λ other. separator ∷ quoted other) fields
 
--- a record that is written reads back as the same fields, if it has one
+-- where all fields are in quotes, the line reads as these fields, if there is one
 abbrev pub ReadsBack : Type 0
-ReadsBack = (separator : ℕ) (fields : List (List ℕ)) → separator ≢ quote → fields ≢ [] → fields_of separator (line_of separator fields) ≡ Ok fields
+ReadsBack =
+    (separator : ℕ) (fields : List (List ℕ)) → separator ≢ quote → fields ≢ []
+    → ReadsAs separator (line_of separator fields) fields
 
--- the field has no separator, and does not begin with a quote
-pub record IsPlain (separator : ℕ) (field : List ℕ) : Type 0 where
-  pub inside : All (λ c. c ≢ separator) field
-  pub front : slice_get field 0 ≢ Some quote
-
--- the fields of a record as a line, each as it is
+-- the fields as a line, each as it is
 abbrev pub plain_line_of : ℕ → List (List ℕ) → List ℕ
 plain_line_of separator [] = []
 plain_line_of separator (field ∷ fields) = field ++ flat_map (λ other. separator ∷ other) fields
 
--- a record of such fields reads as these, if it has one, with no quotes round them
+-- where none is in quotes, and none needs them, the line reads as these fields, if there is one
 abbrev pub ReadsPlainFields : Type 0
 ReadsPlainFields =
-    (separator : ℕ) (fields : List (List ℕ)) → separator ≢ quote → fields ≢ [] → All (IsPlain separator) fields
-    → fields_of separator (plain_line_of separator fields) ≡ Ok fields
+    (separator : ℕ) (fields : List (List ℕ)) → fields ≢ [] → All (IsPlain separator) fields
+    → ReadsAs separator (plain_line_of separator fields) fields

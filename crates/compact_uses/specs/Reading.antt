@@ -1,29 +1,45 @@
--- Where a reader of a line stands, and what a character does there, in the words of the format.
-use Rattle.std.specs.Prelude.{◌≡◌, ℕ, List, [], ◌∷◌, ◌++◌, Result, Err}
-use Rattle.compact_uses.specs.Lines.{Part, at_start, unquoted, in_quotes, behind_quote, read}
-use Rattle.compact_uses.specs.declared.records.read.Fault.{Fault}
+-- What of a line a reader has read, and what a character does there.
+use Rattle.std.specs.Prelude.{◌≡◌, ◌≢◌, ◌<◌, ℕ, List, [], ◌∷◌, ◌++◌, length, map, ⊤}
+use Rattle.compact_str.specs.Order.{text_in}
+use Rattle.compact_uses.specs.Lines.{quote, escaped, quoted, IsPlain, IsWritten, BeginsWith}
 use Rattle.compact_uses.specs.declared.records.read.Fault.TheVariants.{TextBehindQuote}
+use Rattle.compact_uses.specs.declared.records.read.LineError.{LineError}
+use Rattle.compact_uses.specs.declared.records.read.LineError.TheVariants as error
 use Rattle.compact_uses.specs.declared.records.read.Place.{Place}
 use Rattle.compact_uses.specs.declared.records.read.Place.TheVariants.{Start, Plain, Quoted, Behind}
 use Rattle.compact_uses.specs.declared.records.read.Effect.{Effect}
 use Rattle.compact_uses.specs.declared.records.read.Effect.TheVariants.{Keep, Skip, End, Broken}
+use Rattle.compact_uses.specs.declared.records.read.Reading.{Reading}
 
--- where in a field the reader stands
-abbrev pub part_of : Place → Part
-part_of Start = at_start
-part_of Plain = unquoted
-part_of Quoted = in_quotes
-part_of Behind = behind_quote
+-- these characters of a line are the field so far, where the reader stands at such a place in it
+abbrev pub IsPartOf : ℕ → Place → List ℕ → List ℕ → Type 0
+IsPartOf separator Start field part = (field ≡ []) × (part ≡ [])
+IsPartOf separator Plain field part = IsPlain separator field × (0 < length field) × (part ≡ field)
+IsPartOf separator Quoted field part = (separator ≢ quote) × (part ≡ quote ∷ escaped field)
+IsPartOf separator Behind field part = (separator ≢ quote) × (part ≡ quoted field)
 
--- what is read behind a character with some effect
-abbrev pub after_effect : ℕ → Effect → List (List ℕ) → List ℕ → ℕ → List ℕ → Result (List (List ℕ)) Fault
-after_effect separator (Keep place) done field c cs = read separator (part_of place) done (field ++ c ∷ []) cs
-after_effect separator (Skip place) done field c cs = read separator (part_of place) done field cs
-after_effect separator End done field c cs = read separator at_start (done ++ field ∷ []) [] cs
-after_effect separator Broken done field c cs = Err TextBehindQuote
-
--- at this place the character has this effect, whatever was read before it and comes after it
+-- behind the characters of a field so far the character has this effect
 abbrev pub HasEffect : ℕ → Place → ℕ → Effect → Type 0
-HasEffect separator place c effect =
-    (done : List (List ℕ)) (field cs : List ℕ)
-    → read separator (part_of place) done field (c ∷ cs) ≡ after_effect separator effect done field c cs
+HasEffect separator place c (Keep next) =
+    (field part : List ℕ) → IsPartOf separator place field part → IsPartOf separator next (field ++ c ∷ []) (part ++ c ∷ [])
+HasEffect separator place c (Skip next) =
+    (field part : List ℕ) → IsPartOf separator place field part → IsPartOf separator next field (part ++ c ∷ [])
+HasEffect separator place c End =
+    (c ≡ separator) × ((field part : List ℕ) → IsPartOf separator place field part → IsWritten separator field part)
+HasEffect separator place c Broken = (place ≡ Behind) × (c ≢ quote) × (c ≢ separator)
+
+-- these characters of a line were read: whole fields, each with a separator behind it, and the next one so far
+abbrev pub HasRead : ℕ → List ℕ → Reading → Type 0
+HasRead separator front reading =
+    (part : List ℕ) × BeginsWith separator front (map text_in reading.done.items) part
+    × IsPartOf separator reading.place reading.field.text part
+
+-- whatever was read, the character was read behind it
+abbrev pub ReadsOn : ℕ → ℕ → Reading → Reading → Type 0
+ReadsOn separator c old new = (front : List ℕ) → HasRead separator front old → HasRead separator (front ++ c ∷ []) new
+
+-- the error is for want of memory, or the character is neither quote nor separator and stands behind a quoted field
+abbrev pub IsStop : ℕ → ℕ → Reading → LineError → Type 0
+IsStop separator c reading (error.Reserve e) = ⊤
+IsStop separator c reading (error.Fault fault) =
+    (fault ≡ TextBehindQuote) × (reading.place ≡ Behind) × (c ≢ quote) × (c ≢ separator)

@@ -1,25 +1,25 @@
 -- The records of the lines of some bytes. A line ends with the byte 10, which the last may lack.
-use Rattle.std.specs.Prelude.{◌≡◌, ◌<◌, ◌+◌, ℕ, List, [], ◌∷◌, ◌++◌, length, map, Ok, Err, ⊤}
+use Rattle.std.specs.Prelude.{◌≡◌, ◌<◌, ◌+◌, ℕ, List, [], ◌∷◌, ◌++◌, length, map, ⊤}
 use Rattle.std.specs.Global.{Vec}
 use Rattle.std.specs.Io.BufRead.{first_piece, drop_through}
 use Rattle.std.specs.Str.{IsUtf8}
 use Rattle.compact_str.specs.Text.{text_of}
 use Rattle.compact_str.specs.Value.{PlacedText}
 use Rattle.compact_str.specs.Order.{text_in}
-use Rattle.compact_uses.specs.Lines.{fields_of}
+use Rattle.compact_uses.specs.Lines.{ReadsAs, BreaksFor}
 use Rattle.compact_uses.specs.declared.records.RecordsCause.{RecordsCause}
 use Rattle.compact_uses.specs.declared.records.RecordsCause.TheVariants as cause
 
 -- the bytes of a line are a text, with these fields
 abbrev pub IsRecordOf : ℕ → List ℕ → Vec PlacedText → Type 0
-IsRecordOf separator line fields = IsUtf8 line × (fields_of separator (text_of line) ≡ Ok (map text_in fields.items))
+IsRecordOf separator line fields = IsUtf8 line × ReadsAs separator (text_of line) (map text_in fields.items)
 
 -- why the record of a line may be missing
 abbrev pub IsCauseAt : ℕ → List ℕ → RecordsCause → Type 0
 IsCauseAt separator line cause.Read = ⊤
 IsCauseAt separator line cause.Reserve = ⊤
 IsCauseAt separator line cause.Utf8 = ¬ (IsUtf8 line)
-IsCauseAt separator line (cause.Fault fault) = IsUtf8 line × (fields_of separator (text_of line) ≡ Err fault)
+IsCauseAt separator line (cause.Fault fault) = IsUtf8 line × BreaksFor separator (text_of line) fault
 
 -- the records are those of the first lines of the bytes, and the rest of the bytes comes after these lines
 abbrev pub Reads : ℕ → List ℕ → List (Vec PlacedText) → List ℕ → Type 0

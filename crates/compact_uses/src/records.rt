@@ -11,7 +11,10 @@ mod read;
 mod write;
 
 use compact_str::CompactString;
-pub use read::{Fault, LineError, fields_of, plain_fields_read_as_themselves};
+pub use read::{
+    Fault, LineError, each_line_reads_or_breaks, fields_of, fields_read_as_written,
+    plain_fields_read_as_themselves,
+};
 use std::alloc::Global;
 use std::io;
 use std::io::{BufRead, BufReader, ErrorKind, Read};

@@ -63,6 +63,15 @@ fn a_line_has_its_fields(rt: HostRuntime) {
     assert_fault(&rt, alloc, "\"a\"b,c", Fault::TextBehindQuote);
 }
 
+// Python's csv reader would take the first quote for one that opens a field.
+#[test]
+fn a_quote_that_parts_the_fields_opens_none(rt: HostRuntime) {
+    let alloc = rt.alloc();
+    let line = CompactString::new(alloc, "\"a\"\"b").expect(&rt, "memory");
+    let fields = fields_of(alloc, '"', &line).expect(&rt, "a record");
+    assert_fields(&rt, &fields, &["", "a", "", "b"]);
+}
+
 #[test]
 fn fields_are_written_in_quotes(rt: HostRuntime) {
     let alloc = rt.alloc();

@@ -1,8 +1,8 @@
 //! How the fields of a line are read.
-ghost use Rattle.std.specs.Prelude.{◌≡◌, ◌∷◌, ℕ, List, map, Ok, IfOk, IfErr, OnOk};
+ghost use Rattle.std.specs.Prelude.{map, IfOk, IfErr, OnOk};
 ghost use Rattle.compact_str.specs.Order.{text_in};
-ghost use Rattle.compact_uses.specs.Lines.{read, fields_of, IsFault, ReadsPlainFields};
-ghost use Rattle.compact_uses.specs.Reading.{part_of, HasEffect};
+ghost use Rattle.compact_uses.specs.Lines.{ReadsAs, IsFault, ReadsAsWritten, ReadsOrBreaks, ReadsPlainFields};
+ghost use Rattle.compact_uses.specs.Reading.{HasEffect, ReadsOn, IsStop};
 
 use compact_str::{CompactString, ReserveError};
 use std::alloc::Global;
@@ -57,11 +57,11 @@ fn effect_of(separator: char, place: Place, character: char) -> Effect
     ensures { HasEffect separator place character result }
 {
     match place {
-        Place::Start if character == '"' => Effect::Skip(Place::Quoted),
         Place::Quoted if character == '"' => Effect::Skip(Place::Behind),
-        Place::Behind if character == '"' => Effect::Keep(Place::Quoted),
         Place::Quoted => Effect::Keep(Place::Quoted),
+        Place::Behind if character == '"' => Effect::Keep(Place::Quoted),
         _ if character == separator => Effect::End,
+        Place::Start if character == '"' => Effect::Skip(Place::Quoted),
         Place::Behind => Effect::Broken,
         _ => Effect::Keep(Place::Plain),
     }
@@ -75,7 +75,8 @@ struct Reading {
     place: Place,
 }
 
-/// The fields of a line. A field in quotes may have the separator, and two quotes in it stand for one.
+/// The fields of a line. A field in quotes may have the separator, and two quotes in it stand for one. Where the separator
+/// is a quote itself, it parts the fields, and none is in quotes.
 ///
 /// An error says that no memory was found, or why the line is no record. With the separator `,` the line `a,"b,""c"` has
 /// the fields `a` and `b,"c`.
@@ -85,8 +86,8 @@ pub fn fields_of(
     line: &CompactString,
 ) -> Result<Vec<CompactString>, LineError>
     ensures fields { IfOk result (λ fields.
-        fields_of separator line.now.text ≡ Ok (map text_in fields.items)) }
-    ensures fault { IfErr result (IsFault (fields_of separator line.now.text)) }
+        ReadsAs separator line.now.text (map text_in fields.items)) }
+    ensures fault { IfErr result (IsFault separator line.now.text) }
 {
     let mut reading = Reading {
         done: Vec::new(alloc),
@@ -112,7 +113,17 @@ pub fn fields_of(
     Ok(done)
 }
 
-/// A law: fields that have no separator and do not begin with a quote are read as they are where separators part them.
+/// A law: a line reads as the fields that are written in it, each plain or in quotes, in any mix.
+pub fn fields_read_as_written()
+    ensures { ReadsAsWritten }
+{}
+
+/// A law: each line reads as some fields or breaks for a fault, and not in two ways.
+pub fn each_line_reads_or_breaks()
+    ensures { ReadsOrBreaks }
+{}
+
+/// A law: fields that have no separator and do not begin with a quote read as they are where separators part them.
 pub fn plain_fields_read_as_themselves()
     ensures { ReadsPlainFields }
 {}
@@ -120,14 +131,8 @@ pub fn plain_fields_read_as_themselves()
 impl Reading {
     /// Reads one character.
     fn take(&mut self, separator: char, character: char) -> Result<(), LineError>
-        ensures ok { OnOk result ((rest : List ℕ)
-            → read separator (part_of self.old.place) (map text_in self.old.done.items)
-            self.old.field.text (character ∷ rest)
-            ≡ read separator (part_of self.new.place) (map text_in self.new.done.items)
-            self.new.field.text rest) }
-        ensures err { IfErr result (λ error. (rest : List ℕ) → IsFault
-            (read separator (part_of self.old.place) (map text_in self.old.done.items)
-            self.old.field.text (character ∷ rest)) error) }
+        ensures ok { OnOk result (ReadsOn separator character self.old self.new) }
+        ensures err { IfErr result (IsStop separator character self.old) }
     {
         match effect_of(separator, self.place, character) {
             Effect::Keep(place) => {

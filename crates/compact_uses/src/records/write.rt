@@ -1,8 +1,8 @@
 //! How fields are written as a line.
-ghost use Rattle.std.specs.Prelude.{◌≡◌, ◌≢◌, ◌+◌, ◌≤◌, ◌++◌, [], map, Ok, IfOk, IsOk, OnOk};
+ghost use Rattle.std.specs.Prelude.{◌≡◌, ◌≢◌, ◌+◌, ◌≤◌, ◌++◌, [], map, IfOk, IsOk, OnOk};
 ghost use Rattle.compact_str.specs.Text.{size};
 ghost use Rattle.compact_str.specs.Order.{text_in};
-ghost use Rattle.compact_uses.specs.Lines.{quote, fields_of, quoted, line_of};
+ghost use Rattle.compact_uses.specs.Lines.{quote, quoted, line_of, ReadsAs};
 
 use compact_str::{CompactString, ReserveError};
 use std::alloc::Global;
@@ -18,7 +18,7 @@ pub fn line_of(
 ) -> Result<CompactString, ReserveError>
     ensures text { IfOk result (λ line. line.text ≡ line_of separator (map text_in fields.now)) }
     ensures reads_back { separator ≢ quote → fields.now ≢ []
-        → IfOk result (λ line. fields_of separator line.text ≡ Ok (map text_in fields.now)) }
+        → IfOk result (λ line. ReadsAs separator line.text (map text_in fields.now)) }
     ensures succeeds { size (line_of separator (map text_in fields.now)) ≤ 24 → IsOk result }
 {
     let mut line = CompactString::default(alloc);

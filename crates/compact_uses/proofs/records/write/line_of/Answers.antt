@@ -6,7 +6,8 @@ use Rattle.compact_str.specs.Text.{size}
 use Rattle.compact_str.proofs.ForCallers.{size-append}
 use Rattle.compact_uses.specs.Lines.{quoted, line_of}
 use Rattle.compact_uses.proofs.ShortLines.{field-room, not-refused}
-use Rattle.compact_uses.proofs.LineLemmas.{reads-back, texts-some}
+use Rattle.compact_uses.proofs.LineLaws.{reads-back}
+use Rattle.compact_uses.proofs.LineLemmas.{texts-some}
 use Rattle.compact_uses.proofs.records.write.line_of.Goals as goal
 
 pub returns-clause-reads_back : goal.returns-clause-reads_back

@@ -3,7 +3,7 @@ use Rattle.std.proofs.lemmas.Grind.{common_steps}
 use Rattle.std.proofs.lemmas.Iterator.{YieldsList-from_chars}
 use Rattle.std.proofs.lemmas.Iterator.Consumers.{YieldsList-turn, YieldsList-end, YieldsList-so_far}
 use Rattle.std.proofs.lemmas.List.{map-id}
-use Rattle.compact_uses.proofs.LineLemmas.{escaped-quote, escaped-other}
+use Rattle.compact_uses.proofs.FieldParts.{escaped-quote, escaped-other}
 use Rattle.std.specs.Char.{len_utf8}
 use Rattle.compact_str.specs.Text.{size, text_of}
 use Rattle.compact_str.proofs.ForCallers.{size-append}
