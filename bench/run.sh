@@ -20,7 +20,8 @@
 # Each function of the library begins at a multiple of 64 bytes, and so does each function of the program and of the Rust
 # crate. Compilers put functions at multiples of 16, and then a loop of 21 bytes lies in one line of a processor's decoded
 # instructions or in two by where the linker happens to put it: the same code takes up to a quarter longer. With
-# BENCH_AS_LINKED=1 all functions stay where the linker puts them.
+# BENCH_AS_LINKED=1 all functions stay where the linker puts them. With BENCH_FURTHER=16 those of the library begin 16 bytes
+# behind a multiple of 64, and the figures are not written to docs.
 #
 # What is built lies in bench/out and in the out/ folders of the crates.
 set -eu
@@ -45,6 +46,23 @@ if [ -z "${BENCH_AS_LINKED:-}" ]; then
     library=$built/libcompact_bench.a
     place=(-C llvm-args=-align-all-functions=6)
 fi
+if [ -n "${BENCH_FURTHER:-}" ]; then
+    # All objects as one, whose functions lie at multiples of 64 from its start, behind as many bytes that nothing runs.
+    rm -rf "$built/further"
+    mkdir "$built/further"
+    (
+        cd "$built/further"
+        ar x "$library"
+        echo 'SECTIONS { .text 0 : SUBALIGN(64) { *(.text .text.*) } }' >whole.ld
+        ld -r -T whole.ld -o whole.o ./*.o
+        objcopy --set-section-alignment .text=16 whole.o
+        printf '.text\n.fill %d, 1, 0x90\n.section .note.GNU-stack, "", @progbits\n' "$BENCH_FURTHER" | as -o pad.o
+        ld -r -o further.o pad.o whole.o
+        objcopy --set-section-alignment .text=64 further.o
+        ar rcs libcompact_bench.a further.o
+    )
+    library=$built/further/libcompact_bench.a
+fi
 allocator=$(dirname "$(rt doc)")/c/liblibc_c.a
 link=(-C "link-arg=$library" -C "link-arg=$allocator")
 
@@ -52,7 +70,7 @@ BENCH_TO=$(cd "$bench/../docs" && pwd)
 processor=$(sed -n 's/^model name[^:]*: *//p' /proc/cpuinfo | head -n 1)
 numbers=$(sed -n 's/^cpu family[^:]*: */family /p; s/^model[[:space:]]*: */, model /p' /proc/cpuinfo | head -n 2 | tr -d '\n')
 BENCH_TOLD="$(date -u +%F), ${processor:-a processor with no name}${numbers:+ ($numbers)}"
-export BENCH_TO BENCH_TOLD
+[ -n "${BENCH_FURTHER:-}" ] || export BENCH_TO BENCH_TOLD
 
 if [ -z "$crate" ]; then
     rustc --edition 2024 -C opt-level=3 -C codegen-units=1 -C lto=fat "${place[@]}" "${link[@]}" -o "$built/bench" "$bench/main.rs"
