@@ -19,9 +19,9 @@ use Rattle.compact_ext.specs.declared.wire.WireError.{WireError}
 use Rattle.compact_ext.specs.declared.wire.WireError.TheVariants.{TooLong, UnexpectedEnd, Utf8, Io, WriteZero, Reserve}
 use Rattle.compact_ext.specs.declared.wire.records.Records.{Records}
 use Rattle.compact_ext.specs.Records.HasTexts.{none, text, no_text}
-use Rattle.compact_ext.specs.Wire.{wire, ReadFails, IsOutsideForm}
+use Rattle.compact_ext.specs.Wire.{wire, HasForm, ReadFails, IsOutsideForm}
 use Rattle.compact_ext.proofs.WireForms.{form-whole, form-tells, length-wire, outside-form, told-text}
-use Rattle.compact_ext.specs.Records.{records_left, left_behind, GivesRecord, GivesNext, FailsAfterTexts, FindsNoRoom, ShowsNoForm, TakesForms, TakesTexts, HasTexts, FailsWithin, HasBegun, HasMore, HasForm, IsOutsideForms, IsPlacedAsRead, FitsForm, ReadsAllBack, ReadsNextBack, TakesForm}
+use Rattle.compact_ext.specs.Records.{records_left, left_behind, GivesRecord, GivesNext, FailsAfterTexts, FindsNoRoom, ShowsNoForm, TakesForms, TakesTexts, HasTexts, FailsWithin, HasBegun, HasMore, IsOutsideForms, IsPlacedAsRead, FitsForm, ReadsAllBack, ReadsNextBack, TakesForm}
 
 -- a reader that failed before it gave any byte
 
@@ -39,7 +39,9 @@ has-begun : (known mid new : Option (List ℕ)) (e : WireError) → HasMore know
 has-begun known mid new TooLong more f = absurd f.fault
 has-begun known mid new WriteZero more f = absurd f.fault
 has-begun known mid new UnexpectedEnd more f = more
-has-begun known mid new e more f = tt
+has-begun known mid new Utf8 more f = more
+has-begun known mid new (Reserve error) more f = more
+has-begun known mid new (Io error) more f = tt
 
 fails-unmoved : (old mid new : Option (List ℕ)) (e : WireError) → Keeps old mid → ReadFails mid new e → ReadFails old new e
 fails-unmoved None mid new e same f = record { taken = f.taken; bytes = tt; fault = f.fault }
@@ -84,7 +86,7 @@ gives-record remaining s t r before after gives =
     subst (λ (old : Option (List ℕ)). GivesNext old r (left_behind remaining r t)) (sym (left-known remaining s before))
     (subst (λ (new : Option (List ℕ)). GivesNext (remaining s.reader) r new) (sym (behind-known remaining r t after)) gives)
 
-pub ruleset record_steps = (failed-at_once, failed-unread, record-read, more-shown, gives-record)
+pub ruleset record_steps = (failed-at_once, failed-unread, more-shown, gives-record)
 
 -- where no whole form stands at the front
 
@@ -132,7 +134,7 @@ same-texts : (texts : List (List ℕ)) (found : List PlacedText) (more : List �
 same-texts texts [] more forms fits is = (texts, refl, sym is, forms)
 same-texts [] (v ∷ found) more forms fits is = absurd (omega (arith, ap length is, length-append (wire v.text) (spelled found), length-append (wire v.text ++ spelled found) more, length-wire v.text))
 same-texts (t ∷ texts) (v ∷ found) more forms fits is =
-    let (first, others) = form-tells t v.text (flat_map wire texts) (spelled found ++ more) (All-head HasForm t texts forms).1 (All-head FitsForm v found fits)
+    let (first, others) = form-tells t v.text (flat_map wire texts) (spelled found ++ more) (All-head HasForm t texts forms).1 (All-head FitsForm v found fits).1
     (is ∙ append_assoc (wire v.text) (spelled found) more) in
     let (rest, all, left, last) = same-texts texts found more (All-tail HasForm t texts forms) (All-tail FitsForm v found fits) others in
     (rest, ap (λ l. l ∷ texts) first ∙ ap (λ l. v.text ∷ l) all, left, last)
@@ -218,9 +220,9 @@ records-back known (Err e) took fits err = record {
 -- the next text is the one whose form stands first
 pub next-back : {R : Type 0} (remaining : R → Option (List ℕ)) (s t : Records R) (r : Option (Result PlacedText WireError)) → GivesRecord remaining s r t → ReadsNextBack remaining s r t
 next-back remaining s t None gives = λ (text rest : List ℕ) (form : HasForm text) (is : records_left remaining s ≡ Some (wire text ++ rest)).
-    absurd (omega (arith, ap length (subst IsAtEnd is gives), length-append (wire text) rest, length-wire text))
+    absurd (omega (arith, ap length (subst IsAtEnd is gives.0), length-append (wire text) rest, length-wire text))
 next-back remaining s t (Some (Ok v)) gives = λ (text rest : List ℕ) (form : HasForm text) (is : records_left remaining s ≡ Some (wire text ++ rest)).
-    told-text text rest v.text _ form.1 gives.fits (subst (λ o. Consumes o (records_left remaining t) (wire v.text)) is gives.form)
+    told-text text rest v.text _ form.1 gives.fits.1 (subst (λ o. Consumes o (records_left remaining t) (wire v.text)) is gives.form)
 next-back remaining s t (Some (Err e)) gives = λ (text rest : List ℕ) (form : HasForm text) (is : records_left remaining s ≡ Some (wire text ++ rest)).
     let fails = gives.fails in
     outside-form text rest fails.taken _ e form.0 form.1 (subst (λ o. Consumes o (left_behind remaining (Some (Err e)) t) fails.taken) is fails.bytes) fails.fault

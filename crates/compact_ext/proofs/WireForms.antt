@@ -6,19 +6,25 @@ use Rattle.std.proofs.BufReadLemmas.{Consumes_shown}
 use Rattle.std.proofs.Transfers.{starts_with_length}
 use Rattle.std.proofs.Math.Seq.{take-append_seam}
 use Rattle.std.proofs.lemmas.List.{take-append-le, append-nil, append_cancel_left}
-use Rattle.std.proofs.lemmas.Str.{encodes_same}
+use Rattle.std.proofs.lemmas.Str.{encodes_same, scalars-chars}
 use Rattle.std.specs.Int.{w32, to_le_bytes, from_le_bytes}
 use Rattle.std.specs.Str.{IsUtf8}
 use Rattle.std.specs.Io.{StartsWith}
 use Rattle.std.specs.Io.BufRead.{DropsConsumable}
 use Rattle.std.specs.Io.KnownBytes.{Appends, Consumes, Keeps}
 use lib.Seq.{take-add, take-take}
-use Rattle.compact_str.specs.Text.{IsText, size, utf8}
+use Rattle.compact_str.specs.Text.{IsText, size, text_of, utf8}
 use Rattle.compact_str.specs.Value.{PlacedText}
 use Rattle.compact_repr.proofs.Texts.{length-utf8}
 use Rattle.compact_ext.specs.declared.wire.WireError.{WireError}
 use Rattle.compact_ext.specs.declared.wire.WireError.TheVariants.{TooLong, UnexpectedEnd, Utf8, Io, WriteZero, Reserve}
 use Rattle.compact_ext.specs.Wire.{wire, claimed_len, WritesFront, IsWriterFault, WriteFails, IsUnfinished, IsReadFault, ReadFails, IsStop, StopsBelow, TextFails, IsOutsideForm, ReadsBack, FormTellsText}
+
+-- what bytes spell that are a text is one
+pub made-text : (bytes t : List ℕ) → IsUtf8 bytes → t ≡ text_of bytes → IsText t
+made-text bytes t is same = subst IsText (sym same) (scalars-chars bytes is)
+
+pub ruleset made_texts = (made-text)
 
 pub IfOk-join : {A E : Type 0} (P Q S : A → Type 0) (r : Result A E) → ((a : A) → P a → Q a → S a) → IfOk r P → IfOk r Q → IfOk r S
 IfOk-join P Q S (Ok a) f h k = f a h k

@@ -1,17 +1,17 @@
 -- What an iterator over the wire forms of a reader gives.
-use Rattle.std.specs.Prelude.{◌≡◌, ◌^◌, ◌<◌, ◌==◌, ◌++◌, ◌+◌, ℕ, List, [], ◌∷◌, length, drop, map, if◌then◌else◌, Option, None, Some, Result, Err, IfSome, MatchOption, MatchResult, flat_map, IsUtf8, ⊤}
+use Rattle.std.specs.Prelude.{◌≡◌, ◌<◌, ◌==◌, ◌++◌, ◌+◌, ℕ, List, [], ◌∷◌, length, drop, map, if◌then◌else◌, Option, None, Some, Result, Err, IfSome, MatchOption, MatchResult, flat_map, IsUtf8, ⊤}
 use Rattle.std.specs.Global.{Vec}
 use Rattle.std.specs.Io.{StartsWith}
-use Rattle.std.specs.Io.KnownBytes.{Consumes, IsAtEnd}
+use Rattle.std.specs.Io.KnownBytes.{Consumes, IsAtEnd, Keeps}
 use Rattle.std.specs.Iterator.{Count, at_most}
 use Rattle.std.specs.List.{All}
 use Rattle.compact_str.specs.Capacity.{taken_over}
-use Rattle.compact_str.specs.Text.{IsText, size}
+use Rattle.compact_str.specs.Text.{size}
 use Rattle.compact_str.specs.Value.{PlacedText}
 use Rattle.compact_ext.specs.declared.wire.WireError.{WireError}
-use Rattle.compact_ext.specs.declared.wire.WireError.TheVariants.{TooLong, UnexpectedEnd, Io, WriteZero, Reserve}
+use Rattle.compact_ext.specs.declared.wire.WireError.TheVariants.{TooLong, UnexpectedEnd, Utf8, Io, WriteZero, Reserve}
 use Rattle.compact_ext.specs.declared.wire.records.Records.{Records}
-use Rattle.compact_ext.specs.Wire.{wire, claimed_len, ReadFails, IsOutsideForm}
+use Rattle.compact_ext.specs.Wire.{wire, claimed_len, HasForm, ReadFails, IsOutsideForm}
 
 -- the bytes that texts are still read from, where the reader's type tells them and the iterator has not given up
 abbrev pub records_left : {R : Type 0} → (R → Option (List ℕ)) → Records R → Option (List ℕ)
@@ -25,14 +25,17 @@ calls_to_come s = at_most s.calls_left
 abbrev pub HasMore : Option (List ℕ) → Type 0
 HasMore known = IfSome known (λ bytes. 0 < length bytes)
 
--- an end that came too early came within a form, and a reader has no text that is too long and no writer
+-- a form had begun where a fault came, but that a reader may also fail at its end. No text is too long to be read, and no
+-- writer has part in it.
 abbrev pub HasBegun : Option (List ℕ) → WireError → Type 0
 HasBegun known UnexpectedEnd = HasMore known
+HasBegun known Utf8 = HasMore known
+HasBegun known (Reserve _) = HasMore known
+HasBegun known (Io _) = ⊤
 HasBegun known TooLong = ⊥
 HasBegun known WriteZero = ⊥
-HasBegun known _ = ⊤
 
--- a fault as `read_wire` tells it, of a form that had begun
+-- a fault as `read_wire` tells it, of a form that had begun, or of a reader that failed
 pub record FailsWithin (old new : Option (List ℕ)) (e : WireError) : Type 0 where
   pub fails : ReadFails old new e
   pub begun : HasBegun old e
@@ -42,9 +45,9 @@ pub record FailsWithin (old new : Option (List ℕ)) (e : WireError) : Type 0 wh
 abbrev pub IsPlacedAsRead : PlacedText → Type 0
 IsPlacedAsRead v = v.placement ≡ taken_over v.text (size v.text)
 
--- four bytes can tell how many a text takes
+-- the text of a value has a wire form
 abbrev pub FitsForm : PlacedText → Type 0
-FitsForm v = size v.text < 2 ^ 32
+FitsForm v = HasForm v.text
 
 -- a text's form is taken, and it is placed as `read_wire` places it
 pub record TakesForm (old new : Option (List ℕ)) (v : PlacedText) : Type 0 where
@@ -52,20 +55,22 @@ pub record TakesForm (old new : Option (List ℕ)) (v : PlacedText) : Type 0 whe
   pub fits : FitsForm v
   pub placed : IsPlacedAsRead v
 
--- a text whose form is taken, a fault as `read_wire` tells it, or `None` at the end
+-- a text whose form is taken, a fault as `read_wire` tells it, or `None` at the end, where nothing changes
 abbrev pub GivesNext : Option (List ℕ) → Option (Result PlacedText WireError)
     → Option (List ℕ) → Type 0
 GivesNext old r new =
-    MatchOption r (IsAtEnd old) (λ item. MatchResult item (TakesForm old new) (FailsWithin old new))
+    MatchOption r (IsAtEnd old × Keeps old new)
+    (λ item. MatchResult item (TakesForm old new) (FailsWithin old new))
 
--- the bytes behind what a call of `next` gave: those that texts are still read from. Where the reader failed the
--- iterator may have given up, so they are the reader's own.
+-- the bytes behind what a call of `next` gave: those that texts are still read from. After an `Io` the iterator may have
+-- given up, so there they are what the reader has.
 abbrev pub left_behind : {R : Type 0} → (R → Option (List ℕ)) → Option (Result PlacedText WireError)
     → Records R → Option (List ℕ)
 left_behind remaining (Some (Err (Io _))) t = remaining t.reader
 left_behind remaining _ t = records_left remaining t
 
--- the same of an iterator, which has not given up but where its reader failed
+-- the same of an iterator: one that had known bytes to read from goes on with those behind, unless an `Io` came. Of one that
+-- has given up nothing is said.
 abbrev pub GivesRecord : {R : Type 0} → (R → Option (List ℕ)) → Records R
     → Option (Result PlacedText WireError) → Records R → Type 0
 GivesRecord remaining s r t = GivesNext (records_left remaining s) r (left_behind remaining r t)
@@ -84,17 +89,13 @@ pub record FailsAfterTexts (known : Option (List ℕ)) (e : WireError) : Type 0 
   pub took : TakesForms known mid texts
   pub fails : FailsWithin mid new e
 
--- the form of a text was taken, after those of others or of none, and the vector had no room for it
+-- the forms of one text or more were taken, and the error says that room was refused, as where the vector has none for the last
 pub record FindsNoRoom (known : Option (List ℕ)) (e : WireError) : Type 0 where
   pub texts : List PlacedText
   pub last : PlacedText
   pub mid : Option (List ℕ)
   pub took : TakesForms known mid (texts ++ last ∷ [])
   pub refused : e ≡ Reserve (record {})
-
--- a text that has a wire form: four bytes can tell its length
-abbrev pub HasForm : List ℕ → Type 0
-HasForm t = IsText t × size t < 2 ^ 32
 
 -- no whole form of a text stands at the front of the bytes
 abbrev pub ShowsNoForm : List ℕ → Type 0
@@ -109,7 +110,7 @@ ReadsNextBack remaining s r t =
     → MatchOption r ⊥ (λ item. MatchResult item
     (λ v. (v.text ≡ text) × (records_left remaining t ≡ Some rest)) (IsOutsideForm (size text)))
 
--- a fault that lies not in the forms of these texts: the reader failed, or room for one of them was refused
+-- a fault that lies not in the forms of these texts: an `Io`, or a `Reserve` where there is a text that may have been refused room
 abbrev pub IsOutsideForms : List (List ℕ) → WireError → Type 0
 IsOutsideForms texts (Io _) = ⊤
 IsOutsideForms texts (Reserve _) = 0 < length texts
@@ -128,7 +129,7 @@ IsFormOfNoText form = (length form ≡ 4 + claimed_len form) × ¬ IsUtf8 (drop 
 -- the bytes are forms in a row, and these are the texts of those that have one, in their order
 pub data HasTexts : List ℕ → List (List ℕ) → Type 0 where
   none : HasTexts [] []
-  text : {bytes : List ℕ} {texts : List (List ℕ)} (t : List ℕ) → size t < 2 ^ 32
+  text : {bytes : List ℕ} {texts : List (List ℕ)} (t : List ℕ) → HasForm t
       → HasTexts bytes texts → HasTexts (bytes ++ wire t) (texts ++ t ∷ [])
   no_text : {bytes : List ℕ} {texts : List (List ℕ)} (form : List ℕ) → IsFormOfNoText form
       → HasTexts bytes texts → HasTexts (bytes ++ form) texts

@@ -15,6 +15,10 @@ wire t = to_le_bytes w32 (size t) ++ utf8 t
 abbrev pub claimed_len : List ℕ → ℕ
 claimed_len bytes = from_le_bytes w32 (take 4 bytes)
 
+-- a text that has a wire form: four bytes can tell its length
+abbrev pub HasForm : List ℕ → Type 0
+HasForm t = IsText t × size t < 2 ^ 32
+
 -- a beginning of the bytes was written, and not all of them
 pub record WritesFront (old new : Option (List ℕ)) (all : List ℕ) : Type 0 where
   pub done : List ℕ

@@ -95,6 +95,19 @@ fn escapes_that_no_writer_makes_are_read(rt: HostRuntime) {
     assert!(rt; is_fitted(&read(&rt, alloc, r#" "a\/b" "#), "a/b"));
 }
 
+#[test]
+fn texts_in_a_row_are_read_in_order(rt: HostRuntime) {
+    let texts = ["a\n", "b", "c\n"];
+    let row: Vec<CompactString> = serde_json::from_str(rt.alloc(), r#"["a\n","b","c\n"]"#).expect(
+        &rt,
+        "a row of texts",
+    );
+    assert_eq!(rt; row.len(), texts.len());
+    for (value, text) in row.iter().zip(texts) {
+        assert_eq!(rt; value.as_str(), text);
+    }
+}
+
 /// Asserts that a JSON text is no text.
 fn is_no_text(rt: &impl Abort, alloc: Global, json: &str) {
     let read: Result<CompactString, serde_json::Error> = serde_json::from_str(alloc, json);

@@ -3,11 +3,11 @@ ghost use Rattle.std.specs.Prelude.{◌≡◌, ◌+◌, ◌^◌, ◌<◌, ◌≤
 ghost use Rattle.std.specs.Int.{w32, to_le_bytes};
 ghost use Rattle.std.specs.Vec.{vec_capacity};
 ghost use Rattle.std.specs.Io.KnownBytes.{Consumes};
-ghost use Rattle.compact_str.specs.Text.{size, utf8};
+ghost use Rattle.compact_str.specs.Text.{IsText, size, utf8};
 ghost use Rattle.compact_repr.specs.Packed.{packed_len};
 ghost use Rattle.compact_str.specs.Capacity.{inlined, on_heap, taken_over};
 ghost use Rattle.compact_ext.specs.declared.wire.WireError.TheVariants.{Utf8 as utf8_fault};
-ghost use Rattle.compact_ext.specs.Wire.{wire, ReadFails, ReadsBack, StopsBelow, TextFails, next_room};
+ghost use Rattle.compact_ext.specs.Wire.{wire, HasForm, ReadFails, ReadsBack, StopsBelow, TextFails, next_room};
 
 use super::WireError;
 use compact_codec::utf8::validate;
@@ -34,7 +34,7 @@ const FIRST_ROOM: usize = 1 << 20;
 pub fn read_wire<R: Read>(alloc: Global, reader: &mut R) -> Result<CompactString, WireError>
     ensures ok { IfOk result (λ v.
         Consumes (R.remaining reader.old) (R.remaining reader.new) (wire v.text)) }
-    ensures fits { IfOk result (λ v. size v.text < 2 ^ 32) }
+    ensures fits { IfOk result (λ v. HasForm v.text) }
     ensures placement { IfOk result (λ v. v.placement ≡ taken_over v.text (size v.text)) }
     ensures back { ReadsBack (R.remaining reader.old) (R.remaining reader.new) result }
     ensures err { IfErr result (λ e.
@@ -84,6 +84,7 @@ fn read_short<R: Read>(
     requires { len ≤ 24 }
     ensures ok { IfOk result (λ v.
         Consumes (R.remaining reader.old) (R.remaining reader.new) (utf8 v.text)) }
+    ensures text { IfOk result (λ v. IsText v.text) }
     ensures len { IfOk result (λ v. size v.text ≡ len) }
     ensures placement { IfOk result (λ v. v.placement ≡ inlined) }
     ensures err { IfErr result (λ e.
@@ -102,6 +103,7 @@ fn read_short<R: Read>(
 fn packed(alloc: Global, room: &mut [u8; 24], len: usize) -> Result<CompactString, WireError>
     requires { len ≤ 24 }
     ensures ok { IfOk result (λ v. utf8 v.text ≡ take len room.old) }
+    ensures text { IfOk result (λ v. IsText v.text) }
     ensures len { IfOk result (λ v. size v.text ≡ len) }
     ensures placement { IfOk result (λ v. v.placement ≡ inlined) }
     ensures err { IfErr result (λ e. (e ≡ utf8_fault) × ¬ IsUtf8 (take len room.old)) }
@@ -132,11 +134,13 @@ fn tell_len(room: &mut [u8; 24], len: usize) -> bool
 }
 
 /// Reads a text of so many bytes, of which nothing is copied once it has come.
+#[tactic(auto, using(compact_repr::proofs::TextFacts::text_facts, crate::proofs::WireForms::made_texts))]
 fn read_long<R: Read>(alloc: Global, len: usize, reader: &mut R) -> Result<CompactString, WireError>
     requires long { 24 < len }
     requires fits { len < 2 ^ 32 }
     ensures ok { IfOk result (λ v.
         Consumes (R.remaining reader.old) (R.remaining reader.new) (utf8 v.text)) }
+    ensures text { IfOk result (λ v. IsText v.text) }
     ensures len { IfOk result (λ v. size v.text ≡ len) }
     ensures placement { IfOk result (λ v. v.placement ≡ on_heap len) }
     ensures err { IfErr result (λ e.

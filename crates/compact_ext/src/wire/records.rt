@@ -3,7 +3,7 @@ ghost use Rattle.std.specs.Prelude.{◌≡◌, ◌⊎◌, ◌<◌, ◌≤◌, le
 ghost use Rattle.std.specs.Io.{StartsWith};
 ghost use Rattle.std.specs.Io.KnownBytes.{IsAtEnd, Keeps};
 ghost use Rattle.std.specs.List.{All};
-ghost use Rattle.compact_str.specs.Text.{utf8};
+ghost use Rattle.compact_str.specs.Text.{IsText, utf8};
 ghost use Rattle.compact_ext.specs.Records.{records_left, calls_to_come, GivesNext, GivesRecord, FailsAfterTexts, FindsNoRoom, HasMore, IsPlacedAsRead, FitsForm, ReadsAllBack, ShowsNoForm};
 ghost use Rattle.compact_ext.specs.Wire.{wire, claimed_len};
 
@@ -155,9 +155,11 @@ fn shown_text(alloc: Global, bytes: &[u8]) -> Result<Option<CompactString>, Rese
 /// A text of the bytes, which are one: inline up to 24 bytes, and a longer one on the heap with just the capacity that it
 /// needs. The error says that room for that was refused.
 #[inline]
+#[tactic(auto, using(compact_repr::proofs::TextFacts::text_facts, crate::proofs::WireForms::made_texts))]
 fn copy_of(alloc: Global, bytes: &[u8]) -> Result<CompactString, ReserveError>
     requires { IsUtf8 bytes.now }
-    ensures text { IfOk result (λ v. utf8 v.text ≡ bytes.now) }
+    ensures bytes { IfOk result (λ v. utf8 v.text ≡ bytes.now) }
+    ensures text { IfOk result (λ v. IsText v.text) }
     ensures placement { IfOk result IsPlacedAsRead }
     ensures err { OnErr result (24 < length bytes.now) }
 {

@@ -27,6 +27,8 @@ impl<P: Policy> DeserializeOwned for PolicyString<P> {
     /// A text that the reader gives. Of one with no escape a copy is made as by `new`, so that up to 24 bytes take no memory.
     ///
     /// An error is the reader's own, as of what is no text; or says that no memory was found.
+    ///
+    /// The clause tells a caller of one reader nothing of which text was read.
     fn deserialize_owned<F: Format>(
         alloc: Global,
         from: &mut Deserializer<'_, '_, F>,

@@ -31,7 +31,7 @@ pub enum LineError {
 enum Place {
     /// At its start.
     Start,
-    /// Within a field with no quotes.
+    /// Within a field that does not begin with a quote.
     Plain,
     /// Within quotes.
     Quoted,

@@ -1,6 +1,5 @@
 use Rattle.std.proofs.Common.{[], ◌∷◌, ◌++◌, ap, sym, ◌∙◌, append-nil}
-use Rattle.compact_ext.specs.Records.{HasForm}
-use Rattle.compact_ext.specs.Wire.{wire}
+use Rattle.compact_ext.specs.Wire.{wire, HasForm}
 use Rattle.compact_ext.proofs.WireFacts.{all-sent-back, All-nil, All-cons}
 use Rattle.compact_callers.proofs.wire_callers.pair_sent_and_received.Goals as goal
 

@@ -1,10 +1,11 @@
 -- The form that was shown is passed over, or its length.
-use Rattle.std.proofs.Common.{IfSome, subst}
+use Rattle.std.proofs.Common.{IfSome, rules, arith, subst}
 use Rattle.std.specs.Io.{StartsWith}
 use Rattle.std.specs.Io.BufRead.{FillKeeps}
 use Rattle.compact_ext.specs.Records.{IsPlacedAsRead, FitsForm}
 use Rattle.compact_ext.specs.Wire.{wire}
 use Rattle.compact_ext.proofs.WireForms.{took-shown, head-taken}
+use Rattle.compact_ext.proofs.RecordLists.{more-shown, record-read}
 use Rattle.compact_ext.proofs.wire.records.next_record.Goals as goal
 
 pub returns-in-Ok-Some : goal.returns-in-Ok-Some
@@ -27,5 +28,12 @@ returns-in-Err-shown_text g c =
     let asked = c.in-Err-shown_text.ensures.err in
     record {
       fails = head-taken _ _ _ _ c.in-Ok.bytes.now _ asked.0 asked.1 c.in-Ok.ensures.front c.in-Ok.ensures.end filled.0 filled.1 c.consume-in-Err-shown_text.ensures.bytes;
-      begun = tt;
+      begun = more-shown _ c.in-Ok.bytes.now c.in-Ok.ensures.front (λ none. omega (arith, none, asked.0));
     }
+
+pub returns-in-Ok-None : goal.returns-in-Ok-None
+returns-in-Ok-None g c =
+    let rested = c.fill_buf.follows.lender-at-none in
+    let filled = subst (FillKeeps _ (g.R.Read.remaining rested) (g.R.BufRead.consumable_len rested)) c.in-Ok.is c.fill_buf.follows.holds-at-none in
+    let more = more-shown _ c.in-Ok.bytes.now c.in-Ok.ensures.front (search rules) in
+    record-read _ (g.R.Read.remaining rested) _ c.read_wire.result filled.0 more c.read_wire.ensures.ok c.read_wire.ensures.fits c.read_wire.ensures.placement c.read_wire.ensures.err

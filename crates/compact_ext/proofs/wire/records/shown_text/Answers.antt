@@ -11,13 +11,15 @@ pub returns-in-Ok-clause-ok : goal.returns-in-Ok-clause-ok
 returns-in-Ok-clause-ok c =
     let split = c.in-Some.ensures.cases in
     let len = c.number_of-len.result in
-    let made = c.in-Ok.ensures.text ∙ ap (take len) split.1 in
+    let made = c.in-Ok.ensures.bytes ∙ ap (take len) split.1 in
     form-shown c.args.bytes.now c.in-Ok.text.text len (c.number_of-len.ensures ∙ split.0) (omega (arith, split.2, c.if-len-rest.false)) made
 
 pub returns-in-Ok-clause-fits : goal.returns-in-Ok-clause-fits
 returns-in-Ok-clause-fits c =
-    let split = c.in-Some.ensures.cases in
-    form-fits c.number_of-len.result c.in-Ok.text.text _ (search rules) (omega (arith, split.2, c.if-len-rest.false)) c.in-Ok.ensures.text
+    let split = c.in-Some.ensures.cases in (
+      c.in-Ok.ensures.text,
+      form-fits c.number_of-len.result c.in-Ok.text.text _ (search rules) (omega (arith, split.2, c.if-len-rest.false)) c.in-Ok.ensures.bytes,
+    )
 
 -- a length beyond what is shown, or bytes that are no text
 pub returns-then-len-rest-clause-none : goal.returns-then-len-rest-clause-none
