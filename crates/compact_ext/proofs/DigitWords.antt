@@ -1,14 +1,15 @@
 -- The digits of a number as words of eight bytes.
 use Rattle.std.proofs.Common.{◌≡◌, ℕ, true, suc, ◌+◌, ◌-◌, ◌*◌, ◌/◌, ◌%◌, ◌^◌, ◌<◌, ◌≤◌, List, [], ◌∷◌, ◌++◌, length, take, drop, refl, ap, sym, ◌∙◌, arith, append_assoc, length-append, ⊎_elim}
-use Rattle.std.specs.Prelude.{replicate}
+use Rattle.std.specs.Prelude.{replicate, bit_or}
 use Rattle.std.specs.Fmt.{decimal}
-use Rattle.std.proofs.lemmas.Bool.{cases_lt}
+use Rattle.std.proofs.lemmas.Bool.{cases_lt, cond-true, lt-ltb}
 use Rattle.std.proofs.lemmas.Fmt.{decimal_digit, decimal_nonempty, length-decimal-le}
 use Rattle.std.proofs.lemmas.List.{length-drop, length-take-le, length-replicate, drop_at, drop-append-le, take-append-drop, take-replicate, replicate-append-replicate}
 use Rattle.std.proofs.Math.Seq.{take-append-add}
 use Rattle.itoa.proofs.Decimal.{decimal_two, decimal_pair, decimal_four}
 use Rattle.compact_repr.specs.Words.{number, bytes_of}
-use Rattle.compact_repr.proofs.Numbers.{AllBytes, AllBytes-append, AllBytes-cons, AllBytes-take, AllBytes-drop, AllBytes-bytes_of, length-bytes_of, number-append, number-take, number-drop, number-bytes_of, bytes_of-number, bytes_of-number_short}
+use Rattle.compact_repr.specs.Packed.{packed_bytes}
+use Rattle.compact_repr.proofs.Numbers.{AllBytes, AllBytes-append, AllBytes-cons, AllBytes-take, AllBytes-drop, AllBytes-bytes_of, length-bytes_of, number-append, number-take, number-drop, number-bytes_of, bytes_of-number, bytes_of-number_short, bytes_of-other_last}
 use Rattle.compact_ext.specs.Digits.{two_digits, four_digits, eight_digits, number_text}
 
 -- digits with noughts before them
@@ -263,3 +264,32 @@ minus_before n first second third count few e same =
     ∙ ap (λ (k : ℕ). take k (digits ++ zeros (24 - count))) (sym before)
     ∙ take-append-add digits (zeros (24 - count)) end
     ∙ ap (λ (xs : List ℕ). digits ++ xs) (take-replicate end (24 - count) 0 (omega arith)))
+
+-- the length behind them
+
+pub with_length : (word len : ℕ) → word < 2 ^ 64 → len ≤ 23
+    → bytes_of (bit_or (word % 2 ^ 56) ((192 + len) * 2 ^ 56 % 2 ^ 64)) ≡ take 7 (bytes_of word) ++ (192 + len) ∷ []
+with_length word len fits few = bytes_of-other_last word (192 + len) (192 + len) fits (omega arith) refl
+
+pub length_behind : (first second third last : ℕ)
+    → bytes_of first ++ bytes_of second ++ (take 7 (bytes_of third) ++ last ∷ []) ≡ take 23 (bytes_of first ++ bytes_of second ++ bytes_of third) ++ last ∷ []
+length_behind first second third last =
+    let front : List ℕ = bytes_of first ++ bytes_of second in
+    let eight : length (bytes_of first) ≡ 8 = length-bytes_of first in
+    let eight_more : length (bytes_of second) ≡ 8 = length-bytes_of second in
+    let long : length front + 7 ≡ 23 = ap (λ (k : ℕ). k + 7) (length-append (bytes_of first) (bytes_of second)) ∙ omega arith in
+    sym (append_assoc front (take 7 (bytes_of third)) (last ∷ []))
+    ∙ ap (λ (xs : List ℕ). xs ++ last ∷ []) (sym (take-append-add front (bytes_of third) 7) ∙ ap (λ (k : ℕ). take k (front ++ bytes_of third)) long)
+
+pub packed-row : (xs row : List ℕ) (len : ℕ) → len ≤ 23 → len ≡ length xs → row ≡ xs ++ replicate (24 - len) 0 → take 23 row ++ (192 + len) ∷ [] ≡ packed_bytes xs
+packed-row xs row len few e same =
+    let gap : ℕ = 23 - len in
+    let all : length xs + gap ≡ 23 = omega arith in
+    let front : take 23 row ≡ xs ++ zeros gap =
+    ap (take 23) same
+    ∙ ap (λ (k : ℕ). take k (xs ++ zeros (24 - len))) (sym all)
+    ∙ take-append-add xs (zeros (24 - len)) gap
+    ∙ ap (λ (ys : List ℕ). xs ++ ys) (take-replicate gap (24 - len) 0 (omega arith)) in
+    ap (λ (ys : List ℕ). ys ++ (192 + len) ∷ []) front
+    ∙ ap (λ (k : ℕ). (xs ++ zeros (23 - k)) ++ (192 + k) ∷ []) e
+    ∙ sym (cond-true _ _ _ (lt-ltb (length xs) 24 (omega arith)))

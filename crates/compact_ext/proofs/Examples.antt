@@ -5,7 +5,7 @@ use Rattle.std.specs.Fmt.{decimal, signed_decimal, digits}
 use Rattle.compact_str.specs.Value.{placed}
 use Rattle.compact_str.specs.Capacity.{Growth, inlined, on_heap}
 use Rattle.compact_str.specs.Change.{made}
-use Rattle.compact_ext.specs.Digits.{two_digits, written, number_text}
+use Rattle.compact_ext.specs.Digits.{two_digits, four_digits, eight_digits, written, number_text}
 use Rattle.compact_ext.specs.Shown.{bool_text}
 
 abbrev standard : Growth
@@ -51,6 +51,12 @@ a_sign_and_a_magnitude = refl
 
 seven_has_a_nought_before_it : two_digits 7 ≡ codes "07"
 seven_has_a_nought_before_it = refl
+
+seven_has_three_noughts_before_it : four_digits 7 ≡ codes "0007"
+seven_has_three_noughts_before_it = refl
+
+eight_digits_have_noughts_within : eight_digits 12003045 ≡ codes "12003045"
+eight_digits_have_noughts_within = refl
 
 two_of_five_are_written : written (codes "abcde") 1 (codes "42") ≡ codes "a42de"
 two_of_five_are_written = refl

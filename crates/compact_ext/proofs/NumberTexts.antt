@@ -1,14 +1,15 @@
 -- The text of a number as bytes, which are ASCII and few.
-use Rattle.std.proofs.Common.{◌≡◌, ℕ, ◌^◌, ◌<◌, ◌≤◌, Bool, true, false, List, ◌++◌, length, take, replicate, Some, ap, sym, ◌∙◌, arith}
+use Rattle.std.proofs.Common.{◌≡◌, ℕ, ◌^◌, ◌<◌, ◌≤◌, Bool, true, false, List, length, take, Some, ap, sym, ◌∙◌, subst, arith}
 use Rattle.std.proofs.lemmas.Str.{chars-IsAscii, IsUtf8-from_ascii}
 use Rattle.std.proofs.lemmas.Str.Ascii.{IsAscii-cons}
 use Rattle.std.proofs.lemmas.Fmt.{IsAscii-decimal, length-decimal-le}
 use Rattle.std.proofs.Math.Seq.{take-append_seam}
-use Rattle.std.proofs.lemmas.List.{take_at}
 use Rattle.std.proofs.lemmas.Grind.{common_steps}
 use Rattle.std.specs.Str.{IsAscii, IsUtf8}
 use Rattle.compact_str.specs.Text.{size, text_of}
+use Rattle.compact_repr.specs.Packed.{IsPackedFor, packed_bytes}
 use Rattle.compact_repr.proofs.Texts.{size-text_of}
+use Rattle.compact_repr.proofs.PackedTexts.{stands-packed}
 use Rattle.compact_str.specs.Value.{placed}
 use Rattle.compact_str.specs.Capacity.{Growth, inlined}
 use Rattle.compact_str.specs.Change.{made}
@@ -26,15 +27,18 @@ length-number false n h = let e = length-decimal-le 20 n (omega arith) (omega ar
 pub take-written : (row bytes : List ℕ) (n : ℕ) → n ≡ length bytes → take n (written row 0 bytes) ≡ bytes
 take-written row bytes n e = ap (λ (k : ℕ). take k (written row 0 bytes)) e ∙ take-append_seam bytes _
 
--- and what stands before zeros
-pub take-number : (row bytes : List ℕ) (n k : ℕ) → row ≡ bytes ++ replicate k 0 → n ≡ length bytes → take n row ≡ bytes
-take-number row bytes n k e same = ap (take n) e ∙ take_at bytes (replicate k 0) n (sym same)
-
 pub IsUtf8-number : (s : Bool) (n : ℕ) → n < 2 ^ 64 → IsUtf8 (number_text s n)
 IsUtf8-number s n h = IsUtf8-from_ascii _ (IsAscii-number s n h)
 
 pub text_of-number : (s : Bool) (n : ℕ) → n < 2 ^ 64 → text_of (number_text s n) ≡ number_text s n
 text_of-number s n h = chars-IsAscii _ (IsAscii-number s n h)
+
+-- the packed bytes of a number stand for its text
+pub number-stands : (s : Bool) (n : ℕ) (row : List ℕ) → n < 2 ^ 64 → row ≡ packed_bytes (number_text s n) → IsPackedFor row (number_text s n)
+number-stands s n row h e =
+    let few : length (number_text s n) ≤ 21 = length-number s n h in
+    let stands : IsPackedFor (packed_bytes (number_text s n)) (text_of (number_text s n)) = stands-packed (number_text s n) (IsUtf8-number s n h) (omega arith) in
+    subst (λ (bytes : List ℕ). IsPackedFor bytes (number_text s n)) (sym e) (subst (λ (t : List ℕ). IsPackedFor (packed_bytes (number_text s n)) t) (text_of-number s n h) stands)
 
 pub size-number : (s : Bool) (n : ℕ) → n < 2 ^ 64 → size (number_text s n) ≤ 21
 size-number s n h =

@@ -17,12 +17,13 @@ use std::alloc::Global;
 
 /// The text of a number, inline.
 #[inline]
-#[tactic(auto, using(crate::proofs::NumberTexts::number_rows))]
 fn number_value(alloc: Global, magnitude: u64, is_negative: bool) -> CompactString
     ensures { result ≡ placed (number_text is_negative magnitude) inlined }
 {
-    let (mut row, len) = number_row(magnitude, is_negative);
-    packed_value(alloc, &mut row, len)
+    match CompactString::from_packed(alloc, &number_row(magnitude, is_negative)) {
+        Some(value) => value,
+        None => unreachable!(),
+    }
 }
 
 /// The text of a number of eight bits, inline.

@@ -1,8 +1,9 @@
-//! The digits of a number as words of eight bytes. Each is made whole, since a word that is read after its bytes were written
-//! one by one waits for them.
-ghost use Rattle.std.specs.Prelude.{◌≡◌, ◌-◌, ◌<◌, ◌≤◌, ◌++◌, length, take, drop, replicate};
+//! The digits of a number as words of eight bytes, the first digit as the lowest byte. Each word is made whole: one that is
+//! read after its bytes were written one by one waits for them.
+ghost use Rattle.std.specs.Prelude.{◌≡◌, ◌+◌, ◌-◌, ◌<◌, ◌≤◌, [], ◌∷◌, ◌++◌, length, take, drop, replicate};
 ghost use Rattle.std.specs.Fmt.{decimal};
 ghost use Rattle.compact_repr.specs.Words.{bytes_of};
+ghost use Rattle.compact_repr.specs.Packed.{packed_bytes};
 ghost use Rattle.compact_ext.specs.Digits.{eight_digits, number_text};
 
 use crate::num::digits::{count_digits, pair};
@@ -16,28 +17,26 @@ const PAST_WORD: u128 = 0x1_0000_0000_0000_0000;
 /// The word whose last byte is a minus.
 const MINUS: u64 = (b'-' as u64) << 56;
 
-/// The row that a number begins: a minus where it is negative, the digits of its magnitude, and zeros. Answers how many
-/// characters stand before the zeros, too.
+/// The packed row of a number: a minus where it is negative, and the digits of its magnitude.
 #[inline]
-pub fn number_row(magnitude: u64, is_negative: bool) -> ([u8; 24], usize)
-    ensures count { result.1 ≡ length (number_text is_negative magnitude) }
-    ensures short { result.1 ≤ 21 }
-    ensures text { result.0 ≡ number_text is_negative magnitude ++ replicate (24 - result.1) 0 }
+pub fn number_row(magnitude: u64, is_negative: bool) -> [u8; 24]
+    ensures { result ≡ packed_bytes (number_text is_negative magnitude) }
 {
     let count = count_digits(magnitude);
     let (first, second, third) = words_of_digits(magnitude, count);
     if is_negative {
-        let row = row_of_words(
+        return packed_row(
             word_behind(MINUS, first, 7),
             word_behind(first, second, 7),
             word_behind(second, third, 7),
+            count + 1,
         );
-        return (row, count + 1);
     }
-    (row_of_words(first, second, third), count)
+    packed_row(first, second, third, count)
 }
 
-/// Three words that begin with the digits of a number, of which there are `count`, and then are zero.
+/// Three words whose bytes are the digits of a number, of which there are `count`, and zeros behind them. Eight digits at a
+/// time fill a word, and the words move down by the noughts that stand before the first digit.
 #[inline(always)]
 #[tactic(auto, using(crate::proofs::DigitWords::word_counts))]
 fn words_of_digits(n: u64, count: usize) -> (u64, u64, u64)
@@ -69,7 +68,7 @@ fn words_of_digits(n: u64, count: usize) -> (u64, u64, u64)
     )
 }
 
-/// The word of the eight last digits of a number that has no more, with noughts before them where it has fewer.
+/// The word of a number of at most eight digits, with noughts before them where it has fewer.
 #[inline(always)]
 fn eight_digits(n: u64) -> u64
     requires { n < 100000000 }
@@ -80,7 +79,7 @@ fn eight_digits(n: u64) -> u64
     pair(high / 100) + (pair(high % 100) << 16) + (pair(low / 100) << 32) + (pair(low % 100) << 48)
 }
 
-/// The word behind the first bytes of a word, with as many zeros behind it.
+/// A word without its first `count` bytes, and with as many zeros behind the others.
 #[inline(always)]
 fn without_front(word: u64, count: usize) -> u64
     requires { count < 8 }
@@ -89,7 +88,7 @@ fn without_front(word: u64, count: usize) -> u64
     word >> (8 * count)
 }
 
-/// The word behind the first bytes of a word, with as many of the next word behind it.
+/// A word without its first `count` bytes, and with as many of the next word's behind the others.
 #[inline(always)]
 fn word_behind(word: u64, next: u64, count: usize) -> u64
     requires { count < 8 }
@@ -99,6 +98,25 @@ fn word_behind(word: u64, next: u64, count: usize) -> u64
     ((both >> (8 * count)) % PAST_WORD) as u64
 }
 
+/// The row of three words, with a length as its last byte.
+#[inline(always)]
+fn packed_row(first: u64, second: u64, third: u64, len: usize) -> [u8; 24]
+    requires { len ≤ 23 }
+    ensures { result ≡ take 23 (bytes_of first ++ bytes_of second ++ bytes_of third)
+        ++ (192 + len) ∷ [] }
+{
+    row_of_words(first, second, with_length(third, len))
+}
+
+/// A word with a length as its last byte, as a packed row has it.
+#[inline(always)]
+fn with_length(word: u64, len: usize) -> u64
+    requires { len ≤ 23 }
+    ensures { bytes_of result ≡ take 7 (bytes_of word) ++ (192 + len) ∷ [] }
+{
+    (word % 0x100_0000_0000_0000) | ((192 + len as u64) << 56)
+}
+
 /// Three words as a row.
 #[inline(always)]
 #[tactic(auto, unfolding(compact_repr::specs::Words::bytes_of))]
@@ -106,8 +124,21 @@ fn row_of_words(first: u64, second: u64, third: u64) -> [u8; 24]
     ensures { result ≡ bytes_of first ++ bytes_of second ++ bytes_of third }
 {
     let mut row = [0; 24];
-    row[..8].copy_from_slice(&first.to_le_bytes());
-    row[8..16].copy_from_slice(&second.to_le_bytes());
-    row[16..].copy_from_slice(&third.to_le_bytes());
+    store8(&mut row[..8], first);
+    store8(&mut row[8..16], second);
+    store8(&mut row[16..], third);
     row
+}
+
+/// Writes a word over eight bytes.
+#[inline(always)]
+#[tactic(auto, unfolding(compact_repr::specs::Words::bytes_of))]
+fn store8(bytes: &mut [u8], word: u64)
+    requires { length bytes.old ≡ 8 }
+    ensures { bytes.new ≡ bytes_of word }
+{
+    match bytes.first_chunk_mut::<8>() {
+        Some(chunk) => *chunk = word.to_le_bytes(),
+        None => unreachable!(),
+    }
 }
