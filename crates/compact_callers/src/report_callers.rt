@@ -1,4 +1,5 @@
-//! The writer of a report. It is proved from the contracts and the facts for callers.
+//! The writer of a report. It is proved from the contracts and the facts for callers; the loop of `report` has its invariant
+//! in a proof file.
 #![tactic(auto, using(compact_str::proofs::ForCallers::for_callers, compact_ext::proofs::ForCallers::shown_facts))]
 
 ghost use Rattle.std.specs.Prelude.{◌≡◌, ◌++◌, IfOk, OnOk};

@@ -1,4 +1,5 @@
-//! Texts of numbers and of formats in the functions of a user. Each is proved from the contracts and the facts for callers.
+//! Texts of numbers and of formats in the functions of a user. Each is proved from the contracts and the facts for callers;
+//! the unit of `temperature` is spelled in a proof file.
 #![tactic(auto, using(compact_str::proofs::ForCallers::for_callers, compact_ext::proofs::ForCallers::shown_facts))]
 
 ghost use Rattle.std.specs.Prelude.{◌≡◌, ◌++◌, ◌∷◌, IfOk, codes, decimal};

@@ -1,5 +1,5 @@
-//! Callers that take parts of a text out, as its users write them. All but those that end in a rule of their own are proved
-//! with no proof file.
+//! Callers that take parts of a text out, as its users write them. `every_second` and `every_second_told`, whose closures
+//! remember what they said, have a proof file; the others have none.
 ghost use Rattle.std.specs.Prelude.{◌≡◌, ◌++◌, ◌∷◌, [], OnOk, OnErr, IfOk, MatchOption, not, false, filter, ◌==◌};
 ghost use Rattle.compact_str.specs.Text.{text_of, ascii_lowercase};
 ghost use Rattle.compact_str.specs.Cut.{middle, replaced_text};
@@ -67,6 +67,7 @@ pub fn without_spaces(line: &mut CompactString) -> Result<(), ReserveError>
 
 /// Takes every space out, and notes that there was one. Where that is refused nothing is noted.
 pub fn note_spaces(line: &mut CompactString, seen: &mut bool) -> Result<(), ReserveError>
+    ensures text { OnOk result (line.new.text ≡ filter (λ c. not (c == 32)) line.old.text) }
     ensures unchanged { OnErr result ((line.new ≡ line.old) × (seen.new ≡ seen.old)) }
 {
     let mut keep = |character| {
@@ -93,6 +94,8 @@ pub fn every_second(line: &mut CompactString) -> Result<(), ReserveError>
 
 /// The same, and answers whether the last character was kept. Of the empty text it was not.
 pub fn every_second_told(line: &mut CompactString) -> Result<bool, ReserveError>
+    ensures text { OnOk result
+        (line.new.text ≡ kept_by (λ kept c. (not kept, not kept)) false line.old.text) }
     ensures last { IfOk result
         (λ b. b ≡ left_by (λ kept c. (not kept, not kept)) false line.old.text) }
     ensures unchanged { OnErr result (line.new ≡ line.old) }

@@ -1,4 +1,5 @@
-//! Callers that write texts over a wire and read them, as users write them.
+//! Callers that write texts over a wire and read them, as users write them. `first_record`, `read_texts` and the two that
+//! read back what they sent have a proof file.
 ghost use Rattle.std.specs.Prelude.{◌≡◌, ◌⊎◌, ◌++◌, ◌∷◌, [], ℕ, List, Option, map, Some, IfOk, IfSome, OnOk, MatchOption, MatchResult, IsTrue};
 ghost use Rattle.std.specs.List.{All, flat_map};
 ghost use Rattle.std.specs.Io.{StartsWith};

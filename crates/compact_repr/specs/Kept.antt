@@ -17,6 +17,10 @@ IsFilteredTo calls f xs ys g =
 abbrev pub KeepsCharsTo : {F : Type 0} → Mut F (ℕ × Unit {0}) Bool → F → List ℕ → List ℕ → F → Type 0
 KeepsCharsTo test f t u g = IsFilteredTo (λ p c b q. Called test p (c, tt) b q) f t u g
 
+-- the test says of each character what `says` does, whatever it noted before
+abbrev pub SaysAlways : {F : Type 0} → Mut F (ℕ × Unit {0}) Bool → (ℕ → Bool) → Type 0
+SaysAlways {F} test says = (p : F) (c : ℕ) (b : Bool) (q : F) → Called test p (c, tt) b q → b ≡ says c
+
 -- the characters of a text that a rule keeps: it goes from a state on, and says of a state and a character whether that
 -- stays, and the next state
 abbrev pub kept_by : {S : Type 0} → (S → ℕ → Bool × S) → S → List ℕ → List ℕ

@@ -1,7 +1,7 @@
 -- What a test with a state keeps.
 use Rattle.std.proofs.Common.{◌≡◌, ℕ, List, [], ◌∷◌, Bool, true, false, length, refl, ap, sym, ◌∙◌, arith}
 use Rattle.std.proofs.lemmas.Bool.{cond-true, cond-false}
-use Rattle.std.specs.List.{items_where_true}
+use Rattle.std.specs.List.{items_where_true, filter}
 use Rattle.std.specs.List.Retain.{IsFiltered, ReturnsInTurn}
 use Rattle.compact_repr.specs.Kept.{IsFilteredTo, kept_by, left_by}
 
@@ -39,6 +39,22 @@ module _ {F S : Type 0} (calls : F → ℕ → Bool → F → Type 0) (state : F
   -- and has then the state that the rule goes to
   pub left-by_rule : (p q : F) (t u : List ℕ) → IsFilteredTo calls p t u q → state q ≡ left_by rule (state p) t
   left-by_rule p q t u h = moves t h.0 p q h.1 h.2
+
+-- a test that always says the same of a character filters the text
+module _ {F : Type 0} (calls : F → ℕ → Bool → F → Type 0) (says : ℕ → Bool) (obeys : (p : F) (c : ℕ) (b : Bool) (q : F) → calls p c b q → b ≡ says c) where
+  chosen : (t : List ℕ) (answers : List Bool) (p q : F) → length answers ≡ length t → ReturnsInTurn calls p answers t q → items_where_true answers t ≡ filter says t
+  chosen [] [] p q e said = refl
+  chosen [] (b ∷ bs) p q e said = absurd (omega (arith, e))
+  chosen (c ∷ cs) [] p q e said = absurd (omega (arith, e))
+  chosen (c ∷ cs) (true ∷ bs) p q e said =
+      let rest = chosen cs bs said.0 q (omega (arith, e)) said.2 in
+      ap (λ (l : List ℕ). c ∷ l) rest ∙ sym (cond-true _ _ _ (sym (obeys p c true said.0 said.1)))
+  chosen (c ∷ cs) (false ∷ bs) p q e said =
+      let rest = chosen cs bs said.0 q (omega (arith, e)) said.2 in
+      rest ∙ sym (cond-false _ _ _ (sym (obeys p c false said.0 said.1)))
+
+  pub filters : (p q : F) (t u : List ℕ) → IsFilteredTo calls p t u q → u ≡ filter says t
+  filters p q t u h = h.3 ∙ chosen t h.0 p q h.1 h.2
 
 -- what no call changes is as it was, such as which place a test notes its answers in
 module _ {F X S : Type 0} (calls : F → X → Bool → F → Type 0) (state : F → S) (same : (p : F) (x : X) (b : Bool) (q : F) → calls p x b q → state q ≡ state p) where

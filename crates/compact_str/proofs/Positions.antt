@@ -1,17 +1,17 @@
 -- What stands round a position of a text.
-use Rattle.std.proofs.Common.{◌≡◌, Some, true, false, ℕ, ◌+◌, ◌-◌, ◌<◌, ◌≤◌, List, [], ◌∷◌, ◌++◌, refl, ap, sym, subst, ◌∙◌, arith, append_assoc, append-nil}
+use Rattle.std.proofs.Common.{◌≡◌, Some, Result, Ok, Err, true, false, ℕ, ◌+◌, ◌-◌, ◌<◌, ◌≤◌, List, [], ◌∷◌, ◌++◌, refl, ap, sym, subst, ◌∙◌, arith, append_assoc, append-nil}
 use Rattle.std.proofs.lemmas.Grind.{common_steps}
 use Rattle.std.proofs.lemmas.Bool.{cond-true, cond-false, lt-leb, le-leb}
 use Rattle.std.proofs.lemmas.Bool.Decides.{nat_tests}
 use Rattle.std.proofs.lemmas.Str.{len_utf8_bounds}
-use Rattle.std.specs.Prelude.{IsTrue, option_map}
+use Rattle.std.specs.Prelude.{IsTrue, IsErr, option_map}
 use Rattle.std.specs.Char.{len_utf8, is_ascii}
 use Rattle.compact_repr.specs.Text.{size}
 use Rattle.compact_repr.specs.Cut.{IsCut, IsBoundary, before, after, replaced_text}
 use Rattle.compact_repr.specs.Value.{PlacedText, placed, is_static}
 use Rattle.compact_repr.specs.Capacity.{Growth, kept, owned, own_asks}
 use Rattle.compact_repr.specs.Change.{truncated, inserted, replaced, replace_asks}
-use Rattle.compact_str.specs.Edits.{Removes}
+use Rattle.compact_str.specs.Edits.{LosesChar}
 use Rattle.compact_repr.proofs.Texts.{size-append, empty_text}
 use Rattle.compact_repr.proofs.Cuts.{boundary-from_size, before-after, before-cut, after-cut, size-before, size-after}
 
@@ -99,14 +99,22 @@ ascii-width : (c : ℕ) → is_ascii c ≡ true → len_utf8 c ≡ 1
 ascii-width c e = grind (arith, common_steps)
 
 -- an owned value that is cut round an ASCII character, in place
-pub removed-in_place : (g : Growth) (v w : PlacedText) (rest : List ℕ) (p c : ℕ) → IsBoundary v.text p → after v.text p ≡ c ∷ rest → is_ascii c ≡ true
-    → is_static v.placement.place ≡ false → w ≡ placed (replaced_text v.text p (p + 1) []) v.placement → Removes g v p c w × (after v.text p ≡ c ∷ after w.text p)
+pub removed-in_place : {E : Type 0} (g : Growth) (v w : PlacedText) (rest : List ℕ) (p c : ℕ) → IsBoundary v.text p → after v.text p ≡ c ∷ rest → is_ascii c ≡ true
+    → is_static v.placement.place ≡ false → w ≡ placed (replaced_text v.text p (p + 1) []) v.placement → LosesChar {E = E} g v p (Ok c) w
 removed-in_place g v w rest p c h e a o s =
-    let next : after v.text (p + 1) ≡ rest = ap (λ (n : ℕ). after v.text (p + n)) (sym (ascii-width c a)) ∙ after-next v.text rest p c h e in
+    let width : p + 1 ≡ p + len_utf8 c = ap (λ (n : ℕ). p + n) (sym (ascii-width c a)) in
+    let next : after v.text (p + 1) ≡ rest = ap (after v.text) width ∙ after-next v.text rest p c h e in
     let cut : replaced_text v.text p (p + 1) [] ≡ before v.text p ++ rest = rw (next, append-nil) refl in
     let owned_is : owned g v ≡ Some v.placement = rw o refl in
     let behind : after w.text p ≡ rest = ap (λ (x : PlacedText). after x.text p) s ∙ after-removed v.text p (p + 1) h ∙ next in
-    ((rest, e, rw (owned_is, s, cut) refl), e ∙ ap (λ x. c ∷ x) (sym behind))
+    record {
+      ok = (rest, e, rw (owned_is, s, cut) refl);
+      text = ap (λ (x : PlacedText). x.text) s ∙ ap (λ n. replaced_text v.text p n []) width;
+      character = e ∙ ap (λ x. c ∷ x) (sym behind);
+      succeeds = λ _. refl;
+      succeeds_short = λ _. refl;
+      err = tt;
+    }
 
 -- a value into which a text is put
 pub inserted-text : (g : Growth) (v w : PlacedText) (p : ℕ) (s : List ℕ) → inserted g v p s ≡ Some w → w.text ≡ replaced_text v.text p p s
@@ -134,10 +142,32 @@ pub owning-long : (v : PlacedText) → IsTrue (own_asks v) → 24 < size v.text
 owning-long v h = grind (arith, common_steps)
 
 -- a value of which the character at a boundary is replaced by nothing
-pub replaced-removes : (g : Growth) (v w : PlacedText) (rest : List ℕ) (p c n : ℕ) → IsBoundary v.text p → after v.text p ≡ c ∷ rest → n ≡ len_utf8 c
-    → replaced g v p (p + n) [] ≡ Some w → Removes g v p c w × (after v.text p ≡ c ∷ after w.text p)
+pub replaced-removes : {E : Type 0} (g : Growth) (v w : PlacedText) (rest : List ℕ) (p c n : ℕ) → IsBoundary v.text p → after v.text p ≡ c ∷ rest → n ≡ len_utf8 c
+    → replaced g v p (p + n) [] ≡ Some w → LosesChar {E = E} g v p (Ok c) w
 replaced-removes g v w rest p c n h e k o =
     let next : after v.text (p + n) ≡ rest = ap (λ (m : ℕ). after v.text (p + m)) k ∙ after-next v.text rest p c h e in
     let cut : replaced_text v.text p (p + n) [] ≡ before v.text p ++ rest = rw (next, append-nil) refl in
-    let behind : after w.text p ≡ rest = ap (λ t. after t p) (range_replaced-text g v w p (p + n) [] o) ∙ after-removed v.text p (p + n) h ∙ next in
-    ((rest, e, ap (λ t. option_map (placed t) (owned g v)) (sym cut) ∙ replaced-by_nothing g v w p (p + n) o), e ∙ ap (λ x. c ∷ x) (sym behind))
+    let text = range_replaced-text g v w p (p + n) [] o in
+    let behind : after w.text p ≡ rest = ap (λ t. after t p) text ∙ after-removed v.text p (p + n) h ∙ next in
+    record {
+      ok = (rest, e, ap (λ t. option_map (placed t) (owned g v)) (sym cut) ∙ replaced-by_nothing g v w p (p + n) o);
+      text = text ∙ ap (λ (m : ℕ). replaced_text v.text p (p + m) []) k;
+      character = e ∙ ap (λ x. c ∷ x) (sym behind);
+      succeeds = λ _. refl;
+      succeeds_short = λ _. refl;
+      err = tt;
+    }
+
+-- one that was to be owned first, which failed
+pub kept-character : {E : Type 0} (g : Growth) (v w : PlacedText) (p : ℕ) (r : Result ℕ E) → IsErr r → w ≡ v → IsTrue (own_asks v) → LosesChar g v p r w
+kept-character g v w p (Ok c) fails same asks = absurd (grind (arith, fails))
+kept-character g v w p (Err e) fails same asks =
+    let long = owning-long v asks in
+    record {
+      ok = tt;
+      text = tt;
+      character = tt;
+      succeeds = λ owned. absurd (grind (arith, common_steps, owned, asks));
+      succeeds_short = λ short. absurd (omega (arith, long, short));
+      err = (same, asks);
+    }

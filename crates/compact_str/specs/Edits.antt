@@ -1,11 +1,13 @@
 -- What an edit by byte position gives: none where it must be refused.
-use Rattle.std.specs.Prelude.{◌≡◌, ℕ, ◌*◌, Bool, not, ◌&&◌, List, [], ◌∷◌, ◌++◌, Option, Some, None, option_map, nat_eq, zero, suc, if◌then◌else◌}
+use Rattle.std.specs.Prelude.{◌≡◌, ◌≤◌, ℕ, ◌+◌, ◌*◌, Bool, not, ◌&&◌, List, [], ◌∷◌, ◌++◌, Option, Some, None, option_map, nat_eq, zero, suc, if◌then◌else◌, Result, IfOk, IsOk, OnErr, IsTrue}
+use Rattle.std.specs.Char.{len_utf8}
 use Rattle.std.specs.Str.{IsUtf8}
 use Rattle.compact_repr.specs.Text.{size, text_of, utf8}
-use Rattle.compact_repr.specs.Cut.{before, after}
+use Rattle.compact_repr.specs.Cut.{before, after, replaced_text}
 use Rattle.compact_repr.specs.Value.{Placement, PlacedText, placed, is_static}
 use Rattle.compact_repr.specs.Change.{pushed}
-use Rattle.compact_repr.specs.Capacity.{Growth, fresh, new_room, new_room_asks, kept, owned, lasting, copied, copy_asks}
+use Rattle.compact_repr.specs.Capacity.{Growth, fresh, new_room, new_room_asks, kept, owned, own_asks, lasting, copied, copy_asks}
+use Rattle.compact_str.specs.Room.{IsOwned}
 
 -- a formatter's write of some bytes takes v to w: they are those of a text, which is joined to v
 pub record Writes (g : Growth) (v : PlacedText) (bytes : List ℕ) (w : PlacedText) : Type 0 where
@@ -17,6 +19,15 @@ pub record Writes (g : Growth) (v : PlacedText) (bytes : List ℕ) (w : PlacedTe
 abbrev pub Removes : Growth → PlacedText → ℕ → ℕ → PlacedText → Type 0
 Removes g v index c w =
     (rest : List ℕ) × (after v.text index ≡ c ∷ rest) × (option_map (placed (before v.text index ++ rest)) (owned g v) ≡ Some w)
+
+-- v has lost the character at a position, which was returned, and w is left; or w is v, where that fails
+pub record LosesChar {E : Type 0} (g : Growth) (v : PlacedText) (index : ℕ) (r : Result ℕ E) (w : PlacedText) : Type 0 where
+  pub ok : IfOk r (λ c. Removes g v index c w)
+  pub text : IfOk r (λ c. w.text ≡ replaced_text v.text index (index + len_utf8 c) [])
+  pub character : IfOk r (λ c. after v.text index ≡ c ∷ after w.text index)
+  pub succeeds : IsOwned v → IsOk r
+  pub succeeds_short : size v.text ≤ 24 → IsOk r
+  pub err : OnErr r ((w ≡ v) × IsTrue (own_asks v))
 
 -- v without its last character, in its place; an empty v has none
 abbrev pub Pops : PlacedText → Option ℕ → PlacedText → Type 0

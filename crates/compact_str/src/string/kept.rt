@@ -1,8 +1,8 @@
 //! How characters are kept by a test.
-ghost use Rattle.std.specs.Prelude.{◌≡◌, ◌≤◌, Some, OnOk, OnErr, IsOk, IsTrue};
+ghost use Rattle.std.specs.Prelude.{◌≡◌, ◌≤◌, ℕ, Bool, Some, OnOk, OnErr, IsOk, IsTrue, filter};
 ghost use Rattle.compact_repr.specs.Text.{size};
 ghost use Rattle.compact_repr.specs.Capacity.{owned, own_asks};
-ghost use Rattle.compact_repr.specs.Kept.{KeepsChars, KeepsCharsTo};
+ghost use Rattle.compact_repr.specs.Kept.{KeepsChars, KeepsCharsTo, SaysAlways};
 ghost use Rattle.compact_str.specs.Room.{IsOwned};
 
 use crate::string::PolicyString;
@@ -14,11 +14,14 @@ impl<P: Policy> PolicyString<P> {
     ///
     /// An error says that no memory was found for a static text of more than 24 bytes, or that it is longer than 2^56 - 2
     /// bytes; then nothing has changed, and `keep` was not asked. It never comes of an owned value. Of `"a-b-c"` with
-    /// `|character| character != '-'` it keeps `"abc"`.
+    /// `|character| character != '-'` it keeps `"abc"`; of a test that always says the same of a character the clause `filter`
+    /// tells the text.
     #[inline]
     pub fn retain<F: FnMut(char) -> bool>(&mut self, mut keep: F) -> Result<(), ReserveError>
         requires { F.IsAlwaysCallable keep }
         ensures text { OnOk result (KeepsChars F.FnMut keep self.old.text self.new.text) }
+        ensures filter { (says : ℕ → Bool) → SaysAlways F.FnMut says
+            → OnOk result (self.new.text ≡ filter says self.old.text) }
         ensures placement { OnOk result (owned P.growth self.old ≡ Some self.new.placement) }
         ensures succeeds { IsOwned self.old → IsOk result }
         ensures succeeds_short { size self.old.text ≤ 24 → IsOk result }
@@ -34,6 +37,8 @@ impl<P: Policy> PolicyString<P> {
         requires { F.IsAlwaysCallable keep.old }
         ensures text { OnOk result
             (KeepsCharsTo F.FnMut keep.old self.old.text self.new.text keep.new) }
+        ensures filter { (says : ℕ → Bool) → SaysAlways F.FnMut says
+            → OnOk result (self.new.text ≡ filter says self.old.text) }
         ensures placement { OnOk result (owned P.growth self.old ≡ Some self.new.placement) }
         ensures succeeds { IsOwned self.old → IsOk result }
         ensures succeeds_short { size self.old.text ≤ 24 → IsOk result }

@@ -1,15 +1,15 @@
 //! How the text is changed by byte position.
-ghost use Rattle.std.specs.Prelude.{◌≡◌, ℕ, ◌+◌, ◌-◌, ◌^◌, ◌<◌, ◌≤◌, ◌↔◌, ◌∷◌, [], length, Some, None, IfOk, OnOk, OnErr, IsOk, IsTrue, MatchOption, false};
+ghost use Rattle.std.specs.Prelude.{◌≡◌, ℕ, ◌+◌, ◌-◌, ◌^◌, ◌<◌, ◌≤◌, ◌↔◌, ◌∷◌, [], length, Some, None, IfOk, OnOk, OnErr, IsOk, IsTrue, MatchOption};
 ghost use Rattle.std.specs.Char.{len_utf8};
 ghost use Rattle.std.specs.Range.Bound.{start_index, end_index};
 ghost use Rattle.std.specs.Str.{IsCharBoundary};
 ghost use Rattle.compact_repr.specs.Text.{size, utf8, text_of};
 ghost use Rattle.compact_repr.specs.Cut.{IsCut, IsBoundary, before, after, middle, replaced_text};
 ghost use Rattle.compact_repr.specs.Value.{is_static};
-ghost use Rattle.compact_repr.specs.Capacity.{room_asks, own_asks};
+ghost use Rattle.compact_repr.specs.Capacity.{room_asks};
 ghost use Rattle.compact_str.specs.Room.{IsOwned, HasRoomFor, sure_capacity};
 ghost use Rattle.compact_repr.specs.Change.{inserted, replaced, replace_asks};
-ghost use Rattle.compact_str.specs.Edits.{Removes, SplitsOff, split_asks};
+ghost use Rattle.compact_str.specs.Edits.{LosesChar, SplitsOff, split_asks};
 ghost use Rattle.compact_str.specs.Ranges.{IsRange, range_start, range_end};
 
 use crate::string::PolicyString;
@@ -139,14 +139,7 @@ impl<P: Policy> PolicyString<P> {
     pub fn remove(&mut self, index: usize) -> Result<char, ReserveError>
         requires boundary { IsBoundary self.old.text index }
         requires within { index < size self.old.text }
-        ensures ok { IfOk result (λ c. Removes P.growth self.old index c self.new) }
-        ensures text { IfOk result
-            (λ c. self.new.text ≡ replaced_text self.old.text index (index + len_utf8 c) []) }
-        ensures character { IfOk result
-            (λ c. after self.old.text index ≡ c ∷ after self.new.text index) }
-        ensures succeeds { IsOwned self.old → IsOk result }
-        ensures succeeds_short { size self.old.text ≤ 24 → IsOk result }
-        ensures err { OnErr result ((self.new ≡ self.old) × IsTrue (own_asks self.old)) }
+        ensures { LosesChar P.growth self.old index result self.new }
     {
         if let Some(character) = first_ascii(self.repr.tail(index)) {
             // The compiler knows that it is; the proof reads it here.
@@ -163,14 +156,7 @@ impl<P: Policy> PolicyString<P> {
     fn remove_char(&mut self, index: usize) -> Result<char, ReserveError>
         requires boundary { IsBoundary self.old.text index }
         requires within { index < size self.old.text }
-        ensures ok { IfOk result (λ c. Removes P.growth self.old index c self.new) }
-        ensures text { IfOk result
-            (λ c. self.new.text ≡ replaced_text self.old.text index (index + len_utf8 c) []) }
-        ensures character { IfOk result
-            (λ c. after self.old.text index ≡ c ∷ after self.new.text index) }
-        ensures succeeds { IsOwned self.old → IsOk result }
-        ensures succeeds_short { size self.old.text ≤ 24 → IsOk result }
-        ensures err { OnErr result ((self.new ≡ self.old) × IsTrue (own_asks self.old)) }
+        ensures { LosesChar P.growth self.old index result self.new }
     {
         let len = self.repr.len();
         // The position is in the text, so that what follows the character is too.

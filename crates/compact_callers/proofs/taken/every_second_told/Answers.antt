@@ -1,7 +1,11 @@
 use Rattle.std.proofs.Common.{rules, ◌≡◌, ℕ, Bool, not}
-use Rattle.compact_str.proofs.Kept.{left-by_rule, unchanged}
+use Rattle.compact_str.proofs.Kept.{filtered, kept-by_rule, left-by_rule, unchanged}
 use Rattle.compact_callers.specs.contracts.taken.fn.every_second_told.keep as closure
 use Rattle.compact_callers.proofs.taken.every_second_told.Goals as goal
+
+pub returns-clause-text : goal.returns-clause-text
+returns-clause-text c =
+    kept-by_rule _ (λ f. (closure.captures f).kept) (λ (kept : Bool) (x : ℕ). (not kept, not kept)) (λ p x b q k. search rules) _ _ _ (filtered _ _ _ _ _ c.in_ok-retain_by.ensures.text)
 
 -- the state goes by the rule, and stands where it stood at the call
 pub returns-clause-last : goal.returns-clause-last

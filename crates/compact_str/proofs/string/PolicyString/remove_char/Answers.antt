@@ -1,5 +1,5 @@
 -- The character that begins at the position, and what stands after it.
-use Rattle.std.proofs.Common.{◌≡◌, ◌+◌, ◌∷◌, [], Some, sym, ap, ◌∙◌, subst, arith}
+use Rattle.std.proofs.Common.{◌≡◌, ◌+◌, ◌∷◌, [], Some, sym, ap, ◌∙◌, subst, rules, arith}
 use Rattle.std.specs.Char.{len_utf8}
 use Rattle.compact_repr.specs.Text.{size}
 use Rattle.compact_repr.specs.Cut.{IsBoundary, after}
@@ -8,7 +8,7 @@ use Rattle.std.specs.Prelude.{IsTrue}
 use Rattle.compact_repr.specs.Capacity.{own_asks}
 use Rattle.compact_repr.specs.Change.{replaced}
 use Rattle.compact_repr.proofs.Cuts.{boundary-within}
-use Rattle.compact_str.proofs.Positions.{boundary-next, replaced-removes, asks-by_nothing, owning-long}
+use Rattle.compact_str.proofs.Positions.{boundary-next, replaced-removes, asks-by_nothing, kept-character}
 use Rattle.compact_str.proofs.string.PolicyString.remove_char.Goals as goal
 
 pub overflow_add-index : goal.overflow_add-index
@@ -26,19 +26,14 @@ cut_out-requires-clause-last g c =
     rw c.len_utf8.ensures.value
     (subst (λ (v : PlacedText). IsBoundary v.text (c.args.index + len_utf8 c.char_at-character.result)) (sym c.self.view_is) (boundary-next _ next.0 _ _ c.requires.boundary tail))
 
-pub returns-clause-ok : goal.returns-clause-ok
-returns-clause-ok g c =
+pub returns : goal.returns
+returns g c =
     let next = c.char_at-character.ensures in
     let tail : after c.args.self.now.text c.args.index ≡ c.char_at-character.result ∷ next.0 = ap (λ (v : PlacedText). after v.text c.args.index) (sym c.self.view_is) ∙ next.1 in
-    (replaced-removes g.P.Policy.growth c.args.self.now c.cut_out.new.self next.0 c.args.index c.char_at-character.result c.len_utf8.result c.requires.boundary tail c.len_utf8.ensures.value (subst (λ (v : PlacedText). replaced g.P.Policy.growth v c.args.index (c.args.index + c.len_utf8.result) [] ≡ Some c.cut_out.new.self) c.self.view_is c.in_ok-cut_out.ensures.ok)).0
+    replaced-removes g.P.Policy.growth c.args.self.now c.cut_out.new.self next.0 c.args.index c.char_at-character.result c.len_utf8.result c.requires.boundary tail c.len_utf8.ensures.value
+    (subst (λ (v : PlacedText). replaced g.P.Policy.growth v c.args.index (c.args.index + c.len_utf8.result) [] ≡ Some c.cut_out.new.self) c.self.view_is c.in_ok-cut_out.ensures.ok)
 
-pub returns-clause-character : goal.returns-clause-character
-returns-clause-character g c =
-    let next = c.char_at-character.ensures in
-    let tail : after c.args.self.now.text c.args.index ≡ c.char_at-character.result ∷ next.0 = ap (λ (v : PlacedText). after v.text c.args.index) (sym c.self.view_is) ∙ next.1 in
-    (replaced-removes g.P.Policy.growth c.args.self.now c.cut_out.new.self next.0 c.args.index c.char_at-character.result c.len_utf8.result c.requires.boundary tail c.len_utf8.ensures.value (subst (λ (v : PlacedText). replaced g.P.Policy.growth v c.args.index (c.args.index + c.len_utf8.result) [] ≡ Some c.cut_out.new.self) c.self.view_is c.in_ok-cut_out.ensures.ok)).1
-
-pub returns-in_err-cut_out-clause-succeeds_short : goal.returns-in_err-cut_out-clause-succeeds_short
-returns-in_err-cut_out-clause-succeeds_short g c h =
+pub returns-in_err-cut_out : goal.returns-in_err-cut_out
+returns-in_err-cut_out g c =
     let asks : IsTrue (own_asks c.args.self.now) = subst (λ (v : PlacedText). IsTrue (own_asks v)) c.self.view_is (asks-by_nothing c.self.inside.repr c.args.index _ c.in_err-cut_out.ensures.err.1) in
-    absurd (let long = owning-long c.args.self.now asks in omega (arith, h, long))
+    kept-character g.P.Policy.growth c.args.self.now c.cut_out.new.self c.args.index _ (search rules) (c.in_err-cut_out.ensures.err.0 ∙ c.self.view_is) asks
