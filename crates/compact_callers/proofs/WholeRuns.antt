@@ -6,8 +6,8 @@ use Rattle.std.specs.Iterator.Runs.{WholeRun}
 use Rattle.std.specs.List.{fold}
 use Rattle.std.proofs.iter.runs.Made.{run, to_end}
 use Rattle.compact_str.specs.Text.{size}
-use Rattle.compact_str.specs.Value.{PlacedText, placed}
-use Rattle.compact_str.specs.Capacity.{inlined}
+use Rattle.compact_str.specs.Value.{PlacedText, placed_text}
+use Rattle.compact_str.specs.Capacity.{inline_placement}
 
 -- from s came xs, of which P holds, and then nothing more
 pub ran_to_end : {S T : Type 0} (steps : S → Option T → S → Type 0) (s j t u : S) (xs : List T) (P : List T → Type 0)
@@ -16,7 +16,7 @@ ran_to_end steps s j t u xs P same came ends holds =
     (run steps s xs true (to_end steps s xs (u, (t, subst (λ k. Yields steps k xs t) same came, ends))), refl, refl, holds)
 
 -- what was appended to the empty text
-pub behind_nothing : (v : PlacedText) (t u : List ℕ) → v ≡ placed [] inlined → t ≡ v.text ++ u → t ≡ u
+pub behind_nothing : (v : PlacedText) (t u : List ℕ) → v ≡ placed_text [] inline_placement → t ≡ v.text ++ u → t ≡ u
 behind_nothing v t u e k = k ∙ ap (λ (w : PlacedText). w.text ++ u) e
 
 two_sizes : (a b : List ℕ) → size (a ++ b) ≡ size a + size b

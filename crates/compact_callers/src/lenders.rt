@@ -5,7 +5,7 @@
 ghost use Rattle.std.specs.Prelude.{◌≡◌, ◌<◌, [], true, false, Ok, IfOk, OnOk, OnErr, IfSome, IfNone};
 ghost use Rattle.std.specs.Borrow.{sem, RestsIfErr};
 ghost use Rattle.compact_str.specs.Text.{text_of, size};
-ghost use Rattle.compact_str.specs.Change.{cleared};
+ghost use Rattle.compact_str.specs.Change.{clear};
 ghost use Rattle.compact_str.specs.contracts.string.PolicyString.{the_row};
 
 use compact_str::{CompactString, Policy, PolicyString};
@@ -17,7 +17,7 @@ pub struct Emptying<'a, P: Policy> {
 
 impl<P: Policy> Drop for Emptying<'_, P> {
     fn drop(self)
-        ensures { self.exit.0.now ≡ cleared self.entry.value.now }
+        ensures { self.exit.0.now ≡ clear self.entry.value.now }
     {
         let Emptying { value } = self;
         value.clear();
@@ -53,7 +53,7 @@ fn lend_to_empty<P: Policy>(
 /// Takes the text out, by `?`, and says how long it was.
 pub fn take_out(value: &mut CompactString, most: usize) -> Result<usize, TooLong>
     ensures len { IfOk result (λ len. len ≡ size value.old.text) }
-    ensures cleared { OnOk result (value.new ≡ cleared value.old) }
+    ensures cleared { OnOk result (value.new ≡ clear value.old) }
     ensures refused { OnErr result ((value.new ≡ value.old) × (most < size value.old.text)) }
 {
     let guard = lend_to_empty(value, most)?;
@@ -73,7 +73,7 @@ pub fn start_anew(value: &mut CompactString, text: &str) -> Result<bool, TooLong
 
 /// The same of a value of its own, by `match`.
 pub fn emptied(mut value: CompactString, most: usize) -> Result<CompactString, TooLong>
-    ensures cleared { IfOk result (λ v. v ≡ cleared value) }
+    ensures cleared { IfOk result (λ v. v ≡ clear value) }
     ensures refused { OnErr result (most < size value.text) }
 {
     match lend_to_empty(&mut value, most) {
@@ -110,7 +110,7 @@ fn lend_unless_empty<P: Policy>(value: &mut PolicyString<P>) -> Option<Emptying<
 
 /// Empties what has a text, by `if let`, and says whether it did.
 pub fn was_emptied(value: &mut CompactString) -> bool
-    ensures yes { result ≡ true → value.new ≡ cleared value.old }
+    ensures yes { result ≡ true → value.new ≡ clear value.old }
     ensures no { result ≡ false → value.old.text ≡ [] }
 {
     if let Some(guard) = lend_unless_empty(value) {

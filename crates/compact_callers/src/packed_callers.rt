@@ -2,7 +2,7 @@
 //! contracts of the calls and the facts for callers alone, with no proof of its own.
 ghost use Rattle.std.specs.Prelude.{◌≡◌, ◌↔◌, ℕ, List, IfSome, IsSome, IsTrue};
 ghost use Rattle.compact_str.specs.Value.{inline};
-ghost use Rattle.compact_str.specs.Capacity.{inlined};
+ghost use Rattle.compact_str.specs.Capacity.{inline_placement};
 ghost use Rattle.compact_str.specs.Packed.{IsPackedFor};
 
 use compact_str::CompactString;
@@ -12,7 +12,7 @@ use std::alloc::Global;
 #[tactic(auto, using(compact_str::proofs::ForCallers::for_callers))]
 pub fn through_a_row(alloc: Global, key: &CompactString) -> Option<CompactString>
     ensures text { IfSome result (λ copy. copy.text ≡ key.now.text) }
-    ensures inline { IfSome result (λ copy. copy.placement ≡ inlined) }
+    ensures inline { IfSome result (λ copy. copy.placement ≡ inline_placement) }
     ensures succeeds { key.now.placement.place ≡ inline → IsSome result }
 {
     let row = key.packed()?;

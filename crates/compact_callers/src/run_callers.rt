@@ -3,7 +3,7 @@ ghost use Rattle.std.specs.Prelude.{◌≡◌, ◌⊎◌, ◌+◌, [], Some, vec
 ghost use Rattle.std.specs.Bool.{OnTrue};
 ghost use Rattle.compact_str.specs.Text.{text_of};
 ghost use Rattle.compact_str.specs.Capacity.{Growth, IsLawful};
-ghost use Rattle.compact_str.specs.Change.{cleared, pushed};
+ghost use Rattle.compact_str.specs.Change.{clear, push_str};
 
 use compact_edit::{Edit, Reply, run};
 use compact_str::{CompactString, Policy, PolicyString, ReserveError};
@@ -67,7 +67,7 @@ pub fn refill(
 ) -> Result<bool, ReserveError>
     ensures { IfOk result
         (λ done. OnTrue done
-        (pushed ⟦<Doubling as Policy>⟧.growth (cleared value.old) (text_of text.now)
+        (push_str ⟦<Doubling as Policy>⟧.growth (clear value.old) (text_of text.now)
         ≡ Some value.new)) }
 {
     let edits = [Edit::Clear, Edit::PushStr(text)];

@@ -5,8 +5,8 @@
 ghost use Rattle.std.specs.Prelude.{◌≡◌, ◌++◌, ◌∷◌, IfOk, codes, decimal};
 ghost use Rattle.std.specs.Fmt.{signed_decimal};
 ghost use Rattle.compact_str.specs.Text.{text_of};
-ghost use Rattle.compact_str.specs.Value.{placed};
-ghost use Rattle.compact_str.specs.Capacity.{inlined};
+ghost use Rattle.compact_str.specs.Value.{placed_text};
+ghost use Rattle.compact_str.specs.Capacity.{inline_placement};
 
 use compact_ext::{ToCompactString, ToCompactStringError, format_compact};
 use compact_str::CompactString;
@@ -14,7 +14,7 @@ use std::alloc::Global;
 
 /// The key of a record, which takes no memory.
 pub fn key_of(alloc: Global, number: u64) -> CompactString
-    ensures { result ≡ placed (decimal number) inlined }
+    ensures { result ≡ placed_text (decimal number) inline_placement }
 {
     match number.to_compact_string(alloc) {
         Ok(key) => key,

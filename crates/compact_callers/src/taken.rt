@@ -2,8 +2,8 @@
 //! remember what they said, have a proof file; the others have none.
 ghost use Rattle.std.specs.Prelude.{◌≡◌, ◌++◌, ◌∷◌, [], OnOk, OnErr, IfOk, MatchOption, not, false, filter, ◌==◌};
 ghost use Rattle.compact_str.specs.Text.{text_of, ascii_lowercase};
-ghost use Rattle.compact_str.specs.Cut.{middle, replaced_text};
-ghost use Rattle.compact_str.specs.Kept.{kept_by, left_by};
+ghost use Rattle.compact_str.specs.Cut.{substring, replaced_text};
+ghost use Rattle.compact_str.specs.Retain.{retained_text, retain_state};
 ghost use Rattle.compact_str.specs.Ranges.{IsRange, range_start, range_end};
 
 use compact_str::{CompactString, ReserveError};
@@ -21,7 +21,7 @@ pub fn move_range(
     requires { IsRange from.old.text start end }
     ensures moved { OnOk result
         (to.new.text ≡ to.old.text
-        ++ middle from.old.text (range_start start) (range_end from.old.text end)) }
+        ++ substring from.old.text (range_start start) (range_end from.old.text end)) }
     ensures left { OnOk result
         (from.new.text ≡ replaced_text from.old.text (range_start start)
         (range_end from.old.text end) [] ++ 46 ∷ []) }
@@ -81,7 +81,7 @@ pub fn note_spaces(line: &mut CompactString, seen: &mut bool) -> Result<(), Rese
 /// Keeps every second character, from the first on.
 pub fn every_second(line: &mut CompactString) -> Result<(), ReserveError>
     ensures text { OnOk result
-        (line.new.text ≡ kept_by (λ skip c. (not skip, not skip)) false line.old.text) }
+        (line.new.text ≡ retained_text (λ skip c. (not skip, not skip)) false line.old.text) }
     ensures unchanged { OnErr result (line.new ≡ line.old) }
 {
     let mut skip = false;
@@ -95,9 +95,9 @@ pub fn every_second(line: &mut CompactString) -> Result<(), ReserveError>
 /// The same, and answers whether the last character was kept. Of the empty text it was not.
 pub fn every_second_told(line: &mut CompactString) -> Result<bool, ReserveError>
     ensures text { OnOk result
-        (line.new.text ≡ kept_by (λ kept c. (not kept, not kept)) false line.old.text) }
+        (line.new.text ≡ retained_text (λ kept c. (not kept, not kept)) false line.old.text) }
     ensures last { IfOk result
-        (λ b. b ≡ left_by (λ kept c. (not kept, not kept)) false line.old.text) }
+        (λ b. b ≡ retain_state (λ kept c. (not kept, not kept)) false line.old.text) }
     ensures unchanged { OnErr result (line.new ≡ line.old) }
 {
     let mut kept = false;

@@ -4,7 +4,7 @@ ghost use Rattle.std.specs.Prelude.{◌≡◌, ◌⊎◌, ◌++◌, ◌∷◌, [
 ghost use Rattle.std.specs.List.{All, flat_map};
 ghost use Rattle.std.specs.Io.{StartsWith};
 ghost use Rattle.std.specs.Io.KnownBytes.{Appends, Consumes, IsAtEnd, Keeps};
-ghost use Rattle.compact_str.specs.Capacity.{taken_over};
+ghost use Rattle.compact_str.specs.Capacity.{from_string_placement};
 ghost use Rattle.compact_str.specs.Text.{size};
 ghost use Rattle.compact_ext.specs.Wire.{wire, HasForm, IsOutsideForm};
 ghost use Rattle.compact_ext.specs.Records.{records_left, left_behind, GivesNext, GivesRecord, FailsWithin, HasTexts};
@@ -110,7 +110,7 @@ pub fn read_records<R: BufRead + Drop>(
     ensures taken { IfOk result (λ records.
         IfSome (R.remaining reader) (λ bytes. bytes ≡ flat_map (λ v. wire v.text) records.items)) }
     ensures placed { IfOk result (λ records.
-        All (λ v. v.placement ≡ taken_over v.text (size v.text)) records.items) }
+        All (λ v. v.placement ≡ from_string_placement v.text (size v.text)) records.items) }
 {
     Records::new(alloc, reader).into_vec()
 }
@@ -124,7 +124,7 @@ pub fn first_record<R: BufRead + Drop>(
     ensures taken { IfOk result (λ found. IfSome found (λ v.
         IfSome (R.remaining reader) (λ bytes. StartsWith bytes (wire v.text)))) }
     ensures placed { IfOk result (λ found.
-        IfSome found (λ v. v.placement ≡ taken_over v.text (size v.text))) }
+        IfSome found (λ v. v.placement ≡ from_string_placement v.text (size v.text))) }
     ensures back { (text rest : List ℕ) → HasForm text
         → R.remaining reader ≡ Some (wire text ++ rest)
         → MatchResult result (λ found. MatchOption found ⊥ (λ v. v.text ≡ text))

@@ -80,10 +80,10 @@ abbrev value_of_three : ℕ → ℕ → ℕ → ℕ
 value_of_three a b d = (a - 0xE0) * 4096 + (b - 0x80) * 64 + (d - 0x80)
 
 -- a row of three whose numbers are those of characters, and a row of four
-row_of_three : (r s : ByteRange) → ((a b d : ℕ) → IsInByteRange r a → IsInByteRange s b → IsInByteRange trailing_bytes d
+array_of_three : (r s : ByteRange) → ((a b d : ℕ) → IsInByteRange r a → IsInByteRange s b → IsInByteRange trailing_bytes d
     → (0xE0 ≤ a) × (a ≤ 0xEF) × (0x80 ≤ b) × (b ≤ 0xBF) × (0x800 ≤ (a - 0xE0) * 4096 + (b - 0x80) * 64 + (d - 0x80)) × IsScalar ((a - 0xE0) * 4096 + (b - 0x80) * 64 + (d - 0x80)))
     → (bs : List ℕ) → FitsRow (r ∷ s ∷ trailing_bytes ∷ []) bs → IsOneCharacter bs
-row_of_three r s known bs f =
+array_of_three r s known bs f =
     let t = fits_three r s trailing_bytes bs f in
     let k = known t.0 t.1 t.2 t.3 t.4 t.5 in
     subst IsOneCharacter (sym t.6) (three_of t.0 t.1 t.2 _ refl k.0 k.1 k.2 k.3 t.5.0 t.5.1 k.4 k.5)
@@ -103,10 +103,10 @@ pub character-IsWellFormedSequence : (bs : List ℕ) → IsWellFormedSequence bs
 character-IsWellFormedSequence bs h =
     ⊎_elim (λ f. let t = fits_one _ bs f in subst IsOneCharacter (sym t.2) (one_of t.0 t.1.1))
     (⊎_elim (λ f. let t = fits_two _ _ bs f in subst IsOneCharacter (sym t.4) (two_of t.0 t.1 t.2.0 t.2.1 t.3.0 t.3.1))
-    (⊎_elim (row_of_three (byte_range 0xE0 0xE0) (byte_range 0xA0 0xBF) (λ a b d ia ib id. (omega arith, omega arith, omega arith, omega arith, omega arith, low_scalar (value_of_three a b d) (omega arith))) bs)
-    (⊎_elim (row_of_three (byte_range 0xE1 0xEC) trailing_bytes (λ a b d ia ib id. (omega arith, omega arith, omega arith, omega arith, omega arith, low_scalar (value_of_three a b d) (omega arith))) bs)
-    (⊎_elim (row_of_three (byte_range 0xED 0xED) (byte_range 0x80 0x9F) (λ a b d ia ib id. (omega arith, omega arith, omega arith, omega arith, omega arith, low_scalar (value_of_three a b d) (omega arith))) bs)
-    (⊎_elim (row_of_three (byte_range 0xEE 0xEF) trailing_bytes (λ a b d ia ib id. (omega arith, omega arith, omega arith, omega arith, omega arith, high_scalar (value_of_three a b d) (omega arith) (omega arith))) bs)
+    (⊎_elim (array_of_three (byte_range 0xE0 0xE0) (byte_range 0xA0 0xBF) (λ a b d ia ib id. (omega arith, omega arith, omega arith, omega arith, omega arith, low_scalar (value_of_three a b d) (omega arith))) bs)
+    (⊎_elim (array_of_three (byte_range 0xE1 0xEC) trailing_bytes (λ a b d ia ib id. (omega arith, omega arith, omega arith, omega arith, omega arith, low_scalar (value_of_three a b d) (omega arith))) bs)
+    (⊎_elim (array_of_three (byte_range 0xED 0xED) (byte_range 0x80 0x9F) (λ a b d ia ib id. (omega arith, omega arith, omega arith, omega arith, omega arith, low_scalar (value_of_three a b d) (omega arith))) bs)
+    (⊎_elim (array_of_three (byte_range 0xEE 0xEF) trailing_bytes (λ a b d ia ib id. (omega arith, omega arith, omega arith, omega arith, omega arith, high_scalar (value_of_three a b d) (omega arith) (omega arith))) bs)
     (⊎_elim (row_of_four (byte_range 0xF0 0xF0) (byte_range 0x90 0xBF) (λ a b ia ib. (omega arith, omega arith, omega arith, omega arith, omega arith, omega arith)) bs)
     (⊎_elim (row_of_four (byte_range 0xF1 0xF3) trailing_bytes (λ a b ia ib. (omega arith, omega arith, omega arith, omega arith, omega arith, omega arith)) bs)
     (⊎_elim (row_of_four (byte_range 0xF4 0xF4) (byte_range 0x80 0x8F) (λ a b ia ib. (omega arith, omega arith, omega arith, omega arith, omega arith, omega arith)) bs)

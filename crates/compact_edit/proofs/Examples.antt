@@ -8,8 +8,8 @@ use Rattle.std.proofs.lemmas.Bool.{cond-true, cond-false, le-leb, lt-leb}
 use Rattle.std.proofs.lemmas.Str.{len_utf8_bounds}
 use Rattle.compact_str.specs.Text.{size, text_of}
 use Rattle.compact_str.specs.Cut.{IsBoundary, before}
-use Rattle.compact_str.specs.Value.{PlacedText, placed}
-use Rattle.compact_str.specs.Capacity.{Growth, inlined, on_heap, borrowed}
+use Rattle.compact_str.specs.Value.{PlacedText, placed_text}
+use Rattle.compact_str.specs.Capacity.{Growth, inline_placement, heap_placement, static_placement}
 use Rattle.compact_str.specs.declared.ReserveError.{ReserveError}
 use Rattle.compact_str.specs.declared.Standard.{Standard}
 use Rattle.compact_edit.specs.declared.edit.Edit.{Edit}
@@ -27,13 +27,13 @@ abbrev letters : ℕ → List ℕ
 letters n = replicate n 97
 
 abbrev inline_text : List ℕ → PlacedText
-inline_text t = placed t inlined
+inline_text t = placed_text t inline_placement
 
 abbrev heap_letters : ℕ → ℕ → PlacedText
-heap_letters n capacity = placed (letters n) (on_heap capacity)
+heap_letters n capacity = placed_text (letters n) (heap_placement capacity)
 
 abbrev static_letters : ℕ → PlacedText
-static_letters n = placed (letters n) (borrowed (letters n))
+static_letters n = placed_text (letters n) (static_placement (letters n))
 
 -- an a with two dots, of two bytes, and a musical clef, of four
 abbrev dotted : ℕ
@@ -139,7 +139,7 @@ a_drain_of_nothing_makes_a_static_text_its_own =
 a_character_with_no_answer_stays : (s : Bor (List Bool)) → s.now ≡ true ∷ false ∷ [] → Steps mixed (Retain s) Done two
 a_character_with_no_answer_stays s is = (tt, (refl, rw is refl))
 
-great_letters_make_a_static_text_its_own : Steps (static_letters 30) MakeUpper Done (placed (replicate 30 65) (on_heap 32))
+great_letters_make_a_static_text_its_own : Steps (static_letters 30) MakeUpper Done (placed_text (replicate 30 65) (heap_placement 32))
 great_letters_make_a_static_text_its_own = (tt, (refl, refl))
 
 a_letter_past_ascii_stays : Steps (inline_text (dotted ∷ 65 ∷ [])) MakeLower Done (inline_text (dotted ∷ 97 ∷ []))
@@ -177,8 +177,8 @@ a_refused_shrink_is_done_and_changes_nothing = (tt, (refl, inr (refl, refl)))
 a_shrink_to_28_bytes_keeps_32 : Steps (heap_letters 28 100) ShrinkToFit Done (heap_letters 28 32)
 a_shrink_to_28_bytes_keeps_32 = (tt, (refl, inl refl))
 
-thirteen_copies_of_two_bytes_take_32 : Steps (inline_text (dotted ∷ [])) (Repeat 13) (Text (placed (replicate 13 dotted) (on_heap 32))) (inline_text (dotted ∷ []))
-thirteen_copies_of_two_bytes_take_32 = (tt, (placed (replicate 13 dotted) (on_heap 32), refl, refl, refl))
+thirteen_copies_of_two_bytes_take_32 : Steps (inline_text (dotted ∷ [])) (Repeat 13) (Text (placed_text (replicate 13 dotted) (heap_placement 32))) (inline_text (dotted ∷ []))
+thirteen_copies_of_two_bytes_take_32 = (tt, (placed_text (replicate 13 dotted) (heap_placement 32), refl, refl, refl))
 
 a_clone_goes_into_a_buffer_with_room : (source : Bor PlacedText) → source.now ≡ heap_letters 30 32 → Steps (heap_letters 0 100) (CloneFrom source) Done (heap_letters 30 100)
 a_clone_goes_into_a_buffer_with_room source is = (tt, (refl, rw is refl))

@@ -5,8 +5,8 @@ use Rattle.std.proofs.lemmas.Grind.{common_steps}
 use Rattle.compact_str.proofs.ForCallers.{size-append}
 use Rattle.compact_str.specs.Text.{size}
 use Rattle.compact_str.specs.Value.{Place, inline, heap, static, is_static, Placement, PlacedText}
-use Rattle.compact_str.specs.Capacity.{Growth, IsLawful, greatest, inlined, on_heap, grown}
-use Rattle.compact_str.specs.Change.{pushed}
+use Rattle.compact_str.specs.Capacity.{Growth, IsLawful, max_capacity, inline_placement, heap_placement, grown_capacity}
+use Rattle.compact_str.specs.Change.{push_str}
 use Rattle.compact_edit.specs.Pushes.{same_place, moved_by}
 
 -- what holds once m bytes were moved for a text of l bytes
@@ -14,26 +14,26 @@ pub record IsPaid (g : Growth) (p : Placement) (l m : ℕ) : Type 0 where
   pub owned : is_static p.place ≡ false
   pub fits : l ≤ p.capacity
   pub above : 24 ≤ p.capacity
-  pub below : p.capacity ≤ greatest
+  pub below : p.capacity ≤ max_capacity
   pub capacity : p.capacity ≤ max g.least (g.numerator * l / g.denominator)
   pub by_text : (g.numerator - g.denominator) * m ≤ (g.numerator + g.denominator) * l
   pub by_room : (g.numerator - g.denominator) * m ≤ g.denominator * (p.capacity + 1 + l)
 
 -- a push leaves the placement, or makes a greater buffer
-pushed-placement : (g : Growth) (v w : PlacedText) (s : List ℕ) → is_static v.placement.place ≡ false → 24 ≤ v.placement.capacity → size v.text ≤ v.placement.capacity
-    → pushed g v s ≡ Some w
+push_str-placement : (g : Growth) (v w : PlacedText) (s : List ℕ) → is_static v.placement.place ≡ false → 24 ≤ v.placement.capacity → size v.text ≤ v.placement.capacity
+    → push_str g v s ≡ Some w
     → ((w.placement ≡ v.placement) × (size w.text ≡ size v.text + size s) × (size v.text + size s ≤ v.placement.capacity))
-    ⊎ ((w.placement ≡ on_heap (grown g v (size s))) × (size w.text ≡ size v.text + size s) × (v.placement.capacity < size v.text + size s) × (grown g v (size s) ≤ greatest))
-pushed-placement g v w s owned above fits e = grind (arith, common_steps, size-append)
+    ⊎ ((w.placement ≡ heap_placement (grown_capacity g v (size s))) × (size w.text ≡ size v.text + size s) × (v.placement.capacity < size v.text + size s) × (grown_capacity g v (size s) ≤ max_capacity))
+push_str-placement g v w s owned above fits e = grind (arith, common_steps, size-append)
 
 -- the numbers: d is the numerator less the denominator q, and c the capacity that n more bytes do not fit
-grown-text : (d q c l n m : ℕ) → c < l + n → d * m ≤ q * (c + 1 + l) → d * (m + l) ≤ (d + q + q) * (l + n)
-grown-text d q c l n m more paid =
+grown_capacity-text : (d q c l n m : ℕ) → c < l + n → d * m ≤ q * (c + 1 + l) → d * (m + l) ≤ (d + q + q) * (l + n)
+grown_capacity-text d q c l n m more paid =
     let k : q * (c + 1) ≤ q * (l + n) = mul-le-mul_left q (omega (arith, more)) in
     omega (arith, k, paid)
 
-grown-room : (d q c b l n m : ℕ) → c < l + n → (d + q) * l ≤ q * (b + 1) → d * m ≤ q * (c + 1 + l) → d * (m + l) ≤ q * (b + 1 + (l + n))
-grown-room d q c b l n m more room paid =
+grown_capacity-room : (d q c b l n m : ℕ) → c < l + n → (d + q) * l ≤ q * (b + 1) → d * m ≤ q * (c + 1 + l) → d * (m + l) ≤ q * (b + 1 + (l + n))
+grown_capacity-room d q c b l n m more room paid =
     let k : q * (c + 1) ≤ q * (l + n) = mul-le-mul_left q (omega (arith, more)) in
     omega (arith, k, room, paid)
 
@@ -47,7 +47,7 @@ quotient-above : (p q l : ℕ) → 1 ≤ q → q < p → l ≤ p * l / q
 quotient-above p q l pos grows = grind arith
 
 -- nothing was moved for the empty text
-pub paid-start : (g : Growth) → IsLawful g → IsPaid g inlined 0 0
+pub paid-start : (g : Growth) → IsLawful g → IsPaid g inline_placement 0 0
 paid-start g law = record {
   owned = refl;
   fits = omega arith;
@@ -71,14 +71,14 @@ paid-kept g p l n m law paid fits = record {
 }
 
 -- n more bytes that do not: the l bytes that stood are moved into a buffer of b bytes
-paid-grown : (g : Growth) (p : Placement) (l n m b : ℕ) → IsLawful g → IsPaid g p l m → p.capacity < l + n → b ≡ max g.least (max (l + n) (g.numerator * l / g.denominator)) → b ≤ greatest
-    → IsPaid g (on_heap b) (l + n) (m + l)
-paid-grown g p l n m b law paid more is below =
+paid-grown_capacity : (g : Growth) (p : Placement) (l n m b : ℕ) → IsLawful g → IsPaid g p l m → p.capacity < l + n → b ≡ max g.least (max (l + n) (g.numerator * l / g.denominator)) → b ≤ max_capacity
+    → IsPaid g (heap_placement b) (l + n) (m + l)
+paid-grown_capacity g p l n m b law paid more is below =
     let d = g.numerator - g.denominator in
     let q = g.denominator in
     let whole : g.numerator ≡ d + q = omega (arith, law.grows) in
     let room : (d + q) * l ≤ q * (b + 1) = subst (λ (x : ℕ). x * l ≤ q * (b + 1)) whole (quotient-room q (g.numerator * l) b law.divides (omega (arith, is))) in
-    let text : d * (m + l) ≤ (d + q + q) * (l + n) = grown-text d q p.capacity l n m more paid.by_room in
+    let text : d * (m + l) ≤ (d + q + q) * (l + n) = grown_capacity-text d q p.capacity l n m more paid.by_room in
     record {
       owned = refl;
       fits = omega (arith, is);
@@ -89,7 +89,7 @@ paid-grown g p l n m b law paid more is below =
           let j = quotient-above g.numerator q (l + n) law.divides law.grows in
           omega (arith, is, k, j);
       by_text = subst (λ (x : ℕ). d * (m + l) ≤ (x + q) * (l + n)) (omega (arith, whole)) text;
-      by_room = grown-room d q p.capacity b l n m more room paid.by_room;
+      by_room = grown_capacity-room d q p.capacity b l n m more room paid.by_room;
     }
 
 same_place-refl : (p : Place) → same_place p p ≡ true
@@ -100,11 +100,11 @@ same_place-refl static = refl
 pub moved_by-kept : (v w : PlacedText) → w.placement ≡ v.placement → moved_by v w ≡ 0
 moved_by-kept v w e = grind (arith, common_steps, same_place-refl)
 
-moved_by-grown : (v w : PlacedText) → v.placement.capacity < w.placement.capacity → moved_by v w ≡ size v.text
-moved_by-grown v w h = grind (arith, common_steps)
+moved_by-grown_capacity : (v w : PlacedText) → v.placement.capacity < w.placement.capacity → moved_by v w ≡ size v.text
+moved_by-grown_capacity v w h = grind (arith, common_steps)
 
 -- a push pays for what it moves
-pub paid-push : (g : Growth) (v w : PlacedText) (s : List ℕ) (b m n : ℕ) → IsLawful g → IsPaid g v.placement (size v.text) m → pushed g v s ≡ Some w → b ≡ moved_by v w → n ≡ m + b
+pub paid-push : (g : Growth) (v w : PlacedText) (s : List ℕ) (b m n : ℕ) → IsLawful g → IsPaid g v.placement (size v.text) m → push_str g v s ≡ Some w → b ≡ moved_by v w → n ≡ m + b
     → IsPaid g w.placement (size w.text) n
 paid-push g v w s b m n law paid e bytes is =
     ⊎_elim
@@ -112,10 +112,10 @@ paid-push g v w s b m n law paid e bytes is =
     let same : n ≡ m = omega (arith, is, bytes, moved_by-kept v w k.0) in
     rw (k.0, k.1, same) (paid-kept g v.placement (size v.text) (size s) m law paid k.2))
     (λ k.
-    let c : w.placement.capacity ≡ grown g v (size s) = ap (λ (p : Placement). p.capacity) k.0 in
-    let more : n ≡ m + size v.text = omega (arith, is, bytes, moved_by-grown v w (omega (arith, c, k.2))) in
-    rw (k.0, k.1, more) (paid-grown g v.placement (size v.text) (size s) m (grown g v (size s)) law paid k.2 refl k.3))
-    (pushed-placement g v w s paid.owned paid.above paid.fits e)
+    let c : w.placement.capacity ≡ grown_capacity g v (size s) = ap (λ (p : Placement). p.capacity) k.0 in
+    let more : n ≡ m + size v.text = omega (arith, is, bytes, moved_by-grown_capacity v w (omega (arith, c, k.2))) in
+    rw (k.0, k.1, more) (paid-grown_capacity g v.placement (size v.text) (size s) m (grown_capacity g v (size s)) law paid k.2 refl k.3))
+    (push_str-placement g v w s paid.owned paid.above paid.fits e)
 
 -- the count of a push that comes fits 64 bits
 pub paid-fits : (g : Growth) (v w : PlacedText) (m n : ℕ) → IsLawful g → IsPaid g v.placement (size v.text) m → n ≡ moved_by v w → m + n < 2 ^ 64

@@ -3,8 +3,8 @@
 use Rattle.std.proofs.Common.{◌≡◌, ℕ, List, [], ◌∷◌, replicate, refl}
 use Rattle.std.specs.Borrow.{Bor}
 use Rattle.compact_str.specs.Text.{text_of}
-use Rattle.compact_str.specs.Value.{PlacedText, placed}
-use Rattle.compact_str.specs.Capacity.{Growth, inlined, on_heap, borrowed}
+use Rattle.compact_str.specs.Value.{PlacedText, placed_text}
+use Rattle.compact_str.specs.Capacity.{Growth, inline_placement, heap_placement, static_placement}
 use Rattle.compact_str.specs.declared.ReserveError.{ReserveError}
 use Rattle.compact_str.specs.declared.Standard.{Standard}
 use Rattle.compact_edit.specs.declared.edit.Reply.TheVariants.{Done, Refused}
@@ -14,10 +14,10 @@ abbrev letters : ℕ → List ℕ
 letters n = replicate n 97
 
 abbrev short : ℕ → PlacedText
-short n = placed (letters n) inlined
+short n = placed_text (letters n) inline_placement
 
 abbrev long : ℕ → ℕ → PlacedText
-long n capacity = placed (letters n) (on_heap capacity)
+long n capacity = placed_text (letters n) (heap_placement capacity)
 
 -- a text of a program that is so many letters
 abbrev Letters : ℕ → Bor (List ℕ) → Type 0
@@ -44,7 +44,7 @@ a_text_that_goes_to_the_heap_is_moved = refl
 a_text_that_comes_back_from_the_heap_is_moved : moved_by (long 10 24) (short 10) ≡ 10
 a_text_that_comes_back_from_the_heap_is_moved = refl
 
-a_static_text_that_is_copied_is_moved : moved_by (placed (letters 30) (borrowed (letters 30))) (long 30 30) ≡ 30
+a_static_text_that_is_copied_is_moved : moved_by (placed_text (letters 30) (static_placement (letters 30))) (long 30 30) ≡ 30
 a_static_text_that_is_copied_is_moved = refl
 
 -- lists of pushes

@@ -3,13 +3,13 @@ use Rattle.std.proofs.Common.{◌≡◌, ◌∙◌, ap, append-nil, append_assoc
 use Rattle.std.proofs.lemmas.List.{take_more, map-append}
 use Rattle.std.specs.Prelude.{IsTrue}
 use Rattle.std.specs.Borrow.{Bor}
-use Rattle.compact_str.proofs.ForCallers.{pushed-text, size-append}
+use Rattle.compact_str.proofs.ForCallers.{push_str-text, size-append}
 use Rattle.std.proofs.lemmas.List.Concat.{flat_map-cons}
 use Rattle.std.proofs.lemmas.Grind.{common_steps}
 use Rattle.compact_str.specs.Text.{size, text_of}
-use Rattle.compact_str.specs.Value.{PlacedText, placed}
-use Rattle.compact_str.specs.Capacity.{Growth, IsLawful, inlined}
-use Rattle.compact_str.specs.Change.{pushed, push_asks}
+use Rattle.compact_str.specs.Value.{PlacedText, placed_text}
+use Rattle.compact_str.specs.Capacity.{Growth, IsLawful, inline_placement}
+use Rattle.compact_str.specs.Change.{push_str, push_str_asks}
 use Rattle.compact_str.specs.declared.ReserveError.{ReserveError}
 use Rattle.compact_edit.specs.declared.edit.Edit.{Edit}
 use Rattle.compact_edit.specs.declared.edit.Edit.TheVariants.{PushStr}
@@ -42,7 +42,7 @@ refusals-append (Refused e ∷ rs) ss = omega (arith, refusals-append rs ss)
 pushes-append : (P : Type 0) (g : Growth) (texts : List (Bor (List ℕ))) (text : Bor (List ℕ)) (v w : PlacedText) (m n k l : ℕ) (reply : Reply P)
     → PushesTo P g texts v m k → Step g v (PushStr text) reply w → n ≡ m + moved_by v w → l ≡ k + refusals (reply ∷ []) → PushesTo P g (texts ++ text ∷ []) w n l
 pushes-append P g texts text v w m n k l reply runs step bytes count =
-    let empty = placed [] inlined in
+    let empty = placed_text [] inline_placement in
     let edits : List (Edit P) = map PushStr texts in
     let Q : List (Edit P) → Type 0 = λ es. (replies : List (Reply P)) × (run : Run g empty es replies w) × (n ≡ moved g empty es replies w run) × (l ≡ refusals replies) in
     let more = run-append g empty edits runs.0 v w (PushStr text) reply runs.1 step in
@@ -55,12 +55,12 @@ pushes-append P g texts text v w m n k l reply runs step bytes count =
 
 -- the texts before the place i, and the one there, whose push is done or refused
 pub pushes-done : (P : Type 0) (g : Growth) (texts : List (Bor (List ℕ))) (i : ℕ) (d : Bor (List ℕ)) (v w : PlacedText) (b m n k l : ℕ) → i < length texts
-    → PushesTo P g (take i texts) v m k → pushed g v (text_of (get_or texts i d).now) ≡ Some w → b ≡ moved_by v w → n ≡ m + b → l ≡ k → PushesTo P g (take (i + 1) texts) w n l
+    → PushesTo P g (take i texts) v m k → push_str g v (text_of (get_or texts i d).now) ≡ Some w → b ≡ moved_by v w → n ≡ m + b → l ≡ k → PushesTo P g (take (i + 1) texts) w n l
 pushes-done P g texts i d v w b m n k l within runs step bytes more count =
     rw (take_more texts i d within) (pushes-append P g (take i texts) (get_or texts i d) v w m n k l Done runs (tt, (refl, step)) (omega (arith, bytes, more)) (omega (arith, count)))
 
 pub pushes-refused : (P : Type 0) (g : Growth) (texts : List (Bor (List ℕ))) (i : ℕ) (d : Bor (List ℕ)) (v w : PlacedText) (m n k l : ℕ) (e : ReserveError) → i < length texts
-    → PushesTo P g (take i texts) v m k → (w ≡ v) × IsTrue (push_asks v (text_of (get_or texts i d).now)) → n ≡ m → l ≡ k + 1 → PushesTo P g (take (i + 1) texts) w n l
+    → PushesTo P g (take i texts) v m k → (w ≡ v) × IsTrue (push_str_asks v (text_of (get_or texts i d).now)) → n ≡ m → l ≡ k + 1 → PushesTo P g (take (i + 1) texts) w n l
 pushes-refused P g texts i d v w m n k l e within runs step bytes count =
     let same : w.placement ≡ v.placement = ap (λ (x : PlacedText). x.placement) step.0 in
     rw (take_more texts i d within)
@@ -82,7 +82,7 @@ run-text g v [] (r ∷ rs) w run none = absurd run
 run-text g v (t ∷ ts) [] w run none = absurd run
 run-text g v (t ∷ ts) (Done ∷ rs) w run none =
     run-text g run.0 ts rs w run.2 none
-    ∙ ap (λ (x : List ℕ). x ++ texts_of ts) (pushed-text g v run.0 (text_of t.now) run.1.1.1)
+    ∙ ap (λ (x : List ℕ). x ++ texts_of ts) (push_str-text g v run.0 (text_of t.now) run.1.1.1)
     ∙ append_assoc v.text (text_of t.now) (texts_of ts)
     ∙ ap (λ (x : List ℕ). v.text ++ x) (sym (flat_map-cons (λ (text : Bor (List ℕ)). text_of text.now) t ts))
 run-text g v (t ∷ ts) (Char c ∷ rs) w run none = cc
@@ -92,9 +92,9 @@ run-text g v (t ∷ ts) (Refused e ∷ rs) w run none = absurd (omega (arith, no
 
 -- where no push is refused, the texts stand one after another
 pub pushes-text : {P : Type 0} (g : Growth) (texts : List (Bor (List ℕ))) (w : PlacedText) (m k : ℕ) → PushesTo P g texts w m k → k ≡ 0 → w.text ≡ texts_of texts
-pushes-text g texts w m k runs none = run-text g (placed [] inlined) texts runs.0 w runs.1 (sym runs.3 ∙ none)
+pushes-text g texts w m k runs none = run-text g (placed_text [] inline_placement) texts runs.0 w runs.1 (sym runs.3 ∙ none)
 
-refused-long : (v : PlacedText) (s : List ℕ) → IsTrue (push_asks v s) → 24 < size v.text + size s
+refused-long : (v : PlacedText) (s : List ℕ) → IsTrue (push_str_asks v s) → 24 < size v.text + size s
 refused-long v s asks = grind (arith, common_steps)
 
 -- texts of at most 24 bytes together stay in the value itself, so that none is refused
@@ -103,7 +103,7 @@ run-fits g v [] [] w run short = refl
 run-fits g v [] (r ∷ rs) w run short = absurd run
 run-fits g v (t ∷ ts) [] w run short = absurd run
 run-fits g v (t ∷ ts) (Done ∷ rs) w run short =
-    let after : size run.0.text ≡ size v.text + size (text_of t.now) = ap size (pushed-text g v run.0 (text_of t.now) run.1.1.1) ∙ size-append v.text (text_of t.now) in
+    let after : size run.0.text ≡ size v.text + size (text_of t.now) = ap size (push_str-text g v run.0 (text_of t.now) run.1.1.1) ∙ size-append v.text (text_of t.now) in
     run-fits g run.0 ts rs w run.2 (omega (arith, after, short, size-texts t ts))
 run-fits g v (t ∷ ts) (Char c ∷ rs) w run short = cc
 run-fits g v (t ∷ ts) (Text x ∷ rs) w run short = cc
@@ -111,7 +111,7 @@ run-fits g v (t ∷ ts) (BadPosition ∷ rs) w run short = absurd (run.1.1 tt)
 run-fits g v (t ∷ ts) (Refused e ∷ rs) w run short = absurd (let long = refused-long v (text_of t.now) run.1.2 in omega (arith, long, short, size-texts t ts))
 
 pub pushes-fit : {P : Type 0} (g : Growth) (texts : List (Bor (List ℕ))) (w : PlacedText) (m k : ℕ) → PushesTo P g texts w m k → size (texts_of texts) ≤ 24 → k ≡ 0
-pushes-fit g texts w m k runs short = runs.3 ∙ run-fits g (placed [] inlined) texts runs.0 w runs.1 (omega (arith, short))
+pushes-fit g texts w m k runs short = runs.3 ∙ run-fits g (placed_text [] inline_placement) texts runs.0 w runs.1 (omega (arith, short))
 
 -- a run of pushes pays for what it moves, and so does a list of pushes from the empty value: under every lawful policy
 run-paid : {P : Type 0} (g : Growth) → IsLawful g → (v : PlacedText) (texts : List (Bor (List ℕ))) (replies : List (Reply P)) (w : PlacedText) (m : ℕ) → IsPaid g v.placement (size v.text) m → (run : Run g v (map PushStr texts) replies w)
@@ -135,4 +135,4 @@ run-paid g law v (t ∷ ts) (Text x ∷ rs) w m paid run = let no : ⊥ = cc in 
 pub pushes-paid : {P : Type 0} (g : Growth) (texts : List (Bor (List ℕ))) (w : PlacedText) (m k : ℕ) → IsLawful g → PushesTo P g texts w m k → IsPaid g w.placement (size w.text) m
 pushes-paid g texts w m k law runs =
     subst (λ (n : ℕ). IsPaid g w.placement (size w.text) n) (omega (arith, runs.2))
-    (run-paid g law (placed [] inlined) texts runs.0 w 0 (paid-start g law) runs.1)
+    (run-paid g law (placed_text [] inline_placement) texts runs.0 w 0 (paid-start g law) runs.1)

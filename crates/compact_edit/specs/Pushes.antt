@@ -2,8 +2,8 @@
 use Rattle.std.specs.Prelude.{◌≡◌, ℕ, ◌+◌, List, [], ◌∷◌, Bool, not, ◌&&◌, map, nat_eq, if◌then◌else◌}
 use Rattle.std.specs.Borrow.{Bor}
 use Rattle.compact_str.specs.Text.{size}
-use Rattle.compact_str.specs.Value.{Place, inline, heap, static, is_heap, is_static, Placement, PlacedText, placed}
-use Rattle.compact_str.specs.Capacity.{Growth, inlined}
+use Rattle.compact_str.specs.Value.{Place, inline, heap, static, is_heap, is_static, Placement, PlacedText, placed_text}
+use Rattle.compact_str.specs.Capacity.{Growth, inline_placement}
 use Rattle.compact_edit.specs.declared.edit.Edit.{Edit}
 use Rattle.compact_edit.specs.declared.edit.Edit.TheVariants.{PushStr}
 use Rattle.compact_edit.specs.declared.edit.Reply.{Reply}
@@ -42,5 +42,5 @@ refusals (Refused e ∷ replies) = 1 + refusals replies
 abbrev pub PushesTo : (P : Type 0) → Growth → List (Bor (List ℕ)) → PlacedText → ℕ → ℕ → Type 0
 PushesTo P g texts w bytes count =
     let edits : List (Edit P) = map PushStr texts in
-    let empty = placed [] inlined in
+    let empty = placed_text [] inline_placement in
     (replies : List (Reply P)) × (run : Run g empty edits replies w) × (bytes ≡ moved g empty edits replies w run) × (count ≡ refusals replies)

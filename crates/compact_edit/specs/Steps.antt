@@ -2,11 +2,11 @@
 use Rattle.std.specs.Prelude.{◌≡◌, ℕ, ◌<◌, Bool, ◌||◌, false, Option, Some, IsTrue, [], ◌∷◌}
 use Rattle.std.specs.Char.{len_utf8}
 use Rattle.compact_str.specs.Text.{text_of, size}
-use Rattle.compact_str.specs.Cut.{IsBoundary, middle}
+use Rattle.compact_str.specs.Cut.{IsBoundary, substring}
 use Rattle.compact_str.specs.Value.{PlacedText}
-use Rattle.compact_str.specs.Capacity.{Growth, new_room_asks, room_asks, own_asks}
-use Rattle.compact_str.specs.Change.{made, pushed, push_asks, cleared, reserved, truncated, Shrinks, inserted, replaced, replace_asks, lowercased, uppercased, retained, zeroized}
-use Rattle.compact_str.specs.Kept.{kept_by, by_answers}
+use Rattle.compact_str.specs.Capacity.{Growth, with_capacity_asks, reserve_asks, make_owned_asks}
+use Rattle.compact_str.specs.Change.{new, push_str, push_str_asks, clear, reserve, truncate, Shrinks, insert_str, replace_range, replace_range_asks, make_ascii_lowercase, make_ascii_uppercase, retain, zeroize}
+use Rattle.compact_str.specs.Retain.{retained_text, answer_rule}
 use Rattle.compact_str.specs.Clones.{cloned_from, clone_from_asks}
 use Rattle.compact_str.specs.Edits.{Removes, Pops, SplitsOff, split_asks, repeated, repeat_asks}
 use Rattle.compact_str.specs.Ranges.{IsRange, range_start, range_end}
@@ -40,50 +40,50 @@ IsLegal v (CloneFrom source) = Unit {0}
 
 -- the edit asks for a heap buffer, so that it may be refused
 abbrev pub edit_asks : {P : Type 0} → PlacedText → Edit P → Bool
-edit_asks v (Push c) = push_asks v (c ∷ [])
-edit_asks v (PushStr s) = push_asks v (text_of s.now)
+edit_asks v (Push c) = push_str_asks v (c ∷ [])
+edit_asks v (PushStr s) = push_str_asks v (text_of s.now)
 edit_asks v Pop = false
-edit_asks v (Insert p c) = room_asks v (len_utf8 c)
-edit_asks v (InsertStr p s) = room_asks v (size (text_of s.now))
-edit_asks v (Remove p) = own_asks v
+edit_asks v (Insert p c) = reserve_asks v (len_utf8 c)
+edit_asks v (InsertStr p s) = reserve_asks v (size (text_of s.now))
+edit_asks v (Remove p) = make_owned_asks v
 edit_asks v (Truncate n) = false
 edit_asks v Clear = false
 edit_asks v (SplitOff p) = split_asks v p
-edit_asks v (ReplaceRange start end s) = replace_asks v (range_start start) (range_end v.text end) (text_of s.now)
-edit_asks v (Drain start end) = new_room_asks (size (middle v.text (range_start start) (range_end v.text end))) || own_asks v
-edit_asks v (Retain answers) = own_asks v
-edit_asks v (Reserve n) = room_asks v n
+edit_asks v (ReplaceRange start end s) = replace_range_asks v (range_start start) (range_end v.text end) (text_of s.now)
+edit_asks v (Drain start end) = with_capacity_asks (size (substring v.text (range_start start) (range_end v.text end))) || make_owned_asks v
+edit_asks v (Retain answers) = make_owned_asks v
+edit_asks v (Reserve n) = reserve_asks v n
 edit_asks v (ShrinkTo n) = false
 edit_asks v ShrinkToFit = false
-edit_asks v MakeLower = own_asks v
-edit_asks v MakeUpper = own_asks v
+edit_asks v MakeLower = make_owned_asks v
+edit_asks v MakeUpper = make_owned_asks v
 edit_asks v Zeroize = false
 edit_asks v (Repeat n) = repeat_asks v n
 edit_asks v (CloneFrom source) = clone_from_asks v source.now
 
 -- what the edit answers and leaves where it is done
 abbrev pub EditDoes : {P : Type 0} → Growth → PlacedText → Edit P → Reply P → PlacedText → Type 0
-EditDoes g v (Push c) reply w = (reply ≡ Done) × (pushed g v (c ∷ []) ≡ Some w)
-EditDoes g v (PushStr s) reply w = (reply ≡ Done) × (pushed g v (text_of s.now) ≡ Some w)
+EditDoes g v (Push c) reply w = (reply ≡ Done) × (push_str g v (c ∷ []) ≡ Some w)
+EditDoes g v (PushStr s) reply w = (reply ≡ Done) × (push_str g v (text_of s.now) ≡ Some w)
 EditDoes g v Pop reply w = (c : Option ℕ) × (reply ≡ Char c) × Pops v c w
-EditDoes g v (Insert p c) reply w = (reply ≡ Done) × (inserted g v p (c ∷ []) ≡ Some w)
-EditDoes g v (InsertStr p s) reply w = (reply ≡ Done) × (inserted g v p (text_of s.now) ≡ Some w)
+EditDoes g v (Insert p c) reply w = (reply ≡ Done) × (insert_str g v p (c ∷ []) ≡ Some w)
+EditDoes g v (InsertStr p s) reply w = (reply ≡ Done) × (insert_str g v p (text_of s.now) ≡ Some w)
 EditDoes g v (Remove p) reply w = (c : ℕ) × (reply ≡ Char (Some c)) × Removes g v p c w
-EditDoes g v (Truncate n) reply w = (reply ≡ Done) × (w ≡ truncated v n)
-EditDoes g v Clear reply w = (reply ≡ Done) × (w ≡ cleared v)
+EditDoes g v (Truncate n) reply w = (reply ≡ Done) × (w ≡ truncate v n)
+EditDoes g v Clear reply w = (reply ≡ Done) × (w ≡ clear v)
 EditDoes g v (SplitOff p) reply w = (tail : PlacedText) × (reply ≡ Text tail) × SplitsOff g v p tail w
 EditDoes g v (ReplaceRange start end s) reply w =
-    (reply ≡ Done) × (replaced g v (range_start start) (range_end v.text end) (text_of s.now) ≡ Some w)
+    (reply ≡ Done) × (replace_range g v (range_start start) (range_end v.text end) (text_of s.now) ≡ Some w)
 EditDoes g v (Drain start end) reply w =
-    (range : PlacedText) × (reply ≡ Text range) × (made g (middle v.text (range_start start) (range_end v.text end)) ≡ Some range)
-    × (replaced g v (range_start start) (range_end v.text end) [] ≡ Some w)
-EditDoes g v (Retain answers) reply w = (reply ≡ Done) × (retained g v (kept_by by_answers answers.now v.text) ≡ Some w)
-EditDoes g v (Reserve n) reply w = (reply ≡ Done) × (reserved g v n ≡ Some w)
+    (range : PlacedText) × (reply ≡ Text range) × (new g (substring v.text (range_start start) (range_end v.text end)) ≡ Some range)
+    × (replace_range g v (range_start start) (range_end v.text end) [] ≡ Some w)
+EditDoes g v (Retain answers) reply w = (reply ≡ Done) × (retain g v (retained_text answer_rule answers.now v.text) ≡ Some w)
+EditDoes g v (Reserve n) reply w = (reply ≡ Done) × (reserve g v n ≡ Some w)
 EditDoes g v (ShrinkTo n) reply w = (reply ≡ Done) × Shrinks g v n w
 EditDoes g v ShrinkToFit reply w = (reply ≡ Done) × Shrinks g v 0 w
-EditDoes g v MakeLower reply w = (reply ≡ Done) × (lowercased g v ≡ Some w)
-EditDoes g v MakeUpper reply w = (reply ≡ Done) × (uppercased g v ≡ Some w)
-EditDoes g v Zeroize reply w = (reply ≡ Done) × (w ≡ zeroized v)
+EditDoes g v MakeLower reply w = (reply ≡ Done) × (make_ascii_lowercase g v ≡ Some w)
+EditDoes g v MakeUpper reply w = (reply ≡ Done) × (make_ascii_uppercase g v ≡ Some w)
+EditDoes g v Zeroize reply w = (reply ≡ Done) × (w ≡ zeroize v)
 EditDoes g v (Repeat n) reply w = (all : PlacedText) × (reply ≡ Text all) × (repeated g v n ≡ Some all) × (w ≡ v)
 EditDoes g v (CloneFrom source) reply w = (reply ≡ Done) × (cloned_from g v source.now ≡ Some w)
 

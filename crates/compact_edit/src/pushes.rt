@@ -1,7 +1,7 @@
 //! Texts that are pushed one after another, with a count of the bytes that this moves.
 ghost use Rattle.std.specs.Prelude.{◌≡◌, ◌+◌, ◌-◌, ◌*◌, ◌/◌, ◌≤◌, flat_map, Some, IsTrue, max, IfOk, OnErr};
 ghost use Rattle.compact_str.specs.Text.{size, text_of};
-ghost use Rattle.compact_str.specs.Change.{pushed, push_asks};
+ghost use Rattle.compact_str.specs.Change.{push_str, push_str_asks};
 ghost use Rattle.compact_edit.specs.Pushes.{PushesTo, moved_by};
 
 use compact_str::{Policy, PolicyString, ReserveError};
@@ -57,10 +57,10 @@ pub fn run_pushes<P: Policy>(alloc: Global, texts: &[&str]) -> PushReport<P>
 /// A push that changes the place changes the capacity too, so only that is looked at.
 fn push_counted<P: Policy>(value: &mut PolicyString<P>, text: &str) -> Result<u64, ReserveError>
     ensures ok { IfOk result
-        (λ bytes. pushed P.growth value.old (text_of text.now) ≡ Some value.new) }
+        (λ bytes. push_str P.growth value.old (text_of text.now) ≡ Some value.new) }
     ensures bytes { IfOk result (λ bytes. bytes ≡ moved_by value.old value.new) }
     ensures err { OnErr result
-        ((value.new ≡ value.old) × IsTrue (push_asks value.old (text_of text.now))) }
+        ((value.new ≡ value.old) × IsTrue (push_str_asks value.old (text_of text.now))) }
 {
     let len = value.len();
     let capacity = value.capacity();

@@ -1,10 +1,10 @@
 //! How edits are run.
 ghost use Rattle.std.specs.Prelude.{◌≡◌, ◌+◌, ◌≤◌, [], length, drop, Some, vec_len, vec_capacity, IfOk, OnOk, OnErr, IsOk, IsTrue, MatchResult};
 ghost use Rattle.compact_str.specs.Text.{size};
-ghost use Rattle.compact_str.specs.Cut.{middle};
-ghost use Rattle.compact_str.specs.Capacity.{new_room_asks, own_asks};
-ghost use Rattle.compact_str.specs.Change.{made, replaced, retained};
-ghost use Rattle.compact_str.specs.Kept.{kept_by, by_answers, next_answer};
+ghost use Rattle.compact_str.specs.Cut.{substring};
+ghost use Rattle.compact_str.specs.Capacity.{with_capacity_asks, make_owned_asks};
+ghost use Rattle.compact_str.specs.Change.{new, replace_range, retain};
+ghost use Rattle.compact_str.specs.Retain.{retained_text, answer_rule, next_answer};
 ghost use Rattle.compact_str.specs.Ranges.{IsRange, range_start, range_end};
 ghost use Rattle.compact_edit.specs.Steps.{Step};
 ghost use Rattle.compact_edit.specs.Runs.{RunsTo};
@@ -169,11 +169,11 @@ fn copy_of_range<P: Policy>(
 ) -> Result<PolicyString<P>, ReserveError>
     requires { IsRange value.now.text start end }
     ensures ok { IfOk result
-        (λ v. made P.growth (middle value.now.text (range_start start)
+        (λ v. new P.growth (substring value.now.text (range_start start)
         (range_end value.now.text end)) ≡ Some v) }
     ensures err { OnErr result
-        (IsTrue (new_room_asks
-        (size (middle value.now.text (range_start start) (range_end value.now.text end))))) }
+        (IsTrue (with_capacity_asks
+        (size (substring value.now.text (range_start start) (range_end value.now.text end))))) }
 {
     PolicyString::new(value.allocator(), value.range(start, end))
 }
@@ -186,9 +186,9 @@ fn take_out<P: Policy>(
 ) -> Result<(), ReserveError>
     requires { IsRange value.old.text start end }
     ensures ok { OnOk result
-        (replaced P.growth value.old (range_start start) (range_end value.old.text end) []
+        (replace_range P.growth value.old (range_start start) (range_end value.old.text end) []
         ≡ Some value.new) }
-    ensures err { OnErr result ((value.new ≡ value.old) × IsTrue (own_asks value.old)) }
+    ensures err { OnErr result ((value.new ≡ value.old) × IsTrue (make_owned_asks value.old)) }
 {
     drop(value.drain(start, end)?);
     Ok(())
@@ -197,9 +197,9 @@ fn take_out<P: Policy>(
 /// Keeps the characters whose answer is `true`, and those that have none.
 fn retain<P: Policy>(value: &mut PolicyString<P>, answers: &[bool]) -> Result<(), ReserveError>
     ensures ok { OnOk result
-        (retained P.growth value.old (kept_by by_answers answers.now value.old.text)
+        (retain P.growth value.old (retained_text answer_rule answers.now value.old.text)
         ≡ Some value.new) }
-    ensures err { OnErr result ((value.new ≡ value.old) × IsTrue (own_asks value.old)) }
+    ensures err { OnErr result ((value.new ≡ value.old) × IsTrue (make_owned_asks value.old)) }
 {
     let mut rest = answers;
     value.retain(|_| {

@@ -6,7 +6,7 @@ use Rattle.std.proofs.lemmas.Fmt.{decimal_digit, decimal_step, length-decimal-le
 use Rattle.std.proofs.lemmas.List.{length-drop, length-take-le, drop_at, take-append-le, set_comm, drop-drop}
 use Rattle.std.specs.Fmt.{decimal, sign_text}
 use Rattle.std.specs.Int.{from_le_bytes, w16}
-use Rattle.compact_repr.specs.Words.{number}
+use Rattle.compact_repr.specs.Words.{le_number}
 use Rattle.itoa.proofs.Decimal.{length_one, length_two, decimal_two, decimal_pair, length_pair}
 use Rattle.compact_ext.specs.declared.num.digits.TheConstants.{PAIRS}
 use Rattle.compact_ext.specs.Digits.{two_digits, written, number_text}
@@ -79,7 +79,7 @@ pub pair_written : (row : List ℕ) (at p : ℕ) → p < 100 → at + 2 ≤ leng
 pair_written row at p h k = let e = pair-among 100 p tt h in rw (e.0, e.1) (set_two-written row at (48 + p / 10) (48 + p % 10) k)
 
 -- and so they are read, as a number of two bytes
-pub pair_number : (p : ℕ) → p < 100 → from_le_bytes w16 (get_or PAIRS (p * 2) 0 ∷ get_or PAIRS (p * 2 + 1) 0 ∷ []) ≡ number (two_digits p)
+pub pair_number : (p : ℕ) → p < 100 → from_le_bytes w16 (get_or PAIRS (p * 2) 0 ∷ get_or PAIRS (p * 2 + 1) 0 ∷ []) ≡ le_number (two_digits p)
 pair_number p h = let e = pair-among 100 p tt h in rw (e.0, e.1) (omega arith)
 
 pub ruleset pairs_read = (pair_number)
@@ -119,7 +119,7 @@ pub sign-most : (s : Bool) → length (sign_text s) ≤ 1
 sign-most true = omega arith
 sign-most false = omega arith
 
-pub number-count : (s : Bool) (n start count : ℕ) → start ≡ length (sign_text s) → count ≡ length (decimal n) → start + count ≡ length (number_text s n)
-number-count s n start count e f = omega (arith, e, f, length-append (sign_text s) (decimal n))
+pub le_number-count : (s : Bool) (n start count : ℕ) → start ≡ length (sign_text s) → count ≡ length (decimal n) → start + count ≡ length (number_text s n)
+le_number-count s n start count e f = omega (arith, e, f, length-append (sign_text s) (decimal n))
 
-pub ruleset sign_rows = (written-behind, length-written, sign-most, number-count)
+pub ruleset sign_rows = (written-behind, length-written, sign-most, le_number-count)

@@ -7,9 +7,9 @@ use Rattle.std.proofs.lemmas.Fmt.{decimal_digit, decimal_nonempty, length-decima
 use Rattle.std.proofs.lemmas.List.{length-drop, length-take-le, length-replicate, drop_at, drop-append-le, take-append-drop, take-replicate, replicate-append-replicate}
 use Rattle.std.proofs.Math.Seq.{take-append-add}
 use Rattle.itoa.proofs.Decimal.{decimal_two, decimal_pair, decimal_four}
-use Rattle.compact_repr.specs.Words.{number, bytes_of}
+use Rattle.compact_repr.specs.Words.{le_number, word_bytes}
 use Rattle.compact_repr.specs.Packed.{packed_bytes}
-use Rattle.compact_repr.proofs.Numbers.{AllBytes, AllBytes-append, AllBytes-cons, AllBytes-take, AllBytes-drop, AllBytes-bytes_of, length-bytes_of, number-append, number-take, number-drop, number-bytes_of, bytes_of-number, bytes_of-number_short, bytes_of-other_last}
+use Rattle.compact_repr.proofs.Numbers.{AllBytes, AllBytes-append, AllBytes-cons, AllBytes-take, AllBytes-drop, AllBytes-word_bytes, length-word_bytes, le_number-append, le_number-take, le_number-drop, le_number-word_bytes, word_bytes-le_number, word_bytes-number_short, word_bytes-other_last}
 use Rattle.compact_ext.specs.Digits.{two_digits, four_digits, eight_digits, number_text}
 
 -- digits with noughts before them
@@ -104,8 +104,8 @@ eight-bytes n h = AllBytes-append (four_digits (n / 10000)) (four_digits (n % 10
 
 -- the word that two and two of them make
 pub word-eight : (n : ℕ) → n < 100000000
-    → bytes_of (number (two_digits (n / 10000 / 100)) + number (two_digits (n / 10000 % 100)) * 2 ^ 16 % 2 ^ 64
-    + number (two_digits (n % 10000 / 100)) * 2 ^ 32 % 2 ^ 64 + number (two_digits (n % 10000 % 100)) * 2 ^ 48 % 2 ^ 64) ≡ eight_digits n
+    → word_bytes (le_number (two_digits (n / 10000 / 100)) + le_number (two_digits (n / 10000 % 100)) * 2 ^ 16 % 2 ^ 64
+    + le_number (two_digits (n % 10000 / 100)) * 2 ^ 32 % 2 ^ 64 + le_number (two_digits (n % 10000 % 100)) * 2 ^ 48 % 2 ^ 64) ≡ eight_digits n
 word-eight n h =
     let a = n / 10000 / 100 in
     let b = n / 10000 % 100 in
@@ -115,46 +115,46 @@ word-eight n h =
     let b_fits : b < 100 = omega arith in
     let c_fits : c < 100 = omega arith in
     let d_fits : d < 100 = omega arith in
-    let sum : number (two_digits a) + number (two_digits b) * 2 ^ 16 % 2 ^ 64 + number (two_digits c) * 2 ^ 32 % 2 ^ 64 + number (two_digits d) * 2 ^ 48 % 2 ^ 64
-    ≡ number (eight_digits n) = omega arith in
-    ap bytes_of sum ∙ bytes_of-number (eight_digits n) (eight-bytes n h) refl
+    let sum : le_number (two_digits a) + le_number (two_digits b) * 2 ^ 16 % 2 ^ 64 + le_number (two_digits c) * 2 ^ 32 % 2 ^ 64 + le_number (two_digits d) * 2 ^ 48 % 2 ^ 64
+    ≡ le_number (eight_digits n) = omega arith in
+    ap word_bytes sum ∙ word_bytes-le_number (eight_digits n) (eight-bytes n h) refl
 
 -- what the shifts leave of two words, the second behind the first
 
-pub word-front : (word count : ℕ) → word < 2 ^ 64 → count < 8 → bytes_of (word / 2 ^ (8 * count)) ≡ drop count (bytes_of word) ++ replicate count 0
+pub word-front : (word count : ℕ) → word < 2 ^ 64 → count < 8 → word_bytes (word / 2 ^ (8 * count)) ≡ drop count (word_bytes word) ++ replicate count 0
 word-front word count fits few =
-    let bytes : List ℕ = bytes_of word in
-    let eight : length bytes ≡ 8 = length-bytes_of word in
+    let bytes : List ℕ = word_bytes word in
+    let eight : length bytes ≡ 8 = length-word_bytes word in
     let rest : List ℕ = drop count bytes in
     let long : length rest ≡ 8 - count = length-drop count bytes ∙ omega arith in
     let gap : 8 - length rest ≡ count = omega arith in
-    let all : AllBytes bytes = AllBytes-bytes_of word in
-    let shifted : word / 2 ^ (8 * count) ≡ number rest =
-    ap (λ (n : ℕ). n / 2 ^ (8 * count)) (sym (number-bytes_of word fits)) ∙ number-drop count bytes all (omega arith) in
-    ap bytes_of shifted ∙ bytes_of-number_short rest (AllBytes-drop count bytes all) (omega arith) ∙ ap (λ (k : ℕ). rest ++ replicate k 0) gap
+    let all : AllBytes bytes = AllBytes-word_bytes word in
+    let shifted : word / 2 ^ (8 * count) ≡ le_number rest =
+    ap (λ (n : ℕ). n / 2 ^ (8 * count)) (sym (le_number-word_bytes word fits)) ∙ le_number-drop count bytes all (omega arith) in
+    ap word_bytes shifted ∙ word_bytes-number_short rest (AllBytes-drop count bytes all) (omega arith) ∙ ap (λ (k : ℕ). rest ++ replicate k 0) gap
 
 pub word-behind : (word next count : ℕ) → word < 2 ^ 64 → next < 2 ^ 64 → count < 8
-    → bytes_of ((next * 2 ^ 64 % 2 ^ 128 + word) / 2 ^ (8 * count) % 2 ^ 64) ≡ drop count (bytes_of word) ++ take count (bytes_of next)
+    → word_bytes ((next * 2 ^ 64 % 2 ^ 128 + word) / 2 ^ (8 * count) % 2 ^ 64) ≡ drop count (word_bytes word) ++ take count (word_bytes next)
 word-behind word next count fits next_fits few =
-    let front : List ℕ = bytes_of word in
-    let back : List ℕ = bytes_of next in
+    let front : List ℕ = word_bytes word in
+    let back : List ℕ = word_bytes next in
     let both : List ℕ = front ++ back in
-    let eight : length front ≡ 8 = length-bytes_of word in
-    let eight_next : length back ≡ 8 = length-bytes_of next in
-    let all : AllBytes both = AllBytes-append front back (AllBytes-bytes_of word) (AllBytes-bytes_of next) in
+    let eight : length front ≡ 8 = length-word_bytes word in
+    let eight_next : length back ≡ 8 = length-word_bytes next in
+    let all : AllBytes both = AllBytes-append front back (AllBytes-word_bytes word) (AllBytes-word_bytes next) in
     let long : length both ≡ 16 = length-append front back ∙ omega arith in
     let rest : List ℕ = drop count both in
     let every : AllBytes rest = AllBytes-drop count both all in
     let length_rest : length rest ≡ 16 - count = length-drop count both ∙ omega arith in
-    let same : number front ≡ word = number-bytes_of word fits in
-    let same_next : number back ≡ next = number-bytes_of next next_fits in
-    let parts : number both ≡ number back * 2 ^ 64 + number front = number-append front back ∙ ap (λ (k : ℕ). number back * 2 ^ (8 * k) + number front) eight in
-    let sum : next * 2 ^ 64 % 2 ^ 128 + word ≡ number both = omega arith in
+    let same : le_number front ≡ word = le_number-word_bytes word fits in
+    let same_next : le_number back ≡ next = le_number-word_bytes next next_fits in
+    let parts : le_number both ≡ le_number back * 2 ^ 64 + le_number front = le_number-append front back ∙ ap (λ (k : ℕ). le_number back * 2 ^ (8 * k) + le_number front) eight in
+    let sum : next * 2 ^ 64 % 2 ^ 128 + word ≡ le_number both = omega arith in
     let left : length (drop count front) + count ≡ 8 = ap (λ (k : ℕ). k + count) (length-drop count front) ∙ omega arith in
-    ap (λ (n : ℕ). bytes_of (n / 2 ^ (8 * count) % 2 ^ 64)) sum
-    ∙ ap (λ (n : ℕ). bytes_of (n % 2 ^ 64)) (number-drop count both all (omega arith))
-    ∙ ap bytes_of (number-take 8 rest every (omega arith))
-    ∙ bytes_of-number (take 8 rest) (AllBytes-take 8 rest every) (length-take-le 8 rest (omega arith))
+    ap (λ (n : ℕ). word_bytes (n / 2 ^ (8 * count) % 2 ^ 64)) sum
+    ∙ ap (λ (n : ℕ). word_bytes (n % 2 ^ 64)) (le_number-drop count both all (omega arith))
+    ∙ ap word_bytes (le_number-take 8 rest every (omega arith))
+    ∙ word_bytes-le_number (take 8 rest) (AllBytes-take 8 rest every) (length-take-le 8 rest (omega arith))
     ∙ ap (take 8) (drop-append-le count front back (omega arith))
     ∙ ap (λ (k : ℕ). take k (drop count front ++ back)) (sym left)
     ∙ take-append-add (drop count front) back count
@@ -170,17 +170,17 @@ joined k xs ys rest =
 abbrev zeros : ℕ → List ℕ
 zeros k = replicate k 0
 
-zero_word : bytes_of 0 ≡ zeros 8
-unfolding bytes_of
+zero_word : word_bytes 0 ≡ zeros 8
+unfolding word_bytes
 zero_word = refl
 
 pub one_word : (n count : ℕ) → n < 100000000 → n < 2 ^ 64 → count ≡ length (decimal n)
-    → (drop (8 - count) (eight_digits n) ++ replicate (8 - count) 0) ++ bytes_of 0 ++ bytes_of 0 ≡ decimal n ++ replicate (24 - count) 0
+    → (drop (8 - count) (eight_digits n) ++ replicate (8 - count) 0) ++ word_bytes 0 ++ word_bytes 0 ≡ decimal n ++ replicate (24 - count) 0
 one_word n count small fits e =
     let k : ℕ = 8 - count in
     let most : length (decimal n) ≤ 8 = count-eight n small in
     let sum : k + 16 ≡ 24 - count = omega arith in
-    ap (λ (xs : List ℕ). (xs ++ zeros k) ++ bytes_of 0 ++ bytes_of 0) (eight-decimal n k small (omega arith))
+    ap (λ (xs : List ℕ). (xs ++ zeros k) ++ word_bytes 0 ++ word_bytes 0) (eight-decimal n k small (omega arith))
     ∙ ap (λ (xs : List ℕ). (decimal n ++ zeros k) ++ xs ++ xs) zero_word
     ∙ append_assoc (decimal n ++ zeros k) (zeros 8) (zeros 8)
     ∙ append_assoc (decimal n) (zeros k) (zeros 16)
@@ -189,7 +189,7 @@ one_word n count small fits e =
 
 pub two_words : (n count : ℕ) → 100000000 ≤ n → n / 100000000 < 100000000 → n < 2 ^ 64 → count ≡ length (decimal n)
     → (drop (16 - count) (eight_digits (n / 100000000)) ++ take (16 - count) (eight_digits (n % 100000000)))
-    ++ (drop (16 - count) (eight_digits (n % 100000000)) ++ replicate (16 - count) 0) ++ bytes_of 0 ≡ decimal n ++ replicate (24 - count) 0
+    ++ (drop (16 - count) (eight_digits (n % 100000000)) ++ replicate (16 - count) 0) ++ word_bytes 0 ≡ decimal n ++ replicate (24 - count) 0
 two_words n count low high fits e =
     let k : ℕ = 16 - count in
     let front : ℕ = n / 100000000 in
@@ -233,24 +233,24 @@ three_words n count low more fits e =
 
 -- a minus before them
 
-minus_word : drop 7 (bytes_of 0x2d00_0000_0000_0000) ≡ 45 ∷ []
-unfolding bytes_of
+minus_word : drop 7 (word_bytes 0x2d00_0000_0000_0000) ≡ 45 ∷ []
+unfolding word_bytes
 minus_word = refl
 
 pub minus_before : (n first second third count : ℕ) → count ≤ 20 → count ≡ length (decimal n)
-    → bytes_of first ++ bytes_of second ++ bytes_of third ≡ decimal n ++ replicate (24 - count) 0
-    → (drop 7 (bytes_of 0x2d00_0000_0000_0000) ++ take 7 (bytes_of first)) ++ (drop 7 (bytes_of first) ++ take 7 (bytes_of second)) ++ (drop 7 (bytes_of second) ++ take 7 (bytes_of third))
+    → word_bytes first ++ word_bytes second ++ word_bytes third ≡ decimal n ++ replicate (24 - count) 0
+    → (drop 7 (word_bytes 0x2d00_0000_0000_0000) ++ take 7 (word_bytes first)) ++ (drop 7 (word_bytes first) ++ take 7 (word_bytes second)) ++ (drop 7 (word_bytes second) ++ take 7 (word_bytes third))
     ≡ number_text true n ++ replicate (24 - (count + 1)) 0
 minus_before n first second third count few e same =
-    let a : List ℕ = bytes_of first in
-    let b : List ℕ = bytes_of second in
-    let c : List ℕ = bytes_of third in
-    let minus : List ℕ = bytes_of 0x2d00_0000_0000_0000 in
+    let a : List ℕ = word_bytes first in
+    let b : List ℕ = word_bytes second in
+    let c : List ℕ = word_bytes third in
+    let minus : List ℕ = word_bytes 0x2d00_0000_0000_0000 in
     let digits : List ℕ = decimal n in
     let end : ℕ = 24 - (count + 1) in
     let before : length digits + end ≡ 23 = omega arith in
-    let eight : length a ≡ 8 = length-bytes_of first in
-    let eight_more : length b ≡ 8 = length-bytes_of second in
+    let eight : length a ≡ 8 = length-word_bytes first in
+    let eight_more : length b ≡ 8 = length-word_bytes second in
     let front : take 23 (a ++ (b ++ c)) ≡ a ++ (b ++ take 7 c) =
     ap (λ (k : ℕ). take (k + 15) (a ++ (b ++ c))) (sym eight)
     ∙ take-append-add a (b ++ c) 15
@@ -268,18 +268,18 @@ minus_before n first second third count few e same =
 -- the length behind them
 
 pub with_length : (word len : ℕ) → word < 2 ^ 64 → len ≤ 23
-    → bytes_of (bit_or (word % 2 ^ 56) ((192 + len) * 2 ^ 56 % 2 ^ 64)) ≡ take 7 (bytes_of word) ++ (192 + len) ∷ []
-with_length word len fits few = bytes_of-other_last word (192 + len) (192 + len) fits (omega arith) refl
+    → word_bytes (bit_or (word % 2 ^ 56) ((192 + len) * 2 ^ 56 % 2 ^ 64)) ≡ take 7 (word_bytes word) ++ (192 + len) ∷ []
+with_length word len fits few = word_bytes-other_last word (192 + len) (192 + len) fits (omega arith) refl
 
 pub length_behind : (first second third last : ℕ)
-    → bytes_of first ++ bytes_of second ++ (take 7 (bytes_of third) ++ last ∷ []) ≡ take 23 (bytes_of first ++ bytes_of second ++ bytes_of third) ++ last ∷ []
+    → word_bytes first ++ word_bytes second ++ (take 7 (word_bytes third) ++ last ∷ []) ≡ take 23 (word_bytes first ++ word_bytes second ++ word_bytes third) ++ last ∷ []
 length_behind first second third last =
-    let front : List ℕ = bytes_of first ++ bytes_of second in
-    let eight : length (bytes_of first) ≡ 8 = length-bytes_of first in
-    let eight_more : length (bytes_of second) ≡ 8 = length-bytes_of second in
-    let long : length front + 7 ≡ 23 = ap (λ (k : ℕ). k + 7) (length-append (bytes_of first) (bytes_of second)) ∙ omega arith in
-    sym (append_assoc front (take 7 (bytes_of third)) (last ∷ []))
-    ∙ ap (λ (xs : List ℕ). xs ++ last ∷ []) (sym (take-append-add front (bytes_of third) 7) ∙ ap (λ (k : ℕ). take k (front ++ bytes_of third)) long)
+    let front : List ℕ = word_bytes first ++ word_bytes second in
+    let eight : length (word_bytes first) ≡ 8 = length-word_bytes first in
+    let eight_more : length (word_bytes second) ≡ 8 = length-word_bytes second in
+    let long : length front + 7 ≡ 23 = ap (λ (k : ℕ). k + 7) (length-append (word_bytes first) (word_bytes second)) ∙ omega arith in
+    sym (append_assoc front (take 7 (word_bytes third)) (last ∷ []))
+    ∙ ap (λ (xs : List ℕ). xs ++ last ∷ []) (sym (take-append-add front (word_bytes third) 7) ∙ ap (λ (k : ℕ). take k (front ++ word_bytes third)) long)
 
 pub packed-row : (xs row : List ℕ) (len : ℕ) → len ≤ 23 → len ≡ length xs → row ≡ xs ++ replicate (24 - len) 0 → take 23 row ++ (192 + len) ∷ [] ≡ packed_bytes xs
 packed-row xs row len few e same =

@@ -2,9 +2,9 @@
 use Rattle.std.proofs.Common.{◌≡◌, true, Some, refl, negsuc}
 use Rattle.std.specs.Prelude.{codes}
 use Rattle.std.specs.Fmt.{decimal, signed_decimal, digits}
-use Rattle.compact_str.specs.Value.{placed}
-use Rattle.compact_str.specs.Capacity.{Growth, inlined, on_heap}
-use Rattle.compact_str.specs.Change.{made}
+use Rattle.compact_str.specs.Value.{placed_text}
+use Rattle.compact_str.specs.Capacity.{Growth, inline_placement, heap_placement}
+use Rattle.compact_str.specs.Change.{new}
 use Rattle.compact_ext.specs.Digits.{two_digits, four_digits, eight_digits, written, number_text}
 use Rattle.compact_ext.specs.Shown.{bool_text}
 
@@ -61,15 +61,15 @@ eight_digits_have_noughts_within = refl
 two_of_five_are_written : written (codes "abcde") 1 (codes "42") ≡ codes "a42de"
 two_of_five_are_written = refl
 
-twenty_characters_stand_inline : made standard (signed_decimal (negsuc 9223372036854775807)) ≡ Some (placed (codes "-9223372036854775808") inlined)
+twenty_characters_stand_inline : new standard (signed_decimal (negsuc 9223372036854775807)) ≡ Some (placed_text (codes "-9223372036854775808") inline_placement)
 unfolding digits
 twenty_characters_stand_inline = refl
 
-forty_characters_stand_on_the_heap : made standard (signed_decimal (negsuc 170141183460469231731687303715884105727)) ≡ Some (placed (codes "-170141183460469231731687303715884105728") (on_heap 40))
+forty_characters_stand_on_the_heap : new standard (signed_decimal (negsuc 170141183460469231731687303715884105727)) ≡ Some (placed_text (codes "-170141183460469231731687303715884105728") (heap_placement 40))
 unfolding digits
 forty_characters_stand_on_the_heap = refl
 
-thirty_nine_characters_stand_on_the_heap : made standard (decimal 340282366920938463463374607431768211455) ≡ Some (placed (codes "340282366920938463463374607431768211455") (on_heap 39))
+thirty_nine_characters_stand_on_the_heap : new standard (decimal 340282366920938463463374607431768211455) ≡ Some (placed_text (codes "340282366920938463463374607431768211455") (heap_placement 39))
 unfolding digits
 thirty_nine_characters_stand_on_the_heap = refl
 

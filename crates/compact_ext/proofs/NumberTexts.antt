@@ -10,9 +10,9 @@ use Rattle.compact_str.specs.Text.{size, text_of}
 use Rattle.compact_repr.specs.Packed.{IsPackedFor, packed_bytes}
 use Rattle.compact_repr.proofs.Texts.{size-text_of}
 use Rattle.compact_repr.proofs.PackedTexts.{stands-packed}
-use Rattle.compact_str.specs.Value.{placed}
-use Rattle.compact_str.specs.Capacity.{Growth, inlined}
-use Rattle.compact_str.specs.Change.{made}
+use Rattle.compact_str.specs.Value.{placed_text}
+use Rattle.compact_str.specs.Capacity.{Growth, inline_placement}
+use Rattle.compact_str.specs.Change.{new}
 use Rattle.compact_ext.specs.Digits.{number_text, written}
 
 IsAscii-number : (s : Bool) (n : ℕ) → n < 2 ^ 64 → IsAscii (number_text s n)
@@ -48,7 +48,7 @@ size-number s n h =
 
 pub ruleset number_rows = (take-written, IsUtf8-number, text_of-number)
 
-pub made-short : (g : Growth) (t : List ℕ) → size t ≤ 24 → made g t ≡ Some (placed t inlined)
-made-short g t h = grind (arith, common_steps)
+pub new-short : (g : Growth) (t : List ℕ) → size t ≤ 24 → new g t ≡ Some (placed_text t inline_placement)
+new-short g t h = grind (arith, common_steps)
 
-pub ruleset number_values = (size-number, made-short)
+pub ruleset number_values = (size-number, new-short)

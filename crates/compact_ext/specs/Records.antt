@@ -5,7 +5,7 @@ use Rattle.std.specs.Io.{StartsWith}
 use Rattle.std.specs.Io.KnownBytes.{Consumes, IsAtEnd, Keeps}
 use Rattle.std.specs.Iterator.{Count, at_most}
 use Rattle.std.specs.List.{All}
-use Rattle.compact_str.specs.Capacity.{taken_over}
+use Rattle.compact_str.specs.Capacity.{from_string_placement}
 use Rattle.compact_str.specs.Text.{size}
 use Rattle.compact_str.specs.Value.{PlacedText}
 use Rattle.compact_ext.specs.declared.wire.WireError.{WireError}
@@ -43,7 +43,7 @@ pub record FailsWithin (old new : Option (List ℕ)) (e : WireError) : Type 0 wh
 -- a text is placed as `read_wire` places it: inline up to 24 bytes, and else on the heap with just the capacity
 -- that it needs
 abbrev pub IsPlacedAsRead : PlacedText → Type 0
-IsPlacedAsRead v = v.placement ≡ taken_over v.text (size v.text)
+IsPlacedAsRead v = v.placement ≡ from_string_placement v.text (size v.text)
 
 -- the text of a value has a wire form
 abbrev pub FitsForm : PlacedText → Type 0

@@ -2,8 +2,8 @@
 use Rattle.std.specs.Prelude.{◌≡◌, ℕ, List, Bool, IsTrue, Result, IfOk, IfErr, IsOk, Some, if◌then◌else◌, codes, ⊤}
 use Rattle.compact_str.specs.Text.{size}
 use Rattle.compact_str.specs.Value.{PlacedText}
-use Rattle.compact_str.specs.Capacity.{Growth, inlined, new_room_asks}
-use Rattle.compact_str.specs.Change.{made}
+use Rattle.compact_str.specs.Capacity.{Growth, inline_placement, with_capacity_asks}
+use Rattle.compact_str.specs.Change.{new}
 use Rattle.compact_ext.specs.declared.format.ToCompactStringError.{ToCompactStringError}
 use Rattle.compact_ext.specs.declared.format.ToCompactStringError.TheVariants.{Reserve, Fmt}
 
@@ -15,11 +15,11 @@ IsReserve (Fmt _) = ⊥
 -- r is a new value with the text t that something shows: where that is short, inline and never refused, and refused only
 -- where it asks for a heap buffer
 pub record IsTextOf (g : Growth) (t : List ℕ) (IsShort : Type 0) (r : Result PlacedText ToCompactStringError) : Type 0 where
-  pub ok : IfOk r (λ v. made g t ≡ Some v)
+  pub ok : IfOk r (λ v. new g t ≡ Some v)
   pub text : IfOk r (λ v. v.text ≡ t)
-  pub inline : IsShort → IfOk r (λ v. v.placement ≡ inlined)
+  pub inline : IsShort → IfOk r (λ v. v.placement ≡ inline_placement)
   pub succeeds : IsShort → IsOk r
-  pub err : IfErr r (λ e. IsReserve e × IsTrue (new_room_asks (size t)))
+  pub err : IfErr r (λ e. IsReserve e × IsTrue (with_capacity_asks (size t)))
 
 -- the text of a `bool`
 abbrev pub bool_text : Bool → List ℕ

@@ -1,7 +1,7 @@
 //! Texts made of formats.
 ghost use Rattle.std.specs.Prelude.{◌≡◌, IfOk, IfSome, IsTrue, OnOk, OnErr};
 ghost use Rattle.compact_str.specs.Text.{text_of};
-ghost use Rattle.compact_str.specs.Change.{push_asks};
+ghost use Rattle.compact_str.specs.Change.{push_str_asks};
 ghost use Rattle.compact_str.specs.Edits.{Writes};
 ghost use Rattle.compact_str.specs.Fitted.{IsFitted};
 
@@ -63,7 +63,7 @@ impl Write for Collector {
         ensures still { OnOk result (self.new.is_refused ≡ self.old.is_refused) }
         ensures err { OnErr result
             ((self.new.value ≡ self.old.value) × IsTrue self.new.is_refused) }
-        ensures asks { OnErr result (IsTrue (push_asks self.old.value (text_of s.now))) }
+        ensures asks { OnErr result (IsTrue (push_str_asks self.old.value (text_of s.now))) }
     {
         match self.value.write_str(s) {
             Ok(()) => Ok(()),

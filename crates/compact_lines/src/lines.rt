@@ -2,8 +2,8 @@
 ghost use Rattle.std.specs.Prelude.{◌≡◌, ◌≤◌, List, ℕ, [], OnErr, OnOk, Some};
 ghost use Rattle.std.specs.Io.BufRead.{strip_last};
 ghost use Rattle.std.specs.Io.KnownBytes.{Appends};
-ghost use Rattle.compact_str.specs.Value.{placed, PlacedText};
-ghost use Rattle.compact_str.specs.Capacity.{inlined};
+ghost use Rattle.compact_str.specs.Value.{placed_text, PlacedText};
+ghost use Rattle.compact_str.specs.Capacity.{inline_placement};
 ghost use Rattle.compact_lines.specs.Lines.{AnswersLine, AnswersCommand, AppendsAnswers, AppendsFront, AppendsPart, AppendsSomeAnswers, outcome_line, reply_line, value_line};
 
 use crate::command::{Command, answers, parse};
@@ -28,10 +28,12 @@ use std::io::{BufRead, BufReader, Read, Write};
 pub fn run_lines<R: Read, W: Write>(alloc: Global, reader: &mut R, writer: &mut W) -> u8
     ensures status { result ≤ 1 }
     ensures answers { result ≡ 0 → (w : PlacedText) × AppendsAnswers ⟦<Standard as Policy>⟧.growth
-        (placed [] inlined) (R.remaining reader.old) (W.contents writer.old) (W.contents
+        (placed_text [] inline_placement) (R.remaining reader.old) (W.contents writer.old)
+        (W.contents
         writer.new) w }
     ensures stopped { result ≡ 1 → AppendsSomeAnswers ⟦<Standard as Policy>⟧.growth
-        (placed [] inlined) (R.remaining reader.old) (W.contents writer.old) (W.contents
+        (placed_text [] inline_placement) (R.remaining reader.old) (W.contents writer.old)
+        (W.contents
         writer.new) }
 {
     match answer_input(alloc, reader, writer) {
@@ -43,10 +45,12 @@ pub fn run_lines<R: Read, W: Write>(alloc: Global, reader: &mut R, writer: &mut 
 /// Answers each line of a reader, from the empty value on.
 fn answer_input<R: Read, W: Write>(alloc: Global, reader: &mut R, writer: &mut W) -> io::Result<()>
     ensures ok { OnOk result ((w : PlacedText) × AppendsAnswers ⟦<Standard as Policy>⟧.growth
-        (placed [] inlined) (R.remaining reader.old) (W.contents writer.old) (W.contents
+        (placed_text [] inline_placement) (R.remaining reader.old) (W.contents writer.old)
+        (W.contents
         writer.new) w) }
     ensures err { OnErr result (AppendsSomeAnswers ⟦<Standard as Policy>⟧.growth
-        (placed [] inlined) (R.remaining reader.old) (W.contents writer.old) (W.contents
+        (placed_text [] inline_placement) (R.remaining reader.old) (W.contents writer.old)
+        (W.contents
         writer.new)) }
 {
     let mut reader = BufReader::new(alloc, reader)?;

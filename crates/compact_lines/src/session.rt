@@ -1,7 +1,7 @@
 //! The one value that the commands work on.
 ghost use Rattle.std.specs.Prelude.{◌≡◌, [], IfOk, OnErr, IsTrue};
-ghost use Rattle.compact_str.specs.Value.{placed};
-ghost use Rattle.compact_str.specs.Capacity.{inlined};
+ghost use Rattle.compact_str.specs.Value.{placed_text};
+ghost use Rattle.compact_str.specs.Capacity.{inline_placement};
 ghost use Rattle.compact_edit.specs.Steps.{Step};
 ghost use Rattle.compact_lines.specs.Sessions.{Executes, command_asks};
 
@@ -36,7 +36,7 @@ impl Model for Session {
 impl Session {
     /// Begins with the empty value, inline. An error says that no memory was found for a reply.
     pub fn new(alloc: Global) -> Result<Self, AllocError>
-        ensures { IfOk result (λ session. session ≡ placed [] inlined) }
+        ensures { IfOk result (λ session. session ≡ placed_text [] inline_placement) }
     {
         Ok(Session {
             alloc,

@@ -20,5 +20,5 @@ pub whole : (items : List ℕ) (len : ℕ) → len ≡ length items → take len
 whole items len e = take_all len items (omega arith)
 
 -- what a slice of all the items of a vector leaves there
-pub written : (items row : List ℕ) (len : ℕ) → length row ≡ length items → len ≡ length items → take len (row ++ drop (length row) items) ≡ row
-written items row len same e = take_at row (drop (length row) items) len (omega arith)
+pub written : (items slice : List ℕ) (len : ℕ) → length slice ≡ length items → len ≡ length items → take len (slice ++ drop (length slice) items) ≡ slice
+written items slice len same e = take_at slice (drop (length slice) items) len (omega arith)

@@ -3,7 +3,7 @@ use Rattle.std.proofs.Common.{◌≡◌, ℕ, ◌+◌, ◌-◌, ◌≤◌, List,
 use Rattle.std.proofs.lemmas.Str.{len_utf8_bounds}
 use Rattle.std.specs.Char.{len_utf8}
 use Rattle.compact_repr.specs.Text.{size}
-use Rattle.compact_repr.specs.Cut.{IsBoundary, before, after, middle}
+use Rattle.compact_repr.specs.Cut.{IsBoundary, before, after, substring}
 use Rattle.compact_repr.proofs.Texts.{size-append}
 use Rattle.compact_repr.proofs.Cuts.{before-after, before-cut, after-cut, size-before}
 
@@ -26,18 +26,18 @@ two_cuts (x ∷ xs) b (y ∷ ys) d e h =
     (rest.0, ap (λ (c : ℕ). c ∷ ys) (sym first) ∙ ap (λ (l : List ℕ). x ∷ l) rest.1, rest.2)
 
 -- a text with two boundaries is what stands before, between and after them
-pub middle-parts : (t : List ℕ) (i j : ℕ) → IsBoundary t i → IsBoundary t j → i ≤ j → (after t i ≡ middle t i j ++ after t j) × (size (middle t i j) ≡ j - i)
-middle-parts t i j h k order =
+pub substring-parts : (t : List ℕ) (i j : ℕ) → IsBoundary t i → IsBoundary t j → i ≤ j → (after t i ≡ substring t i j ++ after t j) × (size (substring t i j) ≡ j - i)
+substring-parts t i j h k order =
     let first = size-before t i h in
     let last = size-before t j k in
     let cuts = two_cuts (before t i) (after t i) (before t j) (after t j) (sym (before-after t i) ∙ before-after t j) (omega (arith, first, last, order)) in
     let wide : size cuts.0 ≡ j - i = omega (arith, first, last, ap size cuts.1, size-append (before t i) cuts.0) in
-    let is : middle t i j ≡ cuts.0 = ap (λ (l : List ℕ). before l (j - i)) cuts.2 ∙ before-cut cuts.0 (after t j) (j - i) wide in
+    let is : substring t i j ≡ cuts.0 = ap (λ (l : List ℕ). before l (j - i)) cuts.2 ∙ before-cut cuts.0 (after t j) (j - i) wide in
     (rw is cuts.2, rw is wide)
 
 -- and of every three parts the second stands between two boundaries
-pub parts-middle : (t a m b : List ℕ) (i j : ℕ) → t ≡ a ++ m ++ b → size a ≡ i → size a + size m ≡ j → IsBoundary t i × IsBoundary t j × (middle t i j ≡ m)
-parts-middle t a m b i j e first last =
+pub parts-substring : (t a m b : List ℕ) (i j : ℕ) → t ≡ a ++ m ++ b → size a ≡ i → size a + size m ≡ j → IsBoundary t i × IsBoundary t j × (substring t i j ≡ m)
+parts-substring t a m b i j e first last =
     let grouped : t ≡ a ++ (m ++ b) = e ∙ append_assoc a m b in
     let behind : after t i ≡ m ++ b = ap (λ (l : List ℕ). after l i) grouped ∙ after-cut a (m ++ b) i first in
     let wide : size m ≡ j - i = omega (arith, first, last) in (
@@ -47,7 +47,7 @@ parts-middle t a m b i j e first last =
     )
 
 -- the end of the middle is a boundary of the rest
-pub boundary-middle : (t : List ℕ) (i j : ℕ) → IsBoundary t i → IsBoundary t j → i ≤ j → IsBoundary (after t i) (j - i)
-boundary-middle t i j h k order =
-    let parts = middle-parts t i j h k order in
-    (middle t i j, after t j, record { parts = parts.0; position = parts.1 })
+pub boundary-substring : (t : List ℕ) (i j : ℕ) → IsBoundary t i → IsBoundary t j → i ≤ j → IsBoundary (after t i) (j - i)
+boundary-substring t i j h k order =
+    let parts = substring-parts t i j h k order in
+    (substring t i j, after t j, record { parts = parts.0; position = parts.1 })

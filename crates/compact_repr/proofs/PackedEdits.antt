@@ -1,5 +1,5 @@
 -- Packed bytes once their text is changed. What the edits of `Cuts` and `Ascii` say of bytes that spell a text, said of the
--- first bytes of a packed row.
+-- first bytes of a packed array.
 use Rattle.std.proofs.Common.{◌≡◌, ℕ, ◌≤◌, List, take, ap, sym, ◌∙◌, subst, arith}
 use Rattle.std.specs.Str.{IsUtf8}
 use Rattle.std.proofs.lemmas.List.{take-take}

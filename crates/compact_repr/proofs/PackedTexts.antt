@@ -150,7 +150,7 @@ stands-marked bytes n all short u =
     subst (λ (ys : List ℕ). IsPackedFor now (text_of ys)) front
     (stands-short now n same short (subst IsUtf8 (sym front) u) (get_or-set_same bytes 23 (192 + n) 0 (omega arith)))
 
--- the same where the row is written anew
+-- the same where the array is written anew
 pub stands-ended : (bytes : List ℕ) (n : ℕ) → length bytes ≡ 24 → n < 24 → IsUtf8 (take n bytes)
     → IsPackedFor (take 23 bytes ++ (192 + n) ∷ []) (text_of (take n bytes))
 stands-ended bytes n all short u =
@@ -186,20 +186,20 @@ stands-read bytes all most u =
 pub stands-packed : (bytes : List ℕ) → IsUtf8 bytes → length bytes ≤ 24 → IsPackedFor (packed_bytes bytes) (text_of bytes)
 stands-packed bytes u most =
     let n : ℕ = length bytes in
-    let row : List ℕ = packed_bytes bytes in
+    let array : List ℕ = packed_bytes bytes in
     ⊎_elim
     (λ (short : n < 24).
     let zeros : List ℕ = replicate (23 - n) 0 in
     let last : ℕ = 192 + n in
     let begun : length (bytes ++ zeros) ≡ 23 = length-append bytes zeros ∙ ap (λ (k : ℕ). n + k) (length-replicate (23 - n) 0) ∙ omega arith in
-    let is : row ≡ (bytes ++ zeros) ++ last ∷ [] = cond-true _ _ _ (lt-ltb n 24 short) in
-    let all : length row ≡ 24 = ap length is ∙ length-append (bytes ++ zeros) (last ∷ []) ∙ ap (λ (k : ℕ). k + 1) begun in
-    let front : take n row ≡ bytes = ap (take n) (is ∙ append_assoc bytes zeros (last ∷ [])) ∙ take_at bytes (zeros ++ last ∷ []) n refl in
-    let end : get_or row 23 0 ≡ last = ap (λ (ys : List ℕ). get_or ys 23 0) is ∙ get_or_push (bytes ++ zeros) last 0 23 begun in
-    subst (λ (ys : List ℕ). IsPackedFor row (text_of ys)) front (stands-short row n all short (subst IsUtf8 (sym front) u) end))
+    let is : array ≡ (bytes ++ zeros) ++ last ∷ [] = cond-true _ _ _ (lt-ltb n 24 short) in
+    let all : length array ≡ 24 = ap length is ∙ length-append (bytes ++ zeros) (last ∷ []) ∙ ap (λ (k : ℕ). k + 1) begun in
+    let front : take n array ≡ bytes = ap (take n) (is ∙ append_assoc bytes zeros (last ∷ [])) ∙ take_at bytes (zeros ++ last ∷ []) n refl in
+    let end : get_or array 23 0 ≡ last = ap (λ (ys : List ℕ). get_or ys 23 0) is ∙ get_or_push (bytes ++ zeros) last 0 23 begun in
+    subst (λ (ys : List ℕ). IsPackedFor array (text_of ys)) front (stands-short array n all short (subst IsUtf8 (sym front) u) end))
     (λ (long : 24 ≤ n).
     let full : n ≡ 24 = omega arith in
-    let is : row ≡ bytes = cond-false _ _ _ (le-ltb n 24 long) in
+    let is : array ≡ bytes = cond-false _ _ _ (le-ltb n 24 long) in
     let front : take n bytes ≡ bytes = take_all n bytes (omega arith) in
     let stands : IsPackedFor bytes (text_of bytes) = subst (λ (ys : List ℕ). IsPackedFor bytes (text_of ys)) front (stands-full bytes n full full (subst IsUtf8 (sym front) u)) in
     subst (λ (ys : List ℕ). IsPackedFor ys (text_of bytes)) (sym is) stands)

@@ -2,76 +2,76 @@
 use Rattle.std.specs.Prelude.{◌≡◌, ◌⊎◌, ℕ, ◌-◌, Bool, not, ◌&&◌, IsTrue, List, [], ◌++◌, Option, Some, option_map, nat_eq, nat_le, if◌then◌else◌}
 use Rattle.compact_repr.specs.Text.{size, ascii_lowercase, ascii_uppercase}
 use Rattle.compact_repr.specs.Cut.{before, replaced_text}
-use Rattle.compact_repr.specs.Value.{PlacedText, placed, is_static}
-use Rattle.compact_repr.specs.Capacity.{Growth, inlined, fresh, new_room, owned, own_asks, kept, room, room_asks, copied, shrunk, shrink_asks}
+use Rattle.compact_repr.specs.Value.{PlacedText, placed_text, is_static}
+use Rattle.compact_repr.specs.Capacity.{Growth, inline_placement, new_placement, with_capacity_placement, owned_placement, make_owned_asks, shortened_placement, reserve_placement, reserve_asks, clone_placement, shrink_to_placement, shrink_to_asks}
 
 -- a new value with the text t
-abbrev pub made : Growth → List ℕ → Option PlacedText
-made g t = option_map (placed t) (fresh g t)
+abbrev pub new : Growth → List ℕ → Option PlacedText
+new g t = option_map (placed_text t) (new_placement g t)
 
 -- v with s joined at its end; an empty s changes nothing, even the place of a static value
-abbrev pub pushed : Growth → PlacedText → List ℕ → Option PlacedText
-pushed g v s =
+abbrev pub push_str : Growth → PlacedText → List ℕ → Option PlacedText
+push_str g v s =
     if nat_eq (size s) 0 then Some v
-    else option_map (placed (v.text ++ s)) (room g v (size s))
+    else option_map (placed_text (v.text ++ s)) (reserve_placement g v (size s))
 
--- `pushed` asks for a heap buffer
-abbrev pub push_asks : PlacedText → List ℕ → Bool
-push_asks v s = not (nat_eq (size s) 0) && room_asks v (size s)
+-- `push_str` asks for a heap buffer
+abbrev pub push_str_asks : PlacedText → List ℕ → Bool
+push_str_asks v s = not (nat_eq (size s) 0) && reserve_asks v (size s)
 
 -- v with no text, in its place
-abbrev pub cleared : PlacedText → PlacedText
-cleared v = placed [] (kept v [])
+abbrev pub clear : PlacedText → PlacedText
+clear v = placed_text [] (shortened_placement v [])
 
 -- v with room for n more bytes
-abbrev pub reserved : Growth → PlacedText → ℕ → Option PlacedText
-reserved g v n = option_map (placed v.text) (room g v n)
+abbrev pub reserve : Growth → PlacedText → ℕ → Option PlacedText
+reserve g v n = option_map (placed_text v.text) (reserve_placement g v n)
 
 -- an empty value with room for c bytes
-abbrev pub with_room : Growth → ℕ → Option PlacedText
-with_room g c = option_map (placed []) (new_room g c)
+abbrev pub with_capacity : Growth → ℕ → Option PlacedText
+with_capacity g c = option_map (placed_text []) (with_capacity_placement g c)
 
 -- v with a text of its own
-abbrev pub made_owned : Growth → PlacedText → Option PlacedText
-made_owned g v = option_map (placed v.text) (owned g v)
+abbrev pub make_owned : Growth → PlacedText → Option PlacedText
+make_owned g v = option_map (placed_text v.text) (owned_placement g v)
 
 -- a copy of v
-abbrev pub copy_of : Growth → PlacedText → Option PlacedText
-copy_of g v = option_map (placed v.text) (copied g v)
+abbrev pub clone : Growth → PlacedText → Option PlacedText
+clone g v = option_map (placed_text v.text) (clone_placement g v)
 
 -- v after a shrink to n: shrunk, or as it was where the new buffer that this takes was refused
 abbrev pub Shrinks : Growth → PlacedText → ℕ → PlacedText → Type 0
-Shrinks g v n w = (w ≡ placed v.text (shrunk g v n)) ⊎ ((w ≡ v) × IsTrue (shrink_asks g v n))
+Shrinks g v n w = (w ≡ placed_text v.text (shrink_to_placement g v n)) ⊎ ((w ≡ v) × IsTrue (shrink_to_asks g v n))
 
 -- v with its text cut at a position, in its place; one past the end changes nothing
-abbrev pub truncated : PlacedText → ℕ → PlacedText
-truncated v p =
+abbrev pub truncate : PlacedText → ℕ → PlacedText
+truncate v p =
     let t = if nat_le (size v.text) p then v.text else before v.text p in
-    placed t (kept v t)
+    placed_text t (shortened_placement v t)
 
 -- v with s put in at a position, once there is room for s; for an empty s too
-abbrev pub inserted : Growth → PlacedText → ℕ → List ℕ → Option PlacedText
-inserted g v index s = option_map (placed (replaced_text v.text index index s)) (room g v (size s))
+abbrev pub insert_str : Growth → PlacedText → ℕ → List ℕ → Option PlacedText
+insert_str g v index s = option_map (placed_text (replaced_text v.text index index s)) (reserve_placement g v (size s))
 
 -- v with what stands from one position to another replaced by s: owned where s is no longer than that, else with room for the difference
-abbrev pub replaced : Growth → PlacedText → ℕ → ℕ → List ℕ → Option PlacedText
-replaced g v start end s =
-    option_map (placed (replaced_text v.text start end s)) (if nat_le (size s) (end - start) then owned g v else room g v (size s - (end - start)))
+abbrev pub replace_range : Growth → PlacedText → ℕ → ℕ → List ℕ → Option PlacedText
+replace_range g v start end s =
+    option_map (placed_text (replaced_text v.text start end s)) (if nat_le (size s) (end - start) then owned_placement g v else reserve_placement g v (size s - (end - start)))
 
-abbrev pub replace_asks : PlacedText → ℕ → ℕ → List ℕ → Bool
-replace_asks v start end s = if nat_le (size s) (end - start) then own_asks v else room_asks v (size s - (end - start))
+abbrev pub replace_range_asks : PlacedText → ℕ → ℕ → List ℕ → Bool
+replace_range_asks v start end s = if nat_le (size s) (end - start) then make_owned_asks v else reserve_asks v (size s - (end - start))
 
--- v made owned, with A to Z made small, or a to z made great
-abbrev pub lowercased : Growth → PlacedText → Option PlacedText
-lowercased g v = option_map (placed (ascii_lowercase v.text)) (owned g v)
+-- v made owned, with A to Z made lowercase, or a to z made uppercase
+abbrev pub make_ascii_lowercase : Growth → PlacedText → Option PlacedText
+make_ascii_lowercase g v = option_map (placed_text (ascii_lowercase v.text)) (owned_placement g v)
 
-abbrev pub uppercased : Growth → PlacedText → Option PlacedText
-uppercased g v = option_map (placed (ascii_uppercase v.text)) (owned g v)
+abbrev pub make_ascii_uppercase : Growth → PlacedText → Option PlacedText
+make_ascii_uppercase g v = option_map (placed_text (ascii_uppercase v.text)) (owned_placement g v)
 
 -- v made owned, with only the characters t of its text
-abbrev pub retained : Growth → PlacedText → List ℕ → Option PlacedText
-retained g v t = option_map (placed t) (owned g v)
+abbrev pub retain : Growth → PlacedText → List ℕ → Option PlacedText
+retain g v t = option_map (placed_text t) (owned_placement g v)
 
 -- v with no text: a static one inline, every other in its place
-abbrev pub zeroized : PlacedText → PlacedText
-zeroized v = placed [] (if is_static v.placement.place then inlined else v.placement)
+abbrev pub zeroize : PlacedText → PlacedText
+zeroize v = placed_text [] (if is_static v.placement.place then inline_placement else v.placement)

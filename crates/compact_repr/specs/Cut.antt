@@ -27,8 +27,8 @@ abbrev pub replaced_text : List ℕ → ℕ → ℕ → List ℕ → List ℕ
 replaced_text t start end s = before t start ++ s ++ after t end
 
 -- what stands in t from one position to another
-abbrev pub middle : List ℕ → ℕ → ℕ → List ℕ
-middle t start end = before (after t start) (end - start)
+abbrev pub substring : List ℕ → ℕ → ℕ → List ℕ
+substring t start end = before (after t start) (end - start)
 
 -- `before` and `after` are the two parts of every cut, and there is a cut at p just where what is before p takes p bytes
 abbrev pub CutIsBeforeAndAfter : Type 0

@@ -3,9 +3,9 @@ pub mod Cut
 pub mod Value
 pub mod Capacity
 pub mod Change
-pub mod Kept
-pub mod Stored
+pub mod Retain
+pub mod BufferValue
 pub mod Words
 pub mod Loan
 pub mod Packed
-pub mod AtOnce
+pub mod PushOutcomes

@@ -13,8 +13,8 @@ abbrev pub StaticSlice : RattleType
 StaticSlice = ShrSlice (named 0) [] u8
 
 -- what such a reference owns
-abbrev pub lent_for_ever : Bor (List ℕ) → Fml
-lent_for_ever bytes = StaticSlice.own_val bytes (shr_slice_vals bytes)
+abbrev pub static_loan : Bor (List ℕ) → Fml
+static_loan bytes = StaticSlice.own_val bytes (shr_slice_vals bytes)
 
 -- where the bytes lie
 abbrev pub address : Bor (List ℕ) → Ptr

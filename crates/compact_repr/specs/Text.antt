@@ -21,7 +21,7 @@ utf8 t = encode_utf8_all t
 abbrev pub text_of : List ℕ → List ℕ
 text_of bytes = chars bytes
 
--- t with A to Z made small, or a to z made great; every other character stays
+-- t with A to Z made lowercase, or a to z made uppercase; every other character stays
 abbrev pub ascii_lowercase : List ℕ → List ℕ
 ascii_lowercase t = map to_ascii_lowercase t
 

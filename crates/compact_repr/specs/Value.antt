@@ -27,8 +27,8 @@ pub record PlacedText : Type 0 where
   pub text : List ℕ
   pub placement : Placement
 
-abbrev pub placed : List ℕ → Placement → PlacedText
-placed t p = record { text = t; placement = p }
+abbrev pub placed_text : List ℕ → Placement → PlacedText
+placed_text t p = record { text = t; placement = p }
 
 -- a place with a capacity may hold so many bytes
 abbrev pub IsCapacityOf : Place → ℕ → ℕ → Type 0

@@ -2,7 +2,7 @@
 ghost use Rattle.std.specs.Prelude.{◌≡◌, ◌+◌, ◌≤◌, ◌<◌, [], ◌∷◌, ◌++◌, length, false, IfSome, IsSome, IsTrue, ◌↔◌};
 ghost use Rattle.compact_repr.specs.Text.{size, utf8, text_of};
 
-use crate::rows;
+use crate::slices;
 use std::marker::Model;
 
 /// The most bytes of a block.
@@ -11,8 +11,8 @@ const BLOCK_CAPACITY: usize = 1024;
 /// The most bytes of a padded text.
 const PADDED_CAPACITY: usize = 16;
 
-/// The most bytes that `push_behind` writes: a padded text, and one that is written at once.
-const MOST_BEHIND: usize = PADDED_CAPACITY + rows::MOST_AT_ONCE;
+/// The most bytes that `push_behind` writes: a padded text, and a short one.
+const MAX_BEHIND_LEN: usize = PADDED_CAPACITY + slices::MAX_SHORT_LEN;
 
 /// A text of at most 16 bytes, with zeros behind it: where 16 bytes have room it is written at once, with no look at how
 /// long it is.
@@ -45,7 +45,7 @@ impl Padded {
             return None;
         }
         let mut bytes = [0; PADDED_CAPACITY];
-        rows::write_at_once(&mut bytes, 0, text.as_bytes());
+        slices::write_short(&mut bytes, 0, text.as_bytes());
         Some(Padded {
             bytes,
             len: text.len(),
@@ -104,7 +104,7 @@ impl Block {
             return false;
         }
         let end = self.len + text.len();
-        rows::write(&mut self.bytes, self.len, text.as_bytes());
+        slices::write(&mut self.bytes, self.len, text.as_bytes());
         self.len = end;
         true
     }
@@ -118,15 +118,15 @@ impl Block {
             → self.new ≡ (self.old ++ separator.now) ++ text_of text.now }
         ensures full { result ≡ false → self.new ≡ self.old }
     {
-        if text.len() > rows::MOST_AT_ONCE {
+        if text.len() > slices::MAX_SHORT_LEN {
             return false;
         }
-        if self.len > BLOCK_CAPACITY - MOST_BEHIND {
+        if self.len > BLOCK_CAPACITY - MAX_BEHIND_LEN {
             return false;
         }
         let start = self.len + separator.len;
-        rows::write_padded(&mut self.bytes, self.len, &separator.bytes, separator.len);
-        rows::write_at_once(&mut self.bytes, start, text.as_bytes());
+        slices::write_padded(&mut self.bytes, self.len, &separator.bytes, separator.len);
+        slices::write_short(&mut self.bytes, start, text.as_bytes());
         self.len = start + text.len();
         true
     }

@@ -2,11 +2,11 @@
 ghost use Rattle.std.specs.Prelude.{◌≡◌, ◌-◌, ◌<◌, ◌≤◌, List, ℕ, [], ◌∷◌, ◌++◌, length, MatchOption};
 ghost use Rattle.std.specs.Char.{len_utf8};
 ghost use Rattle.compact_repr.specs.Text.{text_of};
-ghost use Rattle.compact_repr.specs.Cut.{IsBoundary, before, after, middle, CutIsBeforeAndAfter};
+ghost use Rattle.compact_repr.specs.Cut.{IsBoundary, before, after, substring, CutIsBeforeAndAfter};
 
 /// What stands before a boundary.
 #[inline]
-pub fn front(text: &str, index: usize) -> &str
+pub fn prefix(text: &str, index: usize) -> &str
     requires { IsBoundary (text_of text.now) index }
     ensures text { text_of result.now ≡ before (text_of text.now) index }
     ensures len { length result.now ≡ index }
@@ -16,7 +16,7 @@ pub fn front(text: &str, index: usize) -> &str
 
 /// What stands after a boundary.
 #[inline]
-pub fn tail(text: &str, index: usize) -> &str
+pub fn suffix(text: &str, index: usize) -> &str
     requires { IsBoundary (text_of text.now) index }
     ensures { text_of result.now ≡ after (text_of text.now) index }
 {
@@ -25,14 +25,14 @@ pub fn tail(text: &str, index: usize) -> &str
 
 /// What stands from one boundary to another.
 #[inline(always)]
-pub fn middle(text: &str, start: usize, end: usize) -> &str
+pub fn substring(text: &str, start: usize, end: usize) -> &str
     requires order { start ≤ end }
     requires first { IsBoundary (text_of text.now) start }
     requires last { IsBoundary (text_of text.now) end }
-    ensures text { text_of result.now ≡ middle (text_of text.now) start end }
+    ensures text { text_of result.now ≡ substring (text_of text.now) start end }
     ensures len { length result.now ≡ end - start }
 {
-    front(tail(text, start), end - start)
+    prefix(suffix(text, start), end - start)
 }
 
 /// The character that begins at a boundary before the end.

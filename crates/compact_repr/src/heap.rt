@@ -3,13 +3,13 @@ ghost use Rattle.std.specs.Prelude.{◌≡◌, ◌+◌, ◌-◌, ◌≤◌, ◌<
 ghost use Rattle.std.specs.String.{string_bytes, string_capacity};
 ghost use Rattle.compact_repr.specs.Text.{size, utf8, text_of, IsText};
 ghost use Rattle.compact_repr.specs.Cut.{IsBoundary, before, replaced_text};
-ghost use Rattle.compact_repr.specs.Kept.{KeepsCharsTo};
+ghost use Rattle.compact_repr.specs.Retain.{RetainsCharsTo};
 
 mod append;
-mod each;
+mod bytewise;
 mod out;
 
-use crate::rows;
+use crate::slices;
 use std::alloc::{AllocError, Global};
 use std::marker::Model;
 
@@ -51,7 +51,7 @@ impl HeapBuffer {
         ensures { IfOk result (λ b. b ≡ record { text = text_of text.now; capacity = capacity }) }
     {
         let mut bytes = Vec::with_capacity(alloc, capacity)?;
-        append::put_first(&mut bytes, text.as_bytes());
+        append::append_first(&mut bytes, text.as_bytes());
         Ok(HeapBuffer { bytes })
     }
 
@@ -126,14 +126,14 @@ impl HeapBuffer {
         if !self.has_room(text.len()) {
             return false;
         }
-        append::put_all(&mut self.bytes, text.as_bytes());
+        append::append_all(&mut self.bytes, text.as_bytes());
         true
     }
 
     /// Replaces what stands from one boundary to another by `text` where the outcome fits, and takes no memory. Answers
     /// whether it fitted; if not, nothing has changed. Positions are in bytes.
     #[inline(always)]
-    pub fn replace_range(&mut self, start: usize, end: usize, text: &str) -> bool
+    pub fn try_replace_range(&mut self, start: usize, end: usize, text: &str) -> bool
         requires order { start ≤ end }
         requires first { IsBoundary self.old.text start }
         requires last { IsBoundary self.old.text end }
@@ -153,10 +153,10 @@ impl HeapBuffer {
             return false;
         }
         if len > old {
-            append::open(&mut self.bytes, len);
-            rows::replace_range(self.bytes.as_mut_slice(), old, start, end, text.as_bytes());
+            append::append_gap(&mut self.bytes, len);
+            slices::splice(self.bytes.as_mut_slice(), old, start, end, text.as_bytes());
         } else {
-            rows::replace_range(self.bytes.as_mut_slice(), old, start, end, text.as_bytes());
+            slices::splice(self.bytes.as_mut_slice(), old, start, end, text.as_bytes());
             self.bytes.truncate(len);
         }
         true
@@ -183,7 +183,7 @@ impl HeapBuffer {
         }
         // The vector is one byte longer then, whichever byte it is.
         self.bytes.push_reserved(byte);
-        rows::insert_byte(self.bytes.as_mut_slice(), len, index, byte);
+        slices::insert_byte(self.bytes.as_mut_slice(), len, index, byte);
         true
     }
 
@@ -200,7 +200,7 @@ impl HeapBuffer {
         ensures within { size self.new.text ≤ self.old.capacity }
     {
         let len = self.bytes.len();
-        rows::remove_byte(self.bytes.as_mut_slice(), len, index);
+        slices::remove_byte(self.bytes.as_mut_slice(), len, index);
         let _last = self.bytes.take_last();
     }
 
@@ -218,7 +218,7 @@ impl HeapBuffer {
         ensures within { size self.new.text ≤ self.old.capacity }
     {
         let len = self.bytes.len();
-        rows::cut_out(self.bytes.as_mut_slice(), len, start, end);
+        slices::cut_out(self.bytes.as_mut_slice(), len, start, end);
         self.bytes.truncate(len - (end - start));
     }
 
@@ -245,13 +245,13 @@ impl HeapBuffer {
     #[inline]
     pub fn retain<F: FnMut(char) -> bool>(&mut self, keep: &mut F)
         requires { F.IsAlwaysCallable keep.old }
-        ensures text { KeepsCharsTo F.FnMut keep.old self.old.text self.new.text keep.new }
+        ensures text { RetainsCharsTo F.FnMut keep.old self.old.text self.new.text keep.new }
         ensures callable { F.IsAlwaysCallable keep.new }
         ensures capacity { self.new.capacity ≡ self.old.capacity }
         ensures fits { size self.new.text ≤ self.old.capacity }
     {
         let len = self.bytes.len();
-        let kept = rows::retain(self.bytes.as_mut_slice(), len, keep);
+        let kept = slices::retain(self.bytes.as_mut_slice(), len, keep);
         self.bytes.truncate(kept);
     }
 }

@@ -5,14 +5,14 @@ ghost use Rattle.std.specs.Prelude.{◌≡◌, ◌+◌, ◌-◌, ◌≤◌, ◌<
 ghost use Rattle.compact_repr.specs.Text.{size, utf8, text_of, IsText, ascii_lowercase, ascii_uppercase};
 ghost use Rattle.compact_repr.specs.Cut.{IsBoundary, before, replaced_text};
 ghost use Rattle.compact_repr.specs.Packed.{IsPackedFor};
-ghost use Rattle.compact_repr.specs.Kept.{KeepsCharsTo};
+ghost use Rattle.compact_repr.specs.Retain.{RetainsCharsTo};
 
 mod compare;
 mod packed;
 
-use crate::rows;
+use crate::slices;
 use crate::words::{insert_byte, pack, remove_byte};
-use packed::{ended, is_packed, length_of, mark, marked};
+use packed::{is_packed, length_of, with_len, with_short_len, write_len};
 use std::marker::Model;
 
 /// The most bytes that stand inline.
@@ -43,7 +43,7 @@ impl InlineBuffer {
         ensures { result ≡ [] }
     {
         let mut bytes = [0; INLINE_CAPACITY];
-        mark(&mut bytes, 0);
+        write_len(&mut bytes, 0);
         InlineBuffer { bytes }
     }
 
@@ -96,15 +96,15 @@ impl InlineBuffer {
         if text.len() > INLINE_CAPACITY - len {
             return false;
         }
-        rows::write_at_once(&mut self.bytes, len, text.as_bytes());
-        mark(&mut self.bytes, len + text.len());
+        slices::write_short(&mut self.bytes, len, text.as_bytes());
+        write_len(&mut self.bytes, len + text.len());
         true
     }
 
     /// Replaces what stands from one boundary to another by `text` where the outcome fits. Answers whether it fitted; if
     /// not, nothing has changed. Positions are in bytes.
     #[inline(always)]
-    pub fn replace_range(&mut self, start: usize, end: usize, text: &str) -> bool
+    pub fn try_replace_range(&mut self, start: usize, end: usize, text: &str) -> bool
         requires order { start ≤ end }
         requires first { IsBoundary self.old start }
         requires last { IsBoundary self.old end }
@@ -119,8 +119,8 @@ impl InlineBuffer {
         if len > INLINE_CAPACITY {
             return false;
         }
-        rows::replace_range(&mut self.bytes, old_len, start, end, text.as_bytes());
-        mark(&mut self.bytes, len);
+        slices::splice(&mut self.bytes, old_len, start, end, text.as_bytes());
+        write_len(&mut self.bytes, len);
         true
     }
 
@@ -140,8 +140,8 @@ impl InlineBuffer {
         if len >= INLINE_CAPACITY {
             return false;
         }
-        let row = insert_byte(&self.bytes, index, byte);
-        self.bytes = marked(&row, len + 1);
+        let array = insert_byte(&self.bytes, index, byte);
+        self.bytes = with_len(&array, len + 1);
         true
     }
 
@@ -154,8 +154,8 @@ impl InlineBuffer {
         ensures within { size self.new ≤ 24 }
     {
         let len = length_of(&self.bytes);
-        let row = remove_byte(&self.bytes, index);
-        self.bytes = ended(&row, len - 1);
+        let array = remove_byte(&self.bytes, index);
+        self.bytes = with_short_len(&array, len - 1);
     }
 
     /// Takes out what stands from one boundary to another, in bytes.
@@ -168,8 +168,8 @@ impl InlineBuffer {
         ensures within { size self.new ≤ 24 }
     {
         let len = length_of(&self.bytes);
-        rows::cut_out(&mut self.bytes, len, start, end);
-        mark(&mut self.bytes, len - (end - start));
+        slices::cut_out(&mut self.bytes, len, start, end);
+        write_len(&mut self.bytes, len - (end - start));
     }
 
     /// Keeps the first `len` bytes, which end at a boundary.
@@ -179,7 +179,7 @@ impl InlineBuffer {
         ensures text { self.new ≡ before self.old len }
         ensures fits { size self.new ≤ 24 }
     {
-        mark(&mut self.bytes, len);
+        write_len(&mut self.bytes, len);
     }
 
     /// Leaves the empty text.
@@ -187,48 +187,48 @@ impl InlineBuffer {
     pub fn clear(&mut self)
         ensures { self.new ≡ [] }
     {
-        mark(&mut self.bytes, 0);
+        write_len(&mut self.bytes, 0);
     }
 
     /// Leaves the empty text, and writes every byte with zero but the last, which says that there is no text.
     pub fn zeroize(&mut self)
         ensures { self.new ≡ [] }
     {
-        rows::wipe(&mut self.bytes);
-        mark(&mut self.bytes, 0);
+        slices::wipe(&mut self.bytes);
+        write_len(&mut self.bytes, 0);
     }
 
-    /// Makes A to Z small.
+    /// Makes A to Z lowercase.
     pub fn make_ascii_lowercase(&mut self)
         ensures text { self.new ≡ ascii_lowercase self.old }
         ensures fits { size self.new ≤ 24 }
     {
         let len = length_of(&self.bytes);
-        rows::make_lowercase(&mut self.bytes, len);
-        mark(&mut self.bytes, len);
+        slices::make_lowercase(&mut self.bytes, len);
+        write_len(&mut self.bytes, len);
     }
 
-    /// Makes a to z great.
+    /// Makes a to z uppercase.
     pub fn make_ascii_uppercase(&mut self)
         ensures text { self.new ≡ ascii_uppercase self.old }
         ensures fits { size self.new ≤ 24 }
     {
         let len = length_of(&self.bytes);
-        rows::make_uppercase(&mut self.bytes, len);
-        mark(&mut self.bytes, len);
+        slices::make_uppercase(&mut self.bytes, len);
+        write_len(&mut self.bytes, len);
     }
 
     /// Keeps the characters for which `keep`, asked once of each in order, answers true.
     #[inline]
     pub fn retain<F: FnMut(char) -> bool>(&mut self, keep: &mut F)
         requires { F.IsAlwaysCallable keep.old }
-        ensures text { KeepsCharsTo F.FnMut keep.old self.old self.new keep.new }
+        ensures text { RetainsCharsTo F.FnMut keep.old self.old self.new keep.new }
         ensures callable { F.IsAlwaysCallable keep.new }
         ensures fits { size self.new ≤ 24 }
     {
         let len = length_of(&self.bytes);
-        let kept = rows::retain(&mut self.bytes, len, keep);
-        mark(&mut self.bytes, kept);
+        let kept = slices::retain(&mut self.bytes, len, keep);
+        write_len(&mut self.bytes, kept);
     }
 
     /// The 24 bytes, which stand for the text.

@@ -3,7 +3,7 @@ ghost use Rattle.std.specs.Prelude.{◌≡◌, ◌<◌, ◌^◌, ◌↔◌, IsSo
 ghost use Rattle.compact_repr.specs.Text.{size, utf8, text_of};
 ghost use Rattle.compact_repr.specs.Packed.{IsPackedFor};
 ghost use Rattle.compact_repr.specs.Value.{inline, is_heap, is_static, IsSound};
-ghost use Rattle.compact_repr.specs.Stored.{value_of, IsStored};
+ghost use Rattle.compact_repr.specs.BufferValue.{buffer_value, IsSoundBuffer};
 
 mod change;
 mod compare;
@@ -41,18 +41,18 @@ impl<P: Policy> Model for Repr<P> {
 
     ghost Value = { PlacedText };
 
-    ghost use Rattle.compact_repr.specs.Stored.{value_of, IsStored};
+    ghost use Rattle.compact_repr.specs.BufferValue.{buffer_value, IsSoundBuffer};
 
-    ghost view = { λ r. value_of r.buffer };
+    ghost view = { λ r. buffer_value r.buffer };
 
-    ghost invariant = { λ r. IsStored r.buffer };
+    ghost invariant = { λ r. IsSoundBuffer r.buffer };
 }
 
 impl<P: Policy> Repr<P> {
     #[inline]
     fn of(alloc: Global, buffer: Buffer) -> Self
-        requires { IsStored buffer }
-        ensures { result ≡ value_of buffer }
+        requires { IsSoundBuffer buffer }
+        ensures { result ≡ buffer_value buffer }
     {
         Repr {
             buffer,

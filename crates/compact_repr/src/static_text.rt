@@ -4,7 +4,7 @@
 //! iterator of references beside it, and a guard in a `Result` hides from its caller what the value becomes.
 ghost use Rattle.std.specs.Prelude.{◌≡◌, ◌<◌, ◌^◌, ℕ, List, length};
 ghost use denote.Ref.{Bor};
-ghost use Rattle.compact_repr.specs.Loan.{lent_for_ever, address};
+ghost use Rattle.compact_repr.specs.Loan.{static_loan, address};
 ghost use Rattle.compact_repr.specs.Text.{size, utf8, text_of, IsText};
 ghost use Rattle.compact_repr.specs.Cut.{IsBoundary, before, after};
 
@@ -19,9 +19,9 @@ struct StaticLoan {
 }
 
 impl Model for StaticLoan {
-    ghost also_owns = { λ loan. lent_for_ever loan.bytes };
+    ghost also_owns = { λ loan. static_loan loan.bytes };
 
-    ghost also_shares = { λ loan _ _. lent_for_ever loan.bytes };
+    ghost also_shares = { λ loan _ _. static_loan loan.bytes };
 }
 
 impl StaticLoan {
@@ -110,19 +110,19 @@ impl StaticText {
 
     /// The first `len` bytes, which end at a boundary.
     #[inline]
-    pub fn front(&self, len: usize) -> Self
+    pub fn prefix(&self, len: usize) -> Self
         requires { IsBoundary self.now len }
         ensures { result ≡ before self.now len }
     {
-        Self::new(cut::front(self.as_static_str(), len))
+        Self::new(cut::prefix(self.as_static_str(), len))
     }
 
     /// What stands behind the first `index` bytes, which end at a boundary.
     #[inline]
-    pub fn tail(&self, index: usize) -> Self
+    pub fn suffix(&self, index: usize) -> Self
         requires { IsBoundary self.now index }
         ensures { result ≡ after self.now index }
     {
-        Self::new(cut::tail(self.as_static_str(), index))
+        Self::new(cut::suffix(self.as_static_str(), index))
     }
 }

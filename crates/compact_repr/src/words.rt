@@ -1,17 +1,17 @@
-//! Rows of 24 bytes as three words: each read and each write is of a whole word, and no loop goes over bytes.
+//! Arrays of 24 bytes as three words: each read and each write is of a whole word, and no loop goes over bytes.
 #![tactic(auto)]
 
 ghost use Rattle.std.specs.Prelude.{◌≡◌, ◌+◌, ◌-◌, ◌*◌, ◌/◌, ◌^◌, ◌≤◌, ◌<◌, ◌∷◌, [], ◌++◌, length, take, drop, slice_index, nat_lt, if◌then◌else◌, bit_or, IsTrue};
 ghost use Rattle.std.specs.Str.{IsAscii};
-ghost use Rattle.compact_repr.specs.Words.{number, bytes_of};
+ghost use Rattle.compact_repr.specs.Words.{le_number, word_bytes};
 ghost use Rattle.compact_repr.specs.Packed.{packed_bytes};
 
 /// The eight bytes from a place on, as a word.
 #[inline(always)]
 fn load8(bytes: &[u8], at: usize) -> u64
     requires { at + 8 ≤ length bytes.now }
-    ensures value { result ≡ number (take 8 (drop at bytes.now)) }
-    ensures bytes { bytes_of result ≡ take 8 (drop at bytes.now) }
+    ensures value { result ≡ le_number (take 8 (drop at bytes.now)) }
+    ensures bytes { word_bytes result ≡ take 8 (drop at bytes.now) }
 {
     match bytes[at..].first_chunk::<8>() {
         Some(chunk) => u64::from_le_bytes(*chunk),
@@ -19,22 +19,22 @@ fn load8(bytes: &[u8], at: usize) -> u64
     }
 }
 
-/// Whether two rows are the same: three words are compared, with no branch between.
+/// Whether two arrays are the same: three words are compared, with no branch between.
 #[inline(always)]
-pub fn same_row(row: &[u8; 24], other: &[u8; 24]) -> bool
-    ensures same { IsTrue result → row.now ≡ other.now }
-    ensures found { row.now ≡ other.now → IsTrue result }
+pub fn same_array(array: &[u8; 24], other: &[u8; 24]) -> bool
+    ensures same { IsTrue result → array.now ≡ other.now }
+    ensures found { array.now ≡ other.now → IsTrue result }
 {
-    (load8(row, 0) == load8(other, 0))
-        & (load8(row, 8) == load8(other, 8))
-        & (load8(row, 16) == load8(other, 16))
+    (load8(array, 0) == load8(other, 0))
+        & (load8(array, 8) == load8(other, 8))
+        & (load8(array, 16) == load8(other, 16))
 }
 
 /// The four bytes from a place on, as a number.
 #[inline(always)]
 fn load4(bytes: &[u8], at: usize) -> u64
     requires { at + 4 ≤ length bytes.now }
-    ensures { result ≡ number (take 4 (drop at bytes.now)) }
+    ensures { result ≡ le_number (take 4 (drop at bytes.now)) }
 {
     match bytes[at..].first_chunk::<4>() {
         Some(chunk) => u64::from(u32::from_le_bytes(*chunk)),
@@ -46,7 +46,7 @@ fn load4(bytes: &[u8], at: usize) -> u64
 #[inline(always)]
 fn load2(bytes: &[u8], at: usize) -> u64
     requires { at + 2 ≤ length bytes.now }
-    ensures { result ≡ number (take 2 (drop at bytes.now)) }
+    ensures { result ≡ le_number (take 2 (drop at bytes.now)) }
 {
     match bytes[at..].first_chunk::<2>() {
         Some(chunk) => u64::from(u16::from_le_bytes(*chunk)),
@@ -54,25 +54,25 @@ fn load2(bytes: &[u8], at: usize) -> u64
     }
 }
 
-/// Three words as a row.
+/// Three words as an array.
 #[inline(always)]
-#[tactic(auto, unfolding(crate::specs::Words::bytes_of))]
-fn row_of_words(first: u64, second: u64, third: u64) -> [u8; 24]
-    ensures { result ≡ bytes_of first ++ bytes_of second ++ bytes_of third }
+#[tactic(auto, unfolding(crate::specs::Words::word_bytes))]
+fn array_of_words(first: u64, second: u64, third: u64) -> [u8; 24]
+    ensures { result ≡ word_bytes first ++ word_bytes second ++ word_bytes third }
 {
-    let mut row = [0u8; 24];
-    store8(&mut row[..8], first);
-    store8(&mut row[8..16], second);
-    store8(&mut row[16..], third);
-    row
+    let mut array = [0u8; 24];
+    store8(&mut array[..8], first);
+    store8(&mut array[8..16], second);
+    store8(&mut array[16..], third);
+    array
 }
 
 /// Writes a word over eight bytes.
 #[inline(always)]
-#[tactic(auto, unfolding(crate::specs::Words::bytes_of))]
+#[tactic(auto, unfolding(crate::specs::Words::word_bytes))]
 fn store8(bytes: &mut [u8], word: u64)
     requires { length bytes.old ≡ 8 }
-    ensures { bytes.new ≡ bytes_of word }
+    ensures { bytes.new ≡ word_bytes word }
 {
     match bytes.first_chunk_mut::<8>() {
         Some(chunk) => *chunk = word.to_le_bytes(),
@@ -82,7 +82,7 @@ fn store8(bytes: &mut [u8], word: u64)
 
 /// A word without its first `count` bytes. It shifts by half of them twice, since one shift may not be of all eight.
 #[inline(always)]
-fn without(word: u64, count: usize) -> u64
+fn without_bytes(word: u64, count: usize) -> u64
     requires { count ≤ 8 }
     ensures { result ≡ word / 2 ^ (8 * count) }
 {
@@ -94,10 +94,10 @@ fn without(word: u64, count: usize) -> u64
 #[inline(always)]
 fn second_word(text: &[u8]) -> u64
     requires { 8 ≤ length text.now }
-    ensures { result ≡ number (take 8 (drop 8 text.now)) }
+    ensures { result ≡ le_number (take 8 (drop 8 text.now)) }
 {
     let at = (text.len() - 8).min(8);
-    without(load8(text, at), 8 - at)
+    without_bytes(load8(text, at), 8 - at)
 }
 
 /// The bytes that follow the first sixteen, at most eight: the last eight of the text, without those before the sixteenth.
@@ -105,19 +105,19 @@ fn second_word(text: &[u8]) -> u64
 fn third_word(text: &[u8]) -> u64
     requires long_enough { 8 ≤ length text.now }
     requires most { length text.now ≤ 24 }
-    ensures { result ≡ number (drop 16 text.now) }
+    ensures { result ≡ le_number (drop 16 text.now) }
 {
     let len = text.len();
     let count = len.saturating_sub(16);
-    without(load8(text, len - 8), 8 - count)
+    without_bytes(load8(text, len - 8), 8 - count)
 }
 
 /// At most eight bytes as a number. Of two reads the first begins at the start and the second ends at the end; a byte that
 /// both read is the same in both.
 #[inline(always)]
-fn short(text: &[u8]) -> u64
+fn load_short(text: &[u8]) -> u64
     requires { length text.now ≤ 8 }
-    ensures { result ≡ number text.now }
+    ensures { result ≡ le_number text.now }
 {
     let len = text.len();
     if len >= 4 {
@@ -131,7 +131,7 @@ fn short(text: &[u8]) -> u64
     }
 }
 
-/// The last word of a packed row: with the length of the text as its last byte, where the text leaves that free.
+/// The last word of a packed array: with the length of the text as its last byte, where the text leaves that free.
 #[inline(always)]
 fn with_length(word: u64, len: usize) -> u64
     requires { len ≤ 24 }
@@ -144,7 +144,7 @@ fn with_length(word: u64, len: usize) -> u64
     }
 }
 
-/// The packed row of `text`: its bytes, zeros, and its length, or its 24 bytes alone.
+/// The packed array of `text`: its bytes, zeros, and its length, or its 24 bytes alone.
 ///
 /// From eight bytes on there is no branch on the length.
 #[inline]
@@ -154,34 +154,34 @@ pub fn pack(text: &[u8]) -> [u8; 24]
 {
     let len = text.len();
     if len >= 8 {
-        row_of_words(
+        array_of_words(
             load8(text, 0),
             second_word(text),
             with_length(third_word(text), len),
         )
     } else {
-        row_of_words(short(text), 0, with_length(0, len))
+        array_of_words(load_short(text), 0, with_length(0, len))
     }
 }
 
-/// The last byte of a row, read with its whole word: so it is there as soon as the word is.
+/// The last byte of an array, read with its whole word: so it is there as soon as the word is.
 #[inline(always)]
-pub fn row_end(row: &[u8; 24]) -> usize
-    ensures { result ≡ slice_index row.now 23 }
+pub fn end_byte(array: &[u8; 24]) -> usize
+    ensures { result ≡ slice_index array.now 23 }
 {
-    usize::from(last_byte(load8(row, 16)))
+    usize::from(last_byte(load8(array, 16)))
 }
 
-/// The row with another last byte. It is written in whole words: a word that is read after one of its bytes was written
+/// The array with another last byte. It is written in whole words: a word that is read after one of its bytes was written
 /// alone waits for that byte.
 #[inline(always)]
-pub fn with_last_byte(row: &[u8; 24], last: u8) -> [u8; 24]
-    ensures { result ≡ take 23 row.now ++ last ∷ [] }
+pub fn with_last_byte(array: &[u8; 24], last: u8) -> [u8; 24]
+    ensures { result ≡ take 23 array.now ++ last ∷ [] }
 {
-    let third = load8(row, 16) % 0x100_0000_0000_0000;
-    row_of_words(
-        load8(row, 0),
-        load8(row, 8),
+    let third = load8(array, 16) % 0x100_0000_0000_0000;
+    array_of_words(
+        load8(array, 0),
+        load8(array, 8),
         third | (u64::from(last) << 56),
     )
 }
@@ -189,19 +189,19 @@ pub fn with_last_byte(row: &[u8; 24], last: u8) -> [u8; 24]
 /// The highest bit of each byte of a word.
 const HIGH_BITS: u64 = 0x8080_8080_8080_8080;
 
-/// Whether the first 23 bytes of a row are ASCII: three words and a mask.
+/// Whether the first 23 bytes of an array are ASCII: three words and a mask.
 #[inline(always)]
-pub fn begins_ascii(row: &[u8; 24]) -> bool
-    ensures { IsTrue result → IsAscii (take 23 row.now) }
+pub fn begins_ascii(array: &[u8; 24]) -> bool
+    ensures { IsTrue result → IsAscii (take 23 array.now) }
 {
-    (load8(row, 0) & HIGH_BITS == 0)
-        & (load8(row, 8) & HIGH_BITS == 0)
-        & (load8(row, 16) % 0x100_0000_0000_0000 & HIGH_BITS == 0)
+    (load8(array, 0) & HIGH_BITS == 0)
+        & (load8(array, 8) & HIGH_BITS == 0)
+        & (load8(array, 16) % 0x100_0000_0000_0000 & HIGH_BITS == 0)
 }
 
 /// What a byte at a place of a word is multiplied by.
 #[inline(always)]
-fn unit(at: usize) -> u64
+fn byte_weight(at: usize) -> u64
     requires { at < 8 }
     ensures { result ≡ 2 ^ (8 * at) }
 {
@@ -211,7 +211,7 @@ fn unit(at: usize) -> u64
 /// The last byte of a word.
 #[inline(always)]
 fn last_byte(word: u64) -> u8
-    ensures { drop 7 (bytes_of word) ≡ result ∷ [] }
+    ensures { drop 7 (word_bytes word) ≡ result ∷ [] }
 {
     (word >> 56) as u8
 }
@@ -221,10 +221,10 @@ fn last_byte(word: u64) -> u8
 #[inline(always)]
 fn word_insert_byte(word: u64, at: usize, byte: u8) -> u64
     requires { at < 8 }
-    ensures { bytes_of result
-        ≡ take at (bytes_of word) ++ byte ∷ take (7 - at) (drop at (bytes_of word)) }
+    ensures { word_bytes result
+        ≡ take at (word_bytes word) ++ byte ∷ take (7 - at) (drop at (word_bytes word)) }
 {
-    let before = word % unit(at);
+    let before = word % byte_weight(at);
     before
         .wrapping_add(u64::from(byte) << (8 * at))
         .wrapping_add((word - before) << 8)
@@ -235,60 +235,60 @@ fn word_insert_byte(word: u64, at: usize, byte: u8) -> u64
 #[inline(always)]
 fn word_remove_byte(word: u64, at: usize, next: u64) -> u64
     requires { at < 8 }
-    ensures { bytes_of result
-        ≡ take at (bytes_of word) ++ drop (at + 1) (bytes_of word) ++ take 1 (bytes_of next) }
+    ensures { word_bytes result
+        ≡ take at (word_bytes word) ++ drop (at + 1) (word_bytes word) ++ take 1 (word_bytes next) }
 {
-    let unit = unit(at);
+    let weight = byte_weight(at);
     let down = word >> 8;
-    (word % unit)
-        .wrapping_add(down - down % unit)
+    (word % weight)
+        .wrapping_add(down - down % weight)
         .wrapping_add(next << 56)
 }
 
-/// The row with `byte` put in at a place; what stands from there on moves one place up, and the last byte goes.
+/// The array with `byte` put in at a place; what stands from there on moves one place up, and the last byte goes.
 #[inline]
-pub fn insert_byte(row: &[u8; 24], at: usize, byte: u8) -> [u8; 24]
+pub fn insert_byte(array: &[u8; 24], at: usize, byte: u8) -> [u8; 24]
     requires { at < 24 }
-    ensures { result ≡ take at row.now ++ byte ∷ take (23 - at) (drop at row.now) }
+    ensures { result ≡ take at array.now ++ byte ∷ take (23 - at) (drop at array.now) }
 {
-    let first = load8(row, 0);
-    let second = load8(row, 8);
-    let third = load8(row, 16);
+    let first = load8(array, 0);
+    let second = load8(array, 8);
+    let third = load8(array, 16);
     match at / 8 {
-        0 => row_of_words(
+        0 => array_of_words(
             word_insert_byte(first, at, byte),
             word_insert_byte(second, 0, last_byte(first)),
             word_insert_byte(third, 0, last_byte(second)),
         ),
-        1 => row_of_words(
+        1 => array_of_words(
             first,
             word_insert_byte(second, at - 8, byte),
             word_insert_byte(third, 0, last_byte(second)),
         ),
-        _ => row_of_words(first, second, word_insert_byte(third, at - 16, byte)),
+        _ => array_of_words(first, second, word_insert_byte(third, at - 16, byte)),
     }
 }
 
-/// The row without the byte at a place; what stands after it moves one place down, and a zero comes last.
+/// The array without the byte at a place; what stands after it moves one place down, and a zero comes last.
 #[inline]
-pub fn remove_byte(row: &[u8; 24], at: usize) -> [u8; 24]
+pub fn remove_byte(array: &[u8; 24], at: usize) -> [u8; 24]
     requires { at < 24 }
-    ensures { result ≡ take at row.now ++ drop (at + 1) row.now ++ 0 ∷ [] }
+    ensures { result ≡ take at array.now ++ drop (at + 1) array.now ++ 0 ∷ [] }
 {
-    let first = load8(row, 0);
-    let second = load8(row, 8);
-    let third = load8(row, 16);
+    let first = load8(array, 0);
+    let second = load8(array, 8);
+    let third = load8(array, 16);
     match at / 8 {
-        0 => row_of_words(
+        0 => array_of_words(
             word_remove_byte(first, at, second),
             word_remove_byte(second, 0, third),
             word_remove_byte(third, 0, 0),
         ),
-        1 => row_of_words(
+        1 => array_of_words(
             first,
             word_remove_byte(second, at - 8, third),
             word_remove_byte(third, 0, 0),
         ),
-        _ => row_of_words(first, second, word_remove_byte(third, at - 16, 0)),
+        _ => array_of_words(first, second, word_remove_byte(third, at - 16, 0)),
     }
 }

@@ -160,14 +160,14 @@ fn of_the_program(rt: HostRuntime) {
     assert_chars(&rt, &text, &[(0, 'ä'), (3, '𝄞'), (16, 'n')]);
     assert!(rt; text.is_char_boundary(3));
     assert_eq!(rt;
-        text.static_tail(3),
+        text.static_suffix(3),
         Some("𝄞 and so on, past the inline capacity")
     );
     assert_eq!(rt; text.last_char(), Some('y'));
     assert_truncated(&rt, &mut text, &[(7, "äb𝄞")]);
     assert_eq!(rt; text.capacity(), 7);
     assert!(rt; text.is_char_boundary(0));
-    assert_eq!(rt; text.static_tail(0), Some("äb𝄞"));
+    assert_eq!(rt; text.static_suffix(0), Some("äb𝄞"));
 }
 
 #[test]

@@ -38,7 +38,7 @@ fn cut(alloc: Global, index: usize) -> Option<(&'static str, &'static str)> {
     if !text.is_char_boundary(index) {
         return None;
     }
-    let tail = text.static_tail(index)?;
+    let tail = text.static_suffix(index)?;
     text.truncate(index);
     Some((text.as_static_str()?, tail))
 }

@@ -15,26 +15,26 @@ use Rattle.compact_repr.specs.Cut.{IsBoundary, before}
 use Rattle.compact_repr.proofs.Cuts.{before-cut}
 use Rattle.compact_repr.specs.Value.{PlacedText}
 use Rattle.compact_repr.specs.Capacity.{Growth}
-use Rattle.compact_repr.specs.Change.{pushed}
+use Rattle.compact_repr.specs.Change.{push_str}
 use Rattle.compact_str.specs.Room.{HasRoomFor, sure_capacity}
 use Rattle.compact_str.specs.Collects.{Appends, AppendsAll, AppendsUpToRefused, PassesInline, GivesText, StopsWithout, alone, joined}
 use Rattle.compact_repr.proofs.Texts.{size-append, size-text_of}
-use Rattle.compact_repr.proofs.Changes.{pushed-text}
-use Rattle.compact_str.proofs.Rooms.{pushed-sure}
+use Rattle.compact_repr.proofs.Changes.{push_str-text}
+use Rattle.compact_str.proofs.Rooms.{push_str-sure}
 
 -- one more item
-pub Appends-next : {T : Type 0} (g : Growth) (f : T → List ℕ) (v : PlacedText) (xs : List T) (u w : PlacedText) (x : T) → Appends g f v xs u → pushed g u (f x) ≡ Some w → Appends g f v (xs ++ x ∷ []) w
-Appends-next g f v [] u w x a p = (w, subst (λ (y : PlacedText). pushed g y (f x) ≡ Some w) a p, refl)
+pub Appends-next : {T : Type 0} (g : Growth) (f : T → List ℕ) (v : PlacedText) (xs : List T) (u w : PlacedText) (x : T) → Appends g f v xs u → push_str g u (f x) ≡ Some w → Appends g f v (xs ++ x ∷ []) w
+Appends-next g f v [] u w x a p = (w, subst (λ (y : PlacedText). push_str g y (f x) ≡ Some w) a p, refl)
 Appends-next g f v (y ∷ ys) u w x a p = (a.0, a.1, Appends-next g f a.0 ys u w x a.2 p)
 
 pub Appends-text : {T : Type 0} (g : Growth) (f : T → List ℕ) (v w : PlacedText) (xs : List T) → Appends g f v xs w → w.text ≡ v.text ++ flat_map f xs
 Appends-text g f v w [] a = ap (λ (x : PlacedText). x.text) a ∙ sym (append-nil v.text)
 Appends-text g f v w (x ∷ xs) a =
-    Appends-text g f a.0 w xs a.2 ∙ ap (λ l. l ++ flat_map f xs) (pushed-text g v a.0 (f x) a.1) ∙ append_assoc v.text (f x) (flat_map f xs)
+    Appends-text g f a.0 w xs a.2 ∙ ap (λ l. l ++ flat_map f xs) (push_str-text g v a.0 (f x) a.1) ∙ append_assoc v.text (f x) (flat_map f xs)
 
 pub Appends-sure : {T : Type 0} (g : Growth) (f : T → List ℕ) (v w : PlacedText) (xs : List T) → Appends g f v xs w → sure_capacity v ≤ sure_capacity w
 Appends-sure g f v w [] a = subst (λ (x : PlacedText). sure_capacity v ≤ sure_capacity x) (sym a) (omega (arith))
-Appends-sure g f v w (x ∷ xs) a = omega (arith, pushed-sure g v a.0 (f x) a.1, Appends-sure g f a.0 w xs a.2)
+Appends-sure g f v w (x ∷ xs) a = omega (arith, push_str-sure g v a.0 (f x) a.1, Appends-sure g f a.0 w xs a.2)
 
 pub size-next : {T : Type 0} (f : T → List ℕ) (xs : List T) (x : T) → size (flat_map f (xs ++ x ∷ [])) ≡ size (flat_map f xs) + size (f x)
 size-next f xs x =

@@ -5,30 +5,30 @@ use Rattle.std.proofs.lemmas.Bool.{cases_Bool, cond-true, cond-false, true≢fal
 use Rattle.std.proofs.lemmas.Str.{len_utf8_bounds}
 use Rattle.std.specs.Char.{len_utf8}
 use Rattle.compact_repr.specs.Text.{size}
-use Rattle.compact_repr.specs.Cut.{IsBoundary, before, after, middle, replaced_text}
-use Rattle.compact_repr.specs.Value.{Place, inline, heap, static, IsCapacityOf, IsSound, PlacedText, placed, is_static}
-use Rattle.compact_repr.specs.Capacity.{Growth, owned}
-use Rattle.compact_repr.specs.Change.{made_owned, replaced}
+use Rattle.compact_repr.specs.Cut.{IsBoundary, before, after, substring, replaced_text}
+use Rattle.compact_repr.specs.Value.{Place, inline, heap, static, IsCapacityOf, IsSound, PlacedText, placed_text, is_static}
+use Rattle.compact_repr.specs.Capacity.{Growth, owned_placement}
+use Rattle.compact_repr.specs.Change.{make_owned, replace_range}
 use Rattle.compact_repr.proofs.Texts.{size-append}
 use Rattle.compact_repr.proofs.Cuts.{before-after, size-before, size-replaced, boundary-from_size}
-use Rattle.compact_repr.proofs.Middles.{middle-parts, parts-middle}
+use Rattle.compact_repr.proofs.Middles.{substring-parts, parts-substring}
 use Rattle.compact_str.specs.Drains.{may_cut, may_cut_out, part, without_part}
-use Rattle.compact_str.proofs.Letters.{made_owned-text}
+use Rattle.compact_str.proofs.Letters.{make_owned-text}
 
-pub made_owned-owned : (g : Growth) (v u : PlacedText) → made_owned g v ≡ Some u → is_static u.placement.place ≡ false
-made_owned-owned g v u e = grind (arith, common_steps)
+pub make_owned-owned_placement : (g : Growth) (v u : PlacedText) → make_owned g v ≡ Some u → is_static u.placement.place ≡ false
+make_owned-owned_placement g v u e = grind (arith, common_steps)
 
-pub made_owned-placement : (g : Growth) (v u : PlacedText) → made_owned g v ≡ Some u → owned g v ≡ Some u.placement
-made_owned-placement g v u e = grind (arith, common_steps)
+pub make_owned-placement : (g : Growth) (v u : PlacedText) → make_owned g v ≡ Some u → owned_placement g v ≡ Some u.placement
+make_owned-placement g v u e = grind (arith, common_steps)
 
 -- an owned text fits its capacity
-capacity-owned : (p : Place) (capacity bytes : ℕ) → IsCapacityOf p capacity bytes → is_static p ≡ false → bytes ≤ capacity
-capacity-owned inline capacity bytes h own = omega (arith, h.0, h.1)
-capacity-owned heap capacity bytes h own = h
-capacity-owned static capacity bytes h own = absurd (true≢false own)
+capacity-owned_placement : (p : Place) (capacity bytes : ℕ) → IsCapacityOf p capacity bytes → is_static p ≡ false → bytes ≤ capacity
+capacity-owned_placement inline capacity bytes h own = omega (arith, h.0, h.1)
+capacity-owned_placement heap capacity bytes h own = h
+capacity-owned_placement static capacity bytes h own = absurd (true≢false own)
 
-pub room-owned : (v : PlacedText) → IsSound v → is_static v.placement.place ≡ false → size v.text ≤ v.placement.capacity
-room-owned v sound own = capacity-owned v.placement.place v.placement.capacity (size v.text) sound.fits own
+pub room-owned_placement : (v : PlacedText) → IsSound v → is_static v.placement.place ≡ false → size v.text ≤ v.placement.capacity
+room-owned_placement v sound own = capacity-owned_placement v.placement.place v.placement.capacity (size v.text) sound.fits own
 
 -- `may_cut` tells the boundaries
 may_cut-boundary : (t : List ℕ) (p : ℕ) → IsBoundary t p → may_cut t p ≡ true
@@ -51,18 +51,18 @@ range-may_cut_out t i j e =
     let cuts = and_parts _ _ order.1 in
     (leb-true i j order.0, boundary-may_cut t i cuts.0, boundary-may_cut t j cuts.1)
 
-pub part-range : (t : List ℕ) (i j : ℕ) → i ≤ j → IsBoundary t i → IsBoundary t j → part t i j ≡ middle t i j
+pub part-range : (t : List ℕ) (i j : ℕ) → i ≤ j → IsBoundary t i → IsBoundary t j → part t i j ≡ substring t i j
 part-range t i j order h k = cond-true _ _ _ (may_cut_out-range t i j order h k)
 
 of-range : (t a m b : List ℕ) (i j : ℕ) → t ≡ a ++ m ++ b → size a ≡ i → size a + size m ≡ j → may_cut_out t i j ≡ true
 of-range t a m b i j e first last =
-    let three = parts-middle t a m b i j e first last in
+    let three = parts-substring t a m b i j e first last in
     may_cut_out-range t i j (omega (arith, first, last)) three.0 three.1
 
 -- the second of three parts, and a part that is not empty, are each the other
 part-of : (t a m b : List ℕ) (i j : ℕ) → t ≡ a ++ m ++ b → size a ≡ i → size a + size m ≡ j → part t i j ≡ m
 part-of t a m b i j e first last =
-    let three = parts-middle t a m b i j e first last in
+    let three = parts-substring t a m b i j e first last in
     part-range t i j (omega (arith, first, last)) three.0 three.1 ∙ three.2
 
 of-part : (t m : List ℕ) (i j : ℕ) → part t i j ≡ m → (m ≡ [] → ⊥) → (t ≡ before t i ++ m ++ after t j) × (size (before t i) ≡ i) × (size (before t i) + size m ≡ j)
@@ -70,8 +70,8 @@ of-part t m i j e some =
     ⊎_elim
     (λ yes.
     let range = range-may_cut_out t i j yes in
-    let parts = middle-parts t i j range.1 range.2 range.0 in
-    let is : middle t i j ≡ m = sym (cond-true _ _ _ yes) ∙ e in
+    let parts = substring-parts t i j range.1 range.2 range.0 in
+    let is : substring t i j ≡ m = sym (cond-true _ _ _ yes) ∙ e in
     let behind : after t i ≡ m ++ after t j = subst (λ (l : List ℕ). after t i ≡ l ++ after t j) is parts.0 in
     let wide : size m ≡ j - i = ap size (sym is) ∙ parts.1 in
     let first = size-before t i range.1 in
@@ -132,21 +132,21 @@ back-range t r front back c e =
     of-range t (before t front) r (c ∷ [] ++ after t back) front (back - len_utf8 c) parts three.1 (omega (arith, whole, three.1, three.2))
 
 -- a range is one still in the value that is made owned
-pub owned-range : (g : Growth) (v u : PlacedText) (i j : ℕ) → made_owned g v ≡ Some u → i ≤ j → IsBoundary v.text i → IsBoundary v.text j → may_cut_out u.text i j ≡ true
-owned-range g v u i j o order h k =
-    ap (λ (t : List ℕ). may_cut_out t i j) (made_owned-text g v u o) ∙ may_cut_out-range v.text i j order h k
+pub owned_placement-range : (g : Growth) (v u : PlacedText) (i j : ℕ) → make_owned g v ≡ Some u → i ≤ j → IsBoundary v.text i → IsBoundary v.text j → may_cut_out u.text i j ≡ true
+owned_placement-range g v u i j o order h k =
+    ap (λ (t : List ℕ). may_cut_out t i j) (make_owned-text g v u o) ∙ may_cut_out-range v.text i j order h k
 
 -- a value that is made owned and then loses a range
-pub owned-without : (g : Growth) (v u : PlacedText) (i j : ℕ) → made_owned g v ≡ Some u → is_static u.placement.place ≡ false → i ≤ j → IsBoundary v.text i → IsBoundary v.text j
-    → without_part u i j ≡ placed (replaced_text v.text i j []) u.placement
-owned-without g v u i j o own order h k =
-    let text = made_owned-text g v u o in
+pub owned_placement-without : (g : Growth) (v u : PlacedText) (i j : ℕ) → make_owned g v ≡ Some u → is_static u.placement.place ≡ false → i ≤ j → IsBoundary v.text i → IsBoundary v.text j
+    → without_part u i j ≡ placed_text (replaced_text v.text i j []) u.placement
+owned_placement-without g v u i j o own order h k =
+    let text = make_owned-text g v u o in
     let range : may_cut_out u.text i j ≡ true = ap (λ (t : List ℕ). may_cut_out t i j) text ∙ may_cut_out-range v.text i j order h k in
-    cond-true _ _ _ (and_from _ _ (ap not own) range) ∙ ap (λ (t : List ℕ). placed (replaced_text t i j []) u.placement) text
+    cond-true _ _ _ (and_from _ _ (ap not own) range) ∙ ap (λ (t : List ℕ). placed_text (replaced_text t i j []) u.placement) text
 
 -- a value that is not static is none without a range
-pub without-owned : (v : PlacedText) (i j : ℕ) → is_static v.placement.place ≡ false → is_static (without_part v i j).placement.place ≡ false
-without-owned v i j own =
+pub without-owned_placement : (v : PlacedText) (i j : ℕ) → is_static v.placement.place ≡ false → is_static (without_part v i j).placement.place ≡ false
+without-owned_placement v i j own =
     ⊎_elim
     (λ yes. ap (λ (w : PlacedText). is_static w.placement.place) (cond-true _ _ _ yes) ∙ own)
     (λ no. ap (λ (w : PlacedText). is_static w.placement.place) (cond-false _ _ _ no) ∙ own)
@@ -187,8 +187,8 @@ without-may_cut_out v i j front back whole within range is =
     let same = without-same v i j (omega (arith, is, within)) in
     subst (λ (t : List ℕ). may_cut_out t front back ≡ true) (sym same) (range (subst (λ (t : List ℕ). size t ≡ whole) same is))
 
-pub drained : (g : Growth) (v u : PlacedText) (i j : ℕ) → made_owned g v ≡ Some u → is_static u.placement.place ≡ false → i ≤ j → IsBoundary v.text i → IsBoundary v.text j → replaced g v i j [] ≡ Some (without_part u i j)
-drained g v u i j o own order h k = rw (made_owned-placement g v u o, le-leb 0 (j - i) (omega arith), owned-without g v u i j o own order h k) refl
+pub drained : (g : Growth) (v u : PlacedText) (i j : ℕ) → make_owned g v ≡ Some u → is_static u.placement.place ≡ false → i ≤ j → IsBoundary v.text i → IsBoundary v.text j → replace_range g v i j [] ≡ Some (without_part u i j)
+drained g v u i j o own order h k = rw (make_owned-placement g v u o, le-leb 0 (j - i) (omega arith), owned_placement-without g v u i j o own order h k) refl
 
 -- a character has one to four bytes
 pub length-least : (t : List ℕ) → length t ≤ size t
@@ -199,6 +199,6 @@ pub length-most : (t : List ℕ) → size t ≤ 4 * length t
 length-most [] = omega arith
 length-most (c ∷ cs) = omega (arith, len_utf8_bounds c, length-most cs)
 
-pub ruleset part_facts = (range-may_cut_out, room-owned)
+pub ruleset part_facts = (range-may_cut_out, room-owned_placement)
 
-pub ruleset owned_facts = (made_owned-text, made_owned-owned)
+pub ruleset owned_facts = (make_owned-text, make_owned-owned_placement)

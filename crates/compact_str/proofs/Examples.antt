@@ -3,11 +3,11 @@ use Rattle.std.specs.Prelude.{◌≡◌, ℕ, ◌*◌, List, [], ◌∷◌, ◌+
 use Rattle.std.proofs.Common.{arith}
 use Rattle.std.specs.declared.ops.Bound.TheVariants.{Included, Excluded, Unbounded}
 use Rattle.compact_repr.specs.Cut.{IsBoundary}
-use Rattle.compact_repr.specs.Value.{PlacedText, placed}
-use Rattle.compact_repr.specs.Capacity.{Growth, inlined, on_heap, borrowed, new_room}
+use Rattle.compact_repr.specs.Value.{PlacedText, placed_text}
+use Rattle.compact_repr.specs.Capacity.{Growth, inline_placement, heap_placement, static_placement, with_capacity_placement}
 use Rattle.compact_repr.proofs.Cuts.{size-before, boundary-within, boundary-from_size}
 use Rattle.compact_str.specs.Room.{own_capacity, sure_capacity}
-use Rattle.compact_repr.specs.Change.{truncated, inserted, replaced}
+use Rattle.compact_repr.specs.Change.{truncate, insert_str, replace_range}
 use Rattle.compact_str.specs.Edits.{Removes, split_tail, repeated}
 use Rattle.compact_str.specs.Clones.{cloned_from}
 use Rattle.compact_str.specs.Ranges.{IsRange, range_start, range_end}
@@ -27,7 +27,7 @@ letters n = replicate n 97
 
 -- 30 letters of the program
 abbrev lasting_30 : PlacedText
-lasting_30 = placed (letters 30) (borrowed (letters 30))
+lasting_30 = placed_text (letters 30) (static_placement (letters 30))
 
 abbrev abc : List ℕ
 abc = 97 ∷ 98 ∷ 99 ∷ []
@@ -38,66 +38,66 @@ mixed = 0xE4 ∷ 98 ∷ []
 
 -- insertion and replacement
 
-an_empty_insertion_makes_room_by_growth : inserted standard lasting_30 0 [] ≡ Some (placed (letters 30) (on_heap 45))
+an_empty_insertion_makes_room_by_growth : insert_str standard lasting_30 0 [] ≡ Some (placed_text (letters 30) (heap_placement 45))
 an_empty_insertion_makes_room_by_growth = refl
 
-an_empty_replacement_only_makes_it_owned : replaced standard lasting_30 0 0 [] ≡ Some (placed (letters 30) (on_heap 32))
+an_empty_replacement_only_makes_it_owned : replace_range standard lasting_30 0 0 [] ≡ Some (placed_text (letters 30) (heap_placement 32))
 an_empty_replacement_only_makes_it_owned = refl
 
-a_longer_replacement_makes_room_for_the_difference : replaced standard (placed (letters 24) inlined) 0 2 (letters 4) ≡ Some (placed (letters 26) (on_heap 36))
+a_longer_replacement_makes_room_for_the_difference : replace_range standard (placed_text (letters 24) inline_placement) 0 2 (letters 4) ≡ Some (placed_text (letters 26) (heap_placement 36))
 a_longer_replacement_makes_room_for_the_difference = refl
 
-a_replacement_of_equal_size_stays_in_place : replaced standard (placed (letters 30) (on_heap 30)) 0 3 abc ≡ Some (placed (97 ∷ 98 ∷ 99 ∷ letters 27) (on_heap 30))
+a_replacement_of_equal_size_stays_in_place : replace_range standard (placed_text (letters 30) (heap_placement 30)) 0 3 abc ≡ Some (placed_text (97 ∷ 98 ∷ 99 ∷ letters 27) (heap_placement 30))
 a_replacement_of_equal_size_stays_in_place = refl
 
 -- removal
 
-removal_copies_a_static_text : Removes standard lasting_30 0 97 (placed (letters 29) (on_heap 32))
+removal_copies_a_static_text : Removes standard lasting_30 0 97 (placed_text (letters 29) (heap_placement 32))
 removal_copies_a_static_text = (letters 29, refl, refl)
 
 -- a split
 
-a_long_tail_stays_static : split_tail standard lasting_30 3 ≡ Some (placed (letters 27) (borrowed (letters 27)))
+a_long_tail_stays_static : split_tail standard lasting_30 3 ≡ Some (placed_text (letters 27) (static_placement (letters 27)))
 a_long_tail_stays_static = refl
 
-a_front_stays_static : truncated lasting_30 3 ≡ placed (letters 3) (borrowed (letters 3))
+a_front_stays_static : truncate lasting_30 3 ≡ placed_text (letters 3) (static_placement (letters 3))
 a_front_stays_static = refl
 
-a_short_tail_is_inline : split_tail standard lasting_30 6 ≡ Some (placed (letters 24) inlined)
+a_short_tail_is_inline : split_tail standard lasting_30 6 ≡ Some (placed_text (letters 24) inline_placement)
 a_short_tail_is_inline = refl
 
-a_tail_of_a_heap_text_is_made_anew : split_tail standard (placed (letters 40) (on_heap 100)) 10 ≡ Some (placed (letters 30) (on_heap 32))
+a_tail_of_a_heap_text_is_made_anew : split_tail standard (placed_text (letters 40) (heap_placement 100)) 10 ≡ Some (placed_text (letters 30) (heap_placement 32))
 a_tail_of_a_heap_text_is_made_anew = refl
 
 -- repetition
 
-abc_nine_times : repeated standard (placed abc inlined) 9 ≡ Some (placed (97 ∷ 98 ∷ 99 ∷ 97 ∷ 98 ∷ 99 ∷ 97 ∷ 98 ∷ 99 ∷ 97 ∷ 98 ∷ 99 ∷ 97 ∷ 98 ∷ 99 ∷ 97 ∷ 98 ∷ 99 ∷ 97 ∷ 98 ∷ 99 ∷ 97 ∷ 98 ∷ 99 ∷ 97 ∷ 98 ∷ 99 ∷ []) (on_heap 32))
+abc_nine_times : repeated standard (placed_text abc inline_placement) 9 ≡ Some (placed_text (97 ∷ 98 ∷ 99 ∷ 97 ∷ 98 ∷ 99 ∷ 97 ∷ 98 ∷ 99 ∷ 97 ∷ 98 ∷ 99 ∷ 97 ∷ 98 ∷ 99 ∷ 97 ∷ 98 ∷ 99 ∷ 97 ∷ 98 ∷ 99 ∷ 97 ∷ 98 ∷ 99 ∷ 97 ∷ 98 ∷ 99 ∷ []) (heap_placement 32))
 abc_nine_times = refl
 
-no_times_is_empty_and_inline : repeated standard lasting_30 0 ≡ Some (placed [] inlined)
+no_times_is_empty_and_inline : repeated standard lasting_30 0 ≡ Some (placed_text [] inline_placement)
 no_times_is_empty_and_inline = refl
 
 once_is_a_clone : repeated standard lasting_30 1 ≡ Some lasting_30
 once_is_a_clone = refl
 
-once_of_an_empty_text_is_inline : repeated standard (placed [] (on_heap 100)) 1 ≡ Some (placed [] inlined)
+once_of_an_empty_text_is_inline : repeated standard (placed_text [] (heap_placement 100)) 1 ≡ Some (placed_text [] inline_placement)
 once_of_an_empty_text_is_inline = refl
 
-two_bytes_as_often_as_can_be_counted_are_refused : new_room standard (2 * 18446744073709551615) ≡ None
+two_bytes_as_often_as_can_be_counted_are_refused : with_capacity_placement standard (2 * 18446744073709551615) ≡ None
 two_bytes_as_often_as_can_be_counted_are_refused = refl
 
 -- `clone_from`
 
-an_inline_source_brings_its_place : cloned_from standard (placed (letters 30) (on_heap 100)) (placed abc inlined) ≡ Some (placed abc inlined)
+an_inline_source_brings_its_place : cloned_from standard (placed_text (letters 30) (heap_placement 100)) (placed_text abc inline_placement) ≡ Some (placed_text abc inline_placement)
 an_inline_source_brings_its_place = refl
 
-a_static_source_brings_its_place : cloned_from standard (placed (letters 30) (on_heap 100)) lasting_30 ≡ Some lasting_30
+a_static_source_brings_its_place : cloned_from standard (placed_text (letters 30) (heap_placement 100)) lasting_30 ≡ Some lasting_30
 a_static_source_brings_its_place = refl
 
-an_empty_heap_source_clears_a_static_target : cloned_from standard lasting_30 (placed [] (on_heap 100)) ≡ Some (placed [] (borrowed []))
+an_empty_heap_source_clears_a_static_target : cloned_from standard lasting_30 (placed_text [] (heap_placement 100)) ≡ Some (placed_text [] (static_placement []))
 an_empty_heap_source_clears_a_static_target = refl
 
-a_heap_source_fits_a_heap_target : cloned_from standard (placed abc (on_heap 100)) (placed (letters 30) (on_heap 30)) ≡ Some (placed (letters 30) (on_heap 100))
+a_heap_source_fits_a_heap_target : cloned_from standard (placed_text abc (heap_placement 100)) (placed_text (letters 30) (heap_placement 30)) ≡ Some (placed_text (letters 30) (heap_placement 100))
 a_heap_source_fits_a_heap_target = refl
 
 -- room
@@ -108,10 +108,10 @@ a_static_text_owns_no_room = refl
 but_24_bytes_are_sure : sure_capacity lasting_30 ≡ 24
 but_24_bytes_are_sure = refl
 
-a_heap_buffer_is_sure : sure_capacity (placed abc (on_heap 100)) ≡ 100
+a_heap_buffer_is_sure : sure_capacity (placed_text abc (heap_placement 100)) ≡ 100
 a_heap_buffer_is_sure = refl
 
-a_small_heap_buffer_gives_way_to_24_bytes : sure_capacity (placed abc (on_heap 5)) ≡ 24
+a_small_heap_buffer_gives_way_to_24_bytes : sure_capacity (placed_text abc (heap_placement 5)) ≡ 24
 a_small_heap_buffer_gives_way_to_24_bytes = refl
 
 -- ranges of a text of two and one bytes
@@ -160,13 +160,13 @@ no_range_ends_past_the_text range = let within = boundary-within mixed 4 range.l
 
 -- equality and order
 
-places_and_capacities_have_no_part : same_text lasting_30 (placed (letters 30) (on_heap 45)) ≡ true
+places_and_capacities_have_no_part : same_text lasting_30 (placed_text (letters 30) (heap_placement 45)) ≡ true
 places_and_capacities_have_no_part = refl
 
-a_front_is_not_the_same : same_text (placed (letters 2) inlined) (placed (letters 3) inlined) ≡ false
+a_front_is_not_the_same : same_text (placed_text (letters 2) inline_placement) (placed_text (letters 3) inline_placement) ≡ false
 a_front_is_not_the_same = refl
 
-places_have_no_part_in_the_order : text_cmp lasting_30 (placed (letters 30) (on_heap 45)) ≡ Equal
+places_have_no_part_in_the_order : text_cmp lasting_30 (placed_text (letters 30) (heap_placement 45)) ≡ Equal
 places_have_no_part_in_the_order = refl
 
 the_empty_text_is_first : text_order [] (97 ∷ []) ≡ Less
@@ -192,7 +192,7 @@ b_is_a_part = refl
 nothing_stands_where_no_character_begins : part mixed 1 3 ≡ []
 nothing_stands_where_no_character_begins = refl
 
-b_is_taken_out_in_place : without_part (placed mixed inlined) 2 3 ≡ placed (0xE4 ∷ []) inlined
+b_is_taken_out_in_place : without_part (placed_text mixed inline_placement) 2 3 ≡ placed_text (0xE4 ∷ []) inline_placement
 b_is_taken_out_in_place = refl
 
 nothing_is_taken_out_of_a_static_text : without_part lasting_30 0 3 ≡ lasting_30
@@ -215,14 +215,14 @@ nothing_is_joined_to_nothing = refl
 an_empty_item_leaves_a_static_value : Appends standard (λ t. t) lasting_30 ([] ∷ []) lasting_30
 an_empty_item_leaves_a_static_value = (lasting_30, refl, refl)
 
-another_moves_it_by_growth : Appends standard (λ t. t) lasting_30 ([] ∷ (98 ∷ []) ∷ []) (placed (letters 30 ++ 98 ∷ []) (on_heap 45))
-another_moves_it_by_growth = (lasting_30, refl, (placed (letters 30 ++ 98 ∷ []) (on_heap 45), refl, refl))
+another_moves_it_by_growth : Appends standard (λ t. t) lasting_30 ([] ∷ (98 ∷ []) ∷ []) (placed_text (letters 30 ++ 98 ∷ []) (heap_placement 45))
+another_moves_it_by_growth = (lasting_30, refl, (placed_text (letters 30 ++ 98 ∷ []) (heap_placement 45), refl, refl))
 
-bytes_24_are_fitted_inline : IsFitted (placed (letters 24) inlined)
+bytes_24_are_fitted_inline : IsFitted (placed_text (letters 24) inline_placement)
 bytes_24_are_fitted_inline = record { short = λ _. refl; long = λ h. absurd (omega (arith, h)) }
 
-bytes_25_are_fitted_on_the_heap : IsFitted (placed (letters 25) (on_heap 32))
+bytes_25_are_fitted_on_the_heap : IsFitted (placed_text (letters 25) (heap_placement 32))
 bytes_25_are_fitted_on_the_heap = record { short = λ h. absurd (omega (arith, h)); long = λ _. (refl, omega (arith)) }
 
-bytes_25_are_fitted_with_more_room : IsFitted (placed (letters 25) (on_heap 100))
+bytes_25_are_fitted_with_more_room : IsFitted (placed_text (letters 25) (heap_placement 100))
 bytes_25_are_fitted_with_more_room = record { short = λ h. absurd (omega (arith, h)); long = λ _. (refl, omega (arith)) }

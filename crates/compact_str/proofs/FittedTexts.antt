@@ -5,60 +5,60 @@ use Rattle.std.proofs.lemmas.Bool.{cases_lt, true≢false}
 use Rattle.std.specs.Str.{chars, IsUtf8}
 use Rattle.std.proofs.lemmas.Str.{encodes-chars, scalars-chars}
 use Rattle.compact_repr.specs.Text.{size, text_of}
-use Rattle.compact_repr.specs.Value.{PlacedText, placed, heap, is_heap}
-use Rattle.compact_repr.specs.Capacity.{Growth, inlined, new_room_asks, taken_over}
-use Rattle.compact_repr.specs.Change.{made, pushed, reserved}
+use Rattle.compact_repr.specs.Value.{PlacedText, placed_text, heap, is_heap}
+use Rattle.compact_repr.specs.Capacity.{Growth, inline_placement, with_capacity_asks, from_string_placement}
+use Rattle.compact_repr.specs.Change.{new, push_str, reserve}
 use Rattle.compact_repr.proofs.Texts.{size-append}
-use Rattle.compact_repr.proofs.Changes.{pushed-text}
+use Rattle.compact_repr.proofs.Changes.{push_str-text}
 use Rattle.compact_codec.specs.Text.{replacement_character}
 use Rattle.compact_codec.specs.Utf8Text.{BytesEncode, replacement_text}
 use Rattle.compact_codec.proofs.LossyReading.{replacement_text-some}
 use Rattle.compact_str.specs.Fitted.{IsFitted}
-use Rattle.compact_str.proofs.Fitted.{fitted-pushed}
+use Rattle.compact_str.proofs.Fitted.{fitted-push_str}
 
 -- a text of more than 24 bytes on the heap is fitted
 heap-fitted : (v : PlacedText) → 24 < size v.text → v.placement.place ≡ heap → size v.text ≤ v.placement.capacity → IsFitted v
 heap-fitted v more place room = record { short = λ h. absurd (omega (arith, more, h)); long = λ _. (place, room) }
 
 -- room that was made for a part that leaves the value itself is on the heap
-reserved-heap : (g : Growth) (v u : PlacedText) (n : ℕ) → v.placement ≡ inlined → 24 < size v.text + n → reserved g v n ≡ Some u
+reserve-heap : (g : Growth) (v u : PlacedText) (n : ℕ) → v.placement ≡ inline_placement → 24 < size v.text + n → reserve g v n ≡ Some u
     → (u.placement.place ≡ heap) × (u.text ≡ v.text)
-reserved-heap g v u n p more e = grind (arith, common_steps)
+reserve-heap g v u n p more e = grind (arith, common_steps)
 
-on_heap-inlined : (v : PlacedText) → IsFitted v → is_heap v.placement.place ≡ false → (size v.text ≤ 24) × (v.placement ≡ inlined)
-on_heap-inlined v f h =
+on_heap-inline_placement : (v : PlacedText) → IsFitted v → is_heap v.placement.place ≡ false → (size v.text ≤ 24) × (v.placement ≡ inline_placement)
+on_heap-inline_placement v f h =
     elim (cases_lt 24 (size v.text)) [
       | inr k ↦ (k, f.short k)
       | inl k ↦ absurd (true≢false (ap is_heap (sym (f.long k).0) ∙ h))
     ]
 
 grown-heap : (g : Growth) (u w : PlacedText) (s : List ℕ) → u.placement.place ≡ heap → 24 < size u.text + size s
-    → 0 < size s → pushed g u s ≡ Some w → (w.placement.place ≡ heap) × (size u.text + size s ≤ w.placement.capacity)
+    → 0 < size s → push_str g u s ≡ Some w → (w.placement.place ≡ heap) × (size u.text + size s ≤ w.placement.capacity)
 grown-heap g u w s h more some e = grind (arith, common_steps)
 
-pub reserved-fitted : (g : Growth) (v u w : PlacedText) (s : List ℕ) (n : ℕ) → IsFitted v → is_heap v.placement.place ≡ false
-    → 24 < size v.text + size s → size s ≤ n → reserved g v n ≡ Some u → pushed g u s ≡ Some w → IsFitted w
-reserved-fitted g v u w s n f h more room e k =
-    let is = on_heap-inlined v f h in
-    let on_heap = reserved-heap g v u n is.1 (omega (arith, more, room)) e in
+pub reserve-fitted : (g : Growth) (v u w : PlacedText) (s : List ℕ) (n : ℕ) → IsFitted v → is_heap v.placement.place ≡ false
+    → 24 < size v.text + size s → size s ≤ n → reserve g v n ≡ Some u → push_str g u s ≡ Some w → IsFitted w
+reserve-fitted g v u w s n f h more room e k =
+    let is = on_heap-inline_placement v f h in
+    let on_heap = reserve-heap g v u n is.1 (omega (arith, more, room)) e in
     let longer : 24 < size u.text + size s = subst (λ (t : List ℕ). 24 < size t + size s) (sym on_heap.1) more in
     let stands = grown-heap g u w s on_heap.0 longer (omega (arith, more, is.0)) k in
-    let long : size w.text ≡ size u.text + size s = ap size (pushed-text g u w s k) ∙ size-append u.text s in
+    let long : size w.text ≡ size u.text + size s = ap size (push_str-text g u w s k) ∙ size-append u.text s in
     heap-fitted w (omega (arith, long, longer)) stands.0 (omega (arith, long, stands.1))
 
-pub ruleset fitted_facts = (fitted-pushed, reserved-fitted)
+pub ruleset fitted_facts = (fitted-push_str, reserve-fitted)
 
 -- a new value is fitted
-made-short : (g : Growth) (v : PlacedText) (t : List ℕ) → made g t ≡ Some v → size v.text ≤ 24 → v.placement ≡ inlined
-made-short g v t e h = grind (arith, common_steps)
+new-short : (g : Growth) (v : PlacedText) (t : List ℕ) → new g t ≡ Some v → size v.text ≤ 24 → v.placement ≡ inline_placement
+new-short g v t e h = grind (arith, common_steps)
 
-made-long : (g : Growth) (v : PlacedText) (t : List ℕ) → made g t ≡ Some v → 24 < size v.text → (v.placement.place ≡ heap) × (size v.text ≤ v.placement.capacity)
-made-long g v t e h = grind (arith, common_steps)
+new-long : (g : Growth) (v : PlacedText) (t : List ℕ) → new g t ≡ Some v → 24 < size v.text → (v.placement.place ≡ heap) × (size v.text ≤ v.placement.capacity)
+new-long g v t e h = grind (arith, common_steps)
 
-pub made-fitted : (g : Growth) (v : PlacedText) (t : List ℕ) → made g t ≡ Some v → IsFitted v
-made-fitted g v t e = record { short = made-short g v t e; long = made-long g v t e }
+pub new-fitted : (g : Growth) (v : PlacedText) (t : List ℕ) → new g t ≡ Some v → IsFitted v
+new-fitted g v t e = record { short = new-short g v t e; long = new-long g v t e }
 
-pub ruleset new_facts = (made-fitted)
+pub ruleset new_facts = (new-fitted)
 
 -- bytes that encode a text encode the one that they spell
 pub spelled-encoded : (bytes t : List ℕ) → IsUtf8 bytes → t ≡ text_of bytes → BytesEncode bytes t
@@ -67,14 +67,14 @@ spelled-encoded bytes t is e = subst (BytesEncode bytes) (sym e) (scalars-chars 
 pub ruleset strict_facts = (spelled-encoded)
 
 -- where a part is refused for its length, so is the text that it is a part of
-pub part-asks : (t a p rest : List ℕ) (n : ℕ) → a ++ (p ++ rest) ≡ t → n ≡ size p → 24 < size a + n → IsTrue (new_room_asks (size t))
+pub part-asks : (t a p rest : List ℕ) (n : ℕ) → a ++ (p ++ rest) ≡ t → n ≡ size p → 24 < size a + n → IsTrue (with_capacity_asks (size t))
 part-asks t a p rest n e k more =
     let long : size t ≡ size a + (size p + size rest) = ap size (sym e) ∙ size-append a (p ++ rest) ∙ ap (λ (n : ℕ). size a + n) (size-append p rest) in
     grind (arith, common_steps)
 
 -- the same where the part is the first character of what is left
 pub first-asks : (t a left rest p : List ℕ) (c n : ℕ) → a ++ left ≡ t → left ≡ c ∷ rest → p ≡ c ∷ [] → n ≡ size p → 24 < size a + n
-    → IsTrue (new_room_asks (size t))
+    → IsTrue (with_capacity_asks (size t))
 first-asks t a left rest p c n e l q k more = part-asks t a p rest n (rw q (ap (λ (x : List ℕ). a ++ x) (sym l)) ∙ e) k more
 
 pub ruleset part_facts = (part-asks)
@@ -90,18 +90,18 @@ pub chunk-read : (whole old half new front invalid rest more : List ℕ) → old
     → rest ≡ more → half ≡ old ++ front → new ≡ half ++ text_of (0xEF ∷ 0xBF ∷ 0xBD ∷ []) → new ++ more ≡ whole
 chunk-read whole old half new front invalid rest more e some r h n =
     let marked : replacement_text invalid ≡ replacement_character ∷ [] = replacement_text-some invalid some in
-    let made : new ≡ (old ++ front) ++ (replacement_character ∷ []) = n ∙ rw (h, mark-text) refl in
-    rw (made, sym r) (append_assoc (old ++ front) (replacement_character ∷ []) rest ∙ append_assoc old front (replacement_character ∷ rest))
+    let read : new ≡ (old ++ front) ++ (replacement_character ∷ []) = n ∙ rw (h, mark-text) refl in
+    rw (read, sym r) (append_assoc (old ++ front) (replacement_character ∷ []) rest ∙ append_assoc old front (replacement_character ∷ rest))
     ∙ ap (λ (t : List ℕ). old ++ (front ++ (t ++ rest))) (sym marked) ∙ e
 
 -- what a string is taken over for is fitted
-taken_over-short : (t : List ℕ) (c : ℕ) → size t ≤ 24 → taken_over t c ≡ inlined
-taken_over-short t c h = grind (arith, common_steps)
+from_string_placement-short : (t : List ℕ) (c : ℕ) → size t ≤ 24 → from_string_placement t c ≡ inline_placement
+from_string_placement-short t c h = grind (arith, common_steps)
 
-taken_over-long : (t : List ℕ) (c : ℕ) → size t ≤ c → 24 < size t → ((taken_over t c).place ≡ heap) × (size t ≤ (taken_over t c).capacity)
-taken_over-long t c fits h = grind (arith, common_steps)
+from_string_placement-long : (t : List ℕ) (c : ℕ) → size t ≤ c → 24 < size t → ((from_string_placement t c).place ≡ heap) × (size t ≤ (from_string_placement t c).capacity)
+from_string_placement-long t c fits h = grind (arith, common_steps)
 
-pub taken_over-fitted : (t : List ℕ) (c : ℕ) → size t ≤ c → IsFitted (placed t (taken_over t c))
-taken_over-fitted t c fits = record { short = taken_over-short t c; long = taken_over-long t c fits }
+pub from_string_placement-fitted : (t : List ℕ) (c : ℕ) → size t ≤ c → IsFitted (placed_text t (from_string_placement t c))
+from_string_placement-fitted t c fits = record { short = from_string_placement-short t c; long = from_string_placement-long t c fits }
 
-pub ruleset buf_facts = (spelled-encoded, made-fitted, taken_over-fitted)
+pub ruleset buf_facts = (spelled-encoded, new-fitted, from_string_placement-fitted)

@@ -21,7 +21,7 @@ use Rattle.compact_repr.specs.Value.{PlacedText}
 use Rattle.compact_repr.specs.Capacity.{Growth}
 use Rattle.compact_str.specs.Edits.{Writes}
 pub use Rattle.compact_repr.proofs.Texts.{length-utf8, utf8-text_of, size-text_of, size-append, empty_text}
-pub use Rattle.compact_repr.proofs.Changes.{pushed-text}
+pub use Rattle.compact_repr.proofs.Changes.{push_str-text}
 pub use Rattle.compact_repr.proofs.Cuts.{before-after, before-cut, after-cut, boundary-text, text_of-take, text_of-drop, boundary-within, size-before, size-after}
 pub use Rattle.compact_repr.proofs.PackedTexts.{one_text}
 pub use Rattle.compact_str.proofs.Positions.{before-before, boundary-seam}
@@ -35,7 +35,7 @@ written-parts g v w (part ∷ parts) (x, first, rest) =
     let others = written-parts g x w parts rest in (
       IsUtf8-append part (concat parts) first.is_text others.0,
       others.1
-          ∙ ap (λ t. t ++ text_of (concat parts)) (pushed-text g v x (text_of part) first.value)
+          ∙ ap (λ t. t ++ text_of (concat parts)) (push_str-text g v x (text_of part) first.value)
           ∙ append_assoc v.text (text_of part) (text_of (concat parts))
           ∙ ap (λ t. v.text ++ t) (sym (chars-append part (concat parts) first.is_text)),
     )

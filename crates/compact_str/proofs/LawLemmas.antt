@@ -5,24 +5,24 @@ use Rattle.std.proofs.lemmas.Str.{len_utf8_bounds, chars-encodes}
 use Rattle.compact_repr.specs.Text.{size}
 use Rattle.compact_repr.specs.Cut.{IsBoundary, before, after}
 use Rattle.compact_repr.specs.Value.{PlacedText}
-use Rattle.compact_repr.specs.Capacity.{Growth, own_asks}
-use Rattle.compact_repr.specs.Change.{inserted}
+use Rattle.compact_repr.specs.Capacity.{Growth, make_owned_asks}
+use Rattle.compact_repr.specs.Change.{insert_str}
 use Rattle.compact_str.specs.Edits.{Removes, split_tail}
 use Rattle.compact_str.specs.Laws.{RemovalUndoesInsertion, TruncationUndoesAppend, AppendUndoesSplit, CloneIsEqual, DecodingUndoesEncoding}
 use Rattle.compact_codec.proofs.LossyReading.{utf8_lossy_text-IsUtf8}
-use Rattle.compact_repr.proofs.Changes.{pushed-text}
+use Rattle.compact_repr.proofs.Changes.{push_str-text}
 use Rattle.compact_repr.proofs.Cuts.{before-after, before-cut, after-cut, size-before, size-after, boundary-from_size}
-use Rattle.compact_str.proofs.Positions.{inserted-text, boundary-seam, truncated-text}
+use Rattle.compact_str.proofs.Positions.{insert_str-text, boundary-seam, truncate-text}
 
-inserted-owned : (g : Growth) (v w : PlacedText) (p : ℕ) (s : List ℕ) → inserted g v p s ≡ Some w → own_asks w ≡ false
-inserted-owned g v w p s e = grind (arith, common_steps)
+insert_str-owned : (g : Growth) (v w : PlacedText) (p : ℕ) (s : List ℕ) → insert_str g v p s ≡ Some w → make_owned_asks w ≡ false
+insert_str-owned g v w p s e = grind (arith, common_steps)
 
 removes-text : (g : Growth) (w u : PlacedText) (p d : ℕ) (r : Removes g w p d u) → u.text ≡ before w.text p ++ r.0
 removes-text g w u p d r = let e = r.2 in grind (arith, common_steps)
 
 pub removal_undoes_insertion : RemovalUndoesInsertion
 removal_undoes_insertion g v w p c h e =
-    let text : w.text ≡ before v.text p ++ (c ∷ after v.text p) = inserted-text g v w p (c ∷ []) e ∙ append_assoc (before v.text p) (c ∷ []) (after v.text p) in
+    let text : w.text ≡ before v.text p ++ (c ∷ after v.text p) = insert_str-text g v w p (c ∷ []) e ∙ append_assoc (before v.text p) (c ∷ []) (after v.text p) in
     let front : before w.text p ≡ before v.text p = ap (λ t. before t p) text ∙ before-cut (before v.text p) _ p (size-before v.text p h) in
     let rest : after w.text p ≡ c ∷ after v.text p = ap (λ t. after t p) text ∙ after-cut (before v.text p) _ p (size-before v.text p h) in
     let boundary : IsBoundary w.text p = boundary-from_size w.text p (ap size front ∙ size-before v.text p h) in
@@ -31,7 +31,7 @@ removal_undoes_insertion g v w p c h e =
     record {
       boundary = boundary;
       within = omega (arith, left, ap size rest, wide.0);
-      asks_nothing = inserted-owned g v w p (c ∷ []) e;
+      asks_nothing = insert_str-owned g v w p (c ∷ []) e;
       undoes =
           λ d u r.
           let same : d ∷ r.0 ≡ c ∷ after v.text p = sym r.1 ∙ rest in
@@ -42,9 +42,9 @@ removal_undoes_insertion g v w p c h e =
 
 pub truncation_undoes_append : TruncationUndoesAppend
 truncation_undoes_append g v w s e =
-    let text : w.text ≡ v.text ++ s = pushed-text g v w s e in (
+    let text : w.text ≡ v.text ++ s = push_str-text g v w s e in (
       subst (λ (t : List ℕ). IsBoundary t (size v.text)) (sym text) (boundary-seam v.text s (size v.text) refl),
-      truncated-text w (size v.text) ∙ ap (λ (t : List ℕ). before t (size v.text)) text ∙ before-cut v.text s (size v.text) refl,
+      truncate-text w (size v.text) ∙ ap (λ (t : List ℕ). before t (size v.text)) text ∙ before-cut v.text s (size v.text) refl,
     )
 
 split-text : (g : Growth) (v tail : PlacedText) (p : ℕ) → split_tail g v p ≡ Some tail → tail.text ≡ after v.text p
@@ -52,7 +52,7 @@ split-text g v tail p e = grind (arith, common_steps)
 
 pub append_undoes_split : AppendUndoesSplit
 append_undoes_split g v tail w p e k =
-    pushed-text g _ w tail.text k ∙ rw (split-text g v tail p e) (sym (before-after v.text p))
+    push_str-text g _ w tail.text k ∙ rw (split-text g v tail p e) (sym (before-after v.text p))
 
 pub clone_is_equal : CloneIsEqual
 clone_is_equal g v w e = grind (arith, common_steps)

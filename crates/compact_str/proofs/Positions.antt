@@ -8,16 +8,16 @@ use Rattle.std.specs.Prelude.{IsTrue, IsErr, option_map}
 use Rattle.std.specs.Char.{len_utf8, is_ascii}
 use Rattle.compact_repr.specs.Text.{size}
 use Rattle.compact_repr.specs.Cut.{IsCut, IsBoundary, before, after, replaced_text}
-use Rattle.compact_repr.specs.Value.{PlacedText, placed, is_static}
-use Rattle.compact_repr.specs.Capacity.{Growth, kept, owned, own_asks}
-use Rattle.compact_repr.specs.Change.{truncated, inserted, replaced, replace_asks}
+use Rattle.compact_repr.specs.Value.{PlacedText, placed_text, is_static}
+use Rattle.compact_repr.specs.Capacity.{Growth, shortened_placement, owned_placement, make_owned_asks}
+use Rattle.compact_repr.specs.Change.{truncate, insert_str, replace_range, replace_range_asks}
 use Rattle.compact_str.specs.Edits.{LosesChar}
 use Rattle.compact_repr.proofs.Texts.{size-append, empty_text}
 use Rattle.compact_repr.proofs.Cuts.{boundary-from_size, before-after, before-cut, after-cut, size-before, size-after}
 
 -- a text that is cut before its last character
-pub truncated-last : (v : PlacedText) (front : List ℕ) (c : ℕ) → v.text ≡ front ++ c ∷ [] → truncated v (size v.text - len_utf8 c) ≡ placed front (kept v front)
-truncated-last v front c e =
+pub truncate-last : (v : PlacedText) (front : List ℕ) (c : ℕ) → v.text ≡ front ++ c ∷ [] → truncate v (size v.text - len_utf8 c) ≡ placed_text front (shortened_placement v front)
+truncate-last v front c e =
     let whole : size v.text ≡ size front + (len_utf8 c + 0) = ap size e ∙ size-append front (c ∷ []) in
     let wide = len_utf8_bounds c in
     let shorter : size v.text - len_utf8 c < size v.text = omega (arith, whole, wide.0) in
@@ -51,8 +51,8 @@ before-all [] p h = refl
 before-all (c ∷ cs) p h =
     cond-true _ _ _ (le-leb (len_utf8 c) p (omega arith)) ∙ ap (λ x. c ∷ x) (before-all cs (p - len_utf8 c) (omega arith))
 
-pub truncated-text : (v : PlacedText) (p : ℕ) → (truncated v p).text ≡ before v.text p
-truncated-text v p = grind (arith, common_steps, before-all)
+pub truncate-text : (v : PlacedText) (p : ℕ) → (truncate v p).text ≡ before v.text p
+truncate-text v p = grind (arith, common_steps, before-all)
 
 -- a boundary of a text is one of its front, and the front up to it is the same
 before-step : (cs : List ℕ) (c p q : ℕ) → p ≤ q → before (before cs (q - len_utf8 c)) (p - len_utf8 c) ≡ before cs (p - len_utf8 c)
@@ -75,24 +75,24 @@ pub boundary-cut : (t a b : List ℕ) (p : ℕ) → IsBoundary t p → a ≡ bef
 boundary-cut t a b p h e k = record { parts = before-after t p ∙ rw (e, k) refl; position = ap size e ∙ size-before t p h }
 
 -- what was put in stands between two boundaries, and what stands round it is as before
-pub replaced-start : (t s : List ℕ) (start end : ℕ) → IsBoundary t start → IsBoundary (replaced_text t start end s) start
-replaced-start t s start end h =
+pub replace_range-start : (t s : List ℕ) (start end : ℕ) → IsBoundary t start → IsBoundary (replaced_text t start end s) start
+replace_range-start t s start end h =
     (before t start, s ++ after t end, record { parts = append_assoc (before t start) s (after t end); position = size-before t start h })
 
-pub replaced-end : (t s : List ℕ) (start end p n : ℕ) → IsBoundary t start → size s ≡ n → p ≡ start + n → IsBoundary (replaced_text t start end s) p
-replaced-end t s start end p n h e k =
+pub replace_range-end : (t s : List ℕ) (start end p n : ℕ) → IsBoundary t start → size s ≡ n → p ≡ start + n → IsBoundary (replaced_text t start end s) p
+replace_range-end t s start end p n h e k =
     (before t start ++ s, after t end, record { parts = refl; position = size-append (before t start) s ∙ omega (arith, size-before t start h) })
 
-pub before-replaced : (t s : List ℕ) (start end : ℕ) → IsBoundary t start → before (replaced_text t start end s) start ≡ before t start
-before-replaced t s start end h =
+pub before-replace_range : (t s : List ℕ) (start end : ℕ) → IsBoundary t start → before (replaced_text t start end s) start ≡ before t start
+before-replace_range t s start end h =
     ap (λ x. before x start) (append_assoc (before t start) s (after t end)) ∙ before-cut (before t start) (s ++ after t end) start (size-before t start h)
 
 pub after-removed : (t : List ℕ) (start end : ℕ) → IsBoundary t start → after (replaced_text t start end []) start ≡ after t end
 after-removed t start end h =
     ap (λ x. after (x ++ after t end) start) (append-nil (before t start)) ∙ after-cut (before t start) (after t end) start (size-before t start h)
 
-pub truncated-boundary : (v : PlacedText) (p : ℕ) → IsBoundary v.text p → truncated v p ≡ placed (before v.text p) (kept v (before v.text p))
-truncated-boundary v p h = grind (arith, common_steps, before-end)
+pub truncate-boundary : (v : PlacedText) (p : ℕ) → IsBoundary v.text p → truncate v p ≡ placed_text (before v.text p) (shortened_placement v (before v.text p))
+truncate-boundary v p h = grind (arith, common_steps, before-end)
 
 -- an ASCII character takes one byte
 ascii-width : (c : ℕ) → is_ascii c ≡ true → len_utf8 c ≡ 1
@@ -100,12 +100,12 @@ ascii-width c e = grind (arith, common_steps)
 
 -- an owned value that is cut round an ASCII character, in place
 pub removed-in_place : {E : Type 0} (g : Growth) (v w : PlacedText) (rest : List ℕ) (p c : ℕ) → IsBoundary v.text p → after v.text p ≡ c ∷ rest → is_ascii c ≡ true
-    → is_static v.placement.place ≡ false → w ≡ placed (replaced_text v.text p (p + 1) []) v.placement → LosesChar {E = E} g v p (Ok c) w
+    → is_static v.placement.place ≡ false → w ≡ placed_text (replaced_text v.text p (p + 1) []) v.placement → LosesChar {E = E} g v p (Ok c) w
 removed-in_place g v w rest p c h e a o s =
     let width : p + 1 ≡ p + len_utf8 c = ap (λ (n : ℕ). p + n) (sym (ascii-width c a)) in
     let next : after v.text (p + 1) ≡ rest = ap (after v.text) width ∙ after-next v.text rest p c h e in
     let cut : replaced_text v.text p (p + 1) [] ≡ before v.text p ++ rest = rw (next, append-nil) refl in
-    let owned_is : owned g v ≡ Some v.placement = rw o refl in
+    let owned_is : owned_placement g v ≡ Some v.placement = rw o refl in
     let behind : after w.text p ≡ rest = ap (λ (x : PlacedText). after x.text p) s ∙ after-removed v.text p (p + 1) h ∙ next in
     record {
       ok = (rest, e, rw (owned_is, s, cut) refl);
@@ -117,40 +117,40 @@ removed-in_place g v w rest p c h e a o s =
     }
 
 -- a value into which a text is put
-pub inserted-text : (g : Growth) (v w : PlacedText) (p : ℕ) (s : List ℕ) → inserted g v p s ≡ Some w → w.text ≡ replaced_text v.text p p s
-inserted-text g v w p s e = grind (arith, common_steps)
+pub insert_str-text : (g : Growth) (v w : PlacedText) (p : ℕ) (s : List ℕ) → insert_str g v p s ≡ Some w → w.text ≡ replaced_text v.text p p s
+insert_str-text g v w p s e = grind (arith, common_steps)
 
-pub inserted-place : (g : Growth) (v w : PlacedText) (p : ℕ) (s : List ℕ) → inserted g v p s ≡ Some w → IsBoundary v.text p → IsBoundary w.text p
-inserted-place g v w p s e h = subst (λ (t : List ℕ). IsBoundary t p) (sym (inserted-text g v w p s e)) (replaced-start v.text s p p h)
+pub insert_str-place : (g : Growth) (v w : PlacedText) (p : ℕ) (s : List ℕ) → insert_str g v p s ≡ Some w → IsBoundary v.text p → IsBoundary w.text p
+insert_str-place g v w p s e h = subst (λ (t : List ℕ). IsBoundary t p) (sym (insert_str-text g v w p s e)) (replace_range-start v.text s p p h)
 
-pub inserted-behind : (g : Growth) (v w : PlacedText) (p n : ℕ) (s : List ℕ) → inserted g v p s ≡ Some w → IsBoundary v.text p → size s ≡ n → IsBoundary w.text (p + n)
-inserted-behind g v w p n s e h k = subst (λ (t : List ℕ). IsBoundary t (p + n)) (sym (inserted-text g v w p s e)) (replaced-end v.text s p p (p + n) n h k refl)
+pub insert_str-behind : (g : Growth) (v w : PlacedText) (p n : ℕ) (s : List ℕ) → insert_str g v p s ≡ Some w → IsBoundary v.text p → size s ≡ n → IsBoundary w.text (p + n)
+insert_str-behind g v w p n s e h k = subst (λ (t : List ℕ). IsBoundary t (p + n)) (sym (insert_str-text g v w p s e)) (replace_range-end v.text s p p (p + n) n h k refl)
 
 -- a value of which a part is replaced
-pub range_replaced-text : (g : Growth) (v w : PlacedText) (i j : ℕ) (s : List ℕ) → replaced g v i j s ≡ Some w → w.text ≡ replaced_text v.text i j s
+pub range_replaced-text : (g : Growth) (v w : PlacedText) (i j : ℕ) (s : List ℕ) → replace_range g v i j s ≡ Some w → w.text ≡ replaced_text v.text i j s
 range_replaced-text g v w i j s e = grind (arith, common_steps)
 
-replaced-by_nothing : (g : Growth) (v w : PlacedText) (i j : ℕ) → replaced g v i j [] ≡ Some w → option_map (placed (replaced_text v.text i j [])) (owned g v) ≡ Some w
-replaced-by_nothing g v w i j e = grind (arith, common_steps)
+replace_range-by_nothing : (g : Growth) (v w : PlacedText) (i j : ℕ) → replace_range g v i j [] ≡ Some w → option_map (placed_text (replaced_text v.text i j [])) (owned_placement g v) ≡ Some w
+replace_range-by_nothing g v w i j e = grind (arith, common_steps)
 
 -- that asks where owning does
-pub asks-by_nothing : (v : PlacedText) (i j : ℕ) → IsTrue (replace_asks v i j []) → IsTrue (own_asks v)
+pub asks-by_nothing : (v : PlacedText) (i j : ℕ) → IsTrue (replace_range_asks v i j []) → IsTrue (make_owned_asks v)
 asks-by_nothing v i j h = grind (arith, common_steps)
 
 -- and owning asks of a long text alone
-pub owning-long : (v : PlacedText) → IsTrue (own_asks v) → 24 < size v.text
+pub owning-long : (v : PlacedText) → IsTrue (make_owned_asks v) → 24 < size v.text
 owning-long v h = grind (arith, common_steps)
 
 -- a value of which the character at a boundary is replaced by nothing
-pub replaced-removes : {E : Type 0} (g : Growth) (v w : PlacedText) (rest : List ℕ) (p c n : ℕ) → IsBoundary v.text p → after v.text p ≡ c ∷ rest → n ≡ len_utf8 c
-    → replaced g v p (p + n) [] ≡ Some w → LosesChar {E = E} g v p (Ok c) w
-replaced-removes g v w rest p c n h e k o =
+pub replace_range-removes : {E : Type 0} (g : Growth) (v w : PlacedText) (rest : List ℕ) (p c n : ℕ) → IsBoundary v.text p → after v.text p ≡ c ∷ rest → n ≡ len_utf8 c
+    → replace_range g v p (p + n) [] ≡ Some w → LosesChar {E = E} g v p (Ok c) w
+replace_range-removes g v w rest p c n h e k o =
     let next : after v.text (p + n) ≡ rest = ap (λ (m : ℕ). after v.text (p + m)) k ∙ after-next v.text rest p c h e in
     let cut : replaced_text v.text p (p + n) [] ≡ before v.text p ++ rest = rw (next, append-nil) refl in
     let text = range_replaced-text g v w p (p + n) [] o in
     let behind : after w.text p ≡ rest = ap (λ t. after t p) text ∙ after-removed v.text p (p + n) h ∙ next in
     record {
-      ok = (rest, e, ap (λ t. option_map (placed t) (owned g v)) (sym cut) ∙ replaced-by_nothing g v w p (p + n) o);
+      ok = (rest, e, ap (λ t. option_map (placed_text t) (owned_placement g v)) (sym cut) ∙ replace_range-by_nothing g v w p (p + n) o);
       text = text ∙ ap (λ (m : ℕ). replaced_text v.text p (p + m) []) k;
       character = e ∙ ap (λ x. c ∷ x) (sym behind);
       succeeds = λ _. refl;
@@ -159,15 +159,15 @@ replaced-removes g v w rest p c n h e k o =
     }
 
 -- one that was to be owned first, which failed
-pub kept-character : {E : Type 0} (g : Growth) (v w : PlacedText) (p : ℕ) (r : Result ℕ E) → IsErr r → w ≡ v → IsTrue (own_asks v) → LosesChar g v p r w
-kept-character g v w p (Ok c) fails same asks = absurd (grind (arith, fails))
-kept-character g v w p (Err e) fails same asks =
+pub shortened_placement-character : {E : Type 0} (g : Growth) (v w : PlacedText) (p : ℕ) (r : Result ℕ E) → IsErr r → w ≡ v → IsTrue (make_owned_asks v) → LosesChar g v p r w
+shortened_placement-character g v w p (Ok c) fails same asks = absurd (grind (arith, fails))
+shortened_placement-character g v w p (Err e) fails same asks =
     let long = owning-long v asks in
     record {
       ok = tt;
       text = tt;
       character = tt;
-      succeeds = λ owned. absurd (grind (arith, common_steps, owned, asks));
+      succeeds = λ owned_placement. absurd (grind (arith, common_steps, owned_placement, asks));
       succeeds_short = λ short. absurd (omega (arith, long, short));
       err = (same, asks);
     }

@@ -4,9 +4,9 @@ use Rattle.std.proofs.Math.Nat.{mul-le-mul_left, mul-suc}
 use Rattle.std.proofs.lemmas.Grind.{common_steps}
 use Rattle.std.specs.Prelude.{IsTrue, not, ◌&&◌, nat_le}
 use Rattle.compact_repr.specs.Text.{size}
-use Rattle.compact_repr.specs.Value.{Placement, PlacedText, placed, is_static}
-use Rattle.compact_repr.specs.Capacity.{Growth, new_room, fits_in_place}
-use Rattle.compact_repr.specs.Change.{pushed, push_asks}
+use Rattle.compact_repr.specs.Value.{Placement, PlacedText, placed_text, is_static}
+use Rattle.compact_repr.specs.Capacity.{Growth, with_capacity_placement, fits_in_place}
+use Rattle.compact_repr.specs.Change.{push_str, push_str_asks}
 use Rattle.compact_str.specs.Edits.{repeated_text}
 use Rattle.compact_repr.proofs.Texts.{size-append, empty_text}
 
@@ -22,22 +22,22 @@ size-repeated_text zero t = omega arith
 size-repeated_text (suc n) t = size-append t (repeated_text n t) ∙ ap (λ (k : ℕ). size t + k) (size-repeated_text n t) ∙ omega arith
 
 -- what is held for so many bytes has room for as many
-pub new_room-room : (g : Growth) (p : Placement) (m k : ℕ) → new_room g m ≡ Some p → k ≤ m → IsTrue (not (is_static p.place) && nat_le k p.capacity)
-new_room-room g p m k e h = grind (arith, common_steps)
+pub with_capacity_placement-room : (g : Growth) (p : Placement) (m k : ℕ) → with_capacity_placement g m ≡ Some p → k ≤ m → IsTrue (not (is_static p.place) && nat_le k p.capacity)
+with_capacity_placement-room g p m k e h = grind (arith, common_steps)
 
 -- a value that is filled so far has room for one more piece
-pub room_to_fill : (g : Growth) (v : PlacedText) (t : List ℕ) (i n : ℕ) → new_room g (size t * n) ≡ Some v.placement → v.text ≡ repeated_text i t → i < n → IsTrue (fits_in_place v (size t))
+pub room_to_fill : (g : Growth) (v : PlacedText) (t : List ℕ) (i n : ℕ) → with_capacity_placement g (size t * n) ≡ Some v.placement → v.text ≡ repeated_text i t → i < n → IsTrue (fits_in_place v (size t))
 room_to_fill g v t i n e is h =
     let more : size t * suc i ≤ size t * n = mul-le-mul_left (size t) (omega arith) in
     let filled : size v.text ≡ size t * i = ap size is ∙ size-repeated_text i t in
-    new_room-room g v.placement (size t * n) (size v.text + size t) e (omega (arith, more, filled, mul-suc (size t) i))
+    with_capacity_placement-room g v.placement (size t * n) (size v.text + size t) e (omega (arith, more, filled, mul-suc (size t) i))
 
 -- an append that has room stays in place
-pub pushed-in_place : (g : Growth) (v w : PlacedText) (s : List ℕ) → pushed g v s ≡ Some w → IsTrue (fits_in_place v (size s)) → w ≡ placed (v.text ++ s) v.placement
-pushed-in_place g v w s e k = grind (arith, common_steps, empty_text, append-nil)
+pub push_str-in_place : (g : Growth) (v w : PlacedText) (s : List ℕ) → push_str g v s ≡ Some w → IsTrue (fits_in_place v (size s)) → w ≡ placed_text (v.text ++ s) v.placement
+push_str-in_place g v w s e k = grind (arith, common_steps, empty_text, append-nil)
 
 -- and is never refused
-pub push-never_asks : (v : PlacedText) (s : List ℕ) → IsTrue (fits_in_place v (size s)) → IsTrue (push_asks v s) → ⊥
+pub push-never_asks : (v : PlacedText) (s : List ℕ) → IsTrue (fits_in_place v (size s)) → IsTrue (push_str_asks v s) → ⊥
 push-never_asks v s h k = grind (arith, common_steps)
 
 pub repeated_text-none : (n : ℕ) (t : List ℕ) → size t * n ≡ 0 → repeated_text n t ≡ []

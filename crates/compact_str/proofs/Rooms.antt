@@ -6,22 +6,22 @@ use Rattle.std.specs.Str.{IsUtf8}
 use Rattle.std.specs.Prelude.{max, if◌then◌else◌}
 use Rattle.compact_repr.specs.Text.{utf8, text_of}
 use Rattle.compact_repr.specs.Value.{Placement, PlacedText, is_static}
-use Rattle.compact_repr.specs.Capacity.{Growth, room}
-use Rattle.compact_repr.specs.Change.{pushed, inserted}
-use Rattle.compact_repr.proofs.Changes.{pushed-text}
+use Rattle.compact_repr.specs.Capacity.{Growth, reserve_placement}
+use Rattle.compact_repr.specs.Change.{push_str, insert_str}
+use Rattle.compact_repr.proofs.Changes.{push_str-text}
 use Rattle.compact_str.specs.Room.{sure_capacity}
 
-room-sure : (g : Growth) (v : PlacedText) (p : Placement) (n : ℕ) → room g v n ≡ Some p → sure_capacity v ≤ max 24 (if is_static p.place then 0 else p.capacity)
-room-sure g v p n e = grind (arith, common_steps)
+reserve_placement-sure : (g : Growth) (v : PlacedText) (p : Placement) (n : ℕ) → reserve_placement g v n ≡ Some p → sure_capacity v ≤ max 24 (if is_static p.place then 0 else p.capacity)
+reserve_placement-sure g v p n e = grind (arith, common_steps)
 
 -- an append never lessens the room that is sure, nor does an insertion
-pub pushed-sure : (g : Growth) (v w : PlacedText) (s : List ℕ) → pushed g v s ≡ Some w → sure_capacity v ≤ sure_capacity w
-pushed-sure g v w s e = grind (arith, common_steps, room-sure)
+pub push_str-sure : (g : Growth) (v w : PlacedText) (s : List ℕ) → push_str g v s ≡ Some w → sure_capacity v ≤ sure_capacity w
+push_str-sure g v w s e = grind (arith, common_steps, reserve_placement-sure)
 
-pub inserted-sure : (g : Growth) (v w : PlacedText) (p : ℕ) (s : List ℕ) → inserted g v p s ≡ Some w → sure_capacity v ≤ sure_capacity w
-inserted-sure g v w p s e = grind (arith, common_steps, room-sure)
+pub insert_str-sure : (g : Growth) (v w : PlacedText) (p : ℕ) (s : List ℕ) → insert_str g v p s ≡ Some w → sure_capacity v ≤ sure_capacity w
+insert_str-sure g v w p s e = grind (arith, common_steps, reserve_placement-sure)
 
 -- the bytes of what is appended stand behind those that stood
-pub pushed-bytes : (g : Growth) (v w : PlacedText) (bytes : List ℕ) → pushed g v (text_of bytes) ≡ Some w → IsUtf8 bytes → utf8 w.text ≡ utf8 v.text ++ bytes
-pushed-bytes g v w bytes e u =
-    ap utf8 (pushed-text g v w (text_of bytes) e) ∙ encodes-append v.text (text_of bytes) ∙ ap (λ (x : List ℕ). utf8 v.text ++ x) (encodes-chars bytes u)
+pub push_str-bytes : (g : Growth) (v w : PlacedText) (bytes : List ℕ) → push_str g v (text_of bytes) ≡ Some w → IsUtf8 bytes → utf8 w.text ≡ utf8 v.text ++ bytes
+push_str-bytes g v w bytes e u =
+    ap utf8 (push_str-text g v w (text_of bytes) e) ∙ encodes-append v.text (text_of bytes) ∙ ap (λ (x : List ℕ). utf8 v.text ++ x) (encodes-chars bytes u)

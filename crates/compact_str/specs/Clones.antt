@@ -2,13 +2,13 @@
 use Rattle.std.specs.Prelude.{Bool, ◌&&◌, Option, Some, if◌then◌else◌}
 use Rattle.compact_repr.specs.Value.{PlacedText, is_heap}
 use Rattle.compact_repr.specs.Capacity.{Growth}
-use Rattle.compact_repr.specs.Change.{pushed, push_asks, cleared}
+use Rattle.compact_repr.specs.Change.{push_str, push_str_asks, clear}
 
 -- v made a clone of w: an inline or static w gives its place and capacity, and the text of a heap w is joined to v
 -- once v is cleared
 abbrev pub cloned_from : Growth → PlacedText → PlacedText → Option PlacedText
-cloned_from g v w = if is_heap w.placement.place then pushed g (cleared v) w.text else Some w
+cloned_from g v w = if is_heap w.placement.place then push_str g (clear v) w.text else Some w
 
 -- that asks for a heap buffer
 abbrev pub clone_from_asks : PlacedText → PlacedText → Bool
-clone_from_asks v w = is_heap w.placement.place && push_asks (cleared v) w.text
+clone_from_asks v w = is_heap w.placement.place && push_str_asks (clear v) w.text

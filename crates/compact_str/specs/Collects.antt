@@ -5,12 +5,12 @@ use Rattle.std.specs.Iterator.Runs.{WholeRun}
 use Rattle.compact_repr.specs.Text.{size}
 use Rattle.compact_repr.specs.Value.{PlacedText}
 use Rattle.compact_repr.specs.Capacity.{Growth}
-use Rattle.compact_repr.specs.Change.{pushed, push_asks}
+use Rattle.compact_repr.specs.Change.{push_str, push_str_asks}
 
 -- the text of each item, as `spells` reads it, is joined to v's end in turn, which leaves w
 abbrev pub Appends : {A : Type 0} → Growth → (A → List ℕ) → PlacedText → List A → PlacedText → Type 0
 Appends g spells v [] w = w ≡ v
-Appends g spells v (x ∷ xs) w = (u : PlacedText) × (pushed g v (spells x) ≡ Some u) × Appends g spells u xs w
+Appends g spells v (x ∷ xs) w = (u : PlacedText) × (push_str g v (spells x) ≡ Some u) × Appends g spells u xs w
 
 -- the texts of the items with a separator between each two: each stands behind a separator, but for the first separator
 abbrev pub joined : {A : Type 0} → List ℕ → (A → List ℕ) → List A → List ℕ
@@ -40,7 +40,7 @@ module _ {S A : Type 0} (steps : S → Option A → S → Type 0) where
   -- the items before one that is refused are appended, and that one asks for a heap buffer
   abbrev pub AppendsUpToRefused : Growth → (A → List ℕ) → S → PlacedText → PlacedText → Type 0
   AppendsUpToRefused g spells s v w =
-      (xs : List A) × (x : A) × (t : S) × YieldsThen steps s xs (Some x) t × Appends g spells v xs w × IsTrue (push_asks w (spells x))
+      (xs : List A) × (x : A) × (t : S) × YieldsThen steps s xs (Some x) t × Appends g spells v xs w × IsTrue (push_str_asks w (spells x))
 
   -- items that an iterator gave make a text of more than 24 bytes
   abbrev pub PassesInline : (List A → List ℕ) → S → Type 0

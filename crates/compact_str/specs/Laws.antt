@@ -5,9 +5,9 @@ use Rattle.compact_codec.specs.Utf8Text.{BytesEncode, utf8_lossy_text}
 use Rattle.compact_repr.specs.Text.{size, utf8, text_of}
 use Rattle.compact_repr.specs.Cut.{IsBoundary, before}
 use Rattle.compact_repr.specs.Packed.{IsPackedFor}
-use Rattle.compact_repr.specs.Value.{PlacedText, placed, IsSound}
-use Rattle.compact_repr.specs.Capacity.{Growth, kept, own_asks}
-use Rattle.compact_repr.specs.Change.{pushed, copy_of, truncated, inserted}
+use Rattle.compact_repr.specs.Value.{PlacedText, placed_text, IsSound}
+use Rattle.compact_repr.specs.Capacity.{Growth, shortened_placement, make_owned_asks}
+use Rattle.compact_repr.specs.Change.{push_str, clone, truncate, insert_str}
 use Rattle.compact_str.specs.Edits.{Removes, split_tail}
 
 -- where a character was put in one may be taken out, which asks for no memory: it is that character, and the text is as
@@ -15,29 +15,29 @@ use Rattle.compact_str.specs.Edits.{Removes, split_tail}
 pub record RemovalUndoes (g : Growth) (v w : PlacedText) (index c : ℕ) : Type 0 where
   pub boundary : IsBoundary w.text index
   pub within : index < size w.text
-  pub asks_nothing : own_asks w ≡ false
+  pub asks_nothing : make_owned_asks w ≡ false
   pub undoes : (d : ℕ) (u : PlacedText) → Removes g w index d u → (d ≡ c) × (u.text ≡ v.text)
 
 abbrev pub RemovalUndoesInsertion : Type 0
 RemovalUndoesInsertion =
-    (g : Growth) (v w : PlacedText) (index c : ℕ) → IsBoundary v.text index → inserted g v index (c ∷ []) ≡ Some w
+    (g : Growth) (v w : PlacedText) (index c : ℕ) → IsBoundary v.text index → insert_str g v index (c ∷ []) ≡ Some w
     → RemovalUndoes g v w index c
 
 -- a value to which a text was joined may be cut at its old length, and then has its old text
 abbrev pub TruncationUndoesAppend : Type 0
 TruncationUndoesAppend =
-    (g : Growth) (v w : PlacedText) (s : List ℕ) → pushed g v s ≡ Some w
-    → IsBoundary w.text (size v.text) × ((truncated w (size v.text)).text ≡ v.text)
+    (g : Growth) (v w : PlacedText) (s : List ℕ) → push_str g v s ≡ Some w
+    → IsBoundary w.text (size v.text) × ((truncate w (size v.text)).text ≡ v.text)
 
 -- a tail that was split off and is appended again gives the text as before
 abbrev pub AppendUndoesSplit : Type 0
 AppendUndoesSplit =
     (g : Growth) (v tail w : PlacedText) (index : ℕ) → split_tail g v index ≡ Some tail
-    → pushed g (placed (before v.text index) (kept v (before v.text index))) tail.text ≡ Some w → w.text ≡ v.text
+    → push_str g (placed_text (before v.text index) (shortened_placement v (before v.text index))) tail.text ≡ Some w → w.text ≡ v.text
 
 -- a clone has the text of its source
 abbrev pub CloneIsEqual : Type 0
-CloneIsEqual = (g : Growth) (v w : PlacedText) → copy_of g v ≡ Some w → w.text ≡ v.text
+CloneIsEqual = (g : Growth) (v w : PlacedText) → clone g v ≡ Some w → w.text ≡ v.text
 
 -- 24 bytes stand for one text at most
 abbrev pub PackedBytesStandForOneText : Type 0

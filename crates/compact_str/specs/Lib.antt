@@ -4,7 +4,7 @@ pub use Rattle.compact_repr.specs.Value
 pub use Rattle.compact_repr.specs.Capacity
 pub use Rattle.compact_repr.specs.Change
 pub use Rattle.compact_repr.specs.Packed
-pub use Rattle.compact_repr.specs.Kept
+pub use Rattle.compact_repr.specs.Retain
 pub use Rattle.compact_codec.specs.InvalidSequence
 pub use Rattle.compact_codec.specs.Utf8Text
 pub use Rattle.compact_codec.specs.Utf16Text

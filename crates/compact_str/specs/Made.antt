@@ -4,21 +4,21 @@ use Rattle.std.specs.String.{string_capacity}
 use Rattle.std.specs.declared.borrow.CowStr.{CowStr}
 use Rattle.std.specs.declared.borrow.CowStr.TheVariants.{Borrowed, Owned}
 use Rattle.compact_repr.specs.Text.{text_of}
-use Rattle.compact_repr.specs.Value.{PlacedText, placed}
-use Rattle.compact_repr.specs.Capacity.{Growth, new_room_asks, taken_over}
-use Rattle.compact_repr.specs.Change.{made}
+use Rattle.compact_repr.specs.Value.{PlacedText, placed_text}
+use Rattle.compact_repr.specs.Capacity.{Growth, with_capacity_asks, from_string_placement}
+use Rattle.compact_repr.specs.Change.{new}
 
 -- r is a new value with the text of some bytes; up to 24 of them are never refused
 pub record IsNewOf {E : Type 0} (g : Growth) (bytes : List ℕ) (r : Result PlacedText E) : Type 0 where
-  pub ok : IfOk r (λ v. made g (text_of bytes) ≡ Some v)
+  pub ok : IfOk r (λ v. new g (text_of bytes) ≡ Some v)
   pub text : IfOk r (λ v. v.text ≡ text_of bytes)
   pub succeeds : length bytes ≤ 24 → IsOk r
-  pub err : OnErr r (IsTrue (new_room_asks (length bytes)))
+  pub err : OnErr r (IsTrue (with_capacity_asks (length bytes)))
 
 -- a borrowed text is copied, and refused only where that asks for a heap buffer; an owned one is taken over
 abbrev pub TakesCow : {Z E : Type 0} → Growth → CowStr Z → Result PlacedText E → Type 0
-TakesCow g (Borrowed s) r = MatchResult r (λ v. made g (text_of s.now) ≡ Some v) (λ _. IsTrue (new_room_asks (length s.now)))
-TakesCow g (Owned s) r = IsOkAnd r (λ v. let t = text_of (string_bytes s) in v ≡ placed t (taken_over t (string_capacity s)))
+TakesCow g (Borrowed s) r = MatchResult r (λ v. new g (text_of s.now) ≡ Some v) (λ _. IsTrue (with_capacity_asks (length s.now)))
+TakesCow g (Owned s) r = IsOkAnd r (λ v. let t = text_of (string_bytes s) in v ≡ placed_text t (from_string_placement t (string_capacity s)))
 
 -- taking the text is never refused: it is owned, or has at most 24 bytes
 abbrev pub IsFreeCow : {Z : Type 0} → CowStr Z → Type 0

@@ -2,8 +2,8 @@
 use Rattle.std.specs.Prelude.{◌≡◌, ℕ, ◌+◌, ◌≤◌, [], false, max, if◌then◌else◌, Result, IfOk, OnOk, OnErr, IsOk, Some, IsTrue}
 use Rattle.compact_repr.specs.Text.{size}
 use Rattle.compact_repr.specs.Value.{PlacedText, is_static}
-use Rattle.compact_repr.specs.Capacity.{Growth, new_room_asks, room_asks}
-use Rattle.compact_repr.specs.Change.{with_room, reserved}
+use Rattle.compact_repr.specs.Capacity.{Growth, with_capacity_asks, reserve_asks}
+use Rattle.compact_repr.specs.Change.{with_capacity, reserve}
 
 -- v's bytes are its own, and may be changed in place
 abbrev pub IsOwned : PlacedText → Type 0
@@ -23,16 +23,16 @@ HasRoomFor v n = size v.text + n ≤ sure_capacity v
 
 -- r is the empty text with room for n bytes; up to 24 are never refused
 pub record IsRoomFor {E : Type 0} (g : Growth) (n : ℕ) (r : Result PlacedText E) : Type 0 where
-  pub ok : IfOk r (λ v. with_room g n ≡ Some v)
+  pub ok : IfOk r (λ v. with_capacity g n ≡ Some v)
   pub text : IfOk r (λ v. v.text ≡ [])
   pub room : IfOk r (λ v. HasRoomFor v n)
   pub succeeds : n ≤ 24 → IsOk r
-  pub err : OnErr r (IsTrue (new_room_asks n))
+  pub err : OnErr r (IsTrue (with_capacity_asks n))
 
 -- v has made room for n more bytes, which leaves w, or is as it was where that is refused
 pub record Reserves {E : Type 0} (g : Growth) (v : PlacedText) (n : ℕ) (r : Result (Unit {0}) E) (w : PlacedText) : Type 0 where
-  pub ok : OnOk r (reserved g v n ≡ Some w)
+  pub ok : OnOk r (reserve g v n ≡ Some w)
   pub text : w.text ≡ v.text
   pub room : OnOk r (HasRoomFor w n)
   pub succeeds : HasRoomFor v n → IsOk r
-  pub err : OnErr r ((w ≡ v) × IsTrue (room_asks v n))
+  pub err : OnErr r ((w ≡ v) × IsTrue (reserve_asks v n))

@@ -2,10 +2,10 @@
 ghost use Rattle.std.specs.Prelude.{◌≡◌, ℕ, ◌≤◌, List, length, [], Some, IfOk, OnErr, IsOk, IsTrue, true, false};
 ghost use Rattle.std.specs.Borrow.{sem, RestsIfErr};
 ghost use Rattle.compact_repr.specs.Text.{size, utf8, text_of};
-ghost use Rattle.compact_repr.specs.Cut.{middle, replaced_text};
-ghost use Rattle.compact_repr.specs.Capacity.{own_asks};
+ghost use Rattle.compact_repr.specs.Cut.{substring, replaced_text};
+ghost use Rattle.compact_repr.specs.Capacity.{make_owned_asks};
 ghost use Rattle.compact_repr.specs.Value.{is_static};
-ghost use Rattle.compact_repr.specs.Change.{replaced};
+ghost use Rattle.compact_repr.specs.Change.{replace_range};
 ghost use Rattle.compact_str.specs.Room.{IsOwned};
 ghost use Rattle.compact_str.specs.Ranges.{IsRange, range_start, range_end};
 ghost use Rattle.compact_str.specs.Drains.{may_cut_out};
@@ -13,7 +13,7 @@ ghost use Rattle.compact_str.specs.Drains.{may_cut_out};
 use crate::string::PolicyString;
 use crate::string::part::rare_end;
 use crate::string::position::ends;
-use compact_repr::{Policy, ReserveError, first_ascii, last_char, middle};
+use compact_repr::{Policy, ReserveError, first_ascii, last_char, substring};
 use std::fmt;
 use std::fmt::{Debug, Display, Formatter, Write};
 use std::iter::FusedIterator;
@@ -63,17 +63,18 @@ impl<P: Policy> PolicyString<P> {
             (λ v. v ≡ self.old)) }
         ensures same_reference { IfOk result (λ d. drain_lender d ≡ self.entry.ghost_name) }
         ensures rest { IfOk result
-            (λ d. drain_rest d ≡ middle self.old.text (range_start start)
+            (λ d. drain_rest d ≡ substring self.old.text (range_start start)
             (range_end self.old.text end)) }
         ensures leaves { IfOk result
-            (λ d. replaced P.growth self.old (range_start start) (range_end self.old.text end) []
+            (λ d. replace_range P.growth self.old (range_start start)
+            (range_end self.old.text end) []
             ≡ Some (drain_leaves d)) }
         ensures text { IfOk result
             (λ d. (drain_leaves d).text
             ≡ replaced_text self.old.text (range_start start) (range_end self.old.text end) []) }
         ensures succeeds { IsOwned self.old → IsOk result }
         ensures succeeds_short { size self.old.text ≤ 24 → IsOk result }
-        ensures err { OnErr result (IsTrue (own_asks self.old)) }
+        ensures err { OnErr result (IsTrue (make_owned_asks self.old)) }
     {
         let Some((first, last)) = ends(start, end, self.len()) else {
             unreachable!();
@@ -116,7 +117,7 @@ impl<P: Policy> Drain<'_, P> {
         // An inline text is short: the loop has one way of reading alone, that of the heap.
         if let Some(text) = self.value.heap_str() {
             if text.len() == self.whole {
-                return middle(text, self.front, self.back);
+                return substring(text, self.front, self.back);
             }
         }
         self.value.rare_part(self.front, self.back)

@@ -14,7 +14,7 @@ mod refused;
 mod string;
 
 pub use compact_repr::{
-    GREATEST_CAPACITY, INLINE_CAPACITY, Policy, ReserveError, Standard, standard_grows_by_half,
+    INLINE_CAPACITY, MAX_CAPACITY, Policy, ReserveError, Standard, standard_grows_by_half,
 };
 pub use decode::error::{FromUtf8Error, FromUtf16Error, Utf16Error};
 pub use drain::Drain;

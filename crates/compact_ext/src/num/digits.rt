@@ -1,7 +1,7 @@
 //! How many digits a number has, and those of a number of eight bits, written from the last to the first.
 ghost use Rattle.std.specs.Prelude.{◌≡◌, ◌+◌, ◌<◌, ◌≤◌, length};
 ghost use Rattle.std.specs.Fmt.{decimal, sign_text};
-ghost use Rattle.compact_repr.specs.Words.{number};
+ghost use Rattle.compact_repr.specs.Words.{le_number};
 ghost use Rattle.compact_ext.specs.Digits.{two_digits, written, number_text};
 
 /// The two digits of each number below 100, one after another.
@@ -106,7 +106,7 @@ fn write_pair(n: u64, row: &mut [u8], at: usize)
 #[tactic(auto, using(crate::proofs::DigitRows::pairs_read))]
 pub fn pair(n: u64) -> u64
     requires { n < 100 }
-    ensures { result ≡ number (two_digits n) }
+    ensures { result ≡ le_number (two_digits n) }
 {
     let place = n as usize * 2;
     u64::from(u16::from_le_bytes([PAIRS[place], PAIRS[place + 1]]))

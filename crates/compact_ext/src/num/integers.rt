@@ -3,8 +3,8 @@ ghost use Rattle.std.specs.Prelude.{◌≡◌, ◌≤◌, take, ⊤};
 ghost use Rattle.std.specs.Str.{IsUtf8};
 ghost use Rattle.std.specs.Fmt.{decimal, signed_decimal};
 ghost use Rattle.compact_str.specs.Text.{text_of};
-ghost use Rattle.compact_str.specs.Value.{placed};
-ghost use Rattle.compact_str.specs.Capacity.{inlined};
+ghost use Rattle.compact_str.specs.Value.{placed_text};
+ghost use Rattle.compact_str.specs.Capacity.{inline_placement};
 ghost use Rattle.compact_ext.specs.Digits.{number_text};
 ghost use Rattle.compact_ext.specs.Shown.{IsTextOf};
 
@@ -18,7 +18,7 @@ use std::alloc::Global;
 /// The text of a number, inline.
 #[inline]
 fn number_value(alloc: Global, magnitude: u64, is_negative: bool) -> CompactString
-    ensures { result ≡ placed (number_text is_negative magnitude) inlined }
+    ensures { result ≡ placed_text (number_text is_negative magnitude) inline_placement }
 {
     match CompactString::from_packed(alloc, &number_row(magnitude, is_negative)) {
         Some(value) => value,
@@ -30,7 +30,7 @@ fn number_value(alloc: Global, magnitude: u64, is_negative: bool) -> CompactStri
 #[inline]
 #[tactic(auto, using(crate::proofs::NumberTexts::number_rows))]
 fn small_number_value(alloc: Global, magnitude: u8, is_negative: bool) -> CompactString
-    ensures { result ≡ placed (number_text is_negative magnitude) inlined }
+    ensures { result ≡ placed_text (number_text is_negative magnitude) inline_placement }
 {
     let mut row = [0; 24];
     let len = write_small_number(magnitude, is_negative, &mut row);
@@ -42,7 +42,7 @@ fn small_number_value(alloc: Global, magnitude: u8, is_negative: bool) -> Compac
 fn packed_value(alloc: Global, row: &mut [u8; 24], len: usize) -> CompactString
     requires short { len ≤ 23 }
     requires text { IsUtf8 (take len row.old) }
-    ensures { result ≡ placed (text_of (take len row.old)) inlined }
+    ensures { result ≡ placed_text (text_of (take len row.old)) inline_placement }
 {
     row[INLINE_CAPACITY - 1] = 192 + len as u8;
     match CompactString::from_packed(alloc, row) {

@@ -2,7 +2,7 @@
 //! read after its bytes were written one by one waits for them.
 ghost use Rattle.std.specs.Prelude.{◌≡◌, ◌+◌, ◌-◌, ◌<◌, ◌≤◌, [], ◌∷◌, ◌++◌, length, take, drop, replicate};
 ghost use Rattle.std.specs.Fmt.{decimal};
-ghost use Rattle.compact_repr.specs.Words.{bytes_of};
+ghost use Rattle.compact_repr.specs.Words.{word_bytes};
 ghost use Rattle.compact_repr.specs.Packed.{packed_bytes};
 ghost use Rattle.compact_ext.specs.Digits.{eight_digits, number_text};
 
@@ -41,7 +41,7 @@ pub fn number_row(magnitude: u64, is_negative: bool) -> [u8; 24]
 #[tactic(auto, using(crate::proofs::DigitWords::word_counts))]
 fn words_of_digits(n: u64, count: usize) -> (u64, u64, u64)
     requires { count ≡ length (decimal n) }
-    ensures { bytes_of result.0 ++ bytes_of result.1 ++ bytes_of result.2
+    ensures { word_bytes result.0 ++ word_bytes result.1 ++ word_bytes result.2
         ≡ decimal n ++ replicate (24 - count) 0 }
 {
     if n < NINE_DIGITS {
@@ -72,7 +72,7 @@ fn words_of_digits(n: u64, count: usize) -> (u64, u64, u64)
 #[inline(always)]
 fn eight_digits(n: u64) -> u64
     requires { n < 100000000 }
-    ensures { bytes_of result ≡ eight_digits n }
+    ensures { word_bytes result ≡ eight_digits n }
 {
     let high = n / 10_000;
     let low = n % 10_000;
@@ -83,7 +83,7 @@ fn eight_digits(n: u64) -> u64
 #[inline(always)]
 fn without_front(word: u64, count: usize) -> u64
     requires { count < 8 }
-    ensures { bytes_of result ≡ drop count (bytes_of word) ++ replicate count 0 }
+    ensures { word_bytes result ≡ drop count (word_bytes word) ++ replicate count 0 }
 {
     word >> (8 * count)
 }
@@ -92,7 +92,7 @@ fn without_front(word: u64, count: usize) -> u64
 #[inline(always)]
 fn word_behind(word: u64, next: u64, count: usize) -> u64
     requires { count < 8 }
-    ensures { bytes_of result ≡ drop count (bytes_of word) ++ take count (bytes_of next) }
+    ensures { word_bytes result ≡ drop count (word_bytes word) ++ take count (word_bytes next) }
 {
     let both = (u128::from(next) << 64) + u128::from(word);
     ((both >> (8 * count)) % PAST_WORD) as u64
@@ -102,26 +102,26 @@ fn word_behind(word: u64, next: u64, count: usize) -> u64
 #[inline(always)]
 fn packed_row(first: u64, second: u64, third: u64, len: usize) -> [u8; 24]
     requires { len ≤ 23 }
-    ensures { result ≡ take 23 (bytes_of first ++ bytes_of second ++ bytes_of third)
+    ensures { result ≡ take 23 (word_bytes first ++ word_bytes second ++ word_bytes third)
         ++ (192 + len) ∷ [] }
 {
-    row_of_words(first, second, with_length(third, len))
+    array_of_words(first, second, with_length(third, len))
 }
 
 /// A word with a length as its last byte, as a packed row has it.
 #[inline(always)]
 fn with_length(word: u64, len: usize) -> u64
     requires { len ≤ 23 }
-    ensures { bytes_of result ≡ take 7 (bytes_of word) ++ (192 + len) ∷ [] }
+    ensures { word_bytes result ≡ take 7 (word_bytes word) ++ (192 + len) ∷ [] }
 {
     (word % 0x100_0000_0000_0000) | ((192 + len as u64) << 56)
 }
 
 /// Three words as a row.
 #[inline(always)]
-#[tactic(auto, unfolding(compact_repr::specs::Words::bytes_of))]
-fn row_of_words(first: u64, second: u64, third: u64) -> [u8; 24]
-    ensures { result ≡ bytes_of first ++ bytes_of second ++ bytes_of third }
+#[tactic(auto, unfolding(compact_repr::specs::Words::word_bytes))]
+fn array_of_words(first: u64, second: u64, third: u64) -> [u8; 24]
+    ensures { result ≡ word_bytes first ++ word_bytes second ++ word_bytes third }
 {
     let mut row = [0; 24];
     store8(&mut row[..8], first);
@@ -132,10 +132,10 @@ fn row_of_words(first: u64, second: u64, third: u64) -> [u8; 24]
 
 /// Writes a word over eight bytes.
 #[inline(always)]
-#[tactic(auto, unfolding(compact_repr::specs::Words::bytes_of))]
+#[tactic(auto, unfolding(compact_repr::specs::Words::word_bytes))]
 fn store8(bytes: &mut [u8], word: u64)
     requires { length bytes.old ≡ 8 }
-    ensures { bytes.new ≡ bytes_of word }
+    ensures { bytes.new ≡ word_bytes word }
 {
     match bytes.first_chunk_mut::<8>() {
         Some(chunk) => *chunk = word.to_le_bytes(),

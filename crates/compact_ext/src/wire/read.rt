@@ -5,7 +5,7 @@ ghost use Rattle.std.specs.Vec.{vec_capacity};
 ghost use Rattle.std.specs.Io.KnownBytes.{Consumes};
 ghost use Rattle.compact_str.specs.Text.{IsText, size, utf8};
 ghost use Rattle.compact_repr.specs.Packed.{packed_len};
-ghost use Rattle.compact_str.specs.Capacity.{inlined, on_heap, taken_over};
+ghost use Rattle.compact_str.specs.Capacity.{inline_placement, heap_placement, from_string_placement};
 ghost use Rattle.compact_ext.specs.declared.wire.WireError.TheVariants.{Utf8 as utf8_fault};
 ghost use Rattle.compact_ext.specs.Wire.{wire, HasForm, ReadFails, ReadsBack, StopsBelow, TextFails, next_room};
 
@@ -35,7 +35,8 @@ pub fn read_wire<R: Read>(alloc: Global, reader: &mut R) -> Result<CompactString
     ensures ok { IfOk result (λ v.
         Consumes (R.remaining reader.old) (R.remaining reader.new) (wire v.text)) }
     ensures fits { IfOk result (λ v. HasForm v.text) }
-    ensures placement { IfOk result (λ v. v.placement ≡ taken_over v.text (size v.text)) }
+    ensures placement { IfOk result
+        (λ v. v.placement ≡ from_string_placement v.text (size v.text)) }
     ensures back { ReadsBack (R.remaining reader.old) (R.remaining reader.new) result }
     ensures err { IfErr result (λ e.
         ReadFails (R.remaining reader.old) (R.remaining reader.new) e) }
@@ -86,7 +87,7 @@ fn read_short<R: Read>(
         Consumes (R.remaining reader.old) (R.remaining reader.new) (utf8 v.text)) }
     ensures text { IfOk result (λ v. IsText v.text) }
     ensures len { IfOk result (λ v. size v.text ≡ len) }
-    ensures placement { IfOk result (λ v. v.placement ≡ inlined) }
+    ensures placement { IfOk result (λ v. v.placement ≡ inline_placement) }
     ensures err { IfErr result (λ e.
         TextFails (R.remaining reader.old) (R.remaining reader.new) len e) }
 {
@@ -105,7 +106,7 @@ fn packed(alloc: Global, room: &mut [u8; 24], len: usize) -> Result<CompactStrin
     ensures ok { IfOk result (λ v. utf8 v.text ≡ take len room.old) }
     ensures text { IfOk result (λ v. IsText v.text) }
     ensures len { IfOk result (λ v. size v.text ≡ len) }
-    ensures placement { IfOk result (λ v. v.placement ≡ inlined) }
+    ensures placement { IfOk result (λ v. v.placement ≡ inline_placement) }
     ensures err { IfErr result (λ e. (e ≡ utf8_fault) × ¬ IsUtf8 (take len room.old)) }
 {
     if !tell_len(room, len) {
@@ -142,7 +143,7 @@ fn read_long<R: Read>(alloc: Global, len: usize, reader: &mut R) -> Result<Compa
         Consumes (R.remaining reader.old) (R.remaining reader.new) (utf8 v.text)) }
     ensures text { IfOk result (λ v. IsText v.text) }
     ensures len { IfOk result (λ v. size v.text ≡ len) }
-    ensures placement { IfOk result (λ v. v.placement ≡ on_heap len) }
+    ensures placement { IfOk result (λ v. v.placement ≡ heap_placement len) }
     ensures err { IfErr result (λ e.
         TextFails (R.remaining reader.old) (R.remaining reader.new) len e) }
 {

@@ -6,26 +6,26 @@ ghost use Rattle.std.specs.Vec.{vec_len, vec_capacity};
 
 use std::mem;
 
-/// As many bytes are put at once.
+/// As many bytes are appended at once.
 const BLOCK: usize = 32;
 
-/// Puts any bytes behind those of a vector. A few are put where it is called: there is no loop, and nothing to call.
+/// Appends any bytes to a vector. A few are appended where it is called: there is no loop, and nothing to call.
 #[inline(always)]
-pub fn put_all(bytes: &mut Vec<u8>, source: &[u8])
+pub fn append_all(bytes: &mut Vec<u8>, source: &[u8])
     requires { vec_len bytes.old + length source.now ≤ vec_capacity bytes.old }
     ensures items { bytes.new.items ≡ bytes.old.items ++ source.now }
     ensures capacity { vec_capacity bytes.new ≡ vec_capacity bytes.old }
 {
     if source.len() <= BLOCK {
-        put_short(bytes, source);
+        append_short(bytes, source);
     } else {
-        put_long(bytes, source);
+        append_long(bytes, source);
     }
 }
 
-/// Puts at most 32 bytes behind those of a vector.
+/// Appends at most 32 bytes to a vector.
 #[inline(always)]
-fn put_short(bytes: &mut Vec<u8>, source: &[u8])
+fn append_short(bytes: &mut Vec<u8>, source: &[u8])
     requires short { length source.now ≤ 32 }
     requires room { vec_len bytes.old + length source.now ≤ vec_capacity bytes.old }
     ensures items { bytes.new.items ≡ bytes.old.items ++ source.now }
@@ -33,87 +33,87 @@ fn put_short(bytes: &mut Vec<u8>, source: &[u8])
 {
     let count = source.len();
     if count > 16 {
-        put_ends::<16>(bytes, source);
+        append_ends::<16>(bytes, source);
     } else if count >= 8 {
-        put_ends::<8>(bytes, source);
+        append_ends::<8>(bytes, source);
     } else if count >= 4 {
-        put_ends::<4>(bytes, source);
+        append_ends::<4>(bytes, source);
     } else if count >= 2 {
-        put_ends::<2>(bytes, source);
+        append_ends::<2>(bytes, source);
     } else if count == 1 {
         bytes.push_reserved(source[0]);
     }
 }
 
-/// Puts any bytes behind those of a vector that is not behind a reference.
+/// Appends any bytes to a vector that is not behind a reference.
 #[inline(always)]
-pub fn put_first(row: &mut Vec<u8>, source: &[u8])
-    requires { vec_len row.old + length source.now ≤ vec_capacity row.old }
-    ensures items { row.new.items ≡ row.old.items ++ source.now }
-    ensures capacity { vec_capacity row.new ≡ vec_capacity row.old }
+pub fn append_first(vec: &mut Vec<u8>, source: &[u8])
+    requires { vec_len vec.old + length source.now ≤ vec_capacity vec.old }
+    ensures items { vec.new.items ≡ vec.old.items ++ source.now }
+    ensures capacity { vec_capacity vec.new ≡ vec_capacity vec.old }
 {
     if source.len() <= BLOCK {
-        put_short(row, source);
+        append_short(vec, source);
     } else {
-        put_more(row, source);
+        append_many(vec, source);
     }
 }
 
-/// Puts more than 32 bytes behind those of a vector that is behind a reference.
+/// Appends more than 32 bytes to a vector that is behind a reference.
 #[inline(never)]
-fn put_long(bytes: &mut Vec<u8>, source: &[u8])
+fn append_long(bytes: &mut Vec<u8>, source: &[u8])
     requires long { 32 < length source.now }
     requires room { vec_len bytes.old + length source.now ≤ vec_capacity bytes.old }
     ensures items { bytes.new.items ≡ bytes.old.items ++ source.now }
     ensures capacity { vec_capacity bytes.new ≡ vec_capacity bytes.old }
 {
-    let mut row = taken(bytes);
-    put_more(&mut row, source);
-    give_back(bytes, row);
+    let mut vec = take_vec(bytes);
+    append_many(&mut vec, source);
+    put_back(bytes, vec);
 }
 
-/// Puts more than 32 bytes behind those of a vector: up to 256 as their two ends, so that no loop ends at a length that is hard
+/// Appends more than 32 bytes to a vector: up to 256 as their two ends, so that no loop ends at a length that is hard
 /// to foresee.
 #[inline(always)]
-fn put_more(row: &mut Vec<u8>, source: &[u8])
+fn append_many(vec: &mut Vec<u8>, source: &[u8])
     requires long { 32 < length source.now }
-    requires room { vec_len row.old + length source.now ≤ vec_capacity row.old }
-    ensures items { row.new.items ≡ row.old.items ++ source.now }
-    ensures capacity { vec_capacity row.new ≡ vec_capacity row.old }
+    requires room { vec_len vec.old + length source.now ≤ vec_capacity vec.old }
+    ensures items { vec.new.items ≡ vec.old.items ++ source.now }
+    ensures capacity { vec_capacity vec.new ≡ vec_capacity vec.old }
 {
     let count = source.len();
     if count <= 64 {
-        put_ends::<32>(row, source);
+        append_ends::<32>(vec, source);
     } else if count <= 128 {
-        put_ends::<64>(row, source);
+        append_ends::<64>(vec, source);
     } else if count <= 256 {
-        put_ends::<128>(row, source);
+        append_ends::<128>(vec, source);
     } else {
-        put_blocks(row, source);
+        append_blocks(vec, source);
     }
 }
 
-/// Puts many bytes behind those of a vector: by whole blocks, and then the last ones, of which some may come again.
+/// Appends many bytes to a vector: by whole blocks, and then the last ones, of which some may come again.
 #[inline(always)]
-fn put_blocks(row: &mut Vec<u8>, source: &[u8])
+fn append_blocks(vec: &mut Vec<u8>, source: &[u8])
     requires long { 32 < length source.now }
-    requires room { vec_len row.old + length source.now ≤ vec_capacity row.old }
-    ensures items { row.new.items ≡ row.old.items ++ source.now }
-    ensures capacity { vec_capacity row.new ≡ vec_capacity row.old }
+    requires room { vec_len vec.old + length source.now ≤ vec_capacity vec.old }
+    ensures items { vec.new.items ≡ vec.old.items ++ source.now }
+    ensures capacity { vec_capacity vec.new ≡ vec_capacity vec.old }
 {
     let count = source.len();
-    let len = row.len();
+    let len = vec.len();
     for i in 0..count / BLOCK {
-        put::<BLOCK>(row, piece::<BLOCK>(source, BLOCK * i));
+        append_array::<BLOCK>(vec, array_at::<BLOCK>(source, BLOCK * i));
     }
-    row.truncate(len + (count - BLOCK));
-    put::<BLOCK>(row, piece::<BLOCK>(source, count - BLOCK));
+    vec.truncate(len + (count - BLOCK));
+    append_array::<BLOCK>(vec, array_at::<BLOCK>(source, count - BLOCK));
 }
 
-/// Puts zeros behind the bytes of a vector until it is `len` bytes long: a block of them at once, where it has the room and
+/// Appends zeros to a vector until it is `len` bytes long: a block of them at once, where it has the room and
 /// no more are wanted.
 #[inline(always)]
-pub fn open(bytes: &mut Vec<u8>, len: usize)
+pub fn append_gap(bytes: &mut Vec<u8>, len: usize)
     requires longer { vec_len bytes.old ≤ len }
     requires room { len ≤ vec_capacity bytes.old }
     ensures items { bytes.new.items ≡ bytes.old.items ++ replicate (len - vec_len bytes.old) 0 }
@@ -122,37 +122,37 @@ pub fn open(bytes: &mut Vec<u8>, len: usize)
 {
     let old = bytes.len();
     if len - old <= BLOCK && BLOCK <= bytes.capacity() - old {
-        let mut row = taken(bytes);
-        put::<BLOCK>(&mut row, [0; BLOCK]);
-        row.truncate(len);
-        give_back(bytes, row);
+        let mut vec = take_vec(bytes);
+        append_array::<BLOCK>(&mut vec, [0; BLOCK]);
+        vec.truncate(len);
+        put_back(bytes, vec);
     } else {
-        put_zeros(bytes, len);
+        append_zeros(bytes, len);
     }
 }
 
-/// Puts zeros behind the bytes of a vector, one by one, until it is `len` bytes long.
+/// Appends zeros to a vector, one by one, until it is `len` bytes long.
 #[inline(never)]
 #[tactic(auto, using(crate::proofs::Appends::one_more_zero))]
-pub fn put_zeros(bytes: &mut Vec<u8>, len: usize)
+pub fn append_zeros(bytes: &mut Vec<u8>, len: usize)
     requires longer { vec_len bytes.old ≤ len }
     requires room { len ≤ vec_capacity bytes.old }
     ensures items { bytes.new.items ≡ bytes.old.items ++ replicate (len - vec_len bytes.old) 0 }
     ensures len { vec_len bytes.new ≡ len }
     ensures capacity { vec_capacity bytes.new ≡ vec_capacity bytes.old }
 {
-    let mut row = taken(bytes);
-    for _ in row.len()..len {
-        row.push_reserved(0);
+    let mut vec = take_vec(bytes);
+    for _ in vec.len()..len {
+        vec.push_reserved(0);
     }
-    give_back(bytes, row);
+    put_back(bytes, vec);
 }
 
-/// Puts bytes, at least `N` and at most twice as many, as the first `N` and the last `N` of them. Of the first it keeps
-/// those that do not come again. Each is read right before it is put, so that it needs no place on the stack.
+/// Appends bytes, at least `N` and at most twice as many, as the first `N` and the last `N` of them. Of the first it keeps
+/// those that do not come again. Each is read right before it is appended, so that it needs no place on the stack.
 #[inline(always)]
 #[tactic(auto, using(crate::proofs::Appends::joined_ends))]
-fn put_ends<const N: usize>(bytes: &mut Vec<u8>, source: &[u8])
+fn append_ends<const N: usize>(bytes: &mut Vec<u8>, source: &[u8])
     requires least { N ≤ length source.now }
     requires most { length source.now ≤ N + N }
     requires room { vec_len bytes.old + length source.now ≤ vec_capacity bytes.old }
@@ -160,30 +160,30 @@ fn put_ends<const N: usize>(bytes: &mut Vec<u8>, source: &[u8])
     ensures capacity { vec_capacity bytes.new ≡ vec_capacity bytes.old }
 {
     let rest = source.len() - N;
-    let mut row = taken(bytes);
-    let len = row.len();
-    put::<N>(&mut row, piece::<N>(source, 0));
-    row.truncate(len + rest);
-    put::<N>(&mut row, piece::<N>(source, rest));
-    give_back(bytes, row);
+    let mut vec = take_vec(bytes);
+    let len = vec.len();
+    append_array::<N>(&mut vec, array_at::<N>(source, 0));
+    vec.truncate(len + rest);
+    append_array::<N>(&mut vec, array_at::<N>(source, rest));
+    put_back(bytes, vec);
 }
 
-/// Puts the bytes of `piece` behind those of a vector. The compiler makes one write of it.
+/// Appends the bytes of `piece` to a vector. The compiler makes one write of it.
 #[inline(always)]
-fn put<const N: usize>(row: &mut Vec<u8>, piece: [u8; N])
-    requires { vec_len row.old + N ≤ vec_capacity row.old }
-    ensures items { row.new.items ≡ row.old.items ++ piece.entry }
-    ensures len { vec_len row.new ≡ vec_len row.old + N }
-    ensures capacity { vec_capacity row.new ≡ vec_capacity row.old }
+fn append_array<const N: usize>(vec: &mut Vec<u8>, piece: [u8; N])
+    requires { vec_len vec.old + N ≤ vec_capacity vec.old }
+    ensures items { vec.new.items ≡ vec.old.items ++ piece.entry }
+    ensures len { vec_len vec.new ≡ vec_len vec.old + N }
+    ensures capacity { vec_capacity vec.new ≡ vec_capacity vec.old }
 {
     for i in 0..N {
-        row.push_reserved(piece[i]);
+        vec.push_reserved(piece[i]);
     }
 }
 
 /// The `N` bytes of `source` from a place on.
 #[inline(always)]
-fn piece<const N: usize>(source: &[u8], at: usize) -> [u8; N]
+fn array_at<const N: usize>(source: &[u8], at: usize) -> [u8; N]
     requires { at + N ≤ length source.now }
     ensures { result ≡ take N (drop at source.now) }
 {
@@ -195,7 +195,7 @@ fn piece<const N: usize>(source: &[u8], at: usize) -> [u8; N]
 
 /// The vector, in whose place an empty one stays until it is given back.
 #[inline(always)]
-fn taken(bytes: &mut Vec<u8>) -> Vec<u8>
+fn take_vec(bytes: &mut Vec<u8>) -> Vec<u8>
     ensures value { result ≡ bytes.old }
     ensures left { vec_capacity bytes.new ≡ 0 }
 {
@@ -205,9 +205,9 @@ fn taken(bytes: &mut Vec<u8>) -> Vec<u8>
 
 /// Puts a vector back in the place from which it was taken. What stands there has no memory, so nothing frees it.
 #[inline(always)]
-fn give_back(bytes: &mut Vec<u8>, row: Vec<u8>)
+fn put_back(bytes: &mut Vec<u8>, vec: Vec<u8>)
     requires { vec_capacity bytes.old ≡ 0 }
-    ensures { bytes.new ≡ row }
+    ensures { bytes.new ≡ vec }
 {
-    mem::forget(mem::replace(bytes, row));
+    mem::forget(mem::replace(bytes, vec));
 }

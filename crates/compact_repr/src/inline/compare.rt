@@ -4,7 +4,7 @@ ghost use Rattle.std.specs.Cmp.Lexicographic.{pointwise, slice_cmp};
 ghost use Rattle.std.specs.Ordering.{nat_cmp};
 
 use crate::inline::InlineBuffer;
-use crate::words::{row_end, same_row};
+use crate::words::{end_byte, same_array};
 use std::cmp::Ordering;
 
 /// The last byte of the packed empty text.
@@ -18,8 +18,8 @@ impl InlineBuffer {
     pub fn same_text(&self, other: &Self) -> bool
         ensures { result ≡ pointwise nat_eq self.now other.now }
     {
-        let same = same_row(&self.bytes, &other.bytes);
-        if same | (row_end(&self.bytes) != row_end(&other.bytes)) {
+        let same = same_array(&self.bytes, &other.bytes);
+        if same | (end_byte(&self.bytes) != end_byte(&other.bytes)) {
             return same;
         }
         self.as_str() == other.as_str()
@@ -33,7 +33,7 @@ impl InlineBuffer {
         ensures { result ≡ slice_cmp nat_cmp self.now other.now }
     {
         let (first, others) = (self.bytes[0], other.bytes[0]);
-        if row_end(&self.bytes) != EMPTY && row_end(&other.bytes) != EMPTY && first != others {
+        if end_byte(&self.bytes) != EMPTY && end_byte(&other.bytes) != EMPTY && first != others {
             return first.cmp(&others);
         }
         self.as_str().cmp(other.as_str())

@@ -7,10 +7,10 @@ ghost use Rattle.compact_repr.specs.Text.{text_of};
 ghost use Rattle.compact_repr.specs.Packed.{IsPackedFor, packed_len, packed_text};
 
 use crate::inline::INLINE_CAPACITY;
-use crate::words::{begins_ascii, row_end, with_last_byte};
+use crate::words::{begins_ascii, end_byte, with_last_byte};
 
-/// The greatest last byte of a packed text: behind a text of 23 bytes.
-const GREATEST_LAST_BYTE: usize = 215;
+/// The largest last byte of a packed text: behind a text of 23 bytes.
+const MAX_LAST_BYTE: usize = 215;
 
 /// Whether the bytes stand for a text. Where all but the last are ASCII that is known by their words, unless the last byte
 /// can only be of another character.
@@ -18,8 +18,8 @@ const GREATEST_LAST_BYTE: usize = 215;
 pub fn is_packed(bytes: &[u8; 24]) -> bool
     ensures { IsTrue result ↔ IsPackedFor bytes.now (packed_text bytes.now) }
 {
-    let last = row_end(bytes);
-    if last > GREATEST_LAST_BYTE {
+    let last = end_byte(bytes);
+    if last > MAX_LAST_BYTE {
         return false;
     }
     if begins_ascii(bytes) && (last < 128 || last >= 192) {
@@ -37,7 +37,7 @@ pub fn length_of(bytes: &[u8; 24]) -> usize
     requires { packed_len bytes.now ≤ 24 }
     ensures { result ≡ packed_len bytes.now }
 {
-    let len = row_end(bytes).wrapping_sub(192);
+    let len = end_byte(bytes).wrapping_sub(192);
     if len < INLINE_CAPACITY {
         len
     } else {
@@ -47,7 +47,7 @@ pub fn length_of(bytes: &[u8; 24]) -> usize
 
 /// Writes the length of the text that stands first. A text of 24 bytes leaves no place for it, and needs none.
 #[inline(always)]
-pub fn mark(bytes: &mut [u8; 24], len: usize)
+pub fn write_len(bytes: &mut [u8; 24], len: usize)
     requires fits { len ≤ 24 }
     requires text { IsUtf8 (take len bytes.old) }
     ensures { IsPackedFor bytes.new (text_of (take len bytes.old)) }
@@ -57,26 +57,26 @@ pub fn mark(bytes: &mut [u8; 24], len: usize)
     }
 }
 
-/// The row with the length of the text that stands first, which is shorter than the row, as a part of its last word.
+/// The array with the length of the text that stands first, which is shorter than the array, as a part of its last word.
 #[inline(always)]
-pub fn ended(row: &[u8; 24], len: usize) -> [u8; 24]
+pub fn with_short_len(array: &[u8; 24], len: usize) -> [u8; 24]
     requires short { len < 24 }
-    requires text { IsUtf8 (take len row.now) }
-    ensures { IsPackedFor result (text_of (take len row.now)) }
+    requires text { IsUtf8 (take len array.now) }
+    ensures { IsPackedFor result (text_of (take len array.now)) }
 {
-    with_last_byte(row, 192 + len as u8)
+    with_last_byte(array, 192 + len as u8)
 }
 
-/// The same of a text that may be all of the row, which then stays as it is.
+/// The same of a text that may be all of the array, which then stays as it is.
 #[inline(always)]
-pub fn marked(row: &[u8; 24], len: usize) -> [u8; 24]
+pub fn with_len(array: &[u8; 24], len: usize) -> [u8; 24]
     requires fits { len ≤ 24 }
-    requires text { IsUtf8 (take len row.now) }
-    ensures { IsPackedFor result (text_of (take len row.now)) }
+    requires text { IsUtf8 (take len array.now) }
+    ensures { IsPackedFor result (text_of (take len array.now)) }
 {
     if len < INLINE_CAPACITY {
-        ended(row, len)
+        with_short_len(array, len)
     } else {
-        *row
+        *array
     }
 }

@@ -2,8 +2,8 @@
 ghost use Rattle.std.specs.Prelude.{◌≡◌, ◌≤◌, [], length, Some, OnOk, OnErr, IsTrue, false};
 ghost use Rattle.compact_repr.specs.Text.{text_of};
 ghost use Rattle.compact_repr.specs.Cut.{IsBoundary};
-ghost use Rattle.compact_repr.specs.Capacity.{fits_in_place, room_asks};
-ghost use Rattle.compact_repr.specs.Change.{pushed, push_asks, inserted, replaced, replace_asks};
+ghost use Rattle.compact_repr.specs.Capacity.{fits_in_place, reserve_asks};
+ghost use Rattle.compact_repr.specs.Change.{push_str, push_str_asks, insert_str, replace_range, replace_range_asks};
 
 use crate::error::ReserveError;
 use crate::policy::Policy;
@@ -14,9 +14,9 @@ impl<P: Policy> Repr<P> {
     #[inline(never)]
     #[tactic(auto, using(crate::proofs::TextFacts::text_facts, crate::proofs::Changes::append_facts))]
     pub fn push_str(&mut self, text: &str) -> Result<(), ReserveError>
-        ensures ok { OnOk result (pushed P.growth self.old (text_of text.now) ≡ Some self.new) }
+        ensures ok { OnOk result (push_str P.growth self.old (text_of text.now) ≡ Some self.new) }
         ensures err { OnErr result
-            ((self.new ≡ self.old) × IsTrue (push_asks self.old (text_of text.now))) }
+            ((self.new ≡ self.old) × IsTrue (push_str_asks self.old (text_of text.now))) }
     {
         if self.push_in_place(text) {
             return Ok(());
@@ -29,9 +29,9 @@ impl<P: Policy> Repr<P> {
     #[inline(never)]
     pub fn push_with_more_room(&mut self, text: &str) -> Result<(), ReserveError>
         requires { fits_in_place self.old (length text.now) ≡ false }
-        ensures ok { OnOk result (pushed P.growth self.old (text_of text.now) ≡ Some self.new) }
+        ensures ok { OnOk result (push_str P.growth self.old (text_of text.now) ≡ Some self.new) }
         ensures err { OnErr result
-            ((self.new ≡ self.old) × IsTrue (push_asks self.old (text_of text.now))) }
+            ((self.new ≡ self.old) × IsTrue (push_str_asks self.old (text_of text.now))) }
     {
         if text.is_empty() {
             return Ok(());
@@ -50,9 +50,9 @@ impl<P: Policy> Repr<P> {
     pub fn insert_with_more_room(&mut self, index: usize, text: &str) -> Result<(), ReserveError>
         requires { IsBoundary self.old.text index }
         ensures ok { OnOk result
-            (inserted P.growth self.old index (text_of text.now) ≡ Some self.new) }
+            (insert_str P.growth self.old index (text_of text.now) ≡ Some self.new) }
         ensures err { OnErr result
-            ((self.new ≡ self.old) × IsTrue (room_asks self.old (length text.now))) }
+            ((self.new ≡ self.old) × IsTrue (reserve_asks self.old (length text.now))) }
     {
         self.reserve(text.len())?;
         if !self.replace_in_place(index, index, text) {
@@ -69,9 +69,9 @@ impl<P: Policy> Repr<P> {
         requires order { start ≤ end }
         requires first { IsBoundary self.old.text start }
         requires last { IsBoundary self.old.text end }
-        ensures ok { OnOk result (replaced P.growth self.old start end [] ≡ Some self.new) }
+        ensures ok { OnOk result (replace_range P.growth self.old start end [] ≡ Some self.new) }
         ensures err { OnErr result
-            ((self.new ≡ self.old) × IsTrue (replace_asks self.old start end [])) }
+            ((self.new ≡ self.old) × IsTrue (replace_range_asks self.old start end [])) }
     {
         if self.cut_out_in_place(start, end) {
             return Ok(());
@@ -93,9 +93,10 @@ impl<P: Policy> Repr<P> {
         requires first { IsBoundary self.old.text start }
         requires last { IsBoundary self.old.text end }
         ensures ok { OnOk result
-            (replaced P.growth self.old start end (text_of text.now) ≡ Some self.new) }
+            (replace_range P.growth self.old start end (text_of text.now) ≡ Some self.new) }
         ensures err { OnErr result
-            ((self.new ≡ self.old) × IsTrue (replace_asks self.old start end (text_of text.now))) }
+            ((self.new ≡ self.old)
+            × IsTrue (replace_range_asks self.old start end (text_of text.now))) }
     {
         let replaced = end - start;
         if text.len() <= replaced {

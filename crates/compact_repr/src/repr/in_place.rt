@@ -3,21 +3,21 @@
 ghost use Rattle.std.specs.Prelude.{◌≡◌, ◌+◌, ◌-◌, ◌≤◌, ◌<◌, [], ◌∷◌, ◌++◌, length, IsTrue, true, false, ◌↔◌};
 ghost use Rattle.compact_repr.specs.Text.{size, text_of, ascii_lowercase, ascii_uppercase};
 ghost use Rattle.compact_repr.specs.Cut.{IsBoundary, replaced_text};
-ghost use Rattle.compact_repr.specs.Value.{placed, is_static};
+ghost use Rattle.compact_repr.specs.Value.{placed_text, is_static};
 ghost use Rattle.compact_repr.specs.Capacity.{fits_in_place};
-ghost use Rattle.compact_repr.specs.Change.{cleared, truncated, zeroized};
-ghost use Rattle.compact_repr.specs.AtOnce.{DoesAtOnce};
-ghost use Rattle.compact_repr.specs.Kept.{KeepsCharsTo};
+ghost use Rattle.compact_repr.specs.Change.{clear, truncate, zeroize};
+ghost use Rattle.compact_repr.specs.PushOutcomes.{IsPushOutcome};
+ghost use Rattle.compact_repr.specs.Retain.{RetainsCharsTo};
 
 use crate::inline::InlineBuffer;
 use crate::policy::Policy;
 use crate::repr::{Buffer, Repr};
-use crate::rows::MOST_AT_ONCE;
+use crate::slices::MAX_SHORT_LEN;
 use crate::static_text::StaticText;
 
-/// What came of an append that was tried at once.
+/// What came of an append that takes short texts alone.
 #[derive(Clone, Copy, Debug, PartialEq, Eq, Drop)]
-pub enum AtOnce {
+pub enum PushOutcome {
     /// It is done.
     Done,
     /// The value has no room of its own for it, and is as it was.
@@ -33,7 +33,7 @@ impl<P: Policy> Repr<P> {
     pub fn push_in_place(&mut self, text: &str) -> bool
         ensures fits { result ≡ fits_in_place self.old (length text.now) }
         ensures pushed { IsTrue result
-            → self.new ≡ placed (self.old.text ++ text_of text.now) self.old.placement }
+            → self.new ≡ placed_text (self.old.text ++ text_of text.now) self.old.placement }
         ensures full { result ≡ false → self.new ≡ self.old }
     {
         match &mut self.buffer {
@@ -46,16 +46,16 @@ impl<P: Policy> Repr<P> {
     /// Appends a text of at most 32 bytes where the bytes are the value's own and have room. A longer one is not looked at, so
     /// that the short way calls nothing.
     #[inline(always)]
-    pub fn push_at_once(&mut self, text: &str) -> AtOnce
-        ensures { DoesAtOnce self.old text.now result self.new }
+    pub fn push_short(&mut self, text: &str) -> PushOutcome
+        ensures { IsPushOutcome self.old text.now result self.new }
     {
-        if text.len() > MOST_AT_ONCE {
-            return AtOnce::NotTried;
+        if text.len() > MAX_SHORT_LEN {
+            return PushOutcome::NotTried;
         }
         if self.push_in_place(text) {
-            AtOnce::Done
+            PushOutcome::Done
         } else {
-            AtOnce::NoRoom
+            PushOutcome::NoRoom
         }
     }
 
@@ -72,14 +72,14 @@ impl<P: Policy> Repr<P> {
             × (size self.old.text + length text.now
             ≤ self.old.placement.capacity + (end - start))) }
         ensures replaced { IsTrue result
-            → self.new ≡ placed (replaced_text self.old.text start end
+            → self.new ≡ placed_text (replaced_text self.old.text start end
             (text_of text.now)) self.old.placement }
         ensures full { result ≡ false → self.new ≡ self.old }
     {
         match &mut self.buffer {
             Buffer::Static(_) => false,
-            Buffer::Inline(_, inline) => inline.replace_range(start, end, text),
-            Buffer::Heap(heap) => heap.replace_range(start, end, text),
+            Buffer::Inline(_, inline) => inline.try_replace_range(start, end, text),
+            Buffer::Heap(heap) => heap.try_replace_range(start, end, text),
         }
     }
 
@@ -92,7 +92,7 @@ impl<P: Policy> Repr<P> {
         requires last { IsBoundary self.old.text end }
         ensures owned { IsTrue result ↔ (is_static self.old.placement.place ≡ false) }
         ensures cut { IsTrue result
-            → self.new ≡ placed (replaced_text self.old.text start end []) self.old.placement }
+            → self.new ≡ placed_text (replaced_text self.old.text start end []) self.old.placement }
         ensures full { result ≡ false → self.new ≡ self.old }
     {
         match &mut self.buffer {
@@ -116,7 +116,7 @@ impl<P: Policy> Repr<P> {
         requires boundary { IsBoundary self.old.text index }
         ensures fits { result ≡ fits_in_place self.old 1 }
         ensures inserted { IsTrue result
-            → self.new ≡ placed (replaced_text self.old.text index index
+            → self.new ≡ placed_text (replaced_text self.old.text index index
             (byte ∷ [])) self.old.placement }
         ensures full { result ≡ false → self.new ≡ self.old }
     {
@@ -135,7 +135,7 @@ impl<P: Policy> Repr<P> {
         requires next { IsBoundary self.old.text (index + 1) }
         ensures owned { IsTrue result ↔ (is_static self.old.placement.place ≡ false) }
         ensures removed { IsTrue result
-            → self.new ≡ placed (replaced_text self.old.text index
+            → self.new ≡ placed_text (replaced_text self.old.text index
             (index + 1) []) self.old.placement }
         ensures full { result ≡ false → self.new ≡ self.old }
     {
@@ -157,12 +157,12 @@ impl<P: Policy> Repr<P> {
     #[inline]
     pub fn truncate(&mut self, len: usize)
         requires { len < size self.old.text → IsBoundary self.old.text len }
-        ensures { self.new ≡ truncated self.old len }
+        ensures { self.new ≡ truncate self.old len }
     {
         match &mut self.buffer {
             Buffer::Static(text) => {
                 if len < text.len() {
-                    *text = text.front(len);
+                    *text = text.prefix(len);
                 }
             }
             Buffer::Inline(_, inline) => {
@@ -181,7 +181,7 @@ impl<P: Policy> Repr<P> {
     /// Leaves the empty text, in its place.
     #[inline]
     pub fn clear(&mut self)
-        ensures { self.new ≡ cleared self.old }
+        ensures { self.new ≡ clear self.old }
     {
         match &mut self.buffer {
             Buffer::Static(text) => *text = StaticText::new(""),
@@ -190,10 +190,10 @@ impl<P: Policy> Repr<P> {
         }
     }
 
-    /// Makes A to Z small, in the value's own bytes.
+    /// Makes A to Z lowercase, in the value's own bytes.
     pub fn make_ascii_lowercase(&mut self)
         requires { is_static self.old.placement.place ≡ false }
-        ensures { self.new ≡ placed (ascii_lowercase self.old.text) self.old.placement }
+        ensures { self.new ≡ placed_text (ascii_lowercase self.old.text) self.old.placement }
     {
         match &mut self.buffer {
             Buffer::Inline(_, inline) => inline.make_ascii_lowercase(),
@@ -202,10 +202,10 @@ impl<P: Policy> Repr<P> {
         }
     }
 
-    /// Makes a to z great, in the value's own bytes.
+    /// Makes a to z uppercase, in the value's own bytes.
     pub fn make_ascii_uppercase(&mut self)
         requires { is_static self.old.placement.place ≡ false }
-        ensures { self.new ≡ placed (ascii_uppercase self.old.text) self.old.placement }
+        ensures { self.new ≡ placed_text (ascii_uppercase self.old.text) self.old.placement }
     {
         match &mut self.buffer {
             Buffer::Inline(_, inline) => inline.make_ascii_uppercase(),
@@ -217,7 +217,7 @@ impl<P: Policy> Repr<P> {
     /// Leaves the empty text and writes every byte with zero that the value's own text has ever held. A static value
     /// becomes inline; every other keeps its place and its capacity.
     pub fn zeroize(&mut self)
-        ensures { self.new ≡ zeroized self.old }
+        ensures { self.new ≡ zeroize self.old }
     {
         match &mut self.buffer {
             Buffer::Inline(_, inline) => inline.zeroize(),
@@ -232,7 +232,7 @@ impl<P: Policy> Repr<P> {
     pub fn retain<F: FnMut(char) -> bool>(&mut self, keep: &mut F)
         requires owned { is_static self.old.placement.place ≡ false }
         requires callable { F.IsAlwaysCallable keep.old }
-        ensures text { KeepsCharsTo F.FnMut keep.old self.old.text self.new.text keep.new }
+        ensures text { RetainsCharsTo F.FnMut keep.old self.old.text self.new.text keep.new }
         ensures callable { F.IsAlwaysCallable keep.new }
         ensures placement { self.new.placement ≡ self.old.placement }
     {

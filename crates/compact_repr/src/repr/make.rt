@@ -2,16 +2,16 @@
 ghost use Rattle.std.specs.Prelude.{◌≡◌, ◌<◌, ◌≤◌, ℕ, List, length, nat_eq, if◌then◌else◌, [], Some, IfOk, OnErr, IsOk, IsTrue, MatchOption, string_bytes};
 ghost use Rattle.std.specs.String.{string_capacity};
 ghost use Rattle.compact_repr.specs.Text.{size, text_of};
-ghost use Rattle.compact_repr.specs.Value.{placed};
+ghost use Rattle.compact_repr.specs.Value.{placed_text};
 ghost use Rattle.compact_repr.specs.Packed.{IsPackedFor};
-ghost use Rattle.compact_repr.specs.Capacity.{inlined, on_heap, new_room_asks, lasting, taken_over, copy_asks};
-ghost use Rattle.compact_repr.specs.Change.{made, with_room, copy_of};
+ghost use Rattle.compact_repr.specs.Capacity.{inline_placement, heap_placement, with_capacity_asks, const_new_placement, from_string_placement, clone_asks};
+ghost use Rattle.compact_repr.specs.Change.{new, with_capacity, clone};
 
 use crate::error::ReserveError;
 use crate::heap::HeapBuffer;
 use crate::inline::{INLINE_CAPACITY, InlineBuffer};
 use crate::policy::Policy;
-use crate::repr::room::allowed_capacity;
+use crate::repr::room::checked_capacity;
 use crate::repr::{Buffer, Repr};
 use crate::static_text::StaticText;
 use std::alloc::Global;
@@ -20,7 +20,7 @@ impl<P: Policy> Repr<P> {
     /// The empty text, inline.
     #[inline]
     pub fn empty(alloc: Global) -> Self
-        ensures { result ≡ placed [] inlined }
+        ensures { result ≡ placed_text [] inline_placement }
     {
         Self::of(alloc, Buffer::Inline([], InlineBuffer::empty()))
     }
@@ -28,8 +28,8 @@ impl<P: Policy> Repr<P> {
     /// A copy of `text`: inline up to 24 bytes, which is never refused, else in a new heap buffer.
     #[inline(always)]
     pub fn new(alloc: Global, text: &str) -> Result<Self, ReserveError>
-        ensures ok { IfOk result (λ r. made P.growth (text_of text.now) ≡ Some r) }
-        ensures err { OnErr result (IsTrue (new_room_asks (length text.now))) }
+        ensures ok { IfOk result (λ r. new P.growth (text_of text.now) ≡ Some r) }
+        ensures err { OnErr result (IsTrue (with_capacity_asks (length text.now))) }
     {
         if text.len() > INLINE_CAPACITY {
             let heap = Self::long_copy(alloc, text)?;
@@ -45,9 +45,10 @@ impl<P: Policy> Repr<P> {
     fn long_copy(alloc: Global, text: &str) -> Result<HeapBuffer, ReserveError>
         requires { 24 < length text.now }
         ensures { IfOk result
-            (λ h. made P.growth (text_of text.now) ≡ Some (placed h.text (on_heap h.capacity))) }
+            (λ h. new P.growth (text_of text.now)
+            ≡ Some (placed_text h.text (heap_placement h.capacity))) }
     {
-        let Some(capacity) = allowed_capacity::<P>(text.len()) else {
+        let Some(capacity) = checked_capacity::<P>(text.len()) else {
             return Err(ReserveError);
         };
         let heap = HeapBuffer::copy_of(alloc, text, capacity)?;
@@ -57,7 +58,7 @@ impl<P: Policy> Repr<P> {
     /// A text of the program, which is not copied if it is longer than 24 bytes.
     #[inline]
     pub fn from_static(alloc: Global, text: &'static str) -> Self
-        ensures { let t = text_of text.now in result ≡ placed t (lasting t) }
+        ensures { let t = text_of text.now in result ≡ placed_text t (const_new_placement t) }
     {
         if INLINE_CAPACITY < text.len() {
             return Self::of(alloc, Buffer::Static(StaticText::new(text)));
@@ -70,7 +71,7 @@ impl<P: Policy> Repr<P> {
     #[inline]
     pub fn from_packed(alloc: Global, bytes: &[u8; 24]) -> Option<Self>
         ensures { MatchOption result ((t : List ℕ) → ¬ (IsPackedFor bytes.now t))
-            (λ r. IsPackedFor bytes.now r.text × (r.placement ≡ inlined)) }
+            (λ r. IsPackedFor bytes.now r.text × (r.placement ≡ inline_placement)) }
     {
         let inline = InlineBuffer::from_packed(bytes)?;
         Some(Self::of(alloc, Buffer::Inline([], inline)))
@@ -78,13 +79,13 @@ impl<P: Policy> Repr<P> {
 
     /// The empty text with room for `capacity` bytes: inline up to 24, which is never refused, else on the heap.
     pub fn with_capacity(alloc: Global, capacity: usize) -> Result<Self, ReserveError>
-        ensures ok { IfOk result (λ r. with_room P.growth capacity ≡ Some r) }
-        ensures err { OnErr result (IsTrue (new_room_asks capacity)) }
+        ensures ok { IfOk result (λ r. with_capacity P.growth capacity ≡ Some r) }
+        ensures err { OnErr result (IsTrue (with_capacity_asks capacity)) }
     {
         if capacity <= INLINE_CAPACITY {
             return Ok(Self::empty(alloc));
         }
-        let Some(capacity) = allowed_capacity::<P>(capacity) else {
+        let Some(capacity) = checked_capacity::<P>(capacity) else {
             return Err(ReserveError);
         };
         let heap = HeapBuffer::with_capacity(alloc, capacity)?;
@@ -94,7 +95,7 @@ impl<P: Policy> Repr<P> {
     /// Takes `text` over: up to 24 bytes inline, else with its buffer, of which nothing is copied.
     pub fn from_string(text: String) -> Self
         ensures { let t = text_of (string_bytes text)
-            in result ≡ placed t (taken_over t (string_capacity text)) }
+            in result ≡ placed_text t (from_string_placement t (string_capacity text)) }
     {
         let alloc = *text.allocator();
         if text.len() <= INLINE_CAPACITY {
@@ -107,8 +108,8 @@ impl<P: Policy> Repr<P> {
     /// Takes `text` over with its buffer, of which nothing is copied. One with no buffer is inline and empty.
     pub fn from_string_buffer(text: String) -> Self
         ensures { let t = text_of (string_bytes text)
-            in result ≡ placed t (if nat_eq (string_capacity text) 0 then inlined
-            else on_heap (string_capacity text)) }
+            in result ≡ placed_text t (if nat_eq (string_capacity text) 0 then inline_placement
+            else heap_placement (string_capacity text)) }
     {
         let alloc = *text.allocator();
         if text.capacity() == 0 {
@@ -122,8 +123,8 @@ impl<P: Policy> Repr<P> {
     /// An inline value is copied where the call stands, with no call.
     #[inline(always)]
     pub fn try_clone(&self) -> Result<Self, ReserveError>
-        ensures ok { IfOk result (λ r. copy_of P.growth self.now ≡ Some r) }
-        ensures err { OnErr result (IsTrue (copy_asks self.now)) }
+        ensures ok { IfOk result (λ r. clone P.growth self.now ≡ Some r) }
+        ensures err { OnErr result (IsTrue (clone_asks self.now)) }
     {
         match &self.buffer {
             Buffer::Static(text) => Ok(Self::of(self.alloc, Buffer::Static(text.duplicate()))),

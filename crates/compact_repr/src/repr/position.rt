@@ -1,7 +1,7 @@
 //! What stands at a position of a representation's text, in bytes.
 ghost use Rattle.std.specs.Prelude.{◌≡◌, ◌-◌, ◌<◌, ◌≤◌, ℕ, List, [], ◌∷◌, ◌++◌, length, true, false, IsTrue, ◌↔◌, IfSome, MatchOption};
 ghost use Rattle.compact_repr.specs.Text.{size, utf8, text_of};
-ghost use Rattle.compact_repr.specs.Cut.{IsBoundary, after, middle};
+ghost use Rattle.compact_repr.specs.Cut.{IsBoundary, after, substring};
 ghost use Rattle.compact_repr.specs.Value.{is_static};
 
 use crate::cut;
@@ -50,29 +50,29 @@ impl<P: Policy> Repr<P> {
 
     /// What stands after `index`, in bytes.
     #[inline]
-    pub fn tail(&self, index: usize) -> &str
+    pub fn suffix(&self, index: usize) -> &str
         requires { IsBoundary self.now.text index }
         ensures text { text_of result.now ≡ after self.now.text index }
         ensures len { length result.now ≡ size (after self.now.text index) }
     {
-        cut::tail(self.as_str(), index)
+        cut::suffix(self.as_str(), index)
     }
 
     /// What stands from one position to another, in bytes.
     #[inline]
-    pub fn middle(&self, start: usize, end: usize) -> &str
+    pub fn substring(&self, start: usize, end: usize) -> &str
         requires order { start ≤ end }
         requires first { IsBoundary self.now.text start }
         requires last { IsBoundary self.now.text end }
-        ensures text { text_of result.now ≡ middle self.now.text start end }
+        ensures text { text_of result.now ≡ substring self.now.text start end }
         ensures len { length result.now ≡ end - start }
     {
-        cut::middle(self.as_str(), start, end)
+        cut::substring(self.as_str(), start, end)
     }
 
     /// What stands after `index`, in bytes, where the text is a static one; `None` of any other.
     #[inline]
-    pub fn static_tail(&self, index: usize) -> Option<&'static str>
+    pub fn static_suffix(&self, index: usize) -> Option<&'static str>
         requires { IsBoundary self.now.text index }
         ensures { MatchOption result (is_static self.now.placement.place ≡ false)
             (λ s. (is_static self.now.placement.place ≡ true)
@@ -81,7 +81,7 @@ impl<P: Policy> Repr<P> {
         match &self.buffer {
             Buffer::Inline(_, _) => None,
             Buffer::Heap(_) => None,
-            Buffer::Static(text) => Some(text.tail(index).as_static_str()),
+            Buffer::Static(text) => Some(text.suffix(index).as_static_str()),
         }
     }
 }

@@ -1,9 +1,9 @@
 //! How room is made and given back.
 ghost use Rattle.std.specs.Prelude.{◌≡◌, ◌*◌, ◌/◌, ◌<◌, ◌≤◌, ◌^◌, [], false, max, nat_le, if◌then◌else◌, Some, None, IfOk, OnOk, OnErr, IsOk, IsTrue};
 ghost use Rattle.compact_repr.specs.Text.{size, text_of};
-ghost use Rattle.compact_repr.specs.Value.{placed, is_heap, is_static};
-ghost use Rattle.compact_repr.specs.Capacity.{new_room_asks, fits_in_place, room_asks, own_asks, inlined, on_heap, greatest};
-ghost use Rattle.compact_repr.specs.Change.{reserved, made_owned, Shrinks};
+ghost use Rattle.compact_repr.specs.Value.{placed_text, is_heap, is_static};
+ghost use Rattle.compact_repr.specs.Capacity.{with_capacity_asks, fits_in_place, reserve_asks, make_owned_asks, inline_placement, heap_placement, max_capacity};
+ghost use Rattle.compact_repr.specs.Change.{reserve, make_owned, Shrinks};
 
 use crate::error::ReserveError;
 use crate::heap::HeapBuffer;
@@ -12,17 +12,17 @@ use crate::policy::Policy;
 use crate::repr::{Buffer, Repr};
 use std::alloc::Global;
 
-/// The greatest capacity that may be asked for, 2^56 - 2 bytes.
-pub const GREATEST_CAPACITY: usize = 72057594037927934;
+/// The largest capacity that may be asked for, 2^56 - 2 bytes.
+pub const MAX_CAPACITY: usize = 72057594037927934;
 
 impl<P: Policy> Repr<P> {
     /// Makes room for `additional` more bytes. An error changes nothing.
     #[inline]
     pub fn reserve(&mut self, additional: usize) -> Result<(), ReserveError>
-        ensures ok { OnOk result (reserved P.growth self.old additional ≡ Some self.new) }
+        ensures ok { OnOk result (reserve P.growth self.old additional ≡ Some self.new) }
         ensures room { OnOk result (IsTrue (fits_in_place self.new additional)) }
         ensures err { OnErr result
-            ((self.new ≡ self.old) × IsTrue (room_asks self.old additional)) }
+            ((self.new ≡ self.old) × IsTrue (reserve_asks self.old additional)) }
     {
         if self.fits_in_place(additional) {
             return Ok(());
@@ -47,10 +47,10 @@ impl<P: Policy> Repr<P> {
     #[inline(never)]
     pub(super) fn make_room(&mut self, additional: usize) -> Result<(), ReserveError>
         requires { fits_in_place self.old additional ≡ false }
-        ensures ok { OnOk result (reserved P.growth self.old additional ≡ Some self.new) }
+        ensures ok { OnOk result (reserve P.growth self.old additional ≡ Some self.new) }
         ensures room { OnOk result (IsTrue (fits_in_place self.new additional)) }
         ensures err { OnErr result
-            ((self.new ≡ self.old) × IsTrue (room_asks self.old additional)) }
+            ((self.new ≡ self.old) × IsTrue (reserve_asks self.old additional)) }
     {
         let len = self.len();
         let Some(needed) = len.checked_add(additional) else {
@@ -69,9 +69,9 @@ impl<P: Policy> Repr<P> {
     /// Makes the text of a static value its own; every other stays as it is. An error changes nothing.
     #[inline(always)]
     pub fn make_owned(&mut self) -> Result<(), ReserveError>
-        ensures ok { OnOk result (made_owned P.growth self.old ≡ Some self.new) }
+        ensures ok { OnOk result (make_owned P.growth self.old ≡ Some self.new) }
         ensures room { OnOk result (IsTrue (fits_in_place self.new 0)) }
-        ensures err { OnErr result ((self.new ≡ self.old) × IsTrue (own_asks self.old)) }
+        ensures err { OnErr result ((self.new ≡ self.old) × IsTrue (make_owned_asks self.old)) }
     {
         if let Buffer::Static(_) = &self.buffer {
             return self.own_static();
@@ -82,9 +82,9 @@ impl<P: Policy> Repr<P> {
     #[cold]
     #[inline(never)]
     fn own_static(&mut self) -> Result<(), ReserveError>
-        ensures ok { OnOk result (made_owned P.growth self.old ≡ Some self.new) }
+        ensures ok { OnOk result (make_owned P.growth self.old ≡ Some self.new) }
         ensures room { OnOk result (IsTrue (fits_in_place self.new 0)) }
-        ensures err { OnErr result ((self.new ≡ self.old) × IsTrue (own_asks self.old)) }
+        ensures err { OnErr result ((self.new ≡ self.old) × IsTrue (make_owned_asks self.old)) }
     {
         let Buffer::Static(text) = &self.buffer else {
             return Ok(());
@@ -118,7 +118,7 @@ impl<P: Policy> Repr<P> {
     /// Moves the text, which fits, into the value itself.
     fn move_inline(&mut self)
         requires { size self.old.text ≤ 24 }
-        ensures { self.new ≡ placed self.old.text inlined }
+        ensures { self.new ≡ placed_text self.old.text inline_placement }
     {
         self.buffer = Buffer::Inline([], InlineBuffer::new(self.as_str()));
     }
@@ -128,7 +128,7 @@ impl<P: Policy> Repr<P> {
         requires fits { size self.old.text ≤ capacity }
         requires grows { IsTrue (is_heap self.old.placement.place)
             → self.old.placement.capacity ≤ capacity }
-        ensures ok { OnOk result (self.new ≡ placed self.old.text (on_heap capacity)) }
+        ensures ok { OnOk result (self.new ≡ placed_text self.old.text (heap_placement capacity)) }
         ensures err { OnErr result (self.new ≡ self.old) }
     {
         if let Buffer::Heap(heap) = &mut self.buffer {
@@ -141,26 +141,26 @@ impl<P: Policy> Repr<P> {
     }
 }
 
-/// The capacity of a heap buffer for `needed` bytes where `len` stand; `None` is past the greatest.
+/// The capacity of a heap buffer for `needed` bytes where `len` stand; `None` is past `MAX_CAPACITY`.
 fn grown_capacity<P: Policy>(len: usize, needed: usize) -> Option<usize>
     requires { len < 2 ^ 63 }
     ensures { let c = max P.growth.least
         (max needed (P.growth.numerator * len / P.growth.denominator))
-        in result ≡ (if nat_le c greatest then Some c else None) }
+        in result ≡ (if nat_le c max_capacity then Some c else None) }
 {
     let Some(product) = len.checked_mul(P::NUM) else {
         return None;
     };
-    allowed_capacity::<P>(needed.max(product / P::DEN))
+    checked_capacity::<P>(needed.max(product / P::DEN))
 }
 
-/// The capacity of a heap buffer for `wanted` bytes, at least that of the policy; `None` is past the greatest.
-pub(super) fn allowed_capacity<P: Policy>(wanted: usize) -> Option<usize>
+/// The capacity of a heap buffer for `wanted` bytes, at least that of the policy; `None` is past `MAX_CAPACITY`.
+pub(super) fn checked_capacity<P: Policy>(wanted: usize) -> Option<usize>
     ensures { let c = max P.growth.least wanted
-        in result ≡ (if nat_le c greatest then Some c else None) }
+        in result ≡ (if nat_le c max_capacity then Some c else None) }
 {
     let capacity = wanted.max(P::MIN_HEAP);
-    if capacity > GREATEST_CAPACITY {
+    if capacity > MAX_CAPACITY {
         return None;
     }
     Some(capacity)

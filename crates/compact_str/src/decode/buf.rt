@@ -2,7 +2,7 @@
 ghost use Rattle.std.specs.Prelude.{◌≡◌, ◌<◌, ◌≤◌, ◌++◌, [], length, IfOk, IfErr, OnOk, OnErr, IsOk, IsTrue};
 ghost use Rattle.std.specs.Str.{IsUtf8};
 ghost use Rattle.compact_repr.specs.Text.{text_of};
-ghost use Rattle.compact_repr.specs.Capacity.{new_room_asks};
+ghost use Rattle.compact_repr.specs.Capacity.{with_capacity_asks};
 ghost use Rattle.compact_codec.specs.Utf8Text.{BytesEncode};
 ghost use Rattle.compact_str.specs.Fitted.{IsFitted};
 ghost use Rattle.compact_str.specs.Decoded.{IsEndOf, IsUtf8BufRefusal};
@@ -64,7 +64,7 @@ impl PolicyString<Standard> {
         ensures kept { B.kept buf.new ≡ B.kept buf.old }
         ensures succeeds { length (B.unread buf.old) ≤ 24 → IsOk result }
         ensures err { OnErr result
-            (IsTrue (new_room_asks (length (B.unread buf.old)))
+            (IsTrue (with_capacity_asks (length (B.unread buf.old)))
             × IsEndOf (B.unread buf.new) (B.unread buf.old)) }
     {
         if buf.remaining() <= INLINE_CAPACITY {

@@ -2,7 +2,7 @@
 ghost use Rattle.std.specs.Prelude.{◌≡◌, ◌<◌, ◌≤◌, ◌++◌, length, IfOk, IfErr, OnOk, IsOk, Some};
 ghost use Rattle.std.specs.Str.{IsUtf8};
 ghost use Rattle.compact_repr.specs.Text.{text_of};
-ghost use Rattle.compact_repr.specs.Change.{made};
+ghost use Rattle.compact_repr.specs.Change.{new};
 ghost use Rattle.compact_codec.specs.InvalidSequence.{IsUtf8Error};
 ghost use Rattle.compact_codec.specs.Utf8Text.{BytesEncode, utf8_lossy_text};
 ghost use Rattle.compact_str.specs.Fitted.{IsFittedOf};
@@ -27,7 +27,7 @@ impl PolicyString<Standard> {
     #[tactic(auto, using(compact_repr::proofs::TextFacts::text_facts, crate::proofs::FittedTexts::strict_facts))]
     pub fn from_utf8(alloc: Global, bytes: &[u8]) -> Result<CompactString, FromUtf8Error>
         ensures ok { IfOk result
-            (λ v. made ⟦<Standard as Policy>⟧.growth (text_of bytes.now) ≡ Some v) }
+            (λ v. new ⟦<Standard as Policy>⟧.growth (text_of bytes.now) ≡ Some v) }
         ensures text { IfOk result (λ v. v.text ≡ text_of bytes.now) }
         ensures encoded { IfOk result (λ v. BytesEncode bytes.now v.text) }
         ensures valid { OnOk result (IsUtf8 bytes.now) }

@@ -1,7 +1,7 @@
 //! What is collected or appended: a text, or a character.
 ghost use Rattle.std.specs.Prelude.{◌≡◌, ℕ, ◌+◌, ◌<◌, ◌≤◌, List, ◌++◌, OnOk, OnErr, IsOk, IsTrue, Some};
 ghost use Rattle.compact_repr.specs.Text.{size};
-ghost use Rattle.compact_repr.specs.Change.{pushed, push_asks};
+ghost use Rattle.compact_repr.specs.Change.{push_str, push_str_asks};
 ghost use Rattle.compact_str.specs.Room.{HasRoomFor, sure_capacity};
 ghost use Rattle.compact_str.specs.Collects.{alone};
 
@@ -17,10 +17,10 @@ pub trait Piece: Drop {
 
     /// Appends the piece, as `push_str` and `push` do.
     fn push_to<P: Policy>(&self, value: &mut PolicyString<P>) -> Result<(), ReserveError>
-        ensures ok { OnOk result (pushed P.growth value.old (letters self.now) ≡ Some value.new) }
+        ensures ok { OnOk result (push_str P.growth value.old (letters self.now) ≡ Some value.new) }
         ensures succeeds { HasRoomFor value.old (size (letters self.now)) → IsOk result }
         ensures err { OnErr result
-            ((value.new ≡ value.old) × IsTrue (push_asks value.old (letters self.now))) };
+            ((value.new ≡ value.old) × IsTrue (push_str_asks value.old (letters self.now))) };
 
     /// Takes the piece behind what has come. An error comes only where that makes more than 24 bytes.
     fn gather_into<P: Policy>(&self, gathered: &mut Gathered<P>) -> Result<(), ReserveError>

@@ -5,8 +5,8 @@ ghost use Rattle.std.specs.Vec.{vec_capacity};
 ghost use Rattle.std.specs.String.{from_utf8_error_vec, from_utf8_error_cause};
 ghost use Rattle.std.specs.Box.{boxed_str_bytes};
 ghost use Rattle.compact_repr.specs.Text.{utf8, text_of};
-ghost use Rattle.compact_repr.specs.Value.{placed};
-ghost use Rattle.compact_repr.specs.Capacity.{taken_over};
+ghost use Rattle.compact_repr.specs.Value.{placed_text};
+ghost use Rattle.compact_repr.specs.Capacity.{from_string_placement};
 ghost use Rattle.compact_str.specs.Decoded.{IsErrorOf};
 
 use crate::string::PolicyString;
@@ -62,7 +62,8 @@ impl<P: Policy> TryFrom<Vec<u8>> for PolicyString<P> {
     type Error = FromUtf8Error;
 
     ghost try_from_gives = { λ b r. (IsOk r ↔ IsUtf8 b.items) × MatchResult r
-        (λ v. let t = text_of b.items in v ≡ placed t (taken_over t (vec_capacity b)))
+        (λ v. let t = text_of b.items in v
+        ≡ placed_text t (from_string_placement t (vec_capacity b)))
         (λ e. (from_utf8_error_vec e ≡ b) × IsErrorOf b.items (from_utf8_error_cause e)) };
 
     /// Takes the bytes over as `From<String>` does, if they are a text, and hands them back in the error if they are none.
@@ -82,7 +83,7 @@ impl<P: Policy> TryFrom<Vec<u8>> for PolicyString<P> {
 
 impl<P: Policy> From<BoxedStr> for PolicyString<P> {
     ghost from_gives = { λ b v. let t = text_of (boxed_str_bytes b) in
-        (v.text ≡ t) × ((capacity : ℕ) × (v ≡ placed t (taken_over t capacity))) };
+        (v.text ≡ t) × ((capacity : ℕ) × (v ≡ placed_text t (from_string_placement t capacity))) };
 
     /// Takes the text over as `From<String>` does, with the capacity that the box keeps. It is never refused, and
     /// `from_boxed_str` copies.

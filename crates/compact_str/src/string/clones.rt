@@ -2,8 +2,8 @@
 ghost use Rattle.std.specs.Prelude.{◌≡◌, ◌≤◌, Some, OnOk, OnErr, IsOk, IsTrue, not, false};
 ghost use Rattle.compact_repr.specs.Text.{size};
 ghost use Rattle.compact_repr.specs.Value.{is_heap, is_static};
-ghost use Rattle.compact_repr.specs.Capacity.{copy_asks};
-ghost use Rattle.compact_repr.specs.Change.{copy_of};
+ghost use Rattle.compact_repr.specs.Capacity.{clone_asks};
+ghost use Rattle.compact_repr.specs.Change.{clone};
 ghost use Rattle.compact_str.specs.Room.{sure_capacity};
 ghost use Rattle.compact_str.specs.Clones.{cloned_from, clone_from_asks};
 
@@ -12,9 +12,9 @@ use compact_repr::{Policy, ReserveError};
 use std::alloc::AllocError;
 
 impl<P: Policy> Clone for PolicyString<P> {
-    ghost is_clone = { λ v w. (copy_of P.growth v ≡ Some w) × (w.text ≡ v.text) };
+    ghost is_clone = { λ v w. (clone P.growth v ≡ Some w) × (w.text ≡ v.text) };
 
-    ghost is_infallible = { λ v. IsTrue (not (copy_asks v)) };
+    ghost is_infallible = { λ v. IsTrue (not (clone_asks v)) };
 
     /// A copy with the same text: of an inline or static value as it stands, which takes no memory, and of a heap
     /// value as `new` makes it, with no room but for the text.

@@ -3,13 +3,13 @@ ghost use Rattle.std.specs.Prelude.{◌≡◌, ℕ, ◌<◌, ◌≤◌, ◌++◌
 ghost use Rattle.std.specs.Char.{len_utf8};
 ghost use Rattle.compact_repr.specs.Text.{size, text_of, utf8};
 ghost use Rattle.compact_repr.specs.Cut.{IsBoundary, before};
-ghost use Rattle.compact_repr.specs.Change.{pushed, push_asks, cleared, truncated};
+ghost use Rattle.compact_repr.specs.Change.{push_str, push_str_asks, clear, truncate};
 ghost use Rattle.compact_str.specs.Room.{HasRoomFor, sure_capacity};
 ghost use Rattle.compact_str.specs.Edits.{Pops, Writes};
 
 use crate::refused::Refused;
 use crate::string::PolicyString;
-use compact_repr::{AtOnce, Policy, ReserveError};
+use compact_repr::{Policy, PushOutcome, ReserveError};
 use std::fmt;
 
 impl<P: Policy> PolicyString<P> {
@@ -21,17 +21,17 @@ impl<P: Policy> PolicyString<P> {
     #[inline]
     #[tactic(auto, using(compact_repr::proofs::TextFacts::text_facts, crate::proofs::EditFacts::append_facts))]
     pub fn push_str(&mut self, text: &str) -> Result<(), ReserveError>
-        ensures ok { OnOk result (pushed P.growth self.old (text_of text.now) ≡ Some self.new) }
+        ensures ok { OnOk result (push_str P.growth self.old (text_of text.now) ≡ Some self.new) }
         ensures text { OnOk result (self.new.text ≡ self.old.text ++ text_of text.now) }
         ensures room { OnOk result (sure_capacity self.old ≤ sure_capacity self.new) }
         ensures succeeds { HasRoomFor self.old (length text.now) → IsOk result }
         ensures err { OnErr result
-            ((self.new ≡ self.old) × IsTrue (push_asks self.old (text_of text.now))) }
+            ((self.new ≡ self.old) × IsTrue (push_str_asks self.old (text_of text.now))) }
     {
-        match self.repr.push_at_once(text) {
-            AtOnce::Done => Ok(()),
-            AtOnce::NoRoom => self.repr.push_with_more_room(text),
-            AtOnce::NotTried => self.repr.push_str(text),
+        match self.repr.push_short(text) {
+            PushOutcome::Done => Ok(()),
+            PushOutcome::NoRoom => self.repr.push_with_more_room(text),
+            PushOutcome::NotTried => self.repr.push_str(text),
         }
     }
 
@@ -41,12 +41,12 @@ impl<P: Policy> PolicyString<P> {
     /// `"caf"` and `'é'` give `"café"`.
     #[inline]
     pub fn push(&mut self, character: char) -> Result<(), ReserveError>
-        ensures ok { OnOk result (pushed P.growth self.old (character ∷ []) ≡ Some self.new) }
+        ensures ok { OnOk result (push_str P.growth self.old (character ∷ []) ≡ Some self.new) }
         ensures text { OnOk result (self.new.text ≡ self.old.text ++ character ∷ []) }
         ensures room { OnOk result (sure_capacity self.old ≤ sure_capacity self.new) }
         ensures succeeds { HasRoomFor self.old (len_utf8 character) → IsOk result }
         ensures err { OnErr result
-            ((self.new ≡ self.old) × IsTrue (push_asks self.old (character ∷ []))) }
+            ((self.new ≡ self.old) × IsTrue (push_str_asks self.old (character ∷ []))) }
     {
         let mut bytes = [0; 4];
         self.push_str(encoded(character, &mut bytes))
@@ -57,12 +57,12 @@ impl<P: Policy> PolicyString<P> {
     /// An error says why `push_str` refused, and hands the value back as it was.
     /// `CompactString::new(alloc, "ab")?.add_str("c")` is `"abc"`.
     pub fn add_str(mut self, text: &str) -> Result<Self, Refused<Self>>
-        ensures ok { IfOk result (λ v. pushed P.growth self (text_of text.now) ≡ Some v) }
+        ensures ok { IfOk result (λ v. push_str P.growth self (text_of text.now) ≡ Some v) }
         ensures text { IfOk result (λ v. v.text ≡ self.text ++ text_of text.now) }
         ensures room { IfOk result (λ v. sure_capacity self ≤ sure_capacity v) }
         ensures succeeds { HasRoomFor self (length text.now) → IsOk result }
         ensures err { IfErr result
-            (λ e. (e.value ≡ self) × IsTrue (push_asks self (text_of text.now))) }
+            (λ e. (e.value ≡ self) × IsTrue (push_str_asks self (text_of text.now))) }
     {
         match self.push_str(text) {
             Ok(()) => Ok(self),
@@ -95,7 +95,7 @@ impl<P: Policy> PolicyString<P> {
     #[tactic(auto, using(compact_repr::proofs::TextFacts::text_facts, crate::proofs::EditFacts::position_facts))]
     pub fn truncate(&mut self, len: usize)
         requires { len < size self.old.text → IsBoundary self.old.text len }
-        ensures value { self.new ≡ truncated self.old len }
+        ensures value { self.new ≡ truncate self.old len }
         ensures text { self.new.text ≡ before self.old.text len }
         ensures boundaries { (i : ℕ) → i ≤ len → IsBoundary self.old.text i
             → IsBoundary self.new.text i }
@@ -107,7 +107,7 @@ impl<P: Policy> PolicyString<P> {
     /// static with capacity 0.
     #[inline]
     pub fn clear(&mut self)
-        ensures value { self.new ≡ cleared self.old }
+        ensures value { self.new ≡ clear self.old }
         ensures text { self.new.text ≡ [] }
     {
         self.repr.clear();
@@ -128,7 +128,7 @@ impl<P: Policy> fmt::Write for PolicyString<P> {
         ensures room { OnOk result (sure_capacity self.old ≤ sure_capacity self.new) }
         ensures succeeds { HasRoomFor self.old (length text.now) → IsOk result }
         ensures err { OnErr result
-            ((self.new ≡ self.old) × IsTrue (push_asks self.old (text_of text.now))) }
+            ((self.new ≡ self.old) × IsTrue (push_str_asks self.old (text_of text.now))) }
     {
         match self.push_str(text) {
             Ok(()) => Ok(()),

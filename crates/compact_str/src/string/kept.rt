@@ -1,8 +1,8 @@
 //! How characters are kept by a test.
 ghost use Rattle.std.specs.Prelude.{◌≡◌, ◌≤◌, ℕ, Bool, Some, OnOk, OnErr, IsOk, IsTrue, filter};
 ghost use Rattle.compact_repr.specs.Text.{size};
-ghost use Rattle.compact_repr.specs.Capacity.{owned, own_asks};
-ghost use Rattle.compact_repr.specs.Kept.{KeepsChars, KeepsCharsTo, SaysAlways};
+ghost use Rattle.compact_repr.specs.Capacity.{owned_placement, make_owned_asks};
+ghost use Rattle.compact_repr.specs.Retain.{RetainsChars, RetainsCharsTo, SaysAlways};
 ghost use Rattle.compact_str.specs.Room.{IsOwned};
 
 use crate::string::PolicyString;
@@ -19,13 +19,14 @@ impl<P: Policy> PolicyString<P> {
     #[inline]
     pub fn retain<F: FnMut(char) -> bool>(&mut self, mut keep: F) -> Result<(), ReserveError>
         requires { F.IsAlwaysCallable keep }
-        ensures text { OnOk result (KeepsChars F.FnMut keep self.old.text self.new.text) }
+        ensures text { OnOk result (RetainsChars F.FnMut keep self.old.text self.new.text) }
         ensures filter { (says : ℕ → Bool) → SaysAlways F.FnMut says
             → OnOk result (self.new.text ≡ filter says self.old.text) }
-        ensures placement { OnOk result (owned P.growth self.old ≡ Some self.new.placement) }
+        ensures placement { OnOk result
+            (owned_placement P.growth self.old ≡ Some self.new.placement) }
         ensures succeeds { IsOwned self.old → IsOk result }
         ensures succeeds_short { size self.old.text ≤ 24 → IsOk result }
-        ensures err { OnErr result ((self.new ≡ self.old) × IsTrue (own_asks self.old)) }
+        ensures err { OnErr result ((self.new ≡ self.old) × IsTrue (make_owned_asks self.old)) }
     {
         self.retain_by(&mut keep)
     }
@@ -36,15 +37,16 @@ impl<P: Policy> PolicyString<P> {
     pub fn retain_by<F: FnMut(char) -> bool>(&mut self, keep: &mut F) -> Result<(), ReserveError>
         requires { F.IsAlwaysCallable keep.old }
         ensures text { OnOk result
-            (KeepsCharsTo F.FnMut keep.old self.old.text self.new.text keep.new) }
+            (RetainsCharsTo F.FnMut keep.old self.old.text self.new.text keep.new) }
         ensures filter { (says : ℕ → Bool) → SaysAlways F.FnMut says
             → OnOk result (self.new.text ≡ filter says self.old.text) }
-        ensures placement { OnOk result (owned P.growth self.old ≡ Some self.new.placement) }
+        ensures placement { OnOk result
+            (owned_placement P.growth self.old ≡ Some self.new.placement) }
         ensures succeeds { IsOwned self.old → IsOk result }
         ensures succeeds_short { size self.old.text ≤ 24 → IsOk result }
         ensures callable { F.IsAlwaysCallable keep.new }
         ensures unasked { OnErr result (keep.new ≡ keep.old) }
-        ensures err { OnErr result ((self.new ≡ self.old) × IsTrue (own_asks self.old)) }
+        ensures err { OnErr result ((self.new ≡ self.old) × IsTrue (make_owned_asks self.old)) }
     {
         self.make_owned()?;
         self.repr.retain(keep);

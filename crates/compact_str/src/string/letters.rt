@@ -2,8 +2,8 @@
 ghost use Rattle.std.specs.Prelude.{◌≡◌, ℕ, ◌≤◌, [], length, Some, IfOk, OnOk, OnErr, IsOk, IsTrue};
 ghost use Rattle.compact_repr.specs.Text.{size, ascii_lowercase, ascii_uppercase};
 ghost use Rattle.compact_repr.specs.Cut.{IsBoundary};
-ghost use Rattle.compact_repr.specs.Capacity.{new_room_asks, own_asks};
-ghost use Rattle.compact_repr.specs.Change.{made, lowercased, uppercased, zeroized};
+ghost use Rattle.compact_repr.specs.Capacity.{with_capacity_asks, make_owned_asks};
+ghost use Rattle.compact_repr.specs.Change.{new, make_ascii_lowercase, make_ascii_uppercase, zeroize};
 ghost use Rattle.compact_str.specs.Room.{IsOwned};
 
 use crate::string::PolicyString;
@@ -18,12 +18,12 @@ impl<P: Policy> PolicyString<P> {
     /// `"abcÄ"`.
     #[tactic(auto, using(compact_repr::proofs::TextFacts::text_facts, crate::proofs::EditFacts::letter_facts))]
     pub fn make_ascii_lowercase(&mut self) -> Result<(), ReserveError>
-        ensures ok { OnOk result (lowercased P.growth self.old ≡ Some self.new) }
+        ensures ok { OnOk result (make_ascii_lowercase P.growth self.old ≡ Some self.new) }
         ensures text { OnOk result (self.new.text ≡ ascii_lowercase self.old.text) }
         ensures boundaries { (i : ℕ) → IsBoundary self.old.text i → IsBoundary self.new.text i }
         ensures succeeds { IsOwned self.old → IsOk result }
         ensures succeeds_short { size self.old.text ≤ 24 → IsOk result }
-        ensures err { OnErr result ((self.new ≡ self.old) × IsTrue (own_asks self.old)) }
+        ensures err { OnErr result ((self.new ≡ self.old) × IsTrue (make_owned_asks self.old)) }
     {
         self.repr.make_owned()?;
         self.repr.make_ascii_lowercase();
@@ -38,12 +38,12 @@ impl<P: Policy> PolicyString<P> {
     /// `"ABCä"`.
     #[tactic(auto, using(compact_repr::proofs::TextFacts::text_facts, crate::proofs::EditFacts::letter_facts))]
     pub fn make_ascii_uppercase(&mut self) -> Result<(), ReserveError>
-        ensures ok { OnOk result (uppercased P.growth self.old ≡ Some self.new) }
+        ensures ok { OnOk result (make_ascii_uppercase P.growth self.old ≡ Some self.new) }
         ensures text { OnOk result (self.new.text ≡ ascii_uppercase self.old.text) }
         ensures boundaries { (i : ℕ) → IsBoundary self.old.text i → IsBoundary self.new.text i }
         ensures succeeds { IsOwned self.old → IsOk result }
         ensures succeeds_short { size self.old.text ≤ 24 → IsOk result }
-        ensures err { OnErr result ((self.new ≡ self.old) × IsTrue (own_asks self.old)) }
+        ensures err { OnErr result ((self.new ≡ self.old) × IsTrue (make_owned_asks self.old)) }
     {
         self.repr.make_owned()?;
         self.repr.make_ascii_uppercase();
@@ -56,10 +56,10 @@ impl<P: Policy> PolicyString<P> {
     /// 2^56 - 2 bytes; it never comes of a text of at most 24 bytes. Of `"ABCÄ"` it is `"abcÄ"`.
     #[tactic(auto, using(compact_repr::proofs::TextFacts::text_facts, crate::proofs::EditFacts::letter_facts))]
     pub fn to_ascii_lowercase(&self) -> Result<Self, ReserveError>
-        ensures ok { IfOk result (λ v. made P.growth (ascii_lowercase self.now.text) ≡ Some v) }
+        ensures ok { IfOk result (λ v. new P.growth (ascii_lowercase self.now.text) ≡ Some v) }
         ensures text { IfOk result (λ v. v.text ≡ ascii_lowercase self.now.text) }
         ensures succeeds { size self.now.text ≤ 24 → IsOk result }
-        ensures err { OnErr result (IsTrue (new_room_asks (size self.now.text))) }
+        ensures err { OnErr result (IsTrue (with_capacity_asks (size self.now.text))) }
     {
         let mut copy = Self::new(self.allocator(), self.as_str())?;
         copy.repr.make_ascii_lowercase();
@@ -72,10 +72,10 @@ impl<P: Policy> PolicyString<P> {
     /// 2^56 - 2 bytes; it never comes of a text of at most 24 bytes. Of `"abcä"` it is `"ABCä"`.
     #[tactic(auto, using(compact_repr::proofs::TextFacts::text_facts, crate::proofs::EditFacts::letter_facts))]
     pub fn to_ascii_uppercase(&self) -> Result<Self, ReserveError>
-        ensures ok { IfOk result (λ v. made P.growth (ascii_uppercase self.now.text) ≡ Some v) }
+        ensures ok { IfOk result (λ v. new P.growth (ascii_uppercase self.now.text) ≡ Some v) }
         ensures text { IfOk result (λ v. v.text ≡ ascii_uppercase self.now.text) }
         ensures succeeds { size self.now.text ≤ 24 → IsOk result }
-        ensures err { OnErr result (IsTrue (new_room_asks (size self.now.text))) }
+        ensures err { OnErr result (IsTrue (with_capacity_asks (size self.now.text))) }
     {
         let mut copy = Self::new(self.allocator(), self.as_str())?;
         copy.repr.make_ascii_uppercase();
@@ -87,7 +87,7 @@ impl<P: Policy> PolicyString<P> {
     ///
     /// What the value left in a buffer that it gave back, as at a growth, is not reached. `"secret"` becomes `""`.
     pub fn zeroize(&mut self)
-        ensures value { self.new ≡ zeroized self.old }
+        ensures value { self.new ≡ zeroize self.old }
         ensures text { self.new.text ≡ [] }
         ensures owned { IsOwned self.new }
     {

@@ -5,9 +5,9 @@ ghost use Rattle.std.specs.Box.{boxed_str_bytes};
 ghost use Rattle.std.specs.Cow.{cow_str_bytes};
 ghost use Rattle.compact_repr.specs.Text.{text_of};
 ghost use Rattle.compact_repr.specs.Packed.{IsPackedFor};
-ghost use Rattle.compact_repr.specs.Value.{placed, is_heap};
-ghost use Rattle.compact_repr.specs.Capacity.{inlined, on_heap, new_room_asks, lasting, taken_over};
-ghost use Rattle.compact_repr.specs.Change.{made};
+ghost use Rattle.compact_repr.specs.Value.{placed_text, is_heap};
+ghost use Rattle.compact_repr.specs.Capacity.{inline_placement, heap_placement, with_capacity_asks, const_new_placement, from_string_placement};
+ghost use Rattle.compact_repr.specs.Change.{new};
 ghost use Rattle.compact_str.specs.Room.{IsRoomFor};
 ghost use Rattle.compact_str.specs.Made.{IsNewOf, TakesCow, IsFreeCow};
 
@@ -24,7 +24,7 @@ impl<P: Policy> PolicyString<P> {
     /// It is a plain function, since the trait `Default` hands in no allocator.
     #[inline]
     pub fn default(alloc: Global) -> Self
-        ensures { result ≡ placed [] inlined }
+        ensures { result ≡ placed_text [] inline_placement }
     {
         PolicyString {
             repr: Repr::empty(alloc),
@@ -68,7 +68,7 @@ impl<P: Policy> PolicyString<P> {
     /// capacity 30.
     #[inline]
     pub fn const_new(alloc: Global, text: &'static str) -> Self
-        ensures { let t = text_of text.now in result ≡ placed t (lasting t) }
+        ensures { let t = text_of text.now in result ≡ placed_text t (const_new_placement t) }
     {
         PolicyString {
             repr: Repr::from_static(alloc, text),
@@ -83,9 +83,9 @@ impl<P: Policy> PolicyString<P> {
     #[inline]
     pub fn from_packed(alloc: Global, bytes: &[u8; 24]) -> Option<Self>
         ensures value { MatchOption result ((t : List ℕ) → ¬ (IsPackedFor bytes.now t))
-            (λ v. IsPackedFor bytes.now v.text × (v.placement ≡ inlined)) }
+            (λ v. IsPackedFor bytes.now v.text × (v.placement ≡ inline_placement)) }
         ensures succeeds { (t : List ℕ) → IsPackedFor bytes.now t
-            → (result ≡ Some (placed t inlined)) }
+            → (result ≡ Some (placed_text t inline_placement)) }
     {
         let repr = Repr::from_packed(alloc, bytes)?;
         Some(PolicyString { repr })
@@ -118,8 +118,8 @@ impl<P: Policy> PolicyString<P> {
     /// capacity in bytes, even below 24; one that has none is inline and empty.
     pub fn from_string_buffer(text: String) -> Self
         ensures value { let t = text_of (string_bytes text)
-            in result ≡ placed t (if nat_eq (string_capacity text) 0 then inlined
-            else on_heap (string_capacity text)) }
+            in result ≡ placed_text t (if nat_eq (string_capacity text) 0 then inline_placement
+            else heap_placement (string_capacity text)) }
         ensures place { 0 < length (string_bytes text) → IsTrue (is_heap result.placement.place) }
     {
         PolicyString {
@@ -147,11 +147,11 @@ impl<P: Policy> PolicyString<P> {
     /// An error says why `new` refused, and hands `text` back as it was; it never comes up to 24 bytes. A box of `"abc"`
     /// gives `"abc"` inline, and the box is let go.
     pub fn from_boxed_str(alloc: Global, text: BoxedStr) -> Result<Self, Refused<BoxedStr>>
-        ensures ok { IfOk result (λ v. made P.growth (text_of (boxed_str_bytes text)) ≡ Some v) }
+        ensures ok { IfOk result (λ v. new P.growth (text_of (boxed_str_bytes text)) ≡ Some v) }
         ensures text { IfOk result (λ v. v.text ≡ text_of (boxed_str_bytes text)) }
         ensures succeeds { length (boxed_str_bytes text) ≤ 24 → IsOk result }
         ensures err { IfErr result
-            (λ e. (e.value ≡ text) × IsTrue (new_room_asks (length (boxed_str_bytes text)))) }
+            (λ e. (e.value ≡ text) × IsTrue (with_capacity_asks (length (boxed_str_bytes text)))) }
     {
         match Self::new(alloc, text.as_str()) {
             Ok(value) => Ok(value),
@@ -161,7 +161,8 @@ impl<P: Policy> PolicyString<P> {
 }
 
 impl<P: Policy> From<String> for PolicyString<P> {
-    ghost from_gives = { λ s v. let t = text_of (string_bytes s) in v ≡ placed t (taken_over t (string_capacity s)) };
+    ghost from_gives = { λ s v. let t = text_of (string_bytes s) in v
+        ≡ placed_text t (from_string_placement t (string_capacity s)) };
 
     /// Takes `text` over: inline up to 24 bytes, and its buffer is let go; else with its buffer and its capacity in
     /// bytes, of which nothing is copied. It is never refused.

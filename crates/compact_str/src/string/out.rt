@@ -7,7 +7,7 @@ ghost use Rattle.std.specs.Rc.{rc_str_bytes};
 ghost use Rattle.std.specs.Cow.{cow_str_bytes, IsBorrowedStr};
 ghost use Rattle.compact_repr.specs.Text.{size, utf8, text_of};
 ghost use Rattle.compact_repr.specs.Value.{is_heap, is_static};
-ghost use Rattle.compact_repr.specs.Capacity.{own_asks};
+ghost use Rattle.compact_repr.specs.Capacity.{make_owned_asks};
 
 use crate::refused::Refused;
 use crate::string::PolicyString;
@@ -70,7 +70,7 @@ impl<P: Policy> PolicyString<P> {
         ensures text { IfOk result (λ v. text_of v.items ≡ self.text) }
         ensures succeeds { size self.text ≤ 24 → IsOk result }
         ensures succeeds_owned { is_static self.placement.place ≡ false → IsOk result }
-        ensures err { IfErr result (λ e. (e.value ≡ self) × IsTrue (own_asks self)) }
+        ensures err { IfErr result (λ e. (e.value ≡ self) × IsTrue (make_owned_asks self)) }
     {
         match self.repr.into_heap_string() {
             Ok(text) => Ok(SmallVec::from_vec(text.into_bytes())),

@@ -7,7 +7,7 @@ ghost use Rattle.compact_str.specs.Drains.{may_cut, may_cut_out, part, without_p
 
 use crate::string::PolicyString;
 use crate::string::position::is_boundary;
-use compact_repr::{Policy, first_char, middle};
+use compact_repr::{Policy, first_char, substring};
 
 /// What stands in `text` from one position to another, in bytes; nothing where these begin and end no range.
 #[inline(always)]
@@ -17,7 +17,7 @@ pub fn part(text: &str, start: usize, end: usize) -> &str
     ensures len { length result.now ≡ size (part (text_of text.now) start end) }
 {
     if may_cut_out(text, start, end) {
-        middle(text, start, end)
+        substring(text, start, end)
     } else {
         ""
     }

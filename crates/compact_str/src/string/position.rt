@@ -4,11 +4,11 @@ ghost use Rattle.std.specs.Char.{len_utf8};
 ghost use Rattle.std.specs.Range.Bound.{start_index, end_index};
 ghost use Rattle.std.specs.Str.{IsCharBoundary};
 ghost use Rattle.compact_repr.specs.Text.{size, utf8, text_of};
-ghost use Rattle.compact_repr.specs.Cut.{IsCut, IsBoundary, before, after, middle, replaced_text};
+ghost use Rattle.compact_repr.specs.Cut.{IsCut, IsBoundary, before, after, substring, replaced_text};
 ghost use Rattle.compact_repr.specs.Value.{is_static};
-ghost use Rattle.compact_repr.specs.Capacity.{room_asks};
+ghost use Rattle.compact_repr.specs.Capacity.{reserve_asks};
 ghost use Rattle.compact_str.specs.Room.{IsOwned, HasRoomFor, sure_capacity};
-ghost use Rattle.compact_repr.specs.Change.{inserted, replaced, replace_asks};
+ghost use Rattle.compact_repr.specs.Change.{insert_str, replace_range, replace_range_asks};
 ghost use Rattle.compact_str.specs.Edits.{LosesChar, SplitsOff, split_asks};
 ghost use Rattle.compact_str.specs.Ranges.{IsRange, range_start, range_end};
 
@@ -59,15 +59,15 @@ impl<P: Policy> PolicyString<P> {
     pub fn range(&self, start: Bound<usize>, end: Bound<usize>) -> &str
         requires { IsRange self.now.text start end }
         ensures bytes { result.now
-            ≡ utf8 (middle self.now.text (range_start start) (range_end self.now.text end)) }
+            ≡ utf8 (substring self.now.text (range_start start) (range_end self.now.text end)) }
         ensures text { text_of result.now
-            ≡ middle self.now.text (range_start start) (range_end self.now.text end) }
+            ≡ substring self.now.text (range_start start) (range_end self.now.text end) }
         ensures len { length result.now ≡ range_end self.now.text end - range_start start }
     {
         let Some((first, last)) = ends(start, end, self.len()) else {
             unreachable!();
         };
-        self.repr.middle(first, last)
+        self.repr.substring(first, last)
     }
 
     /// Puts `text` in at the boundary `index`, in bytes, once there is room for it; a static value becomes its own even for
@@ -81,7 +81,7 @@ impl<P: Policy> PolicyString<P> {
     pub fn insert_str(&mut self, index: usize, text: &str) -> Result<(), ReserveError>
         requires { IsBoundary self.old.text index }
         ensures ok { OnOk result
-            (inserted P.growth self.old index (text_of text.now) ≡ Some self.new) }
+            (insert_str P.growth self.old index (text_of text.now) ≡ Some self.new) }
         ensures text { OnOk result
             (self.new.text ≡ replaced_text self.old.text index index (text_of text.now)) }
         ensures place { OnOk result (IsBoundary self.new.text index) }
@@ -90,7 +90,7 @@ impl<P: Policy> PolicyString<P> {
         ensures room { OnOk result (sure_capacity self.old ≤ sure_capacity self.new) }
         ensures succeeds { HasRoomFor self.old (length text.now) → IsOk result }
         ensures err { OnErr result
-            ((self.new ≡ self.old) × IsTrue (room_asks self.old (size (text_of text.now)))) }
+            ((self.new ≡ self.old) × IsTrue (reserve_asks self.old (size (text_of text.now)))) }
     {
         // The proof reads from it that the text is short of 2^63 bytes.
         let _len = self.repr.len();
@@ -108,7 +108,7 @@ impl<P: Policy> PolicyString<P> {
     pub fn insert(&mut self, index: usize, character: char) -> Result<(), ReserveError>
         requires { IsBoundary self.old.text index }
         ensures ok { OnOk result
-            (inserted P.growth self.old index (character ∷ []) ≡ Some self.new) }
+            (insert_str P.growth self.old index (character ∷ []) ≡ Some self.new) }
         ensures text { OnOk result
             (self.new.text ≡ replaced_text self.old.text index index (character ∷ [])) }
         ensures place { OnOk result (IsBoundary self.new.text index) }
@@ -117,7 +117,7 @@ impl<P: Policy> PolicyString<P> {
         ensures room { OnOk result (sure_capacity self.old ≤ sure_capacity self.new) }
         ensures succeeds { HasRoomFor self.old (len_utf8 character) → IsOk result }
         ensures err { OnErr result
-            ((self.new ≡ self.old) × IsTrue (room_asks self.old (len_utf8 character))) }
+            ((self.new ≡ self.old) × IsTrue (reserve_asks self.old (len_utf8 character))) }
     {
         // The proof reads from it that the text is short of 2^63 bytes.
         let _len = self.repr.len();
@@ -141,7 +141,7 @@ impl<P: Policy> PolicyString<P> {
         requires within { index < size self.old.text }
         ensures { LosesChar P.growth self.old index result self.new }
     {
-        if let Some(character) = first_ascii(self.repr.tail(index)) {
+        if let Some(character) = first_ascii(self.repr.suffix(index)) {
             // The compiler knows that it is; the proof reads it here.
             if character.is_ascii() && self.repr.remove_ascii_in_place(index) {
                 return Ok(character);
@@ -181,7 +181,7 @@ impl<P: Policy> PolicyString<P> {
     ) -> Result<(), ReserveError>
         requires { IsRange self.old.text start end }
         ensures ok { OnOk result
-            (replaced P.growth self.old (range_start start) (range_end self.old.text end)
+            (replace_range P.growth self.old (range_start start) (range_end self.old.text end)
             (text_of text.now) ≡ Some self.new) }
         ensures text { OnOk result
             (self.new.text ≡ replaced_text self.old.text (range_start start)
@@ -192,7 +192,7 @@ impl<P: Policy> PolicyString<P> {
             → range_start start + length text.now ≤ range_end self.old.text end → IsOk result }
         ensures err { OnErr result
             ((self.new ≡ self.old)
-            × IsTrue (replace_asks self.old (range_start start) (range_end self.old.text end)
+            × IsTrue (replace_range_asks self.old (range_start start) (range_end self.old.text end)
             (text_of text.now))) }
     {
         let Some((first, last)) = ends(start, end, self.len()) else {
@@ -225,9 +225,9 @@ impl<P: Policy> PolicyString<P> {
         ensures err { OnErr result ((self.new ≡ self.old) × IsTrue (split_asks self.old index)) }
     {
         let alloc = self.repr.allocator();
-        let repr = match self.repr.static_tail(index) {
+        let repr = match self.repr.static_suffix(index) {
             Some(tail) => Repr::from_static(alloc, tail),
-            None => Repr::new(alloc, self.repr.tail(index))?,
+            None => Repr::new(alloc, self.repr.suffix(index))?,
         };
         self.repr.truncate(index);
         Ok(PolicyString { repr })

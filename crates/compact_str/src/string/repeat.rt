@@ -1,8 +1,8 @@
 //! How a text is repeated.
 ghost use Rattle.std.specs.Prelude.{◌≡◌, ◌≤◌, ◌*◌, [], Some, IfOk, OnErr, IsOk, IsTrue};
 ghost use Rattle.compact_repr.specs.Text.{size};
-ghost use Rattle.compact_repr.specs.Value.{placed};
-ghost use Rattle.compact_repr.specs.Capacity.{new_room};
+ghost use Rattle.compact_repr.specs.Value.{placed_text};
+ghost use Rattle.compact_repr.specs.Capacity.{with_capacity_placement};
 ghost use Rattle.compact_str.specs.Edits.{repeated, repeat_asks, repeated_text};
 
 use crate::string::PolicyString;
@@ -41,8 +41,9 @@ impl<P: Policy> PolicyString<P> {
     /// Appends the text of `piece` so many times to the empty text, which has room for them all.
     fn fill(&mut self, piece: &Self, count: usize)
         requires empty { self.old.text ≡ [] }
-        requires room { new_room P.growth (size piece.now.text * count) ≡ Some self.old.placement }
-        ensures { self.new ≡ placed (repeated_text count piece.now.text) self.old.placement }
+        requires room { with_capacity_placement P.growth (size piece.now.text * count)
+            ≡ Some self.old.placement }
+        ensures { self.new ≡ placed_text (repeated_text count piece.now.text) self.old.placement }
     {
         for _done in 0..count {
             match self.push_str(piece.as_str()) {

@@ -1,7 +1,7 @@
 //! How room is made and given back.
 ghost use Rattle.std.specs.Prelude.{◌≡◌, Some, OnOk, OnErr, IsTrue};
-ghost use Rattle.compact_repr.specs.Capacity.{own_asks};
-ghost use Rattle.compact_repr.specs.Change.{made_owned, Shrinks};
+ghost use Rattle.compact_repr.specs.Capacity.{make_owned_asks};
+ghost use Rattle.compact_repr.specs.Change.{make_owned, Shrinks};
 ghost use Rattle.compact_str.specs.Room.{IsOwned, Reserves};
 
 use crate::string::PolicyString;
@@ -52,10 +52,10 @@ impl<P: Policy> PolicyString<P> {
     #[inline(always)]
     #[tactic(auto, using(compact_repr::proofs::TextFacts::text_facts, crate::proofs::Drains::owned_facts))]
     pub(crate) fn make_owned(&mut self) -> Result<(), ReserveError>
-        ensures ok { OnOk result (made_owned P.growth self.old ≡ Some self.new) }
+        ensures ok { OnOk result (make_owned P.growth self.old ≡ Some self.new) }
         ensures text { self.new.text ≡ self.old.text }
         ensures owned { OnOk result (IsOwned self.new) }
-        ensures err { OnErr result ((self.new ≡ self.old) × IsTrue (own_asks self.old)) }
+        ensures err { OnErr result ((self.new ≡ self.old) × IsTrue (make_owned_asks self.old)) }
     {
         self.repr.make_owned()
     }

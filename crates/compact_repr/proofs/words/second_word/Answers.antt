@@ -4,5 +4,5 @@ use Rattle.compact_repr.proofs.words.second_word.Goals as goal
 
 pub returns : goal.returns
 returns c =
-    rw (c.without.ensures, c.load8.ensures.value)
+    rw (c.without_bytes.ensures, c.load8.ensures.value)
     (number_second c.args.text.now c.min-at.result (λ (i : ℕ). (c.type_inv.text i).fits) c.requires c.min-at.ensures)

@@ -8,7 +8,7 @@ use Rattle.compact_repr.proofs.heap.HeapBuffer.cut_out.Goals as goal
 now : (c : goal.After-truncate) → c.truncate.new.self.items ≡ replace_range c.self.inside.bytes.items c.args.start c.args.end []
 now c =
     c.truncate.ensures.items
-    ∙ ap (take _) (written c.self.inside.bytes.items c.cut_out.new.row c.self.inside.bytes.len (omega arith) (omega arith))
+    ∙ ap (take _) (written c.self.inside.bytes.items c.cut_out.new.slice c.self.inside.bytes.len (omega arith) (omega arith))
     ∙ c.cut_out.ensures
     ∙ rw (c.as_mut_slice.ensures.value, c.len-len.ensures, whole c.self.inside.bytes.items c.self.inside.bytes.len (omega arith)) refl
 

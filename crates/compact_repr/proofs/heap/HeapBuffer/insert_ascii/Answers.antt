@@ -6,11 +6,11 @@ use Rattle.compact_repr.proofs.HeapTexts.{shown-text, shown-capacity, shown-size
 use Rattle.compact_repr.proofs.heap.HeapBuffer.insert_ascii.Goals as goal
 
 now : (c : goal.After-self-1)
-    → take c.push_reserved.new.self.len (c.insert_byte.new.row ++ drop (length c.insert_byte.new.row) c.push_reserved.new.self.items)
+    → take c.push_reserved.new.self.len (c.insert_byte.new.slice ++ drop (length c.insert_byte.new.slice) c.push_reserved.new.self.items)
     ≡ replace_range c.self.inside.bytes.items c.args.index c.args.index (c.args.byte ∷ [])
 now c =
-    written c.push_reserved.new.self.items c.insert_byte.new.row c.push_reserved.new.self.len (omega arith) (omega arith)
-    ∙ sym (whole c.insert_byte.new.row (c.len-len.result + 1) (omega arith))
+    written c.push_reserved.new.self.items c.insert_byte.new.slice c.push_reserved.new.self.len (omega arith) (omega arith)
+    ∙ sym (whole c.insert_byte.new.slice (c.len-len.result + 1) (omega arith))
     ∙ c.insert_byte.ensures
     ∙ rw (c.as_mut_slice.ensures.value, c.push_reserved.ensures.items, take_at c.self.inside.bytes.items (c.args.byte ∷ []) c.len-len.result (omega arith)) refl
 

@@ -5,10 +5,10 @@ use Rattle.compact_repr.proofs.Letters.{utf8-lowercase, text_of-lowercase, size-
 use Rattle.compact_repr.proofs.heap.HeapBuffer.make_ascii_lowercase.Goals as goal
 
 now : (c : goal.After-self-1)
-    → take c.self.inside.bytes.len (c.make_lowercase.new.row ++ drop (length c.make_lowercase.new.row) c.self.inside.bytes.items) ≡ map to_ascii_lowercase c.self.inside.bytes.items
+    → take c.self.inside.bytes.len (c.make_lowercase.new.slice ++ drop (length c.make_lowercase.new.slice) c.self.inside.bytes.items) ≡ map to_ascii_lowercase c.self.inside.bytes.items
 now c =
-    written c.self.inside.bytes.items c.make_lowercase.new.row c.self.inside.bytes.len (omega arith) (omega arith)
-    ∙ sym (whole c.make_lowercase.new.row c.len-len.result (omega arith))
+    written c.self.inside.bytes.items c.make_lowercase.new.slice c.self.inside.bytes.len (omega arith) (omega arith)
+    ∙ sym (whole c.make_lowercase.new.slice c.len-len.result (omega arith))
     ∙ c.make_lowercase.ensures.front
     ∙ rw (c.as_mut_slice.ensures.value, c.len-len.ensures, whole c.self.inside.bytes.items c.self.inside.bytes.len (omega arith)) refl
 

@@ -5,10 +5,10 @@ use Rattle.compact_repr.proofs.Letters.{utf8-uppercase, text_of-uppercase, size-
 use Rattle.compact_repr.proofs.heap.HeapBuffer.make_ascii_uppercase.Goals as goal
 
 now : (c : goal.After-self-1)
-    → take c.self.inside.bytes.len (c.make_uppercase.new.row ++ drop (length c.make_uppercase.new.row) c.self.inside.bytes.items) ≡ map to_ascii_uppercase c.self.inside.bytes.items
+    → take c.self.inside.bytes.len (c.make_uppercase.new.slice ++ drop (length c.make_uppercase.new.slice) c.self.inside.bytes.items) ≡ map to_ascii_uppercase c.self.inside.bytes.items
 now c =
-    written c.self.inside.bytes.items c.make_uppercase.new.row c.self.inside.bytes.len (omega arith) (omega arith)
-    ∙ sym (whole c.make_uppercase.new.row c.len-len.result (omega arith))
+    written c.self.inside.bytes.items c.make_uppercase.new.slice c.self.inside.bytes.len (omega arith) (omega arith)
+    ∙ sym (whole c.make_uppercase.new.slice c.len-len.result (omega arith))
     ∙ c.make_uppercase.ensures.front
     ∙ rw (c.as_mut_slice.ensures.value, c.len-len.ensures, whole c.self.inside.bytes.items c.self.inside.bytes.len (omega arith)) refl
 

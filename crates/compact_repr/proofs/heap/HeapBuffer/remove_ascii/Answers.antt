@@ -9,8 +9,8 @@ use Rattle.compact_repr.proofs.heap.HeapBuffer.remove_ascii.Goals as goal
 
 now : (c : goal.After-take_last-last) → c.take_last-last.new.self.items ≡ replace_range c.self.inside.bytes.items c.args.index (c.args.index + 1) []
 now c =
-    let left : c.remove_byte.new.row ≡ c.take_last-last.new.self.items ++ c.take_last-last.result ∷ [] =
-    sym (written c.self.inside.bytes.items c.remove_byte.new.row c.self.inside.bytes.len (omega arith) (omega arith)) ∙ c.take_last-last.ensures.items in
+    let left : c.remove_byte.new.slice ≡ c.take_last-last.new.self.items ++ c.take_last-last.result ∷ [] =
+    sym (written c.self.inside.bytes.items c.remove_byte.new.slice c.self.inside.bytes.len (omega arith) (omega arith)) ∙ c.take_last-last.ensures.items in
     sym (take_at c.take_last-last.new.self.items (c.take_last-last.result ∷ []) _ (omega arith))
     ∙ ap (take _) (sym left)
     ∙ c.remove_byte.ensures

@@ -4,13 +4,13 @@ use Rattle.compact_repr.proofs.PackedTexts.{packed-text}
 use Rattle.compact_repr.proofs.PackedEdits.{utf8-seen}
 use Rattle.compact_repr.proofs.inline.InlineBuffer.cut_out.Goals as goal
 
-pub mark-requires-clause-text : goal.mark-requires-clause-text
-mark-requires-clause-text c =
+pub write_len-requires-clause-text : goal.write_len-requires-clause-text
+write_len-requires-clause-text c =
     rw (c.cut_out.ensures, c.length_of-len.ensures)
     (utf8-cut_out _ c.args.start c.args.end c.self.view_is (utf8-seen _ c.self.invariant) c.requires.first c.requires.last)
 
 pub returns-clause-cut : goal.returns-clause-cut
 returns-clause-cut c =
-    packed-text _ _ c.mark.ensures
+    packed-text _ _ c.write_len.ensures
     ∙ rw (c.cut_out.ensures, c.length_of-len.ensures)
     (text_of-cut_out _ c.args.start c.args.end c.self.view_is (utf8-seen _ c.self.invariant) c.requires.first c.requires.last)

@@ -4,15 +4,15 @@ use Rattle.compact_repr.proofs.PackedTexts.{packed-text, packed-again}
 use Rattle.compact_repr.proofs.PackedEdits.{utf8-seen}
 use Rattle.compact_repr.proofs.inline.InlineBuffer.push_str.Goals as goal
 
-pub mark-requires-clause-text : goal.mark-requires-clause-text
-mark-requires-clause-text c =
-    rw (← c.as_bytes.ensures.value, c.write_at_once.ensures.behind, c.length_of-len.ensures) (IsUtf8-append _ _ (utf8-seen _ c.self.invariant) c.as_bytes.ensures.utf8)
+pub write_len-requires-clause-text : goal.write_len-requires-clause-text
+write_len-requires-clause-text c =
+    rw (← c.as_bytes.ensures.value, c.write_short.ensures.behind, c.length_of-len.ensures) (IsUtf8-append _ _ (utf8-seen _ c.self.invariant) c.as_bytes.ensures.utf8)
 
 pub invariant_of-self : goal.invariant_of-self
-invariant_of-self c = packed-again _ _ c.mark.ensures
+invariant_of-self c = packed-again _ _ c.write_len.ensures
 
 pub returns-clause-pushed : goal.returns-clause-pushed
 returns-clause-pushed c _ =
-    packed-text _ _ c.mark.ensures
-    ∙ rw (← c.as_bytes.ensures.value, c.write_at_once.ensures.behind, c.length_of-len.ensures, ← c.self.view_is)
+    packed-text _ _ c.write_len.ensures
+    ∙ rw (← c.as_bytes.ensures.value, c.write_short.ensures.behind, c.length_of-len.ensures, ← c.self.view_is)
     (chars-append _ c.as_bytes.result.now (utf8-seen _ c.self.invariant))

@@ -1,22 +1,22 @@
 use Rattle.std.proofs.Common.{◌∙◌, arith}
 use Rattle.compact_repr.proofs.Cuts.{boundary-within}
 use Rattle.compact_repr.proofs.Ascii.{ascii-removed, utf8-ascii-removed}
-use Rattle.compact_repr.proofs.ReplacedRows.{word-byte-out}
+use Rattle.compact_repr.proofs.SplicedSlices.{word-byte-out}
 use Rattle.compact_repr.proofs.PackedTexts.{packed-text, packed-again}
 use Rattle.compact_repr.proofs.PackedEdits.{len-seen, len-fits, utf8-seen}
 use Rattle.compact_repr.proofs.inline.InlineBuffer.remove_ascii.Goals as goal
 
-pub ended-self-inside-requires-clause-text : goal.ended-self-inside-requires-clause-text
-ended-self-inside-requires-clause-text c =
+pub with_short_len-self-inside-requires-clause-text : goal.with_short_len-self-inside-requires-clause-text
+with_short_len-self-inside-requires-clause-text c =
     let stands = len-seen _ c.self.view_is c.self.invariant in
     let most = len-fits _ c.self.view_is c.self.invariant in
     let within = boundary-within _ _ c.requires.next in
     let e = c.length_of-len.ensures in
-    let bytes = word-byte-out c.self.inside.bytes c.remove_byte-row.result c.length_of-len.result c.args.index (omega (arith, stands, within, e)) (omega (arith, most, e)) c.self.told c.remove_byte-row.ensures in
+    let bytes = word-byte-out c.self.inside.bytes c.remove_byte-array.result c.length_of-len.result c.args.index (omega (arith, stands, within, e)) (omega (arith, most, e)) c.self.told c.remove_byte-array.ensures in
     rw (bytes, e) (utf8-ascii-removed _ c.args.index c.self.view_is (utf8-seen _ c.self.invariant) c.requires.boundary c.requires.next)
 
 pub invariant_of-self : goal.invariant_of-self
-invariant_of-self c = packed-again _ _ c.ended-self-inside.ensures
+invariant_of-self c = packed-again _ _ c.with_short_len-self-inside.ensures
 
 pub returns-clause-removed : goal.returns-clause-removed
 returns-clause-removed c =
@@ -24,6 +24,6 @@ returns-clause-removed c =
     let most = len-fits _ c.self.view_is c.self.invariant in
     let within = boundary-within _ _ c.requires.next in
     let e = c.length_of-len.ensures in
-    let bytes = word-byte-out c.self.inside.bytes c.remove_byte-row.result c.length_of-len.result c.args.index (omega (arith, stands, within, e)) (omega (arith, most, e)) c.self.told c.remove_byte-row.ensures in
-    packed-text _ _ c.ended-self-inside.ensures
+    let bytes = word-byte-out c.self.inside.bytes c.remove_byte-array.result c.length_of-len.result c.args.index (omega (arith, stands, within, e)) (omega (arith, most, e)) c.self.told c.remove_byte-array.ensures in
+    packed-text _ _ c.with_short_len-self-inside.ensures
     ∙ rw (bytes, e) (ascii-removed _ c.args.index c.self.view_is (utf8-seen _ c.self.invariant) c.requires.boundary c.requires.next)

@@ -12,4 +12,4 @@ returns g c =
     let product : g.P.Policy.growth.numerator * c.args.len ≡ c.in-Some.product = ap (λ (n : ℕ). n * c.args.len) numerator ∙ mul_comm c.NUM.result c.args.len ∙ sym c.in-Some.ensures.1 in
     let quotient : g.P.Policy.growth.numerator * c.args.len / g.P.Policy.growth.denominator ≡ c.in-Some.product / c.DEN.result = cc in
     let wanted : c.max.result ≡ max c.args.needed (g.P.Policy.growth.numerator * c.args.len / g.P.Policy.growth.denominator) = omega (arith, quotient) in
-    rw (← wanted) c.allowed_capacity.ensures
+    rw (← wanted) c.checked_capacity.ensures

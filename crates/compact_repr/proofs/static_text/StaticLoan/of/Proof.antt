@@ -20,7 +20,7 @@ use denote.RattleType.{Valss}
 use denote.Triple.Walked.{Stays, says, stay_dropped, Goes-dropped, ends_at}
 use mir.Syntax.{static}
 use Rattle.std.proofs.raw_atomic.Walks.{proved}
-use Rattle.compact_repr.specs.Loan.{lent_for_ever, address}
+use Rattle.compact_repr.specs.Loan.{static_loan, address}
 use Rattle.compact_repr.specs.contracts.static_text.StaticLoan as loan
 use Rattle.compact_repr.specs.contracts.static_text.StaticLoan.of as f
 use Rattle.compact_repr.proofs.static_text.StaticLoan.of.Statement.{statement}
@@ -37,7 +37,7 @@ of_spec 𝓤 𝓛 𝓜 𝓡 wired =
     (λ κs. (shr_slice_vals, tt)) (λ κs. (shr_slice_Tells static [] u8, tt)) (λ κs qs bounds a _ are.
     let bytes = a.0 in let at = vptr bytes.ref_ptr.0 bytes.ref_ptr.1 in let empty = vstruct vnil in let Fields = Struct (shape loan.the_type) in
     let mark : (loan.the_row).Denot = record { bytes = bytes } in let pair = vstruct (vcons at (vcons empty vnil)) in let Both = RawPtr ∷ loan.the_row ∷ [] in
-    qed 𝓛 ((‵ ftrue ⊛ ‵ (lent_for_ever bytes) ⊛ ‵ ftrue) ∷ ‵ ftrue ∷ []) ∵ split ! $ drop ! $ split ! $ keep ! (0 ∷ []) $
+    qed 𝓛 ((‵ ftrue ⊛ ‵ (static_loan bytes) ⊛ ‵ ftrue) ∷ ‵ ftrue ∷ []) ∵ split ! $ drop ! $ split ! $ keep ! (0 ∷ []) $
     -- what the result owns: the loan, and nothing for the pointer
     owned ! Fields _ (Struct-Makes 𝓛 (shape loan.the_type) tt) tt _ (tt, (refl, tt)) $ fjoin ! $
     nothing ! $ move ! (1 ∷ 0 ∷ []) $ fjoin ! $ feq_i ! (List Val) (at ∷ []) (at ∷ []) refl $ fjoin ! $ feq_i ! (List Val) (pair ∷ []) (pair ∷ []) refl $ fjoin ! $

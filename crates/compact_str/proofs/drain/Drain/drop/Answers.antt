@@ -1,5 +1,5 @@
 use Rattle.std.proofs.Common.{arith}
-use Rattle.compact_str.proofs.Drains.{without-owned, without-may_cut_out, without-within}
+use Rattle.compact_str.proofs.Drains.{without-owned_placement, without-may_cut_out, without-within}
 use Rattle.compact_str.proofs.drain.Drain.drop.Goals as goal
 
 pub invariant_of-self : goal.invariant_of-self
@@ -10,7 +10,7 @@ invariant_of-self g c =
     let less = without-within v i j in
     let within = c.args.self.within in
     rw c.take_out.ensures record {
-      owned = without-owned v i j c.args.self.owned;
+      owned = without-owned_placement v i j c.args.self.owned;
       within = omega (arith, less, within);
       range = without-may_cut_out v i j c.args.self.front c.args.self.back c.args.self.whole within c.args.self.range;
       span = without-may_cut_out v i j i j c.args.self.whole within c.args.self.span;

@@ -1,6 +1,6 @@
 use Rattle.std.proofs.Common.{◌≡◌, ◌∷◌, [], ◌++◌, ap, sym, ◌∙◌}
 use Rattle.compact_repr.specs.Value.{PlacedText}
-use Rattle.compact_str.proofs.Positions.{truncated-last}
+use Rattle.compact_str.proofs.Positions.{truncate-last}
 use Rattle.compact_str.proofs.string.PolicyString.pop.Goals as goal
 
 pub returns-clause-pops : goal.returns-clause-pops
@@ -9,7 +9,7 @@ returns-clause-pops g c =
     let text : c.args.self.now.text ≡ last.0 ++ c.in_ok-character.character ∷ [] = ap (λ (v : PlacedText). v.text) (sym c.self.view_is) ∙ last.1 in (
       last.0,
       text,
-      c.truncate.ensures ∙ rw (c.len.ensures.value, c.len_utf8.ensures.value, c.self.view_is) (truncated-last c.args.self.now last.0 c.in_ok-character.character text),
+      c.truncate.ensures ∙ rw (c.len.ensures.value, c.len_utf8.ensures.value, c.self.view_is) (truncate-last c.args.self.now last.0 c.in_ok-character.character text),
     )
 
 pub returns-clause-text : goal.returns-clause-text

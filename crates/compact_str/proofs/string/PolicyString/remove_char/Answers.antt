@@ -5,10 +5,10 @@ use Rattle.compact_repr.specs.Text.{size}
 use Rattle.compact_repr.specs.Cut.{IsBoundary, after}
 use Rattle.compact_repr.specs.Value.{PlacedText}
 use Rattle.std.specs.Prelude.{IsTrue}
-use Rattle.compact_repr.specs.Capacity.{own_asks}
-use Rattle.compact_repr.specs.Change.{replaced}
+use Rattle.compact_repr.specs.Capacity.{make_owned_asks}
+use Rattle.compact_repr.specs.Change.{replace_range}
 use Rattle.compact_repr.proofs.Cuts.{boundary-within}
-use Rattle.compact_str.proofs.Positions.{boundary-next, replaced-removes, asks-by_nothing, kept-character}
+use Rattle.compact_str.proofs.Positions.{boundary-next, replace_range-removes, asks-by_nothing, shortened_placement-character}
 use Rattle.compact_str.proofs.string.PolicyString.remove_char.Goals as goal
 
 pub overflow_add-index : goal.overflow_add-index
@@ -30,10 +30,10 @@ pub returns : goal.returns
 returns g c =
     let next = c.char_at-character.ensures in
     let tail : after c.args.self.now.text c.args.index ≡ c.char_at-character.result ∷ next.0 = ap (λ (v : PlacedText). after v.text c.args.index) (sym c.self.view_is) ∙ next.1 in
-    replaced-removes g.P.Policy.growth c.args.self.now c.cut_out.new.self next.0 c.args.index c.char_at-character.result c.len_utf8.result c.requires.boundary tail c.len_utf8.ensures.value
-    (subst (λ (v : PlacedText). replaced g.P.Policy.growth v c.args.index (c.args.index + c.len_utf8.result) [] ≡ Some c.cut_out.new.self) c.self.view_is c.in_ok-cut_out.ensures.ok)
+    replace_range-removes g.P.Policy.growth c.args.self.now c.cut_out.new.self next.0 c.args.index c.char_at-character.result c.len_utf8.result c.requires.boundary tail c.len_utf8.ensures.value
+    (subst (λ (v : PlacedText). replace_range g.P.Policy.growth v c.args.index (c.args.index + c.len_utf8.result) [] ≡ Some c.cut_out.new.self) c.self.view_is c.in_ok-cut_out.ensures.ok)
 
 pub returns-in_err-cut_out : goal.returns-in_err-cut_out
 returns-in_err-cut_out g c =
-    let asks : IsTrue (own_asks c.args.self.now) = subst (λ (v : PlacedText). IsTrue (own_asks v)) c.self.view_is (asks-by_nothing c.self.inside.repr c.args.index _ c.in_err-cut_out.ensures.err.1) in
-    kept-character g.P.Policy.growth c.args.self.now c.cut_out.new.self c.args.index _ (search rules) (c.in_err-cut_out.ensures.err.0 ∙ c.self.view_is) asks
+    let asks : IsTrue (make_owned_asks c.args.self.now) = subst (λ (v : PlacedText). IsTrue (make_owned_asks v)) c.self.view_is (asks-by_nothing c.self.inside.repr c.args.index _ c.in_err-cut_out.ensures.err.1) in
+    shortened_placement-character g.P.Policy.growth c.args.self.now c.cut_out.new.self c.args.index _ (search rules) (c.in_err-cut_out.ensures.err.0 ∙ c.self.view_is) asks

@@ -1,12 +1,12 @@
 use Rattle.std.proofs.Common.{◌≡◌, ℕ, List, Some, ap, subst, ◌∙◌}
 use Rattle.compact_repr.specs.Text.{ascii_uppercase}
-use Rattle.compact_repr.specs.Value.{PlacedText, placed}
-use Rattle.compact_repr.specs.Change.{made}
-use Rattle.compact_str.proofs.Letters.{made-uppercase}
+use Rattle.compact_repr.specs.Value.{PlacedText, placed_text}
+use Rattle.compact_repr.specs.Change.{new}
+use Rattle.compact_str.proofs.Letters.{new-uppercase}
 use Rattle.compact_str.proofs.string.PolicyString.to_ascii_uppercase.Goals as goal
 
 pub returns-clause-ok : goal.returns-clause-ok
 returns-clause-ok g c =
-    made-uppercase g.P.Policy.growth c.args.self.now.text _ _
-    (subst (λ (t : List ℕ). made g.P.Policy.growth t ≡ Some c.in_ok-copy.copy) c.as_str.ensures.text c.in_ok-copy.ensures.ok)
-    (c.make_ascii_uppercase.ensures ∙ ap (λ (v : PlacedText). placed (ascii_uppercase v.text) v.placement) c.copy.view_is)
+    new-uppercase g.P.Policy.growth c.args.self.now.text _ _
+    (subst (λ (t : List ℕ). new g.P.Policy.growth t ≡ Some c.in_ok-copy.copy) c.as_str.ensures.text c.in_ok-copy.ensures.ok)
+    (c.make_ascii_uppercase.ensures ∙ ap (λ (v : PlacedText). placed_text (ascii_uppercase v.text) v.placement) c.copy.view_is)

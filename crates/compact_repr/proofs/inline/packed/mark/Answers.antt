@@ -1,9 +1,0 @@
-use Rattle.std.proofs.Common.{arith}
-use Rattle.compact_repr.proofs.PackedTexts.{stands-marked, stands-full}
-use Rattle.compact_repr.proofs.inline.packed.mark.Goals as goal
-
-pub returns-then-len-lt-INLINE_CAPACITY : goal.returns-then-len-lt-INLINE_CAPACITY
-returns-then-len-lt-INLINE_CAPACITY c = stands-marked c.args.bytes.now c.args.len (omega arith) (omega arith) c.requires.text
-
-pub returns-else-len-lt-INLINE_CAPACITY : goal.returns-else-len-lt-INLINE_CAPACITY
-returns-else-len-lt-INLINE_CAPACITY c = stands-full c.args.bytes.now c.args.len (omega arith) (omega arith) c.requires.text

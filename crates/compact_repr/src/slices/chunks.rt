@@ -1,0 +1,35 @@
+//! So many bytes of a slice at once, as a vector of the processor.
+ghost use Rattle.std.specs.Prelude.{◌≡◌, ◌+◌, ◌≤◌, ◌++◌, length, take, drop};
+ghost use lib.Seq.{paste};
+
+use std::simd::prelude::*;
+
+/// The `N` bytes from a place on.
+#[inline(always)]
+pub fn chunk<const N: usize>(slice: &[u8], at: usize) -> Simd<u8, N>
+    requires { at + N ≤ length slice.now }
+    ensures bytes { result ≡ take N (drop at slice.now) }
+    ensures lanes { length result ≡ N }
+{
+    Simd::from_slice(&slice[at..])
+}
+
+/// Writes `N` bytes from a place on.
+#[inline(always)]
+pub fn set_chunk<const N: usize>(slice: &mut [u8], at: usize, chunk: Simd<u8, N>)
+    requires long_enough { at + N ≤ length slice.old }
+    requires lanes { length chunk ≡ N }
+    ensures { slice.new ≡ paste slice.old at chunk.entry N }
+{
+    set_first_chunk(&mut slice[at..], chunk);
+}
+
+/// Writes the first `N` bytes.
+#[inline(always)]
+fn set_first_chunk<const N: usize>(slice: &mut [u8], chunk: Simd<u8, N>)
+    requires long_enough { N ≤ length slice.old }
+    requires lanes { length chunk ≡ N }
+    ensures { slice.new ≡ chunk.entry ++ drop N slice.old }
+{
+    chunk.copy_to_slice(slice);
+}
