@@ -220,7 +220,7 @@ records-back known (Err e) took fits err = record {
 -- the next text is the one whose form stands first
 pub next-back : {R : Type 0} (remaining : R → Option (List ℕ)) (s t : Records R) (r : Option (Result PlacedText WireError)) → GivesRecord remaining s r t → ReadsNextBack remaining s r t
 next-back remaining s t None gives = λ (text rest : List ℕ) (form : HasForm text) (is : records_left remaining s ≡ Some (wire text ++ rest)).
-    absurd (omega (arith, ap length (subst IsAtEnd is gives.0), length-append (wire text) rest, length-wire text))
+    absurd (omega (arith, ap length (subst IsAtEnd is gives.end), length-append (wire text) rest, length-wire text))
 next-back remaining s t (Some (Ok v)) gives = λ (text rest : List ℕ) (form : HasForm text) (is : records_left remaining s ≡ Some (wire text ++ rest)).
     told-text text rest v.text _ form.1 gives.fits.1 (subst (λ o. Consumes o (records_left remaining t) (wire v.text)) is gives.form)
 next-back remaining s t (Some (Err e)) gives = λ (text rest : List ℕ) (form : HasForm text) (is : records_left remaining s ≡ Some (wire text ++ rest)).

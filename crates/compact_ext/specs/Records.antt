@@ -55,11 +55,16 @@ pub record TakesForm (old new : Option (List ℕ)) (v : PlacedText) : Type 0 whe
   pub fits : FitsForm v
   pub placed : IsPlacedAsRead v
 
--- a text whose form is taken, a fault as `read_wire` tells it, or `None` at the end, where nothing changes
+-- nothing is left, and nothing changes
+pub record StaysAtEnd (old new : Option (List ℕ)) : Type 0 where
+  pub end : IsAtEnd old
+  pub same : Keeps old new
+
+-- a text whose form is taken, a fault as `read_wire` tells it, or `None` at the end
 abbrev pub GivesNext : Option (List ℕ) → Option (Result PlacedText WireError)
     → Option (List ℕ) → Type 0
 GivesNext old r new =
-    MatchOption r (IsAtEnd old × Keeps old new)
+    MatchOption r (StaysAtEnd old new)
     (λ item. MatchResult item (TakesForm old new) (FailsWithin old new))
 
 -- the bytes behind what a call of `next` gave: those that texts are still read from. After an `Io` the iterator may have

@@ -40,4 +40,4 @@ returns-in-Err-clause-back g c =
 pub returns-clause-back : goal.returns-clause-back
 returns-clause-back g c =
     let took = c.loop-item.invariant in
-    records-back _ (Ok c.loop-item.texts) (takes-all _ _ _ took c.in-None.ensures.steps.0) took.fit tt
+    records-back _ (Ok c.loop-item.texts) (takes-all _ _ _ took c.in-None.ensures.steps.end) took.fit tt
