@@ -1,8 +1,9 @@
 //! Callers that take values out of their place, keep them in small rows, and make them of bytes and boxes with no copy.
 #![tactic(auto, using(compact_str::proofs::ForCallers::for_callers))]
 
-ghost use Rattle.std.specs.Prelude.{◌≡◌, [], ◌∷◌, ◌++◌, IfOk, OnOk, OnErr, IsOk, length};
+ghost use Rattle.std.specs.Prelude.{◌≡◌, [], ◌∷◌, ◌++◌, IfOk, IfErr, OnOk, OnErr, IsOk, length};
 ghost use Rattle.std.specs.Str.{IsUtf8};
+ghost use Rattle.std.specs.String.{from_utf8_error_vec};
 ghost use Rattle.std.specs.Box.{boxed_str_bytes};
 ghost use Rattle.compact_str.specs.Text.{text_of, utf8};
 
@@ -54,10 +55,12 @@ pub fn append_note(
     }
 }
 
-/// The text of bytes, whose buffer is taken over.
+/// The text of bytes, whose buffer is taken over. Bytes that are no text come back.
 pub fn text_in(bytes: Vec<u8>) -> Result<CompactString, FromUtf8Error>
     ensures text { IfOk result (λ v. v.text ≡ text_of bytes.items) }
+    ensures valid { OnOk result (IsUtf8 bytes.items) }
     ensures succeeds { IsUtf8 bytes.items → IsOk result }
+    ensures err { IfErr result (λ e. from_utf8_error_vec e ≡ bytes) }
 {
     CompactString::try_from(bytes)
 }
