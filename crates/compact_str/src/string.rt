@@ -32,7 +32,6 @@ use std::marker::Model;
 ///
 /// Where the comment of a call tells of heap buffers of at least 32 bytes, or of growth by half, these are the numbers of
 /// `CompactString`; a policy of one's own has others.
-#[derive(Drop)]
 pub struct PolicyString<P: Policy> {
     repr: Repr<P>,
 }
@@ -46,4 +45,13 @@ impl<P: Policy> Model for PolicyString<P> {
     ghost Value = { PlacedText };
 
     ghost view = { λ s. s.repr };
+}
+
+/// A value is dropped by one call, which frees the buffer of a heap text. So a function that has values takes the three
+/// places apart at none of its ends.
+impl<P: Policy> Drop for PolicyString<P> {
+    fn drop(self) {
+        let PolicyString { repr } = self;
+        drop(repr);
+    }
 }

@@ -32,7 +32,8 @@ impl<P: Policy> PolicyString<P> {
         ensures err { IfErr result
             (λ e. (e.value ≡ self) × (is_heap self.placement.place ≡ false)) }
     {
-        match self.repr.into_heap_string() {
+        let PolicyString { repr } = self;
+        match repr.into_heap_string() {
             Ok(text) => Ok(text),
             Err(repr) => match String::from_str(repr.allocator(), repr.as_str()) {
                 Ok(copy) => Ok(copy),
@@ -72,7 +73,8 @@ impl<P: Policy> PolicyString<P> {
         ensures succeeds_owned { is_static self.placement.place ≡ false → IsOk result }
         ensures err { IfErr result (λ e. (e.value ≡ self) × IsTrue (make_owned_asks self)) }
     {
-        match self.repr.into_heap_string() {
+        let PolicyString { repr } = self;
+        match repr.into_heap_string() {
             Ok(text) => Ok(SmallVec::from_vec(text.into_bytes())),
             Err(repr) => match SmallVec::from_slice(repr.allocator(), repr.as_str().as_bytes()) {
                 Ok(bytes) => Ok(bytes),
@@ -108,7 +110,10 @@ impl<P: Policy> PolicyString<P> {
     {
         match RcStr::from_str(self.repr.allocator(), self.repr.as_str()) {
             Ok(shared) => Ok(shared),
-            Err(_) => Err(refused(self.repr)),
+            Err(_) => Err(Refused {
+                error: ReserveError,
+                value: self,
+            }),
         }
     }
 
