@@ -1,14 +1,14 @@
 //! Tests of the callers in `packed_callers.rt`.
 
 use compact_callers::packed_callers::{cleaned, have_same_row, through_a_row};
-use compact_testing::seen::Seen;
+use compact_testing::seen::is_inline;
 use compact_testing::values::{lasting, value_of};
 
 #[test]
 fn a_key_goes_through_a_row(rt: HostRuntime) {
     let key = value_of(rt.alloc(), "größe").expect(&rt, "memory");
     let copy = through_a_row(rt.alloc(), &key).expect(&rt, "an inline key");
-    assert_eq!(rt; Seen::of(&copy), Seen::inline("größe"));
+    assert!(rt; is_inline(&copy, "größe"));
     assert!(rt; through_a_row(rt.alloc(), &lasting(rt.alloc(), 30)).is_none());
 }
 

@@ -2,14 +2,14 @@
 
 use compact_callers::run_callers::{Doubling, bracket, refill, rewrite};
 use compact_str::PolicyString;
-use compact_testing::seen::Seen;
+use compact_testing::seen::{is_heap, is_inline};
 use compact_testing::values::{letters, value_of};
 
 #[test]
 fn a_text_is_put_in_brackets(rt: HostRuntime) {
     let mut value = value_of(rt.alloc(), "ab").expect(&rt, "memory");
     assert!(rt; bracket(rt.alloc(), &mut value).expect(&rt, "memory"));
-    assert_eq!(rt; Seen::of(&value), Seen::inline("[ab]"));
+    assert!(rt; is_inline(&value, "[ab]"));
 }
 
 #[test]
@@ -19,16 +19,16 @@ fn replies_come_after_those_of_an_earlier_run(rt: HostRuntime) {
     rewrite(&mut value, "c", &mut replies).expect(&rt, "memory");
     rewrite(&mut value, letters(24), &mut replies).expect(&rt, "memory");
     assert_eq!(rt; replies.len(), 4);
-    assert_eq!(rt; Seen::of(&value), Seen::inline(letters(24)));
+    assert!(rt; is_inline(&value, letters(24)));
 }
 
 #[test]
 fn a_buffer_of_ones_own_policy_is_refilled(rt: HostRuntime) {
     let made = PolicyString::<Doubling>::new(rt.alloc(), letters(25));
     let mut value = made.expect(&rt, "memory");
-    assert_eq!(rt; Seen::of(&value), Seen::heap(64, letters(25)));
+    assert!(rt; is_heap(&value, 64, letters(25)));
     assert!(rt; refill(rt.alloc(), &mut value, letters(70)).expect(&rt, "memory"));
-    assert_eq!(rt; Seen::of(&value), Seen::heap(70, letters(70)));
+    assert!(rt; is_heap(&value, 70, letters(70)));
     value.push('a').expect(&rt, "memory");
-    assert_eq!(rt; Seen::of(&value), Seen::heap(140, letters(71)));
+    assert!(rt; is_heap(&value, 140, letters(71)));
 }

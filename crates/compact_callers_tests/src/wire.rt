@@ -5,7 +5,7 @@ use compact_callers::wire_callers::{
     receive_field, send_field, sent_and_received,
 };
 use compact_ext::wire::{Records, WireError};
-use compact_testing::seen::Seen;
+use compact_testing::seen::is_inline;
 use compact_testing::values::{letters, place_of, value_of};
 
 /// The forms of `a`, of no text and of `Hi`.
@@ -17,7 +17,7 @@ fn a_reader_tells_its_next_record_and_its_end(rt: HostRuntime) {
     let mut rest: &[u8] = &RECORDS;
     for text in ["a", "", "Hi"] {
         let record = next_record(alloc, &mut rest).expect(&rt, "a record");
-        assert_eq!(rt; Seen::of(&record.expect(&rt, "no end")), Seen::inline(text));
+        assert!(rt; is_inline(&record.expect(&rt, "no end"), text));
     }
     let end = next_record(alloc, &mut rest).expect(&rt, "an end");
     assert!(rt; end.is_none());
@@ -43,7 +43,7 @@ fn one_record_that_is_no_text_is_passed_over(rt: HostRuntime) {
     let mut records = Records::new(rt.alloc(), MIXED.as_slice());
     for text in ["a", "", "Hi"] {
         let found = next_text(&mut records).expect(&rt, "no end");
-        assert_eq!(rt; Seen::of(&found.expect(&rt, "a text")), Seen::inline(text));
+        assert!(rt; is_inline(&found.expect(&rt, "a text"), text));
     }
     assert!(rt; next_text(&mut records).is_none());
 }
@@ -68,7 +68,7 @@ fn a_cut_behind_what_is_no_text_is_told(rt: HostRuntime) {
 #[test]
 fn the_first_record_is_read_alone(rt: HostRuntime) {
     let first = first_record(rt.alloc(), RECORDS.as_slice()).expect(&rt, "no fault");
-    assert_eq!(rt; Seen::of(&first.expect(&rt, "a record")), Seen::inline("a"));
+    assert!(rt; is_inline(&first.expect(&rt, "a record"), "a"));
 }
 
 #[test]
@@ -92,12 +92,12 @@ fn a_field_is_sent_and_received(rt: HostRuntime) {
     assert_eq!(rt; bytes.len(), 42);
     let mut rest = bytes.as_slice();
     let (key, value) = receive_field(alloc, &mut rest).expect(&rt, "a field");
-    assert_eq!(rt; Seen::of(&key), Seen::inline("name"));
+    assert!(rt; is_inline(&key, "name"));
     assert_eq!(rt; value.as_str(), letters(30));
     let back = sent_and_received(alloc, &value).expect(&rt, "a text");
     assert!(rt; back == value);
     let both = pair_sent_and_received(alloc, &name, &value).expect(&rt, "two texts");
     assert_eq!(rt; both.len(), 2);
-    assert_eq!(rt; Seen::of(&both[0]), Seen::inline("name"));
+    assert!(rt; is_inline(&both[0], "name"));
     assert_eq!(rt; both[1].as_str(), letters(30));
 }

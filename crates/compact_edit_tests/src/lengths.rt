@@ -2,7 +2,7 @@
 
 use compact_edit::{Edit, Reply, run};
 use compact_str::Standard;
-use compact_testing::seen::Seen;
+use compact_testing::seen::is_inline;
 use compact_testing::values::value_of;
 use std::alloc::Global;
 use std::ops::Bound::{Excluded, Included, Unbounded};
@@ -28,7 +28,7 @@ fn assert_each(rt: &impl Abort, alloc: Global, edits: &[Edit<Standard>], name: &
     for reply in &replies {
         assert_eq!(rt; name_of(reply), name);
     }
-    assert_eq!(rt; Seen::of(&value), Seen::inline("a"));
+    assert!(rt; is_inline(&value, "a"));
 }
 
 #[test]

@@ -4,7 +4,7 @@ use compact_edit::{PushReport, run_pushes};
 use compact_str::{Policy, PolicyString, Standard};
 use compact_testing::memory::take_all;
 use compact_testing::policies::{Double, Large, Slow};
-use compact_testing::seen::Seen;
+use compact_testing::seen::{is_heap, is_inline};
 use compact_testing::values::{append, letters};
 use std::alloc::Global;
 use std::process::Abort;
@@ -39,10 +39,7 @@ fn assert_pushed<P: Policy>(
     moved: u64,
 ) {
     let report = run_pushes::<P>(alloc, texts);
-    assert_eq!(rt;
-        Seen::of(&report.value),
-        Seen::heap(capacity, letters(count))
-    );
+    assert!(rt; is_heap(&report.value, capacity, letters(count)));
     assert_counts(rt, &report, moved, 0);
 }
 
@@ -58,7 +55,7 @@ fn each_growth_moves_the_text_that_stood(rt: HostRuntime) {
         letters(2),
     ];
     let inline = run_pushes::<Standard>(alloc, &texts[..1]);
-    assert_eq!(rt; Seen::of(&inline.value), Seen::inline(letters(24)));
+    assert!(rt; is_inline(&inline.value, letters(24)));
     assert_counts(&rt, &inline, 0, 0);
     assert_pushed::<Standard>(&rt, alloc, &texts[..2], 36, 25, 24);
     assert_pushed::<Standard>(&rt, alloc, &texts[..3], 37, 37, 49);
@@ -70,7 +67,7 @@ fn each_growth_moves_the_text_that_stood(rt: HostRuntime) {
 #[test]
 fn no_texts_leave_the_empty_value(rt: HostRuntime) {
     let report = run_pushes::<Standard>(rt.alloc(), &[]);
-    assert_eq!(rt; Seen::of(&report.value), Seen::inline(""));
+    assert!(rt; is_inline(&report.value, ""));
     assert_counts(&rt, &report, 0, 0);
 }
 
@@ -105,10 +102,7 @@ fn buffers_grow_by_a_quarter(rt: HostRuntime) {
     assert_pushed::<Slow>(&rt, alloc, &[letters(25)], 25, 25, 0);
     assert_pushed::<Slow>(&rt, alloc, &[letters(25), "a"], 31, 26, 25);
     let made = PolicyString::<Slow>::new(alloc, letters(25));
-    assert_eq!(rt;
-        Seen::of(&made.expect(&rt, "memory")),
-        Seen::heap(25, letters(25))
-    );
+    assert!(rt; is_heap(&made.expect(&rt, "memory"), 25, letters(25)));
 }
 
 #[test]
@@ -117,7 +111,7 @@ fn a_first_buffer_is_large(rt: HostRuntime) {
     assert_pushed::<Large>(&rt, alloc, &[letters(25)], 4096, 25, 0);
     let mut value = PolicyString::<Large>::const_new(alloc, letters(30));
     remove_first(&rt, &mut value);
-    assert_eq!(rt; Seen::of(&value), Seen::heap(4096, letters(29)));
+    assert!(rt; is_heap(&value, 4096, letters(29)));
 }
 
 #[test]
@@ -125,9 +119,9 @@ fn a_shrink_keeps_the_least_capacity(rt: HostRuntime) {
     let made = PolicyString::<Large>::with_capacity(rt.alloc(), 8192);
     let mut value = made.expect(&rt, "memory");
     append(&mut value, letters(30)).expect(&rt, "memory");
-    assert_eq!(rt; Seen::of(&value), Seen::heap(8192, letters(30)));
+    assert!(rt; is_heap(&value, 8192, letters(30)));
     value.shrink_to_fit();
-    assert_eq!(rt; Seen::of(&value), Seen::heap(4096, letters(30)));
+    assert!(rt; is_heap(&value, 4096, letters(30)));
 }
 
 #[test]
@@ -138,7 +132,7 @@ fn a_push_after_a_refused_one_is_done(rt: HostRuntime) {
     drop(room);
     let report = run_pushes::<Standard>(rt.alloc(), &texts);
     drop(hog);
-    assert_eq!(rt; Seen::of(&report.value), Seen::heap(36, letters(25)));
+    assert!(rt; is_heap(&report.value, 36, letters(25)));
     assert_counts(&rt, &report, 24, 1);
 }
 
@@ -150,7 +144,7 @@ fn a_first_push_is_refused(rt: HostRuntime) {
     drop(room);
     let report = run_pushes::<Standard>(rt.alloc(), &texts);
     drop(hog);
-    assert_eq!(rt; Seen::of(&report.value), Seen::heap(32, letters(30)));
+    assert!(rt; is_heap(&report.value, 32, letters(30)));
     assert_counts(&rt, &report, 0, 1);
 }
 
@@ -162,7 +156,7 @@ fn one_of_two_pushes_is_refused(rt: HostRuntime) {
     drop(room);
     let report = run_pushes::<Standard>(rt.alloc(), &texts);
     drop(hog);
-    assert_eq!(rt; Seen::of(&report.value), Seen::heap(32, letters(30)));
+    assert!(rt; is_heap(&report.value, 32, letters(30)));
     assert_counts(&rt, &report, 0, 1);
 }
 
@@ -172,7 +166,7 @@ fn only_what_fits_inline_is_pushed_with_no_memory(rt: HostRuntime) {
     let hog = take_all(rt.alloc()).expect(&rt, "room for the list of blocks");
     let report = run_pushes::<Slow>(rt.alloc(), &texts);
     drop(hog);
-    assert_eq!(rt; Seen::of(&report.value), Seen::inline(letters(24)));
+    assert!(rt; is_inline(&report.value, letters(24)));
     assert_counts(&rt, &report, 0, 2);
 }
 
@@ -180,14 +174,14 @@ fn only_what_fits_inline_is_pushed_with_no_memory(rt: HostRuntime) {
 fn another_policy_owns_in_its_own_least_buffer(rt: HostRuntime) {
     let mut value = PolicyString::<Large>::const_new(rt.alloc(), letters(30));
     remove_first(&rt, &mut value);
-    assert_eq!(rt; Seen::of(&value), Seen::heap(4096, letters(29)));
+    assert!(rt; is_heap(&value, 4096, letters(29)));
     insert(&rt, &mut value, 0);
-    assert_eq!(rt; Seen::of(&value), Seen::heap(4096, letters(30)));
+    assert!(rt; is_heap(&value, 4096, letters(30)));
 }
 
 #[test]
 fn another_policy_inserts_in_its_own_least_buffer(rt: HostRuntime) {
     let mut value = PolicyString::<Large>::const_new(rt.alloc(), letters(30));
     insert(&rt, &mut value, 30);
-    assert_eq!(rt; Seen::of(&value), Seen::heap(4096, letters(31)));
+    assert!(rt; is_heap(&value, 4096, letters(31)));
 }

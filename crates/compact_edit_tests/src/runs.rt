@@ -3,7 +3,7 @@
 use compact_edit::{Edit, Reply, run};
 use compact_str::{CompactString, Standard};
 use compact_testing::memory::take_all;
-use compact_testing::seen::Seen;
+use compact_testing::seen::{is_at, is_heap, is_inline, is_static};
 use compact_testing::values::{lasting, letters, value_of};
 use std::alloc::Global;
 use std::ops::Bound::{Excluded, Included};
@@ -44,7 +44,7 @@ fn each_edit_of_a_list_is_run(rt: HostRuntime) {
     let mut value = value_of(rt.alloc(), letters(3)).expect(&rt, "memory");
     let edits = [Edit::PushStr("a"), Edit::Reserve(100), Edit::ShrinkTo(50)];
     all_are_done(&rt, rt.alloc(), &mut value, &edits);
-    assert_eq!(rt; Seen::of(&value), Seen::heap(50, letters(4)));
+    assert!(rt; is_heap(&value, 50, letters(4)));
 }
 
 /// A list of 40 replies and no room for nine more, even where an allocator rounds a request up.
@@ -81,7 +81,7 @@ fn a_run_with_no_room_for_replies_runs_nothing(rt: HostRuntime) {
     is_not_begun(&rt, &mut value, &mut replies);
     run_all(&rt, &mut value, &[], &mut replies);
     drop(hog);
-    assert_eq!(rt; Seen::of(&value), Seen::inline("abc"));
+    assert!(rt; is_inline(&value, "abc"));
     assert_eq!(rt; replies.len(), 40);
     assert!(rt; matches!(replies.get(39), Some(Reply::Done)));
 }
@@ -117,8 +117,8 @@ fn a_bad_position_is_told_before_a_refusal(rt: HostRuntime) {
     tells_bad_positions(&rt, &mut lasting, &mut replies);
     tells_bad_positions(&rt, &mut made, &mut replies);
     drop(hog);
-    assert_eq!(rt; Seen::of(&lasting), Seen::at("static", 29, text()));
-    assert_eq!(rt; Seen::of(&made), Seen::at("heap", 32, text()));
+    assert!(rt; is_at(&lasting, "static", 29, text()));
+    assert!(rt; is_at(&made, "heap", 32, text()));
     assert_eq!(rt; replies.len(), 12);
     for reply in &replies {
         assert!(rt; matches!(reply, Reply::BadPosition));
@@ -153,7 +153,7 @@ fn the_answer_of_a_drain_is_refused(rt: HostRuntime) {
     drop(hog);
     was_refused(&rt, replies.as_slice(), 0, true);
     was_refused(&rt, replies.as_slice(), 1, false);
-    assert_eq!(rt; Seen::of(&value), Seen::heap(60, letters(36)));
+    assert!(rt; is_heap(&value, 60, letters(36)));
 }
 
 #[test]
@@ -166,7 +166,7 @@ fn a_drain_that_makes_its_answer_finds_no_room_for_its_text(rt: HostRuntime) {
     run_drain(&rt, &mut value, 0, 30, &mut replies);
     drop(hog);
     was_refused(&rt, replies.as_slice(), 0, true);
-    assert_eq!(rt; Seen::of(&value), Seen::fixed(letters(80)));
+    assert!(rt; is_static(&value, letters(80)));
 }
 
 #[test]
@@ -181,5 +181,5 @@ fn a_drain_of_60_bytes_is_refused_at_each_request(rt: HostRuntime) {
     drop(hog);
     was_refused(&rt, replies.as_slice(), 0, true);
     was_refused(&rt, replies.as_slice(), 1, true);
-    assert_eq!(rt; Seen::of(&value), Seen::fixed(letters(60)));
+    assert!(rt; is_static(&value, letters(60)));
 }

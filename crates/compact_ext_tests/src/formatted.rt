@@ -2,7 +2,7 @@
 
 use compact_ext::{ToCompactStringError, format_compact};
 use compact_str::{CompactString, ReserveError};
-use compact_testing::seen::Seen;
+use compact_testing::seen::is_inline;
 use compact_testing::values::letters;
 use std::alloc::Global;
 use std::fmt;
@@ -28,24 +28,24 @@ fn text_of(rt: &impl Abort, made: Result<CompactString, ToCompactStringError>) -
 fn formats_have_these_texts(rt: HostRuntime) {
     let alloc = rt.alloc();
     let text = text_of(&rt, format_compact!(in alloc; "{}-{:04}", 7, 42));
-    assert_eq!(rt; Seen::of(&text), Seen::inline("7-0042"));
+    assert!(rt; is_inline(&text, "7-0042"));
     let text = text_of(&rt, format_compact!(in alloc; "a literal"));
-    assert_eq!(rt; Seen::of(&text), Seen::inline("a literal"));
+    assert!(rt; is_inline(&text, "a literal"));
     let text = text_of(&rt, format_compact!(in alloc; ""));
-    assert_eq!(rt; Seen::of(&text), Seen::inline(""));
+    assert!(rt; is_inline(&text, ""));
     let text = text_of(&rt, format_compact!(in alloc; "{{{}}}", true));
-    assert_eq!(rt; Seen::of(&text), Seen::inline("{true}"));
+    assert!(rt; is_inline(&text, "{true}"));
 }
 
 #[test]
 fn options_are_kept(rt: HostRuntime) {
     let alloc = rt.alloc();
     let text = text_of(&rt, format_compact!(in alloc; "{:?}", "a\n"));
-    assert_eq!(rt; Seen::of(&text), Seen::inline("\"a\\n\""));
+    assert!(rt; is_inline(&text, "\"a\\n\""));
     let text = text_of(&rt, format_compact!(in alloc; "{:>8}|{:<3}|", "äb", 7));
-    assert_eq!(rt; Seen::of(&text), Seen::inline("      äb|7  |"));
+    assert!(rt; is_inline(&text, "      äb|7  |"));
     let text = text_of(&rt, format_compact!(in alloc; "{:#x} {:#b}", 255, 5));
-    assert_eq!(rt; Seen::of(&text), Seen::inline("0xff 0b101"));
+    assert!(rt; is_inline(&text, "0xff 0b101"));
 }
 
 #[test]
@@ -53,16 +53,16 @@ fn arguments_may_have_names(rt: HostRuntime) {
     let alloc = rt.alloc();
     let place = "€";
     let text = text_of(&rt, format_compact!(in alloc; "{place}{sum}", sum = -12));
-    assert_eq!(rt; Seen::of(&text), Seen::inline("€-12"));
+    assert!(rt; is_inline(&text, "€-12"));
     let text = text_of(&rt, format_compact!(in alloc; "{0}{1}{0}", 'a', 'b'));
-    assert_eq!(rt; Seen::of(&text), Seen::inline("aba"));
+    assert!(rt; is_inline(&text, "aba"));
 }
 
 #[test]
 fn twenty_four_bytes_stand_inline_and_more_on_the_heap(rt: HostRuntime) {
     let alloc = rt.alloc();
     let text = text_of(&rt, format_compact!(in alloc; "{}{}", letters(20), 1234));
-    assert_eq!(rt; Seen::of(&text), Seen::inline("aaaaaaaaaaaaaaaaaaaa1234"));
+    assert!(rt; is_inline(&text, "aaaaaaaaaaaaaaaaaaaa1234"));
     let text = text_of(&rt, format_compact!(in alloc; "{}{}", letters(20), 12345));
     assert!(rt; text.is_heap_allocated());
     assert_eq!(rt; text.as_str(), "aaaaaaaaaaaaaaaaaaaa12345");

@@ -2,7 +2,7 @@
 
 use compact_ext::ToCompactString;
 use compact_str::CompactString;
-use compact_testing::seen::Seen;
+use compact_testing::seen::{is_at, is_inline};
 use compact_testing::values::{string_with_room, value_of};
 use std::alloc::Global;
 use std::num::{NonZeroI128, NonZeroU8, NonZeroU128};
@@ -22,7 +22,7 @@ where
 
 /// Asserts the text of a value, and that it stands inline.
 fn assert_shown<T: ToCompactString + Drop>(rt: &impl Abort, alloc: Global, value: T, text: &str) {
-    assert_eq!(rt; Seen::of(&shown(rt, alloc, value)), Seen::inline(text));
+    assert!(rt; is_inline(&shown(rt, alloc, value), text));
 }
 
 #[test]
@@ -89,13 +89,13 @@ fn long_numbers_have_these_texts(rt: HostRuntime) {
     assert_shown(&rt, alloc, NonZeroU8::MAX, "255");
     let most = shown(&rt, alloc, u128::MAX);
     let text = "340282366920938463463374607431768211455";
-    assert_eq!(rt; Seen::of(&most), Seen::at("heap", 39, text));
+    assert!(rt; is_at(&most, "heap", 39, text));
     let least = shown(&rt, alloc, i128::MIN);
     let text = "-170141183460469231731687303715884105728";
-    assert_eq!(rt; Seen::of(&least), Seen::at("heap", 40, text));
+    assert!(rt; is_at(&least, "heap", 40, text));
     let least = shown(&rt, alloc, NonZeroI128::MIN);
     let text = "-170141183460469231731687303715884105728";
-    assert_eq!(rt; Seen::of(&least), Seen::at("heap", 40, text));
+    assert!(rt; is_at(&least, "heap", 40, text));
 }
 
 #[test]

@@ -3,7 +3,7 @@
 use compact_ext::{ToCompactString, ToCompactStringError, format_compact};
 use compact_str::{CompactString, ReserveError};
 use compact_testing::memory::take_all;
-use compact_testing::seen::Seen;
+use compact_testing::seen::is_inline;
 use compact_testing::values::{letters, string_with_room};
 use std::fmt;
 use std::fmt::Display;
@@ -31,12 +31,14 @@ fn formats_and_strings_of_24_bytes_need_no_memory(rt: HostRuntime) {
     let string = string_with_room(alloc, 30, "i am 24 characters long!").expect(&rt, "memory");
     let hog = take_all(alloc).expect(&rt, "room for the list of blocks");
     let text = string.to_compact_string(alloc);
-    assert_eq!(rt;
-        Seen::of(&text.expect(&rt, "no memory is needed")),
-        Seen::inline("i am 24 characters long!")
+    assert!(rt;
+        is_inline(
+            &text.expect(&rt, "no memory is needed"),
+            "i am 24 characters long!"
+        )
     );
     let text = format_compact!(in alloc; "{}-{}", 7, "a").expect(&rt, "no memory is needed");
-    assert_eq!(rt; Seen::of(&text), Seen::inline("7-a"));
+    assert!(rt; is_inline(&text, "7-a"));
     drop(hog);
 }
 

@@ -6,7 +6,7 @@ use crate::wire_letters::Letters;
 use compact_ext::wire::{WireError, read_wire, write_wire};
 use compact_str::{CompactString, ReserveError};
 use compact_testing::pieces::{Narrow, Pieces, Stop};
-use compact_testing::seen::Seen;
+use compact_testing::seen::is_inline;
 use compact_testing::values::{letters, value_of};
 use std::alloc::Global;
 use std::fmt::Write;
@@ -48,7 +48,7 @@ fn what_follows_a_form_stays_unread(rt: HostRuntime) {
     let bytes: [u8; 7] = [2, 0, 0, 0, 0x48, 0x69, 0x4A];
     let mut rest: &[u8] = &bytes;
     let text = read_wire(rt.alloc(), &mut rest).expect(&rt, "a text");
-    assert_eq!(rt; Seen::of(&text), Seen::inline("Hi"));
+    assert!(rt; is_inline(&text, "Hi"));
     assert_eq!(rt; rest.len(), 1);
     assert!(rt; rest.first() == Some(&0x4A));
 }

@@ -6,7 +6,7 @@ use compact_ext::wire::{Records, WireError};
 use compact_str::CompactString;
 use compact_testing::memory::take_all;
 use compact_testing::pieces::{Pieces, Stop};
-use compact_testing::seen::Seen;
+use compact_testing::seen::{is_at, is_inline};
 use compact_testing::values::{letters, place_of};
 use std::alloc::Global;
 use std::io::{BufRead, BufReader, ErrorKind};
@@ -26,7 +26,7 @@ fn read_records<R: BufRead + Drop>(
 /// Asserts that the next record is this text, inline.
 fn assert_next<R: BufRead + Drop>(rt: &impl Abort, records: &mut Records<R>, text: &str) {
     let item = records.next().expect(rt, "no end");
-    assert_eq!(rt; Seen::of(&item.expect(rt, "a text")), Seen::inline(text));
+    assert!(rt; is_inline(&item.expect(rt, "a text"), text));
 }
 
 /// Asserts that the next record is a fault of this name.
@@ -147,10 +147,7 @@ fn assert_long_and_another<R: BufRead + Drop>(
 ) {
     let mut records = Records::new(alloc, reader);
     let item = records.next().expect(rt, "no end");
-    assert_eq!(rt;
-        Seen::of(&item.expect(rt, "a text")),
-        Seen::at("heap", text.len(), text)
-    );
+    assert!(rt; is_at(&item.expect(rt, "a text"), "heap", text.len(), text));
     assert_next(rt, &mut records, "a");
     assert_end(rt, &mut records);
 }

@@ -4,7 +4,7 @@ use crate::wire_forms::{end_of, form_of_letters};
 use compact_ext::wire::{read_wire, write_wire};
 use compact_str::CompactString;
 use compact_testing::pieces::{Narrow, Pieces, Stop};
-use compact_testing::seen::Seen;
+use compact_testing::seen::{is_at, is_inline};
 use compact_testing::values::{letters, value_of};
 use std::alloc::Global;
 use std::io::ErrorKind;
@@ -34,10 +34,10 @@ fn each_beginning_of_a_form_ends_too_early(rt: HostRuntime) {
 fn a_text_comes_byte_by_byte(rt: HostRuntime) {
     let form = form_of_letters(&rt, rt.alloc(), 24);
     let text = read_wire(rt.alloc(), &mut Pieces::new(&form, 1, Stop::Never)).expect(&rt, "a text");
-    assert_eq!(rt; Seen::of(&text), Seen::inline(letters(24)));
+    assert!(rt; is_inline(&text, letters(24)));
     let form = form_of_letters(&rt, rt.alloc(), 25);
     let text = read_wire(rt.alloc(), &mut Pieces::new(&form, 1, Stop::Never)).expect(&rt, "a text");
-    assert_eq!(rt; Seen::of(&text), Seen::at("heap", 25, letters(25)));
+    assert!(rt; is_at(&text, "heap", 25, letters(25)));
 }
 
 /// Asserts that bytes that are no text are told so once they have come, with what follows unread.

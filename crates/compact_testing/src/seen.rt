@@ -1,58 +1,35 @@
-//! What a test sees of a value, and what it is to see.
+//! What a test sees of a value. Each is asked by a function with no clause, and answered by a `bool`: to compare two records
+//! of what is seen takes longer to prove.
 
 use crate::values::place_of;
 use compact_str::{CompactString, Policy, PolicyString};
 
-/// What callers see of a value: where it stands, its capacity in bytes, and its text by each way out.
-#[derive(Clone, Copy, Debug, Drop, PartialEq)]
-pub struct Seen<'a> {
-    place: &'static str,
-    capacity: usize,
-    text: &'a str,
-    bytes: &'a [u8],
-    len: usize,
-    is_empty: bool,
+/// Whether a value stands inline with this text.
+pub fn is_inline<P: Policy>(value: &PolicyString<P>, text: &str) -> bool {
+    is_at(value, "inline", 24, text)
 }
 
-impl<'a> Seen<'a> {
-    /// What is seen of a value.
-    pub fn of<P: Policy>(value: &'a PolicyString<P>) -> Self {
-        Self {
-            place: place_of(value),
-            capacity: value.capacity(),
-            text: value.as_str(),
-            bytes: value.as_bytes(),
-            len: value.len(),
-            is_empty: value.is_empty(),
-        }
-    }
+/// Whether a value has this text on the heap, in a buffer of so many bytes.
+pub fn is_heap<P: Policy>(value: &PolicyString<P>, capacity: usize, text: &str) -> bool {
+    is_at(value, "heap", capacity, text)
+}
 
-    /// A text that stands inline.
-    pub fn inline(text: &'a str) -> Self {
-        Self::at("inline", 24, text)
-    }
+/// Whether a value is a text of the program. Its capacity is its length.
+pub fn is_static<P: Policy>(value: &PolicyString<P>, text: &str) -> bool {
+    is_at(value, "static", text.len(), text)
+}
 
-    /// A text on the heap, in a buffer of so many bytes.
-    pub fn heap(capacity: usize, text: &'a str) -> Self {
-        Self::at("heap", capacity, text)
-    }
+/// Whether a value has this text at a place, named as `place_of` does, with a capacity in bytes.
+pub fn is_at<P: Policy>(value: &PolicyString<P>, place: &str, capacity: usize, text: &str) -> bool {
+    place_of(value) == place && value.capacity() == capacity && has_text(value, text)
+}
 
-    /// A text of the program. Its capacity is its length.
-    pub fn fixed(text: &'a str) -> Self {
-        Self::at("static", text.len(), text)
-    }
-
-    /// A text at a place, named as `place_of` does, with a capacity in bytes.
-    pub fn at(place: &'static str, capacity: usize, text: &'a str) -> Self {
-        Self {
-            place,
-            capacity,
-            text,
-            bytes: text.as_bytes(),
-            len: text.len(),
-            is_empty: text == "",
-        }
-    }
+/// Whether a value has this text by each way out.
+fn has_text<P: Policy>(value: &PolicyString<P>, text: &str) -> bool {
+    value.as_str() == text
+        && value.as_bytes() == text.as_bytes()
+        && value.len() == text.len()
+        && value.is_empty() == text.is_empty()
 }
 
 /// Whether a value has this text of its own: inline where it has at most 24 bytes, else on the heap.
