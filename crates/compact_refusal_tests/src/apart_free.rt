@@ -17,7 +17,7 @@ use std::hash::{DefaultHasher, Hash, Hasher};
 use std::ops::Bound::{Excluded, Included};
 
 /// A value of each place, and one on the heap that was longer.
-const PLACES: [Start; 4] = [Start::Inline, Start::Static, Start::Heap, Start::Shortened];
+const PLACES: [Start<'static>; 4] = [Start::Inline, Start::Static, Start::Heap, Start::Shortened];
 
 /// Each of these cases, in the order of the table's list.
 pub fn cases(alloc: Global, ration: &mut Ration, faults: &mut Faults) {
@@ -68,12 +68,6 @@ pub fn cases(alloc: Global, ration: &mut Ration, faults: &mut Faults) {
         ration,
         faults,
         "13: a value is written",
-    );
-    tell(
-        packs(alloc, ration),
-        ration,
-        faults,
-        "13: a value is packed",
     );
     tell(
         runs_nothing(alloc, ration),
@@ -258,7 +252,7 @@ fn writes(alloc: Global, ration: &mut Ration) -> bool {
     holds
 }
 
-fn writes_value(alloc: Global, ration: &mut Ration, start: Start) -> bool {
+fn writes_value(alloc: Global, ration: &mut Ration, start: Start<'_>) -> bool {
     ration.grant(New(34));
     let room = Vec::with_capacity(alloc, 34);
     ration.take_rest();
@@ -272,31 +266,6 @@ fn writes_value(alloc: Global, ration: &mut Ration, start: Start) -> bool {
 fn is_written(value: &CompactString, room: Vec<u8>, text: &str) -> bool {
     let mut room = room;
     write_wire(value, &mut room).is_ok() && room.get(4..) == Some(text.as_bytes())
-}
-
-/// 13: `packed` and `from_packed`.
-fn packs(alloc: Global, ration: &mut Ration) -> bool {
-    let short = CompactString::const_new(alloc, letters(0, 3));
-    is_packed(alloc, &short) && is_not_packed(alloc, ration)
-}
-
-fn is_packed(alloc: Global, value: &CompactString) -> bool {
-    match value.packed() {
-        Some(bytes) => is_made(CompactString::from_packed(alloc, &bytes), inline("abc")),
-        None => false,
-    }
-}
-
-fn is_not_packed(alloc: Global, ration: &mut Ration) -> bool {
-    let mut holds = true;
-    for start in [Start::Static, Start::Heap, Start::Shortened] {
-        holds &= match start.make(ration, alloc) {
-            Some(value) => value.packed().is_none(),
-            None => false,
-        };
-        ration.take_rest();
-    }
-    holds
 }
 
 /// 13: a run of no edits.

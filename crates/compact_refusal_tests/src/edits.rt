@@ -87,13 +87,21 @@ fn number(word: &str) -> Option<usize> {
     word.parse::<usize>().ok()
 }
 
-/// A range of two positions with `..` between them.
+/// A range of two positions with `..` between them, of which each may be missing. With `>` before the first it is excluded,
+/// and with `=` before the last it is included.
 fn range(word: &str) -> Option<(Bound<usize>, Bound<usize>)> {
     let (start, end) = word.split_once("..")?;
-    Some((
-        Bound::Included(number(start)?),
-        Bound::Excluded(number(end)?),
-    ))
+    let start = match start.strip_prefix('>') {
+        Some(before) => Bound::Excluded(number(before)?),
+        None if start.is_empty() => Bound::Unbounded,
+        None => Bound::Included(number(start)?),
+    };
+    let end = match end.strip_prefix('=') {
+        Some(last) => Bound::Included(number(last)?),
+        None if end.is_empty() => Bound::Unbounded,
+        None => Bound::Excluded(number(end)?),
+    };
+    Some((start, end))
 }
 
 /// An edit by the call of its name, answered as `run` answers it.
@@ -159,7 +167,7 @@ fn remove(value: &mut CompactString, index: usize) -> Reply<Standard> {
 }
 
 fn truncate(value: &mut CompactString, len: usize) -> Reply<Standard> {
-    if !value.is_char_boundary(len) {
+    if len < value.len() && !value.is_char_boundary(len) {
         return Reply::BadPosition;
     }
     value.truncate(len);
@@ -179,18 +187,18 @@ fn replace_range(
     end: Bound<usize>,
     text: &str,
 ) -> Reply<Standard> {
-    let Some((first, last)) = value.check_range(start, end) else {
+    if value.check_range(start, end).is_none() {
         return Reply::BadPosition;
-    };
-    done(value.replace_range(Bound::Included(first), Bound::Excluded(last), text))
+    }
+    done(value.replace_range(start, end, text))
 }
 
 /// It answers no text, so that it asks for the value alone.
 fn drain(value: &mut CompactString, start: Bound<usize>, end: Bound<usize>) -> Reply<Standard> {
-    let Some((first, last)) = value.check_range(start, end) else {
+    if value.check_range(start, end).is_none() {
         return Reply::BadPosition;
-    };
-    match value.drain(Bound::Included(first), Bound::Excluded(last)) {
+    }
+    match value.drain(start, end) {
         Ok(drained) => {
             drop(drained);
             Reply::Done

@@ -27,13 +27,17 @@ pub enum Answer<'a> {
     Refused(usize),
     /// A list of edits that is refused as a whole.
     Unrun,
+    /// A call on a value at a position that is none.
+    BadPosition,
+    /// A call that is refused whatever is granted.
+    TooLarge,
 }
 
 /// One line of the table.
 #[derive(Drop)]
 pub struct Case<'a> {
     pub line: &'a str,
-    pub start: Option<Start>,
+    pub start: Option<Start<'a>>,
     /// The call as it is written.
     pub call: &'a str,
     /// Its name.
@@ -127,11 +131,14 @@ fn begin_case<'a>(alloc: Global, line: &'a str, fields: Fields<'a>) -> Option<Ca
 }
 
 /// Reads what a call starts from: `-` is nothing.
-fn start_of(field: &str) -> Option<Option<Start>> {
+fn start_of(field: &str) -> Option<Option<Start<'_>>> {
     if field == "-" {
         return Some(None);
     }
-    Some(Some(Start::named(field)?))
+    match Start::named(field) {
+        Some(start) => Some(Some(start)),
+        None => Some(Some(Start::Seen(seen_of(field)?))),
+    }
 }
 
 /// The first word, and what follows it.
@@ -195,6 +202,8 @@ fn answer_of(field: &str) -> Option<Answer<'_>> {
         "made" => Some(Answer::Made),
         "kept" => Some(Answer::Kept),
         "unrun" => Some(Answer::Unrun),
+        "bad position" => Some(Answer::BadPosition),
+        "too large" => Some(Answer::TooLarge),
         _ => long_answer_of(field),
     }
 }

@@ -69,7 +69,7 @@ impl Trial {
             "few blocks are left to grant: keep more in `memory.rt`",
         );
         match (case.start, case.answer) {
-            (None, Answer::Made) => self.makes(case),
+            (None, Answer::Made | Answer::TooLarge) => self.makes(case),
             (Some(start), Answer::Left(text)) => self.leaves(case, start, text),
             (Some(start), Answer::Kept) => self.keeps(case, start),
             (Some(start), Answer::Refused(count)) => self.runs(case, start, Some(count)),
@@ -84,7 +84,7 @@ impl Trial {
     }
 
     /// A call on a value.
-    fn answers(&mut self, case: &Case<'_>, start: Start) {
+    fn answers(&mut self, case: &Case<'_>, start: Start<'_>) {
         if let Some(edit) = edit_of(case.call, &case.listed) {
             self.edits(case, start, edit);
         } else if case.name == "run" {
@@ -95,7 +95,7 @@ impl Trial {
     }
 
     /// An edit by `run` alone.
-    fn edits_by_run(&mut self, case: &Case<'_>, start: Start) {
+    fn edits_by_run(&mut self, case: &Case<'_>, start: Start<'_>) {
         let (_, call) = first_word(case.call);
         match edit_of(call, &case.listed) {
             Some(edit) => self.tries(case, start, By::Run(&[edit])),
@@ -104,7 +104,7 @@ impl Trial {
     }
 
     /// An edit. A shrink that asks for memory is tried as a shrink.
-    fn edits(&mut self, case: &Case<'_>, start: Start, edit: Edit<'_, Standard>) {
+    fn edits(&mut self, case: &Case<'_>, start: Start<'_>, edit: Edit<'_, Standard>) {
         let name = case.name;
         let is_shrink = name == "shrink_to" || name == "shrink_to_fit";
         let edits = [edit];
@@ -122,13 +122,14 @@ impl Trial {
 
     /// The value that another was cloned from is as it was.
     fn sees_source(&mut self, case: &Case<'_>) {
-        if let (Some(value), Some(seen)) = (case.listed.value(), seen_of_source(case.word(0))) {
-            self.faults.expect_value(is_seen(value, seen), value);
+        if let Some(value) = case.listed.value() {
+            self.faults
+                .expect_value(is_seen(value, seen_of_source(case.word(0))), value);
         }
     }
 
     /// The call is refused at each of its requests, which leaves the value as it was, and with them granted it is done.
-    fn tries(&mut self, case: &Case<'_>, start: Start, by: By<'_, '_>) {
+    fn tries(&mut self, case: &Case<'_>, start: Start<'_>, by: By<'_, '_>) {
         let Some(mut value) = self.start(start) else {
             return;
         };
@@ -149,7 +150,7 @@ impl Trial {
     }
 
     /// A shrink with no memory is done and leaves the value as it was, and gives room back once its request is granted.
-    fn shrinks(&mut self, case: &Case<'_>, start: Start, by: By<'_, '_>) {
+    fn shrinks(&mut self, case: &Case<'_>, start: Start<'_>, by: By<'_, '_>) {
         let Some(mut value) = self.start(start) else {
             return;
         };
@@ -180,14 +181,16 @@ impl Trial {
         self.faults.grants(case.asks.len());
         match make(case, self.alloc) {
             Made::Value(value) => self.is_left(&value, case),
-            Made::Refused => self.faults.expect(false, "it is refused"),
+            Made::Refused => self
+                .faults
+                .expect(matches!(case.answer, Answer::TooLarge), "it is refused"),
             Made::Fault => self.faults.expect(false, "it fails for another reason"),
             Made::Unknown => self.faults.expect(false, "there is no such call"),
         }
     }
 
     /// The value is handed back at each request, and with them granted its text leaves.
-    fn leaves(&mut self, case: &Case<'_>, start: Start, text: &str) {
+    fn leaves(&mut self, case: &Case<'_>, start: Start<'_>, text: &str) {
         let Some(mut value) = self.start(start) else {
             return;
         };
@@ -212,7 +215,7 @@ impl Trial {
     }
 
     /// With none of the requests granted, with one, and so on: what stands after the items that were put in.
-    fn keeps(&mut self, case: &Case<'_>, start: Start) {
+    fn keeps(&mut self, case: &Case<'_>, start: Start<'_>) {
         let is_whole = case.states.len() == case.asks.len().saturating_add(1);
         self.faults.expect(
             is_whole,
@@ -233,7 +236,7 @@ impl Trial {
     }
 
     /// A list of two edits, with all requests granted: so many are refused, or `None` where the list is.
-    fn runs(&mut self, case: &Case<'_>, start: Start, refused: Option<usize>) {
+    fn runs(&mut self, case: &Case<'_>, start: Start<'_>, refused: Option<usize>) {
         let (_, calls) = first_word(case.call);
         let (first, last) = halves(calls);
         match (edit_of(first, &case.listed), edit_of(last, &case.listed)) {
@@ -245,7 +248,7 @@ impl Trial {
     fn runs_both(
         &mut self,
         case: &Case<'_>,
-        start: Start,
+        start: Start<'_>,
         edits: &[Edit<'_, Standard>],
         refused: Option<usize>,
     ) {
@@ -272,11 +275,15 @@ impl Trial {
     }
 
     /// A value to start from.
-    fn start(&mut self, start: Start) -> Option<CompactString> {
+    fn start(&mut self, start: Start<'_>) -> Option<CompactString> {
         self.faults.grants(0);
         let value = start.make(&mut self.ration, self.alloc);
+        let is_made = match &value {
+            Some(value) => is_seen(value, start.seen()),
+            None => false,
+        };
         self.faults
-            .expect(value.is_some(), "there is no value to start from");
+            .expect(is_made, "there is no such value to start from");
         value
     }
 
@@ -287,7 +294,7 @@ impl Trial {
     }
 
     /// The call was refused and has left the value as it was.
-    fn is_refused(&mut self, reply: &Reply<Standard>, value: &CompactString, start: Start) {
+    fn is_refused(&mut self, reply: &Reply<Standard>, value: &CompactString, start: Start<'_>) {
         let is_refused = matches!(reply, Reply::Refused(_));
         self.faults.expect(is_refused, "it is not refused");
         self.faults
@@ -305,6 +312,8 @@ impl Trial {
             (Reply::Text(text), Answer::Text(wanted)) => {
                 self.faults.expect_value(is_seen(text, wanted), text)
             }
+            (Reply::Refused(_), Answer::TooLarge) => {}
+            (Reply::BadPosition, Answer::BadPosition) => {}
             (Reply::Refused(_), _) => self.faults.expect(false, "it is refused"),
             (Reply::BadPosition, _) => {
                 self.faults

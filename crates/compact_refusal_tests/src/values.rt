@@ -20,7 +20,9 @@ pub fn digits() -> &'static str {
 
 /// A value that a call is tried on.
 #[derive(Clone, Copy)]
-pub enum Start {
+pub enum Start<'a> {
+    /// A value of which all is told that is seen of it.
+    Seen(Seen<'a>),
     /// `abc`.
     Inline,
     /// 24 letters, inline.
@@ -39,9 +41,9 @@ pub enum Start {
     ShortStatic,
 }
 
-impl Start {
+impl<'a> Start<'a> {
     /// The value of a name.
-    pub fn named(name: &str) -> Option<Start> {
+    pub fn named(name: &str) -> Option<Start<'a>> {
         match name {
             "inline" => Some(Start::Inline),
             "full inline" => Some(Start::FullInline),
@@ -58,6 +60,7 @@ impl Start {
     /// The value, made of memory that is granted.
     pub fn make(self, ration: &mut Ration, alloc: Global) -> Option<CompactString> {
         match self {
+            Start::Seen(seen) => made(seen, ration, alloc),
             Start::Inline => copied(alloc, letters(0, 3)),
             Start::FullInline => copied(alloc, letters(0, 24)),
             Start::Static => Some(lasting(alloc)),
@@ -70,8 +73,9 @@ impl Start {
     }
 
     /// What is seen of it.
-    pub fn seen(self) -> Seen<'static> {
+    pub fn seen(self) -> Seen<'a> {
         match self {
+            Start::Seen(seen) => seen,
             Start::Inline => inline(letters(0, 3)),
             Start::FullInline => inline(letters(0, 24)),
             Start::Static => fixed(letters(0, 30)),
@@ -82,6 +86,34 @@ impl Start {
             Start::ShortStatic => fixed(letters(0, 3)),
         }
     }
+}
+
+/// A value that looks so. A static one has the first of the 62 letters and digits.
+fn made(seen: Seen<'_>, ration: &mut Ration, alloc: Global) -> Option<CompactString> {
+    match seen.place {
+        "heap" => in_buffer(ration, alloc, seen.capacity?, seen.text),
+        "static" => Some(cut(
+            CompactString::const_new(alloc, letters(0, 62)),
+            seen.text.len(),
+        )),
+        _ => copied(alloc, seen.text),
+    }
+}
+
+/// A text in a buffer of just that capacity, which the text filled before, with the letter z behind it.
+fn in_buffer(
+    ration: &mut Ration,
+    alloc: Global,
+    capacity: usize,
+    text: &str,
+) -> Option<CompactString> {
+    ration.grant(Ask::New(capacity));
+    let mut buffer = String::with_capacity(alloc, capacity).ok()?;
+    buffer.push_str(text).ok()?;
+    for _ in text.len()..capacity {
+        buffer.push('z').ok()?;
+    }
+    Some(cut(CompactString::from_string_buffer(buffer), text.len()))
 }
 
 /// So many letters on the heap, with a request that is granted.
@@ -123,38 +155,54 @@ pub fn copied(alloc: Global, text: &str) -> Option<CompactString> {
     CompactString::new(alloc, text).ok()
 }
 
-/// A value of a name that others are made from: `short` is `xyz` inline, `lasting` 30 letters of the program, `digits` 40
-/// digits of the program, `long` the same on the heap, `fresh` 30 letters on the heap, and `shortened` the same where 40
-/// digits stood.
+/// A value of a name that others are made from: `lasting` is 30 letters of the program, `digits` 40 digits of the program,
+/// `long` the same on the heap, `fresh` 30 letters on the heap, `shortened` the same where 40 digits stood, and `emptied` no
+/// text where they stood. Any other word is a text that is copied.
 pub fn source(alloc: Global, name: &str) -> Option<CompactString> {
     match name {
-        "short" => copied(alloc, "xyz"),
         "lasting" => Some(CompactString::const_new(alloc, letters(20, 50))),
         "digits" => Some(CompactString::const_new(alloc, digits())),
         "long" => copied(alloc, digits()),
         "fresh" => copied(alloc, letters(20, 50)),
-        "shortened" => shortened(alloc),
-        _ => None,
+        "shortened" => shortened(alloc, letters(20, 50)),
+        "emptied" => shortened(alloc, ""),
+        text => copied(alloc, text),
     }
 }
 
-fn shortened(alloc: Global) -> Option<CompactString> {
+fn shortened(alloc: Global, text: &str) -> Option<CompactString> {
     let mut value = copied(alloc, digits())?;
     value.clear();
-    value.push_str(letters(20, 50)).ok()?;
+    value.push_str(text).ok()?;
     Some(value)
 }
 
 /// What is seen of a value that others are made from.
-pub fn seen_of_source(name: &str) -> Option<Seen<'static>> {
+pub fn seen_of_source(name: &str) -> Seen<'_> {
+    match seen_of_name(name) {
+        Some(seen) => seen,
+        None => seen_of_copy(name),
+    }
+}
+
+fn seen_of_name(name: &str) -> Option<Seen<'static>> {
     match name {
-        "short" => Some(inline("xyz")),
         "lasting" => Some(fixed(letters(20, 50))),
         "digits" => Some(fixed(digits())),
         "long" => Some(heap(40, digits())),
         "fresh" => Some(heap(32, letters(20, 50))),
         "shortened" => Some(heap(40, letters(20, 50))),
+        "emptied" => Some(heap(40, "")),
         _ => None,
+    }
+}
+
+/// What is seen of a text that is copied.
+fn seen_of_copy(text: &str) -> Seen<'_> {
+    if text.len() > 24 {
+        heap(text.len().max(32), text)
+    } else {
+        inline(text)
     }
 }
 
@@ -203,11 +251,27 @@ pub fn fitted(text: &str) -> Seen<'_> {
     }
 }
 
-/// Whether place, capacity and text of a value are these.
+/// Whether place, capacity and text of a value are these, and its packed bytes, if it stands inline.
 pub fn is_seen(value: &CompactString, seen: Seen<'_>) -> bool {
     let has_room = match seen.capacity {
         Some(capacity) => value.capacity() == capacity,
         None => value.capacity() >= value.len(),
     };
-    has_room && place_of(value) == seen.place && value.as_str() == seen.text
+    has_room && place_of(value) == seen.place && value.as_str() == seen.text && is_packed(value)
+}
+
+/// Whether the 24 packed bytes of an inline value are its text and its length, and are read as that text. Another value
+/// has none.
+fn is_packed(value: &CompactString) -> bool {
+    match value.packed() {
+        Some(bytes) => stands_for(value.allocator(), &bytes, value.as_str()),
+        None => place_of(value) != "inline",
+    }
+}
+
+/// Whether 24 bytes begin with a text, end with its length, and are read as that text.
+fn stands_for(alloc: Global, bytes: &[u8; 24], text: &str) -> bool {
+    let ends_so = text.len() == 24 || usize::from(bytes[23]) == text.len().saturating_add(192);
+    let read = CompactString::from_packed(alloc, bytes);
+    ends_so && bytes.starts_with(text.as_bytes()) && read.is_some_and(|read| read.as_str() == text)
 }

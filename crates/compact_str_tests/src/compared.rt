@@ -2,7 +2,7 @@
 //! by code points.
 
 use compact_str::CompactString;
-use compact_testing::seen::Seen;
+use compact_testing::seen::{is_heap, is_static};
 use compact_testing::values::{append, lasting, letters, string_with_room, value_of, with_room};
 use std::alloc::{AllocError, Global};
 use std::cmp::Ordering;
@@ -47,9 +47,9 @@ fn places_and_capacities_have_no_part(rt: HostRuntime) {
     let made = value_of(rt.alloc(), letters(30)).expect(&rt, "memory");
     let text = string_with_room(rt.alloc(), 90, letters(30)).expect(&rt, "memory");
     let taken_over = CompactString::from_string_buffer(text);
-    assert_eq!(rt; Seen::of(&borrowed), Seen::fixed(letters(30)));
-    assert_eq!(rt; Seen::of(&made), Seen::heap(32, letters(30)));
-    assert_eq!(rt; Seen::of(&taken_over), Seen::heap(90, letters(30)));
+    assert!(rt; is_static(&borrowed, letters(30)));
+    assert!(rt; is_heap(&made, 32, letters(30)));
+    assert!(rt; is_heap(&taken_over, 90, letters(30)));
     assert_same(&rt, &borrowed, &made);
     assert_same(&rt, &made, &taken_over);
     assert_same(&rt, &taken_over, &borrowed);

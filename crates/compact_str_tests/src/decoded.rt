@@ -3,7 +3,7 @@
 use bytes::Buf;
 use compact_str::{CompactString, FromUtf8Error, FromUtf16Error, ReserveError, Utf16Error};
 use compact_testing::memory::take_all;
-use compact_testing::seen::Seen;
+use compact_testing::seen::is_inline;
 use compact_testing::values::letters;
 use std::alloc::{AllocError, Global};
 use std::process::Abort;
@@ -69,10 +69,7 @@ fn invalid_bytes_are_told_and_replaced(rt: HostRuntime) {
 
 /// Asserts that a short text was made, which stands inline.
 fn assert_text<E: Drop>(rt: &impl Abort, made: Result<CompactString, E>, text: &str) {
-    assert_eq!(rt;
-        Seen::of(&made.ok().expect(rt, "a text")),
-        Seen::inline(text)
-    );
+    assert!(rt; is_inline(&made.ok().expect(rt, "a text"), text));
 }
 
 /// Asserts that 30 letters were made, on the heap.

@@ -1,7 +1,7 @@
 //! Values as they are handed on, with ample memory.
 
 use compact_str::{CompactString, FromJsonError};
-use compact_testing::seen::Seen;
+use compact_testing::seen::{is_heap, is_inline};
 use compact_testing::values::{lasting, letters, string_with_room, value_of, with_room};
 use serde_json::{Value, json};
 use std::alloc::{AllocError, Global};
@@ -27,7 +27,7 @@ fn what_leaves_has_this_room(rt: HostRuntime) {
     let text = value.into_string().expect(&rt, "memory");
     assert_eq!(rt; text.capacity(), 90);
     let value = CompactString::from_string_buffer(text);
-    assert_eq!(rt; Seen::of(&value), Seen::heap(90, letters(30)));
+    assert!(rt; is_heap(&value, 90, letters(30)));
     let bytes = value.into_vec().expect(&rt, "memory");
     assert_eq!(rt; bytes.capacity(), 90);
     let bytes = value_of(alloc, "äb")
@@ -98,10 +98,7 @@ fn a_value_is_a_json_string(rt: HostRuntime) {
     let json = json_of(&rt, &value_of(alloc, "ä\"\n").expect(&rt, "memory"));
     is_printed(&rt, alloc, &json, "\"ä\\\"\\n\"");
     let json = json_of(&rt, &lasting(alloc, 30));
-    assert_eq!(rt;
-        Seen::of(&value_in(&rt, alloc, &json)),
-        Seen::heap(32, letters(30))
-    );
+    assert!(rt; is_heap(&value_in(&rt, alloc, &json), 32, letters(30)));
 }
 
 /// Asserts that a JSON value is no string.
@@ -115,7 +112,7 @@ fn is_no_string(rt: &impl Abort, alloc: Global, made: Result<Value, AllocError>)
 fn only_a_json_string_is_taken(rt: HostRuntime) {
     let alloc = rt.alloc();
     let json = json!(in alloc; "abc").expect(&rt, "memory");
-    assert_eq!(rt; Seen::of(&value_in(&rt, alloc, &json)), Seen::inline("abc"));
+    assert!(rt; is_inline(&value_in(&rt, alloc, &json), "abc"));
     is_no_string(&rt, alloc, json!(in alloc; 1));
     is_no_string(&rt, alloc, json!(in alloc; null));
     is_no_string(&rt, alloc, json!(in alloc; true));

@@ -2,7 +2,7 @@
 
 use crate::hints::with_hint;
 use compact_str::{CompactString, CompactStringExt, append_all};
-use compact_testing::seen::{Seen, is_fitted};
+use compact_testing::seen::{is_at, is_fitted, is_inline};
 use compact_testing::values::{letters, value_of};
 use std::alloc::Global;
 use std::process::Abort;
@@ -12,25 +12,13 @@ pub fn assert_collected(rt: &impl Abort, alloc: Global, too_much: bool) {
     let characters = ['a', 'b', 'c'];
     let texts = ["a", "", "bc"];
     let made = CompactString::from_chars(alloc, with_hint(&characters, too_much).copied());
-    assert_eq!(rt;
-        Seen::of(&made.expect(rt, "no memory is needed")),
-        Seen::inline("abc")
-    );
+    assert!(rt; is_inline(&made.expect(rt, "no memory is needed"), "abc"));
     let made = CompactString::from_texts(alloc, with_hint(&texts, too_much));
-    assert_eq!(rt;
-        Seen::of(&made.expect(rt, "no memory is needed")),
-        Seen::inline("abc")
-    );
+    assert!(rt; is_inline(&made.expect(rt, "no memory is needed"), "abc"));
     let made = with_hint(&texts, too_much).concat_compact(alloc);
-    assert_eq!(rt;
-        Seen::of(&made.expect(rt, "no memory is needed")),
-        Seen::inline("abc")
-    );
+    assert!(rt; is_inline(&made.expect(rt, "no memory is needed"), "abc"));
     let made = with_hint(&texts, too_much).join_compact(alloc, "-");
-    assert_eq!(rt;
-        Seen::of(&made.expect(rt, "no memory is needed")),
-        Seen::inline("a--bc")
-    );
+    assert!(rt; is_inline(&made.expect(rt, "no memory is needed"), "a--bc"));
 }
 
 /// Asserts what the library's trait collects of them.
@@ -40,15 +28,15 @@ pub fn assert_collected_by_trait(rt: &impl Abort, alloc: Global, too_much: bool)
         .copied()
         .collect(alloc)
         .expect(rt, "no memory is needed");
-    assert_eq!(rt; Seen::of(&made), Seen::inline("abc"));
+    assert!(rt; is_inline(&made, "abc"));
     let made: CompactString = with_hint(&characters, too_much)
         .collect(alloc)
         .expect(rt, "no memory is needed");
-    assert_eq!(rt; Seen::of(&made), Seen::inline("abc"));
+    assert!(rt; is_inline(&made, "abc"));
     let made: CompactString = with_hint(&["a", "", "bc"], too_much)
         .collect(alloc)
         .expect(rt, "no memory is needed");
-    assert_eq!(rt; Seen::of(&made), Seen::inline("abc"));
+    assert!(rt; is_inline(&made, "abc"));
 }
 
 /// Asserts that a value is extended up to 24 bytes, which needs no memory.
@@ -59,7 +47,7 @@ pub fn assert_extended(rt: &impl Abort, alloc: Global, too_much: bool) {
     let ended = value.extend_chars(with_hint(&characters, too_much).copied());
     assert!(rt; ended.is_ok());
     assert!(rt; value.extend_texts(with_hint(&texts, too_much)).is_ok());
-    assert_eq!(rt; Seen::of(&value), Seen::inline("ä€aaaaaaaaaa"));
+    assert!(rt; is_inline(&value, "ä€aaaaaaaaaa"));
     assert!(rt;
         value
             .extend(with_hint(&characters, too_much).copied())
@@ -67,7 +55,7 @@ pub fn assert_extended(rt: &impl Abort, alloc: Global, too_much: bool) {
     );
     assert!(rt; value.extend(with_hint(&['x'], too_much)).is_ok());
     assert!(rt; value.extend(with_hint(&["yz", ""], too_much)).is_ok());
-    assert_eq!(rt; Seen::of(&value), Seen::inline("ä€aaaaaaaaaaä€xyz"));
+    assert!(rt; is_inline(&value, "ä€aaaaaaaaaaä€xyz"));
 }
 
 /// Asserts that values are put behind a `String` that has room for them.
@@ -133,9 +121,9 @@ fn long_texts_are_what_the_items_give(rt: HostRuntime) {
 fn assert_room(rt: &impl Abort, alloc: Global, too_much: bool) {
     let mut value = CompactString::const_new(alloc, letters(30));
     assert!(rt; value.extend_texts(with_hint(&["", ""], too_much)).is_ok());
-    assert_eq!(rt; Seen::of(&value), Seen::at("static", 30, letters(30)));
+    assert!(rt; is_at(&value, "static", 30, letters(30)));
     assert!(rt; value.extend_texts(with_hint(&["a"], too_much)).is_ok());
-    assert_eq!(rt; Seen::of(&value), Seen::at("heap", 45, letters(31)));
+    assert!(rt; is_at(&value, "heap", 45, letters(31)));
     let mut value = value_of(alloc, letters(24)).expect(rt, "memory");
     let letter = ['a'];
     assert!(rt;
@@ -143,9 +131,9 @@ fn assert_room(rt: &impl Abort, alloc: Global, too_much: bool) {
             .extend_chars(with_hint(&letter, too_much).copied())
             .is_ok()
     );
-    assert_eq!(rt; Seen::of(&value), Seen::at("heap", 36, letters(25)));
+    assert!(rt; is_at(&value, "heap", 36, letters(25)));
     assert!(rt; value.extend(with_hint(&["a", ""], too_much)).is_ok());
-    assert_eq!(rt; Seen::of(&value), Seen::at("heap", 36, letters(26)));
+    assert!(rt; is_at(&value, "heap", 36, letters(26)));
 }
 
 #[test]

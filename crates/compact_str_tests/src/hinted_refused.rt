@@ -6,7 +6,7 @@ use crate::hinted::{
 use crate::hints::with_hint;
 use compact_str::{CompactString, CompactStringExt, append_all};
 use compact_testing::memory::take_all;
-use compact_testing::seen::Seen;
+use compact_testing::seen::is_inline;
 use compact_testing::values::{letters, value_of};
 use std::alloc::{AllocError, Global};
 use std::process::Abort;
@@ -74,17 +74,17 @@ fn assert_stops(rt: &impl Abort, alloc: Global, too_much: bool) {
             .extend_texts(with_hint(&[letters(20), letters(4), "b", ""], too_much))
             .is_err()
     );
-    assert_eq!(rt; Seen::of(&value), Seen::inline(letters(24)));
+    assert!(rt; is_inline(&value, letters(24)));
     assert!(rt; value.extend(with_hint(&["", "b"], too_much)).is_err());
     assert!(rt; value.extend(with_hint(&['b'], too_much)).is_err());
-    assert_eq!(rt; Seen::of(&value), Seen::inline(letters(24)));
+    assert!(rt; is_inline(&value, letters(24)));
     let mut value = CompactString::default(alloc);
     assert!(rt;
         value
             .extend_chars(with_hint(&['€'; 9], too_much).copied())
             .is_err()
     );
-    assert_eq!(rt; Seen::of(&value), Seen::inline("€€€€€€€€"));
+    assert!(rt; is_inline(&value, "€€€€€€€€"));
 }
 
 #[test]

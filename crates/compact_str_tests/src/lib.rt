@@ -7,8 +7,6 @@ mod buffers;
 #[cfg(test)]
 mod changed;
 #[cfg(test)]
-mod cloned;
-#[cfg(test)]
 mod collected;
 #[cfg(test)]
 mod compared;
@@ -18,8 +16,6 @@ mod decoded;
 mod decoded_all;
 #[cfg(test)]
 mod drips;
-#[cfg(test)]
-mod edits;
 #[cfg(test)]
 mod fields;
 #[cfg(test)]
@@ -35,15 +31,11 @@ mod made;
 #[cfg(test)]
 mod packed;
 #[cfg(test)]
-mod packed_edits;
-#[cfg(test)]
 mod positions;
 #[cfg(test)]
 mod read_fields;
 #[cfg(test)]
 mod refused;
-#[cfg(test)]
-mod shortened;
 #[cfg(test)]
 mod shown;
 #[cfg(test)]

@@ -1,7 +1,7 @@
 //! Values as they are made, with ample memory.
 
 use compact_str::CompactString;
-use compact_testing::seen::Seen;
+use compact_testing::seen::{is_at, is_heap, is_inline, is_static};
 use compact_testing::values::{lasting, letters, string_with_room};
 use std::alloc::Global;
 use std::borrow::CowStr;
@@ -9,32 +9,12 @@ use std::mem::size_of;
 use std::process::Abort;
 
 #[test]
-fn texts_are_copied_into_just_their_room(rt: HostRuntime) {
-    for (count, place, capacity) in [
-        (0, "inline", 24),
-        (2, "inline", 24),
-        (24, "inline", 24),
-        (25, "heap", 32),
-        (32, "heap", 32),
-        (33, "heap", 33),
-    ] {
-        let text = letters(count);
-        let made = CompactString::new(rt.alloc(), text).expect(&rt, "memory");
-        assert_eq!(rt; Seen::of(&made), Seen::at(place, capacity, text));
-        let made = CompactString::try_new(rt.alloc(), text).expect(&rt, "memory");
-        assert_eq!(rt; Seen::of(&made), Seen::at(place, capacity, text));
-        let made = CompactString::from_str(rt.alloc(), text).expect(&rt, "memory");
-        assert_eq!(rt; Seen::of(&made), Seen::at(place, capacity, text));
-    }
-}
-
-#[test]
 fn texts_of_the_program_are_static_if_they_are_long(rt: HostRuntime) {
     let value = lasting(rt.alloc(), 30);
-    assert_eq!(rt; Seen::of(&value), Seen::fixed(letters(30)));
+    assert!(rt; is_static(&value, letters(30)));
     assert_eq!(rt; value.as_static_str(), Some(letters(30)));
     let short = CompactString::const_new(rt.alloc(), "abc");
-    assert_eq!(rt; Seen::of(&short), Seen::inline("abc"));
+    assert!(rt; is_inline(&short, "abc"));
 }
 
 #[test]
@@ -49,10 +29,10 @@ fn strings_are_taken_over_or_move_inline(rt: HostRuntime) {
         let value = CompactString::from(string_with_room(rt.alloc(), room, text).expect(
             &rt, "memory",
         ));
-        assert_eq!(rt; Seen::of(&value), Seen::at(place, capacity, text));
+        assert!(rt; is_at(&value, place, capacity, text));
         let owned = CowStr::Owned(string_with_room(rt.alloc(), room, text).expect(&rt, "memory"));
         let value = CompactString::from_cow(rt.alloc(), owned).expect(&rt, "memory");
-        assert_eq!(rt; Seen::of(&value), Seen::at(place, capacity, text));
+        assert!(rt; is_at(&value, place, capacity, text));
     }
 }
 
@@ -68,14 +48,11 @@ fn bytes_and_boxes_are_taken_over_or_move_inline(rt: HostRuntime) {
             .expect(&rt, "memory")
             .into_bytes();
         let value = CompactString::try_from(bytes).expect(&rt, "a text");
-        assert_eq!(rt; Seen::of(&value), Seen::at(place, capacity, text));
+        assert!(rt; is_at(&value, place, capacity, text));
         let boxed = string_with_room(rt.alloc(), room, text)
             .expect(&rt, "memory")
             .into_boxed_str();
-        assert_eq!(rt;
-            Seen::of(&CompactString::from(boxed)),
-            Seen::at(place, capacity, text)
-        );
+        assert!(rt; is_at(&CompactString::from(boxed), place, capacity, text));
     }
 }
 
@@ -100,18 +77,9 @@ fn string_buffers_are_taken_over_with_short_texts_too(rt: HostRuntime) {
     let none = CompactString::from_string_buffer(string_with_room(rt.alloc(), 100, "").expect(
         &rt, "memory",
     ));
-    assert_eq!(rt; Seen::of(&none), Seen::heap(100, letters(0)));
+    assert!(rt; is_heap(&none, 100, letters(0)));
     let unbuffered = CompactString::from_string_buffer(String::new(rt.alloc()));
-    assert_eq!(rt; Seen::of(&unbuffered), Seen::inline(""));
-}
-
-#[test]
-fn a_capacity_taken_over_is_not_raised(rt: HostRuntime) {
-    let mut value = CompactString::from(string_with_room(rt.alloc(), 26, letters(26)).expect(
-        &rt, "memory",
-    ));
-    value.shrink_to_fit();
-    assert_eq!(rt; Seen::of(&value), Seen::heap(26, letters(26)));
+    assert!(rt; is_inline(&unbuffered, ""));
 }
 
 #[test]

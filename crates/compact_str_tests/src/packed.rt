@@ -1,11 +1,16 @@
 //! Inline values as their 24 bytes, by rows that are written out.
 
-use crate::edits::truncate;
 use compact_str::CompactString;
-use compact_testing::seen::Seen;
+use compact_testing::seen::is_inline;
 use compact_testing::values::{append, lasting, letters, value_of, with_room};
 use std::alloc::Global;
 use std::process::Abort;
+
+/// Keeps the first bytes, up to a position that is tested first.
+fn truncate(rt: &impl Abort, value: &mut CompactString, len: usize) {
+    assert!(rt; len >= value.len() || value.is_char_boundary(len));
+    value.truncate(len);
+}
 
 /// The 24 bytes of a value that is inline.
 fn bytes_of(rt: &impl Abort, value: &CompactString) -> [u8; 24] {
@@ -18,14 +23,14 @@ fn read(rt: &impl Abort, alloc: Global, bytes: &[u8; 24]) -> CompactString {
 }
 
 /// Asserts that a value is inline, that its bytes are its text and its length, and that they are read as the same text.
-pub fn is_packed(rt: &impl Abort, alloc: Global, value: &CompactString) {
+fn is_packed(rt: &impl Abort, alloc: Global, value: &CompactString) {
     let bytes = bytes_of(rt, value);
     let text = value.as_str();
     let len = text.len();
     assert!(rt; len <= 24);
     assert_eq!(rt; &bytes[..len], text.as_bytes());
     assert!(rt; len == 24 || bytes[23] as usize == 192 + len);
-    assert_eq!(rt; Seen::of(&read(rt, alloc, &bytes)), Seen::inline(text));
+    assert!(rt; is_inline(&read(rt, alloc, &bytes), text));
 }
 
 /// The same of a value that is made of the text at once, where zeros stand between the text and its length.
@@ -92,16 +97,13 @@ fn only_inline_values_have_the_bytes(rt: HostRuntime) {
 
 #[test]
 fn bytes_that_stand_for_a_text_are_read(rt: HostRuntime) {
-    assert_eq!(rt;
-        Seen::of(&read(&rt, rt.alloc(), &[0x61; 24])),
-        Seen::inline(letters(24))
-    );
+    assert!(rt; is_inline(&read(&rt, rt.alloc(), &[0x61; 24]), letters(24)));
     let mut row = [0xFF; 24];
     row[0] = 0x61;
     row[23] = 0xC1;
-    assert_eq!(rt; Seen::of(&read(&rt, rt.alloc(), &row)), Seen::inline("a"));
+    assert!(rt; is_inline(&read(&rt, rt.alloc(), &row), "a"));
     row[23] = 0xC0;
-    assert_eq!(rt; Seen::of(&read(&rt, rt.alloc(), &row)), Seen::inline(""));
+    assert!(rt; is_inline(&read(&rt, rt.alloc(), &row), ""));
 }
 
 #[test]
@@ -129,7 +131,7 @@ fn each_length_is_packed(rt: HostRuntime) {
             .expect(&rt, "memory");
         is_packed_anew(&rt, rt.alloc(), &value);
     }
-    assert_eq!(rt; Seen::of(&value), Seen::inline("abcdefghijklmnopqrstuvwx"));
+    assert!(rt; is_inline(&value, "abcdefghijklmnopqrstuvwx"));
 }
 
 #[test]
@@ -139,33 +141,7 @@ fn each_length_is_cut(rt: HostRuntime) {
         assert!(rt; value.pop().is_some());
         is_packed_anew(&rt, rt.alloc(), &value);
     }
-    assert_eq!(rt; Seen::of(&value), Seen::inline(""));
-}
-
-#[test]
-fn a_character_ends_at_the_last_byte_or_one_or_two_before_it(rt: HostRuntime) {
-    for (count, last) in [
-        (21, "z"),
-        (20, "é"),
-        (19, "€"),
-        (18, "𝄞"),
-        (22, "z"),
-        (21, "é"),
-        (20, "€"),
-        (19, "𝄞"),
-        (23, "z"),
-        (22, "é"),
-        (21, "€"),
-        (20, "𝄞"),
-    ] {
-        let mut value = value_of(rt.alloc(), letters(count)).expect(&rt, "memory");
-        append(&mut value, last).expect(&rt, "memory");
-        assert_eq!(rt; value.len(), count.saturating_add(last.len()));
-        is_packed_anew(&rt, rt.alloc(), &value);
-        assert_eq!(rt; value.pop(), last.chars().next());
-        assert_eq!(rt; Seen::of(&value), Seen::inline(letters(count)));
-        is_packed_anew(&rt, rt.alloc(), &value);
-    }
+    assert!(rt; is_inline(&value, ""));
 }
 
 #[test]
@@ -177,7 +153,7 @@ fn what_stands_behind_a_text_is_not_read(rt: HostRuntime) {
             row[place] = 0x61;
         }
         let value = read(&rt, rt.alloc(), &row);
-        assert_eq!(rt; Seen::of(&value), Seen::inline(letters(count as usize)));
+        assert!(rt; is_inline(&value, letters(count as usize)));
         is_packed_anew(&rt, rt.alloc(), &value);
     }
 }
@@ -185,7 +161,7 @@ fn what_stands_behind_a_text_is_not_read(rt: HostRuntime) {
 /// Wipes a value, and asserts that its bytes are those of the empty text.
 fn is_wiped(rt: &impl Abort, alloc: Global, mut value: CompactString) {
     value.zeroize();
-    assert_eq!(rt; Seen::of(&value), Seen::inline(""));
+    assert!(rt; is_inline(&value, ""));
     let row = b"\0\0\0\0\0\0\0\0\0\0\0\0\0\0\0\0\0\0\0\0\0\0\0\xC0";
     assert_eq!(rt; &bytes_of(rt, &value), row);
     append(&mut value, "ab").expect(rt, "memory");

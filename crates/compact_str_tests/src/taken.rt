@@ -2,8 +2,8 @@
 
 use compact_str::{CompactString, Drain, Standard};
 use compact_testing::memory::take_all;
-use compact_testing::seen::Seen;
-use compact_testing::values::{append, lasting, letters, value_of};
+use compact_testing::seen::{is_inline, is_static};
+use compact_testing::values::{lasting, letters, value_of};
 use std::fmt::Write;
 use std::ops::Bound;
 use std::ops::Bound::{Excluded, Included, Unbounded};
@@ -34,14 +34,14 @@ fn a_drain_gives_its_characters_from_both_ends(rt: HostRuntime) {
     assert_eq!(rt; drained.next_back(), Some('d'));
     assert_eq!(rt; drained.as_str(), " worl");
     drop(drained);
-    assert_eq!(rt; Seen::of(&value), Seen::inline("Hello!"));
+    assert!(rt; is_inline(&value, "Hello!"));
 }
 
 #[test]
 fn a_drain_is_counted(rt: HostRuntime) {
     let mut value = value_of(rt.alloc(), "Hello, world!").expect(&rt, "memory");
     assert_eq!(rt; greeted(&rt, &mut value).as_str().chars().count(), 7);
-    assert_eq!(rt; Seen::of(&value), Seen::inline("Hello!"));
+    assert!(rt; is_inline(&value, "Hello!"));
 }
 
 /// How many characters are drained. That a number holds it, the length of what is left tells the proof.
@@ -56,7 +56,7 @@ fn drained_count(rt: &impl Abort, value: &mut CompactString) -> usize {
 fn a_drain_counts_what_is_left(rt: HostRuntime) {
     let mut value = value_of(rt.alloc(), "Hello, world!").expect(&rt, "memory");
     assert_eq!(rt; drained_count(&rt, &mut value), 7);
-    assert_eq!(rt; Seen::of(&value), Seen::inline("Hello!"));
+    assert!(rt; is_inline(&value, "Hello!"));
 }
 
 #[test]
@@ -66,21 +66,21 @@ fn a_drain_shows_what_is_not_taken_yet(rt: HostRuntime) {
     assert_eq!(rt; drained.next(), Some(','));
     assert_eq!(rt; drained.as_str(), " world");
     drop(drained);
-    assert_eq!(rt; Seen::of(&value), Seen::inline("Hello!"));
+    assert!(rt; is_inline(&value, "Hello!"));
 }
 
 #[test]
 fn the_last_of_a_drain_is_its_last(rt: HostRuntime) {
     let mut value = value_of(rt.alloc(), "Hello, world!").expect(&rt, "memory");
     assert_eq!(rt; greeted(&rt, &mut value).last(), Some('d'));
-    assert_eq!(rt; Seen::of(&value), Seen::inline("Hello!"));
+    assert!(rt; is_inline(&value, "Hello!"));
 }
 
 #[test]
 fn the_last_of_a_drain_from_the_back_is_its_first(rt: HostRuntime) {
     let mut value = value_of(rt.alloc(), "Hello, world!").expect(&rt, "memory");
     assert_eq!(rt; greeted(&rt, &mut value).rev().last(), Some(','));
-    assert_eq!(rt; Seen::of(&value), Seen::inline("Hello!"));
+    assert!(rt; is_inline(&value, "Hello!"));
 }
 
 #[test]
@@ -90,10 +90,7 @@ fn a_drain_prints_what_is_left(rt: HostRuntime) {
     let drained = greeted(&rt, &mut value);
     assert!(rt; write!(printed, "{drained:>9}{drained:?}").is_ok());
     drop(drained);
-    assert_eq!(rt;
-        Seen::of(&printed),
-        Seen::inline(", worldDrain(\", world\")")
-    );
+    assert!(rt; is_inline(&printed, ", worldDrain(\", world\")"));
 }
 
 #[test]
@@ -107,27 +104,7 @@ fn the_ends_of_a_drain_meet(rt: HostRuntime) {
     assert_eq!(rt; drained.next_back(), None);
     assert_eq!(rt; drained.next(), None);
     drop(drained);
-    assert_eq!(rt; Seen::of(&value), Seen::inline(""));
-}
-
-#[test]
-fn bounds_of_a_drain_may_be_of_any_kind(rt: HostRuntime) {
-    let mut value = value_of(rt.alloc(), "abcäef").expect(&rt, "memory");
-    drop(drain(&rt, &mut value, Excluded(0), Included(1)));
-    assert_eq!(rt; Seen::of(&value), Seen::inline("acäef"));
-    drop(drain(&rt, &mut value, Excluded(3), Unbounded));
-    assert_eq!(rt; Seen::of(&value), Seen::inline("acä"));
-    drop(drain(&rt, &mut value, Unbounded, Excluded(2)));
-    assert_eq!(rt; Seen::of(&value), Seen::inline("ä"));
-}
-
-#[test]
-fn a_drain_of_nothing_makes_a_static_text_its_own(rt: HostRuntime) {
-    let mut value = lasting(rt.alloc(), 30);
-    drop(drain(&rt, &mut value, Included(0), Excluded(0)));
-    assert_eq!(rt; Seen::of(&value), Seen::heap(32, letters(30)));
-    drop(drain(&rt, &mut value, Included(3), Excluded(27)));
-    assert_eq!(rt; Seen::of(&value), Seen::heap(32, letters(6)));
+    assert!(rt; is_inline(&value, ""));
 }
 
 #[test]
@@ -140,53 +117,7 @@ fn retain_asks_once_for_each_character(rt: HostRuntime) {
     });
     assert!(rt; kept.is_ok());
     assert_eq!(rt; asked, 5);
-    assert_eq!(rt; Seen::of(&value), Seen::inline("b𝄞€"));
-}
-
-#[test]
-fn retaining_all_makes_a_static_text_its_own(rt: HostRuntime) {
-    let mut value = lasting(rt.alloc(), 30);
-    assert!(rt; value.is_char_boundary(10));
-    value.truncate(10);
-    assert_eq!(rt; Seen::of(&value), Seen::fixed(letters(10)));
-    assert!(rt; value.retain(|_| true).is_ok());
-    assert_eq!(rt; Seen::of(&value), Seen::inline(letters(10)));
-}
-
-#[test]
-fn only_ascii_letters_change(rt: HostRuntime) {
-    let value = value_of(rt.alloc(), "Grüße, Jürgen ❤").expect(&rt, "memory");
-    let great = value.to_ascii_uppercase().expect(&rt, "memory");
-    assert_eq!(rt; Seen::of(&great), Seen::inline("GRüßE, JüRGEN ❤"));
-    let small = great.to_ascii_lowercase().expect(&rt, "memory");
-    assert_eq!(rt; Seen::of(&small), Seen::inline("grüße, jürgen ❤"));
-}
-
-#[test]
-fn letters_change_in_place(rt: HostRuntime) {
-    let mut value = value_of(rt.alloc(), "[AbZz`@{É]").expect(&rt, "memory");
-    assert!(rt; value.make_ascii_uppercase().is_ok());
-    assert_eq!(rt; Seen::of(&value), Seen::inline("[ABZZ`@{É]"));
-    assert!(rt; value.make_ascii_lowercase().is_ok());
-    assert_eq!(rt; Seen::of(&value), Seen::inline("[abzz`@{É]"));
-    let mut long = lasting(rt.alloc(), 30);
-    assert!(rt; long.make_ascii_lowercase().is_ok());
-    assert_eq!(rt; Seen::of(&long), Seen::heap(32, letters(30)));
-}
-
-#[test]
-fn zeroize_empties_a_value_in_its_place(rt: HostRuntime) {
-    let mut value = value_of(rt.alloc(), "secret").expect(&rt, "memory");
-    value.zeroize();
-    assert_eq!(rt; Seen::of(&value), Seen::inline(""));
-    let mut long = value_of(rt.alloc(), letters(40)).expect(&rt, "memory");
-    long.zeroize();
-    assert_eq!(rt; Seen::of(&long), Seen::heap(40, letters(0)));
-    append(&mut long, "a").expect(&rt, "memory");
-    assert_eq!(rt; Seen::of(&long), Seen::heap(40, letters(1)));
-    let mut borrowed = lasting(rt.alloc(), 30);
-    borrowed.zeroize();
-    assert_eq!(rt; Seen::of(&borrowed), Seen::inline(""));
+    assert!(rt; is_inline(&value, "b𝄞€"));
 }
 
 #[test]
@@ -201,17 +132,5 @@ fn a_refusal_of_retain_has_asked_nothing(rt: HostRuntime) {
     drop(hog);
     assert!(rt; kept.is_err());
     assert!(rt; !asked);
-    assert_eq!(rt; Seen::of(&value), Seen::fixed(letters(30)));
-}
-
-#[test]
-fn letters_of_a_long_text_are_refused(rt: HostRuntime) {
-    let mut value = lasting(rt.alloc(), 30);
-    let hog = take_all(rt.alloc()).expect(&rt, "room for the list of blocks");
-    assert!(rt; value.make_ascii_lowercase().is_err());
-    assert!(rt; value.make_ascii_uppercase().is_err());
-    assert!(rt; value.to_ascii_lowercase().is_err());
-    assert!(rt; value.to_ascii_uppercase().is_err());
-    drop(hog);
-    assert_eq!(rt; Seen::of(&value), Seen::fixed(letters(30)));
+    assert!(rt; is_static(&value, letters(30)));
 }
