@@ -20,7 +20,7 @@ loop-made-preserved c =
 pub returns-in_err-push_fitted : goal.returns-in_err-push_fitted
 returns-in_err-push_fitted c =
     let asks : IsTrue (with_capacity_asks (size (utf8_lossy_text c.args.bytes.now))) =
-        part-asks (utf8_lossy_text c.args.bytes.now) c.loop-made.made.text (text_of c.loop-made.chunk.valid.now)
-            (replacement_text c.loop-made.chunk.invalid.now ++ utf8_lossy_text c.loop-made.chunk.rest.now)
-            (length c.loop-made.chunk.valid.now) c.loop-made.invariant.text (sym (size-text_of c.loop-made.chunk.valid.now (search rules))) c.in_err-push_fitted.ensures.err in
+    part-asks (utf8_lossy_text c.args.bytes.now) c.loop-made.made.text (text_of c.loop-made.chunk.valid.now)
+    (replacement_text c.loop-made.chunk.invalid.now ++ utf8_lossy_text c.loop-made.chunk.rest.now)
+    (length c.loop-made.chunk.valid.now) c.loop-made.invariant.text (sym (size-text_of c.loop-made.chunk.valid.now (search rules))) c.in_err-push_fitted.ensures.err in
     search rules
