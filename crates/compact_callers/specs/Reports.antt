@@ -5,14 +5,14 @@ use Rattle.compact_callers.specs.declared.report_callers.Row.{Row}
 use Rattle.compact_callers.specs.declared.report_callers.Rows.{Rows, End, Then'}
 
 -- a line: the name, a colon and the number
-abbrev pub line_of : Row → List ℕ
-line_of row = row.name.text ++ codes ": " ++ decimal row.number ++ codes "\n"
+abbrev pub row_line : Row → List ℕ
+row_line row = row.name.text ++ codes ": " ++ decimal row.number ++ codes "\n"
 
 -- a line for each row
 abbrev pub report_of : List Row → List ℕ
-report_of rows = flat_map line_of rows
+report_of rows = flat_map row_line rows
 
 -- the same of a list that leads from row to row
 abbrev pub lines_of : Rows → List ℕ
 lines_of End = []
-lines_of (Then' row _ rest) = line_of row ++ lines_of rest
+lines_of (Then' row _ rest) = row_line row ++ lines_of rest

@@ -7,8 +7,8 @@ ghost use Rattle.std.specs.Char.{to_ascii_uppercase};
 ghost use Rattle.std.specs.String.{string_capacity};
 ghost use Rattle.compact_str.specs.Text.{text_of, size};
 ghost use Rattle.compact_str.specs.Order.{text_in};
-ghost use Rattle.compact_str.specs.Collects.{joined};
-ghost use Rattle.compact_str.specs.Fitted.{IsFitted};
+ghost use Rattle.compact_str.specs.Collect.{join};
+ghost use Rattle.compact_str.specs.FittedValues.{IsFitted};
 
 use compact_str::{CompactString, CompactStringExt, ReserveError, append_all};
 use std::alloc::{AllocError, Global};
@@ -16,7 +16,7 @@ use std::alloc::{AllocError, Global};
 /// A path of its parts.
 pub fn path(alloc: Global, parts: &[&str]) -> Result<CompactString, ReserveError>
     ensures text { IfOk result
-        (λ v. v.text ≡ joined (codes "/") (λ part. text_of part.now) parts.now) }
+        (λ v. v.text ≡ join (codes "/") (λ part. text_of part.now) parts.now) }
     ensures place { IfOk result IsFitted }
 {
     parts.iter().copied().join_compact(alloc, "/")
@@ -29,7 +29,7 @@ pub fn joined_parts(
     separator: &str,
 ) -> Result<CompactString, ReserveError>
     ensures { IfOk result
-        (λ v. v.text ≡ joined (text_of separator.now)
+        (λ v. v.text ≡ join (text_of separator.now)
         (λ part. text_of part.now) parts.entry.items) }
 {
     parts.into_iter().join_compact(alloc, separator)
@@ -41,7 +41,7 @@ pub fn list_of_names(
     names: &[CompactString],
     separator: &str,
 ) -> Result<CompactString, ReserveError>
-    ensures { IfOk result (λ v. v.text ≡ joined (text_of separator.now) text_in names.now) }
+    ensures { IfOk result (λ v. v.text ≡ join (text_of separator.now) text_in names.now) }
 {
     names.iter().join_compact(alloc, separator)
 }

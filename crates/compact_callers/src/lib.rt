@@ -2,14 +2,13 @@
 //! them.
 #![tactic(auto)]
 
-pub mod callers;
 pub mod collect_callers;
 pub mod decode_callers;
 pub mod deref_callers;
 pub mod field_callers;
-pub mod iterated;
-pub mod keys;
-pub mod lenders;
+pub mod iterator_callers;
+pub mod key_callers;
+pub mod lender_callers;
 pub mod lookup_callers;
 pub mod made_callers;
 pub mod name_callers;
@@ -17,10 +16,11 @@ pub mod out_callers;
 pub mod packed_callers;
 pub mod part_callers;
 pub mod plain_callers;
-pub mod pushes;
+pub mod push_callers;
+pub mod removal_callers;
 pub mod report_callers;
 pub mod run_callers;
 pub mod shown_callers;
-pub mod taken;
+pub mod text_callers;
 pub mod token_callers;
 pub mod wire_callers;

@@ -3,7 +3,7 @@
 #![tactic(auto, using(compact_str::proofs::ForCallers::for_callers, compact_ext::proofs::ForCallers::shown_facts))]
 
 ghost use Rattle.std.specs.Prelude.{◌≡◌, ◌++◌, IfOk, OnOk};
-ghost use Rattle.compact_callers.specs.Reports.{line_of, lines_of, report_of};
+ghost use Rattle.compact_callers.specs.Reports.{row_line, lines_of, report_of};
 
 use compact_ext::{ToCompactStringError, format_compact};
 use compact_str::CompactString;
@@ -18,7 +18,7 @@ pub struct Row {
 
 /// A line of a report: a name, a colon and a number.
 pub fn line(alloc: Global, row: &Row) -> Result<CompactString, ToCompactStringError>
-    ensures { IfOk result (λ v. v.text ≡ line_of row.now) }
+    ensures { IfOk result (λ v. v.text ≡ row_line row.now) }
 {
     let (name, number) = (row.name.as_str(), row.number);
     let line = format_compact!(in alloc; "{name}: {number}\n")?;

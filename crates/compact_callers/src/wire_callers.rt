@@ -7,7 +7,7 @@ ghost use Rattle.std.specs.Io.KnownBytes.{Appends, Consumes, IsAtEnd, Keeps};
 ghost use Rattle.compact_str.specs.Capacity.{from_string_placement};
 ghost use Rattle.compact_str.specs.Text.{size};
 ghost use Rattle.compact_ext.specs.Wire.{wire, HasForm, IsOutsideForm};
-ghost use Rattle.compact_ext.specs.Records.{records_left, left_behind, GivesNext, GivesRecord, FailsWithin, HasTexts};
+ghost use Rattle.compact_ext.specs.WireRecords.{records_left, left_behind, GivesNext, GivesRecord, FailsWithin, HasTexts};
 ghost use Rattle.compact_ext.specs.declared.wire.WireError.TheVariants.{Utf8};
 
 use compact_ext::wire::{Records, WireError, read_wire, write_wire};

@@ -2,17 +2,15 @@
 #![tactic(auto)]
 
 #[cfg(test)]
-mod callers;
-#[cfg(test)]
 mod deref;
 #[cfg(test)]
 mod field;
 #[cfg(test)]
-mod iterated;
+mod iterator;
 #[cfg(test)]
-mod keys;
+mod key;
 #[cfg(test)]
-mod lenders;
+mod lender;
 #[cfg(test)]
 mod lookup;
 #[cfg(test)]
@@ -26,11 +24,13 @@ mod part;
 #[cfg(test)]
 mod plain;
 #[cfg(test)]
-mod pushes;
+mod push;
+#[cfg(test)]
+mod removal;
 #[cfg(test)]
 mod run;
 #[cfg(test)]
-mod taken;
+mod text;
 #[cfg(test)]
 mod token;
 #[cfg(test)]

@@ -1,6 +1,6 @@
 //! Tests of the callers in `lookup_callers.rt`.
 
-use compact_callers::keys::{set_count, set_rank};
+use compact_callers::key_callers::{set_count, set_rank};
 use compact_callers::lookup_callers::{
     count_by_text, forget, held_by_text, is_in_both, place_by_text, rank_by_text, total,
 };

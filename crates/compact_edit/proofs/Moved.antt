@@ -7,7 +7,7 @@ use Rattle.compact_str.specs.Text.{size}
 use Rattle.compact_str.specs.Value.{Place, inline, heap, static, is_static, Placement, PlacedText}
 use Rattle.compact_str.specs.Capacity.{Growth, IsLawful, max_capacity, inline_placement, heap_placement, grown_capacity}
 use Rattle.compact_str.specs.Change.{push_str}
-use Rattle.compact_edit.specs.Pushes.{same_place, moved_by}
+use Rattle.compact_edit.specs.Pushes.{same_place, bytes_moved_by_step}
 
 -- what holds once m bytes were moved for a text of l bytes
 pub record IsPaid (g : Growth) (p : Placement) (l m : ℕ) : Type 0 where
@@ -97,32 +97,32 @@ same_place-refl inline = refl
 same_place-refl heap = refl
 same_place-refl static = refl
 
-pub moved_by-kept : (v w : PlacedText) → w.placement ≡ v.placement → moved_by v w ≡ 0
-moved_by-kept v w e = grind (arith, common_steps, same_place-refl)
+pub bytes_moved_by_step-kept : (v w : PlacedText) → w.placement ≡ v.placement → bytes_moved_by_step v w ≡ 0
+bytes_moved_by_step-kept v w e = grind (arith, common_steps, same_place-refl)
 
-moved_by-grown_capacity : (v w : PlacedText) → v.placement.capacity < w.placement.capacity → moved_by v w ≡ size v.text
-moved_by-grown_capacity v w h = grind (arith, common_steps)
+bytes_moved_by_step-grown_capacity : (v w : PlacedText) → v.placement.capacity < w.placement.capacity → bytes_moved_by_step v w ≡ size v.text
+bytes_moved_by_step-grown_capacity v w h = grind (arith, common_steps)
 
 -- a push pays for what it moves
-pub paid-push : (g : Growth) (v w : PlacedText) (s : List ℕ) (b m n : ℕ) → IsLawful g → IsPaid g v.placement (size v.text) m → push_str g v s ≡ Some w → b ≡ moved_by v w → n ≡ m + b
+pub paid-push : (g : Growth) (v w : PlacedText) (s : List ℕ) (b m n : ℕ) → IsLawful g → IsPaid g v.placement (size v.text) m → push_str g v s ≡ Some w → b ≡ bytes_moved_by_step v w → n ≡ m + b
     → IsPaid g w.placement (size w.text) n
 paid-push g v w s b m n law paid e bytes is =
     ⊎_elim
     (λ k.
-    let same : n ≡ m = omega (arith, is, bytes, moved_by-kept v w k.0) in
+    let same : n ≡ m = omega (arith, is, bytes, bytes_moved_by_step-kept v w k.0) in
     rw (k.0, k.1, same) (paid-kept g v.placement (size v.text) (size s) m law paid k.2))
     (λ k.
     let c : w.placement.capacity ≡ grown_capacity g v (size s) = ap (λ (p : Placement). p.capacity) k.0 in
-    let more : n ≡ m + size v.text = omega (arith, is, bytes, moved_by-grown_capacity v w (omega (arith, c, k.2))) in
+    let more : n ≡ m + size v.text = omega (arith, is, bytes, bytes_moved_by_step-grown_capacity v w (omega (arith, c, k.2))) in
     rw (k.0, k.1, more) (paid-grown_capacity g v.placement (size v.text) (size s) m (grown_capacity g v (size s)) law paid k.2 refl k.3))
     (push_str-placement g v w s paid.owned paid.above paid.fits e)
 
 -- the count of a push that comes fits 64 bits
-pub paid-fits : (g : Growth) (v w : PlacedText) (m n : ℕ) → IsLawful g → IsPaid g v.placement (size v.text) m → n ≡ moved_by v w → m + n < 2 ^ 64
+pub paid-fits : (g : Growth) (v w : PlacedText) (m n : ℕ) → IsLawful g → IsPaid g v.placement (size v.text) m → n ≡ bytes_moved_by_step v w → m + n < 2 ^ 64
 paid-fits g v w m n law paid is =
     let one : 1 * m ≤ (g.numerator - g.denominator) * m = mul-le-mul_right m (omega (arith, law.grows)) in
     let most : (g.numerator + g.denominator) * size v.text ≤ 255 * size v.text = mul-le-mul_right (size v.text) law.small in
-    let bytes : moved_by v w ≤ size v.text = grind (arith, common_steps) in
+    let bytes : bytes_moved_by_step v w ≤ size v.text = grind (arith, common_steps) in
     omega (arith, one, most, bytes, is, paid.by_text, paid.fits, paid.below)
 
 pub paid-same : (g : Growth) (v w : PlacedText) (m n : ℕ) → IsPaid g v.placement (size v.text) m → w ≡ v → n ≡ m → IsPaid g w.placement (size w.text) n

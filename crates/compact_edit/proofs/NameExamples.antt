@@ -1,6 +1,6 @@
 -- Worked examples of names by first occurrence, and of their numbers.
 use Rattle.std.proofs.Common.{◌≡◌, ℕ, List, [], ◌∷◌, None, slice_get, refl}
-use Rattle.compact_edit.specs.Names.{firsts, AreNumbersOf, Takes}
+use Rattle.compact_edit.specs.Names.{distinct_texts, AreNumbersOf, Takes}
 
 abbrev a : List ℕ
 a = 97 ∷ []
@@ -9,13 +9,13 @@ abbrev b : List ℕ
 b = 98 ∷ []
 
 -- a text is named once, at its first occurrence, and the names are not sorted
-names-once : firsts (a ∷ b ∷ a ∷ [] ∷ []) ≡ a ∷ b ∷ [] ∷ []
+names-once : distinct_texts (a ∷ b ∷ a ∷ [] ∷ []) ≡ a ∷ b ∷ [] ∷ []
 names-once = refl
 
-names-unsorted : firsts (b ∷ a ∷ b ∷ []) ≡ b ∷ a ∷ []
+names-unsorted : distinct_texts (b ∷ a ∷ b ∷ []) ≡ b ∷ a ∷ []
 names-unsorted = refl
 
-no-names : firsts [] ≡ []
+no-names : distinct_texts [] ≡ []
 no-names = refl
 
 -- of a, b, a and the empty text: 0, 1, 0 and 2

@@ -8,7 +8,7 @@ use Rattle.compact_str.specs.Capacity.{Growth, inline_placement, heap_placement,
 use Rattle.compact_str.specs.declared.ReserveError.{ReserveError}
 use Rattle.compact_str.specs.declared.Standard.{Standard}
 use Rattle.compact_edit.specs.declared.edit.Reply.TheVariants.{Done, Refused}
-use Rattle.compact_edit.specs.Pushes.{moved_by, PushesTo}
+use Rattle.compact_edit.specs.Pushes.{bytes_moved_by_step, PushesTo}
 
 abbrev letters : ℕ → List ℕ
 letters n = replicate n 97
@@ -35,16 +35,16 @@ quarter_more = record { least = 25; numerator = 5; denominator = 4 }
 
 -- one step
 
-what_fits_moves_nothing : moved_by (long 25 36) (long 36 36) ≡ 0
+what_fits_moves_nothing : bytes_moved_by_step (long 25 36) (long 36 36) ≡ 0
 what_fits_moves_nothing = refl
 
-a_text_that_goes_to_the_heap_is_moved : moved_by (short 24) (long 25 36) ≡ 24
+a_text_that_goes_to_the_heap_is_moved : bytes_moved_by_step (short 24) (long 25 36) ≡ 24
 a_text_that_goes_to_the_heap_is_moved = refl
 
-a_text_that_comes_back_from_the_heap_is_moved : moved_by (long 10 24) (short 10) ≡ 10
+a_text_that_comes_back_from_the_heap_is_moved : bytes_moved_by_step (long 10 24) (short 10) ≡ 10
 a_text_that_comes_back_from_the_heap_is_moved = refl
 
-a_static_text_that_is_copied_is_moved : moved_by (placed_text (letters 30) (static_placement (letters 30))) (long 30 30) ≡ 30
+a_static_text_that_is_copied_is_moved : bytes_moved_by_step (placed_text (letters 30) (static_placement (letters 30))) (long 30 30) ≡ 30
 a_static_text_that_is_copied_is_moved = refl
 
 -- lists of pushes

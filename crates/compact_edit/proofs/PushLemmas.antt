@@ -17,12 +17,12 @@ use Rattle.compact_edit.specs.declared.edit.Reply.{Reply}
 use Rattle.compact_edit.specs.declared.edit.Reply.TheVariants.{Done, Char, Text, BadPosition, Refused}
 use Rattle.compact_edit.specs.Steps.{Step}
 use Rattle.compact_edit.specs.Runs.{Run}
-use Rattle.compact_edit.proofs.Moved.{IsPaid, moved_by-kept, paid-start, paid-push, paid-same}
-use Rattle.compact_edit.specs.Pushes.{moved_by, moved, refusals, PushesTo}
+use Rattle.compact_edit.proofs.Moved.{IsPaid, bytes_moved_by_step-kept, paid-start, paid-push, paid-same}
+use Rattle.compact_edit.specs.Pushes.{bytes_moved_by_step, bytes_moved, refusal_count, PushesTo}
 
 -- a run that goes on by one edit, and what it then moves
 run-append : {P : Type 0} (g : Growth) (v : PlacedText) (edits : List (Edit P)) (replies : List (Reply P)) (u w : PlacedText) (edit : Edit P) (reply : Reply P) (run : Run g v edits replies u) → Step g u edit reply w
-    → (longer : Run g v (edits ++ edit ∷ []) (replies ++ reply ∷ []) w) × (moved g v (edits ++ edit ∷ []) (replies ++ reply ∷ []) w longer ≡ moved g v edits replies u run + moved_by u w)
+    → (longer : Run g v (edits ++ edit ∷ []) (replies ++ reply ∷ []) w) × (bytes_moved g v (edits ++ edit ∷ []) (replies ++ reply ∷ []) w longer ≡ bytes_moved g v edits replies u run + bytes_moved_by_step u w)
 run-append g v [] [] u w edit reply run step = ((w, subst (λ (x : PlacedText). Step g x edit reply w) run step, refl), rw run (omega arith))
 run-append g v [] (r ∷ rs) u w edit reply run step = absurd run
 run-append g v (e ∷ es) [] u w edit reply run step = absurd run
@@ -30,7 +30,7 @@ run-append g v (e ∷ es) (r ∷ rs) u w edit reply run step =
     let rest = run-append g run.0 es rs u w edit reply run.2 step in
     ((run.0, run.1, rest.0), omega (arith, rest.1))
 
-refusals-append : {P : Type 0} (rs ss : List (Reply P)) → refusals (rs ++ ss) ≡ refusals rs + refusals ss
+refusals-append : {P : Type 0} (rs ss : List (Reply P)) → refusal_count (rs ++ ss) ≡ refusal_count rs + refusal_count ss
 refusals-append [] ss = omega arith
 refusals-append (Done ∷ rs) ss = omega (arith, refusals-append rs ss)
 refusals-append (Char c ∷ rs) ss = omega (arith, refusals-append rs ss)
@@ -40,11 +40,11 @@ refusals-append (Refused e ∷ rs) ss = omega (arith, refusals-append rs ss)
 
 -- one text more, with its step
 pushes-append : (P : Type 0) (g : Growth) (texts : List (Bor (List ℕ))) (text : Bor (List ℕ)) (v w : PlacedText) (m n k l : ℕ) (reply : Reply P)
-    → PushesTo P g texts v m k → Step g v (PushStr text) reply w → n ≡ m + moved_by v w → l ≡ k + refusals (reply ∷ []) → PushesTo P g (texts ++ text ∷ []) w n l
+    → PushesTo P g texts v m k → Step g v (PushStr text) reply w → n ≡ m + bytes_moved_by_step v w → l ≡ k + refusal_count (reply ∷ []) → PushesTo P g (texts ++ text ∷ []) w n l
 pushes-append P g texts text v w m n k l reply runs step bytes count =
     let empty = placed_text [] inline_placement in
     let edits : List (Edit P) = map PushStr texts in
-    let Q : List (Edit P) → Type 0 = λ es. (replies : List (Reply P)) × (run : Run g empty es replies w) × (n ≡ moved g empty es replies w run) × (l ≡ refusals replies) in
+    let Q : List (Edit P) → Type 0 = λ es. (replies : List (Reply P)) × (run : Run g empty es replies w) × (n ≡ bytes_moved g empty es replies w run) × (l ≡ refusal_count replies) in
     let more = run-append g empty edits runs.0 v w (PushStr text) reply runs.1 step in
     subst Q (sym (map-append PushStr texts (text ∷ []))) (
       runs.0 ++ reply ∷ [],
@@ -55,7 +55,7 @@ pushes-append P g texts text v w m n k l reply runs step bytes count =
 
 -- the texts before the place i, and the one there, whose push is done or refused
 pub pushes-done : (P : Type 0) (g : Growth) (texts : List (Bor (List ℕ))) (i : ℕ) (d : Bor (List ℕ)) (v w : PlacedText) (b m n k l : ℕ) → i < length texts
-    → PushesTo P g (take i texts) v m k → push_str g v (text_of (get_or texts i d).now) ≡ Some w → b ≡ moved_by v w → n ≡ m + b → l ≡ k → PushesTo P g (take (i + 1) texts) w n l
+    → PushesTo P g (take i texts) v m k → push_str g v (text_of (get_or texts i d).now) ≡ Some w → b ≡ bytes_moved_by_step v w → n ≡ m + b → l ≡ k → PushesTo P g (take (i + 1) texts) w n l
 pushes-done P g texts i d v w b m n k l within runs step bytes more count =
     rw (take_more texts i d within) (pushes-append P g (take i texts) (get_or texts i d) v w m n k l Done runs (tt, (refl, step)) (omega (arith, bytes, more)) (omega (arith, count)))
 
@@ -64,7 +64,7 @@ pub pushes-refused : (P : Type 0) (g : Growth) (texts : List (Bor (List ℕ))) (
 pushes-refused P g texts i d v w m n k l e within runs step bytes count =
     let same : w.placement ≡ v.placement = ap (λ (x : PlacedText). x.placement) step.0 in
     rw (take_more texts i d within)
-    (pushes-append P g (take i texts) (get_or texts i d) v w m n k l (Refused e) runs (step.0, tt, step.1) (omega (arith, bytes, moved_by-kept v w same)) (omega (arith, count)))
+    (pushes-append P g (take i texts) (get_or texts i d) v w m n k l (Refused e) runs (step.0, tt, step.1) (omega (arith, bytes, bytes_moved_by_step-kept v w same)) (omega (arith, count)))
 
 pub pushes-all : (P : Type 0) (g : Growth) (texts : List (Bor (List ℕ))) (i : ℕ) (v : PlacedText) (m k : ℕ) → length texts ≤ i → PushesTo P g (take i texts) v m k → PushesTo P g texts v m k
 pushes-all P g texts i v m k end runs = subst (λ (ts : List (Bor (List ℕ))). PushesTo P g ts v m k) (take_all i texts end) runs
@@ -76,7 +76,7 @@ texts_of texts = flat_map (λ (text : Bor (List ℕ)). text_of text.now) texts
 size-texts : (t : Bor (List ℕ)) (ts : List (Bor (List ℕ))) → size (texts_of (t ∷ ts)) ≡ size (text_of t.now) + size (texts_of ts)
 size-texts t ts = ap size (flat_map-cons (λ (text : Bor (List ℕ)). text_of text.now) t ts) ∙ size-append (text_of t.now) (texts_of ts)
 
-run-text : {P : Type 0} (g : Growth) (v : PlacedText) (texts : List (Bor (List ℕ))) (replies : List (Reply P)) (w : PlacedText) → Run g v (map PushStr texts) replies w → refusals replies ≡ 0 → w.text ≡ v.text ++ texts_of texts
+run-text : {P : Type 0} (g : Growth) (v : PlacedText) (texts : List (Bor (List ℕ))) (replies : List (Reply P)) (w : PlacedText) → Run g v (map PushStr texts) replies w → refusal_count replies ≡ 0 → w.text ≡ v.text ++ texts_of texts
 run-text g v [] [] w run none = rw (run, append-nil) refl
 run-text g v [] (r ∷ rs) w run none = absurd run
 run-text g v (t ∷ ts) [] w run none = absurd run
@@ -98,7 +98,7 @@ refused-long : (v : PlacedText) (s : List ℕ) → IsTrue (push_str_asks v s) �
 refused-long v s asks = grind (arith, common_steps)
 
 -- texts of at most 24 bytes together stay in the value itself, so that none is refused
-run-fits : {P : Type 0} (g : Growth) (v : PlacedText) (texts : List (Bor (List ℕ))) (replies : List (Reply P)) (w : PlacedText) → Run g v (map PushStr texts) replies w → size v.text + size (texts_of texts) ≤ 24 → refusals replies ≡ 0
+run-fits : {P : Type 0} (g : Growth) (v : PlacedText) (texts : List (Bor (List ℕ))) (replies : List (Reply P)) (w : PlacedText) → Run g v (map PushStr texts) replies w → size v.text + size (texts_of texts) ≤ 24 → refusal_count replies ≡ 0
 run-fits g v [] [] w run short = refl
 run-fits g v [] (r ∷ rs) w run short = absurd run
 run-fits g v (t ∷ ts) [] w run short = absurd run
@@ -115,19 +115,19 @@ pushes-fit g texts w m k runs short = runs.3 ∙ run-fits g (placed_text [] inli
 
 -- a run of pushes pays for what it moves, and so does a list of pushes from the empty value: under every lawful policy
 run-paid : {P : Type 0} (g : Growth) → IsLawful g → (v : PlacedText) (texts : List (Bor (List ℕ))) (replies : List (Reply P)) (w : PlacedText) (m : ℕ) → IsPaid g v.placement (size v.text) m → (run : Run g v (map PushStr texts) replies w)
-    → IsPaid g w.placement (size w.text) (m + moved g v (map PushStr texts) replies w run)
+    → IsPaid g w.placement (size w.text) (m + bytes_moved g v (map PushStr texts) replies w run)
 run-paid g law v [] [] w m paid run = paid-same g v w m (m + 0) paid run (omega arith)
 run-paid g law v [] (r ∷ rs) w m paid run = absurd run
 run-paid g law v (t ∷ ts) [] w m paid run = absurd run
 run-paid g law v (t ∷ ts) (Done ∷ rs) w m paid run =
     let u = run.0 in
-    let next = paid-push g v u (text_of t.now) (moved_by v u) m (m + moved_by v u) law paid run.1.1.1 refl refl in
-    subst (λ (n : ℕ). IsPaid g w.placement (size w.text) n) (omega arith) (run-paid g law u ts rs w (m + moved_by v u) next run.2)
+    let next = paid-push g v u (text_of t.now) (bytes_moved_by_step v u) m (m + bytes_moved_by_step v u) law paid run.1.1.1 refl refl in
+    subst (λ (n : ℕ). IsPaid g w.placement (size w.text) n) (omega arith) (run-paid g law u ts rs w (m + bytes_moved_by_step v u) next run.2)
 run-paid g law v (t ∷ ts) (Refused e ∷ rs) w m paid run =
     let u = run.0 in
-    let same = moved_by-kept v u (ap (λ (x : PlacedText). x.placement) run.1.0) in
-    let next = paid-same g v u m (m + moved_by v u) paid run.1.0 (omega (arith, same)) in
-    subst (λ (n : ℕ). IsPaid g w.placement (size w.text) n) (omega arith) (run-paid g law u ts rs w (m + moved_by v u) next run.2)
+    let same = bytes_moved_by_step-kept v u (ap (λ (x : PlacedText). x.placement) run.1.0) in
+    let next = paid-same g v u m (m + bytes_moved_by_step v u) paid run.1.0 (omega (arith, same)) in
+    subst (λ (n : ℕ). IsPaid g w.placement (size w.text) n) (omega arith) (run-paid g law u ts rs w (m + bytes_moved_by_step v u) next run.2)
 run-paid g law v (t ∷ ts) (BadPosition ∷ rs) w m paid run = absurd (run.1.1 tt)
 run-paid g law v (t ∷ ts) (Char c ∷ rs) w m paid run = let no : ⊥ = cc in absurd no
 run-paid g law v (t ∷ ts) (Text x ∷ rs) w m paid run = let no : ⊥ = cc in absurd no

@@ -10,17 +10,17 @@ use Rattle.compact_str.specs.Text.{text_of}
 use Rattle.compact_str.specs.Value.{PlacedText}
 use Rattle.compact_str.specs.Order.{same_text}
 use Rattle.compact_edit.specs.declared.intern.InternError.{InternError}
-use Rattle.compact_edit.specs.Names.{is_among, firsts, texts_of, AreNumbersOf, IsRefusal, Takes, StopsAt}
+use Rattle.compact_edit.specs.Names.{contains, distinct_texts, texts_of, AreNumbersOf, IsRefusal, Takes, StopsAt}
 use Rattle.compact_edit.proofs.KeyTexts.{texts, noted, firsts-push, firsts-distinct, new-names}
 
 -- a text that is noted among distinct names leaves them distinct
-noted-distinct : (names : List (List ℕ)) (t : List ℕ) → firsts names ≡ names → firsts (names ++ t ∷ []) ≡ noted names t
+noted-distinct : (names : List (List ℕ)) (t : List ℕ) → distinct_texts names ≡ names → distinct_texts (names ++ t ∷ []) ≡ noted names t
 noted-distinct names t distinct = firsts-push names t ∙ ap (λ others. noted others t) distinct
 
-pub still-distinct : (names after : List (List ℕ)) (t : List ℕ) → after ≡ firsts (names ++ t ∷ []) → firsts names ≡ names → firsts after ≡ after
-still-distinct names after t is distinct = rw (is, noted-distinct names t distinct) (by (is_among names t) refl)
+pub still-distinct : (names after : List (List ℕ)) (t : List ℕ) → after ≡ distinct_texts (names ++ t ∷ []) → distinct_texts names ≡ names → distinct_texts after ≡ after
+still-distinct names after t is distinct = rw (is, noted-distinct names t distinct) (by (contains names t) refl)
   where
-    by : (b : Bool) → is_among names t ≡ b → firsts (noted names t) ≡ noted names t
+    by : (b : Bool) → contains names t ≡ b → distinct_texts (noted names t) ≡ noted names t
     by true there = rw there distinct
     by false absent = rw absent (noted-distinct names t distinct ∙ rw absent refl)
 
@@ -32,9 +32,9 @@ slice_get-before (z ∷ zs) ys zero x at = at
 slice_get-before (z ∷ zs) ys (suc i) x at = slice_get-before zs ys i x at
 
 slice_get-noted : (names : List (List ℕ)) (t x : List ℕ) (i : ℕ) → slice_get names i ≡ Some x → slice_get (noted names t) i ≡ Some x
-slice_get-noted names t x i at = by (is_among names t) refl
+slice_get-noted names t x i at = by (contains names t) refl
   where
-    by : (b : Bool) → is_among names t ≡ b → slice_get (noted names t) i ≡ Some x
+    by : (b : Bool) → contains names t ≡ b → slice_get (noted names t) i ≡ Some x
     by true there = rw there at
     by false absent = rw absent (slice_get-before names (t ∷ []) i x at)
 
@@ -44,14 +44,14 @@ kept-number keys v i x distinct at =
     rw (new-names keys v distinct, noted-distinct (texts keys) v.text (firsts-distinct keys distinct)) (slice_get-noted (texts keys) v.text x i at)
 
 -- a text that has a number is among the names
-pub numbered-among : (names : List (List ℕ)) (i : ℕ) (x : List ℕ) → slice_get names i ≡ Some x → is_among names x ≡ true
+pub numbered-among : (names : List (List ℕ)) (i : ℕ) (x : List ℕ) → slice_get names i ≡ Some x → contains names x ≡ true
 numbered-among [] i x at = grind (arith, common_steps)
 numbered-among (z ∷ zs) zero x at =
     let same : z ≡ x = cc in
     rw same (rw (nat_list_eq_equiv.refl x) refl)
 numbered-among (z ∷ zs) (suc i) x at = by (pointwise nat_eq x z) (numbered-among zs i x at)
   where
-    by : (b : Bool) → is_among zs x ≡ true → (b || is_among zs x) ≡ true
+    by : (b : Bool) → contains zs x ≡ true → (b || contains zs x) ≡ true
     by true there = refl
     by false there = there
 
@@ -65,21 +65,21 @@ numbers-more names after keep [] (m ∷ ms) t n are at = absurd are
 numbers-more names after keep (x ∷ xs) [] t n are at = absurd are
 numbers-more names after keep (x ∷ xs) (m ∷ ms) t n are at = (keep x m are.0, numbers-more names after keep xs ms t n are.1 at)
 
-pub takes-none : (before : List (List ℕ)) (listed : List ℕ) → firsts before ≡ before → Takes before [] listed before listed
+pub takes-none : (before : List (List ℕ)) (listed : List ℕ) → distinct_texts before ≡ before → Takes before [] listed before listed
 takes-none before listed distinct = record {
-  names = sym (ap firsts (append-nil before) ∙ distinct);
+  names = sym (ap distinct_texts (append-nil before) ∙ distinct);
   numbers = [];
   behind = sym (append-nil listed);
   places = tt;
 }
 
 takes-push : (before ts names after : List (List ℕ)) (listed mid now : List ℕ) (t : List ℕ) (n : ℕ)
-    → Takes before ts listed names mid → firsts names ≡ names → after ≡ firsts (names ++ t ∷ []) → slice_get after n ≡ Some t → now ≡ mid ++ n ∷ []
+    → Takes before ts listed names mid → distinct_texts names ≡ names → after ≡ distinct_texts (names ++ t ∷ []) → slice_get after n ≡ Some t → now ≡ mid ++ n ∷ []
     → Takes before (ts ++ t ∷ []) listed after now
 takes-push before ts names after listed mid now t n takes distinct is at pushed =
     let noting : after ≡ noted names t = is ∙ noted-distinct names t distinct in
     record {
-      names = noting ∙ ap (λ others. noted others t) takes.names ∙ sym (firsts-push (before ++ ts) t) ∙ ap firsts (append_assoc before ts (t ∷ []));
+      names = noting ∙ ap (λ others. noted others t) takes.names ∙ sym (firsts-push (before ++ ts) t) ∙ ap distinct_texts (append_assoc before ts (t ∷ []));
       numbers = takes.numbers ++ n ∷ [];
       behind = pushed ∙ ap (λ m. m ++ n ∷ []) takes.behind ∙ append_assoc listed takes.numbers (n ∷ []);
       places = numbers-more names after (λ x i h. rw noting (slice_get-noted names t x i h)) ts takes.numbers t n takes.places at;
@@ -87,8 +87,8 @@ takes-push before ts names after listed mid now t n takes distinct is at pushed 
 
 -- the texts before the place i are taken, and then the one there
 pub takes-more : (row : List (Bor (List ℕ))) (i : ℕ) (d : Bor (List ℕ)) (before names after : List (List ℕ)) (listed mid now : List ℕ) (n : ℕ)
-    → Takes before (texts_of (take i row)) listed names mid → i < length row → firsts names ≡ names
-    → after ≡ firsts (names ++ text_of (get_or row i d).now ∷ []) → slice_get after n ≡ Some (text_of (get_or row i d).now) → now ≡ mid ++ n ∷ []
+    → Takes before (texts_of (take i row)) listed names mid → i < length row → distinct_texts names ≡ names
+    → after ≡ distinct_texts (names ++ text_of (get_or row i d).now ∷ []) → slice_get after n ≡ Some (text_of (get_or row i d).now) → now ≡ mid ++ n ∷ []
     → Takes before (texts_of (take (i + 1) row)) listed after now
 takes-more row i d before names after listed mid now n takes within distinct is at pushed =
     let more : texts_of (take (i + 1) row) ≡ texts_of (take i row) ++ text_of (get_or row i d).now ∷ [] =

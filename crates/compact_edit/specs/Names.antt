@@ -9,17 +9,17 @@ use Rattle.compact_edit.specs.declared.intern.InternError.{InternError}
 use Rattle.compact_edit.specs.declared.intern.InternError.TheVariants.{Reserve, Full}
 
 -- t is one of ts
-abbrev pub is_among : List (List ℕ) → List ℕ → Bool
-is_among ts t = list_any (pointwise nat_eq t) ts
+abbrev pub contains : List (List ℕ) → List ℕ → Bool
+contains ts t = list_any (pointwise nat_eq t) ts
 
 -- ts without t
-abbrev pub without : List ℕ → List (List ℕ) → List (List ℕ)
-without t ts = filter (λ u. not (pointwise nat_eq t u)) ts
+abbrev pub texts_without : List ℕ → List (List ℕ) → List (List ℕ)
+texts_without t ts = filter (λ u. not (pointwise nat_eq t u)) ts
 
 -- the distinct texts of a list, by first occurrence
-abbrev pub firsts : List (List ℕ) → List (List ℕ)
-firsts [] = []
-firsts (t ∷ ts) = t ∷ without t (firsts ts)
+abbrev pub distinct_texts : List (List ℕ) → List (List ℕ)
+distinct_texts [] = []
+distinct_texts (t ∷ ts) = t ∷ texts_without t (distinct_texts ts)
 
 -- the number of each text is its place among the names
 abbrev pub AreNumbersOf : List (List ℕ) → List (List ℕ) → List ℕ → Type 0
@@ -27,15 +27,15 @@ AreNumbersOf names texts numbers = AllZip (λ t n. slice_get names n ≡ Some t)
 
 -- The texts are taken in turn: what the names are then, and the numbers, which stand behind those that were listed.
 pub record Takes (before texts : List (List ℕ)) (listed : List ℕ) (after : List (List ℕ)) (now_listed : List ℕ) : Type 0 where
-  pub names : after ≡ firsts (before ++ texts)
+  pub names : after ≡ distinct_texts (before ++ texts)
   pub numbers : List ℕ
   pub behind : now_listed ≡ listed ++ numbers
   pub places : AreNumbersOf after texts numbers
 
 -- Why a text that is no name has no number: for want of memory where a number is left, or no number is left. A name has one.
 abbrev pub IsRefusal : List (List ℕ) → List ℕ → InternError → Type 0
-IsRefusal names t (Reserve error) = (is_among names t ≡ false) × (length names < 4294967295)
-IsRefusal names t Full = (length names ≡ 4294967295) × (is_among names t ≡ false)
+IsRefusal names t (Reserve error) = (contains names t ≡ false) × (length names < 4294967295)
+IsRefusal names t Full = (length names ≡ 4294967295) × (contains names t ≡ false)
 
 -- The texts up to one that is refused are taken.
 pub record StopsAt (before texts : List (List ℕ)) (listed : List ℕ) (after : List (List ℕ)) (now_listed : List ℕ) (error : InternError) : Type 0 where

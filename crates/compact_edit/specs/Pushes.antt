@@ -19,28 +19,28 @@ abbrev pub same_placement : Placement → Placement → Bool
 same_placement p q = same_place p.place q.place && nat_eq p.capacity q.capacity
 
 -- how many bytes a step from v to w moves: those of v's text, where place or capacity has changed
-abbrev pub moved_by : PlacedText → PlacedText → ℕ
-moved_by v w = if same_placement v.placement w.placement then 0 else size v.text
+abbrev pub bytes_moved_by_step : PlacedText → PlacedText → ℕ
+bytes_moved_by_step v w = if same_placement v.placement w.placement then 0 else size v.text
 
 -- how many bytes the steps of a run move together
-abbrev pub moved : {P : Type 0} (g : Growth) (v : PlacedText) (edits : List (Edit P)) (replies : List (Reply P)) (w : PlacedText) → Run g v edits replies w → ℕ
-moved g v [] [] w run = 0
-moved g v (edit ∷ edits) (reply ∷ replies) w run = moved_by v run.0 + moved g run.0 edits replies w run.2
-moved g v [] (reply ∷ replies) w run = 0
-moved g v (edit ∷ edits) [] w run = 0
+abbrev pub bytes_moved : {P : Type 0} (g : Growth) (v : PlacedText) (edits : List (Edit P)) (replies : List (Reply P)) (w : PlacedText) → Run g v edits replies w → ℕ
+bytes_moved g v [] [] w run = 0
+bytes_moved g v (edit ∷ edits) (reply ∷ replies) w run = bytes_moved_by_step v run.0 + bytes_moved g run.0 edits replies w run.2
+bytes_moved g v [] (reply ∷ replies) w run = 0
+bytes_moved g v (edit ∷ edits) [] w run = 0
 
 -- how many of the replies are refusals
-abbrev pub refusals : {P : Type 0} → List (Reply P) → ℕ
-refusals [] = 0
-refusals (Done ∷ replies) = refusals replies
-refusals (Char c ∷ replies) = refusals replies
-refusals (Text t ∷ replies) = refusals replies
-refusals (BadPosition ∷ replies) = refusals replies
-refusals (Refused e ∷ replies) = 1 + refusals replies
+abbrev pub refusal_count : {P : Type 0} → List (Reply P) → ℕ
+refusal_count [] = 0
+refusal_count (Done ∷ replies) = refusal_count replies
+refusal_count (Char c ∷ replies) = refusal_count replies
+refusal_count (Text t ∷ replies) = refusal_count replies
+refusal_count (BadPosition ∷ replies) = refusal_count replies
+refusal_count (Refused e ∷ replies) = 1 + refusal_count replies
 
 -- the texts, pushed in order onto the empty value by a run, leave w; the run moves so many bytes, and so many pushes are refused
 abbrev pub PushesTo : (P : Type 0) → Growth → List (Bor (List ℕ)) → PlacedText → ℕ → ℕ → Type 0
 PushesTo P g texts w bytes count =
     let edits : List (Edit P) = map PushStr texts in
     let empty = placed_text [] inline_placement in
-    (replies : List (Reply P)) × (run : Run g empty edits replies w) × (bytes ≡ moved g empty edits replies w run) × (count ≡ refusals replies)
+    (replies : List (Reply P)) × (run : Run g empty edits replies w) × (bytes ≡ bytes_moved g empty edits replies w run) × (count ≡ refusal_count replies)

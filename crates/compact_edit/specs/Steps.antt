@@ -6,9 +6,9 @@ use Rattle.compact_str.specs.Cut.{IsBoundary, substring}
 use Rattle.compact_str.specs.Value.{PlacedText}
 use Rattle.compact_str.specs.Capacity.{Growth, with_capacity_asks, reserve_asks, make_owned_asks}
 use Rattle.compact_str.specs.Change.{new, push_str, push_str_asks, clear, reserve, truncate, Shrinks, insert_str, replace_range, replace_range_asks, make_ascii_lowercase, make_ascii_uppercase, retain, zeroize}
-use Rattle.compact_str.specs.Retain.{retained_text, answer_rule}
-use Rattle.compact_str.specs.Clones.{cloned_from, clone_from_asks}
-use Rattle.compact_str.specs.Edits.{Removes, Pops, SplitsOff, split_asks, repeated, repeat_asks}
+use Rattle.compact_str.specs.RetainRules.{retained_text, answer_rule}
+use Rattle.compact_str.specs.Clones.{clone_from, clone_from_asks}
+use Rattle.compact_str.specs.Edits.{Removes, Pops, SplitsOff, split_asks, repeat, repeat_asks}
 use Rattle.compact_str.specs.Ranges.{IsRange, range_start, range_end}
 use Rattle.compact_edit.specs.declared.edit.Edit.{Edit}
 use Rattle.compact_edit.specs.declared.edit.Edit.TheVariants.{Push, PushStr, Pop, Insert, InsertStr, Remove, Truncate, Clear, SplitOff, ReplaceRange, Drain, Retain, Reserve, ShrinkTo, ShrinkToFit, MakeLower, MakeUpper, Zeroize, Repeat, CloneFrom}
@@ -84,8 +84,8 @@ EditDoes g v ShrinkToFit reply w = (reply ≡ Done) × Shrinks g v 0 w
 EditDoes g v MakeLower reply w = (reply ≡ Done) × (make_ascii_lowercase g v ≡ Some w)
 EditDoes g v MakeUpper reply w = (reply ≡ Done) × (make_ascii_uppercase g v ≡ Some w)
 EditDoes g v Zeroize reply w = (reply ≡ Done) × (w ≡ zeroize v)
-EditDoes g v (Repeat n) reply w = (all : PlacedText) × (reply ≡ Text all) × (repeated g v n ≡ Some all) × (w ≡ v)
-EditDoes g v (CloneFrom source) reply w = (reply ≡ Done) × (cloned_from g v source.now ≡ Some w)
+EditDoes g v (Repeat n) reply w = (all : PlacedText) × (reply ≡ Text all) × (repeat g v n ≡ Some all) × (w ≡ v)
+EditDoes g v (CloneFrom source) reply w = (reply ≡ Done) × (clone_from g v source.now ≡ Some w)
 
 -- from v the edit may get this reply and leave w
 abbrev pub Step : {P : Type 0} → Growth → PlacedText → Edit P → Reply P → PlacedText → Type 0

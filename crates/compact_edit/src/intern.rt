@@ -2,7 +2,7 @@
 ghost use Rattle.std.specs.Prelude.{◌≡◌, ◌<◌, ◌≤◌, ◌↔◌, ℕ, List, [], ◌∷◌, ◌++◌, length, Some, IsOk, IsSome, IfOk, IfErr, OnOk, OnErr, option_map, slice_get};
 ghost use Rattle.std.specs.Prelude.{false};
 ghost use Rattle.compact_str.specs.Text.{size, text_of, utf8};
-ghost use Rattle.compact_edit.specs.Names.{firsts, texts_of, is_among, IsRefusal, Takes, StopsEarly};
+ghost use Rattle.compact_edit.specs.Names.{distinct_texts, texts_of, contains, IsRefusal, Takes, StopsEarly};
 
 use compact_str::{CompactString, ReserveError};
 use indexmap::IndexSet;
@@ -69,7 +69,7 @@ impl Interner {
     #[tactic(auto, using(crate::proofs::NameFacts::name_facts))]
     pub fn len(&self) -> usize
         ensures len { result ≡ length self.now }
-        ensures distinct { firsts self.now ≡ self.now }
+        ensures distinct { distinct_texts self.now ≡ self.now }
         ensures small { result ≤ 4294967295 }
     {
         self.names.len()
@@ -92,7 +92,8 @@ impl Interner {
     /// again.
     #[tactic(auto, using(crate::proofs::NameFacts::name_facts))]
     pub fn intern(&mut self, text: &str) -> Result<u32, InternError>
-        ensures names { OnOk result (self.new ≡ firsts (self.old ++ text_of text.now ∷ [])) }
+        ensures names { OnOk result
+            (self.new ≡ distinct_texts (self.old ++ text_of text.now ∷ [])) }
         ensures number { IfOk result (λ n. slice_get self.new n ≡ Some (text_of text.now)) }
         ensures kept { (n : ℕ) (name : List ℕ)
             → slice_get self.old n ≡ Some name → slice_get self.new n ≡ Some name }
@@ -111,8 +112,9 @@ impl Interner {
     #[inline(never)]
     #[tactic(auto, using(crate::proofs::NameFacts::name_facts))]
     fn add(&mut self, text: &str) -> Result<u32, InternError>
-        requires new { is_among self.old (text_of text.now) ≡ false }
-        ensures names { OnOk result (self.new ≡ firsts (self.old ++ text_of text.now ∷ [])) }
+        requires new { contains self.old (text_of text.now) ≡ false }
+        ensures names { OnOk result
+            (self.new ≡ distinct_texts (self.old ++ text_of text.now ∷ [])) }
         ensures number { IfOk result (λ n. slice_get self.new n ≡ Some (text_of text.now)) }
         ensures kept { (n : ℕ) (name : List ℕ)
             → slice_get self.old n ≡ Some name → slice_get self.new n ≡ Some name }

@@ -2,7 +2,7 @@
 ghost use Rattle.std.specs.Prelude.{◌≡◌, ◌+◌, ◌-◌, ◌*◌, ◌/◌, ◌≤◌, flat_map, Some, IsTrue, max, IfOk, OnErr};
 ghost use Rattle.compact_str.specs.Text.{size, text_of};
 ghost use Rattle.compact_str.specs.Change.{push_str, push_str_asks};
-ghost use Rattle.compact_edit.specs.Pushes.{PushesTo, moved_by};
+ghost use Rattle.compact_edit.specs.Pushes.{PushesTo, bytes_moved_by_step};
 
 use compact_str::{Policy, PolicyString, ReserveError};
 use std::alloc::Global;
@@ -58,7 +58,7 @@ pub fn run_pushes<P: Policy>(alloc: Global, texts: &[&str]) -> PushReport<P>
 fn push_counted<P: Policy>(value: &mut PolicyString<P>, text: &str) -> Result<u64, ReserveError>
     ensures ok { IfOk result
         (λ bytes. push_str P.growth value.old (text_of text.now) ≡ Some value.new) }
-    ensures bytes { IfOk result (λ bytes. bytes ≡ moved_by value.old value.new) }
+    ensures bytes { IfOk result (λ bytes. bytes ≡ bytes_moved_by_step value.old value.new) }
     ensures err { OnErr result
         ((value.new ≡ value.old) × IsTrue (push_str_asks value.old (text_of text.now))) }
 {

@@ -8,8 +8,8 @@ use Rattle.std.specs.Fmt.{decimal, sign_text}
 use Rattle.std.specs.Int.{from_le_bytes, w16}
 use Rattle.compact_repr.specs.Words.{le_number}
 use Rattle.itoa.proofs.Decimal.{length_one, length_two, decimal_two, decimal_pair, length_pair}
-use Rattle.compact_ext.specs.declared.num.digits.TheConstants.{PAIRS}
-use Rattle.compact_ext.specs.Digits.{two_digits, written, number_text}
+use Rattle.compact_ext.specs.declared.to_text.digits.TheConstants.{PAIRS}
+use Rattle.compact_ext.specs.Digits.{two_digits, array_with, number_text}
 
 -- how many digits there are, by the power of ten that is reached
 
@@ -36,7 +36,7 @@ pub ruleset digit_counts = (count-from_power, count-zero, count-short)
 -- what is written before what stands already
 
 pub written-before : (row s t : List ℕ) (at next : ℕ) → next ≡ at + length s → next + length t ≤ length row
-    → written (written row next t) at s ≡ written row at (s ++ t)
+    → array_with (array_with row next t) at s ≡ array_with row at (s ++ t)
 written-before row s t at next e h =
     let front = take next row in
     let rest = t ++ drop (next + length t) row in
@@ -47,17 +47,17 @@ written-before row s t at next e h =
     ap₂ (λ (x y : List ℕ). x ++ (s ++ y)) first last
     ∙ ap (λ (x : List ℕ). take at row ++ x) (sym (append_assoc s t _) ∙ ap (λ (k : ℕ). (s ++ t) ++ drop k row) end)
 
-pub length-written : (row s : List ℕ) (at : ℕ) → at + length s ≤ length row → length (written row at s) ≡ length row
+pub length-written : (row s : List ℕ) (at : ℕ) → at + length s ≤ length row → length (array_with row at s) ≡ length row
 length-written row s at h = simp (length-append, length-drop) (let e = length-take-le at row (omega arith) in omega (arith, e))
 
-set-written : (row : List ℕ) (at x : ℕ) → at < length row → set row at x ≡ written row at (x ∷ [])
+set-written : (row : List ℕ) (at x : ℕ) → at < length row → set row at x ≡ array_with row at (x ∷ [])
 set-written row at x h = rw (set_split row at x h, ← add-one at) refl
 
-set_two-written : (row : List ℕ) (at x y : ℕ) → at + 2 ≤ length row → set (set row at x) (at + 1) y ≡ written row at (x ∷ y ∷ [])
+set_two-written : (row : List ℕ) (at x y : ℕ) → at + 2 ≤ length row → set (set row at x) (at + 1) y ≡ array_with row at (x ∷ y ∷ [])
 set_two-written row at x y h =
     set_comm row at (at + 1) x y (λ e. omega (arith, e))
     ∙ ap (λ (r : List ℕ). set r at x) (set-written row (at + 1) y (omega arith))
-    ∙ set-written (written row (at + 1) (y ∷ [])) at x (omega (arith, length-written row (y ∷ []) (at + 1) (omega arith)))
+    ∙ set-written (array_with row (at + 1) (y ∷ [])) at x (omega (arith, length-written row (y ∷ []) (at + 1) (omega arith)))
     ∙ written-before row (x ∷ []) (y ∷ []) at (at + 1) refl (omega arith)
 
 -- the table has the two digits of each number below 100
@@ -75,7 +75,7 @@ pair-among (suc n) p t h =
     ]
 
 pub pair_written : (row : List ℕ) (at p : ℕ) → p < 100 → at + 2 ≤ length row
-    → set (set row at (get_or PAIRS (p * 2) 0)) (at + 1) (get_or PAIRS (p * 2 + 1) 0) ≡ written row at (two_digits p)
+    → set (set row at (get_or PAIRS (p * 2) 0)) (at + 1) (get_or PAIRS (p * 2 + 1) 0) ≡ array_with row at (two_digits p)
 pair_written row at p h k = let e = pair-among 100 p tt h in rw (e.0, e.1) (set_two-written row at (48 + p / 10) (48 + p % 10) k)
 
 -- and so they are read, as a number of two bytes
@@ -86,28 +86,28 @@ pub ruleset pairs_read = (pair_number)
 
 -- one digit, or two
 
-pub one_written : (row : List ℕ) (at n : ℕ) → n < 10 → at < length row → set row at (48 + n) ≡ written row at (decimal n)
-one_written row at n h k = set-written row at (48 + n) k ∙ ap (written row at) (sym (decimal_digit n h))
+pub one_written : (row : List ℕ) (at n : ℕ) → n < 10 → at < length row → set row at (48 + n) ≡ array_with row at (decimal n)
+one_written row at n h k = set-written row at (48 + n) k ∙ ap (array_with row at) (sym (decimal_digit n h))
 
-pub two_written : (row : List ℕ) (at n : ℕ) → 10 ≤ n → n < 100 → written row at (two_digits n) ≡ written row at (decimal n)
-two_written row at n low high = ap (written row at) (sym (decimal_two n low high))
+pub two_written : (row : List ℕ) (at n : ℕ) → 10 ≤ n → n < 100 → array_with row at (two_digits n) ≡ array_with row at (decimal n)
+two_written row at n low high = ap (array_with row at) (sym (decimal_two n low high))
 
 pub ruleset first_digits = (length_one, length_two, one_written, two_written)
 
 -- the last two digits, and then what stands before them
 
 pub pair_before : (row : List ℕ) (start at n : ℕ) → 100 ≤ n → n < 2 ^ 64 → at ≡ start + length (decimal n) → at ≤ length row
-    → written (written row (at - 2) (two_digits (n % 100))) start (decimal (n / 100)) ≡ written row start (decimal n)
+    → array_with (array_with row (at - 2) (two_digits (n % 100))) start (decimal (n / 100)) ≡ array_with row start (decimal n)
 pair_before row start at n low fits e within =
     let long = length_pair n low fits in
     written-before row (decimal (n / 100)) (two_digits (n % 100)) start (at - 2) (omega (arith, long)) (omega (arith, long))
-    ∙ ap (written row start) (sym (decimal_pair n low fits))
+    ∙ ap (array_with row start) (sym (decimal_pair n low fits))
 
 pub ruleset digit_rows = (length_pair, pair_before)
 
 -- a sign, and then the digits behind it
 
-pub written-behind : (row s t : List ℕ) (at : ℕ) → at ≡ length s → length s ≤ length row → written (written row 0 s) at t ≡ written row 0 (s ++ t)
+pub written-behind : (row s t : List ℕ) (at : ℕ) → at ≡ length s → length s ≤ length row → array_with (array_with row 0 s) at t ≡ array_with row 0 (s ++ t)
 written-behind row s t at e h =
     let rest : List ℕ = drop (length s) row in
     let first : take at (s ++ rest) ≡ s = ap (λ (n : ℕ). take n (s ++ rest)) e ∙ take-append_seam s rest in

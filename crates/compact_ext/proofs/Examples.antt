@@ -5,7 +5,7 @@ use Rattle.std.specs.Fmt.{decimal, signed_decimal, digits}
 use Rattle.compact_str.specs.Value.{placed_text}
 use Rattle.compact_str.specs.Capacity.{Growth, inline_placement, heap_placement}
 use Rattle.compact_str.specs.Change.{new}
-use Rattle.compact_ext.specs.Digits.{two_digits, four_digits, eight_digits, written, number_text}
+use Rattle.compact_ext.specs.Digits.{two_digits, four_digits, eight_digits, array_with, number_text}
 use Rattle.compact_ext.specs.Shown.{bool_text}
 
 abbrev standard : Growth
@@ -58,7 +58,7 @@ seven_has_three_noughts_before_it = refl
 eight_digits_have_noughts_within : eight_digits 12003045 ≡ codes "12003045"
 eight_digits_have_noughts_within = refl
 
-two_of_five_are_written : written (codes "abcde") 1 (codes "42") ≡ codes "a42de"
+two_of_five_are_written : array_with (codes "abcde") 1 (codes "42") ≡ codes "a42de"
 two_of_five_are_written = refl
 
 twenty_characters_stand_inline : new standard (signed_decimal (negsuc 9223372036854775807)) ≡ Some (placed_text (codes "-9223372036854775808") inline_placement)

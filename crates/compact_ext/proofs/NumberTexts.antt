@@ -13,7 +13,7 @@ use Rattle.compact_repr.proofs.PackedTexts.{stands-packed}
 use Rattle.compact_str.specs.Value.{placed_text}
 use Rattle.compact_str.specs.Capacity.{Growth, inline_placement}
 use Rattle.compact_str.specs.Change.{new}
-use Rattle.compact_ext.specs.Digits.{number_text, written}
+use Rattle.compact_ext.specs.Digits.{number_text, array_with}
 
 IsAscii-number : (s : Bool) (n : ℕ) → n < 2 ^ 64 → IsAscii (number_text s n)
 IsAscii-number true n h = IsAscii-cons 45 _ (omega arith) (IsAscii-decimal n h)
@@ -24,8 +24,8 @@ length-number true n h = let e = length-decimal-le 20 n (omega arith) (omega ari
 length-number false n h = let e = length-decimal-le 20 n (omega arith) (omega arith) h in omega (arith, e)
 
 -- what is written at the front of a row is its first bytes
-pub take-written : (row bytes : List ℕ) (n : ℕ) → n ≡ length bytes → take n (written row 0 bytes) ≡ bytes
-take-written row bytes n e = ap (λ (k : ℕ). take k (written row 0 bytes)) e ∙ take-append_seam bytes _
+pub take-written : (row bytes : List ℕ) (n : ℕ) → n ≡ length bytes → take n (array_with row 0 bytes) ≡ bytes
+take-written row bytes n e = ap (λ (k : ℕ). take k (array_with row 0 bytes)) e ∙ take-append_seam bytes _
 
 pub IsUtf8-number : (s : Bool) (n : ℕ) → n < 2 ^ 64 → IsUtf8 (number_text s n)
 IsUtf8-number s n h = IsUtf8-from_ascii _ (IsAscii-number s n h)

@@ -9,7 +9,7 @@ use Rattle.compact_str.specs.Value.{PlacedText}
 use Rattle.compact_str.specs.Text.{IsText, size}
 use Rattle.compact_ext.specs.declared.wire.WireError.{WireError}
 use Rattle.compact_ext.specs.Wire.{wire, HasForm, ReadsBack}
-use Rattle.compact_ext.specs.Records.{ReadsAllBack}
+use Rattle.compact_ext.specs.WireRecords.{ReadsAllBack}
 pub use Rattle.std.proofs.lemmas.List.Elements.{All-nil, All-cons}
 pub use Rattle.std.proofs.KnownBytes.{Appends-trans, Consumes-trans}
 pub use Rattle.compact_ext.proofs.WireForms.{length-wire}

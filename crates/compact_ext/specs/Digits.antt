@@ -14,8 +14,8 @@ abbrev pub eight_digits : ℕ → List ℕ
 eight_digits n = four_digits (n / 10000) ++ four_digits (n % 10000)
 
 -- the row with some bytes in place of what stood from a place on
-abbrev pub written : List ℕ → ℕ → List ℕ → List ℕ
-written row at bytes = take at row ++ (bytes ++ drop (at + length bytes) row)
+abbrev pub array_with : List ℕ → ℕ → List ℕ → List ℕ
+array_with row at bytes = take at row ++ (bytes ++ drop (at + length bytes) row)
 
 -- a minus where the number is negative, and the digits of its magnitude
 abbrev pub number_text : Bool → ℕ → List ℕ

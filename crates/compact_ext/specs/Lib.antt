@@ -1,4 +1,4 @@
 pub mod Digits
-pub mod Records
+pub mod WireRecords
 pub mod Shown
 pub mod Wire

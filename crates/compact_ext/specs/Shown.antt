@@ -8,9 +8,9 @@ use Rattle.compact_ext.specs.declared.format.ToCompactStringError.{ToCompactStri
 use Rattle.compact_ext.specs.declared.format.ToCompactStringError.TheVariants.{Reserve, Fmt}
 
 -- room was refused
-abbrev pub IsReserve : ToCompactStringError → Type 0
-IsReserve (Reserve _) = ⊤
-IsReserve (Fmt _) = ⊥
+abbrev pub IsFormatReserve : ToCompactStringError → Type 0
+IsFormatReserve (Reserve _) = ⊤
+IsFormatReserve (Fmt _) = ⊥
 
 -- r is a new value with the text t that something shows: where that is short, inline and never refused, and refused only
 -- where it asks for a heap buffer
@@ -19,7 +19,7 @@ pub record IsTextOf (g : Growth) (t : List ℕ) (IsShort : Type 0) (r : Result P
   pub text : IfOk r (λ v. v.text ≡ t)
   pub inline : IsShort → IfOk r (λ v. v.placement ≡ inline_placement)
   pub succeeds : IsShort → IsOk r
-  pub err : IfErr r (λ e. IsReserve e × IsTrue (with_capacity_asks (size t)))
+  pub err : IfErr r (λ e. IsFormatReserve e × IsTrue (with_capacity_asks (size t)))
 
 -- the text of a `bool`
 abbrev pub bool_text : Bool → List ℕ

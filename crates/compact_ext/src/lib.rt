@@ -2,8 +2,8 @@
 #![tactic(auto, using(compact_repr::proofs::TextFacts::text_facts))]
 
 mod format;
-mod num;
+mod to_text;
 pub mod wire;
 
 pub use format::{ToCompactStringError, collect_display};
-pub use num::{ToCompactString, numbers_are_short, numbers_go_digit_by_digit};
+pub use to_text::{ToCompactString, numbers_are_short, numbers_go_digit_by_digit};

@@ -2,22 +2,22 @@
 #![tactic(auto)]
 
 #[cfg(test)]
-mod formatted;
+mod formats;
 #[cfg(test)]
-mod numbered;
+mod formats_refused;
 #[cfg(test)]
-mod numbered_values;
+mod number_values;
 #[cfg(test)]
-mod refused_shown;
+mod numbers;
+#[cfg(test)]
+mod wire;
 #[cfg(test)]
 mod wire_forms;
 #[cfg(test)]
 mod wire_letters;
 #[cfg(test)]
-mod wired;
+mod wire_records;
 #[cfg(test)]
-mod wired_records;
+mod wire_refused;
 #[cfg(test)]
-mod wired_refused;
-#[cfg(test)]
-mod wired_stops;
+mod wire_stops;

@@ -3,15 +3,15 @@
 use Rattle.std.proofs.Common.{◌≡◌, [], ◌∷◌, ◌++◌, Some, None, true, false, codes, refl}
 use Rattle.std.specs.declared.ops.Bound.TheVariants.{Included, Excluded, Unbounded}
 use Rattle.std.specs.Str.{chars, is_utf8}
-use Rattle.compact_lines.specs.Words.{line_command, to}
+use Rattle.compact_lines.specs.Words.{line_command, reference_to}
 use Rattle.compact_edit.specs.declared.edit.Edit.TheVariants as edits
 use Rattle.compact_lines.specs.declared.command.Command.TheVariants as commands
 
-pub line-new : line_command (codes "new a b") ≡ Some (commands.New (to (codes "a b")))
+pub line-new : line_command (codes "new a b") ≡ Some (commands.New (reference_to (codes "a b")))
 unfolding is_utf8 chars lib.Utf8.encode
 line-new = refl
 
-pub line-new-alone : line_command (codes "new") ≡ Some (commands.New (to []))
+pub line-new-alone : line_command (codes "new") ≡ Some (commands.New (reference_to []))
 unfolding is_utf8 chars lib.Utf8.encode
 line-new-alone = refl
 
@@ -23,15 +23,15 @@ pub line-cap : line_command (codes "cap 40") ≡ Some (commands.WithCapacity 40)
 unfolding is_utf8 chars lib.Utf8.encode
 line-cap = refl
 
-pub line-clonefrom : line_command (codes "clonefrom x") ≡ Some (commands.CloneFrom (to (codes "x")))
+pub line-clonefrom : line_command (codes "clonefrom x") ≡ Some (commands.CloneFrom (reference_to (codes "x")))
 unfolding is_utf8 chars lib.Utf8.encode
 line-clonefrom = refl
 
-pub line-pushstr : line_command (codes "pushstr  x ") ≡ Some (commands.Edit (edits.PushStr (to (codes " x "))))
+pub line-pushstr : line_command (codes "pushstr  x ") ≡ Some (commands.Edit (edits.PushStr (reference_to (codes " x "))))
 unfolding is_utf8 chars lib.Utf8.encode
 line-pushstr = refl
 
-pub line-pushstr-alone : line_command (codes "pushstr") ≡ Some (commands.Edit (edits.PushStr (to [])))
+pub line-pushstr-alone : line_command (codes "pushstr") ≡ Some (commands.Edit (edits.PushStr (reference_to [])))
 unfolding is_utf8 chars lib.Utf8.encode
 line-pushstr-alone = refl
 
@@ -56,11 +56,11 @@ pub line-insert : line_command (codes "insert 3 z") ≡ Some (commands.Edit (edi
 unfolding is_utf8 chars lib.Utf8.encode
 line-insert = refl
 
-pub line-insertstr : line_command (codes "insertstr 10 a b") ≡ Some (commands.Edit (edits.InsertStr 10 (to (codes "a b"))))
+pub line-insertstr : line_command (codes "insertstr 10 a b") ≡ Some (commands.Edit (edits.InsertStr 10 (reference_to (codes "a b"))))
 unfolding is_utf8 chars lib.Utf8.encode
 line-insertstr = refl
 
-pub line-insertstr-no_text : line_command (codes "insertstr 3") ≡ Some (commands.Edit (edits.InsertStr 3 (to [])))
+pub line-insertstr-no_text : line_command (codes "insertstr 3") ≡ Some (commands.Edit (edits.InsertStr 3 (reference_to [])))
 unfolding is_utf8 chars lib.Utf8.encode
 line-insertstr-no_text = refl
 
@@ -84,11 +84,11 @@ pub line-repeat : line_command (codes "repeat 2") ≡ Some (commands.Edit (edits
 unfolding is_utf8 chars lib.Utf8.encode
 line-repeat = refl
 
-pub line-replace : line_command (codes "replace 1 - xy") ≡ Some (commands.Edit (edits.ReplaceRange (Included 1) Unbounded (to (codes "xy"))))
+pub line-replace : line_command (codes "replace 1 - xy") ≡ Some (commands.Edit (edits.ReplaceRange (Included 1) Unbounded (reference_to (codes "xy"))))
 unfolding is_utf8 chars lib.Utf8.encode
 line-replace = refl
 
-pub line-replace-no_text : line_command (codes "replace - 4") ≡ Some (commands.Edit (edits.ReplaceRange Unbounded (Excluded 4) (to [])))
+pub line-replace-no_text : line_command (codes "replace - 4") ≡ Some (commands.Edit (edits.ReplaceRange Unbounded (Excluded 4) (reference_to [])))
 unfolding is_utf8 chars lib.Utf8.encode
 line-replace-no_text = refl
 
@@ -96,11 +96,11 @@ pub line-drain : line_command (codes "drain 2 5") ≡ Some (commands.Edit (edits
 unfolding is_utf8 chars lib.Utf8.encode
 line-drain = refl
 
-pub line-retain : line_command (codes "retain 101") ≡ Some (commands.Edit (edits.Retain (to (true ∷ false ∷ true ∷ []))))
+pub line-retain : line_command (codes "retain 101") ≡ Some (commands.Edit (edits.Retain (reference_to (true ∷ false ∷ true ∷ []))))
 unfolding is_utf8 chars lib.Utf8.encode
 line-retain = refl
 
-pub line-retain-alone : line_command (codes "retain") ≡ Some (commands.Edit (edits.Retain (to [])))
+pub line-retain-alone : line_command (codes "retain") ≡ Some (commands.Edit (edits.Retain (reference_to [])))
 unfolding is_utf8 chars lib.Utf8.encode
 line-retain-alone = refl
 

@@ -23,7 +23,7 @@ use Rattle.compact_edit.specs.Steps.{Step, IsLegal, edit_asks, EditDoes}
 use Rattle.compact_lines.specs.declared.command.Command.TheVariants as commands
 use Rattle.compact_lines.specs.declared.command.Command.{Command}
 use Rattle.compact_lines.specs.Sessions.{Executes, command_asks}
-use Rattle.compact_lines.specs.Words.{to, line_command, command_itself, edit_itself, command_of, answers_of}
+use Rattle.compact_lines.specs.Words.{reference_to, line_command, command_itself, edit_itself, command_of, answers_of}
 use Rattle.compact_lines.specs.Lines.{AnswersCommand, DoesOrRefuses, outcome_line, value_line, AnswersLine, AnswersLines, AppendsAnswers, IsFirstLine, bytes_of, AppendsFront, AppendsPart, AppendsSomeAnswers}
 
 -- the growth of the program's value
@@ -172,15 +172,15 @@ step-same g v w a b legal back asks does (Text t) step = (legal step.0, does (Te
 -- what a step does hangs on no place of memory
 step-itself : (g : Growth) (v w : PlacedText) (edit : Edit Standard) (reply : Reply Standard) → Step g v edit reply w → Step g v (edit_itself edit) reply w
 step-itself g v w (edits.PushStr s) reply step =
-    step-same g v w (edits.PushStr s) (edits.PushStr (to s.now)) (λ l. l) (λ l. l) (λ t. t) (λ _ d. d) reply step
+    step-same g v w (edits.PushStr s) (edits.PushStr (reference_to s.now)) (λ l. l) (λ l. l) (λ t. t) (λ _ d. d) reply step
 step-itself g v w (edits.InsertStr p s) reply step =
-    step-same g v w (edits.InsertStr p s) (edits.InsertStr p (to s.now)) (λ l. l) (λ l. l) (λ t. t) (λ _ d. d) reply step
+    step-same g v w (edits.InsertStr p s) (edits.InsertStr p (reference_to s.now)) (λ l. l) (λ l. l) (λ t. t) (λ _ d. d) reply step
 step-itself g v w (edits.ReplaceRange start end s) reply step =
-    step-same g v w (edits.ReplaceRange start end s) (edits.ReplaceRange start end (to s.now)) (λ l. l) (λ l. l) (λ t. t) (λ _ d. d) reply step
+    step-same g v w (edits.ReplaceRange start end s) (edits.ReplaceRange start end (reference_to s.now)) (λ l. l) (λ l. l) (λ t. t) (λ _ d. d) reply step
 step-itself g v w (edits.Retain answers) reply step =
-    step-same g v w (edits.Retain answers) (edits.Retain (to answers.now)) (λ l. l) (λ l. l) (λ t. t) (λ _ d. d) reply step
+    step-same g v w (edits.Retain answers) (edits.Retain (reference_to answers.now)) (λ l. l) (λ l. l) (λ t. t) (λ _ d. d) reply step
 step-itself g v w (edits.CloneFrom source) reply step =
-    step-same g v w (edits.CloneFrom source) (edits.CloneFrom (to source.now)) (λ l. l) (λ l. l) (λ t. t) (λ _ d. d) reply step
+    step-same g v w (edits.CloneFrom source) (edits.CloneFrom (reference_to source.now)) (λ l. l) (λ l. l) (λ t. t) (λ _ d. d) reply step
 step-itself g v w edit reply step = step
 
 executes-itself : (g : Growth) (v w : PlacedText) (command : Command) (reply : Reply Standard) → Executes g v command reply w

@@ -8,7 +8,7 @@ use Rattle.std.specs.Str.Parse.{digits_value, ParsesUnsigned, ParsesChar}
 use Rattle.std.proofs.lemmas.Bool.Decides.{nat_tests}
 use Rattle.std.proofs.lemmas.Str.{chars-encodes, encodes-chars, scalars-chars}
 use Rattle.std.proofs.lemmas.Str.Parse.{IsNumeralModel, numerals_by_value, parse_digits}
-use Rattle.compact_lines.specs.Words.{number_of, the_one, character_of}
+use Rattle.compact_lines.specs.Words.{number_of, single_item, character_of}
 
 number-there : (len v most : ℕ) (all : Bool) → all ≡ true → 0 < len → v < most
     → Some v ≡ (if nat_lt 0 len && all && nat_lt v most then Some v else None)
@@ -43,7 +43,7 @@ one-scalar c is = search rules
 scalar-one : (c : ℕ) → IsScalar c → all_scalars (c ∷ []) ≡ true
 scalar-one c is = search rules
 
-none-of-one : (bytes cs : List ℕ) → IsUtf8 bytes → chars bytes ≡ cs → ((c : ℕ) → IsScalar c → bytes ≡ encode_utf8 c → ⊥) → None ≡ the_one cs
+none-of-one : (bytes cs : List ℕ) → IsUtf8 bytes → chars bytes ≡ cs → ((c : ℕ) → IsScalar c → bytes ≡ encode_utf8 c → ⊥) → None ≡ single_item cs
 none-of-one bytes [] text same never = refl
 none-of-one bytes (c ∷ []) text same never =
     let spelt : encode_utf8_all (c ∷ []) ≡ bytes = ap encode_utf8_all (sym same) ∙ encodes-chars bytes text in
@@ -55,5 +55,5 @@ none-of-one bytes (c ∷ d ∷ more) text same never = refl
 pub character-parsed : {E : Type 0} (bytes : List ℕ) (r : Result ℕ E) → IsUtf8 bytes → IfOk r IsScalar → ParsesChar bytes r
     → result_ok r ≡ character_of bytes
 character-parsed bytes (Ok c) text is h =
-    ap the_one (sym (ap chars (h ∙ sym (append-nil (encode_utf8 c))) ∙ chars-encodes (c ∷ []) (scalar-one c is)))
+    ap single_item (sym (ap chars (h ∙ sym (append-nil (encode_utf8 c))) ∙ chars-encodes (c ∷ []) (scalar-one c is)))
 character-parsed bytes (Err e) text is h = none-of-one bytes (chars bytes) text refl h

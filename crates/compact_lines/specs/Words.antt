@@ -16,22 +16,22 @@ use Rattle.compact_lines.specs.declared.command.Command.{Command}
 use Rattle.compact_lines.specs.declared.command.Command.TheVariants as commands
 
 -- a reference to a value, which says nothing of where it stands
-abbrev pub to : {X : Type 0} → X → Bor X
-to x = record { ref_ptr = (0, 0); now = x }
+abbrev pub reference_to : {X : Type 0} → X → Bor X
+reference_to x = record { ref_ptr = (0, 0); now = x }
 
 -- an edit, with references that say nothing of where their values stand
 abbrev pub edit_itself : Edit Standard → Edit Standard
-edit_itself (edits.PushStr s) = edits.PushStr (to s.now)
-edit_itself (edits.InsertStr p s) = edits.InsertStr p (to s.now)
-edit_itself (edits.ReplaceRange start end s) = edits.ReplaceRange start end (to s.now)
-edit_itself (edits.Retain answers) = edits.Retain (to answers.now)
-edit_itself (edits.CloneFrom source) = edits.CloneFrom (to source.now)
+edit_itself (edits.PushStr s) = edits.PushStr (reference_to s.now)
+edit_itself (edits.InsertStr p s) = edits.InsertStr p (reference_to s.now)
+edit_itself (edits.ReplaceRange start end s) = edits.ReplaceRange start end (reference_to s.now)
+edit_itself (edits.Retain answers) = edits.Retain (reference_to answers.now)
+edit_itself (edits.CloneFrom source) = edits.CloneFrom (reference_to source.now)
 edit_itself edit = edit
 
 -- and a command
 abbrev pub command_itself : Command → Command
-command_itself (commands.New s) = commands.New (to s.now)
-command_itself (commands.CloneFrom s) = commands.CloneFrom (to s.now)
+command_itself (commands.New s) = commands.New (reference_to s.now)
+command_itself (commands.CloneFrom s) = commands.CloneFrom (reference_to s.now)
 command_itself (commands.Edit edit) = commands.Edit (edit_itself edit)
 command_itself command = command
 
@@ -44,9 +44,9 @@ abbrev pub rest_of : List ℕ → Option (List ℕ)
 rest_of text = option_map (λ at. drop (at + 1) text) (position (λ b. b == 32) text)
 
 -- what f gives of a value that is there
-abbrev pub if_there : {X Y : Type 0} → Option X → (X → Option Y) → Option Y
-if_there None f = None
-if_there (Some x) f = f x
+abbrev pub and_then : {X Y : Type 0} → Option X → (X → Option Y) → Option Y
+and_then None f = None
+and_then (Some x) f = f x
 
 -- N: one or more ASCII digits, with a value that fits a `usize`
 abbrev pub number_of : List ℕ → Option ℕ
@@ -55,14 +55,14 @@ number_of digits =
     then Some (digits_value 10 digits) else None
 
 -- the one of a list of just one
-abbrev pub the_one : List ℕ → Option ℕ
-the_one [] = None
-the_one (c ∷ []) = Some c
-the_one (c ∷ d ∷ more) = None
+abbrev pub single_item : List ℕ → Option ℕ
+single_item [] = None
+single_item (c ∷ []) = Some c
+single_item (c ∷ d ∷ more) = None
 
 -- C: a text of just one character
 abbrev pub character_of : List ℕ → Option ℕ
-character_of text = the_one (text_of text)
+character_of text = single_item (text_of text)
 
 -- S and E: a number, or `-` for an end of the text
 abbrev pub start_of : List ℕ → Option (Bound ℕ)
@@ -79,13 +79,13 @@ abbrev pub bits_of : List ℕ → List Bool
 bits_of text = map (λ b. b == 49) text
 
 -- what stands in a table beside a word, if it is in there; a last row with the word itself is that of every other word
-abbrev pub beside : {X : Type 0} → List ℕ → List (List ℕ × Option X) → Option X
-beside word [] = None
-beside word (row ∷ rows) = if bytes_eq word row.0 then row.1 else beside word rows
+abbrev pub row_of_word : {X : Type 0} → List ℕ → List (List ℕ × Option X) → Option X
+row_of_word word [] = None
+row_of_word word (row ∷ rows) = if bytes_eq word row.0 then row.1 else row_of_word word rows
 
 -- the edit that a word stands for by itself
 abbrev pub bare_edit : List ℕ → Option (Edit Standard)
-bare_edit word = beside word (
+bare_edit word = row_of_word word (
     (codes "pop", Some edits.Pop)
     ∷ (codes "clear", Some edits.Clear)
     ∷ (codes "shrinktofit", Some edits.ShrinkToFit)
@@ -96,7 +96,7 @@ bare_edit word = beside word (
 
 -- the edit of a word and a number
 abbrev pub number_edit : List ℕ → ℕ → Option (Edit Standard)
-number_edit word n = beside word (
+number_edit word n = row_of_word word (
     (codes "remove", Some (edits.Remove n))
     ∷ (codes "truncate", Some (edits.Truncate n))
     ∷ (codes "splitoff", Some (edits.SplitOff n))
@@ -107,53 +107,53 @@ number_edit word n = beside word (
 
 -- N C
 abbrev pub insert_edit : List ℕ → Option (Edit Standard)
-insert_edit rest = if_there (number_of (word_of rest)) (λ p. if_there (rest_of rest) (λ text.
+insert_edit rest = and_then (number_of (word_of rest)) (λ p. and_then (rest_of rest) (λ text.
     option_map (λ c. edits.Insert p c) (character_of text)))
 
 -- N TEXT
 abbrev pub insert_str_edit : List ℕ → Option (Edit Standard)
-insert_str_edit rest = option_map (λ p. edits.InsertStr p (to (unwrap_or (rest_of rest) []))) (number_of (word_of rest))
+insert_str_edit rest = option_map (λ p. edits.InsertStr p (reference_to (unwrap_or (rest_of rest) []))) (number_of (word_of rest))
 
 -- S E TEXT
 abbrev pub replace_edit : List ℕ → Option (Edit Standard)
-replace_edit rest = if_there (rest_of rest) (λ ends. if_there (start_of (word_of rest)) (λ start.
-    option_map (λ end. edits.ReplaceRange start end (to (unwrap_or (rest_of ends) []))) (end_of (word_of ends))))
+replace_edit rest = and_then (rest_of rest) (λ ends. and_then (start_of (word_of rest)) (λ start.
+    option_map (λ end. edits.ReplaceRange start end (reference_to (unwrap_or (rest_of ends) []))) (end_of (word_of ends))))
 
 -- S E
 abbrev pub drain_edit : List ℕ → Option (Edit Standard)
-drain_edit rest = if_there (rest_of rest) (λ end. if_there (start_of (word_of rest)) (λ start.
+drain_edit rest = and_then (rest_of rest) (λ end. and_then (start_of (word_of rest)) (λ start.
     option_map (λ end. edits.Drain start end) (end_of end)))
 
 -- the edit of a word and of what stands behind its space, which the answers belong to where they are BITS
 abbrev pub field_edit : List ℕ → List ℕ → List Bool → Option (Edit Standard)
-field_edit word rest answers = beside word (
+field_edit word rest answers = row_of_word word (
     (codes "push", option_map (λ c. edits.Push c) (character_of rest))
-    ∷ (codes "pushstr", Some (edits.PushStr (to rest)))
+    ∷ (codes "pushstr", Some (edits.PushStr (reference_to rest)))
     ∷ (codes "insert", insert_edit rest)
     ∷ (codes "insertstr", insert_str_edit rest)
     ∷ (codes "replace", replace_edit rest)
     ∷ (codes "drain", drain_edit rest)
-    ∷ (codes "retain", if are_bits rest then Some (edits.Retain (to answers)) else None)
-    ∷ (word, if_there (number_of rest) (number_edit word))
+    ∷ (codes "retain", if are_bits rest then Some (edits.Retain (reference_to answers)) else None)
+    ∷ (word, and_then (number_of rest) (number_edit word))
     ∷ [])
 
 -- the command of a line with no space: what takes a TEXT or BITS has none
 abbrev pub bare_command : List ℕ → List Bool → Option Command
-bare_command word answers = beside word (
-    (codes "new", Some (commands.New (to [])))
+bare_command word answers = row_of_word word (
+    (codes "new", Some (commands.New (reference_to [])))
     ∷ (codes "static", Some commands.Static)
-    ∷ (codes "clonefrom", Some (commands.CloneFrom (to [])))
-    ∷ (codes "pushstr", Some (commands.Edit (edits.PushStr (to []))))
-    ∷ (codes "retain", Some (commands.Edit (edits.Retain (to answers))))
+    ∷ (codes "clonefrom", Some (commands.CloneFrom (reference_to [])))
+    ∷ (codes "pushstr", Some (commands.Edit (edits.PushStr (reference_to []))))
+    ∷ (codes "retain", Some (commands.Edit (edits.Retain (reference_to answers))))
     ∷ (word, option_map commands.Edit (bare_edit word))
     ∷ [])
 
 -- the command of a word and of what stands behind its space
 abbrev pub field_command : List ℕ → List ℕ → List Bool → Option Command
-field_command word rest answers = beside word (
-    (codes "new", Some (commands.New (to rest)))
+field_command word rest answers = row_of_word word (
+    (codes "new", Some (commands.New (reference_to rest)))
     ∷ (codes "cap", option_map (λ n. commands.WithCapacity n) (number_of rest))
-    ∷ (codes "clonefrom", Some (commands.CloneFrom (to rest)))
+    ∷ (codes "clonefrom", Some (commands.CloneFrom (reference_to rest)))
     ∷ (word, option_map commands.Edit (field_edit word rest answers))
     ∷ [])
 

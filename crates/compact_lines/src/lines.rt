@@ -66,7 +66,8 @@ fn answer_lines<B: BufRead, W: Write>(
     writer: &mut W,
 ) -> io::Result<()>
     ensures ok { OnOk result (AppendsAnswers ⟦<Standard as Policy>⟧.growth
-        session.old (B.remaining reader.old) (W.contents writer.old) (W.contents writer.new) session.new) }
+        session.old (B.remaining reader.old) (W.contents writer.old) (W.contents writer.new)
+        session.new) }
     ensures err { OnErr result (AppendsSomeAnswers ⟦<Standard as Policy>⟧.growth
         session.old (B.remaining reader.old) (W.contents writer.old) (W.contents writer.new)) }
 {

@@ -2,14 +2,14 @@
 #![tactic(auto)]
 
 #[cfg(test)]
+mod failing_writers;
+#[cfg(test)]
 mod growth;
 #[cfg(test)]
 mod lines;
 #[cfg(test)]
 mod no_commands;
 #[cfg(test)]
+mod removals;
+#[cfg(test)]
 mod sessions;
-#[cfg(test)]
-mod stopped;
-#[cfg(test)]
-mod taken;

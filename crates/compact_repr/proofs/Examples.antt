@@ -9,7 +9,6 @@ use Rattle.compact_repr.specs.Cut.{before, after, substring, replaced_text}
 use Rattle.compact_repr.specs.Value.{PlacedText, placed_text}
 use Rattle.compact_repr.specs.Capacity.{Growth, inline_placement, heap_placement, static_placement, checked_heap_placement, with_capacity_placement, with_capacity_asks, fits_in_place, reserve_placement, reserve_asks, shortened_placement, owned_placement, make_owned_asks, const_new_placement, from_string_placement, clone_placement, clone_asks, shrink_to_placement, shrink_to_asks}
 use Rattle.compact_repr.specs.Change.{new, push_str, push_str_asks, clear, reserve, with_capacity, make_owned, clone, truncate, make_ascii_lowercase, make_ascii_uppercase, retain, zeroize}
-use Rattle.compact_repr.specs.Retain.{retained_text, answer_rule}
 
 abbrev standard : Growth
 standard = record { least = 32; numerator = 3; denominator = 2 }
@@ -251,12 +250,6 @@ a_zeroized_heap_text_keeps_its_capacity = refl
 
 b_stands_between_two_bytes_and_three : substring mixed 2 3 ≡ 0x62 ∷ []
 b_stands_between_two_bytes_and_three = refl
-
-answers_keep_three_of_five : retained_text answer_rule (false ∷ true ∷ true ∷ false ∷ true ∷ []) (0xE4 ∷ 0x62 ∷ 0x1D11E ∷ 0x64 ∷ 0x20AC ∷ []) ≡ 0x62 ∷ 0x1D11E ∷ 0x20AC ∷ []
-answers_keep_three_of_five = refl
-
-a_character_with_no_answer_stays : retained_text answer_rule (true ∷ false ∷ []) (0x41 ∷ 0x62 ∷ 0x43 ∷ []) ≡ 0x41 ∷ 0x43 ∷ []
-a_character_with_no_answer_stays = refl
 
 a_static_text_of_which_all_stays_is_its_own : retain standard (static 10) (letters 10) ≡ Some (placed_text (letters 10) inline_placement)
 a_static_text_of_which_all_stays_is_its_own = refl

@@ -1,42 +1,15 @@
 -- Characters that a test retains.
-use Rattle.std.specs.Prelude.{◌≡◌, ℕ, List, [], ◌∷◌, Bool, true, length, drop, if◌then◌else◌}
+use Rattle.std.specs.Prelude.{◌≡◌, ℕ, List, Bool, length}
 use Rattle.std.specs.List.{items_where_true}
-use Rattle.std.specs.List.Retain.{IsFiltered, ReturnsInTurn}
+use Rattle.std.specs.List.Retain.{ReturnsInTurn}
 use Rattle.std.specs.Fn.{Called, Mut}
-
--- u has the characters of t, in order, of which the test said true: it was called once at each, in order, from f on
-abbrev pub RetainsChars : {F : Type 0} → Mut F (ℕ × Unit {0}) Bool → F → List ℕ → List ℕ → Type 0
-RetainsChars test f t u = IsFiltered (λ p c b q. Called test p (c, tt) b q) f t u
 
 -- std's `IsFiltered`, with what the test is then: it was asked of each element and no more, and that left g
 abbrev pub IsFilteredTo : {F X : Type 0} → (F → X → Bool → F → Type 0) → F → List X → List X → F → Type 0
 IsFilteredTo calls f xs ys g =
     (answers : List Bool) × (length answers ≡ length xs) × ReturnsInTurn calls f answers xs g × (ys ≡ items_where_true answers xs)
 
--- `RetainsChars`, with what the test is then
+-- u has the characters of t, in order, of which the test said true: it was called once at each, in order, from f on, and that
+-- left g
 abbrev pub RetainsCharsTo : {F : Type 0} → Mut F (ℕ × Unit {0}) Bool → F → List ℕ → List ℕ → F → Type 0
 RetainsCharsTo test f t u g = IsFilteredTo (λ p c b q. Called test p (c, tt) b q) f t u g
-
--- the test says of each character what `says` does, whatever it noted before
-abbrev pub SaysAlways : {F : Type 0} → Mut F (ℕ × Unit {0}) Bool → (ℕ → Bool) → Type 0
-SaysAlways {F} test says = (p : F) (c : ℕ) (b : Bool) (q : F) → Called test p (c, tt) b q → b ≡ says c
-
--- the characters of a text that a rule keeps: it goes from a state on, and says of a state and a character whether that
--- stays, and the next state
-abbrev pub retained_text : {S : Type 0} → (S → ℕ → Bool × S) → S → List ℕ → List ℕ
-retained_text rule s [] = []
-retained_text rule s (c ∷ cs) = if (rule s c).0 then c ∷ retained_text rule (rule s c).1 cs else retained_text rule (rule s c).1 cs
-
--- the state that it has then
-abbrev pub retain_state : {S : Type 0} → (S → ℕ → Bool × S) → S → List ℕ → S
-retain_state rule s [] = s
-retain_state rule s (c ∷ cs) = retain_state rule (rule s c).1 cs
-
--- the next of some answers; where they have run out it is `true`
-abbrev pub next_answer : List Bool → Bool
-next_answer [] = true
-next_answer (answer ∷ answers) = answer
-
--- the rule of a list of answers, the first for the first character: one with no answer stays
-abbrev pub answer_rule : List Bool → ℕ → Bool × List Bool
-answer_rule answers c = (next_answer answers, drop 1 answers)

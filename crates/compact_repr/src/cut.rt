@@ -94,6 +94,15 @@ pub fn last_char(text: &str) -> Option<char>
     }
 }
 
+/// The text of one character, in the 1 to 4 bytes at the front of `bytes`.
+#[inline]
+pub fn encode_char(character: char, bytes: &mut [u8; 4]) -> &str
+    ensures text { text_of result.now ≡ character ∷ [] }
+    ensures len { length result.now ≡ len_utf8 character }
+{
+    character.encode_utf8(bytes)
+}
+
 /// A law, and the function does nothing. Where a text can be cut, the two parts are what stands before and what stands after
 /// the position; and it can be cut just where the characters within the first bytes take up all of them.
 pub fn cut_is_before_and_after()

@@ -17,7 +17,9 @@ mod static_text;
 mod words;
 
 pub use block::{Block, Padded};
-pub use cut::{cut_is_before_and_after, first_ascii, first_char, last_char, substring};
+pub use cut::{
+    cut_is_before_and_after, encode_char, first_ascii, first_char, last_char, substring,
+};
 pub use error::ReserveError;
 pub use inline::INLINE_CAPACITY;
 pub use policy::{Policy, Standard, standard_grows_by_half};

@@ -17,7 +17,7 @@ use Rattle.compact_repr.specs.Value.{PlacedText}
 use Rattle.compact_repr.specs.Capacity.{Growth}
 use Rattle.compact_repr.specs.Change.{push_str}
 use Rattle.compact_str.specs.Room.{HasRoomFor, sure_capacity}
-use Rattle.compact_str.specs.Collects.{Appends, AppendsAll, AppendsUpToRefused, PassesInline, GivesText, StopsWithout, alone, joined}
+use Rattle.compact_str.specs.Collect.{Appends, AppendsAll, AppendsUpToRefused, PassesInline, GivesText, StopsWithout, char_text, join}
 use Rattle.compact_repr.proofs.Texts.{size-append, size-text_of}
 use Rattle.compact_repr.proofs.Changes.{push_str-text}
 use Rattle.compact_str.proofs.Rooms.{push_str-sure}
@@ -51,7 +51,7 @@ yields-next steps s t u [] x y n = (u, subst (λ q. steps q (Some x) u) (sym y) 
 yields-next steps s t u (z ∷ zs) x y n = (y.0, y.1, yields-next steps y.0 t u zs x y.2 n)
 
 -- characters one by one are their text
-pub each-alone : (cs : List ℕ) → flat_map alone cs ≡ cs
+pub each-alone : (cs : List ℕ) → flat_map char_text cs ≡ cs
 each-alone [] = refl
 each-alone (c ∷ cs) = ap (λ l. c ∷ l) (each-alone cs)
 
@@ -140,7 +140,7 @@ passes steps f s t u xs x z y n e h =
     (xs ++ x ∷ [], u, yields-next steps s t u xs x y n, omega (arith, h, ap size e, all))
 
 -- referred to
-pub each-referred : (cs : List (Bor ℕ)) → flat_map (λ (c : Bor ℕ). alone c.now) cs ≡ map (λ (c : Bor ℕ). c.now) cs
+pub each-referred : (cs : List (Bor ℕ)) → flat_map (λ (c : Bor ℕ). char_text c.now) cs ≡ map (λ (c : Bor ℕ). c.now) cs
 each-referred [] = refl
 each-referred (c ∷ cs) = ap (λ l. c.now ∷ l) (each-referred cs)
 
@@ -165,18 +165,18 @@ module _ {S T E : Type 0} (steps : S → Option T → S → Type 0) (s : S) (rea
   joined-succeeds (Err _) o h = absurd (omega (arith, h o.0 o.1 o.2, o.3))
 
 -- the first item stands alone, and each other behind a separator
-pub joined-cons : {T : Type 0} (f : T → List ℕ) (separator : List ℕ) (x : T) (xs : List T) → joined separator f (x ∷ xs) ≡ f x ++ flat_map (λ y. separator ++ f y) xs
+pub joined-cons : {T : Type 0} (f : T → List ℕ) (separator : List ℕ) (x : T) (xs : List T) → join separator f (x ∷ xs) ≡ f x ++ flat_map (λ y. separator ++ f y) xs
 joined-cons f separator x xs =
     ap (λ l. drop (length separator) l) (append_assoc separator (f x) (flat_map (λ y. separator ++ f y) xs)) ∙ drop-append_seam separator (f x ++ flat_map (λ y. separator ++ f y) xs)
 
-pub joined-one : {T : Type 0} (f : T → List ℕ) (separator : List ℕ) (x : T) → joined separator f (x ∷ []) ≡ f x
+pub joined-one : {T : Type 0} (f : T → List ℕ) (separator : List ℕ) (x : T) → join separator f (x ∷ []) ≡ f x
 joined-one f separator x = joined-cons f separator x [] ∙ append-nil (f x)
 
-pub first-joined : {T : Type 0} (f : T → List ℕ) (separator : List ℕ) (x : T) (z p w : List ℕ) → z ≡ [] → p ≡ f x → w ≡ z ++ p → w ≡ joined separator f (x ∷ [])
+pub first-joined : {T : Type 0} (f : T → List ℕ) (separator : List ℕ) (x : T) (z p w : List ℕ) → z ≡ [] → p ≡ f x → w ≡ z ++ p → w ≡ join separator f (x ∷ [])
 first-joined f separator x z p w e k h = h ∙ ap (λ l. l ++ p) e ∙ k ∙ sym (joined-one f separator x)
 
 -- one more item behind the first
-pub joined-next : {T : Type 0} (f : T → List ℕ) (separator : List ℕ) (z : T) (xs : List T) (x : T) → joined separator f (z ∷ (xs ++ x ∷ [])) ≡ (joined separator f (z ∷ xs) ++ separator) ++ f x
+pub joined-next : {T : Type 0} (f : T → List ℕ) (separator : List ℕ) (z : T) (xs : List T) (x : T) → join separator f (z ∷ (xs ++ x ∷ [])) ≡ (join separator f (z ∷ xs) ++ separator) ++ f x
 joined-next f separator z xs x =
     let others = flat_map (λ y. separator ++ f y) xs in
     joined-cons f separator z (xs ++ x ∷ [])
@@ -187,8 +187,8 @@ joined-next f separator z xs x =
     ∙ ap (λ l. (l ++ separator) ++ f x) (sym (joined-cons f separator z xs))
 
 -- one turn of the loop that joins
-pub joined-turn : {T : Type 0} (f : T → List ℕ) (separator : List ℕ) (z : T) (xs : List T) (x : T) {a w p : List ℕ} → a ≡ joined separator f (z ∷ xs)
-    → p ≡ f x → w ≡ (a ++ separator) ++ p → w ≡ joined separator f (z ∷ (xs ++ x ∷ []))
+pub joined-turn : {T : Type 0} (f : T → List ℕ) (separator : List ℕ) (z : T) (xs : List T) (x : T) {a w p : List ℕ} → a ≡ join separator f (z ∷ xs)
+    → p ≡ f x → w ≡ (a ++ separator) ++ p → w ≡ join separator f (z ∷ (xs ++ x ∷ []))
 joined-turn f separator z xs x a p w = rw (w, p, a) (sym (joined-next f separator z xs x))
 
 -- an item taken ahead of a loop, and those of the loop
@@ -198,21 +198,21 @@ first-drained steps {s} {j} {k} {t} {u} {x} xs first same rest end = (u, (t, (j,
 pub first-yields : {S T : Type 0} (steps : S → Option T → S → Type 0) {s j k t u : S} {z : T} (xs : List T) (x : T) → steps s (Some z) j → k ≡ j → Yields steps k xs t → steps t (Some x) u → Yields steps s (z ∷ (xs ++ x ∷ [])) u
 first-yields steps {s} {j} {k} {t} {u} {z} xs x first same rest next = (j, first, subst (λ q. Yields steps q (xs ++ x ∷ []) u) same (yields-next steps k t u xs x rest next))
 
-pub join-size : {T : Type 0} (f : T → List ℕ) (separator : List ℕ) (z : T) (xs : List T) (x : T) → size (joined separator f (z ∷ (xs ++ x ∷ []))) ≡ size (joined separator f (z ∷ xs)) + size separator + size (f x)
+pub join-size : {T : Type 0} (f : T → List ℕ) (separator : List ℕ) (z : T) (xs : List T) (x : T) → size (join separator f (z ∷ (xs ++ x ∷ []))) ≡ size (join separator f (z ∷ xs)) + size separator + size (f x)
 join-size f separator z xs x =
-    let so_far = joined separator f (z ∷ xs) in
+    let so_far = join separator f (z ∷ xs) in
     ap size (joined-next f separator z xs x) ∙ size-append (so_far ++ separator) (f x) ∙ ap (λ (n : ℕ). n + size (f x)) (size-append so_far separator)
 
 -- where a join stops, what came makes more than 24 bytes
 module _ {S T : Type 0} (steps : S → Option T → S → Type 0) (f : T → List ℕ) (s : S) (separator : List ℕ) where
   abbrev pub join_of : List T → List ℕ
-  join_of xs = joined (text_of separator) f xs
+  join_of xs = join (text_of separator) f xs
 
   pub join-first : {j : S} {x : T} {z : List ℕ} (t : List ℕ) → steps s (Some x) j → z ≡ [] → text_of t ≡ f x → IsUtf8 t → 24 < size z + length t → PassesInline steps join_of s
   join-first {j} {x} t n e k u h = (x ∷ [], j, (j, n, refl), omega (arith, h, ap size e, ap size k, size-text_of t u, ap size (joined-one f (text_of separator) x)))
 
   pub join-piece : {j k t u : S} {z : T} {w : List ℕ} (xs : List T) (x : T) (p : List ℕ) → steps s (Some z) j → k ≡ j → Yields steps k xs t → steps t (Some x) u
-      → w ≡ joined (text_of separator) f (z ∷ xs) → IsUtf8 separator → text_of p ≡ f x → IsUtf8 p → 24 < size w + length separator + length p → PassesInline steps join_of s
+      → w ≡ join (text_of separator) f (z ∷ xs) → IsUtf8 separator → text_of p ≡ f x → IsUtf8 p → 24 < size w + length separator + length p → PassesInline steps join_of s
   join-piece {j} {k} {t} {u} {z} xs x p first same rest next e a b v h = (
     z ∷ (xs ++ x ∷ []),
     u,
@@ -252,5 +252,5 @@ module _ {U S T : Type 0} (becomes : U → S → Type 0) (steps : S → Option T
       (it, b, (o.0 ++ o.1 ∷ [], o.2, yields-next steps it o.3.0 o.2 o.0 o.1 o.3.1 o.3.2, omega (arith, size-next f o.0 o.1, o.5, ap size so_far)))
 
 -- items that are read through v
-pub joined-map : {A B : Type 0} (separator : List ℕ) (h : B → List ℕ) (v : A → B) (xs : List A) → joined separator h (map v xs) ≡ joined separator (λ x. h (v x)) xs
+pub joined-map : {A B : Type 0} (separator : List ℕ) (h : B → List ℕ) (v : A → B) (xs : List A) → join separator h (map v xs) ≡ join separator (λ x. h (v x)) xs
 joined-map separator h v xs = ap (λ l. drop (length separator) l) (flat_map-map (λ y. separator ++ h y) v xs)

@@ -12,7 +12,7 @@ use Rattle.compact_repr.specs.Change.{make_owned, replace_range}
 use Rattle.compact_repr.proofs.Texts.{size-append}
 use Rattle.compact_repr.proofs.Cuts.{before-after, size-before, size-replaced, boundary-from_size}
 use Rattle.compact_repr.proofs.Middles.{substring-parts, parts-substring}
-use Rattle.compact_str.specs.Drains.{may_cut, may_cut_out, part, without_part}
+use Rattle.compact_str.specs.RangeTexts.{is_boundary, is_range, range_text, without_range}
 use Rattle.compact_str.proofs.Letters.{make_owned-text}
 
 pub make_owned-owned_placement : (g : Growth) (v u : PlacedText) → make_owned g v ≡ Some u → is_static u.placement.place ≡ false
@@ -30,46 +30,46 @@ capacity-owned_placement static capacity bytes h own = absurd (true≢false own)
 pub room-owned_placement : (v : PlacedText) → IsSound v → is_static v.placement.place ≡ false → size v.text ≤ v.placement.capacity
 room-owned_placement v sound own = capacity-owned_placement v.placement.place v.placement.capacity (size v.text) sound.fits own
 
--- `may_cut` tells the boundaries
-may_cut-boundary : (t : List ℕ) (p : ℕ) → IsBoundary t p → may_cut t p ≡ true
-may_cut-boundary t p h = eq-eqb _ _ (size-before t p h)
+-- `is_boundary` tells the boundaries
+is_boundary-boundary : (t : List ℕ) (p : ℕ) → IsBoundary t p → is_boundary t p ≡ true
+is_boundary-boundary t p h = eq-eqb _ _ (size-before t p h)
 
-boundary-may_cut : (t : List ℕ) (p : ℕ) → may_cut t p ≡ true → IsBoundary t p
-boundary-may_cut t p e = boundary-from_size t p (eqb-true _ _ e)
+boundary-is_boundary : (t : List ℕ) (p : ℕ) → is_boundary t p ≡ true → IsBoundary t p
+boundary-is_boundary t p e = boundary-from_size t p (eqb-true _ _ e)
 
-pub may_cut-test : (b : Bool) (t : List ℕ) (p : ℕ) → (IsTrue b ↔ IsBoundary t p) → b ≡ may_cut t p
-may_cut-test true t p h = sym (may_cut-boundary t p (h.0 refl))
-may_cut-test false t p h = sym (ne_eqb _ _ (λ e. true≢false (sym (h.1 (boundary-from_size t p e)))))
+pub is_boundary-test : (b : Bool) (t : List ℕ) (p : ℕ) → (IsTrue b ↔ IsBoundary t p) → b ≡ is_boundary t p
+is_boundary-test true t p h = sym (is_boundary-boundary t p (h.0 refl))
+is_boundary-test false t p h = sym (ne_eqb _ _ (λ e. true≢false (sym (h.1 (boundary-from_size t p e)))))
 
--- and `may_cut_out` the ranges
-pub may_cut_out-range : (t : List ℕ) (i j : ℕ) → i ≤ j → IsBoundary t i → IsBoundary t j → may_cut_out t i j ≡ true
-may_cut_out-range t i j order h k = and_from _ _ (le-leb i j order) (and_from _ _ (may_cut-boundary t i h) (may_cut-boundary t j k))
+-- and `is_range` the ranges
+pub is_range-range : (t : List ℕ) (i j : ℕ) → i ≤ j → IsBoundary t i → IsBoundary t j → is_range t i j ≡ true
+is_range-range t i j order h k = and_from _ _ (le-leb i j order) (and_from _ _ (is_boundary-boundary t i h) (is_boundary-boundary t j k))
 
-pub range-may_cut_out : (t : List ℕ) (i j : ℕ) → may_cut_out t i j ≡ true → (i ≤ j) × IsBoundary t i × IsBoundary t j
-range-may_cut_out t i j e =
+pub range-is_range : (t : List ℕ) (i j : ℕ) → is_range t i j ≡ true → (i ≤ j) × IsBoundary t i × IsBoundary t j
+range-is_range t i j e =
     let order = and_parts _ _ e in
     let cuts = and_parts _ _ order.1 in
-    (leb-true i j order.0, boundary-may_cut t i cuts.0, boundary-may_cut t j cuts.1)
+    (leb-true i j order.0, boundary-is_boundary t i cuts.0, boundary-is_boundary t j cuts.1)
 
-pub part-range : (t : List ℕ) (i j : ℕ) → i ≤ j → IsBoundary t i → IsBoundary t j → part t i j ≡ substring t i j
-part-range t i j order h k = cond-true _ _ _ (may_cut_out-range t i j order h k)
+pub part-range : (t : List ℕ) (i j : ℕ) → i ≤ j → IsBoundary t i → IsBoundary t j → range_text t i j ≡ substring t i j
+part-range t i j order h k = cond-true _ _ _ (is_range-range t i j order h k)
 
-of-range : (t a m b : List ℕ) (i j : ℕ) → t ≡ a ++ m ++ b → size a ≡ i → size a + size m ≡ j → may_cut_out t i j ≡ true
+of-range : (t a m b : List ℕ) (i j : ℕ) → t ≡ a ++ m ++ b → size a ≡ i → size a + size m ≡ j → is_range t i j ≡ true
 of-range t a m b i j e first last =
     let three = parts-substring t a m b i j e first last in
-    may_cut_out-range t i j (omega (arith, first, last)) three.0 three.1
+    is_range-range t i j (omega (arith, first, last)) three.0 three.1
 
 -- the second of three parts, and a part that is not empty, are each the other
-part-of : (t a m b : List ℕ) (i j : ℕ) → t ≡ a ++ m ++ b → size a ≡ i → size a + size m ≡ j → part t i j ≡ m
+part-of : (t a m b : List ℕ) (i j : ℕ) → t ≡ a ++ m ++ b → size a ≡ i → size a + size m ≡ j → range_text t i j ≡ m
 part-of t a m b i j e first last =
     let three = parts-substring t a m b i j e first last in
     part-range t i j (omega (arith, first, last)) three.0 three.1 ∙ three.2
 
-of-part : (t m : List ℕ) (i j : ℕ) → part t i j ≡ m → (m ≡ [] → ⊥) → (t ≡ before t i ++ m ++ after t j) × (size (before t i) ≡ i) × (size (before t i) + size m ≡ j)
+of-part : (t m : List ℕ) (i j : ℕ) → range_text t i j ≡ m → (m ≡ [] → ⊥) → (t ≡ before t i ++ m ++ after t j) × (size (before t i) ≡ i) × (size (before t i) + size m ≡ j)
 of-part t m i j e some =
     ⊎_elim
     (λ yes.
-    let range = range-may_cut_out t i j yes in
+    let range = range-is_range t i j yes in
     let parts = substring-parts t i j range.1 range.2 range.0 in
     let is : substring t i j ≡ m = sym (cond-true _ _ _ yes) ∙ e in
     let behind : after t i ≡ m ++ after t j = subst (λ (l : List ℕ). after t i ≡ l ++ after t j) is parts.0 in
@@ -77,7 +77,7 @@ of-part t m i j e some =
     let first = size-before t i range.1 in
     (before-after t i ∙ ap (λ (l : List ℕ). before t i ++ l) behind ∙ sym (append_assoc (before t i) m (after t j)), first, omega (arith, first, wide, range.0)))
     (λ no. absurd (some (sym e ∙ cond-false _ _ _ no)))
-    (cases_Bool (may_cut_out t i j))
+    (cases_Bool (is_range t i j))
 
 some-front : (r : List ℕ) (c : ℕ) → c ∷ r ≡ [] → ⊥
 some-front r c e =
@@ -90,7 +90,7 @@ some-back r c e =
     omega (arith, none, length-append r (c ∷ []))
 
 -- the first character of a part is taken
-pub part-front : (t r : List ℕ) (front back c : ℕ) → part t front back ≡ c ∷ r → (part t (front + len_utf8 c) back ≡ r) × (front + len_utf8 c ≤ back)
+pub part-front : (t r : List ℕ) (front back c : ℕ) → range_text t front back ≡ c ∷ r → (range_text t (front + len_utf8 c) back ≡ r) × (front + len_utf8 c ≤ back)
 part-front t r front back c e =
     let three = of-part t (c ∷ r) front back e (some-front r c) in
     let parts : t ≡ (before t front ++ c ∷ []) ++ r ++ after t back =
@@ -99,7 +99,7 @@ part-front t r front back c e =
     (part-of t (before t front ++ c ∷ []) r (after t back) (front + len_utf8 c) back parts first (omega (arith, first, three.1, three.2)), omega (arith, three.1, three.2))
 
 -- or the last
-pub part-back : (t r : List ℕ) (front back c : ℕ) → part t front back ≡ r ++ c ∷ [] → (part t front (back - len_utf8 c) ≡ r) × (front + len_utf8 c ≤ back)
+pub part-back : (t r : List ℕ) (front back c : ℕ) → range_text t front back ≡ r ++ c ∷ [] → (range_text t front (back - len_utf8 c) ≡ r) × (front + len_utf8 c ≤ back)
 part-back t r front back c e =
     let three = of-part t (r ++ c ∷ []) front back e (some-back r c) in
     let whole = size-append r (c ∷ []) in
@@ -108,7 +108,7 @@ part-back t r front back c e =
     (part-of t (before t front) r (c ∷ [] ++ after t back) front (back - len_utf8 c) parts three.1 (omega (arith, whole, three.1, three.2)), omega (arith, whole, three.1, three.2))
 
 -- what is left is a range
-pub front-range : (t r : List ℕ) (front back c : ℕ) → part t front back ≡ c ∷ r → may_cut_out t (front + len_utf8 c) back ≡ true
+pub front-range : (t r : List ℕ) (front back c : ℕ) → range_text t front back ≡ c ∷ r → is_range t (front + len_utf8 c) back ≡ true
 front-range t r front back c e =
     let three = of-part t (c ∷ r) front back e (some-front r c) in
     let parts : t ≡ (before t front ++ c ∷ []) ++ r ++ after t back =
@@ -117,13 +117,13 @@ front-range t r front back c e =
     of-range t (before t front ++ c ∷ []) r (after t back) (front + len_utf8 c) back parts first (omega (arith, first, three.1, three.2))
 
 -- both, by where the first character ends
-pub front-taken : (t r : List ℕ) (front back c behind : ℕ) → part t front back ≡ c ∷ r → behind ≡ front + len_utf8 c
-    → (part t behind back ≡ r) × (behind ≤ back) × (may_cut_out t behind back ≡ true)
+pub front-taken : (t r : List ℕ) (front back c behind : ℕ) → range_text t front back ≡ c ∷ r → behind ≡ front + len_utf8 c
+    → (range_text t behind back ≡ r) × (behind ≤ back) × (is_range t behind back ≡ true)
 front-taken t r front back c behind e is =
     let taken = part-front t r front back c e in
     rw is (taken.0, taken.1, front-range t r front back c e)
 
-pub back-range : (t r : List ℕ) (front back c : ℕ) → part t front back ≡ r ++ c ∷ [] → may_cut_out t front (back - len_utf8 c) ≡ true
+pub back-range : (t r : List ℕ) (front back c : ℕ) → range_text t front back ≡ r ++ c ∷ [] → is_range t front (back - len_utf8 c) ≡ true
 back-range t r front back c e =
     let three = of-part t (r ++ c ∷ []) front back e (some-back r c) in
     let whole = size-append r (c ∷ []) in
@@ -132,62 +132,62 @@ back-range t r front back c e =
     of-range t (before t front) r (c ∷ [] ++ after t back) front (back - len_utf8 c) parts three.1 (omega (arith, whole, three.1, three.2))
 
 -- a range is one still in the value that is made owned
-pub owned_placement-range : (g : Growth) (v u : PlacedText) (i j : ℕ) → make_owned g v ≡ Some u → i ≤ j → IsBoundary v.text i → IsBoundary v.text j → may_cut_out u.text i j ≡ true
+pub owned_placement-range : (g : Growth) (v u : PlacedText) (i j : ℕ) → make_owned g v ≡ Some u → i ≤ j → IsBoundary v.text i → IsBoundary v.text j → is_range u.text i j ≡ true
 owned_placement-range g v u i j o order h k =
-    ap (λ (t : List ℕ). may_cut_out t i j) (make_owned-text g v u o) ∙ may_cut_out-range v.text i j order h k
+    ap (λ (t : List ℕ). is_range t i j) (make_owned-text g v u o) ∙ is_range-range v.text i j order h k
 
 -- a value that is made owned and then loses a range
 pub owned_placement-without : (g : Growth) (v u : PlacedText) (i j : ℕ) → make_owned g v ≡ Some u → is_static u.placement.place ≡ false → i ≤ j → IsBoundary v.text i → IsBoundary v.text j
-    → without_part u i j ≡ placed_text (replaced_text v.text i j []) u.placement
+    → without_range u i j ≡ placed_text (replaced_text v.text i j []) u.placement
 owned_placement-without g v u i j o own order h k =
     let text = make_owned-text g v u o in
-    let range : may_cut_out u.text i j ≡ true = ap (λ (t : List ℕ). may_cut_out t i j) text ∙ may_cut_out-range v.text i j order h k in
+    let range : is_range u.text i j ≡ true = ap (λ (t : List ℕ). is_range t i j) text ∙ is_range-range v.text i j order h k in
     cond-true _ _ _ (and_from _ _ (ap not own) range) ∙ ap (λ (t : List ℕ). placed_text (replaced_text t i j []) u.placement) text
 
 -- a value that is not static is none without a range
-pub without-owned_placement : (v : PlacedText) (i j : ℕ) → is_static v.placement.place ≡ false → is_static (without_part v i j).placement.place ≡ false
+pub without-owned_placement : (v : PlacedText) (i j : ℕ) → is_static v.placement.place ≡ false → is_static (without_range v i j).placement.place ≡ false
 without-owned_placement v i j own =
     ⊎_elim
     (λ yes. ap (λ (w : PlacedText). is_static w.placement.place) (cond-true _ _ _ yes) ∙ own)
     (λ no. ap (λ (w : PlacedText). is_static w.placement.place) (cond-false _ _ _ no) ∙ own)
-    (cases_Bool (not (is_static v.placement.place) && may_cut_out v.text i j))
+    (cases_Bool (not (is_static v.placement.place) && is_range v.text i j))
 
 -- what is left once a range is taken out has no more bytes, and where it has as many it is the same
-without-text : (t : List ℕ) (i j : ℕ) → may_cut_out t i j ≡ true → size t ≤ size (replaced_text t i j []) → replaced_text t i j [] ≡ t
+without-text : (t : List ℕ) (i j : ℕ) → is_range t i j ≡ true → size t ≤ size (replaced_text t i j []) → replaced_text t i j [] ≡ t
 without-text t i j can same =
-    let range = range-may_cut_out t i j can in
+    let range = range-is_range t i j can in
     let sizes = size-replaced t [] i j range.1 range.2 range.0 in
     let empty : j ≡ i = omega (arith, sizes, same, range.0) in
     rw empty (ap (λ (l : List ℕ). l ++ after t i) (append-nil (before t i)) ∙ sym (before-after t i))
 
-pub without-same : (v : PlacedText) (i j : ℕ) → size v.text ≤ size (without_part v i j).text → (without_part v i j).text ≡ v.text
+pub without-same : (v : PlacedText) (i j : ℕ) → size v.text ≤ size (without_range v i j).text → (without_range v i j).text ≡ v.text
 without-same v i j same =
     ⊎_elim
     (λ yes.
     let is = cond-true _ _ _ yes in
     ap (λ (w : PlacedText). w.text) is ∙ without-text v.text i j (and_parts _ _ yes).1 (subst (λ (w : PlacedText). size v.text ≤ size w.text) is same))
     (λ no. ap (λ (w : PlacedText). w.text) (cond-false _ _ _ no))
-    (cases_Bool (not (is_static v.placement.place) && may_cut_out v.text i j))
+    (cases_Bool (not (is_static v.placement.place) && is_range v.text i j))
 
-pub without-within : (v : PlacedText) (i j : ℕ) → size (without_part v i j).text ≤ size v.text
+pub without-within : (v : PlacedText) (i j : ℕ) → size (without_range v i j).text ≤ size v.text
 without-within v i j =
     ⊎_elim
     (λ yes.
-    let range = range-may_cut_out v.text i j (and_parts _ _ yes).1 in
+    let range = range-is_range v.text i j (and_parts _ _ yes).1 in
     let sizes = size-replaced v.text [] i j range.1 range.2 range.0 in
     subst (λ (w : PlacedText). size w.text ≤ size v.text) (sym (cond-true _ _ _ yes)) (omega (arith, sizes)))
     (λ no. subst (λ (w : PlacedText). size w.text ≤ size v.text) (sym (cond-false _ _ _ no)) (omega arith))
-    (cases_Bool (not (is_static v.placement.place) && may_cut_out v.text i j))
+    (cases_Bool (not (is_static v.placement.place) && is_range v.text i j))
 
 -- where it has as many, a range is one still
-pub without-may_cut_out : (v : PlacedText) (i j front back whole : ℕ) → size v.text ≤ whole
-    → (size v.text ≡ whole → may_cut_out v.text front back ≡ true)
-    → size (without_part v i j).text ≡ whole → may_cut_out (without_part v i j).text front back ≡ true
-without-may_cut_out v i j front back whole within range is =
+pub without-is_range : (v : PlacedText) (i j front back whole : ℕ) → size v.text ≤ whole
+    → (size v.text ≡ whole → is_range v.text front back ≡ true)
+    → size (without_range v i j).text ≡ whole → is_range (without_range v i j).text front back ≡ true
+without-is_range v i j front back whole within range is =
     let same = without-same v i j (omega (arith, is, within)) in
-    subst (λ (t : List ℕ). may_cut_out t front back ≡ true) (sym same) (range (subst (λ (t : List ℕ). size t ≡ whole) same is))
+    subst (λ (t : List ℕ). is_range t front back ≡ true) (sym same) (range (subst (λ (t : List ℕ). size t ≡ whole) same is))
 
-pub drained : (g : Growth) (v u : PlacedText) (i j : ℕ) → make_owned g v ≡ Some u → is_static u.placement.place ≡ false → i ≤ j → IsBoundary v.text i → IsBoundary v.text j → replace_range g v i j [] ≡ Some (without_part u i j)
+pub drained : (g : Growth) (v u : PlacedText) (i j : ℕ) → make_owned g v ≡ Some u → is_static u.placement.place ≡ false → i ≤ j → IsBoundary v.text i → IsBoundary v.text j → replace_range g v i j [] ≡ Some (without_range u i j)
 drained g v u i j o own order h k = rw (make_owned-placement g v u o, le-leb 0 (j - i) (omega arith), owned_placement-without g v u i j o own order h k) refl
 
 -- a character has one to four bytes
@@ -199,6 +199,6 @@ pub length-most : (t : List ℕ) → size t ≤ 4 * length t
 length-most [] = omega arith
 length-most (c ∷ cs) = omega (arith, len_utf8_bounds c, length-most cs)
 
-pub ruleset part_facts = (range-may_cut_out, room-owned_placement)
+pub ruleset part_facts = (range-is_range, room-owned_placement)
 
 pub ruleset owned_facts = (make_owned-text, make_owned-owned_placement)

@@ -8,15 +8,16 @@ use Rattle.compact_repr.specs.Capacity.{Growth, inline_placement, heap_placement
 use Rattle.compact_repr.proofs.Cuts.{size-before, boundary-within, boundary-from_size}
 use Rattle.compact_str.specs.Room.{own_capacity, sure_capacity}
 use Rattle.compact_repr.specs.Change.{truncate, insert_str, replace_range}
-use Rattle.compact_str.specs.Edits.{Removes, split_tail, repeated}
-use Rattle.compact_str.specs.Clones.{cloned_from}
+use Rattle.compact_str.specs.Edits.{Removes, split_tail, repeat}
+use Rattle.compact_str.specs.Clones.{clone_from}
 use Rattle.compact_str.specs.Ranges.{IsRange, range_start, range_end}
 use Rattle.std.specs.Prelude.{true, false}
 use Rattle.std.specs.declared.cmp.Ordering.TheVariants.{Less, Equal, Greater}
 use Rattle.compact_str.specs.Order.{same_text, text_order, text_cmp}
-use Rattle.compact_str.specs.Drains.{part, without_part}
-use Rattle.compact_str.specs.Fitted.{IsFitted}
-use Rattle.compact_str.specs.Collects.{Appends, joined, alone}
+use Rattle.compact_str.specs.RangeTexts.{range_text, without_range}
+use Rattle.compact_str.specs.FittedValues.{IsFitted}
+use Rattle.compact_str.specs.Collect.{Appends, join, char_text}
+use Rattle.compact_str.specs.RetainRules.{retained_text, answer_rule}
 
 abbrev standard : Growth
 standard = record { least = 32; numerator = 3; denominator = 2 }
@@ -71,16 +72,16 @@ a_tail_of_a_heap_text_is_made_anew = refl
 
 -- repetition
 
-abc_nine_times : repeated standard (placed_text abc inline_placement) 9 ≡ Some (placed_text (97 ∷ 98 ∷ 99 ∷ 97 ∷ 98 ∷ 99 ∷ 97 ∷ 98 ∷ 99 ∷ 97 ∷ 98 ∷ 99 ∷ 97 ∷ 98 ∷ 99 ∷ 97 ∷ 98 ∷ 99 ∷ 97 ∷ 98 ∷ 99 ∷ 97 ∷ 98 ∷ 99 ∷ 97 ∷ 98 ∷ 99 ∷ []) (heap_placement 32))
+abc_nine_times : repeat standard (placed_text abc inline_placement) 9 ≡ Some (placed_text (97 ∷ 98 ∷ 99 ∷ 97 ∷ 98 ∷ 99 ∷ 97 ∷ 98 ∷ 99 ∷ 97 ∷ 98 ∷ 99 ∷ 97 ∷ 98 ∷ 99 ∷ 97 ∷ 98 ∷ 99 ∷ 97 ∷ 98 ∷ 99 ∷ 97 ∷ 98 ∷ 99 ∷ 97 ∷ 98 ∷ 99 ∷ []) (heap_placement 32))
 abc_nine_times = refl
 
-no_times_is_empty_and_inline : repeated standard lasting_30 0 ≡ Some (placed_text [] inline_placement)
+no_times_is_empty_and_inline : repeat standard lasting_30 0 ≡ Some (placed_text [] inline_placement)
 no_times_is_empty_and_inline = refl
 
-once_is_a_clone : repeated standard lasting_30 1 ≡ Some lasting_30
+once_is_a_clone : repeat standard lasting_30 1 ≡ Some lasting_30
 once_is_a_clone = refl
 
-once_of_an_empty_text_is_inline : repeated standard (placed_text [] (heap_placement 100)) 1 ≡ Some (placed_text [] inline_placement)
+once_of_an_empty_text_is_inline : repeat standard (placed_text [] (heap_placement 100)) 1 ≡ Some (placed_text [] inline_placement)
 once_of_an_empty_text_is_inline = refl
 
 two_bytes_as_often_as_can_be_counted_are_refused : with_capacity_placement standard (2 * 18446744073709551615) ≡ None
@@ -88,16 +89,16 @@ two_bytes_as_often_as_can_be_counted_are_refused = refl
 
 -- `clone_from`
 
-an_inline_source_brings_its_place : cloned_from standard (placed_text (letters 30) (heap_placement 100)) (placed_text abc inline_placement) ≡ Some (placed_text abc inline_placement)
+an_inline_source_brings_its_place : clone_from standard (placed_text (letters 30) (heap_placement 100)) (placed_text abc inline_placement) ≡ Some (placed_text abc inline_placement)
 an_inline_source_brings_its_place = refl
 
-a_static_source_brings_its_place : cloned_from standard (placed_text (letters 30) (heap_placement 100)) lasting_30 ≡ Some lasting_30
+a_static_source_brings_its_place : clone_from standard (placed_text (letters 30) (heap_placement 100)) lasting_30 ≡ Some lasting_30
 a_static_source_brings_its_place = refl
 
-an_empty_heap_source_clears_a_static_target : cloned_from standard lasting_30 (placed_text [] (heap_placement 100)) ≡ Some (placed_text [] (static_placement []))
+an_empty_heap_source_clears_a_static_target : clone_from standard lasting_30 (placed_text [] (heap_placement 100)) ≡ Some (placed_text [] (static_placement []))
 an_empty_heap_source_clears_a_static_target = refl
 
-a_heap_source_fits_a_heap_target : cloned_from standard (placed_text abc (heap_placement 100)) (placed_text (letters 30) (heap_placement 30)) ≡ Some (placed_text (letters 30) (heap_placement 100))
+a_heap_source_fits_a_heap_target : clone_from standard (placed_text abc (heap_placement 100)) (placed_text (letters 30) (heap_placement 30)) ≡ Some (placed_text (letters 30) (heap_placement 100))
 a_heap_source_fits_a_heap_target = refl
 
 -- room
@@ -186,30 +187,30 @@ the_first_place_that_differs_decides = refl
 
 -- what is taken out
 
-b_is_a_part : part mixed 2 3 ≡ 98 ∷ []
+b_is_a_part : range_text mixed 2 3 ≡ 98 ∷ []
 b_is_a_part = refl
 
-nothing_stands_where_no_character_begins : part mixed 1 3 ≡ []
+nothing_stands_where_no_character_begins : range_text mixed 1 3 ≡ []
 nothing_stands_where_no_character_begins = refl
 
-b_is_taken_out_in_place : without_part (placed_text mixed inline_placement) 2 3 ≡ placed_text (0xE4 ∷ []) inline_placement
+b_is_taken_out_in_place : without_range (placed_text mixed inline_placement) 2 3 ≡ placed_text (0xE4 ∷ []) inline_placement
 b_is_taken_out_in_place = refl
 
-nothing_is_taken_out_of_a_static_text : without_part lasting_30 0 3 ≡ lasting_30
+nothing_is_taken_out_of_a_static_text : without_range lasting_30 0 3 ≡ lasting_30
 nothing_is_taken_out_of_a_static_text = refl
 
 -- what comes one after another
 
-a_separator_stands_between_each_two : joined (44 ∷ 32 ∷ []) alone abc ≡ 97 ∷ 44 ∷ 32 ∷ 98 ∷ 44 ∷ 32 ∷ 99 ∷ []
+a_separator_stands_between_each_two : join (44 ∷ 32 ∷ []) char_text abc ≡ 97 ∷ 44 ∷ 32 ∷ 98 ∷ 44 ∷ 32 ∷ 99 ∷ []
 a_separator_stands_between_each_two = refl
 
-an_empty_item_keeps_its_separator : joined (45 ∷ []) (λ t. t) (abc ∷ [] ∷ []) ≡ 97 ∷ 98 ∷ 99 ∷ 45 ∷ []
+an_empty_item_keeps_its_separator : join (45 ∷ []) (λ t. t) (abc ∷ [] ∷ []) ≡ 97 ∷ 98 ∷ 99 ∷ 45 ∷ []
 an_empty_item_keeps_its_separator = refl
 
-one_item_has_no_separator : joined (45 ∷ []) alone (97 ∷ []) ≡ 97 ∷ []
+one_item_has_no_separator : join (45 ∷ []) char_text (97 ∷ []) ≡ 97 ∷ []
 one_item_has_no_separator = refl
 
-nothing_is_joined_to_nothing : joined (45 ∷ []) alone [] ≡ []
+nothing_is_joined_to_nothing : join (45 ∷ []) char_text [] ≡ []
 nothing_is_joined_to_nothing = refl
 
 an_empty_item_leaves_a_static_value : Appends standard (λ t. t) lasting_30 ([] ∷ []) lasting_30
@@ -226,3 +227,9 @@ bytes_25_are_fitted_on_the_heap = record { short = λ h. absurd (omega (arith, h
 
 bytes_25_are_fitted_with_more_room : IsFitted (placed_text (letters 25) (heap_placement 100))
 bytes_25_are_fitted_with_more_room = record { short = λ h. absurd (omega (arith, h)); long = λ _. (refl, omega (arith)) }
+
+answers_keep_three_of_five : retained_text answer_rule (false ∷ true ∷ true ∷ false ∷ true ∷ []) (0xE4 ∷ 0x62 ∷ 0x1D11E ∷ 0x64 ∷ 0x20AC ∷ []) ≡ 0x62 ∷ 0x1D11E ∷ 0x20AC ∷ []
+answers_keep_three_of_five = refl
+
+a_character_with_no_answer_stays : retained_text answer_rule (true ∷ false ∷ []) (0x41 ∷ 0x62 ∷ 0x43 ∷ []) ≡ 0x41 ∷ 0x43 ∷ []
+a_character_with_no_answer_stays = refl

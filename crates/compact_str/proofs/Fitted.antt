@@ -7,7 +7,7 @@ use Rattle.compact_repr.specs.Text.{size}
 use Rattle.compact_repr.specs.Value.{PlacedText, placed_text, heap}
 use Rattle.compact_repr.specs.Capacity.{Growth, inline_placement}
 use Rattle.compact_repr.specs.Change.{push_str, push_str_asks}
-use Rattle.compact_str.specs.Fitted.{IsFitted}
+use Rattle.compact_str.specs.FittedValues.{IsFitted}
 use Rattle.compact_repr.proofs.Texts.{size-append}
 use Rattle.compact_repr.proofs.Changes.{push_str-text}
 

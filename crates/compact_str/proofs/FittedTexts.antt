@@ -13,7 +13,7 @@ use Rattle.compact_repr.proofs.Changes.{push_str-text}
 use Rattle.compact_codec.specs.Text.{replacement_character}
 use Rattle.compact_codec.specs.Utf8Text.{BytesEncode, replacement_text}
 use Rattle.compact_codec.proofs.LossyReading.{replacement_text-some}
-use Rattle.compact_str.specs.Fitted.{IsFitted}
+use Rattle.compact_str.specs.FittedValues.{IsFitted}
 use Rattle.compact_str.proofs.Fitted.{fitted-push_str}
 
 -- a text of more than 24 bytes on the heap is fitted

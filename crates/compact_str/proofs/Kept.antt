@@ -3,7 +3,8 @@ use Rattle.std.proofs.Common.{◌≡◌, ℕ, List, [], ◌∷◌, Bool, true, f
 use Rattle.std.proofs.lemmas.Bool.{cond-true, cond-false}
 use Rattle.std.specs.List.{items_where_true, filter}
 use Rattle.std.specs.List.Retain.{IsFiltered, ReturnsInTurn}
-use Rattle.compact_repr.specs.Retain.{IsFilteredTo, retained_text, retain_state}
+use Rattle.compact_repr.specs.Retain.{IsFilteredTo}
+use Rattle.compact_str.specs.RetainRules.{retained_text, retain_state}
 
 -- what the test is then may be forgotten
 pub filtered : {F X : Type 0} (calls : F → X → Bool → F → Type 0) (f g : F) (xs ys : List X) → IsFilteredTo calls f xs ys g → IsFiltered calls f xs ys

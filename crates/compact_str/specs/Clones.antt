@@ -6,8 +6,8 @@ use Rattle.compact_repr.specs.Change.{push_str, push_str_asks, clear}
 
 -- v made a clone of w: an inline or static w gives its place and capacity, and the text of a heap w is joined to v
 -- once v is cleared
-abbrev pub cloned_from : Growth → PlacedText → PlacedText → Option PlacedText
-cloned_from g v w = if is_heap w.placement.place then push_str g (clear v) w.text else Some w
+abbrev pub clone_from : Growth → PlacedText → PlacedText → Option PlacedText
+clone_from g v w = if is_heap w.placement.place then push_str g (clear v) w.text else Some w
 
 -- that asks for a heap buffer
 abbrev pub clone_from_asks : PlacedText → PlacedText → Bool

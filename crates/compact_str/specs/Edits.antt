@@ -60,8 +60,8 @@ abbrev pub repeats_by_copy : PlacedText → ℕ → Bool
 repeats_by_copy v n = nat_eq n 1 && not (nat_eq (size v.text) 0)
 
 -- v's text n times: a copy, or with room made anew, which is inline where the outcome is empty
-abbrev pub repeated : Growth → PlacedText → ℕ → Option PlacedText
-repeated g v n =
+abbrev pub repeat : Growth → PlacedText → ℕ → Option PlacedText
+repeat g v n =
     option_map (placed_text (repeated_text n v.text)) (if repeats_by_copy v n then clone_placement g v else with_capacity_placement g (size v.text * n))
 
 abbrev pub repeat_asks : PlacedText → ℕ → Bool

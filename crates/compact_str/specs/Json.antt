@@ -9,13 +9,13 @@ use Rattle.compact_str.specs.declared.string.json.FromJsonError.{FromJsonError}
 use Rattle.compact_str.specs.declared.string.json.FromJsonError.TheVariants.{NotAString, Reserve}
 
 -- room for a copy was refused
-abbrev pub IsReserve : FromJsonError → Type 0
-IsReserve NotAString = ⊥
-IsReserve (Reserve _) = ⊤
+abbrev pub IsJsonReserve : FromJsonError → Type 0
+IsJsonReserve NotAString = ⊥
+IsJsonReserve (Reserve _) = ⊤
 
 -- r is what a JSON string with some bytes gives: a new value with their text, which up to 24 of them is never refused
 pub record ReadsString (g : Growth) (bytes : List ℕ) (r : Result PlacedText FromJsonError) : Type 0 where
-  pub outcome : MatchResult r (λ v. new g (text_of bytes) ≡ Some v) (λ e. IsReserve e × IsTrue (with_capacity_asks (length bytes)))
+  pub outcome : MatchResult r (λ v. new g (text_of bytes) ≡ Some v) (λ e. IsJsonReserve e × IsTrue (with_capacity_asks (length bytes)))
   pub succeeds : length bytes ≤ 24 → IsOk r
 
 -- a string is copied, and every other JSON value is no string

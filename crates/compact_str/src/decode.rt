@@ -1,7 +1,7 @@
 //! How bytes and units from outside become texts.
 ghost use Rattle.std.specs.Prelude.{◌≡◌, ◌+◌, ◌<◌, ◌++◌, length, OnOk, OnErr};
 ghost use Rattle.compact_repr.specs.Text.{size, text_of};
-ghost use Rattle.compact_str.specs.Fitted.{IsFitted};
+ghost use Rattle.compact_str.specs.FittedValues.{IsFitted};
 
 mod buf;
 pub mod error;

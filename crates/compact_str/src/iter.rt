@@ -4,7 +4,6 @@ mod append;
 mod as_text;
 mod collect;
 mod extend;
-pub(crate) mod gather;
 mod into_string;
 mod join;
 mod piece;

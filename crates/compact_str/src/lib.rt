@@ -7,7 +7,7 @@
 #![tactic(auto, using(compact_repr::proofs::TextFacts::text_facts))]
 
 mod decode;
-mod drain;
+mod gather;
 mod iter;
 mod laws;
 mod refused;
@@ -17,7 +17,6 @@ pub use compact_repr::{
     INLINE_CAPACITY, MAX_CAPACITY, Policy, ReserveError, Standard, standard_grows_by_half,
 };
 pub use decode::error::{FromUtf8Error, FromUtf16Error, Utf16Error};
-pub use drain::Drain;
 pub use iter::{AsText, CompactStringExt, append_all};
 pub use laws::{
     append_undoes_split, byte_order_is_text_order, clone_is_equal, decoding_undoes_encoding,
@@ -25,5 +24,6 @@ pub use laws::{
     sorted_row_is_searchable, truncation_undoes_append,
 };
 pub use refused::Refused;
+pub use string::drain::Drain;
 pub use string::json::FromJsonError;
 pub use string::{CompactString, PolicyString};

@@ -5,29 +5,29 @@
 #[cfg(test)]
 mod buffers;
 #[cfg(test)]
-mod changed;
+mod capacity;
 #[cfg(test)]
-mod collected;
+mod collect;
 #[cfg(test)]
-mod compared;
+mod comparisons;
 #[cfg(test)]
-mod decoded;
+mod constructors;
 #[cfg(test)]
-mod decoded_all;
+mod conversions;
+#[cfg(test)]
+mod decoding;
+#[cfg(test)]
+mod decoding_all;
 #[cfg(test)]
 mod drips;
 #[cfg(test)]
 mod fields;
 #[cfg(test)]
-mod handed_on;
-#[cfg(test)]
-mod hinted;
-#[cfg(test)]
-mod hinted_refused;
+mod formatting;
 #[cfg(test)]
 mod hints;
 #[cfg(test)]
-mod made;
+mod memory;
 #[cfg(test)]
 mod packed;
 #[cfg(test)]
@@ -35,8 +35,8 @@ mod positions;
 #[cfg(test)]
 mod read_fields;
 #[cfg(test)]
-mod refused;
+mod removals;
 #[cfg(test)]
-mod shown;
+mod size_hints;
 #[cfg(test)]
-mod taken;
+mod size_hints_refused;

@@ -1,5 +1,5 @@
 //! Positions that a value has, and texts of the program that are split at one. Edits at positions are lines of the table of
-//! `compact_refusal_tests`.
+//! `compact_table_tests`.
 
 use compact_str::CompactString;
 use compact_testing::seen::{is_inline, is_static};

@@ -6,7 +6,7 @@ use Rattle.compact_uses.specs.declared.records.read.Place.{Place}
 use Rattle.compact_uses.specs.declared.records.read.Place.TheVariants.{Start, Plain, Quoted, Behind}
 use Rattle.compact_uses.specs.declared.records.read.Effect.{Effect}
 use Rattle.compact_uses.specs.declared.records.read.Effect.TheVariants.{Keep, Skip, End, Broken}
-use Rattle.compact_uses.specs.Lines.{quote, escaped, IsPlain}
+use Rattle.compact_uses.specs.Lines.{quote, escaped_text, IsPlain}
 use Rattle.compact_uses.specs.Reading.{HasEffect}
 
 pub not-same : (n m : ℕ) → n ≢ m → nat_eq n m ≡ false
@@ -16,21 +16,21 @@ not-same n m apart = by (nat_eq n m) refl
     by true same = absurd (apart (eqb-true n m same))
     by false other = other
 
-pub escaped-quote : (front : List ℕ) (c : ℕ) → c ≡ quote → escaped (front ++ c ∷ []) ≡ escaped front ++ quote ∷ quote ∷ []
+pub escaped-quote : (front : List ℕ) (c : ℕ) → c ≡ quote → escaped_text (front ++ c ∷ []) ≡ escaped_text front ++ quote ∷ quote ∷ []
 escaped-quote [] c is = rw is refl
 escaped-quote (x ∷ front) c is = by (nat_eq x quote) (escaped-quote front c is)
   where
-    by : (b : Bool) → escaped (front ++ c ∷ []) ≡ escaped front ++ quote ∷ quote ∷ []
-        → (if b then quote ∷ quote ∷ escaped (front ++ c ∷ []) else x ∷ escaped (front ++ c ∷ [])) ≡ (if b then quote ∷ quote ∷ escaped front else x ∷ escaped front) ++ quote ∷ quote ∷ []
+    by : (b : Bool) → escaped_text (front ++ c ∷ []) ≡ escaped_text front ++ quote ∷ quote ∷ []
+        → (if b then quote ∷ quote ∷ escaped_text (front ++ c ∷ []) else x ∷ escaped_text (front ++ c ∷ [])) ≡ (if b then quote ∷ quote ∷ escaped_text front else x ∷ escaped_text front) ++ quote ∷ quote ∷ []
     by true rest = ap (λ l. quote ∷ quote ∷ l) rest
     by false rest = ap (λ l. x ∷ l) rest
 
-pub escaped-other : (front : List ℕ) (c : ℕ) → c ≢ quote → escaped (front ++ c ∷ []) ≡ escaped front ++ c ∷ []
+pub escaped-other : (front : List ℕ) (c : ℕ) → c ≢ quote → escaped_text (front ++ c ∷ []) ≡ escaped_text front ++ c ∷ []
 escaped-other [] c apart = rw (not-same c quote apart) refl
 escaped-other (x ∷ front) c apart = by (nat_eq x quote) (escaped-other front c apart)
   where
-    by : (b : Bool) → escaped (front ++ c ∷ []) ≡ escaped front ++ c ∷ []
-        → (if b then quote ∷ quote ∷ escaped (front ++ c ∷ []) else x ∷ escaped (front ++ c ∷ [])) ≡ (if b then quote ∷ quote ∷ escaped front else x ∷ escaped front) ++ c ∷ []
+    by : (b : Bool) → escaped_text (front ++ c ∷ []) ≡ escaped_text front ++ c ∷ []
+        → (if b then quote ∷ quote ∷ escaped_text (front ++ c ∷ []) else x ∷ escaped_text (front ++ c ∷ [])) ≡ (if b then quote ∷ quote ∷ escaped_text front else x ∷ escaped_text front) ++ c ∷ []
     by true rest = ap (λ l. quote ∷ quote ∷ l) rest
     by false rest = ap (λ l. x ∷ l) rest
 
@@ -82,7 +82,7 @@ pub goes-on-plain : (separator c : ℕ) → c ≢ separator → HasEffect separa
 goes-on-plain separator c apart = λ field part at. (plain-more separator c field at.0 at.1 apart, more-length field c, ap (λ t. t ++ c ∷ []) at.2)
 
 pub may-close : (separator c : ℕ) → c ≡ quote → HasEffect separator Quoted c (Skip Behind)
-may-close separator c is = λ field part at. (at.0, ap (λ t. t ++ c ∷ []) at.1 ∙ ap (λ x. quote ∷ (escaped field ++ x ∷ [])) is)
+may-close separator c is = λ field part at. (at.0, ap (λ t. t ++ c ∷ []) at.1 ∙ ap (λ x. quote ∷ (escaped_text field ++ x ∷ [])) is)
 
 pub goes-on-quoted : (separator c : ℕ) → c ≢ quote → HasEffect separator Quoted c (Keep Quoted)
 goes-on-quoted separator c other = λ field part at. (at.0, ap (λ t. t ++ c ∷ []) at.1 ∙ ap (λ t. quote ∷ t) (sym (escaped-other field c other)))
@@ -91,7 +91,7 @@ pub doubles : (separator c : ℕ) → c ≡ quote → HasEffect separator Behind
 doubles separator c is = λ field part at. (
   at.0,
   ap (λ t. t ++ c ∷ []) at.1
-      ∙ ap (λ t. quote ∷ t) (append_assoc (escaped field) (quote ∷ []) (c ∷ []) ∙ ap (λ x. escaped field ++ quote ∷ x ∷ []) is ∙ sym (escaped-quote field c is)),
+      ∙ ap (λ t. quote ∷ t) (append_assoc (escaped_text field) (quote ∷ []) (c ∷ []) ∙ ap (λ x. escaped_text field ++ quote ∷ x ∷ []) is ∙ sym (escaped-quote field c is)),
 )
 
 pub ends-behind : (separator c : ℕ) → c ≡ separator → HasEffect separator Behind c End

@@ -9,7 +9,7 @@ use Rattle.compact_uses.specs.declared.records.read.Place.{Place}
 use Rattle.compact_uses.specs.declared.records.read.Place.TheVariants.{Start, Plain, Quoted, Behind}
 use Rattle.compact_uses.specs.declared.records.read.Effect.{Effect}
 use Rattle.compact_uses.specs.declared.records.read.Effect.TheVariants.{Keep, Skip, End, Broken}
-use Rattle.compact_uses.specs.Lines.{quote, escaped, quoted, IsPlain, IsWritten, BeginsWith, IsLineOf, IsBrokenField, IsBroken, ReadsAs, BreaksFor, ReadsAsWritten, ReadsOrBreaks, line_of, ReadsBack, plain_line_of, ReadsPlainFields}
+use Rattle.compact_uses.specs.Lines.{quote, escaped_text, quoted_field, IsPlain, IsWritten, BeginsWith, IsLineOf, IsBrokenField, IsBroken, ReadsAs, BreaksFor, ReadsAsWritten, ReadsOrBreaks, quoted_line, QuotedFieldsReadBack, plain_line, PlainFieldsReadBack}
 use Rattle.compact_uses.proofs.FieldParts.{not-same, effect}
 use Rattle.compact_uses.proofs.LineReading.{some-outcome}
 
@@ -38,33 +38,33 @@ module _ (separator : ℕ) where
   one-more place done field c cs does is = ap (λ e. behind_effect (λ next now so_far. read separator next now so_far cs) done field c e) is
 
   inside-quotes : (done : List (List ℕ)) (text field rest : List ℕ)
-      → read separator Quoted done field (escaped text ++ rest) ≡ read separator Quoted done (field ++ text) rest
+      → read separator Quoted done field (escaped_text text ++ rest) ≡ read separator Quoted done (field ++ text) rest
   inside-quotes done [] field rest = ap (λ x. read separator Quoted done x rest) (sym (append-nil field))
   inside-quotes done (c ∷ cs) field rest = by (nat_eq c quote) refl (λ front. inside-quotes done cs front rest)
     where
       by : (b : Bool) → nat_eq c quote ≡ b
-          → ((front : List ℕ) → read separator Quoted done front (escaped cs ++ rest) ≡ read separator Quoted done (front ++ cs) rest)
-          → read separator Quoted done field ((if b then quote ∷ quote ∷ escaped cs else c ∷ escaped cs) ++ rest) ≡ read separator Quoted done (field ++ c ∷ cs) rest
+          → ((front : List ℕ) → read separator Quoted done front (escaped_text cs ++ rest) ≡ read separator Quoted done (front ++ cs) rest)
+          → read separator Quoted done field ((if b then quote ∷ quote ∷ escaped_text cs else c ∷ escaped_text cs) ++ rest) ≡ read separator Quoted done (field ++ c ∷ cs) rest
       by true same again =
           let is : c ≡ quote = eqb-true c quote same in
           again (field ++ quote ∷ []) ∙ ap (λ x. read separator Quoted done x rest) (append_assoc field (quote ∷ []) cs ∙ ap (λ x. field ++ x ∷ cs) (sym is))
       by false other again =
           let does : effect separator Quoted c ≡ Keep Quoted = rw other refl in
-          one-more Quoted done field c (escaped cs ++ rest) (Keep Quoted) does
+          one-more Quoted done field c (escaped_text cs ++ rest) (Keep Quoted) does
           ∙ again (field ++ c ∷ [])
           ∙ ap (λ x. read separator Quoted done x rest) (append_assoc field (c ∷ []) cs)
 
   opened : separator ≢ quote → (done : List (List ℕ)) (text rest : List ℕ)
-      → read separator Start done [] (quote ∷ (escaped text ++ rest)) ≡ read separator Quoted done text rest
+      → read separator Start done [] (quote ∷ (escaped_text text ++ rest)) ≡ read separator Quoted done text rest
   opened apart done text rest =
       let other : nat_eq quote separator ≡ false = not-same quote separator (λ same. apart (sym same)) in
       let does : effect separator Start quote ≡ Skip Quoted = rw other refl in
-      one-more Start done [] quote (escaped text ++ rest) (Skip Quoted) does ∙ inside-quotes done text [] rest
+      one-more Start done [] quote (escaped_text text ++ rest) (Skip Quoted) does ∙ inside-quotes done text [] rest
 
   quoted-field : separator ≢ quote → (done : List (List ℕ)) (text rest : List ℕ)
-      → read separator Start done [] (quoted text ++ rest) ≡ read separator Behind done text rest
+      → read separator Start done [] (quoted_field text ++ rest) ≡ read separator Behind done text rest
   quoted-field apart done text rest =
-      ap (λ x. read separator Start done [] (quote ∷ x)) (append_assoc (escaped text) (quote ∷ []) rest) ∙ opened apart done text (quote ∷ rest)
+      ap (λ x. read separator Start done [] (quote ∷ x)) (append_assoc (escaped_text text) (quote ∷ []) rest) ∙ opened apart done text (quote ∷ rest)
 
   plain-part : (done : List (List ℕ)) (front field rest : List ℕ) → AllByRecursion (λ c. c ≢ separator) field
       → read separator Plain done front (field ++ rest) ≡ read separator Plain done (front ++ field) rest
@@ -118,7 +118,7 @@ module _ (separator : ℕ) where
   last-field : (done : List (List ℕ)) (field form : List ℕ) → IsWritten separator field form → read separator Start done [] form ≡ Ok (done ++ field ∷ [])
   last-field done field form (inl plain) = rw plain.1 (last-plain done field plain.0)
   last-field done field form (inr in_quotes) =
-      ap (λ x. read separator Start done [] x) (in_quotes.1 ∙ sym (append-nil (quoted field))) ∙ quoted-field in_quotes.0 done field []
+      ap (λ x. read separator Start done [] x) (in_quotes.1 ∙ sym (append-nil (quoted_field field))) ∙ quoted-field in_quotes.0 done field []
 
   first-fields : (done : List (List ℕ)) (line : List ℕ) (fields : List (List ℕ)) (rest : List ℕ) → BeginsWith separator line fields rest
       → read separator Start done [] line ≡ read separator Start (done ++ fields) [] rest
@@ -136,7 +136,7 @@ module _ (separator : ℕ) where
   broken-field : separator ≢ quote → (done : List (List ℕ)) (rest : List ℕ) (fault : Fault) → IsBrokenField separator rest fault
       → read separator Start done [] rest ≡ Err fault
   broken-field apart done rest OpenQuote broken =
-      ap (λ x. read separator Start done [] x) (broken.1 ∙ ap (λ x. quote ∷ x) (sym (append-nil (escaped broken.0)))) ∙ opened apart done broken.0 []
+      ap (λ x. read separator Start done [] x) (broken.1 ∙ ap (λ x. quote ∷ x) (sym (append-nil (escaped_text broken.0)))) ∙ opened apart done broken.0 []
   broken-field apart done rest TextBehindQuote broken =
       let no_quote : nat_eq broken.1 quote ≡ false = not-same broken.1 quote broken.4 in
       let no_end : nat_eq broken.1 separator ≡ false = not-same broken.1 separator broken.5 in
@@ -223,7 +223,7 @@ written-line separator form_of field (next ∷ fields) written =
     prepended separator field (form_of field) (form_of next ++ flat_map (λ other. separator ∷ form_of other) fields) (next ∷ fields) written.0
     (written-line separator form_of next fields written.1)
 
-all-quoted : (separator : ℕ) → separator ≢ quote → (fields : List (List ℕ)) → AllByRecursion (λ f. IsWritten separator f (quoted f)) fields
+all-quoted : (separator : ℕ) → separator ≢ quote → (fields : List (List ℕ)) → AllByRecursion (λ f. IsWritten separator f (quoted_field f)) fields
 all-quoted separator apart [] = tt
 all-quoted separator apart (field ∷ fields) = (inr (apart, refl), all-quoted separator apart fields)
 
@@ -231,14 +231,14 @@ all-plain : (separator : ℕ) (fields : List (List ℕ)) → AllByRecursion (IsP
 all-plain separator [] plain = tt
 all-plain separator (field ∷ fields) plain = (inl (plain.0, refl), all-plain separator fields plain.1)
 
-pub reads-back : ReadsBack
+pub reads-back : QuotedFieldsReadBack
 reads-back separator [] apart some = absurd (some refl)
 reads-back separator (field ∷ fields) apart some =
-    reads-as_written separator (line_of separator (field ∷ fields)) (field ∷ fields)
-    (written-line separator quoted field fields (all-quoted separator apart (field ∷ fields)))
+    reads-as_written separator (quoted_line separator (field ∷ fields)) (field ∷ fields)
+    (written-line separator quoted_field field fields (all-quoted separator apart (field ∷ fields)))
 
-pub reads-plain_fields : ReadsPlainFields
+pub reads-plain_fields : PlainFieldsReadBack
 reads-plain_fields separator [] some plain = absurd (some refl)
 reads-plain_fields separator (field ∷ fields) some plain =
-    reads-as_written separator (plain_line_of separator (field ∷ fields)) (field ∷ fields)
+    reads-as_written separator (plain_line separator (field ∷ fields)) (field ∷ fields)
     (written-line separator (λ f. f) field fields (all-plain separator (field ∷ fields) (recursion_from_All (IsPlain separator) (field ∷ fields) plain)))

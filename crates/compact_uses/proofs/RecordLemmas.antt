@@ -3,12 +3,12 @@ use Rattle.std.proofs.Common.{◌≡◌, ℕ, ◌<◌, List, [], ◌∷◌, ◌+
 use Rattle.std.specs.Global.{Vec}
 use Rattle.std.specs.Io.BufRead.{first_piece, drop_through, DropsThrough}
 use Rattle.compact_str.specs.Value.{PlacedText}
-use Rattle.compact_uses.specs.Records.{IsRecordOf, IsCauseAt, Reads, ReadsUpTo}
+use Rattle.compact_uses.specs.RecordLines.{IsRecordOf, IsCauseAt, ReadsRecords, ReadsUpTo}
 use Rattle.compact_uses.specs.declared.records.RecordsCause.{RecordsCause}
 
 -- after the first lines comes one more
-pub reads-more : (separator : ℕ) (bytes : List ℕ) (records : List (Vec PlacedText)) (rest : List ℕ) (fields : Vec PlacedText) → Reads separator bytes records rest
-    → 0 < length rest → IsRecordOf separator (first_piece 10 rest) fields → Reads separator bytes (records ++ fields ∷ []) (drop_through 10 rest)
+pub reads-more : (separator : ℕ) (bytes : List ℕ) (records : List (Vec PlacedText)) (rest : List ℕ) (fields : Vec PlacedText) → ReadsRecords separator bytes records rest
+    → 0 < length rest → IsRecordOf separator (first_piece 10 rest) fields → ReadsRecords separator bytes (records ++ fields ∷ []) (drop_through 10 rest)
 reads-more separator bytes [] rest fields reads some is = rw (sym reads) (some, is, refl)
 reads-more separator bytes (r ∷ rs) rest fields reads some is =
     (reads.0, reads.1, reads-more separator (drop_through 10 bytes) rs rest fields reads.2 some is)
@@ -16,7 +16,7 @@ reads-more separator bytes (r ∷ rs) rest fields reads some is =
 -- the records so far are those of the first lines of the known bytes, and what is left of these is known
 abbrev pub ReadsSoFar : ℕ → Option (List ℕ) → List (Vec PlacedText) → List (Vec PlacedText) → Option (List ℕ) → Type 0
 ReadsSoFar separator known before now left = IfSome known (λ bytes. (records : List (Vec PlacedText)) × (rest : List ℕ)
-    × (now ≡ before ++ records) × Reads separator bytes records rest × (left ≡ Some rest))
+    × (now ≡ before ++ records) × ReadsRecords separator bytes records rest × (left ≡ Some rest))
 
 pub next-line : (separator : ℕ) (known left next : Option (List ℕ)) (before now after : List (Vec PlacedText)) (piece : List ℕ) (fields : Vec PlacedText)
     → ReadsSoFar separator known before now left → IfSome left (λ xs. (0 < length xs) × (piece ≡ first_piece 10 xs)) → DropsThrough left next 10

@@ -9,7 +9,7 @@ use Rattle.std.specs.Option.{unwrap_or}
 use Rattle.std.specs.List.{All, AllByRecursion}
 use Rattle.std.specs.Cmp.Lexicographic.{pointwise}
 use Rattle.std.specs.Prelude.{nat_eq}
-use Rattle.compact_edit.specs.Names.{firsts}
+use Rattle.compact_edit.specs.Names.{distinct_texts}
 use Rattle.compact_edit.proofs.KeyTexts.{noted, firsts-push}
 use Rattle.compact_edit.proofs.TakenTexts.{still-distinct}
 use Rattle.compact_uses.specs.declared.tokenizer.Kind.{Kind}
@@ -51,7 +51,7 @@ texts-kept names after (token ∷ tokens) keep all =
 -- a piece that has a number among the names is put behind the tokens
 
 pub put-names : (before names after : List (List ℕ)) (tokens : List Token) (token : Token) (piece : List ℕ) → KeepsNumbers names after → All (IsToken names) tokens
-    → slice_get after token.name ≡ Some piece → after ≡ firsts (names ++ piece ∷ []) → AreNamesOf before names tokens → AreNamesOf before after (tokens ++ token ∷ [])
+    → slice_get after token.name ≡ Some piece → after ≡ distinct_texts (names ++ piece ∷ []) → AreNamesOf before names tokens → AreNamesOf before after (tokens ++ token ∷ [])
 put-names before names after tokens token piece keep all at is are =
     let texts : List (List ℕ) = map (token_text names) tokens in
     let last : token_text after token ≡ piece = ap (λ (x : Option (List ℕ)). unwrap_or x []) at in
@@ -63,7 +63,7 @@ put-names before names after tokens token piece keep all at is are =
           ∙ firsts-push names piece
           ∙ ap (λ others. noted others piece) (are.0 ∙ are.1)
           ∙ sym (firsts-push (before ++ texts) piece)
-          ∙ ap firsts (append_assoc before texts (piece ∷ []) ∙ ap (λ x. before ++ x) (sym put)),
+          ∙ ap distinct_texts (append_assoc before texts (piece ∷ []) ∙ ap (λ x. before ++ x) (sym put)),
     )
 
 pub put-joined : (names after : List (List ℕ)) (tokens : List Token) (token : Token) (piece : List ℕ) → KeepsNumbers names after → All (IsToken names) tokens
@@ -152,13 +152,13 @@ none-alike P = All-nil P
 
 -- no more names come in than there are characters
 
-few-firsts : (ts : List (List ℕ)) → length (firsts ts) ≤ length ts
+few-firsts : (ts : List (List ℕ)) → length (distinct_texts ts) ≤ length ts
 few-firsts [] = omega arith
 few-firsts (t ∷ ts) =
-    let others = length-filter_both (λ u. not (pointwise nat_eq t u)) (λ u. not (not (pointwise nat_eq t u))) (λ u. refl) (firsts ts) in
+    let others = length-filter_both (λ u. not (pointwise nat_eq t u)) (λ u. not (not (pointwise nat_eq t u))) (λ u. refl) (distinct_texts ts) in
     omega (arith, others, few-firsts ts)
 
-pub one-name : (names after : List (List ℕ)) (piece : List ℕ) → after ≡ firsts (names ++ piece ∷ []) → 0 < length piece → length after ≤ length names + length piece
+pub one-name : (names after : List (List ℕ)) (piece : List ℕ) → after ≡ distinct_texts (names ++ piece ∷ []) → 0 < length piece → length after ≤ length names + length piece
 one-name names after piece is filled = omega (arith, ap length is, few-firsts (names ++ piece ∷ []), length-append names (piece ∷ []), filled)
 
 few-tokens : (names : List (List ℕ)) (tokens : List Token) → AllByRecursion (IsToken names) tokens → length tokens ≤ length (flat_map (token_text names) tokens)
@@ -199,7 +199,7 @@ front-without before names tokens kind (c ∷ piece) others all parted follows f
 
 pub front-with : (before names after : List (List ℕ)) (tokens : List Token) (token : Token) (piece others : List ℕ) → KeepsNumbers names after
     → All (IsToken names) tokens → AreParted tokens → goes_on (last_kind Mark tokens) token.kind ≡ false → slice_get after token.name ≡ Some piece
-    → after ≡ firsts (names ++ piece ∷ []) → 0 < length piece → All (λ c. kind_of c ≡ token.kind) piece → (token.kind ≡ Mark → length piece ≤ 1)
+    → after ≡ distinct_texts (names ++ piece ∷ []) → 0 < length piece → All (λ c. kind_of c ≡ token.kind) piece → (token.kind ≡ Mark → length piece ≤ 1)
     → BeginsApart token.kind others → AreNamesOf before names tokens
     → AreNamesOfFront before after (flat_map (token_text names) tokens ++ piece ++ others)
 front-with before names after tokens token piece others keep all parted follows at is filled alike single apart are = record {

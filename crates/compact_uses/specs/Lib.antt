@@ -2,4 +2,4 @@ pub mod Tokens
 pub mod Columns
 pub mod Lines
 pub mod Reading
-pub mod Records
+pub mod RecordLines

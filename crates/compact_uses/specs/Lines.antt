@@ -17,18 +17,18 @@ pub record IsPlain (separator : ℕ) (field : List ℕ) : Type 0 where
   pub front : slice_get field 0 ≢ Some quote
 
 -- each quote of a text stands twice
-abbrev pub escaped : List ℕ → List ℕ
-escaped [] = []
-escaped (c ∷ cs) = if nat_eq c quote then quote ∷ quote ∷ escaped cs else c ∷ escaped cs
+abbrev pub escaped_text : List ℕ → List ℕ
+escaped_text [] = []
+escaped_text (c ∷ cs) = if nat_eq c quote then quote ∷ quote ∷ escaped_text cs else c ∷ escaped_text cs
 
 -- the field between two quotes, with each of its own twice
-abbrev pub quoted : List ℕ → List ℕ
-quoted field = quote ∷ (escaped field ++ quote ∷ [])
+abbrev pub quoted_field : List ℕ → List ℕ
+quoted_field field = quote ∷ (escaped_text field ++ quote ∷ [])
 
 -- the field is written so: plain, as it is; or in quotes, but not where it is a quote that parts the fields
 abbrev pub IsWritten : ℕ → List ℕ → List ℕ → Type 0
 IsWritten separator field form =
-    (IsPlain separator field × (form ≡ field)) ⊎ ((separator ≢ quote) × (form ≡ quoted field))
+    (IsPlain separator field × (form ≡ field)) ⊎ ((separator ≢ quote) × (form ≡ quoted_field field))
 
 -- the line begins with these fields, each as it is written and with a separator behind it, and this is the rest
 abbrev pub BeginsWith : ℕ → List ℕ → List (List ℕ) → List ℕ → Type 0
@@ -46,9 +46,9 @@ IsLineOf separator line fields =
 -- what stands here is no field, for this fault: it begins with a quote and none ends it, or something other than a separator
 -- stands behind the one that does
 abbrev pub IsBrokenField : ℕ → List ℕ → Fault → Type 0
-IsBrokenField separator rest OpenQuote = (text : List ℕ) × (rest ≡ quote ∷ escaped text)
+IsBrokenField separator rest OpenQuote = (text : List ℕ) × (rest ≡ quote ∷ escaped_text text)
 IsBrokenField separator rest TextBehindQuote =
-    (text : List ℕ) × (c : ℕ) × (behind : List ℕ) × (rest ≡ quoted text ++ c ∷ behind) × (c ≢ quote) × (c ≢ separator)
+    (text : List ℕ) × (c : ℕ) × (behind : List ℕ) × (rest ≡ quoted_field text ++ c ∷ behind) × (c ≢ quote) × (c ≢ separator)
 
 -- the line is no record, for this fault, which comes behind its first fields
 abbrev pub IsBroken : ℕ → List ℕ → Fault → Type 0
@@ -85,23 +85,23 @@ ReadsOrBreaks =
     → ((fields : List (List ℕ)) × ReadsAs separator line fields) ⊎ ((fault : Fault) × BreaksFor separator line fault)
 
 -- the fields as a line, each in quotes
-abbrev pub line_of : ℕ → List (List ℕ) → List ℕ
-line_of separator [] = []
-line_of separator (field ∷ fields) = quoted field ++ flat_map (λ other. separator ∷ quoted other) fields
+abbrev pub quoted_line : ℕ → List (List ℕ) → List ℕ
+quoted_line separator [] = []
+quoted_line separator (field ∷ fields) = quoted_field field ++ flat_map (λ other. separator ∷ quoted_field other) fields
 
 -- where all fields are in quotes, the line reads as these fields, if there is one
-abbrev pub ReadsBack : Type 0
-ReadsBack =
+abbrev pub QuotedFieldsReadBack : Type 0
+QuotedFieldsReadBack =
     (separator : ℕ) (fields : List (List ℕ)) → separator ≢ quote → fields ≢ []
-    → ReadsAs separator (line_of separator fields) fields
+    → ReadsAs separator (quoted_line separator fields) fields
 
 -- the fields as a line, each as it is
-abbrev pub plain_line_of : ℕ → List (List ℕ) → List ℕ
-plain_line_of separator [] = []
-plain_line_of separator (field ∷ fields) = field ++ flat_map (λ other. separator ∷ other) fields
+abbrev pub plain_line : ℕ → List (List ℕ) → List ℕ
+plain_line separator [] = []
+plain_line separator (field ∷ fields) = field ++ flat_map (λ other. separator ∷ other) fields
 
 -- where none is in quotes, and none needs them, the line reads as these fields, if there is one
-abbrev pub ReadsPlainFields : Type 0
-ReadsPlainFields =
+abbrev pub PlainFieldsReadBack : Type 0
+PlainFieldsReadBack =
     (separator : ℕ) (fields : List (List ℕ)) → fields ≢ [] → All (IsPlain separator) fields
-    → ReadsAs separator (plain_line_of separator fields) fields
+    → ReadsAs separator (plain_line separator fields) fields

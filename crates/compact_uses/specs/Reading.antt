@@ -1,7 +1,7 @@
 -- What of a line a reader has read, and what a character does there.
 use Rattle.std.specs.Prelude.{◌≡◌, ◌≢◌, ◌<◌, ℕ, List, [], ◌∷◌, ◌++◌, length, map, ⊤}
 use Rattle.compact_str.specs.Order.{text_in}
-use Rattle.compact_uses.specs.Lines.{quote, escaped, quoted, IsPlain, IsWritten, BeginsWith}
+use Rattle.compact_uses.specs.Lines.{quote, escaped_text, quoted_field, IsPlain, IsWritten, BeginsWith}
 use Rattle.compact_uses.specs.declared.records.read.Fault.TheVariants.{TextBehindQuote}
 use Rattle.compact_uses.specs.declared.records.read.LineError.{LineError}
 use Rattle.compact_uses.specs.declared.records.read.LineError.TheVariants as error
@@ -15,8 +15,8 @@ use Rattle.compact_uses.specs.declared.records.read.Reading.{Reading}
 abbrev pub IsPartOf : ℕ → Place → List ℕ → List ℕ → Type 0
 IsPartOf separator Start field part = (field ≡ []) × (part ≡ [])
 IsPartOf separator Plain field part = IsPlain separator field × (0 < length field) × (part ≡ field)
-IsPartOf separator Quoted field part = (separator ≢ quote) × (part ≡ quote ∷ escaped field)
-IsPartOf separator Behind field part = (separator ≢ quote) × (part ≡ quoted field)
+IsPartOf separator Quoted field part = (separator ≢ quote) × (part ≡ quote ∷ escaped_text field)
+IsPartOf separator Behind field part = (separator ≢ quote) × (part ≡ quoted_field field)
 
 -- behind the characters of a field so far the character has this effect
 abbrev pub HasEffect : ℕ → Place → ℕ → Effect → Type 0

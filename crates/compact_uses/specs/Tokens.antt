@@ -5,7 +5,7 @@ use Rattle.std.specs.List.{All}
 use Rattle.std.specs.Char.{is_whitespace}
 use Rattle.std.specs.Char.Unicode.Alphabetic.{is_alphabetic}
 use Rattle.std.specs.Char.Unicode.Numeric.{is_numeric}
-use Rattle.compact_edit.specs.Names.{firsts}
+use Rattle.compact_edit.specs.Names.{distinct_texts}
 use Rattle.compact_edit.specs.declared.intern.InternError.{InternError}
 use Rattle.compact_edit.specs.declared.intern.InternError.TheVariants.{Reserve, Full}
 use Rattle.compact_uses.specs.declared.tokenizer.Kind.{Kind}
@@ -64,7 +64,7 @@ IsTokenRefusal names Full = length names ≡ 4294967295
 
 -- the names are distinct: those that stood at first, and the texts of the tokens, by first occurrence
 abbrev pub AreNamesOf : List (List ℕ) → List (List ℕ) → List Token → Type 0
-AreNamesOf before names tokens = (firsts names ≡ names) × (names ≡ firsts (before ++ map (token_text names) tokens))
+AreNamesOf before names tokens = (distinct_texts names ≡ names) × (names ≡ distinct_texts (before ++ map (token_text names) tokens))
 
 -- the text does not begin with a character that goes on with a token of this kind
 abbrev pub BeginsApart : Kind → List ℕ → Type 0

@@ -5,7 +5,7 @@ ghost use Rattle.std.specs.declared.io.ErrorKind.TheVariants.{OutOfMemory};
 ghost use Rattle.std.specs.Global.{Vec};
 ghost use Rattle.compact_str.specs.Value.{PlacedText};
 ghost use Rattle.compact_uses.specs.declared.records.RecordsCause.TheVariants as cause;
-ghost use Rattle.compact_uses.specs.Records.{IsRecordOf, IsCauseAt, IsLineAfter, Reads, ReadsAll, ReadsUpTo};
+ghost use Rattle.compact_uses.specs.RecordLines.{IsRecordOf, IsCauseAt, IsLineAfter, ReadsRecords, ReadsAll, ReadsUpTo};
 
 mod read;
 mod write;
@@ -18,7 +18,7 @@ pub use read::{
 use std::alloc::Global;
 use std::io;
 use std::io::{BufRead, BufReader, ErrorKind, Read};
-pub use write::line_of;
+pub use write::quoted_line;
 
 /// Why records were not read to the end.
 #[derive(Clone, Copy, Debug, PartialEq, Eq)]

@@ -92,17 +92,17 @@ pub fn tokenize(
             continue;
         }
         let (piece, others) = rest.split_at(len);
-        put(names, &mut tokens, kind, piece)?;
+        push_token(names, &mut tokens, kind, piece)?;
         rest = others;
         len = character.len_utf8();
         kind = next;
     }
-    put(names, &mut tokens, kind, rest)?;
+    push_token(names, &mut tokens, kind, rest)?;
     Ok(tokens)
 }
 
 /// Puts a piece of the text behind the tokens, unless it is empty.
-fn put(
+fn push_token(
     names: &mut Interner,
     tokens: &mut Vec<Token>,
     kind: Kind,

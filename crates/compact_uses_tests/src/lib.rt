@@ -2,10 +2,10 @@
 #![tactic(auto, using(compact_str::proofs::ForCallers::for_callers))]
 
 #[cfg(test)]
+mod record_stops;
+#[cfg(test)]
 mod records;
 #[cfg(test)]
 mod report;
-#[cfg(test)]
-mod stopped_records;
 #[cfg(test)]
 mod tokenizer;

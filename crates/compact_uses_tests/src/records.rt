@@ -4,7 +4,7 @@ use compact_str::CompactString;
 use compact_testing::memory::take_all;
 use compact_testing::values::value_of;
 use compact_uses::{
-    Fault, LineError, RecordsCause, RecordsError, fields_of, line_of, read_records,
+    Fault, LineError, RecordsCause, RecordsError, fields_of, quoted_line, read_records,
 };
 use std::alloc::Global;
 use std::io;
@@ -79,7 +79,7 @@ fn fields_are_written_in_quotes(rt: HostRuntime) {
         value_of(alloc, "a").expect(&rt, "memory"),
         value_of(alloc, "b\",").expect(&rt, "memory"),
     ];
-    let line = line_of(alloc, ',', &fields).expect(&rt, "memory");
+    let line = quoted_line(alloc, ',', &fields).expect(&rt, "memory");
     assert_eq!(rt; line.as_str(), "\"a\",\"b\"\",\"");
 }
 

@@ -6,8 +6,6 @@
 
 mod fault;
 mod sources;
-#[cfg(test)]
-mod tests;
 mod visit;
 
 use anyhow::Result;

@@ -17,8 +17,8 @@ use Rattle.compact_words.specs.declared.entries.Entry.{Entry}
 use Rattle.compact_words.specs.Entries.{entries_before, IsRanking}
 
 -- the fields of a word: its text, and its count in decimal
-abbrev pub fields_of : List (List ℕ) → Entry → List (List ℕ)
-fields_of names entry = unwrap_or (slice_get names entry.name) [] ∷ decimal entry.count ∷ []
+abbrev pub entry_fields : List (List ℕ) → Entry → List (List ℕ)
+entry_fields names entry = unwrap_or (slice_get names entry.name) [] ∷ decimal entry.count ∷ []
 
 -- The text is cut into tokens, each as long as can be; the names are their texts by first occurrence; its words are ranked
 -- by their counts among the tokens, and as names where these are the same; the first so many are the records of a table,
@@ -33,7 +33,7 @@ pub record IsReport (text : List ℕ) (most : ℕ) (lines : List (List ℕ)) : T
   pub ranks : List Entry
   pub ranked : IsRanking (entries_before tokens (length names)) ranks
   pub table : List (Vec PlacedText)
-  pub fields : map (λ fields. map text_in fields.items) table ≡ map (fields_of names) (take most ranks)
+  pub fields : map (λ fields. map text_in fields.items) table ≡ map (entry_fields names) (take most ranks)
   pub rows : lines ≡ map (λ fields. row_text (widths_of table) fields.items) table
 
 -- why a text has no report: for want of memory, or it has so many characters that its tokens may be too many for the numbers

@@ -1,7 +1,7 @@
 //! The report of the most frequent words.
 ghost use Rattle.std.specs.Prelude.{◌≡◌, [], map, take, IfErr, IfOk, IsOk};
 ghost use Rattle.compact_str.specs.Order.{text_in};
-ghost use Rattle.compact_words.specs.Reports.{fields_of, IsReport, IsReportRefusal};
+ghost use Rattle.compact_words.specs.Reports.{entry_fields, IsReport, IsReportRefusal};
 
 use crate::entries::{Entry, ranking};
 use compact_edit::{InternError, Interner};
@@ -42,7 +42,7 @@ fn table_of(
     most: usize,
 ) -> Result<Vec<Vec<CompactString>>, ReserveError>
     ensures records { IfOk result (λ table. map (λ fields. map text_in fields.items) table.items
-        ≡ map (fields_of names.now) (take most ranks.now)) }
+        ≡ map (entry_fields names.now) (take most ranks.now)) }
     ensures empty { take most ranks.now ≡ [] → IsOk result }
 {
     let shown = &ranks[..usize::min(most, ranks.len())];
@@ -58,7 +58,7 @@ fn table_of(
 
 /// The record of an entry: the word and its count.
 fn record(alloc: Global, names: &Interner, entry: Entry) -> Result<Vec<CompactString>, ReserveError>
-    ensures { IfOk result (λ fields. map text_in fields.items ≡ fields_of names.now entry) }
+    ensures { IfOk result (λ fields. map text_in fields.items ≡ entry_fields names.now entry) }
 {
     let word = CompactString::new(alloc, names.name(entry.name).unwrap_or(""))?;
     let Ok(count) = entry.count.to_compact_string(alloc) else {

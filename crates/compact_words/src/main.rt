@@ -8,8 +8,6 @@ ghost use Rattle.compact_words.specs.Reports.{bytes_of_lines, counted_text, Appe
 
 mod entries;
 mod frequent;
-#[cfg(test)]
-mod tests;
 
 use compact_str::CompactString;
 use frequent::frequent_words;

@@ -4,7 +4,7 @@ ghost use Rattle.std.specs.Io.{StartsWith};
 ghost use Rattle.std.specs.Io.KnownBytes.{IsAtEnd, Keeps};
 ghost use Rattle.std.specs.List.{All};
 ghost use Rattle.compact_str.specs.Text.{IsText, utf8};
-ghost use Rattle.compact_ext.specs.Records.{records_left, calls_to_come, GivesNext, GivesRecord, FailsAfterTexts, FindsNoRoom, HasMore, IsPlacedAsRead, FitsForm, ReadsAllBack, ShowsNoForm};
+ghost use Rattle.compact_ext.specs.WireRecords.{records_left, calls_to_come, GivesNext, GivesRecord, FailsAfterTexts, FindsNoRoom, HasMore, IsPlacedAsRead, FitsForm, ReadsAllBack, ShowsNoForm};
 ghost use Rattle.compact_ext.specs.Wire.{wire, claimed_len};
 
 use super::read::number_of;

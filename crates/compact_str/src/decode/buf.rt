@@ -4,8 +4,8 @@ ghost use Rattle.std.specs.Str.{IsUtf8};
 ghost use Rattle.compact_repr.specs.Text.{text_of};
 ghost use Rattle.compact_repr.specs.Capacity.{with_capacity_asks};
 ghost use Rattle.compact_codec.specs.Utf8Text.{BytesEncode};
-ghost use Rattle.compact_str.specs.Fitted.{IsFitted};
-ghost use Rattle.compact_str.specs.Decoded.{IsEndOf, IsUtf8BufRefusal};
+ghost use Rattle.compact_str.specs.FittedValues.{IsFitted};
+ghost use Rattle.compact_str.specs.DecodeErrors.{IsSuffixOf, IsUtf8BufRefusal};
 
 use crate::decode::error::FromUtf8Error;
 use crate::string::{CompactString, PolicyString};
@@ -65,7 +65,7 @@ impl PolicyString<Standard> {
         ensures succeeds { length (B.unread buf.old) ≤ 24 → IsOk result }
         ensures err { OnErr result
             (IsTrue (with_capacity_asks (length (B.unread buf.old)))
-            × IsEndOf (B.unread buf.new) (B.unread buf.old)) }
+            × IsSuffixOf (B.unread buf.new) (B.unread buf.old)) }
     {
         if buf.remaining() <= INLINE_CAPACITY {
             let mut row = [0; INLINE_CAPACITY];
@@ -95,7 +95,7 @@ fn read_long<B: Buf>(alloc: Global, buf: &mut B) -> Result<Vec<u8>, ReserveError
     ensures bytes { IfOk result (λ bytes. bytes.items ≡ B.unread buf.old) }
     ensures consumed { OnOk result (B.unread buf.new ≡ []) }
     ensures kept { B.kept buf.new ≡ B.kept buf.old }
-    ensures rest { OnErr result (IsEndOf (B.unread buf.new) (B.unread buf.old)) }
+    ensures rest { OnErr result (IsSuffixOf (B.unread buf.new) (B.unread buf.old)) }
 {
     let mut bytes = Vec::with_capacity(alloc, buf.remaining())?;
     while buf.has_remaining() {

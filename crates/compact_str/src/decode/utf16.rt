@@ -4,13 +4,13 @@ ghost use Rattle.compact_repr.specs.Text.{size};
 ghost use Rattle.compact_codec.specs.Utf16Text.{UnitsEncode, utf16_lossy_text};
 ghost use Rattle.compact_codec.specs.Utf16Bytes.{utf16_bytes_lossy_text};
 ghost use Rattle.compact_codec.specs.declared.utf16_bytes.ByteOrder.TheVariants.{LittleEndian, BigEndian};
-ghost use Rattle.compact_str.specs.Fitted.{IsFitted, IsFittedOf};
-ghost use Rattle.compact_str.specs.Decoded.{IsUtf16Refusal, IsUtf16BytesRefusal, PairsEncode};
+ghost use Rattle.compact_str.specs.FittedValues.{IsFitted, IsFittedOf};
+ghost use Rattle.compact_str.specs.DecodeErrors.{IsUtf16Refusal, IsUtf16BytesRefusal, PairsEncode};
 
 use crate::decode::error::{FromUtf16Error, Utf16Error};
 use crate::decode::push_fitted;
 use crate::decode::row::{ROW, fill, utf8_room};
-use crate::iter::gather::Gathered;
+use crate::gather::Gathered;
 use crate::string::{CompactString, PolicyString};
 use compact_codec::utf16;
 use compact_codec::utf16_bytes::{self, ByteOrder};

@@ -5,9 +5,9 @@ ghost use Rattle.compact_repr.specs.Text.{text_of};
 ghost use Rattle.compact_repr.specs.Change.{new};
 ghost use Rattle.compact_codec.specs.InvalidSequence.{IsUtf8Error};
 ghost use Rattle.compact_codec.specs.Utf8Text.{BytesEncode, utf8_lossy_text};
-ghost use Rattle.compact_str.specs.Fitted.{IsFittedOf};
-ghost use Rattle.compact_str.specs.Made.{IsNewOf};
-ghost use Rattle.compact_str.specs.Decoded.{IsUtf8Refusal};
+ghost use Rattle.compact_str.specs.FittedValues.{IsFittedOf};
+ghost use Rattle.compact_str.specs.Conversions.{IsNewOf};
+ghost use Rattle.compact_str.specs.DecodeErrors.{IsUtf8Refusal};
 
 use crate::decode::error::FromUtf8Error;
 use crate::decode::{REPLACEMENT, push_fitted};

@@ -3,7 +3,7 @@ ghost use Rattle.std.specs.Prelude.{◌≡◌, ◌+◌, ◌<◌, ◌≤◌, List
 ghost use Rattle.std.specs.Iterator.{Drains, IsFiniteIterable};
 ghost use Rattle.std.specs.String.{string_capacity};
 ghost use Rattle.compact_repr.specs.Text.{size, text_of};
-ghost use Rattle.compact_str.specs.Collects.{OfIterator, OfItems, OfAllItems, StopsWithout};
+ghost use Rattle.compact_str.specs.Collect.{OfIterator, OfItems, OfAllItems, StopsWithout};
 
 use crate::iter::AsText;
 use compact_repr::ReserveError;

@@ -2,11 +2,11 @@
 ghost use Rattle.std.specs.Prelude.{◌≡◌, ◌+◌, ◌≤◌, List, ℕ, flat_map, fold, map, IfOk, OnErr, IsOk};
 ghost use Rattle.std.specs.Iterator.{Drains, IsFiniteIterable};
 ghost use Rattle.compact_repr.specs.Text.{size};
-ghost use Rattle.compact_str.specs.Fitted.{IsFitted};
-ghost use Rattle.compact_str.specs.Collects.{OfIterator, OfItems, OfAllItems, PassesInline, alone};
+ghost use Rattle.compact_str.specs.FittedValues.{IsFitted};
+ghost use Rattle.compact_str.specs.Collect.{OfIterator, OfItems, OfAllItems, PassesInline, char_text};
 
+use crate::gather::Gathered;
 use crate::iter::AsText;
-use crate::iter::gather::Gathered;
 use crate::iter::piece::Piece;
 use crate::string::PolicyString;
 use compact_repr::{Policy, ReserveError};

@@ -4,7 +4,7 @@ ghost use Rattle.std.specs.Iterator.{IsFiniteIterable};
 ghost use Rattle.compact_repr.specs.Text.{size};
 ghost use Rattle.compact_repr.specs.Cut.{IsBoundary, before};
 ghost use Rattle.compact_str.specs.Room.{HasRoomFor, sure_capacity};
-ghost use Rattle.compact_str.specs.Collects.{OfIterator, OfItems, OfAllItems, Appends, AppendsAll, AppendsUpToRefused, alone};
+ghost use Rattle.compact_str.specs.Collect.{OfIterator, OfItems, OfAllItems, Appends, AppendsAll, AppendsUpToRefused, char_text};
 
 use crate::iter::AsText;
 use crate::iter::piece::Piece;
@@ -78,7 +78,7 @@ impl<P: Policy> PolicyString<P> {
             characters }
         ensures ok { OnOk result
             (OfIterator U.into_iter_gives characters
-            (λ it. AppendsAll U.IntoIter.next_gives P.growth alone it self.old self.new)) }
+            (λ it. AppendsAll U.IntoIter.next_gives P.growth char_text it self.old self.new)) }
         ensures text { OnOk result
             (OfItems U.into_iter_gives U.IntoIter.next_gives characters
             (λ xs. self.new.text ≡ self.old.text ++ xs)) }
@@ -89,7 +89,8 @@ impl<P: Policy> PolicyString<P> {
             (λ xs. HasRoomFor self.old (size xs)) → IsOk result }
         ensures err { OnErr result
             (OfIterator U.into_iter_gives characters
-            (λ it. AppendsUpToRefused U.IntoIter.next_gives P.growth alone it self.old self.new)) }
+            (λ it. AppendsUpToRefused U.IntoIter.next_gives P.growth char_text it
+            self.old self.new)) }
     {
         extend_pieces(self, characters)
     }
@@ -123,7 +124,7 @@ impl<P: Policy, T: AsText> Extend<T> for PolicyString<P> {
 }
 
 impl<P: Policy> Extend<char> for PolicyString<P> {
-    ghost extend_gives = { λ v xs w. Appends P.growth alone v xs w };
+    ghost extend_gives = { λ v xs w. Appends P.growth char_text v xs w };
 
     /// `extend_chars`, whose error is here that of the library's trait.
     fn extend<U: IntoIterator<Item = char>>(&mut self, characters: U) -> Result<(), AllocError>
@@ -131,7 +132,7 @@ impl<P: Policy> Extend<char> for PolicyString<P> {
             characters }
         ensures ok { OnOk result
             (OfIterator U.into_iter_gives characters
-            (λ it. AppendsAll U.IntoIter.next_gives P.growth alone it self.old self.new)) }
+            (λ it. AppendsAll U.IntoIter.next_gives P.growth char_text it self.old self.new)) }
         ensures text { OnOk result
             (OfItems U.into_iter_gives U.IntoIter.next_gives characters
             (λ xs. self.new.text ≡ self.old.text ++ xs)) }
@@ -139,7 +140,8 @@ impl<P: Policy> Extend<char> for PolicyString<P> {
             (λ xs. HasRoomFor self.old (size xs)) → IsOk result }
         ensures err { OnErr result
             (OfIterator U.into_iter_gives characters
-            (λ it. AppendsUpToRefused U.IntoIter.next_gives P.growth alone it self.old self.new)) }
+            (λ it. AppendsUpToRefused U.IntoIter.next_gives P.growth char_text it
+            self.old self.new)) }
     {
         match self.extend_chars(characters) {
             Ok(()) => Ok(()),
@@ -149,7 +151,7 @@ impl<P: Policy> Extend<char> for PolicyString<P> {
 }
 
 impl<'a, P: Policy> Extend<&'a char> for PolicyString<P> {
-    ghost extend_gives = { λ v xs w. Appends P.growth (λ c. alone c.now) v xs w };
+    ghost extend_gives = { λ v xs w. Appends P.growth (λ c. char_text c.now) v xs w };
 
     /// `extend_chars` of the characters that are referred to.
     fn extend<U: IntoIterator<Item = &'a char>>(&mut self, references: U) -> Result<(), AllocError>
@@ -158,7 +160,7 @@ impl<'a, P: Policy> Extend<&'a char> for PolicyString<P> {
         ensures ok { OnOk result
             (OfIterator U.into_iter_gives references
             (λ it. AppendsAll U.IntoIter.next_gives P.growth
-            (λ c. alone c.now) it self.old self.new)) }
+            (λ c. char_text c.now) it self.old self.new)) }
         ensures text { OnOk result
             (OfItems U.into_iter_gives U.IntoIter.next_gives references
             (λ xs. self.new.text ≡ self.old.text ++ map (λ c. c.now) xs)) }
@@ -167,7 +169,7 @@ impl<'a, P: Policy> Extend<&'a char> for PolicyString<P> {
         ensures err { OnErr result
             (OfIterator U.into_iter_gives references
             (λ it. AppendsUpToRefused U.IntoIter.next_gives P.growth
-            (λ c. alone c.now) it self.old self.new)) }
+            (λ c. char_text c.now) it self.old self.new)) }
     {
         match extend_pieces(self, references) {
             Ok(()) => Ok(()),

@@ -3,11 +3,11 @@ ghost use Rattle.std.specs.Prelude.{◌≡◌, ◌≤◌, List, flat_map, IfOk, 
 ghost use Rattle.std.specs.Iterator.{Drains, HoldsAlong, IsFinite};
 ghost use Rattle.std.specs.Iterator.Runs.{WholeRun};
 ghost use Rattle.compact_repr.specs.Text.{size, text_of};
-ghost use Rattle.compact_str.specs.Fitted.{IsFitted};
-ghost use Rattle.compact_str.specs.Collects.{PassesInline, joined};
+ghost use Rattle.compact_str.specs.FittedValues.{IsFitted};
+ghost use Rattle.compact_str.specs.Collect.{PassesInline, join};
 
+use crate::gather::Gathered;
 use crate::iter::AsText;
-use crate::iter::gather::Gathered;
 use crate::string::{CompactString, PolicyString};
 use compact_repr::{Padded, Policy, ReserveError};
 use std::alloc::Global;
@@ -52,12 +52,12 @@ pub trait CompactStringExt: Iterator {
         requires ends { IsFinite (Self.remaining self) }
         ensures text { IfOk result
             (λ v. WholeRun Self.next_gives self
-            (λ run. v.text ≡ joined (text_of separator.now) Self.Item.spells run.items)) }
+            (λ run. v.text ≡ join (text_of separator.now) Self.Item.spells run.items)) }
         ensures fitted { IfOk result IsFitted }
         ensures succeeds { HoldsAlong Self.next_gives self
-            (λ xs. size (joined (text_of separator.now) Self.Item.spells xs) ≤ 24) → IsOk result }
+            (λ xs. size (join (text_of separator.now) Self.Item.spells xs) ≤ 24) → IsOk result }
         ensures err { OnErr result
-            (PassesInline Self.next_gives (joined (text_of separator.now) Self.Item.spells) self) }
+            (PassesInline Self.next_gives (join (text_of separator.now) Self.Item.spells) self) }
     {
         join_pieces(alloc, self, separator)
     }
@@ -75,10 +75,10 @@ fn join_pieces<P: Policy, T: AsText, I: Iterator<Item = T> + Drop>(
     requires ends { IsFinite (I.remaining pieces) }
     ensures ok { IfOk result
         (λ v. (xs : List T) × Drains I.next_gives pieces xs
-        × (v.text ≡ joined (text_of separator.now) T.spells xs)) }
+        × (v.text ≡ join (text_of separator.now) T.spells xs)) }
     ensures fitted { IfOk result IsFitted }
     ensures err { OnErr result
-        (PassesInline I.next_gives (joined (text_of separator.now) T.spells) pieces) }
+        (PassesInline I.next_gives (join (text_of separator.now) T.spells) pieces) }
 {
     let mut pieces = pieces;
     let mut gathered = Gathered::new(alloc);

@@ -3,10 +3,10 @@ ghost use Rattle.std.specs.Prelude.{◌≡◌, ℕ, ◌+◌, ◌<◌, ◌≤◌,
 ghost use Rattle.compact_repr.specs.Text.{size};
 ghost use Rattle.compact_repr.specs.Change.{push_str, push_str_asks};
 ghost use Rattle.compact_str.specs.Room.{HasRoomFor, sure_capacity};
-ghost use Rattle.compact_str.specs.Collects.{alone};
+ghost use Rattle.compact_str.specs.Collect.{char_text};
 
+use crate::gather::Gathered;
 use crate::iter::AsText;
-use crate::iter::gather::Gathered;
 use crate::string::PolicyString;
 use compact_repr::{Policy, ReserveError};
 
@@ -43,7 +43,7 @@ impl<T: AsText> Piece for T {
 }
 
 impl Piece for char {
-    ghost letters = { alone };
+    ghost letters = { char_text };
 
     #[inline]
     fn push_to<P: Policy>(&self, value: &mut PolicyString<P>) -> Result<(), ReserveError> {
@@ -57,7 +57,7 @@ impl Piece for char {
 }
 
 impl Piece for &char {
-    ghost letters = { λ c. alone c.now };
+    ghost letters = { λ c. char_text c.now };
 
     #[inline]
     fn push_to<P: Policy>(&self, value: &mut PolicyString<P>) -> Result<(), ReserveError> {

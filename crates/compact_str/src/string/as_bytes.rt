@@ -7,7 +7,7 @@ ghost use Rattle.std.specs.Box.{boxed_str_bytes};
 ghost use Rattle.compact_repr.specs.Text.{utf8, text_of};
 ghost use Rattle.compact_repr.specs.Value.{placed_text};
 ghost use Rattle.compact_repr.specs.Capacity.{from_string_placement};
-ghost use Rattle.compact_str.specs.Decoded.{IsErrorOf};
+ghost use Rattle.compact_str.specs.DecodeErrors.{IsErrorOf};
 
 use crate::string::PolicyString;
 use compact_repr::Policy;

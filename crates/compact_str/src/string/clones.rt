@@ -5,7 +5,7 @@ ghost use Rattle.compact_repr.specs.Value.{is_heap, is_static};
 ghost use Rattle.compact_repr.specs.Capacity.{clone_asks};
 ghost use Rattle.compact_repr.specs.Change.{clone};
 ghost use Rattle.compact_str.specs.Room.{sure_capacity};
-ghost use Rattle.compact_str.specs.Clones.{cloned_from, clone_from_asks};
+ghost use Rattle.compact_str.specs.Clones.{clone_from, clone_from_asks};
 
 use crate::string::PolicyString;
 use compact_repr::{Policy, ReserveError};
@@ -38,7 +38,7 @@ impl<P: Policy> PolicyString<P> {
     /// comes only of a heap source whose text has neither 24 bytes at most nor room in what this value owns. A target of
     /// capacity 100 on the heap keeps that for a heap source of 30 bytes.
     pub fn clone_from(&mut self, source: &Self) -> Result<(), ReserveError>
-        ensures ok { OnOk result (cloned_from P.growth self.old source.now ≡ Some self.new) }
+        ensures ok { OnOk result (clone_from P.growth self.old source.now ≡ Some self.new) }
         ensures text { OnOk result (self.new.text ≡ source.now.text) }
         ensures succeeds { size source.now.text ≤ sure_capacity self.old → IsOk result }
         ensures copies_in_place { is_heap source.now.placement.place ≡ false → IsOk result }

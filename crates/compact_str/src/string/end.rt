@@ -9,7 +9,7 @@ ghost use Rattle.compact_str.specs.Edits.{Pops, Writes};
 
 use crate::refused::Refused;
 use crate::string::PolicyString;
-use compact_repr::{Policy, PushOutcome, ReserveError};
+use compact_repr::{Policy, PushOutcome, ReserveError, encode_char};
 use std::fmt;
 
 impl<P: Policy> PolicyString<P> {
@@ -49,7 +49,7 @@ impl<P: Policy> PolicyString<P> {
             ((self.new ≡ self.old) × IsTrue (push_str_asks self.old (character ∷ []))) }
     {
         let mut bytes = [0; 4];
-        self.push_str(encoded(character, &mut bytes))
+        self.push_str(encode_char(character, &mut bytes))
     }
 
     /// Appends `text` to a value that is handed in, as `push_str` does, and hands it out again.
@@ -135,13 +135,4 @@ impl<P: Policy> fmt::Write for PolicyString<P> {
             Err(ReserveError) => Err(fmt::Error),
         }
     }
-}
-
-/// The text of one character, in the 1 to 4 bytes at the front of `bytes`.
-#[inline]
-pub fn encoded(character: char, bytes: &mut [u8; 4]) -> &str
-    ensures text { text_of result.now ≡ character ∷ [] }
-    ensures len { length result.now ≡ len_utf8 character }
-{
-    character.encode_utf8(bytes)
 }

@@ -2,7 +2,8 @@
 ghost use Rattle.std.specs.Prelude.{◌≡◌, ◌≤◌, ℕ, Bool, Some, OnOk, OnErr, IsOk, IsTrue, filter};
 ghost use Rattle.compact_repr.specs.Text.{size};
 ghost use Rattle.compact_repr.specs.Capacity.{owned_placement, make_owned_asks};
-ghost use Rattle.compact_repr.specs.Retain.{RetainsChars, RetainsCharsTo, SaysAlways};
+ghost use Rattle.compact_repr.specs.Retain.{RetainsCharsTo};
+ghost use Rattle.compact_str.specs.RetainRules.{RetainsChars, SaysAlways};
 ghost use Rattle.compact_str.specs.Room.{IsOwned};
 
 use crate::string::PolicyString;

@@ -9,7 +9,7 @@ ghost use Rattle.compact_repr.specs.Value.{placed_text, is_heap};
 ghost use Rattle.compact_repr.specs.Capacity.{inline_placement, heap_placement, with_capacity_asks, const_new_placement, from_string_placement};
 ghost use Rattle.compact_repr.specs.Change.{new};
 ghost use Rattle.compact_str.specs.Room.{IsRoomFor};
-ghost use Rattle.compact_str.specs.Made.{IsNewOf, TakesCow, IsFreeCow};
+ghost use Rattle.compact_str.specs.Conversions.{IsNewOf, TakesCow, IsFreeCow};
 
 use crate::refused::Refused;
 use crate::string::PolicyString;

@@ -11,10 +11,10 @@ ghost use Rattle.compact_str.specs.Room.{IsOwned, HasRoomFor, sure_capacity};
 ghost use Rattle.compact_repr.specs.Change.{insert_str, replace_range, replace_range_asks};
 ghost use Rattle.compact_str.specs.Edits.{LosesChar, SplitsOff, split_asks};
 ghost use Rattle.compact_str.specs.Ranges.{IsRange, range_start, range_end};
+ghost use Rattle.compact_str.specs.RangeTexts.{is_boundary};
 
 use crate::string::PolicyString;
-use crate::string::end::encoded;
-use compact_repr::{Policy, Repr, ReserveError, first_ascii};
+use compact_repr::{Policy, Repr, ReserveError, encode_char, first_ascii};
 use std::ops::Bound;
 
 impl<P: Policy> PolicyString<P> {
@@ -43,7 +43,7 @@ impl<P: Policy> PolicyString<P> {
             × (range.1 ≡ range_end self.now.text end)) }
     {
         let text = self.as_str();
-        let (first, last) = ends(start, end, text.len())?;
+        let (first, last) = byte_range(start, end, text.len())?;
         if first <= last && is_boundary(text, first) && is_boundary(text, last) {
             Some((first, last))
         } else {
@@ -64,7 +64,7 @@ impl<P: Policy> PolicyString<P> {
             ≡ substring self.now.text (range_start start) (range_end self.now.text end) }
         ensures len { length result.now ≡ range_end self.now.text end - range_start start }
     {
-        let Some((first, last)) = ends(start, end, self.len()) else {
+        let Some((first, last)) = byte_range(start, end, self.len()) else {
             unreachable!();
         };
         self.repr.substring(first, last)
@@ -125,7 +125,7 @@ impl<P: Policy> PolicyString<P> {
             return Ok(());
         }
         let mut bytes = [0; 4];
-        self.insert_str(index, encoded(character, &mut bytes))
+        self.insert_str(index, encode_char(character, &mut bytes))
     }
 
     /// Takes out the character that begins at the boundary `index`, in bytes and short of the length, and answers it. A
@@ -195,7 +195,7 @@ impl<P: Policy> PolicyString<P> {
             × IsTrue (replace_range_asks self.old (range_start start) (range_end self.old.text end)
             (text_of text.now))) }
     {
-        let Some((first, last)) = ends(start, end, self.len()) else {
+        let Some((first, last)) = byte_range(start, end, self.len()) else {
             unreachable!();
         };
         if self.repr.replace_in_place(first, last, text) {
@@ -236,7 +236,7 @@ impl<P: Policy> PolicyString<P> {
 
 /// Where a range of a text of `len` bytes begins and ends, in bytes; `None` only where an end of it is past the text.
 #[inline]
-pub fn ends(start: Bound<usize>, end: Bound<usize>, len: usize) -> Option<(usize, usize)>
+pub fn byte_range(start: Bound<usize>, end: Bound<usize>, len: usize) -> Option<(usize, usize)>
     ensures { MatchOption result (¬ ((start_index start ≤ len) × (end_index end len ≤ len)))
         (λ range. (range.0 ≡ start_index start) × (range.1 ≡ end_index end len)) }
 {
@@ -256,7 +256,8 @@ pub fn ends(start: Bound<usize>, end: Bound<usize>, len: usize) -> Option<(usize
 /// Whether `index`, in bytes, is a boundary of `text`.
 #[inline]
 pub fn is_boundary(text: &str, index: usize) -> bool
-    ensures { IsTrue result ↔ IsBoundary (text_of text.now) index }
+    ensures boundary { IsTrue result ↔ IsBoundary (text_of text.now) index }
+    ensures value { result ≡ is_boundary (text_of text.now) index }
 {
     text.is_char_boundary(index)
 }

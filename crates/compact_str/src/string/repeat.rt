@@ -3,7 +3,7 @@ ghost use Rattle.std.specs.Prelude.{◌≡◌, ◌≤◌, ◌*◌, [], Some, IfO
 ghost use Rattle.compact_repr.specs.Text.{size};
 ghost use Rattle.compact_repr.specs.Value.{placed_text};
 ghost use Rattle.compact_repr.specs.Capacity.{with_capacity_placement};
-ghost use Rattle.compact_str.specs.Edits.{repeated, repeat_asks, repeated_text};
+ghost use Rattle.compact_str.specs.Edits.{repeat, repeat_asks, repeated_text};
 
 use crate::string::PolicyString;
 use compact_repr::{Policy, ReserveError};
@@ -15,7 +15,7 @@ impl<P: Policy> PolicyString<P> {
     /// outcome of at most 24 bytes. `"abc"` three times is `"abcabcabc"`.
     #[tactic(auto, using(compact_repr::proofs::TextFacts::text_facts, crate::proofs::EditFacts::repeat_facts))]
     pub fn repeat(&self, count: usize) -> Result<Self, ReserveError>
-        ensures ok { IfOk result (λ v. repeated P.growth self.now count ≡ Some v) }
+        ensures ok { IfOk result (λ v. repeat P.growth self.now count ≡ Some v) }
         ensures text { IfOk result (λ v. v.text ≡ repeated_text count self.now.text) }
         ensures succeeds { size self.now.text * count ≤ 24 → IsOk result }
         ensures err { OnErr result (IsTrue (repeat_asks self.now count)) }

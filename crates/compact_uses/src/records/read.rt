@@ -1,7 +1,7 @@
 //! How the fields of a line are read.
 ghost use Rattle.std.specs.Prelude.{map, IfOk, IfErr, OnOk};
 ghost use Rattle.compact_str.specs.Order.{text_in};
-ghost use Rattle.compact_uses.specs.Lines.{ReadsAs, IsFault, ReadsAsWritten, ReadsOrBreaks, ReadsPlainFields};
+ghost use Rattle.compact_uses.specs.Lines.{ReadsAs, IsFault, ReadsAsWritten, ReadsOrBreaks, PlainFieldsReadBack};
 ghost use Rattle.compact_uses.specs.Reading.{HasEffect, ReadsOn, IsStop};
 
 use compact_str::{CompactString, ReserveError};
@@ -125,7 +125,7 @@ pub fn each_line_reads_or_breaks()
 
 /// A law: fields that have no separator and do not begin with a quote read as they are where separators part them.
 pub fn plain_fields_read_as_themselves()
-    ensures { ReadsPlainFields }
+    ensures { PlainFieldsReadBack }
 {}
 
 impl Reading {

@@ -2,7 +2,7 @@
 ghost use Rattle.std.specs.Prelude.{◌≡◌, ◌≢◌, ◌+◌, ◌≤◌, ◌++◌, [], map, IfOk, IsOk, OnOk};
 ghost use Rattle.compact_str.specs.Text.{size};
 ghost use Rattle.compact_str.specs.Order.{text_in};
-ghost use Rattle.compact_uses.specs.Lines.{quote, quoted, line_of, ReadsAs};
+ghost use Rattle.compact_uses.specs.Lines.{quote, quoted_field, quoted_line, ReadsAs};
 
 use compact_str::{CompactString, ReserveError};
 use std::alloc::Global;
@@ -11,15 +11,16 @@ use std::alloc::Global;
 ///
 /// An error says that no memory was found; where the line has at most 24 bytes, as that of no fields has, it never comes.
 /// With the separator `,` the fields `a` and `b"` give `"a","b"""`.
-pub fn line_of(
+pub fn quoted_line(
     alloc: Global,
     separator: char,
     fields: &[CompactString],
 ) -> Result<CompactString, ReserveError>
-    ensures text { IfOk result (λ line. line.text ≡ line_of separator (map text_in fields.now)) }
+    ensures text { IfOk result
+        (λ line. line.text ≡ quoted_line separator (map text_in fields.now)) }
     ensures reads_back { separator ≢ quote → fields.now ≢ []
         → IfOk result (λ line. ReadsAs separator line.text (map text_in fields.now)) }
-    ensures succeeds { size (line_of separator (map text_in fields.now)) ≤ 24 → IsOk result }
+    ensures succeeds { size (quoted_line separator (map text_in fields.now)) ≤ 24 → IsOk result }
 {
     let mut line = CompactString::default(alloc);
     let Some((first, others)) = fields.split_first() else {
@@ -35,8 +36,8 @@ pub fn line_of(
 
 /// Appends a field in quotes.
 fn push_quoted(line: &mut CompactString, field: &CompactString) -> Result<(), ReserveError>
-    ensures text { OnOk result (line.new.text ≡ line.old.text ++ quoted field.now.text) }
-    ensures succeeds { size line.old.text + size (quoted field.now.text) ≤ 24 → IsOk result }
+    ensures text { OnOk result (line.new.text ≡ line.old.text ++ quoted_field field.now.text) }
+    ensures succeeds { size line.old.text + size (quoted_field field.now.text) ≤ 24 → IsOk result }
 {
     line.push('"')?;
     for character in field.as_str().chars() {

@@ -8,7 +8,7 @@ use Rattle.compact_str.specs.Text.{size}
 use Rattle.compact_str.specs.Value.{PlacedText}
 use Rattle.compact_ext.specs.declared.wire.WireError.{WireError}
 use Rattle.compact_ext.specs.declared.wire.records.Records.{Records}
-use Rattle.compact_ext.specs.Records.{GivesRecord, records_left}
+use Rattle.compact_ext.specs.WireRecords.{GivesRecord, records_left}
 use Rattle.compact_ext.specs.Wire.{wire, HasForm, IsOutsideForm}
 use Rattle.compact_ext.proofs.WireFacts.{next-back}
 use Rattle.compact_callers.proofs.wire_callers.first_record.Goals as goal

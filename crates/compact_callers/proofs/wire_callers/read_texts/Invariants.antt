@@ -1,4 +1,4 @@
-use Rattle.compact_ext.specs.Records.{records_left, TakesTexts}
+use Rattle.compact_ext.specs.WireRecords.{records_left, TakesTexts}
 use Rattle.compact_callers.proofs.wire_callers.read_texts.Given as goal
 
 -- the texts so far are those of what was taken

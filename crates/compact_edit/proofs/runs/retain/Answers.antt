@@ -1,5 +1,5 @@
 use Rattle.std.proofs.Common.{◌≡◌, rules, ap, sym, Some, List, ℕ}
-use Rattle.compact_str.specs.Retain.{retained_text, answer_rule}
+use Rattle.compact_str.specs.RetainRules.{retained_text, answer_rule}
 use Rattle.compact_str.specs.Value.{placed_text}
 use Rattle.compact_str.proofs.Kept.{kept-by_rule}
 use Rattle.compact_edit.specs.contracts.runs.fn.retain.retain as closure

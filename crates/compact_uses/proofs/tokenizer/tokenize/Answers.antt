@@ -5,7 +5,7 @@ use Rattle.compact_str.specs.Text.{text_of}
 use Rattle.compact_str.specs.Cut.{before, after}
 use Rattle.compact_str.proofs.ForCallers.{before-after, text_of-take}
 use Rattle.compact_str.proofs.TextBytes.{boundary-bytes}
-use Rattle.compact_edit.specs.Names.{firsts}
+use Rattle.compact_edit.specs.Names.{distinct_texts}
 use Rattle.compact_uses.proofs.PieceLemmas.{next-character, first-character, first-piece, start-boundary, whole-piece, cut-joined, none-next, next-text}
 use Rattle.compact_uses.proofs.TokenLemmas.{alike-push, alike-one, goes_on-same, goes_on-no-mark, push-some, one-character, none-alike, few-names, front-of, begins-apart}
 use Rattle.compact_uses.specs.Tokens.{goes_on}
@@ -25,7 +25,7 @@ loop-character-init c = record {
   first = λ none. c.new-tokens.ensures.items;
   parted = rw c.new-tokens.ensures.items tt;
   follows = rw c.new-tokens.ensures.items refl;
-  names = rw c.new-tokens.ensures.items (c.len-distinct.ensures.distinct, sym (ap firsts (append-nil c.args.names.now) ∙ c.len-distinct.ensures.distinct));
+  names = rw c.new-tokens.ensures.items (c.len-distinct.ensures.distinct, sym (ap distinct_texts (append-nil c.args.names.now) ∙ c.len-distinct.ensures.distinct));
   kept = λ n name at. at;
 }
 
@@ -56,16 +56,16 @@ loop-character-preserved-then-goes_on c =
 pub split_at-requires : goal.split_at-requires
 split_at-requires c = boundary-bytes c.loop-character.rest.now c.loop-character.len refl c.loop-character.invariant.is_text c.loop-character.invariant.boundary
 
-pub put-requires-clause-alike : goal.put-requires-clause-alike
-put-requires-clause-alike c =
+pub push_token-requires-clause-alike : goal.push_token-requires-clause-alike
+push_token-requires-clause-alike c =
     rw (c.split_at.ensures.front, text_of-take c.loop-character.rest.now c.loop-character.len refl c.loop-character.invariant.is_text c.loop-character.invariant.boundary) c.loop-character.invariant.alike
 
-pub put-requires-clause-single : goal.put-requires-clause-single
-put-requires-clause-single c =
+pub push_token-requires-clause-single : goal.push_token-requires-clause-single
+push_token-requires-clause-single c =
     rw (c.split_at.ensures.front, text_of-take c.loop-character.rest.now c.loop-character.len refl c.loop-character.invariant.is_text c.loop-character.invariant.boundary) c.loop-character.invariant.single
 
-pub put-requires-clause-first : goal.put-requires-clause-first
-put-requires-clause-first c =
+pub push_token-requires-clause-first : goal.push_token-requires-clause-first
+push_token-requires-clause-first c =
     rw (c.split_at.ensures.front, text_of-take c.loop-character.rest.now c.loop-character.len refl c.loop-character.invariant.is_text c.loop-character.invariant.boundary) c.loop-character.invariant.first
 
 pub loop-character-preserved : goal.loop-character-preserved
@@ -78,44 +78,44 @@ loop-character-preserved c =
       can = tt;
       finite = tt;
       joined = rw c.split_at.ensures.back (cut-joined _ _ _ c.loop-character.rest.now c.loop-character.len c.loop-character.invariant.is_text c.loop-character.invariant.boundary
-          c.loop-character.invariant.joined (rw (sym c.split_at.ensures.front) c.in_ok-put.ensures.joined));
+          c.loop-character.invariant.joined (rw (sym c.split_at.ensures.front) c.in_ok-push_token.ensures.joined));
       is_text = rw c.split_at.ensures.back others_text;
       boundary = rw (c.split_at.ensures.back, c.len_utf8-len-in-loop-character.ensures.value) next.boundary;
       here = rw (c.split_at.ensures.back, c.len_utf8-len-in-loop-character.ensures.value) next.here;
-      tokens = c.in_ok-put.ensures.tokens;
+      tokens = c.in_ok-push_token.ensures.tokens;
       alike = rw (c.split_at.ensures.back, c.len_utf8-len-in-loop-character.ensures.value, next.piece, c.kind_of-next.ensures) (alike-one c.in-Some.character);
       single = λ mark. rw (c.split_at.ensures.back, c.len_utf8-len-in-loop-character.ensures.value, next.piece) (one-character c.in-Some.character);
       first = λ none. push-some [] c.in-Some.character _ (sym next.piece ∙ ap₂ (λ (bytes : List ℕ) (n : ℕ). before (text_of bytes) n) (sym c.split_at.ensures.back) (sym c.len_utf8-len-in-loop-character.ensures.value) ∙ none);
-      parted = c.in_ok-put.ensures.parted;
-      follows = c.in_ok-put.ensures.last c.kind_of-next.result apart;
-      names = c.in_ok-put.ensures.names _ c.loop-character.invariant.names;
-      kept = λ n name at. c.put.ensures.kept n name (c.loop-character.invariant.kept n name at);
+      parted = c.in_ok-push_token.ensures.parted;
+      follows = c.in_ok-push_token.ensures.last c.kind_of-next.result apart;
+      names = c.in_ok-push_token.ensures.names _ c.loop-character.invariant.names;
+      kept = λ n name at. c.push_token.ensures.kept n name (c.loop-character.invariant.kept n name at);
     }
 
-pub put-requires-2-clause-alike : goal.put-requires-2-clause-alike
-put-requires-2-clause-alike c =
+pub push_token-requires-2-clause-alike : goal.push_token-requires-2-clause-alike
+push_token-requires-2-clause-alike c =
     let ended : length (chars_rest c.loop-character.character-iterator) ≡ 0 = c.in-None.ensures.steps.0.0 in
     let whole = whole-piece c.loop-character.rest.now c.loop-character.len c.loop-character.invariant.is_text c.loop-character.invariant.boundary (ap length c.loop-character.invariant.here ∙ ended) in
     rw (sym whole) c.loop-character.invariant.alike
 
-pub put-requires-2-clause-single : goal.put-requires-2-clause-single
-put-requires-2-clause-single c =
+pub push_token-requires-2-clause-single : goal.push_token-requires-2-clause-single
+push_token-requires-2-clause-single c =
     let ended : length (chars_rest c.loop-character.character-iterator) ≡ 0 = c.in-None.ensures.steps.0.0 in
     let whole = whole-piece c.loop-character.rest.now c.loop-character.len c.loop-character.invariant.is_text c.loop-character.invariant.boundary (ap length c.loop-character.invariant.here ∙ ended) in
     rw (sym whole) c.loop-character.invariant.single
 
-pub returns-in_err-put-clause-empty : goal.returns-in_err-put-clause-empty
-returns-in_err-put-clause-empty c = λ none.
+pub returns-in_err-push_token-clause-empty : goal.returns-in_err-push_token-clause-empty
+returns-in_err-push_token-clause-empty c = λ none.
     absurd (none-next _ c.loop-character.rest.now _ c.loop-character.len c.in-Some.character c.loop-character.invariant.is_text (c.loop-character.invariant.joined ∙ none)
     (c.loop-character.invariant.here ∙ c.in-Some.ensures.steps.0))
 
-pub returns-in_err-put-clause-bound : goal.returns-in_err-put-clause-bound
-returns-in_err-put-clause-bound c =
+pub returns-in_err-push_token-clause-bound : goal.returns-in_err-push_token-clause-bound
+returns-in_err-push_token-clause-bound c =
     let rest : List ℕ = text_of c.loop-character.rest.now in
     let piece = text_of-take c.loop-character.rest.now c.loop-character.len refl c.loop-character.invariant.is_text c.loop-character.invariant.boundary in
     omega (
       arith,
-      c.put.ensures.bound,
+      c.push_token.ensures.bound,
       ap (λ (bytes : List ℕ). length (text_of bytes)) c.split_at.ensures.front,
       ap length piece,
       ap length (before-after rest c.loop-character.len),
@@ -123,16 +123,16 @@ returns-in_err-put-clause-bound c =
       few-names _ _ _ _ _ c.loop-character.invariant.names c.loop-character.invariant.tokens c.loop-character.invariant.joined,
     )
 
-pub returns-in_err-put-2-clause-bound : goal.returns-in_err-put-2-clause-bound
-returns-in_err-put-2-clause-bound c =
-    omega (arith, c.put-2.ensures.bound, few-names _ _ _ _ _ c.loop-character.invariant.names c.loop-character.invariant.tokens c.loop-character.invariant.joined)
+pub returns-in_err-push_token-2-clause-bound : goal.returns-in_err-push_token-2-clause-bound
+returns-in_err-push_token-2-clause-bound c =
+    omega (arith, c.push_token-2.ensures.bound, few-names _ _ _ _ _ c.loop-character.invariant.names c.loop-character.invariant.tokens c.loop-character.invariant.joined)
 
 pub returns-clause-bound : goal.returns-clause-bound
 returns-clause-bound c =
-    omega (arith, c.put-2.ensures.bound, few-names _ _ _ _ _ c.loop-character.invariant.names c.loop-character.invariant.tokens c.loop-character.invariant.joined)
+    omega (arith, c.push_token-2.ensures.bound, few-names _ _ _ _ _ c.loop-character.invariant.names c.loop-character.invariant.tokens c.loop-character.invariant.joined)
 
-pub returns-in_err-put-clause-front : goal.returns-in_err-put-clause-front
-returns-in_err-put-clause-front c =
+pub returns-in_err-push_token-clause-front : goal.returns-in_err-push_token-clause-front
+returns-in_err-push_token-clause-front c =
     let bytes : List ℕ = c.loop-character.rest.now in
     let len = c.loop-character.len in
     let later = next-text bytes _ len c.in-Some.character c.loop-character.invariant.is_text c.loop-character.invariant.boundary
@@ -141,9 +141,9 @@ returns-in_err-put-clause-front c =
     let others = begins-apart c.loop-character.kind (text_of (drop len bytes)) _ c.in-Some.character later (rw (sym c.kind_of-next.ensures) apart) in
     let full = cut-joined _ _ _ bytes len c.loop-character.invariant.is_text c.loop-character.invariant.boundary c.loop-character.invariant.joined refl in
     front-of _ _ _ _ _ (rw c.split_at.ensures.front full)
-    (c.in_err-put.ensures.front _ (text_of (drop len bytes)) c.loop-character.invariant.names others)
+    (c.in_err-push_token.ensures.front _ (text_of (drop len bytes)) c.loop-character.invariant.names others)
 
-pub returns-in_err-put-2-clause-front : goal.returns-in_err-put-2-clause-front
-returns-in_err-put-2-clause-front c =
+pub returns-in_err-push_token-2-clause-front : goal.returns-in_err-push_token-2-clause-front
+returns-in_err-push_token-2-clause-front c =
     front-of _ _ _ _ _ (append-nil _ ∙ c.loop-character.invariant.joined)
-    (c.in_err-put-2.ensures.front _ [] c.loop-character.invariant.names tt)
+    (c.in_err-push_token-2.ensures.front _ [] c.loop-character.invariant.names tt)

@@ -1,6 +1,6 @@
 use Rattle.std.proofs.Common.{◌≡◌, sym, ◌∙◌, false, true≢false}
 use Rattle.compact_str.specs.Text.{text_of}
-use Rattle.compact_edit.specs.Names.{is_among}
+use Rattle.compact_edit.specs.Names.{contains}
 use Rattle.compact_edit.proofs.KeyTexts.{wanted-among, known-text}
 use Rattle.compact_edit.proofs.TakenTexts.{numbered-among}
 use Rattle.compact_edit.proofs.intern.Interner.intern.Goals as goal
@@ -16,5 +16,5 @@ add-requires c = record {
 
 pub returns-clause-succeeds : goal.returns-clause-succeeds
 returns-clause-succeeds c n at =
-    let absent : is_among c.args.self.now (text_of c.args.text.now) ≡ false = rw (sym c.self.view_is) (sym (wanted-among _ c.self.inside.names.keys c.utf8.text) ∙ sym c.in_default.ensures.found) in
+    let absent : contains c.args.self.now (text_of c.args.text.now) ≡ false = rw (sym c.self.view_is) (sym (wanted-among _ c.self.inside.names.keys c.utf8.text) ∙ sym c.in_default.ensures.found) in
     absurd (true≢false (sym (numbered-among _ n _ at) ∙ absent))

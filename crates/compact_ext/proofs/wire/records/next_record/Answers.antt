@@ -2,7 +2,7 @@
 use Rattle.std.proofs.Common.{IfSome, rules, arith, subst}
 use Rattle.std.specs.Io.{StartsWith}
 use Rattle.std.specs.Io.BufRead.{FillKeeps}
-use Rattle.compact_ext.specs.Records.{IsPlacedAsRead, FitsForm}
+use Rattle.compact_ext.specs.WireRecords.{IsPlacedAsRead, FitsForm}
 use Rattle.compact_ext.specs.Wire.{wire}
 use Rattle.compact_ext.proofs.WireForms.{took-shown, head-taken}
 use Rattle.compact_ext.proofs.RecordLists.{more-shown, record-read}

@@ -1,4 +1,4 @@
-use Rattle.compact_str.specs.Collects.{Appends}
+use Rattle.compact_str.specs.Collect.{Appends}
 use Rattle.compact_str.proofs.iter.extend.extend_pieces.Given as goal
 
 -- the pieces so far are appended

@@ -1,6 +1,6 @@
 use Rattle.std.proofs.Common.{◌≡◌, ◌∷◌, [], ◌++◌, Ok, Err, Some, refl, sym, subst, inl, inr, rules}
 use Rattle.compact_ext.specs.declared.wire.WireError.TheVariants.{Reserve}
-use Rattle.compact_ext.specs.Records.{GivesRecord, records_left, left_behind, TakesForms}
+use Rattle.compact_ext.specs.WireRecords.{GivesRecord, records_left, left_behind, TakesForms}
 use Rattle.compact_ext.proofs.RecordLists.{records-back, takes-more, takes-all}
 use Rattle.compact_ext.proofs.wire.records.Records.into_vec.Goals as goal
 

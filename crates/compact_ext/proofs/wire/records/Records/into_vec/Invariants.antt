@@ -1,4 +1,4 @@
-use Rattle.compact_ext.specs.Records.{records_left, TakesForms}
+use Rattle.compact_ext.specs.WireRecords.{records_left, TakesForms}
 use Rattle.compact_ext.proofs.wire.records.Records.into_vec.Given as goal
 
 -- the forms of the texts so far were taken

@@ -1,0 +1,110 @@
+//! Callers that take parts of a text out, as its users write them. `every_second` and `every_second_told`, whose closures
+//! remember what they said, have a proof file; the others have none.
+ghost use Rattle.std.specs.Prelude.{◌≡◌, ◌++◌, ◌∷◌, [], OnOk, OnErr, IfOk, MatchOption, not, false, filter, ◌==◌};
+ghost use Rattle.compact_str.specs.Text.{text_of, ascii_lowercase};
+ghost use Rattle.compact_str.specs.Cut.{substring, replaced_text};
+ghost use Rattle.compact_str.specs.RetainRules.{retained_text, retain_state};
+ghost use Rattle.compact_str.specs.Ranges.{IsRange, range_start, range_end};
+
+use compact_str::{CompactString, ReserveError};
+use std::ops::Bound;
+
+/// Moves a range of one text to the end of another, and goes on with the first: where the range was taken out, a mark is
+/// appended.
+#[tactic(auto, using(compact_str::proofs::ForCallers::for_callers))]
+pub fn move_range(
+    from: &mut CompactString,
+    start: Bound<usize>,
+    end: Bound<usize>,
+    to: &mut CompactString,
+) -> Result<(), ReserveError>
+    requires { IsRange from.old.text start end }
+    ensures moved { OnOk result
+        (to.new.text ≡ to.old.text
+        ++ substring from.old.text (range_start start) (range_end from.old.text end)) }
+    ensures left { OnOk result
+        (from.new.text ≡ replaced_text from.old.text (range_start start)
+        (range_end from.old.text end) [] ++ 46 ∷ []) }
+{
+    let drained = from.drain(start, end)?;
+    to.push_str(drained.as_str())?;
+    drop(drained);
+    from.push('.')
+}
+
+/// Takes a range out, of which it answers the last character.
+#[tactic(auto, using(compact_str::proofs::ForCallers::for_callers))]
+pub fn take_range(
+    value: &mut CompactString,
+    start: Bound<usize>,
+    end: Bound<usize>,
+) -> Result<Option<char>, ReserveError>
+    requires { IsRange value.old.text start end }
+    ensures left { OnOk result
+        (value.new.text ≡ replaced_text value.old.text (range_start start)
+        (range_end value.old.text end) []) }
+    ensures unchanged { OnErr result (value.new ≡ value.old) }
+{
+    let mut drained = value.drain(start, end)?;
+    let _first = drained.next();
+    Ok(drained.next_back())
+}
+
+/// A name in small letters.
+pub fn folded(name: &CompactString) -> Result<CompactString, ReserveError>
+    ensures { IfOk result (λ small. small.text ≡ ascii_lowercase name.now.text) }
+{
+    name.to_ascii_lowercase()
+}
+
+/// Takes every space out.
+pub fn without_spaces(line: &mut CompactString) -> Result<(), ReserveError>
+    ensures text { OnOk result (line.new.text ≡ filter (λ c. not (c == 32)) line.old.text) }
+    ensures unchanged { OnErr result (line.new ≡ line.old) }
+{
+    line.retain(|character| character != ' ')
+}
+
+/// Takes every space out, and notes that there was one. Where that is refused nothing is noted.
+pub fn note_spaces(line: &mut CompactString, seen: &mut bool) -> Result<(), ReserveError>
+    ensures text { OnOk result (line.new.text ≡ filter (λ c. not (c == 32)) line.old.text) }
+    ensures unchanged { OnErr result ((line.new ≡ line.old) × (seen.new ≡ seen.old)) }
+{
+    let mut keep = |character| {
+        let is_space = character == ' ';
+        *seen = *seen || is_space;
+        !is_space
+    };
+    line.retain_by(&mut keep)
+}
+
+/// Keeps every second character, from the first on.
+pub fn every_second(line: &mut CompactString) -> Result<(), ReserveError>
+    ensures text { OnOk result
+        (line.new.text ≡ retained_text (λ skip c. (not skip, not skip)) false line.old.text) }
+    ensures unchanged { OnErr result (line.new ≡ line.old) }
+{
+    let mut skip = false;
+    line.retain(|_| {
+        let keep = !skip;
+        skip = keep;
+        keep
+    })
+}
+
+/// The same, and answers whether the last character was kept. Of the empty text it was not.
+pub fn every_second_told(line: &mut CompactString) -> Result<bool, ReserveError>
+    ensures text { OnOk result
+        (line.new.text ≡ retained_text (λ kept c. (not kept, not kept)) false line.old.text) }
+    ensures last { IfOk result
+        (λ b. b ≡ retain_state (λ kept c. (not kept, not kept)) false line.old.text) }
+    ensures unchanged { OnErr result (line.new ≡ line.old) }
+{
+    let mut kept = false;
+    let mut keep = |_| {
+        kept = !kept;
+        kept
+    };
+    line.retain_by(&mut keep)?;
+    Ok(kept)
+}

@@ -1,0 +1,46 @@
+//! Tests of the callers in `key.rt`.
+
+use compact_callers::key_callers::{count_of, place_of, set_count};
+use compact_testing::values::{lasting, letters, value_of};
+use std::collections::HashMap;
+use std::test::Fail;
+
+#[test]
+fn a_word_is_found_in_a_sorted_row(rt: HostRuntime) {
+    let alloc = rt.alloc();
+    let mut words = [
+        value_of(alloc, "b").expect(&rt, "memory"),
+        lasting(alloc, 30),
+        value_of(alloc, "\u{10000}").expect(&rt, "memory"),
+        value_of(alloc, "\u{fffd}").expect(&rt, "memory"),
+    ];
+    words.sort_unstable();
+    assert_eq!(rt;
+        place_of(&words, &value_of(alloc, letters(30)).expect(&rt, "memory")),
+        Ok(0)
+    );
+    assert_eq!(rt;
+        place_of(&words, &value_of(alloc, "\u{fffd}").expect(&rt, "memory")),
+        Ok(2)
+    );
+    assert_eq!(rt;
+        place_of(&words, &value_of(alloc, "c").expect(&rt, "memory")),
+        Err(2)
+    );
+}
+
+#[test]
+fn a_word_is_counted_wherever_it_stands(rt: HostRuntime) -> Result<(), Fail> {
+    let alloc = rt.alloc();
+    let mut counts = HashMap::new(alloc);
+    set_count(&mut counts, lasting(alloc, 30), 3).map_err(|_| "memory")?;
+    assert_eq!(rt;
+        count_of(&counts, &value_of(alloc, letters(30)).expect(&rt, "memory")),
+        3
+    );
+    assert_eq!(rt;
+        count_of(&counts, &value_of(alloc, letters(29)).expect(&rt, "memory")),
+        0
+    );
+    Ok(())
+}

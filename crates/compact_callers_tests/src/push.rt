@@ -1,0 +1,16 @@
+//! Tests of the callers in `push.rt`.
+
+use compact_callers::push_callers::{joined, joined_in_doubled_room};
+use compact_testing::seen::is_heap;
+use compact_testing::values::letters;
+
+#[test]
+fn parts_are_joined(rt: HostRuntime) {
+    let line = joined(rt.alloc(), &[letters(24), "", "a"]).expect(&rt, "memory");
+    assert!(rt; is_heap(&line.0, 36, letters(25)));
+    assert_eq!(rt; line.1, 24);
+    let doubled = joined_in_doubled_room(rt.alloc(), &[letters(24), "a"]);
+    assert!(rt; is_heap(&doubled.value, 48, letters(25)));
+    assert_eq!(rt; doubled.moved, 24);
+    assert_eq!(rt; doubled.refused, 0);
+}

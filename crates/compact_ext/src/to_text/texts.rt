@@ -1,0 +1,81 @@
+//! The texts of `bool`, `char` and the kinds of text.
+ghost use Rattle.std.specs.Prelude.{◌≡◌, ◌≤◌, [], ◌∷◌, length, string_bytes, ⊤};
+ghost use Rattle.compact_str.specs.Text.{text_of, size};
+ghost use Rattle.compact_ext.specs.Shown.{IsTextOf, bool_text};
+
+use crate::format::ToCompactStringError;
+use crate::to_text::ToCompactString;
+use compact_str::{CompactString, Policy, Standard};
+use std::alloc::Global;
+
+/// A copy of a text.
+#[inline]
+pub fn text_copy(alloc: Global, text: &str) -> Result<CompactString, ToCompactStringError>
+    ensures { IsTextOf ⟦<Standard as Policy>⟧.growth (text_of text.now)
+        (length text.now ≤ 24) result }
+{
+    match CompactString::new(alloc, text) {
+        Ok(value) => Ok(value),
+        Err(error) => Err(ToCompactStringError::Reserve(error)),
+    }
+}
+
+impl ToCompactString for bool {
+    ghost shown = { bool_text };
+
+    ghost IsShort = { λ _. ⊤ };
+
+    #[inline]
+    fn to_compact_string(&self, alloc: Global) -> Result<CompactString, ToCompactStringError> {
+        if *self {
+            text_copy(alloc, "true")
+        } else {
+            text_copy(alloc, "false")
+        }
+    }
+}
+
+impl ToCompactString for char {
+    ghost shown = { λ c. c ∷ [] };
+
+    ghost IsShort = { λ _. ⊤ };
+
+    #[inline]
+    fn to_compact_string(&self, alloc: Global) -> Result<CompactString, ToCompactStringError> {
+        let mut bytes = [0; 4];
+        text_copy(alloc, self.encode_utf8(&mut bytes))
+    }
+}
+
+impl ToCompactString for &str {
+    ghost shown = { λ s. text_of s.now };
+
+    ghost IsShort = { λ s. length s.now ≤ 24 };
+
+    #[inline]
+    fn to_compact_string(&self, alloc: Global) -> Result<CompactString, ToCompactStringError> {
+        text_copy(alloc, *self)
+    }
+}
+
+impl ToCompactString for String {
+    ghost shown = { λ s. text_of (string_bytes s) };
+
+    ghost IsShort = { λ s. length (string_bytes s) ≤ 24 };
+
+    #[inline]
+    fn to_compact_string(&self, alloc: Global) -> Result<CompactString, ToCompactStringError> {
+        text_copy(alloc, self)
+    }
+}
+
+impl ToCompactString for CompactString {
+    ghost shown = { λ v. v.text };
+
+    ghost IsShort = { λ v. size v.text ≤ 24 };
+
+    #[inline]
+    fn to_compact_string(&self, alloc: Global) -> Result<CompactString, ToCompactStringError> {
+        text_copy(alloc, self.as_str())
+    }
+}

@@ -1,0 +1,41 @@
+//! The texts of integers of 128 bits, which the crate `itoa` prints.
+ghost use Rattle.std.specs.Prelude.{◌≤◌, length};
+ghost use Rattle.std.specs.Fmt.{decimal, signed_decimal};
+ghost use Rattle.compact_ext.specs.Shown.{IsTextOf};
+
+use crate::format::ToCompactStringError;
+use crate::to_text::ToCompactString;
+use crate::to_text::texts::text_copy;
+use compact_str::{CompactString, Policy, Standard};
+use itoa::{Buffer, Integer};
+use std::alloc::Global;
+
+/// The text that `itoa` prints.
+pub fn printed<I: Integer>(alloc: Global, n: I) -> Result<CompactString, ToCompactStringError>
+    ensures { IsTextOf ⟦<Standard as Policy>⟧.growth (I.text n) (length (I.text n) ≤ 24) result }
+{
+    let mut buffer = Buffer::new();
+    text_copy(alloc, buffer.format(n))
+}
+
+impl ToCompactString for u128 {
+    ghost shown = { decimal };
+
+    ghost IsShort = { λ n. length (decimal n) ≤ 24 };
+
+    fn to_compact_string(&self, alloc: Global) -> Result<CompactString, ToCompactStringError> {
+        let n: u128 = *self;
+        printed(alloc, n)
+    }
+}
+
+impl ToCompactString for i128 {
+    ghost shown = { signed_decimal };
+
+    ghost IsShort = { λ n. length (signed_decimal n) ≤ 24 };
+
+    fn to_compact_string(&self, alloc: Global) -> Result<CompactString, ToCompactStringError> {
+        let n: i128 = *self;
+        printed(alloc, n)
+    }
+}

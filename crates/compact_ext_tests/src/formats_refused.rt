@@ -1,0 +1,55 @@
+//! Texts of formats while requests for memory are refused, beside what `compact_table_tests` tries of each call.
+
+use compact_ext::{ToCompactString, ToCompactStringError, format_compact};
+use compact_str::{CompactString, ReserveError};
+use compact_testing::memory::take_all;
+use compact_testing::seen::is_inline;
+use compact_testing::values::{letters, string_with_room};
+use std::fmt;
+use std::fmt::Display;
+
+/// It writes 30 letters so often, and answers `Ok` in spite of a refusal.
+#[derive(Drop)]
+struct Hiding(usize);
+
+impl Display for Hiding {
+    fn fmt<W: fmt::Write>(&self, f: &mut fmt::Formatter<W>) -> fmt::Result {
+        for _ in 0..self.0 {
+            let _refused = f.write_str(letters(30)).is_err();
+        }
+        Ok(())
+    }
+}
+
+fn is_refused(made: Result<CompactString, ToCompactStringError>) -> bool {
+    made.err() == Some(ToCompactStringError::Reserve(ReserveError))
+}
+
+#[test]
+fn formats_and_strings_of_24_bytes_need_no_memory(rt: HostRuntime) {
+    let alloc = rt.alloc();
+    let string = string_with_room(alloc, 30, "i am 24 characters long!").expect(&rt, "memory");
+    let hog = take_all(alloc).expect(&rt, "room for the list of blocks");
+    let text = string.to_compact_string(alloc);
+    assert!(rt;
+        is_inline(
+            &text.expect(&rt, "no memory is needed"),
+            "i am 24 characters long!"
+        )
+    );
+    let text = format_compact!(in alloc; "{}-{}", 7, "a").expect(&rt, "no memory is needed");
+    assert!(rt; is_inline(&text, "7-a"));
+    drop(hog);
+}
+
+#[test]
+fn a_refusal_that_is_hidden_is_told(rt: HostRuntime) {
+    let alloc = rt.alloc();
+    let hog = take_all(alloc).expect(&rt, "room for the list of blocks");
+    assert!(rt; is_refused(format_compact!(in alloc; "{}", Hiding(1))));
+    assert!(rt; is_refused(format_compact!(in alloc; "{}a", Hiding(2))));
+    drop(hog);
+    let text = format_compact!(in alloc; "{}", Hiding(2)).expect(&rt, "memory");
+    assert_eq!(rt; text.as_str(), letters(60));
+    assert!(rt; text.is_heap_allocated());
+}

@@ -1,0 +1,74 @@
+use Rattle.std.proofs.Common.{◌≡◌, ◌+◌, ◌%◌, ◌^◌, [], ◌∷◌, rules, refl, sym, ap, ◌∙◌, length}
+use Rattle.std.proofs.lemmas.Bool.{eqb-true}
+use Rattle.std.proofs.lemmas.List.{nil_from_length}
+use Rattle.std.proofs.lemmas.Str.{chars-nil, len_utf8_bounds}
+use Rattle.std.specs.Char.{len_utf8}
+use Rattle.compact_repr.specs.Text.{text_of}
+use Rattle.compact_str.specs.RangeTexts.{range_text}
+use Rattle.compact_str.specs.Drain.{drain_rest}
+use Rattle.compact_str.proofs.Drains.{front-taken}
+use Rattle.compact_str.proofs.string.drain.DrainIterator.next.Goals as goal
+
+pub returns-then-is_empty-clause-steps : goal.returns-then-is_empty-clause-steps
+returns-then-is_empty-clause-steps g c =
+    let d = c.args.self.now in
+    let none : drain_rest d ≡ [] = sym c.as_str-rest.ensures.text ∙ ap text_of (nil_from_length c.as_str-rest.result.now (eqb-true _ _ (sym c.if-is_empty.ensures))) ∙ chars-nil in
+    record { lender = refl; leaves = refl; step = (none, none) }
+
+-- one byte is taken
+pub overflow_add-self : goal.overflow_add-self
+overflow_add-self g c =
+    let d = c.args.self.now in
+    let first = c.in-Some.ensures in
+    let taken = front-taken d.value.now.text first.1.0 d.front d.back c.in-Some.character (d.front + 1) (sym c.as_str-rest.ensures.text ∙ first.1.1) (ap (λ w. d.front + w) (sym first.0)) in
+    let fits = taken.1 in
+    search rules
+
+pub invariant_of-self : goal.invariant_of-self
+invariant_of-self g c =
+    let d = c.args.self.now in
+    let first = c.in-Some.ensures in
+    let taken = front-taken d.value.now.text first.1.0 d.front d.back c.in-Some.character (d.front + 1) (sym c.as_str-rest.ensures.text ∙ first.1.1) (ap (λ w. d.front + w) (sym first.0)) in
+    record { owned = d.owned; within = d.within; range = λ _. taken.2; span = d.span }
+
+pub returns-in-Some-clause-steps : goal.returns-in-Some-clause-steps
+returns-in-Some-clause-steps g c =
+    let d = c.args.self.now in
+    let first = c.in-Some.ensures in
+    let split : drain_rest d ≡ c.in-Some.character ∷ first.1.0 = sym c.as_str-rest.ensures.text ∙ first.1.1 in
+    let taken = front-taken d.value.now.text first.1.0 d.front d.back c.in-Some.character (d.front + 1) split (ap (λ w. d.front + w) (sym first.0)) in
+    record { lender = refl; leaves = refl; step = split ∙ ap (λ l. c.in-Some.character ∷ l) (sym taken.0) }
+
+pub returns-in-Some-clause-goes : goal.returns-in-Some-clause-goes
+returns-in-Some-clause-goes g c =
+    let d = c.args.self.now in
+    let first = c.in-Some.ensures in
+    let split : drain_rest d ≡ c.in-Some.character ∷ first.1.0 = sym c.as_str-rest.ensures.text ∙ first.1.1 in
+    let taken = front-taken d.value.now.text first.1.0 d.front d.back c.in-Some.character (d.front + 1) split (ap (λ w. d.front + w) (sym first.0)) in
+    let before = ap length split in
+    let after = ap length taken.0 in
+    search rules
+
+-- a wider character
+pub invariant_of-self-2 : goal.invariant_of-self-2
+invariant_of-self-2 g c =
+    let d = c.args.self.now in
+    let first = c.in_ok-first.ensures in
+    let taken = front-taken d.value.now.text first.0 d.front d.back c.in_ok-first.first.character c.in_ok-first.first.end first.2 first.1 in
+    record { owned = d.owned; within = d.within; range = λ _. taken.2; span = d.span }
+
+pub returns-clause-steps : goal.returns-clause-steps
+returns-clause-steps g c =
+    let d = c.args.self.now in
+    let first = c.in_ok-first.ensures in
+    let taken = front-taken d.value.now.text first.0 d.front d.back c.in_ok-first.first.character c.in_ok-first.first.end first.2 first.1 in
+    record { lender = refl; leaves = refl; step = first.2 ∙ ap (λ l. c.in_ok-first.first.character ∷ l) (sym taken.0) }
+
+pub returns-clause-goes : goal.returns-clause-goes
+returns-clause-goes g c =
+    let d = c.args.self.now in
+    let first = c.in_ok-first.ensures in
+    let taken = front-taken d.value.now.text first.0 d.front d.back c.in_ok-first.first.character c.in_ok-first.first.end first.2 first.1 in
+    let before = ap length first.2 in
+    let after = ap length taken.0 in
+    search rules

@@ -1,0 +1,56 @@
+-- Texts that come one after another: collected, joined with a separator, and appended.
+use Rattle.std.specs.Prelude.{◌≡◌, ℕ, ◌+◌, ◌<◌, List, [], ◌∷◌, ◌++◌, Option, Some, IsTrue, length, drop, flat_map}
+use Rattle.std.specs.Iterator.{Drains, HoldsAlong, Yields, YieldsThen}
+use Rattle.std.specs.Iterator.Runs.{WholeRun}
+use Rattle.compact_repr.specs.Text.{size}
+use Rattle.compact_repr.specs.Value.{PlacedText}
+use Rattle.compact_repr.specs.Capacity.{Growth}
+use Rattle.compact_repr.specs.Change.{push_str, push_str_asks}
+
+-- the text of each item, as `spells` reads it, is joined to v's end in turn, which leaves w
+abbrev pub Appends : {A : Type 0} → Growth → (A → List ℕ) → PlacedText → List A → PlacedText → Type 0
+Appends g spells v [] w = w ≡ v
+Appends g spells v (x ∷ xs) w = (u : PlacedText) × (push_str g v (spells x) ≡ Some u) × Appends g spells u xs w
+
+-- the texts of the items with a separator between each two: each stands behind a separator, but for the first separator
+abbrev pub join : {A : Type 0} → List ℕ → (A → List ℕ) → List A → List ℕ
+join separator spells xs = drop (length separator) (flat_map (λ x. separator ++ spells x) xs)
+
+-- the text of one character
+abbrev pub char_text : ℕ → List ℕ
+char_text c = c ∷ []
+
+-- P holds of the iterator that an iterable becomes
+abbrev pub OfIterator : {U S : Type 0} → (U → S → Type 0) → U → (S → Type 0) → Type 0
+OfIterator {S = S} becomes iterable P = (it : S) × becomes iterable it × P it
+
+-- P holds of the items that an iterable gives in one whole run
+abbrev pub OfItems : {U S A : Type 0} → (U → S → Type 0) → (S → Option A → S → Type 0) → U → (List A → Type 0) → Type 0
+OfItems becomes steps iterable P = OfIterator becomes iterable (λ it. WholeRun steps it (λ run. P run.items))
+
+-- P holds of whatever items an iterable may have given at any time
+abbrev pub OfAllItems : {U S A : Type 0} → (U → S → Type 0) → (S → Option A → S → Type 0) → U → (List A → Type 0) → Type 0
+OfAllItems {S = S} becomes steps iterable P = (it : S) → becomes iterable it → HoldsAlong steps it P
+
+module _ {S A : Type 0} (steps : S → Option A → S → Type 0) where
+  -- all items of an iterator are appended in turn
+  abbrev pub AppendsAll : Growth → (A → List ℕ) → S → PlacedText → PlacedText → Type 0
+  AppendsAll g spells s v w = (xs : List A) × Drains steps s xs × Appends g spells v xs w
+
+  -- the items before one that is refused are appended, and that one asks for a heap buffer
+  abbrev pub AppendsUpToRefused : Growth → (A → List ℕ) → S → PlacedText → PlacedText → Type 0
+  AppendsUpToRefused g spells s v w =
+      (xs : List A) × (x : A) × (t : S) × YieldsThen steps s xs (Some x) t × Appends g spells v xs w × IsTrue (push_str_asks w (spells x))
+
+  -- items that an iterator gave make a text of more than 24 bytes
+  abbrev pub PassesInline : (List A → List ℕ) → S → Type 0
+  PassesInline spells s = (xs : List A) × (t : S) × Yields steps s xs t × (24 < size (spells xs))
+
+  -- items that an iterator gave make a text that is not empty
+  abbrev pub GivesText : (List A → List ℕ) → S → Type 0
+  GivesText spells s = (xs : List A) × (t : S) × Yields steps s xs t × (0 < size (spells xs))
+
+  -- the items before one that is refused are joined to a text t, which leaves u, and there that one is past a capacity
+  abbrev pub StopsWithout : (A → List ℕ) → S → ℕ → List ℕ → List ℕ → Type 0
+  StopsWithout spells s capacity t u =
+      (xs : List A) × (x : A) × (r : S) × YieldsThen steps s xs (Some x) r × (u ≡ t ++ flat_map spells xs) × (capacity < size u + size (spells x))

@@ -1,0 +1,131 @@
+//! A value while it is collected.
+ghost use Rattle.std.specs.Prelude.{◌≡◌, ◌+◌, ◌<◌, [], ◌∷◌, ◌++◌, length, OnOk, OnErr, IfOk, IfSome};
+ghost use Rattle.std.specs.Char.{len_utf8};
+ghost use Rattle.compact_repr.specs.Text.{size, text_of};
+ghost use Rattle.compact_str.specs.FittedValues.{IsFitted};
+
+use crate::string::PolicyString;
+use compact_repr::{Block, Padded, Policy, ReserveError, encode_char};
+use std::alloc::Global;
+use std::marker::Model;
+use std::mem;
+
+/// What has come so far: a value, and behind it a block of short pieces that are appended to it at once. A contract sees
+/// the text of both. So a text of at most 1024 bytes asks for memory once, and for just what it takes.
+#[derive(Drop)]
+pub struct Gathered<P: Policy> {
+    value: PolicyString<P>,
+    block: Block,
+}
+
+impl<P: Policy> Model for Gathered<P> {
+    ghost use Rattle.std.specs.Prelude.{ℕ, List, ◌++◌};
+    ghost use Rattle.compact_str.specs.FittedValues.{IsFitted};
+
+    ghost Value = { List ℕ };
+
+    ghost view = { λ g. g.value.text ++ g.block };
+
+    ghost invariant = { λ g. IsFitted g.value };
+}
+
+#[tactic(auto, using(compact_repr::proofs::TextFacts::text_facts, crate::proofs::CollectFacts::gather_facts))]
+impl<P: Policy> Gathered<P> {
+    /// Nothing yet.
+    #[inline]
+    pub fn new(alloc: Global) -> Self
+        ensures { result ≡ [] }
+    {
+        Gathered {
+            value: PolicyString::default(alloc),
+            block: Block::empty(),
+        }
+    }
+
+    /// Takes `text` behind what has come. An error comes only where that makes more than 24 bytes.
+    #[inline]
+    pub fn push_str(&mut self, text: &str) -> Result<(), ReserveError>
+        ensures ok { OnOk result (self.new ≡ self.old ++ text_of text.now) }
+        ensures err { OnErr result (24 < size self.old + length text.now) }
+    {
+        if self.block.push_str(text) {
+            return Ok(());
+        }
+        self.push_behind(text)
+    }
+
+    /// Takes `separator` and then `text` behind what has come; `padded` is the separator too, where it is a short one. An
+    /// error comes only where that makes more than 24 bytes.
+    #[inline]
+    pub fn push_parted(
+        &mut self,
+        separator: &str,
+        padded: &Option<Padded>,
+        text: &str,
+    ) -> Result<(), ReserveError>
+        requires same { IfSome padded.now (λ p. p ≡ text_of separator.now) }
+        ensures ok { OnOk result
+            (self.new ≡ (self.old ++ text_of separator.now) ++ text_of text.now) }
+        ensures err { OnErr result (24 < size self.old + length separator.now + length text.now) }
+    {
+        if let Some(padded) = padded {
+            if self.block.push_behind(padded, text) {
+                return Ok(());
+            }
+        }
+        self.push_apart(separator, text)
+    }
+
+    /// The same where the two do not go together.
+    #[inline(never)]
+    fn push_apart(&mut self, separator: &str, text: &str) -> Result<(), ReserveError>
+        ensures ok { OnOk result
+            (self.new ≡ (self.old ++ text_of separator.now) ++ text_of text.now) }
+        ensures err { OnErr result (24 < size self.old + length separator.now + length text.now) }
+    {
+        self.push_str(separator)?;
+        self.push_str(text)
+    }
+
+    /// Takes a character behind what has come. An error comes only where that makes more than 24 bytes.
+    #[inline]
+    pub fn push(&mut self, character: char) -> Result<(), ReserveError>
+        ensures ok { OnOk result (self.new ≡ self.old ++ character ∷ []) }
+        ensures err { OnErr result (24 < size self.old + len_utf8 character) }
+    {
+        if character.is_ascii() && self.block.push_ascii(character as u8) {
+            return Ok(());
+        }
+        let mut bytes = [0; 4];
+        self.push_str(encode_char(character, &mut bytes))
+    }
+
+    /// Appends the block to the value, and then takes `text`.
+    #[cold]
+    #[inline(never)]
+    fn push_behind(&mut self, text: &str) -> Result<(), ReserveError>
+        ensures ok { OnOk result (self.new ≡ self.old ++ text_of text.now) }
+        ensures err { OnErr result (24 < size self.old + length text.now) }
+    {
+        self.value.push_str(self.block.as_str())?;
+        self.block.clear();
+        if self.block.push_str(text) {
+            return Ok(());
+        }
+        self.value.push_str(text)
+    }
+
+    /// The value; of what is left nothing is said. An error comes only where the value has more than 24 bytes.
+    ///
+    /// It takes a reference, for a move would copy the block.
+    #[inline]
+    pub fn finish(&mut self) -> Result<PolicyString<P>, ReserveError>
+        ensures text { IfOk result (λ v. v.text ≡ self.old) }
+        ensures fitted { IfOk result IsFitted }
+        ensures err { OnErr result (24 < size self.old) }
+    {
+        self.value.push_str(self.block.as_str())?;
+        let nothing = PolicyString::default(self.value.allocator());
+        Ok(mem::replace(&mut self.value, nothing))
+    }
+}

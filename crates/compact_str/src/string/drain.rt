@@ -1,0 +1,228 @@
+//! A range of a value that is taken out, character by character.
+ghost use Rattle.std.specs.Prelude.{◌≡◌, ℕ, ◌≤◌, List, length, [], Some, IfOk, OnErr, IsOk, IsTrue, true, false};
+ghost use Rattle.std.specs.Borrow.{sem, RestsIfErr};
+ghost use Rattle.compact_repr.specs.Text.{size, utf8, text_of};
+ghost use Rattle.compact_repr.specs.Cut.{substring, replaced_text};
+ghost use Rattle.compact_repr.specs.Capacity.{make_owned_asks};
+ghost use Rattle.compact_repr.specs.Value.{is_static};
+ghost use Rattle.compact_repr.specs.Change.{replace_range};
+ghost use Rattle.compact_str.specs.Room.{IsOwned};
+ghost use Rattle.compact_str.specs.Ranges.{IsRange, range_start, range_end};
+ghost use Rattle.compact_str.specs.RangeTexts.{is_range};
+
+mod range;
+
+use crate::string::PolicyString;
+use crate::string::position::byte_range;
+use compact_repr::{Policy, ReserveError, first_ascii, last_char, substring};
+use std::fmt;
+use std::fmt::{Debug, Display, Formatter, Write};
+use std::iter::FusedIterator;
+use std::ops::Bound;
+
+/// The characters of a range that `drain` takes out of a value: an iterator from both ends, each character once.
+///
+/// Its drop takes the whole range out, however much was taken from it.
+pub struct Drain<'a, P: Policy> {
+    value: &'a mut PolicyString<P>,
+    // The range, in bytes.
+    start: usize,
+    end: usize,
+    // The bytes of the text, until the range is taken out.
+    whole: usize,
+    // What of the range is not yet taken.
+    front: usize,
+    back: usize,
+    ghost owned: { is_static value.now.placement.place ≡ false },
+    ghost within: { size value.now.text ≤ whole },
+    // So neither a step nor the drop need test whether these are boundaries.
+    ghost range: { size value.now.text ≡ whole → is_range value.now.text front back ≡ true },
+    ghost span: { size value.now.text ≡ whole → is_range value.now.text start end ≡ true },
+}
+
+impl<P: Policy> PolicyString<P> {
+    ghost use Rattle.compact_str.specs.RangeTexts.{range_text, without_range};
+    ghost use Rattle.compact_str.specs.Drain.{drain_rest, value_after_drain, drain_lender};
+    ghost use Rattle.compact_str.specs.contracts.string.PolicyString.{the_row};
+
+    /// Takes a range out: answers its characters, and the drop of the answer leaves what stood before and after it. A
+    /// static value becomes its own first, for an empty range too.
+    ///
+    /// Whether the bounds are a range of the text, `check_range` tells. An error says that no memory was found for a static
+    /// text of more than 24 bytes, or that it is longer than 2^56 - 2 bytes; then nothing has changed. It never comes of an
+    /// owned value. Of `"Hello, world!"` from `Included(5)` to `Excluded(12)` it gives the characters of `", world"`, and
+    /// leaves `"Hello!"`.
+    #[inline]
+    pub fn drain(
+        &mut self,
+        start: Bound<usize>,
+        end: Bound<usize>,
+    ) -> Result<Drain<'_, P>, ReserveError>
+        requires { IsRange self.old.text start end }
+        ensures* refused { sem 𝓛
+            (RestsIfErr (the_row P.row P.Policy) self.entry drain_lender result
+            (λ v. v ≡ self.old)) }
+        ensures same_reference { IfOk result (λ d. drain_lender d ≡ self.entry.ghost_name) }
+        ensures rest { IfOk result
+            (λ d. drain_rest d ≡ substring self.old.text (range_start start)
+            (range_end self.old.text end)) }
+        ensures leaves { IfOk result
+            (λ d. replace_range P.growth self.old (range_start start)
+            (range_end self.old.text end) []
+            ≡ Some (value_after_drain d)) }
+        ensures text { IfOk result
+            (λ d. (value_after_drain d).text
+            ≡ replaced_text self.old.text (range_start start) (range_end self.old.text end) []) }
+        ensures succeeds { IsOwned self.old → IsOk result }
+        ensures succeeds_short { size self.old.text ≤ 24 → IsOk result }
+        ensures err { OnErr result (IsTrue (make_owned_asks self.old)) }
+    {
+        let Some((first, last)) = byte_range(start, end, self.len()) else {
+            unreachable!();
+        };
+        self.make_owned()?;
+        Ok(self.drain_between(first, last))
+    }
+
+    /// The characters from one position to another, in bytes, which are taken out when the answer is dropped.
+    #[inline]
+    fn drain_between(&mut self, start: usize, end: usize) -> Drain<'_, P>
+        requires owned { is_static self.old.placement.place ≡ false }
+        requires range { is_range self.old.text start end ≡ true }
+        ensures same_reference { drain_lender result ≡ self.entry.ghost_name }
+        ensures rest { drain_rest result ≡ range_text self.old.text start end }
+        ensures leaves { value_after_drain result ≡ without_range self.old start end }
+    {
+        let whole = self.len();
+        Drain {
+            value: self,
+            start,
+            end,
+            whole,
+            front: start,
+            back: end,
+        }
+    }
+}
+
+impl<P: Policy> Drain<'_, P> {
+    ghost use Rattle.compact_str.specs.Drain.{drain_rest};
+
+    /// What is not yet taken.
+    #[inline(always)]
+    pub fn as_str(&self) -> &str
+        ensures bytes { result.now ≡ utf8 (drain_rest self.now) }
+        ensures text { text_of result.now ≡ drain_rest self.now }
+        ensures len { length result.now ≡ size (drain_rest self.now) }
+    {
+        // An inline text is short: the loop has one way of reading alone, that of the heap.
+        if let Some(text) = self.value.heap_str() {
+            if text.len() == self.whole {
+                return substring(text, self.front, self.back);
+            }
+        }
+        self.value.cold_range_text(self.front, self.back)
+    }
+}
+
+impl<P: Policy> Iterator for Drain<'_, P> {
+    ghost use Rattle.std.specs.Prelude.{◌+◌, ◌/◌, Some, IfSome};
+    ghost use Rattle.std.specs.Iterator.{at_most, UpTo};
+    ghost use Rattle.std.specs.Iterator.SizeHint.{IsWithinCount};
+    ghost use Rattle.compact_str.specs.Drain.{DrainsFront, drain_rest};
+
+    type Item = char;
+
+    ghost next_gives = { DrainsFront };
+
+    ghost remaining = { λ d. at_most (length (drain_rest d)) };
+
+    /// The first character that is not yet taken.
+    #[inline(always)]
+    fn next(&mut self) -> Option<char> {
+        // That `front` is before `back` tells the proof that the sums below fit.
+        let (front, back) = (self.front, self.back);
+        let rest = self.as_str();
+        if rest.is_empty() {
+            return None;
+        }
+        if let Some(character) = first_ascii(rest) {
+            self.front = front + 1;
+            return Some(character);
+        }
+        // It takes the positions, so that the loop need not count what is left.
+        let first = self.value.first_char_and_end(front, back)?;
+        self.front = first.end;
+        Some(first.character)
+    }
+
+    /// How many characters are left: at least a quarter of the bytes, and at most as many.
+    #[inline]
+    fn size_hint(&self) -> (usize, Option<usize>)
+        ensures lower { IsWithinCount result.0 (at_most (length (drain_rest self.now))) }
+        ensures upper { IfSome result.1 (UpTo (at_most (length (drain_rest self.now)))) }
+        ensures least { result.0 ≡ (size (drain_rest self.now) + 3) / 4 }
+        ensures most { result.1 ≡ Some (size (drain_rest self.now)) }
+    {
+        let len = self.as_str().len();
+        (len.div_ceil(4), Some(len))
+    }
+}
+
+impl<P: Policy> DoubleEndedIterator for Drain<'_, P> {
+    ghost use Rattle.compact_str.specs.Drain.{DrainsBack};
+
+    ghost next_back_gives = { DrainsBack };
+
+    /// The last character that is not yet taken.
+    #[inline]
+    fn next_back(&mut self) -> Option<char> {
+        let character = last_char(self.as_str())?;
+        self.back -= character.len_utf8();
+        Some(character)
+    }
+}
+
+impl<P: Policy> FusedIterator for Drain<'_, P> {}
+
+impl<P: Policy> Drop for Drain<'_, P> {
+    ghost use Rattle.compact_str.specs.Drain.{value_after_drain};
+
+    /// Takes the whole range out of the value.
+    #[inline]
+    fn drop(self)
+        ensures { self.exit.0.now ≡ value_after_drain self.entry }
+    {
+        let Drain {
+            value,
+            start,
+            end,
+            whole,
+            front: _,
+            back: _,
+        } = self;
+        value.remove_range(start, end, whole);
+    }
+}
+
+impl<P: Policy> Display for Drain<'_, P> {
+    ghost use Rattle.std.specs.Prelude.{Some};
+    ghost use Rattle.compact_repr.specs.Text.{utf8};
+    ghost use Rattle.compact_str.specs.Drain.{drain_rest};
+
+    ghost output = { λ d. Some (utf8 (drain_rest d)) };
+
+    ghost styled_output = { λ d _. Some (utf8 (drain_rest d)) };
+
+    /// Prints what is not yet taken, whatever the width.
+    fn fmt<W: Write>(&self, f: &mut Formatter<W>) -> fmt::Result {
+        f.write_str(self.as_str())
+    }
+}
+
+impl<P: Policy> Debug for Drain<'_, P> {
+    /// Prints `Drain(`, what is not yet taken as its `Debug` shows it, and `)`.
+    fn fmt<W: Write>(&self, f: &mut Formatter<W>) -> fmt::Result {
+        f.debug_tuple("Drain").field(&self.as_str()).finish()
+    }
+}

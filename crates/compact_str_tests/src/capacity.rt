@@ -1,0 +1,40 @@
+//! A value that grows and gives room back, where a mistake is to be found with no table. What each edit leaves is told by the
+//! table of `compact_table_tests`.
+
+use compact_str::CompactString;
+use compact_testing::seen::{is_heap, is_inline};
+use compact_testing::values::{append, letters, value_of, with_room};
+use std::alloc::Global;
+
+#[test]
+fn an_append_grows_the_buffer_by_half(rt: HostRuntime) {
+    let mut value = value_of(rt.alloc(), letters(24)).expect(&rt, "memory");
+    append(&mut value, "a").expect(&rt, "memory");
+    assert!(rt; is_heap(&value, 36, letters(25)));
+}
+
+#[test]
+fn room_is_given_back(rt: HostRuntime) {
+    let mut value = with_room(rt.alloc(), 100).expect(&rt, "memory");
+    append(&mut value, letters(40)).expect(&rt, "memory");
+    value.shrink_to(50);
+    assert!(rt; is_heap(&value, 50, letters(40)));
+    value.shrink_to_fit();
+    assert!(rt; is_heap(&value, 40, letters(40)));
+}
+
+/// Whether an empty value with this capacity is made.
+fn has_room(alloc: Global, capacity: usize) -> bool {
+    CompactString::with_capacity(alloc, capacity).is_ok()
+}
+
+#[test]
+fn what_goes_past_the_limit_is_refused_with_ample_memory(rt: HostRuntime) {
+    assert!(rt; has_room(rt.alloc(), 100));
+    assert!(rt; !has_room(rt.alloc(), 72_057_594_037_927_935));
+    assert!(rt; !has_room(rt.alloc(), usize::MAX));
+    let mut value = value_of(rt.alloc(), "ab").expect(&rt, "memory");
+    assert!(rt; value.try_reserve(usize::MAX).is_err());
+    assert!(rt; is_inline(&value, "ab"));
+    assert!(rt; value.repeat(36_028_797_018_963_968).is_err());
+}

@@ -1,0 +1,33 @@
+use Rattle.std.proofs.Common.{◌≡◌, ◌+◌, ◌∷◌, [], ◌++◌, ap, sym, ◌∙◌, flat_map, map, take, true≢false, arith}
+use Rattle.std.proofs.lemmas.Grind.{common_steps}
+use Rattle.compact_str.specs.Order.{text_in}
+use Rattle.std.specs.Char.{len_utf8}
+use Rattle.compact_str.specs.Text.{size}
+use Rattle.compact_str.proofs.ForCallers.{size-append}
+use Rattle.compact_uses.specs.Lines.{quoted_field, quoted_line}
+use Rattle.compact_uses.proofs.ShortLines.{field-room, not-refused}
+use Rattle.compact_uses.proofs.LineLaws.{reads-back}
+use Rattle.compact_uses.proofs.LineLemmas.{texts-some}
+use Rattle.compact_uses.proofs.records.write.quoted_line.Goals as goal
+
+pub returns-clause-reads_back : goal.returns-clause-reads_back
+returns-clause-reads_back c = λ apart some.
+    let text : c.loop-field.line.text ≡ quoted_line c.args.separator (map text_in c.args.fields.now) = grind (arith, common_steps) in
+    rw text (reads-back c.args.separator (map text_in c.args.fields.now) apart (texts-some c.args.fields.now some))
+
+pub returns-in_err-push-clause-succeeds : goal.returns-in_err-push-clause-succeeds
+returns-in_err-push-clause-succeeds c = λ small.
+    let are : c.args.fields.now ≡ c.in-Some.first.now ∷ c.in-Some.others.now = grind (arith, common_steps) in
+    let begun : c.push_quoted.new.line.text ≡ quoted_field c.in-Some.first.now.text = grind (arith, common_steps) in
+    let room = field-room c.args.separator c.loop-field.line c.in-Some.first.now c.field-item.result c.args.fields.now c.in-Some.others.now c.loop-field.field-index are c.loop-field-test.true c.field-item.is
+    (c.loop-field.invariant ∙ ap (λ t. t ++ flat_map (λ other. c.args.separator ∷ quoted_field other) (map text_in (take c.loop-field.field-index c.in-Some.others.now))) begun) small in
+    absurd (not-refused c.loop-field.line (len_utf8 c.args.separator) (omega (arith, room)) c.in_err-push.ensures.succeeds)
+
+pub returns-in_err-push_quoted-2-clause-succeeds : goal.returns-in_err-push_quoted-2-clause-succeeds
+returns-in_err-push_quoted-2-clause-succeeds c = λ small.
+    let are : c.args.fields.now ≡ c.in-Some.first.now ∷ c.in-Some.others.now = grind (arith, common_steps) in
+    let begun : c.push_quoted.new.line.text ≡ quoted_field c.in-Some.first.now.text = grind (arith, common_steps) in
+    let room = field-room c.args.separator c.loop-field.line c.in-Some.first.now c.field-item.result c.args.fields.now c.in-Some.others.now c.loop-field.field-index are c.loop-field-test.true c.field-item.is
+    (c.loop-field.invariant ∙ ap (λ t. t ++ flat_map (λ other. c.args.separator ∷ quoted_field other) (map text_in (take c.loop-field.field-index c.in-Some.others.now))) begun) small in
+    let behind : size c.push.new.self.text ≡ size c.loop-field.line.text + (len_utf8 c.args.separator + 0) = ap size c.in_ok-push.ensures.text ∙ size-append c.loop-field.line.text (c.args.separator ∷ []) in
+    absurd (true≢false (sym (c.in_err-push_quoted-2.ensures.succeeds (omega (arith, room, behind)))))
