@@ -96,3 +96,57 @@ pub fn first_two_bytes(line: &CompactString) -> &str {
         ""
     }
 }
+
+/// Appends an address up to its host. More than four holes are written in two steps.
+#[tactic(auto, using(compact_str::proofs::ForCallers::for_callers))]
+fn append_host(
+    line: &mut CompactString,
+    scheme: &str,
+    user: &str,
+    password: &str,
+    host: &str,
+) -> fmt::Result
+    ensures { OnOk result (line.new.text ≡ line.old.text ++ (text_of scheme.now ++ (codes "://"
+        ++ (text_of user.now ++ (codes ":" ++ (text_of password.now ++ (codes "@"
+        ++ text_of host.now))))))) }
+{
+    write!(line, "{scheme}://{user}:{password}@{host}")
+}
+
+/// Appends what follows the host.
+#[tactic(auto, using(compact_str::proofs::ForCallers::for_callers))]
+fn append_resource(
+    line: &mut CompactString,
+    port: u16,
+    path: &str,
+    query: &str,
+    fragment: &str,
+) -> fmt::Result
+    ensures { OnOk result (line.new.text ≡ line.old.text ++ (codes ":" ++ (decimal port ++ (codes "/"
+        ++ (text_of path.now ++ (codes "?" ++ (text_of query.now ++ (codes "#"
+        ++ text_of fragment.now)))))))) }
+{
+    write!(line, ":{port}/{path}?{query}#{fragment}")
+}
+
+/// Appends an address with all its parts.
+#[tactic(auto, using(compact_str::proofs::ForCallers::for_callers))]
+pub fn append_whole_address(
+    line: &mut CompactString,
+    scheme: &str,
+    user: &str,
+    password: &str,
+    host: &str,
+    port: u16,
+    path: &str,
+    query: &str,
+    fragment: &str,
+) -> fmt::Result
+    ensures { OnOk result (line.new.text ≡ line.old.text ++ (text_of scheme.now ++ (codes "://"
+        ++ (text_of user.now ++ (codes ":" ++ (text_of password.now ++ (codes "@" ++ (text_of host.now
+        ++ (codes ":" ++ (decimal port ++ (codes "/" ++ (text_of path.now ++ (codes "?"
+        ++ (text_of query.now ++ (codes "#" ++ text_of fragment.now))))))))))))))) }
+{
+    append_host(line, scheme, user, password, host)?;
+    append_resource(line, port, path, query, fragment)
+}

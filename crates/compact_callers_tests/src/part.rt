@@ -1,8 +1,8 @@
 //! Tests of the callers in `part_callers.rt`.
 
 use compact_callers::part_callers::{
-    append_address, append_request, first_of, first_two_bytes, is_abc, key_and_value,
-    number_and_name, trimmed, unmarked,
+    append_address, append_request, append_whole_address, first_of, first_two_bytes, is_abc,
+    key_and_value, number_and_name, trimmed, unmarked,
 };
 use compact_testing::values::value_of;
 
@@ -12,6 +12,15 @@ fn an_address_is_appended(rt: HostRuntime) {
     let host = value_of(rt.alloc(), "zoë.example").expect(&rt, "memory");
     append_address(&mut line, "http", &host, 8080, "a").expect(&rt, "memory");
     assert_eq!(rt; line.as_str(), "> http://zoë.example:8080/a");
+}
+
+#[test]
+fn a_whole_address_is_appended(rt: HostRuntime) {
+    let mut line = value_of(rt.alloc(), "> ").expect(&rt, "memory");
+    append_whole_address(&mut line, "http", "ä", "p", "h", 80, "a", "b=1", "c").expect(
+        &rt, "memory",
+    );
+    assert_eq!(rt; line.as_str(), "> http://ä:p@h:80/a?b=1#c");
 }
 
 #[test]
