@@ -151,9 +151,9 @@ impl<P: Policy> Iterator for Drain<'_, P> {
             return Some(character);
         }
         // It takes the positions, so that the loop need not count what is left.
-        let first = self.value.first_char_and_end(front, back)?;
-        self.front = first.end;
-        Some(first.character)
+        let word = self.value.first_code_and_width(front, back)?;
+        self.front = range::end_by_width(front, word);
+        Some(unsafe { char::from_u32_unchecked((word >> 32) as u32) })
     }
 
     /// How many characters are left: at least a quarter of the bytes, and at most as many.

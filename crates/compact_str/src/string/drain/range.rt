@@ -1,6 +1,6 @@
 //! What stands from one position to another, for any two positions.
-ghost use Rattle.std.specs.Prelude.{◌≡◌, ℕ, ◌+◌, ◌≤◌, List, [], ◌∷◌, length, IfSome, MatchOption, true, false};
-ghost use Rattle.std.specs.Char.{len_utf8};
+ghost use Rattle.std.specs.Prelude.{◌≡◌, ℕ, ◌+◌, ◌*◌, ◌%◌, ◌^◌, ◌<◌, ◌≤◌, List, [], ◌∷◌, length, IfSome, MatchOption, true, false};
+ghost use Rattle.std.specs.Char.{len_utf8, InScalarRange};
 ghost use Rattle.compact_repr.specs.Text.{size, text_of};
 ghost use Rattle.compact_repr.specs.Value.{is_static};
 ghost use Rattle.compact_str.specs.RangeTexts.{is_range, range_text, without_range};
@@ -30,11 +30,14 @@ fn is_range(text: &str, start: usize, end: usize) -> bool
     start <= end && is_boundary(text, start) && is_boundary(text, end)
 }
 
-/// The first character of a range, and the position behind it, in bytes.
-#[derive(Clone, Copy)]
-pub(crate) struct CharAndEnd {
-    pub character: char,
-    pub end: usize,
+/// Where a character ends that begins at `start`, in bytes, by what `first_code_and_width` answers of it.
+#[cold]
+#[inline(never)]
+pub fn end_by_width(start: usize, word: u64) -> usize
+    requires { start + word % 2 ^ 32 < 2 ^ 64 }
+    ensures { result ≡ start + word % 2 ^ 32 }
+{
+    start + (word % 0x1_0000_0000) as usize
 }
 
 impl<P: Policy> PolicyString<P> {
@@ -60,20 +63,23 @@ impl<P: Policy> PolicyString<P> {
         range_text(self.as_str(), start, end)
     }
 
-    /// The first character of what stands from one position to another, and where it ends, for where it is seldom asked. It stays
-    /// out of its caller's loop.
+    /// The first character of what stands from one position to another, for where it is seldom asked: its code in the upper
+    /// half of a word, and how many bytes it takes in the lower one. It stays out of its caller's loop, and so does
+    /// `end_by_width`; neither writes, so what the loop has read it need not read again. And of the upper half of a word the
+    /// compiler knows that it fits in 32 bits, so a loop that widens its characters need not widen each of them anew.
     #[cold]
     #[inline(never)]
-    pub(crate) fn first_char_and_end(&self, start: usize, end: usize) -> Option<CharAndEnd>
+    pub(crate) fn first_code_and_width(&self, start: usize, end: usize) -> Option<u64>
         ensures { MatchOption result (range_text self.now.text start end ≡ [])
-            (λ first. (rest : List ℕ) × (first.end ≡ start + len_utf8 first.character)
-            × (range_text self.now.text start end ≡ first.character ∷ rest)) }
+            (λ w. (c : ℕ) × (rest : List ℕ) × (w ≡ c * 2 ^ 32 + len_utf8 c) × InScalarRange c
+            × (range_text self.now.text start end ≡ c ∷ rest)) }
     {
-        let character = first_char(range_text(self.as_str(), start, end))?;
-        Some(CharAndEnd {
-            character,
-            end: start + character.len_utf8(),
-        })
+        match first_char(range_text(self.as_str(), start, end)) {
+            Some(character) => {
+                Some(u64::from(character) * 0x1_0000_0000 + character.len_utf8() as u64)
+            }
+            None => None,
+        }
     }
 
     /// Takes out what stands from one position to another, in bytes of the value's own. If the text has `whole` bytes these

@@ -50,25 +50,51 @@ returns-in-Some-clause-goes g c =
     search rules
 
 -- a wider character
+pub end_by_width-self-requires : goal.end_by_width-self-requires
+end_by_width-self-requires g c =
+    let d = c.args.self.now in
+    let first = c.in_ok-word.ensures in
+    let bounds = len_utf8_bounds first.0 in
+    let word = first.2 in
+    let wide : c.in_ok-word.word % 2 ^ 32 ≡ len_utf8 first.0 = search rules in
+    let split : drain_rest d ≡ first.0 ∷ first.1 = first.4 in
+    let taken = front-taken d.value.now.text first.1 d.front d.back first.0 (d.front + c.in_ok-word.word % 2 ^ 32) split (ap (λ w. d.front + w) wide) in
+    let fits = taken.1 in
+    search rules
+
 pub invariant_of-self-2 : goal.invariant_of-self-2
 invariant_of-self-2 g c =
     let d = c.args.self.now in
-    let first = c.in_ok-first.ensures in
-    let taken = front-taken d.value.now.text first.0 d.front d.back c.in_ok-first.first.character c.in_ok-first.first.end first.2 first.1 in
+    let first = c.in_ok-word.ensures in
+    let bounds = len_utf8_bounds first.0 in
+    let word = first.2 in
+    let wide : c.in_ok-word.word % 2 ^ 32 ≡ len_utf8 first.0 = search rules in
+    let split : drain_rest d ≡ first.0 ∷ first.1 = first.4 in
+    let taken = front-taken d.value.now.text first.1 d.front d.back first.0 c.end_by_width-self.result split (c.end_by_width-self.ensures ∙ ap (λ w. d.front + w) wide) in
     record { owned = d.owned; within = d.within; range = λ _. taken.2; span = d.span }
 
 pub returns-clause-steps : goal.returns-clause-steps
 returns-clause-steps g c =
     let d = c.args.self.now in
-    let first = c.in_ok-first.ensures in
-    let taken = front-taken d.value.now.text first.0 d.front d.back c.in_ok-first.first.character c.in_ok-first.first.end first.2 first.1 in
-    record { lender = refl; leaves = refl; step = first.2 ∙ ap (λ l. c.in_ok-first.first.character ∷ l) (sym taken.0) }
+    let first = c.in_ok-word.ensures in
+    let bounds = len_utf8_bounds first.0 in
+    let word = first.2 in
+    let wide : c.in_ok-word.word % 2 ^ 32 ≡ len_utf8 first.0 = search rules in
+    let split : drain_rest d ≡ first.0 ∷ first.1 = first.4 in
+    let taken = front-taken d.value.now.text first.1 d.front d.back first.0 c.end_by_width-self.result split (c.end_by_width-self.ensures ∙ ap (λ w. d.front + w) wide) in
+    let scalar = first.3 in
+    let is : c.from_u32_unchecked.result ≡ first.0 = search rules in
+    record { lender = refl; leaves = refl; step = split ∙ ap (λ l. first.0 ∷ l) (sym taken.0) ∙ ap (λ w. w ∷ range_text d.value.now.text c.end_by_width-self.result d.back) (sym is) }
 
 pub returns-clause-goes : goal.returns-clause-goes
 returns-clause-goes g c =
     let d = c.args.self.now in
-    let first = c.in_ok-first.ensures in
-    let taken = front-taken d.value.now.text first.0 d.front d.back c.in_ok-first.first.character c.in_ok-first.first.end first.2 first.1 in
-    let before = ap length first.2 in
+    let first = c.in_ok-word.ensures in
+    let bounds = len_utf8_bounds first.0 in
+    let word = first.2 in
+    let wide : c.in_ok-word.word % 2 ^ 32 ≡ len_utf8 first.0 = search rules in
+    let split : drain_rest d ≡ first.0 ∷ first.1 = first.4 in
+    let taken = front-taken d.value.now.text first.1 d.front d.back first.0 c.end_by_width-self.result split (c.end_by_width-self.ensures ∙ ap (λ w. d.front + w) wide) in
+    let before = ap length split in
     let after = ap length taken.0 in
     search rules
