@@ -73,9 +73,6 @@ among-texts : (v : PlacedText) (keys : List PlacedText) → list_any (same_text 
 among-texts v [] = refl
 among-texts v (k ∷ keys) = ap (λ (b : Bool). same_text v k || b) (among-texts v keys)
 
-pub absent-texts : (v : PlacedText) (keys : List PlacedText) → list_any (same_text v) keys ≡ false → contains (texts keys) v.text ≡ false
-absent-texts v keys absent = sym (among-texts v keys) ∙ absent
-
 texts-insert : (keys : List PlacedText) (v : PlacedText) → texts (insert_key same_text keys v) ≡ noted (texts keys) v.text
 texts-insert keys v = grind (arith, common_steps, among-texts v keys, map-append text_in keys (v ∷ []))
 

@@ -90,10 +90,6 @@ pub ruleset record_steps = (failed-at_once, failed-unread, more-shown, gives-rec
 
 -- where no whole form stands at the front
 
-pub short-shows_none : (shown : List ℕ) → length shown < 4 → ShowsNoForm shown
-short-shows_none shown short = λ (t : List ℕ) (form : HasForm t) (begins : StartsWith shown (wire t)).
-    absurd (omega (arith, length-wire t, starts_with_length shown (wire t) begins))
-
 pub cut-shows_none : (shown : List ℕ) (n : ℕ) → n < 2 ^ 32 → to_le_bytes w32 n ≡ take 4 shown → length shown < 4 + n → ShowsNoForm shown
 cut-shows_none shown n small head cut = λ (t : List ℕ) (form : HasForm t) (begins : StartsWith shown (wire t)).
     absurd (omega (arith, (form-whole shown t n small form.1 begins head).0, length-wire t, starts_with_length shown (wire t) begins, cut))

@@ -2,13 +2,13 @@
 ghost use Rattle.std.specs.Prelude.{ℕ, List};
 ghost use Rattle.compact_ext.specs.Shown.{IsTextOf};
 
+mod digit_words;
 mod digits;
 mod integers;
 mod laws;
 mod nonzero;
 mod texts;
 mod wide;
-mod words;
 
 use crate::format::ToCompactStringError;
 use compact_str::{CompactString, Policy, Standard};

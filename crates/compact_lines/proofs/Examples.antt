@@ -3,7 +3,7 @@
 use Rattle.std.proofs.Common.{◌≡◌, [], ◌∷◌, ◌++◌, Some, None, true, false, codes, refl}
 use Rattle.std.specs.declared.ops.Bound.TheVariants.{Included, Excluded, Unbounded}
 use Rattle.std.specs.Str.{chars, is_utf8}
-use Rattle.compact_lines.specs.Words.{line_command, reference_to}
+use Rattle.compact_lines.specs.Commands.{line_command, reference_to}
 use Rattle.compact_edit.specs.declared.edit.Edit.TheVariants as edits
 use Rattle.compact_lines.specs.declared.command.Command.TheVariants as commands
 

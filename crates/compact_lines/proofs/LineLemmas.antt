@@ -2,7 +2,7 @@
 use Rattle.std.proofs.Common.{rules, codes, ◌≡◌, ℕ, ◌<◌, List, [], ◌∷◌, ◌++◌, ◌+◌, ◌-◌, length, take, drop, get_or, Option, Some, None, IfSome, sym, refl, ap, ◌∙◌, append_assoc, append-nil, take-append-drop, subst, IsTrue, Result, Ok, Err, IfOk, OnOk, OnErr, Bool, true, inl, inr}
 use Rattle.std.specs.Option.{option_map}
 use Rattle.std.specs.List.{concat}
-use Rattle.std.specs.Io.KnownBytes.{Appends, Keeps, IsAtEnd}
+use Rattle.std.specs.Io.KnownBytes.{Appends, Keeps}
 use Rattle.std.specs.Io.BufRead.{drop_through, take_through, strip_last, DropsThrough}
 use Rattle.std.specs.Str.{IsUtf8, is_utf8}
 use Rattle.std.proofs.KnownBytes.{Keeps-refl}
@@ -23,8 +23,8 @@ use Rattle.compact_edit.specs.Steps.{Step, IsLegal, edit_asks, EditDoes}
 use Rattle.compact_lines.specs.declared.command.Command.TheVariants as commands
 use Rattle.compact_lines.specs.declared.command.Command.{Command}
 use Rattle.compact_lines.specs.Sessions.{Executes, command_asks}
-use Rattle.compact_lines.specs.Words.{reference_to, line_command, command_itself, edit_itself, command_of, answers_of}
-use Rattle.compact_lines.specs.Lines.{AnswersCommand, DoesOrRefuses, outcome_line, value_line, AnswersLine, AnswersLines, AppendsAnswers, IsFirstLine, bytes_of, AppendsFront, AppendsPart, AppendsSomeAnswers}
+use Rattle.compact_lines.specs.Commands.{reference_to, line_command, command_itself, edit_itself, command_of, answers_of}
+use Rattle.compact_lines.specs.Lines.{AnswersCommand, DoesOrRefuses, outcome_line, value_line, AnswersLine, AnswersLines, IsFirstLine, bytes_of, AppendsFront, AppendsPart, AppendsSomeAnswers}
 
 -- the growth of the program's value
 abbrev pub standard : Growth
@@ -250,21 +250,6 @@ no-command-stopped (Err e) g v old new wrote = (codes "?\n", (refl, refl), wrote
 concat-snoc : (xss : List (List ℕ)) (ys : List ℕ) → concat (xss ++ ys ∷ []) ≡ concat xss ++ ys
 concat-snoc [] ys = append-nil ys
 concat-snoc (xs ∷ xss) ys = ap (λ z. xs ++ z) (concat-snoc xss ys) ∙ sym (append_assoc xs (concat xss) ys)
-
-known-itself : (known : Option (List ℕ)) → IfSome known (λ _. known ≡ known)
-known-itself None = tt
-known-itself (Some bytes) = refl
-
-pub so-far-none : (g : Growth) (v : PlacedText) (known old : Option (List ℕ)) → AnswersSoFar g v known known old old v
-so-far-none g v known old = ([], known, (refl, refl), known-itself known, appends-nothing old)
-
-at-end : (now left : Option (List ℕ)) → IfSome left (λ _. now ≡ left) → IsAtEnd now → IsAtEnd left
-at-end now None same end = tt
-at-end now (Some bytes) same end = let known_end = rw same at end in known_end
-
-pub so-far-all : (g : Growth) (v w : PlacedText) (known now old new : Option (List ℕ)) → AnswersSoFar g v known now old new w → IsAtEnd now
-    → AppendsAnswers g v known old new w
-so-far-all g v w known now old new so_far end = (so_far.0, (so_far.1, at-end now so_far.1 so_far.3 end, so_far.2), so_far.4)
 
 some-taken : (bytes taken : List ℕ) → taken ≡ take_through 10 bytes → 0 < length taken → 0 < length bytes
 some-taken [] taken same some = let none = rw same at some in none

@@ -8,7 +8,7 @@ use Rattle.std.specs.Str.Parse.{digits_value, ParsesUnsigned, ParsesChar}
 use Rattle.std.proofs.lemmas.Bool.Decides.{nat_tests}
 use Rattle.std.proofs.lemmas.Str.{chars-encodes, encodes-chars, scalars-chars}
 use Rattle.std.proofs.lemmas.Str.Parse.{IsNumeralModel, numerals_by_value, parse_digits}
-use Rattle.compact_lines.specs.Words.{number_of, single_item, character_of}
+use Rattle.compact_lines.specs.Commands.{number_of, single_item, character_of}
 
 number-there : (len v most : ℕ) (all : Bool) → all ≡ true → 0 < len → v < most
     → Some v ≡ (if nat_lt 0 len && all && nat_lt v most then Some v else None)

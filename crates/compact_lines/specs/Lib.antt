@@ -1,3 +1,3 @@
 pub mod Sessions
 pub mod Lines
-pub mod Words
+pub mod Commands

@@ -16,7 +16,7 @@ use Rattle.compact_edit.specs.declared.edit.Reply.{Reply}
 use Rattle.compact_edit.specs.declared.edit.Reply.TheVariants.{Done, Char, Text, BadPosition, Refused}
 use Rattle.compact_lines.specs.declared.command.Command.{Command}
 use Rattle.compact_lines.specs.Sessions.{Executes, command_asks}
-use Rattle.compact_lines.specs.Words.{line_command}
+use Rattle.compact_lines.specs.Commands.{line_command}
 
 -- the bytes of some texts, one after another
 abbrev pub bytes_of : List (Bor (List ℕ)) → List ℕ

@@ -3,7 +3,7 @@ ghost use Rattle.std.specs.Prelude.{◌≡◌, IfOk};
 ghost use Rattle.std.specs.Option.{option_map, option_copied};
 ghost use Rattle.std.specs.List.{list_all};
 ghost use Rattle.std.specs.Char.{is_ascii_digit};
-ghost use Rattle.compact_lines.specs.Words.{command_itself, edit_itself, command_of, answers_of, bare_command, bare_edit, field_command, field_edit, number_edit, insert_edit, insert_str_edit, replace_edit, drain_edit, are_bits, word_of, rest_of, number_of, start_of, end_of, character_of};
+ghost use Rattle.compact_lines.specs.Commands.{command_itself, edit_itself, command_of, answers_of, bare_command, bare_edit, field_command, field_edit, number_edit, insert_edit, insert_str_edit, replace_edit, drain_edit, are_bits, word_of, rest_of, number_of, start_of, end_of, character_of};
 
 use compact_edit::Edit;
 use compact_str::Standard;

@@ -37,11 +37,6 @@ pub utf8-ascii-removed : {t : List ℕ} (bytes : List ℕ) (index : ℕ) → tex
     → IsUtf8 (replace_range bytes index (index + 1) [])
 utf8-ascii-removed bytes index e u b n = utf8-cut_out bytes index (index + 1) e u b n
 
-pub size-ascii-removed : (t : List ℕ) (index : ℕ) → IsBoundary t index → IsBoundary t (index + 1) → size (replaced_text t index (index + 1) []) + 1 ≡ size t
-size-ascii-removed t index b n =
-    let whole = size-replaced t [] index (index + 1) b n (omega arith) in
-    omega (arith, whole)
-
 -- one that is written behind the first bytes of a row
 pub ascii-behind : (slice : List ℕ) (n byte : ℕ) → n < length slice → IsUtf8 (take n slice) → byte < 128 → IsUtf8 (take (n + 1) (slice_set slice n byte))
 ascii-behind slice n byte l u h = rw (take_more_set slice n byte l) (IsUtf8-append _ _ u (IsUtf8-from_ascii _ (is_ascii byte h)))

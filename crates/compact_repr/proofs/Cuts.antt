@@ -1,6 +1,6 @@
 -- Where a text is cut, and where its bytes are.
-use Rattle.std.proofs.Common.{◌≡◌, ℕ, ◌+◌, ◌-◌, ◌<◌, ◌≤◌, List, [], ◌∷◌, ◌++◌, length, take, drop, refl, ap, sym, ◌∙◌, subst, arith, length-append, true, ⊎_elim}
-use Rattle.std.proofs.lemmas.List.{append-nil, length-drop, length-take-le, take-append-drop}
+use Rattle.std.proofs.Common.{◌≡◌, ℕ, ◌+◌, ◌-◌, ◌<◌, ◌≤◌, List, [], ◌∷◌, ◌++◌, take, drop, refl, ap, sym, ◌∙◌, subst, arith, true, ⊎_elim}
+use Rattle.std.proofs.lemmas.List.{append-nil, length-take-le, take-append-drop}
 use Rattle.std.proofs.lemmas.Bool.{cases_Bool, cond-true, cond-false, le-leb, lt-leb, and_parts}
 use Rattle.std.proofs.lemmas.Str.{IsUtf8-append, IsUtf8-nil, IsUtf8-take, IsUtf8-drop, chars-append, chars-nil, scalars-chars, encodes-chars, encodes-append, encodes_same, chars_past_char, len_utf8_bounds, IsCharBoundary-at_seam}
 use Rattle.std.specs.Char.{len_utf8}
@@ -75,11 +75,6 @@ size-replaced t s start end h k order =
     let front = size-before t start h in
     let back = size-after t end k in
     omega (arith, whole, front, back)
-
-pub length-replaced : (bytes s : List ℕ) (start end : ℕ) → start ≤ end → end ≤ length bytes → length (replace_range bytes start end s) ≡ length bytes - (end - start) + length s
-length-replaced bytes s start end order within =
-    let front = length-take-le start bytes (omega arith) in
-    simp (length-append, length-drop) (omega (arith, front))
 
 -- the bytes may be cut where the text may
 

@@ -8,7 +8,7 @@ use Rattle.compact_repr.specs.Capacity.{Growth, inline_placement, heap_placement
 use Rattle.compact_repr.proofs.Cuts.{size-before, boundary-within, boundary-from_size}
 use Rattle.compact_str.specs.Room.{own_capacity, sure_capacity}
 use Rattle.compact_repr.specs.Change.{truncate, insert_str, replace_range}
-use Rattle.compact_str.specs.Edits.{Removes, split_tail, repeat}
+use Rattle.compact_str.specs.PositionEdits.{Removes, split_tail, repeat}
 use Rattle.compact_str.specs.Clones.{clone_from}
 use Rattle.compact_str.specs.Ranges.{IsRange, range_start, range_end}
 use Rattle.std.specs.Prelude.{true, false}

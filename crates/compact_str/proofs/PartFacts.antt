@@ -13,7 +13,7 @@ use lib.Utf8.{scalars}
 use Rattle.compact_repr.specs.Text.{text_of, utf8}
 use Rattle.compact_repr.specs.Value.{PlacedText}
 use Rattle.compact_repr.specs.Capacity.{Growth}
-use Rattle.compact_str.specs.Edits.{Writes}
+use Rattle.compact_str.specs.PositionEdits.{Writes}
 
 -- the text before a character that was found, the character, and the text behind it
 pub cut-text : (t s : List ℕ) (c i j : ℕ) → HasCharAt c s i j → text_of s ≡ t → IsUtf8 s → IsCharBoundary s i

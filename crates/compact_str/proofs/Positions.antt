@@ -11,7 +11,7 @@ use Rattle.compact_repr.specs.Cut.{IsCut, IsBoundary, before, after, replaced_te
 use Rattle.compact_repr.specs.Value.{PlacedText, placed_text, is_static}
 use Rattle.compact_repr.specs.Capacity.{Growth, shortened_placement, owned_placement, make_owned_asks}
 use Rattle.compact_repr.specs.Change.{truncate, insert_str, replace_range, replace_range_asks}
-use Rattle.compact_str.specs.Edits.{LosesChar}
+use Rattle.compact_str.specs.PositionEdits.{LosesChar}
 use Rattle.compact_repr.proofs.Texts.{size-append, empty_text}
 use Rattle.compact_repr.proofs.Cuts.{boundary-from_size, before-after, before-cut, after-cut, size-before, size-after}
 
@@ -82,10 +82,6 @@ replace_range-start t s start end h =
 pub replace_range-end : (t s : List ℕ) (start end p n : ℕ) → IsBoundary t start → size s ≡ n → p ≡ start + n → IsBoundary (replaced_text t start end s) p
 replace_range-end t s start end p n h e k =
     (before t start ++ s, after t end, record { parts = refl; position = size-append (before t start) s ∙ omega (arith, size-before t start h) })
-
-pub before-replace_range : (t s : List ℕ) (start end : ℕ) → IsBoundary t start → before (replaced_text t start end s) start ≡ before t start
-before-replace_range t s start end h =
-    ap (λ x. before x start) (append_assoc (before t start) s (after t end)) ∙ before-cut (before t start) (s ++ after t end) start (size-before t start h)
 
 pub after-removed : (t : List ℕ) (start end : ℕ) → IsBoundary t start → after (replaced_text t start end []) start ≡ after t end
 after-removed t start end h =

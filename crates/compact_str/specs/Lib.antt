@@ -12,7 +12,7 @@ pub use Rattle.compact_codec.specs.Utf16Bytes
 pub mod Room
 pub mod Clones
 pub mod Conversions
-pub mod Edits
+pub mod PositionEdits
 pub mod Ranges
 pub mod RetainRules
 pub mod RangeTexts

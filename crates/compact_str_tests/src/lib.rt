@@ -27,7 +27,7 @@ mod formatting;
 #[cfg(test)]
 mod hints;
 #[cfg(test)]
-mod memory;
+mod hog;
 #[cfg(test)]
 mod packed;
 #[cfg(test)]

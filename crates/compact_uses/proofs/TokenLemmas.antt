@@ -1,5 +1,5 @@
 -- What stays of tokens while names come in.
-use Rattle.std.proofs.Common.{◌≡◌, ℕ, ◌+◌, ◌<◌, ◌≤◌, List, [], ◌∷◌, ◌++◌, Bool, true, false, not, IsTrue, ◌↔◌, Option, Some, None, Result, Ok, Err, OnErr, length, slice_get, slice_index_or, flat_map, map, refl, ap, ap₂, sym, subst, ◌∙◌, arith, append-nil, append_assoc, length-append}
+use Rattle.std.proofs.Common.{◌≡◌, ℕ, ◌+◌, ◌<◌, ◌≤◌, List, [], ◌∷◌, ◌++◌, true, false, not, ◌↔◌, Option, Some, None, Result, Ok, Err, OnErr, length, slice_get, slice_index_or, flat_map, map, refl, ap, ap₂, sym, subst, ◌∙◌, arith, append-nil, append_assoc, length-append}
 use Rattle.std.proofs.lemmas.Grind.{common_steps, flat_map-append}
 use Rattle.std.proofs.lemmas.List.{map-append, length-map}
 use Rattle.std.proofs.lemmas.List.Filters.{length-filter_both}
@@ -83,10 +83,6 @@ put-tokens names after tokens token piece keep all at filled alike single =
     All-push (IsToken after) tokens token (λ k d lt. token-kept names after (slice_index_or tokens k d) keep (all k d lt))
     (record { filled = rw is filled; alike = rw is alike; single = λ mark. rw is (one mark) })
 
-pub filled-piece : (piece : List ℕ) (is_empty : Bool) → IsTrue is_empty ↔ (piece ≡ []) → is_empty ≡ false → 0 < length piece
-filled-piece [] is_empty test is_no = grind (arith, common_steps)
-filled-piece (c ∷ piece) is_empty test is_no = grind (arith, common_steps)
-
 -- a character more in a piece of its kind
 
 pub alike-push : (k : Kind) (piece : List ℕ) (c : ℕ) → All (λ x. kind_of x ≡ k) piece → kind_of c ≡ k → All (λ x. kind_of x ≡ k) (piece ++ c ∷ [])
@@ -94,10 +90,6 @@ alike-push k piece c alike is = All-push (λ x. kind_of x ≡ k) piece c alike i
 
 pub alike-one : (c : ℕ) → All (λ x. kind_of x ≡ kind_of c) (c ∷ [])
 alike-one c = All-push (λ x. kind_of x ≡ kind_of c) [] c (All-nil (λ x. kind_of x ≡ kind_of c)) refl
-
-pub joined-push : (names : List (List ℕ)) (tokens : List Token) (piece text : List ℕ) (c : ℕ) → flat_map (token_text names) tokens ++ piece ≡ text
-    → flat_map (token_text names) tokens ++ (piece ++ c ∷ []) ≡ text ++ c ∷ []
-joined-push names tokens piece text c joined = sym (append_assoc (flat_map (token_text names) tokens) piece (c ∷ [])) ∙ ap (λ t. t ++ c ∷ []) joined
 
 -- tokens that are parted, and one more
 

@@ -10,8 +10,8 @@ ghost use Rattle.compact_ext.specs.Shown.{IsTextOf};
 
 use crate::format::ToCompactStringError;
 use crate::to_text::ToCompactString;
+use crate::to_text::digit_words::number_row;
 use crate::to_text::digits::write_small_number;
-use crate::to_text::words::number_row;
 use compact_str::{CompactString, INLINE_CAPACITY, Policy, Standard};
 use std::alloc::Global;
 

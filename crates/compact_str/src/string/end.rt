@@ -5,7 +5,7 @@ ghost use Rattle.compact_repr.specs.Text.{size, text_of, utf8};
 ghost use Rattle.compact_repr.specs.Cut.{IsBoundary, before};
 ghost use Rattle.compact_repr.specs.Change.{push_str, push_str_asks, clear, truncate};
 ghost use Rattle.compact_str.specs.Room.{HasRoomFor, sure_capacity};
-ghost use Rattle.compact_str.specs.Edits.{Pops, Writes};
+ghost use Rattle.compact_str.specs.PositionEdits.{Pops, Writes};
 
 use crate::refused::Refused;
 use crate::string::PolicyString;

@@ -9,7 +9,7 @@ ghost use Rattle.compact_repr.specs.Value.{is_static};
 ghost use Rattle.compact_repr.specs.Capacity.{reserve_asks};
 ghost use Rattle.compact_str.specs.Room.{IsOwned, HasRoomFor, sure_capacity};
 ghost use Rattle.compact_repr.specs.Change.{insert_str, replace_range, replace_range_asks};
-ghost use Rattle.compact_str.specs.Edits.{LosesChar, SplitsOff, split_asks};
+ghost use Rattle.compact_str.specs.PositionEdits.{LosesChar, SplitsOff, split_asks};
 ghost use Rattle.compact_str.specs.Ranges.{IsRange, range_start, range_end};
 ghost use Rattle.compact_str.specs.RangeTexts.{is_boundary};
 

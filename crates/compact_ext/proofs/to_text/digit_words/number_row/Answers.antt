@@ -3,7 +3,7 @@ use Rattle.std.proofs.Common.{Bool, true, false, ◌+◌, ap, sym, ◌∙◌, ar
 use Rattle.compact_repr.specs.Packed.{packed_bytes}
 use Rattle.compact_ext.specs.Digits.{number_text}
 use Rattle.compact_ext.proofs.DigitWords.{minus_before, packed-row}
-use Rattle.compact_ext.proofs.to_text.words.number_row.Goals as goal
+use Rattle.compact_ext.proofs.to_text.digit_words.number_row.Goals as goal
 
 pub returns-then-is_negative : goal.returns-then-is_negative
 returns-then-is_negative c =

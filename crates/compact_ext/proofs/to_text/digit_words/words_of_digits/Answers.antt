@@ -1,6 +1,6 @@
 -- By how many words the digits take.
 use Rattle.compact_ext.proofs.DigitWords.{one_word, two_words, three_words}
-use Rattle.compact_ext.proofs.to_text.words.words_of_digits.Goals as goal
+use Rattle.compact_ext.proofs.to_text.digit_words.words_of_digits.Goals as goal
 
 pub returns-then-n-lt-NINE_DIGITS : goal.returns-then-n-lt-NINE_DIGITS
 returns-then-n-lt-NINE_DIGITS c =
