@@ -52,7 +52,10 @@ class Body:
         file, old, _ = self.changes[0]
         text = read(f"{crate}/{file}")
         above = list(re.finditer(r"\bfn (\w+)", text[: text.find(old) + len(old)]))
-        return (file, above[-1].start(), above[-1][1]) if above and file.startswith("src/") else None
+        # A brace at the start of a line ends the function, or its `impl`: a constant or a ghost stands behind it.
+        if not above or not file.startswith("src/") or "\n}" in text[above[-1].start() : text.find(old)]:
+            return None
+        return file, above[-1].start(), above[-1][1]
 
 
 def bodies_of(path):
