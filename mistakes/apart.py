@@ -5,7 +5,7 @@
 The wrong bodies of a crate are those of crates/CRATE/must-fail, one a file, which the gate tries too, and those of
 mistakes/CRATE, several a file, each under a comment line with its name. With no crate named all are tried.
 
-It works on a copy of the repository. A check takes the bodies of a file together, and says of each function whether its own proof
+It works on a copy of the repository, with what earlier checks there proved. A check takes the bodies of a file together, and says of each function whether its own proof
 fails. A body gets a check of its own where it shares its function with another, where it changes what is no function, and where
 the function was not tried, since one that it calls is not proved either. The status is 0 where each body is refused.
 """
@@ -120,7 +120,7 @@ def edits_in(folder):
 def main(names):
     tried = refused = 0
     with tempfile.TemporaryDirectory() as copy:
-        shutil.copytree(f"{ROOT}/crates", f"{copy}/crates", ignore=shutil.ignore_patterns("out", "must-fail"))
+        shutil.copytree(f"{ROOT}/crates", f"{copy}/crates", ignore=shutil.ignore_patterns("must-fail"))
         for name in ("crates.txt", "HANDLES"):
             shutil.copy(f"{ROOT}/{name}", copy)
         for name in names or sorted(os.listdir(f"{ROOT}/crates")):
