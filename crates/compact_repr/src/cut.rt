@@ -48,6 +48,26 @@ pub fn char_at(text: &str, index: usize) -> char
     }
 }
 
+/// The character that begins at a boundary before the end where it is one of ASCII, else `None`. It looks at one byte, and
+/// not at how long the text is.
+#[inline(always)]
+pub fn ascii_at(text: &str, index: usize) -> Option<char>
+    requires boundary { IsBoundary (text_of text.now) index }
+    requires within { index < length text.now }
+    ensures { MatchOption result ((c : ℕ) (rest : List ℕ)
+        → after (text_of text.now) index ≡ c ∷ rest → 128 ≤ c)
+        (λ c. (len_utf8 c ≡ 1)
+        × ((rest : List ℕ) × (after (text_of text.now) index ≡ c ∷ rest))) }
+{
+    let rest = &text[index..];
+    let byte = rest.as_bytes()[0];
+    if byte < 128 {
+        Some(char::from(byte))
+    } else {
+        None
+    }
+}
+
 /// The first character where it is one of ASCII, else `None`; so it is of the empty text.
 #[inline(always)]
 pub fn first_ascii(text: &str) -> Option<char>

@@ -1,13 +1,17 @@
 //! Bytes that are put behind those of a vector, where it has reserved room for them.
 //!
 //! A vector that is behind a reference would be looked at again for each byte, so it is taken out of its place meanwhile.
-ghost use Rattle.std.specs.Prelude.{◌≡◌, ◌+◌, ◌-◌, ◌<◌, ◌≤◌, ◌++◌, length, take, drop, replicate};
+ghost use Rattle.std.specs.Prelude.{◌≡◌, ◌+◌, ◌-◌, ◌<◌, ◌≤◌, ◌++◌, length, take, drop, replicate, IfOk};
 ghost use Rattle.std.specs.Vec.{vec_len, vec_capacity};
 
+use std::alloc::{AllocError, Global};
 use std::mem;
 
 /// As many bytes are appended at once.
 const BLOCK: usize = 32;
+
+/// And as many of a long text.
+const LONG_BLOCK: usize = 128;
 
 /// Appends any bytes to a vector. A few are appended where it is called: there is no loop, and nothing to call.
 #[inline(always)]
@@ -45,18 +49,22 @@ fn append_short(bytes: &mut Vec<u8>, source: &[u8])
     }
 }
 
-/// Appends any bytes to a vector that is not behind a reference.
+/// A vector of the bytes of `source`, with room for `capacity` bytes. They are copied at once.
+///
+/// The call that copies them promises of the capacity only that it is no less than before, so it is looked at again. The
+/// compiler knows that it is the same.
 #[inline(always)]
-pub fn append_first(vec: &mut Vec<u8>, source: &[u8])
-    requires { vec_len vec.old + length source.now ≤ vec_capacity vec.old }
-    ensures items { vec.new.items ≡ vec.old.items ++ source.now }
-    ensures capacity { vec_capacity vec.new ≡ vec_capacity vec.old }
+pub fn copy_of(alloc: Global, source: &[u8], capacity: usize) -> Result<Vec<u8>, AllocError>
+    requires { length source.now ≤ capacity }
+    ensures items { IfOk result (λ v. v.items ≡ source.now) }
+    ensures capacity { IfOk result (λ v. vec_capacity v ≡ capacity) }
 {
-    if source.len() <= BLOCK {
-        append_short(vec, source);
-    } else {
-        append_many(vec, source);
+    let mut vec = Vec::with_capacity(alloc, capacity)?;
+    vec.extend_from_slice(source)?;
+    if vec.capacity() != capacity {
+        return Err(AllocError);
     }
+    Ok(vec)
 }
 
 /// Appends more than 32 bytes to a vector that is behind a reference.
@@ -73,7 +81,7 @@ fn append_long(bytes: &mut Vec<u8>, source: &[u8])
 }
 
 /// Appends more than 32 bytes to a vector: up to 256 as their two ends, so that no loop ends at a length that is hard
-/// to foresee.
+/// to foresee, and more by long blocks, of which the last may bring some bytes again.
 #[inline(always)]
 fn append_many(vec: &mut Vec<u8>, source: &[u8])
     requires long { 32 < length source.now }
@@ -89,25 +97,13 @@ fn append_many(vec: &mut Vec<u8>, source: &[u8])
     } else if count <= 256 {
         append_ends::<128>(vec, source);
     } else {
-        append_blocks(vec, source);
+        let len = vec.len();
+        for i in 0..(count - 1) / LONG_BLOCK {
+            append_array::<LONG_BLOCK>(vec, array_at::<LONG_BLOCK>(source, LONG_BLOCK * i));
+        }
+        vec.truncate(len + (count - LONG_BLOCK));
+        append_array::<LONG_BLOCK>(vec, array_at::<LONG_BLOCK>(source, count - LONG_BLOCK));
     }
-}
-
-/// Appends many bytes to a vector: by whole blocks, and then the last ones, of which some may come again.
-#[inline(always)]
-fn append_blocks(vec: &mut Vec<u8>, source: &[u8])
-    requires long { 32 < length source.now }
-    requires room { vec_len vec.old + length source.now ≤ vec_capacity vec.old }
-    ensures items { vec.new.items ≡ vec.old.items ++ source.now }
-    ensures capacity { vec_capacity vec.new ≡ vec_capacity vec.old }
-{
-    let count = source.len();
-    let len = vec.len();
-    for i in 0..count / BLOCK {
-        append_array::<BLOCK>(vec, array_at::<BLOCK>(source, BLOCK * i));
-    }
-    vec.truncate(len + (count - BLOCK));
-    append_array::<BLOCK>(vec, array_at::<BLOCK>(source, count - BLOCK));
 }
 
 /// Appends zeros to a vector until it is `len` bytes long: a block of them at once, where it has the room and

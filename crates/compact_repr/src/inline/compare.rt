@@ -3,12 +3,12 @@ ghost use Rattle.std.specs.Prelude.{◌≡◌, nat_eq};
 ghost use Rattle.std.specs.Cmp.Lexicographic.{pointwise, slice_cmp};
 ghost use Rattle.std.specs.Ordering.{nat_cmp};
 
-use crate::inline::InlineBuffer;
+use crate::inline::{INLINE_CAPACITY, InlineBuffer};
 use crate::words::{end_byte, same_array};
 use std::cmp::Ordering;
 
 /// The last byte of the packed empty text.
-const EMPTY: usize = 192;
+const EMPTY: u8 = 192;
 
 impl InlineBuffer {
     /// Whether the texts are the same. The same three words are the same text, and other last bytes are other texts: a text of
@@ -25,15 +25,19 @@ impl InlineBuffer {
         self.as_str() == other.as_str()
     }
 
-    /// The order of the texts. Where neither is empty and the first bytes differ nothing else is looked at. It stands aside, so
-    /// that which of two bytes is less is reckoned and not branched on.
+    /// The order of the texts. Where the first bytes differ and neither text is empty nothing else is looked at. It stands
+    /// aside, so that which of two bytes is less is reckoned and not branched on.
     #[inline(never)]
     #[tactic(auto, using(crate::proofs::ByteOrder::order_facts))]
     pub fn text_cmp(&self, other: &Self) -> Ordering
         ensures { result ≡ slice_cmp nat_cmp self.now other.now }
     {
         let (first, others) = (self.bytes[0], other.bytes[0]);
-        if end_byte(&self.bytes) != EMPTY && end_byte(&other.bytes) != EMPTY && first != others {
+        let (last, other_last) = (
+            self.bytes[INLINE_CAPACITY - 1],
+            other.bytes[INLINE_CAPACITY - 1],
+        );
+        if last != EMPTY && other_last != EMPTY && first != others {
             return first.cmp(&others);
         }
         self.as_str().cmp(other.as_str())

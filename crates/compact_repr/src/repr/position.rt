@@ -1,5 +1,6 @@
 //! What stands at a position of a representation's text, in bytes.
 ghost use Rattle.std.specs.Prelude.{◌≡◌, ◌-◌, ◌<◌, ◌≤◌, ℕ, List, [], ◌∷◌, ◌++◌, length, true, false, IsTrue, ◌↔◌, IfSome, MatchOption};
+ghost use Rattle.std.specs.Char.{len_utf8};
 ghost use Rattle.compact_repr.specs.Text.{size, utf8, text_of};
 ghost use Rattle.compact_repr.specs.Cut.{IsBoundary, after, substring};
 ghost use Rattle.compact_repr.specs.Value.{is_static};
@@ -37,6 +38,18 @@ impl<P: Policy> Repr<P> {
         ensures { (rest : List ℕ) × (after self.now.text index ≡ result ∷ rest) }
     {
         cut::char_at(self.as_str(), index)
+    }
+
+    /// The character that begins at `index`, in bytes, where it is one of ASCII, else `None`.
+    #[inline(always)]
+    pub fn ascii_at(&self, index: usize) -> Option<char>
+        requires boundary { IsBoundary self.now.text index }
+        requires within { index < size self.now.text }
+        ensures { MatchOption result ((c : ℕ) (rest : List ℕ)
+            → after self.now.text index ≡ c ∷ rest → 128 ≤ c)
+            (λ c. (len_utf8 c ≡ 1) × ((rest : List ℕ) × (after self.now.text index ≡ c ∷ rest))) }
+    {
+        cut::ascii_at(self.as_str(), index)
     }
 
     /// The last character, found from the end; `None` of the empty text.

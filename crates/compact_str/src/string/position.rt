@@ -14,7 +14,7 @@ ghost use Rattle.compact_str.specs.Ranges.{IsRange, range_start, range_end};
 ghost use Rattle.compact_str.specs.RangeTexts.{is_boundary};
 
 use crate::string::PolicyString;
-use compact_repr::{Policy, Repr, ReserveError, encode_char, first_ascii};
+use compact_repr::{Policy, Repr, ReserveError, encode_char};
 use std::ops::Bound;
 
 impl<P: Policy> PolicyString<P> {
@@ -141,7 +141,7 @@ impl<P: Policy> PolicyString<P> {
         requires within { index < size self.old.text }
         ensures { LosesChar P.growth self.old index result self.new }
     {
-        if let Some(character) = first_ascii(self.repr.suffix(index)) {
+        if let Some(character) = self.repr.ascii_at(index) {
             // The compiler knows that it is; the proof reads it here.
             if character.is_ascii() && self.repr.remove_ascii_in_place(index) {
                 return Ok(character);
