@@ -26,15 +26,25 @@ pub trait ToCompactString {
     /// That it takes no memory.
     ghost IsShort: { Self → Type 0 };
 
-    /// The text of the value, as `CompactString::new` makes it: `(-12i8).to_compact_string(alloc)?` is `"-12"`.
+    /// The text of the value, placed as by `CompactString::new`.
     ///
-    /// The error is always `Reserve`, and says that no memory was found, or that the text is longer than 2^56 - 2 bytes.
-    /// It never comes of an integer of up to 64 bits, of a `bool` or a `char`, nor up to 24 bytes.
+    /// # Errors
+    ///
+    /// `Reserve` if a heap buffer is refused. An integer of up to 64 bits, a `bool`, a `char` and a text of at most 24
+    /// bytes need none.
+    ///
+    /// # Examples
+    ///
+    /// `(-12i8).to_compact_string(alloc)?` is `"-12"`.
     fn to_compact_string(&self, alloc: Global) -> Result<CompactString, ToCompactStringError>
         ensures { IsTextOf ⟦<Standard as Policy>⟧.growth (shown self.now)
             (IsShort self.now) result };
 
-    /// `to_compact_string` under its other name, with the same value and the same error.
+    /// `to_compact_string` under its other name.
+    ///
+    /// # Errors
+    ///
+    /// `Reserve` as from `to_compact_string`.
     #[inline]
     final fn try_to_compact_string(
         &self,

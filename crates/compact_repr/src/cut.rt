@@ -48,7 +48,7 @@ pub fn char_at(text: &str, index: usize) -> char
     }
 }
 
-/// The first character where it is one of ASCII, else `None`; so it is of the empty text.
+/// The first character if it is one of ASCII, or `None` if it is not or the text is empty.
 #[inline(always)]
 pub fn first_ascii(text: &str) -> Option<char>
     ensures { MatchOption result ((c : ℕ) (rest : List ℕ) → text_of text.now ≡ c ∷ rest → 128 ≤ c)
@@ -65,7 +65,7 @@ pub fn first_ascii(text: &str) -> Option<char>
     }
 }
 
-/// The first character; `None` of the empty text.
+/// The first character, or `None` of the empty text.
 #[inline]
 pub fn first_char(text: &str) -> Option<char>
     ensures { MatchOption result (text_of text.now ≡ [])
@@ -77,7 +77,7 @@ pub fn first_char(text: &str) -> Option<char>
     }
 }
 
-/// The last character, found from the end; `None` of the empty text.
+/// The last character, found from the end, or `None` of the empty text.
 #[inline]
 pub fn last_char(text: &str) -> Option<char>
     ensures { MatchOption result (text_of text.now ≡ [])
@@ -103,8 +103,8 @@ pub fn encode_char(character: char, bytes: &mut [u8; 4]) -> &str
     character.encode_utf8(bytes)
 }
 
-/// A law, and the function does nothing. Where a text can be cut, the two parts are what stands before and what stands after
-/// the position; and it can be cut just where the characters within the first bytes take up all of them.
+/// A law, and the function does nothing. Where a text can be cut, the two parts are what stands before and what stands
+/// after the position, and it can be cut just where the characters within the first bytes take up all of them.
 pub fn cut_is_before_and_after()
     ensures { CutIsBeforeAndAfter }
 {}

@@ -52,6 +52,10 @@ fn packed_value(alloc: Global, row: &mut [u8; 24], len: usize) -> CompactString
 }
 
 /// The text of a number that is not negative.
+///
+/// # Errors
+///
+/// None ever comes, since the text is inline.
 #[inline]
 #[tactic(auto, using(crate::proofs::NumberTexts::number_values))]
 pub fn unsigned(alloc: Global, n: u64) -> Result<CompactString, ToCompactStringError>
@@ -61,6 +65,10 @@ pub fn unsigned(alloc: Global, n: u64) -> Result<CompactString, ToCompactStringE
 }
 
 /// The text of a number that may be negative. The magnitude of the least one is no number of its own type.
+///
+/// # Errors
+///
+/// None ever comes, since the text is inline.
 #[inline]
 #[tactic(auto, using(crate::proofs::NumberTexts::number_values))]
 pub fn signed(alloc: Global, n: i64) -> Result<CompactString, ToCompactStringError>
@@ -70,6 +78,10 @@ pub fn signed(alloc: Global, n: i64) -> Result<CompactString, ToCompactStringErr
 }
 
 /// The text of a number of eight bits that is not negative.
+///
+/// # Errors
+///
+/// None ever comes, since the text is inline.
 #[inline]
 #[tactic(auto, using(crate::proofs::NumberTexts::number_values))]
 pub fn small_unsigned(alloc: Global, n: u8) -> Result<CompactString, ToCompactStringError>
@@ -79,6 +91,10 @@ pub fn small_unsigned(alloc: Global, n: u8) -> Result<CompactString, ToCompactSt
 }
 
 /// The text of a number of eight bits that may be negative.
+///
+/// # Errors
+///
+/// None ever comes, since the text is inline.
 #[inline]
 #[tactic(auto, using(crate::proofs::NumberTexts::number_values))]
 pub fn small_signed(alloc: Global, n: i8) -> Result<CompactString, ToCompactStringError>

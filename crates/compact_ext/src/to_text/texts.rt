@@ -8,7 +8,11 @@ use crate::to_text::ToCompactString;
 use compact_str::{CompactString, Policy, Standard};
 use std::alloc::Global;
 
-/// A copy of a text.
+/// A copy of a text, placed as by `CompactString::new`.
+///
+/// # Errors
+///
+/// `Reserve` if a buffer is refused, for a text of more than 24 bytes.
 #[inline]
 pub fn text_copy(alloc: Global, text: &str) -> Result<CompactString, ToCompactStringError>
     ensures { IsTextOf ⟦<Standard as Policy>⟧.growth (text_of text.now)

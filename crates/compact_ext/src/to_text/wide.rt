@@ -11,6 +11,10 @@ use itoa::{Buffer, Integer};
 use std::alloc::Global;
 
 /// The text that `itoa` prints.
+///
+/// # Errors
+///
+/// `Reserve` if a buffer is refused, for a text of more than 24 bytes.
 pub fn printed<I: Integer>(alloc: Global, n: I) -> Result<CompactString, ToCompactStringError>
     ensures { IsTextOf ⟦<Standard as Policy>⟧.growth (I.text n) (length (I.text n) ≤ 24) result }
 {
