@@ -56,7 +56,13 @@ impl Policy for Doubling {
 
     ghost is_growth = { refl };
 
-    ghost lawful = { record { above_inline = lit≤ tt; below_limit = lit≤ tt; divides = lit≤ tt; grows = lit< tt; small = lit≤ tt } };
+    ghost lawful = { record {
+      above_inline = lit≤ tt;
+      below_limit = lit≤ tt;
+      divides = lit≤ tt;
+      grows = lit< tt;
+      small = lit≤ tt;
+    } };
 }
 
 /// Writes `text` over a value that doubles its capacity, and answers whether there was room for it.

@@ -51,7 +51,13 @@ impl Policy for Standard {
 
     ghost is_growth = { refl };
 
-    ghost lawful = { record { above_inline = lit≤ tt; below_limit = lit≤ tt; divides = lit≤ tt; grows = lit< tt; small = lit≤ tt } };
+    ghost lawful = { record {
+      above_inline = lit≤ tt;
+      below_limit = lit≤ tt;
+      divides = lit≤ tt;
+      grows = lit< tt;
+      small = lit≤ tt;
+    } };
 }
 
 /// A law, and the function does nothing: a heap buffer of `Standard` has at least 32 bytes, and grows by half.

@@ -60,7 +60,8 @@ impl Model for StaticText {
 
     ghost view = { λ t. text_of t.loan.bytes.now };
 
-    ghost invariant = { λ t. (t.at ≡ address t.loan.bytes) × (t.len ≡ length t.loan.bytes.now) × (t.len < 2 ^ 63) × IsUtf8 t.loan.bytes.now };
+    ghost invariant = { λ t. (t.at ≡ address t.loan.bytes) × (t.len ≡ length t.loan.bytes.now)
+        × (t.len < 2 ^ 63) × IsUtf8 t.loan.bytes.now };
 }
 
 // Nothing writes to what the pointer points to, so every thread may read it.

@@ -24,7 +24,13 @@ impl Policy for Double {
 
     ghost is_growth = { refl };
 
-    ghost lawful = { record { above_inline = lit≤ tt; below_limit = lit≤ tt; divides = lit≤ tt; grows = lit< tt; small = lit≤ tt } };
+    ghost lawful = { record {
+      above_inline = lit≤ tt;
+      below_limit = lit≤ tt;
+      divides = lit≤ tt;
+      grows = lit< tt;
+      small = lit≤ tt;
+    } };
 }
 
 /// Grows a buffer by a quarter, from the least that a policy may have.
@@ -49,7 +55,13 @@ impl Policy for Slow {
 
     ghost is_growth = { refl };
 
-    ghost lawful = { record { above_inline = lit≤ tt; below_limit = lit≤ tt; divides = lit≤ tt; grows = lit< tt; small = lit≤ tt } };
+    ghost lawful = { record {
+      above_inline = lit≤ tt;
+      below_limit = lit≤ tt;
+      divides = lit≤ tt;
+      grows = lit< tt;
+      small = lit≤ tt;
+    } };
 }
 
 /// Takes 4096 bytes at the first growth, and grows by half.
@@ -74,5 +86,11 @@ impl Policy for Large {
 
     ghost is_growth = { refl };
 
-    ghost lawful = { record { above_inline = lit≤ tt; below_limit = lit≤ tt; divides = lit≤ tt; grows = lit< tt; small = lit≤ tt } };
+    ghost lawful = { record {
+      above_inline = lit≤ tt;
+      below_limit = lit≤ tt;
+      divides = lit≤ tt;
+      grows = lit< tt;
+      small = lit≤ tt;
+    } };
 }
