@@ -17,11 +17,11 @@ use std::alloc::Global;
 
 /// A value that has a text: the integers, `bool`, `char`, and the kinds of text.
 ///
-/// A contract sees the text as `shown v`. Where `IsShort v` holds it is inline and never refused: of an integer of up to
+/// A contract sees the text as `shown_text v`. Where `IsShort v` holds it is inline and never refused: of an integer of up to
 /// 64 bits, a `bool` and a `char` always, of every other value where the text has at most 24 bytes.
 pub trait ToCompactString {
     /// The text.
-    ghost shown: { Self → List ℕ };
+    ghost shown_text: { Self → List ℕ };
 
     /// That it takes no memory.
     ghost IsShort: { Self → Type 0 };
@@ -37,7 +37,7 @@ pub trait ToCompactString {
     ///
     /// `(-12i8).to_compact_string(alloc)?` is `"-12"`.
     fn to_compact_string(&self, alloc: Global) -> Result<CompactString, ToCompactStringError>
-        ensures { IsTextOf ⟦<Standard as Policy>⟧.growth (shown self.now)
+        ensures { IsTextOf ⟦<Standard as Policy>⟧.growth (shown_text self.now)
             (IsShort self.now) result };
 
     /// `to_compact_string` under its other name.
@@ -52,7 +52,7 @@ pub trait ToCompactString {
     ) -> Result<CompactString, ToCompactStringError>
     where
         Self: Sized,
-        ensures { IsTextOf ⟦<Standard as Policy>⟧.growth (shown self.now)
+        ensures { IsTextOf ⟦<Standard as Policy>⟧.growth (shown_text self.now)
             (IsShort self.now) result }
     {
         self.to_compact_string(alloc)

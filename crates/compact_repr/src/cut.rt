@@ -2,13 +2,13 @@
 ghost use Rattle.std.specs.Prelude.{◌≡◌, ◌-◌, ◌<◌, ◌≤◌, List, ℕ, [], ◌∷◌, ◌++◌, length, MatchOption};
 ghost use Rattle.std.specs.Char.{len_utf8};
 ghost use Rattle.compact_repr.specs.Text.{text_of};
-ghost use Rattle.compact_repr.specs.Cut.{IsBoundary, before, after, substring, CutIsBeforeAndAfter};
+ghost use Rattle.compact_repr.specs.Cut.{IsBoundary, text_before, text_after, substring, CutIsBeforeAndAfter};
 
 /// What stands before a boundary.
 #[inline]
 pub fn prefix(text: &str, index: usize) -> &str
     requires { IsBoundary (text_of text.now) index }
-    ensures text { text_of result.now ≡ before (text_of text.now) index }
+    ensures text { text_of result.now ≡ text_before (text_of text.now) index }
     ensures len { length result.now ≡ index }
 {
     &text[..index]
@@ -18,7 +18,7 @@ pub fn prefix(text: &str, index: usize) -> &str
 #[inline]
 pub fn suffix(text: &str, index: usize) -> &str
     requires { IsBoundary (text_of text.now) index }
-    ensures { text_of result.now ≡ after (text_of text.now) index }
+    ensures { text_of result.now ≡ text_after (text_of text.now) index }
 {
     &text[index..]
 }
@@ -40,7 +40,7 @@ pub fn substring(text: &str, start: usize, end: usize) -> &str
 pub fn char_at(text: &str, index: usize) -> char
     requires boundary { IsBoundary (text_of text.now) index }
     requires within { index < length text.now }
-    ensures { (rest : List ℕ) × (after (text_of text.now) index ≡ result ∷ rest) }
+    ensures { (rest : List ℕ) × (text_after (text_of text.now) index ≡ result ∷ rest) }
 {
     match text[index..].chars().next() {
         Some(character) => character,

@@ -2,7 +2,7 @@
 ghost use Rattle.std.specs.Prelude.{◌≡◌, ◌+◌, ◌-◌, ◌≤◌, ◌<◌, ◌^◌, [], ◌∷◌, ◌++◌, length, false, IfOk, OnOk, OnErr, IsTrue, ◌↔◌};
 ghost use Rattle.std.specs.String.{string_bytes, string_capacity};
 ghost use Rattle.compact_repr.specs.Text.{size, utf8, text_of, IsText};
-ghost use Rattle.compact_repr.specs.Cut.{IsBoundary, before, replaced_text};
+ghost use Rattle.compact_repr.specs.Cut.{IsBoundary, text_before, replaced_text};
 ghost use Rattle.compact_repr.specs.Retain.{RetainsCharsTo};
 
 mod append;
@@ -239,7 +239,7 @@ impl HeapBuffer {
     pub fn truncate(&mut self, len: usize)
         requires { IsBoundary self.old.text len }
         ensures value { self.new
-            ≡ record { text = before self.old.text len; capacity = self.old.capacity } }
+            ≡ record { text = text_before self.old.text len; capacity = self.old.capacity } }
         ensures fits { size self.new.text ≤ self.old.capacity }
     {
         self.bytes.truncate(len);

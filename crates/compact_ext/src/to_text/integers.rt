@@ -104,7 +104,7 @@ pub fn small_signed(alloc: Global, n: i8) -> Result<CompactString, ToCompactStri
 }
 
 impl ToCompactString for u8 {
-    ghost shown = { decimal };
+    ghost shown_text = { decimal };
 
     ghost IsShort = { λ _. ⊤ };
 
@@ -116,7 +116,7 @@ impl ToCompactString for u8 {
 }
 
 impl ToCompactString for u16 {
-    ghost shown = { decimal };
+    ghost shown_text = { decimal };
 
     ghost IsShort = { λ _. ⊤ };
 
@@ -128,7 +128,7 @@ impl ToCompactString for u16 {
 }
 
 impl ToCompactString for u32 {
-    ghost shown = { decimal };
+    ghost shown_text = { decimal };
 
     ghost IsShort = { λ _. ⊤ };
 
@@ -140,7 +140,7 @@ impl ToCompactString for u32 {
 }
 
 impl ToCompactString for u64 {
-    ghost shown = { decimal };
+    ghost shown_text = { decimal };
 
     ghost IsShort = { λ _. ⊤ };
 
@@ -152,7 +152,7 @@ impl ToCompactString for u64 {
 }
 
 impl ToCompactString for usize {
-    ghost shown = { decimal };
+    ghost shown_text = { decimal };
 
     ghost IsShort = { λ _. ⊤ };
 
@@ -164,7 +164,7 @@ impl ToCompactString for usize {
 }
 
 impl ToCompactString for i8 {
-    ghost shown = { signed_decimal };
+    ghost shown_text = { signed_decimal };
 
     ghost IsShort = { λ _. ⊤ };
 
@@ -176,7 +176,7 @@ impl ToCompactString for i8 {
 }
 
 impl ToCompactString for i16 {
-    ghost shown = { signed_decimal };
+    ghost shown_text = { signed_decimal };
 
     ghost IsShort = { λ _. ⊤ };
 
@@ -188,7 +188,7 @@ impl ToCompactString for i16 {
 }
 
 impl ToCompactString for i32 {
-    ghost shown = { signed_decimal };
+    ghost shown_text = { signed_decimal };
 
     ghost IsShort = { λ _. ⊤ };
 
@@ -200,7 +200,7 @@ impl ToCompactString for i32 {
 }
 
 impl ToCompactString for i64 {
-    ghost shown = { signed_decimal };
+    ghost shown_text = { signed_decimal };
 
     ghost IsShort = { λ _. ⊤ };
 
@@ -212,7 +212,7 @@ impl ToCompactString for i64 {
 }
 
 impl ToCompactString for isize {
-    ghost shown = { signed_decimal };
+    ghost shown_text = { signed_decimal };
 
     ghost IsShort = { λ _. ⊤ };
 

@@ -25,7 +25,7 @@ pub fn text_copy(alloc: Global, text: &str) -> Result<CompactString, ToCompactSt
 }
 
 impl ToCompactString for bool {
-    ghost shown = { bool_text };
+    ghost shown_text = { bool_text };
 
     ghost IsShort = { λ _. ⊤ };
 
@@ -40,7 +40,7 @@ impl ToCompactString for bool {
 }
 
 impl ToCompactString for char {
-    ghost shown = { λ c. c ∷ [] };
+    ghost shown_text = { λ c. c ∷ [] };
 
     ghost IsShort = { λ _. ⊤ };
 
@@ -52,7 +52,7 @@ impl ToCompactString for char {
 }
 
 impl ToCompactString for &str {
-    ghost shown = { λ s. text_of s.now };
+    ghost shown_text = { λ s. text_of s.now };
 
     ghost IsShort = { λ s. length s.now ≤ 24 };
 
@@ -63,7 +63,7 @@ impl ToCompactString for &str {
 }
 
 impl ToCompactString for String {
-    ghost shown = { λ s. text_of (string_bytes s) };
+    ghost shown_text = { λ s. text_of (string_bytes s) };
 
     ghost IsShort = { λ s. length (string_bytes s) ≤ 24 };
 
@@ -74,7 +74,7 @@ impl ToCompactString for String {
 }
 
 impl ToCompactString for CompactString {
-    ghost shown = { λ v. v.text };
+    ghost shown_text = { λ v. v.text };
 
     ghost IsShort = { λ v. size v.text ≤ 24 };
 

@@ -23,7 +23,7 @@ pub fn printed<I: Integer>(alloc: Global, n: I) -> Result<CompactString, ToCompa
 }
 
 impl ToCompactString for u128 {
-    ghost shown = { decimal };
+    ghost shown_text = { decimal };
 
     ghost IsShort = { λ n. length (decimal n) ≤ 24 };
 
@@ -34,7 +34,7 @@ impl ToCompactString for u128 {
 }
 
 impl ToCompactString for i128 {
-    ghost shown = { signed_decimal };
+    ghost shown_text = { signed_decimal };
 
     ghost IsShort = { λ n. length (signed_decimal n) ≤ 24 };
 

@@ -79,13 +79,10 @@ impl<P: Policy> TryFrom<Vec<u8>> for PolicyString<P> {
     /// # Examples
     ///
     /// The bytes 61 62 give `"ab"`, and C3 alone is refused.
+    #[tactic(auto, using(compact_repr::proofs::TextFacts::text_facts, crate::proofs::EditFacts::string_facts))]
     fn try_from(bytes: Vec<u8>) -> Result<Self, FromUtf8Error> {
         match String::from_utf8(bytes) {
-            Ok(text) => {
-                // The proof reads from it that the bytes are a text.
-                let _bytes = text.as_str();
-                Ok(Self::from(text))
-            }
+            Ok(text) => Ok(Self::from(text)),
             Err(error) => Err(error),
         }
     }
@@ -97,10 +94,9 @@ impl<P: Policy> From<BoxedStr> for PolicyString<P> {
 
     /// Takes the text over as `From<String>` does, with the capacity that the box keeps. It never allocates, where
     /// `from_boxed_str` copies.
+    #[tactic(auto, using(compact_repr::proofs::TextFacts::text_facts, crate::proofs::EditFacts::string_facts))]
     fn from(text: BoxedStr) -> Self {
         let text = text.into_string();
-        // The proof reads from it that the bytes are a text.
-        let _bytes = text.as_str();
         Self::from(text)
     }
 }

@@ -2,7 +2,7 @@
 ghost use Rattle.std.specs.Prelude.{◌≡◌, ℕ, ◌<◌, ◌≤◌, ◌++◌, ◌∷◌, [], length, Some, IfOk, IfErr, OnOk, OnErr, IsOk, IsTrue, MatchOption};
 ghost use Rattle.std.specs.Char.{len_utf8};
 ghost use Rattle.compact_repr.specs.Text.{size, text_of, utf8};
-ghost use Rattle.compact_repr.specs.Cut.{IsBoundary, before};
+ghost use Rattle.compact_repr.specs.Cut.{IsBoundary, text_before};
 ghost use Rattle.compact_repr.specs.Change.{push_str, push_str_asks, clear, truncate};
 ghost use Rattle.compact_str.specs.Room.{HasRoomFor, sure_capacity};
 ghost use Rattle.compact_str.specs.PositionEdits.{Pops, Writes};
@@ -118,7 +118,7 @@ impl<P: Policy> PolicyString<P> {
     pub fn truncate(&mut self, len: usize)
         requires { len < size self.old.text → IsBoundary self.old.text len }
         ensures value { self.new ≡ truncate self.old len }
-        ensures text { self.new.text ≡ before self.old.text len }
+        ensures text { self.new.text ≡ text_before self.old.text len }
         ensures boundaries { (i : ℕ) → i ≤ len → IsBoundary self.old.text i
             → IsBoundary self.new.text i }
     {

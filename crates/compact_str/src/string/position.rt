@@ -4,7 +4,7 @@ ghost use Rattle.std.specs.Char.{len_utf8};
 ghost use Rattle.std.specs.Range.Bound.{start_index, end_index};
 ghost use Rattle.std.specs.Str.{IsCharBoundary};
 ghost use Rattle.compact_repr.specs.Text.{size, utf8, text_of};
-ghost use Rattle.compact_repr.specs.Cut.{IsCut, IsBoundary, before, after, substring, replaced_text};
+ghost use Rattle.compact_repr.specs.Cut.{IsCut, IsBoundary, text_before, text_after, substring, replaced_text};
 ghost use Rattle.compact_repr.specs.Value.{is_static};
 ghost use Rattle.compact_repr.specs.Capacity.{reserve_asks};
 ghost use Rattle.compact_str.specs.Room.{IsOwned, HasRoomFor, sure_capacity};
@@ -29,8 +29,6 @@ impl<P: Policy> PolicyString<P> {
         ensures text { IsTrue result ↔ IsBoundary self.now.text index }
         ensures bytes { IsTrue result → IsCharBoundary (utf8 self.now.text) index }
     {
-        // The proof reads from it that the bytes are a text.
-        let _bytes = self.as_str();
         self.repr.is_char_boundary(index)
     }
 
@@ -248,8 +246,8 @@ impl<P: Policy> PolicyString<P> {
         requires { IsBoundary self.old.text index }
         ensures ok { IfOk result (λ tail. SplitsOff P.growth self.old index tail self.new) }
         ensures text { IfOk result
-            (λ tail. (self.new.text ≡ before self.old.text index)
-            × (tail.text ≡ after self.old.text index)) }
+            (λ tail. (self.new.text ≡ text_before self.old.text index)
+            × (tail.text ≡ text_after self.old.text index)) }
         ensures cut { IfOk result (λ tail. IsCut self.old.text index self.new.text tail.text) }
         ensures boundaries { IsOk result → (i : ℕ) → i ≤ index → IsBoundary self.old.text i
             → IsBoundary self.new.text i }
