@@ -164,6 +164,7 @@ impl Interner {
             → slice_get self.old n ≡ Some name → slice_get self.new n ≡ Some name }
         ensures empty { texts.now ≡ [] → IsOk result }
     {
+        // The proof reads from it that the names are distinct, also where no text comes.
         let _distinct = self.len();
         if numbers.reserve(texts.len()).is_err() {
             return Err(InternError::Reserve(ReserveError));

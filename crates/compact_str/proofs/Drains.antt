@@ -90,7 +90,7 @@ some-back r c e =
     omega (arith, none, length-append r (c ∷ []))
 
 -- the first character of a part is taken
-pub part-front : (t r : List ℕ) (front back c : ℕ) → range_text t front back ≡ c ∷ r → (range_text t (front + len_utf8 c) back ≡ r) × (front + len_utf8 c ≤ back)
+part-front : (t r : List ℕ) (front back c : ℕ) → range_text t front back ≡ c ∷ r → (range_text t (front + len_utf8 c) back ≡ r) × (front + len_utf8 c ≤ back)
 part-front t r front back c e =
     let three = of-part t (c ∷ r) front back e (some-front r c) in
     let parts : t ≡ (text_before t front ++ c ∷ []) ++ r ++ text_after t back =
@@ -99,7 +99,7 @@ part-front t r front back c e =
     (part-of t (text_before t front ++ c ∷ []) r (text_after t back) (front + len_utf8 c) back parts first (omega (arith, first, three.1, three.2)), omega (arith, three.1, three.2))
 
 -- or the last
-pub part-back : (t r : List ℕ) (front back c : ℕ) → range_text t front back ≡ r ++ c ∷ [] → (range_text t front (back - len_utf8 c) ≡ r) × (front + len_utf8 c ≤ back)
+part-back : (t r : List ℕ) (front back c : ℕ) → range_text t front back ≡ r ++ c ∷ [] → (range_text t front (back - len_utf8 c) ≡ r) × (front + len_utf8 c ≤ back)
 part-back t r front back c e =
     let three = of-part t (r ++ c ∷ []) front back e (some-back r c) in
     let whole = size-append r (c ∷ []) in
@@ -108,7 +108,7 @@ part-back t r front back c e =
     (part-of t (text_before t front) r (c ∷ [] ++ text_after t back) front (back - len_utf8 c) parts three.1 (omega (arith, whole, three.1, three.2)), omega (arith, whole, three.1, three.2))
 
 -- what is left is a range
-pub front-range : (t r : List ℕ) (front back c : ℕ) → range_text t front back ≡ c ∷ r → is_range t (front + len_utf8 c) back ≡ true
+front-range : (t r : List ℕ) (front back c : ℕ) → range_text t front back ≡ c ∷ r → is_range t (front + len_utf8 c) back ≡ true
 front-range t r front back c e =
     let three = of-part t (c ∷ r) front back e (some-front r c) in
     let parts : t ≡ (text_before t front ++ c ∷ []) ++ r ++ text_after t back =
@@ -141,13 +141,21 @@ pub word-taken : (t : List ℕ) (front back word behind : ℕ) → behind ≡ fr
 word-taken t front back word behind is first =
     front-taken t first.1 front back first.0 behind first.4 (is ∙ ap (λ (n : ℕ). front + n) (width-of_word word first.0 first.2))
 
-pub back-range : (t r : List ℕ) (front back c : ℕ) → range_text t front back ≡ r ++ c ∷ [] → is_range t front (back - len_utf8 c) ≡ true
+back-range : (t r : List ℕ) (front back c : ℕ) → range_text t front back ≡ r ++ c ∷ [] → is_range t front (back - len_utf8 c) ≡ true
 back-range t r front back c e =
     let three = of-part t (r ++ c ∷ []) front back e (some-back r c) in
     let whole = size-append r (c ∷ []) in
     let parts : t ≡ text_before t front ++ r ++ (c ∷ [] ++ text_after t back) =
     three.0 ∙ ap (λ (l : List ℕ). l ++ text_after t back) (sym (append_assoc (text_before t front) r (c ∷ []))) ∙ append_assoc (text_before t front ++ r) (c ∷ []) (text_after t back) in
     of-range t (text_before t front) r (c ∷ [] ++ text_after t back) front (back - len_utf8 c) parts three.1 (omega (arith, whole, three.1, three.2))
+
+-- both, by the width of the last character
+pub back-taken : (t s : List ℕ) (front back c width : ℕ) → s ≡ range_text t front back → width ≡ len_utf8 c → (last : (r : List ℕ) × (s ≡ r ++ c ∷ []))
+    → (range_text t front back ≡ last.0 ++ c ∷ []) × (range_text t front (back - width) ≡ last.0) × (front + width ≤ back) × (is_range t front (back - width) ≡ true)
+back-taken t s front back c width is wide last =
+    let split = sym is ∙ last.1 in
+    let taken = part-back t last.0 front back c split in
+    rw wide (split, taken.0, taken.1, back-range t last.0 front back c split)
 
 -- a range is one still in the value that is made owned
 pub owned_placement-range : (g : Growth) (v u : PlacedText) (i j : ℕ) → make_owned g v ≡ Some u → i ≤ j → IsBoundary v.text i → IsBoundary v.text j → is_range u.text i j ≡ true

@@ -86,6 +86,7 @@ pub fn tokenize(
     ensures front { OnErr result (AreNamesOfFront names.old names.new text.now.text) }
     ensures err { IfErr result (IsTokenRefusal names.new) }
 {
+    // The proof reads from it that the names are distinct, also where no token comes.
     let _distinct = names.len();
     let mut tokens = Vec::new(alloc);
     let mut rest = text.as_str();
