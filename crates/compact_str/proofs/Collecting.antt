@@ -172,8 +172,8 @@ join-cons f separator x xs =
 pub join-one : {T : Type 0} (f : T → List ℕ) (separator : List ℕ) (x : T) → join separator f (x ∷ []) ≡ f x
 join-one f separator x = join-cons f separator x [] ∙ append-nil (f x)
 
-pub join-first : {T : Type 0} (f : T → List ℕ) (separator : List ℕ) (x : T) (z p w : List ℕ) → z ≡ [] → p ≡ f x → w ≡ z ++ p → w ≡ join separator f (x ∷ [])
-join-first f separator x z p w e k h = h ∙ ap (λ l. l ++ p) e ∙ k ∙ sym (join-one f separator x)
+pub join-start : {T : Type 0} (f : T → List ℕ) (separator : List ℕ) (x : T) (z p w : List ℕ) → z ≡ [] → p ≡ f x → w ≡ z ++ p → w ≡ join separator f (x ∷ [])
+join-start f separator x z p w e k h = h ∙ ap (λ l. l ++ p) e ∙ k ∙ sym (join-one f separator x)
 
 -- one more item behind the first
 pub join-next : {T : Type 0} (f : T → List ℕ) (separator : List ℕ) (z : T) (xs : List T) (x : T) → join separator f (z ∷ (xs ++ x ∷ [])) ≡ (join separator f (z ∷ xs) ++ separator) ++ f x

@@ -128,7 +128,8 @@ pub byte-taken : (t s : List ℕ) (front back c : ℕ) → s ≡ range_text t fr
     → (range_text t front back ≡ c ∷ first.1.0) × (range_text t (front + 1) back ≡ first.1.0) × (front + 1 ≤ back) × (is_range t (front + 1) back ≡ true)
 byte-taken t s front back c is first =
     let split = sym is ∙ first.1.1 in
-    (split, front-taken t first.1.0 front back c (front + 1) split (ap (λ (n : ℕ). front + n) (sym first.0)))
+    let taken = front-taken t first.1.0 front back c (front + 1) split (ap (λ (n : ℕ). front + n) (sym first.0)) in
+    (split, taken.0, taken.1, taken.2)
 
 -- the lower half of a word is how many bytes the character takes whose code is the upper half
 pub width-of_word : (word c : ℕ) → word ≡ c * 2 ^ 32 + len_utf8 c → word % 2 ^ 32 ≡ len_utf8 c

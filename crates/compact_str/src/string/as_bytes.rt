@@ -79,7 +79,6 @@ impl<P: Policy> TryFrom<Vec<u8>> for PolicyString<P> {
     /// # Examples
     ///
     /// The bytes 61 62 give `"ab"`, and C3 alone is refused.
-    #[tactic(auto, using(compact_repr::proofs::TextFacts::text_facts, crate::proofs::EditFacts::string_facts))]
     fn try_from(bytes: Vec<u8>) -> Result<Self, FromUtf8Error> {
         match String::from_utf8(bytes) {
             Ok(text) => Ok(Self::from(text)),

@@ -45,9 +45,9 @@ impl<P: Policy> PolicyString<P> {
     ghost use Rattle.compact_str.specs.Drain.{drain_rest, value_after_drain, drain_lender};
     ghost use Rattle.compact_str.specs.contracts.string.PolicyString.{the_row};
 
-    /// Takes a range out: answers its characters, and the drop of the answer leaves what stood before and after it. A
-    /// static value becomes owned first, for an empty range too. Whether the bounds are a range of the text,
-    /// `check_range` tells.
+    /// Takes a range of the text out, in bytes: answers its characters, and the drop of the answer leaves what stood
+    /// before and after it. A static value becomes owned first, for an empty range too. Whether the bounds are a range
+    /// of the text, `check_range` tells.
     ///
     /// # Errors
     ///

@@ -55,7 +55,7 @@ impl<P: Policy> PolicyString<P> {
         }
     }
 
-    /// The part of the text in a range. Whether the bounds are a range of the text, `check_range` tells.
+    /// The part of the text in a range, in bytes. Whether the bounds are a range of the text, `check_range` tells.
     ///
     /// # Examples
     ///
@@ -187,8 +187,8 @@ impl<P: Policy> PolicyString<P> {
         Ok(character)
     }
 
-    /// Replaces a range of the text. A static value becomes owned, and one that grows makes room for the difference.
-    /// Whether the bounds are a range of the text, `check_range` tells.
+    /// Replaces a range of the text, in bytes. A static value becomes owned, and one that grows makes room for the
+    /// difference. Whether the bounds are a range of the text, `check_range` tells.
     ///
     /// # Errors
     ///

@@ -1,7 +1,7 @@
 use Rattle.std.proofs.Common.{◌∷◌, subst}
 use Rattle.std.specs.Iterator.{Yields}
 use Rattle.compact_repr.specs.Text.{text_of}
-use Rattle.compact_str.proofs.Collecting.{on_err, join_of, join-first, join-piece, first-drained, finished-ok, finished-err, join-turn, join-first}
+use Rattle.compact_str.proofs.Collecting.{on_err, join_of, join-first, join-piece, first-drained, finished-ok, finished-err, join-turn, join-start}
 use Rattle.compact_str.proofs.iter.join.join_pieces.Goals as goal
 
 pub returns-in_err-push_str-clause-err : goal.returns-in_err-push_str-clause-err
@@ -43,4 +43,4 @@ loop-piece-preserved g c =
 
 pub loop-piece-init : goal.loop-piece-init
 loop-piece-init g c =
-    join-first g.T.AsText.spells (text_of c.args.separator.now) c.in-Some.first _ _ _ c.new-gathered.ensures c.text.ensures c.in_ok-push_str.ensures.ok
+    join-start g.T.AsText.spells (text_of c.args.separator.now) c.in-Some.first _ _ _ c.new-gathered.ensures c.text.ensures c.in_ok-push_str.ensures.ok
