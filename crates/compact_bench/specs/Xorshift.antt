@@ -5,13 +5,13 @@ use Rattle.std.specs.Prelude.{ℕ, ◌*◌, ◌/◌, ◌%◌, ◌^◌, bit_xor}
 abbrev pub start : ℕ
 start = 11400714819323198485
 
--- the number after x
-unfoldable pub after : ℕ → ℕ
-after x =
+-- the state after x
+unfoldable pub next_state : ℕ → ℕ
+next_state x =
     let y : ℕ = bit_xor x (x * 2 ^ 13 % 2 ^ 64) in
     let z : ℕ = bit_xor y (y / 2 ^ 7) in
     bit_xor z (z * 2 ^ 17 % 2 ^ 64)
 
 -- the number below n that x is scaled to, by its upper half
-abbrev pub scaled : ℕ → ℕ → ℕ
-scaled x n = x / 2 ^ 32 * n / 2 ^ 32
+abbrev pub scaled_number : ℕ → ℕ → ℕ
+scaled_number x n = x / 2 ^ 32 * n / 2 ^ 32

@@ -1,6 +1,6 @@
 //! The generator of the inputs.
 ghost use Rattle.std.specs.Prelude.{◌≡◌, ◌+◌, ◌<◌};
-ghost use Rattle.compact_bench.specs.Xorshift.{start, after, scaled};
+ghost use Rattle.compact_bench.specs.Xorshift.{start, next_state, scaled_number};
 
 use std::marker::Model;
 
@@ -29,9 +29,9 @@ impl Generator {
     }
 
     /// The next number.
-    #[tactic(auto, unfolding(crate::specs::Xorshift::after))]
+    #[tactic(auto, unfolding(crate::specs::Xorshift::next_state))]
     pub fn next(&mut self) -> u64
-        ensures next { self.new ≡ after self.old }
+        ensures next { self.new ≡ next_state self.old }
         ensures value { result ≡ self.new }
     {
         self.state ^= self.state << 13;
@@ -43,8 +43,8 @@ impl Generator {
     /// A number below `limit`: the next one, scaled.
     pub fn below(&mut self, limit: u32) -> u32
         requires { 0 < limit }
-        ensures next { self.new ≡ after self.old }
-        ensures value { result ≡ scaled self.new limit }
+        ensures next { self.new ≡ next_state self.old }
+        ensures value { result ≡ scaled_number self.new limit }
         ensures below { result < limit }
     {
         let high = self.next() >> 32;
@@ -53,8 +53,8 @@ impl Generator {
 
     /// A letter from `a` to `z`.
     pub fn letter(&mut self) -> char
-        ensures next { self.new ≡ after self.old }
-        ensures value { result ≡ 97 + scaled self.new 26 }
+        ensures next { self.new ≡ next_state self.old }
+        ensures value { result ≡ 97 + scaled_number self.new 26 }
     {
         letter(self.below(26))
     }

@@ -17,7 +17,9 @@ impl Fnv {
 impl Hasher for Fnv {
     ghost use Rattle.std.specs.Prelude.{fold, ◌*◌, ◌%◌, ◌^◌, bit_xor};
 
-    ghost write = { λ h bytes. record { 0 = fold (λ state byte. (bit_xor state byte * 1099511628211) % 2 ^ 64) h.0 bytes } };
+    ghost write = { λ h bytes. record {
+      0 = fold (λ state byte. (bit_xor state byte * 1099511628211) % 2 ^ 64) h.0 bytes;
+    } };
 
     ghost finish = { λ h. h.0 };
 

@@ -53,8 +53,8 @@ pub fn names_by_map(alloc: Global, names: &[CompactString]) -> Result<CompactStr
     CompactString::from_texts(alloc, names.iter().map(|name| name.as_str()))
 }
 
-/// A copy of a line in great letters, collected with `map`.
-pub fn in_great_letters(alloc: Global, line: &str) -> Result<CompactString, ReserveError>
+/// A copy of a line in uppercase, collected with `map`.
+pub fn in_uppercase(alloc: Global, line: &str) -> Result<CompactString, ReserveError>
     ensures { IfOk result (λ v. v.text ≡ map to_ascii_uppercase (text_of line.now)) }
 {
     CompactString::from_chars(alloc, line.chars().map(|c| c.to_ascii_uppercase()))

@@ -50,7 +50,7 @@ pub fn take_range(
     Ok(drained.next_back())
 }
 
-/// A name in small letters.
+/// A name in lowercase.
 pub fn folded(name: &CompactString) -> Result<CompactString, ReserveError>
     ensures { IfOk result (λ small. small.text ≡ ascii_lowercase name.now.text) }
 {

@@ -38,7 +38,8 @@ pub fn rewrite<'a, P: Policy + 'a>(
 pub struct Doubling;
 
 impl Policy for Doubling {
-    ghost use Rattle.std.proofs.Common.{refl, lit≤, lit<};
+    ghost use Rattle.std.proofs.Common.{refl};
+    ghost use Rattle.compact_str.specs.Policies.{IsLawful-test};
 
     const MIN_HEAP: usize = 64;
 
@@ -56,7 +57,7 @@ impl Policy for Doubling {
 
     ghost is_growth = { refl };
 
-    ghost lawful = { record { above_inline = lit≤ tt; below_limit = lit≤ tt; divides = lit≤ tt; grows = lit< tt; small = lit≤ tt } };
+    ghost lawful = { IsLawful-test _ refl };
 }
 
 /// Writes `text` over a value that doubles its capacity, and answers whether there was room for it.

@@ -37,7 +37,7 @@ pub fn field<T: ToCompactString>(
     name: &str,
     value: &T,
 ) -> Result<CompactString, ToCompactStringError>
-    ensures { IfOk result (λ v. v.text ≡ text_of name.now ++ codes "=" ++ T.shown value.now) }
+    ensures { IfOk result (λ v. v.text ≡ text_of name.now ++ codes "=" ++ T.shown_text value.now) }
 {
     let mut line = CompactString::new(alloc, name)?;
     line.push('=')?;

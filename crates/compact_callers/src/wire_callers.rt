@@ -7,7 +7,7 @@ ghost use Rattle.std.specs.Io.KnownBytes.{Appends, Consumes, IsAtEnd, Keeps};
 ghost use Rattle.compact_str.specs.Capacity.{from_string_placement};
 ghost use Rattle.compact_str.specs.Text.{size};
 ghost use Rattle.compact_ext.specs.Wire.{wire, HasForm, IsOutsideForm};
-ghost use Rattle.compact_ext.specs.WireRecords.{records_left, left_behind, GivesNext, GivesRecord, FailsWithin, HasTexts};
+ghost use Rattle.compact_ext.specs.WireRecords.{records_left, unread_bytes, GivesNext, GivesRecord, FailsWithin, HasTexts};
 ghost use Rattle.compact_ext.specs.declared.wire.WireError.TheVariants.{Utf8};
 
 use compact_ext::wire::{Records, WireError, read_wire, write_wire};
@@ -141,7 +141,7 @@ pub fn next_text<R: BufRead + Drop>(
     ensures { GivesRecord R.remaining records.old result records.new
         ⊎ ((behind : Option (List ℕ))
         × FailsWithin (records_left R.remaining records.old) behind Utf8
-        × GivesNext behind result (left_behind R.remaining result records.new)) }
+        × GivesNext behind result (unread_bytes R.remaining result records.new)) }
 {
     match records.next() {
         Some(Err(WireError::Utf8)) => records.next(),

@@ -290,8 +290,8 @@ error_is bs n part bad = (
 
 -- an error after bytes that are known to be text
 
-text_after : (bs : List ℕ) (at : ℕ) → IsUtf8 bs → at ≤ length bs → IsUtf8 (take at bs) → IsUtf8 (drop at bs)
-text_after bs at whole within prefix = IsUtf8-drop bs at whole (IsCharBoundary-from_take bs at whole within prefix)
+IsUtf8-drop_at : (bs : List ℕ) (at : ℕ) → IsUtf8 bs → at ≤ length bs → IsUtf8 (take at bs) → IsUtf8 (drop at bs)
+IsUtf8-drop_at bs at whole within prefix = IsUtf8-drop bs at whole (IsCharBoundary-from_take bs at whole within prefix)
 
 pub rest_at : (bs : List ℕ) (at : ℕ) → take (length bs - at) (drop at bs) ≡ drop at bs
 rest_at bs at = take_all (length bs - at) (drop at bs) (omega (arith, length-drop at bs))
@@ -301,7 +301,7 @@ whole_from bs at prefix rest =
     subst IsUtf8 (take-append-drop at bs) (IsUtf8-append (take at bs) (drop at bs) prefix (subst IsUtf8 (rest_at bs at) rest))
 
 pub invalid_from : (bs : List ℕ) (at : ℕ) → at ≤ length bs → IsUtf8 (take at bs) → ¬ (IsUtf8 (take (length bs - at) (drop at bs))) → ¬ (IsUtf8 bs)
-invalid_from bs at within prefix bad whole = bad (subst IsUtf8 (sym (rest_at bs at)) (text_after bs at whole within prefix))
+invalid_from bs at within prefix bad whole = bad (subst IsUtf8 (sym (rest_at bs at)) (IsUtf8-drop_at bs at whole within prefix))
 
 prefix_from : (bs : List ℕ) (at n : ℕ) → at ≤ length bs → IsUtf8 (take at bs) → IsLongestValidPrefix (drop at bs) n → IsLongestValidPrefix bs (at + n)
 prefix_from bs at n within prefix f =
@@ -317,7 +317,7 @@ prefix_from bs at n within prefix f =
           let at_prefix : take at (take m bs) ≡ take at bs = ap (λ j. take at (take j bs)) m_is ∙ ap (take at) (take-add at k bs) ∙ take_at (take at bs) (take k (drop at bs)) at (length-take-le at bs within) in
           let rest : drop at (take m bs) ≡ take k (drop at bs) = ap (λ j. drop at (take j bs)) m_is ∙ drop-take at k bs in
           f.longest k (omega arith) (omega arith)
-          (subst IsUtf8 rest (text_after (take m bs) at text (omega arith) (subst IsUtf8 (sym at_prefix) prefix)));
+          (subst IsUtf8 rest (IsUtf8-drop_at (take m bs) at text (omega arith) (subst IsUtf8 (sym at_prefix) prefix)));
     }
 
 pub error_from : (bs : List ℕ) (at n : ℕ) (part : Option ℕ) → at ≤ length bs → IsUtf8 (take at bs) → IsUtf8Error (take (length bs - at) (drop at bs)) n part → IsUtf8Error bs (at + n) part

@@ -14,7 +14,7 @@ pub struct Utf16Step {
     pub taken: usize,
 }
 
-// The step at a first unit, where the unit after it is `second`.
+/// The step at a first unit, where the unit after it is `second`.
 #[inline]
 pub(crate) fn step_over(first: u16, second: Option<u16>) -> Utf16Step
     ensures step { (rest : List ℕ) → slice_get rest 0 ≡ second
@@ -45,6 +45,8 @@ pub(crate) fn step_over(first: u16, second: Option<u16>) -> Utf16Step
 
 /// The first character of the units, or `None` for an unpaired surrogate, which takes one unit.
 ///
+/// # Examples
+///
 /// `[0xD834, 0xDD1E]` is U+1D11E in two units; `[0xD834, 0x0041]` begins with an unpaired surrogate.
 #[inline]
 pub fn first_character(units: &[u16]) -> Utf16Step
@@ -60,10 +62,12 @@ pub fn first_character(units: &[u16]) -> Utf16Step
     step_over(units[0], units.get(1).copied())
 }
 
-/// Whether some text gives the units: no surrogate is unpaired.
+/// Whether some text gives the units: no surrogate is unpaired. The loop has no way out, so that many units are looked
+/// at in one step.
+///
+/// # Examples
 ///
 /// `[0xD834, 0xDD1E]` is text, `[0x0061, 0xDC00]` is none.
-// The loop has no way out, so that many units are looked at in one step.
 pub fn is_utf16(units: &[u16]) -> bool
     ensures { IsTrue result ↔ IsUtf16 units.now }
 {
@@ -76,7 +80,7 @@ pub fn is_utf16(units: &[u16]) -> bool
     !unpaired && !after_high
 }
 
-// Whether the unit is the first of a pair.
+/// Whether the unit is the first of a pair.
 #[inline]
 fn is_high(unit: u16) -> bool
     ensures { result ≡ is_high_surrogate unit }
@@ -84,7 +88,7 @@ fn is_high(unit: u16) -> bool
     0xD800 <= unit && unit < 0xDC00
 }
 
-// Whether the unit is the second of a pair.
+/// Whether the unit is the second of a pair.
 #[inline]
 fn is_low(unit: u16) -> bool
     ensures { result ≡ is_low_surrogate unit }

@@ -1,4 +1,4 @@
-//! Bytes read as UTF-16, two bytes a unit (Unicode Standard, 3.10). A byte order mark is a character here.
+//! Bytes read as UTF-16, two bytes a unit, in which a byte order mark is a character (Unicode Standard, 3.10).
 ghost use Rattle.std.specs.Prelude.{◌≡◌, ◌↔◌, ◌<◌, ◌≤◌, ◌∷◌, drop, length, unwrap_or, slice_get, IsSome, IfNone, IsTrue};
 ghost use Rattle.compact_codec.specs.Text.{replacement_character};
 ghost use Rattle.compact_codec.specs.Utf16Bytes.{unit_of, units_of, IsUtf16Bytes, IsUtf16BytesStep, utf16_bytes_lossy_text, PairsAreTheUnits, Utf16BytesLossyTextIsUnique, Utf16BytesLossyTextOfText};
@@ -15,7 +15,11 @@ pub enum ByteOrder {
 }
 
 impl ByteOrder {
-    /// The unit of two bytes. `3D D8` is D83D in little-endian order.
+    /// The unit of two bytes.
+    ///
+    /// # Examples
+    ///
+    /// `3D D8` is D83D in little-endian order.
     #[inline]
     pub fn code_unit(self, first: u8, second: u8) -> u16
         ensures { result ≡ unit_of self first second }
@@ -27,7 +31,7 @@ impl ByteOrder {
     }
 }
 
-// The first unit, if two bytes are left.
+/// The first unit, if two bytes are left.
 #[inline]
 fn first_code_unit(order: ByteOrder, bytes: &[u8]) -> Option<u16>
     ensures unit { result ≡ slice_get (units_of order bytes.now) 0 }
@@ -39,8 +43,10 @@ fn first_code_unit(order: ByteOrder, bytes: &[u8]) -> Option<u16>
     Some(order.code_unit(bytes[0], bytes[1]))
 }
 
-/// The first character of the bytes, or `None` for an unpaired surrogate, which takes two bytes, or for
-/// an odd last byte, which takes one.
+/// The first character of the bytes, or `None` for an unpaired surrogate, which takes two bytes, or for an odd last
+/// byte, which takes one.
+///
+/// # Examples
 ///
 /// In little-endian order `3D D8 6F` begins with an unpaired surrogate of two bytes, and ends with an odd byte.
 #[inline]
@@ -69,6 +75,8 @@ pub fn first_character(order: ByteOrder, bytes: &[u8]) -> Utf16Step
 }
 
 /// Whether the bytes are those of some text's units: no surrogate is unpaired, and no byte is left over.
+///
+/// # Examples
 ///
 /// In little-endian order `41 00` is text, `41 00 42` is none.
 pub fn is_utf16(order: ByteOrder, bytes: &[u8]) -> bool

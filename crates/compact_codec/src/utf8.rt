@@ -18,13 +18,19 @@ pub struct Utf8Error {
     pub error_len: Option<usize>,
 }
 
-// The bytes of a block. From so many on, whole blocks are validated faster than bytes in order.
+/// The bytes of a block. From so many on, whole blocks are validated faster than bytes in order.
 const BLOCK_LEN: usize = 64;
 
-// The most bytes that are validated at a time.
+/// The most bytes that are validated at a time.
 const MAX_WINDOW_LEN: usize = 8192;
 
-/// The text that the bytes encode, or where they stop being one.
+/// The text that the bytes encode.
+///
+/// # Errors
+///
+/// [`Utf8Error`] if they encode none: where they stop being one.
+///
+/// # Examples
 ///
 /// `[0x61, 0xE2, 0x82]` has its error after 1 byte, with an open end: one byte more could make it `a€`.
 /// `[0xE1, 0x80, 0x41]` has its error at its start, with an invalid sequence of 2 bytes.
@@ -42,8 +48,10 @@ pub fn validate(bytes: &[u8]) -> Result<&str, Utf8Error>
     Ok(unsafe { std::str::from_utf8_unchecked(bytes) })
 }
 
-/// Whether the bytes encode a text. Of a short text in ASCII that is known with no call, so a caller that has many of them
-/// asks this in place of `validate`.
+/// Whether the bytes encode a text. Of a short text in ASCII that is known with no call, so a caller that has many of
+/// them asks this in place of `validate`.
+///
+/// # Examples
 ///
 /// It is `true` of `[0xE2, 0x82, 0xAC]`, which encodes `€`, and `false` of `[0xE2, 0x82]`.
 #[inline]
@@ -56,7 +64,7 @@ pub fn is_utf8(bytes: &[u8]) -> bool
     validate(bytes).is_ok()
 }
 
-// The same as `validate`, of fewer bytes. It stands apart, so that what validates many bytes keeps its registers.
+/// The same as `validate`, of fewer bytes. It stands apart, so that what validates many bytes keeps its registers.
 #[inline(never)]
 fn validate_short(bytes: &[u8]) -> Result<&str, Utf8Error>
     requires { length bytes.now < 64 }
@@ -68,7 +76,7 @@ fn validate_short(bytes: &[u8]) -> Result<&str, Utf8Error>
     Ok(unsafe { std::str::from_utf8_unchecked(bytes) })
 }
 
-// Whether the bytes are known to be ASCII characters: of fewer than 4 bytes nothing is known.
+/// Whether the bytes are known to be ASCII characters: of fewer than 4 bytes nothing is known.
 #[inline]
 fn is_short_ascii(bytes: &[u8]) -> bool
     requires { length bytes.now < 64 }
@@ -89,7 +97,7 @@ fn is_short_ascii(bytes: &[u8]) -> bool
     false
 }
 
-// Whether the first `len` bytes and the last `len` are ASCII characters, which are all of the bytes.
+/// Whether the first `len` bytes and the last `len` are ASCII characters, which are all of the bytes.
 #[inline(always)]
 fn ends_are_ascii(bytes: &[u8], len: usize) -> bool
     requires within { len ≤ length bytes.now }
@@ -99,8 +107,8 @@ fn ends_are_ascii(bytes: &[u8], len: usize) -> bool
     is_ascii_slice(&bytes[..len]) && is_ascii_slice(&bytes[bytes.len() - len..])
 }
 
-// Whether each byte of a slice is an ASCII character. There is no way out of the loop, so that many bytes are looked at in
-// one step.
+/// Whether each byte of a slice is an ASCII character. There is no way out of the loop, so that many bytes are looked at in
+/// one step.
 #[inline(always)]
 fn is_ascii_slice(bytes: &[u8]) -> bool
     ensures { IsTrue result → IsAscii bytes.now }
@@ -112,8 +120,8 @@ fn is_ascii_slice(bytes: &[u8]) -> bool
     most < 0x80
 }
 
-// How many bytes at the start are ASCII characters, as whole blocks show it. The last block ends with the bytes, so that it
-// may begin before the one ahead of it has ended.
+/// How many bytes at the start are ASCII characters, as whole blocks show it. The last block ends with the bytes, so that it
+/// may begin before the one ahead of it has ended.
 fn ascii_prefix_len(bytes: &[u8]) -> usize
     requires { 64 ≤ length bytes.now }
     ensures within { result ≤ length bytes.now }
@@ -134,7 +142,7 @@ fn ascii_prefix_len(bytes: &[u8]) -> usize
     }
 }
 
-// Whether each byte of a block is an ASCII character.
+/// Whether each byte of a block is an ASCII character.
 #[inline(always)]
 fn is_ascii_block(block: u8x64) -> bool
     ensures { IsTrue result → IsAscii block }
@@ -142,7 +150,7 @@ fn is_ascii_block(block: u8x64) -> bool
     block.simd_ge(u8x64::splat(0x80)).to_bitmask() == 0
 }
 
-// The same as `validate`, where the bytes before `at` are known to be text. What is a text has one window after the other.
+/// The same as `validate`, where the bytes before `at` are known to be text. What is a text has one window after the other.
 fn validate_in_windows(bytes: &[u8], at: usize) -> Result<&str, Utf8Error>
     requires within { at ≤ length bytes.now }
     requires text { IsUtf8 (take at bytes.now) }
@@ -155,7 +163,7 @@ fn validate_in_windows(bytes: &[u8], at: usize) -> Result<&str, Utf8Error>
     Ok(unsafe { std::str::from_utf8_unchecked(bytes) })
 }
 
-// How many bytes at the start are valid, where those before `from` are known to be, as whole windows show it.
+/// How many bytes at the start are valid, where those before `from` are known to be, as whole windows show it.
 fn valid_len_in_windows(bytes: &[u8], from: usize) -> usize
     requires within { from ≤ length bytes.now }
     requires text { IsUtf8 (take from bytes.now) }
@@ -173,7 +181,7 @@ fn valid_len_in_windows(bytes: &[u8], from: usize) -> usize
     at
 }
 
-// Where a window of at most `width` bytes from `at` on ends: with the bytes, or before a byte that can begin a character.
+/// Where a window of at most `width` bytes from `at` on ends: with the bytes, or before a byte that can begin a character.
 fn window_end(bytes: &[u8], at: usize, width: usize) -> usize
     requires within { at + 64 ≤ length bytes.now }
     requires wide { (64 ≤ width) × (width ≤ 8192) }
@@ -187,7 +195,7 @@ fn window_end(bytes: &[u8], at: usize, width: usize) -> usize
     back_in_character(bytes, back_in_character(bytes, end))
 }
 
-// One byte back, where no character can begin at this one.
+/// One byte back, where no character can begin at this one.
 fn back_in_character(bytes: &[u8], at: usize) -> usize
     requires { (0 < at) × (at < length bytes.now) }
     ensures { (result ≤ at) × (at ≤ result + 1) }
@@ -195,7 +203,7 @@ fn back_in_character(bytes: &[u8], at: usize) -> usize
     if bytes[at] & 0xC0 == 0x80 { at - 1 } else { at }
 }
 
-// The same as `validate`, where the bytes before `at` are known to be text, and an error is likely to come soon.
+/// The same as `validate`, where the bytes before `at` are known to be text, and an error is likely to come soon.
 #[inline]
 fn validate_onward(bytes: &[u8], at: usize) -> Result<&str, Utf8Error>
     requires within { at ≤ length bytes.now }
@@ -205,8 +213,8 @@ fn validate_onward(bytes: &[u8], at: usize) -> Result<&str, Utf8Error>
     validate_from(bytes, valid_len_before_error(bytes, at))
 }
 
-// How many bytes at the start are valid, where those before `from` are known to be. Where twice the next `BLOCK_LEN` look
-// whole, windows double while they are text, so that no more is validated than some times what stands before the error.
+/// How many bytes at the start are valid, where those before `from` are known to be. Where twice the next `BLOCK_LEN` look
+/// whole, windows double while they are text, so that no more is validated than some times what stands before the error.
 fn valid_len_before_error(bytes: &[u8], from: usize) -> usize
     requires within { from ≤ length bytes.now }
     requires text { IsUtf8 (take from bytes.now) }
@@ -230,8 +238,8 @@ fn valid_len_before_error(bytes: &[u8], from: usize) -> usize
     valid_len_by_halves(bytes, at, width / 2)
 }
 
-// The same, where the window from `from` on is no text, and `most` is half its width: each half is validated, or left to the
-// next.
+/// The same, where the window from `from` on is no text, and `most` is half its width: each half is validated, or left to the
+/// next.
 fn valid_len_by_halves(bytes: &[u8], from: usize, most: usize) -> usize
     requires within { from ≤ length bytes.now }
     requires text { IsUtf8 (take from bytes.now) }
@@ -252,7 +260,7 @@ fn valid_len_by_halves(bytes: &[u8], from: usize, most: usize) -> usize
     valid_len_by_guess(bytes, at)
 }
 
-// The same, as far as a guess at the next `BLOCK_LEN` bytes is found right.
+/// The same, as far as a guess at the next `BLOCK_LEN` bytes is found right.
 fn valid_len_by_guess(bytes: &[u8], from: usize) -> usize
     requires within { from ≤ length bytes.now }
     requires text { IsUtf8 (take from bytes.now) }
@@ -272,9 +280,9 @@ fn valid_len_by_guess(bytes: &[u8], from: usize) -> usize
     }
 }
 
-// How many of the bytes are likely to be text, up to the last character: whether each byte goes on a character is
-// compared with whether those before it want one that does, for all bytes in one step. It is a guess, and what it is
-// good for is speed: a wrong one costs time alone.
+/// How many of the bytes are likely to be text, up to the last character: whether each byte goes on a character is
+/// compared with whether those before it want one that does, for all bytes in one step. It is a guess, and what it is
+/// good for is speed: a wrong one costs time alone.
 fn likely_valid_len(bytes: &[u8]) -> usize
     requires { length bytes.now ≡ 64 }
     ensures { result ≤ 64 }
@@ -293,7 +301,7 @@ fn likely_valid_len(bytes: &[u8]) -> usize
     lead_at(bytes, lead)
 }
 
-// One byte back, where there is one and no character can begin at this one.
+/// One byte back, where there is one and no character can begin at this one.
 fn lead_at(bytes: &[u8], at: usize) -> usize
     requires { at < length bytes.now }
     ensures { result ≤ at }
@@ -305,7 +313,7 @@ fn lead_at(bytes: &[u8], at: usize) -> usize
     }
 }
 
-// The same as `validate`, where the bytes before `at` are known to be text.
+/// The same as `validate`, where the bytes before `at` are known to be text.
 fn validate_from(bytes: &[u8], at: usize) -> Result<&str, Utf8Error>
     requires within { at ≤ length bytes.now }
     requires text { IsUtf8 (take at bytes.now) }
@@ -320,7 +328,7 @@ fn validate_from(bytes: &[u8], at: usize) -> Result<&str, Utf8Error>
     }
 }
 
-// The same, from the first byte to the error and no further.
+/// The same, from the first byte to the error and no further.
 fn validate_in_order(bytes: &[u8]) -> Result<&str, Utf8Error>
     ensures { Validates bytes.now result }
 {
@@ -344,11 +352,13 @@ pub struct Utf8Chunk<'a> {
     pub rest: &'a [u8],
 }
 
-/// The first chunk of bytes whose error is known. It validates nothing again, so that a decoder can let `validate` find the
-/// error.
+/// The first chunk of bytes whose error is known. It validates nothing again, so that a decoder can let `validate` find
+/// the error.
 ///
-/// `[0x61, 0xC0, 0x80]` has its error after 1 byte, with an invalid sequence of 1 byte: the chunk is `a`, the invalid byte
-/// C0 and the rest 80.
+/// # Examples
+///
+/// `[0x61, 0xC0, 0x80]` has its error after 1 byte, with an invalid sequence of 1 byte: the chunk is `a`, the invalid
+/// byte C0 and the rest 80.
 #[inline]
 pub fn chunk_at(bytes: &[u8], error: Utf8Error) -> Utf8Chunk<'_>
     requires { IsUtf8Error bytes.now error.valid_up_to error.error_len }
@@ -372,11 +382,13 @@ pub fn chunk_at(bytes: &[u8], error: Utf8Error) -> Utf8Chunk<'_>
 
 /// The first chunk of the bytes. No bytes are the chunk of three empty parts.
 ///
-/// It validates some times as many bytes as stand before the error, so that a decoder can go on after each invalid sequence.
-/// Of bytes that are likely to be text, `validate` and `chunk_at` are the faster way.
+/// It validates some times as many bytes as stand before the error, so that a decoder can go on after each invalid
+/// sequence. Of bytes that are likely to be text, `validate` and `chunk_at` are the faster way.
 ///
-/// `[0x61, 0xC0, 0x80]` is `a`, the invalid byte C0 and the rest 80, whose chunk is no text and the invalid byte 80: the
-/// lossy text is `a` and two U+FFFD.
+/// # Examples
+///
+/// `[0x61, 0xC0, 0x80]` is `a`, the invalid byte C0 and the rest 80, whose chunk is no text and the invalid byte 80:
+/// the lossy text is `a` and two U+FFFD.
 #[inline]
 pub fn first_chunk(bytes: &[u8]) -> Utf8Chunk<'_>
     ensures chunk { BeginsWithChunk bytes.now result.valid.now result.invalid.now result.rest.now }

@@ -7,7 +7,7 @@ use Rattle.std.specs.Char.{len_utf8}
 use Rattle.std.proofs.lemmas.Bool.{cond-true, cond-false, le-leb, lt-leb}
 use Rattle.std.proofs.lemmas.Str.{len_utf8_bounds}
 use Rattle.compact_str.specs.Text.{size, text_of}
-use Rattle.compact_str.specs.Cut.{IsBoundary, before}
+use Rattle.compact_str.specs.Cut.{IsBoundary, text_before}
 use Rattle.compact_str.specs.Value.{PlacedText, placed_text}
 use Rattle.compact_str.specs.Capacity.{Growth, inline_placement, heap_placement, static_placement}
 use Rattle.compact_str.specs.declared.ReserveError.{ReserveError}
@@ -53,15 +53,15 @@ abbrev Steps : PlacedText → Edit Standard → Reply Standard → PlacedText �
 Steps v edit reply w = Step half_more v edit reply w
 
 -- what stands before a boundary takes up all the bytes before it
-size-before : (a b : List ℕ) (p : ℕ) → size a ≡ p → size (before (a ++ b) p) ≡ p
-size-before [] [] p e = e
-size-before [] (c ∷ cs) p e = let wide = len_utf8_bounds c in rw (cond-false _ _ _ (lt-leb (len_utf8 c) p (omega (arith, wide.0, e)))) e
-size-before (c ∷ cs) b p e =
-    let rest = size-before cs b (p - len_utf8 c) (omega (arith, e)) in
+size-text_before : (a b : List ℕ) (p : ℕ) → size a ≡ p → size (text_before (a ++ b) p) ≡ p
+size-text_before [] [] p e = e
+size-text_before [] (c ∷ cs) p e = let wide = len_utf8_bounds c in rw (cond-false _ _ _ (lt-leb (len_utf8 c) p (omega (arith, wide.0, e)))) e
+size-text_before (c ∷ cs) b p e =
+    let rest = size-text_before cs b (p - len_utf8 c) (omega (arith, e)) in
     rw (cond-true _ _ _ (le-leb (len_utf8 c) p (omega (arith, e)))) (omega (arith, e, rest))
 
-not_boundary : (t : List ℕ) (p : ℕ) → (size (before t p) ≡ p → ⊥) → ¬ (IsBoundary t p)
-not_boundary t p differs h = differs (ap (λ x. size (before x p)) h.2.parts ∙ size-before h.0 h.1 p h.2.position)
+not_boundary : (t : List ℕ) (p : ℕ) → (size (text_before t p) ≡ p → ⊥) → ¬ (IsBoundary t p)
+not_boundary t p differs h = differs (ap (λ x. size (text_before x p)) h.2.parts ∙ size-text_before h.0 h.1 p h.2.position)
 
 -- at the end
 

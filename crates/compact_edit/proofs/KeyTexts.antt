@@ -26,14 +26,14 @@ noted ts t = if contains ts t then ts else ts ++ t ∷ []
 
 -- the distinct texts of a list with one more at its end
 
-without-push : (t u : List ℕ) (ts : List (List ℕ)) → texts_without t (ts ++ u ∷ []) ≡ (if pointwise nat_eq t u then texts_without t ts else texts_without t ts ++ u ∷ [])
-without-push t u [] = grind (arith, common_steps)
-without-push t u (x ∷ xs) = grind (arith, common_steps, without-push t u xs)
+texts_without-push : (t u : List ℕ) (ts : List (List ℕ)) → texts_without t (ts ++ u ∷ []) ≡ (if pointwise nat_eq t u then texts_without t ts else texts_without t ts ++ u ∷ [])
+texts_without-push t u [] = grind (arith, common_steps)
+texts_without-push t u (x ∷ xs) = grind (arith, common_steps, texts_without-push t u xs)
 
 -- a text other than t is among those without t just where it was
-among-without : (t u : List ℕ) (ts : List (List ℕ)) → pointwise nat_eq t u ≡ false → contains (texts_without t ts) u ≡ contains ts u
-among-without t u [] other = refl
-among-without t u (x ∷ xs) other = by (pointwise nat_eq t x) refl (among-without t u xs other)
+contains-texts_without : (t u : List ℕ) (ts : List (List ℕ)) → pointwise nat_eq t u ≡ false → contains (texts_without t ts) u ≡ contains ts u
+contains-texts_without t u [] other = refl
+contains-texts_without t u (x ∷ xs) other = by (pointwise nat_eq t x) refl (contains-texts_without t u xs other)
   where
     by : (b : Bool) → pointwise nat_eq t x ≡ b → contains (texts_without t xs) u ≡ contains xs u → contains (texts_without t (x ∷ xs)) u ≡ contains (x ∷ xs) u
     by true same rest =
@@ -41,44 +41,44 @@ among-without t u (x ∷ xs) other = by (pointwise nat_eq t x) refl (among-witho
         rw (same, apart) rest
     by false apart rest = rw apart (ap (λ (b : Bool). pointwise nat_eq u x || b) rest)
 
-pub firsts-push : (ts : List (List ℕ)) (t : List ℕ) → distinct_texts (ts ++ t ∷ []) ≡ noted (distinct_texts ts) t
-firsts-push [] t = refl
-firsts-push (x ∷ xs) t = ap (λ rest. x ∷ texts_without x rest) (firsts-push xs t) ∙ by (pointwise nat_eq x t) refl (contains (distinct_texts xs) t) refl
+pub distinct_texts-push : (ts : List (List ℕ)) (t : List ℕ) → distinct_texts (ts ++ t ∷ []) ≡ noted (distinct_texts ts) t
+distinct_texts-push [] t = refl
+distinct_texts-push (x ∷ xs) t = ap (λ rest. x ∷ texts_without x rest) (distinct_texts-push xs t) ∙ by (pointwise nat_eq x t) refl (contains (distinct_texts xs) t) refl
   where
     by : (b : Bool) → pointwise nat_eq x t ≡ b → (a : Bool) → contains (distinct_texts xs) t ≡ a → x ∷ texts_without x (noted (distinct_texts xs) t) ≡ noted (distinct_texts (x ∷ xs)) t
     by true same a there =
         let back : pointwise nat_eq t x ≡ true = nat_list_eq_equiv.symm t x ∙ same in
-        let dropped : texts_without x (noted (distinct_texts xs) t) ≡ texts_without x (distinct_texts xs) = grind (arith, common_steps, without-push x t (distinct_texts xs)) in
+        let dropped : texts_without x (noted (distinct_texts xs) t) ≡ texts_without x (distinct_texts xs) = grind (arith, common_steps, texts_without-push x t (distinct_texts xs)) in
         rw (dropped, back) refl
     by false apart a there =
         let back : pointwise nat_eq t x ≡ false = nat_list_eq_equiv.symm t x ∙ apart in
-        let still : contains (texts_without x (distinct_texts xs)) t ≡ contains (distinct_texts xs) t = among-without x t (distinct_texts xs) apart in
-        grind (arith, common_steps, without-push x t (distinct_texts xs), back, still)
+        let still : contains (texts_without x (distinct_texts xs)) t ≡ contains (distinct_texts xs) t = contains-texts_without x t (distinct_texts xs) apart in
+        grind (arith, common_steps, texts_without-push x t (distinct_texts xs), back, still)
 
 -- the texts of distinct keys are distinct
 
-without-apart : (v : PlacedText) (keys : List PlacedText) → AllByRecursion (λ k. same_text v k ≡ false) keys → texts_without v.text (texts keys) ≡ texts keys
-without-apart v [] apart = refl
-without-apart v (k ∷ keys) apart = rw apart.0 (ap (λ rest. k.text ∷ rest) (without-apart v keys apart.1))
+texts_without-apart : (v : PlacedText) (keys : List PlacedText) → AllByRecursion (λ k. same_text v k ≡ false) keys → texts_without v.text (texts keys) ≡ texts keys
+texts_without-apart v [] apart = refl
+texts_without-apart v (k ∷ keys) apart = rw apart.0 (ap (λ rest. k.text ∷ rest) (texts_without-apart v keys apart.1))
 
-pub firsts-distinct : (keys : List PlacedText) → IsDistinct same_text keys → distinct_texts (texts keys) ≡ texts keys
+pub distinct_texts-texts : (keys : List PlacedText) → IsDistinct same_text keys → distinct_texts (texts keys) ≡ texts keys
 unfolding IsDistinct
-firsts-distinct [] distinct = refl
-firsts-distinct (k ∷ keys) distinct =
-    ap (λ rest. k.text ∷ texts_without k.text rest) (firsts-distinct keys distinct.1) ∙ ap (λ rest. k.text ∷ rest) (without-apart k keys distinct.0)
+distinct_texts-texts [] distinct = refl
+distinct_texts-texts (k ∷ keys) distinct =
+    ap (λ rest. k.text ∷ texts_without k.text rest) (distinct_texts-texts keys distinct.1) ∙ ap (λ rest. k.text ∷ rest) (texts_without-apart k keys distinct.0)
 
 -- the names after a key is inserted, or was there
 
-among-texts : (v : PlacedText) (keys : List PlacedText) → list_any (same_text v) keys ≡ contains (texts keys) v.text
-among-texts v [] = refl
-among-texts v (k ∷ keys) = ap (λ (b : Bool). same_text v k || b) (among-texts v keys)
+list_any-same_text : (v : PlacedText) (keys : List PlacedText) → list_any (same_text v) keys ≡ contains (texts keys) v.text
+list_any-same_text v [] = refl
+list_any-same_text v (k ∷ keys) = ap (λ (b : Bool). same_text v k || b) (list_any-same_text v keys)
 
 texts-insert : (keys : List PlacedText) (v : PlacedText) → texts (insert_key same_text keys v) ≡ noted (texts keys) v.text
-texts-insert keys v = grind (arith, common_steps, among-texts v keys, map-append text_in keys (v ∷ []))
+texts-insert keys v = grind (arith, common_steps, list_any-same_text v keys, map-append text_in keys (v ∷ []))
 
 pub new-names : (keys : List PlacedText) (v : PlacedText) → IsDistinct same_text keys → texts (insert_key same_text keys v) ≡ distinct_texts (texts keys ++ v.text ∷ [])
 new-names keys v distinct =
-    texts-insert keys v ∙ ap (λ names. noted names v.text) (sym (firsts-distinct keys distinct)) ∙ sym (firsts-push (texts keys) v.text)
+    texts-insert keys v ∙ ap (λ names. noted names v.text) (sym (distinct_texts-texts keys distinct)) ∙ sym (distinct_texts-push (texts keys) v.text)
 
 pub known-names : (keys : List PlacedText) (v : PlacedText) → IsDistinct same_text keys → list_any (same_text v) keys ≡ true → texts keys ≡ distinct_texts (texts keys ++ v.text ∷ [])
 known-names keys v distinct there = ap (λ (b : Bool). texts (if b then keys else keys ++ v ∷ [])) (sym there) ∙ new-names keys v distinct
@@ -95,27 +95,27 @@ number-of-known keys v i at =
 
 -- a text is looked for by its bytes
 
-wanted-same : (bytes : List ℕ) (k : PlacedText) → IsUtf8 bytes → bytes_eq bytes (utf8 k.text) ≡ pointwise nat_eq (text_of bytes) k.text
-wanted-same bytes k is_text = ap (λ b. bytes_eq b (utf8 k.text)) (sym (utf8-text_of bytes is_text)) ∙ utf8-same (text_of bytes) k.text
+bytes_eq-utf8 : (bytes : List ℕ) (k : PlacedText) → IsUtf8 bytes → bytes_eq bytes (utf8 k.text) ≡ pointwise nat_eq (text_of bytes) k.text
+bytes_eq-utf8 bytes k is_text = ap (λ b. bytes_eq b (utf8 k.text)) (sym (utf8-text_of bytes is_text)) ∙ utf8-same (text_of bytes) k.text
 
-pub wanted-among : (bytes : List ℕ) (keys : List PlacedText) → IsUtf8 bytes → list_any (λ (k : PlacedText). bytes_eq bytes (utf8 k.text)) keys ≡ contains (texts keys) (text_of bytes)
-wanted-among bytes [] is_text = refl
-wanted-among bytes (k ∷ keys) is_text = ap₂ (λ (a b : Bool). a || b) (wanted-same bytes k is_text) (wanted-among bytes keys is_text)
+pub list_any-bytes_eq : (bytes : List ℕ) (keys : List PlacedText) → IsUtf8 bytes → list_any (λ (k : PlacedText). bytes_eq bytes (utf8 k.text)) keys ≡ contains (texts keys) (text_of bytes)
+list_any-bytes_eq bytes [] is_text = refl
+list_any-bytes_eq bytes (k ∷ keys) is_text = ap₂ (λ (a b : Bool). a || b) (bytes_eq-utf8 bytes k is_text) (list_any-bytes_eq bytes keys is_text)
 
-pub wanted-number : (bytes : List ℕ) (keys : List PlacedText) (i : ℕ) → IsUtf8 bytes → position (λ (k : PlacedText). bytes_eq bytes (utf8 k.text)) keys ≡ Some i
+pub position-bytes_eq : (bytes : List ℕ) (keys : List PlacedText) (i : ℕ) → IsUtf8 bytes → position (λ (k : PlacedText). bytes_eq bytes (utf8 k.text)) keys ≡ Some i
     → slice_get (texts keys) i ≡ Some (text_of bytes)
-wanted-number bytes [] i is_text at = grind (arith, common_steps)
-wanted-number bytes (k ∷ keys) i is_text at =
+position-bytes_eq bytes [] i is_text at = grind (arith, common_steps)
+position-bytes_eq bytes (k ∷ keys) i is_text at =
     let found = position-Some (λ (k : PlacedText). bytes_eq bytes (utf8 k.text)) (k ∷ keys) i k at in
     let same : text_of bytes ≡ (get_or (k ∷ keys) i k).text =
-    (bytes_decides (text_of bytes) (get_or (k ∷ keys) i k).text).0 (sym (wanted-same bytes (get_or (k ∷ keys) i k) is_text) ∙ found.1) in
+    (bytes_decides (text_of bytes) (get_or (k ∷ keys) i k).text).0 (sym (bytes_eq-utf8 bytes (get_or (k ∷ keys) i k) is_text) ∙ found.1) in
     slice_get-map text_in (k ∷ keys) i ∙ ap (option_map text_in) (slice_get-get_or (k ∷ keys) i k found.0) ∙ ap Some (sym same)
 
 pub known-text : (keys : List PlacedText) (t : List ℕ) → IsDistinct same_text keys → contains (texts keys) t ≡ true → texts keys ≡ distinct_texts (texts keys ++ t ∷ [])
 known-text keys t distinct there =
     ap (λ (b : Bool). if b then texts keys else texts keys ++ t ∷ []) (sym there)
-    ∙ ap (λ names. noted names t) (sym (firsts-distinct keys distinct))
-    ∙ sym (firsts-push (texts keys) t)
+    ∙ ap (λ names. noted names t) (sym (distinct_texts-texts keys distinct))
+    ∙ sym (distinct_texts-push (texts keys) t)
 
 -- a text whose copy asked for a heap buffer has more than 24 bytes
 pub asked-long : (bytes : List ℕ) → IsUtf8 bytes → IsTrue (with_capacity_asks (length bytes)) → 24 < size (text_of bytes)

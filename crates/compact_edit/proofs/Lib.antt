@@ -1,6 +1,6 @@
 pub mod RunLemmas
 pub mod Examples
-pub mod Moved
+pub mod BytesMoved
 pub mod PushLemmas
 pub mod PushExamples
 pub mod KeyTexts

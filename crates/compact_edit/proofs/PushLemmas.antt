@@ -17,7 +17,7 @@ use Rattle.compact_edit.specs.declared.edit.Reply.{Reply}
 use Rattle.compact_edit.specs.declared.edit.Reply.TheVariants.{Done, Char, Text, BadPosition, Refused}
 use Rattle.compact_edit.specs.Steps.{Step}
 use Rattle.compact_edit.specs.Runs.{Run}
-use Rattle.compact_edit.proofs.Moved.{IsPaid, bytes_moved_by_step-kept, paid-start, paid-push, paid-same}
+use Rattle.compact_edit.proofs.BytesMoved.{IsPaid, bytes_moved_by_step-kept, paid-start, paid-push, paid-same}
 use Rattle.compact_edit.specs.Pushes.{bytes_moved_by_step, bytes_moved, refusal_count, PushesTo}
 
 -- a run that goes on by one edit, and what it then moves

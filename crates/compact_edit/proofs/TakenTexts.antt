@@ -11,11 +11,11 @@ use Rattle.compact_str.specs.Value.{PlacedText}
 use Rattle.compact_str.specs.Order.{same_text}
 use Rattle.compact_edit.specs.declared.intern.InternError.{InternError}
 use Rattle.compact_edit.specs.Names.{contains, distinct_texts, texts_of, AreNumbersOf, IsRefusal, Takes, StopsAt}
-use Rattle.compact_edit.proofs.KeyTexts.{texts, noted, firsts-push, firsts-distinct, new-names}
+use Rattle.compact_edit.proofs.KeyTexts.{texts, noted, distinct_texts-push, distinct_texts-texts, new-names}
 
 -- a text that is noted among distinct names leaves them distinct
 noted-distinct : (names : List (List ℕ)) (t : List ℕ) → distinct_texts names ≡ names → distinct_texts (names ++ t ∷ []) ≡ noted names t
-noted-distinct names t distinct = firsts-push names t ∙ ap (λ others. noted others t) distinct
+noted-distinct names t distinct = distinct_texts-push names t ∙ ap (λ others. noted others t) distinct
 
 pub still-distinct : (names after : List (List ℕ)) (t : List ℕ) → after ≡ distinct_texts (names ++ t ∷ []) → distinct_texts names ≡ names → distinct_texts after ≡ after
 still-distinct names after t is distinct = rw (is, noted-distinct names t distinct) (by (contains names t) refl)
@@ -41,15 +41,15 @@ slice_get-noted names t x i at = by (contains names t) refl
 pub kept-number : (keys : List PlacedText) (v : PlacedText) (i : ℕ) (x : List ℕ) → IsDistinct same_text keys → slice_get (texts keys) i ≡ Some x
     → slice_get (texts (insert_key same_text keys v)) i ≡ Some x
 kept-number keys v i x distinct at =
-    rw (new-names keys v distinct, noted-distinct (texts keys) v.text (firsts-distinct keys distinct)) (slice_get-noted (texts keys) v.text x i at)
+    rw (new-names keys v distinct, noted-distinct (texts keys) v.text (distinct_texts-texts keys distinct)) (slice_get-noted (texts keys) v.text x i at)
 
 -- a text that has a number is among the names
-pub numbered-among : (names : List (List ℕ)) (i : ℕ) (x : List ℕ) → slice_get names i ≡ Some x → contains names x ≡ true
-numbered-among [] i x at = grind (arith, common_steps)
-numbered-among (z ∷ zs) zero x at =
+pub slice_get-contains : (names : List (List ℕ)) (i : ℕ) (x : List ℕ) → slice_get names i ≡ Some x → contains names x ≡ true
+slice_get-contains [] i x at = grind (arith, common_steps)
+slice_get-contains (z ∷ zs) zero x at =
     let same : z ≡ x = cc in
     rw same (rw (nat_list_eq_equiv.refl x) refl)
-numbered-among (z ∷ zs) (suc i) x at = by (pointwise nat_eq x z) (numbered-among zs i x at)
+slice_get-contains (z ∷ zs) (suc i) x at = by (pointwise nat_eq x z) (slice_get-contains zs i x at)
   where
     by : (b : Bool) → contains zs x ≡ true → (b || contains zs x) ≡ true
     by true there = refl
@@ -79,7 +79,7 @@ takes-push : (before ts names after : List (List ℕ)) (listed mid now : List �
 takes-push before ts names after listed mid now t n takes distinct is at pushed =
     let noting : after ≡ noted names t = is ∙ noted-distinct names t distinct in
     record {
-      names = noting ∙ ap (λ others. noted others t) takes.names ∙ sym (firsts-push (before ++ ts) t) ∙ ap distinct_texts (append_assoc before ts (t ∷ []));
+      names = noting ∙ ap (λ others. noted others t) takes.names ∙ sym (distinct_texts-push (before ++ ts) t) ∙ ap distinct_texts (append_assoc before ts (t ∷ []));
       numbers = takes.numbers ++ n ∷ [];
       behind = pushed ∙ ap (λ m. m ++ n ∷ []) takes.behind ∙ append_assoc listed takes.numbers (n ∷ []);
       places = numbers-more names after (λ x i h. rw noting (slice_get-noted names t x i h)) ts takes.numbers t n takes.places at;
@@ -100,8 +100,8 @@ pub stops-at : (row : List (Bor (List ℕ))) (i : ℕ) (d : Bor (List ℕ)) (bef
     → Takes before (texts_of (take i row)) listed names now → i < length row → after ≡ names → IsRefusal names (text_of (get_or row i d).now) error
     → StopsAt before (texts_of row) listed after now error
 stops-at row i d before names after listed now error takes within is why = record {
-  taken = texts_of (take i row);
-  refused = text_of (get_or row i d).now;
+  taken_texts = texts_of (take i row);
+  refused_text = text_of (get_or row i d).now;
   rest = texts_of (drop (i + 1) row);
   parts =
       ap texts_of (sym (take-append-drop i row) ∙ ap (λ x. take i row ++ x) (drop_more row i d within))

@@ -39,12 +39,12 @@ IsRefusal names t Full = (length names ≡ 4294967295) × (contains names t ≡ 
 
 -- The texts up to one that is refused are taken.
 pub record StopsAt (before texts : List (List ℕ)) (listed : List ℕ) (after : List (List ℕ)) (now_listed : List ℕ) (error : InternError) : Type 0 where
-  pub taken : List (List ℕ)
-  pub refused : List ℕ
+  pub taken_texts : List (List ℕ)
+  pub refused_text : List ℕ
   pub rest : List (List ℕ)
-  pub parts : texts ≡ taken ++ refused ∷ rest
-  pub takes : Takes before taken listed after now_listed
-  pub why : IsRefusal after refused error
+  pub parts : texts ≡ taken_texts ++ refused_text ∷ rest
+  pub takes : Takes before taken_texts listed after now_listed
+  pub why : IsRefusal after refused_text error
 
 -- No text is taken, since the list, which stays as it was, has less room than there are texts, and more is refused.
 pub record FindsNoRoom (before texts : List (List ℕ)) (listed : Vec ℕ) (after : List (List ℕ)) (now_listed : Vec ℕ) (error : InternError) : Type 0 where

@@ -37,9 +37,9 @@ pub enum Edit<'a, P: Policy> {
     ShrinkTo(usize),
     /// Gives room back, but for the text.
     ShrinkToFit,
-    /// Makes A to Z small.
+    /// Makes A to Z lowercase.
     MakeLower,
-    /// Makes a to z great.
+    /// Makes a to z uppercase.
     MakeUpper,
     /// Leaves the empty text, and writes zero over every byte of the value's own.
     Zeroize,

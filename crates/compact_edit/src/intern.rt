@@ -33,7 +33,7 @@ impl From<ReserveError> for InternError {
 }
 
 /// How many names an interner has at most: 2^32 - 1, so that each number is a `u32` and so is their count.
-const GREATEST_COUNT: usize = 4294967295;
+const MAX_COUNT: usize = 4294967295;
 
 /// The distinct texts that were taken, by first occurrence. The number of a text is its place, from 0, and stays.
 ///
@@ -75,7 +75,11 @@ impl Interner {
         self.names.len()
     }
 
-    /// The name with this number, and `None` exactly where fewer stand.
+    /// The name with this number, or `None` exactly where fewer stand.
+    ///
+    /// # Examples
+    ///
+    /// After `intern("a")` on a new interner, `name(0)` is `Some("a")` and `name(1)` is `None`.
     pub fn name(&self, number: u32) -> Option<&str>
         ensures text { option_map (λ name. text_of name.now) result ≡ slice_get self.now number }
         ensures found { IsSome result ↔ (number < length self.now) }
@@ -84,12 +88,17 @@ impl Interner {
         Some(name.as_str())
     }
 
-    /// The number of `text`: its own if it is a name, else the next one, and `text` is the last name then.
+    /// The number of `text`: its own if it is a name, else the next one, and `text` is the last name then. A name is
+    /// found by its bytes, with no copy, so a known one is never refused.
     ///
-    /// A name is found by its bytes, and no copy is made of it: so a known name asks for no memory and is never refused. Of a new text `Reserve` says that
-    /// no memory was found for its copy, or for the table of the names, and `Full` that 2^32 - 1 names stand. After an
-    /// error the names are as they were. On a new interner `intern("a")` is 0, `intern("b")` is 1, and `intern("a")` is 0
-    /// again.
+    /// # Errors
+    ///
+    /// `Reserve` if no memory is found for the copy of a new text, or for the table of the names. `Full` if 2^32 - 1
+    /// names stand. The names are then as they were.
+    ///
+    /// # Examples
+    ///
+    /// On a new interner `intern("a")` is 0, `intern("b")` is 1, and `intern("a")` is 0 again.
     #[tactic(auto, using(crate::proofs::NameFacts::name_facts))]
     pub fn intern(&mut self, text: &str) -> Result<u32, InternError>
         ensures names { OnOk result
@@ -121,7 +130,7 @@ impl Interner {
         ensures err { OnErr result (self.new ≡ self.old) }
         ensures why { IfErr result (IsRefusal self.old (text_of text.now)) }
     {
-        if self.len() == GREATEST_COUNT {
+        if self.len() == MAX_COUNT {
             return Err(InternError::Full);
         }
         let name = match CompactString::new(*self.names.allocator(), text) {
@@ -134,12 +143,17 @@ impl Interner {
         Ok(place as u32)
     }
 
-    /// Takes each text in turn, as `intern` does, and puts its number behind those in the list.
+    /// Takes each text in turn, as `intern` does, and puts its number behind those in the list. Room for all numbers is
+    /// made first. No texts are never refused.
     ///
-    /// Room for all numbers is made first. Where that is refused the error is `Reserve`, no text is taken, and the list is
-    /// as it was. At a text that `intern` refuses it stops with that error: the texts before it are taken, and their
-    /// numbers stand in the list. No texts are never refused. Of `a`, `b`, `a` and the empty text a new interner gives 0, 1,
-    /// 0 and 2.
+    /// # Errors
+    ///
+    /// `Reserve` if there is no room for the numbers; then no text is taken, and the list is as it was. Else the error
+    /// of the first text that `intern` refuses: the texts before it are taken, and their numbers stand in the list.
+    ///
+    /// # Examples
+    ///
+    /// Of `a`, `b`, `a` and the empty text a new interner gives 0, 1, 0 and 2.
     #[tactic(auto, using(crate::proofs::NameFacts::list_facts))]
     pub fn intern_all(&mut self, texts: &[&str], numbers: &mut Vec<u32>) -> Result<(), InternError>
         ensures ok { OnOk result (Takes self.old (texts_of texts.now) numbers.old.items
@@ -150,6 +164,7 @@ impl Interner {
             → slice_get self.old n ≡ Some name → slice_get self.new n ≡ Some name }
         ensures empty { texts.now ≡ [] → IsOk result }
     {
+        // The proof reads from it that the names are distinct, also where no text comes.
         let _distinct = self.len();
         if numbers.reserve(texts.len()).is_err() {
             return Err(InternError::Reserve(ReserveError));

@@ -19,12 +19,16 @@ pub struct PushReport<P: Policy> {
     pub refused: usize,
 }
 
-/// Pushes each text, in order, onto the empty value, and goes on after a push that is refused, which changes nothing.
+/// Pushes each text, in order, onto the empty value, and goes on after a push that is refused, which changes nothing. A
+/// push is refused only where it asks for a heap buffer, so none is if the texts have at most 24 bytes together.
 ///
-/// A push is refused only where it asks for a heap buffer, so none is where the texts have at most 24 bytes together.
 /// Under a policy that grows by p/q, with a least heap capacity of h, and with N bytes in the end, `(p - q) * moved` is
 /// at most `(p + q) * N`, and the capacity at most h or `p * N / q`, whichever is more. Under `Standard`, `moved` is at
-/// most five times N. Texts of 24, 1 and 12 bytes give 37 bytes with a capacity of 37, and `moved` is 24 + 25.
+/// most five times N.
+///
+/// # Examples
+///
+/// Texts of 24, 1 and 12 bytes give 37 bytes with a capacity of 37, and `moved` is 24 + 25.
 pub fn run_pushes<P: Policy>(alloc: Global, texts: &[&str]) -> PushReport<P>
     ensures run { PushesTo P P.growth texts.now result.value result.moved result.refused }
     ensures text { result.refused ≡ 0

@@ -13,11 +13,18 @@ use crate::edit::{Edit, Reply};
 use compact_str::{Policy, PolicyString, ReserveError};
 use std::ops::Bound;
 
-/// Runs each edit on `value`, in order, and puts one reply for each after those that stand in `replies`.
+/// Runs each edit on `value`, in order, and puts one reply for each after those that stand in `replies`. An edit that
+/// is refused, or whose position is no boundary, leaves the value as it was; its reply says so, and the edits after it
+/// are run.
 ///
-/// Room for all replies is made first. Where that is refused the call answers the error, nothing is run, and value and
-/// replies are as they were; an empty list is never refused. An edit that is refused, or whose position is no boundary,
-/// leaves the value as it was, its reply says so, and the edits after it are run.
+/// # Errors
+///
+/// [`ReserveError`] if room for all replies, which is made first, is refused; then nothing is run, and value and
+/// replies are as they were. An empty list is never refused.
+///
+/// # Examples
+///
+/// On `"ab"` the edits `Push('c')` and `Pop` reply `Done` and `Char(Some('c'))`, and leave `"ab"`.
 pub fn run<P: Policy>(
     value: &mut PolicyString<P>,
     edits: &[Edit<P>],

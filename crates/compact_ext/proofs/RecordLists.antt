@@ -21,14 +21,14 @@ use Rattle.compact_ext.specs.declared.wire.records.Records.{Records}
 use Rattle.compact_ext.specs.WireRecords.HasTexts.{none, text, no_text}
 use Rattle.compact_ext.specs.Wire.{wire, HasForm, ReadFails, IsOutsideForm}
 use Rattle.compact_ext.proofs.WireForms.{form-whole, form-tells, length-wire, outside-form, told-text}
-use Rattle.compact_ext.specs.WireRecords.{records_left, left_behind, GivesRecord, GivesNext, FailsAfterTexts, FindsNoRoom, ShowsNoForm, TakesForms, TakesTexts, HasTexts, FailsWithin, HasBegun, HasMore, IsOutsideForms, IsPlacedAsRead, FitsForm, ReadsAllBack, ReadsNextBack, TakesForm}
+use Rattle.compact_ext.specs.WireRecords.{records_left, unread_bytes, GivesRecord, GivesNext, FailsAfterTexts, FindsNoRoom, ShowsNoForm, TakesForms, TakesTexts, HasTexts, FailsWithin, HasBegun, HasMore, IsOutsideForms, IsPlacedAsRead, FitsForm, ReadsAllBack, ReadsNextBack, TakesForm}
 
 -- a reader that failed before it gave any byte
 
 pub failed-at_once : (old new : Option (List ℕ)) (error : _) → Keeps old new → FailsWithin old new (Io error)
-failed-at_once None new error same = record { fails = record { taken = []; bytes = tt; fault = λ long. absurd (omega (arith, long)) }; begun = tt }
+failed-at_once None new error same = record { fails = record { taken_bytes = []; bytes = tt; fault = λ long. absurd (omega (arith, long)) }; begun = tt }
 failed-at_once (Some x) None error same = absurd same
-failed-at_once (Some x) (Some y) error same = record { fails = record { taken = []; bytes = sym same; fault = λ long. absurd (omega (arith, long)) }; begun = tt }
+failed-at_once (Some x) (Some y) error same = record { fails = record { taken_bytes = []; bytes = sym same; fault = λ long. absurd (omega (arith, long)) }; begun = tt }
 
 pub failed-unread : (old : Option (List ℕ)) (error : _) → FailsWithin old old (Io error)
 failed-unread old error = failed-at_once old old error (Keeps-refl old)
@@ -44,9 +44,9 @@ has-begun known mid new (Reserve error) more f = more
 has-begun known mid new (Io error) more f = tt
 
 fails-unmoved : (old mid new : Option (List ℕ)) (e : WireError) → Keeps old mid → ReadFails mid new e → ReadFails old new e
-fails-unmoved None mid new e same f = record { taken = f.taken; bytes = tt; fault = f.fault }
+fails-unmoved None mid new e same f = record { taken_bytes = f.taken_bytes; bytes = tt; fault = f.fault }
 fails-unmoved (Some x) None new e same f = absurd same
-fails-unmoved (Some x) (Some y) new e same f = record { taken = f.taken; bytes = subst (λ (l : List ℕ). Consumes (Some l) new f.taken) same f.bytes; fault = f.fault }
+fails-unmoved (Some x) (Some y) new e same f = record { taken_bytes = f.taken_bytes; bytes = subst (λ (l : List ℕ). Consumes (Some l) new f.taken_bytes) same f.bytes; fault = f.fault }
 
 took-unmoved : (old mid new : Option (List ℕ)) (front : List ℕ) → Keeps old mid → Consumes mid new front → Consumes old new front
 took-unmoved None mid new front same took = tt
@@ -76,14 +76,14 @@ going-on n x more =
 left-known : {R : Type 0} (remaining : R → Option (List ℕ)) (s : Records R) → 0 < s.calls_left → records_left remaining s ≡ remaining s.reader
 left-known remaining s more = going-on s.calls_left (remaining s.reader) more
 
-behind-known : {R : Type 0} (remaining : R → Option (List ℕ)) (r : Option (Result PlacedText WireError)) (t : Records R) → 0 < t.calls_left → left_behind remaining r t ≡ remaining t.reader
+behind-known : {R : Type 0} (remaining : R → Option (List ℕ)) (r : Option (Result PlacedText WireError)) (t : Records R) → 0 < t.calls_left → unread_bytes remaining r t ≡ remaining t.reader
 behind-known remaining (Some (Err (Io error))) t more = refl
 behind-known remaining r t more = left-known remaining t more
 
 pub gives-record : {R : Type 0} (remaining : R → Option (List ℕ)) (s t : Records R) (r : Option (Result PlacedText WireError)) → 0 < s.calls_left → 0 < t.calls_left
     → GivesNext (remaining s.reader) r (remaining t.reader) → GivesRecord remaining s r t
 gives-record remaining s t r before after gives =
-    subst (λ (old : Option (List ℕ)). GivesNext old r (left_behind remaining r t)) (sym (left-known remaining s before))
+    subst (λ (old : Option (List ℕ)). GivesNext old r (unread_bytes remaining r t)) (sym (left-known remaining s before))
     (subst (λ (new : Option (List ℕ)). GivesNext (remaining s.reader) r new) (sym (behind-known remaining r t after)) gives)
 
 pub ruleset record_steps = (failed-at_once, failed-unread, more-shown, gives-record)
@@ -154,18 +154,18 @@ none-fails : (texts : List (List ℕ)) (new : Option (List ℕ)) (e : WireError)
 none-fails texts None e f = absurd f.fails.bytes
 none-fails texts (Some more) TooLong f = absurd f.fails.fault
 none-fails texts (Some more) UnexpectedEnd f = absurd (omega (arith, f.begun))
-none-fails texts (Some more) Utf8 f = absurd (omega (arith, f.fails.fault.0, ap length f.fails.bytes, length-append f.fails.taken more))
+none-fails texts (Some more) Utf8 f = absurd (omega (arith, f.fails.fault.0, ap length f.fails.bytes, length-append f.fails.taken_bytes more))
 none-fails texts (Some more) (Io error) f = tt
 none-fails texts (Some more) WriteZero f = absurd f.fails.fault
-none-fails texts (Some more) (Reserve error) f = absurd (omega (arith, f.fails.fault.0, ap length f.fails.bytes, length-append f.fails.taken more))
+none-fails texts (Some more) (Reserve error) f = absurd (omega (arith, f.fails.fault.0, ap length f.fails.bytes, length-append f.fails.taken_bytes more))
 
 one-fails : (texts rest : List (List ℕ)) (left : List ℕ) (new : Option (List ℕ)) (e : WireError) → length rest ≤ length texts → All HasForm rest → left ≡ flat_map wire rest
     → FailsWithin (Some left) new e → IsOutsideForms texts e
 one-fails texts [] left new e fewer forms is f = none-fails texts new e (subst (λ l. FailsWithin (Some l) new e) is f)
 one-fails texts (t ∷ rest) left new e fewer forms is f =
     let form = All-head HasForm t rest forms in
-    let taken = subst (λ l. Consumes (Some l) new f.fails.taken) is f.fails.bytes in
-    outside-forms (size t) texts e (omega (arith, fewer)) (outside-form t (flat_map wire rest) f.fails.taken new e form.0 form.1 taken f.fails.fault)
+    let taken = subst (λ l. Consumes (Some l) new f.fails.taken_bytes) is f.fails.bytes in
+    outside-forms (size t) texts e (omega (arith, fewer)) (outside-form t (flat_map wire rest) f.fails.taken_bytes new e form.0 form.1 taken f.fails.fault)
 
 -- texts whose forms were taken are no more than those that stood there
 fewer-left : (texts rest : List (List ℕ)) (found : List PlacedText) → texts ≡ map (λ v. v.text) found ++ rest → length rest ≤ length texts
@@ -221,29 +221,29 @@ next-back remaining s t (Some (Ok v)) gives = λ (text rest : List ℕ) (form : 
     told-text text rest v.text _ form.1 gives.fits.1 (subst (λ o. Consumes o (records_left remaining t) (wire v.text)) is gives.form)
 next-back remaining s t (Some (Err e)) gives = λ (text rest : List ℕ) (form : HasForm text) (is : records_left remaining s ≡ Some (wire text ++ rest)).
     let fails = gives.fails in
-    outside-form text rest fails.taken _ e form.0 form.1 (subst (λ o. Consumes o (left_behind remaining (Some (Err e)) t) fails.taken) is fails.bytes) fails.fault
+    outside-form text rest fails.taken_bytes _ e form.0 form.1 (subst (λ o. Consumes o (unread_bytes remaining (Some (Err e)) t) fails.taken_bytes) is fails.bytes) fails.fault
 
 -- texts that were taken one after another, with forms of no text between them
 
 pub passes-none : (old new : Option (List ℕ)) (texts : List PlacedText) → new ≡ old → texts ≡ [] → TakesTexts old new texts
 passes-none old new texts same empty = record {
-  taken = [];
+  taken_bytes = [];
   bytes = subst (λ (known : Option (List ℕ)). Consumes old known []) (sym same) (Consumes-nil old);
   has = subst (λ (l : List PlacedText). HasTexts [] (map (λ (v : PlacedText). v.text) l)) (sym empty) none;
 }
 
 pub passes-text : (old mid new : Option (List ℕ)) (texts : List PlacedText) (v : PlacedText) → TakesTexts old mid texts → TakesForm mid new v → TakesTexts old new (texts ++ v ∷ [])
 passes-text old mid new texts v passed last = record {
-  taken = passed.taken ++ wire v.text;
-  bytes = Consumes-trans old mid new passed.taken (wire v.text) passed.bytes last.form;
-  has = subst (HasTexts (passed.taken ++ wire v.text)) (sym (map-append (λ (w : PlacedText). w.text) texts (v ∷ []))) (text v.text last.fits passed.has);
+  taken_bytes = passed.taken_bytes ++ wire v.text;
+  bytes = Consumes-trans old mid new passed.taken_bytes (wire v.text) passed.bytes last.form;
+  has = subst (HasTexts (passed.taken_bytes ++ wire v.text)) (sym (map-append (λ (w : PlacedText). w.text) texts (v ∷ []))) (text v.text last.fits passed.has);
 }
 
 pub passes-no_text : (old mid new : Option (List ℕ)) (texts : List PlacedText) → TakesTexts old mid texts → FailsWithin mid new Utf8 → TakesTexts old new texts
 passes-no_text old mid new texts passed fault = record {
-  taken = passed.taken ++ fault.fails.taken;
-  bytes = Consumes-trans old mid new passed.taken fault.fails.taken passed.bytes fault.fails.bytes;
-  has = no_text fault.fails.taken fault.fails.fault passed.has;
+  taken_bytes = passed.taken_bytes ++ fault.fails.taken_bytes;
+  bytes = Consumes-trans old mid new passed.taken_bytes fault.fails.taken_bytes passed.bytes fault.fails.bytes;
+  has = no_text fault.fails.taken_bytes fault.fails.fault passed.has;
 }
 
 -- what was taken up to the end is all
@@ -251,5 +251,5 @@ pub passes-all : (old new : Option (List ℕ)) (texts : List PlacedText) → Tak
 passes-all None new texts passed end = tt
 passes-all (Some xs) None texts passed end = absurd passed.bytes
 passes-all (Some xs) (Some ys) texts passed end =
-    let all : xs ≡ passed.taken = passed.bytes ∙ ap (λ (l : List ℕ). passed.taken ++ l) end ∙ append-nil passed.taken in
+    let all : xs ≡ passed.taken_bytes = passed.bytes ∙ ap (λ (l : List ℕ). passed.taken_bytes ++ l) end ∙ append-nil passed.taken_bytes in
     subst (λ (l : List ℕ). HasTexts l (map (λ (v : PlacedText). v.text) texts)) (sym all) passed.has

@@ -41,20 +41,20 @@ IfErr-join P Q S (Err e) f h k = f e h k
 -- a beginning of the front, or the front and a beginning of the rest, is a beginning of both
 pub front-first : (old new : Option (List ℕ)) (head tail : List ℕ) → WritesFront old new head → WritesFront old new (head ++ tail)
 front-first old new head tail w = record {
-  done = w.done;
+  written_bytes = w.written_bytes;
   rest = w.rest ++ tail;
-  split = ap (λ l. l ++ tail) w.split ∙ append_assoc w.done w.rest tail;
+  split = ap (λ l. l ++ tail) w.split ∙ append_assoc w.written_bytes w.rest tail;
   left = omega (arith, length-append w.rest tail, w.left);
   bytes = w.bytes;
 }
 
 pub front-second : (old mid new : Option (List ℕ)) (head tail : List ℕ) → Appends old mid head → WritesFront mid new tail → WritesFront old new (head ++ tail)
 front-second old mid new head tail h w = record {
-  done = head ++ w.done;
+  written_bytes = head ++ w.written_bytes;
   rest = w.rest;
-  split = ap (λ l. head ++ l) w.split ∙ sym (append_assoc head w.done w.rest);
+  split = ap (λ l. head ++ l) w.split ∙ sym (append_assoc head w.written_bytes w.rest);
   left = w.left;
-  bytes = Appends-trans old mid new head w.done h w.bytes;
+  bytes = Appends-trans old mid new head w.written_bytes h w.bytes;
 }
 
 pub write-fails : (old new : Option (List ℕ)) (t : List ℕ) (e : WireError) → size t < 2 ^ 32 → WritesFront old new (wire t) → IsWriterFault e → WriteFails old new t e
@@ -69,9 +69,9 @@ stop-more n len new e h s = s
 pub stops-later : (old mid new : Option (List ℕ)) (front : List ℕ) (n len : ℕ) (e : WireError) → Consumes old mid front → StopsBelow mid new n e → length front + n ≤ len
     → StopsBelow old new len e
 stops-later old mid new front n len e c s h = record {
-  taken = front ++ s.taken;
-  bytes = Consumes-trans old mid new front s.taken c s.bytes;
-  short = omega (arith, length-append front s.taken, s.short, h);
+  taken_bytes = front ++ s.taken_bytes;
+  bytes = Consumes-trans old mid new front s.taken_bytes c s.bytes;
+  short = omega (arith, length-append front s.taken_bytes, s.short, h);
   cause = stop-more n len new e (omega (arith, h)) s.cause;
 }
 
@@ -86,28 +86,28 @@ pub read-fails : (old mid new : Option (List ℕ)) (n : ℕ) (e : WireError) →
 read-fails old mid new n TooLong fits h s = absurd s.cause
 read-fails old mid new n WriteZero fits h s = absurd s.cause
 read-fails old mid new n UnexpectedEnd fits h s = record {
-  taken = to_le_bytes w32 n ++ s.taken;
-  bytes = Consumes-trans old mid new (to_le_bytes w32 n) s.taken h s.bytes;
-  fault = (λ _. unfinished n s.taken fits s.short, s.cause);
+  taken_bytes = to_le_bytes w32 n ++ s.taken_bytes;
+  bytes = Consumes-trans old mid new (to_le_bytes w32 n) s.taken_bytes h s.bytes;
+  fault = (λ _. unfinished n s.taken_bytes fits s.short, s.cause);
 }
 read-fails old mid new n (Io error) fits h s = record {
-  taken = to_le_bytes w32 n ++ s.taken;
-  bytes = Consumes-trans old mid new (to_le_bytes w32 n) s.taken h s.bytes;
-  fault = λ _. unfinished n s.taken fits s.short;
+  taken_bytes = to_le_bytes w32 n ++ s.taken_bytes;
+  bytes = Consumes-trans old mid new (to_le_bytes w32 n) s.taken_bytes h s.bytes;
+  fault = λ _. unfinished n s.taken_bytes fits s.short;
 }
 read-fails old mid new n (Reserve error) fits h s = record {
-  taken = to_le_bytes w32 n ++ s.taken;
-  bytes = Consumes-trans old mid new (to_le_bytes w32 n) s.taken h s.bytes;
+  taken_bytes = to_le_bytes w32 n ++ s.taken_bytes;
+  bytes = Consumes-trans old mid new (to_le_bytes w32 n) s.taken_bytes h s.bytes;
   fault = (
     omega arith,
-    omega (arith, claimed n s.taken fits, s.cause),
-    unfinished n s.taken fits s.short,
+    omega (arith, claimed n s.taken_bytes fits, s.cause),
+    unfinished n s.taken_bytes fits s.short,
   );
 }
 read-fails old mid new n Utf8 fits h s = record {
-  taken = to_le_bytes w32 n ++ s.taken;
-  bytes = Consumes-trans old mid new (to_le_bytes w32 n) s.taken h s.bytes;
-  fault = (omega (arith, claimed n s.taken fits, s.all), s.broken);
+  taken_bytes = to_le_bytes w32 n ++ s.taken_bytes;
+  bytes = Consumes-trans old mid new (to_le_bytes w32 n) s.taken_bytes h s.bytes;
+  fault = (omega (arith, claimed n s.taken_bytes fits, s.all), s.broken);
 }
 
 pub takes-wire : (old mid new : Option (List ℕ)) (t : List ℕ) (n : ℕ) → Consumes old mid (to_le_bytes w32 n) → Consumes mid new (utf8 t) → size t ≡ n → Consumes old new (wire t)
@@ -153,7 +153,7 @@ head-taken old mid new limit shown error four long front end kept fits drops =
     let all : length (take 4 shown) ≡ 4 = length-take-le 4 shown four in
     let claim : claimed_len (take 4 shown) ≡ claimed_len shown = ap (from_le_bytes w32) (take-take 4 4 shown (omega arith)) in
     record {
-      taken = take 4 shown;
+      taken_bytes = take 4 shown;
       bytes = (Consumes_shown old mid new limit shown 4 four front end kept fits drops).0;
       fault = (omega (arith, all), omega (arith, claim, long), omega (arith, all, claim, long));
     }
@@ -216,5 +216,5 @@ reads-back old new (Ok v) took fits err = record {
 }
 reads-back old new (Err e) took fits err = record {
   back = λ (t rest : List ℕ) (text : IsText t) (small : size t < 2 ^ 32) (is : old ≡ Some (wire t ++ rest)).
-      outside-form t rest err.taken new e text small (subst (λ o. Consumes o new err.taken) is err.bytes) err.fault;
+      outside-form t rest err.taken_bytes new e text small (subst (λ o. Consumes o new err.taken_bytes) is err.bytes) err.fault;
 }

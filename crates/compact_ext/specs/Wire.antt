@@ -21,11 +21,11 @@ HasForm t = IsText t × size t < 2 ^ 32
 
 -- a beginning of the bytes was written, and not all of them
 pub record WritesFront (old new : Option (List ℕ)) (all : List ℕ) : Type 0 where
-  pub done : List ℕ
+  pub written_bytes : List ℕ
   pub rest : List ℕ
-  pub split : all ≡ done ++ rest
+  pub split : all ≡ written_bytes ++ rest
   pub left : 0 < length rest
-  pub bytes : Appends old new done
+  pub bytes : Appends old new written_bytes
 
 -- the writer failed, or took none of the bytes that it was given
 abbrev pub IsWriterFault : WireError → Type 0
@@ -53,9 +53,9 @@ IsReadFault taken new _ = ⊥
 
 -- what stands after a fault of `read_wire`
 pub record ReadFails (old new : Option (List ℕ)) (e : WireError) : Type 0 where
-  pub taken : List ℕ
-  pub bytes : Consumes old new taken
-  pub fault : IsReadFault taken new e
+  pub taken_bytes : List ℕ
+  pub bytes : Consumes old new taken_bytes
+  pub fault : IsReadFault taken_bytes new e
 
 -- a fault that lies not in a form of n bytes of text: the reader failed, or room for them was refused
 abbrev pub IsOutsideForm : ℕ → WireError → Type 0
@@ -91,17 +91,17 @@ IsStop n new _ = ⊥
 
 -- fewer than n bytes were taken, and then the read of them stopped
 pub record StopsBelow (old new : Option (List ℕ)) (n : ℕ) (e : WireError) : Type 0 where
-  pub taken : List ℕ
-  pub bytes : Consumes old new taken
-  pub short : length taken < n
+  pub taken_bytes : List ℕ
+  pub bytes : Consumes old new taken_bytes
+  pub short : length taken_bytes < n
   pub cause : IsStop n new e
 
 -- n bytes were taken, and they are no text
 pub record TakesNoText (old new : Option (List ℕ)) (n : ℕ) : Type 0 where
-  pub taken : List ℕ
-  pub bytes : Consumes old new taken
-  pub all : length taken ≡ n
-  pub broken : ¬ IsUtf8 taken
+  pub taken_bytes : List ℕ
+  pub bytes : Consumes old new taken_bytes
+  pub all : length taken_bytes ≡ n
+  pub broken : ¬ IsUtf8 taken_bytes
 
 -- what stands after a fault of a read of a text of n bytes
 abbrev pub TextFails : Option (List ℕ) → Option (List ℕ) → ℕ → WireError → Type 0

@@ -69,16 +69,16 @@ GivesNext old r new =
 
 -- the bytes behind what a call of `next` gave: those that texts are still read from. After an `Io` the iterator may have
 -- given up, so there they are what the reader has.
-abbrev pub left_behind : {R : Type 0} → (R → Option (List ℕ)) → Option (Result PlacedText WireError)
+abbrev pub unread_bytes : {R : Type 0} → (R → Option (List ℕ)) → Option (Result PlacedText WireError)
     → Records R → Option (List ℕ)
-left_behind remaining (Some (Err (Io _))) t = remaining t.reader
-left_behind remaining _ t = records_left remaining t
+unread_bytes remaining (Some (Err (Io _))) t = remaining t.reader
+unread_bytes remaining _ t = records_left remaining t
 
 -- the same of an iterator: one that had known bytes to read from goes on with those behind, unless an `Io` came. Of one that
 -- has given up nothing is said.
 abbrev pub GivesRecord : {R : Type 0} → (R → Option (List ℕ)) → Records R
     → Option (Result PlacedText WireError) → Records R → Type 0
-GivesRecord remaining s r t = GivesNext (records_left remaining s) r (left_behind remaining r t)
+GivesRecord remaining s r t = GivesNext (records_left remaining s) r (unread_bytes remaining r t)
 
 -- the forms of these texts were taken, and each is placed as `read_wire` places it
 pub record TakesForms (old new : Option (List ℕ)) (texts : List PlacedText) : Type 0 where
@@ -141,6 +141,6 @@ pub data HasTexts : List ℕ → List (List ℕ) → Type 0 where
 
 -- bytes were taken that have these texts
 pub record TakesTexts (old new : Option (List ℕ)) (texts : List PlacedText) : Type 0 where
-  pub taken : List ℕ
-  pub bytes : Consumes old new taken
-  pub has : HasTexts taken (map (λ v. v.text) texts)
+  pub taken_bytes : List ℕ
+  pub bytes : Consumes old new taken_bytes
+  pub has : HasTexts taken_bytes (map (λ v. v.text) texts)

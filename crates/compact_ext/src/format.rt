@@ -1,4 +1,4 @@
-//! Texts made of formats.
+//! Texts made of what a format shows.
 ghost use Rattle.std.specs.Prelude.{◌≡◌, IfOk, IfSome, IsTrue, OnOk, OnErr};
 ghost use Rattle.compact_str.specs.Text.{text_of};
 ghost use Rattle.compact_str.specs.Change.{push_str_asks};
@@ -77,8 +77,10 @@ impl Write for Collector {
 
 /// The text that `shown` prints, which is what `format_compact!` calls: inline up to 24 bytes, else on the heap.
 ///
-/// The error `Reserve` says that room was refused for a piece, also where `shown` hid that and went on, and `Fmt` that
-/// `shown` failed by itself. What was written until then is given up.
+/// # Errors
+///
+/// `Reserve` if room was refused for a piece, also where `shown` hid that and went on. `Fmt` if `shown` failed by
+/// itself. What was written until then is dropped.
 #[inline]
 pub fn collect_display<D: Display + Drop>(
     alloc: Global,
@@ -101,9 +103,15 @@ pub fn collect_display<D: Display + Drop>(
     }
 }
 
-/// The text of a format, as `format!` makes a `String`: `format_compact!(in alloc; "{}-{:04}", 7, 42)?` is `"7-0042"`.
+/// The text of a format, as `format!` makes a `String`.
 ///
-/// It answers what `collect_display` answers.
+/// # Errors
+///
+/// Those of `collect_display`.
+///
+/// # Examples
+///
+/// `format_compact!(in alloc; "{}-{:04}", 7, 42)?` is `"7-0042"`.
 #[macro_export]
 macro_rules! format_compact {
     (in $alloc:expr; $($arguments:tt)*) => {

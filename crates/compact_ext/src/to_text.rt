@@ -17,24 +17,34 @@ use std::alloc::Global;
 
 /// A value that has a text: the integers, `bool`, `char`, and the kinds of text.
 ///
-/// A contract sees the text as `shown v`. Where `IsShort v` holds it is inline and never refused: of an integer of up to
+/// A contract sees the text as `shown_text v`. Where `IsShort v` holds it is inline and never refused: of an integer of up to
 /// 64 bits, a `bool` and a `char` always, of every other value where the text has at most 24 bytes.
 pub trait ToCompactString {
     /// The text.
-    ghost shown: { Self → List ℕ };
+    ghost shown_text: { Self → List ℕ };
 
     /// That it takes no memory.
     ghost IsShort: { Self → Type 0 };
 
-    /// The text of the value, as `CompactString::new` makes it: `(-12i8).to_compact_string(alloc)?` is `"-12"`.
+    /// The text of the value, placed as by `CompactString::new`.
     ///
-    /// The error is always `Reserve`, and says that no memory was found, or that the text is longer than 2^56 - 2 bytes.
-    /// It never comes of an integer of up to 64 bits, of a `bool` or a `char`, nor up to 24 bytes.
+    /// # Errors
+    ///
+    /// `Reserve` if a heap buffer is refused. An integer of up to 64 bits, a `bool`, a `char` and a text of at most 24
+    /// bytes need none.
+    ///
+    /// # Examples
+    ///
+    /// `(-12i8).to_compact_string(alloc)?` is `"-12"`.
     fn to_compact_string(&self, alloc: Global) -> Result<CompactString, ToCompactStringError>
-        ensures { IsTextOf ⟦<Standard as Policy>⟧.growth (shown self.now)
+        ensures { IsTextOf ⟦<Standard as Policy>⟧.growth (shown_text self.now)
             (IsShort self.now) result };
 
-    /// `to_compact_string` under its other name, with the same value and the same error.
+    /// `to_compact_string` under its other name.
+    ///
+    /// # Errors
+    ///
+    /// `Reserve` as from `to_compact_string`.
     #[inline]
     final fn try_to_compact_string(
         &self,
@@ -42,7 +52,7 @@ pub trait ToCompactString {
     ) -> Result<CompactString, ToCompactStringError>
     where
         Self: Sized,
-        ensures { IsTextOf ⟦<Standard as Policy>⟧.growth (shown self.now)
+        ensures { IsTextOf ⟦<Standard as Policy>⟧.growth (shown_text self.now)
             (IsShort self.now) result }
     {
         self.to_compact_string(alloc)

@@ -52,25 +52,25 @@ appends-nothing (Some known) = sym (append-nil known)
 
 pub front-none : (old new : Option (List ℕ)) (bytes : List ℕ) → Keeps old new → AppendsFront old new bytes
 front-none old new bytes kept =
-    record { written = []; unwritten = bytes; parts = refl; appended = appends-kept old old new [] (appends-nothing old) kept }
+    record { written_bytes = []; rest = bytes; parts = refl; appended = appends-kept old old new [] (appends-nothing old) kept }
 
 pub front-all : (old new : Option (List ℕ)) (bytes : List ℕ) → Appends old new bytes → AppendsFront old new bytes
-front-all old new bytes all = record { written = bytes; unwritten = []; parts = sym (append-nil bytes); appended = all }
+front-all old new bytes all = record { written_bytes = bytes; rest = []; parts = sym (append-nil bytes); appended = all }
 
 pub front-first : (old new : Option (List ℕ)) (head tail : List ℕ) → AppendsFront old new head → AppendsFront old new (head ++ tail)
 front-first old new head tail front = record {
-  written = front.written;
-  unwritten = front.unwritten ++ tail;
-  parts = ap (λ l. l ++ tail) front.parts ∙ append_assoc front.written front.unwritten tail;
+  written_bytes = front.written_bytes;
+  rest = front.rest ++ tail;
+  parts = ap (λ l. l ++ tail) front.parts ∙ append_assoc front.written_bytes front.rest tail;
   appended = front.appended;
 }
 
 pub front-second : (old mid new : Option (List ℕ)) (head tail : List ℕ) → Appends old mid head → AppendsFront mid new tail → AppendsFront old new (head ++ tail)
 front-second old mid new head tail first front = record {
-  written = head ++ front.written;
-  unwritten = front.unwritten;
-  parts = ap (λ l. head ++ l) front.parts ∙ sym (append_assoc head front.written front.unwritten);
-  appended = appends-both old mid new head front.written first front.appended;
+  written_bytes = head ++ front.written_bytes;
+  rest = front.rest;
+  parts = ap (λ l. head ++ l) front.parts ∙ sym (append_assoc head front.written_bytes front.rest);
+  appended = appends-both old mid new head front.written_bytes first front.appended;
 }
 
 -- n bytes go from what is left to what was written

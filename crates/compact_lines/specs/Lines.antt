@@ -24,10 +24,10 @@ bytes_of texts = flat_map (λ t. t.now) texts
 
 -- what a writer has taken grew by a front of the bytes, which may be none of them or all
 pub record AppendsFront (old new : Option (List ℕ)) (bytes : List ℕ) : Type 0 where
-  pub written : List ℕ
-  pub unwritten : List ℕ
-  pub parts : bytes ≡ written ++ unwritten
-  pub appended : Appends old new written
+  pub written_bytes : List ℕ
+  pub rest : List ℕ
+  pub parts : bytes ≡ written_bytes ++ rest
+  pub appended : Appends old new written_bytes
 
 -- the line that a reply is written as
 abbrev pub reply_line : Reply Standard → List ℕ

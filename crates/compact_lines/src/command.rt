@@ -24,7 +24,12 @@ pub enum Command<'a> {
     Edit(Edit<'a, Standard>),
 }
 
-/// The answers that a line of `retain` spells, one for each byte behind its space: 1 is `true`. Of any other line none.
+/// The answers that a line of `retain` spells, one for each byte behind its space: 1 is `true`. Any other line spells
+/// none.
+///
+/// # Errors
+///
+/// `AllocError` if no memory is found.
 pub fn answers(alloc: Global, line: &str) -> Result<Vec<bool>, AllocError>
     ensures { IfOk result (λ answers. answers.items ≡ answers_of line.now) }
 {
@@ -34,8 +39,12 @@ pub fn answers(alloc: Global, line: &str) -> Result<Vec<bool>, AllocError>
     }
 }
 
-/// Reads a line: a word, and after one space what belongs to it. `None` is a line that fits no command. `answers` are those
-/// that the line spells.
+/// Reads a line: a word, and after one space what belongs to it. `None` is a line that fits no command. `answers` are
+/// those that the line spells.
+///
+/// # Examples
+///
+/// `pushstr abc` appends `abc`, and `foo` is no command.
 pub fn parse<'a>(line: &'a str, answers: &'a [bool]) -> Option<Command<'a>>
     ensures { option_map command_itself result ≡ command_of line.now answers.now }
 {

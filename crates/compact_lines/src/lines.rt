@@ -1,4 +1,4 @@
-//! Lines in, lines out.
+//! How the lines of a reader are answered on a writer.
 ghost use Rattle.std.specs.Prelude.{◌≡◌, ◌≤◌, List, ℕ, [], OnErr, OnOk, Some};
 ghost use Rattle.std.specs.Io.BufRead.{strip_last};
 ghost use Rattle.std.specs.Io.KnownBytes.{Appends};

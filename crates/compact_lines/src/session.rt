@@ -34,7 +34,11 @@ impl Model for Session {
 }
 
 impl Session {
-    /// Begins with the empty value, inline. An error says that no memory was found for a reply.
+    /// Begins with the empty value, inline.
+    ///
+    /// # Errors
+    ///
+    /// `AllocError` if no memory is found for a reply.
     pub fn new(alloc: Global) -> Result<Self, AllocError>
         ensures { IfOk result (λ session. session ≡ placed_text [] inline_placement) }
     {
@@ -52,8 +56,12 @@ impl Session {
         &self.value
     }
 
-    /// Does what `command` asks for. An error says that the value it makes was refused, of which only `new`, `cap` and
-    /// `clonefrom` make one, and the session's value is as it was.
+    /// Does what `command` asks for.
+    ///
+    /// # Errors
+    ///
+    /// [`ReserveError`] if the value that the command makes is refused; only `new`, `cap` and `clonefrom` make one. The
+    /// session's value is then as it was.
     pub fn execute(&mut self, command: Command) -> Result<Reply<Standard>, ReserveError>
         ensures ok { IfOk result
             (λ reply. Executes ⟦<Standard as Policy>⟧.growth self.old command.entry reply

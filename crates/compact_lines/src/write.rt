@@ -6,7 +6,11 @@ ghost use Rattle.compact_lines.specs.Lines.{AppendsFront, bytes_of};
 use std::io;
 use std::io::{ErrorKind, Write};
 
-/// Writes each text in turn. An error leaves a front of their bytes written.
+/// Writes each text in turn.
+///
+/// # Errors
+///
+/// That of the writer; then a front of their bytes is written.
 pub fn write_texts<W: Write>(texts: &[&str], writer: &mut W) -> io::Result<()>
     ensures ok { OnOk result (Appends (W.contents writer.old) (W.contents writer.new)
         (bytes_of texts.now)) }
@@ -19,7 +23,11 @@ pub fn write_texts<W: Write>(texts: &[&str], writer: &mut W) -> io::Result<()>
     Ok(())
 }
 
-/// Writes all of the bytes. An error leaves a front of them written. An interrupted call is made again.
+/// Writes all of the bytes. An interrupted call is made again.
+///
+/// # Errors
+///
+/// That of the writer; then a front of the bytes is written.
 fn write_whole<W: Write>(bytes: &[u8], writer: &mut W) -> io::Result<()>
     ensures ok { OnOk result (Appends (W.contents writer.old) (W.contents writer.new) bytes.now) }
     ensures err { OnErr result (AppendsFront (W.contents writer.old) (W.contents writer.new)

@@ -9,15 +9,15 @@ use Rattle.std.specs.Str.{IsUtf8, IsCharBoundary}
 use lib.Dec.{leb}
 use lib.Utf8.{encode, encodes, scalar, scalars}
 use Rattle.compact_repr.specs.Text.{size, text_of}
-use Rattle.compact_repr.specs.Cut.{IsCut, IsBoundary, before, after, replaced_text, CutIsBeforeAndAfter}
+use Rattle.compact_repr.specs.Cut.{IsCut, IsBoundary, text_before, text_after, replaced_text, CutIsBeforeAndAfter}
 use Rattle.compact_repr.proofs.Texts.{length-utf8, size-text_of, size-append}
 
 -- a text is what stands before a position and what stands after it
-pub before-after : (t : List ℕ) (p : ℕ) → t ≡ before t p ++ after t p
-before-after [] p = refl
-before-after (c ∷ cs) p =
+pub text_before-text_after : (t : List ℕ) (p : ℕ) → t ≡ text_before t p ++ text_after t p
+text_before-text_after [] p = refl
+text_before-text_after (c ∷ cs) p =
     ⊎_elim
-    (λ e. rw e (ap (λ x. c ∷ x) (before-after cs (p - len_utf8 c))))
+    (λ e. rw e (ap (λ x. c ∷ x) (text_before-text_after cs (p - len_utf8 c))))
     (λ e. rw e refl)
     (cases_Bool (leb (len_utf8 c) p))
 
@@ -25,34 +25,34 @@ before-after (c ∷ cs) p =
 past-start : (c p : ℕ) → 0 ≡ p → p < len_utf8 c
 past-start c p e = let w = len_utf8_bounds c in omega (arith, w.0, e)
 
-pub before-cut : (a b : List ℕ) (p : ℕ) → size a ≡ p → before (a ++ b) p ≡ a
-before-cut [] [] p e = refl
-before-cut [] (c ∷ cs) p e = cond-false _ _ _ (lt-leb (len_utf8 c) p (past-start c p e))
-before-cut (c ∷ cs) b p e =
+pub text_before-append : (a b : List ℕ) (p : ℕ) → size a ≡ p → text_before (a ++ b) p ≡ a
+text_before-append [] [] p e = refl
+text_before-append [] (c ∷ cs) p e = cond-false _ _ _ (lt-leb (len_utf8 c) p (past-start c p e))
+text_before-append (c ∷ cs) b p e =
     cond-true _ _ _ (le-leb (len_utf8 c) p (omega (arith, e)))
-    ∙ ap (λ x. c ∷ x) (before-cut cs b (p - len_utf8 c) (omega (arith, e)))
+    ∙ ap (λ x. c ∷ x) (text_before-append cs b (p - len_utf8 c) (omega (arith, e)))
 
-pub after-cut : (a b : List ℕ) (p : ℕ) → size a ≡ p → after (a ++ b) p ≡ b
-after-cut [] [] p e = refl
-after-cut [] (c ∷ cs) p e = cond-false _ _ _ (lt-leb (len_utf8 c) p (past-start c p e))
-after-cut (c ∷ cs) b p e =
+pub text_after-append : (a b : List ℕ) (p : ℕ) → size a ≡ p → text_after (a ++ b) p ≡ b
+text_after-append [] [] p e = refl
+text_after-append [] (c ∷ cs) p e = cond-false _ _ _ (lt-leb (len_utf8 c) p (past-start c p e))
+text_after-append (c ∷ cs) b p e =
     cond-true _ _ _ (le-leb (len_utf8 c) p (omega (arith, e)))
-    ∙ after-cut cs b (p - len_utf8 c) (omega (arith, e))
+    ∙ text_after-append cs b (p - len_utf8 c) (omega (arith, e))
 
-pub size-before : (t : List ℕ) (p : ℕ) → IsBoundary t p → size (before t p) ≡ p
-size-before t p h = ap (λ x. size (before x p)) h.2.parts ∙ ap size (before-cut h.0 h.1 p h.2.position) ∙ h.2.position
+pub size-text_before : (t : List ℕ) (p : ℕ) → IsBoundary t p → size (text_before t p) ≡ p
+size-text_before t p h = ap (λ x. size (text_before x p)) h.2.parts ∙ ap size (text_before-append h.0 h.1 p h.2.position) ∙ h.2.position
 
-pub boundary-from_size : (t : List ℕ) (p : ℕ) → size (before t p) ≡ p → IsBoundary t p
-boundary-from_size t p e = (before t p, after t p, record { parts = before-after t p; position = e })
+pub boundary-from_size : (t : List ℕ) (p : ℕ) → size (text_before t p) ≡ p → IsBoundary t p
+boundary-from_size t p e = (text_before t p, text_after t p, record { parts = text_before-text_after t p; position = e })
 
 pub cut_is_before_and_after : CutIsBeforeAndAfter
 cut_is_before_and_after t p a b = (
   (λ h.
-      let front : before t p ≡ a = ap (λ x. before x p) h.parts ∙ before-cut a b p h.position in
-      let back : after t p ≡ b = ap (λ x. after x p) h.parts ∙ after-cut a b p h.position in
+      let front : text_before t p ≡ a = ap (λ x. text_before x p) h.parts ∙ text_before-append a b p h.position in
+      let back : text_after t p ≡ b = ap (λ x. text_after x p) h.parts ∙ text_after-append a b p h.position in
       (sym front, sym back, ap size front ∙ h.position)),
   (λ h.
-      let parts : t ≡ a ++ b = rw (h.0, h.1) (before-after t p) in
+      let parts : t ≡ a ++ b = rw (h.0, h.1) (text_before-text_after t p) in
       record { parts = parts; position = ap size h.0 ∙ h.2 }),
 )
 
@@ -62,18 +62,18 @@ boundary-within t p h =
     let front : size h.0 ≡ p = h.2.position in
     omega (arith, whole, front)
 
-pub size-after : (t : List ℕ) (p : ℕ) → IsBoundary t p → size (after t p) + p ≡ size t
-size-after t p h =
-    let whole : size t ≡ size (before t p) + size (after t p) = ap size (before-after t p) ∙ size-append (before t p) (after t p) in
-    let front = size-before t p h in
+pub size-text_after : (t : List ℕ) (p : ℕ) → IsBoundary t p → size (text_after t p) + p ≡ size t
+size-text_after t p h =
+    let whole : size t ≡ size (text_before t p) + size (text_after t p) = ap size (text_before-text_after t p) ∙ size-append (text_before t p) (text_after t p) in
+    let front = size-text_before t p h in
     omega (arith, whole, front)
 
 pub size-replaced : (t s : List ℕ) (start end : ℕ) → IsBoundary t start → IsBoundary t end → start ≤ end → size (replaced_text t start end s) + (end - start) ≡ size t + size s
 size-replaced t s start end h k order =
-    let whole : size (replaced_text t start end s) ≡ size (before t start) + size s + size (after t end) =
-    size-append (before t start ++ s) (after t end) ∙ ap (λ (n : ℕ). n + size (after t end)) (size-append (before t start) s) in
-    let front = size-before t start h in
-    let back = size-after t end k in
+    let whole : size (replaced_text t start end s) ≡ size (text_before t start) + size s + size (text_after t end) =
+    size-append (text_before t start ++ s) (text_after t end) ∙ ap (λ (n : ℕ). n + size (text_after t end)) (size-append (text_before t start) s) in
+    let front = size-text_before t start h in
+    let back = size-text_after t end k in
     omega (arith, whole, front, back)
 
 -- the bytes may be cut where the text may
@@ -104,15 +104,15 @@ boundary-bytes bytes p e u h = boundary-encoded bytes p u (subst (λ (t : List �
 
 -- what the parts of the bytes spell
 
-pub text_of-take : {t : List ℕ} (bytes : List ℕ) (p : ℕ) → text_of bytes ≡ t → IsUtf8 bytes → IsBoundary t p → text_of (take p bytes) ≡ before t p
+pub text_of-take : {t : List ℕ} (bytes : List ℕ) (p : ℕ) → text_of bytes ≡ t → IsUtf8 bytes → IsBoundary t p → text_of (take p bytes) ≡ text_before t p
 text_of-take bytes p e u h =
     let cut = text_of-parts bytes p u (boundary-bytes bytes p e u h) in
-    ((cut_is_before_and_after _ _ _ _).0 cut).0 ∙ ap (λ t. before t p) e
+    ((cut_is_before_and_after _ _ _ _).0 cut).0 ∙ ap (λ t. text_before t p) e
 
-pub text_of-drop : {t : List ℕ} (bytes : List ℕ) (p : ℕ) → text_of bytes ≡ t → IsUtf8 bytes → IsBoundary t p → text_of (drop p bytes) ≡ after t p
+pub text_of-drop : {t : List ℕ} (bytes : List ℕ) (p : ℕ) → text_of bytes ≡ t → IsUtf8 bytes → IsBoundary t p → text_of (drop p bytes) ≡ text_after t p
 text_of-drop bytes p e u h =
     let cut = text_of-parts bytes p u (boundary-bytes bytes p e u h) in
-    ((cut_is_before_and_after _ _ _ _).0 cut).1 ∙ ap (λ t. after t p) e
+    ((cut_is_before_and_after _ _ _ _).0 cut).1 ∙ ap (λ t. text_after t p) e
 
 pub utf8-take : {t : List ℕ} (bytes : List ℕ) (p : ℕ) → text_of bytes ≡ t → IsUtf8 bytes → IsBoundary t p → IsUtf8 (take p bytes)
 utf8-take bytes p e u h = IsUtf8-take bytes p u (boundary-bytes bytes p e u h)
@@ -136,7 +136,7 @@ text_of-last bytes front c u v e =
     encodes_same _ _ (encodes-chars bytes u ∙ e ∙ sym spelled)
 
 -- the character that the first bytes after a boundary encode is the first one after it
-pub text_of-next : (bytes rest : List ℕ) (p c : ℕ) → IsUtf8 bytes → IsBoundary (text_of bytes) p → drop p bytes ≡ encode c ++ rest → after (text_of bytes) p ≡ c ∷ text_of rest
+pub text_of-next : (bytes rest : List ℕ) (p c : ℕ) → IsUtf8 bytes → IsBoundary (text_of bytes) p → drop p bytes ≡ encode c ++ rest → text_after (text_of bytes) p ≡ c ∷ text_of rest
 text_of-next bytes rest p c u h e =
     sym (text_of-drop bytes p refl u h) ∙ chars_past_char (drop p bytes) rest c (IsUtf8-drop bytes p u (boundary-bytes bytes p refl u h)) e
 

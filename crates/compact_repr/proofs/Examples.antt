@@ -5,7 +5,7 @@ use lib.Utf8.{encode}
 use Rattle.compact_repr.specs.Packed.{IsPackedFor, packed_len, packed_text}
 use Rattle.compact_repr.proofs.PackedTexts.{packed-last, packed-text}
 use Rattle.compact_repr.specs.Text.{size, ascii_lowercase, ascii_uppercase}
-use Rattle.compact_repr.specs.Cut.{before, after, substring, replaced_text}
+use Rattle.compact_repr.specs.Cut.{text_before, text_after, substring, replaced_text}
 use Rattle.compact_repr.specs.Value.{PlacedText, placed_text}
 use Rattle.compact_repr.specs.Capacity.{Growth, inline_placement, heap_placement, static_placement, checked_heap_placement, with_capacity_placement, with_capacity_asks, fits_in_place, reserve_placement, reserve_asks, shortened_placement, owned_placement, make_owned_asks, const_new_placement, from_string_placement, clone_placement, clone_asks, shrink_to_placement, shrink_to_asks}
 use Rattle.compact_repr.specs.Change.{new, push_str, push_str_asks, clear, reserve, with_capacity, make_owned, clone, truncate, make_ascii_lowercase, make_ascii_uppercase, retain, zeroize}
@@ -32,10 +32,10 @@ mixed = 0xE4 ∷ 0x62 ∷ 0x1D11E ∷ []
 mixed_has_seven_bytes : size mixed ≡ 7
 mixed_has_seven_bytes = refl
 
-mixed_is_cut_after_two_bytes : before mixed 2 ≡ 0xE4 ∷ []
+mixed_is_cut_after_two_bytes : text_before mixed 2 ≡ 0xE4 ∷ []
 mixed_is_cut_after_two_bytes = refl
 
-mixed_is_cut_before_the_rest : after mixed 2 ≡ 0x62 ∷ 0x1D11E ∷ []
+mixed_is_cut_before_the_rest : text_after mixed 2 ≡ 0x62 ∷ 0x1D11E ∷ []
 mixed_is_cut_before_the_rest = refl
 
 mixed_with_b_replaced : replaced_text mixed 2 3 (letters 2) ≡ 0xE4 ∷ 0x61 ∷ 0x61 ∷ 0x1D11E ∷ []

@@ -9,8 +9,8 @@ use Rattle.std.specs.Str.{IsUtf8}
 use lib.Dec.{ltb}
 use lib.Utf8.{scalar, scalars, encode, encodes, next, low_scalar}
 use Rattle.compact_repr.specs.Text.{size, text_of, ascii_lowercase, ascii_uppercase}
-use Rattle.compact_repr.specs.Cut.{IsBoundary, before}
-use Rattle.compact_repr.proofs.Cuts.{size-before, boundary-from_size}
+use Rattle.compact_repr.specs.Cut.{IsBoundary, text_before}
+use Rattle.compact_repr.proofs.Cuts.{size-text_before, boundary-from_size}
 
 -- f keeps ASCII within ASCII, and changes nothing else
 module _ (f : ℕ → ℕ) (low : (b : ℕ) → b < 128 → f b < 128) (high : (b : ℕ) → 128 ≤ b → f b ≡ b) where
@@ -69,14 +69,14 @@ module _ (f : ℕ → ℕ) (low : (b : ℕ) → b < 128 → f b < 128) (high : (
   cond-map true c cs = refl
   cond-map false c cs = refl
 
-  before-changed : (t : List ℕ) (p : ℕ) → before (map f t) p ≡ map f (before t p)
-  before-changed [] p = refl
-  before-changed (c ∷ cs) p =
-      rw (width-changed c, before-changed cs (p - len_utf8 c)) (sym (cond-map _ c (before cs (p - len_utf8 c))))
+  text_before-map : (t : List ℕ) (p : ℕ) → text_before (map f t) p ≡ map f (text_before t p)
+  text_before-map [] p = refl
+  text_before-map (c ∷ cs) p =
+      rw (width-changed c, text_before-map cs (p - len_utf8 c)) (sym (cond-map _ c (text_before cs (p - len_utf8 c))))
 
   boundary-changed : (t : List ℕ) (p : ℕ) → IsBoundary t p → IsBoundary (map f t) p
   boundary-changed t p h =
-      boundary-from_size (map f t) p (ap size (before-changed t p) ∙ size-changed (before t p) ∙ size-before t p h)
+      boundary-from_size (map f t) p (ap size (text_before-map t p) ∙ size-changed (text_before t p) ∙ size-text_before t p h)
 
 lowercase_high : (b : ℕ) → 128 ≤ b → to_ascii_lowercase b ≡ b
 lowercase_high b h = (lowercase_is b).2 (omega arith)

@@ -4,7 +4,7 @@ use Rattle.std.proofs.Common.{◌≡◌, ℕ, ◌≤◌, List, take, ap, sym, �
 use Rattle.std.specs.Str.{IsUtf8}
 use Rattle.std.proofs.lemmas.List.{take-take}
 use Rattle.compact_repr.specs.Text.{size, text_of}
-use Rattle.compact_repr.specs.Cut.{IsBoundary, before}
+use Rattle.compact_repr.specs.Cut.{IsBoundary, text_before}
 use Rattle.compact_repr.specs.Packed.{IsPackedFor, packed_len, packed_text}
 use Rattle.compact_repr.proofs.Cuts.{boundary-within, text_of-take, utf8-take}
 use Rattle.compact_repr.proofs.PackedTexts.{packed-len, packed-most, packed-utf8, packed-seen}
@@ -30,5 +30,5 @@ front-is {t} bytes n e p h =
 pub utf8-cut : {t : List ℕ} (bytes : List ℕ) (n : ℕ) → packed_text bytes ≡ t → IsPackedFor bytes (packed_text bytes) → IsBoundary t n → IsUtf8 (take n bytes)
 utf8-cut bytes n e p h = subst IsUtf8 (front-is bytes n e p h) (utf8-take (take (packed_len bytes) bytes) n e (utf8-seen bytes p) h)
 
-pub text_of-cut : {t : List ℕ} (bytes : List ℕ) (n : ℕ) → packed_text bytes ≡ t → IsPackedFor bytes (packed_text bytes) → IsBoundary t n → text_of (take n bytes) ≡ before t n
+pub text_of-cut : {t : List ℕ} (bytes : List ℕ) (n : ℕ) → packed_text bytes ≡ t → IsPackedFor bytes (packed_text bytes) → IsBoundary t n → text_of (take n bytes) ≡ text_before t n
 text_of-cut bytes n e p h = ap text_of (sym (front-is bytes n e p h)) ∙ text_of-take (take (packed_len bytes) bytes) n e (utf8-seen bytes p) h

@@ -64,8 +64,8 @@ shifted-down slice now from to n k later_from later_to all downward within e f g
     let at : paste now later_to (drop later_from now) k ≡ paste (paste slice to (drop from slice) n) (to + n) (drop (from + n) (paste slice to (drop from slice) n)) k = cc in
     at ∙ down-one slice from to n k downward (omega arith) ∙ ap (λ (j : ℕ). paste slice to (drop from slice) j) (sym g)
 
-pub unmoved : (slice : List ℕ) (from to n : ℕ) → from ≡ to → slice ≡ paste slice to (drop from slice) n
-unmoved slice from to n e =
+pub paste-same : (slice : List ℕ) (from to n : ℕ) → from ≡ to → slice ≡ paste slice to (drop from slice) n
+paste-same slice from to n e =
     let b : List ℕ = take n (drop to slice) in
     let rest : take to slice ++ b ++ drop (to + n) slice ≡ slice =
     append_assoc (take to slice) b (drop (to + n) slice)
@@ -75,14 +75,14 @@ unmoved slice from to n e =
     sym rest ∙ ap (λ (j : ℕ). paste slice to (drop j slice) n) (sym e)
 
 -- a move by a known distance
-pub moved-up : (slice now : List ℕ) (from to count distance : ℕ) → to - from ≡ distance → from < to → now ≡ paste slice (from + distance) (drop from slice) count → now ≡ paste slice to (drop from slice) count
-moved-up slice now from to count distance d up e =
+pub paste-up : (slice now : List ℕ) (from to count distance : ℕ) → to - from ≡ distance → from < to → now ≡ paste slice (from + distance) (drop from slice) count → now ≡ paste slice to (drop from slice) count
+paste-up slice now from to count distance d up e =
     let at : from + distance ≡ to = omega arith in
     e ∙ ap (λ (j : ℕ). paste slice j (drop from slice) count) at
 
-pub moved-down : (slice now : List ℕ) (from to count distance : ℕ) → from - to ≡ distance → to < from → now ≡ paste slice to (drop (to + distance) slice) count → now ≡ paste slice to (drop from slice) count
-moved-down slice now from to count distance d down e =
+pub paste-down : (slice now : List ℕ) (from to count distance : ℕ) → from - to ≡ distance → to < from → now ≡ paste slice to (drop (to + distance) slice) count → now ≡ paste slice to (drop from slice) count
+paste-down slice now from to count distance d down e =
     let at : to + distance ≡ from = omega arith in
     e ∙ ap (λ (j : ℕ). paste slice to (drop j slice) count) at
 
-pub ruleset shifts = (unmoved, moved-up, moved-down)
+pub ruleset shifts = (paste-same, paste-up, paste-down)

@@ -8,10 +8,10 @@ use lib.Seq.{paste}
 use Rattle.compact_repr.proofs.Shifts.{take-add}
 
 -- the tail stands behind a gap as wide as s, and s is written in the gap
-pub replaced-moved : (slice s : List ℕ) (len start end : ℕ) → start ≤ end → end ≤ len → len ≤ length slice → len + length s ≤ length slice + (end - start)
+pub replace_range-paste : (slice s : List ℕ) (len start end : ℕ) → start ≤ end → end ≤ len → len ≤ length slice → len + length s ≤ length slice + (end - start)
     → take (len - (end - start) + length s) (paste (paste slice (start + length s) (drop end slice) (len - end)) start s (length s))
     ≡ replace_range (take len slice) start end s
-replaced-moved slice s len start end order within held room =
+replace_range-paste slice s len start end order within held room =
     let gap : ℕ = start + length s in
     let front : List ℕ = take gap slice in
     let tail : List ℕ = between end len slice in
@@ -38,7 +38,7 @@ byte-in slice moved byte len at within room e =
     let more : len + 1 ≡ len - (at - at) + 1 = omega arith in
     ap (λ (n : ℕ). take n (paste moved at (byte ∷ []) 1)) more
     ∙ ap (λ x. take (len - (at - at) + 1) (paste x at (byte ∷ []) 1)) e
-    ∙ replaced-moved slice (byte ∷ []) len at at (omega arith) within (omega arith) (omega arith)
+    ∙ replace_range-paste slice (byte ∷ []) len at at (omega arith) within (omega arith) (omega arith)
 
 -- a part goes: the tail moves to where the part began
 pub part-out : (slice moved : List ℕ) (len start end : ℕ) → start ≤ end → end ≤ len → len ≤ length slice → moved ≡ paste slice start (drop end slice) (len - end)
@@ -49,7 +49,7 @@ part-out slice moved len start end order within held e =
     let whole : moved ≡ paste slice (start + 0) (drop end slice) (len - end) = e ∙ ap (λ (n : ℕ). paste slice n (drop end slice) (len - end)) to in
     ap (λ (n : ℕ). take n moved) less
     ∙ ap (take (len - (end - start) + 0)) (paste_none moved start [] ∙ ap (λ x. paste x start [] 0) whole)
-    ∙ replaced-moved slice [] len start end order within held (omega arith)
+    ∙ replace_range-paste slice [] len start end order within held (omega arith)
 
 -- one byte goes: the tail moves one place down
 pub byte-out : (slice moved : List ℕ) (len at : ℕ) → at < len → len ≤ length slice → moved ≡ paste slice at (drop (at + 1) slice) (len - at - 1)
@@ -62,7 +62,7 @@ byte-out slice moved len at within held e =
     e ∙ ap (λ (n : ℕ). paste slice at (drop (at + 1) slice) n) count ∙ ap (λ (n : ℕ). paste slice n (drop (at + 1) slice) (len - (at + 1))) to in
     ap (λ (n : ℕ). take n moved) less
     ∙ ap (take (len - (at + 1 - at) + 0)) (paste_none moved at [] ∙ ap (λ x. paste x at [] 0) whole)
-    ∙ replaced-moved slice [] len at (at + 1) (omega arith) (omega arith) held (omega arith)
+    ∙ replace_range-paste slice [] len at (at + 1) (omega arith) (omega arith) held (omega arith)
 
 -- what is written behind the first bytes stands there
 pub appended : (slice s : List ℕ) (len : ℕ) → len ≤ length slice → take (len + length s) (paste slice len s (length s)) ≡ take len slice ++ s

@@ -2,6 +2,7 @@ pub mod Text
 pub mod Cut
 pub mod Value
 pub mod Capacity
+pub mod Policies
 pub mod Change
 pub mod Retain
 pub mod BufferValue

@@ -2,13 +2,13 @@
 ghost use Rattle.std.specs.Prelude.{◌≡◌, ◌-◌, ◌<◌, ◌≤◌, List, ℕ, [], ◌∷◌, ◌++◌, length, MatchOption};
 ghost use Rattle.std.specs.Char.{len_utf8};
 ghost use Rattle.compact_repr.specs.Text.{text_of};
-ghost use Rattle.compact_repr.specs.Cut.{IsBoundary, before, after, substring, CutIsBeforeAndAfter};
+ghost use Rattle.compact_repr.specs.Cut.{IsBoundary, text_before, text_after, substring, CutIsBeforeAndAfter};
 
 /// What stands before a boundary.
 #[inline]
 pub fn prefix(text: &str, index: usize) -> &str
     requires { IsBoundary (text_of text.now) index }
-    ensures text { text_of result.now ≡ before (text_of text.now) index }
+    ensures text { text_of result.now ≡ text_before (text_of text.now) index }
     ensures len { length result.now ≡ index }
 {
     &text[..index]
@@ -18,7 +18,7 @@ pub fn prefix(text: &str, index: usize) -> &str
 #[inline]
 pub fn suffix(text: &str, index: usize) -> &str
     requires { IsBoundary (text_of text.now) index }
-    ensures { text_of result.now ≡ after (text_of text.now) index }
+    ensures { text_of result.now ≡ text_after (text_of text.now) index }
 {
     &text[index..]
 }
@@ -40,7 +40,7 @@ pub fn substring(text: &str, start: usize, end: usize) -> &str
 pub fn char_at(text: &str, index: usize) -> char
     requires boundary { IsBoundary (text_of text.now) index }
     requires within { index < length text.now }
-    ensures { (rest : List ℕ) × (after (text_of text.now) index ≡ result ∷ rest) }
+    ensures { (rest : List ℕ) × (text_after (text_of text.now) index ≡ result ∷ rest) }
 {
     match text[index..].chars().next() {
         Some(character) => character,
@@ -48,16 +48,16 @@ pub fn char_at(text: &str, index: usize) -> char
     }
 }
 
-/// The character that begins at a boundary before the end where it is one of ASCII, else `None`. It looks at one byte, and
-/// not at how long the text is.
+/// The character that begins at a boundary before the end, if it is one of ASCII, or `None`. It looks at one byte, and not
+/// at how long the text is.
 #[inline(always)]
 pub fn ascii_at(text: &str, index: usize) -> Option<char>
     requires boundary { IsBoundary (text_of text.now) index }
     requires within { index < length text.now }
     ensures { MatchOption result ((c : ℕ) (rest : List ℕ)
-        → after (text_of text.now) index ≡ c ∷ rest → 128 ≤ c)
+        → text_after (text_of text.now) index ≡ c ∷ rest → 128 ≤ c)
         (λ c. (len_utf8 c ≡ 1)
-        × ((rest : List ℕ) × (after (text_of text.now) index ≡ c ∷ rest))) }
+        × ((rest : List ℕ) × (text_after (text_of text.now) index ≡ c ∷ rest))) }
 {
     let rest = &text[index..];
     let byte = rest.as_bytes()[0];
@@ -68,7 +68,7 @@ pub fn ascii_at(text: &str, index: usize) -> Option<char>
     }
 }
 
-/// The first character where it is one of ASCII, else `None`; so it is of the empty text.
+/// The first character if it is one of ASCII, or `None` if it is not or the text is empty.
 #[inline(always)]
 pub fn first_ascii(text: &str) -> Option<char>
     ensures { MatchOption result ((c : ℕ) (rest : List ℕ) → text_of text.now ≡ c ∷ rest → 128 ≤ c)
@@ -85,7 +85,7 @@ pub fn first_ascii(text: &str) -> Option<char>
     }
 }
 
-/// The first character; `None` of the empty text.
+/// The first character, or `None` of the empty text.
 #[inline]
 pub fn first_char(text: &str) -> Option<char>
     ensures { MatchOption result (text_of text.now ≡ [])
@@ -97,7 +97,7 @@ pub fn first_char(text: &str) -> Option<char>
     }
 }
 
-/// The last character, found from the end; `None` of the empty text.
+/// The last character, found from the end, or `None` of the empty text.
 #[inline]
 pub fn last_char(text: &str) -> Option<char>
     ensures { MatchOption result (text_of text.now ≡ [])
@@ -123,8 +123,8 @@ pub fn encode_char(character: char, bytes: &mut [u8; 4]) -> &str
     character.encode_utf8(bytes)
 }
 
-/// A law, and the function does nothing. Where a text can be cut, the two parts are what stands before and what stands after
-/// the position; and it can be cut just where the characters within the first bytes take up all of them.
+/// A law, and the function does nothing. Where a text can be cut, the two parts are what stands before and what stands
+/// after the position, and it can be cut just where the characters within the first bytes take up all of them.
 pub fn cut_is_before_and_after()
     ensures { CutIsBeforeAndAfter }
 {}

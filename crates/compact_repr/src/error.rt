@@ -4,9 +4,12 @@ ghost use Rattle.std.specs.Prelude.{◌≡◌};
 use std::alloc::AllocError;
 use thiserror::Error;
 
-/// Room was refused: no memory was found, or a capacity past 2^56 - 2 bytes would have been needed.
+/// A heap buffer was refused: no memory was found, or it would have more than 2^56 - 2 bytes, which is `MAX_CAPACITY`.
 ///
-/// It shows as `Cannot allocate memory to hold CompactString`.
+/// What the call was to change is then as it was: text, place and capacity. A call that goes by steps says how far it
+/// came.
+///
+/// The error shows as `Cannot allocate memory to hold CompactString`.
 #[derive(Clone, Copy, Debug, PartialEq, Eq, Error)]
 #[error("Cannot allocate memory to hold CompactString")]
 pub struct ReserveError;

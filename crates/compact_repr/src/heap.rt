@@ -1,8 +1,8 @@
-//! A text in a vector of bytes on the heap. Its capacity is the vector's.
+//! A text in a vector of bytes on the heap, whose capacity is the vector's.
 ghost use Rattle.std.specs.Prelude.{◌≡◌, ◌+◌, ◌-◌, ◌≤◌, ◌<◌, ◌^◌, [], ◌∷◌, ◌++◌, length, false, IfOk, OnOk, OnErr, IsTrue, ◌↔◌};
 ghost use Rattle.std.specs.String.{string_bytes, string_capacity};
 ghost use Rattle.compact_repr.specs.Text.{size, utf8, text_of, IsText};
-ghost use Rattle.compact_repr.specs.Cut.{IsBoundary, before, replaced_text};
+ghost use Rattle.compact_repr.specs.Cut.{IsBoundary, text_before, replaced_text};
 ghost use Rattle.compact_repr.specs.Retain.{RetainsCharsTo};
 
 mod append;
@@ -36,6 +36,10 @@ impl Model for HeapBuffer {
 
 impl HeapBuffer {
     /// The empty text with room for `capacity` bytes, of which none is touched.
+    ///
+    /// # Errors
+    ///
+    /// `AllocError` if no memory is found.
     #[inline]
     pub fn with_capacity(alloc: Global, capacity: usize) -> Result<Self, AllocError>
         ensures { IfOk result (λ b. b ≡ record { text = []; capacity = capacity }) }
@@ -45,6 +49,10 @@ impl HeapBuffer {
     }
 
     /// A copy of `text` in a new buffer with room for `capacity` bytes, at least as many as the text has.
+    ///
+    /// # Errors
+    ///
+    /// `AllocError` if no memory is found.
     #[inline(always)]
     pub fn copy_of(alloc: Global, text: &str, capacity: usize) -> Result<Self, AllocError>
         requires { length text.now ≤ capacity }
@@ -100,7 +108,11 @@ impl HeapBuffer {
         unsafe { std::str::from_utf8_unchecked(self.bytes.as_slice()) }
     }
 
-    /// Makes room for `capacity` bytes in all. An error changes nothing.
+    /// Makes room for `capacity` bytes in all.
+    ///
+    /// # Errors
+    ///
+    /// `AllocError` if no memory is found; then nothing has changed.
     pub fn grow(&mut self, capacity: usize) -> Result<(), AllocError>
         requires { self.old.capacity ≤ capacity }
         ensures ok { OnOk result (self.new ≡ record { text = self.old.text; capacity = capacity }) }
@@ -226,7 +238,7 @@ impl HeapBuffer {
     pub fn truncate(&mut self, len: usize)
         requires { IsBoundary self.old.text len }
         ensures value { self.new
-            ≡ record { text = before self.old.text len; capacity = self.old.capacity } }
+            ≡ record { text = text_before self.old.text len; capacity = self.old.capacity } }
         ensures fits { size self.new.text ≤ self.old.capacity }
     {
         self.bytes.truncate(len);

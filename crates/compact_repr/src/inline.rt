@@ -3,7 +3,7 @@
 
 ghost use Rattle.std.specs.Prelude.{◌≡◌, ◌+◌, ◌-◌, ◌≤◌, ◌<◌, ℕ, List, [], ◌∷◌, ◌++◌, length, false, IsTrue, ◌↔◌, MatchOption};
 ghost use Rattle.compact_repr.specs.Text.{size, utf8, text_of, IsText, ascii_lowercase, ascii_uppercase};
-ghost use Rattle.compact_repr.specs.Cut.{IsBoundary, before, replaced_text};
+ghost use Rattle.compact_repr.specs.Cut.{IsBoundary, text_before, replaced_text};
 ghost use Rattle.compact_repr.specs.Packed.{IsPackedFor};
 ghost use Rattle.compact_repr.specs.Retain.{RetainsCharsTo};
 
@@ -176,7 +176,7 @@ impl InlineBuffer {
     #[inline]
     pub fn truncate(&mut self, len: usize)
         requires { IsBoundary self.old len }
-        ensures text { self.new ≡ before self.old len }
+        ensures text { self.new ≡ text_before self.old len }
         ensures fits { size self.new ≤ 24 }
     {
         write_len(&mut self.bytes, len);

@@ -33,7 +33,8 @@ pub trait Policy {
 pub struct Standard;
 
 impl Policy for Standard {
-    ghost use Rattle.std.proofs.Common.{refl, lit≤, lit<};
+    ghost use Rattle.std.proofs.Common.{refl};
+    ghost use Rattle.compact_repr.specs.Policies.{IsLawful-test};
 
     const MIN_HEAP: usize = 32;
 
@@ -51,7 +52,7 @@ impl Policy for Standard {
 
     ghost is_growth = { refl };
 
-    ghost lawful = { record { above_inline = lit≤ tt; below_limit = lit≤ tt; divides = lit≤ tt; grows = lit< tt; small = lit≤ tt } };
+    ghost lawful = { IsLawful-test _ refl };
 }
 
 /// A law, and the function does nothing: a heap buffer of `Standard` has at least 32 bytes, and grows by half.

@@ -6,7 +6,7 @@ ghost use Rattle.std.specs.Prelude.{◌≡◌, ◌<◌, ◌^◌, ℕ, List, leng
 ghost use denote.Ref.{Bor};
 ghost use Rattle.compact_repr.specs.Loan.{static_loan, address};
 ghost use Rattle.compact_repr.specs.Text.{size, utf8, text_of, IsText};
-ghost use Rattle.compact_repr.specs.Cut.{IsBoundary, before, after};
+ghost use Rattle.compact_repr.specs.Cut.{IsBoundary, text_before, text_after};
 
 use crate::cut;
 use std::marker::Model;
@@ -60,7 +60,8 @@ impl Model for StaticText {
 
     ghost view = { λ t. text_of t.loan.bytes.now };
 
-    ghost invariant = { λ t. (t.at ≡ address t.loan.bytes) × (t.len ≡ length t.loan.bytes.now) × (t.len < 2 ^ 63) × IsUtf8 t.loan.bytes.now };
+    ghost invariant = { λ t. (t.at ≡ address t.loan.bytes) × (t.len ≡ length t.loan.bytes.now)
+        × (t.len < 2 ^ 63) × IsUtf8 t.loan.bytes.now };
 }
 
 // Nothing writes to what the pointer points to, so every thread may read it.
@@ -112,7 +113,7 @@ impl StaticText {
     #[inline]
     pub fn prefix(&self, len: usize) -> Self
         requires { IsBoundary self.now len }
-        ensures { result ≡ before self.now len }
+        ensures { result ≡ text_before self.now len }
     {
         Self::new(cut::prefix(self.as_static_str(), len))
     }
@@ -121,7 +122,7 @@ impl StaticText {
     #[inline]
     pub fn suffix(&self, index: usize) -> Self
         requires { IsBoundary self.now index }
-        ensures { result ≡ after self.now index }
+        ensures { result ≡ text_after self.now index }
     {
         Self::new(cut::suffix(self.as_static_str(), index))
     }

@@ -11,8 +11,8 @@ use Rattle.std.specs.Iterator.Runs.{WholeRun}
 use Rattle.std.proofs.iter.runs.Made.{run, to_end}
 use Rattle.std.specs.Str.{IsUtf8}
 use Rattle.compact_repr.specs.Text.{size, text_of}
-use Rattle.compact_repr.specs.Cut.{IsBoundary, before}
-use Rattle.compact_repr.proofs.Cuts.{before-cut}
+use Rattle.compact_repr.specs.Cut.{IsBoundary, text_before}
+use Rattle.compact_repr.proofs.Cuts.{text_before-append}
 use Rattle.compact_repr.specs.Value.{PlacedText}
 use Rattle.compact_repr.specs.Capacity.{Growth}
 use Rattle.compact_repr.specs.Change.{push_str}
@@ -84,9 +84,9 @@ module _ {U S T E : Type 0} (becomes : U → S → Type 0) (steps : S → Option
   extended-boundary (Ok _) (it, b, (xs, d, a)) e = (v.text, flat_map f xs, record { parts = Appends-text g f v w xs a; position = refl })
   extended-boundary (Err _) e (it, b, s) = (v.text, flat_map f s.0, record { parts = Appends-text g f v w s.0 s.4; position = refl })
 
-  pub extended-front : (r : Result (Unit {0}) E) → Extended r → Stopped r → before w.text (size v.text) ≡ v.text
-  extended-front (Ok _) (it, b, (xs, d, a)) e = ap (λ t. before t (size v.text)) (Appends-text g f v w xs a) ∙ before-cut v.text (flat_map f xs) (size v.text) refl
-  extended-front (Err _) e (it, b, s) = ap (λ t. before t (size v.text)) (Appends-text g f v w s.0 s.4) ∙ before-cut v.text (flat_map f s.0) (size v.text) refl
+  pub extended-front : (r : Result (Unit {0}) E) → Extended r → Stopped r → text_before w.text (size v.text) ≡ v.text
+  extended-front (Ok _) (it, b, (xs, d, a)) e = ap (λ t. text_before t (size v.text)) (Appends-text g f v w xs a) ∙ text_before-append v.text (flat_map f xs) (size v.text) refl
+  extended-front (Err _) e (it, b, s) = ap (λ t. text_before t (size v.text)) (Appends-text g f v w s.0 s.4) ∙ text_before-append v.text (flat_map f s.0) (size v.text) refl
 
   -- the same, as the library's trait says it
   pub extended-for_trait : (r : Result (Unit {0}) E) → Extended r → Stopped r
@@ -165,31 +165,31 @@ module _ {S T E : Type 0} (steps : S → Option T → S → Type 0) (s : S) (rea
   joined-succeeds (Err _) o h = absurd (omega (arith, h o.0 o.1 o.2, o.3))
 
 -- the first item stands alone, and each other behind a separator
-pub joined-cons : {T : Type 0} (f : T → List ℕ) (separator : List ℕ) (x : T) (xs : List T) → join separator f (x ∷ xs) ≡ f x ++ flat_map (λ y. separator ++ f y) xs
-joined-cons f separator x xs =
+pub join-cons : {T : Type 0} (f : T → List ℕ) (separator : List ℕ) (x : T) (xs : List T) → join separator f (x ∷ xs) ≡ f x ++ flat_map (λ y. separator ++ f y) xs
+join-cons f separator x xs =
     ap (λ l. drop (length separator) l) (append_assoc separator (f x) (flat_map (λ y. separator ++ f y) xs)) ∙ drop-append_seam separator (f x ++ flat_map (λ y. separator ++ f y) xs)
 
-pub joined-one : {T : Type 0} (f : T → List ℕ) (separator : List ℕ) (x : T) → join separator f (x ∷ []) ≡ f x
-joined-one f separator x = joined-cons f separator x [] ∙ append-nil (f x)
+pub join-one : {T : Type 0} (f : T → List ℕ) (separator : List ℕ) (x : T) → join separator f (x ∷ []) ≡ f x
+join-one f separator x = join-cons f separator x [] ∙ append-nil (f x)
 
-pub first-joined : {T : Type 0} (f : T → List ℕ) (separator : List ℕ) (x : T) (z p w : List ℕ) → z ≡ [] → p ≡ f x → w ≡ z ++ p → w ≡ join separator f (x ∷ [])
-first-joined f separator x z p w e k h = h ∙ ap (λ l. l ++ p) e ∙ k ∙ sym (joined-one f separator x)
+pub join-start : {T : Type 0} (f : T → List ℕ) (separator : List ℕ) (x : T) (z p w : List ℕ) → z ≡ [] → p ≡ f x → w ≡ z ++ p → w ≡ join separator f (x ∷ [])
+join-start f separator x z p w e k h = h ∙ ap (λ l. l ++ p) e ∙ k ∙ sym (join-one f separator x)
 
 -- one more item behind the first
-pub joined-next : {T : Type 0} (f : T → List ℕ) (separator : List ℕ) (z : T) (xs : List T) (x : T) → join separator f (z ∷ (xs ++ x ∷ [])) ≡ (join separator f (z ∷ xs) ++ separator) ++ f x
-joined-next f separator z xs x =
+pub join-next : {T : Type 0} (f : T → List ℕ) (separator : List ℕ) (z : T) (xs : List T) (x : T) → join separator f (z ∷ (xs ++ x ∷ [])) ≡ (join separator f (z ∷ xs) ++ separator) ++ f x
+join-next f separator z xs x =
     let others = flat_map (λ y. separator ++ f y) xs in
-    joined-cons f separator z (xs ++ x ∷ [])
+    join-cons f separator z (xs ++ x ∷ [])
     ∙ ap (λ l. f z ++ l) (flat_map-append (λ y. separator ++ f y) xs (x ∷ []))
     ∙ sym (append_assoc (f z) others ((separator ++ f x) ++ []))
     ∙ ap (λ l. (f z ++ others) ++ l) (append-nil (separator ++ f x))
     ∙ sym (append_assoc (f z ++ others) separator (f x))
-    ∙ ap (λ l. (l ++ separator) ++ f x) (sym (joined-cons f separator z xs))
+    ∙ ap (λ l. (l ++ separator) ++ f x) (sym (join-cons f separator z xs))
 
 -- one turn of the loop that joins
-pub joined-turn : {T : Type 0} (f : T → List ℕ) (separator : List ℕ) (z : T) (xs : List T) (x : T) {a w p : List ℕ} → a ≡ join separator f (z ∷ xs)
+pub join-turn : {T : Type 0} (f : T → List ℕ) (separator : List ℕ) (z : T) (xs : List T) (x : T) {a w p : List ℕ} → a ≡ join separator f (z ∷ xs)
     → p ≡ f x → w ≡ (a ++ separator) ++ p → w ≡ join separator f (z ∷ (xs ++ x ∷ []))
-joined-turn f separator z xs x a p w = rw (w, p, a) (sym (joined-next f separator z xs x))
+join-turn f separator z xs x a p w = rw (w, p, a) (sym (join-next f separator z xs x))
 
 -- an item taken ahead of a loop, and those of the loop
 pub first-drained : {S T : Type 0} (steps : S → Option T → S → Type 0) {s j k t u : S} {x : T} (xs : List T) → steps s (Some x) j → k ≡ j → Yields steps k xs t → steps t None u → Drains steps s (x ∷ xs)
@@ -198,10 +198,10 @@ first-drained steps {s} {j} {k} {t} {u} {x} xs first same rest end = (u, (t, (j,
 pub first-yields : {S T : Type 0} (steps : S → Option T → S → Type 0) {s j k t u : S} {z : T} (xs : List T) (x : T) → steps s (Some z) j → k ≡ j → Yields steps k xs t → steps t (Some x) u → Yields steps s (z ∷ (xs ++ x ∷ [])) u
 first-yields steps {s} {j} {k} {t} {u} {z} xs x first same rest next = (j, first, subst (λ q. Yields steps q (xs ++ x ∷ []) u) same (yields-next steps k t u xs x rest next))
 
-pub join-size : {T : Type 0} (f : T → List ℕ) (separator : List ℕ) (z : T) (xs : List T) (x : T) → size (join separator f (z ∷ (xs ++ x ∷ []))) ≡ size (join separator f (z ∷ xs)) + size separator + size (f x)
-join-size f separator z xs x =
+pub size-join : {T : Type 0} (f : T → List ℕ) (separator : List ℕ) (z : T) (xs : List T) (x : T) → size (join separator f (z ∷ (xs ++ x ∷ []))) ≡ size (join separator f (z ∷ xs)) + size separator + size (f x)
+size-join f separator z xs x =
     let so_far = join separator f (z ∷ xs) in
-    ap size (joined-next f separator z xs x) ∙ size-append (so_far ++ separator) (f x) ∙ ap (λ (n : ℕ). n + size (f x)) (size-append so_far separator)
+    ap size (join-next f separator z xs x) ∙ size-append (so_far ++ separator) (f x) ∙ ap (λ (n : ℕ). n + size (f x)) (size-append so_far separator)
 
 -- where a join stops, what came makes more than 24 bytes
 module _ {S T : Type 0} (steps : S → Option T → S → Type 0) (f : T → List ℕ) (s : S) (separator : List ℕ) where
@@ -209,7 +209,7 @@ module _ {S T : Type 0} (steps : S → Option T → S → Type 0) (f : T → Lis
   join_of xs = join (text_of separator) f xs
 
   pub join-first : {j : S} {x : T} {z : List ℕ} (t : List ℕ) → steps s (Some x) j → z ≡ [] → text_of t ≡ f x → IsUtf8 t → 24 < size z + length t → PassesInline steps join_of s
-  join-first {j} {x} t n e k u h = (x ∷ [], j, (j, n, refl), omega (arith, h, ap size e, ap size k, size-text_of t u, ap size (joined-one f (text_of separator) x)))
+  join-first {j} {x} t n e k u h = (x ∷ [], j, (j, n, refl), omega (arith, h, ap size e, ap size k, size-text_of t u, ap size (join-one f (text_of separator) x)))
 
   pub join-piece : {j k t u : S} {z : T} {w : List ℕ} (xs : List T) (x : T) (p : List ℕ) → steps s (Some z) j → k ≡ j → Yields steps k xs t → steps t (Some x) u
       → w ≡ join (text_of separator) f (z ∷ xs) → IsUtf8 separator → text_of p ≡ f x → IsUtf8 p → 24 < size w + length separator + length p → PassesInline steps join_of s
@@ -217,7 +217,7 @@ module _ {S T : Type 0} (steps : S → Option T → S → Type 0) (f : T → Lis
     z ∷ (xs ++ x ∷ []),
     u,
     first-yields steps xs x first same rest next,
-    omega (arith, h, ap size e, size-text_of separator a, ap size b, size-text_of p v, join-size f (text_of separator) z xs x),
+    omega (arith, h, ap size e, size-text_of separator a, ap size b, size-text_of p v, size-join f (text_of separator) z xs x),
   )
 
 -- what is finished has the text that came
@@ -252,5 +252,5 @@ module _ {U S T : Type 0} (becomes : U → S → Type 0) (steps : S → Option T
       (it, b, (o.0 ++ o.1 ∷ [], o.2, yields-next steps it o.3.0 o.2 o.0 o.1 o.3.1 o.3.2, omega (arith, size-next f o.0 o.1, o.5, ap size so_far)))
 
 -- items that are read through v
-pub joined-map : {A B : Type 0} (separator : List ℕ) (h : B → List ℕ) (v : A → B) (xs : List A) → join separator h (map v xs) ≡ join separator (λ x. h (v x)) xs
-joined-map separator h v xs = ap (λ l. drop (length separator) l) (flat_map-map (λ y. separator ++ h y) v xs)
+pub join-map : {A B : Type 0} (separator : List ℕ) (h : B → List ℕ) (v : A → B) (xs : List A) → join separator h (map v xs) ≡ join separator (λ x. h (v x)) xs
+join-map separator h v xs = ap (λ l. drop (length separator) l) (flat_map-map (λ y. separator ++ h y) v xs)

@@ -1,16 +1,16 @@
 -- Parts of a text, and how they are taken out.
-use Rattle.std.proofs.Common.{◌≡◌, Some, ℕ, ◌+◌, ◌-◌, ◌*◌, ◌≤◌, List, [], ◌∷◌, ◌++◌, Bool, true, false, not, IsTrue, ◌↔◌, ◌&&◌, length, refl, ap, sym, ◌∙◌, subst, arith, append_assoc, append-nil, length-append, ⊎_elim}
+use Rattle.std.proofs.Common.{◌≡◌, Some, ℕ, ◌+◌, ◌-◌, ◌*◌, ◌%◌, ◌^◌, ◌≤◌, List, [], ◌∷◌, ◌++◌, Bool, true, false, not, IsTrue, ◌↔◌, ◌&&◌, length, refl, ap, sym, ◌∙◌, subst, rules, arith, append_assoc, append-nil, length-append, ⊎_elim}
 use Rattle.std.proofs.lemmas.Grind.{common_steps}
 use Rattle.std.proofs.lemmas.Bool.{cases_Bool, cond-true, cond-false, true≢false, le-leb, leb-true, eq-eqb, eqb-true, ne_eqb, and_parts, and_from}
 use Rattle.std.proofs.lemmas.Str.{len_utf8_bounds}
-use Rattle.std.specs.Char.{len_utf8}
+use Rattle.std.specs.Char.{len_utf8, InScalarRange}
 use Rattle.compact_repr.specs.Text.{size}
-use Rattle.compact_repr.specs.Cut.{IsBoundary, before, after, substring, replaced_text}
+use Rattle.compact_repr.specs.Cut.{IsBoundary, text_before, text_after, substring, replaced_text}
 use Rattle.compact_repr.specs.Value.{Place, inline, heap, static, IsCapacityOf, IsSound, PlacedText, placed_text, is_static}
 use Rattle.compact_repr.specs.Capacity.{Growth, owned_placement}
 use Rattle.compact_repr.specs.Change.{make_owned, replace_range}
 use Rattle.compact_repr.proofs.Texts.{size-append}
-use Rattle.compact_repr.proofs.Cuts.{before-after, size-before, size-replaced, boundary-from_size}
+use Rattle.compact_repr.proofs.Cuts.{text_before-text_after, size-text_before, size-replaced, boundary-from_size}
 use Rattle.compact_repr.proofs.Middles.{substring-parts, parts-substring}
 use Rattle.compact_str.specs.RangeTexts.{is_boundary, is_range, range_text, without_range}
 use Rattle.compact_str.proofs.Letters.{make_owned-text}
@@ -32,7 +32,7 @@ room-owned_placement v sound own = capacity-owned_placement v.placement.place v.
 
 -- `is_boundary` tells the boundaries
 is_boundary-boundary : (t : List ℕ) (p : ℕ) → IsBoundary t p → is_boundary t p ≡ true
-is_boundary-boundary t p h = eq-eqb _ _ (size-before t p h)
+is_boundary-boundary t p h = eq-eqb _ _ (size-text_before t p h)
 
 boundary-is_boundary : (t : List ℕ) (p : ℕ) → is_boundary t p ≡ true → IsBoundary t p
 boundary-is_boundary t p e = boundary-from_size t p (eqb-true _ _ e)
@@ -65,17 +65,17 @@ part-of t a m b i j e first last =
     let three = parts-substring t a m b i j e first last in
     part-range t i j (omega (arith, first, last)) three.0 three.1 ∙ three.2
 
-of-part : (t m : List ℕ) (i j : ℕ) → range_text t i j ≡ m → (m ≡ [] → ⊥) → (t ≡ before t i ++ m ++ after t j) × (size (before t i) ≡ i) × (size (before t i) + size m ≡ j)
+of-part : (t m : List ℕ) (i j : ℕ) → range_text t i j ≡ m → (m ≡ [] → ⊥) → (t ≡ text_before t i ++ m ++ text_after t j) × (size (text_before t i) ≡ i) × (size (text_before t i) + size m ≡ j)
 of-part t m i j e some =
     ⊎_elim
     (λ yes.
     let range = range-is_range t i j yes in
     let parts = substring-parts t i j range.1 range.2 range.0 in
     let is : substring t i j ≡ m = sym (cond-true _ _ _ yes) ∙ e in
-    let behind : after t i ≡ m ++ after t j = subst (λ (l : List ℕ). after t i ≡ l ++ after t j) is parts.0 in
+    let behind : text_after t i ≡ m ++ text_after t j = subst (λ (l : List ℕ). text_after t i ≡ l ++ text_after t j) is parts.0 in
     let wide : size m ≡ j - i = ap size (sym is) ∙ parts.1 in
-    let first = size-before t i range.1 in
-    (before-after t i ∙ ap (λ (l : List ℕ). before t i ++ l) behind ∙ sym (append_assoc (before t i) m (after t j)), first, omega (arith, first, wide, range.0)))
+    let first = size-text_before t i range.1 in
+    (text_before-text_after t i ∙ ap (λ (l : List ℕ). text_before t i ++ l) behind ∙ sym (append_assoc (text_before t i) m (text_after t j)), first, omega (arith, first, wide, range.0)))
     (λ no. absurd (some (sym e ∙ cond-false _ _ _ no)))
     (cases_Bool (is_range t i j))
 
@@ -90,46 +90,73 @@ some-back r c e =
     omega (arith, none, length-append r (c ∷ []))
 
 -- the first character of a part is taken
-pub part-front : (t r : List ℕ) (front back c : ℕ) → range_text t front back ≡ c ∷ r → (range_text t (front + len_utf8 c) back ≡ r) × (front + len_utf8 c ≤ back)
+part-front : (t r : List ℕ) (front back c : ℕ) → range_text t front back ≡ c ∷ r → (range_text t (front + len_utf8 c) back ≡ r) × (front + len_utf8 c ≤ back)
 part-front t r front back c e =
     let three = of-part t (c ∷ r) front back e (some-front r c) in
-    let parts : t ≡ (before t front ++ c ∷ []) ++ r ++ after t back =
-    three.0 ∙ ap (λ (l : List ℕ). l ++ after t back) (sym (append_assoc (before t front) (c ∷ []) r)) in
-    let first : size (before t front ++ c ∷ []) ≡ front + len_utf8 c = size-append (before t front) (c ∷ []) ∙ omega (arith, three.1) in
-    (part-of t (before t front ++ c ∷ []) r (after t back) (front + len_utf8 c) back parts first (omega (arith, first, three.1, three.2)), omega (arith, three.1, three.2))
+    let parts : t ≡ (text_before t front ++ c ∷ []) ++ r ++ text_after t back =
+    three.0 ∙ ap (λ (l : List ℕ). l ++ text_after t back) (sym (append_assoc (text_before t front) (c ∷ []) r)) in
+    let first : size (text_before t front ++ c ∷ []) ≡ front + len_utf8 c = size-append (text_before t front) (c ∷ []) ∙ omega (arith, three.1) in
+    (part-of t (text_before t front ++ c ∷ []) r (text_after t back) (front + len_utf8 c) back parts first (omega (arith, first, three.1, three.2)), omega (arith, three.1, three.2))
 
 -- or the last
-pub part-back : (t r : List ℕ) (front back c : ℕ) → range_text t front back ≡ r ++ c ∷ [] → (range_text t front (back - len_utf8 c) ≡ r) × (front + len_utf8 c ≤ back)
+part-back : (t r : List ℕ) (front back c : ℕ) → range_text t front back ≡ r ++ c ∷ [] → (range_text t front (back - len_utf8 c) ≡ r) × (front + len_utf8 c ≤ back)
 part-back t r front back c e =
     let three = of-part t (r ++ c ∷ []) front back e (some-back r c) in
     let whole = size-append r (c ∷ []) in
-    let parts : t ≡ before t front ++ r ++ (c ∷ [] ++ after t back) =
-    three.0 ∙ ap (λ (l : List ℕ). l ++ after t back) (sym (append_assoc (before t front) r (c ∷ []))) ∙ append_assoc (before t front ++ r) (c ∷ []) (after t back) in
-    (part-of t (before t front) r (c ∷ [] ++ after t back) front (back - len_utf8 c) parts three.1 (omega (arith, whole, three.1, three.2)), omega (arith, whole, three.1, three.2))
+    let parts : t ≡ text_before t front ++ r ++ (c ∷ [] ++ text_after t back) =
+    three.0 ∙ ap (λ (l : List ℕ). l ++ text_after t back) (sym (append_assoc (text_before t front) r (c ∷ []))) ∙ append_assoc (text_before t front ++ r) (c ∷ []) (text_after t back) in
+    (part-of t (text_before t front) r (c ∷ [] ++ text_after t back) front (back - len_utf8 c) parts three.1 (omega (arith, whole, three.1, three.2)), omega (arith, whole, three.1, three.2))
 
 -- what is left is a range
-pub front-range : (t r : List ℕ) (front back c : ℕ) → range_text t front back ≡ c ∷ r → is_range t (front + len_utf8 c) back ≡ true
+front-range : (t r : List ℕ) (front back c : ℕ) → range_text t front back ≡ c ∷ r → is_range t (front + len_utf8 c) back ≡ true
 front-range t r front back c e =
     let three = of-part t (c ∷ r) front back e (some-front r c) in
-    let parts : t ≡ (before t front ++ c ∷ []) ++ r ++ after t back =
-    three.0 ∙ ap (λ (l : List ℕ). l ++ after t back) (sym (append_assoc (before t front) (c ∷ []) r)) in
-    let first : size (before t front ++ c ∷ []) ≡ front + len_utf8 c = size-append (before t front) (c ∷ []) ∙ omega (arith, three.1) in
-    of-range t (before t front ++ c ∷ []) r (after t back) (front + len_utf8 c) back parts first (omega (arith, first, three.1, three.2))
+    let parts : t ≡ (text_before t front ++ c ∷ []) ++ r ++ text_after t back =
+    three.0 ∙ ap (λ (l : List ℕ). l ++ text_after t back) (sym (append_assoc (text_before t front) (c ∷ []) r)) in
+    let first : size (text_before t front ++ c ∷ []) ≡ front + len_utf8 c = size-append (text_before t front) (c ∷ []) ∙ omega (arith, three.1) in
+    of-range t (text_before t front ++ c ∷ []) r (text_after t back) (front + len_utf8 c) back parts first (omega (arith, first, three.1, three.2))
 
 -- both, by where the first character ends
-pub front-taken : (t r : List ℕ) (front back c behind : ℕ) → range_text t front back ≡ c ∷ r → behind ≡ front + len_utf8 c
+front-taken : (t r : List ℕ) (front back c behind : ℕ) → range_text t front back ≡ c ∷ r → behind ≡ front + len_utf8 c
     → (range_text t behind back ≡ r) × (behind ≤ back) × (is_range t behind back ≡ true)
 front-taken t r front back c behind e is =
     let taken = part-front t r front back c e in
     rw is (taken.0, taken.1, front-range t r front back c e)
 
-pub back-range : (t r : List ℕ) (front back c : ℕ) → range_text t front back ≡ r ++ c ∷ [] → is_range t front (back - len_utf8 c) ≡ true
+-- where that character is one byte
+pub byte-taken : (t s : List ℕ) (front back c : ℕ) → s ≡ range_text t front back → (first : (len_utf8 c ≡ 1) × ((r : List ℕ) × (s ≡ c ∷ r)))
+    → (range_text t front back ≡ c ∷ first.1.0) × (range_text t (front + 1) back ≡ first.1.0) × (front + 1 ≤ back) × (is_range t (front + 1) back ≡ true)
+byte-taken t s front back c is first =
+    let split = sym is ∙ first.1.1 in
+    let taken = front-taken t first.1.0 front back c (front + 1) split (ap (λ (n : ℕ). front + n) (sym first.0)) in
+    (split, taken.0, taken.1, taken.2)
+
+-- the lower half of a word is how many bytes the character takes whose code is the upper half
+pub width-of_word : (word c : ℕ) → word ≡ c * 2 ^ 32 + len_utf8 c → word % 2 ^ 32 ≡ len_utf8 c
+width-of_word word c is = let bounds = len_utf8_bounds c in search rules
+
+-- where it is told by such a word
+pub word-taken : (t : List ℕ) (front back word behind : ℕ) → behind ≡ front + word % 2 ^ 32
+    → (first : (c : ℕ) × (r : List ℕ) × (word ≡ c * 2 ^ 32 + len_utf8 c) × InScalarRange c × (range_text t front back ≡ c ∷ r))
+    → (range_text t behind back ≡ first.1) × (behind ≤ back) × (is_range t behind back ≡ true)
+word-taken t front back word behind is first =
+    front-taken t first.1 front back first.0 behind first.4 (is ∙ ap (λ (n : ℕ). front + n) (width-of_word word first.0 first.2))
+
+back-range : (t r : List ℕ) (front back c : ℕ) → range_text t front back ≡ r ++ c ∷ [] → is_range t front (back - len_utf8 c) ≡ true
 back-range t r front back c e =
     let three = of-part t (r ++ c ∷ []) front back e (some-back r c) in
     let whole = size-append r (c ∷ []) in
-    let parts : t ≡ before t front ++ r ++ (c ∷ [] ++ after t back) =
-    three.0 ∙ ap (λ (l : List ℕ). l ++ after t back) (sym (append_assoc (before t front) r (c ∷ []))) ∙ append_assoc (before t front ++ r) (c ∷ []) (after t back) in
-    of-range t (before t front) r (c ∷ [] ++ after t back) front (back - len_utf8 c) parts three.1 (omega (arith, whole, three.1, three.2))
+    let parts : t ≡ text_before t front ++ r ++ (c ∷ [] ++ text_after t back) =
+    three.0 ∙ ap (λ (l : List ℕ). l ++ text_after t back) (sym (append_assoc (text_before t front) r (c ∷ []))) ∙ append_assoc (text_before t front ++ r) (c ∷ []) (text_after t back) in
+    of-range t (text_before t front) r (c ∷ [] ++ text_after t back) front (back - len_utf8 c) parts three.1 (omega (arith, whole, three.1, three.2))
+
+-- both, by the width of the last character
+pub back-taken : (t s : List ℕ) (front back c width : ℕ) → s ≡ range_text t front back → width ≡ len_utf8 c → (last : (r : List ℕ) × (s ≡ r ++ c ∷ []))
+    → (range_text t front back ≡ last.0 ++ c ∷ []) × (range_text t front (back - width) ≡ last.0) × (front + width ≤ back) × (is_range t front (back - width) ≡ true)
+back-taken t s front back c width is wide last =
+    let split = sym is ∙ last.1 in
+    let taken = part-back t last.0 front back c split in
+    rw wide (split, taken.0, taken.1, back-range t last.0 front back c split)
 
 -- a range is one still in the value that is made owned
 pub owned_placement-range : (g : Growth) (v u : PlacedText) (i j : ℕ) → make_owned g v ≡ Some u → i ≤ j → IsBoundary v.text i → IsBoundary v.text j → is_range u.text i j ≡ true
@@ -137,40 +164,40 @@ owned_placement-range g v u i j o order h k =
     ap (λ (t : List ℕ). is_range t i j) (make_owned-text g v u o) ∙ is_range-range v.text i j order h k
 
 -- a value that is made owned and then loses a range
-pub owned_placement-without : (g : Growth) (v u : PlacedText) (i j : ℕ) → make_owned g v ≡ Some u → is_static u.placement.place ≡ false → i ≤ j → IsBoundary v.text i → IsBoundary v.text j
+pub owned_placement-without_range : (g : Growth) (v u : PlacedText) (i j : ℕ) → make_owned g v ≡ Some u → is_static u.placement.place ≡ false → i ≤ j → IsBoundary v.text i → IsBoundary v.text j
     → without_range u i j ≡ placed_text (replaced_text v.text i j []) u.placement
-owned_placement-without g v u i j o own order h k =
+owned_placement-without_range g v u i j o own order h k =
     let text = make_owned-text g v u o in
     let range : is_range u.text i j ≡ true = ap (λ (t : List ℕ). is_range t i j) text ∙ is_range-range v.text i j order h k in
     cond-true _ _ _ (and_from _ _ (ap not own) range) ∙ ap (λ (t : List ℕ). placed_text (replaced_text t i j []) u.placement) text
 
 -- a value that is not static is none without a range
-pub without-owned_placement : (v : PlacedText) (i j : ℕ) → is_static v.placement.place ≡ false → is_static (without_range v i j).placement.place ≡ false
-without-owned_placement v i j own =
+pub without_range-owned_placement : (v : PlacedText) (i j : ℕ) → is_static v.placement.place ≡ false → is_static (without_range v i j).placement.place ≡ false
+without_range-owned_placement v i j own =
     ⊎_elim
     (λ yes. ap (λ (w : PlacedText). is_static w.placement.place) (cond-true _ _ _ yes) ∙ own)
     (λ no. ap (λ (w : PlacedText). is_static w.placement.place) (cond-false _ _ _ no) ∙ own)
     (cases_Bool (not (is_static v.placement.place) && is_range v.text i j))
 
 -- what is left once a range is taken out has no more bytes, and where it has as many it is the same
-without-text : (t : List ℕ) (i j : ℕ) → is_range t i j ≡ true → size t ≤ size (replaced_text t i j []) → replaced_text t i j [] ≡ t
-without-text t i j can same =
+without_range-text : (t : List ℕ) (i j : ℕ) → is_range t i j ≡ true → size t ≤ size (replaced_text t i j []) → replaced_text t i j [] ≡ t
+without_range-text t i j can same =
     let range = range-is_range t i j can in
     let sizes = size-replaced t [] i j range.1 range.2 range.0 in
     let empty : j ≡ i = omega (arith, sizes, same, range.0) in
-    rw empty (ap (λ (l : List ℕ). l ++ after t i) (append-nil (before t i)) ∙ sym (before-after t i))
+    rw empty (ap (λ (l : List ℕ). l ++ text_after t i) (append-nil (text_before t i)) ∙ sym (text_before-text_after t i))
 
-pub without-same : (v : PlacedText) (i j : ℕ) → size v.text ≤ size (without_range v i j).text → (without_range v i j).text ≡ v.text
-without-same v i j same =
+pub without_range-same : (v : PlacedText) (i j : ℕ) → size v.text ≤ size (without_range v i j).text → (without_range v i j).text ≡ v.text
+without_range-same v i j same =
     ⊎_elim
     (λ yes.
     let is = cond-true _ _ _ yes in
-    ap (λ (w : PlacedText). w.text) is ∙ without-text v.text i j (and_parts _ _ yes).1 (subst (λ (w : PlacedText). size v.text ≤ size w.text) is same))
+    ap (λ (w : PlacedText). w.text) is ∙ without_range-text v.text i j (and_parts _ _ yes).1 (subst (λ (w : PlacedText). size v.text ≤ size w.text) is same))
     (λ no. ap (λ (w : PlacedText). w.text) (cond-false _ _ _ no))
     (cases_Bool (not (is_static v.placement.place) && is_range v.text i j))
 
-pub without-within : (v : PlacedText) (i j : ℕ) → size (without_range v i j).text ≤ size v.text
-without-within v i j =
+pub size-without_range : (v : PlacedText) (i j : ℕ) → size (without_range v i j).text ≤ size v.text
+size-without_range v i j =
     ⊎_elim
     (λ yes.
     let range = range-is_range v.text i j (and_parts _ _ yes).1 in
@@ -180,15 +207,15 @@ without-within v i j =
     (cases_Bool (not (is_static v.placement.place) && is_range v.text i j))
 
 -- where it has as many, a range is one still
-pub without-is_range : (v : PlacedText) (i j front back whole : ℕ) → size v.text ≤ whole
+pub without_range-is_range : (v : PlacedText) (i j front back whole : ℕ) → size v.text ≤ whole
     → (size v.text ≡ whole → is_range v.text front back ≡ true)
     → size (without_range v i j).text ≡ whole → is_range (without_range v i j).text front back ≡ true
-without-is_range v i j front back whole within range is =
-    let same = without-same v i j (omega (arith, is, within)) in
+without_range-is_range v i j front back whole within range is =
+    let same = without_range-same v i j (omega (arith, is, within)) in
     subst (λ (t : List ℕ). is_range t front back ≡ true) (sym same) (range (subst (λ (t : List ℕ). size t ≡ whole) same is))
 
 pub drained : (g : Growth) (v u : PlacedText) (i j : ℕ) → make_owned g v ≡ Some u → is_static u.placement.place ≡ false → i ≤ j → IsBoundary v.text i → IsBoundary v.text j → replace_range g v i j [] ≡ Some (without_range u i j)
-drained g v u i j o own order h k = rw (make_owned-placement g v u o, le-leb 0 (j - i) (omega arith), owned_placement-without g v u i j o own order h k) refl
+drained g v u i j o own order h k = rw (make_owned-placement g v u o, le-leb 0 (j - i) (omega arith), owned_placement-without_range g v u i j o own order h k) refl
 
 -- a character has one to four bytes
 pub length-least : (t : List ℕ) → length t ≤ size t

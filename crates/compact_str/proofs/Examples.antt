@@ -5,7 +5,7 @@ use Rattle.std.specs.declared.ops.Bound.TheVariants.{Included, Excluded, Unbound
 use Rattle.compact_repr.specs.Cut.{IsBoundary}
 use Rattle.compact_repr.specs.Value.{PlacedText, placed_text}
 use Rattle.compact_repr.specs.Capacity.{Growth, inline_placement, heap_placement, static_placement, with_capacity_placement}
-use Rattle.compact_repr.proofs.Cuts.{size-before, boundary-within, boundary-from_size}
+use Rattle.compact_repr.proofs.Cuts.{size-text_before, boundary-within, boundary-from_size}
 use Rattle.compact_str.specs.Room.{own_capacity, sure_capacity}
 use Rattle.compact_repr.specs.Change.{truncate, insert_str, replace_range}
 use Rattle.compact_str.specs.PositionEdits.{Removes, split_tail, repeat}
@@ -127,7 +127,7 @@ boundary_3 : IsBoundary mixed 3
 boundary_3 = boundary-from_size mixed 3 refl
 
 no_range_starts_within_a_character : ¬ IsRange mixed (Included 1) Unbounded
-no_range_starts_within_a_character range = let within = size-before mixed 1 range.first in omega (arith, within)
+no_range_starts_within_a_character range = let within = size-text_before mixed 1 range.first in omega (arith, within)
 
 an_excluded_start_is_a_byte_after : range_start (Excluded 1) ≡ 2
 an_excluded_start_is_a_byte_after = refl

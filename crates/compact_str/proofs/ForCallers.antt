@@ -15,17 +15,17 @@ use Rattle.std.specs.Str.{IsUtf8, is_utf8, IsCharBoundary, chars, chars_after}
 use Rattle.std.specs.List.{FoldsTo, concat}
 use Rattle.std.specs.Str.Pattern.{HasCharAt}
 use Rattle.compact_repr.specs.Text.{text_of}
-use Rattle.compact_repr.specs.Cut.{IsBoundary, before, after}
+use Rattle.compact_repr.specs.Cut.{IsBoundary, text_before, text_after}
 use Rattle.compact_repr.specs.Packed.{IsPackedFor}
 use Rattle.compact_repr.specs.Value.{PlacedText}
 use Rattle.compact_repr.specs.Capacity.{Growth}
 use Rattle.compact_str.specs.PositionEdits.{Writes}
 pub use Rattle.compact_repr.proofs.Texts.{length-utf8, utf8-text_of, size-text_of, size-append, empty_text}
 pub use Rattle.compact_repr.proofs.Changes.{push_str-text}
-pub use Rattle.compact_repr.proofs.Cuts.{before-after, before-cut, after-cut, boundary-text, text_of-take, text_of-drop, boundary-within, size-before, size-after}
+pub use Rattle.compact_repr.proofs.Cuts.{text_before-text_after, text_before-append, text_after-append, boundary-text, text_of-take, text_of-drop, boundary-within, size-text_before, size-text_after}
 pub use Rattle.compact_repr.proofs.PackedTexts.{one_text}
-pub use Rattle.compact_str.proofs.Positions.{before-before, boundary-seam}
-pub use Rattle.compact_str.proofs.Collecting.{joined-map}
+pub use Rattle.compact_str.proofs.Positions.{text_before-text_before, boundary-seam}
+pub use Rattle.compact_str.proofs.Collecting.{join-map}
 pub use Rattle.compact_str.proofs.KeyFacts.{texts-from_same, same-from_texts, texts-from_equal}
 
 -- the parts that a formatter wrote are a text together, which is joined
@@ -73,15 +73,15 @@ found-behind : (t s : List ℕ) (c i j k : ℕ) → HasCharAt c s i j → text_o
 found-behind t s c i j k h e u is = boundary-text s k e u (subst (λ (n : ℕ). IsCharBoundary s n) (sym is) h.after)
 
 pub found-text : (t s : List ℕ) (c i j k : ℕ) → HasCharAt c s i j → text_of s ≡ t → IsUtf8 s → IsCharBoundary s i → k ≡ i + len_utf8 c
-    → t ≡ before t i ++ c ∷ after t k
+    → t ≡ text_before t i ++ c ∷ text_after t k
 found-text t s c i j k h e u b is =
     let boundary : IsBoundary t i = boundary-text s i e u b in
     let next : drop i s ≡ encode_utf8 c ++ drop k s = h.split ∙ ap (λ (n : ℕ). encode_utf8 c ++ drop n s) (h.ends ∙ sym is) in
-    let rest : after t i ≡ c ∷ after t k =
+    let rest : text_after t i ≡ c ∷ text_after t k =
     sym (text_of-drop s i e u boundary)
     ∙ chars_past_char (drop i s) (drop k s) c (IsUtf8-drop s i u b) next
     ∙ ap (λ x. c ∷ x) (text_of-drop s k e u (found-behind t s c i j k h e u is)) in
-    before-after t i ∙ ap (λ x. before t i ++ x) rest
+    text_before-text_after t i ∙ ap (λ x. text_before t i ++ x) rest
 
 -- a number that is shown is its own text
 pub text_of-decimal : (n : ℕ) → n < 2 ^ 64 → text_of (decimal n) ≡ decimal n
@@ -104,9 +104,9 @@ pub ruleset for_callers = (
   chars-append,
   IsUtf8-append,
   append_assoc,
-  before-cut,
-  after-cut,
-  before-before,
+  text_before-append,
+  text_after-append,
+  text_before-text_before,
   boundary-within,
   written-text,
   found-text,
@@ -122,7 +122,7 @@ pub ruleset for_callers = (
   same-from_texts,
   texts-from_equal,
   chars_from_encodes,
-  joined-map,
+  join-map,
 )
 
 -- for callers that decode bytes: the lossy text of bytes that encode one, and the test of std's that says whether they do

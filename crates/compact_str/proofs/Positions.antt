@@ -7,13 +7,13 @@ use Rattle.std.proofs.lemmas.Str.{len_utf8_bounds}
 use Rattle.std.specs.Prelude.{IsTrue, IsErr, option_map}
 use Rattle.std.specs.Char.{len_utf8, is_ascii}
 use Rattle.compact_repr.specs.Text.{size}
-use Rattle.compact_repr.specs.Cut.{IsCut, IsBoundary, before, after, replaced_text}
+use Rattle.compact_repr.specs.Cut.{IsCut, IsBoundary, text_before, text_after, replaced_text}
 use Rattle.compact_repr.specs.Value.{PlacedText, placed_text, is_static}
 use Rattle.compact_repr.specs.Capacity.{Growth, shortened_placement, owned_placement, make_owned_asks}
 use Rattle.compact_repr.specs.Change.{truncate, insert_str, replace_range, replace_range_asks}
 use Rattle.compact_str.specs.PositionEdits.{LosesChar}
 use Rattle.compact_repr.proofs.Texts.{size-append, empty_text}
-use Rattle.compact_repr.proofs.Cuts.{boundary-from_size, before-after, before-cut, after-cut, size-before, size-after}
+use Rattle.compact_repr.proofs.Cuts.{boundary-from_size, text_before-text_after, text_before-append, text_after-append, size-text_before, size-text_after}
 
 -- a text that is cut before its last character
 pub truncate-last : (v : PlacedText) (front : List ℕ) (c : ℕ) → v.text ≡ front ++ c ∷ [] → truncate v (size v.text - len_utf8 c) ≡ placed_text front (shortened_placement v front)
@@ -21,88 +21,88 @@ truncate-last v front c e =
     let whole : size v.text ≡ size front + (len_utf8 c + 0) = ap size e ∙ size-append front (c ∷ []) in
     let wide = len_utf8_bounds c in
     let shorter : size v.text - len_utf8 c < size v.text = omega (arith, whole, wide.0) in
-    let cut : before v.text (size v.text - len_utf8 c) ≡ front = ap (λ t. before t (size v.text - len_utf8 c)) e ∙ before-cut front (c ∷ []) _ (omega (arith, whole)) in
+    let cut : text_before v.text (size v.text - len_utf8 c) ≡ front = ap (λ t. text_before t (size v.text - len_utf8 c)) e ∙ text_before-append front (c ∷ []) _ (omega (arith, whole)) in
     rw (cond-false _ _ _ (lt-leb _ _ shorter), cut) refl
 
 -- past the character at a boundary there is a boundary
-pub boundary-next : (t rest : List ℕ) (p c : ℕ) → IsBoundary t p → after t p ≡ c ∷ rest → IsBoundary t (p + len_utf8 c)
+pub boundary-next : (t rest : List ℕ) (p c : ℕ) → IsBoundary t p → text_after t p ≡ c ∷ rest → IsBoundary t (p + len_utf8 c)
 boundary-next t rest p c h e =
-    let parts : t ≡ (before t p ++ c ∷ []) ++ rest = before-after t p ∙ ap (λ x. before t p ++ x) e ∙ sym (append_assoc (before t p) (c ∷ []) rest) in
-    let front = size-before t p h in
-    (before t p ++ c ∷ [], rest, record { parts = parts; position = size-append (before t p) (c ∷ []) ∙ omega (arith, front) })
+    let parts : t ≡ (text_before t p ++ c ∷ []) ++ rest = text_before-text_after t p ∙ ap (λ x. text_before t p ++ x) e ∙ sym (append_assoc (text_before t p) (c ∷ []) rest) in
+    let front = size-text_before t p h in
+    (text_before t p ++ c ∷ [], rest, record { parts = parts; position = size-append (text_before t p) (c ∷ []) ∙ omega (arith, front) })
 
-pub after-next : (t rest : List ℕ) (p c : ℕ) → IsBoundary t p → after t p ≡ c ∷ rest → after t (p + len_utf8 c) ≡ rest
-after-next t rest p c h e =
-    let front = size-before t p h in
-    let parts : t ≡ (before t p ++ c ∷ []) ++ rest = before-after t p ∙ ap (λ x. before t p ++ x) e ∙ sym (append_assoc (before t p) (c ∷ []) rest) in
-    let position : size (before t p ++ c ∷ []) ≡ p + len_utf8 c = size-append (before t p) (c ∷ []) ∙ omega (arith, front) in
-    ap (λ x. after x (p + len_utf8 c)) parts ∙ after-cut (before t p ++ c ∷ []) rest (p + len_utf8 c) position
+pub text_after-next : (t rest : List ℕ) (p c : ℕ) → IsBoundary t p → text_after t p ≡ c ∷ rest → text_after t (p + len_utf8 c) ≡ rest
+text_after-next t rest p c h e =
+    let front = size-text_before t p h in
+    let parts : t ≡ (text_before t p ++ c ∷ []) ++ rest = text_before-text_after t p ∙ ap (λ x. text_before t p ++ x) e ∙ sym (append_assoc (text_before t p) (c ∷ []) rest) in
+    let position : size (text_before t p ++ c ∷ []) ≡ p + len_utf8 c = size-append (text_before t p) (c ∷ []) ∙ omega (arith, front) in
+    ap (λ x. text_after x (p + len_utf8 c)) parts ∙ text_after-append (text_before t p ++ c ∷ []) rest (p + len_utf8 c) position
 
 -- a text that is cut at its end
-pub before-end : (t : List ℕ) (p : ℕ) → IsBoundary t p → size t ≤ p → before t p ≡ t
-before-end t p h k =
-    let rest = size-after t p h in
-    let none : size (after t p) ≡ 0 = omega (arith, rest) in
-    sym (before-after t p ∙ ap (λ x. before t p ++ x) (empty_text (after t p) none) ∙ append-nil (before t p))
+pub text_before-end : (t : List ℕ) (p : ℕ) → IsBoundary t p → size t ≤ p → text_before t p ≡ t
+text_before-end t p h k =
+    let rest = size-text_after t p h in
+    let none : size (text_after t p) ≡ 0 = omega (arith, rest) in
+    sym (text_before-text_after t p ∙ ap (λ x. text_before t p ++ x) (empty_text (text_after t p) none) ∙ append-nil (text_before t p))
 
 -- a position past the end cuts nothing off
-pub before-all : (t : List ℕ) (p : ℕ) → size t ≤ p → before t p ≡ t
-before-all [] p h = refl
-before-all (c ∷ cs) p h =
-    cond-true _ _ _ (le-leb (len_utf8 c) p (omega arith)) ∙ ap (λ x. c ∷ x) (before-all cs (p - len_utf8 c) (omega arith))
+pub text_before-all : (t : List ℕ) (p : ℕ) → size t ≤ p → text_before t p ≡ t
+text_before-all [] p h = refl
+text_before-all (c ∷ cs) p h =
+    cond-true _ _ _ (le-leb (len_utf8 c) p (omega arith)) ∙ ap (λ x. c ∷ x) (text_before-all cs (p - len_utf8 c) (omega arith))
 
-pub truncate-text : (v : PlacedText) (p : ℕ) → (truncate v p).text ≡ before v.text p
-truncate-text v p = grind (arith, common_steps, before-all)
+pub truncate-text : (v : PlacedText) (p : ℕ) → (truncate v p).text ≡ text_before v.text p
+truncate-text v p = grind (arith, common_steps, text_before-all)
 
 -- a boundary of a text is one of its front, and the front up to it is the same
-before-step : (cs : List ℕ) (c p q : ℕ) → p ≤ q → before (before cs (q - len_utf8 c)) (p - len_utf8 c) ≡ before cs (p - len_utf8 c)
-    → before (before (c ∷ cs) q) p ≡ before (c ∷ cs) p
-before-step cs c p q h same = grind (arith, nat_tests)
+text_before-step : (cs : List ℕ) (c p q : ℕ) → p ≤ q → text_before (text_before cs (q - len_utf8 c)) (p - len_utf8 c) ≡ text_before cs (p - len_utf8 c)
+    → text_before (text_before (c ∷ cs) q) p ≡ text_before (c ∷ cs) p
+text_before-step cs c p q h same = grind (arith, nat_tests)
 
-pub before-before : (t : List ℕ) (p q : ℕ) → p ≤ q → before (before t q) p ≡ before t p
-before-before [] p q h = refl
-before-before (c ∷ cs) p q h = before-step cs c p q h (before-before cs (p - len_utf8 c) (q - len_utf8 c) (omega arith))
+pub text_before-text_before : (t : List ℕ) (p q : ℕ) → p ≤ q → text_before (text_before t q) p ≡ text_before t p
+text_before-text_before [] p q h = refl
+text_before-text_before (c ∷ cs) p q h = text_before-step cs c p q h (text_before-text_before cs (p - len_utf8 c) (q - len_utf8 c) (omega arith))
 
-pub before-boundary : (t : List ℕ) (p q : ℕ) → p ≤ q → IsBoundary t p → IsBoundary (before t q) p
-before-boundary t p q h k = boundary-from_size (before t q) p (ap size (before-before t p q h) ∙ size-before t p k)
+pub text_before-boundary : (t : List ℕ) (p q : ℕ) → p ≤ q → IsBoundary t p → IsBoundary (text_before t q) p
+text_before-boundary t p q h k = boundary-from_size (text_before t q) p (ap size (text_before-text_before t p q h) ∙ size-text_before t p k)
 
 -- where a text was put together it may be cut
 pub boundary-seam : (a b : List ℕ) (p : ℕ) → size a ≡ p → IsBoundary (a ++ b) p
 boundary-seam a b p e = (a, b, record { parts = refl; position = e })
 
 -- the two parts of a text at a boundary are the cut
-pub boundary-cut : (t a b : List ℕ) (p : ℕ) → IsBoundary t p → a ≡ before t p → b ≡ after t p → IsCut t p a b
-boundary-cut t a b p h e k = record { parts = before-after t p ∙ rw (e, k) refl; position = ap size e ∙ size-before t p h }
+pub boundary-cut : (t a b : List ℕ) (p : ℕ) → IsBoundary t p → a ≡ text_before t p → b ≡ text_after t p → IsCut t p a b
+boundary-cut t a b p h e k = record { parts = text_before-text_after t p ∙ rw (e, k) refl; position = ap size e ∙ size-text_before t p h }
 
 -- what was put in stands between two boundaries, and what stands round it is as before
 pub replace_range-start : (t s : List ℕ) (start end : ℕ) → IsBoundary t start → IsBoundary (replaced_text t start end s) start
 replace_range-start t s start end h =
-    (before t start, s ++ after t end, record { parts = append_assoc (before t start) s (after t end); position = size-before t start h })
+    (text_before t start, s ++ text_after t end, record { parts = append_assoc (text_before t start) s (text_after t end); position = size-text_before t start h })
 
 pub replace_range-end : (t s : List ℕ) (start end p n : ℕ) → IsBoundary t start → size s ≡ n → p ≡ start + n → IsBoundary (replaced_text t start end s) p
 replace_range-end t s start end p n h e k =
-    (before t start ++ s, after t end, record { parts = refl; position = size-append (before t start) s ∙ omega (arith, size-before t start h) })
+    (text_before t start ++ s, text_after t end, record { parts = refl; position = size-append (text_before t start) s ∙ omega (arith, size-text_before t start h) })
 
-pub after-removed : (t : List ℕ) (start end : ℕ) → IsBoundary t start → after (replaced_text t start end []) start ≡ after t end
-after-removed t start end h =
-    ap (λ x. after (x ++ after t end) start) (append-nil (before t start)) ∙ after-cut (before t start) (after t end) start (size-before t start h)
+pub text_after-replaced_text : (t : List ℕ) (start end : ℕ) → IsBoundary t start → text_after (replaced_text t start end []) start ≡ text_after t end
+text_after-replaced_text t start end h =
+    ap (λ x. text_after (x ++ text_after t end) start) (append-nil (text_before t start)) ∙ text_after-append (text_before t start) (text_after t end) start (size-text_before t start h)
 
-pub truncate-boundary : (v : PlacedText) (p : ℕ) → IsBoundary v.text p → truncate v p ≡ placed_text (before v.text p) (shortened_placement v (before v.text p))
-truncate-boundary v p h = grind (arith, common_steps, before-end)
+pub truncate-boundary : (v : PlacedText) (p : ℕ) → IsBoundary v.text p → truncate v p ≡ placed_text (text_before v.text p) (shortened_placement v (text_before v.text p))
+truncate-boundary v p h = grind (arith, common_steps, text_before-end)
 
 -- an ASCII character takes one byte
 ascii-width : (c : ℕ) → is_ascii c ≡ true → len_utf8 c ≡ 1
 ascii-width c e = grind (arith, common_steps)
 
 -- an owned value that is cut round an ASCII character, in place
-pub removed-in_place : {E : Type 0} (g : Growth) (v w : PlacedText) (rest : List ℕ) (p c : ℕ) → IsBoundary v.text p → after v.text p ≡ c ∷ rest → is_ascii c ≡ true
+pub removed-in_place : {E : Type 0} (g : Growth) (v w : PlacedText) (rest : List ℕ) (p c : ℕ) → IsBoundary v.text p → text_after v.text p ≡ c ∷ rest → is_ascii c ≡ true
     → is_static v.placement.place ≡ false → w ≡ placed_text (replaced_text v.text p (p + 1) []) v.placement → LosesChar {E = E} g v p (Ok c) w
 removed-in_place g v w rest p c h e a o s =
     let width : p + 1 ≡ p + len_utf8 c = ap (λ (n : ℕ). p + n) (sym (ascii-width c a)) in
-    let next : after v.text (p + 1) ≡ rest = ap (after v.text) width ∙ after-next v.text rest p c h e in
-    let cut : replaced_text v.text p (p + 1) [] ≡ before v.text p ++ rest = rw (next, append-nil) refl in
+    let next : text_after v.text (p + 1) ≡ rest = ap (text_after v.text) width ∙ text_after-next v.text rest p c h e in
+    let cut : replaced_text v.text p (p + 1) [] ≡ text_before v.text p ++ rest = rw (next, append-nil) refl in
     let owned_is : owned_placement g v ≡ Some v.placement = rw o refl in
-    let behind : after w.text p ≡ rest = ap (λ (x : PlacedText). after x.text p) s ∙ after-removed v.text p (p + 1) h ∙ next in
+    let behind : text_after w.text p ≡ rest = ap (λ (x : PlacedText). text_after x.text p) s ∙ text_after-replaced_text v.text p (p + 1) h ∙ next in
     record {
       ok = (rest, e, rw (owned_is, s, cut) refl);
       text = ap (λ (x : PlacedText). x.text) s ∙ ap (λ n. replaced_text v.text p n []) width;
@@ -138,13 +138,13 @@ pub owning-long : (v : PlacedText) → IsTrue (make_owned_asks v) → 24 < size 
 owning-long v h = grind (arith, common_steps)
 
 -- a value of which the character at a boundary is replaced by nothing
-pub replace_range-removes : {E : Type 0} (g : Growth) (v w : PlacedText) (rest : List ℕ) (p c n : ℕ) → IsBoundary v.text p → after v.text p ≡ c ∷ rest → n ≡ len_utf8 c
+pub replace_range-removes : {E : Type 0} (g : Growth) (v w : PlacedText) (rest : List ℕ) (p c n : ℕ) → IsBoundary v.text p → text_after v.text p ≡ c ∷ rest → n ≡ len_utf8 c
     → replace_range g v p (p + n) [] ≡ Some w → LosesChar {E = E} g v p (Ok c) w
 replace_range-removes g v w rest p c n h e k o =
-    let next : after v.text (p + n) ≡ rest = ap (λ (m : ℕ). after v.text (p + m)) k ∙ after-next v.text rest p c h e in
-    let cut : replaced_text v.text p (p + n) [] ≡ before v.text p ++ rest = rw (next, append-nil) refl in
+    let next : text_after v.text (p + n) ≡ rest = ap (λ (m : ℕ). text_after v.text (p + m)) k ∙ text_after-next v.text rest p c h e in
+    let cut : replaced_text v.text p (p + n) [] ≡ text_before v.text p ++ rest = rw (next, append-nil) refl in
     let text = range_replaced-text g v w p (p + n) [] o in
-    let behind : after w.text p ≡ rest = ap (λ t. after t p) text ∙ after-removed v.text p (p + n) h ∙ next in
+    let behind : text_after w.text p ≡ rest = ap (λ t. text_after t p) text ∙ text_after-replaced_text v.text p (p + n) h ∙ next in
     record {
       ok = (rest, e, ap (λ t. option_map (placed_text t) (owned_placement g v)) (sym cut) ∙ replace_range-by_nothing g v w p (p + n) o);
       text = text ∙ ap (λ (m : ℕ). replaced_text v.text p (p + m) []) k;

@@ -3,7 +3,7 @@ use Rattle.std.specs.Prelude.{◌≡◌, ℕ, ◌<◌, List, false, [], ◌∷�
 use Rattle.std.specs.Str.{IsUtf8}
 use Rattle.compact_codec.specs.Utf8Text.{BytesEncode, utf8_lossy_text}
 use Rattle.compact_repr.specs.Text.{size, utf8, text_of}
-use Rattle.compact_repr.specs.Cut.{IsBoundary, before}
+use Rattle.compact_repr.specs.Cut.{IsBoundary, text_before}
 use Rattle.compact_repr.specs.Packed.{IsPackedFor}
 use Rattle.compact_repr.specs.Value.{PlacedText, placed_text, IsSound}
 use Rattle.compact_repr.specs.Capacity.{Growth, shortened_placement, make_owned_asks}
@@ -33,7 +33,7 @@ TruncationUndoesAppend =
 abbrev pub AppendUndoesSplit : Type 0
 AppendUndoesSplit =
     (g : Growth) (v tail w : PlacedText) (index : ℕ) → split_tail g v index ≡ Some tail
-    → push_str g (placed_text (before v.text index) (shortened_placement v (before v.text index))) tail.text ≡ Some w → w.text ≡ v.text
+    → push_str g (placed_text (text_before v.text index) (shortened_placement v (text_before v.text index))) tail.text ≡ Some w → w.text ≡ v.text
 
 -- a clone has the text of its source
 abbrev pub CloneIsEqual : Type 0

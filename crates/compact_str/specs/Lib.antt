@@ -2,6 +2,7 @@ pub use Rattle.compact_repr.specs.Text
 pub use Rattle.compact_repr.specs.Cut
 pub use Rattle.compact_repr.specs.Value
 pub use Rattle.compact_repr.specs.Capacity
+pub use Rattle.compact_repr.specs.Policies
 pub use Rattle.compact_repr.specs.Change
 pub use Rattle.compact_repr.specs.Packed
 pub use Rattle.compact_repr.specs.Retain

@@ -3,7 +3,7 @@ use Rattle.std.specs.Prelude.{◌≡◌, ◌≤◌, ℕ, ◌+◌, ◌*◌, Bool,
 use Rattle.std.specs.Char.{len_utf8}
 use Rattle.std.specs.Str.{IsUtf8}
 use Rattle.compact_repr.specs.Text.{size, text_of, utf8}
-use Rattle.compact_repr.specs.Cut.{before, after, replaced_text}
+use Rattle.compact_repr.specs.Cut.{text_before, text_after, replaced_text}
 use Rattle.compact_repr.specs.Value.{Placement, PlacedText, placed_text, is_static}
 use Rattle.compact_repr.specs.Change.{push_str}
 use Rattle.compact_repr.specs.Capacity.{Growth, new_placement, with_capacity_placement, with_capacity_asks, shortened_placement, owned_placement, make_owned_asks, const_new_placement, clone_placement, clone_asks}
@@ -18,13 +18,13 @@ pub record Writes (g : Growth) (v : PlacedText) (bytes : List ℕ) (w : PlacedTe
 -- v made owned, without the character at a position, which is c
 abbrev pub Removes : Growth → PlacedText → ℕ → ℕ → PlacedText → Type 0
 Removes g v index c w =
-    (rest : List ℕ) × (after v.text index ≡ c ∷ rest) × (option_map (placed_text (before v.text index ++ rest)) (owned_placement g v) ≡ Some w)
+    (rest : List ℕ) × (text_after v.text index ≡ c ∷ rest) × (option_map (placed_text (text_before v.text index ++ rest)) (owned_placement g v) ≡ Some w)
 
 -- v has lost the character at a position, which was returned, and w is left; or w is v, where that fails
 pub record LosesChar {E : Type 0} (g : Growth) (v : PlacedText) (index : ℕ) (r : Result ℕ E) (w : PlacedText) : Type 0 where
   pub ok : IfOk r (λ c. Removes g v index c w)
   pub text : IfOk r (λ c. w.text ≡ replaced_text v.text index (index + len_utf8 c) [])
-  pub character : IfOk r (λ c. after v.text index ≡ c ∷ after w.text index)
+  pub character : IfOk r (λ c. text_after v.text index ≡ c ∷ text_after w.text index)
   pub succeeds : IsOwned v → IsOk r
   pub succeeds_short : size v.text ≤ 24 → IsOk r
   pub err : OnErr r ((w ≡ v) × IsTrue (make_owned_asks v))
@@ -40,15 +40,15 @@ tail_placement g v tail = if is_static v.placement.place then Some (const_new_pl
 
 -- the tail that is split off at a position
 abbrev pub split_tail : Growth → PlacedText → ℕ → Option PlacedText
-split_tail g v index = let tail = after v.text index in option_map (placed_text tail) (tail_placement g v tail)
+split_tail g v index = let tail = text_after v.text index in option_map (placed_text tail) (tail_placement g v tail)
 
 -- v is split at a position: the tail leaves, and what stands before it stays in its place
 pub record SplitsOff (g : Growth) (v : PlacedText) (index : ℕ) (tail w : PlacedText) : Type 0 where
   pub leaves : split_tail g v index ≡ Some tail
-  pub stays : let front = before v.text index in w ≡ placed_text front (shortened_placement v front)
+  pub stays : let front = text_before v.text index in w ≡ placed_text front (shortened_placement v front)
 
 abbrev pub split_asks : PlacedText → ℕ → Bool
-split_asks v index = not (is_static v.placement.place) && with_capacity_asks (size (after v.text index))
+split_asks v index = not (is_static v.placement.place) && with_capacity_asks (size (text_after v.text index))
 
 -- t so many times
 abbrev pub repeated_text : ℕ → List ℕ → List ℕ

@@ -1,4 +1,4 @@
-//! A value while it is collected.
+//! A value while it is collected, with the short pieces that are not yet appended to it.
 ghost use Rattle.std.specs.Prelude.{◌≡◌, ◌+◌, ◌<◌, [], ◌∷◌, ◌++◌, length, OnOk, OnErr, IfOk, IfSome};
 ghost use Rattle.std.specs.Char.{len_utf8};
 ghost use Rattle.compact_repr.specs.Text.{size, text_of};
@@ -42,7 +42,11 @@ impl<P: Policy> Gathered<P> {
         }
     }
 
-    /// Takes `text` behind what has come. An error comes only where that makes more than 24 bytes.
+    /// Takes `text` behind what has come.
+    ///
+    /// # Errors
+    ///
+    /// [`ReserveError`] if a buffer is refused, for more than 24 bytes.
     #[inline]
     pub fn push_str(&mut self, text: &str) -> Result<(), ReserveError>
         ensures ok { OnOk result (self.new ≡ self.old ++ text_of text.now) }
@@ -54,8 +58,11 @@ impl<P: Policy> Gathered<P> {
         self.push_behind(text)
     }
 
-    /// Takes `separator` and then `text` behind what has come; `padded` is the separator too, where it is a short one. An
-    /// error comes only where that makes more than 24 bytes.
+    /// Takes `separator` and then `text` behind what has come; `padded` is the separator too, where it is a short one.
+    ///
+    /// # Errors
+    ///
+    /// [`ReserveError`] if a buffer is refused, for more than 24 bytes.
     #[inline]
     pub fn push_parted(
         &mut self,
@@ -87,7 +94,11 @@ impl<P: Policy> Gathered<P> {
         self.push_str(text)
     }
 
-    /// Takes a character behind what has come. An error comes only where that makes more than 24 bytes.
+    /// Takes a character behind what has come.
+    ///
+    /// # Errors
+    ///
+    /// [`ReserveError`] if a buffer is refused, for more than 24 bytes.
     #[inline]
     pub fn push(&mut self, character: char) -> Result<(), ReserveError>
         ensures ok { OnOk result (self.new ≡ self.old ++ character ∷ []) }
@@ -115,9 +126,11 @@ impl<P: Policy> Gathered<P> {
         self.value.push_str(text)
     }
 
-    /// The value; of what is left nothing is said. An error comes only where the value has more than 24 bytes.
+    /// The value; of what is left nothing is said. It takes a reference, for a move would copy the block.
     ///
-    /// It takes a reference, for a move would copy the block.
+    /// # Errors
+    ///
+    /// [`ReserveError`] if a buffer is refused, for more than 24 bytes.
     #[inline]
     pub fn finish(&mut self) -> Result<PolicyString<P>, ReserveError>
         ensures text { IfOk result (λ v. v.text ≡ self.old) }

@@ -1,4 +1,5 @@
-//! Laws of the edits, of packed bytes, of the order and of the hash. Each function does nothing; its contract is the law.
+//! Laws of the edits, of packed bytes, of the order and of the hash: functions that do nothing, whose contracts are the
+//! laws.
 ghost use Rattle.compact_str.specs.Laws.{RemovalUndoesInsertion, TruncationUndoesAppend, AppendUndoesSplit, CloneIsEqual, DecodingUndoesEncoding, PackedBytesStandForOneText};
 ghost use Rattle.std.specs.Prelude.{◌≡◌};
 ghost use Rattle.std.specs.Hash as fed;
@@ -38,7 +39,8 @@ pub fn decoding_undoes_encoding()
     ensures { DecodingUndoesEncoding }
 {}
 
-/// No 24 bytes stand for two texts. So what `from_packed` makes of the bytes that `packed` gave has the text of that value.
+/// No 24 bytes stand for two texts, so what `from_packed` makes of the bytes that `packed` gave has the text of that
+/// value.
 pub fn packed_bytes_stand_for_one_text()
     ensures { PackedBytesStandForOneText }
 {}

@@ -28,7 +28,7 @@ use std::marker::Model;
 ///
 /// A contract sees the text, as a list of characters, the place (inline, heap or static) and the capacity in bytes.
 /// An inline value has capacity 24 and at most 24 bytes, a static value has just the capacity of its text, and a heap
-/// value has at most its capacity.
+/// value has at most its capacity. Inline and heap values are owned: they are changed in bytes of their own.
 ///
 /// Where the comment of a call tells of heap buffers of at least 32 bytes, or of growth by half, these are the numbers of
 /// `CompactString`; a policy of one's own has others.

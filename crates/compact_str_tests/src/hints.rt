@@ -23,7 +23,8 @@ impl<'a, T> Iterator for Hinting<'a, T> {
 
     ghost remaining = { λ h. at_most (length h.rest.now) };
 
-    ghost next_gives = { λ h r k. MatchOption r (k.rest.now ≡ h.rest.now) (λ _. length k.rest.now + 1 ≡ length h.rest.now) };
+    ghost next_gives = { λ h r k. MatchOption r (k.rest.now ≡ h.rest.now)
+        (λ _. length k.rest.now + 1 ≡ length h.rest.now) };
 
     fn next(&mut self) -> Option<&'a T> {
         let (first, others) = self.rest.split_first()?;

@@ -5,7 +5,7 @@ use crate::table::character;
 use std::alloc::{AllocError, Global};
 
 /// The greatest count of a unit.
-const GREATEST_COUNT: usize = 2000;
+const MAX_COUNT: usize = 2000;
 
 /// The table with each text written out, line by line.
 pub fn expanded(alloc: Global, table: &str) -> Result<String, AllocError> {
@@ -44,7 +44,7 @@ fn expand_word(text: &mut String, word: &str) -> Result<(), AllocError> {
 fn unit_and_count(part: &str) -> (&str, usize) {
     match part.split_once('*') {
         Some((unit, count)) => match count.parse::<usize>() {
-            Ok(count) => (unit, count.min(GREATEST_COUNT)),
+            Ok(count) => (unit, count.min(MAX_COUNT)),
             Err(_) => (part, 1),
         },
         None => (part, 1),

@@ -9,12 +9,17 @@ pub struct Hog {
 }
 
 impl Hog {
+    /// How many blocks it holds.
     pub fn block_count(&self) -> usize {
         self.blocks.len()
     }
 }
 
 /// Takes the whole address space, in ever smaller blocks that nothing writes to.
+///
+/// # Errors
+///
+/// `AllocError` if there is no memory for the list of the blocks.
 pub fn take_all(alloc: Global) -> Result<Hog, AllocError> {
     let mut blocks = Vec::with_capacity(alloc, 60_000)?;
     let mut size = 1usize << 46;

@@ -6,7 +6,8 @@ use compact_str::Policy;
 pub struct Double;
 
 impl Policy for Double {
-    ghost use Rattle.std.proofs.Common.{refl, lit≤, lit<};
+    ghost use Rattle.std.proofs.Common.{refl};
+    ghost use Rattle.compact_str.specs.Policies.{IsLawful-test};
 
     const MIN_HEAP: usize = 32;
 
@@ -24,14 +25,15 @@ impl Policy for Double {
 
     ghost is_growth = { refl };
 
-    ghost lawful = { record { above_inline = lit≤ tt; below_limit = lit≤ tt; divides = lit≤ tt; grows = lit< tt; small = lit≤ tt } };
+    ghost lawful = { IsLawful-test _ refl };
 }
 
 /// Grows a buffer by a quarter, from the least that a policy may have.
 pub struct Slow;
 
 impl Policy for Slow {
-    ghost use Rattle.std.proofs.Common.{refl, lit≤, lit<};
+    ghost use Rattle.std.proofs.Common.{refl};
+    ghost use Rattle.compact_str.specs.Policies.{IsLawful-test};
 
     const MIN_HEAP: usize = 25;
 
@@ -49,14 +51,15 @@ impl Policy for Slow {
 
     ghost is_growth = { refl };
 
-    ghost lawful = { record { above_inline = lit≤ tt; below_limit = lit≤ tt; divides = lit≤ tt; grows = lit< tt; small = lit≤ tt } };
+    ghost lawful = { IsLawful-test _ refl };
 }
 
 /// Takes 4096 bytes at the first growth, and grows by half.
 pub struct Large;
 
 impl Policy for Large {
-    ghost use Rattle.std.proofs.Common.{refl, lit≤, lit<};
+    ghost use Rattle.std.proofs.Common.{refl};
+    ghost use Rattle.compact_str.specs.Policies.{IsLawful-test};
 
     const MIN_HEAP: usize = 4096;
 
@@ -74,5 +77,5 @@ impl Policy for Large {
 
     ghost is_growth = { refl };
 
-    ghost lawful = { record { above_inline = lit≤ tt; below_limit = lit≤ tt; divides = lit≤ tt; grows = lit< tt; small = lit≤ tt } };
+    ghost lawful = { IsLawful-test _ refl };
 }

@@ -1,5 +1,6 @@
-//! What a test sees of a value. Each is asked by a function with no clause, and answered by a `bool`: to compare two records
-//! of what is seen takes longer to prove.
+//! What a test sees of a value, asked by functions with no clause.
+//!
+//! Each answers a `bool`: to compare two records of what is seen takes longer to prove.
 
 use crate::values::place_of;
 use compact_str::{CompactString, Policy, PolicyString};

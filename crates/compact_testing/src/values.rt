@@ -19,21 +19,37 @@ pub fn lasting(alloc: Global, count: usize) -> CompactString {
 }
 
 /// A value with this text.
+///
+/// # Errors
+///
+/// [`ReserveError`] as from `new`.
 pub fn value_of(alloc: Global, text: &str) -> Result<CompactString, ReserveError> {
     CompactString::new(alloc, text)
 }
 
-/// An empty value with that much room.
+/// An empty value with that much room, in bytes.
+///
+/// # Errors
+///
+/// [`ReserveError`] as from `with_capacity`.
 pub fn with_room(alloc: Global, capacity: usize) -> Result<CompactString, ReserveError> {
     CompactString::with_capacity(alloc, capacity)
 }
 
 /// Appends a text.
+///
+/// # Errors
+///
+/// [`ReserveError`] as from `push_str`.
 pub fn append<P: Policy>(value: &mut PolicyString<P>, text: &str) -> Result<(), ReserveError> {
     value.push_str(text)
 }
 
-/// A text in a buffer of just that capacity.
+/// A text in a buffer of just that capacity, in bytes.
+///
+/// # Errors
+///
+/// `AllocError` if no memory is found for it.
 pub fn string_with_room(alloc: Global, capacity: usize, text: &str) -> Result<String, AllocError> {
     let mut buffer = String::with_capacity(alloc, capacity)?;
     buffer.push_str(text)?;

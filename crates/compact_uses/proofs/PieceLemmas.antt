@@ -6,8 +6,8 @@ use Rattle.std.proofs.lemmas.Str.{length-encode, len_utf8_bounds, chars-nil}
 use Rattle.std.specs.Char.{len_utf8, encode_utf8}
 use Rattle.std.specs.Str.{IsUtf8}
 use Rattle.compact_str.specs.Text.{size, text_of}
-use Rattle.compact_str.specs.Cut.{IsBoundary, before, after}
-use Rattle.compact_str.proofs.ForCallers.{before-after, before-cut, size-before, size-append, size-text_of, text_of-take, text_of-drop}
+use Rattle.compact_str.specs.Cut.{IsBoundary, text_before, text_after}
+use Rattle.compact_str.proofs.ForCallers.{text_before-text_after, text_before-append, size-text_before, size-append, size-text_of, text_of-take, text_of-drop}
 use Rattle.compact_str.proofs.TextBytes.{text_of-next}
 
 drop-later : (bytes : List ℕ) (n m : ℕ) → drop (n + m) bytes ≡ drop m (drop n bytes)
@@ -22,26 +22,26 @@ drop-later (b ∷ bytes) (suc n) m =
 -- what stands behind the next character
 pub record Next (bytes later : List ℕ) (len c : ℕ) : Type 0 where
   pub boundary : IsBoundary (text_of bytes) (len + len_utf8 c)
-  pub piece : before (text_of bytes) (len + len_utf8 c) ≡ before (text_of bytes) len ++ c ∷ []
+  pub piece : text_before (text_of bytes) (len + len_utf8 c) ≡ text_before (text_of bytes) len ++ c ∷ []
   pub here : drop (len + len_utf8 c) bytes ≡ later
 
 pub next-character : (bytes later : List ℕ) (len c : ℕ) → IsUtf8 bytes → IsBoundary (text_of bytes) len → drop len bytes ≡ encode_utf8 c ++ later → Next bytes later len c
 next-character bytes later len c u h e =
     let t : List ℕ = text_of bytes in
-    let parts : t ≡ (before t len ++ c ∷ []) ++ text_of later =
-    before-after t len ∙ ap (λ x. before t len ++ x) (text_of-next bytes later len c u h e) ∙ sym (append_assoc (before t len) (c ∷ []) (text_of later)) in
+    let parts : t ≡ (text_before t len ++ c ∷ []) ++ text_of later =
+    text_before-text_after t len ∙ ap (λ x. text_before t len ++ x) (text_of-next bytes later len c u h e) ∙ sym (append_assoc (text_before t len) (c ∷ []) (text_of later)) in
     let one : size (c ∷ []) ≡ len_utf8 c = omega arith in
-    let position : size (before t len ++ c ∷ []) ≡ len + len_utf8 c = omega (arith, size-append (before t len) (c ∷ []), size-before t len h, one) in
+    let position : size (text_before t len ++ c ∷ []) ≡ len + len_utf8 c = omega (arith, size-append (text_before t len) (c ∷ []), size-text_before t len h, one) in
     record {
-      boundary = (before t len ++ c ∷ [], text_of later, record { parts = parts; position = position });
-      piece = ap (λ x. before x (len + len_utf8 c)) parts ∙ before-cut (before t len ++ c ∷ []) (text_of later) (len + len_utf8 c) position;
+      boundary = (text_before t len ++ c ∷ [], text_of later, record { parts = parts; position = position });
+      piece = ap (λ x. text_before x (len + len_utf8 c)) parts ∙ text_before-append (text_before t len ++ c ∷ []) (text_of later) (len + len_utf8 c) position;
       here =
           drop-later bytes len (len_utf8 c) ∙ ap (λ x. drop (len_utf8 c) x) e ∙ ap (λ n. drop n (encode_utf8 c ++ later)) (sym (length-encode c))
           ∙ drop-append_seam (encode_utf8 c) later;
     }
 
-pub first-piece : (t : List ℕ) → before t 0 ≡ []
-first-piece t = before-cut [] t 0 refl
+pub first-piece : (t : List ℕ) → text_before t 0 ≡ []
+first-piece t = text_before-append [] t 0 refl
 
 pub start-boundary : (t : List ℕ) → IsBoundary t 0
 start-boundary t = ([], t, record { parts = refl; position = refl })
@@ -49,7 +49,7 @@ start-boundary t = ([], t, record { parts = refl; position = refl })
 -- a piece of one character, from where the rest begins
 pub record First (bytes later : List ℕ) (c : ℕ) : Type 0 where
   pub boundary : IsBoundary (text_of bytes) (len_utf8 c)
-  pub piece : before (text_of bytes) (len_utf8 c) ≡ c ∷ []
+  pub piece : text_before (text_of bytes) (len_utf8 c) ≡ c ∷ []
   pub here : drop (len_utf8 c) bytes ≡ later
 
 pub first-character : (bytes later : List ℕ) (c : ℕ) → IsUtf8 bytes → bytes ≡ encode_utf8 c ++ later → First bytes later c
@@ -58,15 +58,15 @@ first-character bytes later c u e =
     let width : 0 + len_utf8 c ≡ len_utf8 c = omega arith in
     record {
       boundary = subst (λ n. IsBoundary (text_of bytes) n) width next.boundary;
-      piece = ap (λ n. before (text_of bytes) n) (sym width) ∙ next.piece ∙ ap (λ t. t ++ c ∷ []) (first-piece (text_of bytes));
+      piece = ap (λ n. text_before (text_of bytes) n) (sym width) ∙ next.piece ∙ ap (λ t. t ++ c ∷ []) (first-piece (text_of bytes));
       here = ap (λ n. drop n bytes) (sym width) ∙ next.here;
     }
 
 -- where nothing comes any more the piece is the whole rest
-pub whole-piece : (bytes : List ℕ) (len : ℕ) → IsUtf8 bytes → IsBoundary (text_of bytes) len → length (drop len bytes) ≡ 0 → before (text_of bytes) len ≡ text_of bytes
+pub whole-piece : (bytes : List ℕ) (len : ℕ) → IsUtf8 bytes → IsBoundary (text_of bytes) len → length (drop len bytes) ≡ 0 → text_before (text_of bytes) len ≡ text_of bytes
 whole-piece bytes len u h e =
-    let none : after (text_of bytes) len ≡ [] = sym (text_of-drop bytes len refl u h) ∙ ap text_of (by (drop len bytes) e) ∙ chars-nil in
-    sym (before-after (text_of bytes) len ∙ ap (λ x. before (text_of bytes) len ++ x) none ∙ append-nil (before (text_of bytes) len))
+    let none : text_after (text_of bytes) len ≡ [] = sym (text_of-drop bytes len refl u h) ∙ ap text_of (by (drop len bytes) e) ∙ chars-nil in
+    sym (text_before-text_after (text_of bytes) len ∙ ap (λ x. text_before (text_of bytes) len ++ x) none ∙ append-nil (text_before (text_of bytes) len))
   where
     by : (bs : List ℕ) → length bs ≡ 0 → bs ≡ []
     by [] none = refl
@@ -78,7 +78,7 @@ pub cut-joined : (front now full : List ℕ) (bytes : List ℕ) (len : ℕ) → 
 cut-joined front now full bytes len u h joined is =
     ap (λ x. x ++ text_of (drop len bytes)) is
     ∙ append_assoc front (text_of (take len bytes)) (text_of (drop len bytes))
-    ∙ rw (text_of-take bytes len refl u h, text_of-drop bytes len refl u h) (ap (λ x. front ++ x) (sym (before-after (text_of bytes) len)))
+    ∙ rw (text_of-take bytes len refl u h, text_of-drop bytes len refl u h) (ap (λ x. front ++ x) (sym (text_before-text_after (text_of bytes) len)))
     ∙ joined
 
 pub next-text : (bytes later : List ℕ) (len c : ℕ) → IsUtf8 bytes → IsBoundary (text_of bytes) len → drop len bytes ≡ encode_utf8 c ++ later

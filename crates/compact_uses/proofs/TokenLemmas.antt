@@ -10,7 +10,7 @@ use Rattle.std.specs.List.{All, AllByRecursion}
 use Rattle.std.specs.Cmp.Lexicographic.{pointwise}
 use Rattle.std.specs.Prelude.{nat_eq}
 use Rattle.compact_edit.specs.Names.{distinct_texts}
-use Rattle.compact_edit.proofs.KeyTexts.{noted, firsts-push}
+use Rattle.compact_edit.proofs.KeyTexts.{noted, distinct_texts-push}
 use Rattle.compact_edit.proofs.TakenTexts.{still-distinct}
 use Rattle.compact_uses.specs.declared.tokenizer.Kind.{Kind}
 use Rattle.compact_uses.specs.declared.tokenizer.Kind.TheVariants.{Word, Number, Space, Mark}
@@ -35,12 +35,12 @@ token-kept names after token keep is = record {
   single = λ mark. rw (token_text-kept names after token keep is.filled) (is.single mark);
 }
 
-joined-kept : (names after : List (List ℕ)) (tokens : List Token) → KeepsNumbers names after → AllByRecursion (IsToken names) tokens
+flat_map-token_text-kept : (names after : List (List ℕ)) (tokens : List Token) → KeepsNumbers names after → AllByRecursion (IsToken names) tokens
     → flat_map (token_text after) tokens ≡ flat_map (token_text names) tokens
-joined-kept names after [] keep all = refl
-joined-kept names after (token ∷ tokens) keep all =
+flat_map-token_text-kept names after [] keep all = refl
+flat_map-token_text-kept names after (token ∷ tokens) keep all =
     ap (λ text. text ++ flat_map (token_text after) tokens) (token_text-kept names after token keep all.0.filled)
-    ∙ ap (λ rest. token_text names token ++ rest) (joined-kept names after tokens keep all.1)
+    ∙ ap (λ rest. token_text names token ++ rest) (flat_map-token_text-kept names after tokens keep all.1)
 
 texts-kept : (names after : List (List ℕ)) (tokens : List Token) → KeepsNumbers names after → AllByRecursion (IsToken names) tokens
     → map (token_text after) tokens ≡ map (token_text names) tokens
@@ -60,9 +60,9 @@ put-names before names after tokens token piece keep all at is are =
     ∙ ap₂ (λ (front : List (List ℕ)) (t : List ℕ). front ++ t ∷ []) (texts-kept names after tokens keep (recursion_from_All (IsToken names) tokens all)) last in (
       still-distinct names after piece is are.0,
       is
-          ∙ firsts-push names piece
+          ∙ distinct_texts-push names piece
           ∙ ap (λ others. noted others piece) (are.0 ∙ are.1)
-          ∙ sym (firsts-push (before ++ texts) piece)
+          ∙ sym (distinct_texts-push (before ++ texts) piece)
           ∙ ap distinct_texts (append_assoc before texts (piece ∷ []) ∙ ap (λ x. before ++ x) (sym put)),
     )
 
@@ -71,7 +71,7 @@ pub put-joined : (names after : List (List ℕ)) (tokens : List Token) (token : 
 put-joined names after tokens token piece keep all at =
     let last : flat_map (token_text after) (token ∷ []) ≡ piece = append-nil (token_text after token) ∙ ap (λ (x : Option (List ℕ)). unwrap_or x []) at in
     flat_map-append (token_text after) tokens (token ∷ [])
-    ∙ ap (λ front. front ++ flat_map (token_text after) (token ∷ [])) (joined-kept names after tokens keep (recursion_from_All (IsToken names) tokens all))
+    ∙ ap (λ front. front ++ flat_map (token_text after) (token ∷ [])) (flat_map-token_text-kept names after tokens keep (recursion_from_All (IsToken names) tokens all))
     ∙ ap (λ x. flat_map (token_text names) tokens ++ x) last
 
 pub put-tokens : (names after : List (List ℕ)) (tokens : List Token) (token : Token) (piece : List ℕ) → KeepsNumbers names after → All (IsToken names) tokens
@@ -144,14 +144,14 @@ none-alike P = All-nil P
 
 -- no more names come in than there are characters
 
-few-firsts : (ts : List (List ℕ)) → length (distinct_texts ts) ≤ length ts
-few-firsts [] = omega arith
-few-firsts (t ∷ ts) =
+length-distinct_texts : (ts : List (List ℕ)) → length (distinct_texts ts) ≤ length ts
+length-distinct_texts [] = omega arith
+length-distinct_texts (t ∷ ts) =
     let others = length-filter_both (λ u. not (pointwise nat_eq t u)) (λ u. not (not (pointwise nat_eq t u))) (λ u. refl) (distinct_texts ts) in
-    omega (arith, others, few-firsts ts)
+    omega (arith, others, length-distinct_texts ts)
 
 pub one-name : (names after : List (List ℕ)) (piece : List ℕ) → after ≡ distinct_texts (names ++ piece ∷ []) → 0 < length piece → length after ≤ length names + length piece
-one-name names after piece is filled = omega (arith, ap length is, few-firsts (names ++ piece ∷ []), length-append names (piece ∷ []), filled)
+one-name names after piece is filled = omega (arith, ap length is, length-distinct_texts (names ++ piece ∷ []), length-append names (piece ∷ []), filled)
 
 few-tokens : (names : List (List ℕ)) (tokens : List Token) → AllByRecursion (IsToken names) tokens → length tokens ≤ length (flat_map (token_text names) tokens)
 few-tokens names [] all = omega arith
@@ -165,7 +165,7 @@ few-names before names tokens rest text are all joined =
     omega (
       arith,
       ap length are.1,
-      few-firsts (before ++ texts),
+      length-distinct_texts (before ++ texts),
       length-append before texts,
       length-map tokens (token_text names),
       few-tokens names tokens (recursion_from_All (IsToken names) tokens all),

@@ -40,11 +40,18 @@ pub struct RecordsError {
     pub cause: RecordsCause,
 }
 
-/// Reads the records of all lines, each as `fields_of` does. A line ends with the byte 0A, which the last may lack.
+/// Reads the records of all lines, each as `fields_of` does, behind those that stand in the list, which stay. A line
+/// ends with the byte 0A, which the last may lack.
 ///
-/// The records go behind those that stand in the list, which stay. An error says at which line it came, from 1 on, and
-/// why; the records of the lines before it are in the list. The contract says the line for any reader, and which records
-/// are read, and why no more, for one whose bytes are known.
+/// # Errors
+///
+/// [`RecordsError`] says at which line, from 1 on, and why: the reader fails, memory is refused, or the line is no text
+/// or no record. The records of the lines before it are in the list. The contract says the line for any reader, and
+/// which records are read, and why no more, for one whose bytes are known.
+///
+/// # Examples
+///
+/// With the separator `,` the bytes `a,b`, 0A and `c` give a record of two fields and one of one.
 pub fn read_records<R: Read>(
     alloc: Global,
     separator: char,

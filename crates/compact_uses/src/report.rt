@@ -9,9 +9,16 @@ ghost use Rattle.compact_uses.specs.Columns.{field_at, column_width, column_coun
 use compact_str::{CompactString, ReserveError};
 use std::alloc::Global;
 
-/// Each record as a line, `| ab | 1 |`: the fields stand in columns as wide as their longest field, in characters.
+/// Each record as a line: the fields stand in columns as wide as their longest field, in characters. A record that has
+/// too few fields has empty cells.
 ///
-/// A record that has too few fields has empty cells. An error says that no memory was found; of no records it never comes.
+/// # Errors
+///
+/// [`ReserveError`] if no memory is found. Of no records it never comes.
+///
+/// # Examples
+///
+/// The fields `ab` and `1` give `| ab | 1 |`.
 pub fn aligned_rows(
     alloc: Global,
     table: &[Vec<CompactString>],

@@ -55,14 +55,20 @@ fn goes_on(kind: Kind, next: Kind) -> bool
     kind == next && kind != Kind::Mark
 }
 
-/// Cuts a text into tokens. Their texts, joined, are the text; none is empty, and each has characters of its kind alone.
-/// Each is as long as can be: no token goes on where the one before it ends. A mark is one character.
+/// Cuts a text into tokens. Their texts, joined, are the text; none is empty, and each has characters of its kind
+/// alone. Each is as long as can be: no token goes on where the one before it ends. A mark is one character.
 ///
-/// The names are then those that stood and the texts of the tokens, by first occurrence. An error says that no memory was
-/// found, or that no number was left for a name, of which 2^32 - 1 stand then; of the empty text it never comes. After an
-/// error the names are those that stood and the texts of the first tokens, up to some place. In any case names keep their
-/// numbers, and no more come in than the text has characters. Of `ab, 12` the tokens are the word `ab`, the mark `,`, a space
-/// and the number `12`.
+/// The names are then those that stood and the texts of the tokens, by first occurrence. Names keep their numbers, and
+/// no more come in than the text has characters.
+///
+/// # Errors
+///
+/// `Reserve` if no memory is found, and `Full` if no number is left for a name, of which 2^32 - 1 stand then. The names
+/// are those that stood and the texts of the first tokens, up to some place. Of the empty text no error comes.
+///
+/// # Examples
+///
+/// Of `ab, 12` the tokens are the word `ab`, the mark `,`, a space and the number `12`.
 pub fn tokenize(
     alloc: Global,
     names: &mut Interner,
@@ -80,6 +86,7 @@ pub fn tokenize(
     ensures front { OnErr result (AreNamesOfFront names.old names.new text.now.text) }
     ensures err { IfErr result (IsTokenRefusal names.new) }
 {
+    // The proof reads from it that the names are distinct, also where no token comes.
     let _distinct = names.len();
     let mut tokens = Vec::new(alloc);
     let mut rest = text.as_str();

@@ -13,9 +13,12 @@ pub struct Entry {
     pub name: u32,
 }
 
-/// The words among some tokens, the most frequent first, and of those that are as frequent the one with the lower number.
+/// The words among some tokens, the most frequent first, and of those that are as frequent the one with the lower
+/// number.
 ///
-/// An error says that no memory was found; of no names it never comes.
+/// # Errors
+///
+/// `AllocError` if no memory is found. Of no names it never comes.
 pub fn ranking(alloc: Global, tokens: &[Token], names: u32) -> Result<Vec<Entry>, AllocError>
     ensures ranks { IfOk result (λ ranks. IsRanking (entries_before tokens.now names) ranks.items) }
     ensures empty { names ≡ 0 → IsOk result }

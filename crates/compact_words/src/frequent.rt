@@ -10,11 +10,13 @@ use compact_str::{CompactString, ReserveError};
 use compact_uses::{aligned_rows, tokenize};
 use std::alloc::Global;
 
-/// A line for each of the `most` most frequent words of a text, `| word | count |`, in columns of one width.
+/// A line for each of the `most` most frequent words of a text, `| word | count |`, in columns of one width. Of words
+/// that are as frequent the one that stands first in the text comes first.
 ///
-/// Of words that are as frequent the one that stands first in the text comes first. An error says that no memory was
-/// found, or that the text has more distinct tokens than there are numbers, and so 2^32 - 1 characters or more; of the
-/// empty text it never comes.
+/// # Errors
+///
+/// `Reserve` if no memory is found, and `Full` if the text has more distinct tokens than there are numbers, and so 2^32
+/// - 1 characters or more. Of the empty text no error comes.
 pub fn frequent_words(
     alloc: Global,
     text: &CompactString,

@@ -31,7 +31,8 @@ fn main(rt: HostRuntime) -> ExitCode {
 
 /// Reads a text to its end, and writes a line for each of its most frequent words. Then the writer is flushed.
 ///
-/// What is no text in the input counts as U+FFFD, which is no letter. Great letters of ASCII count as small ones.
+/// What is no text in the input counts as U+FFFD, which is no letter. Uppercase letters of ASCII count as lowercase
+/// ones.
 fn print_words<R: Read, W: Write>(alloc: Global, reader: &mut R, writer: &mut W) -> io::Result<()>
     ensures { OnOk result (IfSome (R.remaining reader.old) (λ bytes.
         AppendsReport (counted_text bytes) 10 (W.contents writer.old) (W.contents writer.new))) }

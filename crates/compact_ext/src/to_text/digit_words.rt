@@ -1,5 +1,6 @@
-//! The digits of a number as words of eight bytes, the first digit as the lowest byte. Each word is made whole: one that is
-//! read after its bytes were written one by one waits for them.
+//! The digits of a number as words of eight bytes, the first digit as the lowest byte.
+//!
+//! Each word is made whole: one that is read after its bytes were written one by one waits for them.
 ghost use Rattle.std.specs.Prelude.{◌≡◌, ◌+◌, ◌-◌, ◌<◌, ◌≤◌, [], ◌∷◌, ◌++◌, length, take, drop, replicate};
 ghost use Rattle.std.specs.Fmt.{decimal};
 ghost use Rattle.compact_repr.specs.Words.{word_bytes};

@@ -52,6 +52,10 @@ fn packed_value(alloc: Global, row: &mut [u8; 24], len: usize) -> CompactString
 }
 
 /// The text of a number that is not negative.
+///
+/// # Errors
+///
+/// None ever comes, since the text is inline.
 #[inline]
 #[tactic(auto, using(crate::proofs::NumberTexts::number_values))]
 pub fn unsigned(alloc: Global, n: u64) -> Result<CompactString, ToCompactStringError>
@@ -61,6 +65,10 @@ pub fn unsigned(alloc: Global, n: u64) -> Result<CompactString, ToCompactStringE
 }
 
 /// The text of a number that may be negative. The magnitude of the least one is no number of its own type.
+///
+/// # Errors
+///
+/// None ever comes, since the text is inline.
 #[inline]
 #[tactic(auto, using(crate::proofs::NumberTexts::number_values))]
 pub fn signed(alloc: Global, n: i64) -> Result<CompactString, ToCompactStringError>
@@ -70,6 +78,10 @@ pub fn signed(alloc: Global, n: i64) -> Result<CompactString, ToCompactStringErr
 }
 
 /// The text of a number of eight bits that is not negative.
+///
+/// # Errors
+///
+/// None ever comes, since the text is inline.
 #[inline]
 #[tactic(auto, using(crate::proofs::NumberTexts::number_values))]
 pub fn small_unsigned(alloc: Global, n: u8) -> Result<CompactString, ToCompactStringError>
@@ -79,6 +91,10 @@ pub fn small_unsigned(alloc: Global, n: u8) -> Result<CompactString, ToCompactSt
 }
 
 /// The text of a number of eight bits that may be negative.
+///
+/// # Errors
+///
+/// None ever comes, since the text is inline.
 #[inline]
 #[tactic(auto, using(crate::proofs::NumberTexts::number_values))]
 pub fn small_signed(alloc: Global, n: i8) -> Result<CompactString, ToCompactStringError>
@@ -88,7 +104,7 @@ pub fn small_signed(alloc: Global, n: i8) -> Result<CompactString, ToCompactStri
 }
 
 impl ToCompactString for u8 {
-    ghost shown = { decimal };
+    ghost shown_text = { decimal };
 
     ghost IsShort = { λ _. ⊤ };
 
@@ -100,7 +116,7 @@ impl ToCompactString for u8 {
 }
 
 impl ToCompactString for u16 {
-    ghost shown = { decimal };
+    ghost shown_text = { decimal };
 
     ghost IsShort = { λ _. ⊤ };
 
@@ -112,7 +128,7 @@ impl ToCompactString for u16 {
 }
 
 impl ToCompactString for u32 {
-    ghost shown = { decimal };
+    ghost shown_text = { decimal };
 
     ghost IsShort = { λ _. ⊤ };
 
@@ -124,7 +140,7 @@ impl ToCompactString for u32 {
 }
 
 impl ToCompactString for u64 {
-    ghost shown = { decimal };
+    ghost shown_text = { decimal };
 
     ghost IsShort = { λ _. ⊤ };
 
@@ -136,7 +152,7 @@ impl ToCompactString for u64 {
 }
 
 impl ToCompactString for usize {
-    ghost shown = { decimal };
+    ghost shown_text = { decimal };
 
     ghost IsShort = { λ _. ⊤ };
 
@@ -148,7 +164,7 @@ impl ToCompactString for usize {
 }
 
 impl ToCompactString for i8 {
-    ghost shown = { signed_decimal };
+    ghost shown_text = { signed_decimal };
 
     ghost IsShort = { λ _. ⊤ };
 
@@ -160,7 +176,7 @@ impl ToCompactString for i8 {
 }
 
 impl ToCompactString for i16 {
-    ghost shown = { signed_decimal };
+    ghost shown_text = { signed_decimal };
 
     ghost IsShort = { λ _. ⊤ };
 
@@ -172,7 +188,7 @@ impl ToCompactString for i16 {
 }
 
 impl ToCompactString for i32 {
-    ghost shown = { signed_decimal };
+    ghost shown_text = { signed_decimal };
 
     ghost IsShort = { λ _. ⊤ };
 
@@ -184,7 +200,7 @@ impl ToCompactString for i32 {
 }
 
 impl ToCompactString for i64 {
-    ghost shown = { signed_decimal };
+    ghost shown_text = { signed_decimal };
 
     ghost IsShort = { λ _. ⊤ };
 
@@ -196,7 +212,7 @@ impl ToCompactString for i64 {
 }
 
 impl ToCompactString for isize {
-    ghost shown = { signed_decimal };
+    ghost shown_text = { signed_decimal };
 
     ghost IsShort = { λ _. ⊤ };
 

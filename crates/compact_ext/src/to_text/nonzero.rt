@@ -15,7 +15,7 @@ use std::num::{
 };
 
 impl ToCompactString for NonZeroU8 {
-    ghost shown = { λ n. decimal (non_zero_u8_get n) };
+    ghost shown_text = { λ n. decimal (non_zero_u8_get n) };
 
     ghost IsShort = { λ _. ⊤ };
 
@@ -27,7 +27,7 @@ impl ToCompactString for NonZeroU8 {
 }
 
 impl ToCompactString for NonZeroU16 {
-    ghost shown = { λ n. decimal (non_zero_u16_get n) };
+    ghost shown_text = { λ n. decimal (non_zero_u16_get n) };
 
     ghost IsShort = { λ _. ⊤ };
 
@@ -39,7 +39,7 @@ impl ToCompactString for NonZeroU16 {
 }
 
 impl ToCompactString for NonZeroU32 {
-    ghost shown = { λ n. decimal (non_zero_u32_get n) };
+    ghost shown_text = { λ n. decimal (non_zero_u32_get n) };
 
     ghost IsShort = { λ _. ⊤ };
 
@@ -51,7 +51,7 @@ impl ToCompactString for NonZeroU32 {
 }
 
 impl ToCompactString for NonZeroU64 {
-    ghost shown = { λ n. decimal (non_zero_u64_get n) };
+    ghost shown_text = { λ n. decimal (non_zero_u64_get n) };
 
     ghost IsShort = { λ _. ⊤ };
 
@@ -63,7 +63,7 @@ impl ToCompactString for NonZeroU64 {
 }
 
 impl ToCompactString for NonZeroU128 {
-    ghost shown = { λ n. decimal (non_zero_u128_get n) };
+    ghost shown_text = { λ n. decimal (non_zero_u128_get n) };
 
     ghost IsShort = { λ n. length (decimal (non_zero_u128_get n)) ≤ 24 };
 
@@ -75,7 +75,7 @@ impl ToCompactString for NonZeroU128 {
 }
 
 impl ToCompactString for NonZeroUsize {
-    ghost shown = { λ n. decimal (non_zero_usize_get n) };
+    ghost shown_text = { λ n. decimal (non_zero_usize_get n) };
 
     ghost IsShort = { λ _. ⊤ };
 
@@ -87,7 +87,7 @@ impl ToCompactString for NonZeroUsize {
 }
 
 impl ToCompactString for NonZeroI8 {
-    ghost shown = { λ n. signed_decimal (non_zero_i8_get n) };
+    ghost shown_text = { λ n. signed_decimal (non_zero_i8_get n) };
 
     ghost IsShort = { λ _. ⊤ };
 
@@ -99,7 +99,7 @@ impl ToCompactString for NonZeroI8 {
 }
 
 impl ToCompactString for NonZeroI16 {
-    ghost shown = { λ n. signed_decimal (non_zero_i16_get n) };
+    ghost shown_text = { λ n. signed_decimal (non_zero_i16_get n) };
 
     ghost IsShort = { λ _. ⊤ };
 
@@ -111,7 +111,7 @@ impl ToCompactString for NonZeroI16 {
 }
 
 impl ToCompactString for NonZeroI32 {
-    ghost shown = { λ n. signed_decimal (non_zero_i32_get n) };
+    ghost shown_text = { λ n. signed_decimal (non_zero_i32_get n) };
 
     ghost IsShort = { λ _. ⊤ };
 
@@ -123,7 +123,7 @@ impl ToCompactString for NonZeroI32 {
 }
 
 impl ToCompactString for NonZeroI64 {
-    ghost shown = { λ n. signed_decimal (non_zero_i64_get n) };
+    ghost shown_text = { λ n. signed_decimal (non_zero_i64_get n) };
 
     ghost IsShort = { λ _. ⊤ };
 
@@ -135,7 +135,7 @@ impl ToCompactString for NonZeroI64 {
 }
 
 impl ToCompactString for NonZeroI128 {
-    ghost shown = { λ n. signed_decimal (non_zero_i128_get n) };
+    ghost shown_text = { λ n. signed_decimal (non_zero_i128_get n) };
 
     ghost IsShort = { λ n. length (signed_decimal (non_zero_i128_get n)) ≤ 24 };
 
@@ -147,7 +147,7 @@ impl ToCompactString for NonZeroI128 {
 }
 
 impl ToCompactString for NonZeroIsize {
-    ghost shown = { λ n. signed_decimal (non_zero_isize_get n) };
+    ghost shown_text = { λ n. signed_decimal (non_zero_isize_get n) };
 
     ghost IsShort = { λ _. ⊤ };
 

@@ -8,7 +8,11 @@ use crate::to_text::ToCompactString;
 use compact_str::{CompactString, Policy, Standard};
 use std::alloc::Global;
 
-/// A copy of a text.
+/// A copy of a text, placed as by `CompactString::new`.
+///
+/// # Errors
+///
+/// `Reserve` if a buffer is refused, for a text of more than 24 bytes.
 #[inline]
 pub fn text_copy(alloc: Global, text: &str) -> Result<CompactString, ToCompactStringError>
     ensures { IsTextOf ⟦<Standard as Policy>⟧.growth (text_of text.now)
@@ -21,7 +25,7 @@ pub fn text_copy(alloc: Global, text: &str) -> Result<CompactString, ToCompactSt
 }
 
 impl ToCompactString for bool {
-    ghost shown = { bool_text };
+    ghost shown_text = { bool_text };
 
     ghost IsShort = { λ _. ⊤ };
 
@@ -36,7 +40,7 @@ impl ToCompactString for bool {
 }
 
 impl ToCompactString for char {
-    ghost shown = { λ c. c ∷ [] };
+    ghost shown_text = { λ c. c ∷ [] };
 
     ghost IsShort = { λ _. ⊤ };
 
@@ -48,7 +52,7 @@ impl ToCompactString for char {
 }
 
 impl ToCompactString for &str {
-    ghost shown = { λ s. text_of s.now };
+    ghost shown_text = { λ s. text_of s.now };
 
     ghost IsShort = { λ s. length s.now ≤ 24 };
 
@@ -59,7 +63,7 @@ impl ToCompactString for &str {
 }
 
 impl ToCompactString for String {
-    ghost shown = { λ s. text_of (string_bytes s) };
+    ghost shown_text = { λ s. text_of (string_bytes s) };
 
     ghost IsShort = { λ s. length (string_bytes s) ≤ 24 };
 
@@ -70,7 +74,7 @@ impl ToCompactString for String {
 }
 
 impl ToCompactString for CompactString {
-    ghost shown = { λ v. v.text };
+    ghost shown_text = { λ v. v.text };
 
     ghost IsShort = { λ v. size v.text ≤ 24 };
 

@@ -11,6 +11,10 @@ use itoa::{Buffer, Integer};
 use std::alloc::Global;
 
 /// The text that `itoa` prints.
+///
+/// # Errors
+///
+/// `Reserve` if a buffer is refused, for a text of more than 24 bytes.
 pub fn printed<I: Integer>(alloc: Global, n: I) -> Result<CompactString, ToCompactStringError>
     ensures { IsTextOf ⟦<Standard as Policy>⟧.growth (I.text n) (length (I.text n) ≤ 24) result }
 {
@@ -19,7 +23,7 @@ pub fn printed<I: Integer>(alloc: Global, n: I) -> Result<CompactString, ToCompa
 }
 
 impl ToCompactString for u128 {
-    ghost shown = { decimal };
+    ghost shown_text = { decimal };
 
     ghost IsShort = { λ n. length (decimal n) ≤ 24 };
 
@@ -30,7 +34,7 @@ impl ToCompactString for u128 {
 }
 
 impl ToCompactString for i128 {
-    ghost shown = { signed_decimal };
+    ghost shown_text = { signed_decimal };
 
     ghost IsShort = { λ n. length (signed_decimal n) ≤ 24 };
 

@@ -1,4 +1,4 @@
-//! How a text is read.
+//! How a text is read from its wire form.
 ghost use Rattle.std.specs.Prelude.{◌≡◌, ◌+◌, ◌^◌, ◌<◌, ◌≤◌, ◌++◌, length, take, drop, IfOk, IfErr, IsErrOf, MatchResult, OnOk, IsTrue, false, vec_len, IsUtf8};
 ghost use Rattle.std.specs.Int.{w32, to_le_bytes};
 ghost use Rattle.std.specs.Vec.{vec_capacity};
@@ -18,18 +18,22 @@ use std::io::Read;
 // The room that is made at first, whatever length is claimed.
 const FIRST_ROOM: usize = 1 << 20;
 
-/// Reads a text from its wire form: its length in bytes as four bytes, the low one first, and then its bytes.
+/// Reads a text from its wire form: its length in bytes as four bytes, the low one first, and then its bytes. A text of
+/// at most 24 bytes is inline, and a longer one on the heap with just the capacity that it needs.
 ///
-/// From 02 00 00 00 48 69 4A it reads `"Hi"`, and 4A stays unread. A text of at most 24 bytes is inline, and a longer one
-/// on the heap with just the capacity that it needs.
+/// Whatever length is claimed, room for 1048576 bytes is made at most before any has come, and it is doubled only once
+/// it is full.
 ///
-/// `UnexpectedEnd` comes where the input ended before the text did, and then all that it had is taken. `Io` comes where
-/// the reader failed before that, and `Reserve` where room for a text of more than 24 bytes was refused; then a part of the
-/// form is taken, of which `Reserve` comes after the four bytes of the length at the earliest. `Utf8` comes where all
-/// bytes came and are no UTF-8, and then the form is taken and nothing after it. There is no other error.
+/// # Errors
 ///
-/// Whatever length is claimed, room for 1048576 bytes is made at most before any has come, and it is doubled only once it
-/// is full.
+/// - `UnexpectedEnd` if the input ends before the text does. All that it had is taken.
+/// - `Io` if the reader fails before that. A part of the form is taken.
+/// - `Reserve` if room for a text of more than 24 bytes is refused. A part of the form is taken, at least its length.
+/// - `Utf8` if all bytes came and are no UTF-8. The form is taken, and nothing after it.
+///
+/// # Examples
+///
+/// From 02 00 00 00 48 69 4A it reads `"Hi"`, and 4A stays unread.
 #[inline]
 pub fn read_wire<R: Read>(alloc: Global, reader: &mut R) -> Result<CompactString, WireError>
     ensures ok { IfOk result (λ v.

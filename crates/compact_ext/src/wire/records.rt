@@ -49,12 +49,17 @@ impl<R: BufRead + Drop> Records<R> {
         }
     }
 
-    /// All texts that are left, up to the end of the reader: those of 01 00 00 00 61 00 00 00 00 are `"a"` and `""`.
+    /// All texts that are left, up to the end of the reader.
     ///
-    /// Where the reader has whole forms and nothing after them, their texts are read, unless it fails or room is refused.
+    /// # Errors
     ///
-    /// The error is the first fault that `next` gives, or `Reserve` where the vector has no room for a text that came. The
-    /// texts before it are given up. So a reader with nothing in it is refused only if it fails.
+    /// The first fault that `next` gives, or `Reserve` if the vector has no room for a text that came. The texts before
+    /// it are dropped. So of whole forms with nothing after them there is an error only if the reader fails or room is
+    /// refused, and of a reader with nothing in it only if it fails.
+    ///
+    /// # Examples
+    ///
+    /// Of 01 00 00 00 61 00 00 00 00 they are `"a"` and `""`.
     pub fn into_vec(self) -> Result<Vec<CompactString>, WireError>
         ensures ok { IfOk result (λ texts.
             IfSome (records_left R.remaining self) (λ bytes.

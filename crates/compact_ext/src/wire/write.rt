@@ -1,4 +1,4 @@
-//! How a text is written.
+//! How a text is written in its wire form.
 ghost use Rattle.std.specs.Prelude.{◌≡◌, ◌^◌, ◌<◌, IfErr, OnOk};
 ghost use Rattle.std.specs.Io.KnownBytes.{Appends};
 ghost use Rattle.compact_str.specs.Text.{size};
@@ -9,13 +9,17 @@ use super::WireError;
 use compact_str::CompactString;
 use std::io::Write;
 
-/// Writes the wire form of `text`: its length in bytes as four bytes, the low one first, and then its bytes.
+/// Writes the wire form of `text`: its length in bytes as four bytes, the low one first, and then its bytes. It goes
+/// out in pieces, and the writer is not flushed. It never allocates.
 ///
-/// The form of `"Hi"` is 02 00 00 00 48 69. It goes out in pieces, and the writer is not flushed.
+/// # Errors
 ///
-/// `TooLong` comes of a text of more than 2^32 - 1 bytes, and then nothing was written. `Io` comes where a call of the
-/// writer failed, and `WriteZero` where it took none of a piece; then a part of the form has gone out, which may be none
-/// of it and is not the whole. There is no other error, and no memory is needed.
+/// - `TooLong` if the text has more than 2^32 - 1 bytes. Nothing was written.
+/// - `Io` if a call of the writer fails, and `WriteZero` if it takes none of a piece. A part of the form has gone out, which may be none of it and is not the whole.
+///
+/// # Examples
+///
+/// The form of `"Hi"` is 02 00 00 00 48 69.
 #[inline]
 pub fn write_wire<W: Write>(text: &CompactString, writer: &mut W) -> Result<(), WireError>
     ensures ok { OnOk result

@@ -1,4 +1,4 @@
-//! Changes of a representation's text that may have to make room first, or to make the text its own.
+//! Changes of a representation's text that may have to make room first, or to make the value owned.
 ghost use Rattle.std.specs.Prelude.{◌≡◌, ◌≤◌, [], length, Some, OnOk, OnErr, IsTrue, false};
 ghost use Rattle.compact_repr.specs.Text.{text_of};
 ghost use Rattle.compact_repr.specs.Cut.{IsBoundary};
@@ -11,6 +11,10 @@ use crate::repr::Repr;
 
 impl<P: Policy> Repr<P> {
     /// Appends `text`, of any length and with any place. It stands apart, so that a short append calls nothing.
+    ///
+    /// # Errors
+    ///
+    /// [`ReserveError`] if the value has no room for `text` in place, and a new buffer is refused.
     #[inline(never)]
     #[tactic(auto, using(crate::proofs::TextFacts::text_facts, crate::proofs::Changes::append_facts))]
     pub fn push_str(&mut self, text: &str) -> Result<(), ReserveError>
@@ -24,7 +28,11 @@ impl<P: Policy> Repr<P> {
         self.push_with_more_room(text)
     }
 
-    /// Appends `text` to what has no room for it in place. An error changes nothing.
+    /// Appends `text` to a value that has no room for it in place.
+    ///
+    /// # Errors
+    ///
+    /// [`ReserveError`] if a new buffer is refused.
     #[cold]
     #[inline(never)]
     pub fn push_with_more_room(&mut self, text: &str) -> Result<(), ReserveError>
@@ -43,8 +51,12 @@ impl<P: Policy> Repr<P> {
         Ok(())
     }
 
-    /// Puts `text` in at a boundary, in bytes, once there is room for it; a static value becomes its own even for an empty
-    /// text. An error changes nothing.
+    /// Puts `text` in at a boundary, in bytes, once there is room for it; a static value becomes owned even for an
+    /// empty text.
+    ///
+    /// # Errors
+    ///
+    /// [`ReserveError`] if a new buffer is refused.
     #[cold]
     #[inline(never)]
     pub fn insert_with_more_room(&mut self, index: usize, text: &str) -> Result<(), ReserveError>
@@ -61,8 +73,11 @@ impl<P: Policy> Repr<P> {
         Ok(())
     }
 
-    /// Takes out what stands from one boundary to another, in bytes, once the bytes are the value's own. An error changes
-    /// nothing.
+    /// Takes out what stands from one boundary to another, in bytes, once the value is owned.
+    ///
+    /// # Errors
+    ///
+    /// [`ReserveError`] if a static text cannot be made owned.
     #[inline]
     #[tactic(auto, using(crate::proofs::TextFacts::text_facts, crate::proofs::Changes::removal_facts))]
     pub fn cut_out(&mut self, start: usize, end: usize) -> Result<(), ReserveError>
@@ -79,8 +94,12 @@ impl<P: Policy> Repr<P> {
         self.replace_once_owned(start, end, "")
     }
 
-    /// Replaces what stands from one boundary to another, in bytes, once the bytes are the value's own and have room for the
-    /// outcome. An error changes nothing.
+    /// Replaces what stands from one boundary to another, in bytes, once the value is owned and has room for the
+    /// outcome.
+    ///
+    /// # Errors
+    ///
+    /// [`ReserveError`] if a static text cannot be made owned, or a larger buffer is refused.
     #[cold]
     #[inline(never)]
     pub fn replace_once_owned(

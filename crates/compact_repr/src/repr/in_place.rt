@@ -1,5 +1,5 @@
-//! Changes of a representation's text where it stands, in bytes of its own. None takes memory, and none moves the text to
-//! another place.
+//! Changes of a representation's text in bytes of its own, which never allocate and never move the text to another
+//! place.
 ghost use Rattle.std.specs.Prelude.{◌≡◌, ◌+◌, ◌-◌, ◌≤◌, ◌<◌, [], ◌∷◌, ◌++◌, length, IsTrue, true, false, ◌↔◌};
 ghost use Rattle.compact_repr.specs.Text.{size, text_of, ascii_lowercase, ascii_uppercase};
 ghost use Rattle.compact_repr.specs.Cut.{IsBoundary, replaced_text};
@@ -27,8 +27,7 @@ pub enum PushOutcome {
 }
 
 impl<P: Policy> Repr<P> {
-    /// Appends `text` where the bytes are the value's own and have room. Answers whether that was so; if not, nothing has
-    /// changed.
+    /// Appends `text` if the value is owned and has room. Answers whether that was so; if not, nothing has changed.
     #[inline(always)]
     pub fn push_in_place(&mut self, text: &str) -> bool
         ensures fits { result ≡ fits_in_place self.old (length text.now) }
@@ -43,8 +42,8 @@ impl<P: Policy> Repr<P> {
         }
     }
 
-    /// Appends a text of at most 32 bytes where the bytes are the value's own and have room. A longer one is not looked at, so
-    /// that the short way calls nothing.
+    /// Appends a text of at most 32 bytes if the value is owned and has room. A longer one is not looked at, so that
+    /// the short way calls nothing.
     #[inline(always)]
     pub fn push_short(&mut self, text: &str) -> PushOutcome
         ensures { IsPushOutcome self.old text.now result self.new }
@@ -59,9 +58,8 @@ impl<P: Policy> Repr<P> {
         }
     }
 
-    /// Replaces what stands from one position to another by `text` where the bytes are the value's own and the outcome
-    /// fits. Answers whether that was so; if not, nothing has changed. Positions are in bytes, between two characters. The
-    /// place and the capacity stay, and no memory is taken.
+    /// Replaces what stands from one boundary to another, in bytes, by `text` if the value is owned and the outcome
+    /// fits. Answers whether that was so; if not, nothing has changed. The place and the capacity stay.
     #[inline(always)]
     pub fn replace_in_place(&mut self, start: usize, end: usize, text: &str) -> bool
         requires order { start ≤ end }
@@ -83,8 +81,8 @@ impl<P: Policy> Repr<P> {
         }
     }
 
-    /// Takes out what stands from one position to another, in bytes, between two characters, where the bytes are the value's
-    /// own. Answers whether they are; if not, nothing has changed. The place and the capacity stay.
+    /// Takes out what stands from one boundary to another, in bytes, if the value is owned. Answers whether it is; if
+    /// not, nothing has changed. The place and the capacity stay.
     #[inline(always)]
     pub fn cut_out_in_place(&mut self, start: usize, end: usize) -> bool
         requires order { start ≤ end }
@@ -108,8 +106,8 @@ impl<P: Policy> Repr<P> {
         }
     }
 
-    /// Puts an ASCII character in at a boundary, in bytes, where the bytes are the value's own and have room. Answers
-    /// whether that was so; if not, nothing has changed.
+    /// Puts an ASCII character in at a boundary, in bytes, if the value is owned and has room. Answers whether that was
+    /// so; if not, nothing has changed.
     #[inline]
     pub fn insert_ascii_in_place(&mut self, index: usize, byte: u8) -> bool
         requires ascii { byte < 128 }
@@ -127,8 +125,8 @@ impl<P: Policy> Repr<P> {
         }
     }
 
-    /// Takes the ASCII character out that begins at a boundary, in bytes, where the bytes are the value's own. Answers
-    /// whether they are; if not, nothing has changed.
+    /// Takes out the ASCII character that begins at a boundary, in bytes, if the value is owned. Answers whether it is;
+    /// if not, nothing has changed.
     #[inline]
     pub fn remove_ascii_in_place(&mut self, index: usize) -> bool
         requires boundary { IsBoundary self.old.text index }
@@ -152,8 +150,8 @@ impl<P: Policy> Repr<P> {
         }
     }
 
-    /// Keeps the first `len` bytes, which end between two characters; from the end on, `len` changes nothing. The place
-    /// stays, and so does an owned capacity: a static text becomes the front of the same static text.
+    /// Keeps the first `len` bytes, which end at a boundary; from the end on, `len` changes nothing. The place stays,
+    /// and so does an owned capacity: a static text becomes the front of the same static text.
     #[inline]
     pub fn truncate(&mut self, len: usize)
         requires { len < size self.old.text → IsBoundary self.old.text len }
@@ -190,7 +188,7 @@ impl<P: Policy> Repr<P> {
         }
     }
 
-    /// Makes A to Z lowercase, in the value's own bytes.
+    /// Makes A to Z lowercase in an owned value; the place and the capacity stay.
     pub fn make_ascii_lowercase(&mut self)
         requires { is_static self.old.placement.place ≡ false }
         ensures { self.new ≡ placed_text (ascii_lowercase self.old.text) self.old.placement }
@@ -202,7 +200,7 @@ impl<P: Policy> Repr<P> {
         }
     }
 
-    /// Makes a to z uppercase, in the value's own bytes.
+    /// Makes a to z uppercase in an owned value; the place and the capacity stay.
     pub fn make_ascii_uppercase(&mut self)
         requires { is_static self.old.placement.place ≡ false }
         ensures { self.new ≡ placed_text (ascii_uppercase self.old.text) self.old.placement }
@@ -214,7 +212,7 @@ impl<P: Policy> Repr<P> {
         }
     }
 
-    /// Leaves the empty text and writes every byte with zero that the value's own text has ever held. A static value
+    /// Leaves the empty text, and writes zero over every byte that the value's own text has ever held. A static value
     /// becomes inline; every other keeps its place and its capacity.
     pub fn zeroize(&mut self)
         ensures { self.new ≡ zeroize self.old }
@@ -226,7 +224,7 @@ impl<P: Policy> Repr<P> {
         }
     }
 
-    /// Keeps the characters for which `keep`, asked once of each in order, answers true, in the value's own bytes. The place
+    /// Keeps the characters for which `keep`, asked once of each in order, answers true, in an owned value. The place
     /// and the capacity stay.
     #[inline]
     pub fn retain<F: FnMut(char) -> bool>(&mut self, keep: &mut F)

@@ -25,7 +25,11 @@ impl<P: Policy> Repr<P> {
         Self::of(alloc, Buffer::Inline([], InlineBuffer::empty()))
     }
 
-    /// A copy of `text`: inline up to 24 bytes, which is never refused, else in a new heap buffer.
+    /// A copy of `text`: inline up to 24 bytes, else in a new heap buffer.
+    ///
+    /// # Errors
+    ///
+    /// [`ReserveError`] if the heap buffer is refused.
     #[inline(always)]
     pub fn new(alloc: Global, text: &str) -> Result<Self, ReserveError>
         ensures ok { IfOk result (λ r. new P.growth (text_of text.now) ≡ Some r) }
@@ -67,7 +71,7 @@ impl<P: Policy> Repr<P> {
         Self::of(alloc, Buffer::Inline([], inline))
     }
 
-    /// The text that 24 bytes stand for, inline; `None` where they stand for none.
+    /// The text that 24 bytes stand for, inline, or `None` where they stand for none.
     #[inline]
     pub fn from_packed(alloc: Global, bytes: &[u8; 24]) -> Option<Self>
         ensures { MatchOption result ((t : List ℕ) → ¬ (IsPackedFor bytes.now t))
@@ -77,7 +81,11 @@ impl<P: Policy> Repr<P> {
         Some(Self::of(alloc, Buffer::Inline([], inline)))
     }
 
-    /// The empty text with room for `capacity` bytes: inline up to 24, which is never refused, else on the heap.
+    /// The empty text with room for `capacity` bytes: inline up to 24, else in a new heap buffer.
+    ///
+    /// # Errors
+    ///
+    /// [`ReserveError`] if the heap buffer is refused.
     pub fn with_capacity(alloc: Global, capacity: usize) -> Result<Self, ReserveError>
         ensures ok { IfOk result (λ r. with_capacity P.growth capacity ≡ Some r) }
         ensures err { OnErr result (IsTrue (with_capacity_asks capacity)) }
@@ -118,9 +126,12 @@ impl<P: Policy> Repr<P> {
         Self::of(alloc, Buffer::Heap(HeapBuffer::from_string(text)))
     }
 
-    /// A copy: of a heap text with a buffer made anew, else as it stands, which is never refused.
+    /// A copy: of a heap text with a buffer made anew, else as it stands. An inline value is copied where the call
+    /// stands, with no call.
     ///
-    /// An inline value is copied where the call stands, with no call.
+    /// # Errors
+    ///
+    /// [`ReserveError`] if the new buffer of a heap text is refused.
     #[inline(always)]
     pub fn try_clone(&self) -> Result<Self, ReserveError>
         ensures ok { IfOk result (λ r. clone P.growth self.now ≡ Some r) }

@@ -8,7 +8,11 @@ use crate::policy::Policy;
 use crate::repr::{Buffer, Repr};
 
 impl<P: Policy> Repr<P> {
-    /// The text of a heap value with its buffer, of which nothing is copied; every other value is handed back as it was.
+    /// The text of a heap value with its buffer, of which nothing is copied.
+    ///
+    /// # Errors
+    ///
+    /// The value as it was, if it is not on the heap.
     #[inline]
     pub fn into_heap_string(self) -> Result<String, Self>
         ensures bytes { IfOk result (λ s. string_bytes s ≡ utf8 self.text) }

@@ -1,8 +1,9 @@
 //! What stands at a position of a representation's text, in bytes.
 ghost use Rattle.std.specs.Prelude.{◌≡◌, ◌-◌, ◌<◌, ◌≤◌, ℕ, List, [], ◌∷◌, ◌++◌, length, true, false, IsTrue, ◌↔◌, IfSome, MatchOption};
 ghost use Rattle.std.specs.Char.{len_utf8};
+ghost use Rattle.std.specs.Str.{IsCharBoundary};
 ghost use Rattle.compact_repr.specs.Text.{size, utf8, text_of};
-ghost use Rattle.compact_repr.specs.Cut.{IsBoundary, after, substring};
+ghost use Rattle.compact_repr.specs.Cut.{IsBoundary, text_after, substring};
 ghost use Rattle.compact_repr.specs.Value.{is_static};
 
 use crate::cut;
@@ -26,6 +27,7 @@ impl<P: Policy> Repr<P> {
     #[inline]
     pub fn is_char_boundary(&self, index: usize) -> bool
         ensures boundary { IsTrue result ↔ IsBoundary self.now.text index }
+        ensures bytes { IsTrue result → IsCharBoundary (utf8 self.now.text) index }
     {
         self.as_str().is_char_boundary(index)
     }
@@ -35,7 +37,7 @@ impl<P: Policy> Repr<P> {
     pub fn char_at(&self, index: usize) -> char
         requires boundary { IsBoundary self.now.text index }
         requires within { index < size self.now.text }
-        ensures { (rest : List ℕ) × (after self.now.text index ≡ result ∷ rest) }
+        ensures { (rest : List ℕ) × (text_after self.now.text index ≡ result ∷ rest) }
     {
         cut::char_at(self.as_str(), index)
     }
@@ -46,8 +48,8 @@ impl<P: Policy> Repr<P> {
         requires boundary { IsBoundary self.now.text index }
         requires within { index < size self.now.text }
         ensures { MatchOption result ((c : ℕ) (rest : List ℕ)
-            → after self.now.text index ≡ c ∷ rest → 128 ≤ c)
-            (λ c. (len_utf8 c ≡ 1) × ((rest : List ℕ) × (after self.now.text index ≡ c ∷ rest))) }
+            → text_after self.now.text index ≡ c ∷ rest → 128 ≤ c)
+            (λ c. (len_utf8 c ≡ 1) × ((rest : List ℕ) × (text_after self.now.text index ≡ c ∷ rest))) }
     {
         cut::ascii_at(self.as_str(), index)
     }
@@ -65,8 +67,8 @@ impl<P: Policy> Repr<P> {
     #[inline]
     pub fn suffix(&self, index: usize) -> &str
         requires { IsBoundary self.now.text index }
-        ensures text { text_of result.now ≡ after self.now.text index }
-        ensures len { length result.now ≡ size (after self.now.text index) }
+        ensures text { text_of result.now ≡ text_after self.now.text index }
+        ensures len { length result.now ≡ size (text_after self.now.text index) }
     {
         cut::suffix(self.as_str(), index)
     }
@@ -89,7 +91,7 @@ impl<P: Policy> Repr<P> {
         requires { IsBoundary self.now.text index }
         ensures { MatchOption result (is_static self.now.placement.place ≡ false)
             (λ s. (is_static self.now.placement.place ≡ true)
-            × (text_of s.now ≡ after self.now.text index)) }
+            × (text_of s.now ≡ text_after self.now.text index)) }
     {
         match &self.buffer {
             Buffer::Inline(_, _) => None,

@@ -16,7 +16,11 @@ use std::alloc::Global;
 pub const MAX_CAPACITY: usize = 72057594037927934;
 
 impl<P: Policy> Repr<P> {
-    /// Makes room for `additional` more bytes. An error changes nothing.
+    /// Makes room for `additional` more bytes.
+    ///
+    /// # Errors
+    ///
+    /// [`ReserveError`] if a new buffer is refused.
     #[inline]
     pub fn reserve(&mut self, additional: usize) -> Result<(), ReserveError>
         ensures ok { OnOk result (reserve P.growth self.old additional ≡ Some self.new) }
@@ -43,6 +47,10 @@ impl<P: Policy> Repr<P> {
     }
 
     /// Makes room that is not there: moves a short text inline, and any other to a greater heap buffer.
+    ///
+    /// # Errors
+    ///
+    /// [`ReserveError`] if that buffer is refused.
     #[cold]
     #[inline(never)]
     pub(super) fn make_room(&mut self, additional: usize) -> Result<(), ReserveError>
@@ -66,7 +74,11 @@ impl<P: Policy> Repr<P> {
         self.move_to_heap(capacity)
     }
 
-    /// Makes the text of a static value its own; every other stays as it is. An error changes nothing.
+    /// Makes a static value owned; every other stays as it is.
+    ///
+    /// # Errors
+    ///
+    /// [`ReserveError`] if the value is static and the copy of its text is refused.
     #[inline(always)]
     pub fn make_owned(&mut self) -> Result<(), ReserveError>
         ensures ok { OnOk result (make_owned P.growth self.old ≡ Some self.new) }
@@ -123,7 +135,11 @@ impl<P: Policy> Repr<P> {
         self.buffer = Buffer::Inline([], InlineBuffer::new(self.as_str()));
     }
 
-    /// Moves the text into a heap buffer of `capacity` bytes, at least as many as stand. An error changes nothing.
+    /// Moves the text into a heap buffer of `capacity` bytes, at least as many as stand.
+    ///
+    /// # Errors
+    ///
+    /// [`ReserveError`] if that buffer is refused.
     fn move_to_heap(&mut self, capacity: usize) -> Result<(), ReserveError>
         requires fits { size self.old.text ≤ capacity }
         requires grows { IsTrue (is_heap self.old.placement.place)

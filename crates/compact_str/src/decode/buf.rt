@@ -15,12 +15,17 @@ use compact_repr::{INLINE_CAPACITY, ReserveError, Standard};
 use std::alloc::Global;
 
 impl PolicyString<Standard> {
-    /// The text that all bytes of a buffer encode in UTF-8, in however many pieces they lie: inline up to 24 bytes, which is
-    /// never refused for memory, and else on the heap in a buffer that holds it.
+    /// The text that all bytes of a buffer encode in UTF-8, in however many pieces they lie: inline up to 24 bytes, and
+    /// else on the heap in a buffer that holds it. All bytes are taken, and then they are validated.
     ///
-    /// All bytes are taken, and then they are validated. The error `Utf8` tells where they stop being a text. `Reserve` says
-    /// that no memory was found; then a beginning of the bytes may be taken, and they are not validated. A buffer of F0 and
-    /// 9F 92 96 in two pieces gives U+1F496.
+    /// # Errors
+    ///
+    /// `Utf8` if they encode no text, and where they stop being one. `Reserve` if memory for more than 24 bytes is
+    /// refused; then a beginning of the bytes may be taken, and they are not validated.
+    ///
+    /// # Examples
+    ///
+    /// A buffer of F0 and 9F 92 96 in two pieces gives U+1F496.
     #[tactic(auto, using(compact_repr::proofs::TextFacts::text_facts, crate::proofs::FittedTexts::buf_facts))]
     pub fn from_utf8_buf<B: Buf>(alloc: Global, buf: &mut B) -> Result<CompactString, FromUtf8Error>
         ensures text { IfOk result (λ v. BytesEncode (B.unread buf.old) v.text) }
@@ -48,10 +53,12 @@ impl PolicyString<Standard> {
         Ok(Self::from(unsafe { String::from_utf8_unchecked(bytes) }))
     }
 
-    /// The text that all bytes of a buffer encode in UTF-8, as of `from_utf8_buf`, where they are known to encode one.
+    /// The text that all bytes of a buffer encode in UTF-8, as by `from_utf8_buf`, but not validated: that they encode
+    /// one is the caller's condition.
     ///
-    /// Nothing is validated: that they do is the caller's condition. An error says that no memory was found; it never comes
-    /// up to 24 bytes, and a beginning of the bytes may be taken.
+    /// # Errors
+    ///
+    /// [`ReserveError`] if memory for more than 24 bytes is refused; then a beginning of the bytes may be taken.
     #[tactic(auto, using(compact_repr::proofs::TextFacts::text_facts, crate::proofs::FittedTexts::buf_facts))]
     pub fn from_utf8_buf_unchecked<B: Buf>(
         alloc: Global,

@@ -18,11 +18,16 @@ use compact_repr::{ReserveError, Standard};
 use std::alloc::Global;
 
 impl PolicyString<Standard> {
-    /// The text that the units encode in UTF-16, inline up to 24 bytes, which is never refused for memory, and else on the
-    /// heap in a buffer that holds it.
+    /// The text that the units encode in UTF-16: inline up to 24 bytes, and else on the heap in a buffer that holds it.
+    /// The units are validated before memory is asked for.
     ///
-    /// The units are validated before memory is asked for. The error `Utf16` says that a surrogate is in no pair, and
-    /// `Reserve` that no memory was found. `[0xD834, 0xDD1E]` gives U+1D11E, and `[0xD834, 0x0041]` is refused.
+    /// # Errors
+    ///
+    /// `Utf16` if a surrogate is in no pair. `Reserve` if a buffer is refused, for a text of more than 24 bytes.
+    ///
+    /// # Examples
+    ///
+    /// `[0xD834, 0xDD1E]` gives U+1D11E, and `[0xD834, 0x0041]` the error `Utf16`.
     #[tactic(auto, using(compact_codec::proofs::ForDecoders::strict_decoding))]
     pub fn from_utf16(alloc: Global, units: &[u16]) -> Result<CompactString, FromUtf16Error>
         ensures text { IfOk result (λ v. UnitsEncode units.now v.text) }
@@ -40,11 +45,15 @@ impl PolicyString<Standard> {
         }
     }
 
-    /// The text of the units in UTF-16, with one U+FFFD for each surrogate that is in no pair. Units that encode a text
-    /// give that text.
+    /// The text of the units in UTF-16, with one U+FFFD for each surrogate that is in no pair: inline up to 24 bytes,
+    /// and else on the heap in a buffer that holds it.
     ///
-    /// It is inline up to 24 bytes, and else on the heap in a buffer that holds it. An error says that no memory was found,
-    /// or that the length in bytes would be past 2^56 - 2; it never comes of a text of at most 24 bytes.
+    /// # Errors
+    ///
+    /// [`ReserveError`] if a buffer is refused, for a text of more than 24 bytes.
+    ///
+    /// # Examples
+    ///
     /// `[0xD834, 0x0041]` gives U+FFFD and `A`.
     #[tactic(auto, using(compact_repr::proofs::TextFacts::text_facts, compact_codec::proofs::ForDecoders::lossy_decoding, crate::proofs::FittedTexts::part_facts))]
     pub fn from_utf16_lossy(alloc: Global, units: &[u16]) -> Result<CompactString, ReserveError>
@@ -67,11 +76,16 @@ impl PolicyString<Standard> {
         Ok(made)
     }
 
-    /// The text that the bytes encode in UTF-16, two bytes a unit, the low byte first: inline up to 24 bytes, which is
-    /// never refused for memory, and else on the heap in a buffer that holds it. A byte order mark is a character.
+    /// `from_utf16` of the units that the bytes stand for, two bytes a unit, the low byte first. A byte order mark is a
+    /// character.
     ///
-    /// The bytes are validated before memory is asked for. The error `Utf16` says that a surrogate is in no pair, or that
-    /// the bytes are odd in number, and `Reserve` that no memory was found. `41 00` is `"A"`.
+    /// # Errors
+    ///
+    /// `Utf16` if a surrogate is in no pair, or the bytes are odd in number. `Reserve` as from `from_utf16`.
+    ///
+    /// # Examples
+    ///
+    /// `41 00` is `"A"`.
     pub fn from_utf16le(alloc: Global, bytes: &[u8]) -> Result<CompactString, FromUtf16Error>
         ensures text { IfOk result (λ v. PairsEncode LittleEndian bytes.now v.text) }
         ensures fitted { IfOk result IsFitted }
@@ -82,11 +96,16 @@ impl PolicyString<Standard> {
         from_bytes(alloc, ByteOrder::LittleEndian, bytes)
     }
 
-    /// The text that the bytes encode in UTF-16, two bytes a unit, the high byte first: inline up to 24 bytes, which is
-    /// never refused for memory, and else on the heap in a buffer that holds it. A byte order mark is a character.
+    /// `from_utf16` of the units that the bytes stand for, two bytes a unit, the high byte first. A byte order mark is
+    /// a character.
     ///
-    /// The bytes are validated before memory is asked for. The error `Utf16` says that a surrogate is in no pair, or that
-    /// the bytes are odd in number, and `Reserve` that no memory was found. `00 41` is `"A"`.
+    /// # Errors
+    ///
+    /// `Utf16` if a surrogate is in no pair, or the bytes are odd in number. `Reserve` as from `from_utf16`.
+    ///
+    /// # Examples
+    ///
+    /// `00 41` is `"A"`.
     pub fn from_utf16be(alloc: Global, bytes: &[u8]) -> Result<CompactString, FromUtf16Error>
         ensures text { IfOk result (λ v. PairsEncode BigEndian bytes.now v.text) }
         ensures fitted { IfOk result IsFitted }
@@ -97,11 +116,15 @@ impl PolicyString<Standard> {
         from_bytes(alloc, ByteOrder::BigEndian, bytes)
     }
 
-    /// The text of the bytes in UTF-16, two bytes a unit, the low byte first, with one U+FFFD for each surrogate that is
-    /// in no pair, and one at the end for an odd last byte. A byte order mark is a character.
+    /// `from_utf16_lossy` of the units that the bytes stand for, two bytes a unit, the low byte first, with one more
+    /// U+FFFD at the end for an odd last byte. A byte order mark is a character.
     ///
-    /// It is inline up to 24 bytes, and else on the heap in a buffer that holds it. An error says that no memory was found,
-    /// or that the length in bytes would be past 2^56 - 2; it never comes of a text of at most 24 bytes.
+    /// # Errors
+    ///
+    /// [`ReserveError`] as from `from_utf16_lossy`.
+    ///
+    /// # Examples
+    ///
     /// `41 00 42` gives `A` and U+FFFD.
     pub fn from_utf16le_lossy(alloc: Global, bytes: &[u8]) -> Result<CompactString, ReserveError>
         ensures { IsFittedOf (utf16_bytes_lossy_text LittleEndian bytes.now) result }
@@ -109,11 +132,15 @@ impl PolicyString<Standard> {
         from_bytes_lossy(alloc, ByteOrder::LittleEndian, bytes)
     }
 
-    /// The text of the bytes in UTF-16, two bytes a unit, the high byte first, with one U+FFFD for each surrogate that is
-    /// in no pair, and one at the end for an odd last byte. A byte order mark is a character.
+    /// `from_utf16_lossy` of the units that the bytes stand for, two bytes a unit, the high byte first, with one more
+    /// U+FFFD at the end for an odd last byte. A byte order mark is a character.
     ///
-    /// It is inline up to 24 bytes, and else on the heap in a buffer that holds it. An error says that no memory was found,
-    /// or that the length in bytes would be past 2^56 - 2; it never comes of a text of at most 24 bytes.
+    /// # Errors
+    ///
+    /// [`ReserveError`] as from `from_utf16_lossy`.
+    ///
+    /// # Examples
+    ///
     /// `00 41 42` gives `A` and U+FFFD.
     pub fn from_utf16be_lossy(alloc: Global, bytes: &[u8]) -> Result<CompactString, ReserveError>
         ensures { IsFittedOf (utf16_bytes_lossy_text BigEndian bytes.now) result }

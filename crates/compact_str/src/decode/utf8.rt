@@ -17,12 +17,16 @@ use compact_repr::{Policy, ReserveError, Standard};
 use std::alloc::Global;
 
 impl PolicyString<Standard> {
-    /// The text that the bytes encode in UTF-8, as `new` makes it: inline up to 24 bytes, which is never refused for
-    /// memory, else in a heap buffer of 32 bytes or as many as there are.
+    /// The text that the bytes encode in UTF-8, placed as by `new`. The bytes are validated before memory is asked for.
     ///
-    /// The bytes are validated before memory is asked for. The error `Utf8` tells where they stop being a text, and
-    /// `Reserve` says that they are one, for which `new` was refused. `[0x61, 0xE2, 0x82]` has its error after 1 byte, and
-    /// the end is open; of `[0xC3, 0xA9]` the text is `"é"`.
+    /// # Errors
+    ///
+    /// `Utf8` if they encode no text, and where they stop being one. `Reserve` if they do and `new` is refused, as it
+    /// never is up to 24 bytes.
+    ///
+    /// # Examples
+    ///
+    /// `[0xC3, 0xA9]` gives `"é"`. `[0x61, 0xE2, 0x82]` has its error after 1 byte, with an open end.
     #[inline]
     #[tactic(auto, using(compact_repr::proofs::TextFacts::text_facts, crate::proofs::FittedTexts::strict_facts))]
     pub fn from_utf8(alloc: Global, bytes: &[u8]) -> Result<CompactString, FromUtf8Error>
@@ -46,11 +50,16 @@ impl PolicyString<Standard> {
         }
     }
 
-    /// The text of the bytes in UTF-8, with one U+FFFD for each invalid sequence: the longest run of bytes there that begins
-    /// a character, or one byte. Bytes that encode a text give that text.
+    /// The text of the bytes in UTF-8, with one U+FFFD for each invalid sequence, which is the longest run of bytes
+    /// there that begins a character, or one byte. It is inline up to 24 bytes, and else on the heap in a buffer that
+    /// holds it.
     ///
-    /// It is inline up to 24 bytes, and else on the heap in a buffer that holds it. An error says that no memory was found,
-    /// or that the length in bytes would be past 2^56 - 2; it never comes of a text of at most 24 bytes.
+    /// # Errors
+    ///
+    /// [`ReserveError`] if a buffer is refused, for a text of more than 24 bytes.
+    ///
+    /// # Examples
+    ///
     /// `[0xE1, 0x80, 0x41]` gives U+FFFD and `A`, and `[0xC0, 0x80]` two U+FFFD.
     #[inline]
     #[tactic(auto, using(compact_repr::proofs::TextFacts::text_facts, compact_codec::proofs::ForDecoders::lossy_decoding, crate::proofs::FittedTexts::new_facts))]
@@ -63,10 +72,12 @@ impl PolicyString<Standard> {
         }
     }
 
-    /// The text that the bytes encode in UTF-8, as `new` makes it, where they are known to encode one.
+    /// The text that the bytes encode in UTF-8, placed as by `new`, but not validated: that they encode one is the
+    /// caller's condition.
     ///
-    /// Nothing is validated: that they do is the caller's condition, and `from_utf8` tells. An error says that `new` was
-    /// refused; it never comes up to 24 bytes.
+    /// # Errors
+    ///
+    /// [`ReserveError`] as from `new`.
     #[inline]
     pub fn from_utf8_unchecked(alloc: Global, bytes: &[u8]) -> Result<CompactString, ReserveError>
         requires { IsUtf8 bytes.now }

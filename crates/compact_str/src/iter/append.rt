@@ -8,11 +8,17 @@ ghost use Rattle.compact_str.specs.Collect.{OfIterator, OfItems, OfAllItems, Sto
 use crate::iter::AsText;
 use compact_repr::ReserveError;
 
-/// Appends each text of `items` to `line` in turn, up to the first that is refused: values become part of a `String`.
+/// Appends each text of `items` to `line` in turn, up to the first that is refused: so values become part of a
+/// `String`. The capacity never shrinks.
 ///
-/// An error says that no memory was found for one of them, for which the line had no room as it had grown by then; then
-/// those before it are appended, and those behind it are not asked for. The capacity never shrinks. A `String` of `"a"` and
-/// the values `"b"` and `"c"` give `"abc"`.
+/// # Errors
+///
+/// [`ReserveError`] if the line has no room for a text, as it has grown by then, and no memory is found. The texts
+/// before that one are appended, and those behind it are not asked for.
+///
+/// # Examples
+///
+/// A `String` of `"a"` and the values `"b"` and `"c"` give `"abc"`.
 pub fn append_all<T: AsText, U: IntoIterator<Item = T>>(
     line: &mut String,
     items: U,
@@ -34,7 +40,11 @@ pub fn append_all<T: AsText, U: IntoIterator<Item = T>>(
     append_texts(line, items)
 }
 
-/// The same, with the items as a list.
+/// `append_all`, whose clause `ok` tells the items as a list.
+///
+/// # Errors
+///
+/// [`ReserveError`] as from `append_all`.
 pub fn append_texts<T: AsText, U: IntoIterator<Item = T>>(
     line: &mut String,
     items: U,

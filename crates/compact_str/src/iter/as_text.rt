@@ -17,7 +17,11 @@ pub trait AsText: Drop {
     // Its text, as a list of characters.
     ghost spells: { Self → List ℕ };
 
-    /// The text: `"abc".text()` is `"abc"`.
+    /// The text.
+    ///
+    /// # Examples
+    ///
+    /// `"abc".text()` is `"abc"`.
     fn text(&self) -> &str
         ensures { text_of result.now ≡ spells self.now };
 }

@@ -34,11 +34,19 @@ fn collect_pieces<P: Policy, T: Piece, U: IntoIterator<Item = T>>(
 }
 
 impl<P: Policy> PolicyString<P> {
-    /// The texts of `texts` one after another: inline up to 24 bytes, else on the heap.
+    /// The texts of `texts` one after another: inline up to 24 bytes, else on the heap. `collect` of the texts means
+    /// the same.
     ///
-    /// An error says that no memory was found; it never comes up to 24 bytes. How many items are hinted at makes no room:
-    /// a text of at most 1024 bytes is made in a buffer that just fits it, or in the least one, and a longer one by growth.
-    /// `CompactString::from_texts(alloc, ["ab", "", "c"])?` is `"abc"`, and `collect` of the texts means the same.
+    /// How many items are hinted at makes no room. A text of at most 1024 bytes is made in a buffer that just fits it,
+    /// or in the least one, and a longer one by growth.
+    ///
+    /// # Errors
+    ///
+    /// [`ReserveError`] if a buffer is refused, for a text of more than 24 bytes.
+    ///
+    /// # Examples
+    ///
+    /// `CompactString::from_texts(alloc, ["ab", "", "c"])?` is `"abc"`.
     pub fn from_texts<T: AsText, U: IntoIterator<Item = T>>(
         alloc: Global,
         texts: U,
@@ -61,11 +69,16 @@ impl<P: Policy> PolicyString<P> {
         collect_pieces(alloc, texts)
     }
 
-    /// The characters of `characters` one after another: inline up to 24 bytes, else on the heap.
+    /// The characters of `characters` one after another: inline up to 24 bytes, else on the heap, with buffers as by
+    /// `from_texts`. `collect` of the characters means the same.
     ///
-    /// An error says that no memory was found; it never comes up to 24 bytes. How many items are hinted at makes no room:
-    /// a text of at most 1024 bytes is made in a buffer that just fits it, or in the least one, and a longer one by growth.
-    /// `CompactString::from_chars(alloc, ['a', 'ä'])?` is `"aä"`, and `collect` of the characters means the same.
+    /// # Errors
+    ///
+    /// [`ReserveError`] as from `from_texts`.
+    ///
+    /// # Examples
+    ///
+    /// `CompactString::from_chars(alloc, ['a', 'ä'])?` is `"aä"`.
     pub fn from_chars<U: IntoIterator<Item = char>>(
         alloc: Global,
         characters: U,
@@ -90,10 +103,12 @@ impl<P: Policy, T: AsText> FromIterator<T> for PolicyString<P> {
 
     ghost from_iter_gives = { λ xs v. (v.text ≡ flat_map T.spells xs) × IsFitted v };
 
-    /// `from_texts`, whose error is here that of the library's trait.
+    /// `from_texts` for `collect`, which tells a caller the text and the place, but not that up to 24 bytes are never
+    /// refused.
     ///
-    /// `collect` calls it by that trait, and so tells a caller the text and place, but not that it is never refused up to
-    /// 24 bytes.
+    /// # Errors
+    ///
+    /// `AllocError` where `from_texts` answers [`ReserveError`].
     fn from_iter<U: IntoIterator<Item = T>>(alloc: Global, texts: U) -> Result<Self, AllocError>
         requires { IsFiniteIterable U.into_iter_gives U.IntoIter.can_next U.IntoIter.remaining
             texts }
@@ -119,7 +134,11 @@ impl<P: Policy> FromIterator<char> for PolicyString<P> {
 
     ghost from_iter_gives = { λ xs v. (v.text ≡ xs) × IsFitted v };
 
-    /// `from_chars`, whose error is here that of the library's trait.
+    /// `from_chars` for `collect`.
+    ///
+    /// # Errors
+    ///
+    /// `AllocError` where `from_chars` answers [`ReserveError`].
     #[tactic(auto, using(crate::proofs::CollectFacts::collect_facts))]
     fn from_iter<U: IntoIterator<Item = char>>(
         alloc: Global,
@@ -149,7 +168,11 @@ impl<'a, P: Policy> FromIterator<&'a char> for PolicyString<P> {
 
     ghost from_iter_gives = { λ xs v. (v.text ≡ map (λ c. c.now) xs) × IsFitted v };
 
-    /// `from_chars` of the characters that are referred to.
+    /// `from_chars` of the characters that are referred to, for `collect`.
+    ///
+    /// # Errors
+    ///
+    /// `AllocError` where `from_chars` answers [`ReserveError`].
     #[tactic(auto, using(crate::proofs::CollectFacts::collect_facts))]
     fn from_iter<U: IntoIterator<Item = &'a char>>(
         alloc: Global,

@@ -2,7 +2,7 @@
 ghost use Rattle.std.specs.Prelude.{◌≡◌, ◌≤◌, List, ◌++◌, flat_map, map, OnOk, OnErr, IsOk};
 ghost use Rattle.std.specs.Iterator.{IsFiniteIterable};
 ghost use Rattle.compact_repr.specs.Text.{size};
-ghost use Rattle.compact_repr.specs.Cut.{IsBoundary, before};
+ghost use Rattle.compact_repr.specs.Cut.{IsBoundary, text_before};
 ghost use Rattle.compact_str.specs.Room.{HasRoomFor, sure_capacity};
 ghost use Rattle.compact_str.specs.Collect.{OfIterator, OfItems, OfAllItems, Appends, AppendsAll, AppendsUpToRefused, char_text};
 
@@ -35,11 +35,18 @@ fn extend_pieces<P: Policy, T: Piece, U: IntoIterator<Item = T>>(
 }
 
 impl<P: Policy> PolicyString<P> {
-    /// Appends each text of `texts` in turn, as `push_str` does, up to the first that is refused.
+    /// Appends each text of `texts` in turn, as `push_str` does, up to the first that is refused. How many items are
+    /// hinted at makes no room.
     ///
-    /// An error says that `push_str` refused one of them; then those before it are appended, and those behind it are not
-    /// asked for; `truncate` at the old length takes them off again. It never comes where there is room for all of them.
-    /// How many items are hinted at makes no room. `"a"` extended by `["b", "", "cd"]` is `"abcd"`.
+    /// # Errors
+    ///
+    /// [`ReserveError`] if `push_str` of a text is refused, as none is where there is room for all of them. The texts
+    /// before it are appended, and those behind it are not asked for; `truncate` at the old length takes them off
+    /// again.
+    ///
+    /// # Examples
+    ///
+    /// `"a"` extended by `["b", "", "cd"]` is `"abcd"`.
     pub fn extend_texts<T: AsText, U: IntoIterator<Item = T>>(
         &mut self,
         texts: U,
@@ -53,7 +60,7 @@ impl<P: Policy> PolicyString<P> {
             (OfItems U.into_iter_gives U.IntoIter.next_gives texts
             (λ xs. self.new.text ≡ self.old.text ++ flat_map T.spells xs)) }
         ensures boundary { IsBoundary self.new.text (size self.old.text) }
-        ensures front { before self.new.text (size self.old.text) ≡ self.old.text }
+        ensures front { text_before self.new.text (size self.old.text) ≡ self.old.text }
         ensures room { sure_capacity self.old ≤ sure_capacity self.new }
         ensures succeeds { OfAllItems U.into_iter_gives U.IntoIter.next_gives texts
             (λ xs. HasRoomFor self.old (size (flat_map T.spells xs))) → IsOk result }
@@ -65,11 +72,17 @@ impl<P: Policy> PolicyString<P> {
         extend_pieces(self, texts)
     }
 
-    /// Appends each character of `characters` in turn, as `push` does, up to the first that is refused.
+    /// Appends each character of `characters` in turn, as `push` does, up to the first that is refused. How many items
+    /// are hinted at makes no room.
     ///
-    /// An error says that `push` refused one of them; then those before it are appended, and those behind it are not asked
-    /// for; `truncate` at the old length takes them off again. It never comes where there is room for all of them. How many
-    /// items are hinted at makes no room. `"a"` extended by `['b', 'ä']` is `"abä"`.
+    /// # Errors
+    ///
+    /// [`ReserveError`] if `push` of a character is refused, as none is where there is room for all of them. The
+    /// characters before it are appended, as by `extend_texts`.
+    ///
+    /// # Examples
+    ///
+    /// `"a"` extended by `['b', 'ä']` is `"abä"`.
     pub fn extend_chars<U: IntoIterator<Item = char>>(
         &mut self,
         characters: U,
@@ -83,7 +96,7 @@ impl<P: Policy> PolicyString<P> {
             (OfItems U.into_iter_gives U.IntoIter.next_gives characters
             (λ xs. self.new.text ≡ self.old.text ++ xs)) }
         ensures boundary { IsBoundary self.new.text (size self.old.text) }
-        ensures front { before self.new.text (size self.old.text) ≡ self.old.text }
+        ensures front { text_before self.new.text (size self.old.text) ≡ self.old.text }
         ensures room { sure_capacity self.old ≤ sure_capacity self.new }
         ensures succeeds { OfAllItems U.into_iter_gives U.IntoIter.next_gives characters
             (λ xs. HasRoomFor self.old (size xs)) → IsOk result }
@@ -99,7 +112,11 @@ impl<P: Policy> PolicyString<P> {
 impl<P: Policy, T: AsText> Extend<T> for PolicyString<P> {
     ghost extend_gives = { λ v xs w. Appends P.growth T.spells v xs w };
 
-    /// `extend_texts`, whose error is here that of the library's trait.
+    /// `extend_texts` as the library's trait has it.
+    ///
+    /// # Errors
+    ///
+    /// `AllocError` where `extend_texts` answers [`ReserveError`].
     fn extend<U: IntoIterator<Item = T>>(&mut self, texts: U) -> Result<(), AllocError>
         requires { IsFiniteIterable U.into_iter_gives U.IntoIter.can_next U.IntoIter.remaining
             texts }
@@ -126,7 +143,11 @@ impl<P: Policy, T: AsText> Extend<T> for PolicyString<P> {
 impl<P: Policy> Extend<char> for PolicyString<P> {
     ghost extend_gives = { λ v xs w. Appends P.growth char_text v xs w };
 
-    /// `extend_chars`, whose error is here that of the library's trait.
+    /// `extend_chars` as the library's trait has it.
+    ///
+    /// # Errors
+    ///
+    /// `AllocError` where `extend_chars` answers [`ReserveError`].
     fn extend<U: IntoIterator<Item = char>>(&mut self, characters: U) -> Result<(), AllocError>
         requires { IsFiniteIterable U.into_iter_gives U.IntoIter.can_next U.IntoIter.remaining
             characters }
@@ -154,6 +175,10 @@ impl<'a, P: Policy> Extend<&'a char> for PolicyString<P> {
     ghost extend_gives = { λ v xs w. Appends P.growth (λ c. char_text c.now) v xs w };
 
     /// `extend_chars` of the characters that are referred to.
+    ///
+    /// # Errors
+    ///
+    /// `AllocError` where `extend_chars` answers [`ReserveError`].
     fn extend<U: IntoIterator<Item = &'a char>>(&mut self, references: U) -> Result<(), AllocError>
         requires { IsFiniteIterable U.into_iter_gives U.IntoIter.can_next U.IntoIter.remaining
             references }

@@ -15,7 +15,11 @@ impl<P: Policy> Extend<PolicyString<P>> for String {
     ghost extend_gives = { λ s xs t.
         text_of (string_bytes t) ≡ text_of (string_bytes s) ++ flat_map text_in xs };
 
-    /// `append_all`, whose error is here that of the library's trait.
+    /// `append_all` as the library's trait has it.
+    ///
+    /// # Errors
+    ///
+    /// `AllocError` where `append_all` answers [`ReserveError`].
     fn extend<U: IntoIterator<Item = PolicyString<P>>>(
         &mut self,
         values: U,
@@ -45,7 +49,9 @@ impl<P: Policy> FromIterator<PolicyString<P>> for String {
 
     /// The texts of the values, one after another, appended to an empty `String`.
     ///
-    /// An error says that no memory was found for them; it comes only where they are not all empty.
+    /// # Errors
+    ///
+    /// `AllocError` if no memory is found for them. None is needed if all are empty.
     fn from_iter<U: IntoIterator<Item = PolicyString<P>>>(
         alloc: Global,
         values: U,

@@ -14,9 +14,15 @@ use std::alloc::Global;
 
 /// What an iterator of texts can be made into.
 pub trait CompactStringExt: Iterator {
-    /// The items one after another: inline up to 24 bytes, else on the heap.
+    /// The items one after another: inline up to 24 bytes, else on the heap. How many items are hinted at makes no
+    /// room.
     ///
-    /// An error says that no memory was found; it never comes up to 24 bytes. How many items are hinted at makes no room.
+    /// # Errors
+    ///
+    /// [`ReserveError`] if a buffer is refused, for a text of more than 24 bytes.
+    ///
+    /// # Examples
+    ///
     /// `["ab", "c"].into_iter().concat_compact(alloc)?` is `"abc"`.
     final fn concat_compact(self, alloc: Global) -> Result<CompactString, ReserveError>
     where
@@ -35,11 +41,16 @@ pub trait CompactStringExt: Iterator {
         CompactString::from_texts(alloc, self)
     }
 
-    /// The items one after another, with `separator` between each two: inline up to 24 bytes, else on the heap.
+    /// The items one after another, with `separator` between each two, also round an empty item: inline up to 24 bytes,
+    /// else on the heap. How many items are hinted at makes no room.
     ///
-    /// An item that is empty has its separators as any other. An error says that no memory was found; it never comes up to
-    /// 24 bytes. How many items are hinted at makes no room. `["a", "", "b"].into_iter().join_compact(alloc, "-")?` is
-    /// `"a--b"`.
+    /// # Errors
+    ///
+    /// [`ReserveError`] if a buffer is refused, for a text of more than 24 bytes.
+    ///
+    /// # Examples
+    ///
+    /// `["a", "", "b"].into_iter().join_compact(alloc, "-")?` is `"a--b"`.
     final fn join_compact(
         self,
         alloc: Global,

@@ -16,13 +16,21 @@ pub trait Piece: Drop {
     ghost letters: { Self → List ℕ };
 
     /// Appends the piece, as `push_str` and `push` do.
+    ///
+    /// # Errors
+    ///
+    /// [`ReserveError`] as from `push_str`.
     fn push_to<P: Policy>(&self, value: &mut PolicyString<P>) -> Result<(), ReserveError>
         ensures ok { OnOk result (push_str P.growth value.old (letters self.now) ≡ Some value.new) }
         ensures succeeds { HasRoomFor value.old (size (letters self.now)) → IsOk result }
         ensures err { OnErr result
             ((value.new ≡ value.old) × IsTrue (push_str_asks value.old (letters self.now))) };
 
-    /// Takes the piece behind what has come. An error comes only where that makes more than 24 bytes.
+    /// Takes the piece behind what has come.
+    ///
+    /// # Errors
+    ///
+    /// [`ReserveError`] if a buffer is refused, for more than 24 bytes.
     fn gather_into<P: Policy>(&self, gathered: &mut Gathered<P>) -> Result<(), ReserveError>
         ensures ok { OnOk result (gathered.new ≡ gathered.old ++ letters self.now) }
         ensures err { OnErr result (24 < size gathered.old + size (letters self.now)) };

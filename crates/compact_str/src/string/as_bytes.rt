@@ -51,7 +51,11 @@ impl<P: Policy> AsBytes for &PolicyString<P> {
 impl<P: Policy> AsPath for PolicyString<P> {
     ghost path_text = { λ v. Some (utf8 v.text) };
 
-    /// `as_str`, for what takes a path: `File::open(alloc, &name)` opens the file of that name.
+    /// `as_str`, for what takes a path.
+    ///
+    /// # Examples
+    ///
+    /// `File::open(alloc, &name)` opens the file of that name.
     #[inline]
     fn path_text(&self) -> &str {
         self.as_str()
@@ -66,16 +70,18 @@ impl<P: Policy> TryFrom<Vec<u8>> for PolicyString<P> {
         ≡ placed_text t (from_string_placement t (vec_capacity b)))
         (λ e. (from_utf8_error_vec e ≡ b) × IsErrorOf b.items (from_utf8_error_cause e)) };
 
-    /// Takes the bytes over as `From<String>` does, if they are a text, and hands them back in the error if they are none.
+    /// Takes the bytes over as `From<String>` takes a text, and never allocates.
     ///
-    /// No memory is asked for. The bytes 61 62 give `"ab"`, and C3 alone none.
+    /// # Errors
+    ///
+    /// `FromUtf8Error`, which hands the bytes back, if they are no UTF-8.
+    ///
+    /// # Examples
+    ///
+    /// The bytes 61 62 give `"ab"`, and C3 alone is refused.
     fn try_from(bytes: Vec<u8>) -> Result<Self, FromUtf8Error> {
         match String::from_utf8(bytes) {
-            Ok(text) => {
-                // The proof reads from it that the bytes are a text.
-                let _bytes = text.as_str();
-                Ok(Self::from(text))
-            }
+            Ok(text) => Ok(Self::from(text)),
             Err(error) => Err(error),
         }
     }
@@ -85,12 +91,11 @@ impl<P: Policy> From<BoxedStr> for PolicyString<P> {
     ghost from_gives = { λ b v. let t = text_of (boxed_str_bytes b) in
         (v.text ≡ t) × ((capacity : ℕ) × (v ≡ placed_text t (from_string_placement t capacity))) };
 
-    /// Takes the text over as `From<String>` does, with the capacity that the box keeps. It is never refused, and
+    /// Takes the text over as `From<String>` does, with the capacity that the box keeps. It never allocates, where
     /// `from_boxed_str` copies.
+    #[tactic(auto, using(compact_repr::proofs::TextFacts::text_facts, crate::proofs::EditFacts::string_facts))]
     fn from(text: BoxedStr) -> Self {
         let text = text.into_string();
-        // The proof reads from it that the bytes are a text.
-        let _bytes = text.as_str();
         Self::from(text)
     }
 }

@@ -16,11 +16,16 @@ impl<P: Policy> Clone for PolicyString<P> {
 
     ghost is_infallible = { λ v. IsTrue (not (clone_asks v)) };
 
-    /// A copy with the same text: of an inline or static value as it stands, which takes no memory, and of a heap
-    /// value as `new` makes it, with no room but for the text.
+    /// A copy with the same text. An inline or static value is copied as it stands, which never allocates; a heap value
+    /// is copied by `new`, with no spare room.
     ///
-    /// An error says that `new` was refused; it comes only of a heap value of more than 24 bytes. A clone of `"abc"` is
-    /// `"abc"` inline.
+    /// # Errors
+    ///
+    /// `AllocError` if `new` is refused, which is so only of a heap value of more than 24 bytes.
+    ///
+    /// # Examples
+    ///
+    /// A clone of `"abc"` is `"abc"` inline.
     #[inline(always)]
     fn clone(&self) -> Result<Self, AllocError> {
         match self.repr.try_clone() {
@@ -31,12 +36,17 @@ impl<P: Policy> Clone for PolicyString<P> {
 }
 
 impl<P: Policy> PolicyString<P> {
-    /// Makes this value a clone of `source`: of an inline or static one with its place and capacity. The text of a
-    /// heap one goes where this value's text stood, if it has that capacity, else as `new` places it.
+    /// Makes this value a clone of `source`. An inline or static `source` is copied with its place and capacity. The
+    /// text of a heap one goes where this value's text stands, if there is room for it, and else where `new` puts it.
     ///
-    /// An error says that no memory was found, or that the capacity would be past 2^56 - 2; then nothing has changed. It
-    /// comes only of a heap source whose text has neither 24 bytes at most nor room in what this value owns. A target of
-    /// capacity 100 on the heap keeps that for a heap source of 30 bytes.
+    /// # Errors
+    ///
+    /// [`ReserveError`] if a new buffer is refused. None is needed for a source that is not on the heap, nor for a text
+    /// that fits in 24 bytes or in the capacity that this value owns.
+    ///
+    /// # Examples
+    ///
+    /// A target on the heap with capacity 100 keeps its buffer for a heap source of 30 bytes.
     pub fn clone_from(&mut self, source: &Self) -> Result<(), ReserveError>
         ensures ok { OnOk result (clone_from P.growth self.old source.now ≡ Some self.new) }
         ensures text { OnOk result (self.new.text ≡ source.now.text) }

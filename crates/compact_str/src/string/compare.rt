@@ -19,7 +19,11 @@ impl<P: Policy> PartialEq for PolicyString<P> {
 
     ghost laws = { on_per text_in (laws.partial_equiv_from_equiv nat_list_eq_equiv) };
 
-    /// Whether the texts are the same. Place and capacity have no part in it: `"abc"` on the heap equals `"abc"` inline.
+    /// Whether the texts are the same. Place and capacity have no part in it.
+    ///
+    /// # Examples
+    ///
+    /// `"abc"` on the heap equals `"abc"` inline.
     #[inline]
     fn eq(&self, other: &Self) -> bool {
         self.repr.same_text(&other.repr)
@@ -51,10 +55,12 @@ impl<P: Policy> Ord for PolicyString<P> {
 
     ghost matches_eq = { λ v w. texts_ties v.text w.text };
 
-    /// The order of the texts: at the first place where they differ the smaller character decides, and a proper front
-    /// comes first.
+    /// The order of the texts: at the first place where they differ the smaller character decides, and a proper prefix
+    /// comes first. It is found on bytes, whose order is that of the characters.
     ///
-    /// It is found on bytes, whose order is that of the characters. `"ab"` comes before `"b"`, and U+FFFD before U+10000.
+    /// # Examples
+    ///
+    /// `"ab"` comes before `"b"`, and U+FFFD before U+10000.
     #[inline]
     fn cmp(&self, other: &Self) -> Ordering {
         self.repr.text_cmp(&other.repr)

@@ -14,6 +14,8 @@ impl<P: Policy> DerefStr for PolicyString<P> {
 
     /// `as_str`, so that the methods of `&str` are methods of a value, and `&value` is a `&str` where one is asked for.
     ///
+    /// # Examples
+    ///
     /// Of `"key=value"`, `value.find('=')` is `Some(3)`, and `&value[..3]` is `"key"`.
     #[inline]
     fn deref(&self) -> &str
@@ -37,7 +39,11 @@ impl<'a, P: Policy + 'a> AsDeref<'a> for PolicyString<P> {
 
     ghost output_view = { λ y. y.now };
 
-    /// `as_str`, for `as_deref` of an `Option`: of `None` `option.as_deref().unwrap_or("none")` is `"none"`.
+    /// `as_str`, for `as_deref` of an `Option`.
+    ///
+    /// # Examples
+    ///
+    /// Of `None`, `option.as_deref().unwrap_or("none")` is `"none"`.
     #[inline]
     fn shown(&'a self) -> &'a str {
         self

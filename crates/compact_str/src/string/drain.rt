@@ -45,13 +45,18 @@ impl<P: Policy> PolicyString<P> {
     ghost use Rattle.compact_str.specs.Drain.{drain_rest, value_after_drain, drain_lender};
     ghost use Rattle.compact_str.specs.contracts.string.PolicyString.{the_row};
 
-    /// Takes a range out: answers its characters, and the drop of the answer leaves what stood before and after it. A
-    /// static value becomes its own first, for an empty range too.
+    /// Takes a range of the text out, in bytes: answers its characters, and the drop of the answer leaves what stood
+    /// before and after it. A static value becomes owned first, for an empty range too. Whether the bounds are a range
+    /// of the text, `check_range` tells.
     ///
-    /// Whether the bounds are a range of the text, `check_range` tells. An error says that no memory was found for a static
-    /// text of more than 24 bytes, or that it is longer than 2^56 - 2 bytes; then nothing has changed. It never comes of an
-    /// owned value. Of `"Hello, world!"` from `Included(5)` to `Excluded(12)` it gives the characters of `", world"`, and
-    /// leaves `"Hello!"`.
+    /// # Errors
+    ///
+    /// [`ReserveError`] if a static text of more than 24 bytes cannot be made owned. An owned value is never refused.
+    ///
+    /// # Examples
+    ///
+    /// Of `"Hello, world!"` from `Included(5)` to `Excluded(12)` it gives the characters of `", world"`, and leaves
+    /// `"Hello!"`.
     #[inline]
     pub fn drain(
         &mut self,
@@ -108,7 +113,7 @@ impl<P: Policy> PolicyString<P> {
 impl<P: Policy> Drain<'_, P> {
     ghost use Rattle.compact_str.specs.Drain.{drain_rest};
 
-    /// What is not yet taken.
+    /// The part of the range that is not yet taken.
     #[inline(always)]
     pub fn as_str(&self) -> &str
         ensures bytes { result.now ≡ utf8 (drain_rest self.now) }

@@ -11,7 +11,11 @@ use std::default::{Emptied, MadeWith};
 impl<P: Policy> Emptied for PolicyString<P> {
     ghost is_emptied = { λ v. v ≡ placed_text [] inline_placement };
 
-    /// The empty text, which `mem::try_take` leaves in the place of a value. It is never refused.
+    /// The empty text, which `mem::try_take` leaves in the place of a value.
+    ///
+    /// # Errors
+    ///
+    /// None ever comes, since the empty text is inline.
     #[inline]
     fn emptied(like: &Self) -> Result<Self, AllocError>
         ensures empty { IfOk result (λ v. v ≡ placed_text [] inline_placement) }

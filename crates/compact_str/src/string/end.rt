@@ -2,7 +2,7 @@
 ghost use Rattle.std.specs.Prelude.{◌≡◌, ℕ, ◌<◌, ◌≤◌, ◌++◌, ◌∷◌, [], length, Some, IfOk, IfErr, OnOk, OnErr, IsOk, IsTrue, MatchOption};
 ghost use Rattle.std.specs.Char.{len_utf8};
 ghost use Rattle.compact_repr.specs.Text.{size, text_of, utf8};
-ghost use Rattle.compact_repr.specs.Cut.{IsBoundary, before};
+ghost use Rattle.compact_repr.specs.Cut.{IsBoundary, text_before};
 ghost use Rattle.compact_repr.specs.Change.{push_str, push_str_asks, clear, truncate};
 ghost use Rattle.compact_str.specs.Room.{HasRoomFor, sure_capacity};
 ghost use Rattle.compact_str.specs.PositionEdits.{Pops, Writes};
@@ -13,11 +13,17 @@ use compact_repr::{Policy, PushOutcome, ReserveError, encode_char};
 use std::fmt;
 
 impl<P: Policy> PolicyString<P> {
-    /// Appends `text`. An empty one changes nothing, and for any other room is made as `reserve` makes it.
+    /// Appends `text`. An empty one changes nothing; for any other, room is made as by `reserve`. An append gives no
+    /// room back: what has room for this text and for more has room for the rest afterwards.
     ///
-    /// An error says that no memory was found, or that the capacity would be past 2^56 - 2; then nothing has changed. It
-    /// never comes where there is room, and an append gives no room back: what has room for this text and for more has
-    /// room for the rest. `"ab"` and `"c"` give `"abc"`.
+    /// # Errors
+    ///
+    /// [`ReserveError`] if a new buffer is refused. None is needed where the outcome fits in the capacity or in 24
+    /// bytes.
+    ///
+    /// # Examples
+    ///
+    /// `"ab"` and `"c"` give `"abc"`.
     #[inline]
     #[tactic(auto, using(compact_repr::proofs::TextFacts::text_facts, crate::proofs::EditFacts::append_facts))]
     pub fn push_str(&mut self, text: &str) -> Result<(), ReserveError>
@@ -37,7 +43,12 @@ impl<P: Policy> PolicyString<P> {
 
     /// Appends a character, 1 to 4 bytes, as `push_str` appends its text.
     ///
-    /// An error says that no memory was found, or that the capacity would be past 2^56 - 2; then nothing has changed.
+    /// # Errors
+    ///
+    /// [`ReserveError`] as from `push_str`.
+    ///
+    /// # Examples
+    ///
     /// `"caf"` and `'é'` give `"café"`.
     #[inline]
     pub fn push(&mut self, character: char) -> Result<(), ReserveError>
@@ -52,9 +63,14 @@ impl<P: Policy> PolicyString<P> {
         self.push_str(encode_char(character, &mut bytes))
     }
 
-    /// Appends `text` to a value that is handed in, as `push_str` does, and hands it out again.
+    /// Appends `text`, as `push_str` does, to a value that is handed in, and hands it out again.
     ///
-    /// An error says why `push_str` refused, and hands the value back as it was.
+    /// # Errors
+    ///
+    /// [`Refused`] if `push_str` is, with the value as it was.
+    ///
+    /// # Examples
+    ///
     /// `CompactString::new(alloc, "ab")?.add_str("c")` is `"abc"`.
     pub fn add_str(mut self, text: &str) -> Result<Self, Refused<Self>>
         ensures ok { IfOk result (λ v. push_str P.growth self (text_of text.now) ≡ Some v) }
@@ -70,9 +86,11 @@ impl<P: Policy> PolicyString<P> {
         }
     }
 
-    /// Takes the last character off and answers it; `None` of the empty text, which stays.
+    /// Takes the last character off and answers it, or `None` of the empty text, which stays. The place stays, and so
+    /// does the capacity of an inline or heap value; a static value stays static, and is shorter.
     ///
-    /// The place stays, and so does the capacity of an inline or heap value; a static value stays static, and is shorter.
+    /// # Examples
+    ///
     /// Of `"café"` it answers `'é'` and leaves `"caf"`.
     #[inline]
     #[tactic(auto, using(compact_repr::proofs::TextFacts::text_facts, crate::proofs::EditFacts::position_facts))]
@@ -86,25 +104,33 @@ impl<P: Policy> PolicyString<P> {
         Some(character)
     }
 
-    /// Keeps the first `len` bytes, which end between two characters; from the length on nothing changes.
+    /// Keeps the first `len` bytes, which end at a boundary; if the text has no more than that, nothing changes. The
+    /// place stays, and so does the capacity of an inline or heap value.
     ///
-    /// The place stays, and so does the capacity of an inline or heap value. Whether `len` is such a position,
-    /// `is_char_boundary` tells; the length that a value had before an append is one, and gives the old text back.
+    /// Whether `len` is a boundary, `is_char_boundary` tells. The length that a value had before an append is one, and
+    /// gives the old text back.
+    ///
+    /// # Examples
+    ///
     /// Of `"café"` the first 3 bytes are `"caf"`.
     #[inline]
     #[tactic(auto, using(compact_repr::proofs::TextFacts::text_facts, crate::proofs::EditFacts::position_facts))]
     pub fn truncate(&mut self, len: usize)
         requires { len < size self.old.text → IsBoundary self.old.text len }
         ensures value { self.new ≡ truncate self.old len }
-        ensures text { self.new.text ≡ before self.old.text len }
+        ensures text { self.new.text ≡ text_before self.old.text len }
         ensures boundaries { (i : ℕ) → i ≤ len → IsBoundary self.old.text i
             → IsBoundary self.new.text i }
     {
         self.repr.truncate(len);
     }
 
-    /// Leaves the empty text. The place stays, and so does the capacity of an inline or heap value; a static value is
-    /// static with capacity 0.
+    /// Leaves the empty text. The place stays, and so does the capacity of an inline or heap value; a static value has
+    /// capacity 0 then.
+    ///
+    /// # Examples
+    ///
+    /// A heap value with capacity 100 keeps it.
     #[inline]
     pub fn clear(&mut self)
         ensures value { self.new ≡ clear self.old }
@@ -119,7 +145,9 @@ impl<P: Policy> fmt::Write for PolicyString<P> {
 
     /// Appends `text` as `push_str` does, so that `write!` and `writeln!` append what they show.
     ///
-    /// A refusal is an error of `fmt`; then nothing has changed. `write!` itself may have written some of its parts
+    /// # Errors
+    ///
+    /// `fmt::Error` if `push_str` is refused; the value is then as it was. `write!` may have written some of its parts
     /// before the one that was refused, and `truncate` at the old length takes them off again.
     #[tactic(auto, using(compact_repr::proofs::TextFacts::text_facts, crate::proofs::EditFacts::append_facts))]
     fn write_str(&mut self, text: &str) -> fmt::Result

@@ -16,7 +16,15 @@ impl<P: Policy> Described for PolicyString<P> {
 }
 
 impl<P: Policy> Serialize for PolicyString<P> {
-    /// Writes the text, as a `String` does: in JSON `"abc"`, with its quotes.
+    /// Writes the text as a `String` is written.
+    ///
+    /// # Errors
+    ///
+    /// That of `out`, where it takes no more.
+    ///
+    /// # Examples
+    ///
+    /// In JSON `"abc"` is written with its quotes.
     #[inline]
     fn serialize<S: Serializer>(&self, out: &mut S) -> Result<(), S::Error> {
         out.str(self.as_str())
@@ -24,11 +32,12 @@ impl<P: Policy> Serialize for PolicyString<P> {
 }
 
 impl<P: Policy> DeserializeOwned for PolicyString<P> {
-    /// A text that the reader gives. Of one with no escape a copy is made as by `new`, so that up to 24 bytes take no memory.
-    ///
-    /// An error is the reader's own, as of what is no text; or says that no memory was found.
-    ///
+    /// A text that the reader gives. One with no escape is copied as by `new`, so that up to 24 bytes never allocate.
     /// The clause tells a caller of one reader nothing of which text was read.
+    ///
+    /// # Errors
+    ///
+    /// The reader's own, if it has no text to give or no memory is found.
     fn deserialize_owned<F: Format>(
         alloc: Global,
         from: &mut Deserializer<'_, '_, F>,
@@ -41,6 +50,10 @@ impl<P: Policy> DeserializeOwned for PolicyString<P> {
 
 impl<'de, P: Policy> Deserialize<'de> for PolicyString<P> {
     /// As `deserialize_owned`: the value borrows nothing of what is read.
+    ///
+    /// # Errors
+    ///
+    /// As from `deserialize_owned`.
     fn deserialize<F: Format>(
         alloc: Global,
         from: &mut Deserializer<'de, '_, F>,
@@ -90,10 +103,9 @@ fn copy_of<P: Policy>(alloc: Global, text: &str) -> Result<PolicyString<P>, Rese
 
 /// A text as `From<String>` takes it over.
 #[inline]
+#[tactic(auto, using(compact_repr::proofs::TextFacts::text_facts, crate::proofs::EditFacts::string_facts))]
 fn taken_over<P: Policy>(text: String) -> PolicyString<P>
     ensures { utf8 result.text ≡ string_bytes text }
 {
-    // The proof reads from it that the bytes are a text.
-    let _bytes = text.as_str();
     PolicyString::from(text)
 }

@@ -35,9 +35,15 @@ impl From<ReserveError> for FromJsonError {
 }
 
 impl<P: Policy> PolicyString<P> {
-    /// The text as a JSON string, which is a copy: `to_string` prints it between quotes, `"abc"`.
+    /// A copy of the text as a JSON string.
     ///
-    /// An error says that no memory was found.
+    /// # Errors
+    ///
+    /// [`ReserveError`] if no memory is found for the copy.
+    ///
+    /// # Examples
+    ///
+    /// `to_string` prints `"abc"` with its quotes.
     pub fn to_json(&self) -> Result<Value, ReserveError>
         ensures { IfOk result (λ v. json_view v ≡ json_string (utf8 self.now.text)) }
     {
@@ -49,8 +55,10 @@ impl<P: Policy> PolicyString<P> {
 
     /// A copy of the text of a JSON string, as `new` makes it.
     ///
-    /// The error `NotAString` comes of every other JSON value, as of the number 1 and of null, and of no string. `Reserve`
-    /// says that `new` was refused; it never comes up to 24 bytes.
+    /// # Errors
+    ///
+    /// `NotAString` if the value is no string, as the number 1 and null are none. `Reserve` if it is one, and `new` is
+    /// refused, as it never is up to 24 bytes.
     pub fn from_json(alloc: Global, value: &Value) -> Result<Self, FromJsonError>
         ensures reads { ReadsJson P.growth (json_view value.now) result }
         ensures text { IfOk result (λ v. json_view value.now ≡ json_string (utf8 v.text)) }

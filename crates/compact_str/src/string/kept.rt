@@ -1,4 +1,4 @@
-//! How characters are kept by a test.
+//! How the text is reduced to the characters that a test keeps.
 ghost use Rattle.std.specs.Prelude.{◌≡◌, ◌≤◌, ℕ, Bool, Some, OnOk, OnErr, IsOk, IsTrue, filter};
 ghost use Rattle.compact_repr.specs.Text.{size};
 ghost use Rattle.compact_repr.specs.Capacity.{owned_placement, make_owned_asks};
@@ -11,12 +11,18 @@ use compact_repr::{Policy, ReserveError};
 
 impl<P: Policy> PolicyString<P> {
     /// Keeps the characters for which `keep` answers true. It is asked once of each character, in order, and may have a
-    /// state of its own. A static value becomes its own first, even where all are kept.
+    /// state of its own. A static value becomes owned first, even where all are kept.
     ///
-    /// An error says that no memory was found for a static text of more than 24 bytes, or that it is longer than 2^56 - 2
-    /// bytes; then nothing has changed, and `keep` was not asked. It never comes of an owned value. Of `"a-b-c"` with
-    /// `|character| character != '-'` it keeps `"abc"`; of a test that always says the same of a character the clause `filter`
-    /// tells the text.
+    /// Of a test that always says the same of a character, the clause `filter` tells the text.
+    ///
+    /// # Errors
+    ///
+    /// [`ReserveError`] if a static text of more than 24 bytes cannot be made owned; then `keep` was not asked. An
+    /// owned value is never refused.
+    ///
+    /// # Examples
+    ///
+    /// Of `"a-b-c"`, `|character| character != '-'` keeps `"abc"`.
     #[inline]
     pub fn retain<F: FnMut(char) -> bool>(&mut self, mut keep: F) -> Result<(), ReserveError>
         requires { F.IsAlwaysCallable keep }
@@ -32,8 +38,12 @@ impl<P: Policy> PolicyString<P> {
         self.retain_by(&mut keep)
     }
 
-    /// `retain` with a test that is lent. So the clauses can tell that it was asked of each character and no more, and that it
-    /// was not asked before a refusal: whoever counts in it knows the count.
+    /// `retain` with a test that is lent. So the clauses can tell that it was asked of each character and no more, and
+    /// not before a refusal: whoever counts in it knows the count.
+    ///
+    /// # Errors
+    ///
+    /// [`ReserveError`] as from `retain`.
     #[inline]
     pub fn retain_by<F: FnMut(char) -> bool>(&mut self, keep: &mut F) -> Result<(), ReserveError>
         requires { F.IsAlwaysCallable keep.old }

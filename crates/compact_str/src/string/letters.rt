@@ -10,12 +10,16 @@ use crate::string::PolicyString;
 use compact_repr::{Policy, ReserveError};
 
 impl<P: Policy> PolicyString<P> {
-    /// Makes A to Z small, in place; every other character stays. A static value becomes its own first, also where no
-    /// character changes.
+    /// Makes A to Z lowercase, in place; every other character stays, and so does each boundary. A static value becomes
+    /// owned first, also where no character changes.
     ///
-    /// A boundary stays one. An error says that no memory was found for a static text of more than 24 bytes, or that it
-    /// is longer than 2^56 - 2 bytes; then nothing has changed. It never comes of an owned value. `"ABCÄ"` becomes
-    /// `"abcÄ"`.
+    /// # Errors
+    ///
+    /// [`ReserveError`] if a static text of more than 24 bytes cannot be made owned. An owned value is never refused.
+    ///
+    /// # Examples
+    ///
+    /// `"ABCÄ"` becomes `"abcÄ"`.
     #[tactic(auto, using(compact_repr::proofs::TextFacts::text_facts, crate::proofs::EditFacts::letter_facts))]
     pub fn make_ascii_lowercase(&mut self) -> Result<(), ReserveError>
         ensures ok { OnOk result (make_ascii_lowercase P.growth self.old ≡ Some self.new) }
@@ -30,12 +34,16 @@ impl<P: Policy> PolicyString<P> {
         Ok(())
     }
 
-    /// Makes a to z great, in place; every other character stays. A static value becomes its own first, also where no
-    /// character changes.
+    /// Makes a to z uppercase, in place; every other character stays, and so does each boundary. A static value becomes
+    /// owned first, also where no character changes.
     ///
-    /// A boundary stays one. An error says that no memory was found for a static text of more than 24 bytes, or that it
-    /// is longer than 2^56 - 2 bytes; then nothing has changed. It never comes of an owned value. `"abcä"` becomes
-    /// `"ABCä"`.
+    /// # Errors
+    ///
+    /// [`ReserveError`] if a static text of more than 24 bytes cannot be made owned. An owned value is never refused.
+    ///
+    /// # Examples
+    ///
+    /// `"abcä"` becomes `"ABCä"`.
     #[tactic(auto, using(compact_repr::proofs::TextFacts::text_facts, crate::proofs::EditFacts::letter_facts))]
     pub fn make_ascii_uppercase(&mut self) -> Result<(), ReserveError>
         ensures ok { OnOk result (make_ascii_uppercase P.growth self.old ≡ Some self.new) }
@@ -50,10 +58,15 @@ impl<P: Policy> PolicyString<P> {
         Ok(())
     }
 
-    /// A new value with the text, of which A to Z are made small; every other character is as it was. This value stays.
+    /// A new value, placed as by `new`, with the text in which A to Z are lowercase. This value stays as it is.
     ///
-    /// It stands where `new` would place it. An error says that no memory was found, or that the text is longer than
-    /// 2^56 - 2 bytes; it never comes of a text of at most 24 bytes. Of `"ABCÄ"` it is `"abcÄ"`.
+    /// # Errors
+    ///
+    /// [`ReserveError`] if `new` is refused, as it never is up to 24 bytes.
+    ///
+    /// # Examples
+    ///
+    /// Of `"ABCÄ"` it is `"abcÄ"`.
     #[tactic(auto, using(compact_repr::proofs::TextFacts::text_facts, crate::proofs::EditFacts::letter_facts))]
     pub fn to_ascii_lowercase(&self) -> Result<Self, ReserveError>
         ensures ok { IfOk result (λ v. new P.growth (ascii_lowercase self.now.text) ≡ Some v) }
@@ -66,10 +79,15 @@ impl<P: Policy> PolicyString<P> {
         Ok(copy)
     }
 
-    /// A new value with the text, of which a to z are made great; every other character is as it was. This value stays.
+    /// A new value, placed as by `new`, with the text in which a to z are uppercase. This value stays as it is.
     ///
-    /// It stands where `new` would place it. An error says that no memory was found, or that the text is longer than
-    /// 2^56 - 2 bytes; it never comes of a text of at most 24 bytes. Of `"abcä"` it is `"ABCä"`.
+    /// # Errors
+    ///
+    /// [`ReserveError`] if `new` is refused, as it never is up to 24 bytes.
+    ///
+    /// # Examples
+    ///
+    /// Of `"abcä"` it is `"ABCä"`.
     #[tactic(auto, using(compact_repr::proofs::TextFacts::text_facts, crate::proofs::EditFacts::letter_facts))]
     pub fn to_ascii_uppercase(&self) -> Result<Self, ReserveError>
         ensures ok { IfOk result (λ v. new P.growth (ascii_uppercase self.now.text) ≡ Some v) }
@@ -82,10 +100,14 @@ impl<P: Policy> PolicyString<P> {
         Ok(copy)
     }
 
-    /// Leaves the empty text, and writes zero over every byte that the value has held in its own buffer, those behind a
-    /// text that was made shorter too. A static value becomes inline; every other keeps its place and its capacity.
+    /// Leaves the empty text, and writes zero over every byte of the value's own buffer, also behind a text that was
+    /// made shorter. A static value becomes inline; every other keeps its place and its capacity.
     ///
-    /// What the value left in a buffer that it gave back, as at a growth, is not reached. `"secret"` becomes `""`.
+    /// A buffer that the value gave back before, as at a growth, is not reached.
+    ///
+    /// # Examples
+    ///
+    /// `"secret"` becomes `""`.
     pub fn zeroize(&mut self)
         ensures value { self.new ≡ zeroize self.old }
         ensures text { self.new.text ≡ [] }

@@ -19,6 +19,8 @@ impl<P: Policy> PolicyString<P> {
 
     /// The text. Where its bytes may be cut, as where `find` found a character, there is a boundary of the text.
     ///
+    /// # Examples
+    ///
     /// `CompactString::new(alloc, "abc")?.as_str()` is `"abc"`.
     #[inline]
     pub fn as_str(&self) -> &str
@@ -32,6 +34,8 @@ impl<P: Policy> PolicyString<P> {
 
     /// The bytes of the text in UTF-8.
     ///
+    /// # Examples
+    ///
     /// Of `"é"` they are C3 and A9.
     #[inline]
     pub fn as_bytes(&self) -> &[u8]
@@ -43,7 +47,9 @@ impl<P: Policy> PolicyString<P> {
         self.as_str().as_bytes()
     }
 
-    /// The text of a static value, which outlives the value; `None` of every other.
+    /// The text of a static value, which outlives the value, or `None` of every other.
+    ///
+    /// # Examples
     ///
     /// `CompactString::const_new(alloc, text).as_static_str()` is `Some(text)` for a `text` of more than 24 bytes.
     #[inline]
@@ -55,11 +61,14 @@ impl<P: Policy> PolicyString<P> {
         self.repr.as_static_str()
     }
 
-    /// The 24 bytes of an inline value, `None` of every other.
+    /// The 24 bytes of an inline value, or `None` of every other. `PolicyString::from_packed` gives the text back.
     ///
     /// A text of 24 bytes is all of them. A shorter one is the first of them, and the last is 192 and the length; what
-    /// stands between is open. `PolicyString::from_packed` gives the text back. Of the empty text the last byte is C0, and
-    /// of a static value there are none.
+    /// stands between is open.
+    ///
+    /// # Examples
+    ///
+    /// Of the empty text the last byte is C0, and of a static value there are none.
     #[inline]
     pub fn packed(&self) -> Option<[u8; 24]>
         ensures place { IsSome result ↔ (self.now.placement.place ≡ inline) }
@@ -68,9 +77,11 @@ impl<P: Policy> PolicyString<P> {
         self.repr.packed()
     }
 
-    /// The length of the text in bytes.
+    /// The length of the text in bytes. The clause `sound` says besides that the text fits its place.
     ///
-    /// Of `"é"` it is 2. Every value is sound: its text fits its place.
+    /// # Examples
+    ///
+    /// Of `"é"` it is 2.
     #[inline]
     pub fn len(&self) -> usize
         ensures value { result ≡ size self.now.text }
@@ -81,6 +92,10 @@ impl<P: Policy> PolicyString<P> {
     }
 
     /// Whether the text has no character, and so no byte.
+    ///
+    /// # Examples
+    ///
+    /// `""` is empty, and `" "` is not.
     #[inline]
     #[tactic(auto, using(crate::proofs::EditFacts::append_facts))]
     pub fn is_empty(&self) -> bool
@@ -89,8 +104,12 @@ impl<P: Policy> PolicyString<P> {
         self.len() == 0
     }
 
-    /// How many bytes have room with no new buffer: 24 of an inline value, the length of a static one, and of a heap one
-    /// those of its buffer, as 32 of a new text of 25.
+    /// How many bytes there is room for with no new buffer: 24 in an inline value, the length of a static one, and on
+    /// the heap the size of the buffer.
+    ///
+    /// # Examples
+    ///
+    /// A new text of 25 bytes has capacity 32.
     #[inline]
     pub fn capacity(&self) -> usize
         ensures { result ≡ self.now.placement.capacity }
@@ -100,7 +119,9 @@ impl<P: Policy> PolicyString<P> {
 
     /// Whether the text stands in a buffer on the heap.
     ///
-    /// It does of a new text of 25 bytes, and does not of one of 24.
+    /// # Examples
+    ///
+    /// A new text of 25 bytes does, and one of 24 does not.
     #[inline]
     pub fn is_heap_allocated(&self) -> bool
         ensures { result ≡ is_heap self.now.placement.place }

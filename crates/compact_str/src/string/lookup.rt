@@ -18,9 +18,11 @@ impl<P: Policy> Equivalent<PolicyString<P>> for &str {
     ghost respects_eq = { λ q x y h.
         nat_list_eq_equiv.congr q.now (utf8 x.text) (utf8 y.text) h ∙ utf8-same x.text y.text };
 
-    /// Whether the key has this text.
+    /// Whether the key has this text, for which no value is made.
     ///
-    /// So `map.get("abc")` finds a key `"abc"`, and no value is made for it.
+    /// # Examples
+    ///
+    /// `map.get("abc")` finds a key `"abc"`.
     #[inline]
     fn equivalent(&self, key: &PolicyString<P>) -> bool {
         *self == key.as_str()

@@ -19,9 +19,12 @@ use std::borrow::CowStr;
 use std::boxed::BoxedStr;
 
 impl<P: Policy> PolicyString<P> {
-    /// The empty text, inline, which takes no memory: `CompactString::default(alloc).as_str()` is `""`.
+    /// The empty text, inline, which never allocates. It is a plain function, since the trait `Default` hands in no
+    /// allocator.
     ///
-    /// It is a plain function, since the trait `Default` hands in no allocator.
+    /// # Examples
+    ///
+    /// `CompactString::default(alloc).as_str()` is `""`.
     #[inline]
     pub fn default(alloc: Global) -> Self
         ensures { result ≡ placed_text [] inline_placement }
@@ -31,11 +34,15 @@ impl<P: Policy> PolicyString<P> {
         }
     }
 
-    /// A copy of `text`: inline up to 24 bytes, which is never refused, else in a heap buffer of 32 bytes or as many
-    /// as the text has.
+    /// A copy of `text`: inline up to 24 bytes, else in a heap buffer of 32 bytes or as many as the text has.
     ///
-    /// An error says that no memory was found, or that the text is longer than 2^56 - 2 bytes; it never comes up to 24
-    /// bytes. `CompactString::new(alloc, "abc")?` is inline with capacity 24, and a text of 25 bytes has capacity 32.
+    /// # Errors
+    ///
+    /// [`ReserveError`] if the heap buffer is refused. Up to 24 bytes none is needed.
+    ///
+    /// # Examples
+    ///
+    /// `CompactString::new(alloc, "abc")?` is inline with capacity 24, and a text of 25 bytes has capacity 32.
     #[inline]
     pub fn new(alloc: Global, text: &str) -> Result<Self, ReserveError>
         ensures { IsNewOf P.growth text.now result }
@@ -46,7 +53,11 @@ impl<P: Policy> PolicyString<P> {
         }
     }
 
-    /// `new` under its other name, with the same value and the same error.
+    /// `new` under its other name.
+    ///
+    /// # Errors
+    ///
+    /// [`ReserveError`] as from `new`.
     #[inline]
     pub fn try_new(alloc: Global, text: &str) -> Result<Self, ReserveError>
         ensures { IsNewOf P.growth text.now result }
@@ -54,7 +65,11 @@ impl<P: Policy> PolicyString<P> {
         Self::new(alloc, text)
     }
 
-    /// `new` under the name of the trait `FromStr`, which hands in no allocator; value and error are those of `new`.
+    /// `new` under the name that the trait `FromStr` has, which hands in no allocator.
+    ///
+    /// # Errors
+    ///
+    /// [`ReserveError`] as from `new`.
     #[inline]
     pub fn from_str(alloc: Global, text: &str) -> Result<Self, ReserveError>
         ensures { IsNewOf P.growth text.now result }
@@ -62,10 +77,11 @@ impl<P: Policy> PolicyString<P> {
         Self::try_new(alloc, text)
     }
 
-    /// A text of the program: inline up to 24 bytes, else static, borrowed for ever and not copied.
+    /// A text of the program: inline up to 24 bytes, else static, borrowed for ever and not copied. It never allocates.
     ///
-    /// It is never refused. `CompactString::const_new(alloc, "abc")` is inline, and a text of 30 bytes is static with
-    /// capacity 30.
+    /// # Examples
+    ///
+    /// `CompactString::const_new(alloc, "abc")` is inline, and a text of 30 bytes is static with capacity 30.
     #[inline]
     pub fn const_new(alloc: Global, text: &'static str) -> Self
         ensures { let t = text_of text.now in result ≡ placed_text t (const_new_placement t) }
@@ -75,11 +91,15 @@ impl<P: Policy> PolicyString<P> {
         }
     }
 
-    /// The text that 24 bytes stand for, inline, as `packed` gives them; `None` where they stand for none.
+    /// The text that 24 bytes stand for, inline, as `packed` gives them, or `None` where they stand for none. It never
+    /// allocates.
     ///
     /// They stand for none where the last byte is above 215, and where the bytes of the text are no UTF-8. What stands
-    /// behind the text is not looked at. It takes no memory. 24 times 61 gives 24 letters `a`, and of a first byte 61 and
-    /// a last byte C1 the text is `"a"`.
+    /// behind the text is not looked at.
+    ///
+    /// # Examples
+    ///
+    /// 24 times 61 gives 24 letters `a`, and of a first byte 61 and a last byte C1 the text is `"a"`.
     #[inline]
     pub fn from_packed(alloc: Global, bytes: &[u8; 24]) -> Option<Self>
         ensures value { MatchOption result ((t : List ℕ) → ¬ (IsPackedFor bytes.now t))
@@ -91,10 +111,14 @@ impl<P: Policy> PolicyString<P> {
         Some(PolicyString { repr })
     }
 
-    /// The empty text with room for `capacity` bytes: inline up to 24, which is never refused, else in a heap buffer
-    /// of at least 32.
+    /// The empty text with room for `capacity` bytes: inline up to 24, else in a heap buffer of at least 32.
     ///
-    /// An error says that no memory was found, or that `capacity` is past 2^56 - 2; it never comes up to 24 bytes.
+    /// # Errors
+    ///
+    /// [`ReserveError`] if the heap buffer is refused. Up to 24 bytes none is needed.
+    ///
+    /// # Examples
+    ///
     /// `CompactString::with_capacity(alloc, 30)?` has capacity 32, and no append up to that is refused.
     pub fn with_capacity(alloc: Global, capacity: usize) -> Result<Self, ReserveError>
         ensures { IsRoomFor P.growth capacity result }
@@ -105,17 +129,22 @@ impl<P: Policy> PolicyString<P> {
         }
     }
 
-    /// `with_capacity` under its other name, with the same value and the same error.
+    /// `with_capacity` under its other name.
+    ///
+    /// # Errors
+    ///
+    /// [`ReserveError`] as from `with_capacity`.
     pub fn try_with_capacity(alloc: Global, capacity: usize) -> Result<Self, ReserveError>
         ensures { IsRoomFor P.growth capacity result }
     {
         Self::with_capacity(alloc, capacity)
     }
 
-    /// Takes `text` over with its buffer and capacity, of which nothing is copied, a short text too.
+    /// Takes `text` over with its buffer and capacity, even a short one. Nothing is copied, and it never allocates.
     ///
-    /// It is never refused. A string that has a buffer, as every one that is not empty, is on the heap with the string's
-    /// capacity in bytes, even below 24; one that has none is inline and empty.
+    /// # Examples
+    ///
+    /// A string of 3 bytes in a buffer of 10 is on the heap with capacity 10. One with no buffer is inline and empty.
     pub fn from_string_buffer(text: String) -> Self
         ensures value { let t = text_of (string_bytes text)
             in result ≡ placed_text t (if nat_eq (string_capacity text) 0 then inline_placement
@@ -127,10 +156,15 @@ impl<P: Policy> PolicyString<P> {
         }
     }
 
-    /// A borrowed text is copied as by `new`, an owned one taken over as by `From<String>`.
+    /// A borrowed text is copied as by `new`, and an owned one taken over as by `From<String>`.
     ///
-    /// An error says that the copy of a borrowed text was refused, as by `new`; it never comes of an owned one, nor up to
-    /// 24 bytes. `CowStr::Borrowed("abc")` gives `"abc"` inline.
+    /// # Errors
+    ///
+    /// [`ReserveError`] if the copy of a borrowed text of more than 24 bytes is refused.
+    ///
+    /// # Examples
+    ///
+    /// `CowStr::Borrowed("abc")` gives `"abc"` inline.
     pub fn from_cow(alloc: Global, text: CowStr<'_>) -> Result<Self, ReserveError>
         ensures takes { TakesCow P.growth text.entry result }
         ensures text { IfOk result (λ v. v.text ≡ text_of (cow_str_bytes text.entry)) }
@@ -142,10 +176,15 @@ impl<P: Policy> PolicyString<P> {
         }
     }
 
-    /// A copy of `text` as `new` makes it.
+    /// A copy of `text` as `new` makes it; the box is dropped.
     ///
-    /// An error says why `new` refused, and hands `text` back as it was; it never comes up to 24 bytes. A box of `"abc"`
-    /// gives `"abc"` inline, and the box is let go.
+    /// # Errors
+    ///
+    /// [`Refused`] if `new` is, with `text` as it was. Up to 24 bytes that never comes.
+    ///
+    /// # Examples
+    ///
+    /// A box of `"abc"` gives `"abc"` inline.
     pub fn from_boxed_str(alloc: Global, text: BoxedStr) -> Result<Self, Refused<BoxedStr>>
         ensures ok { IfOk result (λ v. new P.growth (text_of (boxed_str_bytes text)) ≡ Some v) }
         ensures text { IfOk result (λ v. v.text ≡ text_of (boxed_str_bytes text)) }
@@ -164,8 +203,8 @@ impl<P: Policy> From<String> for PolicyString<P> {
     ghost from_gives = { λ s v. let t = text_of (string_bytes s) in v
         ≡ placed_text t (from_string_placement t (string_capacity s)) };
 
-    /// Takes `text` over: inline up to 24 bytes, and its buffer is let go; else with its buffer and its capacity in
-    /// bytes, of which nothing is copied. It is never refused.
+    /// Takes `text` over: inline up to 24 bytes, and its buffer is dropped; else with its buffer and capacity. Nothing
+    /// on the heap is copied, and it never allocates.
     fn from(text: String) -> Self {
         PolicyString {
             repr: Repr::from_string(text),

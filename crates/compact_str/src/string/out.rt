@@ -18,11 +18,15 @@ use std::boxed::BoxedStr;
 use std::rc::RcStr;
 
 impl<P: Policy> PolicyString<P> {
-    /// The text as a `String`: of a heap value with its buffer and at least its capacity, of which nothing is copied; of
-    /// every other a copy.
+    /// The text as a `String`: of a heap value with its buffer and at least its capacity, and of every other a copy.
     ///
-    /// An error says that no memory was found for the copy, and hands the value back as it was; it never comes of a heap
-    /// value. `CompactString::new(alloc, "abc")?.into_string()` is a copy of `"abc"`.
+    /// # Errors
+    ///
+    /// [`Refused`] with the value as it was, if no memory is found for the copy. A heap value needs none.
+    ///
+    /// # Examples
+    ///
+    /// `CompactString::new(alloc, "abc")?.into_string()` is a copy of `"abc"`.
     pub fn into_string(self) -> Result<String, Refused<Self>>
         ensures bytes { IfOk result (λ s. string_bytes s ≡ utf8 self.text) }
         ensures text { IfOk result (λ s. text_of (string_bytes s) ≡ self.text) }
@@ -42,10 +46,15 @@ impl<P: Policy> PolicyString<P> {
         }
     }
 
-    /// The bytes of the text as a vector, as `into_string` gives the text: of a heap value with its buffer.
+    /// The bytes of the text as a vector: of a heap value with its buffer, and of every other a copy.
     ///
-    /// An error says that no memory was found for a copy, and hands the value back as it was; it never comes of a heap
-    /// value. Of `"é"` they are C3 and A9.
+    /// # Errors
+    ///
+    /// [`Refused`] as from `into_string`.
+    ///
+    /// # Examples
+    ///
+    /// Of `"é"` they are C3 and A9.
     pub fn into_vec(self) -> Result<Vec<u8>, Refused<Self>>
         ensures bytes { IfOk result (λ v. v.items ≡ utf8 self.text) }
         ensures text { IfOk result (λ v. text_of v.items ≡ self.text) }
@@ -61,11 +70,17 @@ impl<P: Policy> PolicyString<P> {
         }
     }
 
-    /// The bytes of the text in a vector that holds 24 of them in itself: of a heap value with its buffer where that has
+    /// The bytes of the text in a vector that holds 24 of them in itself: of a heap value with its buffer if that has
     /// room for more, and of every other a copy.
     ///
-    /// An error says that no memory was found, and hands the value back as it was; it comes only of a static value of more
-    /// than 24 bytes. Of `"é"` they are C3 and A9.
+    /// # Errors
+    ///
+    /// [`Refused`] with the value as it was, if it is a static one of more than 24 bytes and no memory is found for the
+    /// copy.
+    ///
+    /// # Examples
+    ///
+    /// Of `"é"` they are C3 and A9.
     pub fn into_bytes(self) -> Result<SmallVec<u8, 24>, Refused<Self>>
         ensures bytes { IfOk result (λ v. v.items ≡ utf8 self.text) }
         ensures text { IfOk result (λ v. text_of v.items ≡ self.text) }
@@ -83,10 +98,15 @@ impl<P: Policy> PolicyString<P> {
         }
     }
 
-    /// The text in a box: of a heap value with its buffer, of which nothing is copied, and of every other a copy.
+    /// The text in a box: of a heap value with its buffer, and of every other a copy.
     ///
-    /// An error says that no memory was found for the copy, and hands the value back as it was; it never comes of a heap
-    /// value.
+    /// # Errors
+    ///
+    /// [`Refused`] as from `into_string`.
+    ///
+    /// # Examples
+    ///
+    /// `CompactString::new(alloc, "abc")?.into_boxed_str()` is a box of `"abc"`.
     pub fn into_boxed_str(self) -> Result<BoxedStr, Refused<Self>>
         ensures bytes { IfOk result (λ b. boxed_str_bytes b ≡ utf8 self.text) }
         ensures text { IfOk result (λ b. text_of (boxed_str_bytes b) ≡ self.text) }
@@ -102,7 +122,13 @@ impl<P: Policy> PolicyString<P> {
 
     /// A copy of the text that is shared by counting.
     ///
-    /// An error says that no memory was found for it, and hands the value back as it was.
+    /// # Errors
+    ///
+    /// [`Refused`] with the value as it was, if no memory is found for the copy.
+    ///
+    /// # Examples
+    ///
+    /// `CompactString::new(alloc, "abc")?.into_rc()` is an `RcStr` of `"abc"`.
     pub fn into_rc(self) -> Result<RcStr, Refused<Self>>
         ensures bytes { IfOk result (λ r. rc_str_bytes r ≡ utf8 self.text) }
         ensures text { IfOk result (λ r. text_of (rc_str_bytes r) ≡ self.text) }
@@ -120,8 +146,13 @@ impl<P: Policy> PolicyString<P> {
     /// The text borrowed or owned: a static one is borrowed for ever, one on the heap is owned with its buffer, and one
     /// inline is copied.
     ///
-    /// An error says that no memory was found for the copy, and hands the value back as it was; it comes only of an inline
-    /// value. A static text of 30 bytes is `CowStr::Borrowed`.
+    /// # Errors
+    ///
+    /// [`Refused`] with the value as it was, if it is an inline one and no memory is found for the copy.
+    ///
+    /// # Examples
+    ///
+    /// A static text of 30 bytes is `CowStr::Borrowed`.
     pub fn into_cow(self) -> Result<CowStr<'static>, Refused<Self>>
         ensures bytes { IfOk result (λ c. cow_str_bytes c ≡ utf8 self.text) }
         ensures text { IfOk result (λ c. text_of (cow_str_bytes c) ≡ self.text) }
@@ -143,7 +174,11 @@ impl<P: Policy> PolicyString<P> {
         }
     }
 
-    /// The text, borrowed from the value: `CowStr::Borrowed` of `as_str`.
+    /// The text, borrowed from the value.
+    ///
+    /// # Examples
+    ///
+    /// Of `"abc"` it is `CowStr::Borrowed("abc")`.
     #[inline]
     pub fn as_cow(&self) -> CowStr<'_>
         ensures bytes { cow_str_bytes result ≡ utf8 self.now.text }

@@ -4,7 +4,7 @@ ghost use Rattle.std.specs.Char.{len_utf8};
 ghost use Rattle.std.specs.Range.Bound.{start_index, end_index};
 ghost use Rattle.std.specs.Str.{IsCharBoundary};
 ghost use Rattle.compact_repr.specs.Text.{size, utf8, text_of};
-ghost use Rattle.compact_repr.specs.Cut.{IsCut, IsBoundary, before, after, substring, replaced_text};
+ghost use Rattle.compact_repr.specs.Cut.{IsCut, IsBoundary, text_before, text_after, substring, replaced_text};
 ghost use Rattle.compact_repr.specs.Value.{is_static};
 ghost use Rattle.compact_repr.specs.Capacity.{reserve_asks};
 ghost use Rattle.compact_str.specs.Room.{IsOwned, HasRoomFor, sure_capacity};
@@ -18,24 +18,28 @@ use compact_repr::{Policy, Repr, ReserveError, encode_char};
 use std::ops::Bound;
 
 impl<P: Policy> PolicyString<P> {
-    /// Whether `index`, in bytes, is a boundary: 0, the length, or where a character begins.
+    /// Whether `index`, in bytes, is a boundary: 0, the length, or where a character begins. If it is, the text may be
+    /// cut there as a `&str`, as by `&value[..index]`.
     ///
-    /// In `"äb"` 0, 2 and 3 are. After it the text may be cut there as a `&str`, as by `&value[..index]`.
+    /// # Examples
+    ///
+    /// In `"äb"` 0, 2 and 3 are boundaries.
     #[inline]
     pub fn is_char_boundary(&self, index: usize) -> bool
         ensures text { IsTrue result ↔ IsBoundary self.now.text index }
         ensures bytes { IsTrue result → IsCharBoundary (utf8 self.now.text) index }
     {
-        // The proof reads from it that the bytes are a text.
-        let _bytes = self.as_str();
         self.repr.is_char_boundary(index)
     }
 
-    /// Where a range of the text begins and ends, in bytes; `None` exactly of one that ends before it starts, or of which
-    /// an end is no boundary.
+    /// Where a range of the text begins and ends, in bytes; `None` exactly of one that ends before it starts, or of
+    /// which an end is no boundary. An excluded start is a byte after the bound, and so is an included end.
     ///
-    /// An excluded start is a byte after the bound, and so is an included end. Of `"äb"` from `Excluded(1)` to
-    /// `Excluded(3)` it answers 2 and 3. The pair serves `replace_range` as `Included` and `Excluded` bounds.
+    /// The pair serves `replace_range` as `Included` and `Excluded` bounds.
+    ///
+    /// # Examples
+    ///
+    /// Of `"äb"` from `Excluded(1)` to `Excluded(3)` it answers 2 and 3.
     #[tactic(auto, using(compact_repr::proofs::TextFacts::text_facts, crate::proofs::EditFacts::position_facts))]
     pub fn check_range(&self, start: Bound<usize>, end: Bound<usize>) -> Option<(usize, usize)>
         ensures { MatchOption result (¬ IsRange self.now.text start end)
@@ -51,10 +55,11 @@ impl<P: Policy> PolicyString<P> {
         }
     }
 
-    /// What stands in a range of the text.
+    /// The part of the text in a range, in bytes. Whether the bounds are a range of the text, `check_range` tells.
     ///
-    /// Whether the bounds are a range of the text, `check_range` tells. Of `"key=value"` from `Included(4)` to `Unbounded`
-    /// it is `"value"`.
+    /// # Examples
+    ///
+    /// Of `"key=value"` from `Included(4)` to `Unbounded` it is `"value"`.
     #[tactic(auto, using(compact_repr::proofs::TextFacts::text_facts, crate::proofs::EditFacts::position_facts))]
     pub fn range(&self, start: Bound<usize>, end: Bound<usize>) -> &str
         requires { IsRange self.now.text start end }
@@ -70,12 +75,18 @@ impl<P: Policy> PolicyString<P> {
         self.repr.substring(first, last)
     }
 
-    /// Puts `text` in at the boundary `index`, in bytes, once there is room for it; a static value becomes its own even for
-    /// an empty text.
+    /// Puts `text` in at the boundary `index`, in bytes. Room is made first, and a static value becomes owned even for
+    /// an empty text. `index` stays a boundary, and so is the place behind what was put in. An insertion gives no room
+    /// back.
     ///
-    /// `index` is a boundary after it too, and so is the place behind what was put in. An error says that no memory was
-    /// found, or that the capacity would be past 2^56 - 2; then nothing has changed. It never comes where there is room,
-    /// and none is given back. `"bc"` put into `"ad"` at 1 gives `"abcd"`.
+    /// # Errors
+    ///
+    /// [`ReserveError`] if a new buffer is refused. None is needed where the outcome fits in 24 bytes or in the
+    /// capacity that the value owns.
+    ///
+    /// # Examples
+    ///
+    /// `"bc"` put into `"ad"` at 1 gives `"abcd"`.
     #[inline]
     #[tactic(auto, using(compact_repr::proofs::TextFacts::text_facts, crate::proofs::EditFacts::insertion_facts))]
     pub fn insert_str(&mut self, index: usize, text: &str) -> Result<(), ReserveError>
@@ -100,10 +111,16 @@ impl<P: Policy> PolicyString<P> {
         self.repr.insert_with_more_room(index, text)
     }
 
-    /// Puts a character in at the boundary `index`, in bytes, as `insert_str` puts its text in.
+    /// Puts a character in at the boundary `index`, in bytes, as `insert_str` puts its text in. A cursor goes on by
+    /// `character.len_utf8()`.
     ///
-    /// A cursor goes on by `character.len_utf8()`. An error says that no memory was found, or that the capacity would be
-    /// past 2^56 - 2; then nothing has changed. `'é'` put into `"ab"` at 1 gives `"aéb"`, and 3 is the place behind it.
+    /// # Errors
+    ///
+    /// [`ReserveError`] as from `insert_str`.
+    ///
+    /// # Examples
+    ///
+    /// `'é'` put into `"ab"` at 1 gives `"aéb"`, and 3 is the place behind it.
     #[inline]
     pub fn insert(&mut self, index: usize, character: char) -> Result<(), ReserveError>
         requires { IsBoundary self.old.text index }
@@ -128,12 +145,16 @@ impl<P: Policy> PolicyString<P> {
         self.insert_str(index, encode_char(character, &mut bytes))
     }
 
-    /// Takes out the character that begins at the boundary `index`, in bytes and short of the length, and answers it. A
-    /// static value becomes its own first.
+    /// Takes out the character that begins at the boundary `index`, in bytes and below the length, and answers it. A
+    /// static value becomes owned first.
     ///
-    /// An error says that no memory was found for that, or that the text is longer than 2^56 - 2 bytes; then nothing has
-    /// changed. It never comes of an owned value, nor of one of at most 24 bytes. Of `"aéb"` at 1 it answers `'é'` and
-    /// leaves `"ab"`.
+    /// # Errors
+    ///
+    /// [`ReserveError`] if a static text of more than 24 bytes cannot be made owned. An owned value is never refused.
+    ///
+    /// # Examples
+    ///
+    /// Of `"aéb"` at 1 it answers `'é'` and leaves `"ab"`.
     #[inline]
     #[tactic(auto, using(compact_repr::proofs::TextFacts::text_facts, crate::proofs::EditFacts::position_facts))]
     pub fn remove(&mut self, index: usize) -> Result<char, ReserveError>
@@ -166,12 +187,17 @@ impl<P: Policy> PolicyString<P> {
         Ok(character)
     }
 
-    /// Replaces a range of the text. A static value becomes its own; one that grows makes room for the difference.
+    /// Replaces a range of the text, in bytes. A static value becomes owned, and one that grows makes room for the
+    /// difference. Whether the bounds are a range of the text, `check_range` tells.
     ///
-    /// Whether the bounds are a range of the text, `check_range` tells. An error says that no memory was found, or that
-    /// the capacity would be past 2^56 - 2; then nothing has changed. It never comes where there is room for the
-    /// difference, nor of an owned value for a text that is no longer than the range. `"abc"` from `Included(1)` to
-    /// `Excluded(2)` replaced by `"xy"` gives `"axyc"`.
+    /// # Errors
+    ///
+    /// [`ReserveError`] if a new buffer is refused. None is needed where there is room for the difference, nor in an
+    /// owned value for a text that is no longer than the range.
+    ///
+    /// # Examples
+    ///
+    /// `"abc"` from `Included(1)` to `Excluded(2)` replaced by `"xy"` gives `"axyc"`.
     #[tactic(auto, using(compact_repr::proofs::TextFacts::text_facts, crate::proofs::EditFacts::replacement_facts))]
     pub fn replace_range(
         &mut self,
@@ -204,19 +230,24 @@ impl<P: Policy> PolicyString<P> {
         self.repr.replace_once_owned(first, last, text)
     }
 
-    /// Splits the text at the boundary `index`, in bytes: keeps what stands before it, in its place, and answers the rest.
-    /// Of a static value the rest is static too where it is longer than 24 bytes, and not copied.
+    /// Splits the text at the boundary `index`, in bytes: keeps what stands before it, in its place, and answers the
+    /// rest. Of a static value the rest is static too where it is longer than 24 bytes, and not copied.
     ///
-    /// An error says that no memory was found for the rest, or that it is longer than 2^56 - 2 bytes; then nothing has
-    /// changed. It never comes of a static value, nor where the rest has at most 24 bytes. `"key=value"` at 4 keeps
-    /// `"key="` and answers `"value"`.
+    /// # Errors
+    ///
+    /// [`ReserveError`] if a buffer for the rest is refused. None is needed of a static value, nor for a rest of at
+    /// most 24 bytes.
+    ///
+    /// # Examples
+    ///
+    /// `"key=value"` at 4 keeps `"key="` and answers `"value"`.
     #[tactic(auto, using(compact_repr::proofs::TextFacts::text_facts, crate::proofs::EditFacts::position_facts))]
     pub fn split_off(&mut self, index: usize) -> Result<Self, ReserveError>
         requires { IsBoundary self.old.text index }
         ensures ok { IfOk result (λ tail. SplitsOff P.growth self.old index tail self.new) }
         ensures text { IfOk result
-            (λ tail. (self.new.text ≡ before self.old.text index)
-            × (tail.text ≡ after self.old.text index)) }
+            (λ tail. (self.new.text ≡ text_before self.old.text index)
+            × (tail.text ≡ text_after self.old.text index)) }
         ensures cut { IfOk result (λ tail. IsCut self.old.text index self.new.text tail.text) }
         ensures boundaries { IsOk result → (i : ℕ) → i ≤ index → IsBoundary self.old.text i
             → IsBoundary self.new.text i }

@@ -9,10 +9,15 @@ use crate::string::PolicyString;
 use compact_repr::{Policy, ReserveError};
 
 impl<P: Policy> PolicyString<P> {
-    /// The text `count` times, one after another, in one buffer: once it is a clone, and an empty outcome is inline.
+    /// The text `count` times, one after another, in one buffer. Once, it is a clone; an empty outcome is inline.
     ///
-    /// An error says that no memory was found, or that the length in bytes would be past 2^56 - 2; it never comes of an
-    /// outcome of at most 24 bytes. `"abc"` three times is `"abcabcabc"`.
+    /// # Errors
+    ///
+    /// [`ReserveError`] if the buffer is refused. None is needed for an outcome of at most 24 bytes.
+    ///
+    /// # Examples
+    ///
+    /// `"abc"` three times is `"abcabcabc"`.
     #[tactic(auto, using(compact_repr::proofs::TextFacts::text_facts, crate::proofs::EditFacts::repeat_facts))]
     pub fn repeat(&self, count: usize) -> Result<Self, ReserveError>
         ensures ok { IfOk result (λ v. repeat P.growth self.now count ≡ Some v) }

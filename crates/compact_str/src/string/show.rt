@@ -13,7 +13,11 @@ impl<P: Policy> Display for PolicyString<P> {
 
     ghost styled_output = { λ v s. Some (styled_text s (utf8 v.text)) };
 
-    /// Shows the text as its `str` is shown, padded where a width is given: `{:*>5}` of `"äb"` is `***äb`.
+    /// Shows the text as its `str` is shown, padded where a width is given.
+    ///
+    /// # Examples
+    ///
+    /// `{:*>5}` of `"äb"` is `***äb`.
     #[inline]
     fn fmt<W: fmt::Write>(&self, f: &mut fmt::Formatter<W>) -> fmt::Result {
         f.pad(self.as_str())

@@ -75,11 +75,16 @@ struct Reading {
     place: Place,
 }
 
-/// The fields of a line. A field in quotes may have the separator, and two quotes in it stand for one. Where the separator
-/// is a quote itself, it parts the fields, and none is in quotes.
+/// The fields of a line. A field in quotes may have the separator, and two quotes in it stand for one. Where the
+/// separator is a quote itself, it parts the fields, and none is in quotes.
 ///
-/// An error says that no memory was found, or why the line is no record. With the separator `,` the line `a,"b,""c"` has
-/// the fields `a` and `b,"c`.
+/// # Errors
+///
+/// `Reserve` if no memory is found, else why the line is no record.
+///
+/// # Examples
+///
+/// With the separator `,` the line `a,"b,""c"` has the fields `a` and `b,"c`.
 pub fn fields_of(
     alloc: Global,
     separator: char,

@@ -9,7 +9,12 @@ use std::alloc::Global;
 
 /// The fields of a record as a line, each in quotes, from which `fields_of` reads them back.
 ///
-/// An error says that no memory was found; where the line has at most 24 bytes, as that of no fields has, it never comes.
+/// # Errors
+///
+/// [`ReserveError`] if a buffer is refused, for a line of more than 24 bytes.
+///
+/// # Examples
+///
 /// With the separator `,` the fields `a` and `b"` give `"a","b"""`.
 pub fn quoted_line(
     alloc: Global,

@@ -1,5 +1,5 @@
 use Rattle.std.proofs.Common.{arith}
-use Rattle.compact_edit.proofs.Moved.{paid-fits}
+use Rattle.compact_edit.proofs.BytesMoved.{paid-fits}
 use Rattle.compact_edit.proofs.PushLemmas.{pushes-done, pushes-refused, pushes-all, pushes-text, pushes-fit, pushes-paid}
 use Rattle.compact_edit.proofs.pushes.run_pushes.Goals as goal
 use Rattle.compact_edit.proofs.pushes.run_pushes.Goals.{in-Ok, in-Err}

@@ -2,8 +2,8 @@ use Rattle.std.proofs.Common.{◌≡◌, ℕ, ◌+◌, [], true, false, drop, le
 use Rattle.std.proofs.lemmas.Str.{IsUtf8-drop}
 use Rattle.std.specs.Str.Iter.{chars_rest}
 use Rattle.compact_str.specs.Text.{text_of}
-use Rattle.compact_str.specs.Cut.{before, after}
-use Rattle.compact_str.proofs.ForCallers.{before-after, text_of-take}
+use Rattle.compact_str.specs.Cut.{text_before, text_after}
+use Rattle.compact_str.proofs.ForCallers.{text_before-text_after, text_of-take}
 use Rattle.compact_str.proofs.TextBytes.{boundary-bytes}
 use Rattle.compact_edit.specs.Names.{distinct_texts}
 use Rattle.compact_uses.proofs.PieceLemmas.{next-character, first-character, first-piece, start-boundary, whole-piece, cut-joined, none-next, next-text}
@@ -45,8 +45,8 @@ loop-character-preserved-then-goes_on c =
       tokens = c.loop-character.invariant.tokens;
       alike = rw (c.len_utf8-len.ensures.value, next.piece) (alike-push c.loop-character.kind _ _ c.loop-character.invariant.alike (sym c.kind_of-next.ensures ∙ same));
       single = λ mark. goes_on-no-mark _ _ on mark _;
-      first = λ none. push-some (before (text_of c.loop-character.rest.now) c.loop-character.len) c.in-Some.character c.loop-character.tokens.items
-          (sym next.piece ∙ ap (λ (n : ℕ). before (text_of c.loop-character.rest.now) (c.loop-character.len + n)) (sym c.len_utf8-len.ensures.value) ∙ none);
+      first = λ none. push-some (text_before (text_of c.loop-character.rest.now) c.loop-character.len) c.in-Some.character c.loop-character.tokens.items
+          (sym next.piece ∙ ap (λ (n : ℕ). text_before (text_of c.loop-character.rest.now) (c.loop-character.len + n)) (sym c.len_utf8-len.ensures.value) ∙ none);
       parted = c.loop-character.invariant.parted;
       follows = c.loop-character.invariant.follows;
       names = c.loop-character.invariant.names;
@@ -85,7 +85,7 @@ loop-character-preserved c =
       tokens = c.in_ok-push_token.ensures.tokens;
       alike = rw (c.split_at.ensures.back, c.len_utf8-len-in-loop-character.ensures.value, next.piece, c.kind_of-next.ensures) (alike-one c.in-Some.character);
       single = λ mark. rw (c.split_at.ensures.back, c.len_utf8-len-in-loop-character.ensures.value, next.piece) (one-character c.in-Some.character);
-      first = λ none. push-some [] c.in-Some.character _ (sym next.piece ∙ ap₂ (λ (bytes : List ℕ) (n : ℕ). before (text_of bytes) n) (sym c.split_at.ensures.back) (sym c.len_utf8-len-in-loop-character.ensures.value) ∙ none);
+      first = λ none. push-some [] c.in-Some.character _ (sym next.piece ∙ ap₂ (λ (bytes : List ℕ) (n : ℕ). text_before (text_of bytes) n) (sym c.split_at.ensures.back) (sym c.len_utf8-len-in-loop-character.ensures.value) ∙ none);
       parted = c.in_ok-push_token.ensures.parted;
       follows = c.in_ok-push_token.ensures.last c.kind_of-next.result apart;
       names = c.in_ok-push_token.ensures.names _ c.loop-character.invariant.names;
@@ -118,8 +118,8 @@ returns-in_err-push_token-clause-bound c =
       c.push_token.ensures.bound,
       ap (λ (bytes : List ℕ). length (text_of bytes)) c.split_at.ensures.front,
       ap length piece,
-      ap length (before-after rest c.loop-character.len),
-      length-append (before rest c.loop-character.len) (after rest c.loop-character.len),
+      ap length (text_before-text_after rest c.loop-character.len),
+      length-append (text_before rest c.loop-character.len) (text_after rest c.loop-character.len),
       few-names _ _ _ _ _ c.loop-character.invariant.names c.loop-character.invariant.tokens c.loop-character.invariant.joined,
     )
 

@@ -3,7 +3,7 @@ use Rattle.std.specs.List.{All}
 use Rattle.std.specs.Str.{IsUtf8}
 use Rattle.std.specs.Str.Iter.{chars_rest}
 use Rattle.compact_str.specs.Text.{text_of}
-use Rattle.compact_str.specs.Cut.{IsBoundary, before}
+use Rattle.compact_str.specs.Cut.{IsBoundary, text_before}
 use Rattle.compact_uses.specs.declared.tokenizer.Kind.TheVariants.{Mark}
 use Rattle.compact_uses.specs.Tokens.{kind_of, goes_on, token_text, last_kind, IsToken, AreNamesOf, AreParted}
 use Rattle.compact_uses.proofs.tokenizer.tokenize.Given as goal
@@ -20,9 +20,9 @@ invariant-loop-character l = record {
   boundary : IsBoundary (text_of l.rest) l.len;
   here : drop l.len l.rest ≡ chars_rest l.character-iterator;
   tokens : All (IsToken l.names) l.tokens.items;
-  alike : All (λ c. kind_of c ≡ l.kind) (before (text_of l.rest) l.len);
-  single : l.kind ≡ Mark → length (before (text_of l.rest) l.len) ≤ 1;
-  first : (before (text_of l.rest) l.len) ≡ [] → l.tokens.items ≡ [];
+  alike : All (λ c. kind_of c ≡ l.kind) (text_before (text_of l.rest) l.len);
+  single : l.kind ≡ Mark → length (text_before (text_of l.rest) l.len) ≤ 1;
+  first : (text_before (text_of l.rest) l.len) ≡ [] → l.tokens.items ≡ [];
   parted : AreParted l.tokens.items;
   follows : goes_on (last_kind Mark l.tokens.items) l.kind ≡ false;
   names : AreNamesOf l.fn.names l.names l.tokens.items;

@@ -1,7 +1,7 @@
 use Rattle.std.proofs.Common.{◌∷◌, subst}
 use Rattle.std.specs.Iterator.{Yields}
 use Rattle.compact_repr.specs.Text.{text_of}
-use Rattle.compact_str.proofs.Collecting.{on_err, join_of, join-first, join-piece, first-drained, finished-ok, finished-err, joined-turn, first-joined}
+use Rattle.compact_str.proofs.Collecting.{on_err, join_of, join-first, join-piece, first-drained, finished-ok, finished-err, join-turn, join-start}
 use Rattle.compact_str.proofs.iter.join.join_pieces.Goals as goal
 
 pub returns-in_err-push_str-clause-err : goal.returns-in_err-push_str-clause-err
@@ -38,9 +38,9 @@ returns-clause-err g c =
 
 pub loop-piece-preserved : goal.loop-piece-preserved
 loop-piece-preserved g c =
-    joined-turn g.T.AsText.spells (text_of c.args.separator.now) c.in-Some.first c.loop-piece.yielded c.in-Some-piece.piece c.loop-piece.invariant c.text-in-loop-piece.ensures
+    join-turn g.T.AsText.spells (text_of c.args.separator.now) c.in-Some.first c.loop-piece.yielded c.in-Some-piece.piece c.loop-piece.invariant c.text-in-loop-piece.ensures
     c.in_ok-push_parted.ensures.ok
 
 pub loop-piece-init : goal.loop-piece-init
 loop-piece-init g c =
-    first-joined g.T.AsText.spells (text_of c.args.separator.now) c.in-Some.first _ _ _ c.new-gathered.ensures c.text.ensures c.in_ok-push_str.ensures.ok
+    join-start g.T.AsText.spells (text_of c.args.separator.now) c.in-Some.first _ _ _ c.new-gathered.ensures c.text.ensures c.in_ok-push_str.ensures.ok

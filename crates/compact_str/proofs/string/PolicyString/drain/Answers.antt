@@ -2,7 +2,7 @@ use Rattle.std.proofs.Common.{ℕ, refl, sym, ap, ◌∙◌}
 use mathlib.Core.Option.{some}
 use Rattle.std.specs.Range.Bound.{end_index}
 use Rattle.compact_repr.specs.Value.{PlacedText}
-use Rattle.compact_str.proofs.Drains.{drained, owned_placement-range, owned_placement-without, part-range}
+use Rattle.compact_str.proofs.Drains.{drained, owned_placement-range, owned_placement-without_range, part-range}
 use Rattle.compact_str.proofs.string.PolicyString.drain.Goals as goal
 
 pub drain_between-requires-clause-range : goal.drain_between-requires-clause-range
@@ -25,7 +25,7 @@ returns g c =
         same_reference = c.drain_between.ensures.same_reference;
         rest = c.drain_between.ensures.rest ∙ rw (first, last, own.text) (part-range _ _ _ range.order range.first range.last);
         leaves = rw (c.drain_between.ensures.leaves, first, last) (drained _ _ _ _ _ own.ok own.owned range.order range.first range.last);
-        text = rw (c.drain_between.ensures.leaves, first, last) (ap (λ (v : PlacedText). v.text) (owned_placement-without g.P.Policy.growth _ _ _ _ own.ok own.owned range.order range.first range.last));
+        text = rw (c.drain_between.ensures.leaves, first, last) (ap (λ (v : PlacedText). v.text) (owned_placement-without_range g.P.Policy.growth _ _ _ _ own.ok own.owned range.order range.first range.last));
         succeeds = λ _. refl;
         succeeds_short = λ _. refl;
         err = tt;

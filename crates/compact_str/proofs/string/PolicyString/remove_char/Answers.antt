@@ -2,7 +2,7 @@
 use Rattle.std.proofs.Common.{◌≡◌, ◌+◌, ◌∷◌, [], Some, sym, ap, ◌∙◌, subst, rules, arith}
 use Rattle.std.specs.Char.{len_utf8}
 use Rattle.compact_repr.specs.Text.{size}
-use Rattle.compact_repr.specs.Cut.{IsBoundary, after}
+use Rattle.compact_repr.specs.Cut.{IsBoundary, text_after}
 use Rattle.compact_repr.specs.Value.{PlacedText}
 use Rattle.std.specs.Prelude.{IsTrue}
 use Rattle.compact_repr.specs.Capacity.{make_owned_asks}
@@ -14,7 +14,7 @@ use Rattle.compact_str.proofs.string.PolicyString.remove_char.Goals as goal
 pub overflow_add-index : goal.overflow_add-index
 overflow_add-index g c =
     let next = c.char_at-character.ensures in
-    let tail : after c.args.self.now.text c.args.index ≡ c.char_at-character.result ∷ next.0 = ap (λ (v : PlacedText). after v.text c.args.index) (sym c.self.view_is) ∙ next.1 in
+    let tail : text_after c.args.self.now.text c.args.index ≡ c.char_at-character.result ∷ next.0 = ap (λ (v : PlacedText). text_after v.text c.args.index) (sym c.self.view_is) ∙ next.1 in
     let within = boundary-within _ _ (boundary-next _ next.0 _ _ c.requires.boundary tail) in
     let len : c.len-len.result ≡ size c.args.self.now.text = c.len-len.ensures.value ∙ ap (λ (v : PlacedText). size v.text) c.self.view_is in
     omega (arith, within, len, c.len-len.ensures.small, c.len_utf8.ensures.value)
@@ -22,14 +22,14 @@ overflow_add-index g c =
 pub cut_out-requires-clause-last : goal.cut_out-requires-clause-last
 cut_out-requires-clause-last g c =
     let next = c.char_at-character.ensures in
-    let tail : after c.args.self.now.text c.args.index ≡ c.char_at-character.result ∷ next.0 = ap (λ (v : PlacedText). after v.text c.args.index) (sym c.self.view_is) ∙ next.1 in
+    let tail : text_after c.args.self.now.text c.args.index ≡ c.char_at-character.result ∷ next.0 = ap (λ (v : PlacedText). text_after v.text c.args.index) (sym c.self.view_is) ∙ next.1 in
     rw c.len_utf8.ensures.value
     (subst (λ (v : PlacedText). IsBoundary v.text (c.args.index + len_utf8 c.char_at-character.result)) (sym c.self.view_is) (boundary-next _ next.0 _ _ c.requires.boundary tail))
 
 pub returns : goal.returns
 returns g c =
     let next = c.char_at-character.ensures in
-    let tail : after c.args.self.now.text c.args.index ≡ c.char_at-character.result ∷ next.0 = ap (λ (v : PlacedText). after v.text c.args.index) (sym c.self.view_is) ∙ next.1 in
+    let tail : text_after c.args.self.now.text c.args.index ≡ c.char_at-character.result ∷ next.0 = ap (λ (v : PlacedText). text_after v.text c.args.index) (sym c.self.view_is) ∙ next.1 in
     replace_range-removes g.P.Policy.growth c.args.self.now c.cut_out.new.self next.0 c.args.index c.char_at-character.result c.len_utf8.result c.requires.boundary tail c.len_utf8.ensures.value
     (subst (λ (v : PlacedText). replace_range g.P.Policy.growth v c.args.index (c.args.index + c.len_utf8.result) [] ≡ Some c.cut_out.new.self) c.self.view_is c.in_ok-cut_out.ensures.ok)
 

@@ -1,6 +1,6 @@
 use Rattle.std.proofs.Common.{◌≡◌, ◌∷◌, [], ◌++◌, Ok, Err, Some, refl, sym, subst, inl, inr, rules}
 use Rattle.compact_ext.specs.declared.wire.WireError.TheVariants.{Reserve}
-use Rattle.compact_ext.specs.WireRecords.{GivesRecord, records_left, left_behind, TakesForms}
+use Rattle.compact_ext.specs.WireRecords.{GivesRecord, records_left, unread_bytes, TakesForms}
 use Rattle.compact_ext.proofs.RecordLists.{records-back, takes-more, takes-all}
 use Rattle.compact_ext.proofs.wire.records.Records.into_vec.Goals as goal
 
@@ -32,7 +32,7 @@ returns-in-Err-clause-back g c =
     records-back _ (Err c.in-Err.fault) tt tt (inl record {
       texts = c.loop-item.texts.items;
       mid = records_left g.R.Read.remaining c.loop-item.item-iterator;
-      new = left_behind g.R.Read.remaining (Some (Err c.in-Err.fault)) c.next.new.self;
+      new = unread_bytes g.R.Read.remaining (Some (Err c.in-Err.fault)) c.next.new.self;
       took = c.loop-item.invariant;
       fails = fails;
     })

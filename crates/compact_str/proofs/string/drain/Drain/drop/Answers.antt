@@ -1,5 +1,5 @@
 use Rattle.std.proofs.Common.{arith}
-use Rattle.compact_str.proofs.Drains.{without-owned_placement, without-is_range, without-within}
+use Rattle.compact_str.proofs.Drains.{without_range-owned_placement, without_range-is_range, size-without_range}
 use Rattle.compact_str.proofs.string.drain.Drain.drop.Goals as goal
 
 pub invariant_of-self : goal.invariant_of-self
@@ -7,11 +7,11 @@ invariant_of-self g c =
     let v = c.args.self.value.now in
     let i = c.args.self.start in
     let j = c.args.self.end in
-    let less = without-within v i j in
+    let less = size-without_range v i j in
     let within = c.args.self.within in
     rw c.remove_range.ensures record {
-      owned = without-owned_placement v i j c.args.self.owned;
+      owned = without_range-owned_placement v i j c.args.self.owned;
       within = omega (arith, less, within);
-      range = without-is_range v i j c.args.self.front c.args.self.back c.args.self.whole within c.args.self.range;
-      span = without-is_range v i j i j c.args.self.whole within c.args.self.span;
+      range = without_range-is_range v i j c.args.self.front c.args.self.back c.args.self.whole within c.args.self.range;
+      span = without_range-is_range v i j i j c.args.self.whole within c.args.self.span;
     }

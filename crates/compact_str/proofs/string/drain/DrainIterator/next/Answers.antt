@@ -1,4 +1,4 @@
-use Rattle.std.proofs.Common.{◌≡◌, ◌+◌, ◌%◌, ◌^◌, [], ◌∷◌, rules, refl, sym, ap, ◌∙◌, length}
+use Rattle.std.proofs.Common.{◌≡◌, ◌%◌, ◌^◌, [], ◌∷◌, rules, refl, sym, ap, ◌∙◌, length}
 use Rattle.std.proofs.lemmas.Bool.{eqb-true}
 use Rattle.std.proofs.lemmas.List.{nil_from_length}
 use Rattle.std.proofs.lemmas.Str.{chars-nil, len_utf8_bounds}
@@ -6,7 +6,7 @@ use Rattle.std.specs.Char.{len_utf8}
 use Rattle.compact_repr.specs.Text.{text_of}
 use Rattle.compact_str.specs.RangeTexts.{range_text}
 use Rattle.compact_str.specs.Drain.{drain_rest}
-use Rattle.compact_str.proofs.Drains.{front-taken}
+use Rattle.compact_str.proofs.Drains.{byte-taken, width-of_word, word-taken}
 use Rattle.compact_str.proofs.string.drain.DrainIterator.next.Goals as goal
 
 pub returns-then-is_empty-clause-steps : goal.returns-then-is_empty-clause-steps
@@ -19,82 +19,59 @@ returns-then-is_empty-clause-steps g c =
 pub overflow_add-self : goal.overflow_add-self
 overflow_add-self g c =
     let d = c.args.self.now in
-    let first = c.in-Some.ensures in
-    let taken = front-taken d.value.now.text first.1.0 d.front d.back c.in-Some.character (d.front + 1) (sym c.as_str-rest.ensures.text ∙ first.1.1) (ap (λ w. d.front + w) (sym first.0)) in
-    let fits = taken.1 in
+    let fits = (byte-taken d.value.now.text _ d.front d.back c.in-Some.character c.as_str-rest.ensures.text c.in-Some.ensures).2 in
     search rules
 
 pub invariant_of-self : goal.invariant_of-self
 invariant_of-self g c =
     let d = c.args.self.now in
-    let first = c.in-Some.ensures in
-    let taken = front-taken d.value.now.text first.1.0 d.front d.back c.in-Some.character (d.front + 1) (sym c.as_str-rest.ensures.text ∙ first.1.1) (ap (λ w. d.front + w) (sym first.0)) in
-    record { owned = d.owned; within = d.within; range = λ _. taken.2; span = d.span }
+    let taken = byte-taken d.value.now.text _ d.front d.back c.in-Some.character c.as_str-rest.ensures.text c.in-Some.ensures in
+    record { owned = d.owned; within = d.within; range = λ _. taken.3; span = d.span }
 
 pub returns-in-Some-clause-steps : goal.returns-in-Some-clause-steps
 returns-in-Some-clause-steps g c =
     let d = c.args.self.now in
-    let first = c.in-Some.ensures in
-    let split : drain_rest d ≡ c.in-Some.character ∷ first.1.0 = sym c.as_str-rest.ensures.text ∙ first.1.1 in
-    let taken = front-taken d.value.now.text first.1.0 d.front d.back c.in-Some.character (d.front + 1) split (ap (λ w. d.front + w) (sym first.0)) in
-    record { lender = refl; leaves = refl; step = split ∙ ap (λ l. c.in-Some.character ∷ l) (sym taken.0) }
+    let taken = byte-taken d.value.now.text _ d.front d.back c.in-Some.character c.as_str-rest.ensures.text c.in-Some.ensures in
+    record { lender = refl; leaves = refl; step = taken.0 ∙ ap (λ l. c.in-Some.character ∷ l) (sym taken.1) }
 
 pub returns-in-Some-clause-goes : goal.returns-in-Some-clause-goes
 returns-in-Some-clause-goes g c =
     let d = c.args.self.now in
-    let first = c.in-Some.ensures in
-    let split : drain_rest d ≡ c.in-Some.character ∷ first.1.0 = sym c.as_str-rest.ensures.text ∙ first.1.1 in
-    let taken = front-taken d.value.now.text first.1.0 d.front d.back c.in-Some.character (d.front + 1) split (ap (λ w. d.front + w) (sym first.0)) in
-    let before = ap length split in
-    let after = ap length taken.0 in
+    let taken = byte-taken d.value.now.text _ d.front d.back c.in-Some.character c.as_str-rest.ensures.text c.in-Some.ensures in
+    let old = ap length taken.0 in
+    let left = ap length taken.1 in
     search rules
 
 -- a wider character
 pub end_by_width-self-requires : goal.end_by_width-self-requires
 end_by_width-self-requires g c =
     let d = c.args.self.now in
-    let first = c.in_ok-word.ensures in
-    let bounds = len_utf8_bounds first.0 in
-    let word = first.2 in
-    let wide : c.in_ok-word.word % 2 ^ 32 ≡ len_utf8 first.0 = search rules in
-    let split : drain_rest d ≡ first.0 ∷ first.1 = first.4 in
-    let taken = front-taken d.value.now.text first.1 d.front d.back first.0 (d.front + c.in_ok-word.word % 2 ^ 32) split (ap (λ w. d.front + w) wide) in
-    let fits = taken.1 in
+    let fits = (word-taken d.value.now.text d.front d.back c.in_ok-word.word _ refl c.in_ok-word.ensures).1 in
     search rules
 
 pub invariant_of-self-2 : goal.invariant_of-self-2
 invariant_of-self-2 g c =
     let d = c.args.self.now in
-    let first = c.in_ok-word.ensures in
-    let bounds = len_utf8_bounds first.0 in
-    let word = first.2 in
-    let wide : c.in_ok-word.word % 2 ^ 32 ≡ len_utf8 first.0 = search rules in
-    let split : drain_rest d ≡ first.0 ∷ first.1 = first.4 in
-    let taken = front-taken d.value.now.text first.1 d.front d.back first.0 c.end_by_width-self.result split (c.end_by_width-self.ensures ∙ ap (λ w. d.front + w) wide) in
+    let taken = word-taken d.value.now.text d.front d.back c.in_ok-word.word _ c.end_by_width-self.ensures c.in_ok-word.ensures in
     record { owned = d.owned; within = d.within; range = λ _. taken.2; span = d.span }
 
 pub returns-clause-steps : goal.returns-clause-steps
 returns-clause-steps g c =
     let d = c.args.self.now in
     let first = c.in_ok-word.ensures in
+    let taken = word-taken d.value.now.text d.front d.back c.in_ok-word.word _ c.end_by_width-self.ensures first in
     let bounds = len_utf8_bounds first.0 in
     let word = first.2 in
-    let wide : c.in_ok-word.word % 2 ^ 32 ≡ len_utf8 first.0 = search rules in
-    let split : drain_rest d ≡ first.0 ∷ first.1 = first.4 in
-    let taken = front-taken d.value.now.text first.1 d.front d.back first.0 c.end_by_width-self.result split (c.end_by_width-self.ensures ∙ ap (λ w. d.front + w) wide) in
     let scalar = first.3 in
+    let wide : c.in_ok-word.word % 2 ^ 32 ≡ len_utf8 first.0 = width-of_word c.in_ok-word.word first.0 word in
     let is : c.from_u32_unchecked.result ≡ first.0 = search rules in
-    record { lender = refl; leaves = refl; step = split ∙ ap (λ l. first.0 ∷ l) (sym taken.0) ∙ ap (λ w. w ∷ range_text d.value.now.text c.end_by_width-self.result d.back) (sym is) }
+    record { lender = refl; leaves = refl; step = first.4 ∙ ap (λ l. first.0 ∷ l) (sym taken.0) ∙ ap (λ w. w ∷ range_text d.value.now.text c.end_by_width-self.result d.back) (sym is) }
 
 pub returns-clause-goes : goal.returns-clause-goes
 returns-clause-goes g c =
     let d = c.args.self.now in
     let first = c.in_ok-word.ensures in
-    let bounds = len_utf8_bounds first.0 in
-    let word = first.2 in
-    let wide : c.in_ok-word.word % 2 ^ 32 ≡ len_utf8 first.0 = search rules in
-    let split : drain_rest d ≡ first.0 ∷ first.1 = first.4 in
-    let taken = front-taken d.value.now.text first.1 d.front d.back first.0 c.end_by_width-self.result split (c.end_by_width-self.ensures ∙ ap (λ w. d.front + w) wide) in
-    let before = ap length split in
-    let after = ap length taken.0 in
+    let taken = word-taken d.value.now.text d.front d.back c.in_ok-word.word _ c.end_by_width-self.ensures first in
+    let old = ap length first.4 in
+    let left = ap length taken.0 in
     search rules

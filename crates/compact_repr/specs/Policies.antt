@@ -1,0 +1,25 @@
+-- For whoever writes a growth policy: its numbers keep the law where a test says so.
+use Rattle.std.proofs.Common.{◌≡◌, ◌+◌, Bool, true, ◌&&◌}
+use Rattle.std.specs.Prelude.{nat_le, nat_lt}
+use Rattle.std.proofs.lemmas.Bool.{and_parts, leb-true, ltb-true}
+use Rattle.compact_repr.specs.Capacity.{Growth, IsLawful, max_capacity}
+
+-- the facts of `IsLawful`, tested
+abbrev pub keeps_law : Growth → Bool
+keeps_law g =
+    nat_le 25 g.least
+    && (nat_le g.least max_capacity && (nat_le 1 g.denominator && (nat_lt g.denominator g.numerator && nat_le (g.numerator + g.denominator) 255)))
+
+pub IsLawful-test : (g : Growth) → keeps_law g ≡ true → IsLawful g
+IsLawful-test g test =
+    let (above, rest) = and_parts _ _ test in
+    let (below, others) = and_parts _ _ rest in
+    let (divides, last) = and_parts _ _ others in
+    let (grows, small) = and_parts _ _ last in
+    record {
+      above_inline = leb-true _ _ above;
+      below_limit = leb-true _ _ below;
+      divides = leb-true _ _ divides;
+      grows = ltb-true _ _ grows;
+      small = leb-true _ _ small;
+    }
