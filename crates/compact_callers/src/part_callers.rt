@@ -1,7 +1,7 @@
 //! Callers that cut a text or write one: each says which parts it hands out or appends.
 #![tactic(auto, using(compact_str::proofs::ForCallers::for_callers, compact_str::proofs::PartFacts::part_facts))]
 
-ghost use Rattle.std.specs.Prelude.{◌≡◌, ◌↔◌, ◌++◌, ◌∷◌, IfSome, OnOk, IsTrue, codes, decimal, slice_get};
+ghost use Rattle.std.specs.Prelude.{◌≡◌, ◌≢◌, ◌↔◌, ◌++◌, ◌∷◌, IfSome, OnOk, IsTrue, Some, true, false, codes, decimal, slice_get};
 ghost use Rattle.std.specs.Str.{trim};
 ghost use Rattle.compact_str.specs.Text.{text_of, utf8};
 
@@ -41,11 +41,41 @@ pub fn append_request(
     write!(line, "{method} {host}:{port}/{path}")
 }
 
-/// Whether a word is `"abc"`. Its proof spells the word, in a proof file.
+/// Whether a word is `"abc"`.
+#[tactic(auto, using(compact_str::proofs::PartFacts::words))]
 pub fn is_abc(word: &CompactString) -> bool
     ensures { IsTrue result ↔ (word.now.text ≡ codes "abc") }
 {
     word.as_str() == "abc"
+}
+
+/// Whether a word is another one than `"naïve"`.
+#[tactic(auto, using(compact_str::proofs::PartFacts::words))]
+pub fn is_not_naive(word: &CompactString) -> bool
+    ensures { IsTrue result ↔ (word.now.text ≢ codes "naïve") }
+{
+    word.as_str() != "naïve"
+}
+
+/// Whether a header tells how a body is encoded.
+#[tactic(auto, using(compact_str::proofs::PartFacts::words))]
+pub fn is_encoding_header(name: &CompactString) -> bool
+    ensures { IsTrue result ↔ (name.now.text ≡ codes "content-transfer-encoding") }
+{
+    name.as_str() == "content-transfer-encoding"
+}
+
+/// Which answer a word is.
+#[tactic(auto, using(compact_str::proofs::PartFacts::words))]
+pub fn answer_in(word: &CompactString) -> Option<bool>
+    ensures yes { result ≡ Some true ↔ (word.now.text ≡ codes "yes") }
+    ensures no { result ≡ Some false ↔ (word.now.text ≡ codes "no") }
+{
+    match word.as_str() {
+        "yes" => Some(true),
+        "no" => Some(false),
+        _ => None,
+    }
 }
 
 /// The first character of a line.
@@ -97,56 +127,28 @@ pub fn first_two_bytes(line: &CompactString) -> &str {
     }
 }
 
-/// Appends an address up to its host. More than four holes are written in two steps.
-#[tactic(auto, using(compact_str::proofs::ForCallers::for_callers))]
-fn append_host(
-    line: &mut CompactString,
-    scheme: &str,
-    user: &str,
-    password: &str,
-    host: &str,
-) -> fmt::Result
-    ensures { OnOk result (line.new.text ≡ line.old.text ++ (text_of scheme.now ++ (codes "://"
-        ++ (text_of user.now ++ (codes ":" ++ (text_of password.now ++ (codes "@"
-        ++ text_of host.now))))))) }
-{
-    write!(line, "{scheme}://{user}:{password}@{host}")
-}
-
-/// Appends what follows the host.
-#[tactic(auto, using(compact_str::proofs::ForCallers::for_callers))]
-fn append_resource(
-    line: &mut CompactString,
-    port: u16,
-    path: &str,
-    query: &str,
-    fragment: &str,
-) -> fmt::Result
-    ensures { OnOk result (line.new.text ≡ line.old.text ++ (codes ":" ++ (decimal port ++ (codes "/"
-        ++ (text_of path.now ++ (codes "?" ++ (text_of query.now ++ (codes "#"
-        ++ text_of fragment.now)))))))) }
-{
-    write!(line, ":{port}/{path}?{query}#{fragment}")
-}
-
 /// Appends an address with all its parts.
-#[tactic(auto, using(compact_str::proofs::ForCallers::for_callers))]
+#[tactic(auto, using(compact_str::proofs::PartFacts::many_parts))]
 pub fn append_whole_address(
     line: &mut CompactString,
     scheme: &str,
     user: &str,
     password: &str,
-    host: &str,
+    host: &CompactString,
     port: u16,
     path: &str,
     query: &str,
     fragment: &str,
 ) -> fmt::Result
     ensures { OnOk result (line.new.text ≡ line.old.text ++ (text_of scheme.now ++ (codes "://"
-        ++ (text_of user.now ++ (codes ":" ++ (text_of password.now ++ (codes "@" ++ (text_of host.now
+        ++ (text_of user.now ++ (codes ":" ++ (text_of password.now ++ (codes "@" ++ (host.now.text
         ++ (codes ":" ++ (decimal port ++ (codes "/" ++ (text_of path.now ++ (codes "?"
         ++ (text_of query.now ++ (codes "#" ++ text_of fragment.now))))))))))))))) }
 {
-    append_host(line, scheme, user, password, host)?;
-    append_resource(line, port, path, query, fragment)
+    // Of a hole that is a value itself, up to six prove.
+    let host = host.as_str();
+    write!(
+        line,
+        "{scheme}://{user}:{password}@{host}:{port}/{path}?{query}#{fragment}"
+    )
 }

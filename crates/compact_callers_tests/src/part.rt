@@ -1,8 +1,8 @@
 //! Tests of the callers in `part_callers.rt`.
 
 use compact_callers::part_callers::{
-    append_address, append_request, append_whole_address, first_of, first_two_bytes, is_abc,
-    key_and_value, number_and_name, trimmed, unmarked,
+    answer_in, append_address, append_request, append_whole_address, first_of, first_two_bytes,
+    is_abc, is_encoding_header, is_not_naive, key_and_value, number_and_name, trimmed, unmarked,
 };
 use compact_testing::values::value_of;
 
@@ -17,10 +17,11 @@ fn an_address_is_appended(rt: HostRuntime) {
 #[test]
 fn a_whole_address_is_appended(rt: HostRuntime) {
     let mut line = value_of(rt.alloc(), "> ").expect(&rt, "memory");
-    append_whole_address(&mut line, "http", "ä", "p", "h", 80, "a", "b=1", "c").expect(
+    let host = value_of(rt.alloc(), "zoë.example").expect(&rt, "memory");
+    append_whole_address(&mut line, "http", "ä", "p", &host, 80, "a", "b=1", "c").expect(
         &rt, "memory",
     );
-    assert_eq!(rt; line.as_str(), "> http://ä:p@h:80/a?b=1#c");
+    assert_eq!(rt; line.as_str(), "> http://ä:p@zoë.example:80/a?b=1#c");
 }
 
 #[test]
@@ -35,6 +36,33 @@ fn a_request_is_appended(rt: HostRuntime) {
 fn a_word_is_known(rt: HostRuntime) {
     assert!(rt; is_abc(&value_of(rt.alloc(), "abc").expect(&rt, "memory")));
     assert!(rt; !is_abc(&value_of(rt.alloc(), "abcd").expect(&rt, "memory")));
+    assert!(rt; !is_not_naive(&value_of(rt.alloc(), "naïve").expect(&rt, "memory")));
+    assert!(rt; is_not_naive(&value_of(rt.alloc(), "naive").expect(&rt, "memory")));
+    let name = value_of(rt.alloc(), "content-transfer-encoding").expect(&rt, "memory");
+    assert!(rt; is_encoding_header(&name));
+    assert!(rt;
+        !is_encoding_header(&value_of(rt.alloc(), "content-transfer").expect(&rt, "memory"))
+    );
+}
+
+#[test]
+fn an_answer_is_read(rt: HostRuntime) {
+    assert_eq!(rt;
+        answer_in(&value_of(rt.alloc(), "yes").expect(&rt, "memory")),
+        Some(true)
+    );
+    assert_eq!(rt;
+        answer_in(&value_of(rt.alloc(), "no").expect(&rt, "memory")),
+        Some(false)
+    );
+    assert_eq!(rt;
+        answer_in(&value_of(rt.alloc(), "yes!").expect(&rt, "memory")),
+        None
+    );
+}
+
+#[test]
+fn a_line_begins_with_a_character(rt: HostRuntime) {
     assert_eq!(rt;
         first_of(&value_of(rt.alloc(), "éa").expect(&rt, "memory")),
         Some('é')
