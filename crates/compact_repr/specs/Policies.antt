@@ -5,12 +5,12 @@ use Rattle.std.proofs.lemmas.Bool.{and_parts, leb-true, ltb-true}
 use Rattle.compact_repr.specs.Capacity.{Growth, IsLawful, max_capacity}
 
 -- the facts of `IsLawful`, tested
-abbrev pub keeps_law : Growth → Bool
-keeps_law g =
+abbrev pub is_lawful : Growth → Bool
+is_lawful g =
     nat_le 25 g.least
     && (nat_le g.least max_capacity && (nat_le 1 g.denominator && (nat_lt g.denominator g.numerator && nat_le (g.numerator + g.denominator) 255)))
 
-pub IsLawful-test : (g : Growth) → keeps_law g ≡ true → IsLawful g
+pub IsLawful-test : (g : Growth) → is_lawful g ≡ true → IsLawful g
 IsLawful-test g test =
     let (above, rest) = and_parts _ _ test in
     let (below, others) = and_parts _ _ rest in
