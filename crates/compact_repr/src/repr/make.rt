@@ -43,12 +43,8 @@ impl<P: Policy> Repr<P> {
         Ok(Self::of(alloc, Buffer::Inline([], inline)))
     }
 
-    /// A copy of a `text` of more than 24 bytes. It stands apart, so that a short text is made where the call stands.
-    /// It answers the buffer alone, so that the place of its answer is not that of the value.
-    ///
-    /// # Errors
-    ///
-    /// [`ReserveError`] if the buffer is refused.
+    /// A copy of a `text` of more than 24 bytes. It stands apart, so that a short text is made where the call stands, and it
+    /// answers the buffer alone, so that the place of its answer is not that of the value.
     #[inline(never)]
     fn long_copy(alloc: Global, text: &str) -> Result<HeapBuffer, ReserveError>
         requires { 24 < length text.now }
