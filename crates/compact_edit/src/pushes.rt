@@ -22,7 +22,7 @@ pub struct PushReport<P: Policy> {
 /// Pushes each text, in order, onto the empty value, and goes on after a push that is refused, which changes nothing. A
 /// push is refused only where it asks for a heap buffer, so none is if the texts have at most 24 bytes together.
 ///
-/// Under a policy that grows by p/q, with a least heap capacity of h, and with N bytes in the end, `(p - q) * moved` is
+/// Take a policy that grows by p/q, with a least heap capacity of h, and N bytes in the end. Then `(p - q) * moved` is
 /// at most `(p + q) * N`, and the capacity at most h or `p * N / q`, whichever is more. Under `Standard`, `moved` is at
 /// most five times N.
 ///

@@ -124,7 +124,7 @@ pub fn encode_char(character: char, bytes: &mut [u8; 4]) -> &str
 }
 
 /// A law, and the function does nothing. Where a text can be cut, the two parts are what stands before and what stands
-/// after the position, and it can be cut just where the characters within the first bytes take up all of them.
+/// after the position. It can be cut just where the characters within the first bytes take up all of them.
 pub fn cut_is_before_and_after()
     ensures { CutIsBeforeAndAfter }
 {}

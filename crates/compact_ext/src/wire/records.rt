@@ -54,8 +54,8 @@ impl<R: BufRead + Drop> Records<R> {
     /// # Errors
     ///
     /// The first fault that `next` gives, or `Reserve` if the vector has no room for a text that came. The texts before
-    /// it are dropped. So of whole forms with nothing after them there is an error only if the reader fails or room is
-    /// refused, and of a reader with nothing in it only if it fails.
+    /// it are dropped. Whole forms with nothing after them give an error only if the reader fails or room is refused,
+    /// and no forms only if it fails.
     ///
     /// # Examples
     ///

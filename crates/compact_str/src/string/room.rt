@@ -9,8 +9,8 @@ use compact_repr::{Policy, ReserveError};
 
 impl<P: Policy> PolicyString<P> {
     /// Makes room for `additional` more bytes. An owned value with that room stays as it is. Else the text stands
-    /// inline if all then fits in 24 bytes, and if not in a heap buffer of as many bytes as are needed, or half as much
-    /// again as the text has, or 32, whichever is most.
+    /// inline if all then fits in 24 bytes, and if not in a heap buffer. That has as many bytes as are needed, or half
+    /// as much again as the text has, or 32, whichever is most.
     ///
     /// # Errors
     ///
