@@ -1,5 +1,4 @@
-//! Texts of numbers and of formats in the functions of a user. Each is proved from the contracts and the facts for callers;
-//! the unit of `temperature` is spelled in a proof file.
+//! Texts of numbers and of formats in the functions of a user. Each is proved from the contracts and the facts for callers.
 #![tactic(auto, using(compact_str::proofs::ForCallers::for_callers, compact_ext::proofs::ForCallers::shown_facts))]
 
 ghost use Rattle.std.specs.Prelude.{◌≡◌, ◌++◌, ◌∷◌, IfOk, codes, decimal};
@@ -23,6 +22,7 @@ pub fn key_of(alloc: Global, number: u64) -> CompactString
 }
 
 /// A temperature with its unit.
+#[tactic(auto, using(compact_str::proofs::PartFacts::words, compact_ext::proofs::ForCallers::shown_facts))]
 pub fn temperature(alloc: Global, degrees: i32) -> Result<CompactString, ToCompactStringError>
     ensures { IfOk result (λ v. v.text ≡ signed_decimal degrees ++ codes " °C") }
 {

@@ -2,8 +2,8 @@
 -- `part_facts`, beside `ForCallers::for_callers`: what stands on both sides of a character that was found, and what a formatter
 -- wrote, in bytes.
 -- `many_parts`, alone: the text or bytes that a `write!` of up to twelve values wrote. With all of `for_callers` a proof stops
--- at its limit of instances. Past twelve pieces, holes and literals together, `format_args!` nests, hence `append_assoc`.
--- `words`, alone: what `==` with a literal says of the characters.
+-- at its limit of instances. Past twelve pieces, values and literals together, `format_args!` nests, hence `append_assoc`.
+-- `words`, without the two: which characters a literal spells, however long, and what `==` with it says.
 use Rattle.std.proofs.Common.{◌≡◌, ◌≢◌, ◌⊎◌, inl, inr, ℕ, List, Bool, true, false, ◌&&◌, [], ◌++◌, ◌∷◌, nat_eq, nat_lt, drop, take, refl, ap, sym, ◌∙◌, append_assoc, append-nil}
 use Rattle.std.proofs.lemmas.Bool.{false≢true, ltb-true}
 use Rattle.std.proofs.lemmas.Str.{chars-append, chars-nil, encodes-chars, chars_past_char, IsUtf8-drop, IsUtf8-take}
