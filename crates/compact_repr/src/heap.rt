@@ -58,7 +58,8 @@ impl HeapBuffer {
         requires { length text.now ≤ capacity }
         ensures { IfOk result (λ b. b ≡ record { text = text_of text.now; capacity = capacity }) }
     {
-        let bytes = append::copy_of(alloc, text.as_bytes(), capacity)?;
+        let mut bytes = Vec::with_capacity(alloc, capacity)?;
+        append::append_first(&mut bytes, text.as_bytes());
         Ok(HeapBuffer { bytes })
     }
 

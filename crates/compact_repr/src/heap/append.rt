@@ -1,10 +1,9 @@
 //! Bytes that are put behind those of a vector, where it has reserved room for them.
 //!
 //! A vector that is behind a reference would be looked at again for each byte, so it is taken out of its place meanwhile.
-ghost use Rattle.std.specs.Prelude.{◌≡◌, ◌+◌, ◌-◌, ◌<◌, ◌≤◌, ◌++◌, length, take, drop, replicate, IfOk};
+ghost use Rattle.std.specs.Prelude.{◌≡◌, ◌+◌, ◌-◌, ◌<◌, ◌≤◌, ◌++◌, length, take, drop, replicate};
 ghost use Rattle.std.specs.Vec.{vec_len, vec_capacity};
 
-use std::alloc::{AllocError, Global};
 use std::mem;
 
 /// As many bytes are appended at once.
@@ -49,22 +48,18 @@ fn append_short(bytes: &mut Vec<u8>, source: &[u8])
     }
 }
 
-/// A vector of the bytes of `source`, with room for `capacity` bytes. They are copied at once.
-///
-/// The call that copies them promises of the capacity only that it is no less than before, so it is looked at again. The
-/// compiler knows that it is the same.
+/// Appends any bytes to a vector that is not behind a reference.
 #[inline(always)]
-pub fn copy_of(alloc: Global, source: &[u8], capacity: usize) -> Result<Vec<u8>, AllocError>
-    requires { length source.now ≤ capacity }
-    ensures items { IfOk result (λ v. v.items ≡ source.now) }
-    ensures capacity { IfOk result (λ v. vec_capacity v ≡ capacity) }
+pub fn append_first(vec: &mut Vec<u8>, source: &[u8])
+    requires { vec_len vec.old + length source.now ≤ vec_capacity vec.old }
+    ensures items { vec.new.items ≡ vec.old.items ++ source.now }
+    ensures capacity { vec_capacity vec.new ≡ vec_capacity vec.old }
 {
-    let mut vec = Vec::with_capacity(alloc, capacity)?;
-    vec.extend_from_slice(source)?;
-    if vec.capacity() != capacity {
-        return Err(AllocError);
+    if source.len() > BLOCK {
+        append_many(vec, source);
+    } else {
+        append_short(vec, source);
     }
-    Ok(vec)
 }
 
 /// Appends more than 32 bytes to a vector that is behind a reference.
@@ -81,7 +76,7 @@ fn append_long(bytes: &mut Vec<u8>, source: &[u8])
 }
 
 /// Appends more than 32 bytes to a vector: up to 256 as their two ends, so that no loop ends at a length that is hard
-/// to foresee, and more by long blocks, of which the last may bring some bytes again.
+/// to foresee, and more by long blocks, of which the last brings some bytes again.
 #[inline(always)]
 fn append_many(vec: &mut Vec<u8>, source: &[u8])
     requires long { 32 < length source.now }
@@ -90,19 +85,19 @@ fn append_many(vec: &mut Vec<u8>, source: &[u8])
     ensures capacity { vec_capacity vec.new ≡ vec_capacity vec.old }
 {
     let count = source.len();
-    if count <= 64 {
-        append_ends::<32>(vec, source);
-    } else if count <= 128 {
-        append_ends::<64>(vec, source);
-    } else if count <= 256 {
-        append_ends::<128>(vec, source);
-    } else {
+    if count > 2 * LONG_BLOCK {
         let len = vec.len();
         for i in 0..(count - 1) / LONG_BLOCK {
             append_array::<LONG_BLOCK>(vec, array_at::<LONG_BLOCK>(source, LONG_BLOCK * i));
         }
         vec.truncate(len + (count - LONG_BLOCK));
         append_array::<LONG_BLOCK>(vec, array_at::<LONG_BLOCK>(source, count - LONG_BLOCK));
+    } else if count > 128 {
+        append_ends::<128>(vec, source);
+    } else if count > 64 {
+        append_ends::<64>(vec, source);
+    } else {
+        append_ends::<32>(vec, source);
     }
 }
 

@@ -43,9 +43,9 @@ impl<P: Policy> Repr<P> {
         Ok(Self::of(alloc, Buffer::Inline([], inline)))
     }
 
-    /// A copy of a `text` of more than 24 bytes: a buffer is asked for, and one call copies. It is so short that it stands
-    /// where the call stands, and the buffer goes from there to its place in registers.
-    #[inline(always)]
+    /// A copy of a `text` of more than 24 bytes. It stands apart, so that a short text is made where the call stands, and it
+    /// answers the buffer alone, so that the place of its answer is not that of the value.
+    #[inline(never)]
     fn long_copy(alloc: Global, text: &str) -> Result<HeapBuffer, ReserveError>
         requires { 24 < length text.now }
         ensures { IfOk result

@@ -175,9 +175,8 @@ pub(super) fn checked_capacity<P: Policy>(wanted: usize) -> Option<usize>
     ensures { let c = max P.growth.least wanted
         in result ≡ (if nat_le c max_capacity then Some c else None) }
 {
-    let capacity = wanted.max(P::MIN_HEAP);
-    if capacity > MAX_CAPACITY {
+    if wanted > MAX_CAPACITY || P::MIN_HEAP > MAX_CAPACITY {
         return None;
     }
-    Some(capacity)
+    Some(wanted.max(P::MIN_HEAP))
 }
