@@ -49,7 +49,8 @@ impl<P: Policy> Repr<P> {
         requires within { index < size self.now.text }
         ensures { MatchOption result ((c : ℕ) (rest : List ℕ)
             → text_after self.now.text index ≡ c ∷ rest → 128 ≤ c)
-            (λ c. (len_utf8 c ≡ 1) × ((rest : List ℕ) × (text_after self.now.text index ≡ c ∷ rest))) }
+            (λ c. (len_utf8 c ≡ 1)
+            × ((rest : List ℕ) × (text_after self.now.text index ≡ c ∷ rest))) }
     {
         cut::ascii_at(self.as_str(), index)
     }
