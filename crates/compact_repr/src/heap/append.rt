@@ -55,10 +55,10 @@ pub fn append_first(vec: &mut Vec<u8>, source: &[u8])
     ensures items { vec.new.items ≡ vec.old.items ++ source.now }
     ensures capacity { vec_capacity vec.new ≡ vec_capacity vec.old }
 {
-    if source.len() > BLOCK {
-        append_many(vec, source);
-    } else {
+    if source.len() <= BLOCK {
         append_short(vec, source);
+    } else {
+        append_many(vec, source);
     }
 }
 
@@ -85,19 +85,19 @@ fn append_many(vec: &mut Vec<u8>, source: &[u8])
     ensures capacity { vec_capacity vec.new ≡ vec_capacity vec.old }
 {
     let count = source.len();
-    if count > 2 * LONG_BLOCK {
+    if count <= 64 {
+        append_ends::<32>(vec, source);
+    } else if count <= 128 {
+        append_ends::<64>(vec, source);
+    } else if count <= 256 {
+        append_ends::<128>(vec, source);
+    } else {
         let len = vec.len();
         for i in 0..(count - 1) / LONG_BLOCK {
             append_array::<LONG_BLOCK>(vec, array_at::<LONG_BLOCK>(source, LONG_BLOCK * i));
         }
         vec.truncate(len + (count - LONG_BLOCK));
         append_array::<LONG_BLOCK>(vec, array_at::<LONG_BLOCK>(source, count - LONG_BLOCK));
-    } else if count > 128 {
-        append_ends::<128>(vec, source);
-    } else if count > 64 {
-        append_ends::<64>(vec, source);
-    } else {
-        append_ends::<32>(vec, source);
     }
 }
 

@@ -175,8 +175,9 @@ pub(super) fn checked_capacity<P: Policy>(wanted: usize) -> Option<usize>
     ensures { let c = max P.growth.least wanted
         in result ≡ (if nat_le c max_capacity then Some c else None) }
 {
-    if wanted > MAX_CAPACITY || P::MIN_HEAP > MAX_CAPACITY {
+    let capacity = wanted.max(P::MIN_HEAP);
+    if capacity > MAX_CAPACITY {
         return None;
     }
-    Some(wanted.max(P::MIN_HEAP))
+    Some(capacity)
 }

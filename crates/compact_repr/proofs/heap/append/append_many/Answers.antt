@@ -12,5 +12,5 @@ loop-i-preserved c = (
 
 pub returns-after-loop-i-clause-items : goal.returns-after-loop-i-clause-items
 returns-after-loop-i-clause-items c =
-    rw (c.append_array-then-count.ensures.items, c.truncate.ensures.items, c.loop-i.invariant.0, c.array_at-then-count.ensures)
+    rw (c.append_array-else-count-le256.ensures.items, c.truncate.ensures.items, c.loop-i.invariant.0, c.array_at-else-count-le256.ensures)
     (joined_ends c.args.vec.now.items c.args.source.now c.len-len.result (128 * c.loop-i.i) (length c.args.source.now - 128) 128 (omega arith) (omega arith) (omega arith))
