@@ -18,7 +18,7 @@ const BESIDE: usize = 8;
 const STEP: usize = 16;
 
 /// The most bytes that are granted at once.
-const GREATEST: usize = 1600;
+const MAX_SIZE: usize = 1600;
 
 /// How many blocks of a step are kept for grants, for all cases of the table: a block that is granted does not come back.
 /// Most requests are small.
@@ -90,8 +90,8 @@ impl Ration {
 
     /// Takes what was granted and is not used.
     pub fn take_rest(&mut self) {
-        let mut size = GREATEST;
-        for _ in 0..GREATEST / STEP {
+        let mut size = MAX_SIZE;
+        for _ in 0..MAX_SIZE / STEP {
             self.take_all(size);
             size = size.saturating_sub(STEP);
         }
@@ -101,7 +101,7 @@ impl Ration {
     fn take_large(&mut self) {
         let mut size = 1usize << 46;
         for _ in 0..46 {
-            if size <= GREATEST {
+            if size <= MAX_SIZE {
                 break;
             }
             self.take_all(size);
@@ -136,7 +136,7 @@ fn step_of(size: usize) -> usize {
 /// Blocks of each step.
 fn stock(alloc: Global) -> Result<Vec<Vec<Vec<u8>>>, AllocError> {
     let mut stock = Vec::new(alloc);
-    for step in 0..=step_of(GREATEST) {
+    for step in 0..=step_of(MAX_SIZE) {
         let size = step.saturating_mul(STEP).saturating_sub(BESIDE);
         let count = if step > SMALL { STOCK } else { STOCK_OF_SMALL };
         stock.push(blocks(alloc, size, count)?)?;
