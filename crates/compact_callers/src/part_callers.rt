@@ -4,6 +4,7 @@
 ghost use Rattle.std.specs.Prelude.{◌≡◌, ◌≢◌, ◌↔◌, ◌++◌, ◌∷◌, IfSome, OnOk, IsTrue, Some, true, false, codes, decimal, slice_get};
 ghost use Rattle.std.specs.Str.{trim};
 ghost use Rattle.compact_str.specs.Text.{text_of, utf8};
+ghost use Rattle.compact_str.specs.Ranges.{IsTrimOf};
 
 use compact_str::CompactString;
 use std::fmt;
@@ -111,9 +112,10 @@ pub fn unmarked(name: &CompactString) -> Option<&str>
     name.strip_prefix("x-")
 }
 
-/// A line without the spaces at its ends.
+/// A line without the white space at its ends.
 pub fn trimmed(line: &CompactString) -> &str
-    ensures { result.now ≡ trim (utf8 line.now.text) }
+    ensures text { IsTrimOf line.now.text (text_of result.now) }
+    ensures bytes { result.now ≡ trim (utf8 line.now.text) }
 {
     line.trim()
 }

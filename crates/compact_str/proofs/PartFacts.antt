@@ -1,23 +1,28 @@
 -- For crates that call this one: three rulesets, each for callers of one kind.
--- `part_facts`, beside `ForCallers::for_callers`: what stands on both sides of a character that was found, and what a formatter
--- wrote, in bytes.
+-- `part_facts`, beside `ForCallers::for_callers`: what stands on both sides of a character that was found, or of what `trim`
+-- leaves, and what a formatter wrote, in bytes.
 -- `many_parts`, alone: the text or bytes that a `write!` of up to twelve values wrote. With all of `for_callers` a proof stops
 -- at its limit of instances. Past twelve pieces, values and literals together, `format_args!` nests, hence `append_assoc`.
 -- `words`, without the two: which characters a literal spells, however long, and what `==` with it says.
-use Rattle.std.proofs.Common.{◌≡◌, ◌≢◌, ◌⊎◌, inl, inr, ℕ, List, Bool, true, false, ◌&&◌, [], ◌++◌, ◌∷◌, nat_eq, nat_lt, drop, take, refl, ap, sym, ◌∙◌, append_assoc, append-nil}
-use Rattle.std.proofs.lemmas.Bool.{false≢true, ltb-true}
-use Rattle.std.proofs.lemmas.Str.{chars-append, chars-nil, encodes-chars, chars_past_char, IsUtf8-drop, IsUtf8-take}
+use Rattle.std.proofs.Common.{◌≡◌, ◌≢◌, ◌⊎◌, inl, inr, ℕ, List, Bool, true, false, ◌&&◌, [], ◌++◌, ◌∷◌, nat_eq, nat_lt, drop, take, refl, ap, sym, subst, ◌∙◌, ◌<◌, arith, append_assoc, append-nil}
+use Rattle.std.proofs.lemmas.Bool.{false≢true, ltb-true, not-false}
+use Rattle.std.proofs.lemmas.Bool.Decides.{nat_tests}
+use Rattle.std.proofs.lemmas.List.Elements.{All-nil, All-cons}
+use Rattle.std.proofs.lemmas.Str.{chars-append, chars-encodes, chars-nil, encodes-chars, chars_past_char, IsUtf8-drop, IsUtf8-take}
 use Rattle.std.proofs.lemmas.List.{take-append-drop}
 use Rattle.std.specs.Cmp.Lexicographic.{same_text, bytes_decides}
 use Rattle.std.specs.Fmt.{WritesInCalls}
-use Rattle.std.specs.List.{FoldsTo, concat}
-use Rattle.std.specs.Str.{IsUtf8, IsCharBoundary}
+use Rattle.std.specs.List.{AllPass, FoldsTo, concat}
+use Rattle.std.specs.Char.{is_whitespace, is_not_whitespace}
+use Rattle.std.specs.Str.{IsUtf8, IsCharBoundary, IsTrim, NonePass, NoCharPasses}
 use Rattle.std.specs.Str.Pattern.{HasCharAt}
 use lib.Pointwise.{pointwise}
+use lib.Utf8.{scalar, scalars, low_scalar}
 use Rattle.compact_repr.specs.Text.{text_of, utf8}
 use Rattle.compact_repr.specs.Value.{PlacedText}
 use Rattle.compact_repr.specs.Capacity.{Growth}
 use Rattle.compact_str.specs.PositionEdits.{Writes}
+use Rattle.compact_str.specs.Ranges.{IsTrimOf}
 use Rattle.compact_str.proofs.ForCallers.{written-text, text_of-one, text_of-two, text_of-three, text_of-four, text_of-decimal, text_of-decimal_append}
 
 -- the text before a character that was found, the character, and the text behind it
@@ -65,7 +70,45 @@ text_of-plain (b ∷ bytes) e =
     let parts = both (nat_lt b 128) (is_plain bytes) e in
     text_of-one b bytes (ltb-true b 128 parts.0) ∙ ap (λ t. b ∷ t) (text_of-plain bytes parts.1)
 
-pub ruleset part_facts = (cut-text, written-bytes, append-nil)
+-- what `trim` leaves out of a text is white space on both sides
+white-below : (c : ℕ) → is_whitespace c ≡ true → c < 55296
+white-below c white = grind (arith, nat_tests)
+
+white-scalar : (c : ℕ) → is_whitespace c ≡ true → scalar c ≡ true
+white-scalar c white = low_scalar c (white-below c white)
+
+white-parts : (cs : List ℕ) → NonePass is_not_whitespace cs → (scalars cs ≡ true) × AllPass is_whitespace cs
+white-parts [] none = (refl, All-nil (λ (d : ℕ). is_whitespace d ≡ true))
+white-parts (c ∷ cs) (first, rest) =
+    let others = white-parts cs rest in
+    let white : is_whitespace c ≡ true = not-false (is_whitespace c) first in
+    (rw (white-scalar c white) others.0, All-cons (λ (d : ℕ). is_whitespace d ≡ true) c cs white others.1)
+
+white-text : (bytes : List ℕ) → NoCharPasses is_not_whitespace bytes → IsUtf8 bytes × AllPass is_whitespace (text_of bytes)
+white-text bytes (cs, spelled, none) =
+    let parts = white-parts cs none in
+    ((cs, (parts.0, spelled)), subst (λ (t : List ℕ). AllPass is_whitespace t) (sym (chars-encodes cs parts.0) ∙ ap text_of spelled) parts.1)
+
+pub trimmed-text : (t s r : List ℕ) → IsTrim s r → text_of s ≡ t → IsUtf8 r → IsTrimOf t (text_of r)
+trimmed-text t s r (m, n, cut, before, behind, starts, ends) e u =
+    let head = white-text (take m s) before in
+    let tail = white-text (drop n (drop m s)) behind in
+    let rest : drop m s ≡ r ++ drop n (drop m s) = sym (take-append-drop n (drop m s)) ∙ ap (λ x. x ++ drop n (drop m s)) (sym cut) in
+    let whole : s ≡ take m s ++ (r ++ drop n (drop m s)) = sym (take-append-drop m s) ∙ ap (λ x. take m s ++ x) rest in
+    record {
+      head = text_of (take m s);
+      tail = text_of (drop n (drop m s));
+      whole =
+          sym e
+          ∙ ap text_of whole
+          ∙ chars-append (take m s) (r ++ drop n (drop m s)) head.0
+          ∙ ap (λ x. text_of (take m s) ++ x) (chars-append r (drop n (drop m s)) u)
+          ∙ sym (append_assoc (text_of (take m s)) (text_of r) (text_of (drop n (drop m s))));
+      white_head = head.1;
+      white_tail = tail.1;
+    }
+
+pub ruleset part_facts = (cut-text, trimmed-text, written-bytes, append-nil)
 
 pub ruleset many_parts = (
   written-text,
