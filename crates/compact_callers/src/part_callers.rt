@@ -105,6 +105,25 @@ pub fn number_and_name(title: &CompactString) -> Option<(&str, &str)>
     }
 }
 
+/// What stands on both sides of the first arrow, in any text.
+pub fn sides_of_arrow(line: &str) -> Option<(&str, &str)>
+    ensures { IfSome result (λ parts.
+        text_of line.now ≡ text_of parts.0.now ++ codes "→" ++ text_of parts.1.now) }
+{
+    line.split_once('→')
+}
+
+/// What stands on both sides of the first dash, in any text.
+pub fn sides_of_dash(line: &str) -> Option<(&str, &str)>
+    ensures { IfSome result (λ parts.
+        text_of line.now ≡ text_of parts.0.now ++ codes "–" ++ text_of parts.1.now) }
+{
+    match line.find('–') {
+        Some(at) => Some((&line[..at], &line[at + '–'.len_utf8()..])),
+        None => None,
+    }
+}
+
 /// A name without its mark.
 pub fn unmarked(name: &CompactString) -> Option<&str>
     ensures { IfSome result (λ rest. name.now.text ≡ codes "x-" ++ text_of rest.now) }

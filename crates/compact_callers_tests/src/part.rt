@@ -2,7 +2,8 @@
 
 use compact_callers::part_callers::{
     answer_in, append_address, append_request, append_whole_address, first_of, first_two_bytes,
-    is_abc, is_encoding_header, is_not_naive, key_and_value, number_and_name, trimmed, unmarked,
+    is_abc, is_encoding_header, is_not_naive, key_and_value, number_and_name, sides_of_arrow,
+    sides_of_dash, trimmed, unmarked,
 };
 use compact_testing::values::value_of;
 
@@ -80,6 +81,13 @@ fn a_text_is_cut_at_a_sign(rt: HostRuntime) {
     let title = value_of(rt.alloc(), "1§é").expect(&rt, "memory");
     assert_eq!(rt; number_and_name(&title), Some(("1", "é")));
     assert_eq!(rt; number_and_name(&field), None);
+}
+
+#[test]
+fn any_text_is_cut_at_a_sign_past_ascii(rt: HostRuntime) {
+    assert_eq!(rt; sides_of_arrow("ä→b→c"), Some(("ä", "b→c")));
+    assert_eq!(rt; sides_of_arrow("ä–b"), None);
+    assert_eq!(rt; sides_of_dash("1–é"), Some(("1", "é")));
 }
 
 #[test]

@@ -8,12 +8,12 @@ use Rattle.std.proofs.Common.{◌≡◌, ◌≢◌, ◌⊎◌, inl, inr, ℕ, Li
 use Rattle.std.proofs.lemmas.Bool.{false≢true, ltb-true, not-false}
 use Rattle.std.proofs.lemmas.Bool.Decides.{nat_tests}
 use Rattle.std.proofs.lemmas.List.Elements.{All-nil, All-cons}
-use Rattle.std.proofs.lemmas.Str.{chars-append, chars-encodes, chars-nil, encodes-chars, chars_past_char, IsUtf8-drop, IsUtf8-take}
+use Rattle.std.proofs.lemmas.Str.{chars-append, chars-encodes, chars-nil, encodes-chars, chars_past_char, IsCharBoundary-from_drop, IsUtf8-append, IsUtf8-drop, IsUtf8-encode, IsUtf8-take}
 use Rattle.std.proofs.lemmas.List.{take-append-drop}
 use Rattle.std.specs.Cmp.Lexicographic.{same_text, bytes_decides}
 use Rattle.std.specs.Fmt.{WritesInCalls}
 use Rattle.std.specs.List.{AllPass, FoldsTo, concat}
-use Rattle.std.specs.Char.{is_whitespace, is_not_whitespace}
+use Rattle.std.specs.Char.{encode_utf8, is_whitespace, is_not_whitespace}
 use Rattle.std.specs.Str.{IsUtf8, IsCharBoundary, IsTrim, NonePass, NoCharPasses}
 use Rattle.std.specs.Str.Pattern.{HasCharAt}
 use lib.Pointwise.{pointwise}
@@ -34,6 +34,14 @@ cut-text t s c i j h e u b =
     ∙ ap text_of (sym (take-append-drop i s))
     ∙ chars-append (take i s) (drop i s) (IsUtf8-take s i u b)
     ∙ ap (λ x. text_of (take i s) ++ x) (chars_past_char (drop i s) (drop j s) c behind h.split)
+
+-- the same where no boundary is known before a character that computes to be one, as behind `split_once`
+pub cut-at : (t s : List ℕ) (c i j : ℕ) → HasCharAt c s i j → text_of s ≡ t → IsUtf8 s → scalar c ≡ true
+    → t ≡ text_of (take i s) ++ c ∷ text_of (drop j s)
+cut-at t s c i j h e u is_scalar =
+    let behind : IsUtf8 (drop j s) = IsUtf8-drop s j u (subst (λ (n : ℕ). IsCharBoundary s n) (sym h.ends) h.after) in
+    let rest : IsUtf8 (drop i s) = subst IsUtf8 (sym h.split) (IsUtf8-append (encode_utf8 c) (drop j s) (IsUtf8-encode c is_scalar) behind) in
+    cut-text t s c i j h e u (IsCharBoundary-from_drop s i (omega (arith, h.after.0)) rest)
 
 -- what a formatter wrote, in bytes, of however many parts it is
 written-parts : (g : Growth) (v w : PlacedText) (parts : List (List ℕ)) → FoldsTo (Writes g) v parts w → utf8 w.text ≡ utf8 v.text ++ concat parts
@@ -108,7 +116,7 @@ trimmed-text t s r (m, n, cut, before, behind, starts, ends) e u =
       white_tail = tail.1;
     }
 
-pub ruleset part_facts = (cut-text, trimmed-text, written-bytes, append-nil)
+pub ruleset part_facts = (cut-text, cut-at, trimmed-text, written-bytes, append-nil)
 
 pub ruleset many_parts = (
   written-text,
