@@ -4,7 +4,7 @@
 ghost use Rattle.std.specs.Prelude.{◌≡◌, ◌≢◌, ◌↔◌, ◌++◌, ◌∷◌, IfSome, OnOk, IsTrue, Some, true, false, codes, decimal, slice_get};
 ghost use Rattle.std.specs.Str.{trim};
 ghost use Rattle.compact_str.specs.Text.{text_of, utf8};
-ghost use Rattle.compact_str.specs.Ranges.{IsTrimOf};
+ghost use Rattle.compact_str.specs.Ranges.{IsBetweenWhitespace};
 
 use compact_str::CompactString;
 use std::fmt;
@@ -133,7 +133,7 @@ pub fn unmarked(name: &CompactString) -> Option<&str>
 
 /// A line without the white space at its ends.
 pub fn trimmed(line: &CompactString) -> &str
-    ensures text { IsTrimOf line.now.text (text_of result.now) }
+    ensures text { IsBetweenWhitespace line.now.text (text_of result.now) }
     ensures bytes { result.now ≡ trim (utf8 line.now.text) }
 {
     line.trim()

@@ -22,7 +22,7 @@ use Rattle.compact_repr.specs.Text.{text_of, utf8}
 use Rattle.compact_repr.specs.Value.{PlacedText}
 use Rattle.compact_repr.specs.Capacity.{Growth}
 use Rattle.compact_str.specs.PositionEdits.{Writes}
-use Rattle.compact_str.specs.Ranges.{IsTrimOf}
+use Rattle.compact_str.specs.Ranges.{IsBetweenWhitespace}
 use Rattle.compact_str.proofs.ForCallers.{written-text, text_of-one, text_of-two, text_of-three, text_of-four, text_of-decimal, text_of-decimal_append}
 
 -- the text before a character that was found, the character, and the text behind it
@@ -97,7 +97,7 @@ white-text bytes (cs, spelled, none) =
     let parts = white-parts cs none in
     ((cs, (parts.0, spelled)), subst (λ (t : List ℕ). AllPass is_whitespace t) (sym (chars-encodes cs parts.0) ∙ ap text_of spelled) parts.1)
 
-pub trimmed-text : (t s r : List ℕ) → IsTrim s r → text_of s ≡ t → IsUtf8 r → IsTrimOf t (text_of r)
+pub trimmed-text : (t s r : List ℕ) → IsTrim s r → text_of s ≡ t → IsUtf8 r → IsBetweenWhitespace t (text_of r)
 trimmed-text t s r (m, n, cut, before, behind, starts, ends) e u =
     let head = white-text (take m s) before in
     let tail = white-text (drop n (drop m s)) behind in

@@ -22,7 +22,7 @@ pub record IsRange (t : List ℕ) (start end : Bound ℕ) : Type 0 where
   pub last : IsBoundary t (range_end t end)
 
 -- t is white space, then r, and then white space
-pub record IsTrimOf (t r : List ℕ) : Type 0 where
+pub record IsBetweenWhitespace (t r : List ℕ) : Type 0 where
   pub head : List ℕ
   pub tail : List ℕ
   pub whole : t ≡ head ++ r ++ tail
