@@ -1,15 +1,18 @@
 #!/usr/bin/env bash
-# Makes the seed of the random edits of inline texts anew, and what they give with Rust's String.
+# Makes the random edits of inline texts with Rust's String, and writes down what they give.
 #
-#   replay/inline.sh [SEED]
+#   replay/inline.sh
 #
-# It writes the seed (1) to crates/compact_inline_run/stdin, and to stdout beside it what replay/inline.rs prints. `rt ci`
-# runs the program on the first and compares with the second. `rustc` is needed. What is built lies in replay/out.
+# What replay/inline.rs prints goes to crates/compact_edit_tests/src/inline_edits/ends.rt, which the tests of that crate compare
+# with. `rustc` is needed. What is built lies in replay/out.
 set -eu
 
 replay=$(cd "$(dirname "$0")" && pwd)
-program=$replay/../crates/compact_inline_run
+ends=$replay/../crates/compact_edit_tests/src/inline_edits/ends.rt
 mkdir -p "$replay/out"
 rustc -O --edition 2024 -o "$replay/out/inline" "$replay/inline.rs"
-echo "${1:-1}" >"$program/stdin"
-"$replay/out/inline" <"$program/stdin" >"$program/stdout"
+{
+    sed '/^pub const/q' "$ends"
+    "$replay/out/inline" | sed 's/$/\\n\\/; $s/\\$/";/'
+} >"$replay/out/ends.rt"
+cp "$replay/out/ends.rt" "$ends"

@@ -2,7 +2,7 @@
 
 use compact_callers::field_callers::{read_name, read_person, write_person};
 use compact_testing::seen::is_inline;
-use compact_testing::values::value_of;
+use compact_testing::values::short;
 
 /// A person that has each kind of field.
 const WRITTEN: &str =
@@ -19,16 +19,18 @@ fn a_person_is_read(rt: HostRuntime) {
 
 #[test]
 fn a_person_that_is_written_is_read_back(rt: HostRuntime) {
-    let person = read_person(rt.alloc(), WRITTEN).expect(&rt, "a person");
-    let written = write_person(rt.alloc(), &person).expect(&rt, "memory");
+    let alloc = rt.alloc();
+    let person = read_person(alloc, WRITTEN).expect(&rt, "a person");
+    let written = write_person(alloc, &person).expect(&rt, "memory");
     assert_eq!(rt; written.as_str(), WRITTEN);
-    let again = read_person(rt.alloc(), written.as_str()).expect(&rt, "a person");
+    let again = read_person(alloc, written.as_str()).expect(&rt, "a person");
     assert!(rt; again == person);
 }
 
 #[test]
 fn a_name_is_a_text(rt: HostRuntime) {
-    let name = read_name(rt.alloc(), r#""a\tb""#).expect(&rt, "a text");
-    assert!(rt; name == value_of(rt.alloc(), "a\tb").expect(&rt, "memory"));
-    assert!(rt; read_name(rt.alloc(), "12").is_err());
+    let alloc = rt.alloc();
+    let name = read_name(alloc, r#""a\tb""#).expect(&rt, "a text");
+    assert!(rt; name == short(alloc, "a\tb"));
+    assert!(rt; read_name(alloc, "12").is_err());
 }

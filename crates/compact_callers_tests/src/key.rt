@@ -1,7 +1,7 @@
 //! Tests of the callers in `key.rt`.
 
 use compact_callers::key_callers::{count_of, place_of, set_count};
-use compact_testing::values::{lasting, letters, value_of};
+use compact_testing::values::{lasting, letters, short, value_of};
 use std::collections::HashMap;
 use std::test::Fail;
 
@@ -9,24 +9,18 @@ use std::test::Fail;
 fn a_word_is_found_in_a_sorted_row(rt: HostRuntime) {
     let alloc = rt.alloc();
     let mut words = [
-        value_of(alloc, "b").expect(&rt, "memory"),
+        short(alloc, "b"),
         lasting(alloc, 30),
-        value_of(alloc, "\u{10000}").expect(&rt, "memory"),
-        value_of(alloc, "\u{fffd}").expect(&rt, "memory"),
+        short(alloc, "\u{10000}"),
+        short(alloc, "\u{fffd}"),
     ];
     words.sort_unstable();
     assert_eq!(rt;
         place_of(&words, &value_of(alloc, letters(30)).expect(&rt, "memory")),
         Ok(0)
     );
-    assert_eq!(rt;
-        place_of(&words, &value_of(alloc, "\u{fffd}").expect(&rt, "memory")),
-        Ok(2)
-    );
-    assert_eq!(rt;
-        place_of(&words, &value_of(alloc, "c").expect(&rt, "memory")),
-        Err(2)
-    );
+    assert_eq!(rt; place_of(&words, &short(alloc, "\u{fffd}")), Ok(2));
+    assert_eq!(rt; place_of(&words, &short(alloc, "c")), Err(2));
 }
 
 #[test]

@@ -4,7 +4,7 @@ use compact_callers::key_callers::{set_count, set_rank};
 use compact_callers::lookup_callers::{
     count_by_text, forget, held_by_text, is_in_both, place_by_text, rank_by_text, total,
 };
-use compact_testing::values::value_of;
+use compact_testing::values::short;
 use indexmap::IndexMap;
 use std::collections::{BTreeMap, BTreeSet, HashMap, HashSet};
 
@@ -12,14 +12,7 @@ use std::collections::{BTreeMap, BTreeSet, HashMap, HashSet};
 fn a_count_is_found_by_its_text(rt: HostRuntime) {
     let alloc = rt.alloc();
     let mut counts = HashMap::new(alloc);
-    assert!(rt;
-        set_count(
-            &mut counts,
-            value_of(alloc, "total").expect(&rt, "memory"),
-            3
-        )
-        .is_ok()
-    );
+    assert!(rt; set_count(&mut counts, short(alloc, "total"), 3).is_ok());
     assert_eq!(rt; count_by_text(&counts, "total"), 3);
     assert_eq!(rt; total(&counts), 3);
     assert_eq!(rt; count_by_text(&counts, "tota"), 0);
@@ -31,8 +24,8 @@ fn a_count_is_found_by_its_text(rt: HostRuntime) {
 fn a_rank_is_found_by_its_text(rt: HostRuntime) {
     let alloc = rt.alloc();
     let mut ranks = BTreeMap::new(alloc);
-    assert!(rt; set_rank(&mut ranks, value_of(alloc, "b").expect(&rt, "memory"), 2).is_ok());
-    assert!(rt; set_rank(&mut ranks, value_of(alloc, "é").expect(&rt, "memory"), 3).is_ok());
+    assert!(rt; set_rank(&mut ranks, short(alloc, "b"), 2).is_ok());
+    assert!(rt; set_rank(&mut ranks, short(alloc, "é"), 3).is_ok());
     assert_eq!(rt; rank_by_text(&ranks, "é"), 3);
     assert_eq!(rt; rank_by_text(&ranks, "a"), 0);
 }
@@ -42,16 +35,8 @@ fn a_word_is_found_in_sets(rt: HostRuntime) {
     let alloc = rt.alloc();
     let mut words = HashSet::new(alloc);
     let mut sorted_words = BTreeSet::new(alloc);
-    assert!(rt;
-        words
-            .insert(value_of(alloc, "a").expect(&rt, "memory"))
-            .is_ok()
-    );
-    assert!(rt;
-        sorted_words
-            .insert(value_of(alloc, "a").expect(&rt, "memory"))
-            .is_ok()
-    );
+    assert!(rt; words.insert(short(alloc, "a")).is_ok());
+    assert!(rt; sorted_words.insert(short(alloc, "a")).is_ok());
     assert!(rt; is_in_both(&words, &sorted_words, "a"));
     assert!(rt; !is_in_both(&words, &sorted_words, "b"));
 }
@@ -60,14 +45,8 @@ fn a_word_is_found_in_sets(rt: HostRuntime) {
 fn a_place_is_found_by_its_text(rt: HostRuntime) {
     let alloc = rt.alloc();
     let mut row = IndexMap::new(alloc);
-    assert!(rt;
-        row.insert(value_of(alloc, "b").expect(&rt, "memory"), 1)
-            .is_ok()
-    );
-    assert!(rt;
-        row.insert(value_of(alloc, "a").expect(&rt, "memory"), 2)
-            .is_ok()
-    );
+    assert!(rt; row.insert(short(alloc, "b"), 1).is_ok());
+    assert!(rt; row.insert(short(alloc, "a"), 2).is_ok());
     assert_eq!(rt; place_by_text(&row, "a"), Some(1));
     assert_eq!(rt; held_by_text(&row, "a"), 2);
     assert_eq!(rt; place_by_text(&row, "c"), None);

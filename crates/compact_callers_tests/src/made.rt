@@ -2,7 +2,7 @@
 
 use compact_callers::made_callers::{append_note, lent_bytes, row_of, take_line, text_in, unboxed};
 use compact_testing::seen::{is_heap, is_inline};
-use compact_testing::values::{letters, value_of};
+use compact_testing::values::{letters, short, value_of};
 use std::boxed::BoxedStr;
 use std::collections::HashMap;
 
@@ -16,12 +16,9 @@ fn a_line_is_taken(rt: HostRuntime) {
 
 #[test]
 fn a_row_has_its_names(rt: HostRuntime) {
-    let first = value_of(rt.alloc(), "a").expect(&rt, "memory");
-    let Ok(row) = row_of(
-        rt.alloc(),
-        first,
-        value_of(rt.alloc(), "é").expect(&rt, "memory"),
-    ) else {
+    let alloc = rt.alloc();
+    let first = short(alloc, "a");
+    let Ok(row) = row_of(alloc, first, short(alloc, "é")) else {
         panic!(rt; "two of four names need no memory");
     };
     assert!(rt; is_inline(&row[0], "a"));
@@ -38,11 +35,12 @@ fn a_note_begins_empty(rt: HostRuntime) {
 
 #[test]
 fn buffers_are_taken_over(rt: HostRuntime) {
-    let bytes = Vec::from_slice(rt.alloc(), "é".as_bytes()).expect(&rt, "memory");
+    let alloc = rt.alloc();
+    let bytes = Vec::from_slice(alloc, "é".as_bytes()).expect(&rt, "memory");
     assert!(rt; is_inline(&text_in(bytes).expect(&rt, "a text"), "é"));
-    let bytes = Vec::from_slice(rt.alloc(), &[0xc3]).expect(&rt, "memory");
+    let bytes = Vec::from_slice(alloc, &[0xc3]).expect(&rt, "memory");
     assert!(rt; text_in(bytes).is_err());
-    let boxed = BoxedStr::from_str(rt.alloc(), letters(30)).expect(&rt, "memory");
+    let boxed = BoxedStr::from_str(alloc, letters(30)).expect(&rt, "memory");
     let value = unboxed(boxed);
     assert_eq!(rt; value.as_str(), letters(30));
     assert_eq!(rt; lent_bytes(&value), 30);

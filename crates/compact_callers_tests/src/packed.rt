@@ -2,22 +2,24 @@
 
 use compact_callers::packed_callers::{cleaned, have_same_row, through_a_row};
 use compact_testing::seen::is_inline;
-use compact_testing::values::{lasting, value_of};
+use compact_testing::values::{lasting, short};
 
 #[test]
 fn a_key_goes_through_a_row(rt: HostRuntime) {
-    let key = value_of(rt.alloc(), "größe").expect(&rt, "memory");
-    let copy = through_a_row(rt.alloc(), &key).expect(&rt, "an inline key");
+    let alloc = rt.alloc();
+    let key = short(alloc, "größe");
+    let copy = through_a_row(alloc, &key).expect(&rt, "an inline key");
     assert!(rt; is_inline(&copy, "größe"));
-    assert!(rt; through_a_row(rt.alloc(), &lasting(rt.alloc(), 30)).is_none());
+    assert!(rt; through_a_row(alloc, &lasting(alloc, 30)).is_none());
 }
 
 #[test]
 fn equal_rows_are_equal_keys(rt: HostRuntime) {
-    let key = value_of(rt.alloc(), "key").expect(&rt, "memory");
-    assert!(rt; have_same_row(&key, &value_of(rt.alloc(), "key").expect(&rt, "memory")));
-    assert!(rt; !have_same_row(&key, &value_of(rt.alloc(), "keys").expect(&rt, "memory")));
-    assert!(rt; !have_same_row(&key, &lasting(rt.alloc(), 30)));
+    let alloc = rt.alloc();
+    let key = short(alloc, "key");
+    assert!(rt; have_same_row(&key, &short(alloc, "key")));
+    assert!(rt; !have_same_row(&key, &short(alloc, "keys")));
+    assert!(rt; !have_same_row(&key, &lasting(alloc, 30)));
 }
 
 #[test]

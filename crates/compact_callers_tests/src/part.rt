@@ -5,20 +5,22 @@ use compact_callers::part_callers::{
     is_abc, is_encoding_header, is_not_naive, key_and_value, number_and_name, sides_of_arrow,
     sides_of_dash, trimmed, unmarked,
 };
-use compact_testing::values::value_of;
+use compact_testing::values::{short, value_of};
 
 #[test]
 fn an_address_is_appended(rt: HostRuntime) {
-    let mut line = value_of(rt.alloc(), "> ").expect(&rt, "memory");
-    let host = value_of(rt.alloc(), "zoë.example").expect(&rt, "memory");
+    let alloc = rt.alloc();
+    let mut line = short(alloc, "> ");
+    let host = short(alloc, "zoë.example");
     append_address(&mut line, "http", &host, 8080, "a").expect(&rt, "memory");
     assert_eq!(rt; line.as_str(), "> http://zoë.example:8080/a");
 }
 
 #[test]
 fn a_whole_address_is_appended(rt: HostRuntime) {
-    let mut line = value_of(rt.alloc(), "> ").expect(&rt, "memory");
-    let host = value_of(rt.alloc(), "zoë.example").expect(&rt, "memory");
+    let alloc = rt.alloc();
+    let mut line = short(alloc, "> ");
+    let host = short(alloc, "zoë.example");
     append_whole_address(&mut line, "http", "ä", "p", &host, 80, "a", "b=1", "c").expect(
         &rt, "memory",
     );
@@ -27,58 +29,46 @@ fn a_whole_address_is_appended(rt: HostRuntime) {
 
 #[test]
 fn a_request_is_appended(rt: HostRuntime) {
-    let mut line = value_of(rt.alloc(), "").expect(&rt, "memory");
-    let host = value_of(rt.alloc(), "h").expect(&rt, "memory");
+    let alloc = rt.alloc();
+    let mut line = short(alloc, "");
+    let host = short(alloc, "h");
     append_request(&mut line, "GET", &host, 1, "ä").expect(&rt, "memory");
     assert_eq!(rt; line.as_str(), "GET h:1/ä");
 }
 
 #[test]
 fn a_word_is_known(rt: HostRuntime) {
-    assert!(rt; is_abc(&value_of(rt.alloc(), "abc").expect(&rt, "memory")));
-    assert!(rt; !is_abc(&value_of(rt.alloc(), "abcd").expect(&rt, "memory")));
-    assert!(rt; !is_not_naive(&value_of(rt.alloc(), "naïve").expect(&rt, "memory")));
-    assert!(rt; is_not_naive(&value_of(rt.alloc(), "naive").expect(&rt, "memory")));
-    let name = value_of(rt.alloc(), "content-transfer-encoding").expect(&rt, "memory");
+    let alloc = rt.alloc();
+    assert!(rt; is_abc(&short(alloc, "abc")));
+    assert!(rt; !is_abc(&short(alloc, "abcd")));
+    assert!(rt; !is_not_naive(&short(alloc, "naïve")));
+    assert!(rt; is_not_naive(&short(alloc, "naive")));
+    let name = value_of(alloc, "content-transfer-encoding").expect(&rt, "memory");
     assert!(rt; is_encoding_header(&name));
-    assert!(rt;
-        !is_encoding_header(&value_of(rt.alloc(), "content-transfer").expect(&rt, "memory"))
-    );
+    assert!(rt; !is_encoding_header(&short(alloc, "content-transfer")));
 }
 
 #[test]
 fn an_answer_is_read(rt: HostRuntime) {
-    assert_eq!(rt;
-        answer_in(&value_of(rt.alloc(), "yes").expect(&rt, "memory")),
-        Some(true)
-    );
-    assert_eq!(rt;
-        answer_in(&value_of(rt.alloc(), "no").expect(&rt, "memory")),
-        Some(false)
-    );
-    assert_eq!(rt;
-        answer_in(&value_of(rt.alloc(), "yes!").expect(&rt, "memory")),
-        None
-    );
+    let alloc = rt.alloc();
+    assert_eq!(rt; answer_in(&short(alloc, "yes")), Some(true));
+    assert_eq!(rt; answer_in(&short(alloc, "no")), Some(false));
+    assert_eq!(rt; answer_in(&short(alloc, "yes!")), None);
 }
 
 #[test]
 fn a_line_begins_with_a_character(rt: HostRuntime) {
-    assert_eq!(rt;
-        first_of(&value_of(rt.alloc(), "éa").expect(&rt, "memory")),
-        Some('é')
-    );
-    assert_eq!(rt;
-        first_of(&value_of(rt.alloc(), "").expect(&rt, "memory")),
-        None
-    );
+    let alloc = rt.alloc();
+    assert_eq!(rt; first_of(&short(alloc, "éa")), Some('é'));
+    assert_eq!(rt; first_of(&short(alloc, "")), None);
 }
 
 #[test]
 fn a_text_is_cut_at_a_sign(rt: HostRuntime) {
-    let field = value_of(rt.alloc(), "clé=a=b").expect(&rt, "memory");
+    let alloc = rt.alloc();
+    let field = short(alloc, "clé=a=b");
     assert_eq!(rt; key_and_value(&field), Some(("clé", "a=b")));
-    let title = value_of(rt.alloc(), "1§é").expect(&rt, "memory");
+    let title = short(alloc, "1§é");
     assert_eq!(rt; number_and_name(&title), Some(("1", "é")));
     assert_eq!(rt; number_and_name(&field), None);
 }
@@ -92,15 +82,10 @@ fn any_text_is_cut_at_a_sign_past_ascii(rt: HostRuntime) {
 
 #[test]
 fn what_stands_at_the_ends_is_left_out(rt: HostRuntime) {
-    let name = value_of(rt.alloc(), "x-é").expect(&rt, "memory");
+    let alloc = rt.alloc();
+    let name = short(alloc, "x-é");
     assert_eq!(rt; unmarked(&name), Some("é"));
-    assert_eq!(rt;
-        trimmed(&value_of(rt.alloc(), " a b\n").expect(&rt, "memory")),
-        "a b"
-    );
+    assert_eq!(rt; trimmed(&short(alloc, " a b\n")), "a b");
     assert_eq!(rt; first_two_bytes(&name), "x-");
-    assert_eq!(rt;
-        first_two_bytes(&value_of(rt.alloc(), "aé").expect(&rt, "memory")),
-        ""
-    );
+    assert_eq!(rt; first_two_bytes(&short(alloc, "aé")), "");
 }

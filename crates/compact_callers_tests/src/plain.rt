@@ -5,25 +5,25 @@ use compact_callers::plain_callers::{
     with_suffix,
 };
 use compact_testing::seen::{is_heap, is_inline};
-use compact_testing::values::{letters, value_of, with_room};
+use compact_testing::values::{letters, short, with_room};
 
 #[test]
 fn a_report_is_written_past_ascii(rt: HostRuntime) {
-    let mut line = value_of(rt.alloc(), "§ ").expect(&rt, "memory");
+    let mut line = short(rt.alloc(), "§ ");
     append_report(&mut line, "größe", "7 µm").expect(&rt, "memory");
     assert!(rt; is_inline(&line, "§ größe → 7 µm"));
 }
 
 #[test]
 fn a_count_is_written_as_its_digits(rt: HostRuntime) {
-    let mut line = value_of(rt.alloc(), "").expect(&rt, "memory");
+    let mut line = short(rt.alloc(), "");
     append_count(&mut line, "ü", 1024).expect(&rt, "memory");
     assert!(rt; is_inline(&line, "ü: 1024"));
 }
 
 #[test]
 fn a_record_is_appended_in_one_piece(rt: HostRuntime) {
-    let mut line = value_of(rt.alloc(), "a;").expect(&rt, "memory");
+    let mut line = short(rt.alloc(), "a;");
     append_record(&mut line, "b", "c").expect(&rt, "memory");
     assert!(rt; is_inline(&line, "a;b,c"));
 }
@@ -37,7 +37,7 @@ fn a_pair_is_appended(rt: HostRuntime) {
 
 #[test]
 fn a_cursor_goes_on_by_what_is_typed(rt: HostRuntime) {
-    let mut line = value_of(rt.alloc(), "ab").expect(&rt, "memory");
+    let mut line = short(rt.alloc(), "ab");
     assert!(rt; line.is_char_boundary(1));
     let cursor = type_two(&mut line, 1, 'é', 'x').expect(&rt, "memory");
     assert_eq!(rt; cursor, 4);
@@ -46,7 +46,7 @@ fn a_cursor_goes_on_by_what_is_typed(rt: HostRuntime) {
 
 #[test]
 fn a_split_line_is_joined(rt: HostRuntime) {
-    let mut line = value_of(rt.alloc(), "äb").expect(&rt, "memory");
+    let mut line = short(rt.alloc(), "äb");
     assert!(rt; line.is_char_boundary(2));
     split_and_join(&mut line, 2).expect(&rt, "memory");
     assert!(rt; is_inline(&line, "äb"));
@@ -54,7 +54,7 @@ fn a_split_line_is_joined(rt: HostRuntime) {
 
 #[test]
 fn a_name_has_a_suffix(rt: HostRuntime) {
-    let name = value_of(rt.alloc(), "name").expect(&rt, "memory");
+    let name = short(rt.alloc(), "name");
     let both = with_suffix(&name, "_1").expect(&rt, "memory");
     assert!(rt; is_inline(&name, "name"));
     assert!(rt; is_inline(&both, "name_1"));
@@ -62,7 +62,7 @@ fn a_name_has_a_suffix(rt: HostRuntime) {
 
 #[test]
 fn a_field_is_split_at_its_first_sign(rt: HostRuntime) {
-    let mut field = value_of(rt.alloc(), "clé=a=b").expect(&rt, "memory");
+    let mut field = short(rt.alloc(), "clé=a=b");
     let value = split_field(&mut field).expect(&rt, "memory");
     assert!(rt; is_inline(&field, "clé"));
     assert!(rt; is_inline(&value.expect(&rt, "a value"), "a=b"));
@@ -70,7 +70,7 @@ fn a_field_is_split_at_its_first_sign(rt: HostRuntime) {
 
 #[test]
 fn a_field_with_no_sign_stays(rt: HostRuntime) {
-    let mut field = value_of(rt.alloc(), "clé").expect(&rt, "memory");
+    let mut field = short(rt.alloc(), "clé");
     let value = split_field(&mut field).expect(&rt, "memory");
     assert!(rt; value.is_none());
     assert!(rt; is_inline(&field, "clé"));

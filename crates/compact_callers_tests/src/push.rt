@@ -6,10 +6,11 @@ use compact_testing::values::letters;
 
 #[test]
 fn parts_are_joined(rt: HostRuntime) {
-    let line = joined(rt.alloc(), &[letters(24), "", "a"]).expect(&rt, "memory");
+    let alloc = rt.alloc();
+    let line = joined(alloc, &[letters(24), "", "a"]).expect(&rt, "memory");
     assert!(rt; is_heap(&line.0, 36, letters(25)));
     assert_eq!(rt; line.1, 24);
-    let doubled = joined_in_doubled_room(rt.alloc(), &[letters(24), "a"]);
+    let doubled = joined_in_doubled_room(alloc, &[letters(24), "a"]);
     assert!(rt; is_heap(&doubled.value, 48, letters(25)));
     assert_eq!(rt; doubled.moved, 24);
     assert_eq!(rt; doubled.refused, 0);

@@ -4,30 +4,32 @@ use compact_callers::removal_callers::{
     every_second, every_second_told, folded, note_spaces, without_spaces,
 };
 use compact_testing::seen::{is_heap, is_inline};
-use compact_testing::values::{letters, value_of};
+use compact_testing::values::{letters, short, value_of};
 
 #[test]
 fn every_second_character_is_kept(rt: HostRuntime) {
-    let mut value = value_of(rt.alloc(), "aäb𝄞c").expect(&rt, "memory");
+    let alloc = rt.alloc();
+    let mut value = short(alloc, "aäb𝄞c");
     assert!(rt; every_second(&mut value).is_ok());
     assert!(rt; is_inline(&value, "abc"));
-    let mut long = value_of(rt.alloc(), letters(60)).expect(&rt, "memory");
+    let mut long = value_of(alloc, letters(60)).expect(&rt, "memory");
     assert!(rt; every_second(&mut long).is_ok());
     assert!(rt; is_heap(&long, 60, letters(30)));
-    let mut spaced = value_of(rt.alloc(), " a a ").expect(&rt, "memory");
+    let mut spaced = short(alloc, " a a ");
     assert!(rt; without_spaces(&mut spaced).is_ok());
     assert!(rt; is_inline(&spaced, "aa"));
 }
 
 #[test]
 fn a_lent_test_tells_its_state(rt: HostRuntime) {
-    let mut value = value_of(rt.alloc(), "aäb𝄞c").expect(&rt, "memory");
+    let alloc = rt.alloc();
+    let mut value = short(alloc, "aäb𝄞c");
     assert!(rt; matches!(every_second_told(&mut value), Ok(true)));
     assert!(rt; is_inline(&value, "abc"));
     let mut seen = false;
     assert!(rt; note_spaces(&mut value, &mut seen).is_ok());
     assert!(rt; !seen);
-    let mut spaced = value_of(rt.alloc(), "a b").expect(&rt, "memory");
+    let mut spaced = short(alloc, "a b");
     assert!(rt; note_spaces(&mut spaced, &mut seen).is_ok());
     assert!(rt; seen);
     assert!(rt; is_inline(&spaced, "ab"));
@@ -35,7 +37,7 @@ fn a_lent_test_tells_its_state(rt: HostRuntime) {
 
 #[test]
 fn only_ascii_letters_are_folded(rt: HostRuntime) {
-    let great = value_of(rt.alloc(), "GRüßE, JüRGEN ❤").expect(&rt, "memory");
+    let great = short(rt.alloc(), "GRüßE, JüRGEN ❤");
     let small = folded(&great).expect(&rt, "memory");
     assert!(rt; is_inline(&small, "grüße, jürgen ❤"));
 }

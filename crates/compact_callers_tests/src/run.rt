@@ -3,19 +3,21 @@
 use compact_callers::run_callers::{Doubling, bracket, refill, rewrite};
 use compact_str::PolicyString;
 use compact_testing::seen::{is_heap, is_inline};
-use compact_testing::values::{letters, value_of};
+use compact_testing::values::{letters, short};
 
 #[test]
 fn a_text_is_put_in_brackets(rt: HostRuntime) {
-    let mut value = value_of(rt.alloc(), "ab").expect(&rt, "memory");
-    assert!(rt; bracket(rt.alloc(), &mut value).expect(&rt, "memory"));
+    let alloc = rt.alloc();
+    let mut value = short(alloc, "ab");
+    assert!(rt; bracket(alloc, &mut value).expect(&rt, "memory"));
     assert!(rt; is_inline(&value, "[ab]"));
 }
 
 #[test]
 fn replies_come_after_those_of_an_earlier_run(rt: HostRuntime) {
-    let mut value = value_of(rt.alloc(), "ab").expect(&rt, "memory");
-    let mut replies = Vec::new(rt.alloc());
+    let alloc = rt.alloc();
+    let mut value = short(alloc, "ab");
+    let mut replies = Vec::new(alloc);
     rewrite(&mut value, "c", &mut replies).expect(&rt, "memory");
     rewrite(&mut value, letters(24), &mut replies).expect(&rt, "memory");
     assert_eq!(rt; replies.len(), 4);
@@ -24,10 +26,11 @@ fn replies_come_after_those_of_an_earlier_run(rt: HostRuntime) {
 
 #[test]
 fn a_buffer_of_ones_own_policy_is_refilled(rt: HostRuntime) {
-    let made = PolicyString::<Doubling>::new(rt.alloc(), letters(25));
+    let alloc = rt.alloc();
+    let made = PolicyString::<Doubling>::new(alloc, letters(25));
     let mut value = made.expect(&rt, "memory");
     assert!(rt; is_heap(&value, 64, letters(25)));
-    assert!(rt; refill(rt.alloc(), &mut value, letters(70)).expect(&rt, "memory"));
+    assert!(rt; refill(alloc, &mut value, letters(70)).expect(&rt, "memory"));
     assert!(rt; is_heap(&value, 70, letters(70)));
     value.push('a').expect(&rt, "memory");
     assert!(rt; is_heap(&value, 140, letters(71)));

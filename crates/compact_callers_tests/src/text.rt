@@ -6,9 +6,10 @@ use compact_testing::values::{letters, with_room};
 
 #[test]
 fn keywords_and_labels_are_short(rt: HostRuntime) {
-    let word = keyword(rt.alloc(), "while").expect(&rt, "memory");
+    let alloc = rt.alloc();
+    let word = keyword(alloc, "while").expect(&rt, "memory");
     assert!(rt; is_inline(&word, "while"));
-    let line = label(rt.alloc(), "name", "value").expect(&rt, "memory");
+    let line = label(alloc, "name", "value").expect(&rt, "memory");
     assert!(rt; is_inline(&line, "name: value"));
 }
 

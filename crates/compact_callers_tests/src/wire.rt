@@ -6,7 +6,7 @@ use compact_callers::wire_callers::{
 };
 use compact_ext::wire::{Records, WireError};
 use compact_testing::seen::is_inline;
-use compact_testing::values::{letters, place_of, value_of};
+use compact_testing::values::{letters, place_of, short, value_of};
 
 /// The forms of `a`, of no text and of `Hi`.
 const RECORDS: [u8; 15] = [1, 0, 0, 0, 0x61, 0, 0, 0, 0, 2, 0, 0, 0, 0x48, 0x69];
@@ -82,7 +82,7 @@ fn no_bytes_have_no_first_record(rt: HostRuntime) {
 fn a_field_is_sent_and_received(rt: HostRuntime) {
     let alloc = rt.alloc();
     let mut bytes = Vec::new(alloc);
-    let name = value_of(alloc, "name").expect(&rt, "memory");
+    let name = short(alloc, "name");
     let sent = send_field(
         &name,
         &value_of(alloc, letters(30)).expect(&rt, "memory"),

@@ -44,8 +44,9 @@ fn assert_refused(rt: &impl Abort, names: &mut Interner, text: &str, count: usiz
 
 #[test]
 fn a_text_has_the_place_of_its_first_occurrence(rt: HostRuntime) {
-    let mut names = Interner::new(rt.alloc());
-    let numbers = numbers_of(&rt, rt.alloc(), &mut names, &["a", "b", "a", ""]);
+    let alloc = rt.alloc();
+    let mut names = Interner::new(alloc);
+    let numbers = numbers_of(&rt, alloc, &mut names, &["a", "b", "a", ""]);
     assert_eq!(rt; numbers.as_slice(), [0, 1, 0, 2].as_slice());
     assert_count(&rt, &names, 3);
     assert_name(&rt, &names, 1, Some("b"));
@@ -57,12 +58,13 @@ fn a_text_has_the_place_of_its_first_occurrence(rt: HostRuntime) {
 
 #[test]
 fn a_short_name_needs_no_memory_and_a_long_text_does(rt: HostRuntime) {
-    let mut names = Interner::new(rt.alloc());
+    let alloc = rt.alloc();
+    let mut names = Interner::new(alloc);
     number_of(&rt, &mut names, "a");
     number_of(&rt, &mut names, "b");
     number_of(&rt, &mut names, "");
     number_of(&rt, &mut names, letters(25));
-    let hog = take_all(rt.alloc()).expect(&rt, "room for the list of blocks");
+    let hog = take_all(alloc).expect(&rt, "room for the list of blocks");
     assert_eq!(rt; number_of(&rt, &mut names, "a"), 0);
     assert_refused(&rt, &mut names, letters(30), 4);
     assert_eq!(rt; number_of(&rt, &mut names, letters(25)), 3);
@@ -73,8 +75,9 @@ fn a_short_name_needs_no_memory_and_a_long_text_does(rt: HostRuntime) {
 
 #[test]
 fn the_table_of_the_names_is_refused(rt: HostRuntime) {
-    let mut names = Interner::new(rt.alloc());
-    let hog = take_all(rt.alloc()).expect(&rt, "room for the list of blocks");
+    let alloc = rt.alloc();
+    let mut names = Interner::new(alloc);
+    let hog = take_all(alloc).expect(&rt, "room for the list of blocks");
     assert_refused(&rt, &mut names, "a", 0);
     drop(hog);
     assert_eq!(rt; number_of(&rt, &mut names, "a"), 0);
@@ -82,9 +85,10 @@ fn the_table_of_the_names_is_refused(rt: HostRuntime) {
 
 #[test]
 fn the_table_is_refused_behind_the_copy_of_a_text(rt: HostRuntime) {
-    let mut names = Interner::new(rt.alloc());
-    let room = Vec::<u8>::with_capacity(rt.alloc(), 32).expect(&rt, "a spare block");
-    let hog = take_all(rt.alloc()).expect(&rt, "room for the list of blocks");
+    let alloc = rt.alloc();
+    let mut names = Interner::new(alloc);
+    let room = Vec::<u8>::with_capacity(alloc, 32).expect(&rt, "a spare block");
+    let hog = take_all(alloc).expect(&rt, "room for the list of blocks");
     drop(room);
     assert_refused(&rt, &mut names, letters(30), 0);
     drop(hog);
@@ -93,10 +97,11 @@ fn the_table_is_refused_behind_the_copy_of_a_text(rt: HostRuntime) {
 
 #[test]
 fn with_no_room_for_the_numbers_nothing_is_taken(rt: HostRuntime) {
-    let mut names = Interner::new(rt.alloc());
-    let mut numbers = Vec::new(rt.alloc());
+    let alloc = rt.alloc();
+    let mut names = Interner::new(alloc);
+    let mut numbers = Vec::new(alloc);
     number_of(&rt, &mut names, "a");
-    let hog = take_all(rt.alloc()).expect(&rt, "room for the list of blocks");
+    let hog = take_all(alloc).expect(&rt, "room for the list of blocks");
     is_refused(&rt, &mut names, &["a", "b"], &mut numbers);
     drop(hog);
     assert_eq!(rt; numbers.len(), 0);
@@ -105,12 +110,13 @@ fn with_no_room_for_the_numbers_nothing_is_taken(rt: HostRuntime) {
 
 #[test]
 fn the_texts_before_a_refused_one_are_taken(rt: HostRuntime) {
-    let mut names = Interner::new(rt.alloc());
-    let mut numbers = Vec::with_capacity(rt.alloc(), 8).expect(&rt, "memory");
+    let alloc = rt.alloc();
+    let mut names = Interner::new(alloc);
+    let mut numbers = Vec::with_capacity(alloc, 8).expect(&rt, "memory");
     number_of(&rt, &mut names, "a");
     number_of(&rt, &mut names, "b");
     let texts = ["b", "a", letters(30), "b"];
-    let hog = take_all(rt.alloc()).expect(&rt, "room for the list of blocks");
+    let hog = take_all(alloc).expect(&rt, "room for the list of blocks");
     is_refused(&rt, &mut names, &texts, &mut numbers);
     drop(hog);
     assert_eq!(rt; numbers.as_slice(), [1, 0].as_slice());
@@ -186,11 +192,12 @@ fn many_words_are_numbered_as_in_a_plain_list(rt: HostRuntime) {
 
 #[test]
 fn refusals_are_shown_so(rt: HostRuntime) {
-    let shown = format!(in rt.alloc(); "{}", InternError::Full);
+    let alloc = rt.alloc();
+    let shown = format!(in alloc; "{}", InternError::Full);
     assert_eq!(rt; shown.expect(&rt, "memory").as_str(), "interner is full");
     let refused = InternError::from(ReserveError);
     assert!(rt; matches!(refused, InternError::Reserve(_)));
-    let shown = format!(in rt.alloc(); "{refused}");
+    let shown = format!(in alloc; "{refused}");
     let text = "Cannot allocate memory to hold CompactString";
     assert_eq!(rt; shown.expect(&rt, "memory").as_str(), text);
 }

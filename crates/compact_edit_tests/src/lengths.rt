@@ -3,7 +3,7 @@
 use compact_edit::{Edit, Reply, run};
 use compact_str::Standard;
 use compact_testing::seen::is_inline;
-use compact_testing::values::value_of;
+use compact_testing::values::short;
 use std::alloc::Global;
 use std::ops::Bound::{Excluded, Included, Unbounded};
 use std::process::Abort;
@@ -21,7 +21,7 @@ fn name_of(reply: &Reply<Standard>) -> &'static str {
 
 /// Asserts that each edit of `a` is answered by this name, and that the value is as it was.
 fn assert_each(rt: &impl Abort, alloc: Global, edits: &[Edit<Standard>], name: &str) {
-    let mut value = value_of(alloc, "a").expect(rt, "memory");
+    let mut value = short(alloc, "a");
     let mut replies = Vec::new(alloc);
     run(&mut value, edits, &mut replies).expect(rt, "memory");
     assert_eq!(rt; replies.len(), edits.len());

@@ -2,6 +2,8 @@
 #![tactic(auto)]
 
 #[cfg(test)]
+mod inline_edits;
+#[cfg(test)]
 mod interner;
 #[cfg(test)]
 mod lengths;

@@ -81,9 +81,10 @@ fn assert_thousand<P: Policy>(rt: &impl Abort, alloc: Global, capacity: usize, m
 
 #[test]
 fn a_thousand_bytes_are_pushed_one_by_one(rt: HostRuntime) {
-    assert_thousand::<Standard>(&rt, rt.alloc(), 1369, 2696);
-    assert_thousand::<Slow>(&rt, rt.alloc(), 1010, 3970);
-    assert_thousand::<Large>(&rt, rt.alloc(), 4096, 24);
+    let alloc = rt.alloc();
+    assert_thousand::<Standard>(&rt, alloc, 1369, 2696);
+    assert_thousand::<Slow>(&rt, alloc, 1010, 3970);
+    assert_thousand::<Large>(&rt, alloc, 4096, 24);
 }
 
 #[test]
@@ -107,11 +108,7 @@ fn buffers_grow_by_a_quarter(rt: HostRuntime) {
 
 #[test]
 fn a_first_buffer_is_large(rt: HostRuntime) {
-    let alloc = rt.alloc();
-    assert_pushed::<Large>(&rt, alloc, &[letters(25)], 4096, 25, 0);
-    let mut value = PolicyString::<Large>::const_new(alloc, letters(30));
-    remove_first(&rt, &mut value);
-    assert!(rt; is_heap(&value, 4096, letters(29)));
+    assert_pushed::<Large>(&rt, rt.alloc(), &[letters(25)], 4096, 25, 0);
 }
 
 #[test]
@@ -124,47 +121,42 @@ fn a_shrink_keeps_the_least_capacity(rt: HostRuntime) {
     assert!(rt; is_heap(&value, 4096, letters(30)));
 }
 
-#[test]
-fn a_push_after_a_refused_one_is_done(rt: HostRuntime) {
-    let texts = [letters(24), letters(40), "a"];
-    let room = Vec::<u8>::with_capacity(rt.alloc(), 36).expect(&rt, "a spare block");
-    let hog = take_all(rt.alloc()).expect(&rt, "room for the list of blocks");
-    drop(room);
-    let report = run_pushes::<Standard>(rt.alloc(), &texts);
+/// Asserts that one of some texts is refused, where one block of so many bytes is all memory that is left, how many letters
+/// then stand in that block, and how many bytes were moved.
+fn assert_one_refused(
+    rt: &impl Abort,
+    alloc: Global,
+    texts: &[&str],
+    room: usize,
+    count: usize,
+    moved: u64,
+) {
+    let block = Vec::<u8>::with_capacity(alloc, room).expect(rt, "a spare block");
+    let hog = take_all(alloc).expect(rt, "room for the list of blocks");
+    drop(block);
+    let report = run_pushes::<Standard>(alloc, texts);
     drop(hog);
-    assert!(rt; is_heap(&report.value, 36, letters(25)));
-    assert_counts(&rt, &report, 24, 1);
+    assert!(rt; is_heap(&report.value, room, letters(count)));
+    assert_counts(rt, &report, moved, 1);
 }
 
 #[test]
-fn a_first_push_is_refused(rt: HostRuntime) {
-    let texts = [letters(70), letters(30)];
-    let room = Vec::<u8>::with_capacity(rt.alloc(), 32).expect(&rt, "a spare block");
-    let hog = take_all(rt.alloc()).expect(&rt, "room for the list of blocks");
-    drop(room);
-    let report = run_pushes::<Standard>(rt.alloc(), &texts);
-    drop(hog);
-    assert!(rt; is_heap(&report.value, 32, letters(30)));
-    assert_counts(&rt, &report, 0, 1);
-}
-
-#[test]
-fn one_of_two_pushes_is_refused(rt: HostRuntime) {
-    let texts = [letters(30), letters(30)];
-    let room = Vec::<u8>::with_capacity(rt.alloc(), 32).expect(&rt, "a spare block");
-    let hog = take_all(rt.alloc()).expect(&rt, "room for the list of blocks");
-    drop(room);
-    let report = run_pushes::<Standard>(rt.alloc(), &texts);
-    drop(hog);
-    assert!(rt; is_heap(&report.value, 32, letters(30)));
-    assert_counts(&rt, &report, 0, 1);
+fn pushes_around_a_refused_one_are_done(rt: HostRuntime) {
+    for (texts, room, count, moved) in [
+        ([letters(24), letters(40), "a"].as_slice(), 36, 25, 24),
+        ([letters(70), letters(30)].as_slice(), 32, 30, 0),
+        ([letters(30), letters(30)].as_slice(), 32, 30, 0),
+    ] {
+        assert_one_refused(&rt, rt.alloc(), texts, room, count, moved);
+    }
 }
 
 #[test]
 fn only_what_fits_inline_is_pushed_with_no_memory(rt: HostRuntime) {
+    let alloc = rt.alloc();
     let texts = [letters(20), letters(5), letters(4), "a", ""];
-    let hog = take_all(rt.alloc()).expect(&rt, "room for the list of blocks");
-    let report = run_pushes::<Slow>(rt.alloc(), &texts);
+    let hog = take_all(alloc).expect(&rt, "room for the list of blocks");
+    let report = run_pushes::<Slow>(alloc, &texts);
     drop(hog);
     assert!(rt; is_inline(&report.value, letters(24)));
     assert_counts(&rt, &report, 0, 2);

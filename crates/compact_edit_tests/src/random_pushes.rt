@@ -111,9 +111,10 @@ fn random_lists_in_large_buffers(rt: HostRuntime) {
 
 #[test]
 fn random_lists_with_no_memory(rt: HostRuntime) {
-    let hog = take_all(rt.alloc()).expect(&rt, "room for the list of blocks");
-    let standard = total::<Standard>(rt.alloc());
-    let slow = total::<Slow>(rt.alloc());
+    let alloc = rt.alloc();
+    let hog = take_all(alloc).expect(&rt, "room for the list of blocks");
+    let standard = total::<Standard>(alloc);
+    let slow = total::<Slow>(alloc);
     drop(hog);
     assert_total(&rt, &standard, 4675, 0, 27704, 13651533306246782936);
     assert_total(&rt, &slow, 4675, 0, 27704, 13651533306246782936);

@@ -4,7 +4,7 @@ use compact_edit::{Edit, Reply, run};
 use compact_str::{CompactString, Standard};
 use compact_testing::memory::take_all;
 use compact_testing::seen::{is_at, is_heap, is_inline, is_static};
-use compact_testing::values::{lasting, letters, value_of};
+use compact_testing::values::{lasting, letters, short, value_of};
 use std::alloc::Global;
 use std::ops::Bound::{Excluded, Included};
 use std::process::Abort;
@@ -41,9 +41,10 @@ fn all_are_done(
 
 #[test]
 fn each_edit_of_a_list_is_run(rt: HostRuntime) {
-    let mut value = value_of(rt.alloc(), letters(3)).expect(&rt, "memory");
+    let alloc = rt.alloc();
+    let mut value = short(alloc, letters(3));
     let edits = [Edit::PushStr("a"), Edit::Reserve(100), Edit::ShrinkTo(50)];
-    all_are_done(&rt, rt.alloc(), &mut value, &edits);
+    all_are_done(&rt, alloc, &mut value, &edits);
     assert!(rt; is_heap(&value, 50, letters(4)));
 }
 
@@ -75,9 +76,10 @@ fn is_not_begun(rt: &impl Abort, value: &mut CompactString, replies: &mut Vec<Re
 /// No edits are run even so.
 #[test]
 fn a_run_with_no_room_for_replies_runs_nothing(rt: HostRuntime) {
-    let mut value = value_of(rt.alloc(), "abc").expect(&rt, "memory");
-    let mut replies = forty_replies(&rt, rt.alloc());
-    let hog = take_all(rt.alloc()).expect(&rt, "room for the list of blocks");
+    let alloc = rt.alloc();
+    let mut value = short(alloc, "abc");
+    let mut replies = forty_replies(&rt, alloc);
+    let hog = take_all(alloc).expect(&rt, "room for the list of blocks");
     is_not_begun(&rt, &mut value, &mut replies);
     run_all(&rt, &mut value, &[], &mut replies);
     drop(hog);
@@ -110,10 +112,11 @@ fn tells_bad_positions(
 
 #[test]
 fn a_bad_position_is_told_before_a_refusal(rt: HostRuntime) {
-    let mut lasting = CompactString::const_new(rt.alloc(), text());
-    let mut made = value_of(rt.alloc(), text()).expect(&rt, "memory");
-    let mut replies = room_for(&rt, rt.alloc(), 12);
-    let hog = take_all(rt.alloc()).expect(&rt, "room for the list of blocks");
+    let alloc = rt.alloc();
+    let mut lasting = CompactString::const_new(alloc, text());
+    let mut made = value_of(alloc, text()).expect(&rt, "memory");
+    let mut replies = room_for(&rt, alloc, 12);
+    let hog = take_all(alloc).expect(&rt, "room for the list of blocks");
     tells_bad_positions(&rt, &mut lasting, &mut replies);
     tells_bad_positions(&rt, &mut made, &mut replies);
     drop(hog);
@@ -145,9 +148,10 @@ fn run_drain(
 
 #[test]
 fn the_answer_of_a_drain_is_refused(rt: HostRuntime) {
-    let mut value = value_of(rt.alloc(), letters(60)).expect(&rt, "memory");
-    let mut replies = room_for(&rt, rt.alloc(), 2);
-    let hog = take_all(rt.alloc()).expect(&rt, "room for the list of blocks");
+    let alloc = rt.alloc();
+    let mut value = value_of(alloc, letters(60)).expect(&rt, "memory");
+    let mut replies = room_for(&rt, alloc, 2);
+    let hog = take_all(alloc).expect(&rt, "room for the list of blocks");
     run_drain(&rt, &mut value, 0, 25, &mut replies);
     run_drain(&rt, &mut value, 0, 24, &mut replies);
     drop(hog);
@@ -158,10 +162,11 @@ fn the_answer_of_a_drain_is_refused(rt: HostRuntime) {
 
 #[test]
 fn a_drain_that_makes_its_answer_finds_no_room_for_its_text(rt: HostRuntime) {
-    let mut value = lasting(rt.alloc(), 80);
-    let mut replies = room_for(&rt, rt.alloc(), 1);
-    let block = Vec::<u8>::with_capacity(rt.alloc(), 32).expect(&rt, "a spare block");
-    let hog = take_all(rt.alloc()).expect(&rt, "room for the list of blocks");
+    let alloc = rt.alloc();
+    let mut value = lasting(alloc, 80);
+    let mut replies = room_for(&rt, alloc, 1);
+    let block = Vec::<u8>::with_capacity(alloc, 32).expect(&rt, "a spare block");
+    let hog = take_all(alloc).expect(&rt, "room for the list of blocks");
     drop(block);
     run_drain(&rt, &mut value, 0, 30, &mut replies);
     drop(hog);
@@ -171,10 +176,11 @@ fn a_drain_that_makes_its_answer_finds_no_room_for_its_text(rt: HostRuntime) {
 
 #[test]
 fn a_drain_of_60_bytes_is_refused_at_each_request(rt: HostRuntime) {
-    let mut value = lasting(rt.alloc(), 60);
-    let mut replies = room_for(&rt, rt.alloc(), 2);
-    let block = Vec::<u8>::with_capacity(rt.alloc(), 32).expect(&rt, "a spare block");
-    let hog = take_all(rt.alloc()).expect(&rt, "room for the list of blocks");
+    let alloc = rt.alloc();
+    let mut value = lasting(alloc, 60);
+    let mut replies = room_for(&rt, alloc, 2);
+    let block = Vec::<u8>::with_capacity(alloc, 32).expect(&rt, "a spare block");
+    let hog = take_all(alloc).expect(&rt, "room for the list of blocks");
     run_drain(&rt, &mut value, 0, 30, &mut replies);
     drop(block);
     run_drain(&rt, &mut value, 0, 30, &mut replies);

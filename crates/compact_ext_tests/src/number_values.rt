@@ -51,36 +51,36 @@ fn assert_shows<T: ToCompactString>(
     assert!(rt; value.is_heap_allocated() == (text.len() > 24));
 }
 
-/// Asserts the texts of the numbers up to a distance from each power that the type has.
-macro_rules! assert_unsigned {
-    ($rt:expr, $type:ty, $distance:expr) => {
-        for place in 0..POWERS {
-            let Ok(power) = <$type>::try_from(power(place)) else {
-                continue;
-            };
-            for step in 0u16..=$distance * 2 {
-                let n = power.wrapping_sub($distance).wrapping_add(step as $type);
-                assert_shows($rt, $rt.alloc(), &n, n as u128, false);
-            }
-        }
-    };
+/// How far from a power the numbers go.
+const DISTANCE: u32 = 200;
+
+/// Asserts the text of a number in each unsigned type that holds it.
+fn assert_unsigned(rt: &impl Abort, alloc: Global, number: u128) {
+    if let Ok(n) = u32::try_from(number) {
+        assert_shows(rt, alloc, &n, number, false);
+    }
+    if let Ok(n) = u64::try_from(number) {
+        assert_shows(rt, alloc, &n, number, false);
+    }
+    if let Ok(n) = usize::try_from(number) {
+        assert_shows(rt, alloc, &n, number, false);
+    }
+    assert_shows(rt, alloc, &number, number, false);
 }
 
-/// The same for a type with negative numbers, of which it takes the negated powers too.
-macro_rules! assert_signed {
-    ($rt:expr, $type:ty, $distance:expr) => {
-        for place in 0..POWERS {
-            let Ok(power) = <$type>::try_from(power(place)) else {
-                continue;
-            };
-            for step in 0u16..=$distance * 2 {
-                let n = power.wrapping_sub($distance).wrapping_add(step as $type);
-                assert_shows($rt, $rt.alloc(), &n, n.unsigned_abs() as u128, n < 0);
-                let n = n.wrapping_neg();
-                assert_shows($rt, $rt.alloc(), &n, n.unsigned_abs() as u128, n < 0);
-            }
-        }
-    };
+/// The same in each signed type.
+fn assert_signed(rt: &impl Abort, alloc: Global, number: i128) {
+    let (magnitude, is_negative) = (number.unsigned_abs(), number < 0);
+    if let Ok(n) = i32::try_from(number) {
+        assert_shows(rt, alloc, &n, magnitude, is_negative);
+    }
+    if let Ok(n) = i64::try_from(number) {
+        assert_shows(rt, alloc, &n, magnitude, is_negative);
+    }
+    if let Ok(n) = isize::try_from(number) {
+        assert_shows(rt, alloc, &n, magnitude, is_negative);
+    }
+    assert_shows(rt, alloc, &number, magnitude, is_negative);
 }
 
 #[test]
@@ -112,41 +112,27 @@ fn every_i16(rt: HostRuntime) {
 }
 
 #[test]
-fn u32_at_the_powers(rt: HostRuntime) {
-    assert_unsigned!(&rt, u32, 200);
+fn unsigned_numbers_at_the_powers(rt: HostRuntime) {
+    for place in 0..POWERS {
+        let least = power(place).wrapping_sub(u128::from(DISTANCE));
+        for step in 0..=2 * DISTANCE {
+            assert_unsigned(&rt, rt.alloc(), least.wrapping_add(u128::from(step)));
+        }
+    }
 }
 
 #[test]
-fn u64_at_the_powers(rt: HostRuntime) {
-    assert_unsigned!(&rt, u64, 100);
-}
-
-#[test]
-fn usize_at_the_powers(rt: HostRuntime) {
-    assert_unsigned!(&rt, usize, 100);
-}
-
-#[test]
-fn u128_at_the_powers(rt: HostRuntime) {
-    assert_unsigned!(&rt, u128, 50);
-}
-
-#[test]
-fn i32_at_the_powers(rt: HostRuntime) {
-    assert_signed!(&rt, i32, 100);
-}
-
-#[test]
-fn i64_at_the_powers(rt: HostRuntime) {
-    assert_signed!(&rt, i64, 60);
-}
-
-#[test]
-fn isize_at_the_powers(rt: HostRuntime) {
-    assert_signed!(&rt, isize, 60);
-}
-
-#[test]
-fn i128_at_the_powers(rt: HostRuntime) {
-    assert_signed!(&rt, i128, 30);
+fn signed_numbers_at_the_powers(rt: HostRuntime) {
+    let alloc = rt.alloc();
+    for place in 0..POWERS {
+        let Ok(power) = i128::try_from(power(place)) else {
+            continue;
+        };
+        let least = power.wrapping_sub(i128::from(DISTANCE));
+        for step in 0..=2 * DISTANCE {
+            let number = least.wrapping_add(i128::from(step));
+            assert_signed(&rt, alloc, number);
+            assert_signed(&rt, alloc, number.wrapping_neg());
+        }
+    }
 }

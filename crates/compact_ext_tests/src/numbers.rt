@@ -3,7 +3,7 @@
 use compact_ext::ToCompactString;
 use compact_str::CompactString;
 use compact_testing::seen::{is_at, is_inline};
-use compact_testing::values::{string_with_room, value_of};
+use compact_testing::values::{short, string_with_room};
 use std::alloc::Global;
 use std::num::{NonZeroI128, NonZeroU8, NonZeroU128};
 use std::process::Abort;
@@ -103,12 +103,7 @@ fn other_values_have_these_texts(rt: HostRuntime) {
     let alloc = rt.alloc();
     assert_shown(&rt, alloc, 'a', "a");
     assert_shown(&rt, alloc, "äb", "äb");
-    assert_shown(
-        &rt,
-        alloc,
-        value_of(alloc, "äb").expect(&rt, "memory"),
-        "äb",
-    );
+    assert_shown(&rt, alloc, short(alloc, "äb"), "äb");
     assert_shown(
         &rt,
         alloc,

@@ -7,7 +7,7 @@ use compact_ext::wire::{WireError, read_wire, write_wire};
 use compact_str::{CompactString, ReserveError};
 use compact_testing::pieces::{Narrow, Pieces, Stop};
 use compact_testing::seen::is_inline;
-use compact_testing::values::{letters, value_of};
+use compact_testing::values::{letters, short, value_of};
 use std::alloc::Global;
 use std::fmt::Write;
 use std::io;
@@ -139,7 +139,7 @@ fn assert_writes(rt: &impl Abort, text: &CompactString, mut writer: Narrow, end:
 
 #[test]
 fn a_writer_that_is_full_has_a_beginning(rt: HostRuntime) {
-    let text = value_of(rt.alloc(), "Hi").expect(&rt, "memory");
+    let text = short(rt.alloc(), "Hi");
     let form: [u8; 6] = [2, 0, 0, 0, 0x48, 0x69];
     for room in 0..6 {
         let out = form.get(..room).unwrap_or(&[]);
@@ -152,7 +152,7 @@ fn a_writer_that_is_full_has_a_beginning(rt: HostRuntime) {
 
 #[test]
 fn a_writer_that_fails_has_a_beginning(rt: HostRuntime) {
-    let text = value_of(rt.alloc(), "Hi").expect(&rt, "memory");
+    let text = short(rt.alloc(), "Hi");
     let form: [u8; 6] = [2, 0, 0, 0, 0x48, 0x69];
     for call in 1..7usize {
         let out = form.get(..call - 1).unwrap_or(&[]);

@@ -77,10 +77,11 @@ fn records_come_in_pieces(rt: HostRuntime) {
 
 #[test]
 fn no_bytes_are_no_records(rt: HostRuntime) {
+    let alloc = rt.alloc();
     let none: &[u8] = &[];
-    let records = read_records(rt.alloc(), none).expect(&rt, "records");
+    let records = read_records(alloc, none).expect(&rt, "records");
     assert_eq!(rt; records.len(), 0);
-    let first = Records::new(rt.alloc(), none).next();
+    let first = Records::new(alloc, none).next();
     assert!(rt; first.is_none());
 }
 
@@ -104,12 +105,13 @@ fn an_end_within_a_record_is_a_fault(rt: HostRuntime) {
 
 #[test]
 fn after_a_text_that_is_none_the_next_comes(rt: HostRuntime) {
+    let alloc = rt.alloc();
     let bytes: [u8; 10] = [1, 0, 0, 0, 0xFF, 1, 0, 0, 0, 0x61];
-    let mut records = Records::new(rt.alloc(), bytes.as_slice());
+    let mut records = Records::new(alloc, bytes.as_slice());
     assert_next_fault(&rt, &mut records, "utf8");
     assert_next(&rt, &mut records, "a");
     assert_end(&rt, &mut records);
-    assert_not_collected(&rt, rt.alloc(), bytes.as_slice(), "utf8");
+    assert_not_collected(&rt, alloc, bytes.as_slice(), "utf8");
 }
 
 /// A reader of the three records that gives five bytes at its first call, and fails from its second on.
@@ -189,13 +191,14 @@ fn after_bytes_that_are_no_text_the_next_comes(rt: HostRuntime) {
 // The text has five forms of `b` in it. Refused, only its length is taken, so they are read as records.
 #[test]
 fn where_room_is_refused_the_text_stays_unread(rt: HostRuntime) {
+    let alloc = rt.alloc();
     let bytes = with_another(
         &rt,
-        rt.alloc(),
+        alloc,
         b"\x01\0\0\0b\x01\0\0\0b\x01\0\0\0b\x01\0\0\0b\x01\0\0\0b",
     );
-    let hog = take_all(rt.alloc()).expect(&rt, "room for the list of blocks");
-    let mut records = Records::new(rt.alloc(), bytes.as_slice());
+    let hog = take_all(alloc).expect(&rt, "room for the list of blocks");
+    let mut records = Records::new(alloc, bytes.as_slice());
     assert_next_fault(&rt, &mut records, "reserve");
     for text in ["b", "b", "b", "b", "b", "a"] {
         assert_next(&rt, &mut records, text);
@@ -213,11 +216,12 @@ fn a_failure_between_records_is_told(rt: HostRuntime) {
 
 #[test]
 fn records_need_memory_only_where_they_are_collected(rt: HostRuntime) {
-    let hog = take_all(rt.alloc()).expect(&rt, "room for the list of blocks");
-    let mut records = Records::new(rt.alloc(), RECORDS.as_slice());
+    let alloc = rt.alloc();
+    let hog = take_all(alloc).expect(&rt, "room for the list of blocks");
+    let mut records = Records::new(alloc, RECORDS.as_slice());
     for text in ["a", "", "Hi"] {
         assert_next(&rt, &mut records, text);
     }
-    assert_not_collected(&rt, rt.alloc(), RECORDS.as_slice(), "reserve");
+    assert_not_collected(&rt, alloc, RECORDS.as_slice(), "reserve");
     drop(hog);
 }

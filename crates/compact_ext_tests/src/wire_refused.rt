@@ -5,7 +5,7 @@ use crate::wire_forms::end_of;
 use crate::wire_letters::Letters;
 use compact_ext::wire::{WireError, read_wire, write_wire};
 use compact_testing::memory::take_all;
-use compact_testing::values::value_of;
+use compact_testing::values::short;
 use std::alloc::Global;
 use std::process::Abort;
 
@@ -20,9 +20,10 @@ fn assert_refused(rt: &impl Abort, alloc: Global, len: u32, given: usize) {
 
 #[test]
 fn a_longer_text_is_refused_after_its_length(rt: HostRuntime) {
-    let hog = take_all(rt.alloc()).expect(&rt, "room for the list of blocks");
+    let alloc = rt.alloc();
+    let hog = take_all(alloc).expect(&rt, "room for the list of blocks");
     for len in [25, 55, u32::MAX] {
-        assert_refused(&rt, rt.alloc(), len, 4);
+        assert_refused(&rt, alloc, len, 4);
     }
     drop(hog);
 }
@@ -56,9 +57,10 @@ fn the_fourth_room_is_refused(rt: HostRuntime) {
 
 #[test]
 fn a_vector_with_no_room_is_a_writer_that_fails(rt: HostRuntime) {
-    let text = value_of(rt.alloc(), "Hi").expect(&rt, "memory");
-    let mut bytes = Vec::new(rt.alloc());
-    let hog = take_all(rt.alloc()).expect(&rt, "room for the list of blocks");
+    let alloc = rt.alloc();
+    let text = short(alloc, "Hi");
+    let mut bytes = Vec::new(alloc);
+    let hog = take_all(alloc).expect(&rt, "room for the list of blocks");
     assert!(rt; matches!(write_wire(&text, &mut bytes), Err(WireError::Io(_))));
     drop(hog);
     assert_eq!(rt; bytes.len(), 0);

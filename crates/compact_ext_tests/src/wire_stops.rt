@@ -21,22 +21,24 @@ fn assert_beginnings(rt: &impl Abort, alloc: Global, form: &[u8], step: usize) {
 
 #[test]
 fn each_beginning_of_a_form_ends_too_early(rt: HostRuntime) {
-    let short = form_of_letters(&rt, rt.alloc(), 24);
+    let alloc = rt.alloc();
+    let short = form_of_letters(&rt, alloc, 24);
     assert_eq!(rt; short.len(), 28);
-    assert_beginnings(&rt, rt.alloc(), &short, 1);
-    assert_beginnings(&rt, rt.alloc(), &short, 5);
-    let long = form_of_letters(&rt, rt.alloc(), 30);
-    assert_beginnings(&rt, rt.alloc(), &long, 1);
-    assert_beginnings(&rt, rt.alloc(), &long, 5);
+    assert_beginnings(&rt, alloc, &short, 1);
+    assert_beginnings(&rt, alloc, &short, 5);
+    let long = form_of_letters(&rt, alloc, 30);
+    assert_beginnings(&rt, alloc, &long, 1);
+    assert_beginnings(&rt, alloc, &long, 5);
 }
 
 #[test]
 fn a_text_comes_byte_by_byte(rt: HostRuntime) {
-    let form = form_of_letters(&rt, rt.alloc(), 24);
-    let text = read_wire(rt.alloc(), &mut Pieces::new(&form, 1, Stop::Never)).expect(&rt, "a text");
+    let alloc = rt.alloc();
+    let form = form_of_letters(&rt, alloc, 24);
+    let text = read_wire(alloc, &mut Pieces::new(&form, 1, Stop::Never)).expect(&rt, "a text");
     assert!(rt; is_inline(&text, letters(24)));
-    let form = form_of_letters(&rt, rt.alloc(), 25);
-    let text = read_wire(rt.alloc(), &mut Pieces::new(&form, 1, Stop::Never)).expect(&rt, "a text");
+    let form = form_of_letters(&rt, alloc, 25);
+    let text = read_wire(alloc, &mut Pieces::new(&form, 1, Stop::Never)).expect(&rt, "a text");
     assert!(rt; is_at(&text, "heap", 25, letters(25)));
 }
 
@@ -50,12 +52,13 @@ fn assert_broken(rt: &impl Abort, alloc: Global, bytes: &[u8], left: usize) {
 
 #[test]
 fn broken_bytes_come_one_by_one(rt: HostRuntime) {
-    assert_broken(&rt, rt.alloc(), b"\x02\0\0\0\xC0\x80", 0);
-    assert_broken(&rt, rt.alloc(), b"\x03\0\0\0\xED\xA0\x80\x41\x42", 2);
-    assert_broken(&rt, rt.alloc(), b"\x02\0\0\0\xE2\x82\xAC", 1);
+    let alloc = rt.alloc();
+    assert_broken(&rt, alloc, b"\x02\0\0\0\xC0\x80", 0);
+    assert_broken(&rt, alloc, b"\x03\0\0\0\xED\xA0\x80\x41\x42", 2);
+    assert_broken(&rt, alloc, b"\x02\0\0\0\xE2\x82\xAC", 1);
     assert_broken(
         &rt,
-        rt.alloc(),
+        alloc,
         b"\x1A\0\0\0aaaaaaaaaaaaaaaaaaaaaaaa\xE2\x82\xAC",
         1,
     );
@@ -70,8 +73,9 @@ fn assert_sent(rt: &impl Abort, text: &CompactString, stop: Stop, end: &str, out
 
 #[test]
 fn a_long_text_stops_at_each_byte(rt: HostRuntime) {
-    let text = value_of(rt.alloc(), letters(30)).expect(&rt, "memory");
-    let form = form_of_letters(&rt, rt.alloc(), 30);
+    let alloc = rt.alloc();
+    let text = value_of(alloc, letters(30)).expect(&rt, "memory");
+    let form = form_of_letters(&rt, alloc, 30);
     assert_sent(&rt, &text, Stop::Never, "done", &form);
     for call in 1..form.len() + 1 {
         let out = form.get(..call - 1).unwrap_or(&[]);

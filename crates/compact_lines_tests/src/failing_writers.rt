@@ -42,11 +42,12 @@ fn assert_read(rt: &impl Abort, alloc: Global, stop: Stop, status: u8, written: 
 
 #[test]
 fn a_reader_that_fails_leaves_the_answers_before(rt: HostRuntime) {
+    let alloc = rt.alloc();
     for given in 0..INPUT.len() + 1 {
         let stop = Stop::Fails(given + 1, ErrorKind::Other);
-        assert_read(&rt, rt.alloc(), stop, 1, written_after(given).as_bytes());
+        assert_read(&rt, alloc, stop, 1, written_after(given).as_bytes());
     }
-    assert_read(&rt, rt.alloc(), Stop::Never, 0, WHOLE);
+    assert_read(&rt, alloc, Stop::Never, 0, WHOLE);
 }
 
 #[test]
@@ -66,27 +67,29 @@ fn assert_written(rt: &impl Abort, alloc: Global, mut writer: Narrow, status: u8
 
 #[test]
 fn a_writer_that_fails_has_what_it_took_before(rt: HostRuntime) {
+    let alloc = rt.alloc();
     for call in 1..WHOLE.len() + 1 {
         let taken = WHOLE.get(..call - 1).unwrap_or(&[]);
         let broken = Narrow::new(256, 1, Stop::Breaks(call, ErrorKind::Other));
-        assert_written(&rt, rt.alloc(), broken, 1, taken);
+        assert_written(&rt, alloc, broken, 1, taken);
         let full = Narrow::new(256, 1, Stop::Ends(call));
-        assert_written(&rt, rt.alloc(), full, 1, taken);
+        assert_written(&rt, alloc, full, 1, taken);
         let interrupted = Narrow::new(256, 1, Stop::Fails(call, ErrorKind::Interrupted));
-        assert_written(&rt, rt.alloc(), interrupted, 0, WHOLE);
+        assert_written(&rt, alloc, interrupted, 0, WHOLE);
     }
     let late = Narrow::new(256, 1, Stop::Breaks(WHOLE.len() + 1, ErrorKind::Other));
-    assert_written(&rt, rt.alloc(), late, 0, WHOLE);
+    assert_written(&rt, alloc, late, 0, WHOLE);
 }
 
 #[test]
 fn a_writer_that_fails_once_has_what_it_took_before(rt: HostRuntime) {
+    let alloc = rt.alloc();
     for call in 1..WHOLE.len() + 1 {
         let taken = WHOLE.get(..call - 1).unwrap_or(&[]);
         let failing = Narrow::new(256, 1, Stop::Fails(call, ErrorKind::Other));
-        assert_written(&rt, rt.alloc(), failing, 1, taken);
+        assert_written(&rt, alloc, failing, 1, taken);
         let pausing = Narrow::new(256, 1, Stop::Pauses(call));
-        assert_written(&rt, rt.alloc(), pausing, 1, taken);
+        assert_written(&rt, alloc, pausing, 1, taken);
     }
 }
 

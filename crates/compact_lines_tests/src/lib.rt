@@ -13,3 +13,5 @@ mod no_commands;
 mod removals;
 #[cfg(test)]
 mod sessions;
+#[cfg(test)]
+mod transcript;

@@ -1,5 +1,6 @@
 //! Sessions of lines, and readers and writers that fail.
 
+use crate::transcript::{assert_prints, assert_sessions};
 use compact_lines::run_lines;
 use compact_testing::memory::take_all;
 use std::alloc::Global;
@@ -27,79 +28,105 @@ impl Write for Broken {
     }
 }
 
-/// Asserts what the program prints for an input, and that it ends well.
-pub fn assert_prints(rt: &impl Abort, alloc: Global, mut input: &[u8], printed: &[u8]) {
-    let mut output = Vec::new(alloc);
-    assert_eq!(rt; run_lines(alloc, &mut input, &mut output), 0);
-    assert_eq!(rt; output.as_slice(), printed);
-}
+/// Commands of each kind, and lines that are none.
+const COMMANDS: &str = "\
+# three edits are answered\n\
+> new i am 24 characters long!\n\
+done\n\
+inline 24 24 i am 24 characters long!\n\
+> pushstr x\n\
+done\n\
+heap 25 36 i am 24 characters long!x\n\
+> clear\n\
+done\n\
+heap 0 36 \n\
+# all places are seen\n\
+> static\n\
+done\n\
+static 30 30 aaaaaaaaaaaaaaaaaaaaaaaaaaaaaa\n\
+> clear\n\
+done\n\
+static 0 0 \n\
+> clonefrom abc\n\
+done\n\
+inline 3 24 abc\n\
+> cap 100\n\
+done\n\
+heap 0 100 \n\
+> shrinkto 50\n\
+done\n\
+heap 0 50 \n\
+> shrinktofit\n\
+done\n\
+inline 0 24 \n\
+> cap 72057594037927935\n\
+refused\n\
+inline 0 24 \n\
+# an edit with no text is done\n\
+> new abc\n\
+done\n\
+inline 3 24 abc\n\
+> pushstr\n\
+done\n\
+inline 3 24 abc\n\
+> pushstr \n\
+done\n\
+inline 3 24 abc\n\
+# a new text may be empty\n\
+> new\n\
+done\n\
+inline 0 24 \n\
+# a capacity that cannot be read is marked alone\n\
+> cap\n\
+?\n\
+> cap \n\
+?\n\
+> cap x\n\
+?\n\
+> cap +5\n\
+?\n\
+> cap -1\n\
+?\n\
+> cap 1 \n\
+?\n\
+> cap  1\n\
+?\n\
+# a number past all, or behind a command that takes none, is marked alone\n\
+> reserve 18446744073709551616\n\
+?\n\
+> static \n\
+?\n\
+> shrinktofit x\n\
+?\n\
+> Clear\n\
+?\n\
+# a number may begin with zeros\n\
+> cap 0030\n\
+done\n\
+heap 0 32 \n\
+# reserving past any number is refused\n\
+> new abc\n\
+done\n\
+inline 3 24 abc\n\
+> reserve 18446744073709551615\n\
+refused\n\
+inline 3 24 abc\n\
+> reserve 40\n\
+done\n\
+heap 3 43 abc\n";
 
-/// Asserts what the program prints for an input that is a text.
-pub fn assert_answers(rt: &impl Abort, alloc: Global, input: &str, printed: &str) {
-    assert_prints(rt, alloc, input.as_bytes(), printed.as_bytes());
+#[test]
+fn commands_are_answered(rt: HostRuntime) {
+    assert_sessions(&rt, rt.alloc(), COMMANDS);
 }
 
 #[test]
-fn three_edits_are_answered(rt: HostRuntime) {
-    assert_prints(
-        &rt,
-        rt.alloc(),
-        b"new i am 24 characters long!\npushstr x\nclear\n",
-        b"done\ninline 24 24 i am 24 characters long!\ndone\nheap 25 36 i am 24 characters long!x\ndone\nheap 0 36 \n",
-    );
-}
-
-#[test]
-fn all_places_are_seen(rt: HostRuntime) {
-    assert_prints(
-        &rt,
-        rt.alloc(),
-        b"static\nclear\nclonefrom abc\ncap 100\nshrinkto 50\nshrinktofit\ncap 72057594037927935\n",
-        b"done\nstatic 30 30 aaaaaaaaaaaaaaaaaaaaaaaaaaaaaa\ndone\nstatic 0 0 \ndone\ninline 3 24 abc\ndone\nheap 0 100 \ndone\nheap 0 50 \ndone\ninline 0 24 \nrefused\ninline 0 24 \n",
-    );
-}
-
-#[test]
-fn an_edit_with_no_text_is_done(rt: HostRuntime) {
-    assert_prints(
-        &rt,
-        rt.alloc(),
-        b"new abc\npushstr\npushstr \n",
-        b"done\ninline 3 24 abc\ndone\ninline 3 24 abc\ndone\ninline 3 24 abc\n",
-    );
-    assert_prints(&rt, rt.alloc(), b"new\n", b"done\ninline 0 24 \n");
-}
-
-#[test]
-fn what_cannot_be_read_is_marked_alone(rt: HostRuntime) {
+fn bytes_that_are_no_text_are_no_command(rt: HostRuntime) {
     assert_prints(
         &rt,
         rt.alloc(),
         b"foo\n\nnew \xff\nclear \nnew ab\n",
         b"?\n?\n?\n?\ndone\ninline 2 24 ab\n",
-    );
-    assert_prints(
-        &rt,
-        rt.alloc(),
-        b"cap\ncap \ncap x\ncap +5\ncap -1\ncap 1 \ncap  1\n",
-        b"?\n?\n?\n?\n?\n?\n?\n",
-    );
-    assert_prints(
-        &rt,
-        rt.alloc(),
-        b"reserve 18446744073709551616\nstatic \nshrinktofit x\nClear\n",
-        b"?\n?\n?\n?\n",
-    );
-    assert_prints(&rt, rt.alloc(), b"cap 0030\n", b"done\nheap 0 32 \n");
-}
-
-#[test]
-fn reserving_past_any_number_is_refused(rt: HostRuntime) {
-    assert_prints(
-        &rt,
-        rt.alloc(),
-        b"new abc\nreserve 18446744073709551615\nreserve 40\n",
-        b"done\ninline 3 24 abc\nrefused\ninline 3 24 abc\ndone\nheap 3 43 abc\n",
     );
 }
 
@@ -115,8 +142,9 @@ fn a_carriage_return_belongs_to_the_line(rt: HostRuntime) {
 
 #[test]
 fn the_last_line_may_lack_its_end(rt: HostRuntime) {
-    assert_prints(&rt, rt.alloc(), b"new ab", b"done\ninline 2 24 ab\n");
-    assert_prints(&rt, rt.alloc(), b"", b"");
+    let alloc = rt.alloc();
+    assert_prints(&rt, alloc, b"new ab", b"done\ninline 2 24 ab\n");
+    assert_prints(&rt, alloc, b"", b"");
 }
 
 /// The line `pushstr` with a million letters.
@@ -132,12 +160,10 @@ fn a_million_letters(rt: &impl Abort, alloc: Global) -> Vec<u8> {
 
 #[test]
 fn a_line_of_a_million_bytes_is_read(rt: HostRuntime) {
-    let input = a_million_letters(&rt, rt.alloc());
-    let mut output = Vec::new(rt.alloc());
-    assert_eq!(rt;
-        run_lines(rt.alloc(), &mut input.as_slice(), &mut output),
-        0
-    );
+    let alloc = rt.alloc();
+    let input = a_million_letters(&rt, alloc);
+    let mut output = Vec::new(alloc);
+    assert_eq!(rt; run_lines(alloc, &mut input.as_slice(), &mut output), 0);
     // `done`, then place, length and capacity are 26 bytes; the letters and the end of the line follow.
     assert_eq!(rt; output.len(), 26 + 1_000_000 + 1);
     assert!(rt;
@@ -149,8 +175,9 @@ fn a_line_of_a_million_bytes_is_read(rt: HostRuntime) {
 
 #[test]
 fn a_failing_reader_is_told(rt: HostRuntime) {
-    let mut output = Vec::new(rt.alloc());
-    assert_eq!(rt; run_lines(rt.alloc(), &mut Broken, &mut output), 1);
+    let alloc = rt.alloc();
+    let mut output = Vec::new(alloc);
+    assert_eq!(rt; run_lines(alloc, &mut Broken, &mut output), 1);
     assert_eq!(rt; output.len(), 0);
 }
 
@@ -161,17 +188,19 @@ fn status_of_unwritten(alloc: Global, mut input: &[u8]) -> u8 {
 
 #[test]
 fn a_failing_writer_is_told_where_it_is_written_to(rt: HostRuntime) {
-    assert_eq!(rt; status_of_unwritten(rt.alloc(), b"clear\n"), 1);
-    assert_eq!(rt; status_of_unwritten(rt.alloc(), b"foo\n"), 1);
-    assert_eq!(rt; status_of_unwritten(rt.alloc(), b""), 0);
+    let alloc = rt.alloc();
+    assert_eq!(rt; status_of_unwritten(alloc, b"clear\n"), 1);
+    assert_eq!(rt; status_of_unwritten(alloc, b"foo\n"), 1);
+    assert_eq!(rt; status_of_unwritten(alloc, b""), 0);
 }
 
 #[test]
 fn no_memory_for_a_line_is_told(rt: HostRuntime) {
-    let mut output = Vec::with_capacity(rt.alloc(), 1000).expect(&rt, "memory");
+    let alloc = rt.alloc();
+    let mut output = Vec::with_capacity(alloc, 1000).expect(&rt, "memory");
     let mut input: &[u8] = b"clear\n";
-    let hog = take_all(rt.alloc()).expect(&rt, "room for the list of blocks");
-    assert_eq!(rt; run_lines(rt.alloc(), &mut input, &mut output), 1);
+    let hog = take_all(alloc).expect(&rt, "room for the list of blocks");
+    assert_eq!(rt; run_lines(alloc, &mut input, &mut output), 1);
     drop(hog);
     assert_eq!(rt; output.len(), 0);
 }

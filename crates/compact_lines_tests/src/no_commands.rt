@@ -1,19 +1,23 @@
 //! Lines that are no commands, and lines at the bounds of what a command may hold.
 
-use crate::lines::assert_prints;
+use crate::transcript::{assert_prints, assert_sessions};
 
 #[test]
 fn what_is_no_command_is_marked(rt: HostRuntime) {
-    assert_prints(&rt, rt.alloc(), b"\n", b"?\n");
-    assert_prints(&rt, rt.alloc(), b"\xFF\n", b"?\n");
-    assert_prints(&rt, rt.alloc(), b"new \xC0\x80\n", b"?\n");
-    assert_prints(&rt, rt.alloc(), b"clear \n", b"?\n");
-    assert_prints(&rt, rt.alloc(), b"push ab\n", b"?\n");
-    assert_prints(&rt, rt.alloc(), b"insert x a\n", b"?\n");
-    assert_prints(&rt, rt.alloc(), b"truncate 18446744073709551616\n", b"?\n");
-    assert_prints(&rt, rt.alloc(), b" clear\n", b"?\n");
-    assert_prints(&rt, rt.alloc(), b"clear\r\n", b"?\n");
-    assert_prints(&rt, rt.alloc(), b"clear\0\n", b"?\n");
+    for line in [
+        b"\n".as_slice(),
+        b"\xFF\n".as_slice(),
+        b"new \xC0\x80\n".as_slice(),
+        b"clear \n".as_slice(),
+        b"push ab\n".as_slice(),
+        b"insert x a\n".as_slice(),
+        b"truncate 18446744073709551616\n".as_slice(),
+        b" clear\n".as_slice(),
+        b"clear\r\n".as_slice(),
+        b"clear\0\n".as_slice(),
+    ] {
+        assert_prints(&rt, rt.alloc(), line, b"?\n");
+    }
 }
 
 #[test]
@@ -26,38 +30,71 @@ fn what_is_no_command_changes_nothing(rt: HostRuntime) {
     );
 }
 
-#[test]
-fn zeros_before_a_number_are_read_and_a_turned_range_is_none(rt: HostRuntime) {
-    assert_prints(
-        &rt,
-        rt.alloc(),
-        b"new Hello, world!\ntruncate 007\nreplace 5 2 x\n",
-        b"done\ninline 13 24 Hello, world!\ndone\ninline 7 24 Hello, \nbad position\ninline 7 24 Hello, \n",
-    );
-}
+/// Numbers at their bounds.
+const BOUNDS: &str = "\
+# zeros before a number are read and a turned range is none\n\
+> new Hello, world!\n\
+done\n\
+inline 13 24 Hello, world!\n\
+> truncate 007\n\
+done\n\
+inline 7 24 Hello, \n\
+> replace 5 2 x\n\
+bad position\n\
+inline 7 24 Hello, \n\
+# the greatest number is a position that is none\n\
+> new a\n\
+done\n\
+inline 1 24 a\n\
+> insert 18446744073709551615 x\n\
+bad position\n\
+inline 1 24 a\n\
+> insertstr 18446744073709551615 x\n\
+bad position\n\
+inline 1 24 a\n\
+> remove 18446744073709551615\n\
+bad position\n\
+inline 1 24 a\n\
+> splitoff 18446744073709551615\n\
+bad position\n\
+inline 1 24 a\n\
+# the greatest number is an end of no range\n\
+> new a\n\
+done\n\
+inline 1 24 a\n\
+> replace 18446744073709551615 - x\n\
+bad position\n\
+inline 1 24 a\n\
+> replace - 18446744073709551615 x\n\
+bad position\n\
+inline 1 24 a\n\
+> drain 18446744073709551615 -\n\
+bad position\n\
+inline 1 24 a\n\
+> drain 0 18446744073709551615\n\
+bad position\n\
+inline 1 24 a\n\
+# the greatest number is too much room\n\
+> new a\n\
+done\n\
+inline 1 24 a\n\
+> truncate 18446744073709551615\n\
+done\n\
+inline 1 24 a\n\
+> reserve 18446744073709551615\n\
+refused\n\
+inline 1 24 a\n\
+> repeat 18446744073709551615\n\
+refused\n\
+inline 1 24 a\n\
+> cap 18446744073709551615\n\
+refused\n\
+inline 1 24 a\n\
+> shrinkto 18446744073709551615\n\
+done\n\
+inline 1 24 a\n";
 
 #[test]
-fn the_greatest_number_is_a_position_that_is_none(rt: HostRuntime) {
-    assert_prints(
-        &rt,
-        rt.alloc(),
-        b"new a\ninsert 18446744073709551615 x\ninsertstr 18446744073709551615 x\nremove 18446744073709551615\nsplitoff 18446744073709551615\n",
-        b"done\ninline 1 24 a\nbad position\ninline 1 24 a\nbad position\ninline 1 24 a\nbad position\ninline 1 24 a\nbad position\ninline 1 24 a\n",
-    );
-    assert_prints(
-        &rt,
-        rt.alloc(),
-        b"new a\nreplace 18446744073709551615 - x\nreplace - 18446744073709551615 x\ndrain 18446744073709551615 -\ndrain 0 18446744073709551615\n",
-        b"done\ninline 1 24 a\nbad position\ninline 1 24 a\nbad position\ninline 1 24 a\nbad position\ninline 1 24 a\nbad position\ninline 1 24 a\n",
-    );
-}
-
-#[test]
-fn the_greatest_number_is_too_much_room(rt: HostRuntime) {
-    assert_prints(
-        &rt,
-        rt.alloc(),
-        b"new a\ntruncate 18446744073709551615\nreserve 18446744073709551615\nrepeat 18446744073709551615\ncap 18446744073709551615\nshrinkto 18446744073709551615\n",
-        b"done\ninline 1 24 a\ndone\ninline 1 24 a\nrefused\ninline 1 24 a\nrefused\ninline 1 24 a\nrefused\ninline 1 24 a\ndone\ninline 1 24 a\n",
-    );
+fn the_bounds_of_a_command_are_told(rt: HostRuntime) {
+    assert_sessions(&rt, rt.alloc(), BOUNDS);
 }

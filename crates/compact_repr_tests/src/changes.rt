@@ -242,13 +242,14 @@ fn nothing_in_place_of_the_program(rt: HostRuntime) {
 /// A part is taken out in each place that is the value's own.
 #[test]
 fn a_part_is_cut_out(rt: HostRuntime) {
-    let mut text = copied(&rt, rt.alloc(), "äb𝄞xyz");
+    let alloc = rt.alloc();
+    let mut text = copied(&rt, alloc, "äb𝄞xyz");
     assert_cut(
         &rt,
         &mut text,
         &[(2, 7, true, "äxyz"), (5, 5, true, "äxyz"), (0, 5, true, "")],
     );
-    let mut text = copied(&rt, rt.alloc(), "äb𝄞0123456789012345678901234");
+    let mut text = copied(&rt, alloc, "äb𝄞0123456789012345678901234");
     assert_cut(
         &rt,
         &mut text,

@@ -13,10 +13,11 @@ fn outlived(alloc: Global) -> Option<&'static str> {
 
 #[test]
 fn a_text_is_read(rt: HostRuntime) {
-    let mut text = borrowed(rt.alloc(), LINE);
+    let alloc = rt.alloc();
+    let mut text = borrowed(alloc, LINE);
     assert_eq!(rt; text.len(), 29);
     assert_eq!(rt; text.as_str(), "a naïve reader of long lines");
-    assert_eq!(rt; outlived(rt.alloc()), Some("a naïve reader of long lines"));
+    assert_eq!(rt; outlived(alloc), Some("a naïve reader of long lines"));
     text.clear();
     assert_eq!(rt; text.len(), 0);
     assert_eq!(rt; text.as_static_str(), Some(""));

@@ -3,12 +3,12 @@
 
 use compact_str::CompactString;
 use compact_testing::seen::{is_heap, is_inline};
-use compact_testing::values::{append, letters, value_of, with_room};
+use compact_testing::values::{append, letters, short, with_room};
 use std::alloc::Global;
 
 #[test]
 fn an_append_grows_the_buffer_by_half(rt: HostRuntime) {
-    let mut value = value_of(rt.alloc(), letters(24)).expect(&rt, "memory");
+    let mut value = short(rt.alloc(), letters(24));
     append(&mut value, "a").expect(&rt, "memory");
     assert!(rt; is_heap(&value, 36, letters(25)));
 }
@@ -30,10 +30,11 @@ fn has_room(alloc: Global, capacity: usize) -> bool {
 
 #[test]
 fn what_goes_past_the_limit_is_refused_with_ample_memory(rt: HostRuntime) {
-    assert!(rt; has_room(rt.alloc(), 100));
-    assert!(rt; !has_room(rt.alloc(), 72_057_594_037_927_935));
-    assert!(rt; !has_room(rt.alloc(), usize::MAX));
-    let mut value = value_of(rt.alloc(), "ab").expect(&rt, "memory");
+    let alloc = rt.alloc();
+    assert!(rt; has_room(alloc, 100));
+    assert!(rt; !has_room(alloc, 72_057_594_037_927_935));
+    assert!(rt; !has_room(alloc, usize::MAX));
+    let mut value = short(alloc, "ab");
     assert!(rt; value.try_reserve(usize::MAX).is_err());
     assert!(rt; is_inline(&value, "ab"));
     assert!(rt; value.repeat(36_028_797_018_963_968).is_err());

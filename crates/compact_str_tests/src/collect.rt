@@ -19,6 +19,7 @@ fn joined(rt: &impl Abort, alloc: Global, texts: &[&str], separator: &str) -> Co
 
 #[test]
 fn items_are_joined_and_concatenated(rt: HostRuntime) {
+    let alloc = rt.alloc();
     for (texts, separator, text) in [
         (
             ["apples", "oranges", "bananas"].as_slice(),
@@ -30,12 +31,12 @@ fn items_are_joined_and_concatenated(rt: HostRuntime) {
         (["a", ""].as_slice(), "-", "a-"),
         (["", "", "b"].as_slice(), "-", "--b"),
     ] {
-        assert!(rt; is_inline(&joined(&rt, rt.alloc(), texts, separator), text));
+        assert!(rt; is_inline(&joined(&rt, alloc, texts, separator), text));
     }
     let parts = ["hello", " ", "world", "!"];
     let value = parts
         .into_iter()
-        .concat_compact(rt.alloc())
+        .concat_compact(alloc)
         .expect(&rt, "memory");
     assert!(rt; is_inline(&value, "hello world!"));
 }
@@ -79,11 +80,9 @@ fn texts_by_value_are_items_of_the_traits(rt: HostRuntime) {
 
 #[test]
 fn values_are_put_behind_a_string(rt: HostRuntime) {
-    let mut line = String::from_str(rt.alloc(), "a").expect(&rt, "memory");
-    let values = [
-        CompactString::const_new(rt.alloc(), "b"),
-        lasting(rt.alloc(), 30),
-    ];
+    let alloc = rt.alloc();
+    let mut line = String::from_str(alloc, "a").expect(&rt, "memory");
+    let values = [CompactString::const_new(alloc, "b"), lasting(alloc, 30)];
     append_all(&mut line, values).expect(&rt, "memory");
     assert_eq!(rt; line.as_str(), "abaaaaaaaaaaaaaaaaaaaaaaaaaaaaaa");
 }

@@ -3,7 +3,9 @@
 
 use compact_str::CompactString;
 use compact_testing::seen::{is_heap, is_static};
-use compact_testing::values::{append, lasting, letters, string_with_room, value_of, with_room};
+use compact_testing::values::{
+    append, lasting, letters, short, string_with_room, value_of, with_room,
+};
 use std::alloc::{AllocError, Global};
 use std::cmp::Ordering;
 use std::hash::{DefaultHasher, Hash, Hasher};
@@ -43,9 +45,10 @@ fn assert_less(rt: &impl Abort, value: &CompactString, other: &CompactString) {
 
 #[test]
 fn places_and_capacities_have_no_part(rt: HostRuntime) {
-    let borrowed = lasting(rt.alloc(), 30);
-    let made = value_of(rt.alloc(), letters(30)).expect(&rt, "memory");
-    let text = string_with_room(rt.alloc(), 90, letters(30)).expect(&rt, "memory");
+    let alloc = rt.alloc();
+    let borrowed = lasting(alloc, 30);
+    let made = value_of(alloc, letters(30)).expect(&rt, "memory");
+    let text = string_with_room(alloc, 90, letters(30)).expect(&rt, "memory");
     let taken_over = CompactString::from_string_buffer(text);
     assert!(rt; is_static(&borrowed, letters(30)));
     assert!(rt; is_heap(&made, 32, letters(30)));
@@ -63,11 +66,12 @@ fn cut_to_3(rt: &impl Abort, value: &mut CompactString) {
 
 #[test]
 fn what_stood_behind_a_text_has_no_part(rt: HostRuntime) {
-    let short = value_of(rt.alloc(), "äb").expect(&rt, "memory");
-    let mut inline = value_of(rt.alloc(), "äbcdefghijklmn").expect(&rt, "memory");
+    let alloc = rt.alloc();
+    let plain = short(alloc, "äb");
+    let mut inline = short(alloc, "äbcdefghijklmn");
     cut_to_3(&rt, &mut inline);
-    assert_same(&rt, &short, &inline);
-    let mut heap = with_room(rt.alloc(), 60).expect(&rt, "memory");
+    assert_same(&rt, &plain, &inline);
+    let mut heap = with_room(alloc, 60).expect(&rt, "memory");
     append(&mut heap, "äbcdefghijklmnopqrstuvwxyz0123456789").expect(&rt, "memory");
     cut_to_3(&rt, &mut heap);
     assert_same(&rt, &inline, &heap);
@@ -75,22 +79,24 @@ fn what_stood_behind_a_text_has_no_part(rt: HostRuntime) {
 
 #[test]
 fn texts_are_in_this_order(rt: HostRuntime) {
+    let alloc = rt.alloc();
     let texts = ["", "a", "ab", "b", "\u{fffd}", "\u{10000}"];
     for i in 1..texts.len() {
-        let value = value_of(rt.alloc(), texts[i - 1]).expect(&rt, "memory");
+        let value = value_of(alloc, texts[i - 1]).expect(&rt, "memory");
         assert_less(
             &rt,
             &value,
-            &value_of(rt.alloc(), texts[i]).expect(&rt, "memory"),
+            &value_of(alloc, texts[i]).expect(&rt, "memory"),
         );
     }
 }
 
 #[test]
 fn the_first_place_that_differs_decides_at_any_length(rt: HostRuntime) {
+    let alloc = rt.alloc();
     for count in 0..40 {
-        let mut less = value_of(rt.alloc(), letters(count)).expect(&rt, "memory");
-        let mut greater = value_of(rt.alloc(), letters(count)).expect(&rt, "memory");
+        let mut less = value_of(alloc, letters(count)).expect(&rt, "memory");
+        let mut greater = value_of(alloc, letters(count)).expect(&rt, "memory");
         assert_same(&rt, &less, &greater);
         append(&mut less, "\u{ffff}zz").expect(&rt, "memory");
         assert_less(&rt, &greater, &less);
@@ -101,13 +107,14 @@ fn the_first_place_that_differs_decides_at_any_length(rt: HostRuntime) {
 
 #[test]
 fn a_value_hashes_as_its_str(rt: HostRuntime) {
+    let alloc = rt.alloc();
     for count in 0..65 {
         let text = letters(count);
         assert_eq!(rt;
-            hash_of(&value_of(rt.alloc(), text).expect(&rt, "memory")),
+            hash_of(&value_of(alloc, text).expect(&rt, "memory")),
             hash_of_str(text)
         );
-        assert_eq!(rt; hash_of(&lasting(rt.alloc(), count)), hash_of_str(text));
+        assert_eq!(rt; hash_of(&lasting(alloc, count)), hash_of_str(text));
     }
 }
 

@@ -10,15 +10,17 @@ use std::process::Abort;
 
 #[test]
 fn texts_of_the_program_are_static_if_they_are_long(rt: HostRuntime) {
-    let value = lasting(rt.alloc(), 30);
+    let alloc = rt.alloc();
+    let value = lasting(alloc, 30);
     assert!(rt; is_static(&value, letters(30)));
     assert_eq!(rt; value.as_static_str(), Some(letters(30)));
-    let short = CompactString::const_new(rt.alloc(), "abc");
+    let short = CompactString::const_new(alloc, "abc");
     assert!(rt; is_inline(&short, "abc"));
 }
 
 #[test]
 fn strings_are_taken_over_or_move_inline(rt: HostRuntime) {
+    let alloc = rt.alloc();
     for (room, text, place, capacity) in [
         (100, "", "inline", 24),
         (256, "abc", "inline", 24),
@@ -26,30 +28,29 @@ fn strings_are_taken_over_or_move_inline(rt: HostRuntime) {
         (31, letters(30), "heap", 31),
         (100, letters(30), "heap", 100),
     ] {
-        let value = CompactString::from(string_with_room(rt.alloc(), room, text).expect(
-            &rt, "memory",
-        ));
+        let value = CompactString::from(string_with_room(alloc, room, text).expect(&rt, "memory"));
         assert!(rt; is_at(&value, place, capacity, text));
-        let owned = CowStr::Owned(string_with_room(rt.alloc(), room, text).expect(&rt, "memory"));
-        let value = CompactString::from_cow(rt.alloc(), owned).expect(&rt, "memory");
+        let owned = CowStr::Owned(string_with_room(alloc, room, text).expect(&rt, "memory"));
+        let value = CompactString::from_cow(alloc, owned).expect(&rt, "memory");
         assert!(rt; is_at(&value, place, capacity, text));
     }
 }
 
 #[test]
 fn bytes_and_boxes_are_taken_over_or_move_inline(rt: HostRuntime) {
+    let alloc = rt.alloc();
     for (room, text, place, capacity) in [
         (100, "", "inline", 24),
         (256, "abc", "inline", 24),
         (90, letters(30), "heap", 90),
         (100, letters(40), "heap", 100),
     ] {
-        let bytes = string_with_room(rt.alloc(), room, text)
+        let bytes = string_with_room(alloc, room, text)
             .expect(&rt, "memory")
             .into_bytes();
         let value = CompactString::try_from(bytes).expect(&rt, "a text");
         assert!(rt; is_at(&value, place, capacity, text));
-        let boxed = string_with_room(rt.alloc(), room, text)
+        let boxed = string_with_room(alloc, room, text)
             .expect(&rt, "memory")
             .into_boxed_str();
         assert!(rt; is_at(&CompactString::from(boxed), place, capacity, text));
@@ -67,18 +68,20 @@ fn are_no_text(rt: &impl Abort, alloc: Global, bytes: &[u8]) {
 
 #[test]
 fn bytes_that_are_no_text_come_back(rt: HostRuntime) {
-    are_no_text(&rt, rt.alloc(), &[0xc3]);
-    are_no_text(&rt, rt.alloc(), &[0x61, 0xff]);
-    are_no_text(&rt, rt.alloc(), &[0xed, 0xa0, 0x80]);
+    let alloc = rt.alloc();
+    are_no_text(&rt, alloc, &[0xc3]);
+    are_no_text(&rt, alloc, &[0x61, 0xff]);
+    are_no_text(&rt, alloc, &[0xed, 0xa0, 0x80]);
 }
 
 #[test]
 fn string_buffers_are_taken_over_with_short_texts_too(rt: HostRuntime) {
-    let none = CompactString::from_string_buffer(string_with_room(rt.alloc(), 100, "").expect(
+    let alloc = rt.alloc();
+    let none = CompactString::from_string_buffer(string_with_room(alloc, 100, "").expect(
         &rt, "memory",
     ));
     assert!(rt; is_heap(&none, 100, letters(0)));
-    let unbuffered = CompactString::from_string_buffer(String::new(rt.alloc()));
+    let unbuffered = CompactString::from_string_buffer(String::new(alloc));
     assert!(rt; is_inline(&unbuffered, ""));
 }
 

@@ -2,7 +2,7 @@
 
 use compact_str::{CompactString, FromJsonError};
 use compact_testing::seen::{is_heap, is_inline};
-use compact_testing::values::{lasting, letters, string_with_room, value_of, with_room};
+use compact_testing::values::{lasting, letters, short, string_with_room, with_room};
 use serde_json::{Value, json};
 use std::alloc::{AllocError, Global};
 use std::borrow::CowStr;
@@ -30,10 +30,7 @@ fn what_leaves_has_this_room(rt: HostRuntime) {
     assert!(rt; is_heap(&value, 90, letters(30)));
     let bytes = value.into_vec().expect(&rt, "memory");
     assert_eq!(rt; bytes.capacity(), 90);
-    let bytes = value_of(alloc, "äb")
-        .expect(&rt, "memory")
-        .into_bytes()
-        .expect(&rt, "memory");
+    let bytes = short(alloc, "äb").into_bytes().expect(&rt, "memory");
     assert_eq!(rt; bytes.as_slice(), [0xc3, 0xa4, 0x62].as_slice());
     assert_eq!(rt; bytes.capacity(), 24);
 }
@@ -41,10 +38,7 @@ fn what_leaves_has_this_room(rt: HostRuntime) {
 #[test]
 fn boxes_and_shared_texts_have_the_text(rt: HostRuntime) {
     let alloc = rt.alloc();
-    let boxed = value_of(alloc, "äb")
-        .expect(&rt, "memory")
-        .into_boxed_str()
-        .expect(&rt, "memory");
+    let boxed = short(alloc, "äb").into_boxed_str().expect(&rt, "memory");
     assert_eq!(rt; boxed.as_str(), "äb");
     let boxed = shortened(&rt, alloc).into_boxed_str().expect(&rt, "memory");
     assert_eq!(rt; boxed.as_str(), "äb");
@@ -65,10 +59,7 @@ fn a_static_text_is_borrowed_and_others_are_owned(rt: HostRuntime) {
     let alloc = rt.alloc();
     let cow = lasting(alloc, 30).into_cow().expect(&rt, "memory");
     is_lent(&rt, cow, letters(30), true);
-    let cow = value_of(alloc, "äb")
-        .expect(&rt, "memory")
-        .into_cow()
-        .expect(&rt, "memory");
+    let cow = short(alloc, "äb").into_cow().expect(&rt, "memory");
     is_lent(&rt, cow, "äb", false);
     let value = shortened(&rt, alloc);
     is_lent(&rt, value.as_cow(), "äb", true);
@@ -93,9 +84,9 @@ fn value_in(rt: &impl Abort, alloc: Global, json: &Value) -> CompactString {
 #[test]
 fn a_value_is_a_json_string(rt: HostRuntime) {
     let alloc = rt.alloc();
-    let json = json_of(&rt, &value_of(alloc, "abc").expect(&rt, "memory"));
+    let json = json_of(&rt, &short(alloc, "abc"));
     is_printed(&rt, alloc, &json, "\"abc\"");
-    let json = json_of(&rt, &value_of(alloc, "ä\"\n").expect(&rt, "memory"));
+    let json = json_of(&rt, &short(alloc, "ä\"\n"));
     is_printed(&rt, alloc, &json, "\"ä\\\"\\n\"");
     let json = json_of(&rt, &lasting(alloc, 30));
     assert!(rt; is_heap(&value_in(&rt, alloc, &json), 32, letters(30)));

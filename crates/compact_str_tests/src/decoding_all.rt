@@ -49,15 +49,16 @@ fn mix_lossy(rt: &impl Abort, alloc: Global, sum: u64, bytes: &[u8]) -> u64 {
 
 #[test]
 fn all_inputs_of_two_bytes(rt: HostRuntime) {
+    let alloc = rt.alloc();
     let mut texts = 0u32;
     let mut sum = 0;
     for first in 0..=255 {
         for second in 0..=255 {
-            let error = error_of(&rt, rt.alloc(), &[first, second]);
+            let error = error_of(&rt, alloc, &[first, second]);
             if error == 255 {
                 texts = texts.wrapping_add(1);
             }
-            sum = mix_lossy(&rt, rt.alloc(), mix(sum, error), &[first, second]);
+            sum = mix_lossy(&rt, alloc, mix(sum, error), &[first, second]);
         }
     }
     assert_eq!(rt; texts, 18304);
@@ -66,16 +67,17 @@ fn all_inputs_of_two_bytes(rt: HostRuntime) {
 
 #[test]
 fn all_inputs_of_three_bytes_at_the_bounds(rt: HostRuntime) {
+    let alloc = rt.alloc();
     let mut texts = 0u32;
     let mut sum = 0;
     for first in BOUNDS {
         for second in BOUNDS {
             for third in BOUNDS {
-                let error = error_of(&rt, rt.alloc(), &[first, second, third]);
+                let error = error_of(&rt, alloc, &[first, second, third]);
                 if error == 255 {
                     texts = texts.wrapping_add(1);
                 }
-                sum = mix_lossy(&rt, rt.alloc(), mix(sum, error), &[first, second, third]);
+                sum = mix_lossy(&rt, alloc, mix(sum, error), &[first, second, third]);
             }
         }
     }

@@ -3,7 +3,7 @@
 //! What a format made is handed to a function as it is: a test that answered each error would be dear to prove.
 
 use compact_str::{CompactString, FromJsonError, ReserveError};
-use compact_testing::values::{lasting, letters, value_of};
+use compact_testing::values::{lasting, letters, short};
 use std::alloc::AllocError;
 use std::process::Abort;
 
@@ -15,7 +15,7 @@ fn is(rt: &impl Abort, made: Result<String, AllocError>, text: &str) {
 #[test]
 fn a_value_is_shown_as_its_text(rt: HostRuntime) {
     let alloc = rt.alloc();
-    let value = value_of(alloc, "äb").expect(&rt, "memory");
+    let value = short(alloc, "äb");
     is(&rt, format!(in alloc; "{value}"), "äb");
     is(&rt, format!(in alloc; "<{value}>"), "<äb>");
     let long = lasting(alloc, 40);
@@ -27,7 +27,7 @@ fn a_value_is_shown_as_its_text(rt: HostRuntime) {
 #[test]
 fn a_width_pads_by_characters(rt: HostRuntime) {
     let alloc = rt.alloc();
-    let value = value_of(alloc, "äb").expect(&rt, "memory");
+    let value = short(alloc, "äb");
     is(&rt, format!(in alloc; "{value:*>5}"), "***äb");
     is(&rt, format!(in alloc; "{value:*^6}"), "**äb**");
     is(&rt, format!(in alloc; "{value:>9}"), "       äb");
@@ -38,7 +38,7 @@ fn a_width_pads_by_characters(rt: HostRuntime) {
 #[test]
 fn a_precision_cuts_by_characters(rt: HostRuntime) {
     let alloc = rt.alloc();
-    let value = value_of(alloc, "€äb😀").expect(&rt, "memory");
+    let value = short(alloc, "€äb😀");
     is(&rt, format!(in alloc; "{value:.2}"), "€ä");
     is(&rt, format!(in alloc; "{value:.4}"), "€äb😀");
     is(&rt, format!(in alloc; "{value:->6.3}"), "---€äb");
@@ -47,7 +47,7 @@ fn a_precision_cuts_by_characters(rt: HostRuntime) {
 #[test]
 fn debug_quotes_and_escapes(rt: HostRuntime) {
     let alloc = rt.alloc();
-    let value = value_of(alloc, "ä\"b\\\n\t€😀").expect(&rt, "memory");
+    let value = short(alloc, "ä\"b\\\n\t€😀");
     is(
         &rt,
         format!(in alloc; "{value:?}"),

@@ -11,9 +11,10 @@ fn has_memory(alloc: Global) -> bool {
 
 #[test]
 fn each_request_is_refused_until_the_hog_is_dropped(rt: HostRuntime) {
-    let hog = take_all(rt.alloc()).expect(&rt, "room for the list of blocks");
+    let alloc = rt.alloc();
+    let hog = take_all(alloc).expect(&rt, "room for the list of blocks");
     assert!(rt; hog.block_count() > 0);
-    assert!(rt; !has_memory(rt.alloc()));
+    assert!(rt; !has_memory(alloc));
     drop(hog);
-    assert!(rt; has_memory(rt.alloc()));
+    assert!(rt; has_memory(alloc));
 }

@@ -46,9 +46,10 @@ fn is_packed_anew(rt: &impl Abort, alloc: Global, value: &CompactString) {
 
 #[test]
 fn rows_of_made_values(rt: HostRuntime) {
+    let alloc = rt.alloc();
     let mut row = [0; 24];
     row[23] = 0xC0;
-    assert_eq!(rt; bytes_of(&rt, &CompactString::default(rt.alloc())), row);
+    assert_eq!(rt; bytes_of(&rt, &CompactString::default(alloc)), row);
     for (text, row) in [
         ("", b"\0\0\0\0\0\0\0\0\0\0\0\0\0\0\0\0\0\0\0\0\0\0\0\xC0"),
         ("hello world", b"hello world\0\0\0\0\0\0\0\0\0\0\0\0\xCB"),
@@ -57,7 +58,7 @@ fn rows_of_made_values(rt: HostRuntime) {
         ("i am 24 characters long!", b"i am 24 characters long!"),
     ] {
         assert_eq!(rt;
-            &bytes_of(&rt, &value_of(rt.alloc(), text).expect(&rt, "memory")),
+            &bytes_of(&rt, &value_of(alloc, text).expect(&rt, "memory")),
             row
         );
     }
@@ -65,30 +66,27 @@ fn rows_of_made_values(rt: HostRuntime) {
 
 #[test]
 fn the_last_byte_of_24_is_of_the_text_or_its_length(rt: HostRuntime) {
-    let euros = bytes_of(&rt, &value_of(rt.alloc(), "€€€€€€€€").expect(&rt, "memory"));
+    let alloc = rt.alloc();
+    let euros = bytes_of(&rt, &value_of(alloc, "€€€€€€€€").expect(&rt, "memory"));
     assert_eq!(rt; euros[23], 0xAC);
-    let mut cut = value_of(rt.alloc(), letters(24)).expect(&rt, "memory");
+    let mut cut = value_of(alloc, letters(24)).expect(&rt, "memory");
     truncate(&rt, &mut cut, 3);
     assert_eq!(rt; bytes_of(&rt, &cut)[23], 0xC3);
-    is_packed(&rt, rt.alloc(), &cut);
+    is_packed(&rt, alloc, &cut);
 }
 
 #[test]
 fn only_inline_values_have_the_bytes(rt: HostRuntime) {
-    assert_eq!(rt; lasting(rt.alloc(), 25).packed(), None);
+    let alloc = rt.alloc();
+    assert_eq!(rt; lasting(alloc, 25).packed(), None);
     assert_eq!(rt;
-        value_of(rt.alloc(), letters(25))
-            .expect(&rt, "memory")
-            .packed(),
+        value_of(alloc, letters(25)).expect(&rt, "memory").packed(),
         None
     );
-    assert_eq!(rt;
-        with_room(rt.alloc(), 25).expect(&rt, "memory").packed(),
-        None
-    );
-    assert!(rt; lasting(rt.alloc(), 24).packed().is_some());
+    assert_eq!(rt; with_room(alloc, 25).expect(&rt, "memory").packed(), None);
+    assert!(rt; lasting(alloc, 24).packed().is_some());
     assert!(rt;
-        value_of(rt.alloc(), letters(24))
+        value_of(alloc, letters(24))
             .expect(&rt, "memory")
             .packed()
             .is_some()
@@ -97,30 +95,33 @@ fn only_inline_values_have_the_bytes(rt: HostRuntime) {
 
 #[test]
 fn bytes_that_stand_for_a_text_are_read(rt: HostRuntime) {
-    assert!(rt; is_inline(&read(&rt, rt.alloc(), &[0x61; 24]), letters(24)));
+    let alloc = rt.alloc();
+    assert!(rt; is_inline(&read(&rt, alloc, &[0x61; 24]), letters(24)));
     let mut row = [0xFF; 24];
     row[0] = 0x61;
     row[23] = 0xC1;
-    assert!(rt; is_inline(&read(&rt, rt.alloc(), &row), "a"));
+    assert!(rt; is_inline(&read(&rt, alloc, &row), "a"));
     row[23] = 0xC0;
-    assert!(rt; is_inline(&read(&rt, rt.alloc(), &row), ""));
+    assert!(rt; is_inline(&read(&rt, alloc, &row), ""));
 }
 
 #[test]
 fn bytes_that_stand_for_no_text_are_refused(rt: HostRuntime) {
+    let alloc = rt.alloc();
     for (first, last) in [(0, 0xD8), (0, 0xFF), (0xFF, 0xC1)] {
         let mut row = [0; 24];
         row[0] = first;
         row[23] = last;
-        assert!(rt; CompactString::from_packed(rt.alloc(), &row).is_none());
+        assert!(rt; CompactString::from_packed(alloc, &row).is_none());
     }
-    assert!(rt; CompactString::from_packed(rt.alloc(), &[0x80; 24]).is_none());
+    assert!(rt; CompactString::from_packed(alloc, &[0x80; 24]).is_none());
 }
 
 #[test]
 fn each_length_is_packed(rt: HostRuntime) {
-    let mut value = CompactString::default(rt.alloc());
-    is_packed_anew(&rt, rt.alloc(), &value);
+    let alloc = rt.alloc();
+    let mut value = CompactString::default(alloc);
+    is_packed_anew(&rt, alloc, &value);
     for count in 0..24u8 {
         value
             .push_str(
@@ -129,32 +130,34 @@ fn each_length_is_packed(rt: HostRuntime) {
                     .unwrap_or(""),
             )
             .expect(&rt, "memory");
-        is_packed_anew(&rt, rt.alloc(), &value);
+        is_packed_anew(&rt, alloc, &value);
     }
     assert!(rt; is_inline(&value, "abcdefghijklmnopqrstuvwx"));
 }
 
 #[test]
 fn each_length_is_cut(rt: HostRuntime) {
-    let mut value = value_of(rt.alloc(), "abcdefghijklmnopqrstuvwx").expect(&rt, "memory");
+    let alloc = rt.alloc();
+    let mut value = value_of(alloc, "abcdefghijklmnopqrstuvwx").expect(&rt, "memory");
     for _ in 0..24u8 {
         assert!(rt; value.pop().is_some());
-        is_packed_anew(&rt, rt.alloc(), &value);
+        is_packed_anew(&rt, alloc, &value);
     }
     assert!(rt; is_inline(&value, ""));
 }
 
 #[test]
 fn what_stands_behind_a_text_is_not_read(rt: HostRuntime) {
+    let alloc = rt.alloc();
     for count in 0..24u8 {
         let mut row = [0xFF; 24];
         row[23] = 192 + count;
         for place in 0..count as usize {
             row[place] = 0x61;
         }
-        let value = read(&rt, rt.alloc(), &row);
+        let value = read(&rt, alloc, &row);
         assert!(rt; is_inline(&value, letters(count as usize)));
-        is_packed_anew(&rt, rt.alloc(), &value);
+        is_packed_anew(&rt, alloc, &value);
     }
 }
 
@@ -170,20 +173,21 @@ fn is_wiped(rt: &impl Abort, alloc: Global, mut value: CompactString) {
 
 #[test]
 fn a_wiped_value_has_zeros_and_the_mark_of_no_text(rt: HostRuntime) {
+    let alloc = rt.alloc();
     for count in 0..25 {
         is_wiped(
             &rt,
-            rt.alloc(),
-            value_of(rt.alloc(), letters(count)).expect(&rt, "memory"),
+            alloc,
+            value_of(alloc, letters(count)).expect(&rt, "memory"),
         );
-        let mut cut = value_of(rt.alloc(), letters(24)).expect(&rt, "memory");
+        let mut cut = value_of(alloc, letters(24)).expect(&rt, "memory");
         truncate(&rt, &mut cut, count);
-        is_wiped(&rt, rt.alloc(), cut);
+        is_wiped(&rt, alloc, cut);
     }
     is_wiped(
         &rt,
-        rt.alloc(),
-        value_of(rt.alloc(), "€€€€€€€€").expect(&rt, "memory"),
+        alloc,
+        value_of(alloc, "€€€€€€€€").expect(&rt, "memory"),
     );
-    is_wiped(&rt, rt.alloc(), lasting(rt.alloc(), 30));
+    is_wiped(&rt, alloc, lasting(alloc, 30));
 }

@@ -3,7 +3,7 @@
 
 use compact_str::CompactString;
 use compact_testing::seen::{is_inline, is_static};
-use compact_testing::values::{lasting, letters, value_of};
+use compact_testing::values::{lasting, letters, short};
 use std::ops::Bound::{Excluded, Included, Unbounded};
 use std::process::Abort;
 
@@ -29,7 +29,7 @@ fn texts_of_the_program_are_split(rt: HostRuntime) {
 
 #[test]
 fn boundaries_are_where_characters_begin_and_end(rt: HostRuntime) {
-    let value = value_of(rt.alloc(), "äb𝄞").expect(&rt, "memory");
+    let value = short(rt.alloc(), "äb𝄞");
     for (index, boundary) in [
         (0, true),
         (1, false),
@@ -47,7 +47,7 @@ fn boundaries_are_where_characters_begin_and_end(rt: HostRuntime) {
 
 #[test]
 fn bounds_make_a_range_or_none(rt: HostRuntime) {
-    let value = value_of(rt.alloc(), "äb").expect(&rt, "memory");
+    let value = short(rt.alloc(), "äb");
     for (start, end, range) in [
         (Excluded(1), Excluded(3), Some((2, 3))),
         (Unbounded, Included(2), Some((0, 3))),

@@ -3,7 +3,7 @@
 use compact_str::{CompactString, Drain, Standard};
 use compact_testing::memory::take_all;
 use compact_testing::seen::{is_inline, is_static};
-use compact_testing::values::{lasting, letters, value_of};
+use compact_testing::values::{lasting, letters, short};
 use std::fmt::Write;
 use std::ops::Bound;
 use std::ops::Bound::{Excluded, Included, Unbounded};
@@ -27,7 +27,7 @@ fn greeted<'a>(rt: &impl Abort, value: &'a mut CompactString) -> Drain<'a, Stand
 
 #[test]
 fn a_drain_gives_its_characters_from_both_ends(rt: HostRuntime) {
-    let mut value = value_of(rt.alloc(), "Hello, world!").expect(&rt, "memory");
+    let mut value = short(rt.alloc(), "Hello, world!");
     let mut drained = greeted(&rt, &mut value);
     assert!(rt; drained.size_hint() == (2, Some(7)));
     assert_eq!(rt; drained.next(), Some(','));
@@ -39,7 +39,7 @@ fn a_drain_gives_its_characters_from_both_ends(rt: HostRuntime) {
 
 #[test]
 fn a_drain_is_counted(rt: HostRuntime) {
-    let mut value = value_of(rt.alloc(), "Hello, world!").expect(&rt, "memory");
+    let mut value = short(rt.alloc(), "Hello, world!");
     assert_eq!(rt; greeted(&rt, &mut value).as_str().chars().count(), 7);
     assert!(rt; is_inline(&value, "Hello!"));
 }
@@ -54,14 +54,14 @@ fn drained_count(rt: &impl Abort, value: &mut CompactString) -> usize {
 
 #[test]
 fn a_drain_counts_what_is_left(rt: HostRuntime) {
-    let mut value = value_of(rt.alloc(), "Hello, world!").expect(&rt, "memory");
+    let mut value = short(rt.alloc(), "Hello, world!");
     assert_eq!(rt; drained_count(&rt, &mut value), 7);
     assert!(rt; is_inline(&value, "Hello!"));
 }
 
 #[test]
 fn a_drain_shows_what_is_not_taken_yet(rt: HostRuntime) {
-    let mut value = value_of(rt.alloc(), "Hello, world!").expect(&rt, "memory");
+    let mut value = short(rt.alloc(), "Hello, world!");
     let mut drained = greeted(&rt, &mut value);
     assert_eq!(rt; drained.next(), Some(','));
     assert_eq!(rt; drained.as_str(), " world");
@@ -71,22 +71,23 @@ fn a_drain_shows_what_is_not_taken_yet(rt: HostRuntime) {
 
 #[test]
 fn the_last_of_a_drain_is_its_last(rt: HostRuntime) {
-    let mut value = value_of(rt.alloc(), "Hello, world!").expect(&rt, "memory");
+    let mut value = short(rt.alloc(), "Hello, world!");
     assert_eq!(rt; greeted(&rt, &mut value).last(), Some('d'));
     assert!(rt; is_inline(&value, "Hello!"));
 }
 
 #[test]
 fn the_last_of_a_drain_from_the_back_is_its_first(rt: HostRuntime) {
-    let mut value = value_of(rt.alloc(), "Hello, world!").expect(&rt, "memory");
+    let mut value = short(rt.alloc(), "Hello, world!");
     assert_eq!(rt; greeted(&rt, &mut value).rev().last(), Some(','));
     assert!(rt; is_inline(&value, "Hello!"));
 }
 
 #[test]
 fn a_drain_prints_what_is_left(rt: HostRuntime) {
-    let mut value = value_of(rt.alloc(), "Hello, world!").expect(&rt, "memory");
-    let mut printed = value_of(rt.alloc(), "").expect(&rt, "memory");
+    let alloc = rt.alloc();
+    let mut value = short(alloc, "Hello, world!");
+    let mut printed = short(alloc, "");
     let drained = greeted(&rt, &mut value);
     assert!(rt; write!(printed, "{drained:>9}{drained:?}").is_ok());
     drop(drained);
@@ -95,7 +96,7 @@ fn a_drain_prints_what_is_left(rt: HostRuntime) {
 
 #[test]
 fn the_ends_of_a_drain_meet(rt: HostRuntime) {
-    let mut value = value_of(rt.alloc(), "𝄞🦄𝄢").expect(&rt, "memory");
+    let mut value = short(rt.alloc(), "𝄞🦄𝄢");
     let mut drained = drain(&rt, &mut value, Unbounded, Unbounded);
     assert_eq!(rt; drained.next_back(), Some('𝄢'));
     assert_eq!(rt; drained.next(), Some('𝄞'));
@@ -109,7 +110,7 @@ fn the_ends_of_a_drain_meet(rt: HostRuntime) {
 
 #[test]
 fn retain_asks_once_for_each_character(rt: HostRuntime) {
-    let mut value = value_of(rt.alloc(), "äb𝄞d€").expect(&rt, "memory");
+    let mut value = short(rt.alloc(), "äb𝄞d€");
     let mut asked: usize = 0;
     let kept = value.retain(|character| {
         asked = asked.saturating_add(1);
@@ -122,8 +123,9 @@ fn retain_asks_once_for_each_character(rt: HostRuntime) {
 
 #[test]
 fn a_refusal_of_retain_has_asked_nothing(rt: HostRuntime) {
-    let mut value = lasting(rt.alloc(), 30);
-    let hog = take_all(rt.alloc()).expect(&rt, "room for the list of blocks");
+    let alloc = rt.alloc();
+    let mut value = lasting(alloc, 30);
+    let hog = take_all(alloc).expect(&rt, "room for the list of blocks");
     let mut asked = false;
     let kept = value.retain(|_| {
         asked = true;

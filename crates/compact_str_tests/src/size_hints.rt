@@ -3,7 +3,7 @@
 use crate::hints::with_hint;
 use compact_str::{CompactString, CompactStringExt, append_all};
 use compact_testing::seen::{is_at, is_fitted, is_inline};
-use compact_testing::values::{letters, value_of};
+use compact_testing::values::{letters, short};
 use std::alloc::Global;
 use std::process::Abort;
 
@@ -73,21 +73,19 @@ pub fn assert_appended(
 
 #[test]
 fn short_texts_are_what_the_items_give(rt: HostRuntime) {
+    let alloc = rt.alloc();
     for too_much in [false, true] {
-        assert_collected(&rt, rt.alloc(), too_much);
-        assert_collected_by_trait(&rt, rt.alloc(), too_much);
-        assert_extended(&rt, rt.alloc(), too_much);
+        assert_collected(&rt, alloc, too_much);
+        assert_collected_by_trait(&rt, alloc, too_much);
+        assert_extended(&rt, alloc, too_much);
     }
 }
 
 #[test]
 fn a_string_is_given_what_the_items_give(rt: HostRuntime) {
-    let values = [
-        value_of(rt.alloc(), "a").expect(&rt, "memory"),
-        value_of(rt.alloc(), "").expect(&rt, "memory"),
-        value_of(rt.alloc(), "bc").expect(&rt, "memory"),
-    ];
-    let line = assert_appended(&rt, String::new(rt.alloc()), &values, false);
+    let alloc = rt.alloc();
+    let values = [short(alloc, "a"), short(alloc, ""), short(alloc, "bc")];
+    let line = assert_appended(&rt, String::new(alloc), &values, false);
     let line = assert_appended(&rt, line, &values, true);
     assert_eq!(rt; line.len(), 0);
 }
@@ -112,8 +110,9 @@ fn assert_long(rt: &impl Abort, alloc: Global, too_much: bool) {
 
 #[test]
 fn long_texts_are_what_the_items_give(rt: HostRuntime) {
-    assert_long(&rt, rt.alloc(), false);
-    assert_long(&rt, rt.alloc(), true);
+    let alloc = rt.alloc();
+    assert_long(&rt, alloc, false);
+    assert_long(&rt, alloc, true);
 }
 
 /// Extends a static text of 30 bytes by nothing and by a letter, and 24 bytes by a letter: room is made item by item, by the
@@ -124,7 +123,7 @@ fn assert_room(rt: &impl Abort, alloc: Global, too_much: bool) {
     assert!(rt; is_at(&value, "static", 30, letters(30)));
     assert!(rt; value.extend_texts(with_hint(&["a"], too_much)).is_ok());
     assert!(rt; is_at(&value, "heap", 45, letters(31)));
-    let mut value = value_of(alloc, letters(24)).expect(rt, "memory");
+    let mut value = short(alloc, letters(24));
     let letter = ['a'];
     assert!(rt;
         value
@@ -138,6 +137,7 @@ fn assert_room(rt: &impl Abort, alloc: Global, too_much: bool) {
 
 #[test]
 fn an_extension_makes_room_for_what_came(rt: HostRuntime) {
-    assert_room(&rt, rt.alloc(), false);
-    assert_room(&rt, rt.alloc(), true);
+    let alloc = rt.alloc();
+    assert_room(&rt, alloc, false);
+    assert_room(&rt, alloc, true);
 }

@@ -7,29 +7,28 @@ use crate::size_hints::{
 use compact_str::{CompactString, CompactStringExt, append_all};
 use compact_testing::memory::take_all;
 use compact_testing::seen::is_inline;
-use compact_testing::values::{letters, value_of};
+use compact_testing::values::{letters, short, value_of};
 use std::alloc::{AllocError, Global};
 use std::process::Abort;
 
 #[test]
 fn no_hint_asks_for_memory(rt: HostRuntime) {
-    let hog = take_all(rt.alloc()).expect(&rt, "room for the list of blocks");
+    let alloc = rt.alloc();
+    let hog = take_all(alloc).expect(&rt, "room for the list of blocks");
     for too_much in [false, true] {
-        assert_collected(&rt, rt.alloc(), too_much);
-        assert_collected_by_trait(&rt, rt.alloc(), too_much);
-        assert_extended(&rt, rt.alloc(), too_much);
+        assert_collected(&rt, alloc, too_much);
+        assert_collected_by_trait(&rt, alloc, too_much);
+        assert_extended(&rt, alloc, too_much);
     }
     drop(hog);
 }
 
 #[test]
 fn a_string_with_room_is_given_the_texts(rt: HostRuntime) {
-    let values = [
-        value_of(rt.alloc(), "a").expect(&rt, "memory"),
-        value_of(rt.alloc(), "bc").expect(&rt, "memory"),
-    ];
-    let line = String::with_capacity(rt.alloc(), 32).expect(&rt, "memory");
-    let hog = take_all(rt.alloc()).expect(&rt, "room for the list of blocks");
+    let alloc = rt.alloc();
+    let values = [short(alloc, "a"), short(alloc, "bc")];
+    let line = String::with_capacity(alloc, 32).expect(&rt, "memory");
+    let hog = take_all(alloc).expect(&rt, "room for the list of blocks");
     let line = assert_appended(&rt, line, &values, false);
     let line = assert_appended(&rt, line, &values, true);
     drop(hog);
@@ -60,9 +59,10 @@ fn assert_refused(rt: &impl Abort, alloc: Global, too_much: bool) {
 
 #[test]
 fn more_than_24_bytes_are_refused(rt: HostRuntime) {
-    let hog = take_all(rt.alloc()).expect(&rt, "room for the list of blocks");
-    assert_refused(&rt, rt.alloc(), false);
-    assert_refused(&rt, rt.alloc(), true);
+    let alloc = rt.alloc();
+    let hog = take_all(alloc).expect(&rt, "room for the list of blocks");
+    assert_refused(&rt, alloc, false);
+    assert_refused(&rt, alloc, true);
     drop(hog);
 }
 
@@ -89,9 +89,10 @@ fn assert_stops(rt: &impl Abort, alloc: Global, too_much: bool) {
 
 #[test]
 fn an_extension_stops_at_what_is_refused(rt: HostRuntime) {
-    let hog = take_all(rt.alloc()).expect(&rt, "room for the list of blocks");
-    assert_stops(&rt, rt.alloc(), false);
-    assert_stops(&rt, rt.alloc(), true);
+    let alloc = rt.alloc();
+    let hog = take_all(alloc).expect(&rt, "room for the list of blocks");
+    assert_stops(&rt, alloc, false);
+    assert_stops(&rt, alloc, true);
     drop(hog);
 }
 
@@ -99,9 +100,9 @@ fn an_extension_stops_at_what_is_refused(rt: HostRuntime) {
 fn a_string_stops_at_the_value_that_is_refused(rt: HostRuntime) {
     let alloc = rt.alloc();
     let values = [
-        value_of(alloc, "ab").expect(&rt, "memory"),
+        short(alloc, "ab"),
         value_of(alloc, letters(80)).expect(&rt, "memory"),
-        value_of(alloc, "c").expect(&rt, "memory"),
+        short(alloc, "c"),
     ];
     let mut first = String::with_capacity(alloc, 40).expect(&rt, "memory");
     let mut second = String::with_capacity(alloc, 40).expect(&rt, "memory");

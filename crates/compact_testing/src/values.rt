@@ -18,6 +18,11 @@ pub fn lasting(alloc: Global, count: usize) -> CompactString {
     CompactString::const_new(alloc, letters(count))
 }
 
+/// A value with this text of the program, which has at most 24 bytes and so stands inline. It takes no memory.
+pub fn short(alloc: Global, text: &'static str) -> CompactString {
+    CompactString::const_new(alloc, text)
+}
+
 /// A value with this text.
 ///
 /// # Errors

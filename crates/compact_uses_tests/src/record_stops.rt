@@ -63,11 +63,12 @@ fn a_reader_that_fails_leaves_the_records_before(rt: HostRuntime) {
 
 #[test]
 fn a_reader_that_is_interrupted_is_asked_again(rt: HostRuntime) {
+    let alloc = rt.alloc();
     for call in 1..INPUT.len() + 2 {
-        let mut records = Vec::new(rt.alloc());
+        let mut records = Vec::new(alloc);
         let stop = Stop::Fails(call, ErrorKind::Interrupted);
-        assert!(rt; read(rt.alloc(), stop, &mut records).is_ok());
-        assert_report(&rt, rt.alloc(), &records, lines_of(2));
+        assert!(rt; read(alloc, stop, &mut records).is_ok());
+        assert_report(&rt, alloc, &records, lines_of(2));
     }
 }
 
@@ -87,21 +88,23 @@ fn assert_ended(
 
 #[test]
 fn an_input_that_ends_early_has_a_shorter_last_line(rt: HostRuntime) {
-    assert_ended(&rt, rt.alloc(), 0, None, 0);
-    assert_ended(&rt, rt.alloc(), 2, None, 1);
-    assert_ended(&rt, rt.alloc(), 7, None, 1);
-    assert_ended(&rt, rt.alloc(), 10, None, 2);
-    assert_ended(&rt, rt.alloc(), 12, None, 2);
+    let alloc = rt.alloc();
+    assert_ended(&rt, alloc, 0, None, 0);
+    assert_ended(&rt, alloc, 2, None, 1);
+    assert_ended(&rt, alloc, 7, None, 1);
+    assert_ended(&rt, alloc, 10, None, 2);
+    assert_ended(&rt, alloc, 12, None, 2);
 }
 
 #[test]
 fn an_input_that_ends_within_a_character_or_quotes_has_a_fault(rt: HostRuntime) {
+    let alloc = rt.alloc();
     let cause = RecordsCause::Utf8;
     let broken = Some(RecordsError { line: 1, cause });
-    assert_ended(&rt, rt.alloc(), 4, broken, 0);
-    assert_ended(&rt, rt.alloc(), 5, broken, 0);
+    assert_ended(&rt, alloc, 4, broken, 0);
+    assert_ended(&rt, alloc, 5, broken, 0);
     let cause = RecordsCause::Fault(compact_uses::Fault::OpenQuote);
     let open = Some(RecordsError { line: 2, cause });
-    assert_ended(&rt, rt.alloc(), 8, open, 1);
-    assert_ended(&rt, rt.alloc(), 9, open, 1);
+    assert_ended(&rt, alloc, 8, open, 1);
+    assert_ended(&rt, alloc, 9, open, 1);
 }

@@ -2,7 +2,7 @@
 
 use compact_str::CompactString;
 use compact_testing::memory::take_all;
-use compact_testing::values::value_of;
+use compact_testing::values::{short, value_of};
 use compact_uses::{
     Fault, LineError, RecordsCause, RecordsError, fields_of, quoted_line, read_records,
 };
@@ -75,10 +75,7 @@ fn a_quote_that_parts_the_fields_opens_none(rt: HostRuntime) {
 #[test]
 fn fields_are_written_in_quotes(rt: HostRuntime) {
     let alloc = rt.alloc();
-    let fields = [
-        value_of(alloc, "a").expect(&rt, "memory"),
-        value_of(alloc, "b\",").expect(&rt, "memory"),
-    ];
+    let fields = [short(alloc, "a"), short(alloc, "b\",")];
     let line = quoted_line(alloc, ',', &fields).expect(&rt, "memory");
     assert_eq!(rt; line.as_str(), "\"a\",\"b\"\",\"");
 }

@@ -36,9 +36,10 @@ fn kind_of(letter: char) -> Kind {
 // Of which kind a character is: Python's `isalpha`, `isnumeric` and `isspace`.
 #[test]
 fn characters_of_each_width_are_cut_by_their_kind(rt: HostRuntime) {
-    let mut names = Interner::new(rt.alloc());
+    let alloc = rt.alloc();
+    let mut names = Interner::new(alloc);
     let text = "ab, 12 éß字٣\u{a0}😀😀x";
-    let tokens = tokens_of(&rt, rt.alloc(), &mut names, text);
+    let tokens = tokens_of(&rt, alloc, &mut names, text);
     assert_eq!(rt; tokens.len(), 11);
     let numbers = [0, 1, 2, 3, 2, 4, 5, 6, 7, 7, 8];
     for (index, letter) in "w.snswns..w".chars().enumerate() {
@@ -53,8 +54,9 @@ fn characters_of_each_width_are_cut_by_their_kind(rt: HostRuntime) {
 
 #[test]
 fn an_empty_text_has_no_tokens(rt: HostRuntime) {
-    let mut names = Interner::new(rt.alloc());
-    let tokens = tokens_of(&rt, rt.alloc(), &mut names, "");
+    let alloc = rt.alloc();
+    let mut names = Interner::new(alloc);
+    let tokens = tokens_of(&rt, alloc, &mut names, "");
     assert_eq!(rt; tokens.len(), 0);
     assert_eq!(rt; names.len(), 0);
 }
@@ -71,10 +73,11 @@ fn is_refused(rt: &impl Abort, alloc: Global, names: &mut Interner, text: &Compa
 
 #[test]
 fn a_refused_list_of_tokens_or_a_long_word_leaves_the_names(rt: HostRuntime) {
-    let mut names = Interner::new(rt.alloc());
+    let alloc = rt.alloc();
+    let mut names = Interner::new(alloc);
     assert_eq!(rt; names.intern("ab").expect(&rt, "memory"), 0);
     for text in ["ab ab", letters(30)] {
-        let text = value_of(rt.alloc(), text).expect(&rt, "memory");
-        is_refused(&rt, rt.alloc(), &mut names, &text);
+        let text = value_of(alloc, text).expect(&rt, "memory");
+        is_refused(&rt, alloc, &mut names, &text);
     }
 }

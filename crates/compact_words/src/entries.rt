@@ -7,7 +7,7 @@ use std::alloc::{AllocError, Global};
 use std::cmp::Reverse;
 
 /// A word that stands in a text: how often, and its number among the names.
-#[derive(Clone, Copy, Debug, PartialEq, Eq)]
+#[derive(Clone, Copy)]
 pub struct Entry {
     pub count: usize,
     pub name: u32,

@@ -27,7 +27,7 @@ pub enum LineError {
 }
 
 /// Where a reader stands in a field.
-#[derive(Clone, Copy, Debug, PartialEq, Eq)]
+#[derive(Clone, Copy, PartialEq)]
 enum Place {
     /// At its start.
     Start,
@@ -40,7 +40,7 @@ enum Place {
 }
 
 /// What a character does to the field that is being read.
-#[derive(Clone, Copy, Debug, PartialEq, Eq)]
+#[derive(Clone, Copy)]
 enum Effect {
     /// It is of the field.
     Keep(Place),

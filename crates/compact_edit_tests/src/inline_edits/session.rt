@@ -1,7 +1,7 @@
 //! A text that is edited, and a checksum over all that is seen of it.
 
-use crate::checksum::Checksum;
-use crate::drawn::edit;
+use crate::inline_edits::checksum::Checksum;
+use crate::inline_edits::drawn::edit;
 use compact_edit::{Edit, Reply, run};
 use compact_str::{CompactString, ReserveError, Standard};
 use compact_testing::random::Random;
