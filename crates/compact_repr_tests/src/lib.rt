@@ -1,5 +1,5 @@
 //! Tests of `compact_repr`, of what a caller sees of it: representations of texts in each of the three places.
-#![tactic(auto, using(compact_repr::proofs::TextFacts::text_facts))]
+#![tactic(auto)]
 
 #[cfg(test)]
 mod changes;

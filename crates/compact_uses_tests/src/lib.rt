@@ -1,5 +1,5 @@
 //! Tests of the programs to copy: what they answer, the same with no memory left, and over readers that stop.
-#![tactic(auto, using(compact_str::proofs::ForCallers::for_callers))]
+#![tactic(auto)]
 
 #[cfg(test)]
 mod record_stops;

@@ -2,7 +2,7 @@
 //!
 //! A line that is no visit is answered by a line that says where it fails and why, and the others are counted all the same. The
 //! status is 1 then, and 0 where each line was counted.
-#![tactic(auto, using(compact_str::proofs::ForCallers::for_callers))]
+#![tactic(auto)]
 
 mod fault;
 mod sources;
