@@ -1,5 +1,6 @@
 //! Tests of the callers in `key.rt`.
 
+use compact_asserts::assert_equal;
 use compact_callers::key_callers::{count_of, place_of, set_count};
 use compact_testing::values::{lasting, letters, short, value_of};
 use std::collections::HashMap;
@@ -15,12 +16,13 @@ fn a_word_is_found_in_a_sorted_row(rt: HostRuntime) {
         short(alloc, "\u{fffd}"),
     ];
     words.sort_unstable();
-    assert_eq!(rt;
+    assert_equal(
+        &rt,
         place_of(&words, &value_of(alloc, letters(30)).expect(&rt, "memory")),
-        Ok(0)
+        Ok(0),
     );
-    assert_eq!(rt; place_of(&words, &short(alloc, "\u{fffd}")), Ok(2));
-    assert_eq!(rt; place_of(&words, &short(alloc, "c")), Err(2));
+    assert_equal(&rt, place_of(&words, &short(alloc, "\u{fffd}")), Ok(2));
+    assert_equal(&rt, place_of(&words, &short(alloc, "c")), Err(2));
 }
 
 #[test]
@@ -28,13 +30,15 @@ fn a_word_is_counted_wherever_it_stands(rt: HostRuntime) -> Result<(), Fail> {
     let alloc = rt.alloc();
     let mut counts = HashMap::new(alloc);
     set_count(&mut counts, lasting(alloc, 30), 3).map_err(|_| "memory")?;
-    assert_eq!(rt;
+    assert_equal(
+        &rt,
         count_of(&counts, &value_of(alloc, letters(30)).expect(&rt, "memory")),
-        3
+        3,
     );
-    assert_eq!(rt;
+    assert_equal(
+        &rt,
         count_of(&counts, &value_of(alloc, letters(29)).expect(&rt, "memory")),
-        0
+        0,
     );
     Ok(())
 }

@@ -1,5 +1,6 @@
 //! Tests of the callers in `name_callers.rt`.
 
+use compact_asserts::assert_equal;
 use compact_callers::name_callers::{known, pair};
 use compact_edit::Interner;
 
@@ -7,7 +8,7 @@ use compact_edit::Interner;
 fn a_pair_has_two_numbers(rt: HostRuntime) {
     let mut names = Interner::new(rt.alloc());
     let numbers = pair(&mut names, "a", "b").expect(&rt, "memory");
-    assert_eq!(rt; numbers.0, 0);
-    assert_eq!(rt; numbers.1, 1);
-    assert_eq!(rt; known(&mut names, numbers.1, "b"), 1);
+    assert_equal(&rt, numbers.0, 0);
+    assert_equal(&rt, numbers.1, 1);
+    assert_equal(&rt, known(&mut names, numbers.1, "b"), 1);
 }

@@ -1,5 +1,6 @@
 //! Tests of the callers in `removal.rt`.
 
+use compact_asserts::assert_true;
 use compact_callers::removal_callers::{
     every_second, every_second_told, folded, note_spaces, without_spaces,
 };
@@ -10,34 +11,34 @@ use compact_testing::values::{letters, short, value_of};
 fn every_second_character_is_kept(rt: HostRuntime) {
     let alloc = rt.alloc();
     let mut value = short(alloc, "aäb𝄞c");
-    assert!(rt; every_second(&mut value).is_ok());
-    assert!(rt; is_inline(&value, "abc"));
+    assert_true(&rt, every_second(&mut value).is_ok());
+    assert_true(&rt, is_inline(&value, "abc"));
     let mut long = value_of(alloc, letters(60)).expect(&rt, "memory");
-    assert!(rt; every_second(&mut long).is_ok());
-    assert!(rt; is_heap(&long, 60, letters(30)));
+    assert_true(&rt, every_second(&mut long).is_ok());
+    assert_true(&rt, is_heap(&long, 60, letters(30)));
     let mut spaced = short(alloc, " a a ");
-    assert!(rt; without_spaces(&mut spaced).is_ok());
-    assert!(rt; is_inline(&spaced, "aa"));
+    assert_true(&rt, without_spaces(&mut spaced).is_ok());
+    assert_true(&rt, is_inline(&spaced, "aa"));
 }
 
 #[test]
 fn a_lent_test_tells_its_state(rt: HostRuntime) {
     let alloc = rt.alloc();
     let mut value = short(alloc, "aäb𝄞c");
-    assert!(rt; matches!(every_second_told(&mut value), Ok(true)));
-    assert!(rt; is_inline(&value, "abc"));
+    assert_true(&rt, matches!(every_second_told(&mut value), Ok(true)));
+    assert_true(&rt, is_inline(&value, "abc"));
     let mut seen = false;
-    assert!(rt; note_spaces(&mut value, &mut seen).is_ok());
-    assert!(rt; !seen);
+    assert_true(&rt, note_spaces(&mut value, &mut seen).is_ok());
+    assert_true(&rt, !seen);
     let mut spaced = short(alloc, "a b");
-    assert!(rt; note_spaces(&mut spaced, &mut seen).is_ok());
-    assert!(rt; seen);
-    assert!(rt; is_inline(&spaced, "ab"));
+    assert_true(&rt, note_spaces(&mut spaced, &mut seen).is_ok());
+    assert_true(&rt, seen);
+    assert_true(&rt, is_inline(&spaced, "ab"));
 }
 
 #[test]
 fn only_ascii_letters_are_folded(rt: HostRuntime) {
     let great = short(rt.alloc(), "GRüßE, JüRGEN ❤");
     let small = folded(&great).expect(&rt, "memory");
-    assert!(rt; is_inline(&small, "grüße, jürgen ❤"));
+    assert_true(&rt, is_inline(&small, "grüße, jürgen ❤"));
 }

@@ -1,5 +1,6 @@
 //! Bytes read as units, two a unit, in each order: step by step, and validated as a whole.
 
+use compact_asserts::{assert_equal, assert_true, assert_true_for};
 use compact_codec::utf16_bytes::{ByteOrder, first_character, is_utf16};
 use std::process::Abort;
 
@@ -7,13 +8,13 @@ use std::process::Abort;
 fn assert_steps(rt: &impl Abort, order: ByteOrder, bytes: &[u8], steps: &[(Option<char>, usize)]) {
     let mut rest = bytes;
     for (character, taken) in steps {
-        assert!(rt; !rest.is_empty());
+        assert_true(rt, !rest.is_empty());
         let step = first_character(order, rest);
-        assert!(rt; step.character == *character, "{bytes:?}");
-        assert_eq!(rt; step.taken, *taken);
+        assert_true_for(rt, bytes, step.character == *character);
+        assert_equal(rt, step.taken, *taken);
         rest = &rest[step.taken..];
     }
-    assert!(rt; rest.is_empty());
+    assert_true(rt, rest.is_empty());
 }
 
 #[test]
@@ -72,6 +73,6 @@ fn texts_are_told_from_others(rt: HostRuntime) {
         ),
     ];
     for (order, bytes, text) in cases {
-        assert_eq!(rt; is_utf16(order, bytes), text, "{bytes:?}");
+        assert_true_for(&rt, bytes, is_utf16(order, bytes) == text);
     }
 }

@@ -1,5 +1,6 @@
 //! The interner: numbers and names, refused memory, and many words beside a plain list.
 
+use compact_asserts::{assert_equal, assert_true};
 use compact_edit::{InternError, Interner};
 use compact_str::ReserveError;
 use compact_testing::memory::take_all;
@@ -10,12 +11,12 @@ use std::process::Abort;
 
 /// Asserts the name of a number.
 fn assert_name(rt: &impl Abort, names: &Interner, number: u32, name: Option<&str>) {
-    assert_eq!(rt; names.name(number), name);
+    assert_equal(rt, names.name(number), name);
 }
 
 /// Asserts how many names there are.
 fn assert_count(rt: &impl Abort, names: &Interner, count: usize) {
-    assert_eq!(rt; names.len(), count);
+    assert_equal(rt, names.len(), count);
 }
 
 /// The number of a text for which there is memory.
@@ -33,13 +34,16 @@ fn numbers_of(rt: &impl Abort, alloc: Global, names: &mut Interner, texts: &[&st
 /// Asserts that a list of texts is refused for want of memory.
 fn is_refused(rt: &impl Abort, names: &mut Interner, texts: &[&str], numbers: &mut Vec<u32>) {
     let taken = names.intern_all(texts, numbers);
-    assert!(rt; matches!(taken, Err(InternError::Reserve(_))));
+    assert_true(rt, matches!(taken, Err(InternError::Reserve(_))));
 }
 
 /// Asserts that a text is refused for want of memory, and that so many names stand.
 fn assert_refused(rt: &impl Abort, names: &mut Interner, text: &str, count: usize) {
-    assert!(rt; matches!(names.intern(text), Err(InternError::Reserve(_))));
-    assert_eq!(rt; names.len(), count);
+    assert_true(
+        rt,
+        matches!(names.intern(text), Err(InternError::Reserve(_))),
+    );
+    assert_equal(rt, names.len(), count);
 }
 
 #[test]
@@ -47,12 +51,12 @@ fn a_text_has_the_place_of_its_first_occurrence(rt: HostRuntime) {
     let alloc = rt.alloc();
     let mut names = Interner::new(alloc);
     let numbers = numbers_of(&rt, alloc, &mut names, &["a", "b", "a", ""]);
-    assert_eq!(rt; numbers.as_slice(), [0, 1, 0, 2].as_slice());
+    assert_equal(&rt, numbers.as_slice(), [0, 1, 0, 2].as_slice());
     assert_count(&rt, &names, 3);
     assert_name(&rt, &names, 1, Some("b"));
     assert_name(&rt, &names, 3, None);
     for _ in 0..2 {
-        assert_eq!(rt; number_of(&rt, &mut names, letters(25)), 3);
+        assert_equal(&rt, number_of(&rt, &mut names, letters(25)), 3);
     }
 }
 
@@ -65,12 +69,12 @@ fn a_short_name_needs_no_memory_and_a_long_text_does(rt: HostRuntime) {
     number_of(&rt, &mut names, "");
     number_of(&rt, &mut names, letters(25));
     let hog = take_all(alloc).expect(&rt, "room for the list of blocks");
-    assert_eq!(rt; number_of(&rt, &mut names, "a"), 0);
+    assert_equal(&rt, number_of(&rt, &mut names, "a"), 0);
     assert_refused(&rt, &mut names, letters(30), 4);
-    assert_eq!(rt; number_of(&rt, &mut names, letters(25)), 3);
+    assert_equal(&rt, number_of(&rt, &mut names, letters(25)), 3);
     drop(hog);
     assert_name(&rt, &names, 3, Some(letters(25)));
-    assert_eq!(rt; number_of(&rt, &mut names, letters(30)), 4);
+    assert_equal(&rt, number_of(&rt, &mut names, letters(30)), 4);
 }
 
 #[test]
@@ -80,7 +84,7 @@ fn the_table_of_the_names_is_refused(rt: HostRuntime) {
     let hog = take_all(alloc).expect(&rt, "room for the list of blocks");
     assert_refused(&rt, &mut names, "a", 0);
     drop(hog);
-    assert_eq!(rt; number_of(&rt, &mut names, "a"), 0);
+    assert_equal(&rt, number_of(&rt, &mut names, "a"), 0);
 }
 
 #[test]
@@ -92,7 +96,7 @@ fn the_table_is_refused_behind_the_copy_of_a_text(rt: HostRuntime) {
     drop(room);
     assert_refused(&rt, &mut names, letters(30), 0);
     drop(hog);
-    assert_eq!(rt; number_of(&rt, &mut names, letters(30)), 0);
+    assert_equal(&rt, number_of(&rt, &mut names, letters(30)), 0);
 }
 
 #[test]
@@ -104,7 +108,7 @@ fn with_no_room_for_the_numbers_nothing_is_taken(rt: HostRuntime) {
     let hog = take_all(alloc).expect(&rt, "room for the list of blocks");
     is_refused(&rt, &mut names, &["a", "b"], &mut numbers);
     drop(hog);
-    assert_eq!(rt; numbers.len(), 0);
+    assert_equal(&rt, numbers.len(), 0);
     assert_count(&rt, &names, 1);
 }
 
@@ -119,7 +123,7 @@ fn the_texts_before_a_refused_one_are_taken(rt: HostRuntime) {
     let hog = take_all(alloc).expect(&rt, "room for the list of blocks");
     is_refused(&rt, &mut names, &texts, &mut numbers);
     drop(hog);
-    assert_eq!(rt; numbers.as_slice(), [1, 0].as_slice());
+    assert_equal(&rt, numbers.as_slice(), [1, 0].as_slice());
     assert_count(&rt, &names, 2);
 }
 
@@ -166,11 +170,12 @@ impl PlainList {
 
 /// Asserts that each name is the word of the list at its place.
 fn assert_names(rt: &impl Abort, alloc: Global, names: &Interner, list: &PlainList) {
-    assert_eq!(rt; names.len(), list.words.len());
+    assert_equal(rt, names.len(), list.words.len());
     for (place, id) in list.words.iter().enumerate() {
-        assert_eq!(rt;
+        assert_equal(
+            rt,
             names.name(place as u32),
-            Some(word(rt, alloc, *id).as_str())
+            Some(word(rt, alloc, *id).as_str()),
         );
     }
 }
@@ -185,7 +190,7 @@ fn many_words_are_numbered_as_in_a_plain_list(rt: HostRuntime) {
         let id = random.below(40_000);
         let text = word(&rt, alloc, id);
         let number = number_of(&rt, &mut names, text.as_str());
-        assert_eq!(rt; number as usize, list.place_of(&rt, id));
+        assert_equal(&rt, number as usize, list.place_of(&rt, id));
     }
     assert_names(&rt, alloc, &names, &list);
 }
@@ -194,10 +199,14 @@ fn many_words_are_numbered_as_in_a_plain_list(rt: HostRuntime) {
 fn refusals_are_shown_so(rt: HostRuntime) {
     let alloc = rt.alloc();
     let shown = format!(in alloc; "{}", InternError::Full);
-    assert_eq!(rt; shown.expect(&rt, "memory").as_str(), "interner is full");
+    assert_equal(
+        &rt,
+        shown.expect(&rt, "memory").as_str(),
+        "interner is full",
+    );
     let refused = InternError::from(ReserveError);
-    assert!(rt; matches!(refused, InternError::Reserve(_)));
+    assert_true(&rt, matches!(refused, InternError::Reserve(_)));
     let shown = format!(in alloc; "{refused}");
     let text = "Cannot allocate memory to hold CompactString";
-    assert_eq!(rt; shown.expect(&rt, "memory").as_str(), text);
+    assert_equal(&rt, shown.expect(&rt, "memory").as_str(), text);
 }

@@ -1,5 +1,6 @@
 //! The longest lengths and positions, as edits.
 
+use compact_asserts::{assert_equal, assert_true};
 use compact_edit::{Edit, Reply, run};
 use compact_str::Standard;
 use compact_testing::seen::is_inline;
@@ -24,11 +25,11 @@ fn assert_each(rt: &impl Abort, alloc: Global, edits: &[Edit<Standard>], name: &
     let mut value = short(alloc, "a");
     let mut replies = Vec::new(alloc);
     run(&mut value, edits, &mut replies).expect(rt, "memory");
-    assert_eq!(rt; replies.len(), edits.len());
+    assert_equal(rt, replies.len(), edits.len());
     for reply in &replies {
-        assert_eq!(rt; name_of(reply), name);
+        assert_equal(rt, name_of(reply), name);
     }
-    assert!(rt; is_inline(&value, "a"));
+    assert_true(rt, is_inline(&value, "a"));
 }
 
 #[test]

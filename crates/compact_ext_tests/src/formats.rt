@@ -1,5 +1,6 @@
 //! Texts of formats, with ample memory.
 
+use compact_asserts::{assert_equal, assert_true};
 use compact_ext::{ToCompactStringError, format_compact};
 use compact_str::{CompactString, ReserveError};
 use compact_testing::seen::is_inline;
@@ -28,24 +29,24 @@ fn text_of(rt: &impl Abort, made: Result<CompactString, ToCompactStringError>) -
 fn formats_have_these_texts(rt: HostRuntime) {
     let alloc = rt.alloc();
     let text = text_of(&rt, format_compact!(in alloc; "{}-{:04}", 7, 42));
-    assert!(rt; is_inline(&text, "7-0042"));
+    assert_true(&rt, is_inline(&text, "7-0042"));
     let text = text_of(&rt, format_compact!(in alloc; "a literal"));
-    assert!(rt; is_inline(&text, "a literal"));
+    assert_true(&rt, is_inline(&text, "a literal"));
     let text = text_of(&rt, format_compact!(in alloc; ""));
-    assert!(rt; is_inline(&text, ""));
+    assert_true(&rt, is_inline(&text, ""));
     let text = text_of(&rt, format_compact!(in alloc; "{{{}}}", true));
-    assert!(rt; is_inline(&text, "{true}"));
+    assert_true(&rt, is_inline(&text, "{true}"));
 }
 
 #[test]
 fn options_are_kept(rt: HostRuntime) {
     let alloc = rt.alloc();
     let text = text_of(&rt, format_compact!(in alloc; "{:?}", "a\n"));
-    assert!(rt; is_inline(&text, "\"a\\n\""));
+    assert_true(&rt, is_inline(&text, "\"a\\n\""));
     let text = text_of(&rt, format_compact!(in alloc; "{:>8}|{:<3}|", "äb", 7));
-    assert!(rt; is_inline(&text, "      äb|7  |"));
+    assert_true(&rt, is_inline(&text, "      äb|7  |"));
     let text = text_of(&rt, format_compact!(in alloc; "{:#x} {:#b}", 255, 5));
-    assert!(rt; is_inline(&text, "0xff 0b101"));
+    assert_true(&rt, is_inline(&text, "0xff 0b101"));
 }
 
 #[test]
@@ -53,43 +54,49 @@ fn arguments_may_have_names(rt: HostRuntime) {
     let alloc = rt.alloc();
     let place = "€";
     let text = text_of(&rt, format_compact!(in alloc; "{place}{sum}", sum = -12));
-    assert!(rt; is_inline(&text, "€-12"));
+    assert_true(&rt, is_inline(&text, "€-12"));
     let text = text_of(&rt, format_compact!(in alloc; "{0}{1}{0}", 'a', 'b'));
-    assert!(rt; is_inline(&text, "aba"));
+    assert_true(&rt, is_inline(&text, "aba"));
 }
 
 #[test]
 fn twenty_four_bytes_stand_inline_and_more_on_the_heap(rt: HostRuntime) {
     let alloc = rt.alloc();
     let text = text_of(&rt, format_compact!(in alloc; "{}{}", letters(20), 1234));
-    assert!(rt; is_inline(&text, "aaaaaaaaaaaaaaaaaaaa1234"));
+    assert_true(&rt, is_inline(&text, "aaaaaaaaaaaaaaaaaaaa1234"));
     let text = text_of(&rt, format_compact!(in alloc; "{}{}", letters(20), 12345));
-    assert!(rt; text.is_heap_allocated());
-    assert_eq!(rt; text.as_str(), "aaaaaaaaaaaaaaaaaaaa12345");
+    assert_true(&rt, text.is_heap_allocated());
+    assert_equal(&rt, text.as_str(), "aaaaaaaaaaaaaaaaaaaa12345");
 }
 
 #[test]
 fn what_fails_by_itself_is_no_refusal(rt: HostRuntime) {
     let alloc = rt.alloc();
     let failed = format_compact!(in alloc; "{Failing}");
-    assert!(rt; failed.err() == Some(ToCompactStringError::Fmt(fmt::Error)));
+    assert_true(
+        &rt,
+        failed.err() == Some(ToCompactStringError::Fmt(fmt::Error)),
+    );
     let failed = format_compact!(in alloc; "{}{}", letters(40), Failing);
-    assert!(rt; failed.err() == Some(ToCompactStringError::Fmt(fmt::Error)));
+    assert_true(
+        &rt,
+        failed.err() == Some(ToCompactStringError::Fmt(fmt::Error)),
+    );
 }
 
 #[test]
 fn errors_are_made_so(rt: HostRuntime) {
     let refused = ToCompactStringError::from(ReserveError);
     let failed = ToCompactStringError::from(fmt::Error);
-    assert!(rt; refused == ToCompactStringError::Reserve(ReserveError));
-    assert!(rt; failed == ToCompactStringError::Fmt(fmt::Error));
-    assert!(rt; refused != failed);
+    assert_true(&rt, refused == ToCompactStringError::Reserve(ReserveError));
+    assert_true(&rt, failed == ToCompactStringError::Fmt(fmt::Error));
+    assert_true(&rt, refused != failed);
 }
 
 /// Asserts how an error is shown.
 fn is_shown(rt: &impl Abort, alloc: Global, error: ToCompactStringError, text: &str) {
     let made = text_of(rt, format_compact!(in alloc; "{error}"));
-    assert_eq!(rt; made.as_str(), text);
+    assert_equal(rt, made.as_str(), text);
 }
 
 #[test]

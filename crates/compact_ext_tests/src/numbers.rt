@@ -1,5 +1,6 @@
 //! Texts of numbers and of other values, with ample memory.
 
+use compact_asserts::{assert_equal, assert_true};
 use compact_ext::ToCompactString;
 use compact_str::CompactString;
 use compact_testing::seen::{is_at, is_inline};
@@ -15,69 +16,53 @@ where
 {
     let first = value.to_compact_string(alloc).expect(rt, "memory");
     let second = value.try_to_compact_string(alloc).expect(rt, "memory");
-    assert!(rt; first == second);
-    assert!(rt; first.is_heap_allocated() == second.is_heap_allocated());
+    assert_true(rt, first == second);
+    assert_true(rt, first.is_heap_allocated() == second.is_heap_allocated());
     first
 }
 
 /// Asserts the text of a value, and that it stands inline.
 fn assert_shown<T: ToCompactString + Drop>(rt: &impl Abort, alloc: Global, value: T, text: &str) {
-    assert!(rt; is_inline(&shown(rt, alloc, value), text));
+    assert_true(rt, is_inline(&shown(rt, alloc, value), text));
 }
 
 #[test]
 fn numbers_have_these_texts(rt: HostRuntime) {
     let alloc = rt.alloc();
-    for (number, text) in [
-        (0u8, "0"),
-        (9, "9"),
-        (10, "10"),
-        (99, "99"),
-        (100, "100"),
-        (255, "255"),
-    ] {
-        assert_shown(&rt, alloc, number, text);
-    }
-    for (number, text) in [(9999u16, "9999"), (10000, "10000"), (65535, "65535")] {
-        assert_shown(&rt, alloc, number, text);
-    }
-    for (number, text) in [
-        (-128i8, "-128"),
-        (-100, "-100"),
-        (-99, "-99"),
-        (-10, "-10"),
-        (-9, "-9"),
-        (-1, "-1"),
-        (127, "127"),
-    ] {
-        assert_shown(&rt, alloc, number, text);
-    }
+    assert_shown(&rt, alloc, 0u8, "0");
+    assert_shown(&rt, alloc, 9u8, "9");
+    assert_shown(&rt, alloc, 10u8, "10");
+    assert_shown(&rt, alloc, 99u8, "99");
+    assert_shown(&rt, alloc, 100u8, "100");
+    assert_shown(&rt, alloc, 255u8, "255");
+    assert_shown(&rt, alloc, 9999u16, "9999");
+    assert_shown(&rt, alloc, 10000u16, "10000");
+    assert_shown(&rt, alloc, 65535u16, "65535");
+    assert_shown(&rt, alloc, -128i8, "-128");
+    assert_shown(&rt, alloc, -100i8, "-100");
+    assert_shown(&rt, alloc, -99i8, "-99");
+    assert_shown(&rt, alloc, -10i8, "-10");
+    assert_shown(&rt, alloc, -9i8, "-9");
+    assert_shown(&rt, alloc, -1i8, "-1");
+    assert_shown(&rt, alloc, 127i8, "127");
 }
 
 #[test]
 fn long_numbers_have_these_texts(rt: HostRuntime) {
     let alloc = rt.alloc();
-    for (number, text) in [
-        (0u64, "0"),
-        (99999999, "99999999"),
-        (100000000, "100000000"),
-        (9999999999999999, "9999999999999999"),
-        (10000000000000000, "10000000000000000"),
-        (12000000300000004, "12000000300000004"),
-        (9999999999999999999, "9999999999999999999"),
-        (10000000000000000000, "10000000000000000000"),
-        (u64::MAX, "18446744073709551615"),
-    ] {
-        assert_shown(&rt, alloc, number, text);
-    }
-    for (number, text) in [
-        (-99999999i64, "-99999999"),
-        (-100000000, "-100000000"),
-        (-9999999999999999, "-9999999999999999"),
-        (-10000000000000000, "-10000000000000000"),
-    ] {
-        assert_shown(&rt, alloc, number, text);
-    }
+    assert_shown(&rt, alloc, 0u64, "0");
+    assert_shown(&rt, alloc, 99999999u64, "99999999");
+    assert_shown(&rt, alloc, 100000000u64, "100000000");
+    assert_shown(&rt, alloc, 9999999999999999u64, "9999999999999999");
+    assert_shown(&rt, alloc, 10000000000000000u64, "10000000000000000");
+    assert_shown(&rt, alloc, 12000000300000004u64, "12000000300000004");
+    assert_shown(&rt, alloc, 9999999999999999999u64, "9999999999999999999");
+    assert_shown(&rt, alloc, 10000000000000000000u64, "10000000000000000000");
+    assert_shown(&rt, alloc, u64::MAX, "18446744073709551615");
+    assert_shown(&rt, alloc, -99999999i64, "-99999999");
+    assert_shown(&rt, alloc, -100000000i64, "-100000000");
+    assert_shown(&rt, alloc, -9999999999999999i64, "-9999999999999999");
+    assert_shown(&rt, alloc, -10000000000000000i64, "-10000000000000000");
     assert_shown(&rt, alloc, i16::MIN, "-32768");
     assert_shown(&rt, alloc, i32::MIN, "-2147483648");
     assert_shown(&rt, alloc, u32::MAX, "4294967295");
@@ -89,13 +74,13 @@ fn long_numbers_have_these_texts(rt: HostRuntime) {
     assert_shown(&rt, alloc, NonZeroU8::MAX, "255");
     let most = shown(&rt, alloc, u128::MAX);
     let text = "340282366920938463463374607431768211455";
-    assert!(rt; is_at(&most, "heap", 39, text));
+    assert_true(&rt, is_at(&most, "heap", 39, text));
     let least = shown(&rt, alloc, i128::MIN);
     let text = "-170141183460469231731687303715884105728";
-    assert!(rt; is_at(&least, "heap", 40, text));
+    assert_true(&rt, is_at(&least, "heap", 40, text));
     let least = shown(&rt, alloc, NonZeroI128::MIN);
     let text = "-170141183460469231731687303715884105728";
-    assert!(rt; is_at(&least, "heap", 40, text));
+    assert_true(&rt, is_at(&least, "heap", 40, text));
 }
 
 #[test]
@@ -114,7 +99,7 @@ fn other_values_have_these_texts(rt: HostRuntime) {
 
 /// Asserts the bytes of a value that stands inline.
 fn assert_packed(rt: &impl Abort, value: &CompactString, bytes: &[u8; 24]) {
-    assert_eq!(rt; &value.packed().expect(rt, "inline"), bytes);
+    assert_equal(rt, &value.packed().expect(rt, "inline"), bytes);
 }
 
 #[test]

@@ -2,12 +2,13 @@
 //! the form.
 
 use crate::wire_forms::name_of;
+use compact_asserts::{assert_equal, assert_true};
 use compact_ext::wire::{Records, WireError};
 use compact_str::CompactString;
 use compact_testing::memory::take_all;
 use compact_testing::pieces::{Pieces, Stop};
 use compact_testing::seen::{is_at, is_inline};
-use compact_testing::values::{letters, place_of};
+use compact_testing::values::letters;
 use std::alloc::Global;
 use std::io::{BufRead, BufReader, ErrorKind};
 use std::process::Abort;
@@ -26,28 +27,28 @@ fn read_records<R: BufRead + Drop>(
 /// Asserts that the next record is this text, inline.
 fn assert_next<R: BufRead + Drop>(rt: &impl Abort, records: &mut Records<R>, text: &str) {
     let item = records.next().expect(rt, "no end");
-    assert!(rt; is_inline(&item.expect(rt, "a text"), text));
+    assert_true(rt, is_inline(&item.expect(rt, "a text"), text));
 }
 
 /// Asserts that the next record is a fault of this name.
 fn assert_next_fault<R: BufRead + Drop>(rt: &impl Abort, records: &mut Records<R>, fault: &str) {
     match records.next() {
-        Some(Err(found)) => assert_eq!(rt; name_of(&found), fault),
-        _ => assert!(rt; false),
+        Some(Err(found)) => assert_equal(rt, name_of(&found), fault),
+        _ => assert_true(rt, false),
     }
 }
 
 /// Asserts that there is no other record, however often it is asked for.
 fn assert_end<R: BufRead + Drop>(rt: &impl Abort, records: &mut Records<R>) {
-    assert!(rt; records.next().is_none());
-    assert!(rt; records.next().is_none());
+    assert_true(rt, records.next().is_none());
+    assert_true(rt, records.next().is_none());
 }
 
 /// Asserts that the records of some bytes are not collected, with this fault.
 fn assert_not_collected<R: BufRead + Drop>(rt: &impl Abort, alloc: Global, reader: R, fault: &str) {
     match read_records(alloc, reader) {
-        Ok(_) => assert!(rt; false),
-        Err(found) => assert_eq!(rt; name_of(&found), fault),
+        Ok(_) => assert_true(rt, false),
+        Err(found) => assert_equal(rt, name_of(&found), fault),
     }
 }
 
@@ -60,18 +61,26 @@ fn each_record_comes_in_its_turn(rt: HostRuntime) {
     assert_end(&rt, &mut records);
 }
 
+/// Asserts that these are the three records, each inline.
+fn assert_records(rt: &impl Abort, records: &[CompactString]) {
+    assert_equal(rt, records.len(), 3);
+    for (record, text) in records.iter().zip(["a", "", "Hi"]) {
+        assert_true(rt, is_inline(record, text));
+    }
+}
+
+/// Asserts the records of a reader that gives so many bytes at once.
+fn assert_in_pieces(rt: &impl Abort, alloc: Global, step: usize) {
+    let pieces = Pieces::new(&RECORDS, step, Stop::Never);
+    let reader = BufReader::with_capacity(alloc, 3, pieces).expect(rt, "a buffer");
+    let records = read_records(alloc, reader).expect(rt, "records");
+    assert_records(rt, records.as_slice());
+}
+
 #[test]
 fn records_come_in_pieces(rt: HostRuntime) {
-    let alloc = rt.alloc();
     for step in 1..16 {
-        let pieces = Pieces::new(&RECORDS, step, Stop::Never);
-        let reader = BufReader::with_capacity(alloc, 3, pieces).expect(&rt, "a buffer");
-        let records = read_records(alloc, reader).expect(&rt, "records");
-        assert_eq!(rt; records.len(), 3);
-        for (record, text) in records.iter().zip(["a", "", "Hi"]) {
-            assert_eq!(rt; record.as_str(), text);
-            assert_eq!(rt; place_of(record), "inline");
-        }
+        assert_in_pieces(&rt, rt.alloc(), step);
     }
 }
 
@@ -80,9 +89,9 @@ fn no_bytes_are_no_records(rt: HostRuntime) {
     let alloc = rt.alloc();
     let none: &[u8] = &[];
     let records = read_records(alloc, none).expect(&rt, "records");
-    assert_eq!(rt; records.len(), 0);
+    assert_equal(&rt, records.len(), 0);
     let first = Records::new(alloc, none).next();
-    assert!(rt; first.is_none());
+    assert_true(&rt, first.is_none());
 }
 
 /// Asserts what comes of the first bytes of the three records, which end within the third.
@@ -149,7 +158,10 @@ fn assert_long_and_another<R: BufRead + Drop>(
 ) {
     let mut records = Records::new(alloc, reader);
     let item = records.next().expect(rt, "no end");
-    assert!(rt; is_at(&item.expect(rt, "a text"), "heap", text.len(), text));
+    assert_true(
+        rt,
+        is_at(&item.expect(rt, "a text"), "heap", text.len(), text),
+    );
     assert_next(rt, &mut records, "a");
     assert_end(rt, &mut records);
 }

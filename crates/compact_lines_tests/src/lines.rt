@@ -1,6 +1,7 @@
 //! Sessions of lines, and readers and writers that fail.
 
 use crate::transcript::{assert_prints, assert_sessions};
+use compact_asserts::{assert_equal, assert_true};
 use compact_lines::run_lines;
 use compact_testing::memory::take_all;
 use std::alloc::Global;
@@ -163,13 +164,14 @@ fn a_line_of_a_million_bytes_is_read(rt: HostRuntime) {
     let alloc = rt.alloc();
     let input = a_million_letters(&rt, alloc);
     let mut output = Vec::new(alloc);
-    assert_eq!(rt; run_lines(alloc, &mut input.as_slice(), &mut output), 0);
+    assert_equal(&rt, run_lines(alloc, &mut input.as_slice(), &mut output), 0);
     // `done`, then place, length and capacity are 26 bytes; the letters and the end of the line follow.
-    assert_eq!(rt; output.len(), 26 + 1_000_000 + 1);
-    assert!(rt;
+    assert_equal(&rt, output.len(), 26 + 1_000_000 + 1);
+    assert_true(
+        &rt,
         output
             .as_slice()
-            .starts_with(b"done\nheap 1000000 1000000 zzz")
+            .starts_with(b"done\nheap 1000000 1000000 zzz"),
     );
 }
 
@@ -177,8 +179,8 @@ fn a_line_of_a_million_bytes_is_read(rt: HostRuntime) {
 fn a_failing_reader_is_told(rt: HostRuntime) {
     let alloc = rt.alloc();
     let mut output = Vec::new(alloc);
-    assert_eq!(rt; run_lines(alloc, &mut Broken, &mut output), 1);
-    assert_eq!(rt; output.len(), 0);
+    assert_equal(&rt, run_lines(alloc, &mut Broken, &mut output), 1);
+    assert_equal(&rt, output.len(), 0);
 }
 
 /// What is answered for an input where nothing can be written.
@@ -189,9 +191,9 @@ fn status_of_unwritten(alloc: Global, mut input: &[u8]) -> u8 {
 #[test]
 fn a_failing_writer_is_told_where_it_is_written_to(rt: HostRuntime) {
     let alloc = rt.alloc();
-    assert_eq!(rt; status_of_unwritten(alloc, b"clear\n"), 1);
-    assert_eq!(rt; status_of_unwritten(alloc, b"foo\n"), 1);
-    assert_eq!(rt; status_of_unwritten(alloc, b""), 0);
+    assert_equal(&rt, status_of_unwritten(alloc, b"clear\n"), 1);
+    assert_equal(&rt, status_of_unwritten(alloc, b"foo\n"), 1);
+    assert_equal(&rt, status_of_unwritten(alloc, b""), 0);
 }
 
 #[test]
@@ -200,7 +202,7 @@ fn no_memory_for_a_line_is_told(rt: HostRuntime) {
     let mut output = Vec::with_capacity(alloc, 1000).expect(&rt, "memory");
     let mut input: &[u8] = b"clear\n";
     let hog = take_all(alloc).expect(&rt, "room for the list of blocks");
-    assert_eq!(rt; run_lines(alloc, &mut input, &mut output), 1);
+    assert_equal(&rt, run_lines(alloc, &mut input, &mut output), 1);
     drop(hog);
-    assert_eq!(rt; output.len(), 0);
+    assert_equal(&rt, output.len(), 0);
 }

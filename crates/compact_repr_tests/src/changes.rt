@@ -1,6 +1,7 @@
 //! Each call once in each place. The texts and positions are written by hand: `ä`, `b` and the clef take 2, 1 and 4 bytes.
 
 use crate::values::{borrowed, copied, empty, reserve};
+use compact_asserts::{assert_equal, assert_true, assert_true_for};
 use compact_repr::{Repr, Standard};
 use std::process::Abort;
 
@@ -11,49 +12,49 @@ fn assert_replaced(
     steps: &[(usize, usize, &str, &str)],
 ) {
     for (start, end, with, outcome) in steps {
-        assert!(rt; *start <= *end);
-        assert!(rt; text.is_char_boundary(*start));
-        assert!(rt; text.is_char_boundary(*end));
-        assert!(rt; text.replace_in_place(*start, *end, with));
-        assert_eq!(rt; text.as_str(), *outcome);
+        assert_true(rt, *start <= *end);
+        assert_true(rt, text.is_char_boundary(*start));
+        assert_true(rt, text.is_char_boundary(*end));
+        assert_true(rt, text.replace_in_place(*start, *end, with));
+        assert_equal(rt, text.as_str(), *outcome);
     }
 }
 
 /// Cuts the text to one length after another, and asserts each outcome.
 fn assert_truncated(rt: &impl Abort, text: &mut Repr<Standard>, steps: &[(usize, &str)]) {
     for (len, outcome) in steps {
-        assert!(rt; *len >= text.len() || text.is_char_boundary(*len));
+        assert_true(rt, *len >= text.len() || text.is_char_boundary(*len));
         text.truncate(*len);
-        assert_eq!(rt; text.as_str(), *outcome);
+        assert_equal(rt, text.as_str(), *outcome);
     }
 }
 
 /// Asserts which characters begin at some places.
 fn assert_chars(rt: &impl Abort, text: &Repr<Standard>, places: &[(usize, char)]) {
     for (index, character) in places {
-        assert!(rt; text.is_char_boundary(*index));
-        assert!(rt; *index < text.len());
-        assert_eq!(rt; text.char_at(*index), *character);
+        assert_true(rt, text.is_char_boundary(*index));
+        assert_true(rt, *index < text.len());
+        assert_equal(rt, text.char_at(*index), *character);
     }
 }
 
 /// Puts one dash in after another, and asserts whether it fits, and the outcome.
 fn assert_dashes(rt: &impl Abort, text: &mut Repr<Standard>, steps: &[(usize, bool, &str)]) {
     for (index, fits, outcome) in steps {
-        assert!(rt; text.is_char_boundary(*index));
-        assert_eq!(rt; text.insert_ascii_in_place(*index, b'-'), *fits);
-        assert_eq!(rt; text.as_str(), *outcome);
+        assert_true(rt, text.is_char_boundary(*index));
+        assert_equal(rt, text.insert_ascii_in_place(*index, b'-'), *fits);
+        assert_equal(rt, text.as_str(), *outcome);
     }
 }
 
 /// Takes one character of one byte out after another, and asserts whether the text is its own, and the outcome.
 fn assert_removed(rt: &impl Abort, text: &mut Repr<Standard>, steps: &[(usize, bool, &str)]) {
     for (index, owned, outcome) in steps {
-        assert!(rt; *index < text.len());
-        assert!(rt; text.is_char_boundary(*index));
-        assert!(rt; text.is_char_boundary(*index + 1));
-        assert_eq!(rt; text.remove_ascii_in_place(*index), *owned);
-        assert_eq!(rt; text.as_str(), *outcome);
+        assert_true(rt, *index < text.len());
+        assert_true(rt, text.is_char_boundary(*index));
+        assert_true(rt, text.is_char_boundary(*index + 1));
+        assert_equal(rt, text.remove_ascii_in_place(*index), *owned);
+        assert_equal(rt, text.as_str(), *outcome);
     }
 }
 
@@ -61,11 +62,11 @@ fn assert_removed(rt: &impl Abort, text: &mut Repr<Standard>, steps: &[(usize, b
 /// own, and the outcome.
 fn assert_cut(rt: &impl Abort, text: &mut Repr<Standard>, steps: &[(usize, usize, bool, &str)]) {
     for (start, end, owned, outcome) in steps {
-        assert!(rt; *start <= *end);
-        assert!(rt; text.is_char_boundary(*start));
-        assert!(rt; text.is_char_boundary(*end));
-        assert_eq!(rt; text.cut_out_in_place(*start, *end), *owned);
-        assert_eq!(rt; text.as_str(), *outcome);
+        assert_true(rt, *start <= *end);
+        assert_true(rt, text.is_char_boundary(*start));
+        assert_true(rt, text.is_char_boundary(*end));
+        assert_equal(rt, text.cut_out_in_place(*start, *end), *owned);
+        assert_equal(rt, text.as_str(), *outcome);
     }
 }
 
@@ -73,14 +74,14 @@ fn assert_cut(rt: &impl Abort, text: &mut Repr<Standard>, steps: &[(usize, usize
 fn inline(rt: HostRuntime) {
     let mut text = copied(&rt, rt.alloc(), "äb𝄞");
     for index in 0..9 {
-        assert_eq!(rt;
-            text.is_char_boundary(index),
-            matches!(index, 0 | 2 | 3 | 7),
-            "at {index}"
+        assert_true_for(
+            &rt,
+            index,
+            text.is_char_boundary(index) == matches!(index, 0 | 2 | 3 | 7),
         );
     }
     assert_chars(&rt, &text, &[(0, 'ä'), (2, 'b'), (3, '𝄞')]);
-    assert_eq!(rt; text.last_char(), Some('𝄞'));
+    assert_equal(&rt, text.last_char(), Some('𝄞'));
     assert_replaced(
         &rt,
         &mut text,
@@ -90,19 +91,19 @@ fn inline(rt: HostRuntime) {
             (6, 6, "end of a long tex", "yz𝄞end of a long tex"),
         ],
     );
-    assert_eq!(rt; text.len(), 23);
+    assert_equal(&rt, text.len(), 23);
     assert_truncated(
         &rt,
         &mut text,
         &[(24, "yz𝄞end of a long tex"), (2, "yz"), (0, "")],
     );
-    assert_eq!(rt; text.last_char(), None);
+    assert_equal(&rt, text.last_char(), None);
 }
 
 #[test]
 fn heap(rt: HostRuntime) {
     let mut text = copied(&rt, rt.alloc(), "äb𝄞0123456789012345678901234");
-    assert_eq!(rt; text.capacity(), 32);
+    assert_equal(&rt, text.capacity(), 32);
     assert_replaced(
         &rt,
         &mut text,
@@ -113,10 +114,10 @@ fn heap(rt: HostRuntime) {
             (29, 29, "ß", "äyz0123456789012345678901234ß"),
         ],
     );
-    assert_eq!(rt; text.last_char(), Some('ß'));
+    assert_equal(&rt, text.last_char(), Some('ß'));
     assert_chars(&rt, &text, &[(2, 'y')]);
     assert_truncated(&rt, &mut text, &[(4, "äyz")]);
-    assert_eq!(rt; text.capacity(), 32);
+    assert_equal(&rt, text.capacity(), 32);
 }
 
 /// A text of 150 bytes that begins anew at each tenth. It is a function so that a proof need not carry each digit.
@@ -124,50 +125,73 @@ fn digits() -> &'static str {
     "012345678901234567890123456789012345678901234567890123456789012345678901234567890123456789012345678901234567890123456789012345678901234567890123456789"
 }
 
+/// Replaces a part at the front, and asserts what stands before the digits.
+fn assert_front(
+    rt: &impl Abort,
+    text: &mut Repr<Standard>,
+    part: (usize, usize),
+    with: &str,
+    front: &str,
+) {
+    let (start, end) = part;
+    assert_true(rt, text.is_char_boundary(start));
+    assert_true(rt, text.is_char_boundary(end));
+    assert_true(rt, start <= end);
+    assert_true(rt, text.replace_in_place(start, end, with));
+    assert_equal(rt, text.as_str().strip_prefix(front), Some(digits()));
+}
+
+/// Takes a part of the digits out, and asserts how they begin then, and how many there are.
+fn assert_digits(
+    rt: &impl Abort,
+    text: &mut Repr<Standard>,
+    part: (usize, usize),
+    front: &str,
+    len: usize,
+) {
+    let (start, end) = part;
+    assert_true(rt, text.is_char_boundary(start));
+    assert_true(rt, text.is_char_boundary(end));
+    assert_true(rt, start <= end);
+    assert_true(rt, text.cut_out_in_place(start, end));
+    assert_true(rt, text.as_str().starts_with(front));
+    assert_true(
+        rt,
+        digits().ends_with(text.as_str().get(1..).unwrap_or("-")),
+    );
+    assert_equal(rt, text.len(), len);
+}
+
 /// The tail is longer than two blocks of 64 bytes, and its old and new places overlap.
 #[test]
 fn long_tail(rt: HostRuntime) {
     let mut text = copied(&rt, rt.alloc(), digits());
     reserve(&rt, &mut text, 2);
-    for (start, end, with, front) in [
-        (0, 0, "ab", "ab"),
-        (1, 2, "", "a"),
-        (0, 1, "", ""),
-        (0, 0, "b", "b"),
-        (0, 0, "a", "ab"),
-        (0, 2, "", ""),
-    ] {
-        assert!(rt; text.is_char_boundary(start));
-        assert!(rt; text.is_char_boundary(end));
-        assert!(rt; start <= end);
-        assert!(rt; text.replace_in_place(start, end, with));
-        assert_eq!(rt; text.as_str().strip_prefix(front), Some(digits()));
-    }
-    for (start, end, front, len) in [(0, 10, "0123456789012", 140), (1, 2, "0234567890123", 139)] {
-        assert!(rt; text.is_char_boundary(start));
-        assert!(rt; text.is_char_boundary(end));
-        assert!(rt; start <= end);
-        assert!(rt; text.cut_out_in_place(start, end));
-        assert!(rt; text.as_str().starts_with(front));
-        assert!(rt; digits().ends_with(text.as_str().get(1..).unwrap_or("-")));
-        assert_eq!(rt; text.len(), len);
-    }
+    assert_front(&rt, &mut text, (0, 0), "ab", "ab");
+    assert_front(&rt, &mut text, (1, 2), "", "a");
+    assert_front(&rt, &mut text, (0, 1), "", "");
+    assert_front(&rt, &mut text, (0, 0), "b", "b");
+    assert_front(&rt, &mut text, (0, 0), "a", "ab");
+    assert_front(&rt, &mut text, (0, 2), "", "");
+    assert_digits(&rt, &mut text, (0, 10), "0123456789012", 140);
+    assert_digits(&rt, &mut text, (1, 2), "0234567890123", 139);
 }
 
 #[test]
 fn of_the_program(rt: HostRuntime) {
     let mut text = borrowed(rt.alloc(), "äb𝄞 and so on, past the inline capacity");
     assert_chars(&rt, &text, &[(0, 'ä'), (3, '𝄞'), (16, 'n')]);
-    assert!(rt; text.is_char_boundary(3));
-    assert_eq!(rt;
+    assert_true(&rt, text.is_char_boundary(3));
+    assert_equal(
+        &rt,
         text.static_suffix(3),
-        Some("𝄞 and so on, past the inline capacity")
+        Some("𝄞 and so on, past the inline capacity"),
     );
-    assert_eq!(rt; text.last_char(), Some('y'));
+    assert_equal(&rt, text.last_char(), Some('y'));
     assert_truncated(&rt, &mut text, &[(7, "äb𝄞")]);
-    assert_eq!(rt; text.capacity(), 7);
-    assert!(rt; text.is_char_boundary(0));
-    assert_eq!(rt; text.static_suffix(0), Some("äb𝄞"));
+    assert_equal(&rt, text.capacity(), 7);
+    assert_true(&rt, text.is_char_boundary(0));
+    assert_equal(&rt, text.static_suffix(0), Some("äb𝄞"));
 }
 
 #[test]
@@ -214,7 +238,7 @@ fn one_character_on_the_heap(rt: HostRuntime) {
             (0, true, "äb𝄞0123456789012345678901"),
         ],
     );
-    assert_eq!(rt; text.capacity(), 32);
+    assert_equal(&rt, text.capacity(), 32);
 }
 
 /// A text of the program, of 36 bytes.
@@ -233,10 +257,10 @@ fn nothing_in_place_of_the_program(rt: HostRuntime) {
         &mut text,
         &[(0, 7, false, line()), (3, 3, false, line())],
     );
-    assert!(rt; !text.push_in_place(""));
-    assert!(rt; text.is_char_boundary(2));
-    assert!(rt; !text.replace_in_place(2, 2, ""));
-    assert_eq!(rt; text.as_static_str(), Some(line()));
+    assert_true(&rt, !text.push_in_place(""));
+    assert_true(&rt, text.is_char_boundary(2));
+    assert_true(&rt, !text.replace_in_place(2, 2, ""));
+    assert_equal(&rt, text.as_static_str(), Some(line()));
 }
 
 /// A part is taken out in each place that is the value's own.
@@ -258,7 +282,7 @@ fn a_part_is_cut_out(rt: HostRuntime) {
             (10, 25, true, "ä23456789"),
         ],
     );
-    assert_eq!(rt; text.capacity(), 32);
+    assert_equal(&rt, text.capacity(), 32);
 }
 
 /// A large room is filled byte by byte, up to its last one.
@@ -266,17 +290,21 @@ fn a_part_is_cut_out(rt: HostRuntime) {
 fn a_room_is_filled(rt: HostRuntime) {
     let mut text = empty(&rt, rt.alloc(), 1000);
     for _pushed in 0..500 {
-        assert!(rt; text.push_in_place("ab"));
+        assert_true(&rt, text.push_in_place("ab"));
     }
-    assert!(rt; !text.push_in_place("c"));
-    assert_eq!(rt; text.len(), 1000);
-    assert_eq!(rt; text.capacity(), 1000);
-    assert!(rt; text.as_str().chars().step_by(2).all(|letter| letter == 'a'));
-    assert!(rt;
+    assert_true(&rt, !text.push_in_place("c"));
+    assert_equal(&rt, text.len(), 1000);
+    assert_equal(&rt, text.capacity(), 1000);
+    assert_true(
+        &rt,
+        text.as_str().chars().step_by(2).all(|letter| letter == 'a'),
+    );
+    assert_true(
+        &rt,
         text.as_str()
             .chars()
             .skip(1)
             .step_by(2)
-            .all(|letter| letter == 'b')
+            .all(|letter| letter == 'b'),
     );
 }

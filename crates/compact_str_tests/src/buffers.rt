@@ -2,6 +2,7 @@
 
 use crate::drips::Drips;
 use bytes::Buf;
+use compact_asserts::{assert_equal, assert_true};
 use compact_str::{CompactString, FromUtf8Error};
 use compact_testing::memory::take_all;
 use compact_testing::seen::is_fitted;
@@ -9,7 +10,18 @@ use compact_testing::values::letters;
 use std::alloc::Global;
 use std::process::Abort;
 
-/// What two pieces give, of which none remains.
+/// What a buffer gives, of which nothing remains.
+fn read_whole<B: Buf>(
+    rt: &impl Abort,
+    alloc: Global,
+    buf: &mut B,
+) -> Result<CompactString, FromUtf8Error> {
+    let made = CompactString::from_utf8_buf(alloc, buf);
+    assert_equal(rt, buf.remaining(), 0);
+    made
+}
+
+/// What two pieces give.
 fn of_two(
     rt: &impl Abort,
     alloc: Global,
@@ -18,18 +30,12 @@ fn of_two(
 ) -> Result<CompactString, FromUtf8Error> {
     let first = bytes.get(..place).unwrap_or(&[]);
     let second = bytes.get(place..).unwrap_or(&[]);
-    let mut both = Buf::chain(first, second);
-    let made = CompactString::from_utf8_buf(alloc, &mut both);
-    assert_eq!(rt; both.remaining(), 0);
-    made
+    read_whole(rt, alloc, &mut Buf::chain(first, second))
 }
 
 /// What bytes give of which no two lie together.
 fn of_drips(rt: &impl Abort, alloc: Global, bytes: &[u8]) -> Result<CompactString, FromUtf8Error> {
-    let mut drips = Drips { rest: bytes };
-    let made = CompactString::from_utf8_buf(alloc, &mut drips);
-    assert_eq!(rt; drips.rest.len(), 0);
-    made
+    read_whole(rt, alloc, &mut Drips { rest: bytes })
 }
 
 /// Asserts that a text is read wherever it is parted.
@@ -37,10 +43,10 @@ fn assert_read(rt: &impl Abort, alloc: Global, text: &str) {
     let bytes = text.as_bytes();
     for place in 0..bytes.len() + 1 {
         let made = of_two(rt, alloc, bytes, place).ok().expect(rt, "a text");
-        assert!(rt; is_fitted(&made, text));
+        assert_true(rt, is_fitted(&made, text));
     }
     let made = of_drips(rt, alloc, bytes).ok().expect(rt, "a text");
-    assert!(rt; is_fitted(&made, text));
+    assert_true(rt, is_fitted(&made, text));
 }
 
 #[test]
@@ -57,9 +63,9 @@ fn a_text_is_read_wherever_it_is_parted(rt: HostRuntime) {
 /// Asserts that invalid bytes have one error wherever they are parted.
 fn assert_invalid(rt: &impl Abort, alloc: Global, bytes: &[u8], error: FromUtf8Error) {
     for place in 0..bytes.len() + 1 {
-        assert!(rt; of_two(rt, alloc, bytes, place).err() == Some(error));
+        assert_true(rt, of_two(rt, alloc, bytes, place).err() == Some(error));
     }
-    assert!(rt; of_drips(rt, alloc, bytes).err() == Some(error));
+    assert_true(rt, of_drips(rt, alloc, bytes).err() == Some(error));
 }
 
 /// An error at a place, of an invalid sequence of so many bytes, or open at the end.
@@ -92,6 +98,6 @@ fn drips_of_24_bytes_need_no_memory(rt: HostRuntime) {
         rest: letters(25).as_bytes(),
     };
     let made = CompactString::from_utf8_buf(alloc, &mut drips);
-    assert!(rt; matches!(made, Err(FromUtf8Error::Reserve(_))));
+    assert_true(&rt, matches!(made, Err(FromUtf8Error::Reserve(_))));
     drop(hog);
 }

@@ -1,5 +1,6 @@
 //! Values as they are made, with ample memory.
 
+use compact_asserts::{assert_equal, assert_true};
 use compact_str::CompactString;
 use compact_testing::seen::{is_at, is_heap, is_inline, is_static};
 use compact_testing::values::{lasting, letters, string_with_room};
@@ -12,49 +13,66 @@ use std::process::Abort;
 fn texts_of_the_program_are_static_if_they_are_long(rt: HostRuntime) {
     let alloc = rt.alloc();
     let value = lasting(alloc, 30);
-    assert!(rt; is_static(&value, letters(30)));
-    assert_eq!(rt; value.as_static_str(), Some(letters(30)));
+    assert_true(&rt, is_static(&value, letters(30)));
+    assert_equal(&rt, value.as_static_str(), Some(letters(30)));
     let short = CompactString::const_new(alloc, "abc");
-    assert!(rt; is_inline(&short, "abc"));
+    assert_true(&rt, is_inline(&short, "abc"));
+}
+
+/// Where a value is to stand, with which capacity.
+type Placement = (&'static str, usize);
+
+/// Asserts where a string with so much room stands as a value, taken over by each way in.
+fn assert_taken_over(
+    rt: &impl Abort,
+    alloc: Global,
+    room: usize,
+    text: &str,
+    placement: Placement,
+) {
+    let (place, capacity) = placement;
+    let string = string_with_room(alloc, room, text).expect(rt, "memory");
+    let value = CompactString::from(string);
+    assert_true(rt, is_at(&value, place, capacity, text));
+    let string = string_with_room(alloc, room, text).expect(rt, "memory");
+    let value = CompactString::from_cow(alloc, CowStr::Owned(string)).expect(rt, "memory");
+    assert_true(rt, is_at(&value, place, capacity, text));
 }
 
 #[test]
 fn strings_are_taken_over_or_move_inline(rt: HostRuntime) {
     let alloc = rt.alloc();
-    for (room, text, place, capacity) in [
-        (100, "", "inline", 24),
-        (256, "abc", "inline", 24),
-        (30, letters(30), "heap", 30),
-        (31, letters(30), "heap", 31),
-        (100, letters(30), "heap", 100),
-    ] {
-        let value = CompactString::from(string_with_room(alloc, room, text).expect(&rt, "memory"));
-        assert!(rt; is_at(&value, place, capacity, text));
-        let owned = CowStr::Owned(string_with_room(alloc, room, text).expect(&rt, "memory"));
-        let value = CompactString::from_cow(alloc, owned).expect(&rt, "memory");
-        assert!(rt; is_at(&value, place, capacity, text));
-    }
+    assert_taken_over(&rt, alloc, 100, "", ("inline", 24));
+    assert_taken_over(&rt, alloc, 256, "abc", ("inline", 24));
+    assert_taken_over(&rt, alloc, 30, letters(30), ("heap", 30));
+    assert_taken_over(&rt, alloc, 31, letters(30), ("heap", 31));
+    assert_taken_over(&rt, alloc, 100, letters(30), ("heap", 100));
+}
+
+/// The same of a vector of bytes, and of a box.
+fn assert_bytes_and_box(
+    rt: &impl Abort,
+    alloc: Global,
+    room: usize,
+    text: &str,
+    placement: Placement,
+) {
+    let (place, capacity) = placement;
+    let string = string_with_room(alloc, room, text).expect(rt, "memory");
+    let value = CompactString::try_from(string.into_bytes()).expect(rt, "a text");
+    assert_true(rt, is_at(&value, place, capacity, text));
+    let string = string_with_room(alloc, room, text).expect(rt, "memory");
+    let value = CompactString::from(string.into_boxed_str());
+    assert_true(rt, is_at(&value, place, capacity, text));
 }
 
 #[test]
 fn bytes_and_boxes_are_taken_over_or_move_inline(rt: HostRuntime) {
     let alloc = rt.alloc();
-    for (room, text, place, capacity) in [
-        (100, "", "inline", 24),
-        (256, "abc", "inline", 24),
-        (90, letters(30), "heap", 90),
-        (100, letters(40), "heap", 100),
-    ] {
-        let bytes = string_with_room(alloc, room, text)
-            .expect(&rt, "memory")
-            .into_bytes();
-        let value = CompactString::try_from(bytes).expect(&rt, "a text");
-        assert!(rt; is_at(&value, place, capacity, text));
-        let boxed = string_with_room(alloc, room, text)
-            .expect(&rt, "memory")
-            .into_boxed_str();
-        assert!(rt; is_at(&CompactString::from(boxed), place, capacity, text));
-    }
+    assert_bytes_and_box(&rt, alloc, 100, "", ("inline", 24));
+    assert_bytes_and_box(&rt, alloc, 256, "abc", ("inline", 24));
+    assert_bytes_and_box(&rt, alloc, 90, letters(30), ("heap", 90));
+    assert_bytes_and_box(&rt, alloc, 100, letters(40), ("heap", 100));
 }
 
 /// Asserts that bytes are no text, and that they come back as they were.
@@ -62,7 +80,7 @@ fn are_no_text(rt: &impl Abort, alloc: Global, bytes: &[u8]) {
     let vector = Vec::from_slice(alloc, bytes).expect(rt, "memory");
     match CompactString::try_from(vector) {
         Ok(_) => panic!(rt; "these bytes are no text"),
-        Err(error) => assert_eq!(rt; error.as_bytes(), bytes),
+        Err(error) => assert_equal(rt, error.as_bytes(), bytes),
     }
 }
 
@@ -80,12 +98,12 @@ fn string_buffers_are_taken_over_with_short_texts_too(rt: HostRuntime) {
     let none = CompactString::from_string_buffer(string_with_room(alloc, 100, "").expect(
         &rt, "memory",
     ));
-    assert!(rt; is_heap(&none, 100, letters(0)));
+    assert_true(&rt, is_heap(&none, 100, letters(0)));
     let unbuffered = CompactString::from_string_buffer(String::new(alloc));
-    assert!(rt; is_inline(&unbuffered, ""));
+    assert_true(&rt, is_inline(&unbuffered, ""));
 }
 
 #[test]
 fn a_value_takes_32_bytes(rt: HostRuntime) {
-    assert_eq!(rt; size_of::<CompactString>(), 32);
+    assert_equal(&rt, size_of::<CompactString>(), 32);
 }

@@ -1,5 +1,6 @@
 //! Values as they are handed on, with ample memory.
 
+use compact_asserts::{assert_equal, assert_true};
 use compact_str::{CompactString, FromJsonError};
 use compact_testing::seen::{is_heap, is_inline};
 use compact_testing::values::{lasting, letters, short, string_with_room, with_room};
@@ -14,7 +15,7 @@ fn shortened(rt: &impl Abort, alloc: Global) -> CompactString {
     value
         .push_str("äbcdefghijklmnopqrstuvwxyz0123456789")
         .expect(rt, "memory");
-    assert!(rt; value.is_char_boundary(3));
+    assert_true(rt, value.is_char_boundary(3));
     value.truncate(3);
     value
 }
@@ -25,33 +26,33 @@ fn what_leaves_has_this_room(rt: HostRuntime) {
     let text = string_with_room(alloc, 90, letters(30)).expect(&rt, "memory");
     let value = CompactString::from_string_buffer(text);
     let text = value.into_string().expect(&rt, "memory");
-    assert_eq!(rt; text.capacity(), 90);
+    assert_equal(&rt, text.capacity(), 90);
     let value = CompactString::from_string_buffer(text);
-    assert!(rt; is_heap(&value, 90, letters(30)));
+    assert_true(&rt, is_heap(&value, 90, letters(30)));
     let bytes = value.into_vec().expect(&rt, "memory");
-    assert_eq!(rt; bytes.capacity(), 90);
+    assert_equal(&rt, bytes.capacity(), 90);
     let bytes = short(alloc, "äb").into_bytes().expect(&rt, "memory");
-    assert_eq!(rt; bytes.as_slice(), [0xc3, 0xa4, 0x62].as_slice());
-    assert_eq!(rt; bytes.capacity(), 24);
+    assert_equal(&rt, bytes.as_slice(), [0xc3, 0xa4, 0x62].as_slice());
+    assert_equal(&rt, bytes.capacity(), 24);
 }
 
 #[test]
 fn boxes_and_shared_texts_have_the_text(rt: HostRuntime) {
     let alloc = rt.alloc();
     let boxed = short(alloc, "äb").into_boxed_str().expect(&rt, "memory");
-    assert_eq!(rt; boxed.as_str(), "äb");
+    assert_equal(&rt, boxed.as_str(), "äb");
     let boxed = shortened(&rt, alloc).into_boxed_str().expect(&rt, "memory");
-    assert_eq!(rt; boxed.as_str(), "äb");
+    assert_equal(&rt, boxed.as_str(), "äb");
     let shared = shortened(&rt, alloc).into_rc().expect(&rt, "memory");
-    assert_eq!(rt; shared.as_str(), "äb");
+    assert_equal(&rt, shared.as_str(), "äb");
     let shared = lasting(alloc, 30).into_rc().expect(&rt, "memory");
-    assert_eq!(rt; shared.as_str(), letters(30));
+    assert_equal(&rt, shared.as_str(), letters(30));
 }
 
 /// Asserts that a text is borrowed, or that it is owned.
 fn is_lent(rt: &impl Abort, cow: CowStr<'_>, text: &str, is_borrowed: bool) {
-    assert!(rt; matches!(cow, CowStr::Borrowed(_)) == is_borrowed);
-    assert_eq!(rt; cow.as_str(), text);
+    assert_true(rt, matches!(cow, CowStr::Borrowed(_)) == is_borrowed);
+    assert_equal(rt, cow.as_str(), text);
 }
 
 #[test]
@@ -73,7 +74,11 @@ fn json_of(rt: &impl Abort, value: &CompactString) -> Value {
 
 /// Asserts how a JSON value is printed.
 fn is_printed(rt: &impl Abort, alloc: Global, json: &Value, text: &str) {
-    assert_eq!(rt; json.to_string(alloc).expect(rt, "memory").as_str(), text);
+    assert_equal(
+        rt,
+        json.to_string(alloc).expect(rt, "memory").as_str(),
+        text,
+    );
 }
 
 /// The value of a JSON string.
@@ -89,21 +94,21 @@ fn a_value_is_a_json_string(rt: HostRuntime) {
     let json = json_of(&rt, &short(alloc, "ä\"\n"));
     is_printed(&rt, alloc, &json, "\"ä\\\"\\n\"");
     let json = json_of(&rt, &lasting(alloc, 30));
-    assert!(rt; is_heap(&value_in(&rt, alloc, &json), 32, letters(30)));
+    assert_true(&rt, is_heap(&value_in(&rt, alloc, &json), 32, letters(30)));
 }
 
 /// Asserts that a JSON value is no string.
 fn is_no_string(rt: &impl Abort, alloc: Global, made: Result<Value, AllocError>) {
     let json = made.expect(rt, "memory");
     let read: Result<CompactString, FromJsonError> = CompactString::from_json(alloc, &json);
-    assert!(rt; matches!(read, Err(FromJsonError::NotAString)));
+    assert_true(rt, matches!(read, Err(FromJsonError::NotAString)));
 }
 
 #[test]
 fn only_a_json_string_is_taken(rt: HostRuntime) {
     let alloc = rt.alloc();
     let json = json!(in alloc; "abc").expect(&rt, "memory");
-    assert!(rt; is_inline(&value_in(&rt, alloc, &json), "abc"));
+    assert_true(&rt, is_inline(&value_in(&rt, alloc, &json), "abc"));
     is_no_string(&rt, alloc, json!(in alloc; 1));
     is_no_string(&rt, alloc, json!(in alloc; null));
     is_no_string(&rt, alloc, json!(in alloc; true));

@@ -1,6 +1,7 @@
 //! Bytes and units that are decoded. Texts and errors are those of the Unicode Standard, worked by hand.
 
 use bytes::Buf;
+use compact_asserts::{assert_equal, assert_true, assert_true_for};
 use compact_str::{CompactString, FromUtf8Error, FromUtf16Error, ReserveError, Utf16Error};
 use compact_testing::memory::take_all;
 use compact_testing::seen::is_inline;
@@ -18,17 +19,14 @@ fn assert_invalid(
     text: &str,
 ) {
     let error = CompactString::from_utf8(alloc, bytes).err();
-    assert!(rt;
-        error
-            == Some(FromUtf8Error::Utf8 {
-                valid_up_to,
-                error_len
-            }),
-        "{bytes:?}: {error:?}"
-    );
+    let wanted = FromUtf8Error::Utf8 {
+        valid_up_to,
+        error_len,
+    };
+    assert_true_for(rt, bytes, error == Some(wanted));
     let lossy = CompactString::from_utf8_lossy(alloc, bytes).expect(rt, "memory");
-    assert_eq!(rt; lossy.as_str(), text);
-    assert!(rt; lossy.is_heap_allocated() == (text.len() > 24));
+    assert_equal(rt, lossy.as_str(), text);
+    assert_true(rt, lossy.is_heap_allocated() == (text.len() > 24));
 }
 
 #[test]
@@ -69,14 +67,14 @@ fn invalid_bytes_are_told_and_replaced(rt: HostRuntime) {
 
 /// Asserts that a short text was made, which stands inline.
 fn assert_text<E: Drop>(rt: &impl Abort, made: Result<CompactString, E>, text: &str) {
-    assert!(rt; is_inline(&made.ok().expect(rt, "a text"), text));
+    assert_true(rt, is_inline(&made.ok().expect(rt, "a text"), text));
 }
 
 /// Asserts that 30 letters were made, on the heap.
 fn assert_letters<E: Drop>(rt: &impl Abort, made: Result<CompactString, E>) {
     let made = made.ok().expect(rt, "a text");
-    assert_eq!(rt; made.as_str(), letters(30));
-    assert!(rt; made.is_heap_allocated());
+    assert_equal(rt, made.as_str(), letters(30));
+    assert_true(rt, made.is_heap_allocated());
 }
 
 /// Asserts that each decoder makes this short text of its form.
@@ -129,9 +127,9 @@ fn each_form_of_a_text_is_taken(rt: HostRuntime) {
 /// Asserts that the units are no text, and which text they give lossily.
 fn assert_unpaired(rt: &impl Abort, alloc: Global, units: &[u16], text: &str) {
     let strict = CompactString::from_utf16(alloc, units);
-    assert!(rt; matches!(strict, Err(FromUtf16Error::Utf16(_))));
+    assert_true(rt, matches!(strict, Err(FromUtf16Error::Utf16(_))));
     let lossy = CompactString::from_utf16_lossy(alloc, units).expect(rt, "memory");
-    assert_eq!(rt; lossy.as_str(), text);
+    assert_equal(rt, lossy.as_str(), text);
 }
 
 #[test]
@@ -166,7 +164,7 @@ fn units_of_a_text_are_taken(rt: HostRuntime) {
 
 /// Asserts that units are no text.
 fn assert_no_text(rt: &impl Abort, made: Result<CompactString, FromUtf16Error>) {
-    assert!(rt; matches!(made, Err(FromUtf16Error::Utf16(_))));
+    assert_true(rt, matches!(made, Err(FromUtf16Error::Utf16(_))));
 }
 
 #[test]
@@ -194,7 +192,7 @@ fn a_buffer_that_is_known_to_be_a_text_is_read_to_its_end(rt: HostRuntime) {
     let mut known = "abc".as_bytes();
     let made = CompactString::from_utf8_buf_unchecked(rt.alloc(), &mut known);
     assert_text(&rt, made, "abc");
-    assert_eq!(rt; known.remaining(), 0);
+    assert_equal(&rt, known.remaining(), 0);
 }
 
 /// Bytes and units that are here already are validated first, and a buffer is read first.
@@ -203,24 +201,25 @@ fn errors_are_told_before_memory_is_asked_for(rt: HostRuntime) {
     let alloc = rt.alloc();
     let hog = take_all(alloc).expect(&rt, "room for the list of blocks");
     let error = CompactString::from_utf8(alloc, b"aaaaaaaaaaaaaaaaaaaaaaaaaaaaa\xFF").err();
-    assert!(rt;
+    assert_true(
+        &rt,
         error
             == Some(FromUtf8Error::Utf8 {
                 valid_up_to: 29,
-                error_len: Some(1)
-            })
+                error_len: Some(1),
+            }),
     );
     assert_no_text(&rt, CompactString::from_utf16(alloc, &[0xDC00; 30]));
     assert_no_text(&rt, CompactString::from_utf16le(alloc, &[0x61; 59]));
     let mut invalid = b"\xFFaaaaaaaaaaaaaaaaaaaaaaaaaaaaa".as_slice();
     let refused = CompactString::from_utf8_buf(alloc, &mut invalid).err();
-    assert!(rt; refused == Some(FromUtf8Error::Reserve(ReserveError)));
+    assert_true(&rt, refused == Some(FromUtf8Error::Reserve(ReserveError)));
     drop(hog);
 }
 
 /// Asserts how an error is shown.
 fn is_shown(rt: &impl Abort, made: Result<String, AllocError>, text: &str) {
-    assert_eq!(rt; made.expect(rt, "memory").as_str(), text);
+    assert_equal(rt, made.expect(rt, "memory").as_str(), text);
 }
 
 #[test]
@@ -241,7 +240,7 @@ fn refusals_show_this_text(rt: HostRuntime) {
     let alloc = rt.alloc();
     let text = "Cannot allocate memory to hold CompactString";
     let refused = FromUtf8Error::from(ReserveError);
-    assert!(rt; refused == FromUtf8Error::Reserve(ReserveError));
+    assert_true(&rt, refused == FromUtf8Error::Reserve(ReserveError));
     is_shown(&rt, format!(in alloc; "{refused}"), text);
     let refused = FromUtf16Error::from(ReserveError);
     is_shown(&rt, format!(in alloc; "{refused}"), text);

@@ -1,5 +1,6 @@
 //! Values as they are written and read by serde, as JSON.
 
+use compact_asserts::{assert_equal, assert_true};
 use compact_str::CompactString;
 use compact_testing::seen::is_fitted;
 use compact_testing::values::{append, lasting, value_of};
@@ -33,15 +34,18 @@ fn read(rt: &impl Abort, alloc: Global, text: &str) -> CompactString {
 fn goes_round(rt: &impl Abort, alloc: Global, value: &CompactString) {
     let json = written(rt, alloc, value);
     let inner = json.strip_prefix('"').expect(rt, "a quote");
-    assert_eq!(rt; inner.strip_suffix('"'), Some(value.as_str()));
-    assert!(rt; is_fitted(&read(rt, alloc, json.as_str()), value.as_str()));
+    assert_equal(rt, inner.strip_suffix('"'), Some(value.as_str()));
+    assert_true(
+        rt,
+        is_fitted(&read(rt, alloc, json.as_str()), value.as_str()),
+    );
 }
 
 /// Asserts this of texts of each length up to 60 bytes.
 fn all_go_round(rt: &impl Abort, alloc: Global, character: &str) {
     for count in 0..=60 {
         let text = filled(rt, alloc, character, count);
-        assert_eq!(rt; text.len(), count);
+        assert_equal(rt, text.len(), count);
         goes_round(rt, alloc, &text);
     }
 }
@@ -61,8 +65,8 @@ fn a_static_value_is_written_too(rt: HostRuntime) {
 
 /// Asserts how a value is written, and that it is read back.
 fn is_written(rt: &impl Abort, alloc: Global, value: &CompactString, json: &str) {
-    assert_eq!(rt; written(rt, alloc, value).as_str(), json);
-    assert!(rt; is_fitted(&read(rt, alloc, json), value.as_str()));
+    assert_equal(rt, written(rt, alloc, value).as_str(), json);
+    assert_true(rt, is_fitted(&read(rt, alloc, json), value.as_str()));
 }
 
 #[test]
@@ -90,9 +94,9 @@ fn what_json_escapes_is_read_back(rt: HostRuntime) {
 #[test]
 fn escapes_that_no_writer_makes_are_read(rt: HostRuntime) {
     let alloc = rt.alloc();
-    assert!(rt; is_fitted(&read(&rt, alloc, r#""\u00eb""#), "ë"));
-    assert!(rt; is_fitted(&read(&rt, alloc, r#""\ud834\udd1e""#), "𝄞"));
-    assert!(rt; is_fitted(&read(&rt, alloc, r#" "a\/b" "#), "a/b"));
+    assert_true(&rt, is_fitted(&read(&rt, alloc, r#""\u00eb""#), "ë"));
+    assert_true(&rt, is_fitted(&read(&rt, alloc, r#""\ud834\udd1e""#), "𝄞"));
+    assert_true(&rt, is_fitted(&read(&rt, alloc, r#" "a\/b" "#), "a/b"));
 }
 
 #[test]
@@ -102,16 +106,16 @@ fn texts_in_a_row_are_read_in_order(rt: HostRuntime) {
         &rt,
         "a row of texts",
     );
-    assert_eq!(rt; row.len(), texts.len());
+    assert_equal(&rt, row.len(), texts.len());
     for (value, text) in row.iter().zip(texts) {
-        assert_eq!(rt; value.as_str(), text);
+        assert_equal(&rt, value.as_str(), text);
     }
 }
 
 /// Asserts that a JSON text is no text.
 fn is_no_text(rt: &impl Abort, alloc: Global, json: &str) {
     let read: Result<CompactString, serde_json::Error> = serde_json::from_str(alloc, json);
-    assert!(rt; read.is_err());
+    assert_true(rt, read.is_err());
 }
 
 #[test]

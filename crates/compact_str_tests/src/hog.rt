@@ -1,5 +1,6 @@
 //! That a test can take all memory, and give it back.
 
+use compact_asserts::assert_true;
 use compact_testing::memory::take_all;
 use std::alloc::{AllocError, Global};
 
@@ -13,8 +14,8 @@ fn has_memory(alloc: Global) -> bool {
 fn each_request_is_refused_until_the_hog_is_dropped(rt: HostRuntime) {
     let alloc = rt.alloc();
     let hog = take_all(alloc).expect(&rt, "room for the list of blocks");
-    assert!(rt; hog.block_count() > 0);
-    assert!(rt; !has_memory(alloc));
+    assert_true(&rt, hog.block_count() > 0);
+    assert_true(&rt, !has_memory(alloc));
     drop(hog);
-    assert!(rt; has_memory(alloc));
+    assert_true(&rt, has_memory(alloc));
 }

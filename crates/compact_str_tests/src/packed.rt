@@ -1,5 +1,6 @@
 //! Inline values as their 24 bytes, by rows that are written out.
 
+use compact_asserts::{assert_equal, assert_true};
 use compact_str::CompactString;
 use compact_testing::seen::is_inline;
 use compact_testing::values::{append, lasting, letters, value_of, with_room};
@@ -8,7 +9,7 @@ use std::process::Abort;
 
 /// Keeps the first bytes, up to a position that is tested first.
 fn truncate(rt: &impl Abort, value: &mut CompactString, len: usize) {
-    assert!(rt; len >= value.len() || value.is_char_boundary(len));
+    assert_true(rt, len >= value.len() || value.is_char_boundary(len));
     value.truncate(len);
 }
 
@@ -27,10 +28,10 @@ fn is_packed(rt: &impl Abort, alloc: Global, value: &CompactString) {
     let bytes = bytes_of(rt, value);
     let text = value.as_str();
     let len = text.len();
-    assert!(rt; len <= 24);
-    assert_eq!(rt; &bytes[..len], text.as_bytes());
-    assert!(rt; len == 24 || bytes[23] as usize == 192 + len);
-    assert!(rt; is_inline(&read(rt, alloc, &bytes), text));
+    assert_true(rt, len <= 24);
+    assert_equal(rt, &bytes[..len], text.as_bytes());
+    assert_true(rt, len == 24 || bytes[23] as usize == 192 + len);
+    assert_true(rt, is_inline(&read(rt, alloc, &bytes), text));
 }
 
 /// The same of a value that is made of the text at once, where zeros stand between the text and its length.
@@ -40,8 +41,11 @@ fn is_packed_anew(rt: &impl Abort, alloc: Global, value: &CompactString) {
     is_packed(rt, alloc, &made);
     let bytes = bytes_of(rt, &made);
     let len = made.len();
-    assert!(rt; len <= 24);
-    assert!(rt; len == 24 || bytes[len..23].iter().all(|byte| *byte == 0));
+    assert_true(rt, len <= 24);
+    assert_true(
+        rt,
+        len == 24 || bytes[len..23].iter().all(|byte| *byte == 0),
+    );
 }
 
 #[test]
@@ -49,7 +53,7 @@ fn rows_of_made_values(rt: HostRuntime) {
     let alloc = rt.alloc();
     let mut row = [0; 24];
     row[23] = 0xC0;
-    assert_eq!(rt; bytes_of(&rt, &CompactString::default(alloc)), row);
+    assert_equal(&rt, bytes_of(&rt, &CompactString::default(alloc)), row);
     for (text, row) in [
         ("", b"\0\0\0\0\0\0\0\0\0\0\0\0\0\0\0\0\0\0\0\0\0\0\0\xC0"),
         ("hello world", b"hello world\0\0\0\0\0\0\0\0\0\0\0\0\xCB"),
@@ -57,9 +61,10 @@ fn rows_of_made_values(rt: HostRuntime) {
         (letters(23), b"aaaaaaaaaaaaaaaaaaaaaaa\xD7"),
         ("i am 24 characters long!", b"i am 24 characters long!"),
     ] {
-        assert_eq!(rt;
+        assert_equal(
+            &rt,
             &bytes_of(&rt, &value_of(alloc, text).expect(&rt, "memory")),
-            row
+            row,
         );
     }
 }
@@ -68,41 +73,47 @@ fn rows_of_made_values(rt: HostRuntime) {
 fn the_last_byte_of_24_is_of_the_text_or_its_length(rt: HostRuntime) {
     let alloc = rt.alloc();
     let euros = bytes_of(&rt, &value_of(alloc, "€€€€€€€€").expect(&rt, "memory"));
-    assert_eq!(rt; euros[23], 0xAC);
+    assert_equal(&rt, euros[23], 0xAC);
     let mut cut = value_of(alloc, letters(24)).expect(&rt, "memory");
     truncate(&rt, &mut cut, 3);
-    assert_eq!(rt; bytes_of(&rt, &cut)[23], 0xC3);
+    assert_equal(&rt, bytes_of(&rt, &cut)[23], 0xC3);
     is_packed(&rt, alloc, &cut);
 }
 
 #[test]
 fn only_inline_values_have_the_bytes(rt: HostRuntime) {
     let alloc = rt.alloc();
-    assert_eq!(rt; lasting(alloc, 25).packed(), None);
-    assert_eq!(rt;
+    assert_equal(&rt, lasting(alloc, 25).packed(), None);
+    assert_equal(
+        &rt,
         value_of(alloc, letters(25)).expect(&rt, "memory").packed(),
-        None
+        None,
     );
-    assert_eq!(rt; with_room(alloc, 25).expect(&rt, "memory").packed(), None);
-    assert!(rt; lasting(alloc, 24).packed().is_some());
-    assert!(rt;
+    assert_equal(
+        &rt,
+        with_room(alloc, 25).expect(&rt, "memory").packed(),
+        None,
+    );
+    assert_true(&rt, lasting(alloc, 24).packed().is_some());
+    assert_true(
+        &rt,
         value_of(alloc, letters(24))
             .expect(&rt, "memory")
             .packed()
-            .is_some()
+            .is_some(),
     );
 }
 
 #[test]
 fn bytes_that_stand_for_a_text_are_read(rt: HostRuntime) {
     let alloc = rt.alloc();
-    assert!(rt; is_inline(&read(&rt, alloc, &[0x61; 24]), letters(24)));
+    assert_true(&rt, is_inline(&read(&rt, alloc, &[0x61; 24]), letters(24)));
     let mut row = [0xFF; 24];
     row[0] = 0x61;
     row[23] = 0xC1;
-    assert!(rt; is_inline(&read(&rt, alloc, &row), "a"));
+    assert_true(&rt, is_inline(&read(&rt, alloc, &row), "a"));
     row[23] = 0xC0;
-    assert!(rt; is_inline(&read(&rt, alloc, &row), ""));
+    assert_true(&rt, is_inline(&read(&rt, alloc, &row), ""));
 }
 
 #[test]
@@ -112,9 +123,12 @@ fn bytes_that_stand_for_no_text_are_refused(rt: HostRuntime) {
         let mut row = [0; 24];
         row[0] = first;
         row[23] = last;
-        assert!(rt; CompactString::from_packed(alloc, &row).is_none());
+        assert_true(&rt, CompactString::from_packed(alloc, &row).is_none());
     }
-    assert!(rt; CompactString::from_packed(alloc, &[0x80; 24]).is_none());
+    assert_true(
+        &rt,
+        CompactString::from_packed(alloc, &[0x80; 24]).is_none(),
+    );
 }
 
 #[test]
@@ -132,7 +146,7 @@ fn each_length_is_packed(rt: HostRuntime) {
             .expect(&rt, "memory");
         is_packed_anew(&rt, alloc, &value);
     }
-    assert!(rt; is_inline(&value, "abcdefghijklmnopqrstuvwx"));
+    assert_true(&rt, is_inline(&value, "abcdefghijklmnopqrstuvwx"));
 }
 
 #[test]
@@ -140,10 +154,10 @@ fn each_length_is_cut(rt: HostRuntime) {
     let alloc = rt.alloc();
     let mut value = value_of(alloc, "abcdefghijklmnopqrstuvwx").expect(&rt, "memory");
     for _ in 0..24u8 {
-        assert!(rt; value.pop().is_some());
+        assert_true(&rt, value.pop().is_some());
         is_packed_anew(&rt, alloc, &value);
     }
-    assert!(rt; is_inline(&value, ""));
+    assert_true(&rt, is_inline(&value, ""));
 }
 
 #[test]
@@ -156,7 +170,7 @@ fn what_stands_behind_a_text_is_not_read(rt: HostRuntime) {
             row[place] = 0x61;
         }
         let value = read(&rt, alloc, &row);
-        assert!(rt; is_inline(&value, letters(count as usize)));
+        assert_true(&rt, is_inline(&value, letters(count as usize)));
         is_packed_anew(&rt, alloc, &value);
     }
 }
@@ -164,9 +178,9 @@ fn what_stands_behind_a_text_is_not_read(rt: HostRuntime) {
 /// Wipes a value, and asserts that its bytes are those of the empty text.
 fn is_wiped(rt: &impl Abort, alloc: Global, mut value: CompactString) {
     value.zeroize();
-    assert!(rt; is_inline(&value, ""));
+    assert_true(rt, is_inline(&value, ""));
     let row = b"\0\0\0\0\0\0\0\0\0\0\0\0\0\0\0\0\0\0\0\0\0\0\0\xC0";
-    assert_eq!(rt; &bytes_of(rt, &value), row);
+    assert_equal(rt, &bytes_of(rt, &value), row);
     append(&mut value, "ab").expect(rt, "memory");
     is_packed(rt, alloc, &value);
 }

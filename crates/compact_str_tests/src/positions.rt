@@ -1,6 +1,7 @@
 //! Positions that a value has, and texts of the program that are split at one. Edits at positions are lines of the table of
 //! `compact_table_tests`.
 
+use compact_asserts::{assert_equal, assert_true, assert_true_for};
 use compact_str::CompactString;
 use compact_testing::seen::{is_inline, is_static};
 use compact_testing::values::{lasting, letters, short};
@@ -9,7 +10,7 @@ use std::process::Abort;
 
 /// Splits at a position that is tested first.
 fn split(rt: &impl Abort, value: &mut CompactString, index: usize) -> CompactString {
-    assert!(rt; value.is_char_boundary(index));
+    assert_true(rt, value.is_char_boundary(index));
     value.split_off(index).expect(rt, "memory")
 }
 
@@ -17,14 +18,14 @@ fn split(rt: &impl Abort, value: &mut CompactString, index: usize) -> CompactStr
 fn texts_of_the_program_are_split(rt: HostRuntime) {
     let alloc = rt.alloc();
     let mut value = CompactString::const_new(alloc, "Hello, world!");
-    assert!(rt; is_inline(&split(&rt, &mut value, 5), ", world!"));
-    assert!(rt; is_inline(&value, "Hello"));
+    assert_true(&rt, is_inline(&split(&rt, &mut value, 5), ", world!"));
+    assert_true(&rt, is_inline(&value, "Hello"));
     let mut value = lasting(alloc, 30);
-    assert!(rt; is_static(&split(&rt, &mut value, 3), letters(27)));
-    assert!(rt; is_static(&value, letters(3)));
+    assert_true(&rt, is_static(&split(&rt, &mut value, 3), letters(27)));
+    assert_true(&rt, is_static(&value, letters(3)));
     let mut value = lasting(alloc, 30);
-    assert!(rt; is_inline(&split(&rt, &mut value, 6), letters(24)));
-    assert!(rt; is_static(&value, letters(6)));
+    assert_true(&rt, is_inline(&split(&rt, &mut value, 6), letters(24)));
+    assert_true(&rt, is_static(&value, letters(6)));
 }
 
 #[test]
@@ -41,7 +42,7 @@ fn boundaries_are_where_characters_begin_and_end(rt: HostRuntime) {
         (7, true),
         (8, false),
     ] {
-        assert_eq!(rt; value.is_char_boundary(index), boundary, "at {index}");
+        assert_true_for(&rt, index, value.is_char_boundary(index) == boundary);
     }
 }
 
@@ -59,6 +60,6 @@ fn bounds_make_a_range_or_none(rt: HostRuntime) {
         (Unbounded, Included(usize::MAX), None),
         (Excluded(usize::MAX), Unbounded, None),
     ] {
-        assert_eq!(rt; value.check_range(start, end), range);
+        assert_equal(&rt, value.check_range(start, end), range);
     }
 }

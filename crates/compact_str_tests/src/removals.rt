@@ -1,5 +1,6 @@
 //! What is taken out of a text, and what of it is changed.
 
+use compact_asserts::{assert_equal, assert_true};
 use compact_str::{CompactString, Drain, Standard};
 use compact_testing::memory::take_all;
 use compact_testing::seen::{is_inline, is_static};
@@ -16,7 +17,7 @@ fn drain<'a>(
     start: Bound<usize>,
     end: Bound<usize>,
 ) -> Drain<'a, Standard> {
-    assert!(rt; value.check_range(start, end).is_some());
+    assert_true(rt, value.check_range(start, end).is_some());
     value.drain(start, end).expect(rt, "memory")
 }
 
@@ -29,19 +30,19 @@ fn greeted<'a>(rt: &impl Abort, value: &'a mut CompactString) -> Drain<'a, Stand
 fn a_drain_gives_its_characters_from_both_ends(rt: HostRuntime) {
     let mut value = short(rt.alloc(), "Hello, world!");
     let mut drained = greeted(&rt, &mut value);
-    assert!(rt; drained.size_hint() == (2, Some(7)));
-    assert_eq!(rt; drained.next(), Some(','));
-    assert_eq!(rt; drained.next_back(), Some('d'));
-    assert_eq!(rt; drained.as_str(), " worl");
+    assert_true(&rt, drained.size_hint() == (2, Some(7)));
+    assert_equal(&rt, drained.next(), Some(','));
+    assert_equal(&rt, drained.next_back(), Some('d'));
+    assert_equal(&rt, drained.as_str(), " worl");
     drop(drained);
-    assert!(rt; is_inline(&value, "Hello!"));
+    assert_true(&rt, is_inline(&value, "Hello!"));
 }
 
 #[test]
 fn a_drain_is_counted(rt: HostRuntime) {
     let mut value = short(rt.alloc(), "Hello, world!");
-    assert_eq!(rt; greeted(&rt, &mut value).as_str().chars().count(), 7);
-    assert!(rt; is_inline(&value, "Hello!"));
+    assert_equal(&rt, greeted(&rt, &mut value).as_str().chars().count(), 7);
+    assert_true(&rt, is_inline(&value, "Hello!"));
 }
 
 /// How many characters are drained. That a number holds it, the length of what is left tells the proof.
@@ -55,32 +56,32 @@ fn drained_count(rt: &impl Abort, value: &mut CompactString) -> usize {
 #[test]
 fn a_drain_counts_what_is_left(rt: HostRuntime) {
     let mut value = short(rt.alloc(), "Hello, world!");
-    assert_eq!(rt; drained_count(&rt, &mut value), 7);
-    assert!(rt; is_inline(&value, "Hello!"));
+    assert_equal(&rt, drained_count(&rt, &mut value), 7);
+    assert_true(&rt, is_inline(&value, "Hello!"));
 }
 
 #[test]
 fn a_drain_shows_what_is_not_taken_yet(rt: HostRuntime) {
     let mut value = short(rt.alloc(), "Hello, world!");
     let mut drained = greeted(&rt, &mut value);
-    assert_eq!(rt; drained.next(), Some(','));
-    assert_eq!(rt; drained.as_str(), " world");
+    assert_equal(&rt, drained.next(), Some(','));
+    assert_equal(&rt, drained.as_str(), " world");
     drop(drained);
-    assert!(rt; is_inline(&value, "Hello!"));
+    assert_true(&rt, is_inline(&value, "Hello!"));
 }
 
 #[test]
 fn the_last_of_a_drain_is_its_last(rt: HostRuntime) {
     let mut value = short(rt.alloc(), "Hello, world!");
-    assert_eq!(rt; greeted(&rt, &mut value).last(), Some('d'));
-    assert!(rt; is_inline(&value, "Hello!"));
+    assert_equal(&rt, greeted(&rt, &mut value).last(), Some('d'));
+    assert_true(&rt, is_inline(&value, "Hello!"));
 }
 
 #[test]
 fn the_last_of_a_drain_from_the_back_is_its_first(rt: HostRuntime) {
     let mut value = short(rt.alloc(), "Hello, world!");
-    assert_eq!(rt; greeted(&rt, &mut value).rev().last(), Some(','));
-    assert!(rt; is_inline(&value, "Hello!"));
+    assert_equal(&rt, greeted(&rt, &mut value).rev().last(), Some(','));
+    assert_true(&rt, is_inline(&value, "Hello!"));
 }
 
 #[test]
@@ -89,23 +90,23 @@ fn a_drain_prints_what_is_left(rt: HostRuntime) {
     let mut value = short(alloc, "Hello, world!");
     let mut printed = short(alloc, "");
     let drained = greeted(&rt, &mut value);
-    assert!(rt; write!(printed, "{drained:>9}{drained:?}").is_ok());
+    assert_true(&rt, write!(printed, "{drained:>9}{drained:?}").is_ok());
     drop(drained);
-    assert!(rt; is_inline(&printed, ", worldDrain(\", world\")"));
+    assert_true(&rt, is_inline(&printed, ", worldDrain(\", world\")"));
 }
 
 #[test]
 fn the_ends_of_a_drain_meet(rt: HostRuntime) {
     let mut value = short(rt.alloc(), "𝄞🦄𝄢");
     let mut drained = drain(&rt, &mut value, Unbounded, Unbounded);
-    assert_eq!(rt; drained.next_back(), Some('𝄢'));
-    assert_eq!(rt; drained.next(), Some('𝄞'));
-    assert_eq!(rt; drained.next(), Some('🦄'));
-    assert_eq!(rt; drained.next(), None);
-    assert_eq!(rt; drained.next_back(), None);
-    assert_eq!(rt; drained.next(), None);
+    assert_equal(&rt, drained.next_back(), Some('𝄢'));
+    assert_equal(&rt, drained.next(), Some('𝄞'));
+    assert_equal(&rt, drained.next(), Some('🦄'));
+    assert_equal(&rt, drained.next(), None);
+    assert_equal(&rt, drained.next_back(), None);
+    assert_equal(&rt, drained.next(), None);
     drop(drained);
-    assert!(rt; is_inline(&value, ""));
+    assert_true(&rt, is_inline(&value, ""));
 }
 
 #[test]
@@ -116,9 +117,9 @@ fn retain_asks_once_for_each_character(rt: HostRuntime) {
         asked = asked.saturating_add(1);
         character != 'ä' && character != 'd'
     });
-    assert!(rt; kept.is_ok());
-    assert_eq!(rt; asked, 5);
-    assert!(rt; is_inline(&value, "b𝄞€"));
+    assert_true(&rt, kept.is_ok());
+    assert_equal(&rt, asked, 5);
+    assert_true(&rt, is_inline(&value, "b𝄞€"));
 }
 
 #[test]
@@ -132,7 +133,7 @@ fn a_refusal_of_retain_has_asked_nothing(rt: HostRuntime) {
         false
     });
     drop(hog);
-    assert!(rt; kept.is_err());
-    assert!(rt; !asked);
-    assert!(rt; is_static(&value, letters(30)));
+    assert_true(&rt, kept.is_err());
+    assert_true(&rt, !asked);
+    assert_true(&rt, is_static(&value, letters(30)));
 }

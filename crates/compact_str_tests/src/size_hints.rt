@@ -1,6 +1,7 @@
 //! Items whose hint tells nothing or too much, where there is memory: each call gives what the items give.
 
 use crate::hints::with_hint;
+use compact_asserts::{assert_equal, assert_true};
 use compact_str::{CompactString, CompactStringExt, append_all};
 use compact_testing::seen::{is_at, is_fitted, is_inline};
 use compact_testing::values::{letters, short};
@@ -12,13 +13,25 @@ pub fn assert_collected(rt: &impl Abort, alloc: Global, too_much: bool) {
     let characters = ['a', 'b', 'c'];
     let texts = ["a", "", "bc"];
     let made = CompactString::from_chars(alloc, with_hint(&characters, too_much).copied());
-    assert!(rt; is_inline(&made.expect(rt, "no memory is needed"), "abc"));
+    assert_true(
+        rt,
+        is_inline(&made.expect(rt, "no memory is needed"), "abc"),
+    );
     let made = CompactString::from_texts(alloc, with_hint(&texts, too_much));
-    assert!(rt; is_inline(&made.expect(rt, "no memory is needed"), "abc"));
+    assert_true(
+        rt,
+        is_inline(&made.expect(rt, "no memory is needed"), "abc"),
+    );
     let made = with_hint(&texts, too_much).concat_compact(alloc);
-    assert!(rt; is_inline(&made.expect(rt, "no memory is needed"), "abc"));
+    assert_true(
+        rt,
+        is_inline(&made.expect(rt, "no memory is needed"), "abc"),
+    );
     let made = with_hint(&texts, too_much).join_compact(alloc, "-");
-    assert!(rt; is_inline(&made.expect(rt, "no memory is needed"), "a--bc"));
+    assert_true(
+        rt,
+        is_inline(&made.expect(rt, "no memory is needed"), "a--bc"),
+    );
 }
 
 /// Asserts what the library's trait collects of them.
@@ -28,15 +41,15 @@ pub fn assert_collected_by_trait(rt: &impl Abort, alloc: Global, too_much: bool)
         .copied()
         .collect(alloc)
         .expect(rt, "no memory is needed");
-    assert!(rt; is_inline(&made, "abc"));
+    assert_true(rt, is_inline(&made, "abc"));
     let made: CompactString = with_hint(&characters, too_much)
         .collect(alloc)
         .expect(rt, "no memory is needed");
-    assert!(rt; is_inline(&made, "abc"));
+    assert_true(rt, is_inline(&made, "abc"));
     let made: CompactString = with_hint(&["a", "", "bc"], too_much)
         .collect(alloc)
         .expect(rt, "no memory is needed");
-    assert!(rt; is_inline(&made, "abc"));
+    assert_true(rt, is_inline(&made, "abc"));
 }
 
 /// Asserts that a value is extended up to 24 bytes, which needs no memory.
@@ -45,17 +58,18 @@ pub fn assert_extended(rt: &impl Abort, alloc: Global, too_much: bool) {
     let characters = ['ä', '€'];
     let texts = [letters(5), "", letters(5)];
     let ended = value.extend_chars(with_hint(&characters, too_much).copied());
-    assert!(rt; ended.is_ok());
-    assert!(rt; value.extend_texts(with_hint(&texts, too_much)).is_ok());
-    assert!(rt; is_inline(&value, "ä€aaaaaaaaaa"));
-    assert!(rt;
+    assert_true(rt, ended.is_ok());
+    assert_true(rt, value.extend_texts(with_hint(&texts, too_much)).is_ok());
+    assert_true(rt, is_inline(&value, "ä€aaaaaaaaaa"));
+    assert_true(
+        rt,
         value
             .extend(with_hint(&characters, too_much).copied())
-            .is_ok()
+            .is_ok(),
     );
-    assert!(rt; value.extend(with_hint(&['x'], too_much)).is_ok());
-    assert!(rt; value.extend(with_hint(&["yz", ""], too_much)).is_ok());
-    assert!(rt; is_inline(&value, "ä€aaaaaaaaaaä€xyz"));
+    assert_true(rt, value.extend(with_hint(&['x'], too_much)).is_ok());
+    assert_true(rt, value.extend(with_hint(&["yz", ""], too_much)).is_ok());
+    assert_true(rt, is_inline(&value, "ä€aaaaaaaaaaä€xyz"));
 }
 
 /// Asserts that values are put behind a `String` that has room for them.
@@ -65,8 +79,11 @@ pub fn assert_appended(
     values: &[CompactString],
     too_much: bool,
 ) -> String {
-    assert!(rt; append_all(&mut line, with_hint(values, too_much)).is_ok());
-    assert_eq!(rt; line.as_str(), "abc");
+    assert_true(
+        rt,
+        append_all(&mut line, with_hint(values, too_much)).is_ok(),
+    );
+    assert_equal(rt, line.as_str(), "abc");
     line.clear();
     line
 }
@@ -87,7 +104,7 @@ fn a_string_is_given_what_the_items_give(rt: HostRuntime) {
     let values = [short(alloc, "a"), short(alloc, ""), short(alloc, "bc")];
     let line = assert_appended(&rt, String::new(alloc), &values, false);
     let line = assert_appended(&rt, line, &values, true);
-    assert_eq!(rt; line.len(), 0);
+    assert_equal(&rt, line.len(), 0);
 }
 
 /// Asserts what is made of more than 24 bytes, on the heap.
@@ -95,17 +112,17 @@ fn assert_long(rt: &impl Abort, alloc: Global, too_much: bool) {
     let euros = ['€'; 9];
     let texts = [letters(20), "", letters(5)];
     let made = CompactString::from_chars(alloc, with_hint(&euros, too_much).copied());
-    assert!(rt; is_fitted(&made.expect(rt, "memory"), "€€€€€€€€€"));
+    assert_true(rt, is_fitted(&made.expect(rt, "memory"), "€€€€€€€€€"));
     let made = CompactString::from_texts(alloc, with_hint(&texts, too_much));
-    assert!(rt; is_fitted(&made.expect(rt, "memory"), letters(25)));
+    assert_true(rt, is_fitted(&made.expect(rt, "memory"), letters(25)));
     let made = with_hint(&texts, too_much).concat_compact(alloc);
-    assert!(rt; is_fitted(&made.expect(rt, "memory"), letters(25)));
+    assert_true(rt, is_fitted(&made.expect(rt, "memory"), letters(25)));
     let made = with_hint(&texts, too_much).join_compact(alloc, letters(10));
-    assert!(rt; is_fitted(&made.expect(rt, "memory"), letters(45)));
+    assert_true(rt, is_fitted(&made.expect(rt, "memory"), letters(45)));
     let made: CompactString = with_hint(&euros, too_much)
         .collect(alloc)
         .expect(rt, "memory");
-    assert!(rt; is_fitted(&made, "€€€€€€€€€"));
+    assert_true(rt, is_fitted(&made, "€€€€€€€€€"));
 }
 
 #[test]
@@ -119,20 +136,24 @@ fn long_texts_are_what_the_items_give(rt: HostRuntime) {
 /// half of what stands.
 fn assert_room(rt: &impl Abort, alloc: Global, too_much: bool) {
     let mut value = CompactString::const_new(alloc, letters(30));
-    assert!(rt; value.extend_texts(with_hint(&["", ""], too_much)).is_ok());
-    assert!(rt; is_at(&value, "static", 30, letters(30)));
-    assert!(rt; value.extend_texts(with_hint(&["a"], too_much)).is_ok());
-    assert!(rt; is_at(&value, "heap", 45, letters(31)));
+    assert_true(
+        rt,
+        value.extend_texts(with_hint(&["", ""], too_much)).is_ok(),
+    );
+    assert_true(rt, is_at(&value, "static", 30, letters(30)));
+    assert_true(rt, value.extend_texts(with_hint(&["a"], too_much)).is_ok());
+    assert_true(rt, is_at(&value, "heap", 45, letters(31)));
     let mut value = short(alloc, letters(24));
     let letter = ['a'];
-    assert!(rt;
+    assert_true(
+        rt,
         value
             .extend_chars(with_hint(&letter, too_much).copied())
-            .is_ok()
+            .is_ok(),
     );
-    assert!(rt; is_at(&value, "heap", 36, letters(25)));
-    assert!(rt; value.extend(with_hint(&["a", ""], too_much)).is_ok());
-    assert!(rt; is_at(&value, "heap", 36, letters(26)));
+    assert_true(rt, is_at(&value, "heap", 36, letters(25)));
+    assert_true(rt, value.extend(with_hint(&["a", ""], too_much)).is_ok());
+    assert_true(rt, is_at(&value, "heap", 36, letters(26)));
 }
 
 #[test]

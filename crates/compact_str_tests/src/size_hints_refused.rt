@@ -4,6 +4,7 @@ use crate::hints::with_hint;
 use crate::size_hints::{
     assert_appended, assert_collected, assert_collected_by_trait, assert_extended,
 };
+use compact_asserts::{assert_equal, assert_true};
 use compact_str::{CompactString, CompactStringExt, append_all};
 use compact_testing::memory::take_all;
 use compact_testing::seen::is_inline;
@@ -32,29 +33,39 @@ fn a_string_with_room_is_given_the_texts(rt: HostRuntime) {
     let line = assert_appended(&rt, line, &values, false);
     let line = assert_appended(&rt, line, &values, true);
     drop(hog);
-    assert_eq!(rt; line.capacity(), 32);
+    assert_equal(&rt, line.capacity(), 32);
 }
 
 /// Asserts that more than 24 bytes are refused.
 fn assert_refused(rt: &impl Abort, alloc: Global, too_much: bool) {
     let euros = ['€'; 9];
     let texts = [letters(20), letters(5)];
-    assert!(rt; CompactString::from_chars(alloc, with_hint(&euros, too_much).copied()).is_err());
-    assert!(rt; CompactString::from_texts(alloc, with_hint(&texts, too_much)).is_err());
-    assert!(rt; with_hint(&texts, too_much).concat_compact(alloc).is_err());
-    assert!(rt;
+    assert_true(
+        rt,
+        CompactString::from_chars(alloc, with_hint(&euros, too_much).copied()).is_err(),
+    );
+    assert_true(
+        rt,
+        CompactString::from_texts(alloc, with_hint(&texts, too_much)).is_err(),
+    );
+    assert_true(
+        rt,
+        with_hint(&texts, too_much).concat_compact(alloc).is_err(),
+    );
+    assert_true(
+        rt,
         with_hint(&["a", "b"], too_much)
             .join_compact(alloc, letters(23))
-            .is_err()
+            .is_err(),
     );
     let made: Result<CompactString, AllocError> = with_hint(&euros, too_much)
         .copied()
         .collect(alloc);
-    assert!(rt; made.is_err());
+    assert_true(rt, made.is_err());
     let made: Result<CompactString, AllocError> = with_hint(&euros, too_much).collect(alloc);
-    assert!(rt; made.is_err());
+    assert_true(rt, made.is_err());
     let made: Result<CompactString, AllocError> = with_hint(&texts, too_much).collect(alloc);
-    assert!(rt; made.is_err());
+    assert_true(rt, made.is_err());
 }
 
 #[test]
@@ -69,22 +80,24 @@ fn more_than_24_bytes_are_refused(rt: HostRuntime) {
 /// Asserts that an extension stops at the first item that is refused, with those before it in the value.
 fn assert_stops(rt: &impl Abort, alloc: Global, too_much: bool) {
     let mut value = CompactString::default(alloc);
-    assert!(rt;
+    assert_true(
+        rt,
         value
             .extend_texts(with_hint(&[letters(20), letters(4), "b", ""], too_much))
-            .is_err()
+            .is_err(),
     );
-    assert!(rt; is_inline(&value, letters(24)));
-    assert!(rt; value.extend(with_hint(&["", "b"], too_much)).is_err());
-    assert!(rt; value.extend(with_hint(&['b'], too_much)).is_err());
-    assert!(rt; is_inline(&value, letters(24)));
+    assert_true(rt, is_inline(&value, letters(24)));
+    assert_true(rt, value.extend(with_hint(&["", "b"], too_much)).is_err());
+    assert_true(rt, value.extend(with_hint(&['b'], too_much)).is_err());
+    assert_true(rt, is_inline(&value, letters(24)));
     let mut value = CompactString::default(alloc);
-    assert!(rt;
+    assert_true(
+        rt,
         value
             .extend_chars(with_hint(&['€'; 9], too_much).copied())
-            .is_err()
+            .is_err(),
     );
-    assert!(rt; is_inline(&value, "€€€€€€€€"));
+    assert_true(rt, is_inline(&value, "€€€€€€€€"));
 }
 
 #[test]
@@ -107,9 +120,15 @@ fn a_string_stops_at_the_value_that_is_refused(rt: HostRuntime) {
     let mut first = String::with_capacity(alloc, 40).expect(&rt, "memory");
     let mut second = String::with_capacity(alloc, 40).expect(&rt, "memory");
     let hog = take_all(alloc).expect(&rt, "room for the list of blocks");
-    assert!(rt; append_all(&mut first, with_hint(&values, false)).is_err());
-    assert!(rt; append_all(&mut second, with_hint(&values, true)).is_err());
+    assert_true(
+        &rt,
+        append_all(&mut first, with_hint(&values, false)).is_err(),
+    );
+    assert_true(
+        &rt,
+        append_all(&mut second, with_hint(&values, true)).is_err(),
+    );
     drop(hog);
-    assert_eq!(rt; first.as_str(), "ab");
-    assert_eq!(rt; second.as_str(), "ab");
+    assert_equal(&rt, first.as_str(), "ab");
+    assert_equal(&rt, second.as_str(), "ab");
 }

@@ -1,5 +1,6 @@
 //! Records and their report over a reader that stops at each of its calls in turn.
 
+use compact_asserts::{assert_equal, assert_true};
 use compact_str::CompactString;
 use compact_testing::pieces::{Pieces, Stop};
 use compact_uses::{RecordsCause, RecordsError, aligned_rows, read_records};
@@ -22,9 +23,9 @@ fn read(
 /// Asserts the report of some records, of which each has a line.
 fn assert_report(rt: &impl Abort, alloc: Global, records: &[Vec<CompactString>], lines: &[&str]) {
     let rows = aligned_rows(alloc, records).expect(rt, "memory");
-    assert_eq!(rt; rows.len(), lines.len());
+    assert_equal(rt, rows.len(), lines.len());
     for (row, line) in rows.iter().zip(lines.iter()) {
-        assert_eq!(rt; row.as_str(), *line);
+        assert_equal(rt, row.as_str(), *line);
     }
 }
 
@@ -49,8 +50,8 @@ fn assert_failed(rt: &impl Abort, alloc: Global, given: usize) {
     let outcome = read(alloc, stop, &mut records);
     let cause = RecordsCause::Read;
     let line = ended + 1;
-    assert!(rt; outcome == Err(RecordsError { line, cause }));
-    assert_eq!(rt; records.len(), ended);
+    assert_true(rt, outcome == Err(RecordsError { line, cause }));
+    assert_equal(rt, records.len(), ended);
     assert_report(rt, alloc, &records, lines_of(ended));
 }
 
@@ -67,7 +68,7 @@ fn a_reader_that_is_interrupted_is_asked_again(rt: HostRuntime) {
     for call in 1..INPUT.len() + 2 {
         let mut records = Vec::new(alloc);
         let stop = Stop::Fails(call, ErrorKind::Interrupted);
-        assert!(rt; read(alloc, stop, &mut records).is_ok());
+        assert_true(&rt, read(alloc, stop, &mut records).is_ok());
         assert_report(&rt, alloc, &records, lines_of(2));
     }
 }
@@ -82,8 +83,8 @@ fn assert_ended(
 ) {
     let mut records = Vec::new(alloc);
     let outcome = read(alloc, Stop::Ends(given.saturating_add(1)), &mut records);
-    assert!(rt; outcome.err() == fault);
-    assert_eq!(rt; records.len(), count);
+    assert_true(rt, outcome.err() == fault);
+    assert_equal(rt, records.len(), count);
 }
 
 #[test]

@@ -1,5 +1,6 @@
 //! Records: fields of a line, what is written and read back, faults with their lines, and a reader that fails.
 
+use compact_asserts::{assert_equal, assert_true};
 use compact_str::CompactString;
 use compact_testing::memory::take_all;
 use compact_testing::values::{short, value_of};
@@ -32,9 +33,9 @@ impl Read for Failing {
 }
 
 fn assert_fields(rt: &impl Abort, fields: &Vec<CompactString>, texts: &[&str]) {
-    assert_eq!(rt; fields.len(), texts.len());
+    assert_equal(rt, fields.len(), texts.len());
     for (field, text) in fields.iter().zip(texts.iter()) {
-        assert_eq!(rt; field.as_str(), *text);
+        assert_equal(rt, field.as_str(), *text);
     }
 }
 
@@ -49,7 +50,10 @@ fn assert_line(rt: &impl Abort, alloc: Global, line: &str, texts: &[&str]) {
 /// Asserts that a line is no record.
 fn assert_fault(rt: &impl Abort, alloc: Global, line: &str, fault: Fault) {
     let fields = fields_of(alloc, ',', &value_of(alloc, line).expect(rt, "memory"));
-    assert!(rt; matches!(fields, Err(LineError::Fault(told)) if told == fault));
+    assert_true(
+        rt,
+        matches!(fields, Err(LineError::Fault(told)) if told == fault),
+    );
 }
 
 // The fields are those that Python's csv reader gives, but for the empty line, which has one empty field here.
@@ -77,7 +81,7 @@ fn fields_are_written_in_quotes(rt: HostRuntime) {
     let alloc = rt.alloc();
     let fields = [short(alloc, "a"), short(alloc, "b\",")];
     let line = quoted_line(alloc, ',', &fields).expect(&rt, "memory");
-    assert_eq!(rt; line.as_str(), "\"a\",\"b\"\",\"");
+    assert_equal(&rt, line.as_str(), "\"a\",\"b\"\",\"");
 }
 
 #[test]
@@ -87,13 +91,13 @@ fn a_fault_tells_its_line(rt: HostRuntime) {
     let mut input = "a,b\nc\n\"d\n".as_bytes();
     let read = read_records(alloc, ',', &mut input, &mut records);
     let cause = RecordsCause::Fault(Fault::OpenQuote);
-    assert!(rt; read == Err(RecordsError { line: 3, cause }));
-    assert_eq!(rt; records.len(), 2);
+    assert_true(&rt, read == Err(RecordsError { line: 3, cause }));
+    assert_equal(&rt, records.len(), 2);
     let mut input = b"a\n\xff\n".as_slice();
     let read = read_records(alloc, ',', &mut input, &mut records);
     let cause = RecordsCause::Utf8;
-    assert!(rt; read == Err(RecordsError { line: 2, cause }));
-    assert_eq!(rt; records.len(), 3);
+    assert_true(&rt, read == Err(RecordsError { line: 2, cause }));
+    assert_equal(&rt, records.len(), 3);
 }
 
 /// Asserts that the first fault of some lines is told with this line and cause, and leaves the records before it.
@@ -101,8 +105,8 @@ fn assert_stop(rt: &impl Abort, alloc: Global, lines: &str, line: usize, cause: 
     let mut records = Vec::new(alloc);
     let mut input = lines.as_bytes();
     let read = read_records(alloc, ',', &mut input, &mut records);
-    assert!(rt; read == Err(RecordsError { line, cause }));
-    assert_eq!(rt; records.len() + 1, line);
+    assert_true(rt, read == Err(RecordsError { line, cause }));
+    assert_equal(rt, records.len() + 1, line);
 }
 
 #[test]
@@ -122,8 +126,8 @@ fn a_reader_that_fails_leaves_the_lines_before(rt: HostRuntime) {
     let mut input = Failing { given: false };
     let read = read_records(alloc, ',', &mut input, &mut records);
     let cause = RecordsCause::Read;
-    assert!(rt; read == Err(RecordsError { line: 2, cause }));
-    assert_eq!(rt; records.len(), 1);
+    assert_true(&rt, read == Err(RecordsError { line: 2, cause }));
+    assert_equal(&rt, records.len(), 1);
 }
 
 #[test]
@@ -135,8 +139,8 @@ fn with_no_memory_nothing_is_read(rt: HostRuntime) {
     let read = read_records(alloc, ',', &mut input, &mut records);
     drop(hog);
     let cause = RecordsCause::Reserve;
-    assert!(rt; read == Err(RecordsError { line: 1, cause }));
-    assert_eq!(rt; records.len(), 0);
+    assert_true(&rt, read == Err(RecordsError { line: 1, cause }));
+    assert_equal(&rt, records.len(), 0);
 }
 
 // The reader's buffer has 8192 bytes, and what is refused is the memory for the bytes of the line.
@@ -151,6 +155,6 @@ fn no_memory_for_the_bytes_of_a_line_is_told_as_such(rt: HostRuntime) {
     let read = read_records(alloc, ',', &mut input, &mut records);
     drop(hog);
     let cause = RecordsCause::Reserve;
-    assert!(rt; read == Err(RecordsError { line: 1, cause }));
-    assert_eq!(rt; records.len(), 0);
+    assert_true(&rt, read == Err(RecordsError { line: 1, cause }));
+    assert_equal(&rt, records.len(), 0);
 }
