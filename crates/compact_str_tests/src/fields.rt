@@ -2,7 +2,7 @@
 
 use compact_asserts::{assert_equal, assert_true};
 use compact_str::CompactString;
-use compact_testing::seen::is_fitted;
+use compact_testing::seen::{are_texts, is_fitted};
 use compact_testing::values::{append, lasting, value_of};
 use std::alloc::Global;
 use std::process::Abort;
@@ -106,10 +106,7 @@ fn texts_in_a_row_are_read_in_order(rt: HostRuntime) {
         &rt,
         "a row of texts",
     );
-    assert_equal(&rt, row.len(), texts.len());
-    for (value, text) in row.iter().zip(texts) {
-        assert_equal(&rt, value.as_str(), text);
-    }
+    assert_true(&rt, are_texts(row.as_slice(), &texts));
 }
 
 /// Asserts that a JSON text is no text.

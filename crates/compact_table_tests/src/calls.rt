@@ -1,6 +1,7 @@
 //! Calls on a value that are no edits, or an edit under another name.
 
 use crate::edits::call;
+use crate::notation::number;
 use crate::table::Case;
 use compact_edit::{Edit, Reply, run};
 use compact_ext::ToCompactString;
@@ -79,9 +80,9 @@ fn shown(value: &CompactString) -> Reply<Standard> {
 }
 
 fn try_reserve(value: &mut CompactString, word: &str) -> Reply<Standard> {
-    match word.parse::<usize>() {
-        Ok(additional) => done(value.try_reserve(additional)),
-        Err(_) => Reply::BadPosition,
+    match number(word) {
+        Some(additional) => done(value.try_reserve(additional)),
+        None => Reply::BadPosition,
     }
 }
 

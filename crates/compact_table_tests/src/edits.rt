@@ -2,6 +2,7 @@
 
 use crate::calls::{done, given};
 use crate::listed::Listed;
+use crate::notation::number;
 use crate::table::{character, first_word, text_of};
 use compact_edit::{Edit, Reply};
 use compact_str::{CompactString, Standard};
@@ -81,10 +82,6 @@ fn edit_of_number<'a>(name: &str, number: usize) -> Option<Edit<'a, Standard>> {
         "repeat" => Some(Edit::Repeat(number)),
         _ => None,
     }
-}
-
-fn number(word: &str) -> Option<usize> {
-    word.parse::<usize>().ok()
 }
 
 /// A range of two positions with `..` between them, of which each may be missing. With `>` before the first it is excluded,

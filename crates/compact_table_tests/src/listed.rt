@@ -1,5 +1,6 @@
 //! Operands that a call is lent as a list of something else than texts, or as an owned value.
 
+use crate::notation::{halves_at, number};
 use crate::values::{copied, source};
 use compact_ext::wire::write_wire;
 use compact_str::CompactString;
@@ -95,12 +96,10 @@ fn units_of(alloc: Global, word: &str) -> Option<Vec<u16>> {
 
 /// The number and the count of a word such as `[0xFF;9]`.
 fn repeated(word: &str) -> Option<(u16, usize)> {
-    let (digits, count) = word
-        .strip_prefix("[0x")?
-        .strip_suffix("]")?
-        .split_once(';')?;
-    let number = u16::from_str_radix(digits, 16).ok()?;
-    Some((number, count.parse::<usize>().ok()?))
+    let inner = word.strip_prefix("[0x")?.strip_suffix("]")?;
+    let (digits, count) = halves_at(inner, ';')?;
+    let unit = u16::from_str_radix(digits, 16).ok()?;
+    Some((unit, number(count)?))
 }
 
 /// The form of a text on a wire.

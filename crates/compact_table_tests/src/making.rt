@@ -2,6 +2,7 @@
 
 use crate::decoding::decode;
 use crate::listed::Listed;
+use crate::notation::number;
 use crate::showing::show;
 use crate::table::Case;
 use crate::trial::Made;
@@ -38,7 +39,7 @@ fn copy(name: &str, word: &str, alloc: Global) -> Made {
         "try_new" => value_or_refused(CompactString::try_new(alloc, word)),
         "from_str" => value_or_refused(CompactString::from_str(alloc, word)),
         "from_cow" => value_or_refused(CompactString::from_cow(alloc, CowStr::Borrowed(word))),
-        "with_capacity" | "try_with_capacity" => make_room(name, word.parse::<usize>().ok(), alloc),
+        "with_capacity" | "try_with_capacity" => make_room(name, number(word), alloc),
         _ => Made::Unknown,
     }
 }

@@ -40,15 +40,28 @@ fn expand_word(text: &mut String, word: &str) -> Result<(), AllocError> {
     Ok(())
 }
 
+/// What stands before the first sign, and behind it. As `number` it has no clause, so that a proof carries nothing of a text.
+pub fn halves_at(text: &str, sign: char) -> Option<(&str, &str)> {
+    text.split_once(sign)
+}
+
+/// The number that a word writes.
+pub fn number(word: &str) -> Option<usize> {
+    word.parse::<usize>().ok()
+}
+
 /// The unit of a part, and how often it stands there. A part with no count stands there once.
 fn unit_and_count(part: &str) -> (&str, usize) {
-    match part.split_once('*') {
-        Some((unit, count)) => match count.parse::<usize>() {
-            Ok(count) => (unit, count.min(MAX_COUNT)),
-            Err(_) => (part, 1),
-        },
+    match counted(part) {
+        Some((unit, count)) => (unit, count.min(MAX_COUNT)),
         None => (part, 1),
     }
+}
+
+/// The unit of a part that has a count.
+fn counted(part: &str) -> Option<(&str, usize)> {
+    let (unit, count) = halves_at(part, '*')?;
+    Some((unit, number(count)?))
 }
 
 /// Of the 26 small letters and the 26 great ones those from one to another, if `unit` is two letters with `..` between

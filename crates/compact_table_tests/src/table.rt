@@ -2,6 +2,7 @@
 
 use crate::listed::{Listed, make_listed};
 use crate::memory::Ask;
+use crate::notation::{halves_at, number};
 use crate::values::{Seen, Start, fitted, fixed, heap, inline};
 use compact_edit::Reply;
 use compact_str::Standard;
@@ -99,10 +100,10 @@ pub fn read_case<'a>(alloc: Global, line: &'a str, text: &'a str) -> Option<Case
 }
 
 fn fields_of(text: &str) -> Option<Fields<'_>> {
-    let (start, rest) = text.split_once('|')?;
-    let (call, rest) = rest.split_once('|')?;
-    let (asks, rest) = rest.split_once('|')?;
-    let (answer, after) = rest.split_once('|')?;
+    let (start, rest) = halves_at(text, '|')?;
+    let (call, rest) = halves_at(rest, '|')?;
+    let (asks, rest) = halves_at(rest, '|')?;
+    let (answer, after) = halves_at(rest, '|')?;
     Some(Fields {
         start: start.trim(),
         call: call.trim(),
@@ -143,7 +144,7 @@ fn start_of(field: &str) -> Option<Option<Start<'_>>> {
 
 /// The first word, and what follows it.
 pub fn first_word(text: &str) -> (&str, &str) {
-    match text.split_once(' ') {
+    match halves_at(text, ' ') {
         Some((word, rest)) => (word, rest),
         None => (text, ""),
     }
@@ -185,8 +186,8 @@ fn ask_of(part: &str) -> Option<Ask> {
     if part == "replies" {
         return Some(Ask::New(size_of::<Reply<Standard>>().saturating_mul(4)));
     }
-    let (kind, size) = part.split_once(' ')?;
-    let size = size.parse::<usize>().ok()?;
+    let (kind, size) = halves_at(part, ' ')?;
+    let size = number(size)?;
     match kind {
         "new" => Some(Ask::New(size)),
         "more" => Some(Ask::More(size)),
@@ -210,12 +211,12 @@ fn answer_of(field: &str) -> Option<Answer<'_>> {
 
 /// Reads an answer that says what is answered.
 fn long_answer_of(field: &str) -> Option<Answer<'_>> {
-    let (kind, rest) = field.split_once(' ')?;
+    let (kind, rest) = halves_at(field, ' ')?;
     match kind {
         "char" => Some(Answer::Char(Some(character(rest)?))),
         "text" => Some(Answer::Text(seen_of(rest)?)),
         "left" => Some(Answer::Left(text_of(rest))),
-        "refused" => Some(Answer::Refused(rest.parse::<usize>().ok()?)),
+        "refused" => Some(Answer::Refused(number(rest)?)),
         _ => None,
     }
 }
@@ -238,17 +239,17 @@ fn read_states<'a>(states: &mut Vec<Seen<'a>>, field: &'a str) -> bool {
 
 /// Reads place, capacity and text of a value.
 fn seen_of(field: &str) -> Option<Seen<'_>> {
-    let (place, rest) = field.split_once(' ')?;
+    let (place, rest) = halves_at(field, ' ')?;
     match place {
         "inline" => Some(inline(text_of(rest))),
         "static" => Some(fixed(text_of(rest))),
         "heap" => {
-            let (capacity, text) = rest.split_once(' ')?;
+            let (capacity, text) = halves_at(rest, ' ')?;
             let text = text_of(text);
             if capacity == "*" {
                 return Some(fitted(text));
             }
-            Some(heap(capacity.parse::<usize>().ok()?, text))
+            Some(heap(number(capacity)?, text))
         }
         _ => None,
     }

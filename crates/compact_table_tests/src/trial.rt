@@ -303,24 +303,20 @@ impl Trial {
 
     /// What the call answered.
     fn is_answered(&mut self, reply: &Reply<Standard>, answer: Answer<'_>) {
-        match (reply, answer) {
-            (Reply::Done, Answer::Done) => {}
-            (Reply::Char(taken), Answer::Char(wanted)) => {
-                self.faults
-                    .expect(*taken == wanted, "it answers another character")
+        let (holds, instead) = match reply {
+            Reply::Done => (matches!(answer, Answer::Done), "it is done"),
+            Reply::Char(taken) => (is_char(answer, *taken), "it answers another character"),
+            Reply::Text(text) => {
+                self.faults.expect_value(is_text(answer, text), text);
+                return;
             }
-            (Reply::Text(text), Answer::Text(wanted)) => {
-                self.faults.expect_value(is_seen(text, wanted), text)
-            }
-            (Reply::Refused(_), Answer::TooLarge) => {}
-            (Reply::BadPosition, Answer::BadPosition) => {}
-            (Reply::Refused(_), _) => self.faults.expect(false, "it is refused"),
-            (Reply::BadPosition, _) => {
-                self.faults
-                    .expect(false, "there is no such position, or no such call")
-            }
-            _ => self.faults.expect(false, "it answers another thing"),
-        }
+            Reply::Refused(_) => (matches!(answer, Answer::TooLarge), "it is refused"),
+            Reply::BadPosition => (
+                matches!(answer, Answer::BadPosition),
+                "there is no such position, or no such call",
+            ),
+        };
+        self.faults.expect(holds, instead);
     }
 
     /// What the call has left.
@@ -329,6 +325,22 @@ impl Trial {
             Some(seen) => self.faults.expect_value(is_seen(value, *seen), value),
             None => self.faults.expect_value(false, value),
         }
+    }
+}
+
+/// Whether a line's answer is that character, or none.
+fn is_char(answer: Answer<'_>, taken: Option<char>) -> bool {
+    match answer {
+        Answer::Char(wanted) => taken == wanted,
+        _ => false,
+    }
+}
+
+/// Whether a line's answer is that text, where it is to stand.
+fn is_text(answer: Answer<'_>, text: &CompactString) -> bool {
+    match answer {
+        Answer::Text(wanted) => is_seen(text, wanted),
+        _ => false,
     }
 }
 

@@ -4,7 +4,7 @@
 
 use crate::memory::{Ask, Ration};
 use compact_str::CompactString;
-use compact_testing::values::place_of;
+use compact_testing::values::{append, place_of};
 use std::alloc::Global;
 
 /// Of the 26 small letters, the 26 great ones and the ten digits those from one place to another.
@@ -173,7 +173,9 @@ pub fn source(alloc: Global, name: &str) -> Option<CompactString> {
 fn shortened(alloc: Global, text: &str) -> Option<CompactString> {
     let mut value = copied(alloc, digits())?;
     value.clear();
-    value.push_str(text).ok()?;
+    if append(&mut value, text).is_err() {
+        return None;
+    }
     Some(value)
 }
 
@@ -272,6 +274,9 @@ fn is_packed(value: &CompactString) -> bool {
 /// Whether 24 bytes begin with a text, end with its length, and are read as that text.
 fn stands_for(alloc: Global, bytes: &[u8; 24], text: &str) -> bool {
     let ends_so = text.len() == 24 || usize::from(bytes[23]) == text.len().saturating_add(192);
-    let read = CompactString::from_packed(alloc, bytes);
-    ends_so && bytes.starts_with(text.as_bytes()) && read.is_some_and(|read| read.as_str() == text)
+    let is_read = match CompactString::from_packed(alloc, bytes) {
+        Some(read) => read.as_str() == text,
+        None => false,
+    };
+    ends_so && is_read && bytes.starts_with(text.as_bytes())
 }

@@ -33,6 +33,19 @@ fn has_text<P: Policy>(value: &PolicyString<P>, text: &str) -> bool {
         && value.is_empty() == text.is_empty()
 }
 
+/// Whether values have these texts, in order.
+pub fn are_texts(values: &[CompactString], texts: &[&str]) -> bool {
+    if values.len() != texts.len() {
+        return false;
+    }
+    for (value, text) in values.iter().zip(texts.iter()) {
+        if value.as_str() != *text {
+            return false;
+        }
+    }
+    true
+}
+
 /// Whether a value has this text of its own: inline where it has at most 24 bytes, else on the heap.
 pub fn is_fitted(value: &CompactString, text: &str) -> bool {
     value.as_str() == text

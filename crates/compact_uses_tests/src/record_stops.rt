@@ -3,6 +3,7 @@
 use compact_asserts::{assert_equal, assert_true};
 use compact_str::CompactString;
 use compact_testing::pieces::{Pieces, Stop};
+use compact_testing::seen::are_texts;
 use compact_uses::{RecordsCause, RecordsError, aligned_rows, read_records};
 use std::alloc::Global;
 use std::io::ErrorKind;
@@ -23,10 +24,7 @@ fn read(
 /// Asserts the report of some records, of which each has a line.
 fn assert_report(rt: &impl Abort, alloc: Global, records: &[Vec<CompactString>], lines: &[&str]) {
     let rows = aligned_rows(alloc, records).expect(rt, "memory");
-    assert_equal(rt, rows.len(), lines.len());
-    for (row, line) in rows.iter().zip(lines.iter()) {
-        assert_equal(rt, row.as_str(), *line);
-    }
+    assert_true(rt, are_texts(rows.as_slice(), lines));
 }
 
 /// The report of the first records.

@@ -3,6 +3,7 @@
 use compact_asserts::{assert_equal, assert_true};
 use compact_str::CompactString;
 use compact_testing::memory::take_all;
+use compact_testing::seen::are_texts;
 use compact_testing::values::{short, value_of};
 use compact_uses::{
     Fault, LineError, RecordsCause, RecordsError, fields_of, quoted_line, read_records,
@@ -33,10 +34,7 @@ impl Read for Failing {
 }
 
 fn assert_fields(rt: &impl Abort, fields: &Vec<CompactString>, texts: &[&str]) {
-    assert_equal(rt, fields.len(), texts.len());
-    for (field, text) in fields.iter().zip(texts.iter()) {
-        assert_equal(rt, field.as_str(), *text);
-    }
+    assert_true(rt, are_texts(fields.as_slice(), texts));
 }
 
 /// Asserts the fields of a line.
