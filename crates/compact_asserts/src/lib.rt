@@ -1,29 +1,32 @@
-//! What a test asserts, as calls.
+//! What a test asserts, as calls: `that(value.is_empty()).expect(&rt, "it holds")`.
 //!
-//! An assertion that is written out is a way out of the test, and the proof follows it with all that the test owns there. A
-//! call is none. It stands in a crate of its own, so that a failure names the line of the test that makes the call.
+//! An `assert!` that is written out is a way out of the test, and the proof follows it with all that the test owns there. A
+//! call of `expect` is none, and names its line where it fails.
 #![tactic(auto)]
 
-ghost use Rattle.std.specs.Prelude.{IsTrue};
+ghost use Rattle.std.specs.Prelude.{◌↔◌, IsTrue, IsSome, IsOk};
 
 use std::fmt::Debug;
-use std::process::Abort;
 
-/// Ends the test unless that holds.
-pub fn assert_true(rt: &impl Abort, holds: bool)
-    ensures { IsTrue holds }
+/// Answers something if that holds.
+pub fn that(holds: bool) -> Option<()>
+    ensures { IsSome result ↔ IsTrue holds }
 {
-    assert!(rt; holds);
+    if holds { Some(()) } else { None }
 }
 
-/// Ends the test unless that holds, and then prints the case that it is about.
-pub fn assert_true_for<C: Debug + Drop>(rt: &impl Abort, case: C, holds: bool)
-    ensures { IsTrue holds }
+/// Answers the case that it is about as an error, unless that holds.
+pub fn that_for<C: Debug + Drop>(case: C, holds: bool) -> Result<(), C>
+    ensures { IsOk result ↔ IsTrue holds }
 {
-    assert!(rt; holds, "{case:?}");
+    if holds { Ok(()) } else { Err(case) }
 }
 
-/// Ends the test unless both are equal, and then prints both.
-pub fn assert_equal<T: PartialEq + Debug + Drop>(rt: &impl Abort, left: T, right: T) {
-    assert_eq!(rt; left, right);
+/// Answers both as an error, unless they are equal.
+pub fn equal<T: PartialEq + Debug + Drop>(left: T, right: T) -> Result<(), (T, T)> {
+    if left == right {
+        Ok(())
+    } else {
+        Err((left, right))
+    }
 }

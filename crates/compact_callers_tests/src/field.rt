@@ -1,6 +1,6 @@
 //! Tests of the callers in `field_callers.rt`.
 
-use compact_asserts::{assert_equal, assert_true};
+use compact_asserts::{equal, that};
 use compact_callers::field_callers::{read_name, read_person, write_person};
 use compact_testing::seen::is_inline;
 use compact_testing::values::short;
@@ -13,9 +13,9 @@ const WRITTEN: &str =
 fn a_person_is_read(rt: HostRuntime) {
     let text = r#"{"firstName":"zo\u00eb","tags":["a","b"],"note":"n"}"#;
     let person = read_person(rt.alloc(), text).expect(&rt, "a person");
-    assert_true(&rt, is_inline(&person.first_name, "zoë"));
-    assert_equal(&rt, person.tags.len(), 2);
-    assert_equal(&rt, person.note.as_deref(), Some("n"));
+    that(is_inline(&person.first_name, "zoë")).expect(&rt, "it holds");
+    equal(person.tags.len(), 2).expect(&rt, "equal");
+    equal(person.note.as_deref(), Some("n")).expect(&rt, "equal");
 }
 
 #[test]
@@ -23,15 +23,15 @@ fn a_person_that_is_written_is_read_back(rt: HostRuntime) {
     let alloc = rt.alloc();
     let person = read_person(alloc, WRITTEN).expect(&rt, "a person");
     let written = write_person(alloc, &person).expect(&rt, "memory");
-    assert_equal(&rt, written.as_str(), WRITTEN);
+    equal(written.as_str(), WRITTEN).expect(&rt, "equal");
     let again = read_person(alloc, written.as_str()).expect(&rt, "a person");
-    assert_true(&rt, again == person);
+    that(again == person).expect(&rt, "it holds");
 }
 
 #[test]
 fn a_name_is_a_text(rt: HostRuntime) {
     let alloc = rt.alloc();
     let name = read_name(alloc, r#""a\tb""#).expect(&rt, "a text");
-    assert_true(&rt, name == short(alloc, "a\tb"));
-    assert_true(&rt, read_name(alloc, "12").is_err());
+    that(name == short(alloc, "a\tb")).expect(&rt, "it holds");
+    that(read_name(alloc, "12").is_err()).expect(&rt, "it holds");
 }

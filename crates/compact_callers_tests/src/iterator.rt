@@ -1,6 +1,6 @@
 //! Tests of the callers in `iterator.rt`.
 
-use compact_asserts::assert_equal;
+use compact_asserts::equal;
 use compact_callers::iterator_callers::{
     append_fields, long_names, names_by_reference, names_of, path, whole,
 };
@@ -11,9 +11,9 @@ use compact_testing::values::value_of;
 fn borrowed_parts_are_joined(rt: HostRuntime) -> Result<(), ReserveError> {
     let parts = ["usr", "local", "naïve"];
     let joined = path(rt.alloc(), &parts)?;
-    assert_equal(&rt, joined.as_str(), "usr/local/naïve/");
+    equal(joined.as_str(), "usr/local/naïve/").expect(&rt, "equal");
     let all = whole(rt.alloc(), &parts)?;
-    assert_equal(&rt, all.as_str(), "usrlocalnaïve");
+    equal(all.as_str(), "usrlocalnaïve").expect(&rt, "equal");
     Ok(())
 }
 
@@ -21,7 +21,7 @@ fn borrowed_parts_are_joined(rt: HostRuntime) -> Result<(), ReserveError> {
 fn fields_are_appended(rt: HostRuntime) -> Result<(), ReserveError> {
     let mut line = CompactString::const_new(rt.alloc(), "a line of more than 24 bytes: ");
     append_fields(&mut line, &["one", ",", "two"])?;
-    assert_equal(&rt, line.as_str(), "a line of more than 24 bytes: one,two");
+    equal(line.as_str(), "a line of more than 24 bytes: one,two").expect(&rt, "equal");
     Ok(())
 }
 
@@ -31,14 +31,10 @@ fn names_are_gathered(rt: HostRuntime) -> Result<(), ReserveError> {
     let last = value_of(rt.alloc(), " and the last of all the names")?;
     let names = [first, last];
     let mapped = names_of(rt.alloc(), &names)?;
-    assert_equal(&rt, mapped.as_str(), "first and the last of all the names");
+    equal(mapped.as_str(), "first and the last of all the names").expect(&rt, "equal");
     let gathered = names_by_reference(rt.alloc(), &names)?;
-    assert_equal(
-        &rt,
-        gathered.as_str(),
-        "first and the last of all the names",
-    );
+    equal(gathered.as_str(), "first and the last of all the names").expect(&rt, "equal");
     let long = long_names(rt.alloc(), &names, 5)?;
-    assert_equal(&rt, long.as_str(), " and the last of all the names");
+    equal(long.as_str(), " and the last of all the names").expect(&rt, "equal");
     Ok(())
 }

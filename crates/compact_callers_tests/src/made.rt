@@ -1,6 +1,6 @@
 //! Tests of the callers in `made_callers.rt`.
 
-use compact_asserts::{assert_equal, assert_true};
+use compact_asserts::{equal, that};
 use compact_callers::made_callers::{append_note, lent_bytes, row_of, take_line, text_in, unboxed};
 use compact_testing::seen::{is_heap, is_inline};
 use compact_testing::values::{letters, short, value_of};
@@ -11,8 +11,8 @@ use std::collections::HashMap;
 fn a_line_is_taken(rt: HostRuntime) {
     let mut line = value_of(rt.alloc(), letters(30)).expect(&rt, "memory");
     let taken = take_line(&mut line).expect(&rt, "no memory is needed");
-    assert_true(&rt, is_heap(&taken, 32, letters(30)));
-    assert_true(&rt, is_inline(&line, ""));
+    that(is_heap(&taken, 32, letters(30))).expect(&rt, "it holds");
+    that(is_inline(&line, "")).expect(&rt, "it holds");
 }
 
 #[test]
@@ -22,27 +22,27 @@ fn a_row_has_its_names(rt: HostRuntime) {
     let Ok(row) = row_of(alloc, first, short(alloc, "é")) else {
         panic!(rt; "two of four names need no memory");
     };
-    assert_true(&rt, is_inline(&row[0], "a"));
-    assert_true(&rt, is_inline(&row[1], "é"));
+    that(is_inline(&row[0], "a")).expect(&rt, "it holds");
+    that(is_inline(&row[1], "é")).expect(&rt, "it holds");
 }
 
 #[test]
 fn a_note_begins_empty(rt: HostRuntime) {
     let mut notes = HashMap::new(rt.alloc());
-    assert_true(&rt, append_note(&mut notes, 7, "a").is_ok());
-    assert_true(&rt, append_note(&mut notes, 7, "é").is_ok());
-    assert_true(&rt, is_inline(notes.get(&7).expect(&rt, "a note"), "aé"));
+    that(append_note(&mut notes, 7, "a").is_ok()).expect(&rt, "it holds");
+    that(append_note(&mut notes, 7, "é").is_ok()).expect(&rt, "it holds");
+    that(is_inline(notes.get(&7).expect(&rt, "a note"), "aé")).expect(&rt, "it holds");
 }
 
 #[test]
 fn buffers_are_taken_over(rt: HostRuntime) {
     let alloc = rt.alloc();
     let bytes = Vec::from_slice(alloc, "é".as_bytes()).expect(&rt, "memory");
-    assert_true(&rt, is_inline(&text_in(bytes).expect(&rt, "a text"), "é"));
+    that(is_inline(&text_in(bytes).expect(&rt, "a text"), "é")).expect(&rt, "it holds");
     let bytes = Vec::from_slice(alloc, &[0xc3]).expect(&rt, "memory");
-    assert_true(&rt, text_in(bytes).is_err());
+    that(text_in(bytes).is_err()).expect(&rt, "it holds");
     let boxed = BoxedStr::from_str(alloc, letters(30)).expect(&rt, "memory");
     let value = unboxed(boxed);
-    assert_equal(&rt, value.as_str(), letters(30));
-    assert_equal(&rt, lent_bytes(&value), 30);
+    equal(value.as_str(), letters(30)).expect(&rt, "equal");
+    equal(lent_bytes(&value), 30).expect(&rt, "equal");
 }

@@ -1,6 +1,6 @@
 //! Tests of the callers in `wire_callers.rt`.
 
-use compact_asserts::{assert_equal, assert_true};
+use compact_asserts::{equal, that};
 use compact_callers::wire_callers::{
     first_record, next_record, next_text, pair_sent_and_received, read_records, read_texts,
     receive_field, send_field, sent_and_received,
@@ -18,19 +18,19 @@ fn a_reader_tells_its_next_record_and_its_end(rt: HostRuntime) {
     let mut rest: &[u8] = &RECORDS;
     for text in ["a", "", "Hi"] {
         let record = next_record(alloc, &mut rest).expect(&rt, "a record");
-        assert_true(&rt, is_inline(&record.expect(&rt, "no end"), text));
+        that(is_inline(&record.expect(&rt, "no end"), text)).expect(&rt, "it holds");
     }
     let end = next_record(alloc, &mut rest).expect(&rt, "an end");
-    assert_true(&rt, end.is_none());
+    that(end.is_none()).expect(&rt, "it holds");
 }
 
 #[test]
 fn records_are_read_to_their_end(rt: HostRuntime) {
     let records = read_records(rt.alloc(), RECORDS.as_slice()).expect(&rt, "records");
-    assert_equal(&rt, records.len(), 3);
+    equal(records.len(), 3).expect(&rt, "equal");
     for (record, text) in records.iter().zip(["a", "", "Hi"]) {
-        assert_equal(&rt, record.as_str(), text);
-        assert_equal(&rt, place_of(record), "inline");
+        equal(record.as_str(), text).expect(&rt, "equal");
+        equal(place_of(record), "inline").expect(&rt, "equal");
     }
 }
 
@@ -44,18 +44,18 @@ fn one_record_that_is_no_text_is_passed_over(rt: HostRuntime) {
     let mut records = Records::new(rt.alloc(), MIXED.as_slice());
     for text in ["a", "", "Hi"] {
         let found = next_text(&mut records).expect(&rt, "no end");
-        assert_true(&rt, is_inline(&found.expect(&rt, "a text"), text));
+        that(is_inline(&found.expect(&rt, "a text"), text)).expect(&rt, "it holds");
     }
-    assert_true(&rt, next_text(&mut records).is_none());
+    that(next_text(&mut records).is_none()).expect(&rt, "it holds");
 }
 
 #[test]
 fn what_is_no_text_is_passed_over(rt: HostRuntime) {
     let texts = read_texts(rt.alloc(), MIXED.as_slice()).expect(&rt, "texts");
-    assert_equal(&rt, texts.len(), 3);
+    equal(texts.len(), 3).expect(&rt, "equal");
     for (found, text) in texts.iter().zip(["a", "", "Hi"]) {
-        assert_equal(&rt, found.as_str(), text);
-        assert_equal(&rt, place_of(found), "inline");
+        equal(found.as_str(), text).expect(&rt, "equal");
+        equal(place_of(found), "inline").expect(&rt, "equal");
     }
 }
 
@@ -63,20 +63,20 @@ fn what_is_no_text_is_passed_over(rt: HostRuntime) {
 fn a_cut_behind_what_is_no_text_is_told(rt: HostRuntime) {
     let cut = MIXED.get(..25).expect(&rt, "bytes");
     let found = read_texts(rt.alloc(), cut);
-    assert_true(&rt, matches!(found, Err(WireError::UnexpectedEnd)));
+    that(matches!(found, Err(WireError::UnexpectedEnd))).expect(&rt, "it holds");
 }
 
 #[test]
 fn the_first_record_is_read_alone(rt: HostRuntime) {
     let first = first_record(rt.alloc(), RECORDS.as_slice()).expect(&rt, "no fault");
-    assert_true(&rt, is_inline(&first.expect(&rt, "a record"), "a"));
+    that(is_inline(&first.expect(&rt, "a record"), "a")).expect(&rt, "it holds");
 }
 
 #[test]
 fn no_bytes_have_no_first_record(rt: HostRuntime) {
     let none: &[u8] = &[];
     let first = first_record(rt.alloc(), none).expect(&rt, "no fault");
-    assert_true(&rt, first.is_none());
+    that(first.is_none()).expect(&rt, "it holds");
 }
 
 #[test]
@@ -89,16 +89,16 @@ fn a_field_is_sent_and_received(rt: HostRuntime) {
         &value_of(alloc, letters(30)).expect(&rt, "memory"),
         &mut bytes,
     );
-    assert_true(&rt, sent.is_ok());
-    assert_equal(&rt, bytes.len(), 42);
+    that(sent.is_ok()).expect(&rt, "it holds");
+    equal(bytes.len(), 42).expect(&rt, "equal");
     let mut rest = bytes.as_slice();
     let (key, value) = receive_field(alloc, &mut rest).expect(&rt, "a field");
-    assert_true(&rt, is_inline(&key, "name"));
-    assert_equal(&rt, value.as_str(), letters(30));
+    that(is_inline(&key, "name")).expect(&rt, "it holds");
+    equal(value.as_str(), letters(30)).expect(&rt, "equal");
     let back = sent_and_received(alloc, &value).expect(&rt, "a text");
-    assert_true(&rt, back == value);
+    that(back == value).expect(&rt, "it holds");
     let both = pair_sent_and_received(alloc, &name, &value).expect(&rt, "two texts");
-    assert_equal(&rt, both.len(), 2);
-    assert_true(&rt, is_inline(&both[0], "name"));
-    assert_equal(&rt, both[1].as_str(), letters(30));
+    equal(both.len(), 2).expect(&rt, "equal");
+    that(is_inline(&both[0], "name")).expect(&rt, "it holds");
+    equal(both[1].as_str(), letters(30)).expect(&rt, "equal");
 }

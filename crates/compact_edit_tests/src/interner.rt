@@ -1,6 +1,6 @@
 //! The interner: numbers and names, refused memory, and many words beside a plain list.
 
-use compact_asserts::{assert_equal, assert_true};
+use compact_asserts::{equal, that};
 use compact_edit::{InternError, Interner};
 use compact_str::ReserveError;
 use compact_testing::memory::take_all;
@@ -11,12 +11,12 @@ use std::process::Abort;
 
 /// Asserts the name of a number.
 fn assert_name(rt: &impl Abort, names: &Interner, number: u32, name: Option<&str>) {
-    assert_equal(rt, names.name(number), name);
+    equal(names.name(number), name).expect(rt, "equal");
 }
 
 /// Asserts how many names there are.
 fn assert_count(rt: &impl Abort, names: &Interner, count: usize) {
-    assert_equal(rt, names.len(), count);
+    equal(names.len(), count).expect(rt, "equal");
 }
 
 /// The number of a text for which there is memory.
@@ -34,16 +34,13 @@ fn numbers_of(rt: &impl Abort, alloc: Global, names: &mut Interner, texts: &[&st
 /// Asserts that a list of texts is refused for want of memory.
 fn is_refused(rt: &impl Abort, names: &mut Interner, texts: &[&str], numbers: &mut Vec<u32>) {
     let taken = names.intern_all(texts, numbers);
-    assert_true(rt, matches!(taken, Err(InternError::Reserve(_))));
+    that(matches!(taken, Err(InternError::Reserve(_)))).expect(rt, "it holds");
 }
 
 /// Asserts that a text is refused for want of memory, and that so many names stand.
 fn assert_refused(rt: &impl Abort, names: &mut Interner, text: &str, count: usize) {
-    assert_true(
-        rt,
-        matches!(names.intern(text), Err(InternError::Reserve(_))),
-    );
-    assert_equal(rt, names.len(), count);
+    that(matches!(names.intern(text), Err(InternError::Reserve(_)))).expect(rt, "it holds");
+    equal(names.len(), count).expect(rt, "equal");
 }
 
 #[test]
@@ -51,12 +48,12 @@ fn a_text_has_the_place_of_its_first_occurrence(rt: HostRuntime) {
     let alloc = rt.alloc();
     let mut names = Interner::new(alloc);
     let numbers = numbers_of(&rt, alloc, &mut names, &["a", "b", "a", ""]);
-    assert_equal(&rt, numbers.as_slice(), [0, 1, 0, 2].as_slice());
+    equal(numbers.as_slice(), [0, 1, 0, 2].as_slice()).expect(&rt, "equal");
     assert_count(&rt, &names, 3);
     assert_name(&rt, &names, 1, Some("b"));
     assert_name(&rt, &names, 3, None);
     for _ in 0..2 {
-        assert_equal(&rt, number_of(&rt, &mut names, letters(25)), 3);
+        equal(number_of(&rt, &mut names, letters(25)), 3).expect(&rt, "equal");
     }
 }
 
@@ -69,12 +66,12 @@ fn a_short_name_needs_no_memory_and_a_long_text_does(rt: HostRuntime) {
     number_of(&rt, &mut names, "");
     number_of(&rt, &mut names, letters(25));
     let hog = take_all(alloc).expect(&rt, "room for the list of blocks");
-    assert_equal(&rt, number_of(&rt, &mut names, "a"), 0);
+    equal(number_of(&rt, &mut names, "a"), 0).expect(&rt, "equal");
     assert_refused(&rt, &mut names, letters(30), 4);
-    assert_equal(&rt, number_of(&rt, &mut names, letters(25)), 3);
+    equal(number_of(&rt, &mut names, letters(25)), 3).expect(&rt, "equal");
     drop(hog);
     assert_name(&rt, &names, 3, Some(letters(25)));
-    assert_equal(&rt, number_of(&rt, &mut names, letters(30)), 4);
+    equal(number_of(&rt, &mut names, letters(30)), 4).expect(&rt, "equal");
 }
 
 #[test]
@@ -84,7 +81,7 @@ fn the_table_of_the_names_is_refused(rt: HostRuntime) {
     let hog = take_all(alloc).expect(&rt, "room for the list of blocks");
     assert_refused(&rt, &mut names, "a", 0);
     drop(hog);
-    assert_equal(&rt, number_of(&rt, &mut names, "a"), 0);
+    equal(number_of(&rt, &mut names, "a"), 0).expect(&rt, "equal");
 }
 
 #[test]
@@ -96,7 +93,7 @@ fn the_table_is_refused_behind_the_copy_of_a_text(rt: HostRuntime) {
     drop(room);
     assert_refused(&rt, &mut names, letters(30), 0);
     drop(hog);
-    assert_equal(&rt, number_of(&rt, &mut names, letters(30)), 0);
+    equal(number_of(&rt, &mut names, letters(30)), 0).expect(&rt, "equal");
 }
 
 #[test]
@@ -108,7 +105,7 @@ fn with_no_room_for_the_numbers_nothing_is_taken(rt: HostRuntime) {
     let hog = take_all(alloc).expect(&rt, "room for the list of blocks");
     is_refused(&rt, &mut names, &["a", "b"], &mut numbers);
     drop(hog);
-    assert_equal(&rt, numbers.len(), 0);
+    equal(numbers.len(), 0).expect(&rt, "equal");
     assert_count(&rt, &names, 1);
 }
 
@@ -123,7 +120,7 @@ fn the_texts_before_a_refused_one_are_taken(rt: HostRuntime) {
     let hog = take_all(alloc).expect(&rt, "room for the list of blocks");
     is_refused(&rt, &mut names, &texts, &mut numbers);
     drop(hog);
-    assert_equal(&rt, numbers.as_slice(), [1, 0].as_slice());
+    equal(numbers.as_slice(), [1, 0].as_slice()).expect(&rt, "equal");
     assert_count(&rt, &names, 2);
 }
 
@@ -170,13 +167,13 @@ impl PlainList {
 
 /// Asserts that each name is the word of the list at its place.
 fn assert_names(rt: &impl Abort, alloc: Global, names: &Interner, list: &PlainList) {
-    assert_equal(rt, names.len(), list.words.len());
+    equal(names.len(), list.words.len()).expect(rt, "equal");
     for (place, id) in list.words.iter().enumerate() {
-        assert_equal(
-            rt,
+        equal(
             names.name(place as u32),
             Some(word(rt, alloc, *id).as_str()),
-        );
+        )
+        .expect(rt, "equal");
     }
 }
 
@@ -190,7 +187,7 @@ fn many_words_are_numbered_as_in_a_plain_list(rt: HostRuntime) {
         let id = random.below(40_000);
         let text = word(&rt, alloc, id);
         let number = number_of(&rt, &mut names, text.as_str());
-        assert_equal(&rt, number as usize, list.place_of(&rt, id));
+        equal(number as usize, list.place_of(&rt, id)).expect(&rt, "equal");
     }
     assert_names(&rt, alloc, &names, &list);
 }
@@ -199,14 +196,10 @@ fn many_words_are_numbered_as_in_a_plain_list(rt: HostRuntime) {
 fn refusals_are_shown_so(rt: HostRuntime) {
     let alloc = rt.alloc();
     let shown = format!(in alloc; "{}", InternError::Full);
-    assert_equal(
-        &rt,
-        shown.expect(&rt, "memory").as_str(),
-        "interner is full",
-    );
+    equal(shown.expect(&rt, "memory").as_str(), "interner is full").expect(&rt, "equal");
     let refused = InternError::from(ReserveError);
-    assert_true(&rt, matches!(refused, InternError::Reserve(_)));
+    that(matches!(refused, InternError::Reserve(_))).expect(&rt, "it holds");
     let shown = format!(in alloc; "{refused}");
     let text = "Cannot allocate memory to hold CompactString";
-    assert_equal(&rt, shown.expect(&rt, "memory").as_str(), text);
+    equal(shown.expect(&rt, "memory").as_str(), text).expect(&rt, "equal");
 }

@@ -1,6 +1,6 @@
 //! The longest lengths and positions, as edits.
 
-use compact_asserts::{assert_equal, assert_true};
+use compact_asserts::{equal, that};
 use compact_edit::{Edit, Reply, run};
 use compact_str::Standard;
 use compact_testing::seen::is_inline;
@@ -25,11 +25,11 @@ fn assert_each(rt: &impl Abort, alloc: Global, edits: &[Edit<Standard>], name: &
     let mut value = short(alloc, "a");
     let mut replies = Vec::new(alloc);
     run(&mut value, edits, &mut replies).expect(rt, "memory");
-    assert_equal(rt, replies.len(), edits.len());
+    equal(replies.len(), edits.len()).expect(rt, "equal");
     for reply in &replies {
-        assert_equal(rt, name_of(reply), name);
+        equal(name_of(reply), name).expect(rt, "equal");
     }
-    assert_true(rt, is_inline(&value, "a"));
+    that(is_inline(&value, "a")).expect(rt, "it holds");
 }
 
 #[test]

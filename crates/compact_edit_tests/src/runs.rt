@@ -1,6 +1,6 @@
 //! Lists of edits that are run, with ample memory and with none.
 
-use compact_asserts::{assert_equal, assert_true};
+use compact_asserts::{equal, that};
 use compact_edit::{Edit, Reply, run};
 use compact_str::{CompactString, Standard};
 use compact_testing::memory::take_all;
@@ -34,9 +34,9 @@ fn all_are_done(
 ) {
     let mut replies = Vec::new(alloc);
     run(value, edits, &mut replies).expect(rt, "memory");
-    assert_equal(rt, replies.len(), edits.len());
+    equal(replies.len(), edits.len()).expect(rt, "equal");
     for reply in &replies {
-        assert_true(rt, matches!(reply, Reply::Done));
+        that(matches!(reply, Reply::Done)).expect(rt, "it holds");
     }
 }
 
@@ -46,7 +46,7 @@ fn each_edit_of_a_list_is_run(rt: HostRuntime) {
     let mut value = short(alloc, letters(3));
     let edits = [Edit::PushStr("a"), Edit::Reserve(100), Edit::ShrinkTo(50)];
     all_are_done(&rt, alloc, &mut value, &edits);
-    assert_true(&rt, is_heap(&value, 50, letters(4)));
+    that(is_heap(&value, 50, letters(4))).expect(&rt, "it holds");
 }
 
 /// A list of 40 replies and no room for nine more, even where an allocator rounds a request up.
@@ -71,7 +71,7 @@ fn is_not_begun(rt: &impl Abort, value: &mut CompactString, replies: &mut Vec<Re
         Edit::Clear,
         Edit::PushStr("x"),
     ];
-    assert_true(rt, run(value, &edits, replies).is_err());
+    that(run(value, &edits, replies).is_err()).expect(rt, "it holds");
 }
 
 /// No edits are run even so.
@@ -84,9 +84,9 @@ fn a_run_with_no_room_for_replies_runs_nothing(rt: HostRuntime) {
     is_not_begun(&rt, &mut value, &mut replies);
     run_all(&rt, &mut value, &[], &mut replies);
     drop(hog);
-    assert_true(&rt, is_inline(&value, "abc"));
-    assert_equal(&rt, replies.len(), 40);
-    assert_true(&rt, matches!(replies.get(39), Some(Reply::Done)));
+    that(is_inline(&value, "abc")).expect(&rt, "it holds");
+    equal(replies.len(), 40).expect(&rt, "equal");
+    that(matches!(replies.get(39), Some(Reply::Done))).expect(&rt, "it holds");
 }
 
 /// A text of 29 bytes, of which the first two are one character.
@@ -121,18 +121,18 @@ fn a_bad_position_is_told_before_a_refusal(rt: HostRuntime) {
     tells_bad_positions(&rt, &mut lasting, &mut replies);
     tells_bad_positions(&rt, &mut made, &mut replies);
     drop(hog);
-    assert_true(&rt, is_at(&lasting, "static", 29, text()));
-    assert_true(&rt, is_at(&made, "heap", 32, text()));
-    assert_equal(&rt, replies.len(), 12);
+    that(is_at(&lasting, "static", 29, text())).expect(&rt, "it holds");
+    that(is_at(&made, "heap", 32, text())).expect(&rt, "it holds");
+    equal(replies.len(), 12).expect(&rt, "equal");
     for reply in &replies {
-        assert_true(&rt, matches!(reply, Reply::BadPosition));
+        that(matches!(reply, Reply::BadPosition)).expect(&rt, "it holds");
     }
 }
 
 /// Asserts what an edit answered: whether it was refused.
 fn was_refused(rt: &impl Abort, replies: &[Reply<Standard>], place: usize, refused: bool) {
     let reply = replies.get(place).expect(rt, "a reply");
-    assert_equal(rt, matches!(reply, Reply::Refused(_)), refused);
+    equal(matches!(reply, Reply::Refused(_)), refused).expect(rt, "equal");
 }
 
 /// Runs the edit `Drain` of a range.
@@ -158,7 +158,7 @@ fn the_answer_of_a_drain_is_refused(rt: HostRuntime) {
     drop(hog);
     was_refused(&rt, replies.as_slice(), 0, true);
     was_refused(&rt, replies.as_slice(), 1, false);
-    assert_true(&rt, is_heap(&value, 60, letters(36)));
+    that(is_heap(&value, 60, letters(36))).expect(&rt, "it holds");
 }
 
 #[test]
@@ -172,7 +172,7 @@ fn a_drain_that_makes_its_answer_finds_no_room_for_its_text(rt: HostRuntime) {
     run_drain(&rt, &mut value, 0, 30, &mut replies);
     drop(hog);
     was_refused(&rt, replies.as_slice(), 0, true);
-    assert_true(&rt, is_static(&value, letters(80)));
+    that(is_static(&value, letters(80))).expect(&rt, "it holds");
 }
 
 #[test]
@@ -188,5 +188,5 @@ fn a_drain_of_60_bytes_is_refused_at_each_request(rt: HostRuntime) {
     drop(hog);
     was_refused(&rt, replies.as_slice(), 0, true);
     was_refused(&rt, replies.as_slice(), 1, true);
-    assert_true(&rt, is_static(&value, letters(60)));
+    that(is_static(&value, letters(60))).expect(&rt, "it holds");
 }

@@ -1,6 +1,6 @@
 //! Texts of formats, with ample memory.
 
-use compact_asserts::{assert_equal, assert_true};
+use compact_asserts::{equal, that};
 use compact_ext::{ToCompactStringError, format_compact};
 use compact_str::{CompactString, ReserveError};
 use compact_testing::seen::is_inline;
@@ -29,24 +29,24 @@ fn text_of(rt: &impl Abort, made: Result<CompactString, ToCompactStringError>) -
 fn formats_have_these_texts(rt: HostRuntime) {
     let alloc = rt.alloc();
     let text = text_of(&rt, format_compact!(in alloc; "{}-{:04}", 7, 42));
-    assert_true(&rt, is_inline(&text, "7-0042"));
+    that(is_inline(&text, "7-0042")).expect(&rt, "it holds");
     let text = text_of(&rt, format_compact!(in alloc; "a literal"));
-    assert_true(&rt, is_inline(&text, "a literal"));
+    that(is_inline(&text, "a literal")).expect(&rt, "it holds");
     let text = text_of(&rt, format_compact!(in alloc; ""));
-    assert_true(&rt, is_inline(&text, ""));
+    that(is_inline(&text, "")).expect(&rt, "it holds");
     let text = text_of(&rt, format_compact!(in alloc; "{{{}}}", true));
-    assert_true(&rt, is_inline(&text, "{true}"));
+    that(is_inline(&text, "{true}")).expect(&rt, "it holds");
 }
 
 #[test]
 fn options_are_kept(rt: HostRuntime) {
     let alloc = rt.alloc();
     let text = text_of(&rt, format_compact!(in alloc; "{:?}", "a\n"));
-    assert_true(&rt, is_inline(&text, "\"a\\n\""));
+    that(is_inline(&text, "\"a\\n\"")).expect(&rt, "it holds");
     let text = text_of(&rt, format_compact!(in alloc; "{:>8}|{:<3}|", "äb", 7));
-    assert_true(&rt, is_inline(&text, "      äb|7  |"));
+    that(is_inline(&text, "      äb|7  |")).expect(&rt, "it holds");
     let text = text_of(&rt, format_compact!(in alloc; "{:#x} {:#b}", 255, 5));
-    assert_true(&rt, is_inline(&text, "0xff 0b101"));
+    that(is_inline(&text, "0xff 0b101")).expect(&rt, "it holds");
 }
 
 #[test]
@@ -54,49 +54,43 @@ fn arguments_may_have_names(rt: HostRuntime) {
     let alloc = rt.alloc();
     let place = "€";
     let text = text_of(&rt, format_compact!(in alloc; "{place}{sum}", sum = -12));
-    assert_true(&rt, is_inline(&text, "€-12"));
+    that(is_inline(&text, "€-12")).expect(&rt, "it holds");
     let text = text_of(&rt, format_compact!(in alloc; "{0}{1}{0}", 'a', 'b'));
-    assert_true(&rt, is_inline(&text, "aba"));
+    that(is_inline(&text, "aba")).expect(&rt, "it holds");
 }
 
 #[test]
 fn twenty_four_bytes_stand_inline_and_more_on_the_heap(rt: HostRuntime) {
     let alloc = rt.alloc();
     let text = text_of(&rt, format_compact!(in alloc; "{}{}", letters(20), 1234));
-    assert_true(&rt, is_inline(&text, "aaaaaaaaaaaaaaaaaaaa1234"));
+    that(is_inline(&text, "aaaaaaaaaaaaaaaaaaaa1234")).expect(&rt, "it holds");
     let text = text_of(&rt, format_compact!(in alloc; "{}{}", letters(20), 12345));
-    assert_true(&rt, text.is_heap_allocated());
-    assert_equal(&rt, text.as_str(), "aaaaaaaaaaaaaaaaaaaa12345");
+    that(text.is_heap_allocated()).expect(&rt, "it holds");
+    equal(text.as_str(), "aaaaaaaaaaaaaaaaaaaa12345").expect(&rt, "equal");
 }
 
 #[test]
 fn what_fails_by_itself_is_no_refusal(rt: HostRuntime) {
     let alloc = rt.alloc();
     let failed = format_compact!(in alloc; "{Failing}");
-    assert_true(
-        &rt,
-        failed.err() == Some(ToCompactStringError::Fmt(fmt::Error)),
-    );
+    that(failed.err() == Some(ToCompactStringError::Fmt(fmt::Error))).expect(&rt, "it holds");
     let failed = format_compact!(in alloc; "{}{}", letters(40), Failing);
-    assert_true(
-        &rt,
-        failed.err() == Some(ToCompactStringError::Fmt(fmt::Error)),
-    );
+    that(failed.err() == Some(ToCompactStringError::Fmt(fmt::Error))).expect(&rt, "it holds");
 }
 
 #[test]
 fn errors_are_made_so(rt: HostRuntime) {
     let refused = ToCompactStringError::from(ReserveError);
     let failed = ToCompactStringError::from(fmt::Error);
-    assert_true(&rt, refused == ToCompactStringError::Reserve(ReserveError));
-    assert_true(&rt, failed == ToCompactStringError::Fmt(fmt::Error));
-    assert_true(&rt, refused != failed);
+    that(refused == ToCompactStringError::Reserve(ReserveError)).expect(&rt, "it holds");
+    that(failed == ToCompactStringError::Fmt(fmt::Error)).expect(&rt, "it holds");
+    that(refused != failed).expect(&rt, "it holds");
 }
 
 /// Asserts how an error is shown.
 fn is_shown(rt: &impl Abort, alloc: Global, error: ToCompactStringError, text: &str) {
     let made = text_of(rt, format_compact!(in alloc; "{error}"));
-    assert_equal(rt, made.as_str(), text);
+    equal(made.as_str(), text).expect(rt, "equal");
 }
 
 #[test]

@@ -1,6 +1,6 @@
 //! Texts of formats while requests for memory are refused, beside what `compact_table_tests` tries of each call.
 
-use compact_asserts::{assert_equal, assert_true};
+use compact_asserts::{equal, that};
 use compact_ext::{ToCompactString, ToCompactStringError, format_compact};
 use compact_str::{CompactString, ReserveError};
 use compact_testing::memory::take_all;
@@ -32,15 +32,13 @@ fn formats_and_strings_of_24_bytes_need_no_memory(rt: HostRuntime) {
     let string = string_with_room(alloc, 30, "i am 24 characters long!").expect(&rt, "memory");
     let hog = take_all(alloc).expect(&rt, "room for the list of blocks");
     let text = string.to_compact_string(alloc);
-    assert_true(
-        &rt,
-        is_inline(
-            &text.expect(&rt, "no memory is needed"),
-            "i am 24 characters long!",
-        ),
-    );
+    that(is_inline(
+        &text.expect(&rt, "no memory is needed"),
+        "i am 24 characters long!",
+    ))
+    .expect(&rt, "it holds");
     let text = format_compact!(in alloc; "{}-{}", 7, "a").expect(&rt, "no memory is needed");
-    assert_true(&rt, is_inline(&text, "7-a"));
+    that(is_inline(&text, "7-a")).expect(&rt, "it holds");
     drop(hog);
 }
 
@@ -48,10 +46,10 @@ fn formats_and_strings_of_24_bytes_need_no_memory(rt: HostRuntime) {
 fn a_refusal_that_is_hidden_is_told(rt: HostRuntime) {
     let alloc = rt.alloc();
     let hog = take_all(alloc).expect(&rt, "room for the list of blocks");
-    assert_true(&rt, is_refused(format_compact!(in alloc; "{}", Hiding(1))));
-    assert_true(&rt, is_refused(format_compact!(in alloc; "{}a", Hiding(2))));
+    that(is_refused(format_compact!(in alloc; "{}", Hiding(1)))).expect(&rt, "it holds");
+    that(is_refused(format_compact!(in alloc; "{}a", Hiding(2)))).expect(&rt, "it holds");
     drop(hog);
     let text = format_compact!(in alloc; "{}", Hiding(2)).expect(&rt, "memory");
-    assert_equal(&rt, text.as_str(), letters(60));
-    assert_true(&rt, text.is_heap_allocated());
+    equal(text.as_str(), letters(60)).expect(&rt, "equal");
+    that(text.is_heap_allocated()).expect(&rt, "it holds");
 }

@@ -1,6 +1,6 @@
 //! Texts of numbers and of other values, with ample memory.
 
-use compact_asserts::{assert_equal, assert_true};
+use compact_asserts::{equal, that};
 use compact_ext::ToCompactString;
 use compact_str::CompactString;
 use compact_testing::seen::{is_at, is_inline};
@@ -16,14 +16,14 @@ where
 {
     let first = value.to_compact_string(alloc).expect(rt, "memory");
     let second = value.try_to_compact_string(alloc).expect(rt, "memory");
-    assert_true(rt, first == second);
-    assert_true(rt, first.is_heap_allocated() == second.is_heap_allocated());
+    that(first == second).expect(rt, "it holds");
+    that(first.is_heap_allocated() == second.is_heap_allocated()).expect(rt, "it holds");
     first
 }
 
 /// Asserts the text of a value, and that it stands inline.
 fn assert_shown<T: ToCompactString + Drop>(rt: &impl Abort, alloc: Global, value: T, text: &str) {
-    assert_true(rt, is_inline(&shown(rt, alloc, value), text));
+    that(is_inline(&shown(rt, alloc, value), text)).expect(rt, "it holds");
 }
 
 #[test]
@@ -74,13 +74,13 @@ fn long_numbers_have_these_texts(rt: HostRuntime) {
     assert_shown(&rt, alloc, NonZeroU8::MAX, "255");
     let most = shown(&rt, alloc, u128::MAX);
     let text = "340282366920938463463374607431768211455";
-    assert_true(&rt, is_at(&most, "heap", 39, text));
+    that(is_at(&most, "heap", 39, text)).expect(&rt, "it holds");
     let least = shown(&rt, alloc, i128::MIN);
     let text = "-170141183460469231731687303715884105728";
-    assert_true(&rt, is_at(&least, "heap", 40, text));
+    that(is_at(&least, "heap", 40, text)).expect(&rt, "it holds");
     let least = shown(&rt, alloc, NonZeroI128::MIN);
     let text = "-170141183460469231731687303715884105728";
-    assert_true(&rt, is_at(&least, "heap", 40, text));
+    that(is_at(&least, "heap", 40, text)).expect(&rt, "it holds");
 }
 
 #[test]
@@ -99,7 +99,7 @@ fn other_values_have_these_texts(rt: HostRuntime) {
 
 /// Asserts the bytes of a value that stands inline.
 fn assert_packed(rt: &impl Abort, value: &CompactString, bytes: &[u8; 24]) {
-    assert_equal(rt, &value.packed().expect(rt, "inline"), bytes);
+    equal(&value.packed().expect(rt, "inline"), bytes).expect(rt, "equal");
 }
 
 #[test]

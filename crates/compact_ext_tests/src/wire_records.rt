@@ -2,7 +2,7 @@
 //! the form.
 
 use crate::wire_forms::name_of;
-use compact_asserts::{assert_equal, assert_true};
+use compact_asserts::{equal, that};
 use compact_ext::wire::{Records, WireError};
 use compact_str::CompactString;
 use compact_testing::memory::take_all;
@@ -27,28 +27,28 @@ fn read_records<R: BufRead + Drop>(
 /// Asserts that the next record is this text, inline.
 fn assert_next<R: BufRead + Drop>(rt: &impl Abort, records: &mut Records<R>, text: &str) {
     let item = records.next().expect(rt, "no end");
-    assert_true(rt, is_inline(&item.expect(rt, "a text"), text));
+    that(is_inline(&item.expect(rt, "a text"), text)).expect(rt, "it holds");
 }
 
 /// Asserts that the next record is a fault of this name.
 fn assert_next_fault<R: BufRead + Drop>(rt: &impl Abort, records: &mut Records<R>, fault: &str) {
     match records.next() {
-        Some(Err(found)) => assert_equal(rt, name_of(&found), fault),
-        _ => assert_true(rt, false),
+        Some(Err(found)) => equal(name_of(&found), fault).expect(rt, "equal"),
+        _ => that(false).expect(rt, "it holds"),
     }
 }
 
 /// Asserts that there is no other record, however often it is asked for.
 fn assert_end<R: BufRead + Drop>(rt: &impl Abort, records: &mut Records<R>) {
-    assert_true(rt, records.next().is_none());
-    assert_true(rt, records.next().is_none());
+    that(records.next().is_none()).expect(rt, "it holds");
+    that(records.next().is_none()).expect(rt, "it holds");
 }
 
 /// Asserts that the records of some bytes are not collected, with this fault.
 fn assert_not_collected<R: BufRead + Drop>(rt: &impl Abort, alloc: Global, reader: R, fault: &str) {
     match read_records(alloc, reader) {
-        Ok(_) => assert_true(rt, false),
-        Err(found) => assert_equal(rt, name_of(&found), fault),
+        Ok(_) => that(false).expect(rt, "it holds"),
+        Err(found) => equal(name_of(&found), fault).expect(rt, "equal"),
     }
 }
 
@@ -63,9 +63,9 @@ fn each_record_comes_in_its_turn(rt: HostRuntime) {
 
 /// Asserts that these are the three records, each inline.
 fn assert_records(rt: &impl Abort, records: &[CompactString]) {
-    assert_equal(rt, records.len(), 3);
+    equal(records.len(), 3).expect(rt, "equal");
     for (record, text) in records.iter().zip(["a", "", "Hi"]) {
-        assert_true(rt, is_inline(record, text));
+        that(is_inline(record, text)).expect(rt, "it holds");
     }
 }
 
@@ -89,9 +89,9 @@ fn no_bytes_are_no_records(rt: HostRuntime) {
     let alloc = rt.alloc();
     let none: &[u8] = &[];
     let records = read_records(alloc, none).expect(&rt, "records");
-    assert_equal(&rt, records.len(), 0);
+    equal(records.len(), 0).expect(&rt, "equal");
     let first = Records::new(alloc, none).next();
-    assert_true(&rt, first.is_none());
+    that(first.is_none()).expect(&rt, "it holds");
 }
 
 /// Asserts what comes of the first bytes of the three records, which end within the third.
@@ -158,10 +158,7 @@ fn assert_long_and_another<R: BufRead + Drop>(
 ) {
     let mut records = Records::new(alloc, reader);
     let item = records.next().expect(rt, "no end");
-    assert_true(
-        rt,
-        is_at(&item.expect(rt, "a text"), "heap", text.len(), text),
-    );
+    that(is_at(&item.expect(rt, "a text"), "heap", text.len(), text)).expect(rt, "it holds");
     assert_next(rt, &mut records, "a");
     assert_end(rt, &mut records);
 }

@@ -1,6 +1,6 @@
 //! Sessions with the program, asserted by what it prints.
 
-use compact_asserts::{assert_equal, assert_true_for};
+use compact_asserts::{equal, that_for};
 use compact_lines::run_lines;
 use std::alloc::Global;
 use std::process::Abort;
@@ -8,8 +8,8 @@ use std::process::Abort;
 /// Asserts what the program prints for an input, and that it ends well.
 pub fn assert_prints(rt: &impl Abort, alloc: Global, mut input: &[u8], printed: &[u8]) {
     let mut output = Vec::new(alloc);
-    assert_equal(rt, run_lines(alloc, &mut input, &mut output), 0);
-    assert_equal(rt, output.as_slice(), printed);
+    equal(run_lines(alloc, &mut input, &mut output), 0).expect(rt, "equal");
+    equal(output.as_slice(), printed).expect(rt, "equal");
 }
 
 /// Asserts each session of a transcript, in which a line with `#` says what the session behind it shows, a line with `>` is
@@ -31,12 +31,12 @@ fn assert_session(rt: &impl Abort, alloc: Global, session: &str) {
         }
     }
     let mut output = Vec::new(alloc);
-    assert_true_for(
-        rt,
+    that_for(
         session,
         run_lines(alloc, &mut input.as_slice(), &mut output) == 0,
-    );
-    assert_true_for(rt, session, output.as_slice() == printed.as_slice());
+    )
+    .expect(rt, "it holds");
+    that_for(session, output.as_slice() == printed.as_slice()).expect(rt, "it holds");
 }
 
 fn add_line(rt: &impl Abort, lines: &mut Vec<u8>, line: &str) {

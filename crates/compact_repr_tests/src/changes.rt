@@ -1,7 +1,7 @@
 //! Each call once in each place. The texts and positions are written by hand: `ä`, `b` and the clef take 2, 1 and 4 bytes.
 
 use crate::values::{borrowed, copied, empty, reserve};
-use compact_asserts::{assert_equal, assert_true, assert_true_for};
+use compact_asserts::{equal, that, that_for};
 use compact_repr::{Repr, Standard};
 use std::process::Abort;
 
@@ -12,49 +12,49 @@ fn assert_replaced(
     steps: &[(usize, usize, &str, &str)],
 ) {
     for (start, end, with, outcome) in steps {
-        assert_true(rt, *start <= *end);
-        assert_true(rt, text.is_char_boundary(*start));
-        assert_true(rt, text.is_char_boundary(*end));
-        assert_true(rt, text.replace_in_place(*start, *end, with));
-        assert_equal(rt, text.as_str(), *outcome);
+        that(*start <= *end).expect(rt, "it holds");
+        that(text.is_char_boundary(*start)).expect(rt, "it holds");
+        that(text.is_char_boundary(*end)).expect(rt, "it holds");
+        that(text.replace_in_place(*start, *end, with)).expect(rt, "it holds");
+        equal(text.as_str(), *outcome).expect(rt, "equal");
     }
 }
 
 /// Cuts the text to one length after another, and asserts each outcome.
 fn assert_truncated(rt: &impl Abort, text: &mut Repr<Standard>, steps: &[(usize, &str)]) {
     for (len, outcome) in steps {
-        assert_true(rt, *len >= text.len() || text.is_char_boundary(*len));
+        that(*len >= text.len() || text.is_char_boundary(*len)).expect(rt, "it holds");
         text.truncate(*len);
-        assert_equal(rt, text.as_str(), *outcome);
+        equal(text.as_str(), *outcome).expect(rt, "equal");
     }
 }
 
 /// Asserts which characters begin at some places.
 fn assert_chars(rt: &impl Abort, text: &Repr<Standard>, places: &[(usize, char)]) {
     for (index, character) in places {
-        assert_true(rt, text.is_char_boundary(*index));
-        assert_true(rt, *index < text.len());
-        assert_equal(rt, text.char_at(*index), *character);
+        that(text.is_char_boundary(*index)).expect(rt, "it holds");
+        that(*index < text.len()).expect(rt, "it holds");
+        equal(text.char_at(*index), *character).expect(rt, "equal");
     }
 }
 
 /// Puts one dash in after another, and asserts whether it fits, and the outcome.
 fn assert_dashes(rt: &impl Abort, text: &mut Repr<Standard>, steps: &[(usize, bool, &str)]) {
     for (index, fits, outcome) in steps {
-        assert_true(rt, text.is_char_boundary(*index));
-        assert_equal(rt, text.insert_ascii_in_place(*index, b'-'), *fits);
-        assert_equal(rt, text.as_str(), *outcome);
+        that(text.is_char_boundary(*index)).expect(rt, "it holds");
+        equal(text.insert_ascii_in_place(*index, b'-'), *fits).expect(rt, "equal");
+        equal(text.as_str(), *outcome).expect(rt, "equal");
     }
 }
 
 /// Takes one character of one byte out after another, and asserts whether the text is its own, and the outcome.
 fn assert_removed(rt: &impl Abort, text: &mut Repr<Standard>, steps: &[(usize, bool, &str)]) {
     for (index, owned, outcome) in steps {
-        assert_true(rt, *index < text.len());
-        assert_true(rt, text.is_char_boundary(*index));
-        assert_true(rt, text.is_char_boundary(*index + 1));
-        assert_equal(rt, text.remove_ascii_in_place(*index), *owned);
-        assert_equal(rt, text.as_str(), *outcome);
+        that(*index < text.len()).expect(rt, "it holds");
+        that(text.is_char_boundary(*index)).expect(rt, "it holds");
+        that(text.is_char_boundary(*index + 1)).expect(rt, "it holds");
+        equal(text.remove_ascii_in_place(*index), *owned).expect(rt, "equal");
+        equal(text.as_str(), *outcome).expect(rt, "equal");
     }
 }
 
@@ -62,11 +62,11 @@ fn assert_removed(rt: &impl Abort, text: &mut Repr<Standard>, steps: &[(usize, b
 /// own, and the outcome.
 fn assert_cut(rt: &impl Abort, text: &mut Repr<Standard>, steps: &[(usize, usize, bool, &str)]) {
     for (start, end, owned, outcome) in steps {
-        assert_true(rt, *start <= *end);
-        assert_true(rt, text.is_char_boundary(*start));
-        assert_true(rt, text.is_char_boundary(*end));
-        assert_equal(rt, text.cut_out_in_place(*start, *end), *owned);
-        assert_equal(rt, text.as_str(), *outcome);
+        that(*start <= *end).expect(rt, "it holds");
+        that(text.is_char_boundary(*start)).expect(rt, "it holds");
+        that(text.is_char_boundary(*end)).expect(rt, "it holds");
+        equal(text.cut_out_in_place(*start, *end), *owned).expect(rt, "equal");
+        equal(text.as_str(), *outcome).expect(rt, "equal");
     }
 }
 
@@ -74,14 +74,14 @@ fn assert_cut(rt: &impl Abort, text: &mut Repr<Standard>, steps: &[(usize, usize
 fn inline(rt: HostRuntime) {
     let mut text = copied(&rt, rt.alloc(), "äb𝄞");
     for index in 0..9 {
-        assert_true_for(
-            &rt,
+        that_for(
             index,
             text.is_char_boundary(index) == matches!(index, 0 | 2 | 3 | 7),
-        );
+        )
+        .expect(&rt, "it holds");
     }
     assert_chars(&rt, &text, &[(0, 'ä'), (2, 'b'), (3, '𝄞')]);
-    assert_equal(&rt, text.last_char(), Some('𝄞'));
+    equal(text.last_char(), Some('𝄞')).expect(&rt, "equal");
     assert_replaced(
         &rt,
         &mut text,
@@ -91,19 +91,19 @@ fn inline(rt: HostRuntime) {
             (6, 6, "end of a long tex", "yz𝄞end of a long tex"),
         ],
     );
-    assert_equal(&rt, text.len(), 23);
+    equal(text.len(), 23).expect(&rt, "equal");
     assert_truncated(
         &rt,
         &mut text,
         &[(24, "yz𝄞end of a long tex"), (2, "yz"), (0, "")],
     );
-    assert_equal(&rt, text.last_char(), None);
+    equal(text.last_char(), None).expect(&rt, "equal");
 }
 
 #[test]
 fn heap(rt: HostRuntime) {
     let mut text = copied(&rt, rt.alloc(), "äb𝄞0123456789012345678901234");
-    assert_equal(&rt, text.capacity(), 32);
+    equal(text.capacity(), 32).expect(&rt, "equal");
     assert_replaced(
         &rt,
         &mut text,
@@ -114,10 +114,10 @@ fn heap(rt: HostRuntime) {
             (29, 29, "ß", "äyz0123456789012345678901234ß"),
         ],
     );
-    assert_equal(&rt, text.last_char(), Some('ß'));
+    equal(text.last_char(), Some('ß')).expect(&rt, "equal");
     assert_chars(&rt, &text, &[(2, 'y')]);
     assert_truncated(&rt, &mut text, &[(4, "äyz")]);
-    assert_equal(&rt, text.capacity(), 32);
+    equal(text.capacity(), 32).expect(&rt, "equal");
 }
 
 /// A text of 150 bytes that begins anew at each tenth. It is a function so that a proof need not carry each digit.
@@ -134,11 +134,11 @@ fn assert_front(
     front: &str,
 ) {
     let (start, end) = part;
-    assert_true(rt, text.is_char_boundary(start));
-    assert_true(rt, text.is_char_boundary(end));
-    assert_true(rt, start <= end);
-    assert_true(rt, text.replace_in_place(start, end, with));
-    assert_equal(rt, text.as_str().strip_prefix(front), Some(digits()));
+    that(text.is_char_boundary(start)).expect(rt, "it holds");
+    that(text.is_char_boundary(end)).expect(rt, "it holds");
+    that(start <= end).expect(rt, "it holds");
+    that(text.replace_in_place(start, end, with)).expect(rt, "it holds");
+    equal(text.as_str().strip_prefix(front), Some(digits())).expect(rt, "equal");
 }
 
 /// Takes a part of the digits out, and asserts how they begin then, and how many there are.
@@ -150,16 +150,13 @@ fn assert_digits(
     len: usize,
 ) {
     let (start, end) = part;
-    assert_true(rt, text.is_char_boundary(start));
-    assert_true(rt, text.is_char_boundary(end));
-    assert_true(rt, start <= end);
-    assert_true(rt, text.cut_out_in_place(start, end));
-    assert_true(rt, text.as_str().starts_with(front));
-    assert_true(
-        rt,
-        digits().ends_with(text.as_str().get(1..).unwrap_or("-")),
-    );
-    assert_equal(rt, text.len(), len);
+    that(text.is_char_boundary(start)).expect(rt, "it holds");
+    that(text.is_char_boundary(end)).expect(rt, "it holds");
+    that(start <= end).expect(rt, "it holds");
+    that(text.cut_out_in_place(start, end)).expect(rt, "it holds");
+    that(text.as_str().starts_with(front)).expect(rt, "it holds");
+    that(digits().ends_with(text.as_str().get(1..).unwrap_or("-"))).expect(rt, "it holds");
+    equal(text.len(), len).expect(rt, "equal");
 }
 
 /// The tail is longer than two blocks of 64 bytes, and its old and new places overlap.
@@ -181,17 +178,17 @@ fn long_tail(rt: HostRuntime) {
 fn of_the_program(rt: HostRuntime) {
     let mut text = borrowed(rt.alloc(), "äb𝄞 and so on, past the inline capacity");
     assert_chars(&rt, &text, &[(0, 'ä'), (3, '𝄞'), (16, 'n')]);
-    assert_true(&rt, text.is_char_boundary(3));
-    assert_equal(
-        &rt,
+    that(text.is_char_boundary(3)).expect(&rt, "it holds");
+    equal(
         text.static_suffix(3),
         Some("𝄞 and so on, past the inline capacity"),
-    );
-    assert_equal(&rt, text.last_char(), Some('y'));
+    )
+    .expect(&rt, "equal");
+    equal(text.last_char(), Some('y')).expect(&rt, "equal");
     assert_truncated(&rt, &mut text, &[(7, "äb𝄞")]);
-    assert_equal(&rt, text.capacity(), 7);
-    assert_true(&rt, text.is_char_boundary(0));
-    assert_equal(&rt, text.static_suffix(0), Some("äb𝄞"));
+    equal(text.capacity(), 7).expect(&rt, "equal");
+    that(text.is_char_boundary(0)).expect(&rt, "it holds");
+    equal(text.static_suffix(0), Some("äb𝄞")).expect(&rt, "equal");
 }
 
 #[test]
@@ -238,7 +235,7 @@ fn one_character_on_the_heap(rt: HostRuntime) {
             (0, true, "äb𝄞0123456789012345678901"),
         ],
     );
-    assert_equal(&rt, text.capacity(), 32);
+    equal(text.capacity(), 32).expect(&rt, "equal");
 }
 
 /// A text of the program, of 36 bytes.
@@ -257,10 +254,10 @@ fn nothing_in_place_of_the_program(rt: HostRuntime) {
         &mut text,
         &[(0, 7, false, line()), (3, 3, false, line())],
     );
-    assert_true(&rt, !text.push_in_place(""));
-    assert_true(&rt, text.is_char_boundary(2));
-    assert_true(&rt, !text.replace_in_place(2, 2, ""));
-    assert_equal(&rt, text.as_static_str(), Some(line()));
+    that(!text.push_in_place("")).expect(&rt, "it holds");
+    that(text.is_char_boundary(2)).expect(&rt, "it holds");
+    that(!text.replace_in_place(2, 2, "")).expect(&rt, "it holds");
+    equal(text.as_static_str(), Some(line())).expect(&rt, "equal");
 }
 
 /// A part is taken out in each place that is the value's own.
@@ -282,7 +279,7 @@ fn a_part_is_cut_out(rt: HostRuntime) {
             (10, 25, true, "ä23456789"),
         ],
     );
-    assert_equal(&rt, text.capacity(), 32);
+    equal(text.capacity(), 32).expect(&rt, "equal");
 }
 
 /// A large room is filled byte by byte, up to its last one.
@@ -290,21 +287,18 @@ fn a_part_is_cut_out(rt: HostRuntime) {
 fn a_room_is_filled(rt: HostRuntime) {
     let mut text = empty(&rt, rt.alloc(), 1000);
     for _pushed in 0..500 {
-        assert_true(&rt, text.push_in_place("ab"));
+        that(text.push_in_place("ab")).expect(&rt, "it holds");
     }
-    assert_true(&rt, !text.push_in_place("c"));
-    assert_equal(&rt, text.len(), 1000);
-    assert_equal(&rt, text.capacity(), 1000);
-    assert_true(
-        &rt,
-        text.as_str().chars().step_by(2).all(|letter| letter == 'a'),
-    );
-    assert_true(
-        &rt,
+    that(!text.push_in_place("c")).expect(&rt, "it holds");
+    equal(text.len(), 1000).expect(&rt, "equal");
+    equal(text.capacity(), 1000).expect(&rt, "equal");
+    that(text.as_str().chars().step_by(2).all(|letter| letter == 'a')).expect(&rt, "it holds");
+    that(
         text.as_str()
             .chars()
             .skip(1)
             .step_by(2)
             .all(|letter| letter == 'b'),
-    );
+    )
+    .expect(&rt, "it holds");
 }

@@ -2,7 +2,7 @@
 //! bytes. Behind the text stand zeros, and last, where the text leaves it free, 192 and the length.
 
 use crate::values::copied;
-use compact_asserts::{assert_equal, assert_true, assert_true_for};
+use compact_asserts::{equal, that, that_for};
 use compact_repr::{Repr, Standard};
 use std::alloc::Global;
 use std::ops::Range;
@@ -13,16 +13,16 @@ const TEXTS: [&str; 3] = ["abcdefghijklmnopqrstuvwx", "äöüßäöüßäöüß"
 
 /// The row is the text, then zeros, and the mark of its length.
 fn begins(rt: &impl Abort, alloc: Global, text: &str) {
-    assert_true(rt, text.len() <= 24);
+    that(text.len() <= 24).expect(rt, "it holds");
     let mark = (192 + text.len()) as u8;
     let made = copied(rt, alloc, text);
     let row = made.packed().expect(rt, "an inline text");
     for (place, byte) in row.iter().enumerate() {
         let behind = if place == 23 { mark } else { 0 };
         let wanted = text.as_bytes().get(place).copied().unwrap_or(behind);
-        assert_true_for(rt, place, *byte == wanted);
+        that_for(place, *byte == wanted).expect(rt, "it holds");
     }
-    assert_equal(rt, made.as_str(), text);
+    equal(made.as_str(), text).expect(rt, "equal");
 }
 
 /// The same of each beginning whose length is in the range.
@@ -42,13 +42,13 @@ fn each_begins(rt: &impl Abort, alloc: Global, lens: Range<usize>) -> usize {
 /// Of the letters there are 9 beginnings, of the others 5 and 4.
 #[test]
 fn rows_of_one_word(rt: HostRuntime) {
-    assert_equal(&rt, each_begins(&rt, rt.alloc(), 0..9), 18);
+    equal(each_begins(&rt, rt.alloc(), 0..9), 18).expect(&rt, "equal");
 }
 
 /// Of the letters there are 16 beginnings, of the others 8 each.
 #[test]
 fn rows_of_more_words(rt: HostRuntime) {
-    assert_equal(&rt, each_begins(&rt, rt.alloc(), 9..25), 32);
+    equal(each_begins(&rt, rt.alloc(), 9..25), 32).expect(&rt, "equal");
 }
 
 /// The last byte of the row is the text's own.
@@ -63,18 +63,18 @@ fn a_byte_is_put_in(rt: HostRuntime) {
         (23, b"abcdefghijklmnopqrstuvw-"),
     ] {
         let mut text = copied(&rt, rt.alloc(), "abcdefghijklmnopqrstuvw");
-        assert_true(&rt, text.is_char_boundary(at));
-        assert_true(&rt, text.insert_ascii_in_place(at, b'-'));
-        assert_true_for(&rt, at, text.packed() == Some(*row));
+        that(text.is_char_boundary(at)).expect(&rt, "it holds");
+        that(text.insert_ascii_in_place(at, b'-')).expect(&rt, "it holds");
+        that_for(at, text.packed() == Some(*row)).expect(&rt, "it holds");
     }
 }
 
 /// Takes the byte at a place out.
 fn remove(rt: &impl Abort, text: &mut Repr<Standard>, at: usize) {
-    assert_true(rt, at < 24);
-    assert_true(rt, text.is_char_boundary(at));
-    assert_true(rt, text.is_char_boundary(at + 1));
-    assert_true(rt, text.remove_ascii_in_place(at));
+    that(at < 24).expect(rt, "it holds");
+    that(text.is_char_boundary(at)).expect(rt, "it holds");
+    that(text.is_char_boundary(at + 1)).expect(rt, "it holds");
+    that(text.remove_ascii_in_place(at)).expect(rt, "it holds");
 }
 
 /// A second byte is taken out, so that a mark is seen in the place of another. What stands before it, behind the text, is open.
@@ -102,11 +102,11 @@ fn a_byte_is_taken_out(rt: HostRuntime) {
     ] {
         let mut text = copied(&rt, rt.alloc(), "abcdefghijklmnopqrstuvwx");
         remove(&rt, &mut text, at);
-        assert_true_for(&rt, at, text.packed() == Some(*first));
+        that_for(at, text.packed() == Some(*first)).expect(&rt, "it holds");
         remove(&rt, &mut text, 0);
         let row = text.packed().expect(&rt, "an inline text");
-        assert_true_for(&rt, at, &row[..22] == second.as_slice());
-        assert_true_for(&rt, at, row[23] == 0xD6);
-        assert_true_for(&rt, at, text.as_str().as_bytes() == second.as_slice());
+        that_for(at, &row[..22] == second.as_slice()).expect(&rt, "it holds");
+        that_for(at, row[23] == 0xD6).expect(&rt, "it holds");
+        that_for(at, text.as_str().as_bytes() == second.as_slice()).expect(&rt, "it holds");
     }
 }

@@ -1,7 +1,7 @@
 //! A value that grows and gives room back, where a mistake is to be found with no table. What each edit leaves is told by the
 //! table of `compact_table_tests`.
 
-use compact_asserts::assert_true;
+use compact_asserts::that;
 use compact_str::CompactString;
 use compact_testing::seen::{is_heap, is_inline};
 use compact_testing::values::{append, letters, short, with_room};
@@ -11,7 +11,7 @@ use std::alloc::Global;
 fn an_append_grows_the_buffer_by_half(rt: HostRuntime) {
     let mut value = short(rt.alloc(), letters(24));
     append(&mut value, "a").expect(&rt, "memory");
-    assert_true(&rt, is_heap(&value, 36, letters(25)));
+    that(is_heap(&value, 36, letters(25))).expect(&rt, "it holds");
 }
 
 #[test]
@@ -19,9 +19,9 @@ fn room_is_given_back(rt: HostRuntime) {
     let mut value = with_room(rt.alloc(), 100).expect(&rt, "memory");
     append(&mut value, letters(40)).expect(&rt, "memory");
     value.shrink_to(50);
-    assert_true(&rt, is_heap(&value, 50, letters(40)));
+    that(is_heap(&value, 50, letters(40))).expect(&rt, "it holds");
     value.shrink_to_fit();
-    assert_true(&rt, is_heap(&value, 40, letters(40)));
+    that(is_heap(&value, 40, letters(40))).expect(&rt, "it holds");
 }
 
 /// Whether an empty value with this capacity is made.
@@ -32,11 +32,11 @@ fn has_room(alloc: Global, capacity: usize) -> bool {
 #[test]
 fn what_goes_past_the_limit_is_refused_with_ample_memory(rt: HostRuntime) {
     let alloc = rt.alloc();
-    assert_true(&rt, has_room(alloc, 100));
-    assert_true(&rt, !has_room(alloc, 72_057_594_037_927_935));
-    assert_true(&rt, !has_room(alloc, usize::MAX));
+    that(has_room(alloc, 100)).expect(&rt, "it holds");
+    that(!has_room(alloc, 72_057_594_037_927_935)).expect(&rt, "it holds");
+    that(!has_room(alloc, usize::MAX)).expect(&rt, "it holds");
     let mut value = short(alloc, "ab");
-    assert_true(&rt, value.try_reserve(usize::MAX).is_err());
-    assert_true(&rt, is_inline(&value, "ab"));
-    assert_true(&rt, value.repeat(36_028_797_018_963_968).is_err());
+    that(value.try_reserve(usize::MAX).is_err()).expect(&rt, "it holds");
+    that(is_inline(&value, "ab")).expect(&rt, "it holds");
+    that(value.repeat(36_028_797_018_963_968).is_err()).expect(&rt, "it holds");
 }

@@ -1,6 +1,6 @@
 //! What is collected, joined and extended, with values worked out by hand from the rules.
 
-use compact_asserts::{assert_equal, assert_true};
+use compact_asserts::{equal, that};
 use compact_str::{AsText, CompactString, CompactStringExt, append_all};
 use compact_testing::seen::is_inline;
 use compact_testing::values::lasting;
@@ -32,14 +32,14 @@ fn items_are_joined_and_concatenated(rt: HostRuntime) {
         (["a", ""].as_slice(), "-", "a-"),
         (["", "", "b"].as_slice(), "-", "--b"),
     ] {
-        assert_true(&rt, is_inline(&joined(&rt, alloc, texts, separator), text));
+        that(is_inline(&joined(&rt, alloc, texts, separator), text)).expect(&rt, "it holds");
     }
     let parts = ["hello", " ", "world", "!"];
     let value = parts
         .into_iter()
         .concat_compact(alloc)
         .expect(&rt, "memory");
-    assert_true(&rt, is_inline(&value, "hello world!"));
+    that(is_inline(&value, "hello world!")).expect(&rt, "it holds");
 }
 
 /// The five kinds of text, each collected alone.
@@ -64,8 +64,8 @@ fn each_kind(rt: &impl Abort, alloc: Global) -> CompactString {
 #[test]
 fn the_five_kinds_of_text_are_items(rt: HostRuntime) {
     let value = each_kind(&rt, rt.alloc());
-    assert_true(&rt, is_inline(&value, "abcde"));
-    assert_equal(&rt, (&value).text(), "abcde");
+    that(is_inline(&value, "abcde")).expect(&rt, "it holds");
+    equal((&value).text(), "abcde").expect(&rt, "equal");
 }
 
 #[test]
@@ -74,9 +74,9 @@ fn texts_by_value_are_items_of_the_traits(rt: HostRuntime) {
         .into_iter()
         .collect(rt.alloc())
         .expect(&rt, "memory");
-    assert_true(&rt, is_inline(&value, "abc"));
+    that(is_inline(&value, "abc")).expect(&rt, "it holds");
     value.extend(["äb€", "x"]).expect(&rt, "memory");
-    assert_true(&rt, is_inline(&value, "abcäb€x"));
+    that(is_inline(&value, "abcäb€x")).expect(&rt, "it holds");
 }
 
 #[test]
@@ -85,7 +85,7 @@ fn values_are_put_behind_a_string(rt: HostRuntime) {
     let mut line = String::from_str(alloc, "a").expect(&rt, "memory");
     let values = [CompactString::const_new(alloc, "b"), lasting(alloc, 30)];
     append_all(&mut line, values).expect(&rt, "memory");
-    assert_equal(&rt, line.as_str(), "abaaaaaaaaaaaaaaaaaaaaaaaaaaaaaa");
+    equal(line.as_str(), "abaaaaaaaaaaaaaaaaaaaaaaaaaaaaaa").expect(&rt, "equal");
 }
 
 #[test]
@@ -94,11 +94,11 @@ fn a_string_is_extended_by_values_and_collected_of_them(rt: HostRuntime) {
     let mut line = String::from_str(alloc, "a").expect(&rt, "memory");
     let values = [CompactString::const_new(alloc, "é"), lasting(alloc, 30)];
     line.extend(values).expect(&rt, "memory");
-    assert_equal(&rt, line.as_str(), "aéaaaaaaaaaaaaaaaaaaaaaaaaaaaaaa");
+    equal(line.as_str(), "aéaaaaaaaaaaaaaaaaaaaaaaaaaaaaaa").expect(&rt, "equal");
     let values = [
         CompactString::const_new(alloc, "b"),
         CompactString::const_new(alloc, ""),
     ];
     let whole: String = values.into_iter().collect(alloc).expect(&rt, "memory");
-    assert_equal(&rt, whole.as_str(), "b");
+    equal(whole.as_str(), "b").expect(&rt, "equal");
 }

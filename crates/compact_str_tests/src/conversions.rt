@@ -1,6 +1,6 @@
 //! Values as they are handed on, with ample memory.
 
-use compact_asserts::{assert_equal, assert_true};
+use compact_asserts::{equal, that};
 use compact_str::{CompactString, FromJsonError};
 use compact_testing::seen::{is_heap, is_inline};
 use compact_testing::values::{lasting, letters, short, string_with_room, with_room};
@@ -15,7 +15,7 @@ fn shortened(rt: &impl Abort, alloc: Global) -> CompactString {
     value
         .push_str("äbcdefghijklmnopqrstuvwxyz0123456789")
         .expect(rt, "memory");
-    assert_true(rt, value.is_char_boundary(3));
+    that(value.is_char_boundary(3)).expect(rt, "it holds");
     value.truncate(3);
     value
 }
@@ -26,33 +26,33 @@ fn what_leaves_has_this_room(rt: HostRuntime) {
     let text = string_with_room(alloc, 90, letters(30)).expect(&rt, "memory");
     let value = CompactString::from_string_buffer(text);
     let text = value.into_string().expect(&rt, "memory");
-    assert_equal(&rt, text.capacity(), 90);
+    equal(text.capacity(), 90).expect(&rt, "equal");
     let value = CompactString::from_string_buffer(text);
-    assert_true(&rt, is_heap(&value, 90, letters(30)));
+    that(is_heap(&value, 90, letters(30))).expect(&rt, "it holds");
     let bytes = value.into_vec().expect(&rt, "memory");
-    assert_equal(&rt, bytes.capacity(), 90);
+    equal(bytes.capacity(), 90).expect(&rt, "equal");
     let bytes = short(alloc, "äb").into_bytes().expect(&rt, "memory");
-    assert_equal(&rt, bytes.as_slice(), [0xc3, 0xa4, 0x62].as_slice());
-    assert_equal(&rt, bytes.capacity(), 24);
+    equal(bytes.as_slice(), [0xc3, 0xa4, 0x62].as_slice()).expect(&rt, "equal");
+    equal(bytes.capacity(), 24).expect(&rt, "equal");
 }
 
 #[test]
 fn boxes_and_shared_texts_have_the_text(rt: HostRuntime) {
     let alloc = rt.alloc();
     let boxed = short(alloc, "äb").into_boxed_str().expect(&rt, "memory");
-    assert_equal(&rt, boxed.as_str(), "äb");
+    equal(boxed.as_str(), "äb").expect(&rt, "equal");
     let boxed = shortened(&rt, alloc).into_boxed_str().expect(&rt, "memory");
-    assert_equal(&rt, boxed.as_str(), "äb");
+    equal(boxed.as_str(), "äb").expect(&rt, "equal");
     let shared = shortened(&rt, alloc).into_rc().expect(&rt, "memory");
-    assert_equal(&rt, shared.as_str(), "äb");
+    equal(shared.as_str(), "äb").expect(&rt, "equal");
     let shared = lasting(alloc, 30).into_rc().expect(&rt, "memory");
-    assert_equal(&rt, shared.as_str(), letters(30));
+    equal(shared.as_str(), letters(30)).expect(&rt, "equal");
 }
 
 /// Asserts that a text is borrowed, or that it is owned.
 fn is_lent(rt: &impl Abort, cow: CowStr<'_>, text: &str, is_borrowed: bool) {
-    assert_true(rt, matches!(cow, CowStr::Borrowed(_)) == is_borrowed);
-    assert_equal(rt, cow.as_str(), text);
+    that(matches!(cow, CowStr::Borrowed(_)) == is_borrowed).expect(rt, "it holds");
+    equal(cow.as_str(), text).expect(rt, "equal");
 }
 
 #[test]
@@ -74,11 +74,7 @@ fn json_of(rt: &impl Abort, value: &CompactString) -> Value {
 
 /// Asserts how a JSON value is printed.
 fn is_printed(rt: &impl Abort, alloc: Global, json: &Value, text: &str) {
-    assert_equal(
-        rt,
-        json.to_string(alloc).expect(rt, "memory").as_str(),
-        text,
-    );
+    equal(json.to_string(alloc).expect(rt, "memory").as_str(), text).expect(rt, "equal");
 }
 
 /// The value of a JSON string.
@@ -94,21 +90,21 @@ fn a_value_is_a_json_string(rt: HostRuntime) {
     let json = json_of(&rt, &short(alloc, "ä\"\n"));
     is_printed(&rt, alloc, &json, "\"ä\\\"\\n\"");
     let json = json_of(&rt, &lasting(alloc, 30));
-    assert_true(&rt, is_heap(&value_in(&rt, alloc, &json), 32, letters(30)));
+    that(is_heap(&value_in(&rt, alloc, &json), 32, letters(30))).expect(&rt, "it holds");
 }
 
 /// Asserts that a JSON value is no string.
 fn is_no_string(rt: &impl Abort, alloc: Global, made: Result<Value, AllocError>) {
     let json = made.expect(rt, "memory");
     let read: Result<CompactString, FromJsonError> = CompactString::from_json(alloc, &json);
-    assert_true(rt, matches!(read, Err(FromJsonError::NotAString)));
+    that(matches!(read, Err(FromJsonError::NotAString))).expect(rt, "it holds");
 }
 
 #[test]
 fn only_a_json_string_is_taken(rt: HostRuntime) {
     let alloc = rt.alloc();
     let json = json!(in alloc; "abc").expect(&rt, "memory");
-    assert_true(&rt, is_inline(&value_in(&rt, alloc, &json), "abc"));
+    that(is_inline(&value_in(&rt, alloc, &json), "abc")).expect(&rt, "it holds");
     is_no_string(&rt, alloc, json!(in alloc; 1));
     is_no_string(&rt, alloc, json!(in alloc; null));
     is_no_string(&rt, alloc, json!(in alloc; true));

@@ -1,6 +1,6 @@
 //! That a test can take all memory, and give it back.
 
-use compact_asserts::assert_true;
+use compact_asserts::that;
 use compact_testing::memory::take_all;
 use std::alloc::{AllocError, Global};
 
@@ -14,8 +14,8 @@ fn has_memory(alloc: Global) -> bool {
 fn each_request_is_refused_until_the_hog_is_dropped(rt: HostRuntime) {
     let alloc = rt.alloc();
     let hog = take_all(alloc).expect(&rt, "room for the list of blocks");
-    assert_true(&rt, hog.block_count() > 0);
-    assert_true(&rt, !has_memory(alloc));
+    that(hog.block_count() > 0).expect(&rt, "it holds");
+    that(!has_memory(alloc)).expect(&rt, "it holds");
     drop(hog);
-    assert_true(&rt, has_memory(alloc));
+    that(has_memory(alloc)).expect(&rt, "it holds");
 }

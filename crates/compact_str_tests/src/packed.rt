@@ -1,6 +1,6 @@
 //! Inline values as their 24 bytes, by rows that are written out.
 
-use compact_asserts::{assert_equal, assert_true};
+use compact_asserts::{equal, that};
 use compact_str::CompactString;
 use compact_testing::seen::is_inline;
 use compact_testing::values::{append, lasting, letters, value_of, with_room};
@@ -9,7 +9,7 @@ use std::process::Abort;
 
 /// Keeps the first bytes, up to a position that is tested first.
 fn truncate(rt: &impl Abort, value: &mut CompactString, len: usize) {
-    assert_true(rt, len >= value.len() || value.is_char_boundary(len));
+    that(len >= value.len() || value.is_char_boundary(len)).expect(rt, "it holds");
     value.truncate(len);
 }
 
@@ -28,10 +28,10 @@ fn is_packed(rt: &impl Abort, alloc: Global, value: &CompactString) {
     let bytes = bytes_of(rt, value);
     let text = value.as_str();
     let len = text.len();
-    assert_true(rt, len <= 24);
-    assert_equal(rt, &bytes[..len], text.as_bytes());
-    assert_true(rt, len == 24 || bytes[23] as usize == 192 + len);
-    assert_true(rt, is_inline(&read(rt, alloc, &bytes), text));
+    that(len <= 24).expect(rt, "it holds");
+    equal(&bytes[..len], text.as_bytes()).expect(rt, "equal");
+    that(len == 24 || bytes[23] as usize == 192 + len).expect(rt, "it holds");
+    that(is_inline(&read(rt, alloc, &bytes), text)).expect(rt, "it holds");
 }
 
 /// The same of a value that is made of the text at once, where zeros stand between the text and its length.
@@ -41,11 +41,8 @@ fn is_packed_anew(rt: &impl Abort, alloc: Global, value: &CompactString) {
     is_packed(rt, alloc, &made);
     let bytes = bytes_of(rt, &made);
     let len = made.len();
-    assert_true(rt, len <= 24);
-    assert_true(
-        rt,
-        len == 24 || bytes[len..23].iter().all(|byte| *byte == 0),
-    );
+    that(len <= 24).expect(rt, "it holds");
+    that(len == 24 || bytes[len..23].iter().all(|byte| *byte == 0)).expect(rt, "it holds");
 }
 
 #[test]
@@ -53,7 +50,7 @@ fn rows_of_made_values(rt: HostRuntime) {
     let alloc = rt.alloc();
     let mut row = [0; 24];
     row[23] = 0xC0;
-    assert_equal(&rt, bytes_of(&rt, &CompactString::default(alloc)), row);
+    equal(bytes_of(&rt, &CompactString::default(alloc)), row).expect(&rt, "equal");
     for (text, row) in [
         ("", b"\0\0\0\0\0\0\0\0\0\0\0\0\0\0\0\0\0\0\0\0\0\0\0\xC0"),
         ("hello world", b"hello world\0\0\0\0\0\0\0\0\0\0\0\0\xCB"),
@@ -61,11 +58,11 @@ fn rows_of_made_values(rt: HostRuntime) {
         (letters(23), b"aaaaaaaaaaaaaaaaaaaaaaa\xD7"),
         ("i am 24 characters long!", b"i am 24 characters long!"),
     ] {
-        assert_equal(
-            &rt,
+        equal(
             &bytes_of(&rt, &value_of(alloc, text).expect(&rt, "memory")),
             row,
-        );
+        )
+        .expect(&rt, "equal");
     }
 }
 
@@ -73,47 +70,43 @@ fn rows_of_made_values(rt: HostRuntime) {
 fn the_last_byte_of_24_is_of_the_text_or_its_length(rt: HostRuntime) {
     let alloc = rt.alloc();
     let euros = bytes_of(&rt, &value_of(alloc, "€€€€€€€€").expect(&rt, "memory"));
-    assert_equal(&rt, euros[23], 0xAC);
+    equal(euros[23], 0xAC).expect(&rt, "equal");
     let mut cut = value_of(alloc, letters(24)).expect(&rt, "memory");
     truncate(&rt, &mut cut, 3);
-    assert_equal(&rt, bytes_of(&rt, &cut)[23], 0xC3);
+    equal(bytes_of(&rt, &cut)[23], 0xC3).expect(&rt, "equal");
     is_packed(&rt, alloc, &cut);
 }
 
 #[test]
 fn only_inline_values_have_the_bytes(rt: HostRuntime) {
     let alloc = rt.alloc();
-    assert_equal(&rt, lasting(alloc, 25).packed(), None);
-    assert_equal(
-        &rt,
+    equal(lasting(alloc, 25).packed(), None).expect(&rt, "equal");
+    equal(
         value_of(alloc, letters(25)).expect(&rt, "memory").packed(),
         None,
-    );
-    assert_equal(
-        &rt,
-        with_room(alloc, 25).expect(&rt, "memory").packed(),
-        None,
-    );
-    assert_true(&rt, lasting(alloc, 24).packed().is_some());
-    assert_true(
-        &rt,
+    )
+    .expect(&rt, "equal");
+    equal(with_room(alloc, 25).expect(&rt, "memory").packed(), None).expect(&rt, "equal");
+    that(lasting(alloc, 24).packed().is_some()).expect(&rt, "it holds");
+    that(
         value_of(alloc, letters(24))
             .expect(&rt, "memory")
             .packed()
             .is_some(),
-    );
+    )
+    .expect(&rt, "it holds");
 }
 
 #[test]
 fn bytes_that_stand_for_a_text_are_read(rt: HostRuntime) {
     let alloc = rt.alloc();
-    assert_true(&rt, is_inline(&read(&rt, alloc, &[0x61; 24]), letters(24)));
+    that(is_inline(&read(&rt, alloc, &[0x61; 24]), letters(24))).expect(&rt, "it holds");
     let mut row = [0xFF; 24];
     row[0] = 0x61;
     row[23] = 0xC1;
-    assert_true(&rt, is_inline(&read(&rt, alloc, &row), "a"));
+    that(is_inline(&read(&rt, alloc, &row), "a")).expect(&rt, "it holds");
     row[23] = 0xC0;
-    assert_true(&rt, is_inline(&read(&rt, alloc, &row), ""));
+    that(is_inline(&read(&rt, alloc, &row), "")).expect(&rt, "it holds");
 }
 
 #[test]
@@ -123,12 +116,9 @@ fn bytes_that_stand_for_no_text_are_refused(rt: HostRuntime) {
         let mut row = [0; 24];
         row[0] = first;
         row[23] = last;
-        assert_true(&rt, CompactString::from_packed(alloc, &row).is_none());
+        that(CompactString::from_packed(alloc, &row).is_none()).expect(&rt, "it holds");
     }
-    assert_true(
-        &rt,
-        CompactString::from_packed(alloc, &[0x80; 24]).is_none(),
-    );
+    that(CompactString::from_packed(alloc, &[0x80; 24]).is_none()).expect(&rt, "it holds");
 }
 
 #[test]
@@ -146,7 +136,7 @@ fn each_length_is_packed(rt: HostRuntime) {
             .expect(&rt, "memory");
         is_packed_anew(&rt, alloc, &value);
     }
-    assert_true(&rt, is_inline(&value, "abcdefghijklmnopqrstuvwx"));
+    that(is_inline(&value, "abcdefghijklmnopqrstuvwx")).expect(&rt, "it holds");
 }
 
 #[test]
@@ -154,10 +144,10 @@ fn each_length_is_cut(rt: HostRuntime) {
     let alloc = rt.alloc();
     let mut value = value_of(alloc, "abcdefghijklmnopqrstuvwx").expect(&rt, "memory");
     for _ in 0..24u8 {
-        assert_true(&rt, value.pop().is_some());
+        that(value.pop().is_some()).expect(&rt, "it holds");
         is_packed_anew(&rt, alloc, &value);
     }
-    assert_true(&rt, is_inline(&value, ""));
+    that(is_inline(&value, "")).expect(&rt, "it holds");
 }
 
 #[test]
@@ -170,7 +160,7 @@ fn what_stands_behind_a_text_is_not_read(rt: HostRuntime) {
             row[place] = 0x61;
         }
         let value = read(&rt, alloc, &row);
-        assert_true(&rt, is_inline(&value, letters(count as usize)));
+        that(is_inline(&value, letters(count as usize))).expect(&rt, "it holds");
         is_packed_anew(&rt, alloc, &value);
     }
 }
@@ -178,9 +168,9 @@ fn what_stands_behind_a_text_is_not_read(rt: HostRuntime) {
 /// Wipes a value, and asserts that its bytes are those of the empty text.
 fn is_wiped(rt: &impl Abort, alloc: Global, mut value: CompactString) {
     value.zeroize();
-    assert_true(rt, is_inline(&value, ""));
+    that(is_inline(&value, "")).expect(rt, "it holds");
     let row = b"\0\0\0\0\0\0\0\0\0\0\0\0\0\0\0\0\0\0\0\0\0\0\0\xC0";
-    assert_equal(rt, &bytes_of(rt, &value), row);
+    equal(&bytes_of(rt, &value), row).expect(rt, "equal");
     append(&mut value, "ab").expect(rt, "memory");
     is_packed(rt, alloc, &value);
 }

@@ -1,7 +1,7 @@
 //! Positions that a value has, and texts of the program that are split at one. Edits at positions are lines of the table of
 //! `compact_table_tests`.
 
-use compact_asserts::{assert_equal, assert_true, assert_true_for};
+use compact_asserts::{equal, that, that_for};
 use compact_str::CompactString;
 use compact_testing::seen::{is_inline, is_static};
 use compact_testing::values::{lasting, letters, short};
@@ -10,7 +10,7 @@ use std::process::Abort;
 
 /// Splits at a position that is tested first.
 fn split(rt: &impl Abort, value: &mut CompactString, index: usize) -> CompactString {
-    assert_true(rt, value.is_char_boundary(index));
+    that(value.is_char_boundary(index)).expect(rt, "it holds");
     value.split_off(index).expect(rt, "memory")
 }
 
@@ -18,14 +18,14 @@ fn split(rt: &impl Abort, value: &mut CompactString, index: usize) -> CompactStr
 fn texts_of_the_program_are_split(rt: HostRuntime) {
     let alloc = rt.alloc();
     let mut value = CompactString::const_new(alloc, "Hello, world!");
-    assert_true(&rt, is_inline(&split(&rt, &mut value, 5), ", world!"));
-    assert_true(&rt, is_inline(&value, "Hello"));
+    that(is_inline(&split(&rt, &mut value, 5), ", world!")).expect(&rt, "it holds");
+    that(is_inline(&value, "Hello")).expect(&rt, "it holds");
     let mut value = lasting(alloc, 30);
-    assert_true(&rt, is_static(&split(&rt, &mut value, 3), letters(27)));
-    assert_true(&rt, is_static(&value, letters(3)));
+    that(is_static(&split(&rt, &mut value, 3), letters(27))).expect(&rt, "it holds");
+    that(is_static(&value, letters(3))).expect(&rt, "it holds");
     let mut value = lasting(alloc, 30);
-    assert_true(&rt, is_inline(&split(&rt, &mut value, 6), letters(24)));
-    assert_true(&rt, is_static(&value, letters(6)));
+    that(is_inline(&split(&rt, &mut value, 6), letters(24))).expect(&rt, "it holds");
+    that(is_static(&value, letters(6))).expect(&rt, "it holds");
 }
 
 #[test]
@@ -42,7 +42,7 @@ fn boundaries_are_where_characters_begin_and_end(rt: HostRuntime) {
         (7, true),
         (8, false),
     ] {
-        assert_true_for(&rt, index, value.is_char_boundary(index) == boundary);
+        that_for(index, value.is_char_boundary(index) == boundary).expect(&rt, "it holds");
     }
 }
 
@@ -60,6 +60,6 @@ fn bounds_make_a_range_or_none(rt: HostRuntime) {
         (Unbounded, Included(usize::MAX), None),
         (Excluded(usize::MAX), Unbounded, None),
     ] {
-        assert_equal(&rt, value.check_range(start, end), range);
+        equal(value.check_range(start, end), range).expect(&rt, "equal");
     }
 }

@@ -1,6 +1,6 @@
 //! What is taken out of a text, and what of it is changed.
 
-use compact_asserts::{assert_equal, assert_true};
+use compact_asserts::{equal, that};
 use compact_str::{CompactString, Drain, Standard};
 use compact_testing::memory::take_all;
 use compact_testing::seen::{is_inline, is_static};
@@ -17,7 +17,7 @@ fn drain<'a>(
     start: Bound<usize>,
     end: Bound<usize>,
 ) -> Drain<'a, Standard> {
-    assert_true(rt, value.check_range(start, end).is_some());
+    that(value.check_range(start, end).is_some()).expect(rt, "it holds");
     value.drain(start, end).expect(rt, "memory")
 }
 
@@ -30,19 +30,19 @@ fn greeted<'a>(rt: &impl Abort, value: &'a mut CompactString) -> Drain<'a, Stand
 fn a_drain_gives_its_characters_from_both_ends(rt: HostRuntime) {
     let mut value = short(rt.alloc(), "Hello, world!");
     let mut drained = greeted(&rt, &mut value);
-    assert_true(&rt, drained.size_hint() == (2, Some(7)));
-    assert_equal(&rt, drained.next(), Some(','));
-    assert_equal(&rt, drained.next_back(), Some('d'));
-    assert_equal(&rt, drained.as_str(), " worl");
+    that(drained.size_hint() == (2, Some(7))).expect(&rt, "it holds");
+    equal(drained.next(), Some(',')).expect(&rt, "equal");
+    equal(drained.next_back(), Some('d')).expect(&rt, "equal");
+    equal(drained.as_str(), " worl").expect(&rt, "equal");
     drop(drained);
-    assert_true(&rt, is_inline(&value, "Hello!"));
+    that(is_inline(&value, "Hello!")).expect(&rt, "it holds");
 }
 
 #[test]
 fn a_drain_is_counted(rt: HostRuntime) {
     let mut value = short(rt.alloc(), "Hello, world!");
-    assert_equal(&rt, greeted(&rt, &mut value).as_str().chars().count(), 7);
-    assert_true(&rt, is_inline(&value, "Hello!"));
+    equal(greeted(&rt, &mut value).as_str().chars().count(), 7).expect(&rt, "equal");
+    that(is_inline(&value, "Hello!")).expect(&rt, "it holds");
 }
 
 /// How many characters are drained. That a number holds it, the length of what is left tells the proof.
@@ -56,32 +56,32 @@ fn drained_count(rt: &impl Abort, value: &mut CompactString) -> usize {
 #[test]
 fn a_drain_counts_what_is_left(rt: HostRuntime) {
     let mut value = short(rt.alloc(), "Hello, world!");
-    assert_equal(&rt, drained_count(&rt, &mut value), 7);
-    assert_true(&rt, is_inline(&value, "Hello!"));
+    equal(drained_count(&rt, &mut value), 7).expect(&rt, "equal");
+    that(is_inline(&value, "Hello!")).expect(&rt, "it holds");
 }
 
 #[test]
 fn a_drain_shows_what_is_not_taken_yet(rt: HostRuntime) {
     let mut value = short(rt.alloc(), "Hello, world!");
     let mut drained = greeted(&rt, &mut value);
-    assert_equal(&rt, drained.next(), Some(','));
-    assert_equal(&rt, drained.as_str(), " world");
+    equal(drained.next(), Some(',')).expect(&rt, "equal");
+    equal(drained.as_str(), " world").expect(&rt, "equal");
     drop(drained);
-    assert_true(&rt, is_inline(&value, "Hello!"));
+    that(is_inline(&value, "Hello!")).expect(&rt, "it holds");
 }
 
 #[test]
 fn the_last_of_a_drain_is_its_last(rt: HostRuntime) {
     let mut value = short(rt.alloc(), "Hello, world!");
-    assert_equal(&rt, greeted(&rt, &mut value).last(), Some('d'));
-    assert_true(&rt, is_inline(&value, "Hello!"));
+    equal(greeted(&rt, &mut value).last(), Some('d')).expect(&rt, "equal");
+    that(is_inline(&value, "Hello!")).expect(&rt, "it holds");
 }
 
 #[test]
 fn the_last_of_a_drain_from_the_back_is_its_first(rt: HostRuntime) {
     let mut value = short(rt.alloc(), "Hello, world!");
-    assert_equal(&rt, greeted(&rt, &mut value).rev().last(), Some(','));
-    assert_true(&rt, is_inline(&value, "Hello!"));
+    equal(greeted(&rt, &mut value).rev().last(), Some(',')).expect(&rt, "equal");
+    that(is_inline(&value, "Hello!")).expect(&rt, "it holds");
 }
 
 #[test]
@@ -90,23 +90,23 @@ fn a_drain_prints_what_is_left(rt: HostRuntime) {
     let mut value = short(alloc, "Hello, world!");
     let mut printed = short(alloc, "");
     let drained = greeted(&rt, &mut value);
-    assert_true(&rt, write!(printed, "{drained:>9}{drained:?}").is_ok());
+    that(write!(printed, "{drained:>9}{drained:?}").is_ok()).expect(&rt, "it holds");
     drop(drained);
-    assert_true(&rt, is_inline(&printed, ", worldDrain(\", world\")"));
+    that(is_inline(&printed, ", worldDrain(\", world\")")).expect(&rt, "it holds");
 }
 
 #[test]
 fn the_ends_of_a_drain_meet(rt: HostRuntime) {
     let mut value = short(rt.alloc(), "𝄞🦄𝄢");
     let mut drained = drain(&rt, &mut value, Unbounded, Unbounded);
-    assert_equal(&rt, drained.next_back(), Some('𝄢'));
-    assert_equal(&rt, drained.next(), Some('𝄞'));
-    assert_equal(&rt, drained.next(), Some('🦄'));
-    assert_equal(&rt, drained.next(), None);
-    assert_equal(&rt, drained.next_back(), None);
-    assert_equal(&rt, drained.next(), None);
+    equal(drained.next_back(), Some('𝄢')).expect(&rt, "equal");
+    equal(drained.next(), Some('𝄞')).expect(&rt, "equal");
+    equal(drained.next(), Some('🦄')).expect(&rt, "equal");
+    equal(drained.next(), None).expect(&rt, "equal");
+    equal(drained.next_back(), None).expect(&rt, "equal");
+    equal(drained.next(), None).expect(&rt, "equal");
     drop(drained);
-    assert_true(&rt, is_inline(&value, ""));
+    that(is_inline(&value, "")).expect(&rt, "it holds");
 }
 
 #[test]
@@ -117,9 +117,9 @@ fn retain_asks_once_for_each_character(rt: HostRuntime) {
         asked = asked.saturating_add(1);
         character != 'ä' && character != 'd'
     });
-    assert_true(&rt, kept.is_ok());
-    assert_equal(&rt, asked, 5);
-    assert_true(&rt, is_inline(&value, "b𝄞€"));
+    that(kept.is_ok()).expect(&rt, "it holds");
+    equal(asked, 5).expect(&rt, "equal");
+    that(is_inline(&value, "b𝄞€")).expect(&rt, "it holds");
 }
 
 #[test]
@@ -133,7 +133,7 @@ fn a_refusal_of_retain_has_asked_nothing(rt: HostRuntime) {
         false
     });
     drop(hog);
-    assert_true(&rt, kept.is_err());
-    assert_true(&rt, !asked);
-    assert_true(&rt, is_static(&value, letters(30)));
+    that(kept.is_err()).expect(&rt, "it holds");
+    that(!asked).expect(&rt, "it holds");
+    that(is_static(&value, letters(30))).expect(&rt, "it holds");
 }

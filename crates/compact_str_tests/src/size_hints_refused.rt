@@ -4,7 +4,7 @@ use crate::hints::with_hint;
 use crate::size_hints::{
     assert_appended, assert_collected, assert_collected_by_trait, assert_extended,
 };
-use compact_asserts::{assert_equal, assert_true};
+use compact_asserts::{equal, that};
 use compact_str::{CompactString, CompactStringExt, append_all};
 use compact_testing::memory::take_all;
 use compact_testing::seen::is_inline;
@@ -33,39 +33,34 @@ fn a_string_with_room_is_given_the_texts(rt: HostRuntime) {
     let line = assert_appended(&rt, line, &values, false);
     let line = assert_appended(&rt, line, &values, true);
     drop(hog);
-    assert_equal(&rt, line.capacity(), 32);
+    equal(line.capacity(), 32).expect(&rt, "equal");
 }
 
 /// Asserts that more than 24 bytes are refused.
 fn assert_refused(rt: &impl Abort, alloc: Global, too_much: bool) {
     let euros = ['€'; 9];
     let texts = [letters(20), letters(5)];
-    assert_true(
-        rt,
-        CompactString::from_chars(alloc, with_hint(&euros, too_much).copied()).is_err(),
+    that(CompactString::from_chars(alloc, with_hint(&euros, too_much).copied()).is_err()).expect(
+        rt, "it holds",
     );
-    assert_true(
-        rt,
-        CompactString::from_texts(alloc, with_hint(&texts, too_much)).is_err(),
+    that(CompactString::from_texts(alloc, with_hint(&texts, too_much)).is_err()).expect(
+        rt, "it holds",
     );
-    assert_true(
-        rt,
-        with_hint(&texts, too_much).concat_compact(alloc).is_err(),
-    );
-    assert_true(
-        rt,
+    that(with_hint(&texts, too_much).concat_compact(alloc).is_err()).expect(rt, "it holds");
+    that(
         with_hint(&["a", "b"], too_much)
             .join_compact(alloc, letters(23))
             .is_err(),
-    );
+    )
+    .expect(rt, "it holds");
     let made: Result<CompactString, AllocError> = with_hint(&euros, too_much)
         .copied()
         .collect(alloc);
-    assert_true(rt, made.is_err());
+    that(made.is_err()).expect(rt, "it holds");
     let made: Result<CompactString, AllocError> = with_hint(&euros, too_much).collect(alloc);
-    assert_true(rt, made.is_err());
+    that(made.is_err()).expect(rt, "it holds");
     let made: Result<CompactString, AllocError> = with_hint(&texts, too_much).collect(alloc);
-    assert_true(rt, made.is_err());
+    that(made.is_err()).expect(rt, "it holds");
 }
 
 #[test]
@@ -80,24 +75,24 @@ fn more_than_24_bytes_are_refused(rt: HostRuntime) {
 /// Asserts that an extension stops at the first item that is refused, with those before it in the value.
 fn assert_stops(rt: &impl Abort, alloc: Global, too_much: bool) {
     let mut value = CompactString::default(alloc);
-    assert_true(
-        rt,
+    that(
         value
             .extend_texts(with_hint(&[letters(20), letters(4), "b", ""], too_much))
             .is_err(),
-    );
-    assert_true(rt, is_inline(&value, letters(24)));
-    assert_true(rt, value.extend(with_hint(&["", "b"], too_much)).is_err());
-    assert_true(rt, value.extend(with_hint(&['b'], too_much)).is_err());
-    assert_true(rt, is_inline(&value, letters(24)));
+    )
+    .expect(rt, "it holds");
+    that(is_inline(&value, letters(24))).expect(rt, "it holds");
+    that(value.extend(with_hint(&["", "b"], too_much)).is_err()).expect(rt, "it holds");
+    that(value.extend(with_hint(&['b'], too_much)).is_err()).expect(rt, "it holds");
+    that(is_inline(&value, letters(24))).expect(rt, "it holds");
     let mut value = CompactString::default(alloc);
-    assert_true(
-        rt,
+    that(
         value
             .extend_chars(with_hint(&['€'; 9], too_much).copied())
             .is_err(),
-    );
-    assert_true(rt, is_inline(&value, "€€€€€€€€"));
+    )
+    .expect(rt, "it holds");
+    that(is_inline(&value, "€€€€€€€€")).expect(rt, "it holds");
 }
 
 #[test]
@@ -120,15 +115,9 @@ fn a_string_stops_at_the_value_that_is_refused(rt: HostRuntime) {
     let mut first = String::with_capacity(alloc, 40).expect(&rt, "memory");
     let mut second = String::with_capacity(alloc, 40).expect(&rt, "memory");
     let hog = take_all(alloc).expect(&rt, "room for the list of blocks");
-    assert_true(
-        &rt,
-        append_all(&mut first, with_hint(&values, false)).is_err(),
-    );
-    assert_true(
-        &rt,
-        append_all(&mut second, with_hint(&values, true)).is_err(),
-    );
+    that(append_all(&mut first, with_hint(&values, false)).is_err()).expect(&rt, "it holds");
+    that(append_all(&mut second, with_hint(&values, true)).is_err()).expect(&rt, "it holds");
     drop(hog);
-    assert_equal(&rt, first.as_str(), "ab");
-    assert_equal(&rt, second.as_str(), "ab");
+    equal(first.as_str(), "ab").expect(&rt, "equal");
+    equal(second.as_str(), "ab").expect(&rt, "equal");
 }
