@@ -167,7 +167,7 @@ impl PlainList {
 
 /// Asserts that each name is the word of the list at its place.
 fn assert_names(rt: &impl Abort, alloc: Global, names: &Interner, list: &PlainList) {
-    equal(names.len(), list.words.len()).expect(rt, "equal");
+    that(names.len() == list.words.len()).expect(rt, "as many");
     for (place, id) in list.words.iter().enumerate() {
         equal(
             names.name(place as u32),
