@@ -7,7 +7,7 @@ use compact_callers::wire_callers::{
 };
 use compact_ext::wire::{Records, WireError};
 use compact_testing::seen::is_inline;
-use compact_testing::values::{letters, place_of, short, value_of};
+use compact_testing::values::{letters, short, value_of};
 
 /// The forms of `a`, of no text and of `Hi`.
 const RECORDS: [u8; 15] = [1, 0, 0, 0, 0x61, 0, 0, 0, 0, 2, 0, 0, 0, 0x48, 0x69];
@@ -29,8 +29,7 @@ fn records_are_read_to_their_end(rt: HostRuntime) {
     let records = read_records(rt.alloc(), RECORDS.as_slice()).expect(&rt, "records");
     equal(records.len(), 3).expect(&rt, "equal");
     for (record, text) in records.iter().zip(["a", "", "Hi"]) {
-        equal(record.as_str(), text).expect(&rt, "equal");
-        equal(place_of(record), "inline").expect(&rt, "equal");
+        that(is_inline(record, text)).expect(&rt, "it holds");
     }
 }
 
@@ -54,8 +53,7 @@ fn what_is_no_text_is_passed_over(rt: HostRuntime) {
     let texts = read_texts(rt.alloc(), MIXED.as_slice()).expect(&rt, "texts");
     equal(texts.len(), 3).expect(&rt, "equal");
     for (found, text) in texts.iter().zip(["a", "", "Hi"]) {
-        equal(found.as_str(), text).expect(&rt, "equal");
-        equal(place_of(found), "inline").expect(&rt, "equal");
+        that(is_inline(found, text)).expect(&rt, "it holds");
     }
 }
 
