@@ -24,6 +24,12 @@ pub fn new_long<T: Text>(n: u64) -> u64 {
 
 pub fn cloned<T: Held, const COUNT: usize>(n: u64, texts: &[String]) -> u64 {
     let values: Vec<T> = texts.iter().map(|text| T::new(text)).collect();
+    clone_in_turn::<T, COUNT>(n, &values)
+}
+
+/// The loop stands apart, so that what made the values takes none of its registers.
+#[inline(never)]
+fn clone_in_turn<T: Held, const COUNT: usize>(n: u64, values: &[T]) -> u64 {
     let mut ring = Ring::new();
     for i in 0..n as usize {
         ring.put(i, black_box(&values[i % COUNT]).clone());

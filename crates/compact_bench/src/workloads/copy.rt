@@ -26,7 +26,7 @@ fn values(alloc: Global, texts: &[String]) -> Result<Vec<CompactString>, AllocEr
     Ok(values)
 }
 
-/// Clones the value of each text in turn.
+/// Makes a value of each text, and clones them.
 fn cloned<const COUNT: usize>(
     alloc: Global,
     n: u64,
@@ -35,6 +35,18 @@ fn cloned<const COUNT: usize>(
     requires { 0 < COUNT }
 {
     let values = values(alloc, &texts)?;
+    clone_in_turn::<COUNT>(alloc, n, &values)
+}
+
+/// Clones each value in turn. The loop stands apart, so that what made the values takes none of its registers.
+#[inline(never)]
+fn clone_in_turn<const COUNT: usize>(
+    alloc: Global,
+    n: u64,
+    values: &[CompactString],
+) -> Result<u64, ReserveError>
+    requires { 0 < COUNT }
+{
     let mut ring = Ring::new(alloc)?;
     for i in 0..n as usize {
         if let Some(value) = values.get(i % COUNT) {

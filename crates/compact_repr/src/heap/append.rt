@@ -75,8 +75,8 @@ fn append_long(bytes: &mut Vec<u8>, source: &[u8])
     put_back(bytes, vec);
 }
 
-/// Appends more than 32 bytes to a vector: up to 256 as their two ends, so that no loop ends at a length that is hard
-/// to foresee, and more by long blocks, of which the last brings some bytes again.
+/// Appends more than 32 bytes to a vector: up to 256 as their two ends, or as these and what stands between, so that no loop
+/// ends at a length that is hard to foresee, and more by long blocks, of which the last brings some bytes again.
 #[inline(always)]
 fn append_many(vec: &mut Vec<u8>, source: &[u8])
     requires long { 32 < length source.now }
@@ -89,6 +89,8 @@ fn append_many(vec: &mut Vec<u8>, source: &[u8])
         append_ends::<32>(vec, source);
     } else if count <= 128 {
         append_ends::<64>(vec, source);
+    } else if count <= 192 {
+        append_thirds(vec, source);
     } else if count <= 256 {
         append_ends::<128>(vec, source);
     } else {
@@ -157,6 +159,23 @@ fn append_ends<const N: usize>(bytes: &mut Vec<u8>, source: &[u8])
     vec.truncate(len + rest);
     append_array::<N>(&mut vec, array_at::<N>(source, rest));
     put_back(bytes, vec);
+}
+
+/// Appends 128 to 192 bytes to a vector as the first 64, the next 64, and the last 64.
+#[inline(always)]
+fn append_thirds(vec: &mut Vec<u8>, source: &[u8])
+    requires least { 128 ≤ length source.now }
+    requires most { length source.now ≤ 192 }
+    requires room { vec_len vec.old + length source.now ≤ vec_capacity vec.old }
+    ensures items { vec.new.items ≡ vec.old.items ++ source.now }
+    ensures capacity { vec_capacity vec.new ≡ vec_capacity vec.old }
+{
+    let len = vec.len();
+    let last = source.len() - 64;
+    append_array::<64>(vec, array_at::<64>(source, 0));
+    append_array::<64>(vec, array_at::<64>(source, 64));
+    vec.truncate(len + last);
+    append_array::<64>(vec, array_at::<64>(source, last));
 }
 
 /// Appends the bytes of `piece` to a vector. The compiler makes one write of it.

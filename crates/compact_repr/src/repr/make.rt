@@ -11,7 +11,7 @@ use crate::error::ReserveError;
 use crate::heap::HeapBuffer;
 use crate::inline::{INLINE_CAPACITY, InlineBuffer};
 use crate::policy::Policy;
-use crate::repr::room::checked_capacity;
+use crate::repr::room::{MAX_CAPACITY, checked_capacity};
 use crate::repr::{Buffer, Repr};
 use crate::static_text::StaticText;
 use std::alloc::Global;
@@ -52,9 +52,11 @@ impl<P: Policy> Repr<P> {
             (λ h. new P.growth (text_of text.now)
             ≡ Some (placed_text h.text (heap_placement h.capacity))) }
     {
-        let Some(capacity) = checked_capacity::<P>(text.len()) else {
+        // Not by `checked_capacity`, whose `Option` would be tested once more.
+        let capacity = text.len().max(P::MIN_HEAP);
+        if capacity > MAX_CAPACITY {
             return Err(ReserveError);
-        };
+        }
         let heap = HeapBuffer::copy_of(alloc, text, capacity)?;
         Ok(heap)
     }
@@ -143,7 +145,21 @@ impl<P: Policy> Repr<P> {
                 self.alloc,
                 Buffer::Inline([], inline.duplicate()),
             )),
-            Buffer::Heap(heap) => Self::new(self.alloc, heap.as_str()),
+            Buffer::Heap(heap) if heap.len() > INLINE_CAPACITY => {
+                let heap = Self::long_copy(self.alloc, heap.as_str())?;
+                Ok(Self::of(self.alloc, Buffer::Heap(heap)))
+            }
+            Buffer::Heap(heap) => Ok(Self::short_copy(self.alloc, heap.as_str())),
         }
+    }
+
+    /// A copy of a `text` of at most 24 bytes, inline. It stands apart, for the rare value that has such a text on the heap.
+    #[cold]
+    #[inline(never)]
+    fn short_copy(alloc: Global, text: &str) -> Self
+        requires { length text.now ≤ 24 }
+        ensures { new P.growth (text_of text.now) ≡ Some result }
+    {
+        Self::of(alloc, Buffer::Inline([], InlineBuffer::new(text)))
     }
 }
