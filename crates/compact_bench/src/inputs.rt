@@ -4,7 +4,7 @@ ghost use Rattle.std.specs.Prelude.{◌<◌};
 use crate::generator::Generator;
 use compact_edit::{InternError, Interner};
 use compact_str::ReserveError;
-use std::alloc::{AllocError, Global};
+use std::alloc::Global;
 
 /// How many short texts there are.
 pub const SHORT_TEXTS: usize = 4096;
@@ -27,8 +27,16 @@ pub const RECORDS: usize = 100;
 /// How many words are joined.
 const JOINED_WORDS: usize = 100;
 
+/// Puts an item behind the others.
+pub fn put<T: Drop>(items: &mut Vec<T>, item: T) -> Result<(), ReserveError> {
+    match items.push(item) {
+        Ok(()) => Ok(()),
+        Err(_) => Err(ReserveError),
+    }
+}
+
 /// A word of `len` letters.
-pub fn word(alloc: Global, generator: &mut Generator, len: u32) -> Result<String, AllocError> {
+pub fn word(alloc: Global, generator: &mut Generator, len: u32) -> Result<String, ReserveError> {
     let mut word = String::with_capacity(alloc, len as usize)?;
     for _ in 0..len {
         word.push(generator.letter())?;
@@ -37,7 +45,7 @@ pub fn word(alloc: Global, generator: &mut Generator, len: u32) -> Result<String
 }
 
 /// Words of at least `least` letters and less than `span` more.
-fn words(alloc: Global, count: usize, least: u32, span: u32) -> Result<Vec<String>, AllocError>
+fn words(alloc: Global, count: usize, least: u32, span: u32) -> Result<Vec<String>, ReserveError>
     requires { 0 < span }
 {
     words_from(alloc, &mut Generator::new(), count, least, span)
@@ -50,29 +58,29 @@ fn words_from(
     count: usize,
     least: u32,
     span: u32,
-) -> Result<Vec<String>, AllocError>
+) -> Result<Vec<String>, ReserveError>
     requires { 0 < span }
 {
     let mut words = Vec::with_capacity(alloc, count)?;
     for _ in 0..count {
         let len = least.wrapping_add(generator.below(span));
-        words.push(word(alloc, generator, len)?)?;
+        put(&mut words, word(alloc, generator, len)?)?;
     }
     Ok(words)
 }
 
 /// Words of 0 to 24 letters.
-pub fn short_texts(alloc: Global) -> Result<Vec<String>, AllocError> {
+pub fn short_texts(alloc: Global) -> Result<Vec<String>, ReserveError> {
     words(alloc, SHORT_TEXTS, 0, 25)
 }
 
 /// Words of 25 to 200 letters.
-pub fn long_texts(alloc: Global) -> Result<Vec<String>, AllocError> {
+pub fn long_texts(alloc: Global) -> Result<Vec<String>, ReserveError> {
     words(alloc, LONG_TEXTS, 25, 176)
 }
 
 /// Words of 1 to 16 letters.
-pub fn pieces(alloc: Global) -> Result<Vec<String>, AllocError> {
+pub fn pieces(alloc: Global) -> Result<Vec<String>, ReserveError> {
     words(alloc, PIECES, 1, 16)
 }
 
@@ -80,27 +88,27 @@ pub fn pieces(alloc: Global) -> Result<Vec<String>, AllocError> {
 pub const TEXTS: usize = 16;
 
 /// Words of 1024 letters.
-pub fn long_words(alloc: Global) -> Result<Vec<String>, AllocError> {
+pub fn long_words(alloc: Global) -> Result<Vec<String>, ReserveError> {
     words(alloc, TEXTS, 1024, 1)
 }
 
 /// Words of 200 letters.
-pub fn lines(alloc: Global) -> Result<Vec<String>, AllocError> {
+pub fn lines(alloc: Global) -> Result<Vec<String>, ReserveError> {
     words(alloc, TEXTS, 200, 1)
 }
 
 /// Texts of 1024 bytes: half their characters are letters, and the others of two, three or four bytes.
-pub fn mixed_texts(alloc: Global) -> Result<Vec<String>, AllocError> {
+pub fn mixed_texts(alloc: Global) -> Result<Vec<String>, ReserveError> {
     let mut generator = Generator::new();
     let mut texts = Vec::with_capacity(alloc, TEXTS)?;
     for _ in 0..TEXTS {
-        texts.push(mixed(alloc, &mut generator)?)?;
+        put(&mut texts, mixed(alloc, &mut generator)?)?;
     }
     Ok(texts)
 }
 
 /// One such text.
-fn mixed(alloc: Global, generator: &mut Generator) -> Result<String, AllocError> {
+fn mixed(alloc: Global, generator: &mut Generator) -> Result<String, ReserveError> {
     let mut text = String::with_capacity(alloc, 1024)?;
     // Each turn puts a character, so that these are enough.
     for _ in 0..1024 {
@@ -125,16 +133,16 @@ fn mixed_character(generator: &mut Generator) -> char {
 }
 
 /// The bytes of such texts.
-pub fn mixed_rows(alloc: Global) -> Result<Vec<Vec<u8>>, AllocError> {
+pub fn mixed_rows(alloc: Global) -> Result<Vec<Vec<u8>>, ReserveError> {
     let mut rows = Vec::with_capacity(alloc, TEXTS)?;
     for text in mixed_texts(alloc)? {
-        rows.push(text.into_bytes())?;
+        put(&mut rows, text.into_bytes())?;
     }
     Ok(rows)
 }
 
 /// The bytes of such texts, of which each with a number one below a multiple of 64 is FF.
-pub fn invalid_rows(alloc: Global) -> Result<Vec<Vec<u8>>, AllocError> {
+pub fn invalid_rows(alloc: Global) -> Result<Vec<Vec<u8>>, ReserveError> {
     let mut rows = mixed_rows(alloc)?;
     for row in rows.iter_mut() {
         for byte in row.iter_mut().skip(63).step_by(64) {
@@ -145,58 +153,61 @@ pub fn invalid_rows(alloc: Global) -> Result<Vec<Vec<u8>>, AllocError> {
 }
 
 /// The units of such texts in UTF-16.
-pub fn units(alloc: Global) -> Result<Vec<Vec<u16>>, AllocError> {
+pub fn units(alloc: Global) -> Result<Vec<Vec<u16>>, ReserveError> {
     let mut rows = Vec::with_capacity(alloc, TEXTS)?;
     for text in mixed_texts(alloc)? {
         let mut row = Vec::new(alloc);
         for unit in text.as_str().encode_utf16() {
-            row.push(unit)?;
+            put(&mut row, unit)?;
         }
-        rows.push(row)?;
+        put(&mut rows, row)?;
     }
     Ok(rows)
 }
 
 /// Words of 1 to 12 letters.
-pub fn names(alloc: Global) -> Result<Vec<String>, AllocError> {
+pub fn names(alloc: Global) -> Result<Vec<String>, ReserveError> {
     short_words(alloc, NAMES)
 }
 
 /// Numbers of 1 to 64 bits, of each length about as many.
-pub fn shifted_numbers(alloc: Global) -> Result<Vec<u64>, AllocError> {
+pub fn shifted_numbers(alloc: Global) -> Result<Vec<u64>, ReserveError> {
     let mut generator = Generator::new();
     let mut numbers = Vec::with_capacity(alloc, NUMBERS)?;
     for _ in 0..NUMBERS {
         let number = generator.next();
-        numbers.push(number >> generator.below(64))?;
+        put(&mut numbers, number >> generator.below(64))?;
     }
     Ok(numbers)
 }
 
 /// Numbers of 1 to 20 digits, of each length about as many.
-pub fn numbers(alloc: Global) -> Result<Vec<u64>, AllocError> {
+pub fn numbers(alloc: Global) -> Result<Vec<u64>, ReserveError> {
     let mut generator = Generator::new();
     let mut numbers = Vec::with_capacity(alloc, NUMBERS)?;
     for _ in 0..NUMBERS {
         let least = 10u64.wrapping_pow(generator.below(20));
         let most = least.saturating_mul(9).min(u64::MAX.wrapping_sub(least));
-        numbers.push(least.wrapping_add(generator.next() % most.max(1)))?;
+        put(
+            &mut numbers,
+            least.wrapping_add(generator.next() % most.max(1)),
+        )?;
     }
     Ok(numbers)
 }
 
 /// Words of 1 to 40 letters.
-pub fn records(alloc: Global) -> Result<Vec<String>, AllocError> {
+pub fn records(alloc: Global) -> Result<Vec<String>, ReserveError> {
     words(alloc, RECORDS, 1, 40)
 }
 
 /// Words of 1 to 12 letters that are joined.
-pub fn joined_words(alloc: Global) -> Result<Vec<String>, AllocError> {
+pub fn joined_words(alloc: Global) -> Result<Vec<String>, ReserveError> {
     short_words(alloc, JOINED_WORDS)
 }
 
 /// So many words of 1 to 12 letters.
-pub fn short_words(alloc: Global, count: usize) -> Result<Vec<String>, AllocError> {
+pub fn short_words(alloc: Global, count: usize) -> Result<Vec<String>, ReserveError> {
     words(alloc, count, 1, 12)
 }
 
@@ -207,7 +218,10 @@ pub const INTERNED_WORDS: u32 = 20_000;
 const DRAWN_WORDS: u32 = 40_000;
 
 /// Words of 1 to 30 letters, some of which are the same.
-pub fn interned_words(alloc: Global, generator: &mut Generator) -> Result<Vec<String>, AllocError> {
+pub fn interned_words(
+    alloc: Global,
+    generator: &mut Generator,
+) -> Result<Vec<String>, ReserveError> {
     words_from(alloc, generator, INTERNED_WORDS as usize, 1, 30)
 }
 
@@ -221,14 +235,20 @@ pub fn distinct_words(
     for _ in 0..DRAWN_WORDS {
         if words.len() < INTERNED_WORDS as usize {
             let len = 1 + generator.below(12);
-            let word = word(alloc, generator, len).map_err(|_| ReserveError)?;
-            let number = names.intern(word.as_str())?;
-            if number as usize == words.len() {
-                words.push(word).map_err(|_| ReserveError)?;
-            }
+            let word = word(alloc, generator, len)?;
+            put_new(&mut names, &mut words, word)?;
         }
     }
     Ok(words)
+}
+
+/// Puts a word behind the others, unless it is one of them.
+fn put_new(names: &mut Interner, words: &mut Vec<String>, word: String) -> Result<(), InternError> {
+    let number = names.intern(word.as_str())?;
+    if number as usize == words.len() {
+        put(words, word)?;
+    }
+    Ok(())
 }
 
 /// How many bytes of prose there are, but for a few more.
@@ -238,7 +258,7 @@ const PROSE: usize = 1_048_576;
 const PROSE_WORDS: u32 = 4096;
 
 /// A text of 1 MiB: words of 1 to 12 letters, with white space between, some marks and numbers, and some words with ä.
-pub fn prose(alloc: Global) -> Result<String, AllocError> {
+pub fn prose(alloc: Global) -> Result<String, ReserveError> {
     let mut generator = Generator::new();
     let words = words_from(alloc, &mut generator, PROSE_WORDS as usize, 1, 12)?;
     let mut text = String::with_capacity(alloc, PROSE + 32)?;

@@ -2,8 +2,8 @@
 ghost use Rattle.std.specs.Prelude.{◌≡◌, vec_len};
 
 use crate::checksum::{mix, probe};
-use compact_str::CompactString;
-use std::alloc::{AllocError, Global};
+use compact_str::{CompactString, ReserveError};
+use std::alloc::Global;
 
 /// The latest 64 values, each in the place of its number, and the checksum of what has been seen of them.
 #[derive(Drop)]
@@ -15,7 +15,7 @@ pub struct Ring {
 
 impl Ring {
     /// The ring with empty values.
-    pub fn new(alloc: Global) -> Result<Self, AllocError> {
+    pub fn new(alloc: Global) -> Result<Self, ReserveError> {
         let values = Vec::from_elem(alloc, CompactString::default(alloc), 64)?;
         Ok(Ring { values, sum: 0 })
     }

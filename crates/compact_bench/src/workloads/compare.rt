@@ -2,7 +2,7 @@
 
 use crate::checksum::mix;
 use crate::hasher::Fnv;
-use crate::inputs::{SHORT_TEXTS, short_texts};
+use crate::inputs::{SHORT_TEXTS, put, short_texts};
 use compact_str::{CompactString, ReserveError};
 use std::alloc::Global;
 use std::cmp::Ordering;
@@ -20,9 +20,7 @@ fn values_of(alloc: Global, step: usize) -> Result<Vec<CompactString>, ReserveEr
     for place in 0..SHORT_TEXTS {
         if let Some(text) = texts.get(place.wrapping_add(place % 2 * step) % SHORT_TEXTS) {
             let value = CompactString::new(alloc, text.as_str())?;
-            if values.push(value).is_err() {
-                return Err(ReserveError);
-            }
+            put(&mut values, value)?;
         }
     }
     Ok(values)

@@ -1,10 +1,10 @@
 //! Clones of values.
 ghost use Rattle.std.specs.Prelude.{◌<◌};
 
-use crate::inputs::{LONG_TEXTS, SHORT_TEXTS, long_texts, short_texts};
+use crate::inputs::{LONG_TEXTS, SHORT_TEXTS, long_texts, put, short_texts};
 use crate::ring::Ring;
 use compact_str::{CompactString, ReserveError};
-use std::alloc::{AllocError, Global};
+use std::alloc::Global;
 
 /// Clones values of short texts.
 pub fn short(alloc: Global, n: u64) -> Result<u64, ReserveError> {
@@ -17,11 +17,11 @@ pub fn long(alloc: Global, n: u64) -> Result<u64, ReserveError> {
 }
 
 /// A value of each text.
-fn values(alloc: Global, texts: &[String]) -> Result<Vec<CompactString>, AllocError> {
+fn values(alloc: Global, texts: &[String]) -> Result<Vec<CompactString>, ReserveError> {
     let mut values = Vec::with_capacity(alloc, texts.len())?;
     for text in texts {
-        let value = CompactString::new(alloc, text.as_str()).map_err(|_| AllocError)?;
-        values.push(value)?;
+        let value = CompactString::new(alloc, text.as_str())?;
+        put(&mut values, value)?;
     }
     Ok(values)
 }

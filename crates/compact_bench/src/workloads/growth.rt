@@ -72,7 +72,7 @@ pub fn join(alloc: Global, n: u64, size: u32) -> Result<u64, ReserveError> {
 
 /// Interns `size` words of 1 to 12 letters, each time anew.
 pub fn intern(alloc: Global, n: u64, size: u32) -> Result<u64, InternError> {
-    let words = short_words(alloc, size as usize).map_err(|_| ReserveError)?;
+    let words = short_words(alloc, size as usize)?;
     let mut sum = 0;
     for _ in 0..n {
         let mut names = Interner::new(alloc);

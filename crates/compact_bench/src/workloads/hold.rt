@@ -2,22 +2,22 @@
 
 use crate::checksum::{mix, probe};
 use crate::generator::Generator;
-use crate::inputs::word;
-use compact_str::CompactString;
-use std::alloc::{AllocError, Global};
+use crate::inputs::{put, word};
+use compact_str::{CompactString, ReserveError};
+use std::alloc::Global;
 use std::mem::ManuallyDrop;
 
 /// Makes a vector of `n` values, words of 1 to 24 letters, and never gives it back.
-pub fn words(alloc: Global, n: u64) -> Result<u64, AllocError> {
+pub fn words(alloc: Global, n: u64) -> Result<u64, ReserveError> {
     let mut generator = Generator::new();
     let mut values = Vec::with_capacity(alloc, n as usize)?;
     let mut sum = 0;
     for _ in 0..n {
         let len = 1 + generator.below(24);
         let word = word(alloc, &mut generator, len)?;
-        let value = CompactString::new(alloc, word.as_str()).map_err(|_| AllocError)?;
+        let value = CompactString::new(alloc, word.as_str())?;
         sum = mix(sum, probe(&value));
-        values.push(value)?;
+        put(&mut values, value)?;
     }
     let _kept = ManuallyDrop::new(values);
     Ok(sum)

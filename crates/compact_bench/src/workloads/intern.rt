@@ -4,14 +4,14 @@ use crate::checksum::mix;
 use crate::generator::Generator;
 use crate::inputs::{INTERNED_WORDS, distinct_words, interned_words, prose};
 use compact_edit::{InternError, Interner};
-use compact_str::{CompactString, ReserveError};
+use compact_str::CompactString;
 use compact_uses::{Kind, tokenize};
 use std::alloc::Global;
 
 /// Interns words of 1 to 30 letters.
 pub fn words(alloc: Global, n: u64) -> Result<u64, InternError> {
     let mut generator = Generator::new();
-    let words = interned_words(alloc, &mut generator).map_err(|_| ReserveError)?;
+    let words = interned_words(alloc, &mut generator)?;
     interned(alloc, n, generator, &words)
 }
 
@@ -42,7 +42,7 @@ fn interned(
 
 /// Cuts a text into tokens, each of which is interned.
 pub fn tokens(alloc: Global, n: u64) -> Result<u64, InternError> {
-    let text = prose(alloc).map_err(|_| ReserveError)?;
+    let text = prose(alloc)?;
     let text = CompactString::new(alloc, text.as_str())?;
     let mut sum = 0;
     for _ in 0..n {
