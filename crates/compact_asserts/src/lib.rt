@@ -23,7 +23,9 @@ pub fn that_for<C: Debug + Drop>(case: C, holds: bool) -> Result<(), C>
 }
 
 /// Answers both as an error, unless they are equal.
-pub fn equal<T: PartialEq + Debug + Drop>(left: T, right: T) -> Result<(), (T, T)> {
+pub fn equal<T: PartialEq + Debug + Drop>(left: T, right: T) -> Result<(), (T, T)>
+    ensures { IsOk result ↔ IsTrue (T.eq left right) }
+{
     if left == right {
         Ok(())
     } else {
