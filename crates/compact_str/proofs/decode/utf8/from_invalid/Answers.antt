@@ -5,7 +5,7 @@ use Rattle.compact_repr.proofs.Texts.{size-text_of}
 use Rattle.compact_codec.specs.Utf8Text.{utf8_lossy_text, replacement_text}
 use Rattle.compact_codec.proofs.LossyReading.{utf8_lossy_text-empty, replacement_text-none, replacement_text-some}
 use Rattle.compact_str.proofs.Fitted.{fitted-empty}
-use Rattle.compact_str.proofs.FittedTexts.{chunk-read, part-asks}
+use Rattle.compact_str.proofs.FittedTexts.{chunk-read, part-asks, refused-fitted}
 use Rattle.compact_str.proofs.decode.utf8.from_invalid.Goals as goal
 
 -- a mark that is refused makes the whole longer than 24 bytes
@@ -44,7 +44,7 @@ returns-in_err-push_fitted c =
     part-asks (utf8_lossy_text c.args.bytes.now) c.loop-made.made.text (text_of c.loop-made.chunk.valid.now)
     (replacement_text c.loop-made.chunk.invalid.now ++ utf8_lossy_text c.loop-made.chunk.rest.now)
     (length c.loop-made.chunk.valid.now) c.loop-made.invariant.text (sym (size-text_of c.loop-made.chunk.valid.now (search rules))) c.in_err-push_fitted.ensures.err in
-    search rules
+    refused-fitted _ _ c.from_residual.ensures.0 asks
 
 pub returns-in_err-push_fitted-2 : goal.returns-in_err-push_fitted-2
 returns-in_err-push_fitted-2 c =
@@ -52,7 +52,7 @@ returns-in_err-push_fitted-2 c =
     let asks : IsTrue (with_capacity_asks (size (utf8_lossy_text c.args.bytes.now))) =
     mark-asks (utf8_lossy_text c.args.bytes.now) c.loop-made.made.text c.push_fitted.new.made.text (text_of c.loop-made.chunk.valid.now) c.loop-made.chunk.invalid.now
     (utf8_lossy_text c.loop-made.chunk.rest.now) c.loop-made.invariant.text some c.in_ok-push_fitted.ensures.text c.in_err-push_fitted-2.ensures.err in
-    search rules
+    refused-fitted _ _ c.from_residual-in_err-push_fitted-2.ensures.0 asks
 
 pub returns-in_err-push_fitted-3 : goal.returns-in_err-push_fitted-3
 returns-in_err-push_fitted-3 c =
@@ -60,7 +60,7 @@ returns-in_err-push_fitted-3 c =
     part-asks (utf8_lossy_text c.args.bytes.now) c.loop-made.made.text (text_of c.loop-made.chunk.valid.now)
     (replacement_text c.loop-made.chunk.invalid.now ++ utf8_lossy_text c.loop-made.chunk.rest.now)
     (length c.loop-made.chunk.valid.now) c.loop-made.invariant.text (sym (size-text_of c.loop-made.chunk.valid.now (search rules))) c.in_err-push_fitted-3.ensures.err in
-    search rules
+    refused-fitted _ _ c.from_residual-in_err-push_fitted-3.ensures.0 asks
 
 pub returns : goal.returns
 returns c =
