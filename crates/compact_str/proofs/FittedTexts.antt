@@ -2,6 +2,7 @@
 use Rattle.std.proofs.Common.{◌≡◌, Some, ℕ, ◌+◌, ◌<◌, ◌≤◌, List, [], ◌∷◌, ◌++◌, length, false, IsTrue, refl, subst, sym, ap, ◌∙◌, arith, append_assoc, inl, inr}
 use Rattle.std.proofs.lemmas.Grind.{common_steps}
 use Rattle.std.proofs.lemmas.Bool.{cases_lt, true≢false}
+use Rattle.std.specs.Prelude.{Result, Ok, Err, OnErr, IsOk, IsErr}
 use Rattle.std.specs.Str.{chars, IsUtf8}
 use Rattle.std.proofs.lemmas.Str.{encodes-chars, scalars-chars}
 use Rattle.compact_repr.specs.Text.{size, text_of}
@@ -13,7 +14,7 @@ use Rattle.compact_repr.proofs.Changes.{push_str-text}
 use Rattle.compact_codec.specs.Text.{replacement_character}
 use Rattle.compact_codec.specs.Utf8Text.{BytesEncode, replacement_text}
 use Rattle.compact_codec.proofs.LossyReading.{replacement_text-some}
-use Rattle.compact_str.specs.FittedValues.{IsFitted}
+use Rattle.compact_str.specs.FittedValues.{IsFitted, IsFittedOf}
 use Rattle.compact_str.proofs.Fitted.{fitted-push_str}
 
 -- a text of more than 24 bytes on the heap is fitted
@@ -76,6 +77,21 @@ part-asks t a p rest n e k more =
 pub first-asks : (t a left rest p : List ℕ) (c n : ℕ) → a ++ left ≡ t → left ≡ c ∷ rest → p ≡ c ∷ [] → n ≡ size p → 24 < size a + n
     → IsTrue (with_capacity_asks (size t))
 first-asks t a left rest p c n e l q k more = part-asks t a p rest n (rw q (ap (λ (x : List ℕ). a ++ x) (sym l)) ∙ e) k more
+
+-- a text of at most 24 bytes is not refused, and one that is refused is longer
+short-asks : (n : ℕ) → n ≤ 24 → IsTrue (with_capacity_asks n) → ⊥
+short-asks n h asks = grind (arith, common_steps)
+
+pub asks-succeeds : {E : Type 0} (t : List ℕ) (r : Result PlacedText E) → OnErr r (IsTrue (with_capacity_asks (size t))) → size t ≤ 24 → IsOk r
+asks-succeeds t (Ok _) e h = refl
+asks-succeeds t (Err _) e h = absurd (short-asks (size t) h e)
+
+pub refused-fitted : {E : Type 0} (t : List ℕ) (r : Result PlacedText E) → IsErr r → IsTrue (with_capacity_asks (size t)) → IsFittedOf t r
+refused-fitted t (Ok _) h asks = absurd (true≢false (sym h))
+refused-fitted t (Err _) h asks = record { text = tt; fitted = tt; succeeds = λ k. absurd (short-asks (size t) k asks); err = asks }
+
+pub long-asks : (n : ℕ) → 24 < n → IsTrue (with_capacity_asks n)
+long-asks n h = grind (arith, common_steps)
 
 pub ruleset part_facts = (part-asks)
 

@@ -1,15 +1,16 @@
 -- What an append gives besides the text: the room that is left, and the bytes.
-use Rattle.std.proofs.Common.{◌≡◌, Some, ℕ, ◌≤◌, List, ◌++◌, ap, ◌∙◌, arith}
+use Rattle.std.proofs.Common.{◌≡◌, Some, ℕ, ◌≤◌, List, ◌++◌, refl, ap, subst, ◌∙◌, arith}
+use Rattle.std.proofs.lemmas.Bool.{and_parts}
 use Rattle.std.proofs.lemmas.Grind.{common_steps}
 use Rattle.std.proofs.lemmas.Str.{encodes-append, encodes-chars}
 use Rattle.std.specs.Str.{IsUtf8}
-use Rattle.std.specs.Prelude.{max, if◌then◌else◌}
-use Rattle.compact_repr.specs.Text.{utf8, text_of}
+use Rattle.std.specs.Prelude.{max, if◌then◌else◌, Result, Ok, Err, OnErr, IsOk, IsTrue}
+use Rattle.compact_repr.specs.Text.{size, utf8, text_of}
 use Rattle.compact_repr.specs.Value.{Placement, PlacedText, is_static}
-use Rattle.compact_repr.specs.Capacity.{Growth, reserve_placement}
-use Rattle.compact_repr.specs.Change.{push_str, insert_str}
+use Rattle.compact_repr.specs.Capacity.{Growth, reserve_placement, reserve_asks}
+use Rattle.compact_repr.specs.Change.{push_str, insert_str, push_str_asks}
 use Rattle.compact_repr.proofs.Changes.{push_str-text}
-use Rattle.compact_str.specs.Room.{sure_capacity}
+use Rattle.compact_str.specs.Room.{sure_capacity, HasRoomFor}
 
 reserve_placement-sure : (g : Growth) (v : PlacedText) (p : Placement) (n : ℕ) → reserve_placement g v n ≡ Some p → sure_capacity v ≤ max 24 (if is_static p.place then 0 else p.capacity)
 reserve_placement-sure g v p n e = grind (arith, common_steps)
@@ -25,3 +26,15 @@ insert_str-sure g v w p s e = grind (arith, common_steps, reserve_placement-sure
 pub push_str-bytes : (g : Growth) (v w : PlacedText) (bytes : List ℕ) → push_str g v (text_of bytes) ≡ Some w → IsUtf8 bytes → utf8 w.text ≡ utf8 v.text ++ bytes
 push_str-bytes g v w bytes e u =
     ap utf8 (push_str-text g v w (text_of bytes) e) ∙ encodes-append v.text (text_of bytes) ∙ ap (λ (x : List ℕ). utf8 v.text ++ x) (encodes-chars bytes u)
+
+-- what is sure to fit asks for no memory, and so is not refused
+asks-with_room : (v : PlacedText) (n : ℕ) → HasRoomFor v n → IsTrue (reserve_asks v n) → ⊥
+asks-with_room v n h asks = grind (arith, common_steps)
+
+pub reserve_asks-succeeds : {E : Type 0} (v w : PlacedText) (n : ℕ) (r : Result (Unit {0}) E) → OnErr r ((w ≡ v) × IsTrue (reserve_asks v n)) → HasRoomFor v n → IsOk r
+reserve_asks-succeeds v w n (Ok _) e h = refl
+reserve_asks-succeeds v w n (Err _) e h = absurd (asks-with_room v n h e.1)
+
+pub push_str_asks-succeeds : {E : Type 0} (v w : PlacedText) (n : ℕ) (s : List ℕ) (r : Result (Unit {0}) E) → n ≡ size s → OnErr r ((w ≡ v) × IsTrue (push_str_asks v s)) → HasRoomFor v n → IsOk r
+push_str_asks-succeeds v w n s (Ok _) k e h = refl
+push_str_asks-succeeds v w n s (Err _) k e h = absurd (asks-with_room v (size s) (subst (HasRoomFor v) k h) (and_parts _ _ e.1).1)

@@ -1,29 +1,61 @@
 -- The text that was put in stands between two boundaries.
-use Rattle.std.proofs.Common.{◌≡◌, ◌+◌, List, ℕ, Some, length, refl, sym, ap, ◌∙◌, subst}
+use Rattle.std.proofs.Common.{◌≡◌, ◌+◌, ◌<◌, ◌^◌, ℕ, Some, length, refl, sym, ap, ◌∙◌, subst, arith, OnOk, OnErr, IsTrue}
 use Rattle.std.proofs.lemmas.Result.{on_ok_weaker}
-use Rattle.compact_repr.specs.Text.{text_of}
-use Rattle.compact_repr.specs.Cut.{IsBoundary, replaced_text}
+use Rattle.compact_repr.specs.Text.{size, text_of}
+use Rattle.compact_repr.specs.Capacity.{reserve_asks}
 use Rattle.compact_repr.specs.Value.{PlacedText}
 use Rattle.compact_repr.specs.Change.{insert_str}
 use Rattle.compact_repr.proofs.Texts.{size-text_of}
-use Rattle.compact_str.proofs.Positions.{replace_range-start, replace_range-end, insert_str-behind}
+use Rattle.compact_repr.proofs.Changes.{insert_str-in_place}
+use Rattle.compact_repr.proofs.Cuts.{boundary-within}
+use Rattle.compact_str.proofs.Positions.{insert_str-text, insert_str-place, insert_str-behind}
+use Rattle.compact_str.proofs.Rooms.{insert_str-sure, reserve_asks-succeeds}
 use Rattle.compact_str.proofs.string.PolicyString.insert_str.Goals as goal
 
-pub returns-then-replace_in_place-clause-place : goal.returns-then-replace_in_place-clause-place
-returns-then-replace_in_place-clause-place g c =
-    let text : c.replace_in_place.new.self.text ≡ replaced_text c.args.self.now.text c.args.index c.args.index (text_of c.args.text.now) = ap (λ (v : PlacedText). v.text) (c.if-replace_in_place.ensures.replaced refl) ∙ rw c.self.view_is refl in
-    subst (λ (t : List ℕ). IsBoundary t c.args.index) (sym text) (replace_range-start c.args.self.now.text (text_of c.args.text.now) c.args.index c.args.index c.requires)
+pub returns-then-replace_in_place : goal.returns-then-replace_in_place
+returns-then-replace_in_place g c =
+    let v = c.args.self.now in
+    let w = c.replace_in_place.new.self in
+    let p = c.args.index in
+    let part = text_of c.args.text.now in
+    let long = size-text_of c.args.text.now c.utf8.text in
+    let fits = c.if-replace_in_place.ensures.fits.0 refl in
+    let at_view = insert_str-in_place g.P.Policy.growth c.self.inside.repr w p (length c.args.text.now) part (sym long) fits.0 fits.1 (c.if-replace_in_place.ensures.replaced refl) in
+    let done : insert_str g.P.Policy.growth v p part ≡ Some w = subst (λ (u : PlacedText). insert_str g.P.Policy.growth u p part ≡ Some w) c.self.view_is at_view in
+    let within = boundary-within v.text p c.requires in
+    record {
+      ok = done;
+      text = insert_str-text g.P.Policy.growth v w p part done;
+      place = insert_str-place g.P.Policy.growth v w p part done c.requires;
+      behind = insert_str-behind g.P.Policy.growth v w p (length c.args.text.now) part done c.requires long;
+      behind_fits = omega (arith, within, ap (λ (u : PlacedText). size u.text) c.self.view_is);
+      room = insert_str-sure g.P.Policy.growth v w p part done;
+      succeeds = λ _. refl;
+      err = tt;
+    }
 
-pub returns-then-replace_in_place-clause-behind : goal.returns-then-replace_in_place-clause-behind
-returns-then-replace_in_place-clause-behind g c =
-    let text : c.replace_in_place.new.self.text ≡ replaced_text c.args.self.now.text c.args.index c.args.index (text_of c.args.text.now) = ap (λ (v : PlacedText). v.text) (c.if-replace_in_place.ensures.replaced refl) ∙ rw c.self.view_is refl in
-    subst (λ (t : List ℕ). IsBoundary t (c.args.index + length c.args.text.now)) (sym text)
-    (replace_range-end c.args.self.now.text (text_of c.args.text.now) c.args.index c.args.index _ (length c.args.text.now) c.requires (size-text_of c.args.text.now c.utf8.text) refl)
-
-pub returns-clause-behind : goal.returns-clause-behind
-returns-clause-behind g c =
-    let same : c.replace_in_place.new.self ≡ c.args.self.now = c.if-replace_in_place.ensures.full refl ∙ c.self.view_is in
-    on_ok_weaker _
-    (λ e. insert_str-behind g.P.Policy.growth c.args.self.now c.insert_with_more_room.new.self c.args.index (length c.args.text.now) (text_of c.args.text.now)
-    (subst (λ (v : PlacedText). insert_str g.P.Policy.growth v c.args.index (text_of c.args.text.now) ≡ Some c.insert_with_more_room.new.self) same e) c.requires (size-text_of c.args.text.now c.utf8.text))
-    c.insert_with_more_room.ensures.ok
+pub returns : goal.returns
+returns g c =
+    let v = c.args.self.now in
+    let w = c.insert_with_more_room.new.self in
+    let r = c.insert_with_more_room.result in
+    let p = c.args.index in
+    let n = length c.args.text.now in
+    let part = text_of c.args.text.now in
+    let long = size-text_of c.args.text.now c.utf8.text in
+    let same : c.replace_in_place.new.self ≡ v = c.if-replace_in_place.ensures.full refl ∙ c.self.view_is in
+    let done : OnOk r (insert_str g.P.Policy.growth v p part ≡ Some w) =
+    subst (λ (u : PlacedText). OnOk r (insert_str g.P.Policy.growth u p part ≡ Some w)) same c.insert_with_more_room.ensures.ok in
+    let refused : OnErr r ((w ≡ v) × IsTrue (reserve_asks v n)) = subst (λ (u : PlacedText). OnErr r ((w ≡ u) × IsTrue (reserve_asks u n))) same c.insert_with_more_room.ensures.err in
+    let within = boundary-within v.text p c.requires in
+    let behind : p + n < 2 ^ 64 = omega (arith, within, ap (λ (u : PlacedText). size u.text) c.self.view_is) in
+    record {
+      ok = done;
+      text = on_ok_weaker r (insert_str-text g.P.Policy.growth v w p part) done;
+      place = on_ok_weaker r (λ e. insert_str-place g.P.Policy.growth v w p part e c.requires) done;
+      behind = on_ok_weaker r (λ e. insert_str-behind g.P.Policy.growth v w p n part e c.requires long) done;
+      behind_fits = on_ok_weaker r (λ _. behind) done;
+      room = on_ok_weaker r (insert_str-sure g.P.Policy.growth v w p part) done;
+      succeeds = reserve_asks-succeeds v w n r refused;
+      err = subst (λ (m : ℕ). OnErr r ((w ≡ v) × IsTrue (reserve_asks v m))) (sym long) refused;
+    }
