@@ -1,5 +1,5 @@
 -- What stays of tokens while names come in.
-use Rattle.std.proofs.Common.{◌≡◌, ℕ, ◌+◌, ◌<◌, ◌≤◌, List, [], ◌∷◌, ◌++◌, true, false, not, ◌↔◌, Option, Some, None, Result, Ok, Err, OnErr, length, slice_get, slice_index_or, flat_map, map, refl, ap, ap₂, sym, subst, ◌∙◌, arith, append-nil, append_assoc, length-append}
+use Rattle.std.proofs.Common.{◌≡◌, ℕ, ◌+◌, ◌<◌, ◌≤◌, List, [], ◌∷◌, ◌++◌, true, false, not, Option, Some, None, Result, Ok, Err, OnErr, length, slice_get, slice_index_or, flat_map, map, refl, ap, ap₂, sym, subst, ◌∙◌, arith, append-nil, append_assoc, length-append}
 use Rattle.std.proofs.lemmas.Grind.{common_steps, flat_map-append}
 use Rattle.std.proofs.lemmas.List.{map-append, length-map}
 use Rattle.std.proofs.lemmas.List.Filters.{length-filter_both}
