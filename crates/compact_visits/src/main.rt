@@ -38,13 +38,10 @@ fn count_visits<R: Read, W: Write>(alloc: Global, reader: &mut R, writer: &mut W
         .split(alloc, b'\n')
         .enumerate()
     {
-        match serde_json::from_slice::<Visit>(alloc, line?.as_slice()) {
-            Ok(visit) => sources.count(alloc, visit)?,
-            Err(error) => {
-                all_counted = false;
-                let fault = Fault::new(alloc, index.saturating_add(1), &error)?;
-                write_line(alloc, &mut writer, &fault)?;
-            }
+        let line = line?;
+        let number = index.saturating_add(1);
+        if !count_line(alloc, &mut sources, &mut writer, number, line.as_slice())? {
+            all_counted = false;
         }
     }
     for source in &sources.into_sorted(alloc)? {
@@ -52,6 +49,27 @@ fn count_visits<R: Read, W: Write>(alloc: Global, reader: &mut R, writer: &mut W
     }
     writer.flush()?;
     Ok(all_counted)
+}
+
+/// Counts the visit of a line, of which the number is counted from 1, or writes why it is none. Answers whether it is one.
+fn count_line<W: Write>(
+    alloc: Global,
+    sources: &mut Sources,
+    writer: &mut W,
+    number: usize,
+    line: &[u8],
+) -> Result<bool> {
+    match serde_json::from_slice::<Visit>(alloc, line) {
+        Ok(visit) => {
+            sources.count(alloc, visit)?;
+            Ok(true)
+        }
+        Err(error) => {
+            let fault = Fault::new(alloc, number, &error)?;
+            write_line(alloc, writer, &fault)?;
+            Ok(false)
+        }
+    }
 }
 
 /// Writes a value as a line of JSON.
