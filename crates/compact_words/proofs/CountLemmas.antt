@@ -1,5 +1,5 @@
 -- What one token more changes in the counts.
-use Rattle.std.proofs.Common.{◌≡◌, ◌≢◌, ℕ, ◌+◌, ◌<◌, ◌≤◌, List, Bool, true, false, length, nat_eq, refl, slice_index, slice_index_or, slice_set, take, ap, sym, ◌∙◌, [], map, true≢false, arith, rules}
+use Rattle.std.proofs.Common.{◌≡◌, ◌≢◌, ℕ, ◌+◌, ◌<◌, ◌≤◌, List, Bool, true, false, if◌then◌else◌, length, nat_eq, refl, slice_index, slice_index_or, slice_set, take, ap, sym, ◌∙◌, [], map, true≢false, arith, rules}
 use Rattle.std.proofs.lemmas.Grind.{common_steps}
 use Rattle.std.proofs.lemmas.List.{length-take, length-map, nil_from_length}
 use Rattle.std.proofs.lemmas.List.Sorted.{length_permutation}
@@ -7,7 +7,7 @@ use Rattle.std.proofs.lemmas.List.Sums.{count_by_more_yes, count_by_more_no, cou
 use Rattle.compact_uses.specs.declared.tokenizer.Kind.TheVariants.{Word}
 use Rattle.compact_uses.specs.declared.tokenizer.Token.{Token}
 use Rattle.compact_words.specs.declared.entries.Entry.{Entry}
-use Rattle.compact_words.specs.Entries.{is_word, word_count, entries_before, IsRanking}
+use Rattle.compact_words.specs.Entries.{is_word, is_word_kind, word_count, entries_before, IsRanking}
 
 pub count-bound : (tokens : List Token) (i n : ℕ) → word_count (take i tokens) n ≤ i
 count-bound tokens i n = omega (arith, count_by-le-length (is_word n) (take i tokens), length-take i tokens)
@@ -15,7 +15,7 @@ count-bound tokens i n = omega (arith, count_by-le-length (is_word n) (take i to
 counts-same : (n : ℕ) (token : Token) → token.kind ≡ Word → token.name ≡ n → is_word n token ≡ true
 counts-same n token kind name = grind (arith, common_steps, kind, name)
 
-counts-other : (n : ℕ) (token : Token) → token.name ≢ n → is_word n token ≡ false
+pub counts-other : (n : ℕ) (token : Token) → token.name ≢ n → is_word n token ≡ false
 counts-other n token other = grind (arith, common_steps, other)
 
 pub counted : (tokens : List Token) (i n : ℕ) (d : Token) (counts : List ℕ) (count : ℕ) → i < length tokens
@@ -36,6 +36,17 @@ counted tokens i n d counts count within kind known lt before is = by (nat_eq (s
         let name : (slice_index_or tokens i d).name ≢ n = search rules in
         let more = count_by_more_no (is_word n) tokens i d within (counts-other n (slice_index_or tokens i d) name) in
         grind (arith, common_steps, more, before, is, name)
+
+pub uncounted : (tokens : List Token) (i n : ℕ) (d : Token) (counts : List ℕ) → i < length tokens → is_word n (slice_index_or tokens i d) ≡ false
+    → slice_index counts n ≡ word_count (take i tokens) n → slice_index counts n ≡ word_count (take (i + 1) tokens) n
+uncounted tokens i n d counts within other before = before ∙ sym (count_by_more_no (is_word n) tokens i d within other)
+
+both-false : (same word : Bool) → word ≡ false → (if same then word else false) ≡ false
+both-false true word is = is
+both-false false word is = refl
+
+pub no-word : (n : ℕ) (token : Token) → is_word_kind token.kind ≡ false → is_word n token ≡ false
+no-word n token other = both-false (nat_eq token.name n) (is_word_kind token.kind) other
 
 -- of no names there are no words, and no rows
 
