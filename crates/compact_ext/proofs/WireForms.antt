@@ -15,7 +15,7 @@ use Rattle.std.specs.Io.KnownBytes.{Appends, Consumes, Keeps}
 use lib.Seq.{take-add, take-take}
 use Rattle.compact_str.specs.Text.{IsText, size, text_of, utf8}
 use Rattle.compact_str.specs.Value.{PlacedText}
-use Rattle.compact_repr.proofs.Texts.{length-utf8}
+use Rattle.compact_repr.proofs.Texts.{length-utf8, utf8-text_of}
 use Rattle.compact_ext.specs.declared.wire.WireError.{WireError}
 use Rattle.compact_ext.specs.declared.wire.WireError.TheVariants.{TooLong, UnexpectedEnd, Utf8, Io, WriteZero, Reserve}
 use Rattle.compact_ext.specs.Wire.{wire, claimed_len, WritesFront, IsWriterFault, WriteFails, IsUnfinished, IsReadFault, ReadFails, IsStop, StopsBelow, TextFails, IsOutsideForm, ReadsBack, FormTellsText}
@@ -23,6 +23,9 @@ use Rattle.compact_ext.specs.Wire.{wire, claimed_len, WritesFront, IsWriterFault
 -- what bytes spell that are a text is one
 pub made-text : (bytes t : List ℕ) → IsUtf8 bytes → t ≡ text_of bytes → IsText t
 made-text bytes t is same = subst IsText (sym same) (scalars-chars bytes is)
+
+pub made-utf8 : (bytes t : List ℕ) → IsUtf8 bytes → t ≡ text_of bytes → utf8 t ≡ bytes
+made-utf8 bytes t is same = ap utf8 same ∙ utf8-text_of bytes is
 
 pub ruleset made_texts = (made-text)
 
@@ -74,6 +77,10 @@ stops-later old mid new front n len e c s h = record {
   short = omega (arith, length-append front s.taken_bytes, s.short, h);
   cause = stop-more n len new e (omega (arith, h)) s.cause;
 }
+
+pub text-fails : (old new : Option (List ℕ)) (n : ℕ) (e : WireError) → StopsBelow old new n e → TextFails old new n e
+text-fails old new n Utf8 s = absurd s.cause
+text-fails old new n e s = s
 
 -- the four bytes of a length, and then what came of the text
 claimed : (n : ℕ) (taken : List ℕ) → n < 2 ^ 32 → claimed_len (to_le_bytes w32 n ++ taken) ≡ n
