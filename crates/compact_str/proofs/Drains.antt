@@ -1,18 +1,22 @@
 -- Parts of a text, and how they are taken out.
-use Rattle.std.proofs.Common.{◌≡◌, Some, ℕ, ◌+◌, ◌-◌, ◌*◌, ◌%◌, ◌^◌, ◌≤◌, List, [], ◌∷◌, ◌++◌, Bool, true, false, not, IsTrue, ◌↔◌, ◌&&◌, length, refl, ap, sym, ◌∙◌, subst, rules, arith, append_assoc, append-nil, length-append, ⊎_elim}
+use Rattle.std.proofs.Common.{◌≡◌, Some, ℕ, ◌+◌, ◌-◌, ◌*◌, ◌%◌, ◌^◌, ◌<◌, ◌≤◌, List, [], ◌∷◌, ◌++◌, Bool, true, false, not, IsTrue, ◌↔◌, ◌&&◌, length, refl, ap, sym, ◌∙◌, subst, rules, arith, append_assoc, append-nil, length-append, inl, inr, ⊎_elim}
+use lib.ListN.{get_or}
 use Rattle.std.proofs.lemmas.Grind.{common_steps}
-use Rattle.std.proofs.lemmas.Bool.{cases_Bool, cond-true, cond-false, true≢false, le-leb, leb-true, eq-eqb, eqb-true, ne_eqb, and_parts, and_from}
-use Rattle.std.proofs.lemmas.Str.{len_utf8_bounds}
+use Rattle.std.proofs.lemmas.Bool.{cases_Bool, cases_lt, cond-true, cond-false, true≢false, le-leb, leb-true, eq-eqb, eqb-true, ne_eqb, and_parts, and_from}
+use Rattle.std.proofs.lemmas.Str.{len_utf8_bounds, chars-IsAscii}
+use Rattle.std.specs.Bool.{MatchBool}
+use Rattle.std.specs.Str.{IsUtf8, IsAscii, IsNotAscii}
 use Rattle.std.specs.Char.{len_utf8, InScalarRange}
-use Rattle.compact_repr.specs.Text.{size}
+use Rattle.compact_repr.specs.Text.{size, text_of}
 use Rattle.compact_repr.specs.Cut.{IsBoundary, text_before, text_after, substring, replaced_text}
 use Rattle.compact_repr.specs.Value.{Place, inline, heap, static, IsCapacityOf, IsSound, PlacedText, placed_text, is_static}
 use Rattle.compact_repr.specs.Capacity.{Growth, owned_placement}
 use Rattle.compact_repr.specs.Change.{make_owned, replace_range}
-use Rattle.compact_repr.proofs.Texts.{size-append}
+use Rattle.compact_repr.proofs.Texts.{size-append, size-text_of}
+use Rattle.compact_repr.proofs.Keeping.{first_ascii, first_past_ascii}
 use Rattle.compact_repr.proofs.Cuts.{text_before-text_after, size-text_before, size-replaced, boundary-from_size}
 use Rattle.compact_repr.proofs.Middles.{substring-parts, parts-substring}
-use Rattle.compact_str.specs.RangeTexts.{is_boundary, is_range, range_text, without_range}
+use Rattle.compact_str.specs.RangeTexts.{is_boundary, is_range, range_text, IsAsciiRange, without_range}
 use Rattle.compact_str.proofs.Letters.{make_owned-text}
 
 pub make_owned-owned_placement : (g : Growth) (v u : PlacedText) → make_owned g v ≡ Some u → is_static u.placement.place ≡ false
@@ -214,6 +218,13 @@ without_range-is_range v i j front back whole within range is =
     let same = without_range-same v i j (omega (arith, is, within)) in
     subst (λ (t : List ℕ). is_range t front back ≡ true) (sym same) (range (subst (λ (t : List ℕ). size t ≡ whole) same is))
 
+pub without_range-ascii : (v : PlacedText) (i j front back whole : ℕ) → size v.text ≤ whole
+    → (size v.text ≡ whole → IsAsciiRange v.text front back)
+    → size (without_range v i j).text ≡ whole → IsAsciiRange (without_range v i j).text front back
+without_range-ascii v i j front back whole within ascii is =
+    let same = without_range-same v i j (omega (arith, is, within)) in
+    subst (λ (t : List ℕ). IsAsciiRange t front back) (sym same) (ascii (subst (λ (t : List ℕ). size t ≡ whole) same is))
+
 pub drained : (g : Growth) (v u : PlacedText) (i j : ℕ) → make_owned g v ≡ Some u → is_static u.placement.place ≡ false → i ≤ j → IsBoundary v.text i → IsBoundary v.text j → replace_range g v i j [] ≡ Some (without_range u i j)
 drained g v u i j o own order h k = rw (make_owned-placement g v u o, le-leb 0 (j - i) (omega arith), owned_placement-without_range g v u i j o own order h k) refl
 
@@ -225,6 +236,56 @@ length-least (c ∷ cs) = omega (arith, len_utf8_bounds c, length-least cs)
 pub length-most : (t : List ℕ) → size t ≤ 4 * length t
 length-most [] = omega arith
 length-most (c ∷ cs) = omega (arith, len_utf8_bounds c, length-most cs)
+
+-- where each of some characters takes one byte, the first does, and so do the others
+one-byte : (c : ℕ) (r : List ℕ) → length (c ∷ r) ≡ size (c ∷ r) → (len_utf8 c ≡ 1) × (length r ≡ size r)
+one-byte c r all =
+    let wide = len_utf8_bounds c in
+    let rest = length-least r in
+    (omega (arith, all, wide, rest), omega (arith, all, wide, rest))
+
+past-ascii : (c : ℕ) → 128 ≤ c → len_utf8 c ≡ 1 → ⊥
+past-ascii c high one = grind (arith, common_steps)
+
+low-first : (l : List ℕ) → 0 < length l → length l ≡ size l → ((c : ℕ) (rest : List ℕ) → l ≡ c ∷ rest → 128 ≤ c) → ⊥
+low-first [] some all high = omega (arith, some)
+low-first (c ∷ r) some all high = past-ascii c (high c r refl) (one-byte c r all).0
+
+-- the first byte of an ASCII text is its first character
+pub first-of_ascii : {text : List ℕ} (bytes : List ℕ) (c : ℕ) → bytes ≡ text → IsUtf8 text → 0 < length bytes → c ≡ get_or bytes 0 0
+    → length (text_of text) ≡ size (text_of text) → (len_utf8 c ≡ 1) × ((rest : List ℕ) × (text_of text ≡ c ∷ rest))
+first-of_ascii {text} bytes c e u some is all =
+    let wide : size (text_of text) ≡ length text = size-text_of text u in
+    let bytes_too : length bytes ≡ length text = ap length e in
+    elim (cases_lt c 128) [
+      | inl low ↦ first_ascii bytes c c e u some is low refl
+      | inr high ↦ absurd (low-first (text_of text) (omega (arith, some, wide, bytes_too, all)) all (first_past_ascii bytes c e u is high))
+    ]
+
+-- a range whose bytes are ASCII
+pub ascii-of_bytes : (t s : List ℕ) (i j : ℕ) (b : Bool) → is_range t i j ≡ true → text_of s ≡ substring t i j → IsUtf8 s
+    → MatchBool b (IsAscii s) (IsNotAscii s) → IsTrue b → IsAsciiRange t i j
+ascii-of_bytes t s i j true range is u ascii holds =
+    let whole : range_text t i j ≡ text_of s = cond-true _ _ _ range ∙ sym is in
+    rw whole (ap length (chars-IsAscii s ascii) ∙ sym (size-text_of s u))
+ascii-of_bytes t s i j false range is u ascii holds = absurd (true≢false (sym holds))
+
+-- an ASCII range is one still where a character is taken from the front
+pub ascii-front : (t r : List ℕ) (front back c behind : ℕ) → range_text t front back ≡ c ∷ r → range_text t behind back ≡ r
+    → IsAsciiRange t front back → IsAsciiRange t behind back
+ascii-front t r front back c behind old new all =
+    rw new (one-byte c r (subst (λ (l : List ℕ). length l ≡ size l) old all)).1
+
+-- or from the back
+pub ascii-back : (t r : List ℕ) (front back c width : ℕ) → range_text t front back ≡ r ++ c ∷ [] → range_text t front (back - width) ≡ r
+    → IsAsciiRange t front back → IsAsciiRange t front (back - width)
+ascii-back t r front back c width old new all =
+    let whole : length (r ++ c ∷ []) ≡ size (r ++ c ∷ []) = subst (λ (l : List ℕ). length l ≡ size l) old all in
+    let sizes = size-append r (c ∷ []) in
+    let lengths = length-append r (c ∷ []) in
+    let wide = len_utf8_bounds c in
+    let rest = length-least r in
+    rw new (omega (arith, whole, sizes, lengths, wide, rest))
 
 pub ruleset part_facts = (range-is_range, room-owned_placement)
 

@@ -3,8 +3,8 @@
 use compact_asserts::{equal, that};
 use compact_str::{CompactString, Drain, Standard};
 use compact_testing::memory::take_all;
-use compact_testing::seen::{is_inline, is_static};
-use compact_testing::values::{lasting, letters, short};
+use compact_testing::seen::{is_heap, is_inline, is_static};
+use compact_testing::values::{lasting, letters, short, value_of};
 use std::fmt::Write;
 use std::ops::Bound;
 use std::ops::Bound::{Excluded, Included, Unbounded};
@@ -107,6 +107,34 @@ fn the_ends_of_a_drain_meet(rt: HostRuntime) {
     equal(drained.next(), None).expect(&rt, "equal");
     drop(drained);
     that(is_inline(&value, "")).expect(&rt, "it holds");
+}
+
+/// Asserts what a drain of a long text gives from its front, from its back and in between, and what it leaves.
+fn assert_drained(
+    rt: &impl Abort,
+    mut value: CompactString,
+    (start, end): (usize, usize),
+    (first, rest, last): (char, &str, char),
+    left: &str,
+) {
+    let capacity = value.capacity();
+    let mut drained = drain(rt, &mut value, Included(start), Excluded(end));
+    equal(drained.next(), Some(first)).expect(rt, "equal");
+    equal(drained.next_back(), Some(last)).expect(rt, "equal");
+    equal(drained.as_str(), rest).expect(rt, "equal");
+    drop(drained);
+    that(is_heap(&value, capacity, left)).expect(rt, "it holds");
+}
+
+#[test]
+fn a_drain_of_a_long_text_gives_its_characters(rt: HostRuntime) {
+    let alloc = rt.alloc();
+    let value = value_of(alloc, "abcdefghijklmnopqrstuvwxyzABCD").expect(&rt, "memory");
+    let taken = ('c', "defghijklmnopqrstuvwxyzA", 'B');
+    assert_drained(&rt, value, (2, 28), taken, "abCD");
+    let value = value_of(alloc, "aéaéaéaéaéaéaéaéaé€").expect(&rt, "memory");
+    let taken = ('é', "aéaéaéaéaéaéaéaé", '€');
+    assert_drained(&rt, value, (1, 30), taken, "a");
 }
 
 #[test]

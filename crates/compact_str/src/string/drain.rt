@@ -1,5 +1,5 @@
 //! A range of a value that is taken out, character by character.
-ghost use Rattle.std.specs.Prelude.{◌≡◌, ℕ, ◌≤◌, List, length, [], Some, IfOk, OnErr, IsOk, IsTrue, true, false};
+ghost use Rattle.std.specs.Prelude.{◌≡◌, ℕ, ◌≤◌, List, length, [], Some, IfSome, IfOk, OnErr, IsOk, IsTrue, true, false};
 ghost use Rattle.std.specs.Borrow.{sem, RestsIfErr};
 ghost use Rattle.compact_repr.specs.Text.{size, utf8, text_of};
 ghost use Rattle.compact_repr.specs.Cut.{substring, replaced_text};
@@ -8,7 +8,7 @@ ghost use Rattle.compact_repr.specs.Value.{is_static};
 ghost use Rattle.compact_repr.specs.Change.{replace_range};
 ghost use Rattle.compact_str.specs.Room.{IsOwned};
 ghost use Rattle.compact_str.specs.Ranges.{IsRange, range_start, range_end};
-ghost use Rattle.compact_str.specs.RangeTexts.{is_range};
+ghost use Rattle.compact_str.specs.RangeTexts.{is_range, IsAsciiRange};
 
 mod range;
 
@@ -33,11 +33,15 @@ pub struct Drain<'a, P: Policy> {
     // What of the range is not yet taken.
     front: usize,
     back: usize,
+    // Whether the range is known to be ASCII. A loop over such a range tests no character for its width, so the compiler
+    // may take several in one step.
+    is_ascii: bool,
     ghost owned: { is_static value.now.placement.place ≡ false },
     ghost within: { size value.now.text ≤ whole },
     // So neither a step nor the drop need test whether these are boundaries.
     ghost range: { size value.now.text ≡ whole → is_range value.now.text front back ≡ true },
     ghost span: { size value.now.text ≡ whole → is_range value.now.text start end ≡ true },
+    ghost ascii: { size value.now.text ≡ whole → is_ascii ≡ true → IsAsciiRange value.now.text front back },
 }
 
 impl<P: Policy> PolicyString<P> {
@@ -99,6 +103,7 @@ impl<P: Policy> PolicyString<P> {
         ensures leaves { value_after_drain result ≡ without_range self.old start end }
     {
         let whole = self.len();
+        let is_ascii = self.is_ascii_range(start, end);
         Drain {
             value: self,
             start,
@@ -106,6 +111,7 @@ impl<P: Policy> PolicyString<P> {
             whole,
             front: start,
             back: end,
+            is_ascii,
         }
     }
 }
@@ -121,17 +127,30 @@ impl<P: Policy> Drain<'_, P> {
         ensures len { length result.now ≡ size (drain_rest self.now) }
     {
         // An inline text is short: the loop has one way of reading alone, that of the heap.
+        match self.heap_rest() {
+            Some(rest) => rest,
+            None => self.value.cold_range_text(self.front, self.back),
+        }
+    }
+
+    /// The same of a heap value, which is as it was when the drain was made; `None` of any other.
+    #[inline(always)]
+    fn heap_rest(&self) -> Option<&str>
+        ensures text { IfSome result (λ s. text_of s.now ≡ drain_rest self.now) }
+        ensures len { IfSome result (λ s. length s.now ≡ size (drain_rest self.now)) }
+        ensures ascii { IfSome result (λ s. self.now.is_ascii ≡ true → length (text_of s.now) ≡ size (text_of s.now)) }
+    {
         if let Some(text) = self.value.heap_str() {
             if text.len() == self.whole {
-                return substring(text, self.front, self.back);
+                return Some(substring(text, self.front, self.back));
             }
         }
-        self.value.cold_range_text(self.front, self.back)
+        None
     }
 }
 
 impl<P: Policy> Iterator for Drain<'_, P> {
-    ghost use Rattle.std.specs.Prelude.{◌+◌, ◌/◌, Some, IfSome};
+    ghost use Rattle.std.specs.Prelude.{◌+◌, ◌/◌, Some};
     ghost use Rattle.std.specs.Iterator.{at_most, UpTo};
     ghost use Rattle.std.specs.Iterator.SizeHint.{IsWithinCount};
     ghost use Rattle.compact_str.specs.Drain.{DrainsFront, drain_rest};
@@ -147,13 +166,21 @@ impl<P: Policy> Iterator for Drain<'_, P> {
     fn next(&mut self) -> Option<char> {
         // That `front` is before `back` tells the proof that the sums below fit.
         let (front, back) = (self.front, self.back);
-        let rest = self.as_str();
-        if rest.is_empty() {
-            return None;
-        }
-        if let Some(character) = first_ascii(rest) {
-            self.front = front + 1;
-            return Some(character);
+        if self.is_ascii {
+            if let Some(rest) = self.heap_rest() {
+                let letter = range::first_of_ascii(rest)?;
+                self.front = front + 1;
+                return Some(letter);
+            }
+        } else {
+            let rest = self.as_str();
+            if rest.is_empty() {
+                return None;
+            }
+            if let Some(character) = first_ascii(rest) {
+                self.front = front + 1;
+                return Some(character);
+            }
         }
         // It takes the positions, so that the loop need not count what is left.
         let word = self.value.first_code_and_width(front, back)?;
@@ -205,6 +232,7 @@ impl<P: Policy> Drop for Drain<'_, P> {
             whole,
             front: _,
             back: _,
+            is_ascii: _,
         } = self;
         value.remove_range(start, end, whole);
     }

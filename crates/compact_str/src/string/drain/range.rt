@@ -1,13 +1,16 @@
 //! What stands from one position to another, for any two positions.
-ghost use Rattle.std.specs.Prelude.{◌≡◌, ℕ, ◌+◌, ◌*◌, ◌%◌, ◌^◌, ◌<◌, ◌≤◌, List, [], ◌∷◌, length, IfSome, MatchOption, true, false};
+ghost use Rattle.std.specs.Prelude.{◌≡◌, IsTrue, ℕ, ◌+◌, ◌*◌, ◌%◌, ◌^◌, ◌<◌, ◌≤◌, List, [], ◌∷◌, length, IfSome, MatchOption, true, false};
 ghost use Rattle.std.specs.Char.{len_utf8, InScalarRange};
 ghost use Rattle.compact_repr.specs.Text.{size, text_of};
 ghost use Rattle.compact_repr.specs.Value.{is_static};
-ghost use Rattle.compact_str.specs.RangeTexts.{is_range, range_text, without_range};
+ghost use Rattle.compact_str.specs.RangeTexts.{is_range, range_text, IsAsciiRange, without_range};
 
 use crate::string::PolicyString;
 use crate::string::position::is_boundary;
 use compact_repr::{Policy, first_char, substring};
+
+/// The most bytes of a range that are looked at ahead.
+const MAX_LOOKED_AT: usize = 1024;
 
 /// What stands in `text` from one position to another, in bytes; nothing where these begin and end no range.
 #[inline(always)]
@@ -30,6 +33,19 @@ fn is_range(text: &str, start: usize, end: usize) -> bool
     start <= end && is_boundary(text, start) && is_boundary(text, end)
 }
 
+/// The first character of an ASCII text, or `None` of the empty text.
+#[inline(always)]
+pub fn first_of_ascii(text: &str) -> Option<char>
+    requires { length (text_of text.now) ≡ size (text_of text.now) }
+    ensures { MatchOption result (text_of text.now ≡ [])
+        (λ c. (len_utf8 c ≡ 1) × ((rest : List ℕ) × (text_of text.now ≡ c ∷ rest))) }
+{
+    if text.is_empty() {
+        return None;
+    }
+    Some(char::from(text.as_bytes()[0]))
+}
+
 /// Where a character ends that begins at `start`, in bytes, by what `first_code_and_width` answers of it.
 #[cold]
 #[inline(never)]
@@ -49,6 +65,23 @@ impl<P: Policy> PolicyString<P> {
         ensures len { IfSome result (λ s. length s.now ≡ size self.now.text) }
     {
         self.repr.heap_str()
+    }
+
+    /// Whether a range of a heap value is ASCII. It answers `false` of any other value, and of a range so long that a drain
+    /// from which no character is taken should not wait for the answer.
+    #[inline(never)]
+    #[tactic(auto, using(compact_repr::proofs::TextFacts::text_facts, crate::proofs::Drains::part_facts))]
+    pub(crate) fn is_ascii_range(&self, start: usize, end: usize) -> bool
+        requires { is_range self.now.text start end ≡ true }
+        ensures { IsTrue result → IsAsciiRange self.now.text start end }
+    {
+        match self.heap_str() {
+            Some(text) => {
+                let range = substring(text, start, end);
+                range.len() <= MAX_LOOKED_AT && range.is_ascii()
+            }
+            None => false,
+        }
     }
 
     /// What stands in the text from one position to another, for what is not expected: it stays out of its caller's loop, with the

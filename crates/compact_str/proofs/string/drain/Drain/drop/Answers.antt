@@ -1,5 +1,5 @@
 use Rattle.std.proofs.Common.{arith}
-use Rattle.compact_str.proofs.Drains.{without_range-owned_placement, without_range-is_range, size-without_range}
+use Rattle.compact_str.proofs.Drains.{without_range-owned_placement, without_range-is_range, without_range-ascii, size-without_range}
 use Rattle.compact_str.proofs.string.drain.Drain.drop.Goals as goal
 
 pub invariant_of-self : goal.invariant_of-self
@@ -13,5 +13,6 @@ invariant_of-self g c =
       owned = without_range-owned_placement v i j c.args.self.owned;
       within = omega (arith, less, within);
       range = without_range-is_range v i j c.args.self.front c.args.self.back c.args.self.whole within c.args.self.range;
+      ascii = λ is on. without_range-ascii v i j c.args.self.front c.args.self.back c.args.self.whole within (λ e. c.args.self.ascii e on) is;
       span = without_range-is_range v i j i j c.args.self.whole within c.args.self.span;
     }

@@ -1,5 +1,5 @@
 use Rattle.std.proofs.Common.{◌∷◌, ◌++◌, [], arith, rules, refl, sym, ap, ◌∙◌, length, length-append}
-use Rattle.compact_str.proofs.Drains.{back-taken}
+use Rattle.compact_str.proofs.Drains.{back-taken, ascii-back}
 use Rattle.compact_str.proofs.string.drain.DrainDoubleEndedIterator.next_back.Goals as goal
 
 pub overflow_sub-self : goal.overflow_sub-self
@@ -27,4 +27,11 @@ pub invariant_of-self : goal.invariant_of-self
 invariant_of-self g c =
     let d = c.args.self.now in
     let taken = back-taken d.value.now.text _ d.front d.back c.in_ok-character.character c.len_utf8.result c.as_str.ensures.text c.len_utf8.ensures.value c.in_ok-character.ensures in
-    record { owned = d.owned; within = d.within; range = λ _. taken.3; span = d.span }
+    let last = c.in_ok-character.ensures in
+    record {
+      owned = d.owned;
+      within = d.within;
+      range = λ _. taken.3;
+      span = d.span;
+      ascii = λ is on. ascii-back d.value.now.text last.0 d.front d.back c.in_ok-character.character c.len_utf8.result taken.0 taken.1 (d.ascii is on);
+    }

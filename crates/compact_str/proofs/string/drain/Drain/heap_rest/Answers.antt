@@ -1,6 +1,6 @@
 use Rattle.std.proofs.Common.{arith}
 use Rattle.compact_str.proofs.Drains.{range-is_range}
-use Rattle.compact_str.proofs.string.drain.Drain.as_str.Goals as goal
+use Rattle.compact_str.proofs.string.drain.Drain.heap_rest.Goals as goal
 
 pub substring-requires-clause-first : goal.substring-requires-clause-first
 substring-requires-clause-first g c =
