@@ -1,5 +1,6 @@
 -- An edit in place of a value that has room by now, seen from the value as it was.
-use Rattle.std.proofs.Common.{◌≡◌, ℕ, ◌+◌, ◌-◌, ◌<◌, ◌≤◌, List, ◌++◌, Option, Some, None, false, IsTrue, refl, ap, sym, ◌∙◌, arith}
+use Rattle.std.proofs.Common.{◌≡◌, ℕ, ◌+◌, ◌-◌, ◌<◌, ◌≤◌, List, ◌++◌, Option, Some, None, false, IsTrue}
+use Rattle.std.proofs.Common.{refl, ap, sym, ◌∙◌, arith}
 use Rattle.std.proofs.lemmas.Bool.{and_parts, not-true, leb-true, le-leb, lt-leb}
 use Rattle.std.specs.Prelude.{option_map, nat_eq}
 use Rattle.compact_repr.specs.Text.{size}

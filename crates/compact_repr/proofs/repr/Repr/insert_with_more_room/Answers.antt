@@ -18,7 +18,8 @@ returns-in_err-reserve g c = record {
 
 pub replace_in_place-requires : goal.replace_in_place-requires
 replace_in_place-requires g c =
-    let text = reserved-text g.P.Policy.growth c.args.self.now c.reserve.new.self (length c.args.text.now) c.in_ok-reserve.ensures.ok in
+    let n = length c.args.text.now in
+    let text = reserved-text g.P.Policy.growth c.args.self.now c.reserve.new.self n c.in_ok-reserve.ensures.ok in
     let there = subst (λ (t : List ℕ). IsBoundary t c.args.index) (sym text) c.requires in
     record { order = omega arith; first = there; last = there }
 

@@ -39,7 +39,7 @@ pub returns : goal.returns
 returns g c =
     let long = size-text_of c.args.text.now c.utf8.text in
     record {
-      ok = push-reserved g.P.Policy.growth c.args.self.now c.make_room.new.self c.push_in_place.new.self _ (length c.args.text.now)
+      ok = push-reserved g.P.Policy.growth c.args.self.now c.make_room.new.self c.push_in_place.new.self _ _
           long (sym c.if-is_empty.ensures) c.in_ok-make_room.ensures.ok (c.if-not-push_in_place.ensures.pushed refl);
       err = tt;
     }

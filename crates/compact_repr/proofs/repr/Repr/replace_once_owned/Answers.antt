@@ -9,7 +9,8 @@ use Rattle.compact_repr.proofs.Texts.{size-text_of}
 use Rattle.compact_repr.proofs.MoreRoom.{reserved-text, owned-text, FitsFor, fits-within, fits-beyond}
 use Rattle.compact_repr.proofs.MoreRoom.{replace-asks-within, replace-asks-beyond, replace-owned, replace-reserved}
 use Rattle.compact_repr.proofs.repr.Repr.replace_once_owned.Goals as goal
-use Rattle.compact_repr.proofs.repr.Repr.replace_once_owned.Goals.{then-text-replaced+in_ok-make_owned, else-text-replaced+in_ok-reserve}
+use Rattle.compact_repr.proofs.repr.Repr.replace_once_owned.Goals.{then-text-replaced+in_ok-make_owned}
+use Rattle.compact_repr.proofs.repr.Repr.replace_once_owned.Goals.{else-text-replaced+in_ok-reserve}
 
 on_err : {T E P : Type 0} (r : Result T E) → P → OnErr r P
 on_err (Ok _) h = tt
@@ -25,7 +26,7 @@ returns-in_err-make_owned g c =
     let long = size-text_of c.args.text.now c.utf8.text in
     let err = c.in_err-make_owned.ensures.err in
     let refused : (c.make_owned.new.self ≡ v) × IsTrue (replace_range_asks v c.args.start c.args.end s) =
-    (err.0, replace-asks-within v c.args.start c.args.end _ s long c.if-text-replaced.true err.1) in
+    (err.0, replace-asks-within v c.args.start c.args.end (length c.args.text.now) s long c.if-text-replaced.true err.1) in
     record { ok = IfOk-from_err _ _ c.from_residual.ensures.0; err = on_err _ refused }
 
 pub returns-in_err-reserve : goal.returns-in_err-reserve
@@ -35,7 +36,7 @@ returns-in_err-reserve g c =
     let long = size-text_of c.args.text.now c.utf8.text in
     let err = c.in_err-reserve.ensures.err in
     let refused : (c.reserve.new.self ≡ v) × IsTrue (replace_range_asks v c.args.start c.args.end s) =
-    (err.0, replace-asks-beyond v c.args.start c.args.end _ s long c.if-text-replaced.false err.1) in
+    (err.0, replace-asks-beyond v c.args.start c.args.end (length c.args.text.now) s long c.if-text-replaced.false err.1) in
     record { ok = IfOk-from_err _ _ c.from_residual-in_err-reserve.ensures.0; err = on_err _ refused }
 
 pub replace_in_place-requires : goal.replace_in_place-requires
@@ -81,9 +82,11 @@ returns g c =
     let done : replace_range g.P.Policy.growth v i j s ≡ Some x = elim c.if-text-replaced.branch [
       | then-text-replaced+in_ok-make_owned w ↦
           let there = is ∙ ap (λ (u : PlacedText). placed_text (replaced_text u.text i j s) u.placement) w.self-is in
-          replace-owned g.P.Policy.growth v w.make_owned.new.self x i j n s long w.if-text-replaced.true w.in_ok-make_owned.ensures.ok there
+          let short = w.if-text-replaced.true in
+          replace-owned g.P.Policy.growth v w.make_owned.new.self x i j n s long short w.in_ok-make_owned.ensures.ok there
       | else-text-replaced+in_ok-reserve w ↦
           let there = is ∙ ap (λ (u : PlacedText). placed_text (replaced_text u.text i j s) u.placement) w.self-is in
-          replace-reserved g.P.Policy.growth v w.reserve.new.self x i j n s long w.if-text-replaced.false w.in_ok-reserve.ensures.ok there
+          let more = w.if-text-replaced.false in
+          replace-reserved g.P.Policy.growth v w.reserve.new.self x i j n s long more w.in_ok-reserve.ensures.ok there
     ] in
     record { ok = done; err = tt }
