@@ -1,4 +1,4 @@
-use Rattle.std.proofs.Common.{◌≡◌, ◌∙◌, ap, sym, subst, take, arith, List, ℕ}
+use Rattle.std.proofs.Common.{◌≡◌, ◌∙◌, ◌++◌, ap, sym, subst, take, drop, length, arith, List, ℕ}
 use Rattle.std.specs.Str.{IsUtf8}
 use Rattle.compact_repr.specs.Text.{text_of}
 use Rattle.compact_repr.specs.Retain.{RetainsCharsTo}
@@ -14,7 +14,7 @@ returns-clause-fits g c =
 
 pub retain-kept-requires : goal.retain-kept-requires
 retain-kept-requires g c =
-    let items = c.self.inside.bytes.items in
+    let items : List ℕ = c.self.inside.bytes.items in
     let all : take c.len-len.result c.as_mut_slice.result.now ≡ items =
     ap (take c.len-len.result) c.as_mut_slice.ensures.value ∙ whole items c.len-len.result (omega arith) in
     record {
@@ -25,17 +25,21 @@ retain-kept-requires g c =
 
 pub returns-clause-text : goal.returns-clause-text
 returns-clause-text g c =
-    let items = c.self.inside.bytes.items in
+    let items : List ℕ = c.self.inside.bytes.items in
     let all : take c.len-len.result c.as_mut_slice.result.now ≡ items =
     ap (take c.len-len.result) c.as_mut_slice.ensures.value ∙ whole items c.len-len.result (omega arith) in
     let old = ap text_of all ∙ shown-text items c.self.view_is in
-    let kept : take c.retain-kept.result c.retain-kept.new.slice ≡ c.truncate.new.self.items =
-    ap (take c.retain-kept.result)
-    (sym (written items c.retain-kept.new.slice c.self.inside.bytes.len (omega arith) (omega arith))) ∙ sym c.truncate.ensures.items in
+    let back : List ℕ = c.retain-kept.new.slice in
+    let there : take c.self.inside.bytes.len (back ++ drop (length back) items) ≡ back =
+    written items back c.self.inside.bytes.len (omega arith) (omega arith) in
+    let now : List ℕ = c.truncate.new.self.items in
+    let cut : now ≡ take c.retain-kept.result (take c.self.inside.bytes.len (back ++ drop (length back) items)) =
+    c.truncate.ensures.items in
+    let kept : take c.retain-kept.result back ≡ now = sym (cut ∙ ap (take c.retain-kept.result) there) in
     let keep = c.args.keep.now in
     let left = c.retain-kept.new.keep in
     let front = text_of (take c.len-len.result c.as_mut_slice.result.now) in
-    subst (λ (t : List ℕ). RetainsCharsTo g.F.FnMut keep t (text_of c.truncate.new.self.items) left) old
+    subst (λ (t : List ℕ). RetainsCharsTo g.F.FnMut keep t (text_of now) left) old
     (subst (λ (bs : List ℕ). RetainsCharsTo g.F.FnMut keep front (text_of bs) left) kept c.retain-kept.ensures.text)
 
 pub returns-clause-callable : goal.returns-clause-callable

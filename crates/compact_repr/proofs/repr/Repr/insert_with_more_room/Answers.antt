@@ -1,4 +1,4 @@
-use Rattle.std.proofs.Common.{◌≡◌, ℕ, List, Result, Ok, Err, OnErr, length, refl, sym, subst, arith}
+use Rattle.std.proofs.Common.{ℕ, List, Result, Ok, Err, OnErr, length, refl, sym, subst, arith}
 use Rattle.std.proofs.lemmas.Bool.{false≢true}
 use Rattle.std.proofs.lemmas.Result.{IfOk-from_err}
 use Rattle.compact_repr.specs.Cut.{IsBoundary}
