@@ -10,6 +10,7 @@ pub mod TextFacts
 pub mod HeapTexts
 pub mod Strings
 pub mod Changes
+pub mod MoreRoom
 pub mod Numbers
 pub mod WordArrays
 pub mod ChangedWords
