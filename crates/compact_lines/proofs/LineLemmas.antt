@@ -2,7 +2,7 @@
 use Rattle.std.proofs.Common.{rules, codes, ◌≡◌, ℕ, ◌<◌, List, [], ◌∷◌, ◌++◌, ◌+◌, ◌-◌, length, take, drop, get_or, Option, Some, None, IfSome, sym, refl, ap, ◌∙◌, append_assoc, append-nil, take-append-drop, subst, IsTrue, Result, Ok, Err, IfOk, OnOk, OnErr, Bool, true, inl, inr}
 use Rattle.std.specs.Option.{option_map}
 use Rattle.std.specs.List.{concat}
-use Rattle.std.specs.Io.KnownBytes.{Appends, Keeps}
+use Rattle.std.specs.Io.KnownBytes.{Appends, Keeps, IsAtEnd}
 use Rattle.std.specs.Io.BufRead.{drop_through, take_through, strip_last, DropsThrough}
 use Rattle.std.specs.Str.{IsUtf8, is_utf8}
 use Rattle.std.proofs.KnownBytes.{Keeps-refl}
@@ -24,7 +24,7 @@ use Rattle.compact_lines.specs.declared.command.Command.TheVariants as commands
 use Rattle.compact_lines.specs.declared.command.Command.{Command}
 use Rattle.compact_lines.specs.Sessions.{Executes, command_asks}
 use Rattle.compact_lines.specs.Commands.{reference_to, line_command, command_itself, edit_itself, command_of, answers_of}
-use Rattle.compact_lines.specs.Lines.{AnswersCommand, DoesOrRefuses, outcome_line, value_line, AnswersLine, AnswersLines, IsFirstLine, bytes_of, AppendsFront, AppendsPart, AppendsSomeAnswers}
+use Rattle.compact_lines.specs.Lines.{AnswersCommand, DoesOrRefuses, outcome_line, value_line, AnswersLine, AnswersLines, IsFirstLine, bytes_of, AppendsFront, AppendsPart, AppendsAnswers, AppendsSomeAnswers}
 
 -- the growth of the program's value
 abbrev pub standard : Growth
@@ -281,16 +281,36 @@ so-far-more g v w u known now next old mid new kept taken line so_far takes some
       (appends-both old mid new (concat so_far.0) answered.0 so_far.4 answered.2) keeps),
 )
 
+at-itself : (known : Option (List ℕ)) → IfSome known (λ _. known ≡ known)
+at-itself None = tt
+at-itself (Some bytes) = refl
+
+at-end : (now left : Option (List ℕ)) → IfSome left (λ _. now ≡ left) → IsAtEnd now → IsAtEnd left
+at-end now None same end = tt
+at-end now (Some bytes) same end = let here = rw same at end in here
+
+pub so-far-none : (g : Growth) (v : PlacedText) (known old : Option (List ℕ)) → AnswersSoFar g v known known old old v
+so-far-none g v known old = ([], known, (refl, refl), at-itself known, appends-nothing old)
+
+-- all lines are answered where what is left of the known bytes is at its end
+pub all-answered : (g : Growth) (v w : PlacedText) (known now old new : Option (List ℕ)) → AnswersSoFar g v known now old new w → IsAtEnd now
+    → AppendsAnswers g v known old new w
+all-answered g v w known now old new so_far end = (so_far.0, (so_far.1, at-end now so_far.1 so_far.3 end, so_far.2), so_far.4)
+
 -- the session may stop before any line is read, after some lines, or within an answer
 
 pub stopped-at-first : {X E : Type 0} (r : Result X E) (g : Growth) (v : PlacedText) (known old : Option (List ℕ)) → OnErr r (AppendsSomeAnswers g v known old old)
 stopped-at-first (Ok x) g v known old = tt
 stopped-at-first (Err e) g v known old = ([], known, v, (refl, refl), front-none old old [] (Keeps-refl old))
 
+pub stopped-so-far : (g : Growth) (v w : PlacedText) (known now old new : Option (List ℕ)) → AnswersSoFar g v known now old new w
+    → AppendsSomeAnswers g v known old new
+stopped-so-far g v w known now old new so_far = (so_far.0, so_far.1, w, so_far.2, front-all old new (concat so_far.0) so_far.4)
+
 pub stopped-after : {X E : Type 0} (r : Result X E) (g : Growth) (v w : PlacedText) (known now old new : Option (List ℕ)) → AnswersSoFar g v known now old new w
     → OnErr r (AppendsSomeAnswers g v known old new)
 stopped-after (Ok x) g v w known now old new so_far = tt
-stopped-after (Err e) g v w known now old new so_far = (so_far.0, so_far.1, w, so_far.2, front-all old new (concat so_far.0) so_far.4)
+stopped-after (Err e) g v w known now old new so_far = stopped-so-far g v w known now old new so_far
 
 within-part : (g : Growth) (v w : PlacedText) (known now old mid new : Option (List ℕ)) (taken line : List ℕ)
     → AnswersSoFar g v known now old mid w → IfSome now (λ bytes. taken ≡ take_through 10 bytes) → 0 < length taken
