@@ -1,9 +1,10 @@
 -- Records that are read line by line.
-use Rattle.std.proofs.Common.{◌≡◌, ℕ, ◌<◌, List, [], ◌∷◌, ◌++◌, length, Option, Some, None, IfSome, sym, refl, ap, ◌∙◌, append_assoc}
+use Rattle.std.proofs.Common.{◌≡◌, ℕ, ◌<◌, List, [], ◌∷◌, ◌++◌, length, Option, Some, None, IfSome, sym, refl, ap, ◌∙◌, append_assoc, append-nil, subst}
 use Rattle.std.specs.Global.{Vec}
+use Rattle.std.specs.Io.KnownBytes.{IsAtEnd}
 use Rattle.std.specs.Io.BufRead.{first_piece, drop_through, DropsThrough}
 use Rattle.compact_str.specs.Value.{PlacedText}
-use Rattle.compact_uses.specs.RecordLines.{IsRecordOf, IsCauseAt, ReadsRecords, ReadsUpTo}
+use Rattle.compact_uses.specs.RecordLines.{IsRecordOf, IsCauseAt, ReadsRecords, ReadsAll, ReadsUpTo}
 use Rattle.compact_uses.specs.declared.records.RecordsCause.{RecordsCause}
 
 -- after the first lines comes one more
@@ -17,6 +18,18 @@ reads-more separator bytes (r ∷ rs) rest fields reads some is =
 abbrev pub ReadsSoFar : ℕ → Option (List ℕ) → List (Vec PlacedText) → List (Vec PlacedText) → Option (List ℕ) → Type 0
 ReadsSoFar separator known before now left = IfSome known (λ bytes. (records : List (Vec PlacedText)) × (rest : List ℕ)
     × (now ≡ before ++ records) × ReadsRecords separator bytes records rest × (left ≡ Some rest))
+
+pub none-read : (separator : ℕ) (known : Option (List ℕ)) (before : List (Vec PlacedText)) → ReadsSoFar separator known before before known
+none-read separator None before = tt
+none-read separator (Some bytes) before = ([], bytes, sym (append-nil before), refl, refl)
+
+-- all lines are read where what is left of the known bytes is at its end
+pub all-read : (separator : ℕ) (known left : Option (List ℕ)) (before now : List (Vec PlacedText)) → ReadsSoFar separator known before now left → IsAtEnd left
+    → IfSome known (λ bytes. ReadsAll separator bytes before now)
+all-read separator None left before now so_far end = tt
+all-read separator (Some bytes) left before now so_far end =
+    let ended = rw so_far.4 at end in
+    (so_far.0, so_far.2, subst (λ (rest : List ℕ). ReadsRecords separator bytes so_far.0 rest) ended so_far.3)
 
 pub next-line : (separator : ℕ) (known left next : Option (List ℕ)) (before now after : List (Vec PlacedText)) (piece : List ℕ) (fields : Vec PlacedText)
     → ReadsSoFar separator known before now left → IfSome left (λ xs. (0 < length xs) × (piece ≡ first_piece 10 xs)) → DropsThrough left next 10
@@ -51,3 +64,10 @@ pub one-more-behind : (before now after : List (Vec PlacedText)) (fields : Vec P
     → after ≡ now ++ fields ∷ [] → (read : List (Vec PlacedText)) × (after ≡ before ++ read)
 one-more-behind before now after fields behind pushed =
     (behind.0 ++ fields ∷ [], pushed ∙ ap (λ r. r ++ fields ∷ []) behind.1 ∙ append_assoc before behind.0 (fields ∷ []))
+
+pub none-behind : (before : List (Vec PlacedText)) → (read : List (Vec PlacedText)) × (before ≡ before ++ read)
+none-behind before = ([], sym (append-nil before))
+
+pub same-behind : (before now after : List (Vec PlacedText)) → ((read : List (Vec PlacedText)) × (now ≡ before ++ read)) → after ≡ now
+    → (read : List (Vec PlacedText)) × (after ≡ before ++ read)
+same-behind before now after behind same = (behind.0, same ∙ behind.1)
