@@ -1,7 +1,8 @@
-use Rattle.std.proofs.Common.{◌≡◌, ℕ, ◌+◌, [], ◌∷◌, ◌++◌, true, false, true≢false, Result, Ok, Err, IfErr, IsErrAnd, drop, length, length-append, refl, sym, ap, ap₂, List, ◌∙◌, arith, append-nil}
+use Rattle.std.proofs.Common.{◌≡◌, ◌<◌, ℕ, ◌+◌, [], ◌∷◌, ◌++◌, true, false, true≢false, Result, Ok, Err, IfErr, IsErrAnd, drop, length, length-append, refl, sym, ap, ap₂, List, ◌∙◌, arith, append-nil}
 use Rattle.std.proofs.lemmas.Grind.{common_steps}
 use Rattle.std.proofs.lemmas.Result.{IfOk-from_err}
-use Rattle.std.proofs.lemmas.Str.{IsUtf8-drop}
+use Rattle.std.proofs.lemmas.Str.{IsUtf8-drop, length-encode, len_utf8_bounds}
+use Rattle.std.specs.Char.{encode_utf8}
 use Rattle.std.specs.Str.Iter.{chars_rest}
 use Rattle.compact_str.specs.Text.{text_of}
 use Rattle.compact_str.specs.Cut.{text_before, text_after}
@@ -21,6 +22,13 @@ handed-error (Err y) P e is holds = rw is holds
 none-behind : (xs ys : List ℕ) → xs ++ ys ≡ [] → ys ≡ []
 none-behind [] ys none = none
 none-behind (x ∷ xs) ys none = grind (arith, common_steps, none)
+
+fewer-left : (c : ℕ) (before later : List ℕ) → before ≡ encode_utf8 c ++ later → length later < length before
+fewer-left c before later is =
+    let more = ap length is in
+    let joined = length-append (encode_utf8 c) later in
+    let width = length-encode c in
+    let some = len_utf8_bounds c in omega arith
 
 pub loop-character-init : goal.loop-character-init
 loop-character-init c = record {
@@ -245,3 +253,9 @@ returns-in_err-push_token-2-clause-err c = handed-error _ _ _ c.from_residual-in
 
 pub returns-in_err-push_token-2-clause-empty : goal.returns-in_err-push_token-2-clause-empty
 returns-in_err-push_token-2-clause-empty c = λ none. absurd (true≢false (sym (c.in_err-push_token-2.ensures.empty (none-behind _ _ (c.loop-character.invariant.joined ∙ none)))))
+
+pub loop-character-smaller : goal.loop-character-smaller
+loop-character-smaller c = fewer-left _ _ _ c.in-Some.ensures.steps.0
+
+pub loop-character-smaller-then-goes_on : goal.loop-character-smaller-then-goes_on
+loop-character-smaller-then-goes_on c = fewer-left _ _ _ c.in-Some.ensures.steps.0
