@@ -1,5 +1,6 @@
-use Rattle.std.proofs.Common.{◌≡◌, ◌++◌, ◌∷◌, [], sym, arith, append-nil}
+use Rattle.std.proofs.Common.{◌≡◌, refl, ◌++◌, ◌∷◌, [], sym, arith, append-nil}
 use Rattle.std.proofs.lemmas.Grind.{common_steps}
+use Rattle.std.proofs.lemmas.Result.{IfOk-from_err}
 use Rattle.compact_str.specs.Text.{text_of}
 use Rattle.compact_uses.proofs.PieceLemmas.{no-text, filled-text}
 use Rattle.compact_uses.proofs.TokenLemmas.{put-joined, put-names, put-tokens, one-name, parted-push, last-apart, none-apart, front-left, front-with}
@@ -59,3 +60,72 @@ returns-then-is_err-clause-front c =
     λ before others are apart. front-with before _ _ _ (record { kind = c.args.kind; name = c.in_ok-name.name }) _ others c.intern.ensures.kept
     c.requires.tokens c.requires.parted c.requires.follows c.in_ok-name.ensures.number c.in_ok-name.ensures.names filled c.requires.alike
     c.requires.single apart are
+
+pub returns-then-is_empty-clause-parted : goal.returns-then-is_empty-clause-parted
+returns-then-is_empty-clause-parted c = c.requires.parted
+
+pub returns-then-is_empty-clause-tokens : goal.returns-then-is_empty-clause-tokens
+returns-then-is_empty-clause-tokens c = c.requires.tokens
+
+pub returns-then-is_empty-clause-names : goal.returns-then-is_empty-clause-names
+returns-then-is_empty-clause-names c = λ before are. are
+
+pub returns-then-is_empty-clause-kept : goal.returns-then-is_empty-clause-kept
+returns-then-is_empty-clause-kept c = λ n name at. at
+
+pub returns-then-is_empty-clause-empty : goal.returns-then-is_empty-clause-empty
+returns-then-is_empty-clause-empty c = λ none. refl
+
+pub returns-then-is_empty-clause-front : goal.returns-then-is_empty-clause-front
+returns-then-is_empty-clause-front c = tt
+
+pub returns-then-is_empty-clause-err : goal.returns-then-is_empty-clause-err
+returns-then-is_empty-clause-err c = tt
+
+pub returns-in_err-name-clause-joined : goal.returns-in_err-name-clause-joined
+returns-in_err-name-clause-joined c = IfOk-from_err _ _ c.from_residual.ensures.0
+
+pub returns-in_err-name-clause-parted : goal.returns-in_err-name-clause-parted
+returns-in_err-name-clause-parted c = IfOk-from_err _ _ c.from_residual.ensures.0
+
+pub returns-in_err-name-clause-last : goal.returns-in_err-name-clause-last
+returns-in_err-name-clause-last c = IfOk-from_err _ _ c.from_residual.ensures.0
+
+pub returns-in_err-name-clause-tokens : goal.returns-in_err-name-clause-tokens
+returns-in_err-name-clause-tokens c = IfOk-from_err _ _ c.from_residual.ensures.0
+
+pub returns-in_err-name-clause-names : goal.returns-in_err-name-clause-names
+returns-in_err-name-clause-names c = IfOk-from_err _ _ c.from_residual.ensures.0
+
+pub returns-in_err-name-clause-kept : goal.returns-in_err-name-clause-kept
+returns-in_err-name-clause-kept c = c.intern.ensures.kept
+
+pub returns-then-is_err-clause-joined : goal.returns-then-is_err-clause-joined
+returns-then-is_err-clause-joined c = tt
+
+pub returns-then-is_err-clause-parted : goal.returns-then-is_err-clause-parted
+returns-then-is_err-clause-parted c = tt
+
+pub returns-then-is_err-clause-last : goal.returns-then-is_err-clause-last
+returns-then-is_err-clause-last c = tt
+
+pub returns-then-is_err-clause-tokens : goal.returns-then-is_err-clause-tokens
+returns-then-is_err-clause-tokens c = tt
+
+pub returns-then-is_err-clause-names : goal.returns-then-is_err-clause-names
+returns-then-is_err-clause-names c = tt
+
+pub returns-then-is_err-clause-kept : goal.returns-then-is_err-clause-kept
+returns-then-is_err-clause-kept c = c.intern.ensures.kept
+
+pub returns-clause-kept : goal.returns-clause-kept
+returns-clause-kept c = c.intern.ensures.kept
+
+pub returns-clause-empty : goal.returns-clause-empty
+returns-clause-empty c = λ none. refl
+
+pub returns-clause-front : goal.returns-clause-front
+returns-clause-front c = tt
+
+pub returns-clause-err : goal.returns-clause-err
+returns-clause-err c = tt
