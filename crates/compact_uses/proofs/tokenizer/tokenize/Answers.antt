@@ -1,12 +1,12 @@
-use Rattle.std.proofs.Common.{◌≡◌, ◌<◌, ℕ, ◌+◌, [], ◌∷◌, ◌++◌, true, false, true≢false, Result, Ok, Err, IfErr, IsErrAnd, drop, length, length-append, refl, sym, ap, ap₂, List, ◌∙◌, arith, append-nil}
+use Rattle.std.proofs.Common.{◌≡◌, ◌<◌, ◌^◌, Fits, w64, ℕ, ◌+◌, [], ◌∷◌, ◌++◌, true, false, true≢false, Result, Ok, Err, IfErr, IsErrAnd, drop, length, length-append, refl, sym, ap, ap₂, List, ◌∙◌, arith, append-nil}
 use Rattle.std.proofs.lemmas.Grind.{common_steps}
 use Rattle.std.proofs.lemmas.Result.{IfOk-from_err}
-use Rattle.std.proofs.lemmas.Str.{IsUtf8-drop, length-encode, len_utf8_bounds}
+use Rattle.std.proofs.lemmas.Str.{IsUtf8-drop, IsUtf8-take, length-encode, len_utf8_bounds}
 use Rattle.std.specs.Char.{encode_utf8}
 use Rattle.std.specs.Str.Iter.{chars_rest}
-use Rattle.compact_str.specs.Text.{text_of}
+use Rattle.compact_str.specs.Text.{size, text_of}
 use Rattle.compact_str.specs.Cut.{text_before, text_after}
-use Rattle.compact_str.proofs.ForCallers.{text_before-text_after, text_of-take}
+use Rattle.compact_str.proofs.ForCallers.{text_before-text_after, text_of-take, size-append}
 use Rattle.compact_str.proofs.TextBytes.{boundary-bytes}
 use Rattle.compact_edit.specs.Names.{distinct_texts}
 use Rattle.compact_uses.proofs.PieceLemmas.{next-character, first-character, first-piece, start-boundary, whole-piece, cut-joined, none-next, next-text}
@@ -29,6 +29,14 @@ fewer-left c before later is =
     let joined = length-append (encode_utf8 c) later in
     let width = length-encode c in
     let some = len_utf8_bounds c in omega arith
+
+on-fits : (front rest whole piece later : List ℕ) (n bytes : ℕ) → front ++ rest ≡ whole → rest ≡ piece ++ later → size piece ≡ n → bytes ≡ size whole
+    → bytes < 2 ^ 64 → Fits w64 n
+on-fits front rest whole piece later n bytes joined parts position is fits =
+    let all = ap size joined in
+    let two = ap size parts in
+    let first = size-append front rest in
+    let second = size-append piece later in omega arith
 
 pub loop-character-init : goal.loop-character-init
 loop-character-init c = record {
@@ -259,3 +267,23 @@ loop-character-smaller c = fewer-left _ _ _ c.in-Some.ensures.steps.0
 
 pub loop-character-smaller-then-goes_on : goal.loop-character-smaller-then-goes_on
 loop-character-smaller-then-goes_on c = fewer-left _ _ _ c.in-Some.ensures.steps.0
+
+pub overflow_add-len : goal.overflow_add-len
+overflow_add-len c =
+    let next = next-character c.loop-character.rest.now _ c.loop-character.len c.in-Some.character c.loop-character.invariant.is_text c.loop-character.invariant.boundary
+    (c.loop-character.invariant.here ∙ c.in-Some.ensures.steps.0) in
+    let fits = c.as_str-rest.type_inv.0 in
+    let len = c.as_str-rest.ensures.len in
+    rw c.len_utf8-len.ensures.value (on-fits _ (text_of c.loop-character.rest.now) _ next.boundary.0 next.boundary.1 _ _ c.loop-character.invariant.joined
+    next.boundary.2.parts next.boundary.2.position len fits)
+
+pub push_token-requires-text-piece : goal.push_token-requires-text-piece
+push_token-requires-text-piece c κs =
+    rw c.split_at.ensures.front (IsUtf8-take c.loop-character.rest.now c.loop-character.len c.loop-character.invariant.is_text
+    (boundary-bytes c.loop-character.rest.now c.loop-character.len refl c.loop-character.invariant.is_text c.loop-character.invariant.boundary))
+
+pub push_token-requires-2-text-piece : goal.push_token-requires-2-text-piece
+push_token-requires-2-text-piece c κs = c.loop-character.invariant.is_text
+
+pub split_at-requires-text-self : goal.split_at-requires-text-self
+split_at-requires-text-self c κs = c.loop-character.invariant.is_text
