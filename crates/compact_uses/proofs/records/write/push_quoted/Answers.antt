@@ -16,7 +16,8 @@ first-room : (n k : ℕ) → n + (1 + k) ≤ 24 → n + 1 ≤ 24
 first-room n k small = omega arith
 
 -- the field is written but for the last quote, which has room
-last-room : (v : PlacedText) (before front text done : List ℕ) → front ≡ before ++ quote ∷ [] → v.text ≡ front ++ escaped_text done → done ≡ text
+last-room : (v : PlacedText) (before front text done : List ℕ) → front ≡ before ++ quote ∷ []
+    → v.text ≡ front ++ escaped_text done → done ≡ text
     → size before + size (quoted_field text) ≤ 24 → size v.text + 1 ≤ 24
 last-room v before front text done begun now same small =
     let lead = ap size begun ∙ size-append before (quote ∷ []) in
@@ -36,8 +37,10 @@ loop-character-preserved c =
 
 pub returns-clause-text : goal.returns-clause-text
 returns-clause-text c =
-    let end = YieldsList-end (YieldsList-from_chars c.as_str.result.now c.as_str.utf8 cc) c.loop-character.yielded _ c.loop-character.yielded_by _ _ c.in-None.is c.next.ensures.steps in
-    let whole : c.loop-character.yielded ≡ c.args.field.now.text = sym (map-id c.loop-character.yielded) ∙ end.0 ∙ c.as_str.ensures.text in
+    let end = YieldsList-end (YieldsList-from_chars c.as_str.result.now c.as_str.utf8 cc) c.loop-character.yielded _
+    c.loop-character.yielded_by _ _ c.in-None.is c.next.ensures.steps in
+    let whole : c.loop-character.yielded ≡ c.args.field.now.text = sym (map-id c.loop-character.yielded) ∙ end.0 ∙
+    c.as_str.ensures.text in
     grind (arith, common_steps, append_assoc, whole)
 
 pub returns-in_err-push-2-clause-succeeds : goal.returns-in_err-push-2-clause-succeeds
@@ -77,8 +80,11 @@ returns-in_err-push-clause-succeeds c = λ small.
 
 pub returns-in_err-push-5-clause-succeeds : goal.returns-in_err-push-5-clause-succeeds
 returns-in_err-push-5-clause-succeeds c = λ small.
-    let end = YieldsList-end (YieldsList-from_chars c.as_str.result.now c.as_str.utf8 cc) c.loop-character.yielded _ c.loop-character.yielded_by _ _ c.in-None.is c.next.ensures.steps in
-    let whole : c.loop-character.yielded ≡ c.args.field.now.text = sym (map-id c.loop-character.yielded) ∙ end.0 ∙ c.as_str.ensures.text in
-    let room = last-room c.loop-character.line c.args.line.now.text c.push.new.self.text c.args.field.now.text c.loop-character.yielded
+    let end = YieldsList-end (YieldsList-from_chars c.as_str.result.now c.as_str.utf8 cc) c.loop-character.yielded _
+    c.loop-character.yielded_by _ _ c.in-None.is c.next.ensures.steps in
+    let whole : c.loop-character.yielded ≡ c.args.field.now.text = sym (map-id c.loop-character.yielded) ∙ end.0 ∙
+    c.as_str.ensures.text in
+    let room = last-room c.loop-character.line c.args.line.now.text c.push.new.self.text c.args.field.now.text
+    c.loop-character.yielded
     c.in_ok-push.ensures.text c.loop-character.invariant.text whole small in
     absurd (not-refused c.loop-character.line 1 room c.in_err-push-5.ensures.succeeds)
