@@ -293,7 +293,8 @@ pub so-far-none : (g : Growth) (v : PlacedText) (known old : Option (List ℕ)) 
 so-far-none g v known old = ([], known, (refl, refl), at-itself known, appends-nothing old)
 
 -- all lines are answered where what is left of the known bytes is at its end
-pub all-answered : (g : Growth) (v w : PlacedText) (known now old new : Option (List ℕ)) → AnswersSoFar g v known now old new w → IsAtEnd now
+pub all-answered : (g : Growth) (v w : PlacedText) (known now old new : Option (List ℕ))
+    → AnswersSoFar g v known now old new w → IsAtEnd now
     → AppendsAnswers g v known old new w
 all-answered g v w known now old new so_far end = (so_far.0, (so_far.1, at-end now so_far.1 so_far.3 end, so_far.2), so_far.4)
 

@@ -19,12 +19,14 @@ abbrev pub ReadsSoFar : ℕ → Option (List ℕ) → List (Vec PlacedText) → 
 ReadsSoFar separator known before now left = IfSome known (λ bytes. (records : List (Vec PlacedText)) × (rest : List ℕ)
     × (now ≡ before ++ records) × ReadsRecords separator bytes records rest × (left ≡ Some rest))
 
-pub none-read : (separator : ℕ) (known : Option (List ℕ)) (before : List (Vec PlacedText)) → ReadsSoFar separator known before before known
+pub none-read : (separator : ℕ) (known : Option (List ℕ)) (before : List (Vec PlacedText))
+    → ReadsSoFar separator known before before known
 none-read separator None before = tt
 none-read separator (Some bytes) before = ([], bytes, sym (append-nil before), refl, refl)
 
 -- all lines are read where what is left of the known bytes is at its end
-pub all-read : (separator : ℕ) (known left : Option (List ℕ)) (before now : List (Vec PlacedText)) → ReadsSoFar separator known before now left → IsAtEnd left
+pub all-read : (separator : ℕ) (known left : Option (List ℕ)) (before now : List (Vec PlacedText))
+    → ReadsSoFar separator known before now left → IsAtEnd left
     → IfSome known (λ bytes. ReadsAll separator bytes before now)
 all-read separator None left before now so_far end = tt
 all-read separator (Some bytes) left before now so_far end =
@@ -68,6 +70,7 @@ one-more-behind before now after fields behind pushed =
 pub none-behind : (before : List (Vec PlacedText)) → (read : List (Vec PlacedText)) × (before ≡ before ++ read)
 none-behind before = ([], sym (append-nil before))
 
-pub same-behind : (before now after : List (Vec PlacedText)) → ((read : List (Vec PlacedText)) × (now ≡ before ++ read)) → after ≡ now
+pub same-behind : (before now after : List (Vec PlacedText)) → ((read : List (Vec PlacedText)) × (now ≡ before ++ read))
+    → after ≡ now
     → (read : List (Vec PlacedText)) × (after ≡ before ++ read)
 same-behind before now after behind same = (behind.0, same ∙ behind.1)

@@ -12,7 +12,8 @@ with-its-value (Err e) x P p = tt
 
 pub returns-in_err-reader-clause-err : goal.returns-in_err-reader-clause-err
 returns-in_err-reader-clause-err g c =
-    stopped-at-first _ standard (placed_text [] inline_placement) (g.R.Read.remaining c.args.reader.now) (g.W.Write.contents c.args.writer.now)
+    stopped-at-first _ standard (placed_text [] inline_placement) (g.R.Read.remaining c.args.reader.now)
+    (g.W.Write.contents c.args.writer.now)
 
 pub returns-in_err-reader-clause-ok : goal.returns-in_err-reader-clause-ok
 returns-in_err-reader-clause-ok g c = IfOk-from_err _ _ c.from_residual.ensures.0
@@ -22,12 +23,14 @@ returns-in_err-session-clause-ok g c = IfOk-from_err _ _ c.from_residual-in_err-
 
 pub returns-in_err-session-clause-err : goal.returns-in_err-session-clause-err
 returns-in_err-session-clause-err g c =
-    stopped-at-first _ standard (placed_text [] inline_placement) (g.R.Read.remaining c.args.reader.now) (g.W.Write.contents c.args.writer.now)
+    stopped-at-first _ standard (placed_text [] inline_placement) (g.R.Read.remaining c.args.reader.now)
+    (g.W.Write.contents c.args.writer.now)
 
 pub returns-clause-ok : goal.returns-clause-ok
 returns-clause-ok g c =
     let read = c.in_ok-reader.ensures in
-    let ok = rw (c.in_ok-session.ensures, read.capacity, read.empty, read.inner, prepend_known-nil) at c.answer_lines.ensures.ok in
+    let ok = rw (c.in_ok-session.ensures, read.capacity, read.empty, read.inner, prepend_known-nil)
+    at c.answer_lines.ensures.ok in
     with-its-value _ c.answer_lines.new.session _ ok
 
 pub returns-clause-err : goal.returns-clause-err

@@ -10,7 +10,8 @@ some-read bytes len before n is more some = omega arith
 pub loop-preserved : goal.loop-preserved
 loop-preserved g c =
     let takes = rw c.clear.ensures.items at c.in_ok-read_until.ensures.bytes in
-    let some : 0 < length c.read_until.new.buf.items = some-read _ _ _ _ c.read_until.new.buf.ok.0 c.in_ok-read_until.ensures.ok c.if-branch-eq0.false in
+    let some : 0 < length c.read_until.new.buf.items = some-read _ _ _ _ c.read_until.new.buf.ok.0 c.in_ok-read_until.ensures.ok
+    c.if-branch-eq0.false in
     let stripped = c.without_end.ensures ∙ ap (λ t. strip_last 10 t) c.as_slice.ensures.value in
     so-far-more standard c.args.session.now c.loop.session c.answer_line.new.session
     (g.B.Read.remaining c.args.reader.now) (g.B.Read.remaining c.loop.reader) (g.B.Read.remaining c.read_until.new.self)
@@ -26,7 +27,8 @@ returns-in_err-read_until-clause-err g c =
 pub returns-in_err-answer_line-clause-err : goal.returns-in_err-answer_line-clause-err
 returns-in_err-answer_line-clause-err g c =
     let takes = rw c.clear.ensures.items at c.in_ok-read_until.ensures.bytes in
-    let some : 0 < length c.read_until.new.buf.items = some-read _ _ _ _ c.read_until.new.buf.ok.0 c.in_ok-read_until.ensures.ok c.if-branch-eq0.false in
+    let some : 0 < length c.read_until.new.buf.items = some-read _ _ _ _ c.read_until.new.buf.ok.0 c.in_ok-read_until.ensures.ok
+    c.if-branch-eq0.false in
     let stripped = c.without_end.ensures ∙ ap (λ t. strip_last 10 t) c.as_slice.ensures.value in
     stopped-within _ standard c.args.session.now c.loop.session (g.B.Read.remaining c.args.reader.now) (g.B.Read.remaining c.loop.reader)
     (g.W.Write.contents c.args.writer.now) (g.W.Write.contents c.loop.writer) (g.W.Write.contents c.answer_line.new.writer)
@@ -35,7 +37,8 @@ returns-in_err-answer_line-clause-err g c =
 pub returns-in_err-flush-clause-err : goal.returns-in_err-flush-clause-err
 returns-in_err-flush-clause-err g c =
     let takes = rw c.clear.ensures.items at c.in_ok-read_until.ensures.bytes in
-    let some : 0 < length c.read_until.new.buf.items = some-read _ _ _ _ c.read_until.new.buf.ok.0 c.in_ok-read_until.ensures.ok c.if-branch-eq0.false in
+    let some : 0 < length c.read_until.new.buf.items = some-read _ _ _ _ c.read_until.new.buf.ok.0 c.in_ok-read_until.ensures.ok
+    c.if-branch-eq0.false in
     let stripped = c.without_end.ensures ∙ ap (λ t. strip_last 10 t) c.as_slice.ensures.value in
     stopped-after _ standard c.args.session.now c.answer_line.new.session (g.B.Read.remaining c.args.reader.now) (g.B.Read.remaining c.read_until.new.self)
     (g.W.Write.contents c.args.writer.now) (g.W.Write.contents c.flush.new.self)
@@ -46,7 +49,8 @@ returns-in_err-flush-clause-err g c =
     c.in_ok-answer_line.ensures.ok c.flush.ensures.bytes)
 
 pub loop-init : goal.loop-init
-loop-init g c = so-far-none standard c.args.session.now (g.B.Read.remaining c.args.reader.now) (g.W.Write.contents c.args.writer.now)
+loop-init g c = so-far-none standard c.args.session.now (g.B.Read.remaining c.args.reader.now)
+    (g.W.Write.contents c.args.writer.now)
 
 pub returns-in_err-read_until-clause-ok : goal.returns-in_err-read_until-clause-ok
 returns-in_err-read_until-clause-ok g c = IfOk-from_err _ _ c.from_residual.ensures.0
@@ -59,8 +63,9 @@ returns-in_err-flush-clause-ok g c = IfOk-from_err _ _ c.from_residual-in_err-fl
 
 pub returns-then-branch-eq0-clause-ok : goal.returns-then-branch-eq0-clause-ok
 returns-then-branch-eq0-clause-ok g c =
-    all-answered standard c.args.session.now c.loop.session (g.B.Read.remaining c.args.reader.now) (g.B.Read.remaining c.loop.reader)
-    (g.W.Write.contents c.args.writer.now) (g.W.Write.contents c.loop.writer) c.loop.invariant (c.in_ok-read_until.ensures.end c.if-branch-eq0.true)
+    all-answered standard c.args.session.now c.loop.session (g.B.Read.remaining c.args.reader.now)
+    (g.B.Read.remaining c.loop.reader) (g.W.Write.contents c.args.writer.now) (g.W.Write.contents c.loop.writer) c.loop.invariant
+    (c.in_ok-read_until.ensures.end c.if-branch-eq0.true)
 
 pub returns-then-branch-eq0-clause-err : goal.returns-then-branch-eq0-clause-err
 returns-then-branch-eq0-clause-err g c = tt
@@ -70,5 +75,5 @@ returns-clause-ok g c = tt
 
 pub returns-clause-err : goal.returns-clause-err
 returns-clause-err g c =
-    stopped-so-far standard c.args.session.now c.loop.session (g.B.Read.remaining c.args.reader.now) (g.B.Read.remaining c.loop.reader)
-    (g.W.Write.contents c.args.writer.now) (g.W.Write.contents c.loop.writer) c.loop.invariant
+    stopped-so-far standard c.args.session.now c.loop.session (g.B.Read.remaining c.args.reader.now)
+    (g.B.Read.remaining c.loop.reader) (g.W.Write.contents c.args.writer.now) (g.W.Write.contents c.loop.writer) c.loop.invariant

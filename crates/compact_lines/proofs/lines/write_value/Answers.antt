@@ -15,12 +15,14 @@ static-word inline is = cc
 static-word heap is = cc
 static-word static is = refl
 
-inline-word : (p : Place) (b : Bool) → false ≡ is_heap p → (IsTrue (is_static p) → b ≡ true) → b ≡ false → codes "inline" ≡ place_word p
+inline-word : (p : Place) (b : Bool) → false ≡ is_heap p → (IsTrue (is_static p) → b ≡ true) → b ≡ false
+    → codes "inline" ≡ place_word p
 inline-word inline b not_heap told not_static = refl
 inline-word heap b not_heap told not_static = cc
 inline-word static b not_heap told not_static = let so = told refl in cc
 
-word-of-place : (g : Over) (c : goal.After-capacity_buffer-2-1 g) → c.if-is_heap_allocated.place.now ≡ place_word c.args.value.now.placement.place
+word-of-place : (g : Over) (c : goal.After-capacity_buffer-2-1 g)
+    → c.if-is_heap_allocated.place.now ≡ place_word c.args.value.now.placement.place
 word-of-place g c =
     let at = c.args.value.now.placement.place in
     elim c.if-is_heap_allocated.branch [

@@ -45,7 +45,8 @@ returns-in_default-clause-ok g c = tt
 
 pub returns-in_default-clause-err : goal.returns-in_default-clause-err
 returns-in_default-clause-err g c =
-    stops-at-line _ _ _ _ _ _ Reserve (none-read c.args.separator (g.R.Read.remaining c.args.reader.now) c.args.records.now.items) refl (λ rest known. tt)
+    stops-at-line _ _ _ _ _ _ Reserve (none-read c.args.separator (g.R.Read.remaining c.args.reader.now)
+    c.args.records.now.items) refl (λ rest known. tt)
 
 pub returns-in_default-clause-behind : goal.returns-in_default-clause-behind
 returns-in_default-clause-behind g c = none-behind _

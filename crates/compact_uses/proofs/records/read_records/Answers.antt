@@ -5,7 +5,8 @@ use Rattle.compact_uses.proofs.records.read_records.Goals as goal
 behind-kept : {X : Type 0} (old new read : List X) → new ≡ old ++ read → take (length old) new ≡ old
 behind-kept old new read is = ap (take (length old)) is ∙ take-append_seam old read
 
-behind-counted : {X : Type 0} (old new read : List X) (before after m n : ℕ) → before ≡ m → m ≡ length old → after ≡ n → n ≡ length new
+behind-counted : {X : Type 0} (old new read : List X) (before after m n : ℕ) → before ≡ m → m ≡ length old → after ≡ n
+    → n ≡ length new
     → new ≡ old ++ read → (after - before) + 1 ≡ length read + 1
 behind-counted old new read before after m n a b c d is =
     let more = ap length is in
@@ -34,7 +35,8 @@ returns-in-Err-clause-line g c =
     let behind = c.in-Err.ensures.behind in (
       behind.0,
       behind.1,
-      behind-counted _ _ _ _ _ _ _ c.len-before.ensures c.args.records.now.ok.0 c.len.ensures c.read_lines.new.records.ok.0 behind.1,
+      behind-counted _ _ _ _ _ _ _ c.len-before.ensures c.args.records.now.ok.0 c.len.ensures c.read_lines.new.records.ok.0
+      behind.1,
     )
 
 pub returns-in-Err-clause-kept : goal.returns-in-Err-clause-kept

@@ -1,4 +1,4 @@
-use Rattle.std.proofs.Common.{◌≡◌, refl, ◌++◌, ◌∷◌, [], sym, arith, append-nil}
+use Rattle.std.proofs.Common.{◌≡◌, ◌≤◌, ◌<◌, ◌+◌, ℕ, List, length, ap, refl, ◌++◌, ◌∷◌, [], sym, arith, append-nil}
 use Rattle.std.proofs.lemmas.Grind.{common_steps}
 use Rattle.std.proofs.lemmas.Result.{IfOk-from_err}
 use Rattle.compact_str.specs.Text.{text_of}
@@ -6,6 +6,12 @@ use Rattle.compact_uses.proofs.PieceLemmas.{no-text, filled-text}
 use Rattle.compact_uses.proofs.TokenLemmas.{put-joined, put-names, put-tokens, one-name, parted-push, last-apart, none-apart, front-left, front-with}
 use Rattle.compact_uses.specs.declared.tokenizer.Kind.TheVariants.{Mark}
 use Rattle.compact_uses.proofs.tokenizer.push_token.Goals as goal
+
+no-more : {X : Type 0} (old new : List X) (n : ℕ) → new ≡ old → length new ≤ length old + n
+no-more old new n same = let lengths = ap length same in omega arith
+
+not-empty : (text : List ℕ) → 0 < length text → text ≡ [] → ⊥
+not-empty text some none = let lengths = ap length none in omega arith
 
 pub returns-clause-joined : goal.returns-clause-joined
 returns-clause-joined c =
@@ -129,3 +135,22 @@ returns-clause-front c = tt
 
 pub returns-clause-err : goal.returns-clause-err
 returns-clause-err c = tt
+
+pub returns-then-is_empty-clause-bound : goal.returns-then-is_empty-clause-bound
+returns-then-is_empty-clause-bound c = no-more _ _ _ refl
+
+pub returns-in_err-name-clause-bound : goal.returns-in_err-name-clause-bound
+returns-in_err-name-clause-bound c = no-more _ _ _ c.in_err-name.ensures.err
+
+pub returns-in_err-name-clause-empty : goal.returns-in_err-name-clause-empty
+returns-in_err-name-clause-empty c =
+    let filled = filled-text c.args.piece.now c.is_empty.result c.utf8.piece c.is_empty.ensures c.if-is_empty.false in
+    λ none. absurd (not-empty _ filled none)
+
+pub returns-then-is_err-clause-empty : goal.returns-then-is_err-clause-empty
+returns-then-is_err-clause-empty c =
+    let filled = filled-text c.args.piece.now c.is_empty.result c.utf8.piece c.is_empty.ensures c.if-is_empty.false in
+    λ none. absurd (not-empty _ filled none)
+
+pub returns-then-is_err-clause-err : goal.returns-then-is_err-clause-err
+returns-then-is_err-clause-err c = tt

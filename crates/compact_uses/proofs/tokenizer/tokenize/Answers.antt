@@ -30,7 +30,8 @@ fewer-left c before later is =
     let width = length-encode c in
     let some = len_utf8_bounds c in omega arith
 
-on-fits : (front rest whole piece later : List ℕ) (n bytes : ℕ) → front ++ rest ≡ whole → rest ≡ piece ++ later → size piece ≡ n → bytes ≡ size whole
+on-fits : (front rest whole piece later : List ℕ) (n bytes : ℕ) → front ++ rest ≡ whole → rest ≡ piece ++ later
+    → size piece ≡ n → bytes ≡ size whole
     → bytes < 2 ^ 64 → Fits w64 n
 on-fits front rest whole piece later n bytes joined parts position is fits =
     let all = ap size joined in
@@ -60,7 +61,8 @@ pub loop-character-preserved-then-goes_on : goal.loop-character-preserved-then-g
 loop-character-preserved-then-goes_on c =
     let on : goes_on c.loop-character.kind c.kind_of-next.result ≡ true = sym c.goes_on.ensures ∙ c.if-goes_on.true in
     let same : c.kind_of-next.result ≡ c.loop-character.kind = goes_on-same _ _ on in
-    let next = next-character c.loop-character.rest.now _ c.loop-character.len c.in-Some.character c.loop-character.invariant.is_text c.loop-character.invariant.boundary
+    let next = next-character c.loop-character.rest.now _ c.loop-character.len c.in-Some.character
+    c.loop-character.invariant.is_text c.loop-character.invariant.boundary
     (c.loop-character.invariant.here ∙ c.in-Some.ensures.steps.0) in
     record {
       can = tt;
@@ -270,17 +272,20 @@ loop-character-smaller-then-goes_on c = fewer-left _ _ _ c.in-Some.ensures.steps
 
 pub overflow_add-len : goal.overflow_add-len
 overflow_add-len c =
-    let next = next-character c.loop-character.rest.now _ c.loop-character.len c.in-Some.character c.loop-character.invariant.is_text c.loop-character.invariant.boundary
+    let next = next-character c.loop-character.rest.now _ c.loop-character.len c.in-Some.character
+    c.loop-character.invariant.is_text c.loop-character.invariant.boundary
     (c.loop-character.invariant.here ∙ c.in-Some.ensures.steps.0) in
     let fits = c.as_str-rest.type_inv.0 in
     let len = c.as_str-rest.ensures.len in
-    rw c.len_utf8-len.ensures.value (on-fits _ (text_of c.loop-character.rest.now) _ next.boundary.0 next.boundary.1 _ _ c.loop-character.invariant.joined
+    rw c.len_utf8-len.ensures.value (on-fits _ (text_of c.loop-character.rest.now) _ next.boundary.0 next.boundary.1 _ _
+    c.loop-character.invariant.joined
     next.boundary.2.parts next.boundary.2.position len fits)
 
 pub push_token-requires-text-piece : goal.push_token-requires-text-piece
 push_token-requires-text-piece c κs =
     rw c.split_at.ensures.front (IsUtf8-take c.loop-character.rest.now c.loop-character.len c.loop-character.invariant.is_text
-    (boundary-bytes c.loop-character.rest.now c.loop-character.len refl c.loop-character.invariant.is_text c.loop-character.invariant.boundary))
+    (boundary-bytes c.loop-character.rest.now c.loop-character.len refl c.loop-character.invariant.is_text
+    c.loop-character.invariant.boundary))
 
 pub push_token-requires-2-text-piece : goal.push_token-requires-2-text-piece
 push_token-requires-2-text-piece c κs = c.loop-character.invariant.is_text

@@ -38,11 +38,13 @@ stays-within at n xs ys within fits same =
 fewer-left : (n len at count : ℕ) → len ≡ n → at < len → (count ≡ 0 → ⊥) → n - (at + count) < n - at
 fewer-left n len at count same more some = omega arith
 
-consumes-none : (a b c : Option (List ℕ)) (bs cs : List ℕ) (n : ℕ) → Consumes a b bs → Consumes b c (take n cs) → n ≡ 0 → Consumes a c bs
+consumes-none : (a b c : Option (List ℕ)) (bs cs : List ℕ) (n : ℕ) → Consumes a b bs → Consumes b c (take n cs) → n ≡ 0
+    → Consumes a c bs
 consumes-none a b c bs cs n first then none =
     subst (Consumes a c) (ap (λ k. bs ++ take k cs) none ∙ append-nil bs) (Consumes-trans a b c bs (take n cs) first then)
 
-stops-below : (known new : Option (List ℕ)) (buffer : List ℕ) (at n : ℕ) (e : WireError) → Consumes known new (take at buffer) → at < length buffer
+stops-below : (known new : Option (List ℕ)) (buffer : List ℕ) (at n : ℕ) (e : WireError) → Consumes known new (take at buffer)
+    → at < length buffer
     → length buffer ≡ n → IsStop n new e → StopsBelow known new n e
 stops-below known new buffer at n e taken more same cause = record {
   taken_bytes = take at buffer;
@@ -63,8 +65,14 @@ loop-at-preserved g c =
     let room = length c.loop-at.buffer - from in
     let within = c.loop-at.invariant.1 in
     let part = slice_range-put_mid from room c.in-Ok.count c.loop-at.buffer c.read.new.buf within c.in-Ok.ensures.bound.0 in
-    let joined = take-split from (from + c.in-Ok.count) c.loop-at.buffer (put_mid from room c.loop-at.buffer c.read.new.buf) (adds _ _) (take-put_mid_below _ _ _ _ _ (le_refl _) within) in
-    (same_len_mid _ _ _ _ c.read.auto.buf ∙ c.loop-at.invariant.0, stays-within _ _ _ _ within c.in-Ok.ensures.bound.0 c.read.auto.buf, subst (Consumes _ _) (ap (λ l. take from c.loop-at.buffer ++ l) (sym part) ∙ joined) (Consumes-trans _ _ _ _ _ c.loop-at.invariant.2 c.in-Ok.ensures.bytes.0))
+    let below = take-put_mid_below _ _ _ _ _ (le_refl _) within in
+    let joined = take-split from (from + c.in-Ok.count) c.loop-at.buffer (put_mid from room c.loop-at.buffer c.read.new.buf)
+    (adds _ _) below in
+    let taken = Consumes-trans _ _ _ _ _ c.loop-at.invariant.2 c.in-Ok.ensures.bytes.0 in (
+      same_len_mid _ _ _ _ c.read.auto.buf ∙ c.loop-at.invariant.0,
+      stays-within _ _ _ _ within c.in-Ok.ensures.bound.0 c.read.auto.buf,
+      subst (Consumes _ _) (ap (λ l. take from c.loop-at.buffer ++ l) (sym part) ∙ joined) taken,
+    )
 
 pub loop-at-init : goal.loop-at-init
 loop-at-init g c = (refl, zero-le, Consumes-nil _)
@@ -84,7 +92,8 @@ returns-in-Ok-eq0-clause-err g c =
     let bytes = c.in-Ok-eq0.ensures.bytes in
     let left = room-left _ _ _ c.loop-at-test.true c.read.auto.buf in
     let taken = consumes-none _ _ _ _ c.read.new.buf _ c.loop-at.invariant.2 bytes.0 none in
-    stops-below _ _ c.loop-at.buffer c.loop-at.at _ UnexpectedEnd taken c.loop-at-test.true c.loop-at.invariant.0 (bytes.1 none left)
+    stops-below _ _ c.loop-at.buffer c.loop-at.at _ UnexpectedEnd taken c.loop-at-test.true c.loop-at.invariant.0
+    (bytes.1 none left)
 
 pub loop-at-smaller : goal.loop-at-smaller
 loop-at-smaller g c = fewer-left _ _ _ _ c.loop-at.invariant.0 c.loop-at-test.true c.in-Ok.count-test.1

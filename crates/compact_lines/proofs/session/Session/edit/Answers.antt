@@ -8,8 +8,9 @@ use Rattle.compact_edit.specs.Runs.{Run}
 use Rattle.compact_lines.proofs.session.Session.edit.Goals as goal
 
 -- a run of one edit gives one reply
-one-step : {P : Type 0} (g : Growth) (v w : PlacedText) (edit : Edit P) (replies before after rest : List (Reply P)) (reply : Reply P) → before ≡ []
-    → rest ≡ [] → after ≡ rest ++ reply ∷ [] → after ≡ before ++ replies → Run g v (edit ∷ []) replies w → Step g v edit reply w
+one-step : {P : Type 0} (g : Growth) (v w : PlacedText) (edit : Edit P) (replies before after rest : List (Reply P))
+    (reply : Reply P) → before ≡ [] → rest ≡ [] → after ≡ rest ++ reply ∷ [] → after ≡ before ++ replies
+    → Run g v (edit ∷ []) replies w → Step g v edit reply w
 one-step g v w edit [] before after rest reply none left is told run = absurd run
 one-step g v w edit (a ∷ b ∷ more) before after rest reply none left is told run = absurd run.2
 one-step g v w edit (a ∷ []) before after rest reply none left is told run =
@@ -32,7 +33,8 @@ room-stays len before room kept is h same = omega arith
 pub unreachable-requires : goal.unreachable-requires
 unreachable-requires c =
     let replies = c.self.inside.replies in
-    let ok = c.in_default.ensures.succeeds (room-for-one replies.items _ _ replies.ok.0 c.self.invariant.0 c.self.invariant.1) in cc
+    let ok = c.in_default.ensures.succeeds (room-for-one replies.items _ _ replies.ok.0 c.self.invariant.0 c.self.invariant.1)
+    in cc
 
 pub unreachable-requires-in-None : goal.unreachable-requires-in-None
 unreachable-requires-in-None c = not-none _ _ c.in-Ok.ensures.count c.in-None.ensures.cases.0
@@ -51,5 +53,5 @@ returns c =
     let one = just-one replies.items _ _ replies.ok.0 c.self.invariant.0 c.in-Ok.ensures.count in
     let left = c.in-Some.ensures.rest ∙ ap (λ n. take n c.run.new.replies.items) one in
     subst (λ (v : PlacedText). Step _ v c.args.edit c.in-Some.reply c.run.new.value) c.self.view_is
-    (one-step _ c.self.inside.value c.run.new.value c.args.edit c.in-Ok.ensures.run.0 replies.items c.run.new.replies.items c.pop.new.self.items
-    c.in-Some.reply c.self.invariant.0 left c.in-Some.ensures.items c.in-Ok.ensures.run.1 c.in-Ok.ensures.run.2)
+    (one-step _ c.self.inside.value c.run.new.value c.args.edit c.in-Ok.ensures.run.0 replies.items c.run.new.replies.items
+    c.pop.new.self.items c.in-Some.reply c.self.invariant.0 left c.in-Some.ensures.items c.in-Ok.ensures.run.1 c.in-Ok.ensures.run.2)
