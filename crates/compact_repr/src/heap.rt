@@ -3,7 +3,6 @@ ghost use Rattle.std.specs.Prelude.{◌≡◌, ◌+◌, ◌-◌, ◌≤◌, ◌<
 ghost use Rattle.std.specs.String.{string_bytes, string_capacity};
 ghost use Rattle.compact_repr.specs.Text.{size, utf8, text_of, IsText};
 ghost use Rattle.compact_repr.specs.Cut.{IsBoundary, text_before, replaced_text};
-ghost use Rattle.compact_repr.specs.Retain.{RetainsCharsTo};
 
 mod append;
 mod bytewise;
@@ -251,19 +250,5 @@ impl HeapBuffer {
         ensures { self.new ≡ record { text = []; capacity = self.old.capacity } }
     {
         self.bytes.clear();
-    }
-
-    /// Keeps the characters for which `keep`, asked once of each in order, answers true, and the capacity.
-    #[inline]
-    pub fn retain<F: FnMut(char) -> bool>(&mut self, keep: &mut F)
-        requires { F.IsAlwaysCallable keep.old }
-        ensures text { RetainsCharsTo F.FnMut keep.old self.old.text self.new.text keep.new }
-        ensures callable { F.IsAlwaysCallable keep.new }
-        ensures capacity { self.new.capacity ≡ self.old.capacity }
-        ensures fits { size self.new.text ≤ self.old.capacity }
-    {
-        let len = self.bytes.len();
-        let kept = slices::retain(self.bytes.as_mut_slice(), len, keep);
-        self.bytes.truncate(kept);
     }
 }

@@ -1,6 +1,7 @@
-//! Changes of each byte by itself.
+//! Changes of each byte or character by itself.
 ghost use Rattle.std.specs.Prelude.{◌≡◌, ◌≤◌, []};
 ghost use Rattle.compact_repr.specs.Text.{size, ascii_lowercase, ascii_uppercase};
+ghost use Rattle.compact_repr.specs.Retain.{RetainsCharsTo};
 
 use super::append;
 use crate::heap::HeapBuffer;
@@ -36,5 +37,19 @@ impl HeapBuffer {
     {
         let len = self.bytes.len();
         slices::make_uppercase(self.bytes.as_mut_slice(), len);
+    }
+
+    /// Keeps the characters for which `keep`, asked once of each in order, answers true, and the capacity.
+    #[inline]
+    pub fn retain<F: FnMut(char) -> bool>(&mut self, keep: &mut F)
+        requires { F.IsAlwaysCallable keep.old }
+        ensures text { RetainsCharsTo F.FnMut keep.old self.old.text self.new.text keep.new }
+        ensures callable { F.IsAlwaysCallable keep.new }
+        ensures capacity { self.new.capacity ≡ self.old.capacity }
+        ensures fits { size self.new.text ≤ self.old.capacity }
+    {
+        let len = self.bytes.len();
+        let kept = slices::retain(self.bytes.as_mut_slice(), len, keep);
+        self.bytes.truncate(kept);
     }
 }

@@ -41,7 +41,8 @@ pub struct Drain<'a, P: Policy> {
     // So neither a step nor the drop need test whether these are boundaries.
     ghost range: { size value.now.text ≡ whole → is_range value.now.text front back ≡ true },
     ghost span: { size value.now.text ≡ whole → is_range value.now.text start end ≡ true },
-    ghost ascii: { size value.now.text ≡ whole → is_ascii ≡ true → IsAsciiRange value.now.text front back },
+    ghost ascii: { size value.now.text ≡ whole → is_ascii ≡ true
+        → IsAsciiRange value.now.text front back },
 }
 
 impl<P: Policy> PolicyString<P> {
@@ -138,7 +139,8 @@ impl<P: Policy> Drain<'_, P> {
     fn heap_rest(&self) -> Option<&str>
         ensures text { IfSome result (λ s. text_of s.now ≡ drain_rest self.now) }
         ensures len { IfSome result (λ s. length s.now ≡ size (drain_rest self.now)) }
-        ensures ascii { IfSome result (λ s. self.now.is_ascii ≡ true → length (text_of s.now) ≡ size (text_of s.now)) }
+        ensures ascii { IfSome result
+            (λ s. self.now.is_ascii ≡ true → length (text_of s.now) ≡ size (text_of s.now)) }
     {
         if let Some(text) = self.value.heap_str() {
             if text.len() == self.whole {
