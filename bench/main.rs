@@ -14,8 +14,8 @@
 //! which `instructions.sh` counts.
 //!
 //! What it reads of its environment: `BENCH_TURNS`, another number of turns; `BENCH_ONLY`, the beginnings of the names of
-//! the workloads that are run, with nothing else; `BENCH_TO`, the folder that gets the figures as `speed.txt` and
-//! `speed.svg`, unless only some workloads are run or in fewer turns; `BENCH_TOLD`, what these say of time and place.
+//! the workloads that are run, with nothing else; `BENCH_TO` and `BENCH_PICTURE`, the files that get the figures as text and
+//! as a picture, unless only some workloads are run or in fewer turns; `BENCH_TOLD`, what these say of time and place.
 //!
 //! The status is 1 if two types differ in a checksum.
 
@@ -243,13 +243,15 @@ fn measured(turns: usize) -> Option<Vec<Measured>> {
     all.iter().all(Measured::agrees).then_some(all)
 }
 
-/// Writes the table and the picture, where a folder is given for them.
+/// Writes the table and the picture, where files are given for them.
 fn write_figures(text: &str, measured: &[Measured], told: &str) -> Option<()> {
-    let Ok(folder) = env::var("BENCH_TO") else {
-        return Some(());
-    };
-    fs::write(format!("{folder}/speed.txt"), text).ok()?;
-    fs::write(format!("{folder}/speed.svg"), chart::chart(measured, told)).ok()
+    if let Ok(file) = env::var("BENCH_TO") {
+        fs::write(file, text).ok()?;
+    }
+    if let Ok(file) = env::var("BENCH_PICTURE") {
+        fs::write(file, chart::chart(measured, told)).ok()?;
+    }
+    Some(())
 }
 
 /// All that is measured and printed. `None` says that two types differ in a checksum, or that something failed.

@@ -20,8 +20,8 @@
 # Each function of the library begins at a multiple of 64 bytes, and so does each function of the program and of the Rust
 # crate. Compilers put functions at multiples of 16, and then a loop of 21 bytes lies in one line of a processor's decoded
 # instructions or in two by where the linker happens to put it: the same code takes up to a quarter longer. With
-# BENCH_AS_LINKED=1 all functions stay where the linker puts them. With BENCH_FURTHER=16 those of the library begin 16 bytes
-# behind a multiple of 64, and the figures are not written to docs.
+# BENCH_AS_LINKED=1 all functions stay where the linker puts them, and the figures go to docs/speed_as_linked.txt alone. With
+# BENCH_FURTHER=16 those of the library begin 16 bytes behind a multiple of 64, and the figures are not written to docs.
 #
 # What is built lies in bench/out and in the out/ folders of the crates.
 set -eu
@@ -66,11 +66,16 @@ fi
 allocator=$(dirname "$(rt doc)")/c/liblibc_c.a
 link=(-C "link-arg=$library" -C "link-arg=$allocator")
 
-BENCH_TO=$(cd "$bench/../docs" && pwd)
+docs=$(cd "$bench/../docs" && pwd)
 processor=$(sed -n 's/^model name[^:]*: *//p' /proc/cpuinfo | head -n 1)
 numbers=$(sed -n 's/^cpu family[^:]*: */family /p; s/^model[[:space:]]*: */, model /p' /proc/cpuinfo | head -n 2 | tr -d '\n')
 BENCH_TOLD="$(date -u +%F), ${processor:-a processor with no name}${numbers:+ ($numbers)}"
-[ -n "${BENCH_FURTHER:-}" ] || export BENCH_TO BENCH_TOLD
+export BENCH_TOLD
+if [ -n "${BENCH_AS_LINKED:-}" ]; then
+    export BENCH_TO=$docs/speed_as_linked.txt
+elif [ -z "${BENCH_FURTHER:-}" ]; then
+    export BENCH_TO=$docs/speed.txt BENCH_PICTURE=$docs/speed.svg
+fi
 
 if [ -z "$crate" ]; then
     rustc --edition 2024 -C opt-level=3 -C codegen-units=1 -C lto=fat "${place[@]}" "${link[@]}" -o "$built/bench" "$bench/main.rs"
