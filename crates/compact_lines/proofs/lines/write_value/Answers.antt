@@ -26,7 +26,7 @@ word-of-place : (g : Over) (c : goal.After-capacity_buffer-2-1 g)
 word-of-place g c =
     let at = c.args.value.now.placement.place in
     elim c.if-is_heap_allocated.branch [
-      then-is_heap_allocated w ↦ ap (λ p. p.now) w.place-is ∙ heap-word at w.if-is_heap_allocated.ensures
+      | then-is_heap_allocated w ↦ ap (λ p. p.now) w.place-is ∙ heap-word at w.if-is_heap_allocated.ensures
       | else-is_heap_allocated+then-is_some w ↦
           ap (λ p. p.now) w.place-is ∙ static-word at (w.as_static_str.ensures.place.0 (sym w.if-is_some.ensures))
       | else-is_heap_allocated+else-is_some w ↦
@@ -40,10 +40,24 @@ together word len capacity text = simp append_assoc
 
 pub returns-clause-ok : goal.returns-clause-ok
 returns-clause-ok g c =
-    rw (word-of-place g c, c.format-len.ensures.text, c.len.ensures.value, c.format-capacity.ensures.text,
-    c.capacity.ensures, c.as_str.ensures.bytes, together) at c.write_texts.ensures.ok
+    rw (
+      word-of-place g c,
+      c.format-len.ensures.text,
+      c.len.ensures.value,
+      c.format-capacity.ensures.text,
+      c.capacity.ensures,
+      c.as_str.ensures.bytes,
+      together,
+    ) at c.write_texts.ensures.ok
 
 pub returns-clause-err : goal.returns-clause-err
 returns-clause-err g c =
-    rw (word-of-place g c, c.format-len.ensures.text, c.len.ensures.value, c.format-capacity.ensures.text,
-    c.capacity.ensures, c.as_str.ensures.bytes, together) at c.write_texts.ensures.err
+    rw (
+      word-of-place g c,
+      c.format-len.ensures.text,
+      c.len.ensures.value,
+      c.format-capacity.ensures.text,
+      c.capacity.ensures,
+      c.as_str.ensures.bytes,
+      together,
+    ) at c.write_texts.ensures.err

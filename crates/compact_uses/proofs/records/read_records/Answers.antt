@@ -36,7 +36,7 @@ returns-in-Err-clause-line g c =
       behind.0,
       behind.1,
       behind-counted _ _ _ _ _ _ _ c.len-before.ensures c.args.records.now.ok.0 c.len.ensures c.read_lines.new.records.ok.0
-      behind.1,
+          behind.1,
     )
 
 pub returns-in-Err-clause-kept : goal.returns-in-Err-clause-kept

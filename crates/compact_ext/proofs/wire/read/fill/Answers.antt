@@ -55,6 +55,7 @@ stops-below known new buffer at n e taken more same cause = record {
   where
     lt-le : at < length buffer → at ≤ length buffer
     lt-le h = omega arith
+
     short : length (take at buffer) ≡ at → length (take at buffer) < n
     short is = omega arith
 
