@@ -104,7 +104,7 @@ impl<P: Policy> PolicyString<P> {
         ensures leaves { value_after_drain result ≡ without_range self.old start end }
     {
         let whole = self.len();
-        let is_ascii = self.is_ascii_range(start, end);
+        let is_ascii = self.is_known_ascii(start, end);
         Drain {
             value: self,
             start,

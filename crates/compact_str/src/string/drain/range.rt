@@ -67,11 +67,11 @@ impl<P: Policy> PolicyString<P> {
         self.repr.heap_str()
     }
 
-    /// Whether a range of a heap value is ASCII. It answers `false` of any other value, and of a range so long that a drain
-    /// from which no character is taken should not wait for the answer.
+    /// Whether a range is known to be ASCII. It answers `false` of a value that is not on the heap, and of a range so long that a
+    /// drain from which no character is taken should not wait for the answer.
     #[inline(never)]
     #[tactic(auto, using(compact_repr::proofs::TextFacts::text_facts, crate::proofs::Drains::part_facts))]
-    pub(crate) fn is_ascii_range(&self, start: usize, end: usize) -> bool
+    pub(crate) fn is_known_ascii(&self, start: usize, end: usize) -> bool
         requires { is_range self.now.text start end ≡ true }
         ensures { IsTrue result → IsAsciiRange self.now.text start end }
     {

@@ -1,7 +1,7 @@
 use Rattle.std.proofs.Common.{ℕ, List, ap, ◌∙◌}
 use Rattle.compact_repr.specs.Cut.{substring}
 use Rattle.compact_str.proofs.Drains.{ascii-of_bytes}
-use Rattle.compact_str.proofs.string.PolicyString.is_ascii_range.Goals as goal
+use Rattle.compact_str.proofs.string.PolicyString.is_known_ascii.Goals as goal
 
 pub returns-then-range-le-MAX_LOOKED_AT : goal.returns-then-range-le-MAX_LOOKED_AT
 returns-then-range-le-MAX_LOOKED_AT g c =
