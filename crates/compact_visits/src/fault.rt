@@ -6,7 +6,7 @@ use std::alloc::Global;
 use std::fmt::Write;
 
 /// The line and the column, counted from 1, at which the input is no visit, and why.
-#[derive(Debug, Drop, PartialEq, Serialize)]
+#[derive(Drop, Serialize)]
 pub struct Fault {
     pub line: usize,
     pub column: usize,

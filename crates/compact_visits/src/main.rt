@@ -33,21 +33,26 @@ fn main(rt: HostRuntime) -> ExitCode {
 fn count_visits<R: Read, W: Write>(alloc: Global, reader: &mut R, writer: &mut W) -> Result<bool> {
     let mut writer = BufWriter::new(alloc, writer)?;
     let mut sources = Sources::new(alloc);
+    let all_counted = count_lines(alloc, &mut sources, reader, &mut writer)?;
+    write_sources(alloc, &mut writer, sources)?;
+    Ok(all_counted)
+}
+
+/// Counts the visits of lines, or writes why they are none. Answers whether each line is one.
+fn count_lines<R: Read, W: Write>(
+    alloc: Global,
+    sources: &mut Sources,
+    reader: &mut R,
+    writer: &mut W,
+) -> Result<bool> {
     let mut all_counted = true;
-    for (index, line) in BufReader::new(alloc, reader)?
-        .split(alloc, b'\n')
-        .enumerate()
-    {
-        let line = line?;
-        let number = index.saturating_add(1);
-        if !count_line(alloc, &mut sources, &mut writer, number, line.as_slice())? {
+    let mut number: usize = 0;
+    for line in BufReader::new(alloc, reader)?.split(alloc, b'\n') {
+        number = number.saturating_add(1);
+        if !count_line(alloc, sources, writer, number, line)? {
             all_counted = false;
         }
     }
-    for source in &sources.into_sorted(alloc)? {
-        write_line(alloc, &mut writer, source)?;
-    }
-    writer.flush()?;
     Ok(all_counted)
 }
 
@@ -57,9 +62,9 @@ fn count_line<W: Write>(
     sources: &mut Sources,
     writer: &mut W,
     number: usize,
-    line: &[u8],
+    line: io::Result<Vec<u8>>,
 ) -> Result<bool> {
-    match serde_json::from_slice::<Visit>(alloc, line) {
+    match serde_json::from_slice::<Visit>(alloc, line?.as_slice()) {
         Ok(visit) => {
             sources.count(alloc, visit)?;
             Ok(true)
@@ -76,5 +81,14 @@ fn count_line<W: Write>(
 fn write_line<T: Serialize, W: Write>(alloc: Global, writer: &mut W, value: &T) -> Result<()> {
     let line = serde_json::to_string(alloc, value)?;
     writeln!(writer, "{line}")?;
+    Ok(())
+}
+
+/// Writes a line for each source, and flushes the writer.
+fn write_sources<W: Write>(alloc: Global, writer: &mut W, sources: Sources) -> Result<()> {
+    for source in &sources.into_sorted(alloc)? {
+        write_line(alloc, writer, source)?;
+    }
+    writer.flush()?;
     Ok(())
 }

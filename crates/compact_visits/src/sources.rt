@@ -9,7 +9,7 @@ use std::cmp::Reverse;
 use std::collections::HashMap;
 
 /// A host from where visitors came, as a line of the output tells it. It is none for those of whom no host is known.
-#[derive(Debug, Drop, PartialEq, Serialize)]
+#[derive(Drop, Serialize)]
 pub struct Source {
     pub host: Option<CompactString>,
     pub visits: u64,
@@ -73,12 +73,17 @@ impl Sources {
         } = visit;
         let host = host_of(referrer.as_deref().unwrap_or(""));
         if !self.by_host.contains_key(host) {
-            let key = CompactString::new(alloc, host)?;
-            self.by_host.insert(key, Source::new(alloc, host)?)?;
+            self.insert(alloc, host)?;
         }
         if let Some(source) = self.by_host.get_mut(host) {
             source.add(page, tags)?;
         }
+        Ok(())
+    }
+
+    fn insert(&mut self, alloc: Global, host: &str) -> Result<()> {
+        let key = CompactString::new(alloc, host)?;
+        self.by_host.insert(key, Source::new(alloc, host)?)?;
         Ok(())
     }
 
