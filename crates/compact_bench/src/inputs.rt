@@ -3,7 +3,7 @@ ghost use Rattle.std.specs.Prelude.{◌<◌};
 
 use crate::generator::Generator;
 use compact_edit::{InternError, Interner};
-use compact_str::ReserveError;
+use compact_str::{CompactString, ReserveError};
 use std::alloc::Global;
 
 /// How many short texts there are.
@@ -84,6 +84,16 @@ pub fn pieces(alloc: Global) -> Result<Vec<String>, ReserveError> {
     words(alloc, PIECES, 1, 16)
 }
 
+/// A value of each text.
+pub fn values_of(alloc: Global, texts: &[String]) -> Result<Vec<CompactString>, ReserveError> {
+    let mut values = Vec::with_capacity(alloc, texts.len())?;
+    for text in texts {
+        let value = CompactString::new(alloc, text.as_str())?;
+        put(&mut values, value)?;
+    }
+    Ok(values)
+}
+
 /// How many texts are decoded in turn.
 pub const TEXTS: usize = 16;
 
@@ -156,13 +166,17 @@ pub fn invalid_rows(alloc: Global) -> Result<Vec<Vec<u8>>, ReserveError> {
 pub fn units(alloc: Global) -> Result<Vec<Vec<u16>>, ReserveError> {
     let mut rows = Vec::with_capacity(alloc, TEXTS)?;
     for text in mixed_texts(alloc)? {
-        let mut row = Vec::new(alloc);
-        for unit in text.as_str().encode_utf16() {
-            put(&mut row, unit)?;
-        }
-        put(&mut rows, row)?;
+        put(&mut rows, units_of(alloc, text.as_str())?)?;
     }
     Ok(rows)
+}
+
+fn units_of(alloc: Global, text: &str) -> Result<Vec<u16>, ReserveError> {
+    let mut row = Vec::new(alloc);
+    for unit in text.encode_utf16() {
+        put(&mut row, unit)?;
+    }
+    Ok(row)
 }
 
 /// Words of 1 to 12 letters.
@@ -234,16 +248,21 @@ pub fn distinct_words(
     let mut words = Vec::new(alloc);
     for _ in 0..DRAWN_WORDS {
         if words.len() < INTERNED_WORDS as usize {
-            let len = 1 + generator.below(12);
-            let word = word(alloc, generator, len)?;
-            put_new(&mut names, &mut words, word)?;
+            put_drawn(alloc, generator, &mut names, &mut words)?;
         }
     }
     Ok(words)
 }
 
-/// Puts a word behind the others, unless it is one of them.
-fn put_new(names: &mut Interner, words: &mut Vec<String>, word: String) -> Result<(), InternError> {
+/// Draws a word, and puts it behind the others, unless it is one of them.
+fn put_drawn(
+    alloc: Global,
+    generator: &mut Generator,
+    names: &mut Interner,
+    words: &mut Vec<String>,
+) -> Result<(), InternError> {
+    let len = 1 + generator.below(12);
+    let word = word(alloc, generator, len)?;
     let number = names.intern(word.as_str())?;
     if number as usize == words.len() {
         put(words, word)?;

@@ -1,7 +1,7 @@
 //! Clones of values.
 ghost use Rattle.std.specs.Prelude.{◌<◌};
 
-use crate::inputs::{LONG_TEXTS, SHORT_TEXTS, long_texts, put, short_texts};
+use crate::inputs::{LONG_TEXTS, SHORT_TEXTS, long_texts, short_texts, values_of};
 use crate::ring::Ring;
 use compact_str::{CompactString, ReserveError};
 use std::alloc::Global;
@@ -16,16 +16,6 @@ pub fn long(alloc: Global, n: u64) -> Result<u64, ReserveError> {
     cloned::<LONG_TEXTS>(alloc, n, long_texts(alloc)?)
 }
 
-/// A value of each text.
-fn values(alloc: Global, texts: &[String]) -> Result<Vec<CompactString>, ReserveError> {
-    let mut values = Vec::with_capacity(alloc, texts.len())?;
-    for text in texts {
-        let value = CompactString::new(alloc, text.as_str())?;
-        put(&mut values, value)?;
-    }
-    Ok(values)
-}
-
 /// Makes a value of each text, and clones them.
 fn cloned<const COUNT: usize>(
     alloc: Global,
@@ -34,7 +24,7 @@ fn cloned<const COUNT: usize>(
 ) -> Result<u64, ReserveError>
     requires { 0 < COUNT }
 {
-    let values = values(alloc, &texts)?;
+    let values = values_of(alloc, &texts)?;
     clone_in_turn::<COUNT>(alloc, n, &values)
 }
 

@@ -1,14 +1,13 @@
 //! Texts that go over a wire.
 
 use crate::checksum::{mix, probe};
-use crate::inputs::records;
+use crate::inputs::{records, values_of};
 use compact_ext::wire::{Records, write_wire};
-use compact_str::CompactString;
 use std::alloc::Global;
 
 /// Writes records into a vector, and reads them back.
 pub fn records_through_bytes(alloc: Global, n: u64) -> Option<u64> {
-    let values = values(alloc)?;
+    let values = values_of(alloc, &records(alloc).ok()?).ok()?;
     let mut bytes = Vec::new(alloc);
     let mut sum = 0;
     for _ in 0..n {
@@ -21,14 +20,4 @@ pub fn records_through_bytes(alloc: Global, n: u64) -> Option<u64> {
         }
     }
     Some(sum)
-}
-
-/// The records as values.
-fn values(alloc: Global) -> Option<Vec<CompactString>> {
-    let mut values = Vec::new(alloc);
-    for text in records(alloc).ok()? {
-        let value = CompactString::new(alloc, text.as_str()).ok()?;
-        values.push(value).ok()?;
-    }
-    Some(values)
 }
