@@ -3,11 +3,12 @@
 use crate::checksum::{mix, probe};
 use crate::inputs::{records, values_of};
 use compact_ext::wire::{Records, write_wire};
+use compact_str::CompactString;
 use std::alloc::Global;
 
 /// Writes records into a vector, and reads them back.
 pub fn records_through_bytes(alloc: Global, n: u64) -> Option<u64> {
-    let values = values_of(alloc, &records(alloc).ok()?).ok()?;
+    let values = values(alloc)?;
     let mut bytes = Vec::new(alloc);
     let mut sum = 0;
     for _ in 0..n {
@@ -20,4 +21,10 @@ pub fn records_through_bytes(alloc: Global, n: u64) -> Option<u64> {
         }
     }
     Some(sum)
+}
+
+/// The records as values.
+fn values(alloc: Global) -> Option<Vec<CompactString>> {
+    let texts = records(alloc).ok()?;
+    values_of(alloc, &texts).ok()
 }
