@@ -4,7 +4,7 @@ use Rattle.std.proofs.Math.Nat.{mul-le-mul_left, mul-le-mul_right}
 use Rattle.std.proofs.lemmas.Grind.{common_steps}
 use Rattle.compact_str.proofs.ForCallers.{size-append}
 use Rattle.compact_str.specs.Text.{size}
-use Rattle.compact_str.specs.Value.{Place, inline, heap, static, is_static, Placement, PlacedText}
+use Rattle.compact_str.specs.Value.{Place, inline, heap, static, is_static, IsSound, Placement, PlacedText}
 use Rattle.compact_str.specs.Capacity.{Growth, IsLawful, max_capacity, inline_placement, heap_placement, grown_capacity}
 use Rattle.compact_str.specs.Change.{push_str}
 use Rattle.compact_edit.specs.Pushes.{same_place, bytes_moved_by_step}
@@ -102,6 +102,15 @@ bytes_moved_by_step-kept v w e = grind (arith, common_steps, same_place-refl)
 
 bytes_moved_by_step-grown_capacity : (v w : PlacedText) → v.placement.capacity < w.placement.capacity → bytes_moved_by_step v w ≡ size v.text
 bytes_moved_by_step-grown_capacity v w h = grind (arith, common_steps)
+
+-- a push that leaves the capacity leaves the place
+pub bytes_moved_by_step-same_capacity : (g : Growth) (v w : PlacedText) (s : List ℕ) → IsSound v → push_str g v s ≡ Some w
+    → w.placement.capacity ≡ v.placement.capacity → 0 ≡ bytes_moved_by_step v w
+bytes_moved_by_step-same_capacity g v w s sound e same = grind (arith, common_steps)
+
+pub bytes_moved_by_step-other_capacity : (v w : PlacedText) (n : ℕ) → n ≡ size v.text
+    → ¬ (w.placement.capacity ≡ v.placement.capacity) → n ≡ bytes_moved_by_step v w
+bytes_moved_by_step-other_capacity v w n is other = grind (arith, common_steps)
 
 -- a push pays for what it moves
 pub paid-push : (g : Growth) (v w : PlacedText) (s : List ℕ) (b m n : ℕ) → IsLawful g → IsPaid g v.placement (size v.text) m → push_str g v s ≡ Some w → b ≡ bytes_moved_by_step v w → n ≡ m + b

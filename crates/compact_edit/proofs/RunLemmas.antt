@@ -1,10 +1,18 @@
 -- Runs that go on by one edit.
-use Rattle.std.proofs.Common.{◌≡◌, ℕ, ◌+◌, ◌<◌, List, [], ◌∷◌, ◌++◌, refl, append_assoc, subst, take, get_or, length}
+use Rattle.std.proofs.Common.{◌≡◌, ℕ, ◌+◌, ◌<◌, List, [], ◌∷◌, ◌++◌, Some, IsTrue, Result, Ok, Err, OnErr, Bor}
+use Rattle.std.proofs.Common.{refl, append_assoc, subst, take, get_or, length}
+use Rattle.std.specs.Prelude.{OnOk, MatchResult}
 use Rattle.std.proofs.lemmas.List.{take_more}
+use Rattle.compact_str.specs.declared.ReserveError.{ReserveError}
+use Rattle.compact_str.specs.Text.{text_of, size}
+use Rattle.compact_str.specs.Cut.{IsBoundary}
 use Rattle.compact_str.specs.Value.{PlacedText}
-use Rattle.compact_str.specs.Capacity.{Growth}
+use Rattle.compact_str.specs.Capacity.{Growth, reserve_asks}
+use Rattle.compact_str.specs.Change.{insert_str}
 use Rattle.compact_edit.specs.declared.edit.Edit.{Edit}
+use Rattle.compact_edit.specs.declared.edit.Edit.TheVariants.{InsertStr}
 use Rattle.compact_edit.specs.declared.edit.Reply.{Reply}
+use Rattle.compact_edit.specs.declared.edit.Reply.TheVariants.{Done, Refused}
 use Rattle.compact_edit.specs.Steps.{Step}
 use Rattle.compact_edit.specs.Runs.{Run, RunsTo}
 
@@ -22,3 +30,11 @@ RunsTo-append g v edits before after u w edit reply runs step =
 pub RunsTo-take_more : {P : Type 0} (g : Growth) (v : PlacedText) (edits : List (Edit P)) (i : ℕ) (edit : Edit P) (before after : List (Reply P)) (u w : PlacedText) (reply : Reply P) → i < length edits → edit ≡ get_or edits i edit → RunsTo g v (take i edits) before after u → Step g u edit reply w → RunsTo g v (take (i + 1) edits) before (after ++ reply ∷ []) w
 RunsTo-take_more g v edits i edit before after u w reply h is runs step =
     rw (take_more edits i edit h) (RunsTo-append g v (take i edits) before after u w (get_or edits i edit) reply runs (subst (λ (e : _). Step g u e reply w) is step))
+
+-- an insertion at a boundary is a step
+pub Step-insert_str : {P T : Type 0} (g : Growth) (v w : PlacedText) (p : ℕ) (s : Bor (List ℕ)) (r : Result T ReserveError)
+    (reply : Reply P) → IsBoundary v.text p → OnOk r (insert_str g v p (text_of s.now) ≡ Some w)
+    → OnErr r ((w ≡ v) × IsTrue (reserve_asks v (size (text_of s.now))))
+    → MatchResult r (λ _. reply ≡ Done) (λ e. reply ≡ Refused e) → Step g v (InsertStr p s) reply w
+Step-insert_str g v w p s (Ok x) reply legal ok err is = rw is (legal, (refl, ok))
+Step-insert_str g v w p s (Err e) reply legal ok err is = rw is (err.0, legal, err.1)

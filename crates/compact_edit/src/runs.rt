@@ -98,10 +98,11 @@ fn insert<P: Policy>(value: &mut PolicyString<P>, index: usize, character: char)
 fn insert_str<P: Policy>(value: &mut PolicyString<P>, index: usize, text: &str) -> Reply<P>
     ensures { Step P.growth value.old (Edit.InsertStr index text.entry) result value.new }
 {
-    if !value.is_char_boundary(index) {
-        return Reply::BadPosition;
+    let is_boundary = value.is_char_boundary(index);
+    if is_boundary {
+        return reply_to(value.insert_str(index, text));
     }
-    reply_to(value.insert_str(index, text))
+    Reply::BadPosition
 }
 
 fn remove<P: Policy>(value: &mut PolicyString<P>, index: usize) -> Reply<P>
@@ -158,11 +159,12 @@ fn drain<P: Policy>(value: &mut PolicyString<P>, start: Bound<usize>, end: Bound
     let Some(_) = value.check_range(start, end) else {
         return Reply::BadPosition;
     };
-    match copy_of_range(value, start, end) {
-        Ok(range) => match take_out(value, start, end) {
-            Ok(()) => Reply::Text(range),
-            Err(error) => Reply::Refused(error),
-        },
+    let range = match copy_of_range(value, start, end) {
+        Ok(range) => range,
+        Err(error) => return Reply::Refused(error),
+    };
+    match take_out(value, start, end) {
+        Ok(()) => Reply::Text(range),
         Err(error) => Reply::Refused(error),
     }
 }

@@ -1,4 +1,5 @@
-use Rattle.std.proofs.Common.{[], Result, Ok, Err, OnErr, refl, sym, subst, ◌∙◌, append-nil, arith}
+use Rattle.std.proofs.Common.{◌≡◌, ◌+◌, ◌≤◌, ℕ, List, [], length, Result, Ok, Err, OnErr, true≢false, ap, refl, sym}
+use Rattle.std.proofs.Common.{subst, ◌∙◌, append-nil, arith}
 use Rattle.std.proofs.lemmas.List.{take_all}
 use Rattle.std.proofs.lemmas.Result.{IfOk-from_err}
 use Rattle.compact_edit.specs.Runs.{RunsTo}
@@ -17,6 +18,18 @@ returns-in_err-reserve-clause-count g c = IfOk-from_err _ _ c.from_residual.ensu
 
 pub returns-in_err-reserve-clause-err : goal.returns-in_err-reserve-clause-err
 returns-in_err-reserve-clause-err g c = on_err c.from_residual.result (refl, c.reserve.ensures.items)
+
+pub returns-in_err-reserve-clause-succeeds : goal.returns-in_err-reserve-clause-succeeds
+returns-in_err-reserve-clause-succeeds g c = λ fits. absurd (true≢false (sym (c.in_err-reserve.ensures.succeeds fits)))
+
+-- no items have room wherever those before them have
+none-fit : {X : Type 0} (xs : List X) (len room : ℕ) → len ≤ room → xs ≡ [] → len + length xs ≤ room
+none-fit xs len room within none =
+    let lengths = ap length none in omega arith
+
+pub returns-in_err-reserve-clause-empty : goal.returns-in_err-reserve-clause-empty
+returns-in_err-reserve-clause-empty g c = λ none.
+    absurd (true≢false (sym (c.in_err-reserve.ensures.succeeds (none-fit c.args.edits.now _ _ c.args.replies.now.ok.1 none))))
 
 pub loop-edit-init : goal.loop-edit-init
 loop-edit-init g c = record {
