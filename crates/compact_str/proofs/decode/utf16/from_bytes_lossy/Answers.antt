@@ -8,6 +8,9 @@ use Rattle.compact_codec.proofs.ForDecoders.{made-utf16_bytes_lossy_text}
 use Rattle.compact_str.proofs.FittedTexts.{first-asks, refused-fitted, asks-succeeds, long-asks}
 use Rattle.compact_str.proofs.decode.utf16.from_bytes_lossy.Goals as goal
 
+pub loop-rest-init : goal.loop-rest-init
+loop-rest-init c = ap (λ (t : List ℕ). t ++ utf16_bytes_lossy_text c.args.order c.args.bytes.now) c.new-gathered.ensures
+
 pub loop-rest-preserved : goal.loop-rest-preserved
 loop-rest-preserved c =
     let character = c.unwrap_or.result in
