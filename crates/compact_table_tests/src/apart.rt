@@ -103,9 +103,7 @@ fn is_fault(alloc: Global, json: &Value) -> bool {
 fn are_appended(alloc: Global, ration: &mut Ration) -> bool {
     let mut holds = true;
     for (granted, len) in [0, 30, 70, 110].iter().enumerate() {
-        for ask in [New(30), More(70), More(140)].iter().take(granted) {
-            ration.grant(*ask);
-        }
+        ration.grant_first(&[New(30), More(70), More(140)], granted);
         holds &= is_appended(alloc, granted == 3, *len);
         ration.take_rest();
     }
@@ -115,12 +113,11 @@ fn are_appended(alloc: Global, ration: &mut Ration) -> bool {
 /// Appends 30 letters, 40 digits and 40 digits to an empty line.
 fn is_appended(alloc: Global, is_whole: bool, len: usize) -> bool {
     let mut line = String::new(alloc);
-    let is_done = append(&mut line, &three_values(alloc));
-    is_done == is_whole && line.as_str() == front(len)
+    append(alloc, &mut line) == is_whole && line.as_str() == front(len)
 }
 
-fn append(line: &mut String, values: &[CompactString]) -> bool {
-    append_all(line, values.iter()).is_ok()
+fn append(alloc: Global, line: &mut String) -> bool {
+    append_all(line, three_values(alloc).iter()).is_ok()
 }
 
 fn three_values(alloc: Global) -> [CompactString; 3] {
@@ -138,19 +135,13 @@ fn front(len: usize) -> &'static str {
 
 /// Whether pushes of 30, 40 and 40 bytes leave these values after so many grants.
 fn are_pushed(alloc: Global, ration: &mut Ration) -> bool {
+    let asks = [New(32), More(70), More(110)];
     let mut holds = is_pushed(alloc, 3, 0, inline(""));
-    ration.grant(New(32));
-    holds &= is_pushed(alloc, 2, 0, heap(32, front(30)));
-    ration.take_rest();
-    ration.grant(New(32));
-    ration.grant(More(70));
-    holds &= is_pushed(alloc, 1, 30, heap(70, front(70)));
-    ration.take_rest();
-    ration.grant(New(32));
-    ration.grant(More(70));
-    ration.grant(More(110));
-    holds &= is_pushed(alloc, 0, 100, heap(110, front(110)));
-    ration.take_rest();
+    for (granted, moved, capacity, len) in [(1, 0, 32, 30), (2, 30, 70, 70), (3, 100, 110, 110)] {
+        ration.grant_first(&asks, granted);
+        holds &= is_pushed(alloc, 3 - granted, moved, heap(capacity, front(len)));
+        ration.take_rest();
+    }
     holds
 }
 

@@ -9,6 +9,7 @@ use crate::values::{Seen, Start, fitted, fixed, heap, inline, is_seen, letters};
 use compact_edit::{Interner, Reply, run};
 use compact_ext::wire::write_wire;
 use compact_str::{CompactString, Standard};
+use compact_testing::values::string_with_room;
 use std::alloc::{AllocError, Global};
 use std::borrow::CowStr;
 use std::boxed::BoxedStr;
@@ -40,7 +41,7 @@ pub fn cases(alloc: Global, ration: &mut Ration, faults: &mut Faults) {
         "2: strings are taken",
     );
     tell(
-        looks_at_values(alloc, ration),
+        uses_values(alloc, ration, Use::Look),
         ration,
         faults,
         "3: values are looked at",
@@ -58,7 +59,7 @@ pub fn cases(alloc: Global, ration: &mut Ration, faults: &mut Faults) {
         "8: a drain is walked",
     );
     tell(
-        borrows(alloc, ration),
+        uses_values(alloc, ration, Use::Borrow),
         ration,
         faults,
         "13: a value is borrowed",
@@ -70,7 +71,7 @@ pub fn cases(alloc: Global, ration: &mut Ration, faults: &mut Faults) {
         "13: a value is written",
     );
     tell(
-        runs_nothing(alloc, ration),
+        uses_values(alloc, ration, Use::Run),
         ration,
         faults,
         "13: no edits are run",
@@ -111,22 +112,23 @@ fn takes_texts(alloc: Global) -> bool {
 /// 2: strings.
 fn takes_strings(alloc: Global, ration: &mut Ration) -> bool {
     let (text, seen) = (letters(0, 30), fitted(letters(0, 30)));
-    ration.grant(New(3));
-    let mut holds = takes_string(String::from_str(alloc, "abc"), inline("abc"));
+    let mut holds = takes_string(string(alloc, ration, 3, "abc"), inline("abc"));
+    holds &= takes_string(string(alloc, ration, 30, text), seen);
+    holds &= takes_buffer(string(alloc, ration, 30, text), seen);
+    holds &= takes_buffer(string(alloc, ration, 100, ""), heap(100, ""));
+    holds && takes_cow(alloc, string(alloc, ration, 30, text), seen)
+}
+
+/// A string with just that room, for which its request is granted.
+fn string(
+    alloc: Global,
+    ration: &mut Ration,
+    capacity: usize,
+    text: &str,
+) -> Result<String, AllocError> {
     ration.take_rest();
-    ration.grant(New(30));
-    holds &= takes_string(String::from_str(alloc, text), seen);
-    ration.take_rest();
-    ration.grant(New(30));
-    holds &= takes_buffer(String::from_str(alloc, text), seen);
-    ration.take_rest();
-    ration.grant(New(100));
-    holds &= takes_buffer(String::with_capacity(alloc, 100), heap(100, ""));
-    ration.take_rest();
-    ration.grant(New(30));
-    holds &= takes_cow(alloc, String::from_str(alloc, text), seen);
-    ration.take_rest();
-    holds
+    ration.grant(New(capacity));
+    string_with_room(alloc, capacity, text)
 }
 
 fn takes_string(string: Result<String, AllocError>, seen: Seen<'_>) -> bool {
@@ -155,17 +157,35 @@ fn takes_cow(alloc: Global, string: Result<String, AllocError>, seen: Seen<'_>) 
     }
 }
 
-/// 3: a look at values of each place.
-fn looks_at_values(alloc: Global, ration: &mut Ration) -> bool {
+/// What is done with a value of each place.
+#[derive(Clone, Copy)]
+enum Use {
+    /// 3: a look.
+    Look,
+    /// 13: `as_cow`.
+    Borrow,
+    /// 13: a run of no edits.
+    Run,
+}
+
+fn uses_values(alloc: Global, ration: &mut Ration, what: Use) -> bool {
     let mut holds = true;
     for start in &PLACES {
         holds &= match start.make(ration, alloc) {
-            Some(value) => is_looked_at(&value, start.seen()),
+            Some(mut value) => uses(&mut value, what, start.seen()),
             None => false,
         };
         ration.take_rest();
     }
     holds
+}
+
+fn uses(value: &mut CompactString, what: Use, seen: Seen<'_>) -> bool {
+    match what {
+        Use::Look => is_looked_at(value, seen),
+        Use::Borrow => value.as_cow().as_str() == seen.text,
+        Use::Run => is_run(value) && is_seen(value, seen),
+    }
 }
 
 /// Looks at a value of 3 letters or more, none of more than one byte.
@@ -229,19 +249,6 @@ fn is_walked(value: &mut CompactString) -> bool {
     is_first && is_last && drain.as_str() == letters(2, 28)
 }
 
-/// 13: `as_cow`.
-fn borrows(alloc: Global, ration: &mut Ration) -> bool {
-    let mut holds = true;
-    for start in &PLACES {
-        holds &= match start.make(ration, alloc) {
-            Some(value) => value.as_cow().as_str() == start.seen().text,
-            None => false,
-        };
-        ration.take_rest();
-    }
-    holds
-}
-
 /// 13: `write_wire`, into a list that has room.
 fn writes(alloc: Global, ration: &mut Ration) -> bool {
     let mut holds = true;
@@ -268,32 +275,16 @@ fn is_written(value: &CompactString, room: Vec<u8>, text: &str) -> bool {
     write_wire(value, &mut room).is_ok() && room.get(4..) == Some(text.as_bytes())
 }
 
-/// 13: a run of no edits.
-fn runs_nothing(alloc: Global, ration: &mut Ration) -> bool {
-    let mut holds = true;
-    for start in &PLACES {
-        holds &= match start.make(ration, alloc) {
-            Some(mut value) => is_run(alloc, &mut value) && is_seen(&value, start.seen()),
-            None => false,
-        };
-        ration.take_rest();
-    }
-    holds
-}
-
-fn is_run(alloc: Global, value: &mut CompactString) -> bool {
-    let mut replies: Vec<Reply<Standard>> = Vec::new(alloc);
+fn is_run(value: &mut CompactString) -> bool {
+    let mut replies: Vec<Reply<Standard>> = Vec::new(value.allocator());
     run(value, &[], &mut replies).is_ok() && replies.is_empty()
 }
 
 /// 13: a known name.
 fn finds_name(alloc: Global, ration: &mut Ration) -> bool {
     let mut names = Interner::new(alloc);
-    for ask in &TABLE {
-        ration.grant(*ask);
-    }
+    ration.grant_first(&TABLE, TABLE.len());
     let is_new = finds(&mut names, letters(0, 24), 0);
     ration.take_rest();
-    let is_found = finds(&mut names, letters(0, 24), 0);
-    is_new && is_found && names.name(1).is_none() && names.len() == 1
+    is_new && finds(&mut names, letters(0, 24), 0) && names.name(1).is_none() && names.len() == 1
 }

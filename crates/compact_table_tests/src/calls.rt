@@ -48,11 +48,12 @@ fn reply_of_run(
 
 /// The reply to a call that is no edit. No call of that name is told as a bad position.
 fn named(case: &Case<'_>, value: &mut CompactString) -> Reply<Standard> {
+    let (first, last) = (case.word(0), case.word(1));
     match case.name {
-        "try_reserve" => try_reserve(value, case.word(0)),
-        "write_str" => written(value.write_str(case.word(0)).is_ok()),
-        "write!" => write_both(value, case.word(0), case.word(1)),
-        "add_str" => add_str(value, case.word(0)),
+        "try_reserve" => try_reserve(value, first),
+        "write_str" => written(value.write_str(first).is_ok()),
+        "write!" => write_both(value, first, last),
+        "add_str" => add_str(value, first),
         "clone" => cloned(value),
         "to_ascii_lowercase" => given(value.to_ascii_lowercase()),
         "to_ascii_uppercase" => given(value.to_ascii_uppercase()),

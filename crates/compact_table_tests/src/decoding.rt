@@ -1,40 +1,40 @@
 //! Calls that make a value of bytes or of units.
 
 use crate::making::value_or_refused;
+use crate::showing::show;
 use crate::table::Case;
 use crate::trial::Made;
 use bytes::Buf;
 use compact_str::{CompactString, FromUtf8Error, FromUtf16Error};
 use std::alloc::Global;
 
-/// Makes the value of a case, if its call decodes.
+/// Makes the value of a case whose call decodes, or else that of another call.
 pub fn decode(case: &Case<'_>, alloc: Global) -> Made {
     let (bytes, units) = (case.listed.bytes(), case.listed.units());
     match case.name {
         "from_utf8" => of_utf8(CompactString::from_utf8(alloc, bytes)),
         "from_utf8_lossy" => value_or_refused(CompactString::from_utf8_lossy(alloc, bytes)),
-        "from_utf8_unchecked" => of_text(case.word(0), alloc),
+        "from_utf8_unchecked" => value_or_refused(CompactString::from_utf8_unchecked(
+            alloc,
+            case.word(0).as_bytes(),
+        )),
         "from_utf8_buf" => of_pieces(case.word(0), case.word(1), alloc),
         "from_utf8_buf_unchecked" => of_buffer(case.word(0), alloc),
         "from_utf16" => of_utf16(CompactString::from_utf16(alloc, units)),
         "from_utf16_lossy" => value_or_refused(CompactString::from_utf16_lossy(alloc, units)),
-        _ => decode_ordered(case.name, bytes, alloc),
+        _ => decode_ordered(case, bytes, alloc),
     }
 }
 
 /// The same of units that come in bytes.
-fn decode_ordered(name: &str, bytes: &[u8], alloc: Global) -> Made {
-    match name {
+fn decode_ordered(case: &Case<'_>, bytes: &[u8], alloc: Global) -> Made {
+    match case.name {
         "from_utf16le" => of_utf16(CompactString::from_utf16le(alloc, bytes)),
         "from_utf16be" => of_utf16(CompactString::from_utf16be(alloc, bytes)),
         "from_utf16le_lossy" => value_or_refused(CompactString::from_utf16le_lossy(alloc, bytes)),
         "from_utf16be_lossy" => value_or_refused(CompactString::from_utf16be_lossy(alloc, bytes)),
-        _ => Made::Unknown,
+        _ => show(case, alloc),
     }
-}
-
-fn of_text(text: &str, alloc: Global) -> Made {
-    value_or_refused(CompactString::from_utf8_unchecked(alloc, text.as_bytes()))
 }
 
 /// A buffer in two pieces.

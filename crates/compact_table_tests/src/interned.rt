@@ -104,9 +104,7 @@ fn takes_lists(alloc: Global, ration: &mut Ration) -> bool {
     let states = [(0, 0), (0, 0), (0, 0), (0, 0), (0, 0), (1, 1), (3, 4)];
     let mut holds = true;
     for (granted, (count, listed)) in states.iter().enumerate() {
-        for ask in asks.iter().take(granted) {
-            ration.grant(*ask);
-        }
+        ration.grant_first(&asks, granted);
         holds &= takes_list(alloc, granted == asks.len(), *count, *listed);
         ration.take_rest();
     }

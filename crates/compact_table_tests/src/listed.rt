@@ -59,10 +59,10 @@ pub fn make_listed(alloc: Global, name: &str, word: &str) -> Option<Listed> {
         | "from_utf16le"
         | "from_utf16le_lossy"
         | "from_utf16be"
-        | "from_utf16be_lossy" => Some(Listed::Bytes(bytes_of(alloc, word)?)),
-        "from_utf16" | "from_utf16_lossy" => Some(Listed::Units(units_of(alloc, word)?)),
-        "read_wire" => Some(Listed::Bytes(form_of(alloc, word)?)),
-        "from_json" => Some(Listed::Json(json_of(alloc, word)?)),
+        | "from_utf16be_lossy" => bytes_of(alloc, word),
+        "from_utf16" | "from_utf16_lossy" => units_of(alloc, word),
+        "read_wire" => form_of(alloc, word),
+        "from_json" => json_of(alloc, word),
         _ => make_typed(alloc, name, word),
     }
 }
@@ -70,7 +70,7 @@ pub fn make_listed(alloc: Global, name: &str, word: &str) -> Option<Listed> {
 /// The same of the calls that take items of one type or another.
 fn make_typed(alloc: Global, name: &str, word: &str) -> Option<Listed> {
     match name {
-        "collect:&char" | "extend:&char" => Some(Listed::Characters(characters_of(alloc, word)?)),
+        "collect:&char" | "extend:&char" => characters_of(alloc, word),
         "from_texts:String" | "to_compact_string:String" => {
             Some(Listed::String(String::from_str(alloc, word).ok()?))
         }
@@ -81,17 +81,18 @@ fn make_typed(alloc: Global, name: &str, word: &str) -> Option<Listed> {
 }
 
 /// The bytes of a text, or one byte so many times.
-fn bytes_of(alloc: Global, word: &str) -> Option<Vec<u8>> {
-    match repeated(word) {
-        Some((number, count)) => Vec::from_elem(alloc, u8::try_from(number).ok()?, count).ok(),
-        None => Vec::from_slice(alloc, word.as_bytes()).ok(),
-    }
+fn bytes_of(alloc: Global, word: &str) -> Option<Listed> {
+    let bytes = match repeated(word) {
+        Some((number, count)) => Vec::from_elem(alloc, u8::try_from(number).ok()?, count),
+        None => Vec::from_slice(alloc, word.as_bytes()),
+    };
+    Some(Listed::Bytes(bytes.ok()?))
 }
 
 /// One unit so many times.
-fn units_of(alloc: Global, word: &str) -> Option<Vec<u16>> {
+fn units_of(alloc: Global, word: &str) -> Option<Listed> {
     let (unit, count) = repeated(word)?;
-    Vec::from_elem(alloc, unit, count).ok()
+    Some(Listed::Units(Vec::from_elem(alloc, unit, count).ok()?))
 }
 
 /// The number and the count of a word such as `[0xFF;9]`.
@@ -103,10 +104,10 @@ fn repeated(word: &str) -> Option<(u16, usize)> {
 }
 
 /// The form of a text on a wire.
-fn form_of(alloc: Global, word: &str) -> Option<Vec<u8>> {
+fn form_of(alloc: Global, word: &str) -> Option<Listed> {
     let mut bytes = Vec::new(alloc);
     if is_written(&copied(alloc, word)?, &mut bytes) {
-        Some(bytes)
+        Some(Listed::Bytes(bytes))
     } else {
         None
     }
@@ -116,14 +117,14 @@ fn is_written(value: &CompactString, bytes: &mut Vec<u8>) -> bool {
     write_wire(value, bytes).is_ok()
 }
 
-fn json_of(alloc: Global, word: &str) -> Option<Value> {
-    json!(in alloc; word).ok()
+fn json_of(alloc: Global, word: &str) -> Option<Listed> {
+    Some(Listed::Json(json!(in alloc; word).ok()?))
 }
 
-fn characters_of(alloc: Global, word: &str) -> Option<Vec<char>> {
+fn characters_of(alloc: Global, word: &str) -> Option<Listed> {
     let mut characters = Vec::new(alloc);
     for character in word.chars() {
         characters.push(character).ok()?;
     }
-    Some(characters)
+    Some(Listed::Characters(characters))
 }

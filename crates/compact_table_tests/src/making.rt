@@ -3,7 +3,6 @@
 use crate::decoding::decode;
 use crate::listed::Listed;
 use crate::notation::number;
-use crate::showing::show;
 use crate::table::Case;
 use crate::trial::Made;
 use compact_ext::wire::{WireError, read_wire};
@@ -12,35 +11,16 @@ use serde_json::Value;
 use std::alloc::{AllocError, Global};
 use std::borrow::CowStr;
 
-/// Makes the value of a case, anew each time.
+/// Makes the value of a case, anew each time: one that is copied, or else one of another call.
 pub fn make(case: &Case<'_>, alloc: Global) -> Made {
-    match copy(case.name, case.word(0), alloc) {
-        Made::Unknown => {}
-        made => return made,
-    }
-    match gather(case, alloc) {
-        Made::Unknown => {}
-        made => return made,
-    }
-    match decode(case, alloc) {
-        Made::Unknown => {}
-        made => return made,
-    }
-    match show(case, alloc) {
-        Made::Unknown => read(case, alloc),
-        made => made,
-    }
-}
-
-/// A value that stands by itself.
-fn copy(name: &str, word: &str, alloc: Global) -> Made {
+    let (name, word) = (case.name, case.word(0));
     match name {
         "new" => value_or_refused(CompactString::new(alloc, word)),
         "try_new" => value_or_refused(CompactString::try_new(alloc, word)),
         "from_str" => value_or_refused(CompactString::from_str(alloc, word)),
         "from_cow" => value_or_refused(CompactString::from_cow(alloc, CowStr::Borrowed(word))),
         "with_capacity" | "try_with_capacity" => make_room(name, number(word), alloc),
-        _ => Made::Unknown,
+        _ => gather(case, alloc),
     }
 }
 
@@ -55,39 +35,21 @@ fn make_room(name: &str, capacity: Option<usize>, alloc: Global) -> Made {
     }
 }
 
-/// A value of items that are collected, concatenated or joined.
+/// A value of items that are collected, concatenated or joined, or else one of another call.
 fn gather(case: &Case<'_>, alloc: Global) -> Made {
     let (word, texts) = (case.word(0), case.operands.as_slice());
     match case.name {
-        "from_chars" => of_characters(word, alloc),
+        "from_chars" => value_or_refused(CompactString::from_chars(alloc, word.chars())),
         "from_texts" => of_texts(texts, alloc),
-        "from_texts:CowStr" => of_borrowed(word, alloc),
-        "concat_compact" => concatenate(texts, alloc),
+        "from_texts:CowStr" => {
+            value_or_refused(CompactString::from_texts(alloc, [CowStr::Borrowed(word)]))
+        }
+        "concat_compact" => value_or_refused(texts.iter().concat_compact(alloc)),
         "join_compact" => join(texts, alloc),
-        "collect:char" => collect_characters(word, alloc),
-        "collect:&str" => collect_texts(texts, alloc),
-        _ => gather_listed(case.name, &case.listed, alloc),
+        "collect:char" => of_trait(word.chars().collect(alloc)),
+        "collect:&str" => of_trait(texts.iter().collect(alloc)),
+        _ => decode(case, alloc),
     }
-}
-
-fn of_characters(text: &str, alloc: Global) -> Made {
-    value_or_refused(CompactString::from_chars(alloc, text.chars()))
-}
-
-fn concatenate(texts: &[&str], alloc: Global) -> Made {
-    value_or_refused(texts.iter().concat_compact(alloc))
-}
-
-fn collect_characters(text: &str, alloc: Global) -> Made {
-    of_trait(text.chars().collect(alloc))
-}
-
-fn collect_texts(texts: &[&str], alloc: Global) -> Made {
-    of_trait(texts.iter().collect(alloc))
-}
-
-fn of_borrowed(text: &str, alloc: Global) -> Made {
-    value_or_refused(CompactString::from_texts(alloc, [CowStr::Borrowed(text)]))
 }
 
 /// A value of texts, with the first between each of the others.
@@ -100,15 +62,15 @@ fn join(texts: &[&str], alloc: Global) -> Made {
     }
 }
 
-/// A value of items that are no borrowed texts.
-fn gather_listed(name: &str, listed: &Listed, alloc: Global) -> Made {
-    match listed {
-        Listed::String(text) if name == "from_texts:String" => of_texts(&[text], alloc),
-        Listed::Box(text) if name == "from_texts:BoxedStr" => of_texts(&[text], alloc),
-        Listed::Value(text) if name == "from_texts:CompactString" => of_texts(&[text], alloc),
-        Listed::Characters(characters) if name == "collect:&char" => {
-            of_trait(characters.iter().collect(alloc))
-        }
+/// A value of an operand that is no text. No other call that makes a value has one of these.
+pub fn make_of_listed(case: &Case<'_>, alloc: Global) -> Made {
+    match &case.listed {
+        Listed::String(text) => of_texts(&[text], alloc),
+        Listed::Box(text) => of_texts(&[text], alloc),
+        Listed::Value(text) => of_texts(&[text], alloc),
+        Listed::Characters(characters) => of_trait(characters.iter().collect(alloc)),
+        Listed::Json(json) if json.as_str() == Some(case.word(0)) => read_json(json, alloc),
+        Listed::Bytes(bytes) => read_form(bytes, alloc),
         _ => Made::Unknown,
     }
 }
@@ -116,15 +78,6 @@ fn gather_listed(name: &str, listed: &Listed, alloc: Global) -> Made {
 /// A value of texts, one after another.
 fn of_texts<T: AsText>(texts: &[T], alloc: Global) -> Made {
     value_or_refused(CompactString::from_texts(alloc, texts.iter()))
-}
-
-/// A value that is read of a JSON value or of a wire.
-fn read(case: &Case<'_>, alloc: Global) -> Made {
-    match &case.listed {
-        Listed::Json(json) if json.as_str() == Some(case.word(0)) => read_json(json, alloc),
-        Listed::Bytes(bytes) if case.name == "read_wire" => read_form(bytes, alloc),
-        _ => Made::Unknown,
-    }
 }
 
 pub fn read_json(json: &Value, alloc: Global) -> Made {

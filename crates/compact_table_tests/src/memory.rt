@@ -82,6 +82,13 @@ impl Ration {
         }
     }
 
+    /// Grants the first so many requests.
+    pub fn grant_first(&mut self, asks: &[Ask], count: usize) {
+        for ask in asks.iter().take(count) {
+            self.grant(*ask);
+        }
+    }
+
     fn give_back(&mut self, size: usize) {
         if let Some(blocks) = self.stock.get_mut(step_of(size)) {
             drop(blocks.pop());

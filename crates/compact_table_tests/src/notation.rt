@@ -7,6 +7,9 @@ use std::alloc::{AllocError, Global};
 /// The greatest count of a unit.
 const MAX_COUNT: usize = 2000;
 
+/// The 26 small letters and the 26 great ones.
+const LETTERS: &str = "abcdefghijklmnopqrstuvwxyzABCDEFGHIJKLMNOPQRSTUVWXYZ";
+
 /// The table with each text written out, line by line.
 pub fn expanded(alloc: Global, table: &str) -> Result<String, AllocError> {
     let mut text = String::new(alloc);
@@ -67,9 +70,12 @@ fn counted(part: &str) -> Option<(&str, usize)> {
 /// Of the 26 small letters and the 26 great ones those from one to another, if `unit` is two letters with `..` between
 /// them.
 fn letters_of(unit: &str) -> Option<&'static str> {
-    const LETTERS: &str = "abcdefghijklmnopqrstuvwxyzABCDEFGHIJKLMNOPQRSTUVWXYZ";
     let (first, last) = unit.split_once("..")?;
-    let from = LETTERS.find(character(first)?)?;
-    let to = LETTERS.find(character(last)?)?;
+    let (from, to) = (place_of(first)?, place_of(last)?);
     LETTERS.get(from..to.saturating_add(1))
+}
+
+/// The place of a letter in the row of these letters.
+fn place_of(letter: &str) -> Option<usize> {
+    LETTERS.find(character(letter)?)
 }

@@ -1,6 +1,7 @@
 //! Calls that make a value of what is shown: numbers, texts and formats.
 
 use crate::listed::Listed;
+use crate::making::make_of_listed;
 use crate::table::Case;
 use crate::trial::Made;
 use compact_ext::{ToCompactString, ToCompactStringError, format_compact};
@@ -21,19 +22,19 @@ impl Display for Hiding<'_> {
     }
 }
 
-/// Makes the value of a case, if its call shows something.
+/// Makes the value of a case whose call shows something, or else of a case with an operand that is no text.
 pub fn show(case: &Case<'_>, alloc: Global) -> Made {
     let (first, last) = (case.word(0), case.word(1));
     match case.name {
-        "to_compact_string:u128" => show_unsigned(first.parse::<u128>().ok(), alloc),
-        "to_compact_string:i128" => show_signed(first.parse::<i128>().ok(), alloc),
-        "try_to_compact_string:u128" => try_show_unsigned(first.parse::<u128>().ok(), alloc),
+        "to_compact_string:u128" => show_unsigned(first, alloc),
+        "to_compact_string:i128" => show_signed(first, alloc),
+        "try_to_compact_string:u128" => try_show_unsigned(first, alloc),
         "to_compact_string:str" => shown(first.to_compact_string(alloc)),
         "try_to_compact_string:str" => shown(first.try_to_compact_string(alloc)),
         "to_compact_string:String" => show_string(&case.listed, alloc),
         "format_compact!" => format_both(first, last, alloc),
         "format_compact!:hiding" => format_hiding(first, last, alloc),
-        _ => Made::Unknown,
+        _ => make_of_listed(case, alloc),
     }
 }
 
@@ -45,24 +46,24 @@ fn format_hiding(first: &str, last: &str, alloc: Global) -> Made {
     shown(format_compact!(in alloc; "{}", Hiding(first, last)))
 }
 
-fn show_unsigned(number: Option<u128>, alloc: Global) -> Made {
-    match number {
-        Some(number) => shown(number.to_compact_string(alloc)),
-        None => Made::Unknown,
+fn show_unsigned(word: &str, alloc: Global) -> Made {
+    match word.parse::<u128>() {
+        Ok(number) => shown(number.to_compact_string(alloc)),
+        Err(_) => Made::Unknown,
     }
 }
 
-fn try_show_unsigned(number: Option<u128>, alloc: Global) -> Made {
-    match number {
-        Some(number) => shown(number.try_to_compact_string(alloc)),
-        None => Made::Unknown,
+fn try_show_unsigned(word: &str, alloc: Global) -> Made {
+    match word.parse::<u128>() {
+        Ok(number) => shown(number.try_to_compact_string(alloc)),
+        Err(_) => Made::Unknown,
     }
 }
 
-fn show_signed(number: Option<i128>, alloc: Global) -> Made {
-    match number {
-        Some(number) => shown(number.to_compact_string(alloc)),
-        None => Made::Unknown,
+fn show_signed(word: &str, alloc: Global) -> Made {
+    match word.parse::<i128>() {
+        Ok(number) => shown(number.to_compact_string(alloc)),
+        Err(_) => Made::Unknown,
     }
 }
 

@@ -54,22 +54,11 @@ pub struct Case<'a> {
 
 impl<'a> Case<'a> {
     /// Reads its lists.
-    fn read(&mut self, alloc: Global, fields: Fields<'a>) -> bool {
+    fn read(&mut self, fields: Fields<'a>) -> bool {
         let (_, operands) = first_word(fields.call);
         read_operands(&mut self.operands, operands)
             && read_asks(&mut self.asks, fields.asks)
             && read_states(&mut self.states, fields.after)
-            && self.read_listed(alloc)
-    }
-
-    fn read_listed(&mut self, alloc: Global) -> bool {
-        match make_listed(alloc, self.name, self.word(0)) {
-            Some(listed) => {
-                self.listed = listed;
-                true
-            }
-            None => false,
-        }
     }
 
     /// A word behind the name, which is empty where there are not as many.
@@ -92,11 +81,7 @@ struct Fields<'a> {
 pub fn read_case<'a>(alloc: Global, line: &'a str, text: &'a str) -> Option<Case<'a>> {
     let fields = fields_of(text)?;
     let mut case = begin_case(alloc, line, fields)?;
-    if case.read(alloc, fields) {
-        Some(case)
-    } else {
-        None
-    }
+    if case.read(fields) { Some(case) } else { None }
 }
 
 fn fields_of(text: &str) -> Option<Fields<'_>> {
@@ -113,18 +98,20 @@ fn fields_of(text: &str) -> Option<Fields<'_>> {
     })
 }
 
-/// A case with none of its lists read.
+/// A case with none of its lists of words read.
 fn begin_case<'a>(alloc: Global, line: &'a str, fields: Fields<'a>) -> Option<Case<'a>> {
     let start = start_of(fields.start)?;
     let answer = answer_of(fields.answer)?;
-    let (name, _) = first_word(fields.call);
+    let (name, operands) = first_word(fields.call);
+    let word = operands.split_whitespace().next().unwrap_or("");
+    let listed = make_listed(alloc, name, text_of(word))?;
     Some(Case {
         line,
         start,
         call: fields.call,
         name,
         operands: Vec::new(alloc),
-        listed: Listed::Nothing,
+        listed,
         asks: Vec::new(alloc),
         answer,
         states: Vec::new(alloc),
@@ -152,12 +139,11 @@ pub fn first_word(text: &str) -> (&str, &str) {
 
 /// Reads operands.
 fn read_operands<'a>(operands: &mut Vec<&'a str>, field: &'a str) -> bool {
+    let mut is_read = true;
     for word in field.split_whitespace() {
-        if operands.push(text_of(word)).is_err() {
-            return false;
-        }
+        is_read &= operands.push(text_of(word)).is_ok();
     }
-    true
+    is_read
 }
 
 /// The text of a word: `_` is the empty one.

@@ -6,7 +6,7 @@ use crate::edits::edit_of;
 use crate::extended::extend;
 use crate::faults::Faults;
 use crate::making::make;
-use crate::memory::{Ask, Ration};
+use crate::memory::Ration;
 use crate::table::{Answer, Case, first_word};
 use crate::values::{Start, is_seen, seen_of_source};
 use crate::ways_out::leave;
@@ -68,25 +68,29 @@ impl Trial {
             !is_low,
             "few blocks are left to grant: keep more in `memory.rt`",
         );
-        match (case.start, case.answer) {
-            (None, Answer::Made | Answer::TooLarge) => self.makes(case),
-            (Some(start), Answer::Left(text)) => self.leaves(case, start, text),
-            (Some(start), Answer::Kept) => self.keeps(case, start),
-            (Some(start), Answer::Refused(count)) => self.runs(case, start, Some(count)),
-            (Some(start), Answer::Unrun) => self.runs(case, start, None),
-            (Some(start), _) => self.answers(case, start),
-            (None, _) => self
-                .faults
-                .expect(false, "no call without a value answers so"),
+        match case.start {
+            Some(start) => self.starts(case, start),
+            None => self.makes(case),
         }
         self.faults.end();
         self.ration.take_rest();
     }
 
+    /// A line that starts from a value.
+    fn starts(&mut self, case: &Case<'_>, start: Start<'_>) {
+        match case.answer {
+            Answer::Left(text) => self.leaves(case, start, text),
+            Answer::Kept => self.keeps(case, start),
+            Answer::Refused(count) => self.runs(case, start, Some(count)),
+            Answer::Unrun => self.runs(case, start, None),
+            _ => self.answers(case, start),
+        }
+    }
+
     /// A call on a value.
     fn answers(&mut self, case: &Case<'_>, start: Start<'_>) {
         if let Some(edit) = edit_of(case.call, &case.listed) {
-            self.edits(case, start, edit);
+            self.edits(case, start, &[edit]);
         } else if case.name == "run" {
             self.edits_by_run(case, start);
         } else {
@@ -104,20 +108,19 @@ impl Trial {
     }
 
     /// An edit. A shrink that asks for memory is tried as a shrink.
-    fn edits(&mut self, case: &Case<'_>, start: Start<'_>, edit: Edit<'_, Standard>) {
-        let name = case.name;
-        let is_shrink = name == "shrink_to" || name == "shrink_to_fit";
-        let edits = [edit];
-        if is_shrink && !case.asks.is_empty() {
-            self.shrinks(case, start, By::Run(&edits));
-            self.shrinks(case, start, By::Edit(&edits[0]));
-            return;
+    fn edits(&mut self, case: &Case<'_>, start: Start<'_>, edits: &[Edit<'_, Standard>; 1]) {
+        match case.name {
+            "shrink_to" | "shrink_to_fit" if !case.asks.is_empty() => {
+                self.shrinks(case, start, By::Run(edits));
+                self.shrinks(case, start, By::Edit(&edits[0]));
+            }
+            "drain" => self.tries(case, start, By::Edit(&edits[0])),
+            _ => {
+                self.tries(case, start, By::Run(edits));
+                self.tries(case, start, By::Edit(&edits[0]));
+                self.sees_source(case);
+            }
         }
-        if name != "drain" {
-            self.tries(case, start, By::Run(&edits));
-        }
-        self.tries(case, start, By::Edit(&edits[0]));
-        self.sees_source(case);
     }
 
     /// The value that another was cloned from is as it was.
@@ -130,52 +133,60 @@ impl Trial {
 
     /// The call is refused at each of its requests, which leaves the value as it was, and with them granted it is done.
     fn tries(&mut self, case: &Case<'_>, start: Start<'_>, by: By<'_, '_>) {
-        let Some(mut value) = self.start(start) else {
-            return;
-        };
+        if let Some(mut value) = self.start(start) {
+            self.refuses(case, start, by, &mut value);
+            self.faults.grants(case.asks.len());
+            self.replies(case, by, &mut value);
+            self.is_left(&value, case);
+        }
+        self.ration.take_rest();
+    }
+
+    /// The call is refused at each of its requests, and then that one is granted.
+    fn refuses(
+        &mut self,
+        case: &Case<'_>,
+        start: Start<'_>,
+        by: By<'_, '_>,
+        value: &mut CompactString,
+    ) {
         for (granted, ask) in case.asks.iter().enumerate() {
             self.faults.grants(granted);
-            let answer = reply(case, by, &mut value, &mut self.replies);
-            self.is_refused(&answer, &value, start);
-            drop(answer);
+            let is_refused = matches!(reply(case, by, value, &mut self.replies), Reply::Refused(_));
+            self.faults.expect(is_refused, "it is not refused");
+            self.is_same(value, start);
             self.ration.grant(*ask);
         }
-        self.faults.grants(case.asks.len());
-        let answer = reply(case, by, &mut value, &mut self.replies);
+    }
+
+    /// The call answers as its line says.
+    fn replies(&mut self, case: &Case<'_>, by: By<'_, '_>, value: &mut CompactString) {
+        let answer = reply(case, by, value, &mut self.replies);
         self.is_answered(&answer, case.answer);
-        self.is_left(&value, case);
-        drop(answer);
-        drop(value);
-        self.ration.take_rest();
     }
 
     /// A shrink with no memory is done and leaves the value as it was, and gives room back once its request is granted.
     fn shrinks(&mut self, case: &Case<'_>, start: Start<'_>, by: By<'_, '_>) {
-        let Some(mut value) = self.start(start) else {
-            return;
-        };
-        let answer = reply(case, by, &mut value, &mut self.replies);
-        self.is_answered(&answer, case.answer);
-        self.faults
-            .expect_value(is_seen(&value, start.seen()), &value);
-        drop(answer);
-        self.grant_all(&case.asks);
-        let answer = reply(case, by, &mut value, &mut self.replies);
-        self.is_answered(&answer, case.answer);
-        self.is_left(&value, case);
-        drop(answer);
-        drop(value);
+        if let Some(mut value) = self.start(start) {
+            self.replies(case, by, &mut value);
+            self.is_same(&value, start);
+            self.ration.grant_first(&case.asks, case.asks.len());
+            self.replies(case, by, &mut value);
+            self.is_left(&value, case);
+        }
         self.ration.take_rest();
     }
 
     /// The call is refused at each of its requests, and with them granted it makes the value.
     fn makes(&mut self, case: &Case<'_>) {
+        self.faults.expect(
+            matches!(case.answer, Answer::Made | Answer::TooLarge),
+            "no call without a value answers so",
+        );
         for (granted, ask) in case.asks.iter().enumerate() {
             self.faults.grants(granted);
-            let made = make(case, self.alloc);
-            self.faults
-                .expect(matches!(made, Made::Refused), "it is not refused");
-            drop(made);
+            let is_refused = matches!(make(case, self.alloc), Made::Refused);
+            self.faults.expect(is_refused, "it is not refused");
             self.ration.grant(*ask);
         }
         self.faults.grants(case.asks.len());
@@ -203,8 +214,7 @@ impl Trial {
                 }
                 Err(back) => value = back,
             }
-            self.faults
-                .expect_value(is_seen(&value, start.seen()), &value);
+            self.is_same(&value, start);
             self.ration.grant(*ask);
         }
         self.faults.grants(case.asks.len());
@@ -222,15 +232,13 @@ impl Trial {
             "there is not one state more than there are requests",
         );
         for (granted, seen) in case.states.iter().enumerate() {
-            let Some(mut value) = self.start(start) else {
-                return;
-            };
-            self.faults.grants(granted);
-            self.grant_all(case.asks.get(..granted).unwrap_or(&[]));
-            let is_done = extend(case, &mut value);
-            self.faults.expect(is_done == (granted == case.asks.len()), "it ends otherwise");
-            self.faults.expect_value(is_seen(&value, *seen), &value);
-            drop(value);
+            if let Some(mut value) = self.start(start) {
+                self.faults.grants(granted);
+                self.ration.grant_first(&case.asks, granted);
+                let is_done = extend(case, &mut value);
+                self.faults.expect(is_done == (granted == case.asks.len()), "it ends otherwise");
+                self.faults.expect_value(is_seen(&value, *seen), &value);
+            }
             self.ration.take_rest();
         }
     }
@@ -256,7 +264,7 @@ impl Trial {
             return;
         };
         let mut replies = Vec::new(self.alloc);
-        self.grant_all(&case.asks);
+        self.ration.grant_first(&case.asks, case.asks.len());
         let is_run = run(&mut value, edits, &mut replies).is_ok();
         self.faults.expect(
             is_run == refused.is_some(),
@@ -287,16 +295,8 @@ impl Trial {
         value
     }
 
-    fn grant_all(&mut self, asks: &[Ask]) {
-        for ask in asks {
-            self.ration.grant(*ask);
-        }
-    }
-
-    /// The call was refused and has left the value as it was.
-    fn is_refused(&mut self, reply: &Reply<Standard>, value: &CompactString, start: Start<'_>) {
-        let is_refused = matches!(reply, Reply::Refused(_));
-        self.faults.expect(is_refused, "it is not refused");
+    /// The value is as it was.
+    fn is_same(&mut self, value: &CompactString, start: Start<'_>) {
         self.faults
             .expect_value(is_seen(value, start.seen()), value);
     }

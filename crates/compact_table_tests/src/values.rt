@@ -4,7 +4,7 @@
 
 use crate::memory::{Ask, Ration};
 use compact_str::CompactString;
-use compact_testing::values::{append, place_of};
+use compact_testing::values::{append, place_of, string_with_room};
 use std::alloc::Global;
 
 /// Of the 26 small letters, the 26 great ones and the ten digits those from one place to another.
@@ -108,12 +108,20 @@ fn in_buffer(
     text: &str,
 ) -> Option<CompactString> {
     ration.grant(Ask::New(capacity));
-    let mut buffer = String::with_capacity(alloc, capacity).ok()?;
-    buffer.push_str(text).ok()?;
-    for _ in text.len()..capacity {
-        buffer.push('z').ok()?;
+    let mut buffer = string_with_room(alloc, capacity, text).ok()?;
+    if !fill(&mut buffer, capacity) {
+        return None;
     }
     Some(cut(CompactString::from_string_buffer(buffer), text.len()))
+}
+
+/// Pushes the letter z until a buffer has so many bytes.
+fn fill(buffer: &mut String, len: usize) -> bool {
+    let mut is_filled = true;
+    for _ in buffer.len()..len {
+        is_filled &= buffer.push('z').is_ok();
+    }
+    is_filled
 }
 
 /// So many letters on the heap, with a request that is granted.

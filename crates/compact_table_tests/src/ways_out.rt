@@ -1,24 +1,28 @@
 //! Calls that a value leaves by: where one is refused the value is handed back as it was.
 
-use compact_str::CompactString;
+use compact_str::{AsText, CompactString, Refused};
 
 /// Whether a value has left with this text; the value where it was refused, or where there is no call of this name.
 pub fn leave(value: CompactString, name: &str, text: &str) -> Result<bool, CompactString> {
     match name {
-        "into_string" => string(value, text),
+        "into_string" => is_text(value.into_string(), text),
         "into_vec" => vec(value, text),
         "into_bytes" => bytes(value, text),
-        "into_boxed_str" => boxed(value, text),
+        "into_boxed_str" => is_text(value.into_boxed_str(), text),
         "into_rc" => shared(value, text),
-        "into_cow" => cow(value, text),
+        "into_cow" => is_text(value.into_cow(), text),
         "to_json" => json(value, text),
         _ => Err(value),
     }
 }
 
-fn string(value: CompactString, text: &str) -> Result<bool, CompactString> {
-    match value.into_string() {
-        Ok(out) => Ok(out.as_str() == text),
+/// Whether what leaves is this text.
+fn is_text<T: AsText>(
+    outcome: Result<T, Refused<CompactString>>,
+    text: &str,
+) -> Result<bool, CompactString> {
+    match outcome {
+        Ok(out) => Ok(out.text() == text),
         Err(back) => Err(back.value),
     }
 }
@@ -37,22 +41,8 @@ fn bytes(value: CompactString, text: &str) -> Result<bool, CompactString> {
     }
 }
 
-fn boxed(value: CompactString, text: &str) -> Result<bool, CompactString> {
-    match value.into_boxed_str() {
-        Ok(out) => Ok(out.as_str() == text),
-        Err(back) => Err(back.value),
-    }
-}
-
 fn shared(value: CompactString, text: &str) -> Result<bool, CompactString> {
     match value.into_rc() {
-        Ok(out) => Ok(out.as_str() == text),
-        Err(back) => Err(back.value),
-    }
-}
-
-fn cow(value: CompactString, text: &str) -> Result<bool, CompactString> {
-    match value.into_cow() {
         Ok(out) => Ok(out.as_str() == text),
         Err(back) => Err(back.value),
     }
