@@ -24,16 +24,35 @@ fn number_of(rt: &impl Abort, names: &mut Interner, text: &str) -> u32 {
     names.intern(text).expect(rt, "memory")
 }
 
-/// The numbers of texts for which there is memory.
-fn numbers_of(rt: &impl Abort, alloc: Global, names: &mut Interner, texts: &[&str]) -> Vec<u32> {
-    let mut numbers = Vec::new(alloc);
-    names.intern_all(texts, &mut numbers).expect(rt, "memory");
-    numbers
+/// Asserts the number of a text for which there is memory.
+fn is_number(rt: &impl Abort, names: &mut Interner, text: &str, number: u32) {
+    equal(number_of(rt, names, text), number).expect(rt, "equal");
 }
 
-/// Asserts that a list of texts is refused for want of memory.
-fn is_refused(rt: &impl Abort, names: &mut Interner, texts: &[&str], numbers: &mut Vec<u32>) {
+/// Asserts the numbers of texts for which there is memory.
+fn are_numbers(
+    rt: &impl Abort,
+    alloc: Global,
+    names: &mut Interner,
+    texts: &[&str],
+    wanted: &[u32],
+) {
+    let mut numbers = Vec::new(alloc);
+    names.intern_all(texts, &mut numbers).expect(rt, "memory");
+    equal(numbers.as_slice(), wanted).expect(rt, "equal");
+}
+
+/// Asserts that a list of texts is refused where no memory is left.
+fn is_refused(
+    rt: &impl Abort,
+    alloc: Global,
+    names: &mut Interner,
+    texts: &[&str],
+    numbers: &mut Vec<u32>,
+) {
+    let hog = take_all(alloc).expect(rt, "room for the list of blocks");
     let taken = names.intern_all(texts, numbers);
+    drop(hog);
     that(matches!(taken, Err(InternError::Reserve(_)))).expect(rt, "it holds");
 }
 
@@ -47,14 +66,12 @@ fn assert_refused(rt: &impl Abort, names: &mut Interner, text: &str, count: usiz
 fn a_text_has_the_place_of_its_first_occurrence(rt: HostRuntime) {
     let alloc = rt.alloc();
     let mut names = Interner::new(alloc);
-    let numbers = numbers_of(&rt, alloc, &mut names, &["a", "b", "a", ""]);
-    equal(numbers.as_slice(), [0, 1, 0, 2].as_slice()).expect(&rt, "equal");
+    are_numbers(&rt, alloc, &mut names, &["a", "b", "a", ""], &[0, 1, 0, 2]);
     assert_count(&rt, &names, 3);
     assert_name(&rt, &names, 1, Some("b"));
     assert_name(&rt, &names, 3, None);
-    for _ in 0..2 {
-        equal(number_of(&rt, &mut names, letters(25)), 3).expect(&rt, "equal");
-    }
+    is_number(&rt, &mut names, letters(25), 3);
+    is_number(&rt, &mut names, letters(25), 3);
 }
 
 #[test]
@@ -66,12 +83,12 @@ fn a_short_name_needs_no_memory_and_a_long_text_does(rt: HostRuntime) {
     number_of(&rt, &mut names, "");
     number_of(&rt, &mut names, letters(25));
     let hog = take_all(alloc).expect(&rt, "room for the list of blocks");
-    equal(number_of(&rt, &mut names, "a"), 0).expect(&rt, "equal");
+    is_number(&rt, &mut names, "a", 0);
     assert_refused(&rt, &mut names, letters(30), 4);
-    equal(number_of(&rt, &mut names, letters(25)), 3).expect(&rt, "equal");
+    is_number(&rt, &mut names, letters(25), 3);
     drop(hog);
     assert_name(&rt, &names, 3, Some(letters(25)));
-    equal(number_of(&rt, &mut names, letters(30)), 4).expect(&rt, "equal");
+    is_number(&rt, &mut names, letters(30), 4);
 }
 
 #[test]
@@ -81,7 +98,7 @@ fn the_table_of_the_names_is_refused(rt: HostRuntime) {
     let hog = take_all(alloc).expect(&rt, "room for the list of blocks");
     assert_refused(&rt, &mut names, "a", 0);
     drop(hog);
-    equal(number_of(&rt, &mut names, "a"), 0).expect(&rt, "equal");
+    is_number(&rt, &mut names, "a", 0);
 }
 
 #[test]
@@ -93,7 +110,7 @@ fn the_table_is_refused_behind_the_copy_of_a_text(rt: HostRuntime) {
     drop(room);
     assert_refused(&rt, &mut names, letters(30), 0);
     drop(hog);
-    equal(number_of(&rt, &mut names, letters(30)), 0).expect(&rt, "equal");
+    is_number(&rt, &mut names, letters(30), 0);
 }
 
 #[test]
@@ -102,9 +119,7 @@ fn with_no_room_for_the_numbers_nothing_is_taken(rt: HostRuntime) {
     let mut names = Interner::new(alloc);
     let mut numbers = Vec::new(alloc);
     number_of(&rt, &mut names, "a");
-    let hog = take_all(alloc).expect(&rt, "room for the list of blocks");
-    is_refused(&rt, &mut names, &["a", "b"], &mut numbers);
-    drop(hog);
+    is_refused(&rt, alloc, &mut names, &["a", "b"], &mut numbers);
     equal(numbers.len(), 0).expect(&rt, "equal");
     assert_count(&rt, &names, 1);
 }
@@ -117,9 +132,7 @@ fn the_texts_before_a_refused_one_are_taken(rt: HostRuntime) {
     number_of(&rt, &mut names, "a");
     number_of(&rt, &mut names, "b");
     let texts = ["b", "a", letters(30), "b"];
-    let hog = take_all(alloc).expect(&rt, "room for the list of blocks");
-    is_refused(&rt, &mut names, &texts, &mut numbers);
-    drop(hog);
+    is_refused(&rt, alloc, &mut names, &texts, &mut numbers);
     equal(numbers.as_slice(), [1, 0].as_slice()).expect(&rt, "equal");
     assert_count(&rt, &names, 2);
 }

@@ -1,6 +1,6 @@
 //! Texts of formats, with ample memory.
 
-use compact_asserts::{equal, that};
+use compact_asserts::{equal, that, that_for};
 use compact_ext::{ToCompactStringError, format_compact};
 use compact_str::{CompactString, ReserveError};
 use compact_testing::seen::is_inline;
@@ -21,49 +21,51 @@ impl Display for Failing {
     }
 }
 
-fn text_of(rt: &impl Abort, made: Result<CompactString, ToCompactStringError>) -> CompactString {
+/// What a format made.
+type Made = Result<CompactString, ToCompactStringError>;
+
+fn text_of(rt: &impl Abort, made: Made) -> CompactString {
     made.expect(rt, "memory")
+}
+
+/// Asserts that a format made this text, which stands inline. It takes over what it asks of.
+pub fn is(rt: &impl Abort, made: Made, text: &str) {
+    that_for(text, is_inline(&text_of(rt, made), text)).expect(rt, "it holds");
 }
 
 #[test]
 fn formats_have_these_texts(rt: HostRuntime) {
     let alloc = rt.alloc();
-    let text = text_of(&rt, format_compact!(in alloc; "{}-{:04}", 7, 42));
-    that(is_inline(&text, "7-0042")).expect(&rt, "it holds");
-    let text = text_of(&rt, format_compact!(in alloc; "a literal"));
-    that(is_inline(&text, "a literal")).expect(&rt, "it holds");
-    let text = text_of(&rt, format_compact!(in alloc; ""));
-    that(is_inline(&text, "")).expect(&rt, "it holds");
-    let text = text_of(&rt, format_compact!(in alloc; "{{{}}}", true));
-    that(is_inline(&text, "{true}")).expect(&rt, "it holds");
+    is(&rt, format_compact!(in alloc; "{}-{:04}", 7, 42), "7-0042");
+    is(&rt, format_compact!(in alloc; "a literal"), "a literal");
+    is(&rt, format_compact!(in alloc; ""), "");
+    is(&rt, format_compact!(in alloc; "{{{}}}", true), "{true}");
 }
 
 #[test]
 fn options_are_kept(rt: HostRuntime) {
     let alloc = rt.alloc();
-    let text = text_of(&rt, format_compact!(in alloc; "{:?}", "a\n"));
-    that(is_inline(&text, "\"a\\n\"")).expect(&rt, "it holds");
-    let text = text_of(&rt, format_compact!(in alloc; "{:>8}|{:<3}|", "äb", 7));
-    that(is_inline(&text, "      äb|7  |")).expect(&rt, "it holds");
-    let text = text_of(&rt, format_compact!(in alloc; "{:#x} {:#b}", 255, 5));
-    that(is_inline(&text, "0xff 0b101")).expect(&rt, "it holds");
+    is(&rt, format_compact!(in alloc; "{:?}", "a\n"), "\"a\\n\"");
+    let made = format_compact!(in alloc; "{:>8}|{:<3}|", "äb", 7);
+    is(&rt, made, "      äb|7  |");
+    let made = format_compact!(in alloc; "{:#x} {:#b}", 255, 5);
+    is(&rt, made, "0xff 0b101");
 }
 
 #[test]
 fn arguments_may_have_names(rt: HostRuntime) {
     let alloc = rt.alloc();
     let place = "€";
-    let text = text_of(&rt, format_compact!(in alloc; "{place}{sum}", sum = -12));
-    that(is_inline(&text, "€-12")).expect(&rt, "it holds");
-    let text = text_of(&rt, format_compact!(in alloc; "{0}{1}{0}", 'a', 'b'));
-    that(is_inline(&text, "aba")).expect(&rt, "it holds");
+    let made = format_compact!(in alloc; "{place}{sum}", sum = -12);
+    is(&rt, made, "€-12");
+    is(&rt, format_compact!(in alloc; "{0}{1}{0}", 'a', 'b'), "aba");
 }
 
 #[test]
 fn twenty_four_bytes_stand_inline_and_more_on_the_heap(rt: HostRuntime) {
     let alloc = rt.alloc();
-    let text = text_of(&rt, format_compact!(in alloc; "{}{}", letters(20), 1234));
-    that(is_inline(&text, "aaaaaaaaaaaaaaaaaaaa1234")).expect(&rt, "it holds");
+    let made = format_compact!(in alloc; "{}{}", letters(20), 1234);
+    is(&rt, made, "aaaaaaaaaaaaaaaaaaaa1234");
     let text = text_of(&rt, format_compact!(in alloc; "{}{}", letters(20), 12345));
     that(text.is_heap_allocated()).expect(&rt, "it holds");
     equal(text.as_str(), "aaaaaaaaaaaaaaaaaaaa12345").expect(&rt, "equal");

@@ -1,5 +1,6 @@
 //! Texts of formats while requests for memory are refused, beside what `compact_table_tests` tries of each call.
 
+use crate::formats::is;
 use compact_asserts::{equal, that};
 use compact_ext::{ToCompactString, ToCompactStringError, format_compact};
 use compact_str::{CompactString, ReserveError};
@@ -32,13 +33,9 @@ fn formats_and_strings_of_24_bytes_need_no_memory(rt: HostRuntime) {
     let string = string_with_room(alloc, 30, "i am 24 characters long!").expect(&rt, "memory");
     let hog = take_all(alloc).expect(&rt, "room for the list of blocks");
     let text = string.to_compact_string(alloc);
-    that(is_inline(
-        &text.expect(&rt, "no memory is needed"),
-        "i am 24 characters long!",
-    ))
-    .expect(&rt, "it holds");
-    let text = format_compact!(in alloc; "{}-{}", 7, "a").expect(&rt, "no memory is needed");
-    that(is_inline(&text, "7-a")).expect(&rt, "it holds");
+    let text = text.expect(&rt, "no memory is needed");
+    that(is_inline(&text, "i am 24 characters long!")).expect(&rt, "it holds");
+    is(&rt, format_compact!(in alloc; "{}-{}", 7, "a"), "7-a");
     drop(hog);
 }
 

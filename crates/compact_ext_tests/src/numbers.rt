@@ -26,6 +26,11 @@ fn assert_shown<T: ToCompactString + Drop>(rt: &impl Abort, alloc: Global, value
     that(is_inline(&shown(rt, alloc, value), text)).expect(rt, "it holds");
 }
 
+/// Asserts the text of a value, and that it stands on the heap with just the room that it needs.
+fn assert_long<T: ToCompactString + Drop>(rt: &impl Abort, alloc: Global, value: T, text: &str) {
+    that(is_at(&shown(rt, alloc, value), "heap", text.len(), text)).expect(rt, "it holds");
+}
+
 #[test]
 fn numbers_have_these_texts(rt: HostRuntime) {
     let alloc = rt.alloc();
@@ -47,40 +52,45 @@ fn numbers_have_these_texts(rt: HostRuntime) {
     assert_shown(&rt, alloc, 127i8, "127");
 }
 
+/// Asserts the texts of numbers of 64 bits.
+fn numbers_of_64_bits_have_these_texts(rt: &impl Abort, alloc: Global) {
+    assert_shown(rt, alloc, 0u64, "0");
+    assert_shown(rt, alloc, 99999999u64, "99999999");
+    assert_shown(rt, alloc, 100000000u64, "100000000");
+    assert_shown(rt, alloc, 9999999999999999u64, "9999999999999999");
+    assert_shown(rt, alloc, 10000000000000000u64, "10000000000000000");
+    assert_shown(rt, alloc, 12000000300000004u64, "12000000300000004");
+    assert_shown(rt, alloc, 9999999999999999999u64, "9999999999999999999");
+    assert_shown(rt, alloc, 10000000000000000000u64, "10000000000000000000");
+    assert_shown(rt, alloc, u64::MAX, "18446744073709551615");
+    assert_shown(rt, alloc, -99999999i64, "-99999999");
+    assert_shown(rt, alloc, -100000000i64, "-100000000");
+    assert_shown(rt, alloc, -9999999999999999i64, "-9999999999999999");
+    assert_shown(rt, alloc, -10000000000000000i64, "-10000000000000000");
+    assert_shown(rt, alloc, i64::MIN, "-9223372036854775808");
+    assert_shown(rt, alloc, i64::MAX, "9223372036854775807");
+}
+
 #[test]
 fn long_numbers_have_these_texts(rt: HostRuntime) {
     let alloc = rt.alloc();
-    assert_shown(&rt, alloc, 0u64, "0");
-    assert_shown(&rt, alloc, 99999999u64, "99999999");
-    assert_shown(&rt, alloc, 100000000u64, "100000000");
-    assert_shown(&rt, alloc, 9999999999999999u64, "9999999999999999");
-    assert_shown(&rt, alloc, 10000000000000000u64, "10000000000000000");
-    assert_shown(&rt, alloc, 12000000300000004u64, "12000000300000004");
-    assert_shown(&rt, alloc, 9999999999999999999u64, "9999999999999999999");
-    assert_shown(&rt, alloc, 10000000000000000000u64, "10000000000000000000");
-    assert_shown(&rt, alloc, u64::MAX, "18446744073709551615");
-    assert_shown(&rt, alloc, -99999999i64, "-99999999");
-    assert_shown(&rt, alloc, -100000000i64, "-100000000");
-    assert_shown(&rt, alloc, -9999999999999999i64, "-9999999999999999");
-    assert_shown(&rt, alloc, -10000000000000000i64, "-10000000000000000");
+    numbers_of_64_bits_have_these_texts(&rt, alloc);
     assert_shown(&rt, alloc, i16::MIN, "-32768");
     assert_shown(&rt, alloc, i32::MIN, "-2147483648");
     assert_shown(&rt, alloc, u32::MAX, "4294967295");
-    assert_shown(&rt, alloc, i64::MIN, "-9223372036854775808");
-    assert_shown(&rt, alloc, i64::MAX, "9223372036854775807");
     assert_shown(&rt, alloc, 0u128, "0");
     assert_shown(&rt, alloc, -1i128, "-1");
     assert_shown(&rt, alloc, NonZeroU128::MIN, "1");
     assert_shown(&rt, alloc, NonZeroU8::MAX, "255");
-    let most = shown(&rt, alloc, u128::MAX);
-    let text = "340282366920938463463374607431768211455";
-    that(is_at(&most, "heap", 39, text)).expect(&rt, "it holds");
-    let least = shown(&rt, alloc, i128::MIN);
-    let text = "-170141183460469231731687303715884105728";
-    that(is_at(&least, "heap", 40, text)).expect(&rt, "it holds");
-    let least = shown(&rt, alloc, NonZeroI128::MIN);
-    let text = "-170141183460469231731687303715884105728";
-    that(is_at(&least, "heap", 40, text)).expect(&rt, "it holds");
+    assert_long(
+        &rt,
+        alloc,
+        u128::MAX,
+        "340282366920938463463374607431768211455",
+    );
+    let least = "-170141183460469231731687303715884105728";
+    assert_long(&rt, alloc, i128::MIN, least);
+    assert_long(&rt, alloc, NonZeroI128::MIN, least);
 }
 
 #[test]

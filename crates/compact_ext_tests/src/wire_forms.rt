@@ -5,7 +5,7 @@ use std::alloc::Global;
 use std::process::Abort;
 
 /// The name of a fault.
-pub fn name_of(fault: &WireError) -> &'static str {
+fn name_of(fault: &WireError) -> &'static str {
     match fault {
         WireError::TooLong => "too long",
         WireError::UnexpectedEnd => "end",

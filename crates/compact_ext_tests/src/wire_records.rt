@@ -1,7 +1,7 @@
 //! Texts of a reader that are read one after another until its end. The bytes were written by hand from the definition of
 //! the form.
 
-use crate::wire_forms::name_of;
+use crate::wire_forms::end_of;
 use compact_asserts::{equal, that};
 use compact_ext::wire::{Records, WireError};
 use compact_str::CompactString;
@@ -30,12 +30,17 @@ fn assert_next<R: BufRead + Drop>(rt: &impl Abort, records: &mut Records<R>, tex
     that(is_inline(&item.expect(rt, "a text"), text)).expect(rt, "it holds");
 }
 
+/// Asserts that the next records are these texts, inline.
+fn assert_texts<R: BufRead + Drop>(rt: &impl Abort, records: &mut Records<R>, texts: &[&str]) {
+    for text in texts {
+        assert_next(rt, records, text);
+    }
+}
+
 /// Asserts that the next record is a fault of this name.
 fn assert_next_fault<R: BufRead + Drop>(rt: &impl Abort, records: &mut Records<R>, fault: &str) {
-    match records.next() {
-        Some(Err(found)) => equal(name_of(&found), fault).expect(rt, "equal"),
-        _ => that(false).expect(rt, "it holds"),
-    }
+    let item = records.next().expect(rt, "no end");
+    equal(end_of(&item), fault).expect(rt, "equal");
 }
 
 /// Asserts that there is no other record, however often it is asked for.
@@ -46,27 +51,27 @@ fn assert_end<R: BufRead + Drop>(rt: &impl Abort, records: &mut Records<R>) {
 
 /// Asserts that the records of some bytes are not collected, with this fault.
 fn assert_not_collected<R: BufRead + Drop>(rt: &impl Abort, alloc: Global, reader: R, fault: &str) {
-    match read_records(alloc, reader) {
-        Ok(_) => that(false).expect(rt, "it holds"),
-        Err(found) => equal(name_of(&found), fault).expect(rt, "equal"),
-    }
+    equal(end_of(&read_records(alloc, reader)), fault).expect(rt, "equal");
 }
 
 #[test]
 fn each_record_comes_in_its_turn(rt: HostRuntime) {
     let mut records = Records::new(rt.alloc(), RECORDS.as_slice());
-    for text in ["a", "", "Hi"] {
-        assert_next(&rt, &mut records, text);
-    }
+    assert_texts(&rt, &mut records, &["a", "", "Hi"]);
     assert_end(&rt, &mut records);
+}
+
+/// Asserts that the record at a place is this text, inline.
+fn is_record(rt: &impl Abort, records: &[CompactString], place: usize, text: &str) {
+    that(is_inline(records.get(place).expect(rt, "a record"), text)).expect(rt, "it holds");
 }
 
 /// Asserts that these are the three records, each inline.
 fn assert_records(rt: &impl Abort, records: &[CompactString]) {
     equal(records.len(), 3).expect(rt, "equal");
-    for (record, text) in records.iter().zip(["a", "", "Hi"]) {
-        that(is_inline(record, text)).expect(rt, "it holds");
-    }
+    is_record(rt, records, 0, "a");
+    is_record(rt, records, 1, "");
+    is_record(rt, records, 2, "Hi");
 }
 
 /// Asserts the records of a reader that gives so many bytes at once.
@@ -112,15 +117,19 @@ fn an_end_within_a_record_is_a_fault(rt: HostRuntime) {
     }
 }
 
+/// Asserts that the first record is no text, and that `a` comes after it.
+fn assert_broken_and_a(rt: &impl Abort, alloc: Global, bytes: &[u8]) {
+    let mut records = Records::new(alloc, bytes);
+    assert_next_fault(rt, &mut records, "utf8");
+    assert_next(rt, &mut records, "a");
+    assert_end(rt, &mut records);
+}
+
 #[test]
 fn after_a_text_that_is_none_the_next_comes(rt: HostRuntime) {
-    let alloc = rt.alloc();
-    let bytes: [u8; 10] = [1, 0, 0, 0, 0xFF, 1, 0, 0, 0, 0x61];
-    let mut records = Records::new(alloc, bytes.as_slice());
-    assert_next_fault(&rt, &mut records, "utf8");
-    assert_next(&rt, &mut records, "a");
-    assert_end(&rt, &mut records);
-    assert_not_collected(&rt, alloc, bytes.as_slice(), "utf8");
+    let bytes = b"\x01\0\0\0\xFF\x01\0\0\0a";
+    assert_broken_and_a(&rt, rt.alloc(), bytes);
+    assert_not_collected(&rt, rt.alloc(), bytes.as_slice(), "utf8");
 }
 
 /// A reader of the three records that gives five bytes at its first call, and fails from its second on.
@@ -182,10 +191,7 @@ fn assert_broken_and_another(rt: &impl Abort, alloc: Global, len: usize, at: usi
         *byte = 0xFF;
     }
     let bytes = with_another(rt, alloc, text.get(..len).unwrap_or(&[]));
-    let mut records = Records::new(alloc, bytes.as_slice());
-    assert_next_fault(rt, &mut records, "utf8");
-    assert_next(rt, &mut records, "a");
-    assert_end(rt, &mut records);
+    assert_broken_and_a(rt, alloc, &bytes);
 }
 
 #[test]
@@ -195,6 +201,14 @@ fn after_bytes_that_are_no_text_the_next_comes(rt: HostRuntime) {
             assert_broken_and_another(&rt, rt.alloc(), len, at);
         }
     }
+}
+
+/// Asserts that the first record is refused, and that five of `b` and one of `a` come after its length.
+fn assert_unread(rt: &impl Abort, alloc: Global, bytes: &[u8]) {
+    let mut records = Records::new(alloc, bytes);
+    assert_next_fault(rt, &mut records, "reserve");
+    assert_texts(rt, &mut records, &["b", "b", "b", "b", "b", "a"]);
+    assert_end(rt, &mut records);
 }
 
 // The text has five forms of `b` in it. Refused, only its length is taken, so they are read as records.
@@ -207,12 +221,7 @@ fn where_room_is_refused_the_text_stays_unread(rt: HostRuntime) {
         b"\x01\0\0\0b\x01\0\0\0b\x01\0\0\0b\x01\0\0\0b\x01\0\0\0b",
     );
     let hog = take_all(alloc).expect(&rt, "room for the list of blocks");
-    let mut records = Records::new(alloc, bytes.as_slice());
-    assert_next_fault(&rt, &mut records, "reserve");
-    for text in ["b", "b", "b", "b", "b", "a"] {
-        assert_next(&rt, &mut records, text);
-    }
-    assert_end(&rt, &mut records);
+    assert_unread(&rt, alloc, &bytes);
     drop(hog);
 }
 
@@ -228,9 +237,7 @@ fn records_need_memory_only_where_they_are_collected(rt: HostRuntime) {
     let alloc = rt.alloc();
     let hog = take_all(alloc).expect(&rt, "room for the list of blocks");
     let mut records = Records::new(alloc, RECORDS.as_slice());
-    for text in ["a", "", "Hi"] {
-        assert_next(&rt, &mut records, text);
-    }
+    assert_texts(&rt, &mut records, &["a", "", "Hi"]);
     assert_not_collected(&rt, alloc, RECORDS.as_slice(), "reserve");
     drop(hog);
 }

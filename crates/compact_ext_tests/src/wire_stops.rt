@@ -5,7 +5,7 @@ use compact_asserts::{equal, that};
 use compact_ext::wire::{read_wire, write_wire};
 use compact_str::CompactString;
 use compact_testing::pieces::{Narrow, Pieces, Stop};
-use compact_testing::seen::{is_at, is_inline};
+use compact_testing::seen::is_at;
 use compact_testing::values::{letters, value_of};
 use std::alloc::Global;
 use std::io::ErrorKind;
@@ -32,15 +32,17 @@ fn each_beginning_of_a_form_ends_too_early(rt: HostRuntime) {
     assert_beginnings(&rt, alloc, &long, 5);
 }
 
+/// Asserts where a text of so many letters stands, which comes byte by byte.
+fn assert_byte_by_byte(rt: &impl Abort, alloc: Global, count: u8, place: &str, capacity: usize) {
+    let form = form_of_letters(rt, alloc, count);
+    let text = read_wire(alloc, &mut Pieces::new(&form, 1, Stop::Never)).expect(rt, "a text");
+    that(is_at(&text, place, capacity, letters(count as usize))).expect(rt, "it holds");
+}
+
 #[test]
 fn a_text_comes_byte_by_byte(rt: HostRuntime) {
-    let alloc = rt.alloc();
-    let form = form_of_letters(&rt, alloc, 24);
-    let text = read_wire(alloc, &mut Pieces::new(&form, 1, Stop::Never)).expect(&rt, "a text");
-    that(is_inline(&text, letters(24))).expect(&rt, "it holds");
-    let form = form_of_letters(&rt, alloc, 25);
-    let text = read_wire(alloc, &mut Pieces::new(&form, 1, Stop::Never)).expect(&rt, "a text");
-    that(is_at(&text, "heap", 25, letters(25))).expect(&rt, "it holds");
+    assert_byte_by_byte(&rt, rt.alloc(), 24, "inline", 24);
+    assert_byte_by_byte(&rt, rt.alloc(), 25, "heap", 25);
 }
 
 /// Asserts that bytes that are no text are told so once they have come, with what follows unread.
@@ -92,16 +94,19 @@ fn a_long_text_stops_at_each_byte(rt: HostRuntime) {
     }
 }
 
-/// Asserts that a claim of the greatest length is told by how its reader ends, which has given `count` bytes of the text.
+/// Asserts how a claim of the greatest length ends, whose reader has given `count` bytes of the text when it stops.
+fn assert_claim_ends(rt: &impl Abort, alloc: Global, count: usize, stop: Stop, end: &str) {
+    let mut reader = Pieces::new(b"\xFF\xFF\xFF\xFFabc", 1, stop);
+    equal(end_of(&read_wire(alloc, &mut reader)), end).expect(rt, "equal");
+    equal(reader.rest.len().saturating_add(count), 3).expect(rt, "equal");
+}
+
+/// Asserts that such a claim is told by how its reader ends.
 fn assert_claimed(rt: &impl Abort, alloc: Global, count: usize) {
-    let bytes = b"\xFF\xFF\xFF\xFFabc";
     let call = count.saturating_add(5);
-    let mut reader = Pieces::new(bytes, 1, Stop::Fails(call, ErrorKind::Other));
-    equal(end_of(&read_wire(alloc, &mut reader)), "io").expect(rt, "equal");
-    equal(reader.rest.len().saturating_add(count), 3).expect(rt, "equal");
-    let mut reader = Pieces::new(bytes, 1, Stop::Pauses(call));
-    equal(end_of(&read_wire(alloc, &mut reader)), "end").expect(rt, "equal");
-    equal(reader.rest.len().saturating_add(count), 3).expect(rt, "equal");
+    let failing = Stop::Fails(call, ErrorKind::Other);
+    assert_claim_ends(rt, alloc, count, failing, "io");
+    assert_claim_ends(rt, alloc, count, Stop::Pauses(call), "end");
 }
 
 #[test]

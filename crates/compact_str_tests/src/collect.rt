@@ -1,5 +1,6 @@
 //! What is collected, joined and extended, with values worked out by hand from the rules.
 
+use crate::made::assert_inline;
 use compact_asserts::{equal, that};
 use compact_str::{AsText, CompactString, CompactStringExt, append_all};
 use compact_testing::seen::is_inline;
@@ -9,37 +10,35 @@ use std::borrow::CowStr;
 use std::boxed::BoxedStr;
 use std::process::Abort;
 
-/// The texts of `texts` with `separator` between each two.
-fn joined(rt: &impl Abort, alloc: Global, texts: &[&str], separator: &str) -> CompactString {
-    texts
-        .iter()
-        .copied()
-        .join_compact(alloc, separator)
-        .expect(rt, "memory")
+/// Asserts what texts are with a separator between each two.
+fn is_joined(rt: &impl Abort, alloc: Global, texts: &[&str], separator: &str, text: &str) {
+    assert_inline(
+        rt,
+        texts.iter().copied().join_compact(alloc, separator),
+        text,
+    );
+}
+
+/// Asserts what four texts are behind each other.
+fn is_concatenated(rt: &impl Abort, alloc: Global, texts: [&str; 4], text: &str) {
+    assert_inline(rt, texts.into_iter().concat_compact(alloc), text);
 }
 
 #[test]
 fn items_are_joined_and_concatenated(rt: HostRuntime) {
     let alloc = rt.alloc();
-    for (texts, separator, text) in [
-        (
-            ["apples", "oranges", "bananas"].as_slice(),
-            ", ",
-            "apples, oranges, bananas",
-        ),
-        ([].as_slice(), "-", ""),
-        (["a"].as_slice(), "-", "a"),
-        (["a", ""].as_slice(), "-", "a-"),
-        (["", "", "b"].as_slice(), "-", "--b"),
-    ] {
-        that(is_inline(&joined(&rt, alloc, texts, separator), text)).expect(&rt, "it holds");
-    }
-    let parts = ["hello", " ", "world", "!"];
-    let value = parts
-        .into_iter()
-        .concat_compact(alloc)
-        .expect(&rt, "memory");
-    that(is_inline(&value, "hello world!")).expect(&rt, "it holds");
+    is_joined(
+        &rt,
+        alloc,
+        &["apples", "oranges", "bananas"],
+        ", ",
+        "apples, oranges, bananas",
+    );
+    is_joined(&rt, alloc, &[], "-", "");
+    is_joined(&rt, alloc, &["a"], "-", "a");
+    is_joined(&rt, alloc, &["a", ""], "-", "a-");
+    is_joined(&rt, alloc, &["", "", "b"], "-", "--b");
+    is_concatenated(&rt, alloc, ["hello", " ", "world", "!"], "hello world!");
 }
 
 /// The five kinds of text, each collected alone.

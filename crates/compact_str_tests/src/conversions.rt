@@ -1,11 +1,11 @@
 //! Values as they are handed on, with ample memory.
 
-use compact_asserts::{equal, that};
+use compact_asserts::{equal, that, that_for};
 use compact_str::{CompactString, FromJsonError};
 use compact_testing::seen::{is_heap, is_inline};
 use compact_testing::values::{lasting, letters, short, string_with_room, with_room};
-use serde_json::{Value, json};
-use std::alloc::{AllocError, Global};
+use serde_json::Value;
+use std::alloc::Global;
 use std::borrow::CowStr;
 use std::process::Abort;
 
@@ -72,8 +72,9 @@ fn json_of(rt: &impl Abort, value: &CompactString) -> Value {
     value.to_json().expect(rt, "memory")
 }
 
-/// Asserts how a JSON value is printed.
-fn is_printed(rt: &impl Abort, alloc: Global, json: &Value, text: &str) {
+/// Asserts how the JSON value of a text is printed.
+fn is_printed(rt: &impl Abort, alloc: Global, value: CompactString, text: &str) {
+    let json = json_of(rt, &value);
     equal(json.to_string(alloc).expect(rt, "memory").as_str(), text).expect(rt, "equal");
 }
 
@@ -85,30 +86,30 @@ fn value_in(rt: &impl Abort, alloc: Global, json: &Value) -> CompactString {
 #[test]
 fn a_value_is_a_json_string(rt: HostRuntime) {
     let alloc = rt.alloc();
-    let json = json_of(&rt, &short(alloc, "abc"));
-    is_printed(&rt, alloc, &json, "\"abc\"");
-    let json = json_of(&rt, &short(alloc, "ä\"\n"));
-    is_printed(&rt, alloc, &json, "\"ä\\\"\\n\"");
+    is_printed(&rt, alloc, short(alloc, "abc"), "\"abc\"");
+    is_printed(&rt, alloc, short(alloc, "ä\"\n"), "\"ä\\\"\\n\"");
     let json = json_of(&rt, &lasting(alloc, 30));
     that(is_heap(&value_in(&rt, alloc, &json), 32, letters(30))).expect(&rt, "it holds");
 }
 
+/// The JSON value that a text stands for.
+fn json_in(rt: &impl Abort, alloc: Global, text: &str) -> Value {
+    serde_json::from_str(alloc, text).expect(rt, "a JSON value")
+}
+
 /// Asserts that a JSON value is no string.
-fn is_no_string(rt: &impl Abort, alloc: Global, made: Result<Value, AllocError>) {
-    let json = made.expect(rt, "memory");
-    let read: Result<CompactString, FromJsonError> = CompactString::from_json(alloc, &json);
-    that(matches!(read, Err(FromJsonError::NotAString))).expect(rt, "it holds");
+fn is_no_string(rt: &impl Abort, alloc: Global, text: &str) {
+    let json = json_in(rt, alloc, text);
+    let error = CompactString::from_json(alloc, &json).err();
+    that_for(text, matches!(error, Some(FromJsonError::NotAString))).expect(rt, "it holds");
 }
 
 #[test]
 fn only_a_json_string_is_taken(rt: HostRuntime) {
     let alloc = rt.alloc();
-    let json = json!(in alloc; "abc").expect(&rt, "memory");
+    let json = json_in(&rt, alloc, "\"abc\"");
     that(is_inline(&value_in(&rt, alloc, &json), "abc")).expect(&rt, "it holds");
-    is_no_string(&rt, alloc, json!(in alloc; 1));
-    is_no_string(&rt, alloc, json!(in alloc; null));
-    is_no_string(&rt, alloc, json!(in alloc; true));
-    is_no_string(&rt, alloc, json!(in alloc; []));
-    is_no_string(&rt, alloc, json!(in alloc; {}));
-    is_no_string(&rt, alloc, json!(in alloc; ["abc"]));
+    for text in ["1", "null", "true", "[]", "{}", "[\"abc\"]"] {
+        is_no_string(&rt, alloc, text);
+    }
 }

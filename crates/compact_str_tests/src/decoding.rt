@@ -1,10 +1,10 @@
 //! Bytes and units that are decoded. Texts and errors are those of the Unicode Standard, worked by hand.
 
+use crate::made::assert_inline;
 use bytes::Buf;
 use compact_asserts::{equal, that, that_for};
 use compact_str::{CompactString, FromUtf8Error, FromUtf16Error, ReserveError, Utf16Error};
 use compact_testing::memory::take_all;
-use compact_testing::seen::is_inline;
 use compact_testing::values::letters;
 use std::alloc::{AllocError, Global};
 use std::process::Abort;
@@ -65,11 +65,6 @@ fn invalid_bytes_are_told_and_replaced(rt: HostRuntime) {
     }
 }
 
-/// Asserts that a short text was made, which stands inline.
-fn assert_text<E: Drop>(rt: &impl Abort, made: Result<CompactString, E>, text: &str) {
-    that(is_inline(&made.ok().expect(rt, "a text"), text)).expect(rt, "it holds");
-}
-
 /// Asserts that 30 letters were made, on the heap.
 fn assert_letters<E: Drop>(rt: &impl Abort, made: Result<CompactString, E>) {
     let made = made.ok().expect(rt, "a text");
@@ -87,14 +82,14 @@ fn assert_forms(
     big: &[u8],
 ) {
     let bytes = text.as_bytes();
-    assert_text(rt, CompactString::from_utf8(alloc, bytes), text);
-    assert_text(rt, CompactString::from_utf8_lossy(alloc, bytes), text);
-    assert_text(rt, CompactString::from_utf16(alloc, units), text);
-    assert_text(rt, CompactString::from_utf16_lossy(alloc, units), text);
-    assert_text(rt, CompactString::from_utf16le(alloc, little), text);
-    assert_text(rt, CompactString::from_utf16le_lossy(alloc, little), text);
-    assert_text(rt, CompactString::from_utf16be(alloc, big), text);
-    assert_text(rt, CompactString::from_utf16be_lossy(alloc, big), text);
+    assert_inline(rt, CompactString::from_utf8(alloc, bytes), text);
+    assert_inline(rt, CompactString::from_utf8_lossy(alloc, bytes), text);
+    assert_inline(rt, CompactString::from_utf16(alloc, units), text);
+    assert_inline(rt, CompactString::from_utf16_lossy(alloc, units), text);
+    assert_inline(rt, CompactString::from_utf16le(alloc, little), text);
+    assert_inline(rt, CompactString::from_utf16le_lossy(alloc, little), text);
+    assert_inline(rt, CompactString::from_utf16be(alloc, big), text);
+    assert_inline(rt, CompactString::from_utf16be_lossy(alloc, big), text);
 }
 
 #[test]
@@ -149,12 +144,12 @@ fn unpaired_surrogates_are_told_and_replaced(rt: HostRuntime) {
 #[test]
 fn units_of_a_text_are_taken(rt: HostRuntime) {
     let alloc = rt.alloc();
-    assert_text(
+    assert_inline(
         &rt,
         CompactString::from_utf16(alloc, &[0xD834, 0xDD1E]),
         "𝄞",
     );
-    assert_text(
+    assert_inline(
         &rt,
         CompactString::from_utf16(alloc, &[0x20AC; 8]),
         "€€€€€€€€",
@@ -175,12 +170,12 @@ fn invalid_bytes_of_units_are_told_and_replaced(rt: HostRuntime) {
         (b"A\0B".as_slice(), "A\u{FFFD}"),
     ] {
         assert_no_text(&rt, CompactString::from_utf16le(alloc, odd));
-        assert_text(&rt, CompactString::from_utf16le_lossy(alloc, odd), text);
+        assert_inline(&rt, CompactString::from_utf16le_lossy(alloc, odd), text);
     }
     let unpaired = b"\xD8\x3D\xDC\x6F\x20\x0D\x26\x40\xDE\x0F";
     assert_no_text(&rt, CompactString::from_utf16be(alloc, unpaired));
     let text = "\u{1F46F}\u{200D}\u{2640}\u{FFFD}";
-    assert_text(
+    assert_inline(
         &rt,
         CompactString::from_utf16be_lossy(alloc, unpaired),
         text,
@@ -191,7 +186,7 @@ fn invalid_bytes_of_units_are_told_and_replaced(rt: HostRuntime) {
 fn a_buffer_that_is_known_to_be_a_text_is_read_to_its_end(rt: HostRuntime) {
     let mut known = "abc".as_bytes();
     let made = CompactString::from_utf8_buf_unchecked(rt.alloc(), &mut known);
-    assert_text(&rt, made, "abc");
+    assert_inline(&rt, made, "abc");
     equal(known.remaining(), 0).expect(&rt, "equal");
 }
 

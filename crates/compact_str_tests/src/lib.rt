@@ -29,6 +29,8 @@ mod hints;
 #[cfg(test)]
 mod hog;
 #[cfg(test)]
+mod made;
+#[cfg(test)]
 mod packed;
 #[cfg(test)]
 mod positions;

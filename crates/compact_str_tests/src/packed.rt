@@ -77,24 +77,27 @@ fn the_last_byte_of_24_is_of_the_text_or_its_length(rt: HostRuntime) {
     is_packed(&rt, alloc, &cut);
 }
 
+/// Asserts whether a value has the bytes.
+fn has_bytes(rt: &impl Abort, value: CompactString, has: bool) {
+    that(value.packed().is_some() == has).expect(rt, "it holds");
+}
+
 #[test]
 fn only_inline_values_have_the_bytes(rt: HostRuntime) {
     let alloc = rt.alloc();
-    equal(lasting(alloc, 25).packed(), None).expect(&rt, "equal");
-    equal(
-        value_of(alloc, letters(25)).expect(&rt, "memory").packed(),
-        None,
-    )
-    .expect(&rt, "equal");
-    equal(with_room(alloc, 25).expect(&rt, "memory").packed(), None).expect(&rt, "equal");
-    that(lasting(alloc, 24).packed().is_some()).expect(&rt, "it holds");
-    that(
-        value_of(alloc, letters(24))
-            .expect(&rt, "memory")
-            .packed()
-            .is_some(),
-    )
-    .expect(&rt, "it holds");
+    has_bytes(&rt, lasting(alloc, 25), false);
+    has_bytes(
+        &rt,
+        value_of(alloc, letters(25)).expect(&rt, "memory"),
+        false,
+    );
+    has_bytes(&rt, with_room(alloc, 25).expect(&rt, "memory"), false);
+    has_bytes(&rt, lasting(alloc, 24), true);
+    has_bytes(
+        &rt,
+        value_of(alloc, letters(24)).expect(&rt, "memory"),
+        true,
+    );
 }
 
 #[test]

@@ -1,9 +1,10 @@
 //! Items whose hint tells nothing or too much, where there is memory: each call gives what the items give.
 
 use crate::hints::with_hint;
+use crate::made::{assert_fitted, assert_inline};
 use compact_asserts::{equal, that};
 use compact_str::{CompactString, CompactStringExt, append_all};
-use compact_testing::seen::{is_at, is_fitted, is_inline};
+use compact_testing::seen::{is_at, is_inline};
 use compact_testing::values::{letters, short};
 use std::alloc::Global;
 use std::process::Abort;
@@ -12,32 +13,38 @@ use std::process::Abort;
 pub fn assert_collected(rt: &impl Abort, alloc: Global, too_much: bool) {
     let characters = ['a', 'b', 'c'];
     let texts = ["a", "", "bc"];
-    let made = CompactString::from_chars(alloc, with_hint(&characters, too_much).copied());
-    that(is_inline(&made.expect(rt, "no memory is needed"), "abc")).expect(rt, "it holds");
-    let made = CompactString::from_texts(alloc, with_hint(&texts, too_much));
-    that(is_inline(&made.expect(rt, "no memory is needed"), "abc")).expect(rt, "it holds");
-    let made = with_hint(&texts, too_much).concat_compact(alloc);
-    that(is_inline(&made.expect(rt, "no memory is needed"), "abc")).expect(rt, "it holds");
-    let made = with_hint(&texts, too_much).join_compact(alloc, "-");
-    that(is_inline(&made.expect(rt, "no memory is needed"), "a--bc")).expect(rt, "it holds");
+    assert_inline(
+        rt,
+        CompactString::from_chars(alloc, with_hint(&characters, too_much).copied()),
+        "abc",
+    );
+    assert_inline(
+        rt,
+        CompactString::from_texts(alloc, with_hint(&texts, too_much)),
+        "abc",
+    );
+    assert_inline(rt, with_hint(&texts, too_much).concat_compact(alloc), "abc");
+    assert_inline(
+        rt,
+        with_hint(&texts, too_much).join_compact(alloc, "-"),
+        "a--bc",
+    );
 }
 
 /// Asserts what the library's trait collects of them.
 pub fn assert_collected_by_trait(rt: &impl Abort, alloc: Global, too_much: bool) {
     let characters = ['a', 'b', 'c'];
-    let made: CompactString = with_hint(&characters, too_much)
-        .copied()
-        .collect(alloc)
-        .expect(rt, "no memory is needed");
-    that(is_inline(&made, "abc")).expect(rt, "it holds");
-    let made: CompactString = with_hint(&characters, too_much)
-        .collect(alloc)
-        .expect(rt, "no memory is needed");
-    that(is_inline(&made, "abc")).expect(rt, "it holds");
-    let made: CompactString = with_hint(&["a", "", "bc"], too_much)
-        .collect(alloc)
-        .expect(rt, "no memory is needed");
-    that(is_inline(&made, "abc")).expect(rt, "it holds");
+    assert_inline(
+        rt,
+        with_hint(&characters, too_much).copied().collect(alloc),
+        "abc",
+    );
+    assert_inline(rt, with_hint(&characters, too_much).collect(alloc), "abc");
+    assert_inline(
+        rt,
+        with_hint(&["a", "", "bc"], too_much).collect(alloc),
+        "abc",
+    );
 }
 
 /// Asserts that a value is extended up to 24 bytes, which needs no memory.
@@ -45,18 +52,22 @@ pub fn assert_extended(rt: &impl Abort, alloc: Global, too_much: bool) {
     let mut value = CompactString::default(alloc);
     let characters = ['ä', '€'];
     let texts = [letters(5), "", letters(5)];
-    let ended = value.extend_chars(with_hint(&characters, too_much).copied());
-    that(ended.is_ok()).expect(rt, "it holds");
-    that(value.extend_texts(with_hint(&texts, too_much)).is_ok()).expect(rt, "it holds");
+    value
+        .extend_chars(with_hint(&characters, too_much).copied())
+        .expect(rt, "no memory is needed");
+    value
+        .extend_texts(with_hint(&texts, too_much))
+        .expect(rt, "no memory is needed");
     that(is_inline(&value, "ä€aaaaaaaaaa")).expect(rt, "it holds");
-    that(
-        value
-            .extend(with_hint(&characters, too_much).copied())
-            .is_ok(),
-    )
-    .expect(rt, "it holds");
-    that(value.extend(with_hint(&['x'], too_much)).is_ok()).expect(rt, "it holds");
-    that(value.extend(with_hint(&["yz", ""], too_much)).is_ok()).expect(rt, "it holds");
+    value
+        .extend(with_hint(&characters, too_much).copied())
+        .expect(rt, "no memory is needed");
+    value
+        .extend(with_hint(&['x'], too_much))
+        .expect(rt, "no memory is needed");
+    value
+        .extend(with_hint(&["yz", ""], too_much))
+        .expect(rt, "no memory is needed");
     that(is_inline(&value, "ä€aaaaaaaaaaä€xyz")).expect(rt, "it holds");
 }
 
@@ -96,18 +107,27 @@ fn a_string_is_given_what_the_items_give(rt: HostRuntime) {
 fn assert_long(rt: &impl Abort, alloc: Global, too_much: bool) {
     let euros = ['€'; 9];
     let texts = [letters(20), "", letters(5)];
-    let made = CompactString::from_chars(alloc, with_hint(&euros, too_much).copied());
-    that(is_fitted(&made.expect(rt, "memory"), "€€€€€€€€€")).expect(rt, "it holds");
-    let made = CompactString::from_texts(alloc, with_hint(&texts, too_much));
-    that(is_fitted(&made.expect(rt, "memory"), letters(25))).expect(rt, "it holds");
-    let made = with_hint(&texts, too_much).concat_compact(alloc);
-    that(is_fitted(&made.expect(rt, "memory"), letters(25))).expect(rt, "it holds");
-    let made = with_hint(&texts, too_much).join_compact(alloc, letters(10));
-    that(is_fitted(&made.expect(rt, "memory"), letters(45))).expect(rt, "it holds");
-    let made: CompactString = with_hint(&euros, too_much)
-        .collect(alloc)
-        .expect(rt, "memory");
-    that(is_fitted(&made, "€€€€€€€€€")).expect(rt, "it holds");
+    assert_fitted(
+        rt,
+        CompactString::from_chars(alloc, with_hint(&euros, too_much).copied()),
+        "€€€€€€€€€",
+    );
+    assert_fitted(
+        rt,
+        CompactString::from_texts(alloc, with_hint(&texts, too_much)),
+        letters(25),
+    );
+    assert_fitted(
+        rt,
+        with_hint(&texts, too_much).concat_compact(alloc),
+        letters(25),
+    );
+    assert_fitted(
+        rt,
+        with_hint(&texts, too_much).join_compact(alloc, letters(10)),
+        letters(45),
+    );
+    assert_fitted(rt, with_hint(&euros, too_much).collect(alloc), "€€€€€€€€€");
 }
 
 #[test]
@@ -121,20 +141,22 @@ fn long_texts_are_what_the_items_give(rt: HostRuntime) {
 /// half of what stands.
 fn assert_room(rt: &impl Abort, alloc: Global, too_much: bool) {
     let mut value = CompactString::const_new(alloc, letters(30));
-    that(value.extend_texts(with_hint(&["", ""], too_much)).is_ok()).expect(rt, "it holds");
+    value
+        .extend_texts(with_hint(&["", ""], too_much))
+        .expect(rt, "no memory is needed");
     that(is_at(&value, "static", 30, letters(30))).expect(rt, "it holds");
-    that(value.extend_texts(with_hint(&["a"], too_much)).is_ok()).expect(rt, "it holds");
+    value
+        .extend_texts(with_hint(&["a"], too_much))
+        .expect(rt, "memory");
     that(is_at(&value, "heap", 45, letters(31))).expect(rt, "it holds");
     let mut value = short(alloc, letters(24));
-    let letter = ['a'];
-    that(
-        value
-            .extend_chars(with_hint(&letter, too_much).copied())
-            .is_ok(),
-    )
-    .expect(rt, "it holds");
+    value
+        .extend_chars(with_hint(&['a'], too_much).copied())
+        .expect(rt, "memory");
     that(is_at(&value, "heap", 36, letters(25))).expect(rt, "it holds");
-    that(value.extend(with_hint(&["a", ""], too_much)).is_ok()).expect(rt, "it holds");
+    value
+        .extend(with_hint(&["a", ""], too_much))
+        .expect(rt, "memory");
     that(is_at(&value, "heap", 36, letters(26))).expect(rt, "it holds");
 }
 

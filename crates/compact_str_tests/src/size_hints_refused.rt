@@ -1,6 +1,7 @@
 //! The same where no memory is left: up to 24 bytes nothing is refused, and more is, whatever the hint.
 
 use crate::hints::with_hint;
+use crate::made::assert_refused;
 use crate::size_hints::{
     assert_appended, assert_collected, assert_collected_by_trait, assert_extended,
 };
@@ -36,62 +37,89 @@ fn a_string_with_room_is_given_the_texts(rt: HostRuntime) {
     equal(line.capacity(), 32).expect(&rt, "equal");
 }
 
-/// Asserts that more than 24 bytes are refused.
-fn assert_refused(rt: &impl Abort, alloc: Global, too_much: bool) {
-    let euros = ['€'; 9];
+/// Asserts that more than 24 bytes of texts are refused.
+fn assert_texts_refused(rt: &impl Abort, alloc: Global, too_much: bool) {
     let texts = [letters(20), letters(5)];
-    that(CompactString::from_chars(alloc, with_hint(&euros, too_much).copied()).is_err()).expect(
-        rt, "it holds",
+    assert_refused(
+        rt,
+        "from_texts",
+        CompactString::from_texts(alloc, with_hint(&texts, too_much)),
     );
-    that(CompactString::from_texts(alloc, with_hint(&texts, too_much)).is_err()).expect(
-        rt, "it holds",
+    assert_refused(
+        rt,
+        "concat_compact",
+        with_hint(&texts, too_much).concat_compact(alloc),
     );
-    that(with_hint(&texts, too_much).concat_compact(alloc).is_err()).expect(rt, "it holds");
-    that(
-        with_hint(&["a", "b"], too_much)
-            .join_compact(alloc, letters(23))
-            .is_err(),
-    )
-    .expect(rt, "it holds");
-    let made: Result<CompactString, AllocError> = with_hint(&euros, too_much)
-        .copied()
-        .collect(alloc);
-    that(made.is_err()).expect(rt, "it holds");
-    let made: Result<CompactString, AllocError> = with_hint(&euros, too_much).collect(alloc);
-    that(made.is_err()).expect(rt, "it holds");
-    let made: Result<CompactString, AllocError> = with_hint(&texts, too_much).collect(alloc);
-    that(made.is_err()).expect(rt, "it holds");
+    assert_refused(
+        rt,
+        "join_compact",
+        with_hint(&["a", "b"], too_much).join_compact(alloc, letters(23)),
+    );
+    assert_refused::<CompactString, AllocError>(
+        rt,
+        "collect, texts",
+        with_hint(&texts, too_much).collect(alloc),
+    );
+}
+
+/// Asserts that more than 24 bytes of characters are.
+fn assert_characters_refused(rt: &impl Abort, alloc: Global, too_much: bool) {
+    let euros = ['€'; 9];
+    assert_refused(
+        rt,
+        "from_chars",
+        CompactString::from_chars(alloc, with_hint(&euros, too_much).copied()),
+    );
+    assert_refused::<CompactString, AllocError>(
+        rt,
+        "collect, characters",
+        with_hint(&euros, too_much).copied().collect(alloc),
+    );
+    assert_refused::<CompactString, AllocError>(
+        rt,
+        "collect, borrowed characters",
+        with_hint(&euros, too_much).collect(alloc),
+    );
 }
 
 #[test]
 fn more_than_24_bytes_are_refused(rt: HostRuntime) {
     let alloc = rt.alloc();
     let hog = take_all(alloc).expect(&rt, "room for the list of blocks");
-    assert_refused(&rt, alloc, false);
-    assert_refused(&rt, alloc, true);
+    for too_much in [false, true] {
+        assert_texts_refused(&rt, alloc, too_much);
+        assert_characters_refused(&rt, alloc, too_much);
+    }
     drop(hog);
 }
 
 /// Asserts that an extension stops at the first item that is refused, with those before it in the value.
 fn assert_stops(rt: &impl Abort, alloc: Global, too_much: bool) {
     let mut value = CompactString::default(alloc);
-    that(
-        value
-            .extend_texts(with_hint(&[letters(20), letters(4), "b", ""], too_much))
-            .is_err(),
-    )
-    .expect(rt, "it holds");
+    let texts = [letters(20), letters(4), "b", ""];
+    assert_refused(
+        rt,
+        "extend_texts",
+        value.extend_texts(with_hint(&texts, too_much)),
+    );
     that(is_inline(&value, letters(24))).expect(rt, "it holds");
-    that(value.extend(with_hint(&["", "b"], too_much)).is_err()).expect(rt, "it holds");
-    that(value.extend(with_hint(&['b'], too_much)).is_err()).expect(rt, "it holds");
+    assert_refused(
+        rt,
+        "extend, texts",
+        value.extend(with_hint(&["", "b"], too_much)),
+    );
+    assert_refused(
+        rt,
+        "extend, characters",
+        value.extend(with_hint(&['b'], too_much)),
+    );
     that(is_inline(&value, letters(24))).expect(rt, "it holds");
     let mut value = CompactString::default(alloc);
-    that(
-        value
-            .extend_chars(with_hint(&['€'; 9], too_much).copied())
-            .is_err(),
-    )
-    .expect(rt, "it holds");
+    assert_refused(
+        rt,
+        "extend_chars",
+        value.extend_chars(with_hint(&['€'; 9], too_much).copied()),
+    );
     that(is_inline(&value, "€€€€€€€€")).expect(rt, "it holds");
 }
 
@@ -104,6 +132,22 @@ fn an_extension_stops_at_what_is_refused(rt: HostRuntime) {
     drop(hog);
 }
 
+/// Asserts that a string, which is empty, is given the first of these values alone, and empties it.
+fn assert_append_stops(
+    rt: &impl Abort,
+    line: &mut String,
+    values: &[CompactString],
+    too_much: bool,
+) {
+    assert_refused(
+        rt,
+        "append_all",
+        append_all(line, with_hint(values, too_much)),
+    );
+    equal(line.as_str(), "ab").expect(rt, "equal");
+    line.clear();
+}
+
 #[test]
 fn a_string_stops_at_the_value_that_is_refused(rt: HostRuntime) {
     let alloc = rt.alloc();
@@ -112,12 +156,9 @@ fn a_string_stops_at_the_value_that_is_refused(rt: HostRuntime) {
         value_of(alloc, letters(80)).expect(&rt, "memory"),
         short(alloc, "c"),
     ];
-    let mut first = String::with_capacity(alloc, 40).expect(&rt, "memory");
-    let mut second = String::with_capacity(alloc, 40).expect(&rt, "memory");
+    let mut line = String::with_capacity(alloc, 40).expect(&rt, "memory");
     let hog = take_all(alloc).expect(&rt, "room for the list of blocks");
-    that(append_all(&mut first, with_hint(&values, false)).is_err()).expect(&rt, "it holds");
-    that(append_all(&mut second, with_hint(&values, true)).is_err()).expect(&rt, "it holds");
+    assert_append_stops(&rt, &mut line, &values, false);
+    assert_append_stops(&rt, &mut line, &values, true);
     drop(hog);
-    equal(first.as_str(), "ab").expect(&rt, "equal");
-    equal(second.as_str(), "ab").expect(&rt, "equal");
 }
