@@ -246,7 +246,7 @@ impl Trial {
     /// A list of two edits, with all requests granted: so many are refused, or `None` where the list is.
     fn runs(&mut self, case: &Case<'_>, start: Start<'_>, refused: Option<usize>) {
         let (_, calls) = first_word(case.call);
-        let (first, last) = halves(calls);
+        let (first, last) = calls.split_once(" ; ").unwrap_or((calls, ""));
         match (edit_of(first, &case.listed), edit_of(last, &case.listed)) {
             (Some(first), Some(last)) => self.runs_both(case, start, &[first, last], refused),
             _ => self.faults.expect(false, "there is no such edit"),
@@ -305,7 +305,10 @@ impl Trial {
     fn is_answered(&mut self, reply: &Reply<Standard>, answer: Answer<'_>) {
         let (holds, instead) = match reply {
             Reply::Done => (matches!(answer, Answer::Done), "it is done"),
-            Reply::Char(taken) => (is_char(answer, *taken), "it answers another character"),
+            Reply::Char(taken) => (
+                matches!(answer, Answer::Char(wanted) if wanted == *taken),
+                "it answers another character",
+            ),
             Reply::Text(text) => {
                 self.faults.expect_value(is_text(answer, text), text);
                 return;
@@ -328,27 +331,11 @@ impl Trial {
     }
 }
 
-/// Whether a line's answer is that character, or none.
-fn is_char(answer: Answer<'_>, taken: Option<char>) -> bool {
-    match answer {
-        Answer::Char(wanted) => taken == wanted,
-        _ => false,
-    }
-}
-
 /// Whether a line's answer is that text, where it is to stand.
 fn is_text(answer: Answer<'_>, text: &CompactString) -> bool {
     match answer {
         Answer::Text(wanted) => is_seen(text, wanted),
         _ => false,
-    }
-}
-
-/// The two edits of a list.
-fn halves(calls: &str) -> (&str, &str) {
-    match calls.split_once(" ; ") {
-        Some(halves) => halves,
-        None => (calls, ""),
     }
 }
 
