@@ -46,6 +46,11 @@ pub fn cases(alloc: Global, ration: &mut Ration, faults: &mut Faults) {
         faults,
         "3: values are looked at",
     );
+    later_cases(alloc, ration, faults);
+}
+
+/// Those of 8 and 13.
+fn later_cases(alloc: Global, ration: &mut Ration, faults: &mut Faults) {
     tell(
         compares(alloc, ration),
         ration,

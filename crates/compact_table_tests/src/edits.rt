@@ -19,7 +19,7 @@ pub fn edit_of<'a>(call: &'a str, listed: &'a Listed) -> Option<Edit<'a, Standar
         "make_ascii_uppercase" => Some(Edit::MakeUpper),
         "zeroize" => Some(Edit::Zeroize),
         "retain" => retain_of(rest),
-        "clone_from" => clone_from_of(listed),
+        "clone_from" => Some(Edit::CloneFrom(listed.value()?)),
         "push" => Some(Edit::Push(character(rest)?)),
         "push_str" => Some(Edit::PushStr(text_of(rest))),
         _ => edit_at(name, rest),
@@ -38,37 +38,22 @@ fn retain_of<'a>(word: &str) -> Option<Edit<'a, Standard>> {
     }
 }
 
-fn clone_from_of(listed: &Listed) -> Option<Edit<'_, Standard>> {
-    match listed {
-        Listed::Value(value) => Some(Edit::CloneFrom(value)),
-        _ => None,
-    }
-}
-
 /// The edit of a name, of a position or a range, and of what is put in there.
 fn edit_at<'a>(name: &str, operands: &'a str) -> Option<Edit<'a, Standard>> {
     let (place, operand) = first_word(operands);
     match name {
-        "insert" => insert_of(place, operand),
+        "insert" => Some(Edit::Insert(number(place)?, character(operand)?)),
         "insert_str" => Some(Edit::InsertStr(number(place)?, text_of(operand))),
-        "replace_range" => replace_range_of(place, operand),
-        "drain" => drain_of(place),
+        "replace_range" => {
+            let (start, end) = range(place)?;
+            Some(Edit::ReplaceRange(start, end, text_of(operand)))
+        }
+        "drain" => {
+            let (start, end) = range(place)?;
+            Some(Edit::Drain(start, end))
+        }
         _ => edit_of_number(name, number(place)?),
     }
-}
-
-fn insert_of<'a>(place: &str, operand: &str) -> Option<Edit<'a, Standard>> {
-    Some(Edit::Insert(number(place)?, character(operand)?))
-}
-
-fn replace_range_of<'a>(place: &str, text: &'a str) -> Option<Edit<'a, Standard>> {
-    let (start, end) = range(place)?;
-    Some(Edit::ReplaceRange(start, end, text_of(text)))
-}
-
-fn drain_of<'a>(place: &str) -> Option<Edit<'a, Standard>> {
-    let (start, end) = range(place)?;
-    Some(Edit::Drain(start, end))
 }
 
 /// The edit of a name and a number.
@@ -107,50 +92,50 @@ pub fn call(edit: &Edit<'_, Standard>, value: &mut CompactString) -> Reply<Stand
         Edit::Push(character) => done(value.push(*character)),
         Edit::PushStr(text) => done(value.push_str(text)),
         Edit::Pop => Reply::Char(value.pop()),
-        Edit::Insert(index, character) => insert(value, *index, *character),
-        Edit::InsertStr(index, text) => insert_str(value, *index, text),
-        Edit::Remove(index) => remove(value, *index),
-        Edit::Truncate(len) => truncate(value, *len),
-        Edit::Clear => {
-            value.clear();
-            Reply::Done
-        }
-        Edit::SplitOff(index) => split_off(value, *index),
-        Edit::ReplaceRange(start, end, text) => replace_range(value, *start, *end, text),
-        Edit::Drain(start, end) => drain(value, *start, *end),
         Edit::Retain(answers) => retain(value, answers),
         Edit::Reserve(additional) => done(value.reserve(*additional)),
-        Edit::ShrinkTo(capacity) => {
-            value.shrink_to(*capacity);
-            Reply::Done
-        }
-        Edit::ShrinkToFit => {
-            value.shrink_to_fit();
-            Reply::Done
-        }
         Edit::MakeLower => done(value.make_ascii_lowercase()),
         Edit::MakeUpper => done(value.make_ascii_uppercase()),
-        Edit::Zeroize => {
-            value.zeroize();
-            Reply::Done
-        }
         Edit::Repeat(count) => given(value.repeat(*count)),
         Edit::CloneFrom(source) => done(value.clone_from(source)),
+        Edit::Remove(index) => remove(value, *index),
+        Edit::Drain(start, end) => drain(value, *start, *end),
+        Edit::Insert(..) | Edit::InsertStr(..) | Edit::SplitOff(..) | Edit::ReplaceRange(..) =>
+            call_at(edit, value),
+        _ => shorten(edit, value),
     }
 }
 
-fn insert(value: &mut CompactString, index: usize, character: char) -> Reply<Standard> {
-    if !value.is_char_boundary(index) {
-        return Reply::BadPosition;
+/// An edit at a position or a range, which may be none.
+fn call_at(edit: &Edit<'_, Standard>, value: &mut CompactString) -> Reply<Standard> {
+    match edit {
+        Edit::Insert(index, character) if value.is_char_boundary(*index) => {
+            done(value.insert(*index, *character))
+        }
+        Edit::InsertStr(index, text) if value.is_char_boundary(*index) => {
+            done(value.insert_str(*index, text))
+        }
+        Edit::SplitOff(index) if value.is_char_boundary(*index) => given(value.split_off(*index)),
+        Edit::ReplaceRange(start, end, text) if value.check_range(*start, *end).is_some() => {
+            done(value.replace_range(*start, *end, text))
+        }
+        _ => Reply::BadPosition,
     }
-    done(value.insert(index, character))
 }
 
-fn insert_str(value: &mut CompactString, index: usize, text: &str) -> Reply<Standard> {
-    if !value.is_char_boundary(index) {
-        return Reply::BadPosition;
+/// An edit that answers nothing and cannot be refused.
+fn shorten(edit: &Edit<'_, Standard>, value: &mut CompactString) -> Reply<Standard> {
+    match edit {
+        Edit::Clear => value.clear(),
+        Edit::ShrinkTo(capacity) => value.shrink_to(*capacity),
+        Edit::ShrinkToFit => value.shrink_to_fit(),
+        Edit::Zeroize => value.zeroize(),
+        Edit::Truncate(len) if *len >= value.len() || value.is_char_boundary(*len) => {
+            value.truncate(*len);
+        }
+        _ => return Reply::BadPosition,
     }
-    done(value.insert_str(index, text))
+    Reply::Done
 }
 
 fn remove(value: &mut CompactString, index: usize) -> Reply<Standard> {
@@ -161,33 +146,6 @@ fn remove(value: &mut CompactString, index: usize) -> Reply<Standard> {
         Ok(character) => Reply::Char(Some(character)),
         Err(error) => Reply::Refused(error),
     }
-}
-
-fn truncate(value: &mut CompactString, len: usize) -> Reply<Standard> {
-    if len < value.len() && !value.is_char_boundary(len) {
-        return Reply::BadPosition;
-    }
-    value.truncate(len);
-    Reply::Done
-}
-
-fn split_off(value: &mut CompactString, index: usize) -> Reply<Standard> {
-    if !value.is_char_boundary(index) {
-        return Reply::BadPosition;
-    }
-    given(value.split_off(index))
-}
-
-fn replace_range(
-    value: &mut CompactString,
-    start: Bound<usize>,
-    end: Bound<usize>,
-    text: &str,
-) -> Reply<Standard> {
-    if value.check_range(start, end).is_none() {
-        return Reply::BadPosition;
-    }
-    done(value.replace_range(start, end, text))
 }
 
 /// It answers no text, so that it asks for the value alone.

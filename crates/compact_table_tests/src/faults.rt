@@ -20,7 +20,7 @@ pub struct Faults {
     /// Whether the present case has been seen to fail: what follows in it is no news.
     is_told: bool,
     /// How many requests of the present case are granted.
-    granted: usize,
+    pub granted: usize,
     pub cases: u32,
     pub count: u32,
 }
@@ -74,11 +74,6 @@ impl Faults {
         self.begin(line);
         self.expect(false, "the line cannot be read");
         self.end();
-    }
-
-    /// So many requests are granted.
-    pub fn grants(&mut self, granted: usize) {
-        self.granted = granted;
     }
 
     /// Notes what is seen instead of what was to hold.

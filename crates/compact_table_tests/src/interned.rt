@@ -45,17 +45,14 @@ fn takes(ration: &mut Ration, names: &mut Interner, text: &str, asks: &[Ask]) ->
     let count = names.len();
     let mut holds = true;
     for ask in asks {
-        holds &= is_refused(names, text) && names.len() == count;
+        holds &= matches!(names.intern(text), Err(InternError::Reserve(_)));
+        holds &= names.len() == count;
         holds &= names.name(count as u32).is_none();
         ration.grant(*ask);
     }
     holds &= finds(names, text, count as u32);
     ration.take_rest();
     holds
-}
-
-fn is_refused(names: &mut Interner, text: &str) -> bool {
-    matches!(names.intern(text), Err(InternError::Reserve(_)))
 }
 
 /// Whether a name has this number, with no request that is not granted.
@@ -111,20 +108,16 @@ fn takes_lists(alloc: Global, ration: &mut Ration) -> bool {
     holds
 }
 
-/// Whether a new interner takes a list as a whole or not, and has so many names and numbers then.
+/// Whether a new interner takes a list as a whole or not, and has so many names and the first so many numbers then.
 fn takes_list(alloc: Global, is_whole: bool, count: usize, listed: usize) -> bool {
     let mut names = Interner::new(alloc);
     let mut numbers = Vec::new(alloc);
     let is_taken = take_list(&mut names, &mut numbers);
-    is_taken == is_whole && names.len() == count && are_first(&numbers, listed)
+    let first = [0, 1, 0, 2];
+    is_taken == is_whole && names.len() == count && Some(numbers.as_slice()) == first.get(..listed)
 }
 
 fn take_list(names: &mut Interner, numbers: &mut Vec<u32>) -> bool {
     let texts = ["a", letters(0, 30), "a", "b"];
     names.intern_all(&texts, numbers).is_ok()
-}
-
-/// Whether these are the first so many numbers of the list.
-fn are_first(numbers: &[u32], count: usize) -> bool {
-    Some(numbers) == [0, 1, 0, 2].get(..count)
 }

@@ -60,12 +60,9 @@ fn print_faults<R: Read, W: Write>(
     reader: &mut R,
     writer: &mut W,
 ) -> io::Result<bool> {
-    let mut bytes = Vec::new(alloc);
-    reader.read_to_end(&mut bytes)?;
-    let Ok(table) = str::from_utf8(&bytes) else {
-        return Err(io::Error::from(io::ErrorKind::InvalidData));
-    };
-    let faults = tried(alloc, table)?;
+    let mut table = String::new(alloc);
+    reader.read_to_string(&mut table)?;
+    let faults = tried(alloc, table.as_str())?;
     write_faults(&faults, writer)?;
     Ok(faults.count == 0)
 }

@@ -84,7 +84,7 @@ impl Ration {
 
     /// Grants the first so many requests.
     pub fn grant_first(&mut self, asks: &[Ask], count: usize) {
-        for ask in asks.iter().take(count) {
+        for ask in asks.get(..count).unwrap_or(asks) {
             self.grant(*ask);
         }
     }

@@ -26,9 +26,18 @@ impl Display for Hiding<'_> {
 pub fn show(case: &Case<'_>, alloc: Global) -> Made {
     let (first, last) = (case.word(0), case.word(1));
     match case.name {
-        "to_compact_string:u128" => show_unsigned(first, alloc),
-        "to_compact_string:i128" => show_signed(first, alloc),
-        "try_to_compact_string:u128" => try_show_unsigned(first, alloc),
+        "to_compact_string:u128" => match first.parse::<u128>() {
+            Ok(number) => shown(number.to_compact_string(alloc)),
+            Err(_) => Made::Unknown,
+        },
+        "to_compact_string:i128" => match first.parse::<i128>() {
+            Ok(number) => shown(number.to_compact_string(alloc)),
+            Err(_) => Made::Unknown,
+        },
+        "try_to_compact_string:u128" => match first.parse::<u128>() {
+            Ok(number) => shown(number.try_to_compact_string(alloc)),
+            Err(_) => Made::Unknown,
+        },
         "to_compact_string:str" => shown(first.to_compact_string(alloc)),
         "try_to_compact_string:str" => shown(first.try_to_compact_string(alloc)),
         "to_compact_string:String" => show_string(&case.listed, alloc),
@@ -44,27 +53,6 @@ fn format_both(first: &str, last: &str, alloc: Global) -> Made {
 
 fn format_hiding(first: &str, last: &str, alloc: Global) -> Made {
     shown(format_compact!(in alloc; "{}", Hiding(first, last)))
-}
-
-fn show_unsigned(word: &str, alloc: Global) -> Made {
-    match word.parse::<u128>() {
-        Ok(number) => shown(number.to_compact_string(alloc)),
-        Err(_) => Made::Unknown,
-    }
-}
-
-fn try_show_unsigned(word: &str, alloc: Global) -> Made {
-    match word.parse::<u128>() {
-        Ok(number) => shown(number.try_to_compact_string(alloc)),
-        Err(_) => Made::Unknown,
-    }
-}
-
-fn show_signed(word: &str, alloc: Global) -> Made {
-    match word.parse::<i128>() {
-        Ok(number) => shown(number.to_compact_string(alloc)),
-        Err(_) => Made::Unknown,
-    }
 }
 
 fn show_string(listed: &Listed, alloc: Global) -> Made {

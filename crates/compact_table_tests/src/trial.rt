@@ -135,7 +135,7 @@ impl Trial {
     fn tries(&mut self, case: &Case<'_>, start: Start<'_>, by: By<'_, '_>) {
         if let Some(mut value) = self.start(start) {
             self.refuses(case, start, by, &mut value);
-            self.faults.grants(case.asks.len());
+            self.faults.granted = case.asks.len();
             self.replies(case, by, &mut value);
             self.is_left(&value, case);
         }
@@ -151,7 +151,7 @@ impl Trial {
         value: &mut CompactString,
     ) {
         for (granted, ask) in case.asks.iter().enumerate() {
-            self.faults.grants(granted);
+            self.faults.granted = granted;
             let is_refused = matches!(reply(case, by, value, &mut self.replies), Reply::Refused(_));
             self.faults.expect(is_refused, "it is not refused");
             self.is_same(value, start);
@@ -184,12 +184,12 @@ impl Trial {
             "no call without a value answers so",
         );
         for (granted, ask) in case.asks.iter().enumerate() {
-            self.faults.grants(granted);
+            self.faults.granted = granted;
             let is_refused = matches!(make(case, self.alloc), Made::Refused);
             self.faults.expect(is_refused, "it is not refused");
             self.ration.grant(*ask);
         }
-        self.faults.grants(case.asks.len());
+        self.faults.granted = case.asks.len();
         match make(case, self.alloc) {
             Made::Value(value) => self.is_left(&value, case),
             Made::Refused => self
@@ -206,7 +206,7 @@ impl Trial {
             return;
         };
         for (granted, ask) in case.asks.iter().enumerate() {
-            self.faults.grants(granted);
+            self.faults.granted = granted;
             match leave(value, case.name, text) {
                 Ok(_) => {
                     self.faults.expect(false, "it is not refused");
@@ -217,7 +217,7 @@ impl Trial {
             self.is_same(&value, start);
             self.ration.grant(*ask);
         }
-        self.faults.grants(case.asks.len());
+        self.faults.granted = case.asks.len();
         match leave(value, case.name, text) {
             Ok(is_same) => self.faults.expect(is_same, "another text leaves"),
             Err(back) => self.faults.expect_value(false, &back),
@@ -233,7 +233,7 @@ impl Trial {
         );
         for (granted, seen) in case.states.iter().enumerate() {
             if let Some(mut value) = self.start(start) {
-                self.faults.grants(granted);
+                self.faults.granted = granted;
                 self.ration.grant_first(&case.asks, granted);
                 let is_done = extend(case, &mut value);
                 self.faults.expect(is_done == (granted == case.asks.len()), "it ends otherwise");
@@ -246,7 +246,7 @@ impl Trial {
     /// A list of two edits, with all requests granted: so many are refused, or `None` where the list is.
     fn runs(&mut self, case: &Case<'_>, start: Start<'_>, refused: Option<usize>) {
         let (_, calls) = first_word(case.call);
-        let (first, last) = halves(calls);
+        let (first, last) = calls.split_once(" ; ").unwrap_or((calls, ""));
         match (edit_of(first, &case.listed), edit_of(last, &case.listed)) {
             (Some(first), Some(last)) => self.runs_both(case, start, &[first, last], refused),
             _ => self.faults.expect(false, "there is no such edit"),
@@ -284,7 +284,7 @@ impl Trial {
 
     /// A value to start from.
     fn start(&mut self, start: Start<'_>) -> Option<CompactString> {
-        self.faults.grants(0);
+        self.faults.granted = 0;
         let value = start.make(&mut self.ration, self.alloc);
         let is_made = match &value {
             Some(value) => is_seen(value, start.seen()),
@@ -305,7 +305,10 @@ impl Trial {
     fn is_answered(&mut self, reply: &Reply<Standard>, answer: Answer<'_>) {
         let (holds, instead) = match reply {
             Reply::Done => (matches!(answer, Answer::Done), "it is done"),
-            Reply::Char(taken) => (is_char(answer, *taken), "it answers another character"),
+            Reply::Char(taken) => (
+                matches!(answer, Answer::Char(wanted) if wanted == *taken),
+                "it answers another character",
+            ),
             Reply::Text(text) => {
                 self.faults.expect_value(is_text(answer, text), text);
                 return;
@@ -328,27 +331,11 @@ impl Trial {
     }
 }
 
-/// Whether a line's answer is that character, or none.
-fn is_char(answer: Answer<'_>, taken: Option<char>) -> bool {
-    match answer {
-        Answer::Char(wanted) => taken == wanted,
-        _ => false,
-    }
-}
-
 /// Whether a line's answer is that text, where it is to stand.
 fn is_text(answer: Answer<'_>, text: &CompactString) -> bool {
     match answer {
         Answer::Text(wanted) => is_seen(text, wanted),
         _ => false,
-    }
-}
-
-/// The two edits of a list.
-fn halves(calls: &str) -> (&str, &str) {
-    match calls.split_once(" ; ") {
-        Some(halves) => halves,
-        None => (calls, ""),
     }
 }
 
