@@ -4,45 +4,18 @@
 use compact_asserts::equal;
 use compact_str::CompactString;
 use compact_testing::memory::take_all;
-use serde::{Deserialize, Deserializer, Format, Name};
+use serde::Deserialize;
 use std::alloc::{AllocError, Global};
 use std::process::Abort;
 
 /// What is read: two texts, of which each would be a buffer of a `String`, of one size.
 const RECORD: &str = r#"{"a":"zoë","b":"of 24 bytes and no more."}"#;
 
-/// A record of two texts of one type, which is read by hand: what a derive writes takes many times as long to prove.
-#[derive(Drop)]
+/// A record of two texts of one type.
+#[derive(Drop, Deserialize)]
 struct Record<T> {
     a: T,
     b: T,
-}
-
-impl<'de, T: Deserialize<'de> + Drop> Deserialize<'de> for Record<T> {
-    fn deserialize<F: Format>(
-        alloc: Global,
-        from: &mut Deserializer<'de, '_, F>,
-    ) -> Result<Self, F::Error> {
-        from.begin_map()?;
-        let a = field(alloc, from, "a")?;
-        let b = field(alloc, from, "b")?;
-        match from.next_key(&[])? {
-            Some(_) => Err(from.unknown_key()),
-            None => Ok(Record { a, b }),
-        }
-    }
-}
-
-/// The text of the next field, which has this name.
-fn field<'de, T: Deserialize<'de>, F: Format>(
-    alloc: Global,
-    from: &mut Deserializer<'de, '_, F>,
-    name: &str,
-) -> Result<T, F::Error> {
-    match from.next_key(&[Name::exact(name)])? {
-        Some(0) => T::deserialize(alloc, from),
-        _ => Err(from.missing(name)),
-    }
 }
 
 /// So many blocks of each size that a small request takes. The list of them stays, so that it leaves no room.
