@@ -5,12 +5,16 @@
 The wrong bodies of a crate are those of crates/CRATE/must-fail, one a file, which the gate tries too, and those of
 mistakes/CRATE, several a file, each under a comment line with its name. With no crate named all are tried.
 
-It works on a copy of the repository, with what earlier checks there proved. A check takes the bodies of a file together, and says of each function whether its own proof
-fails. A body gets a check of its own where it shares its function with another, where it changes what is no function, and where
-the function was not tried, since one that it calls is not proved either. The status is 0 where each body is refused.
+Each crate is proved first as it stands. Then the bodies are tried on copies of the repository, as many side by side as there
+are processors, or as RT_JOBS says. Each check begins with what is proved of the crate as it stands. A check takes the bodies
+of a file together, and says of each function whether its own proof fails. A body gets a check of its own where it shares its
+function with another, where it changes what is no function, and where the function was not tried, since one that it calls is
+not proved either. The status is 0 where each body is refused.
 """
 
+import concurrent.futures
 import os
+import queue
 import re
 import shutil
 import subprocess
@@ -18,6 +22,8 @@ import sys
 import tempfile
 
 ROOT = os.path.dirname(os.path.dirname(os.path.abspath(__file__)))
+# How many checks run side by side.
+JOBS = int(os.environ.get("RT_JOBS") or os.cpu_count())
 # A function whose own proof fails, in what a check prints.
 UNPROVED = re.compile(r"^fn (\S+): (?:not proved|no proof: (?!it calls))", re.M)
 
@@ -76,20 +82,45 @@ def bodies_of(path):
     return bodies
 
 
+def check(crate, jobs):
+    """What a check of the crate prints, with so many parts of it side by side."""
+    command = ["rt", "check", "--jobs", str(jobs)]
+    return subprocess.run(command, cwd=crate, stdin=subprocess.DEVNULL, stdout=subprocess.PIPE, stderr=subprocess.STDOUT, text=True, errors="replace").stdout
+
+
+def files_below(folder):
+    """The files below a folder, by their path from there, each with its size and time."""
+    paths = [os.path.join(above, name) for above, _, names in os.walk(folder) for name in names]
+    return {os.path.relpath(path, folder): (os.path.getsize(path), os.stat(path).st_mtime_ns) for path in paths}
+
+
+def put_back(crate):
+    """Gives the copy of a crate what was proved of the crate as it stands, and nothing that an earlier wrong body left."""
+    kept, folder = (f"{above}/out/incremental" for above in (f"{ROOT}/crates/{os.path.basename(crate)}", crate))
+    wanted, found = files_below(kept), files_below(folder)
+    for path in found.keys() - wanted.keys():
+        os.remove(f"{folder}/{path}")
+    for path in wanted:
+        if found.get(path) != wanted[path]:
+            os.makedirs(os.path.dirname(f"{folder}/{path}"), exist_ok=True)
+            shutil.copy2(f"{kept}/{path}", f"{folder}/{path}")
+
+
 def unproved(crate, bodies):
     """The functions whose own proof fails in a check of the crate with these wrong bodies, and whether the crate is refused."""
     texts = {}
     for body in bodies:
         body.put_into(texts, crate)
     was = {file: read(f"{crate}/{file}") for file in texts}
+    put_back(crate)
     try:
         for file, text in texts.items():
             write(f"{crate}/{file}", text)
-        ran = subprocess.run(["rt", "check"], cwd=crate, stdin=subprocess.DEVNULL, stdout=subprocess.PIPE, stderr=subprocess.STDOUT, text=True, errors="replace")
+        said = check(crate, 1)
     finally:
         for file, text in was.items():
             write(f"{crate}/{file}", text)
-    return UNPROVED.findall(ran.stdout), "\nlogic=not-proved" in ran.stdout
+    return UNPROVED.findall(said), "\nlogic=not-proved" in said
 
 
 def try_together(crate, bodies):
@@ -117,24 +148,42 @@ def edits_in(folder):
     return [f"{folder}/{name}" for name in sorted(names) if name.endswith(".edit")]
 
 
+def files_of_bodies(name):
+    """The wrong bodies of a crate, in lists that are tried together: those of the gate, and those of each file of mistakes/."""
+    alone = [body for path in edits_in(f"{ROOT}/crates/{name}/must-fail") for body in bodies_of(path)]
+    return [it for it in [alone] + [bodies_of(path) for path in edits_in(f"{ROOT}/mistakes/{name}")] if it]
+
+
+def copy_of_all(folder):
+    """Copies the repository into a folder, without what checks kept, and returns the folder."""
+    shutil.copytree(f"{ROOT}/crates", f"{folder}/crates", ignore=shutil.ignore_patterns("must-fail", "incremental"))
+    for name in ("crates.txt", "HANDLES"):
+        shutil.copy(f"{ROOT}/{name}", folder)
+    return folder
+
+
 def main(names):
-    names = names or sorted(os.listdir(f"{ROOT}/crates"))
-    tried = refused = 0
+    tasks = [(name, bodies) for name in names or sorted(os.listdir(f"{ROOT}/crates")) for bodies in files_of_bodies(name)]
+    for name in sorted({name for name, _ in tasks}):
+        if "\nlogic=proved" not in check(f"{ROOT}/crates/{name}", JOBS):
+            sys.exit(f"{name} is not proved as it stands")
+    copies = queue.Queue()
 
-    def unneeded(folder, entries):
-        """What the copy goes without: wrong bodies, and what checks kept of a crate that is only used here."""
-        left_out = {"must-fail"} if os.path.basename(os.path.dirname(folder)) in names else {"must-fail", "incremental"}
-        return left_out.intersection(entries)
+    def try_one(task):
+        """Tries the bodies of a file in a copy that no other check works in."""
+        name, bodies = task
+        copy = copies.get()
+        try:
+            return try_together(f"{copy}/crates/{name}", bodies)
+        finally:
+            copies.put(copy)
 
-    with tempfile.TemporaryDirectory() as copy:
-        shutil.copytree(f"{ROOT}/crates", f"{copy}/crates", ignore=unneeded)
-        for name in ("crates.txt", "HANDLES"):
-            shutil.copy(f"{ROOT}/{name}", copy)
-        for name in names:
-            alone = [body for path in edits_in(f"{ROOT}/crates/{name}/must-fail") for body in bodies_of(path)]
-            for bodies in [alone] + [bodies_of(path) for path in edits_in(f"{ROOT}/mistakes/{name}")]:
-                tried += len(bodies)
-                refused += try_together(f"{copy}/crates/{name}", bodies)
+    with tempfile.TemporaryDirectory() as folder, concurrent.futures.ThreadPoolExecutor(JOBS) as pool:
+        for number in range(JOBS):
+            copies.put(copy_of_all(f"{folder}/{number}"))
+        # The longest files come first, so that no copy waits long for the last.
+        refused = sum(pool.map(try_one, sorted(tasks, key=lambda task: -len(task[1]))))
+    tried = sum(len(bodies) for _, bodies in tasks)
     print(f"{tried} wrong bodies: {refused} refused by their own function, {tried - refused} not")
     return 0 if refused == tried else 1
 

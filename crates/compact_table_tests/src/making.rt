@@ -62,13 +62,15 @@ fn join(texts: &[&str], alloc: Global) -> Made {
     }
 }
 
-/// A value of an operand that is no text. No other call that makes a value has one of these.
+/// A value of an operand that is no text. The two calls that take such an operand on a value make none.
 pub fn make_of_listed(case: &Case<'_>, alloc: Global) -> Made {
     match &case.listed {
         Listed::String(text) => of_texts(&[text], alloc),
         Listed::Box(text) => of_texts(&[text], alloc),
-        Listed::Value(text) => of_texts(&[text], alloc),
-        Listed::Characters(characters) => of_trait(characters.iter().collect(alloc)),
+        Listed::Value(text) if case.name != "clone_from" => of_texts(&[text], alloc),
+        Listed::Characters(characters) if case.name != "extend:&char" => {
+            of_trait(characters.iter().collect(alloc))
+        }
         Listed::Json(json) if json.as_str() == Some(case.word(0)) => read_json(json, alloc),
         Listed::Bytes(bytes) => read_form(bytes, alloc),
         _ => Made::Unknown,
