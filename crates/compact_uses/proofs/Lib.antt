@@ -8,3 +8,4 @@ pub mod LineLemmas
 pub mod LineExamples
 pub mod RecordLemmas
 pub mod ShortLines
+pub mod CountLemmas

@@ -3,3 +3,4 @@ pub mod Columns
 pub mod Lines
 pub mod Reading
 pub mod RecordLines
+pub mod Entries

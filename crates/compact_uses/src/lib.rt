@@ -1,10 +1,12 @@
 //! Programs that stand on the library, to copy: each is small and states what it does as a theorem of its own.
 #![tactic(auto, using(compact_str::proofs::ForCallers::for_callers))]
 
+mod entries;
 mod records;
 mod report;
 mod tokenizer;
 
+pub use entries::{Entry, ranking};
 pub use records::{
     Fault, LineError, RecordsCause, RecordsError, each_line_reads_or_breaks, fields_of,
     fields_read_as_written, plain_fields_read_as_themselves, quoted_line, read_records,

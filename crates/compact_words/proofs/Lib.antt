@@ -1,1 +1,1 @@
-pub mod CountLemmas
+pub mod EmptyLemmas

@@ -13,8 +13,8 @@ use Rattle.compact_edit.specs.declared.intern.InternError.TheVariants.{Reserve, 
 use Rattle.compact_uses.specs.Tokens.{token_text, IsToken, AreNamesOf, AreParted}
 use Rattle.compact_uses.specs.Columns.{row_text, widths_of}
 use Rattle.compact_uses.specs.declared.tokenizer.Token.{Token}
-use Rattle.compact_words.specs.declared.entries.Entry.{Entry}
-use Rattle.compact_words.specs.Entries.{entries_before, IsRanking}
+use Rattle.compact_uses.specs.declared.entries.Entry.{Entry}
+use Rattle.compact_uses.specs.Entries.{entries_before, IsRanking}
 
 -- the fields of a word: its text, and its count in decimal
 abbrev pub entry_fields : List (List ℕ) → Entry → List (List ℕ)

@@ -3,11 +3,10 @@ ghost use Rattle.std.specs.Prelude.{◌≡◌, [], map, take, IfErr, IfOk, IsOk}
 ghost use Rattle.compact_str.specs.Order.{text_in};
 ghost use Rattle.compact_words.specs.Reports.{entry_fields, IsReport, IsReportRefusal};
 
-use crate::entries::{Entry, ranking};
 use compact_edit::{InternError, Interner};
 use compact_ext::ToCompactString;
 use compact_str::{CompactString, ReserveError};
-use compact_uses::{aligned_rows, tokenize};
+use compact_uses::{Entry, aligned_rows, ranking, tokenize};
 use std::alloc::Global;
 
 /// A line for each of the `most` most frequent words of a text, `| word | count |`, in columns of one width. Of words

@@ -6,7 +6,6 @@ ghost use Rattle.std.specs.Io.KnownBytes.{Appends};
 ghost use Rattle.compact_str.specs.Order.{text_in};
 ghost use Rattle.compact_words.specs.Reports.{bytes_of_lines, counted_text, AppendsReport};
 
-mod entries;
 mod frequent;
 
 use compact_str::CompactString;

@@ -1,5 +1,5 @@
 use Rattle.std.proofs.Common.{◌≡◌, length, ap, ◌∙◌, arith}
-use Rattle.compact_words.proofs.CountLemmas.{no-ranks, none-taken, no-rows, never-refused}
+use Rattle.compact_words.proofs.EmptyLemmas.{no-ranks, none-taken, no-rows, never-refused}
 use Rattle.compact_words.proofs.frequent.frequent_words.Goals as goal
 
 pub returns-in_err-table-clause-empty : goal.returns-in_err-table-clause-empty

@@ -1,6 +1,6 @@
 use Rattle.std.proofs.Common.{◌≡◌, ◌<◌, ℕ, length, slice_index, take}
-use Rattle.compact_words.specs.Entries.{word_count}
-use Rattle.compact_words.proofs.entries.word_counts.Given as goal
+use Rattle.compact_uses.specs.Entries.{word_count}
+use Rattle.compact_uses.proofs.entries.word_counts.Given as goal
 
 -- each number has the count of its word among the tokens so far
 abbrev pub invariant-loop-token : goal.invariant-loop-token

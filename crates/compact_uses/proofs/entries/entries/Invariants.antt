@@ -1,6 +1,6 @@
 use Rattle.std.proofs.Common.{◌≡◌}
-use Rattle.compact_words.specs.Entries.{entries_before}
-use Rattle.compact_words.proofs.entries.entries.Given as goal
+use Rattle.compact_uses.specs.Entries.{entries_before}
+use Rattle.compact_uses.proofs.entries.entries.Given as goal
 
 -- the entries so far
 abbrev pub invariant-loop-name : goal.invariant-loop-name

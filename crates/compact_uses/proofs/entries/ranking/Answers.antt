@@ -1,7 +1,7 @@
 use Rattle.std.proofs.Common.{rules}
 use Rattle.std.proofs.lemmas.List.Sorted.{answers_always}
-use Rattle.compact_words.specs.Entries.{IsRanking}
-use Rattle.compact_words.proofs.entries.ranking.Goals as goal
+use Rattle.compact_uses.specs.Entries.{IsRanking}
+use Rattle.compact_uses.proofs.entries.ranking.Goals as goal
 
 pub returns-clause-ranks : goal.returns-clause-ranks
 returns-clause-ranks c =

@@ -1,8 +1,8 @@
 //! How often each word of a text stands there, and which are the most frequent.
 ghost use Rattle.std.specs.Prelude.{◌≡◌, ◌<◌, ℕ, length, slice_index, IfOk, IsOk};
-ghost use Rattle.compact_words.specs.Entries.{word_count, entries_before, IsRanking};
+ghost use Rattle.compact_uses.specs.Entries.{word_count, entries_before, IsRanking};
 
-use compact_uses::{Kind, Token};
+use crate::tokenizer::{Kind, Token};
 use std::alloc::{AllocError, Global};
 use std::cmp::Reverse;
 

@@ -5,9 +5,9 @@ use Rattle.std.proofs.lemmas.List.{take_all}
 use Rattle.compact_uses.specs.contracts.tokenizer.Kind.{the_type}
 use Rattle.compact_uses.specs.declared.tokenizer.Kind.{Kind}
 use Rattle.compact_uses.specs.declared.tokenizer.Kind.TheVariants.{Word, Number, Space, Mark}
-use Rattle.compact_words.specs.Entries.{is_word_kind, word_count}
-use Rattle.compact_words.proofs.CountLemmas.{count-bound, counted, uncounted, counts-other, no-word}
-use Rattle.compact_words.proofs.entries.word_counts.Goals as goal
+use Rattle.compact_uses.specs.Entries.{is_word_kind, word_count}
+use Rattle.compact_uses.proofs.CountLemmas.{count-bound, counted, uncounted, counts-other, no-word}
+use Rattle.compact_uses.proofs.entries.word_counts.Goals as goal
 
 no-word-kind : (kind : Kind) → true ≡ not (sameb the_type kind Word) → is_word_kind kind ≡ false
 no-word-kind Word other = absurd (true≢false other)

@@ -1,13 +1,11 @@
 -- What one token more changes in the counts.
-use Rattle.std.proofs.Common.{◌≡◌, ◌≢◌, ℕ, ◌+◌, ◌<◌, ◌≤◌, List, Bool, true, false, if◌then◌else◌, length, nat_eq, refl, slice_index, slice_index_or, slice_set, take, ap, sym, ◌∙◌, [], map, true≢false, arith, rules}
+use Rattle.std.proofs.Common.{◌≡◌, ◌≢◌, ℕ, ◌+◌, ◌<◌, ◌≤◌, List, Bool, true, false, if◌then◌else◌, length, nat_eq, refl, slice_index, slice_index_or, slice_set, take, sym, ◌∙◌, arith, rules}
 use Rattle.std.proofs.lemmas.Grind.{common_steps}
-use Rattle.std.proofs.lemmas.List.{length-take, length-map, nil_from_length}
-use Rattle.std.proofs.lemmas.List.Sorted.{length_permutation}
+use Rattle.std.proofs.lemmas.List.{length-take}
 use Rattle.std.proofs.lemmas.List.Sums.{count_by_more_yes, count_by_more_no, count_by-le-length}
 use Rattle.compact_uses.specs.declared.tokenizer.Kind.TheVariants.{Word}
 use Rattle.compact_uses.specs.declared.tokenizer.Token.{Token}
-use Rattle.compact_words.specs.declared.entries.Entry.{Entry}
-use Rattle.compact_words.specs.Entries.{is_word, is_word_kind, word_count, entries_before, IsRanking}
+use Rattle.compact_uses.specs.Entries.{is_word, is_word_kind, word_count}
 
 pub count-bound : (tokens : List Token) (i n : ℕ) → word_count (take i tokens) n ≤ i
 count-bound tokens i n = omega (arith, count_by-le-length (is_word n) (take i tokens), length-take i tokens)
@@ -47,19 +45,3 @@ both-false false word is = refl
 
 pub no-word : (n : ℕ) (token : Token) → is_word_kind token.kind ≡ false → is_word n token ≡ false
 no-word n token other = both-false (nat_eq token.name n) (is_word_kind token.kind) other
-
--- of no names there are no words, and no rows
-
-pub no-ranks : (tokens : List Token) (n : ℕ) (ranks : List Entry) → n ≡ 0 → IsRanking (entries_before tokens n) ranks → ranks ≡ []
-no-ranks tokens n ranks none ranked =
-    let same : IsRanking [] ranks = rw none at ranked in
-    nil_from_length ranks (length_permutation [] ranks same.same)
-
-pub none-taken : {X : Type 0} (n : ℕ) (xs : List X) → xs ≡ [] → take n xs ≡ []
-none-taken n xs none = nil_from_length (take n xs) (omega (arith, length-take n xs, ap length none))
-
-pub no-rows : {X Y Z : Type 0} (f : X → Z) (g : Y → Z) (xs : List X) (ys : List Y) → map f xs ≡ map g ys → ys ≡ [] → xs ≡ []
-no-rows f g xs ys same none = nil_from_length xs (sym (length-map xs f) ∙ ap length (same ∙ ap (map g) none))
-
-pub never-refused : (P : Type 0) → false ≡ true → P
-never-refused P is = absurd (true≢false (sym is))

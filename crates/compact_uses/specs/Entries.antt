@@ -7,7 +7,7 @@ use Rattle.std.proofs.Common.{zero, suc}
 use Rattle.compact_uses.specs.declared.tokenizer.Kind.{Kind}
 use Rattle.compact_uses.specs.declared.tokenizer.Kind.TheVariants.{Word, Number, Space, Mark}
 use Rattle.compact_uses.specs.declared.tokenizer.Token.{Token}
-use Rattle.compact_words.specs.declared.entries.Entry.{Entry}
+use Rattle.compact_uses.specs.declared.entries.Entry.{Entry}
 
 abbrev pub is_word_kind : Kind → Bool
 is_word_kind Word = true

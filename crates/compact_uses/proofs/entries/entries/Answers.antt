@@ -3,10 +3,10 @@ use Rattle.std.proofs.Common.{slice_index, refl, ap, ap₂, sym, ◌∙◌, appe
 use Rattle.std.proofs.lemmas.Bool.Decides.{nat_tests}
 use Rattle.std.proofs.lemmas.Grind.{common_steps}
 use Rattle.compact_uses.specs.declared.tokenizer.Token.{Token}
-use Rattle.compact_words.specs.declared.entries.Entry.{Entry}
-use Rattle.compact_words.specs.Entries.{word_count, entry_of, entries_before}
-use Rattle.compact_words.proofs.entries.entries.Goals as goal
-use Rattle.compact_words.proofs.entries.entries.Goals.{then-count-gt0+in_ok-push, else-count-gt0}
+use Rattle.compact_uses.specs.declared.entries.Entry.{Entry}
+use Rattle.compact_uses.specs.Entries.{word_count, entry_of, entries_before}
+use Rattle.compact_uses.proofs.entries.entries.Goals as goal
+use Rattle.compact_uses.proofs.entries.entries.Goals.{then-count-gt0+in_ok-push, else-count-gt0}
 
 one-entry : (n count : ℕ) → 0 < count → record { count = count; name = n } ∷ [] ≡ entry_of n count
 one-entry n count some =

@@ -1,0 +1,47 @@
+//! The ranking of words by how often they stand in a text.
+
+use compact_asserts::that;
+use compact_testing::memory::take_all;
+use compact_uses::{Entry, Kind, Token, ranking};
+
+/// A word by its number.
+fn word(name: u32) -> Token {
+    Token {
+        kind: Kind::Word,
+        name,
+    }
+}
+
+/// Whether an entry has this count and this number.
+fn is_entry(entry: Option<&Entry>, count: usize, name: u32) -> bool {
+    match entry {
+        Some(entry) => entry.count == count && entry.name == name,
+        None => false,
+    }
+}
+
+// The words of `b a-a c`, of whose names the hyphen is number 2.
+#[test]
+fn the_most_frequent_word_stands_first(rt: HostRuntime) {
+    let hyphen = Token {
+        kind: Kind::Mark,
+        name: 2,
+    };
+    let tokens = [word(0), word(1), hyphen, word(1), word(3)];
+    let ranks = ranking(rt.alloc(), &tokens, 4).expect(&rt, "memory");
+    that(ranks.len() == 3).expect(&rt, "three words");
+    that(is_entry(ranks.first(), 2, 1)).expect(&rt, "the one that stands twice");
+    that(is_entry(ranks.get(1), 1, 0)).expect(&rt, "the lower number");
+    that(is_entry(ranks.get(2), 1, 3)).expect(&rt, "the higher number");
+}
+
+#[test]
+fn a_ranking_of_no_names_needs_no_memory(rt: HostRuntime) {
+    let alloc = rt.alloc();
+    let hog = take_all(alloc).expect(&rt, "room for the list of blocks");
+    let of_none = ranking(alloc, &[], 0);
+    let of_one = ranking(alloc, &[word(0)], 1);
+    drop(hog);
+    that(of_none.is_ok()).expect(&rt, "no names");
+    that(of_one.is_err()).expect(&rt, "one name");
+}
