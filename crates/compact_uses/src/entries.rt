@@ -6,19 +6,25 @@ use crate::tokenizer::{Kind, Token};
 use std::alloc::{AllocError, Global};
 use std::cmp::Reverse;
 
-/// A word that stands in a text: how often, and its number among the names.
+/// A word that stands in a text.
 #[derive(Clone, Copy)]
 pub struct Entry {
+    /// How many tokens are this word, at least one.
     pub count: usize,
+    /// Its number among the names.
     pub name: u32,
 }
 
 /// The words among some tokens, the most frequent first, and of those that are as frequent the one with the lower
-/// number.
+/// number. A token whose number is `names` or more is left out.
 ///
 /// # Errors
 ///
 /// `AllocError` if no memory is found. Of no names it never comes.
+///
+/// # Examples
+///
+/// The tokens of `b a a`, where `b` is name 0 and `a` name 2, have the entries 2 of name 2 and 1 of name 0.
 pub fn ranking(alloc: Global, tokens: &[Token], names: u32) -> Result<Vec<Entry>, AllocError>
     ensures ranks { IfOk result (λ ranks. IsRanking (entries_before tokens.now names) ranks.items) }
     ensures empty { names ≡ 0 → IsOk result }

@@ -20,7 +20,7 @@ fn is_entry(entry: Option<&Entry>, count: usize, name: u32) -> bool {
     }
 }
 
-// The words of `b a-a c`, of whose names the hyphen is number 2.
+// Words with the numbers 0, 1, 1 and 3, and a mark with number 2, which is no word.
 #[test]
 fn the_most_frequent_word_stands_first(rt: HostRuntime) {
     let hyphen = Token {
