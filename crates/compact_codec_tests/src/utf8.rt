@@ -84,21 +84,22 @@ fn errors_are_placed(rt: HostRuntime) {
 
 #[test]
 fn long_input_is_validated_as_short(rt: HostRuntime) {
+    let rt = &rt;
     let mut bytes = [b'a'; 20000];
-    that(validate(&bytes).is_ok()).expect(&rt, "it holds");
+    that(validate(&bytes).is_ok()).expect(rt, "it holds");
     // A character across the end of the first 8192 bytes.
     bytes[8190] = 0xE2;
     bytes[8191] = 0x82;
     bytes[8192] = 0xAC;
-    that(validate(&bytes).is_ok()).expect(&rt, "it holds");
+    that(validate(&bytes).is_ok()).expect(rt, "it holds");
     bytes[19999] = 0xE2;
-    assert_error(&rt, &bytes, 19999, None);
+    assert_error(rt, &bytes, 19999, None);
     bytes[15000] = 0xF4;
     bytes[15001] = 0x90;
-    assert_error(&rt, &bytes, 15000, Some(1));
+    assert_error(rt, &bytes, 15000, Some(1));
     bytes[64] = 0xE1;
     bytes[65] = 0x80;
-    assert_error(&rt, &bytes, 64, Some(2));
+    assert_error(rt, &bytes, 64, Some(2));
 }
 
 #[test]
@@ -188,6 +189,7 @@ fn a_chunk_is_made_from_its_error(rt: HostRuntime) {
 /// How many of all inputs of two bytes are texts, and how many have each error; by another decoder.
 #[test]
 fn all_inputs_of_two_bytes(rt: HostRuntime) {
+    let rt = &rt;
     let mut texts = 0u32;
     let mut invalid_at_first = 0u32;
     let mut invalid_at_second = 0u32;
@@ -206,9 +208,9 @@ fn all_inputs_of_two_bytes(rt: HostRuntime) {
             }
         }
     }
-    equal(texts, 18304).expect(&rt, "equal");
-    equal(invalid_at_first, 29632).expect(&rt, "equal");
-    equal(invalid_at_second, 9856).expect(&rt, "equal");
-    equal(open_at_first, 1216).expect(&rt, "equal");
-    equal(open_at_second, 6528).expect(&rt, "equal");
+    equal(texts, 18304).expect(rt, "equal");
+    equal(invalid_at_first, 29632).expect(rt, "equal");
+    equal(invalid_at_second, 9856).expect(rt, "equal");
+    equal(open_at_first, 1216).expect(rt, "equal");
+    equal(open_at_second, 6528).expect(rt, "equal");
 }

@@ -68,18 +68,19 @@ fn assert_written(rt: &impl Abort, alloc: Global, mut writer: Narrow, status: u8
 
 #[test]
 fn a_writer_that_fails_has_what_it_took_before(rt: HostRuntime) {
+    let rt = &rt;
     let alloc = rt.alloc();
     for call in 1..WHOLE.len() + 1 {
         let taken = WHOLE.get(..call - 1).unwrap_or(&[]);
         let broken = Narrow::new(256, 1, Stop::Breaks(call, ErrorKind::Other));
-        assert_written(&rt, alloc, broken, 1, taken);
+        assert_written(rt, alloc, broken, 1, taken);
         let full = Narrow::new(256, 1, Stop::Ends(call));
-        assert_written(&rt, alloc, full, 1, taken);
+        assert_written(rt, alloc, full, 1, taken);
         let interrupted = Narrow::new(256, 1, Stop::Fails(call, ErrorKind::Interrupted));
-        assert_written(&rt, alloc, interrupted, 0, WHOLE);
+        assert_written(rt, alloc, interrupted, 0, WHOLE);
     }
     let late = Narrow::new(256, 1, Stop::Breaks(WHOLE.len() + 1, ErrorKind::Other));
-    assert_written(&rt, alloc, late, 0, WHOLE);
+    assert_written(rt, alloc, late, 0, WHOLE);
 }
 
 #[test]

@@ -161,18 +161,19 @@ fn a_million_letters(rt: &impl Abort, alloc: Global) -> Vec<u8> {
 
 #[test]
 fn a_line_of_a_million_bytes_is_read(rt: HostRuntime) {
+    let rt = &rt;
     let alloc = rt.alloc();
-    let input = a_million_letters(&rt, alloc);
+    let input = a_million_letters(rt, alloc);
     let mut output = Vec::new(alloc);
-    equal(run_lines(alloc, &mut input.as_slice(), &mut output), 0).expect(&rt, "equal");
+    equal(run_lines(alloc, &mut input.as_slice(), &mut output), 0).expect(rt, "equal");
     // `done`, then place, length and capacity are 26 bytes; the letters and the end of the line follow.
-    equal(output.len(), 26 + 1_000_000 + 1).expect(&rt, "equal");
+    equal(output.len(), 26 + 1_000_000 + 1).expect(rt, "equal");
     that(
         output
             .as_slice()
             .starts_with(b"done\nheap 1000000 1000000 zzz"),
     )
-    .expect(&rt, "it holds");
+    .expect(rt, "it holds");
 }
 
 #[test]
@@ -198,11 +199,12 @@ fn a_failing_writer_is_told_where_it_is_written_to(rt: HostRuntime) {
 
 #[test]
 fn no_memory_for_a_line_is_told(rt: HostRuntime) {
+    let rt = &rt;
     let alloc = rt.alloc();
-    let mut output = Vec::with_capacity(alloc, 1000).expect(&rt, "memory");
+    let mut output = Vec::with_capacity(alloc, 1000).expect(rt, "memory");
     let mut input: &[u8] = b"clear\n";
-    let hog = take_all(alloc).expect(&rt, "room for the list of blocks");
-    equal(run_lines(alloc, &mut input, &mut output), 1).expect(&rt, "equal");
+    let hog = take_all(alloc).expect(rt, "room for the list of blocks");
+    equal(run_lines(alloc, &mut input, &mut output), 1).expect(rt, "equal");
     drop(hog);
-    equal(output.len(), 0).expect(&rt, "equal");
+    equal(output.len(), 0).expect(rt, "equal");
 }

@@ -72,18 +72,19 @@ fn assert_cut(rt: &impl Abort, text: &mut Repr<Standard>, steps: &[(usize, usize
 
 #[test]
 fn inline(rt: HostRuntime) {
-    let mut text = copied(&rt, rt.alloc(), "äb𝄞");
+    let rt = &rt;
+    let mut text = copied(rt, rt.alloc(), "äb𝄞");
     for index in 0..9 {
         that_for(
             index,
             text.is_char_boundary(index) == matches!(index, 0 | 2 | 3 | 7),
         )
-        .expect(&rt, "it holds");
+        .expect(rt, "it holds");
     }
-    assert_chars(&rt, &text, &[(0, 'ä'), (2, 'b'), (3, '𝄞')]);
-    equal(text.last_char(), Some('𝄞')).expect(&rt, "equal");
+    assert_chars(rt, &text, &[(0, 'ä'), (2, 'b'), (3, '𝄞')]);
+    equal(text.last_char(), Some('𝄞')).expect(rt, "equal");
     assert_replaced(
-        &rt,
+        rt,
         &mut text,
         &[
             (2, 3, "xyz", "äxyz𝄞"),
@@ -91,21 +92,22 @@ fn inline(rt: HostRuntime) {
             (6, 6, "end of a long tex", "yz𝄞end of a long tex"),
         ],
     );
-    equal(text.len(), 23).expect(&rt, "equal");
+    equal(text.len(), 23).expect(rt, "equal");
     assert_truncated(
-        &rt,
+        rt,
         &mut text,
         &[(24, "yz𝄞end of a long tex"), (2, "yz"), (0, "")],
     );
-    equal(text.last_char(), None).expect(&rt, "equal");
+    equal(text.last_char(), None).expect(rt, "equal");
 }
 
 #[test]
 fn heap(rt: HostRuntime) {
-    let mut text = copied(&rt, rt.alloc(), "äb𝄞0123456789012345678901234");
-    equal(text.capacity(), 32).expect(&rt, "equal");
+    let rt = &rt;
+    let mut text = copied(rt, rt.alloc(), "äb𝄞0123456789012345678901234");
+    equal(text.capacity(), 32).expect(rt, "equal");
     assert_replaced(
-        &rt,
+        rt,
         &mut text,
         &[
             (3, 7, "xyz", "äbxyz0123456789012345678901234"),
@@ -114,10 +116,10 @@ fn heap(rt: HostRuntime) {
             (29, 29, "ß", "äyz0123456789012345678901234ß"),
         ],
     );
-    equal(text.last_char(), Some('ß')).expect(&rt, "equal");
-    assert_chars(&rt, &text, &[(2, 'y')]);
-    assert_truncated(&rt, &mut text, &[(4, "äyz")]);
-    equal(text.capacity(), 32).expect(&rt, "equal");
+    equal(text.last_char(), Some('ß')).expect(rt, "equal");
+    assert_chars(rt, &text, &[(2, 'y')]);
+    assert_truncated(rt, &mut text, &[(4, "äyz")]);
+    equal(text.capacity(), 32).expect(rt, "equal");
 }
 
 /// A text of 150 bytes that begins anew at each tenth. It is a function so that a proof need not carry each digit.
@@ -162,40 +164,43 @@ fn assert_digits(
 /// The tail is longer than two blocks of 64 bytes, and its old and new places overlap.
 #[test]
 fn long_tail(rt: HostRuntime) {
-    let mut text = copied(&rt, rt.alloc(), digits());
-    reserve(&rt, &mut text, 2);
-    assert_front(&rt, &mut text, (0, 0), "ab", "ab");
-    assert_front(&rt, &mut text, (1, 2), "", "a");
-    assert_front(&rt, &mut text, (0, 1), "", "");
-    assert_front(&rt, &mut text, (0, 0), "b", "b");
-    assert_front(&rt, &mut text, (0, 0), "a", "ab");
-    assert_front(&rt, &mut text, (0, 2), "", "");
-    assert_digits(&rt, &mut text, (0, 10), "0123456789012", 140);
-    assert_digits(&rt, &mut text, (1, 2), "0234567890123", 139);
+    let rt = &rt;
+    let mut text = copied(rt, rt.alloc(), digits());
+    reserve(rt, &mut text, 2);
+    assert_front(rt, &mut text, (0, 0), "ab", "ab");
+    assert_front(rt, &mut text, (1, 2), "", "a");
+    assert_front(rt, &mut text, (0, 1), "", "");
+    assert_front(rt, &mut text, (0, 0), "b", "b");
+    assert_front(rt, &mut text, (0, 0), "a", "ab");
+    assert_front(rt, &mut text, (0, 2), "", "");
+    assert_digits(rt, &mut text, (0, 10), "0123456789012", 140);
+    assert_digits(rt, &mut text, (1, 2), "0234567890123", 139);
 }
 
 #[test]
 fn of_the_program(rt: HostRuntime) {
+    let rt = &rt;
     let mut text = borrowed(rt.alloc(), "äb𝄞 and so on, past the inline capacity");
-    assert_chars(&rt, &text, &[(0, 'ä'), (3, '𝄞'), (16, 'n')]);
-    that(text.is_char_boundary(3)).expect(&rt, "it holds");
+    assert_chars(rt, &text, &[(0, 'ä'), (3, '𝄞'), (16, 'n')]);
+    that(text.is_char_boundary(3)).expect(rt, "it holds");
     equal(
         text.static_suffix(3),
         Some("𝄞 and so on, past the inline capacity"),
     )
-    .expect(&rt, "equal");
-    equal(text.last_char(), Some('y')).expect(&rt, "equal");
-    assert_truncated(&rt, &mut text, &[(7, "äb𝄞")]);
-    equal(text.capacity(), 7).expect(&rt, "equal");
-    that(text.is_char_boundary(0)).expect(&rt, "it holds");
-    equal(text.static_suffix(0), Some("äb𝄞")).expect(&rt, "equal");
+    .expect(rt, "equal");
+    equal(text.last_char(), Some('y')).expect(rt, "equal");
+    assert_truncated(rt, &mut text, &[(7, "äb𝄞")]);
+    equal(text.capacity(), 7).expect(rt, "equal");
+    that(text.is_char_boundary(0)).expect(rt, "it holds");
+    equal(text.static_suffix(0), Some("äb𝄞")).expect(rt, "equal");
 }
 
 #[test]
 fn one_character_inline(rt: HostRuntime) {
-    let mut text = copied(&rt, rt.alloc(), "äb𝄞0123456789012345");
+    let rt = &rt;
+    let mut text = copied(rt, rt.alloc(), "äb𝄞0123456789012345");
     assert_dashes(
-        &rt,
+        rt,
         &mut text,
         &[
             (2, true, "ä-b𝄞0123456789012345"),
@@ -203,21 +208,22 @@ fn one_character_inline(rt: HostRuntime) {
         ],
     );
     assert_removed(
-        &rt,
+        rt,
         &mut text,
         &[
             (23, true, "ä-b𝄞012345678901234"),
             (3, true, "ä-𝄞012345678901234"),
         ],
     );
-    assert_dashes(&rt, &mut text, &[(22, true, "ä-𝄞012345678901234-")]);
+    assert_dashes(rt, &mut text, &[(22, true, "ä-𝄞012345678901234-")]);
 }
 
 #[test]
 fn one_character_on_the_heap(rt: HostRuntime) {
-    let mut text = copied(&rt, rt.alloc(), "äb𝄞0123456789012345678901");
+    let rt = &rt;
+    let mut text = copied(rt, rt.alloc(), "äb𝄞0123456789012345678901");
     assert_dashes(
-        &rt,
+        rt,
         &mut text,
         &[
             (2, true, "ä-b𝄞0123456789012345678901"),
@@ -227,7 +233,7 @@ fn one_character_on_the_heap(rt: HostRuntime) {
         ],
     );
     assert_removed(
-        &rt,
+        rt,
         &mut text,
         &[
             (31, true, "-ä-b𝄞0123456789012345678901"),
@@ -235,7 +241,7 @@ fn one_character_on_the_heap(rt: HostRuntime) {
             (0, true, "äb𝄞0123456789012345678901"),
         ],
     );
-    equal(text.capacity(), 32).expect(&rt, "equal");
+    equal(text.capacity(), 32).expect(rt, "equal");
 }
 
 /// A text of the program, of 36 bytes.
@@ -246,53 +252,56 @@ fn line() -> &'static str {
 /// A static text is not its own, so nothing is changed in place.
 #[test]
 fn nothing_in_place_of_the_program(rt: HostRuntime) {
+    let rt = &rt;
     let mut text = borrowed(rt.alloc(), line());
-    assert_dashes(&rt, &mut text, &[(1, false, line())]);
-    assert_removed(&rt, &mut text, &[(1, false, line())]);
+    assert_dashes(rt, &mut text, &[(1, false, line())]);
+    assert_removed(rt, &mut text, &[(1, false, line())]);
     assert_cut(
-        &rt,
+        rt,
         &mut text,
         &[(0, 7, false, line()), (3, 3, false, line())],
     );
-    that(!text.push_in_place("")).expect(&rt, "it holds");
-    that(text.is_char_boundary(2)).expect(&rt, "it holds");
-    that(!text.replace_in_place(2, 2, "")).expect(&rt, "it holds");
-    equal(text.as_static_str(), Some(line())).expect(&rt, "equal");
+    that(!text.push_in_place("")).expect(rt, "it holds");
+    that(text.is_char_boundary(2)).expect(rt, "it holds");
+    that(!text.replace_in_place(2, 2, "")).expect(rt, "it holds");
+    equal(text.as_static_str(), Some(line())).expect(rt, "equal");
 }
 
 /// A part is taken out in each place that is the value's own.
 #[test]
 fn a_part_is_cut_out(rt: HostRuntime) {
+    let rt = &rt;
     let alloc = rt.alloc();
-    let mut text = copied(&rt, alloc, "äb𝄞xyz");
+    let mut text = copied(rt, alloc, "äb𝄞xyz");
     assert_cut(
-        &rt,
+        rt,
         &mut text,
         &[(2, 7, true, "äxyz"), (5, 5, true, "äxyz"), (0, 5, true, "")],
     );
-    let mut text = copied(&rt, alloc, "äb𝄞0123456789012345678901234");
+    let mut text = copied(rt, alloc, "äb𝄞0123456789012345678901234");
     assert_cut(
-        &rt,
+        rt,
         &mut text,
         &[
             (2, 9, true, "ä23456789012345678901234"),
             (10, 25, true, "ä23456789"),
         ],
     );
-    equal(text.capacity(), 32).expect(&rt, "equal");
+    equal(text.capacity(), 32).expect(rt, "equal");
 }
 
 /// A large room is filled byte by byte, up to its last one.
 #[test]
 fn a_room_is_filled(rt: HostRuntime) {
-    let mut text = empty(&rt, rt.alloc(), 1000);
+    let rt = &rt;
+    let mut text = empty(rt, rt.alloc(), 1000);
     for _pushed in 0..500 {
-        that(text.push_in_place("ab")).expect(&rt, "it holds");
+        that(text.push_in_place("ab")).expect(rt, "it holds");
     }
-    that(!text.push_in_place("c")).expect(&rt, "it holds");
-    equal(text.len(), 1000).expect(&rt, "equal");
-    equal(text.capacity(), 1000).expect(&rt, "equal");
-    that(text.as_str().chars().step_by(2).all(|letter| letter == 'a')).expect(&rt, "it holds");
+    that(!text.push_in_place("c")).expect(rt, "it holds");
+    equal(text.len(), 1000).expect(rt, "equal");
+    equal(text.capacity(), 1000).expect(rt, "equal");
+    that(text.as_str().chars().step_by(2).all(|letter| letter == 'a')).expect(rt, "it holds");
     that(
         text.as_str()
             .chars()
@@ -300,5 +309,5 @@ fn a_room_is_filled(rt: HostRuntime) {
             .step_by(2)
             .all(|letter| letter == 'b'),
     )
-    .expect(&rt, "it holds");
+    .expect(rt, "it holds");
 }

@@ -158,11 +158,12 @@ fn assert_one_byte(rt: &impl Abort, text: &mut Repr<Standard>, tail: usize) {
 
 #[test]
 fn one_byte_comes_and_goes(rt: HostRuntime) {
+    let rt = &rt;
     let alloc = rt.alloc();
     for tail in TAILS {
-        let row = row(&rt, alloc, tail.saturating_add(10));
-        assert_one_byte(&rt, &mut with_room(&rt, alloc, row.as_str(), 1), tail);
-        assert_one_byte(&rt, &mut on_the_heap(&rt, alloc, row.as_str(), 1), tail);
+        let row = row(rt, alloc, tail.saturating_add(10));
+        assert_one_byte(rt, &mut with_room(rt, alloc, row.as_str(), 1), tail);
+        assert_one_byte(rt, &mut on_the_heap(rt, alloc, row.as_str(), 1), tail);
     }
 }
 
@@ -177,17 +178,13 @@ fn assert_cut(rt: &impl Abort, text: &mut Repr<Standard>, end: usize, tail: usiz
 
 #[test]
 fn bytes_are_cut_out(rt: HostRuntime) {
+    let rt = &rt;
     let alloc = rt.alloc();
     for end in [10, 11, 12, 13, 14, 15, 18, 80] {
         for tail in TAILS {
-            let row = row(&rt, alloc, tail.saturating_add(end));
-            assert_cut(&rt, &mut with_room(&rt, alloc, row.as_str(), 0), end, tail);
-            assert_cut(
-                &rt,
-                &mut on_the_heap(&rt, alloc, row.as_str(), 0),
-                end,
-                tail,
-            );
+            let row = row(rt, alloc, tail.saturating_add(end));
+            assert_cut(rt, &mut with_room(rt, alloc, row.as_str(), 0), end, tail);
+            assert_cut(rt, &mut on_the_heap(rt, alloc, row.as_str(), 0), end, tail);
         }
     }
 }

@@ -14,14 +14,15 @@ fn outlived(alloc: Global) -> Option<&'static str> {
 
 #[test]
 fn a_text_is_read(rt: HostRuntime) {
+    let rt = &rt;
     let alloc = rt.alloc();
     let mut text = borrowed(alloc, LINE);
-    equal(text.len(), 29).expect(&rt, "equal");
-    equal(text.as_str(), "a naïve reader of long lines").expect(&rt, "equal");
-    equal(outlived(alloc), Some("a naïve reader of long lines")).expect(&rt, "equal");
+    equal(text.len(), 29).expect(rt, "equal");
+    equal(text.as_str(), "a naïve reader of long lines").expect(rt, "equal");
+    equal(outlived(alloc), Some("a naïve reader of long lines")).expect(rt, "equal");
     text.clear();
-    equal(text.len(), 0).expect(&rt, "equal");
-    equal(text.as_static_str(), Some("")).expect(&rt, "equal");
+    equal(text.len(), 0).expect(rt, "equal");
+    equal(text.as_static_str(), Some("")).expect(rt, "equal");
 }
 
 #[test]

@@ -54,6 +54,7 @@ fn rows_of_more_words(rt: HostRuntime) {
 /// The last byte of the row is the text's own.
 #[test]
 fn a_byte_is_put_in(rt: HostRuntime) {
+    let rt = &rt;
     for (at, row) in [
         (0, b"-abcdefghijklmnopqrstuvw"),
         (7, b"abcdefg-hijklmnopqrstuvw"),
@@ -62,10 +63,10 @@ fn a_byte_is_put_in(rt: HostRuntime) {
         (16, b"abcdefghijklmnop-qrstuvw"),
         (23, b"abcdefghijklmnopqrstuvw-"),
     ] {
-        let mut text = copied(&rt, rt.alloc(), "abcdefghijklmnopqrstuvw");
-        that(text.is_char_boundary(at)).expect(&rt, "it holds");
-        that(text.insert_ascii_in_place(at, b'-')).expect(&rt, "it holds");
-        that_for(at, text.packed() == Some(*row)).expect(&rt, "it holds");
+        let mut text = copied(rt, rt.alloc(), "abcdefghijklmnopqrstuvw");
+        that(text.is_char_boundary(at)).expect(rt, "it holds");
+        that(text.insert_ascii_in_place(at, b'-')).expect(rt, "it holds");
+        that_for(at, text.packed() == Some(*row)).expect(rt, "it holds");
     }
 }
 
@@ -80,6 +81,7 @@ fn remove(rt: &impl Abort, text: &mut Repr<Standard>, at: usize) {
 /// A second byte is taken out, so that a mark is seen in the place of another. What stands before it, behind the text, is open.
 #[test]
 fn a_byte_is_taken_out(rt: HostRuntime) {
+    let rt = &rt;
     for (at, first, second) in [
         (0, b"bcdefghijklmnopqrstuvwx\xD7", b"cdefghijklmnopqrstuvwx"),
         (7, b"abcdefgijklmnopqrstuvwx\xD7", b"bcdefgijklmnopqrstuvwx"),
@@ -100,13 +102,13 @@ fn a_byte_is_taken_out(rt: HostRuntime) {
             b"bcdefghijklmnopqrstuvw",
         ),
     ] {
-        let mut text = copied(&rt, rt.alloc(), "abcdefghijklmnopqrstuvwx");
-        remove(&rt, &mut text, at);
-        that_for(at, text.packed() == Some(*first)).expect(&rt, "it holds");
-        remove(&rt, &mut text, 0);
-        let row = text.packed().expect(&rt, "an inline text");
-        that_for(at, &row[..22] == second.as_slice()).expect(&rt, "it holds");
-        that_for(at, row[23] == 0xD6).expect(&rt, "it holds");
-        that_for(at, text.as_str().as_bytes() == second.as_slice()).expect(&rt, "it holds");
+        let mut text = copied(rt, rt.alloc(), "abcdefghijklmnopqrstuvwx");
+        remove(rt, &mut text, at);
+        that_for(at, text.packed() == Some(*first)).expect(rt, "it holds");
+        remove(rt, &mut text, 0);
+        let row = text.packed().expect(rt, "an inline text");
+        that_for(at, &row[..22] == second.as_slice()).expect(rt, "it holds");
+        that_for(at, row[23] == 0xD6).expect(rt, "it holds");
+        that_for(at, text.as_str().as_bytes() == second.as_slice()).expect(rt, "it holds");
     }
 }

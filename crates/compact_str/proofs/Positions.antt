@@ -24,6 +24,17 @@ truncate-last v front c e =
     let cut : text_before v.text (size v.text - len_utf8 c) ≡ front = ap (λ t. text_before t (size v.text - len_utf8 c)) e ∙ text_before-append front (c ∷ []) _ (omega (arith, whole)) in
     rw (cond-false _ _ _ (lt-leb _ _ shorter), cut) refl
 
+-- a text has the width of its last character, and may be cut before it
+pub size-last : (t front : List ℕ) (c : ℕ) → t ≡ front ++ c ∷ [] → len_utf8 c ≤ size t
+size-last t front c e =
+    let whole : size t ≡ size front + (len_utf8 c + 0) = ap size e ∙ size-append front (c ∷ []) in
+    omega (arith, whole)
+
+pub boundary-last : (t front : List ℕ) (c : ℕ) → t ≡ front ++ c ∷ [] → IsBoundary t (size t - len_utf8 c)
+boundary-last t front c e =
+    let whole : size t ≡ size front + (len_utf8 c + 0) = ap size e ∙ size-append front (c ∷ []) in
+    (front, c ∷ [], record { parts = e; position = omega (arith, whole) })
+
 -- past the character at a boundary there is a boundary
 pub boundary-next : (t rest : List ℕ) (p c : ℕ) → IsBoundary t p → text_after t p ≡ c ∷ rest → IsBoundary t (p + len_utf8 c)
 boundary-next t rest p c h e =

@@ -117,15 +117,9 @@ fn is_appended(alloc: Global, is_whole: bool, len: usize) -> bool {
 }
 
 fn append(alloc: Global, line: &mut String) -> bool {
-    append_all(line, three_values(alloc).iter()).is_ok()
-}
-
-fn three_values(alloc: Global) -> [CompactString; 3] {
-    [
-        CompactString::const_new(alloc, letters(0, 30)),
-        CompactString::const_new(alloc, digits()),
-        CompactString::const_new(alloc, digits()),
-    ]
+    let first = CompactString::const_new(alloc, letters(0, 30));
+    let other = CompactString::const_new(alloc, digits());
+    append_all(line, [&first, &other, &other]).is_ok()
 }
 
 /// The first so many bytes of what is appended or pushed.

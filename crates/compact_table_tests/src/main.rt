@@ -92,9 +92,7 @@ fn try_table(alloc: Global, table: &str, text: &str) -> io::Result<Faults> {
 fn try_cases(alloc: Global, faults: Faults, cases: &[Case<'_>]) -> io::Result<Faults> {
     let mut trial = Trial::new(alloc, faults)?;
     trial.apart();
-    for case in cases {
-        trial.case(case);
-    }
+    trial.cases(cases);
     Ok(trial.finish())
 }
 

@@ -42,7 +42,7 @@ fn gather(case: &Case<'_>, alloc: Global) -> Made {
         "from_chars" => value_or_refused(CompactString::from_chars(alloc, word.chars())),
         "from_texts" => of_texts(texts, alloc),
         "from_texts:CowStr" => {
-            value_or_refused(CompactString::from_texts(alloc, [CowStr::Borrowed(word)]))
+            value_or_refused(CompactString::from_texts(alloc, Some(CowStr::Borrowed(word))))
         }
         "concat_compact" => value_or_refused(texts.iter().concat_compact(alloc)),
         "join_compact" => join(texts, alloc),

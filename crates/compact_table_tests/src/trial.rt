@@ -60,8 +60,15 @@ impl Trial {
         interned::cases(self.alloc, &mut self.ration, &mut self.faults);
     }
 
+    /// Tries each line in turn.
+    pub fn cases(&mut self, cases: &[Case<'_>]) {
+        for case in cases {
+            self.case(case);
+        }
+    }
+
     /// Tries a line.
-    pub fn case(&mut self, case: &Case<'_>) {
+    fn case(&mut self, case: &Case<'_>) {
         self.faults.begin(case.line);
         let is_low = self.ration.is_low();
         self.faults.expect(

@@ -87,23 +87,25 @@ fn assert_ended(
 
 #[test]
 fn an_input_that_ends_early_has_a_shorter_last_line(rt: HostRuntime) {
+    let rt = &rt;
     let alloc = rt.alloc();
-    assert_ended(&rt, alloc, 0, None, 0);
-    assert_ended(&rt, alloc, 2, None, 1);
-    assert_ended(&rt, alloc, 7, None, 1);
-    assert_ended(&rt, alloc, 10, None, 2);
-    assert_ended(&rt, alloc, 12, None, 2);
+    assert_ended(rt, alloc, 0, None, 0);
+    assert_ended(rt, alloc, 2, None, 1);
+    assert_ended(rt, alloc, 7, None, 1);
+    assert_ended(rt, alloc, 10, None, 2);
+    assert_ended(rt, alloc, 12, None, 2);
 }
 
 #[test]
 fn an_input_that_ends_within_a_character_or_quotes_has_a_fault(rt: HostRuntime) {
+    let rt = &rt;
     let alloc = rt.alloc();
     let cause = RecordsCause::Utf8;
     let broken = Some(RecordsError { line: 1, cause });
-    assert_ended(&rt, alloc, 4, broken, 0);
-    assert_ended(&rt, alloc, 5, broken, 0);
+    assert_ended(rt, alloc, 4, broken, 0);
+    assert_ended(rt, alloc, 5, broken, 0);
     let cause = RecordsCause::Fault(compact_uses::Fault::OpenQuote);
     let open = Some(RecordsError { line: 2, cause });
-    assert_ended(&rt, alloc, 8, open, 1);
-    assert_ended(&rt, alloc, 9, open, 1);
+    assert_ended(rt, alloc, 8, open, 1);
+    assert_ended(rt, alloc, 9, open, 1);
 }

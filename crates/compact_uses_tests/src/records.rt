@@ -54,12 +54,13 @@ fn assert_fault(rt: &impl Abort, alloc: Global, line: &str, fault: Fault) {
 // The fields are those that Python's csv reader gives, but for the empty line, which has one empty field here.
 #[test]
 fn a_line_has_its_fields(rt: HostRuntime) {
+    let rt = &rt;
     let alloc = rt.alloc();
-    assert_line(&rt, alloc, "a,\"b,\"\"c\"", &["a", "b,\"c"]);
-    assert_line(&rt, alloc, "", &[""]);
-    assert_line(&rt, alloc, ",é,\"\",a\"b", &["", "é", "", "a\"b"]);
-    assert_fault(&rt, alloc, "a,\"b", Fault::OpenQuote);
-    assert_fault(&rt, alloc, "\"a\"b,c", Fault::TextBehindQuote);
+    assert_line(rt, alloc, "a,\"b,\"\"c\"", &["a", "b,\"c"]);
+    assert_line(rt, alloc, "", &[""]);
+    assert_line(rt, alloc, ",é,\"\",a\"b", &["", "é", "", "a\"b"]);
+    assert_fault(rt, alloc, "a,\"b", Fault::OpenQuote);
+    assert_fault(rt, alloc, "\"a\"b,c", Fault::TextBehindQuote);
 }
 
 // Python's csv reader would take the first quote for one that opens a field.
@@ -81,18 +82,19 @@ fn fields_are_written_in_quotes(rt: HostRuntime) {
 
 #[test]
 fn a_fault_tells_its_line(rt: HostRuntime) {
+    let rt = &rt;
     let alloc = rt.alloc();
     let mut records = Vec::new(alloc);
     let mut input = "a,b\nc\n\"d\n".as_bytes();
     let read = read_records(alloc, ',', &mut input, &mut records);
     let cause = RecordsCause::Fault(Fault::OpenQuote);
-    that(read == Err(RecordsError { line: 3, cause })).expect(&rt, "it holds");
-    equal(records.len(), 2).expect(&rt, "equal");
+    that(read == Err(RecordsError { line: 3, cause })).expect(rt, "it holds");
+    equal(records.len(), 2).expect(rt, "equal");
     let mut input = b"a\n\xff\n".as_slice();
     let read = read_records(alloc, ',', &mut input, &mut records);
     let cause = RecordsCause::Utf8;
-    that(read == Err(RecordsError { line: 2, cause })).expect(&rt, "it holds");
-    equal(records.len(), 3).expect(&rt, "equal");
+    that(read == Err(RecordsError { line: 2, cause })).expect(rt, "it holds");
+    equal(records.len(), 3).expect(rt, "equal");
 }
 
 /// Asserts that the first fault of some lines is told with this line and cause, and leaves the records before it.
@@ -141,15 +143,16 @@ fn with_no_memory_nothing_is_read(rt: HostRuntime) {
 // The reader's buffer has 8192 bytes, and what is refused is the memory for the bytes of the line.
 #[test]
 fn no_memory_for_the_bytes_of_a_line_is_told_as_such(rt: HostRuntime) {
+    let rt = &rt;
     let alloc = rt.alloc();
     let mut records = Vec::new(alloc);
     let mut input = "a,b\n".as_bytes();
-    let room = Vec::<u8>::with_capacity(alloc, 8192).expect(&rt, "a spare block");
-    let hog = take_all(alloc).expect(&rt, "room for the list of blocks");
+    let room = Vec::<u8>::with_capacity(alloc, 8192).expect(rt, "a spare block");
+    let hog = take_all(alloc).expect(rt, "room for the list of blocks");
     drop(room);
     let read = read_records(alloc, ',', &mut input, &mut records);
     drop(hog);
     let cause = RecordsCause::Reserve;
-    that(read == Err(RecordsError { line: 1, cause })).expect(&rt, "it holds");
-    equal(records.len(), 0).expect(&rt, "equal");
+    that(read == Err(RecordsError { line: 1, cause })).expect(rt, "it holds");
+    equal(records.len(), 0).expect(rt, "equal");
 }

@@ -26,17 +26,18 @@ fn assert_line(rt: &impl Abort, lines: &Vec<CompactString>, index: usize, text: 
 // The widths are 2, 5 and 1 characters, the bytes of the fields more.
 #[test]
 fn columns_are_as_wide_as_their_longest_field_in_characters(rt: HostRuntime) {
+    let rt = &rt;
     let alloc = rt.alloc();
     let table = [
-        fields_of(&rt, alloc, &["a", "größe", "1"]),
-        fields_of(&rt, alloc, &["😀字", "b"]),
-        fields_of(&rt, alloc, &[]),
+        fields_of(rt, alloc, &["a", "größe", "1"]),
+        fields_of(rt, alloc, &["😀字", "b"]),
+        fields_of(rt, alloc, &[]),
     ];
-    let lines = aligned_rows(alloc, &table).expect(&rt, "memory");
-    equal(lines.len(), 3).expect(&rt, "equal");
-    assert_line(&rt, &lines, 0, "| a  | größe | 1 |");
-    assert_line(&rt, &lines, 1, "| 😀字 | b     |   |");
-    assert_line(&rt, &lines, 2, "|    |       |   |");
+    let lines = aligned_rows(alloc, &table).expect(rt, "memory");
+    equal(lines.len(), 3).expect(rt, "equal");
+    assert_line(rt, &lines, 0, "| a  | größe | 1 |");
+    assert_line(rt, &lines, 1, "| 😀字 | b     |   |");
+    assert_line(rt, &lines, 2, "|    |       |   |");
 }
 
 #[test]
@@ -47,12 +48,13 @@ fn no_records_have_no_lines(rt: HostRuntime) {
 
 #[test]
 fn a_refused_report_leaves_the_records(rt: HostRuntime) {
+    let rt = &rt;
     let alloc = rt.alloc();
-    let table = [fields_of(&rt, alloc, &["a", "b"])];
-    let hog = take_all(alloc).expect(&rt, "room for the list of blocks");
+    let table = [fields_of(rt, alloc, &["a", "b"])];
+    let hog = take_all(alloc).expect(rt, "room for the list of blocks");
     let lines = aligned_rows(alloc, &table);
     drop(hog);
-    that(lines.is_err()).expect(&rt, "it holds");
-    let lines = aligned_rows(alloc, &table).expect(&rt, "memory");
-    assert_line(&rt, &lines, 0, "| a | b |");
+    that(lines.is_err()).expect(rt, "it holds");
+    let lines = aligned_rows(alloc, &table).expect(rt, "memory");
+    assert_line(rt, &lines, 0, "| a | b |");
 }

@@ -2,7 +2,6 @@
 
 use compact_asserts::{equal, that};
 use compact_edit::{InternError, Interner};
-use compact_str::CompactString;
 use compact_testing::memory::take_all;
 use compact_testing::values::{letters, value_of};
 use compact_uses::{Kind, Token, tokenize};
@@ -34,23 +33,34 @@ fn kind_of(letter: char) -> Kind {
     }
 }
 
+/// Asserts of which kind each token is, as letters in their order, and its number.
+fn assert_tokens(rt: &impl Abort, tokens: &[Token], letters: &str, numbers: &[u32]) {
+    for (index, letter) in letters.chars().enumerate() {
+        let name = numbers.get(index).copied().unwrap_or(9);
+        assert_token(rt, tokens.get(index).copied(), kind_of(letter), name);
+    }
+}
+
+/// Asserts the names of some numbers.
+fn assert_names(rt: &impl Abort, names: &Interner, wanted: &[(u32, &str)]) {
+    for (number, name) in wanted {
+        assert_name(rt, names, *number, Some(name));
+    }
+}
+
 // Of which kind a character is: Python's `isalpha`, `isnumeric` and `isspace`.
 #[test]
 fn characters_of_each_width_are_cut_by_their_kind(rt: HostRuntime) {
+    let rt = &rt;
     let alloc = rt.alloc();
     let mut names = Interner::new(alloc);
     let text = "ab, 12 éß字٣\u{a0}😀😀x";
-    let tokens = tokens_of(&rt, alloc, &mut names, text);
-    equal(tokens.len(), 11).expect(&rt, "equal");
+    let tokens = tokens_of(rt, alloc, &mut names, text);
+    equal(tokens.len(), 11).expect(rt, "equal");
     let numbers = [0, 1, 2, 3, 2, 4, 5, 6, 7, 7, 8];
-    for (index, letter) in "w.snswns..w".chars().enumerate() {
-        let name = numbers.get(index).copied().unwrap_or(9);
-        assert_token(&rt, tokens.get(index).copied(), kind_of(letter), name);
-    }
-    for (number, name) in [(4, "éß字"), (6, "\u{a0}"), (7, "😀")] {
-        assert_name(&rt, &names, number, Some(name));
-    }
-    equal(names.len(), 9).expect(&rt, "equal");
+    assert_tokens(rt, &tokens, "w.snswns..w", &numbers);
+    assert_names(rt, &names, &[(4, "éß字"), (6, "\u{a0}"), (7, "😀")]);
+    equal(names.len(), 9).expect(rt, "equal");
 }
 
 #[test]
@@ -63,9 +73,10 @@ fn an_empty_text_has_no_tokens(rt: HostRuntime) {
 }
 
 /// Asserts that a text is refused while there is no memory, and that the one name stands.
-fn is_refused(rt: &impl Abort, alloc: Global, names: &mut Interner, text: &CompactString) {
+fn is_refused(rt: &impl Abort, alloc: Global, names: &mut Interner, text: &str) {
+    let text = value_of(alloc, text).expect(rt, "memory");
     let hog = take_all(alloc).expect(rt, "room for the list of blocks");
-    let tokens = tokenize(alloc, names, text);
+    let tokens = tokenize(alloc, names, &text);
     drop(hog);
     that(matches!(tokens, Err(InternError::Reserve(_)))).expect(rt, "it holds");
     assert_name(rt, names, 0, Some("ab"));
@@ -74,11 +85,11 @@ fn is_refused(rt: &impl Abort, alloc: Global, names: &mut Interner, text: &Compa
 
 #[test]
 fn a_refused_list_of_tokens_or_a_long_word_leaves_the_names(rt: HostRuntime) {
+    let rt = &rt;
     let alloc = rt.alloc();
     let mut names = Interner::new(alloc);
-    equal(names.intern("ab").expect(&rt, "memory"), 0).expect(&rt, "equal");
+    equal(names.intern("ab").expect(rt, "memory"), 0).expect(rt, "equal");
     for text in ["ab ab", letters(30)] {
-        let text = value_of(alloc, text).expect(&rt, "memory");
-        is_refused(&rt, alloc, &mut names, &text);
+        is_refused(rt, alloc, &mut names, text);
     }
 }
