@@ -1,5 +1,7 @@
-use Rattle.std.proofs.Common.{◌≡◌, ℕ, ◌<◌, List, [], ◌∷◌, ◌++◌, length, take, drop, true, false, refl, sym, ap, ◌∙◌, arith, append_assoc, append-nil, take-append-drop, length-drop}
+use Rattle.std.proofs.Common.{Result, Ok, Err, OnErr, ◌≡◌, ℕ, ◌<◌, List, [], ◌∷◌, ◌++◌, length, take, drop, true, false, refl, sym, ap, ◌∙◌, arith, append_assoc, append-nil, take-append-drop, length-drop}
 use Rattle.std.proofs.lemmas.Bool.{false≢true}
+use Rattle.std.proofs.Math.Seq.{drop-append_seam}
+use Rattle.compact_str.specs.DecodeErrors.{IsSuffixOf}
 use Rattle.compact_str.proofs.decode.buf.read_long.Goals as goal
 
 -- a piece goes from the front of what is left to the end of what was read
@@ -13,6 +15,25 @@ piece-read whole bytes piece all rest new e front r n =
 none-left : (all : List ℕ) → (0 < length all → false ≡ true) → all ≡ []
 none-left [] h = refl
 none-left (x ∷ xs) h = absurd (false≢true (h (omega arith)))
+
+on_err : {T E P : Type 0} (r : Result T E) → P → OnErr r P
+on_err (Ok _) h = tt
+on_err (Err _) h = h
+
+suffix-left : (whole bytes all : List ℕ) → bytes ++ all ≡ whole → IsSuffixOf all whole
+suffix-left whole bytes all e = (length bytes, sym (drop-append_seam bytes all) ∙ ap (λ (t : List ℕ). drop (length bytes) t) e)
+
+pub loop-buf-init : goal.loop-buf-init
+loop-buf-init g c = record {
+  parts = ap (λ (t : List ℕ). t ++ g.B.Buf.unread c.args.buf.now) c.in_ok-bytes.ensures.items;
+  kept = refl;
+}
+
+pub returns-in_err-extend_from_slice-clause-kept : goal.returns-in_err-extend_from_slice-clause-kept
+returns-in_err-extend_from_slice-clause-kept g c = c.loop-buf.invariant.kept
+
+pub returns-in_err-extend_from_slice-clause-rest : goal.returns-in_err-extend_from_slice-clause-rest
+returns-in_err-extend_from_slice-clause-rest g c = on_err _ (suffix-left _ c.loop-buf.bytes.items _ c.loop-buf.invariant.parts)
 
 pub loop-buf-preserved : goal.loop-buf-preserved
 loop-buf-preserved g c = record {
