@@ -24,9 +24,6 @@ pub const NAMES: usize = 1024;
 /// How many records there are.
 pub const RECORDS: usize = 100;
 
-/// How many words are joined.
-const JOINED_WORDS: usize = 100;
-
 /// Puts an item behind the others.
 pub fn put<T: Drop>(items: &mut Vec<T>, item: T) -> Result<(), ReserveError> {
     match items.push(item) {
@@ -42,6 +39,21 @@ pub fn word(alloc: Global, generator: &mut Generator, len: u32) -> Result<String
         word.push(generator.letter())?;
     }
     Ok(word)
+}
+
+/// A value of so many letters.
+pub fn letters(alloc: Global, len: u32) -> Result<CompactString, ReserveError> {
+    value(alloc, &mut Generator::new(), len)
+}
+
+/// Such a value, for which a generator goes on.
+pub fn value(
+    alloc: Global,
+    generator: &mut Generator,
+    len: u32,
+) -> Result<CompactString, ReserveError> {
+    let word = word(alloc, generator, len)?;
+    CompactString::new(alloc, word.as_str())
 }
 
 /// Words of at least `least` letters and less than `span` more.
@@ -84,12 +96,20 @@ pub fn pieces(alloc: Global) -> Result<Vec<String>, ReserveError> {
     words(alloc, PIECES, 1, 16)
 }
 
-/// A value of each text.
-pub fn values_of(alloc: Global, texts: &[String]) -> Result<Vec<CompactString>, ReserveError> {
+/// For each text a value of itself, or at an odd place of the text `step` places on, where `step` is 0 or 1.
+///
+/// Behind the last text comes the first one.
+pub fn values_of(
+    alloc: Global,
+    texts: &[String],
+    step: usize,
+) -> Result<Vec<CompactString>, ReserveError> {
     let mut values = Vec::with_capacity(alloc, texts.len())?;
-    for text in texts {
-        let value = CompactString::new(alloc, text.as_str())?;
-        put(&mut values, value)?;
+    for place in 0..texts.len() {
+        let other = place.wrapping_add(place & step);
+        if let Some(text) = texts.get(other).or(texts.first()) {
+            put(&mut values, CompactString::new(alloc, text.as_str())?)?;
+        }
     }
     Ok(values)
 }
@@ -144,9 +164,10 @@ fn mixed_character(generator: &mut Generator) -> char {
 
 /// The bytes of such texts.
 pub fn mixed_rows(alloc: Global) -> Result<Vec<Vec<u8>>, ReserveError> {
+    let mut generator = Generator::new();
     let mut rows = Vec::with_capacity(alloc, TEXTS)?;
-    for text in mixed_texts(alloc)? {
-        put(&mut rows, text.into_bytes())?;
+    for _ in 0..TEXTS {
+        put(&mut rows, mixed(alloc, &mut generator)?.into_bytes())?;
     }
     Ok(rows)
 }
@@ -155,17 +176,27 @@ pub fn mixed_rows(alloc: Global) -> Result<Vec<Vec<u8>>, ReserveError> {
 pub fn invalid_rows(alloc: Global) -> Result<Vec<Vec<u8>>, ReserveError> {
     let mut rows = mixed_rows(alloc)?;
     for row in rows.iter_mut() {
-        for byte in row.iter_mut().skip(63).step_by(64) {
-            *byte = 0xFF;
-        }
+        make_invalid(row);
     }
     Ok(rows)
 }
 
+/// Makes each byte FF whose number is one below a multiple of 64.
+fn make_invalid(row: &mut [u8]) {
+    for place in 0..row.len() {
+        if place % 64 == 63
+            && let Some(byte) = row.get_mut(place)
+        {
+            *byte = 0xFF;
+        }
+    }
+}
+
 /// The units of such texts in UTF-16.
 pub fn units(alloc: Global) -> Result<Vec<Vec<u16>>, ReserveError> {
+    let texts = mixed_texts(alloc)?;
     let mut rows = Vec::with_capacity(alloc, TEXTS)?;
-    for text in mixed_texts(alloc)? {
+    for text in &texts {
         put(&mut rows, units_of(alloc, text.as_str())?)?;
     }
     Ok(rows)
@@ -213,11 +244,6 @@ pub fn numbers(alloc: Global) -> Result<Vec<u64>, ReserveError> {
 /// Words of 1 to 40 letters.
 pub fn records(alloc: Global) -> Result<Vec<String>, ReserveError> {
     words(alloc, RECORDS, 1, 40)
-}
-
-/// Words of 1 to 12 letters that are joined.
-pub fn joined_words(alloc: Global) -> Result<Vec<String>, ReserveError> {
-    short_words(alloc, JOINED_WORDS)
 }
 
 /// So many words of 1 to 12 letters.
@@ -277,10 +303,10 @@ const PROSE: usize = 1_048_576;
 const PROSE_WORDS: u32 = 4096;
 
 /// A text of 1 MiB: words of 1 to 12 letters, with white space between, some marks and numbers, and some words with ä.
-pub fn prose(alloc: Global) -> Result<String, ReserveError> {
+pub fn prose(alloc: Global) -> Result<CompactString, ReserveError> {
     let mut generator = Generator::new();
     let words = words_from(alloc, &mut generator, PROSE_WORDS as usize, 1, 12)?;
-    let mut text = String::with_capacity(alloc, PROSE + 32)?;
+    let mut text = CompactString::with_capacity(alloc, PROSE + 32)?;
     for _ in 0..PROSE {
         if text.len() < PROSE {
             if let Some(word) = words.get(generator.below(PROSE_WORDS) as usize) {

@@ -15,31 +15,45 @@ mod ring;
 mod workloads;
 
 use compact_str::CompactString;
+use generator::Generator;
+use inputs::{LONG_TEXTS, SHORT_TEXTS};
 use std::alloc::Global;
 use std::mem::size_of;
 
 /// Makes values of texts of at most 24 bytes.
 #[unsafe(no_mangle)]
 pub extern "C" fn cs_bench_new_short(alloc: Global, n: u64) -> u64 {
-    workloads::make::short(alloc, n).unwrap_or(u64::MAX)
+    let Ok(texts) = inputs::short_texts(alloc) else {
+        return u64::MAX;
+    };
+    workloads::make::made::<SHORT_TEXTS>(alloc, n, &texts).unwrap_or(u64::MAX)
 }
 
 /// Makes values of texts of 25 to 200 bytes.
 #[unsafe(no_mangle)]
 pub extern "C" fn cs_bench_new_long(alloc: Global, n: u64) -> u64 {
-    workloads::make::long(alloc, n).unwrap_or(u64::MAX)
+    let Ok(texts) = inputs::long_texts(alloc) else {
+        return u64::MAX;
+    };
+    workloads::make::made::<LONG_TEXTS>(alloc, n, &texts).unwrap_or(u64::MAX)
 }
 
 /// Clones values of at most 24 bytes.
 #[unsafe(no_mangle)]
 pub extern "C" fn cs_bench_clone_short(alloc: Global, n: u64) -> u64 {
-    workloads::copy::short(alloc, n).unwrap_or(u64::MAX)
+    let Ok(texts) = inputs::short_texts(alloc) else {
+        return u64::MAX;
+    };
+    workloads::copy::cloned::<SHORT_TEXTS>(alloc, n, &texts).unwrap_or(u64::MAX)
 }
 
 /// Clones values of 25 to 200 bytes.
 #[unsafe(no_mangle)]
 pub extern "C" fn cs_bench_clone_long(alloc: Global, n: u64) -> u64 {
-    workloads::copy::long(alloc, n).unwrap_or(u64::MAX)
+    let Ok(texts) = inputs::long_texts(alloc) else {
+        return u64::MAX;
+    };
+    workloads::copy::cloned::<LONG_TEXTS>(alloc, n, &texts).unwrap_or(u64::MAX)
 }
 
 /// Appends pieces of 1 to 16 bytes to a value until it has 1000000 bytes, and then begins a new one.
@@ -69,13 +83,19 @@ pub extern "C" fn cs_bench_replace_range(alloc: Global, n: u64) -> u64 {
 /// Collects the characters of 1024 letters.
 #[unsafe(no_mangle)]
 pub extern "C" fn cs_bench_collect_chars(alloc: Global, n: u64) -> u64 {
-    workloads::collect::characters(alloc, n).unwrap_or(u64::MAX)
+    let Ok(text) = inputs::letters(alloc, 1024) else {
+        return u64::MAX;
+    };
+    workloads::collect::characters(alloc, n, text.as_str()).unwrap_or(u64::MAX)
 }
 
 /// Joins 100 words of 1 to 12 letters, with a comma and a space between.
 #[unsafe(no_mangle)]
 pub extern "C" fn cs_bench_join(alloc: Global, n: u64) -> u64 {
-    workloads::collect::words(alloc, n).unwrap_or(u64::MAX)
+    let Ok(words) = inputs::short_words(alloc, 100) else {
+        return u64::MAX;
+    };
+    workloads::collect::words(alloc, n, &words).unwrap_or(u64::MAX)
 }
 
 /// The bytes of a value itself.
@@ -99,13 +119,19 @@ pub extern "C" fn cs_bench_eq_short(alloc: Global, n: u64) -> u64 {
 /// Orders values of at most 24 bytes.
 #[unsafe(no_mangle)]
 pub extern "C" fn cs_bench_cmp_short(alloc: Global, n: u64) -> u64 {
-    workloads::compare::order(alloc, n).unwrap_or(u64::MAX)
+    let Ok(values) = workloads::compare::short_values(alloc, 0) else {
+        return u64::MAX;
+    };
+    workloads::compare::order(n, &values)
 }
 
 /// Hashes values of at most 24 bytes.
 #[unsafe(no_mangle)]
 pub extern "C" fn cs_bench_hash_short(alloc: Global, n: u64) -> u64 {
-    workloads::compare::hash(alloc, n).unwrap_or(u64::MAX)
+    let Ok(values) = workloads::compare::short_values(alloc, 0) else {
+        return u64::MAX;
+    };
+    workloads::compare::hash(n, &values)
 }
 
 /// Makes a string of a value of 100000 bytes on the heap, and a value of the string.
@@ -123,7 +149,13 @@ pub extern "C" fn cs_bench_retain(alloc: Global, n: u64) -> u64 {
 /// Keeps two letters of three in 1024 bytes.
 #[unsafe(no_mangle)]
 pub extern "C" fn cs_bench_retain_long(alloc: Global, n: u64) -> u64 {
-    workloads::characters::retain_long(alloc, n).unwrap_or(u64::MAX)
+    let Ok(text) = inputs::letters(alloc, 1024) else {
+        return u64::MAX;
+    };
+    let Ok(mut value) = CompactString::new(alloc, text.as_str()) else {
+        return u64::MAX;
+    };
+    workloads::characters::two_of_three(n, text.as_str(), &mut value).unwrap_or(u64::MAX)
 }
 
 /// Takes the middle half out of 200 bytes, character by character.
@@ -147,25 +179,37 @@ pub extern "C" fn cs_bench_change_letters(alloc: Global, n: u64) -> u64 {
 /// Decodes 1024 letters strictly from UTF-8.
 #[unsafe(no_mangle)]
 pub extern "C" fn cs_bench_utf8_ascii(alloc: Global, n: u64) -> u64 {
-    workloads::decode::utf8_ascii(alloc, n).unwrap_or(u64::MAX)
+    let Ok(texts) = inputs::long_words(alloc) else {
+        return u64::MAX;
+    };
+    workloads::decode::strict(alloc, n, &texts).unwrap_or(u64::MAX)
 }
 
 /// Decodes 1024 bytes of characters of one to four bytes strictly from UTF-8.
 #[unsafe(no_mangle)]
 pub extern "C" fn cs_bench_utf8_mixed(alloc: Global, n: u64) -> u64 {
-    workloads::decode::utf8_mixed(alloc, n).unwrap_or(u64::MAX)
+    let Ok(texts) = inputs::mixed_texts(alloc) else {
+        return u64::MAX;
+    };
+    workloads::decode::strict(alloc, n, &texts).unwrap_or(u64::MAX)
 }
 
 /// Decodes 1024 such bytes, of which 16 are invalid, lossily from UTF-8.
 #[unsafe(no_mangle)]
 pub extern "C" fn cs_bench_utf8_lossy(alloc: Global, n: u64) -> u64 {
-    workloads::decode::utf8_lossy(alloc, n).unwrap_or(u64::MAX)
+    let Ok(rows) = inputs::invalid_rows(alloc) else {
+        return u64::MAX;
+    };
+    workloads::decode::lossy(alloc, n, &rows).unwrap_or(u64::MAX)
 }
 
 /// Decodes 1024 such bytes, of which none is invalid, lossily from UTF-8.
 #[unsafe(no_mangle)]
 pub extern "C" fn cs_bench_utf8_lossy_valid(alloc: Global, n: u64) -> u64 {
-    workloads::decode::utf8_lossy_valid(alloc, n).unwrap_or(u64::MAX)
+    let Ok(rows) = inputs::mixed_rows(alloc) else {
+        return u64::MAX;
+    };
+    workloads::decode::lossy(alloc, n, &rows).unwrap_or(u64::MAX)
 }
 
 /// Decodes the units of 1024 such bytes strictly from UTF-16.
@@ -177,19 +221,31 @@ pub extern "C" fn cs_bench_utf16(alloc: Global, n: u64) -> u64 {
 /// Makes the texts of numbers of 1 to 64 bits.
 #[unsafe(no_mangle)]
 pub extern "C" fn cs_bench_u64_text(alloc: Global, n: u64) -> u64 {
-    workloads::numbers::shifted(alloc, n).unwrap_or(u64::MAX)
+    let Ok(numbers) = inputs::shifted_numbers(alloc) else {
+        return u64::MAX;
+    };
+    workloads::numbers::texts(alloc, n, &numbers).unwrap_or(u64::MAX)
 }
 
 /// Makes the texts of numbers of 1 to 20 digits.
 #[unsafe(no_mangle)]
 pub extern "C" fn cs_bench_u64_digits(alloc: Global, n: u64) -> u64 {
-    workloads::numbers::digits(alloc, n).unwrap_or(u64::MAX)
+    let Ok(numbers) = inputs::numbers(alloc) else {
+        return u64::MAX;
+    };
+    workloads::numbers::texts(alloc, n, &numbers).unwrap_or(u64::MAX)
 }
 
 /// Makes texts by a format of a word and a number.
 #[unsafe(no_mangle)]
 pub extern "C" fn cs_bench_format(alloc: Global, n: u64) -> u64 {
-    workloads::numbers::formats(alloc, n).unwrap_or(u64::MAX)
+    let Ok(names) = inputs::names(alloc) else {
+        return u64::MAX;
+    };
+    let Ok(numbers) = inputs::numbers(alloc) else {
+        return u64::MAX;
+    };
+    workloads::numbers::formats(alloc, n, &names, &numbers).unwrap_or(u64::MAX)
 }
 
 /// Writes 100 records of 1 to 40 bytes in the wire form into a vector, and reads them back.
@@ -201,19 +257,30 @@ pub extern "C" fn cs_bench_wire(alloc: Global, n: u64) -> u64 {
 /// Interns words of 1 to 30 letters, drawn from 20000.
 #[unsafe(no_mangle)]
 pub extern "C" fn cs_bench_intern(alloc: Global, n: u64) -> u64 {
-    workloads::intern::words(alloc, n).unwrap_or(u64::MAX)
+    let mut generator = Generator::new();
+    let Ok(words) = inputs::interned_words(alloc, &mut generator) else {
+        return u64::MAX;
+    };
+    workloads::intern::interned(alloc, n, generator, &words).unwrap_or(u64::MAX)
 }
 
 /// Interns words of 1 to 12 letters, drawn from 20000 distinct ones.
 #[unsafe(no_mangle)]
 pub extern "C" fn cs_bench_intern_short(alloc: Global, n: u64) -> u64 {
-    workloads::intern::short_words(alloc, n).unwrap_or(u64::MAX)
+    let mut generator = Generator::new();
+    let Ok(words) = inputs::distinct_words(alloc, &mut generator) else {
+        return u64::MAX;
+    };
+    workloads::intern::interned(alloc, n, generator, &words).unwrap_or(u64::MAX)
 }
 
 /// Cuts a text of 1 MiB into tokens, each of which is interned.
 #[unsafe(no_mangle)]
 pub extern "C" fn cs_bench_tokenize(alloc: Global, n: u64) -> u64 {
-    workloads::intern::tokens(alloc, n).unwrap_or(u64::MAX)
+    let Ok(text) = inputs::prose(alloc) else {
+        return u64::MAX;
+    };
+    workloads::intern::tokens(alloc, n, &text).unwrap_or(u64::MAX)
 }
 
 /// Appends pieces to an empty value until it has `size` bytes.
@@ -225,23 +292,36 @@ pub extern "C" fn cs_bench_grow_push_build(alloc: Global, n: u64, size: u32) -> 
 /// Decodes `size` letters strictly from UTF-8.
 #[unsafe(no_mangle)]
 pub extern "C" fn cs_bench_grow_from_utf8(alloc: Global, n: u64, size: u32) -> u64 {
-    workloads::growth::from_utf8(alloc, n, size).unwrap_or(u64::MAX)
+    let Ok(text) = inputs::letters(alloc, size) else {
+        return u64::MAX;
+    };
+    workloads::growth::from_utf8(alloc, n, text.as_bytes()).unwrap_or(u64::MAX)
 }
 
 /// Keeps two letters of three in `size` bytes.
 #[unsafe(no_mangle)]
 pub extern "C" fn cs_bench_grow_retain(alloc: Global, n: u64, size: u32) -> u64 {
-    workloads::growth::retain(alloc, n, size).unwrap_or(u64::MAX)
+    let Ok(text) = inputs::letters(alloc, size) else {
+        return u64::MAX;
+    };
+    let mut value = CompactString::default(alloc);
+    workloads::characters::two_of_three(n, text.as_str(), &mut value).unwrap_or(u64::MAX)
 }
 
 /// Joins `size` words of 1 to 12 letters, with a comma and a space between.
 #[unsafe(no_mangle)]
 pub extern "C" fn cs_bench_grow_join(alloc: Global, n: u64, size: u32) -> u64 {
-    workloads::growth::join(alloc, n, size).unwrap_or(u64::MAX)
+    let Ok(words) = inputs::short_words(alloc, size as usize) else {
+        return u64::MAX;
+    };
+    workloads::collect::words(alloc, n, &words).unwrap_or(u64::MAX)
 }
 
 /// Interns `size` words of 1 to 12 letters, each time anew.
 #[unsafe(no_mangle)]
 pub extern "C" fn cs_bench_grow_intern(alloc: Global, n: u64, size: u32) -> u64 {
-    workloads::growth::intern(alloc, n, size).unwrap_or(u64::MAX)
+    let Ok(words) = inputs::short_words(alloc, size as usize) else {
+        return u64::MAX;
+    };
+    workloads::growth::intern(alloc, n, &words).unwrap_or(u64::MAX)
 }

@@ -1,8 +1,7 @@
 //! Changes that go over the characters of a text.
 
 use crate::checksum::{mix, probe};
-use crate::generator::Generator;
-use crate::inputs::{TEXTS, lines, word};
+use crate::inputs::{TEXTS, letters, lines};
 use compact_str::{CompactString, ReserveError};
 use std::alloc::Global;
 use std::ops::Bound;
@@ -60,32 +59,32 @@ fn drained(
     Ok(sum)
 }
 
-/// Keeps two letters of three, in a text of 1024.
-pub fn retain_long(alloc: Global, n: u64) -> Result<u64, ReserveError> {
-    let word = word(alloc, &mut Generator::new(), LETTERS)?;
-    let mut value = CompactString::new(alloc, word.as_str())?;
+/// Appends a text to the cleared value, and keeps two letters of three.
+#[inline]
+pub fn two_of_three(n: u64, text: &str, value: &mut CompactString) -> Result<u64, ReserveError> {
     let mut sum = 0;
     for _ in 0..n {
         value.clear();
-        value.push_str(word.as_str())?;
+        value.push_str(text)?;
         let mut place: u32 = 0;
         value.retain(|_| {
             place = if place == 2 { 0 } else { place.wrapping_add(1) };
             place != 0
         })?;
-        sum = mix(sum, probe(&value));
+        sum = mix(sum, probe(value));
     }
     Ok(sum)
 }
 
 /// Takes the middle fifth out of a text of 1024 letters, and looks at each of its letters.
 pub fn drain_long(alloc: Global, n: u64) -> Result<u64, ReserveError> {
-    let word = word(alloc, &mut Generator::new(), LETTERS)?;
+    let word = letters(alloc, LETTERS)?;
     let mut value = CompactString::new(alloc, word.as_str())?;
+    let text = word.as_str();
     let mut sum: u64 = 0;
     for _ in 0..n {
         value.clear();
-        value.push_str(word.as_str())?;
+        value.push_str(text)?;
         sum = drained(&mut value, 410, 615, sum)?;
         sum = mix(sum, probe(&value));
     }
@@ -94,8 +93,8 @@ pub fn drain_long(alloc: Global, n: u64) -> Result<u64, ReserveError> {
 
 /// Makes the letters great, and small again.
 pub fn change_letters(alloc: Global, n: u64) -> Result<u64, ReserveError> {
-    let word = word(alloc, &mut Generator::new(), LETTERS)?;
-    let mut value = CompactString::new(alloc, word.as_str())?;
+    let text = letters(alloc, LETTERS)?;
+    let mut value = CompactString::new(alloc, text.as_str())?;
     let mut sum = 0;
     for _ in 0..n {
         value.make_ascii_uppercase()?;

@@ -2,34 +2,22 @@
 
 use crate::checksum::mix;
 use crate::hasher::Fnv;
-use crate::inputs::{SHORT_TEXTS, put, short_texts};
+use crate::inputs::{SHORT_TEXTS, short_texts, values_of};
 use compact_str::{CompactString, ReserveError};
 use std::alloc::Global;
 use std::cmp::Ordering;
 use std::hash::{Hash, Hasher};
 
-/// A value of each short text.
-fn values(alloc: Global) -> Result<Vec<CompactString>, ReserveError> {
-    values_of(alloc, 0)
-}
-
-/// For each short text a value of the one `step` places on, where the place is odd, and else of itself.
-fn values_of(alloc: Global, step: usize) -> Result<Vec<CompactString>, ReserveError> {
+/// The values of the short texts, as `values_of` makes them.
+pub fn short_values(alloc: Global, step: usize) -> Result<Vec<CompactString>, ReserveError> {
     let texts = short_texts(alloc)?;
-    let mut values = Vec::with_capacity(alloc, SHORT_TEXTS)?;
-    for place in 0..SHORT_TEXTS {
-        if let Some(text) = texts.get(place.wrapping_add(place % 2 * step) % SHORT_TEXTS) {
-            let value = CompactString::new(alloc, text.as_str())?;
-            put(&mut values, value)?;
-        }
-    }
-    Ok(values)
+    values_of(alloc, &texts, step)
 }
 
 /// Compares each value with one that is the same for every second of them.
 pub fn equal(alloc: Global, n: u64) -> Result<u64, ReserveError> {
-    let values = values(alloc)?;
-    let others = values_of(alloc, 1)?;
+    let values = short_values(alloc, 0)?;
+    let others = short_values(alloc, 1)?;
     let mut sum = 0;
     for i in 0..n as usize {
         let place = i % SHORT_TEXTS;
@@ -41,8 +29,8 @@ pub fn equal(alloc: Global, n: u64) -> Result<u64, ReserveError> {
 }
 
 /// Orders each value and the one after it.
-pub fn order(alloc: Global, n: u64) -> Result<u64, ReserveError> {
-    let values = values(alloc)?;
+#[inline]
+pub fn order(n: u64, values: &[CompactString]) -> u64 {
     let mut sum = 0;
     for i in 0..n as usize {
         let place = i % SHORT_TEXTS;
@@ -56,12 +44,12 @@ pub fn order(alloc: Global, n: u64) -> Result<u64, ReserveError> {
             sum = mix(sum, order);
         }
     }
-    Ok(sum)
+    sum
 }
 
 /// Hashes each value.
-pub fn hash(alloc: Global, n: u64) -> Result<u64, ReserveError> {
-    let values = values(alloc)?;
+#[inline]
+pub fn hash(n: u64, values: &[CompactString]) -> u64 {
     let mut sum = 0;
     for i in 0..n as usize {
         if let Some(value) = values.get(i % SHORT_TEXTS) {
@@ -70,5 +58,5 @@ pub fn hash(alloc: Global, n: u64) -> Result<u64, ReserveError> {
             sum = mix(sum, hasher.finish());
         }
     }
-    Ok(sum)
+    sum
 }

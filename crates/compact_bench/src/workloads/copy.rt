@@ -1,30 +1,20 @@
 //! Clones of values.
 ghost use Rattle.std.specs.Prelude.{◌<◌};
 
-use crate::inputs::{LONG_TEXTS, SHORT_TEXTS, long_texts, short_texts, values_of};
+use crate::inputs::values_of;
 use crate::ring::Ring;
 use compact_str::{CompactString, ReserveError};
 use std::alloc::Global;
 
-/// Clones values of short texts.
-pub fn short(alloc: Global, n: u64) -> Result<u64, ReserveError> {
-    cloned::<SHORT_TEXTS>(alloc, n, short_texts(alloc)?)
-}
-
-/// Clones values of long texts.
-pub fn long(alloc: Global, n: u64) -> Result<u64, ReserveError> {
-    cloned::<LONG_TEXTS>(alloc, n, long_texts(alloc)?)
-}
-
 /// Makes a value of each text, and clones them.
-fn cloned<const COUNT: usize>(
+pub fn cloned<const COUNT: usize>(
     alloc: Global,
     n: u64,
-    texts: Vec<String>,
+    texts: &[String],
 ) -> Result<u64, ReserveError>
     requires { 0 < COUNT }
 {
-    let values = values_of(alloc, &texts)?;
+    let values = values_of(alloc, texts, 0)?;
     clone_in_turn::<COUNT>(alloc, n, &values)
 }
 

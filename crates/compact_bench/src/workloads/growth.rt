@@ -1,11 +1,9 @@
 //! Work on texts of a size that the caller gives, from which it is seen how cost grows.
 
 use crate::checksum::{mix, probe};
-use crate::generator::Generator;
-use crate::hidden;
-use crate::inputs::{PIECES, pieces, short_words, word};
+use crate::inputs::{PIECES, pieces};
 use compact_edit::{InternError, Interner};
-use compact_str::{CompactString, CompactStringExt, ReserveError};
+use compact_str::{CompactString, ReserveError};
 use std::alloc::Global;
 
 /// Appends pieces to an empty value until it has `size` bytes.
@@ -27,12 +25,12 @@ pub fn push_build(alloc: Global, n: u64, size: u32) -> Result<u64, ReserveError>
     Ok(sum)
 }
 
-/// Decodes `size` letters strictly.
-pub fn from_utf8(alloc: Global, n: u64, size: u32) -> Result<u64, ReserveError> {
-    let text = word(alloc, &mut Generator::new(), size)?;
+/// Decodes a text strictly.
+#[inline]
+pub fn from_utf8(alloc: Global, n: u64, text: &[u8]) -> Result<u64, ReserveError> {
     let mut sum = 0;
     for _ in 0..n {
-        match CompactString::from_utf8(alloc, text.as_bytes()) {
+        match CompactString::from_utf8(alloc, text) {
             Ok(value) => sum = mix(sum, probe(&value)),
             Err(_) => return Err(ReserveError),
         }
@@ -40,43 +38,13 @@ pub fn from_utf8(alloc: Global, n: u64, size: u32) -> Result<u64, ReserveError> 
     Ok(sum)
 }
 
-/// Appends `size` letters to the cleared text, and keeps two of three.
-pub fn retain(alloc: Global, n: u64, size: u32) -> Result<u64, ReserveError> {
-    let text = word(alloc, &mut Generator::new(), size)?;
-    let mut value = CompactString::default(alloc);
-    let mut sum = 0;
-    for _ in 0..n {
-        value.clear();
-        value.push_str(text.as_str())?;
-        let mut place: u32 = 0;
-        value.retain(|_| {
-            place = if place == 2 { 0 } else { place.wrapping_add(1) };
-            place != 0
-        })?;
-        sum = mix(sum, probe(&value));
-    }
-    Ok(sum)
-}
-
-/// Joins `size` words of 1 to 12 letters.
-pub fn join(alloc: Global, n: u64, size: u32) -> Result<u64, ReserveError> {
-    let words = short_words(alloc, size as usize)?;
-    let mut sum = 0;
-    for _ in 0..n {
-        let separator = hidden::text(n, ", ");
-        let value = words.iter().join_compact(alloc, separator)?;
-        sum = mix(sum, probe(&value));
-    }
-    Ok(sum)
-}
-
-/// Interns `size` words of 1 to 12 letters, each time anew.
-pub fn intern(alloc: Global, n: u64, size: u32) -> Result<u64, InternError> {
-    let words = short_words(alloc, size as usize)?;
+/// Interns the words, each time anew.
+#[inline]
+pub fn intern(alloc: Global, n: u64, words: &[String]) -> Result<u64, InternError> {
     let mut sum = 0;
     for _ in 0..n {
         let mut names = Interner::new(alloc);
-        for word in &words {
+        for word in words {
             let number = names.intern(word.as_str())?;
             sum = mix(sum, u64::from(number));
         }

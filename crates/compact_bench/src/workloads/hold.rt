@@ -2,8 +2,8 @@
 
 use crate::checksum::{mix, probe};
 use crate::generator::Generator;
-use crate::inputs::{put, word};
-use compact_str::{CompactString, ReserveError};
+use crate::inputs::{put, value};
+use compact_str::ReserveError;
 use std::alloc::Global;
 use std::mem::ManuallyDrop;
 
@@ -14,8 +14,7 @@ pub fn words(alloc: Global, n: u64) -> Result<u64, ReserveError> {
     let mut sum = 0;
     for _ in 0..n {
         let len = 1 + generator.below(24);
-        let word = word(alloc, &mut generator, len)?;
-        let value = CompactString::new(alloc, word.as_str())?;
+        let value = value(alloc, &mut generator, len)?;
         sum = mix(sum, probe(&value));
         put(&mut values, value)?;
     }

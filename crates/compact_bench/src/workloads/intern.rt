@@ -2,28 +2,14 @@
 
 use crate::checksum::mix;
 use crate::generator::Generator;
-use crate::inputs::{INTERNED_WORDS, distinct_words, interned_words, prose};
+use crate::inputs::INTERNED_WORDS;
 use compact_edit::{InternError, Interner};
 use compact_str::CompactString;
-use compact_uses::{Kind, tokenize};
+use compact_uses::{Kind, Token, tokenize};
 use std::alloc::Global;
 
-/// Interns words of 1 to 30 letters.
-pub fn words(alloc: Global, n: u64) -> Result<u64, InternError> {
-    let mut generator = Generator::new();
-    let words = interned_words(alloc, &mut generator)?;
-    interned(alloc, n, generator, &words)
-}
-
-/// Interns words of 1 to 12 letters.
-pub fn short_words(alloc: Global, n: u64) -> Result<u64, InternError> {
-    let mut generator = Generator::new();
-    let words = distinct_words(alloc, &mut generator)?;
-    interned(alloc, n, generator, &words)
-}
-
 /// Interns words that are drawn.
-fn interned(
+pub fn interned(
     alloc: Global,
     n: u64,
     mut generator: Generator,
@@ -41,24 +27,30 @@ fn interned(
 }
 
 /// Cuts a text into tokens, each of which is interned.
-pub fn tokens(alloc: Global, n: u64) -> Result<u64, InternError> {
-    let text = prose(alloc)?;
-    let text = CompactString::new(alloc, text.as_str())?;
+#[inline]
+pub fn tokens(alloc: Global, n: u64, text: &CompactString) -> Result<u64, InternError> {
     let mut sum = 0;
     for _ in 0..n {
         let mut names = Interner::new(alloc);
-        let tokens = tokenize(alloc, &mut names, &text)?;
-        for token in &tokens {
-            sum = mix(
-                sum,
-                u64::from(token.name)
-                    .wrapping_mul(4)
-                    .wrapping_add(place_of(token.kind)),
-            );
-        }
-        sum = mix(sum, names.len() as u64);
+        let tokens = tokenize(alloc, &mut names, text)?;
+        sum = mix(mixed(&tokens, sum), names.len() as u64);
     }
     Ok(sum)
+}
+
+/// The checksum `sum` with these tokens.
+#[inline]
+fn mixed(tokens: &[Token], sum: u64) -> u64 {
+    let mut sum = sum;
+    for token in tokens {
+        sum = mix(
+            sum,
+            u64::from(token.name)
+                .wrapping_mul(4)
+                .wrapping_add(place_of(token.kind)),
+        );
+    }
+    sum
 }
 
 /// The place of a kind among the kinds.

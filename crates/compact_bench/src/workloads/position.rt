@@ -3,22 +3,16 @@
 //! A position must be a boundary, which is asked before each edit. The Rust crate asks the same within its calls.
 
 use crate::checksum::{mix, probe};
-use crate::generator::{Generator, letter};
+use crate::generator::letter;
 use crate::hidden;
-use crate::inputs::word;
+use crate::inputs::letters;
 use compact_str::{CompactString, ReserveError};
 use std::alloc::Global;
 use std::ops::Bound;
 
-/// A value of `len` letters.
-fn value_of(alloc: Global, len: u32) -> Result<CompactString, ReserveError> {
-    let word = word(alloc, &mut Generator::new(), len)?;
-    CompactString::new(alloc, word.as_str())
-}
-
 /// Inserts a letter and removes it, in a text of `len` letters.
 pub fn insert_remove(alloc: Global, n: u64, len: u32, at: usize) -> Result<u64, ReserveError> {
-    let mut value = value_of(alloc, len)?;
+    let mut value = letters(alloc, len)?;
     let at = hidden::number(n, at);
     let mut sum = 0;
     for i in 0..n {
@@ -34,7 +28,7 @@ pub fn insert_remove(alloc: Global, n: u64, len: u32, at: usize) -> Result<u64, 
 
 /// Replaces 4 letters by 8 and these by 4, in a text of 200.
 pub fn replace_range(alloc: Global, n: u64) -> Result<u64, ReserveError> {
-    let mut value = value_of(alloc, 200)?;
+    let mut value = letters(alloc, 200)?;
     let eight = hidden::text(n, "abcdefgh");
     let four = hidden::text(n, "wxyz");
     let mut sum = 0;

@@ -13,12 +13,27 @@ pub fn records_through_bytes(alloc: Global, n: u64) -> Option<u64> {
     let mut sum = 0;
     for _ in 0..n {
         bytes.clear();
-        for value in &values {
-            write_wire(value, &mut bytes).ok()?;
-        }
-        for value in Records::new(alloc, bytes.as_slice()) {
-            sum = mix(sum, probe(&value.ok()?));
-        }
+        write_all(&values, &mut bytes)?;
+        sum = read_all(alloc, bytes.as_slice(), sum)?;
+    }
+    Some(sum)
+}
+
+/// Writes each value.
+#[inline]
+fn write_all(values: &[CompactString], bytes: &mut Vec<u8>) -> Option<()> {
+    for value in values {
+        write_wire(value, bytes).ok()?;
+    }
+    Some(())
+}
+
+/// Reads each value, and takes it up into a checksum.
+#[inline]
+fn read_all(alloc: Global, bytes: &[u8], sum: u64) -> Option<u64> {
+    let mut sum = sum;
+    for value in Records::new(alloc, bytes) {
+        sum = mix(sum, probe(&value.ok()?));
     }
     Some(sum)
 }
@@ -26,5 +41,5 @@ pub fn records_through_bytes(alloc: Global, n: u64) -> Option<u64> {
 /// The records as values.
 fn values(alloc: Global) -> Option<Vec<CompactString>> {
     let texts = records(alloc).ok()?;
-    values_of(alloc, &texts).ok()
+    values_of(alloc, &texts, 0).ok()
 }
