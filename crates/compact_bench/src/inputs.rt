@@ -130,7 +130,7 @@ pub fn lines(alloc: Global) -> Result<Vec<String>, ReserveError> {
 /// Texts of 1024 bytes: half their characters are letters, and the others of two, three or four bytes.
 pub fn mixed_texts(alloc: Global) -> Result<Vec<String>, ReserveError> {
     let mut generator = Generator::new();
-    let mut texts = Vec::with_capacity(alloc, TEXTS)?;
+    let mut texts = Vec::new(alloc);
     for _ in 0..TEXTS {
         put(&mut texts, mixed(alloc, &mut generator)?)?;
     }
@@ -165,7 +165,7 @@ fn mixed_character(generator: &mut Generator) -> char {
 /// The bytes of such texts.
 pub fn mixed_rows(alloc: Global) -> Result<Vec<Vec<u8>>, ReserveError> {
     let mut generator = Generator::new();
-    let mut rows = Vec::with_capacity(alloc, TEXTS)?;
+    let mut rows = Vec::new(alloc);
     for _ in 0..TEXTS {
         put(&mut rows, mixed(alloc, &mut generator)?.into_bytes())?;
     }
@@ -195,7 +195,7 @@ fn make_invalid(row: &mut [u8]) {
 /// The units of such texts in UTF-16.
 pub fn units(alloc: Global) -> Result<Vec<Vec<u16>>, ReserveError> {
     let texts = mixed_texts(alloc)?;
-    let mut rows = Vec::with_capacity(alloc, TEXTS)?;
+    let mut rows = Vec::new(alloc);
     for text in &texts {
         put(&mut rows, units_of(alloc, text.as_str())?)?;
     }
@@ -218,7 +218,7 @@ pub fn names(alloc: Global) -> Result<Vec<String>, ReserveError> {
 /// Numbers of 1 to 64 bits, of each length about as many.
 pub fn shifted_numbers(alloc: Global) -> Result<Vec<u64>, ReserveError> {
     let mut generator = Generator::new();
-    let mut numbers = Vec::with_capacity(alloc, NUMBERS)?;
+    let mut numbers = Vec::new(alloc);
     for _ in 0..NUMBERS {
         let number = generator.next();
         put(&mut numbers, number >> generator.below(64))?;
@@ -229,7 +229,7 @@ pub fn shifted_numbers(alloc: Global) -> Result<Vec<u64>, ReserveError> {
 /// Numbers of 1 to 20 digits, of each length about as many.
 pub fn numbers(alloc: Global) -> Result<Vec<u64>, ReserveError> {
     let mut generator = Generator::new();
-    let mut numbers = Vec::with_capacity(alloc, NUMBERS)?;
+    let mut numbers = Vec::new(alloc);
     for _ in 0..NUMBERS {
         let least = 10u64.wrapping_pow(generator.below(20));
         let most = least.saturating_mul(9).min(u64::MAX.wrapping_sub(least));
