@@ -1,5 +1,5 @@
-//! Records whose fields are values, as JSON: what derives `Serialize` and `Deserialize` takes a value as a field, in a `Vec`
-//! and in an `Option`.
+//! Records whose fields are values, as JSON: what derives `Serialize` and `Deserialize` takes a value as a field and in an
+//! `Option`. The program `compact_visits` reads and writes records that have one in a `Vec` too.
 use compact_str::CompactString;
 use serde::{Deserialize, Serialize};
 use serde_json::Error;
@@ -10,7 +10,6 @@ use std::alloc::Global;
 #[serde(rename_all = "camelCase")]
 pub struct Person {
     pub first_name: CompactString,
-    pub tags: Vec<CompactString>,
     pub note: Option<CompactString>,
 }
 
