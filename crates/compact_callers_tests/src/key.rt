@@ -8,6 +8,7 @@ use std::test::Fail;
 
 #[test]
 fn a_word_is_found_in_a_sorted_row(rt: HostRuntime) {
+    let rt = &rt;
     let alloc = rt.alloc();
     let mut words = [
         short(alloc, "b"),
@@ -17,28 +18,29 @@ fn a_word_is_found_in_a_sorted_row(rt: HostRuntime) {
     ];
     words.sort_unstable();
     equal(
-        place_of(&words, &value_of(alloc, letters(30)).expect(&rt, "memory")),
+        place_of(&words, &value_of(alloc, letters(30)).expect(rt, "memory")),
         Ok(0),
     )
-    .expect(&rt, "equal");
-    equal(place_of(&words, &short(alloc, "\u{fffd}")), Ok(2)).expect(&rt, "equal");
-    equal(place_of(&words, &short(alloc, "c")), Err(2)).expect(&rt, "equal");
+    .expect(rt, "equal");
+    equal(place_of(&words, &short(alloc, "\u{fffd}")), Ok(2)).expect(rt, "equal");
+    equal(place_of(&words, &short(alloc, "c")), Err(2)).expect(rt, "equal");
 }
 
 #[test]
 fn a_word_is_counted_wherever_it_stands(rt: HostRuntime) -> Result<(), Fail> {
+    let rt = &rt;
     let alloc = rt.alloc();
     let mut counts = HashMap::new(alloc);
     set_count(&mut counts, lasting(alloc, 30), 3).map_err(|_| "memory")?;
     equal(
-        count_of(&counts, &value_of(alloc, letters(30)).expect(&rt, "memory")),
+        count_of(&counts, &value_of(alloc, letters(30)).expect(rt, "memory")),
         3,
     )
-    .expect(&rt, "equal");
+    .expect(rt, "equal");
     equal(
-        count_of(&counts, &value_of(alloc, letters(29)).expect(&rt, "memory")),
+        count_of(&counts, &value_of(alloc, letters(29)).expect(rt, "memory")),
         0,
     )
-    .expect(&rt, "equal");
+    .expect(rt, "equal");
     Ok(())
 }

@@ -6,24 +6,26 @@ use compact_str::CompactString;
 
 #[test]
 fn a_lent_value_is_emptied(rt: HostRuntime) {
+    let rt = &rt;
     let mut value = CompactString::const_new(rt.alloc(), "a line of more than 24 bytes: ");
-    that(take_out(&mut value, 29).is_err()).expect(&rt, "it holds");
-    equal(value.as_str(), "a line of more than 24 bytes: ").expect(&rt, "equal");
-    that(matches!(take_out(&mut value, 30), Ok(30))).expect(&rt, "it holds");
-    equal(value.as_str(), "").expect(&rt, "equal");
-    that(value.as_static_str().is_some()).expect(&rt, "it holds");
+    that(take_out(&mut value, 29).is_err()).expect(rt, "it holds");
+    equal(value.as_str(), "a line of more than 24 bytes: ").expect(rt, "equal");
+    that(matches!(take_out(&mut value, 30), Ok(30))).expect(rt, "it holds");
+    equal(value.as_str(), "").expect(rt, "equal");
+    that(value.as_static_str().is_some()).expect(rt, "it holds");
 }
 
 #[test]
 fn a_lent_value_is_written_anew(rt: HostRuntime) {
+    let rt = &rt;
     let mut value = CompactString::const_new(rt.alloc(), "earlier");
-    that(matches!(start_anew(&mut value, "later"), Ok(true))).expect(&rt, "it holds");
-    equal(value.as_str(), "later").expect(&rt, "equal");
-    that(!try_to_empty(&mut value, 4)).expect(&rt, "it holds");
-    equal(value.as_str(), "later").expect(&rt, "equal");
-    that(try_to_empty(&mut value, 5)).expect(&rt, "it holds");
-    equal(value.as_str(), "").expect(&rt, "equal");
-    that(!was_emptied(&mut value)).expect(&rt, "it holds");
+    that(matches!(start_anew(&mut value, "later"), Ok(true))).expect(rt, "it holds");
+    equal(value.as_str(), "later").expect(rt, "equal");
+    that(!try_to_empty(&mut value, 4)).expect(rt, "it holds");
+    equal(value.as_str(), "later").expect(rt, "equal");
+    that(try_to_empty(&mut value, 5)).expect(rt, "it holds");
+    equal(value.as_str(), "").expect(rt, "equal");
+    that(!was_emptied(&mut value)).expect(rt, "it holds");
 }
 
 #[test]

@@ -9,10 +9,11 @@ use std::collections::HashMap;
 
 #[test]
 fn a_line_is_taken(rt: HostRuntime) {
-    let mut line = value_of(rt.alloc(), letters(30)).expect(&rt, "memory");
-    let taken = take_line(&mut line).expect(&rt, "no memory is needed");
-    that(is_heap(&taken, 32, letters(30))).expect(&rt, "it holds");
-    that(is_inline(&line, "")).expect(&rt, "it holds");
+    let rt = &rt;
+    let mut line = value_of(rt.alloc(), letters(30)).expect(rt, "memory");
+    let taken = take_line(&mut line).expect(rt, "no memory is needed");
+    that(is_heap(&taken, 32, letters(30))).expect(rt, "it holds");
+    that(is_inline(&line, "")).expect(rt, "it holds");
 }
 
 #[test]
@@ -28,21 +29,23 @@ fn a_row_has_its_names(rt: HostRuntime) {
 
 #[test]
 fn a_note_begins_empty(rt: HostRuntime) {
+    let rt = &rt;
     let mut notes = HashMap::new(rt.alloc());
-    that(append_note(&mut notes, 7, "a").is_ok()).expect(&rt, "it holds");
-    that(append_note(&mut notes, 7, "é").is_ok()).expect(&rt, "it holds");
-    that(is_inline(notes.get(&7).expect(&rt, "a note"), "aé")).expect(&rt, "it holds");
+    that(append_note(&mut notes, 7, "a").is_ok()).expect(rt, "it holds");
+    that(append_note(&mut notes, 7, "é").is_ok()).expect(rt, "it holds");
+    that(is_inline(notes.get(&7).expect(rt, "a note"), "aé")).expect(rt, "it holds");
 }
 
 #[test]
 fn buffers_are_taken_over(rt: HostRuntime) {
+    let rt = &rt;
     let alloc = rt.alloc();
-    let bytes = Vec::from_slice(alloc, "é".as_bytes()).expect(&rt, "memory");
-    that(is_inline(&text_in(bytes).expect(&rt, "a text"), "é")).expect(&rt, "it holds");
-    let bytes = Vec::from_slice(alloc, &[0xc3]).expect(&rt, "memory");
-    that(text_in(bytes).is_err()).expect(&rt, "it holds");
-    let boxed = BoxedStr::from_str(alloc, letters(30)).expect(&rt, "memory");
+    let bytes = Vec::from_slice(alloc, "é".as_bytes()).expect(rt, "memory");
+    that(is_inline(&text_in(bytes).expect(rt, "a text"), "é")).expect(rt, "it holds");
+    let bytes = Vec::from_slice(alloc, &[0xc3]).expect(rt, "memory");
+    that(text_in(bytes).is_err()).expect(rt, "it holds");
+    let boxed = BoxedStr::from_str(alloc, letters(30)).expect(rt, "memory");
     let value = unboxed(boxed);
-    equal(value.as_str(), letters(30)).expect(&rt, "equal");
-    equal(lent_bytes(&value), 30).expect(&rt, "equal");
+    equal(value.as_str(), letters(30)).expect(rt, "equal");
+    equal(lent_bytes(&value), 30).expect(rt, "equal");
 }

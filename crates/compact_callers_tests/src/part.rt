@@ -39,14 +39,15 @@ fn a_request_is_appended(rt: HostRuntime) {
 
 #[test]
 fn a_word_is_known(rt: HostRuntime) {
+    let rt = &rt;
     let alloc = rt.alloc();
-    that(is_abc(&short(alloc, "abc"))).expect(&rt, "it holds");
-    that(!is_abc(&short(alloc, "abcd"))).expect(&rt, "it holds");
-    that(!is_not_naive(&short(alloc, "naïve"))).expect(&rt, "it holds");
-    that(is_not_naive(&short(alloc, "naive"))).expect(&rt, "it holds");
-    let name = value_of(alloc, "content-transfer-encoding").expect(&rt, "memory");
-    that(is_encoding_header(&name)).expect(&rt, "it holds");
-    that(!is_encoding_header(&short(alloc, "content-transfer"))).expect(&rt, "it holds");
+    that(is_abc(&short(alloc, "abc"))).expect(rt, "it holds");
+    that(!is_abc(&short(alloc, "abcd"))).expect(rt, "it holds");
+    that(!is_not_naive(&short(alloc, "naïve"))).expect(rt, "it holds");
+    that(is_not_naive(&short(alloc, "naive"))).expect(rt, "it holds");
+    let name = value_of(alloc, "content-transfer-encoding").expect(rt, "memory");
+    that(is_encoding_header(&name)).expect(rt, "it holds");
+    that(!is_encoding_header(&short(alloc, "content-transfer"))).expect(rt, "it holds");
 }
 
 #[test]
@@ -83,10 +84,11 @@ fn any_text_is_cut_at_a_sign_past_ascii(rt: HostRuntime) {
 
 #[test]
 fn what_stands_at_the_ends_is_left_out(rt: HostRuntime) {
+    let rt = &rt;
     let alloc = rt.alloc();
     let name = short(alloc, "x-é");
-    equal(unmarked(&name), Some("é")).expect(&rt, "equal");
-    equal(trimmed(&short(alloc, " a b\n")), "a b").expect(&rt, "equal");
-    equal(first_two_bytes(&name), "x-").expect(&rt, "equal");
-    equal(first_two_bytes(&short(alloc, "aé")), "").expect(&rt, "equal");
+    equal(unmarked(&name), Some("é")).expect(rt, "equal");
+    equal(trimmed(&short(alloc, " a b\n")), "a b").expect(rt, "equal");
+    equal(first_two_bytes(&name), "x-").expect(rt, "equal");
+    equal(first_two_bytes(&short(alloc, "aé")), "").expect(rt, "equal");
 }

@@ -38,11 +38,12 @@ fn a_pair_is_appended(rt: HostRuntime) {
 
 #[test]
 fn a_cursor_goes_on_by_what_is_typed(rt: HostRuntime) {
+    let rt = &rt;
     let mut line = short(rt.alloc(), "ab");
-    that(line.is_char_boundary(1)).expect(&rt, "it holds");
-    let cursor = type_two(&mut line, 1, 'é', 'x').expect(&rt, "memory");
-    equal(cursor, 4).expect(&rt, "equal");
-    that(is_inline(&line, "aéxb")).expect(&rt, "it holds");
+    that(line.is_char_boundary(1)).expect(rt, "it holds");
+    let cursor = type_two(&mut line, 1, 'é', 'x').expect(rt, "memory");
+    equal(cursor, 4).expect(rt, "equal");
+    that(is_inline(&line, "aéxb")).expect(rt, "it holds");
 }
 
 #[test]
@@ -63,10 +64,11 @@ fn a_name_has_a_suffix(rt: HostRuntime) {
 
 #[test]
 fn a_field_is_split_at_its_first_sign(rt: HostRuntime) {
+    let rt = &rt;
     let mut field = short(rt.alloc(), "clé=a=b");
-    let value = split_field(&mut field).expect(&rt, "memory");
-    that(is_inline(&field, "clé")).expect(&rt, "it holds");
-    that(is_inline(&value.expect(&rt, "a value"), "a=b")).expect(&rt, "it holds");
+    let value = split_field(&mut field).expect(rt, "memory");
+    that(is_inline(&field, "clé")).expect(rt, "it holds");
+    that(is_inline(&value.expect(rt, "a value"), "a=b")).expect(rt, "it holds");
 }
 
 #[test]

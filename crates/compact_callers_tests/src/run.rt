@@ -16,23 +16,25 @@ fn a_text_is_put_in_brackets(rt: HostRuntime) {
 
 #[test]
 fn replies_come_after_those_of_an_earlier_run(rt: HostRuntime) {
+    let rt = &rt;
     let alloc = rt.alloc();
     let mut value = short(alloc, "ab");
     let mut replies = Vec::new(alloc);
-    rewrite(&mut value, "c", &mut replies).expect(&rt, "memory");
-    rewrite(&mut value, letters(24), &mut replies).expect(&rt, "memory");
-    equal(replies.len(), 4).expect(&rt, "equal");
-    that(is_inline(&value, letters(24))).expect(&rt, "it holds");
+    rewrite(&mut value, "c", &mut replies).expect(rt, "memory");
+    rewrite(&mut value, letters(24), &mut replies).expect(rt, "memory");
+    equal(replies.len(), 4).expect(rt, "equal");
+    that(is_inline(&value, letters(24))).expect(rt, "it holds");
 }
 
 #[test]
 fn a_buffer_of_ones_own_policy_is_refilled(rt: HostRuntime) {
+    let rt = &rt;
     let alloc = rt.alloc();
     let made = PolicyString::<Doubling>::new(alloc, letters(25));
-    let mut value = made.expect(&rt, "memory");
-    that(is_heap(&value, 64, letters(25))).expect(&rt, "it holds");
-    that(refill(alloc, &mut value, letters(70)).expect(&rt, "memory")).expect(&rt, "it holds");
-    that(is_heap(&value, 70, letters(70))).expect(&rt, "it holds");
-    value.push('a').expect(&rt, "memory");
-    that(is_heap(&value, 140, letters(71))).expect(&rt, "it holds");
+    let mut value = made.expect(rt, "memory");
+    that(is_heap(&value, 64, letters(25))).expect(rt, "it holds");
+    that(refill(alloc, &mut value, letters(70)).expect(rt, "memory")).expect(rt, "it holds");
+    that(is_heap(&value, 70, letters(70))).expect(rt, "it holds");
+    value.push('a').expect(rt, "memory");
+    that(is_heap(&value, 140, letters(71))).expect(rt, "it holds");
 }

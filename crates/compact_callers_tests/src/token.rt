@@ -7,13 +7,14 @@ use compact_testing::values::short;
 
 #[test]
 fn a_text_is_learnt_once(rt: HostRuntime) {
+    let rt = &rt;
     let alloc = rt.alloc();
     let mut names = Interner::new(alloc);
     let text = short(alloc, "ab, 12 ab");
-    let count = learn(alloc, &mut names, &text).expect(&rt, "memory");
-    equal(count, 4).expect(&rt, "equal");
-    let count = learn(alloc, &mut names, &text).expect(&rt, "memory");
-    equal(count, 0).expect(&rt, "equal");
+    let count = learn(alloc, &mut names, &text).expect(rt, "memory");
+    equal(count, 4).expect(rt, "equal");
+    let count = learn(alloc, &mut names, &text).expect(rt, "memory");
+    equal(count, 0).expect(rt, "equal");
 }
 
 #[test]

@@ -14,14 +14,15 @@ const RECORDS: [u8; 15] = [1, 0, 0, 0, 0x61, 0, 0, 0, 0, 2, 0, 0, 0, 0x48, 0x69]
 
 #[test]
 fn a_reader_tells_its_next_record_and_its_end(rt: HostRuntime) {
+    let rt = &rt;
     let alloc = rt.alloc();
     let mut rest: &[u8] = &RECORDS;
     for text in ["a", "", "Hi"] {
-        let record = next_record(alloc, &mut rest).expect(&rt, "a record");
-        that(is_inline(&record.expect(&rt, "no end"), text)).expect(&rt, "it holds");
+        let record = next_record(alloc, &mut rest).expect(rt, "a record");
+        that(is_inline(&record.expect(rt, "no end"), text)).expect(rt, "it holds");
     }
-    let end = next_record(alloc, &mut rest).expect(&rt, "an end");
-    that(end.is_none()).expect(&rt, "it holds");
+    let end = next_record(alloc, &mut rest).expect(rt, "an end");
+    that(end.is_none()).expect(rt, "it holds");
 }
 
 #[test]
@@ -40,12 +41,13 @@ const MIXED: [u8; 26] = [
 
 #[test]
 fn one_record_that_is_no_text_is_passed_over(rt: HostRuntime) {
+    let rt = &rt;
     let mut records = Records::new(rt.alloc(), MIXED.as_slice());
     for text in ["a", "", "Hi"] {
-        let found = next_text(&mut records).expect(&rt, "no end");
-        that(is_inline(&found.expect(&rt, "a text"), text)).expect(&rt, "it holds");
+        let found = next_text(&mut records).expect(rt, "no end");
+        that(is_inline(&found.expect(rt, "a text"), text)).expect(rt, "it holds");
     }
-    that(next_text(&mut records).is_none()).expect(&rt, "it holds");
+    that(next_text(&mut records).is_none()).expect(rt, "it holds");
 }
 
 #[test]
@@ -79,24 +81,25 @@ fn no_bytes_have_no_first_record(rt: HostRuntime) {
 
 #[test]
 fn a_field_is_sent_and_received(rt: HostRuntime) {
+    let rt = &rt;
     let alloc = rt.alloc();
     let mut bytes = Vec::new(alloc);
     let name = short(alloc, "name");
     let sent = send_field(
         &name,
-        &value_of(alloc, letters(30)).expect(&rt, "memory"),
+        &value_of(alloc, letters(30)).expect(rt, "memory"),
         &mut bytes,
     );
-    that(sent.is_ok()).expect(&rt, "it holds");
-    equal(bytes.len(), 42).expect(&rt, "equal");
+    that(sent.is_ok()).expect(rt, "it holds");
+    equal(bytes.len(), 42).expect(rt, "equal");
     let mut rest = bytes.as_slice();
-    let (key, value) = receive_field(alloc, &mut rest).expect(&rt, "a field");
-    that(is_inline(&key, "name")).expect(&rt, "it holds");
-    equal(value.as_str(), letters(30)).expect(&rt, "equal");
-    let back = sent_and_received(alloc, &value).expect(&rt, "a text");
-    that(back == value).expect(&rt, "it holds");
-    let both = pair_sent_and_received(alloc, &name, &value).expect(&rt, "two texts");
-    equal(both.len(), 2).expect(&rt, "equal");
-    that(is_inline(&both[0], "name")).expect(&rt, "it holds");
-    equal(both[1].as_str(), letters(30)).expect(&rt, "equal");
+    let (key, value) = receive_field(alloc, &mut rest).expect(rt, "a field");
+    that(is_inline(&key, "name")).expect(rt, "it holds");
+    equal(value.as_str(), letters(30)).expect(rt, "equal");
+    let back = sent_and_received(alloc, &value).expect(rt, "a text");
+    that(back == value).expect(rt, "it holds");
+    let both = pair_sent_and_received(alloc, &name, &value).expect(rt, "two texts");
+    equal(both.len(), 2).expect(rt, "equal");
+    that(is_inline(&both[0], "name")).expect(rt, "it holds");
+    equal(both[1].as_str(), letters(30)).expect(rt, "equal");
 }
