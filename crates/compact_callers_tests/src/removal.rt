@@ -12,13 +12,13 @@ fn every_second_character_is_kept(rt: HostRuntime) {
     let rt = &rt;
     let alloc = rt.alloc();
     let mut value = short(alloc, "aäb𝄞c");
-    that(every_second(&mut value).is_ok()).expect(rt, "it holds");
+    every_second(&mut value).expect(rt, "memory");
     that(is_inline(&value, "abc")).expect(rt, "it holds");
     let mut long = value_of(alloc, letters(60)).expect(rt, "memory");
-    that(every_second(&mut long).is_ok()).expect(rt, "it holds");
+    every_second(&mut long).expect(rt, "memory");
     that(is_heap(&long, 60, letters(30))).expect(rt, "it holds");
     let mut spaced = short(alloc, " a a ");
-    that(without_spaces(&mut spaced).is_ok()).expect(rt, "it holds");
+    without_spaces(&mut spaced).expect(rt, "memory");
     that(is_inline(&spaced, "aa")).expect(rt, "it holds");
 }
 
@@ -27,13 +27,14 @@ fn a_lent_test_tells_its_state(rt: HostRuntime) {
     let rt = &rt;
     let alloc = rt.alloc();
     let mut value = short(alloc, "aäb𝄞c");
-    that(matches!(every_second_told(&mut value), Ok(true))).expect(rt, "it holds");
+    let last = every_second_told(&mut value).expect(rt, "memory");
+    that(last).expect(rt, "it holds");
     that(is_inline(&value, "abc")).expect(rt, "it holds");
     let mut seen = false;
-    that(note_spaces(&mut value, &mut seen).is_ok()).expect(rt, "it holds");
+    note_spaces(&mut value, &mut seen).expect(rt, "memory");
     that(!seen).expect(rt, "it holds");
     let mut spaced = short(alloc, "a b");
-    that(note_spaces(&mut spaced, &mut seen).is_ok()).expect(rt, "it holds");
+    note_spaces(&mut spaced, &mut seen).expect(rt, "memory");
     that(seen).expect(rt, "it holds");
     that(is_inline(&spaced, "ab")).expect(rt, "it holds");
 }

@@ -6,8 +6,10 @@ use compact_callers::wire_callers::{
     receive_field, send_field, sent_and_received,
 };
 use compact_ext::wire::{Records, WireError};
-use compact_testing::seen::is_inline;
+use compact_str::CompactString;
+use compact_testing::seen::{is_fitted, is_inline};
 use compact_testing::values::{letters, short, value_of};
+use std::process::Abort;
 
 /// The forms of `a`, of no text and of `Hi`.
 const RECORDS: [u8; 15] = [1, 0, 0, 0, 0x61, 0, 0, 0, 0, 2, 0, 0, 0, 0x48, 0x69];
@@ -28,10 +30,7 @@ fn a_reader_tells_its_next_record_and_its_end(rt: HostRuntime) {
 #[test]
 fn records_are_read_to_their_end(rt: HostRuntime) {
     let records = read_records(rt.alloc(), RECORDS.as_slice()).expect(&rt, "records");
-    equal(records.len(), 3).expect(&rt, "equal");
-    for (record, text) in records.iter().zip(["a", "", "Hi"]) {
-        that(is_inline(record, text)).expect(&rt, "it holds");
-    }
+    expect_three(&rt, records);
 }
 
 /// The forms of `a` and of two bytes that are no text, of no text, of one byte that is none, and of `Hi`.
@@ -53,10 +52,15 @@ fn one_record_that_is_no_text_is_passed_over(rt: HostRuntime) {
 #[test]
 fn what_is_no_text_is_passed_over(rt: HostRuntime) {
     let texts = read_texts(rt.alloc(), MIXED.as_slice()).expect(&rt, "texts");
-    equal(texts.len(), 3).expect(&rt, "equal");
-    for (found, text) in texts.iter().zip(["a", "", "Hi"]) {
-        that(is_inline(found, text)).expect(&rt, "it holds");
-    }
+    expect_three(&rt, texts);
+}
+
+/// Fails unless the texts are `a`, no text and `Hi`.
+fn expect_three(rt: &impl Abort, texts: Vec<CompactString>) {
+    equal(texts.len(), 3).expect(rt, "equal");
+    that(is_inline(&texts[0], "a")).expect(rt, "it holds");
+    that(is_inline(&texts[1], "")).expect(rt, "it holds");
+    that(is_inline(&texts[2], "Hi")).expect(rt, "it holds");
 }
 
 #[test]
@@ -85,21 +89,17 @@ fn a_field_is_sent_and_received(rt: HostRuntime) {
     let alloc = rt.alloc();
     let mut bytes = Vec::new(alloc);
     let name = short(alloc, "name");
-    let sent = send_field(
-        &name,
-        &value_of(alloc, letters(30)).expect(rt, "memory"),
-        &mut bytes,
-    );
-    that(sent.is_ok()).expect(rt, "it holds");
+    let long = value_of(alloc, letters(30)).expect(rt, "memory");
+    send_field(&name, &long, &mut bytes).expect(rt, "memory");
     equal(bytes.len(), 42).expect(rt, "equal");
     let mut rest = bytes.as_slice();
     let (key, value) = receive_field(alloc, &mut rest).expect(rt, "a field");
     that(is_inline(&key, "name")).expect(rt, "it holds");
-    equal(value.as_str(), letters(30)).expect(rt, "equal");
+    that(is_fitted(&value, letters(30))).expect(rt, "it holds");
     let back = sent_and_received(alloc, &value).expect(rt, "a text");
     that(back == value).expect(rt, "it holds");
     let both = pair_sent_and_received(alloc, &name, &value).expect(rt, "two texts");
     equal(both.len(), 2).expect(rt, "equal");
     that(is_inline(&both[0], "name")).expect(rt, "it holds");
-    equal(both[1].as_str(), letters(30)).expect(rt, "equal");
+    that(is_fitted(&both[1], letters(30))).expect(rt, "it holds");
 }
