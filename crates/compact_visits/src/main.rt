@@ -45,15 +45,24 @@ fn count_lines<R: Read, W: Write>(
     reader: &mut R,
     writer: &mut W,
 ) -> Result<bool> {
+    let mut reader = BufReader::new(alloc, reader)?;
+    let mut line = Vec::new(alloc);
     let mut all_counted = true;
-    let mut number: usize = 0;
-    for line in BufReader::new(alloc, reader)?.split(alloc, b'\n') {
-        number = number.saturating_add(1);
-        if !count_line(alloc, sources, writer, number, line)? {
+    for number in 1..usize::MAX {
+        line.clear();
+        if reader.read_until(b'\n', &mut line)? == 0 {
+            break;
+        }
+        if !count_line(alloc, sources, writer, number, without_end(line.as_slice()))? {
             all_counted = false;
         }
     }
     Ok(all_counted)
+}
+
+/// A line without the byte that ends it.
+fn without_end(line: &[u8]) -> &[u8] {
+    line.strip_suffix(b"\n").unwrap_or(line)
 }
 
 /// Counts the visit of a line, of which the number is counted from 1, or writes why it is none. Answers whether it is one.
@@ -62,9 +71,9 @@ fn count_line<W: Write>(
     sources: &mut Sources,
     writer: &mut W,
     number: usize,
-    line: io::Result<Vec<u8>>,
+    line: &[u8],
 ) -> Result<bool> {
-    match serde_json::from_slice::<Visit>(alloc, line?.as_slice()) {
+    match serde_json::from_slice::<Visit>(alloc, line) {
         Ok(visit) => {
             sources.count(alloc, visit)?;
             Ok(true)

@@ -5,7 +5,6 @@ use anyhow::Result;
 use compact_str::CompactString;
 use serde::Serialize;
 use std::alloc::Global;
-use std::cmp::Reverse;
 use std::collections::HashMap;
 
 /// A host from where visitors came, as a line of the output tells it. It is none for those of whom no host is known.
@@ -93,7 +92,7 @@ impl Sources {
         for source in self.by_host.into_values() {
             sources.push(source)?;
         }
-        sources.sort_by(|a, b| (Reverse(a.visits), &a.host).cmp(&(Reverse(b.visits), &b.host)))?;
+        sources.sort_by(|a, b| b.visits.cmp(&a.visits).then(a.host.cmp(&b.host)))?;
         Ok(sources)
     }
 }
