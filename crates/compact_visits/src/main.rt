@@ -31,23 +31,29 @@ fn main(rt: HostRuntime) -> ExitCode {
 ///
 /// The answer is whether each line was a visit. An error says that the reader or the writer failed, or that no memory was found.
 fn count_visits<R: Read, W: Write>(alloc: Global, reader: &mut R, writer: &mut W) -> Result<bool> {
+    let mut reader = BufReader::new(alloc, reader)?;
     let mut writer = BufWriter::new(alloc, writer)?;
+    answer(alloc, &mut reader, &mut writer)
+}
+
+/// Counts the visits of lines, and writes from where they came. Answers whether each line is one.
+fn answer<B: BufRead, W: Write>(alloc: Global, reader: &mut B, writer: &mut W) -> Result<bool> {
     let mut sources = Sources::new(alloc);
-    let all_counted = count_lines(alloc, &mut sources, reader, &mut writer)?;
-    write_sources(alloc, &mut writer, sources)?;
+    let all_counted = count_lines(alloc, &mut sources, reader, writer)?;
+    write_sources(alloc, writer, sources)?;
     Ok(all_counted)
 }
 
 /// Counts the visits of lines, or writes why they are none. Answers whether each line is one.
-fn count_lines<R: Read, W: Write>(
+fn count_lines<B: BufRead, W: Write>(
     alloc: Global,
     sources: &mut Sources,
-    reader: &mut R,
+    reader: &mut B,
     writer: &mut W,
 ) -> Result<bool> {
-    let mut reader = BufReader::new(alloc, reader)?;
     let mut line = Vec::new(alloc);
     let mut all_counted = true;
+    // So many lines take longer than any program runs.
     for number in 1..usize::MAX {
         line.clear();
         if reader.read_until(b'\n', &mut line)? == 0 {

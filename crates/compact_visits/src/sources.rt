@@ -74,10 +74,10 @@ impl Sources {
         if !self.by_host.contains_key(host) {
             self.insert(alloc, host)?;
         }
-        if let Some(source) = self.by_host.get_mut(host) {
-            source.add(page, tags)?;
+        match self.by_host.get_mut(host) {
+            Some(source) => source.add(page, tags),
+            None => Ok(()),
         }
-        Ok(())
     }
 
     fn insert(&mut self, alloc: Global, host: &str) -> Result<()> {
