@@ -88,10 +88,7 @@ impl Sources {
 
     /// The sources, the one with the most visits first, and of those with as many by their hosts.
     pub fn into_sorted(self, alloc: Global) -> Result<Vec<Source>> {
-        let mut sources = Vec::new(alloc);
-        for source in self.by_host.into_values() {
-            sources.push(source)?;
-        }
+        let mut sources: Vec<Source> = self.by_host.into_values().collect(alloc)?;
         sources.sort_by(|a, b| b.visits.cmp(&a.visits).then(a.host.cmp(&b.host)))?;
         Ok(sources)
     }
