@@ -8,7 +8,7 @@ use compact_str::{CompactString, FromUtf8Error, ReserveError};
 use std::alloc::Global;
 
 /// Decodes each row of a list, and counts those that are invalid: a row that is refused for memory is none.
-#[tactic(auto, using(compact_str::proofs::ForCallers::for_callers, compact_str::proofs::ForCallers::decoding))]
+#[tactic(auto)]
 pub fn invalid_rows(alloc: Global, rows: &[&[u8]]) -> usize
     ensures { result ≡ length (filter (λ row. not (is_utf8 row.now)) rows.now) }
 {
@@ -36,10 +36,10 @@ pub fn decoded_name(alloc: Global, bytes: &[u8]) -> Result<(CompactString, bool)
     match CompactString::from_utf8(alloc, bytes) {
         Ok(name) => Ok((name, false)),
         Err(FromUtf8Error::Reserve(error)) => Err(error),
-        Err(FromUtf8Error::Utf8 { .. }) => match CompactString::from_utf8_lossy(alloc, bytes) {
-            Ok(name) => Ok((name, true)),
-            Err(error) => Err(error),
-        },
+        Err(FromUtf8Error::Utf8 { .. }) => {
+            let name = CompactString::from_utf8_lossy(alloc, bytes)?;
+            Ok((name, true))
+        }
     }
 }
 

@@ -26,6 +26,7 @@ pub fn line(alloc: Global, row: &Row) -> Result<CompactString, ToCompactStringEr
 }
 
 /// The lines of a report, one after another.
+#[tactic(auto)]
 pub fn report(alloc: Global, rows: &[Row]) -> Result<CompactString, ToCompactStringError>
     ensures { IfOk result (λ v. v.text ≡ report_of rows.now) }
 {
