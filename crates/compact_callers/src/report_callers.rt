@@ -46,6 +46,7 @@ pub enum Rows {
 }
 
 /// Appends the lines of a list of rows.
+#[tactic(auto)]
 pub fn append_rows(report: &mut CompactString, rows: &Rows) -> Result<(), ToCompactStringError>
     ensures { OnOk result (report.new.text ≡ report.old.text ++ lines_of rows.now) }
 {
