@@ -32,6 +32,7 @@ pub fn learn(
 }
 
 /// The numbers of the tokens of a text, in order. In any case names that stood keep their numbers.
+#[tactic(auto)]
 pub fn numbers_of(
     alloc: Global,
     names: &mut Interner,
