@@ -64,31 +64,33 @@ fn assert_refused(rt: &impl Abort, names: &mut Interner, text: &str, count: usiz
 
 #[test]
 fn a_text_has_the_place_of_its_first_occurrence(rt: HostRuntime) {
+    let rt = &rt;
     let alloc = rt.alloc();
     let mut names = Interner::new(alloc);
-    are_numbers(&rt, alloc, &mut names, &["a", "b", "a", ""], &[0, 1, 0, 2]);
-    assert_count(&rt, &names, 3);
-    assert_name(&rt, &names, 1, Some("b"));
-    assert_name(&rt, &names, 3, None);
-    is_number(&rt, &mut names, letters(25), 3);
-    is_number(&rt, &mut names, letters(25), 3);
+    are_numbers(rt, alloc, &mut names, &["a", "b", "a", ""], &[0, 1, 0, 2]);
+    assert_count(rt, &names, 3);
+    assert_name(rt, &names, 1, Some("b"));
+    assert_name(rt, &names, 3, None);
+    is_number(rt, &mut names, letters(25), 3);
+    is_number(rt, &mut names, letters(25), 3);
 }
 
 #[test]
 fn a_short_name_needs_no_memory_and_a_long_text_does(rt: HostRuntime) {
+    let rt = &rt;
     let alloc = rt.alloc();
     let mut names = Interner::new(alloc);
-    number_of(&rt, &mut names, "a");
-    number_of(&rt, &mut names, "b");
-    number_of(&rt, &mut names, "");
-    number_of(&rt, &mut names, letters(25));
-    let hog = take_all(alloc).expect(&rt, "room for the list of blocks");
-    is_number(&rt, &mut names, "a", 0);
-    assert_refused(&rt, &mut names, letters(30), 4);
-    is_number(&rt, &mut names, letters(25), 3);
+    number_of(rt, &mut names, "a");
+    number_of(rt, &mut names, "b");
+    number_of(rt, &mut names, "");
+    number_of(rt, &mut names, letters(25));
+    let hog = take_all(alloc).expect(rt, "room for the list of blocks");
+    is_number(rt, &mut names, "a", 0);
+    assert_refused(rt, &mut names, letters(30), 4);
+    is_number(rt, &mut names, letters(25), 3);
     drop(hog);
-    assert_name(&rt, &names, 3, Some(letters(25)));
-    is_number(&rt, &mut names, letters(30), 4);
+    assert_name(rt, &names, 3, Some(letters(25)));
+    is_number(rt, &mut names, letters(30), 4);
 }
 
 #[test]
@@ -103,38 +105,41 @@ fn the_table_of_the_names_is_refused(rt: HostRuntime) {
 
 #[test]
 fn the_table_is_refused_behind_the_copy_of_a_text(rt: HostRuntime) {
+    let rt = &rt;
     let alloc = rt.alloc();
     let mut names = Interner::new(alloc);
-    let room = Vec::<u8>::with_capacity(alloc, 32).expect(&rt, "a spare block");
-    let hog = take_all(alloc).expect(&rt, "room for the list of blocks");
+    let room = Vec::<u8>::with_capacity(alloc, 32).expect(rt, "a spare block");
+    let hog = take_all(alloc).expect(rt, "room for the list of blocks");
     drop(room);
-    assert_refused(&rt, &mut names, letters(30), 0);
+    assert_refused(rt, &mut names, letters(30), 0);
     drop(hog);
-    is_number(&rt, &mut names, letters(30), 0);
+    is_number(rt, &mut names, letters(30), 0);
 }
 
 #[test]
 fn with_no_room_for_the_numbers_nothing_is_taken(rt: HostRuntime) {
+    let rt = &rt;
     let alloc = rt.alloc();
     let mut names = Interner::new(alloc);
     let mut numbers = Vec::new(alloc);
-    number_of(&rt, &mut names, "a");
-    is_refused(&rt, alloc, &mut names, &["a", "b"], &mut numbers);
-    equal(numbers.len(), 0).expect(&rt, "equal");
-    assert_count(&rt, &names, 1);
+    number_of(rt, &mut names, "a");
+    is_refused(rt, alloc, &mut names, &["a", "b"], &mut numbers);
+    equal(numbers.len(), 0).expect(rt, "equal");
+    assert_count(rt, &names, 1);
 }
 
 #[test]
 fn the_texts_before_a_refused_one_are_taken(rt: HostRuntime) {
+    let rt = &rt;
     let alloc = rt.alloc();
     let mut names = Interner::new(alloc);
-    let mut numbers = Vec::with_capacity(alloc, 8).expect(&rt, "memory");
-    number_of(&rt, &mut names, "a");
-    number_of(&rt, &mut names, "b");
+    let mut numbers = Vec::with_capacity(alloc, 8).expect(rt, "memory");
+    number_of(rt, &mut names, "a");
+    number_of(rt, &mut names, "b");
     let texts = ["b", "a", letters(30), "b"];
-    is_refused(&rt, alloc, &mut names, &texts, &mut numbers);
-    equal(numbers.as_slice(), [1, 0].as_slice()).expect(&rt, "equal");
-    assert_count(&rt, &names, 2);
+    is_refused(rt, alloc, &mut names, &texts, &mut numbers);
+    equal(numbers.as_slice(), [1, 0].as_slice()).expect(rt, "equal");
+    assert_count(rt, &names, 2);
 }
 
 /// The word of a number: every third one has more than 24 bytes.
@@ -192,27 +197,29 @@ fn assert_names(rt: &impl Abort, alloc: Global, names: &Interner, list: &PlainLi
 
 #[test]
 fn many_words_are_numbered_as_in_a_plain_list(rt: HostRuntime) {
+    let rt = &rt;
     let alloc = rt.alloc();
     let mut random = Random::new(1);
     let mut names = Interner::new(alloc);
-    let mut list = PlainList::new(&rt, alloc, 40_000);
+    let mut list = PlainList::new(rt, alloc, 40_000);
     for _ in 0..100_000 {
         let id = random.below(40_000);
-        let text = word(&rt, alloc, id);
-        let number = number_of(&rt, &mut names, text.as_str());
-        equal(number as usize, list.place_of(&rt, id)).expect(&rt, "equal");
+        let text = word(rt, alloc, id);
+        let number = number_of(rt, &mut names, text.as_str());
+        equal(number as usize, list.place_of(rt, id)).expect(rt, "equal");
     }
-    assert_names(&rt, alloc, &names, &list);
+    assert_names(rt, alloc, &names, &list);
 }
 
 #[test]
 fn refusals_are_shown_so(rt: HostRuntime) {
+    let rt = &rt;
     let alloc = rt.alloc();
     let shown = format!(in alloc; "{}", InternError::Full);
-    equal(shown.expect(&rt, "memory").as_str(), "interner is full").expect(&rt, "equal");
+    equal(shown.expect(rt, "memory").as_str(), "interner is full").expect(rt, "equal");
     let refused = InternError::from(ReserveError);
-    that(matches!(refused, InternError::Reserve(_))).expect(&rt, "it holds");
+    that(matches!(refused, InternError::Reserve(_))).expect(rt, "it holds");
     let shown = format!(in alloc; "{refused}");
     let text = "Cannot allocate memory to hold CompactString";
-    equal(shown.expect(&rt, "memory").as_str(), text).expect(&rt, "equal");
+    equal(shown.expect(rt, "memory").as_str(), text).expect(rt, "equal");
 }

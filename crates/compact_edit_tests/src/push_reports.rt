@@ -46,6 +46,7 @@ fn assert_pushed<P: Policy>(
 
 #[test]
 fn each_growth_moves_the_text_that_stood(rt: HostRuntime) {
+    let rt = &rt;
     let alloc = rt.alloc();
     let texts = [
         letters(24),
@@ -56,13 +57,13 @@ fn each_growth_moves_the_text_that_stood(rt: HostRuntime) {
         letters(2),
     ];
     let inline = run_pushes::<Standard>(alloc, &texts[..1]);
-    that(is_inline(&inline.value, letters(24))).expect(&rt, "it holds");
-    assert_counts(&rt, &inline, 0, 0);
-    assert_pushed::<Standard>(&rt, alloc, &texts[..2], 36, 25, 24);
-    assert_pushed::<Standard>(&rt, alloc, &texts[..3], 37, 37, 49);
-    assert_pushed::<Standard>(&rt, alloc, &texts[..4], 55, 38, 86);
-    assert_pushed::<Standard>(&rt, alloc, &texts[..5], 57, 56, 124);
-    assert_pushed::<Standard>(&rt, alloc, &texts, 84, 58, 180);
+    that(is_inline(&inline.value, letters(24))).expect(rt, "it holds");
+    assert_counts(rt, &inline, 0, 0);
+    assert_pushed::<Standard>(rt, alloc, &texts[..2], 36, 25, 24);
+    assert_pushed::<Standard>(rt, alloc, &texts[..3], 37, 37, 49);
+    assert_pushed::<Standard>(rt, alloc, &texts[..4], 55, 38, 86);
+    assert_pushed::<Standard>(rt, alloc, &texts[..5], 57, 56, 124);
+    assert_pushed::<Standard>(rt, alloc, &texts, 84, 58, 180);
 }
 
 #[test]
@@ -90,21 +91,23 @@ fn a_thousand_bytes_are_pushed_one_by_one(rt: HostRuntime) {
 
 #[test]
 fn buffers_double(rt: HostRuntime) {
+    let rt = &rt;
     let alloc = rt.alloc();
     let texts = [letters(24), "a", letters(24), "a", "a"];
-    assert_pushed::<Double>(&rt, alloc, &texts[..2], 48, 25, 24);
-    assert_pushed::<Double>(&rt, alloc, &texts[..3], 50, 49, 49);
-    assert_pushed::<Double>(&rt, alloc, &texts[..4], 50, 50, 49);
-    assert_pushed::<Double>(&rt, alloc, &texts, 100, 51, 99);
+    assert_pushed::<Double>(rt, alloc, &texts[..2], 48, 25, 24);
+    assert_pushed::<Double>(rt, alloc, &texts[..3], 50, 49, 49);
+    assert_pushed::<Double>(rt, alloc, &texts[..4], 50, 50, 49);
+    assert_pushed::<Double>(rt, alloc, &texts, 100, 51, 99);
 }
 
 #[test]
 fn buffers_grow_by_a_quarter(rt: HostRuntime) {
+    let rt = &rt;
     let alloc = rt.alloc();
-    assert_pushed::<Slow>(&rt, alloc, &[letters(25)], 25, 25, 0);
-    assert_pushed::<Slow>(&rt, alloc, &[letters(25), "a"], 31, 26, 25);
+    assert_pushed::<Slow>(rt, alloc, &[letters(25)], 25, 25, 0);
+    assert_pushed::<Slow>(rt, alloc, &[letters(25), "a"], 31, 26, 25);
     let made = PolicyString::<Slow>::new(alloc, letters(25));
-    that(is_heap(&made.expect(&rt, "memory"), 25, letters(25))).expect(&rt, "it holds");
+    that(is_heap(&made.expect(rt, "memory"), 25, letters(25))).expect(rt, "it holds");
 }
 
 #[test]
@@ -114,12 +117,13 @@ fn a_first_buffer_is_large(rt: HostRuntime) {
 
 #[test]
 fn a_shrink_keeps_the_least_capacity(rt: HostRuntime) {
+    let rt = &rt;
     let made = PolicyString::<Large>::with_capacity(rt.alloc(), 8192);
-    let mut value = made.expect(&rt, "memory");
-    append(&mut value, letters(30)).expect(&rt, "memory");
-    that(is_heap(&value, 8192, letters(30))).expect(&rt, "it holds");
+    let mut value = made.expect(rt, "memory");
+    append(&mut value, letters(30)).expect(rt, "memory");
+    that(is_heap(&value, 8192, letters(30))).expect(rt, "it holds");
     value.shrink_to_fit();
-    that(is_heap(&value, 4096, letters(30))).expect(&rt, "it holds");
+    that(is_heap(&value, 4096, letters(30))).expect(rt, "it holds");
 }
 
 /// Asserts that one of some texts is refused, where one block of so many bytes is all memory that is left, how many letters
@@ -165,11 +169,12 @@ fn only_what_fits_inline_is_pushed_with_no_memory(rt: HostRuntime) {
 
 #[test]
 fn another_policy_owns_in_its_own_least_buffer(rt: HostRuntime) {
+    let rt = &rt;
     let mut value = PolicyString::<Large>::const_new(rt.alloc(), letters(30));
-    remove_first(&rt, &mut value);
-    that(is_heap(&value, 4096, letters(29))).expect(&rt, "it holds");
-    insert(&rt, &mut value, 0);
-    that(is_heap(&value, 4096, letters(30))).expect(&rt, "it holds");
+    remove_first(rt, &mut value);
+    that(is_heap(&value, 4096, letters(29))).expect(rt, "it holds");
+    insert(rt, &mut value, 0);
+    that(is_heap(&value, 4096, letters(30))).expect(rt, "it holds");
 }
 
 #[test]

@@ -77,16 +77,17 @@ fn is_not_begun(rt: &impl Abort, value: &mut CompactString, replies: &mut Vec<Re
 /// No edits are run even so.
 #[test]
 fn a_run_with_no_room_for_replies_runs_nothing(rt: HostRuntime) {
+    let rt = &rt;
     let alloc = rt.alloc();
     let mut value = short(alloc, "abc");
-    let mut replies = forty_replies(&rt, alloc);
-    let hog = take_all(alloc).expect(&rt, "room for the list of blocks");
-    is_not_begun(&rt, &mut value, &mut replies);
-    run_all(&rt, &mut value, &[], &mut replies);
+    let mut replies = forty_replies(rt, alloc);
+    let hog = take_all(alloc).expect(rt, "room for the list of blocks");
+    is_not_begun(rt, &mut value, &mut replies);
+    run_all(rt, &mut value, &[], &mut replies);
     drop(hog);
-    that(is_inline(&value, "abc")).expect(&rt, "it holds");
-    equal(replies.len(), 40).expect(&rt, "equal");
-    that(matches!(replies.get(39), Some(Reply::Done))).expect(&rt, "it holds");
+    that(is_inline(&value, "abc")).expect(rt, "it holds");
+    equal(replies.len(), 40).expect(rt, "equal");
+    that(matches!(replies.get(39), Some(Reply::Done))).expect(rt, "it holds");
 }
 
 /// A text of 29 bytes, of which the first two are one character.
@@ -113,19 +114,20 @@ fn tells_bad_positions(
 
 #[test]
 fn a_bad_position_is_told_before_a_refusal(rt: HostRuntime) {
+    let rt = &rt;
     let alloc = rt.alloc();
     let mut lasting = CompactString::const_new(alloc, text());
-    let mut made = value_of(alloc, text()).expect(&rt, "memory");
-    let mut replies = room_for(&rt, alloc, 12);
-    let hog = take_all(alloc).expect(&rt, "room for the list of blocks");
-    tells_bad_positions(&rt, &mut lasting, &mut replies);
-    tells_bad_positions(&rt, &mut made, &mut replies);
+    let mut made = value_of(alloc, text()).expect(rt, "memory");
+    let mut replies = room_for(rt, alloc, 12);
+    let hog = take_all(alloc).expect(rt, "room for the list of blocks");
+    tells_bad_positions(rt, &mut lasting, &mut replies);
+    tells_bad_positions(rt, &mut made, &mut replies);
     drop(hog);
-    that(is_at(&lasting, "static", 29, text())).expect(&rt, "it holds");
-    that(is_at(&made, "heap", 32, text())).expect(&rt, "it holds");
-    equal(replies.len(), 12).expect(&rt, "equal");
+    that(is_at(&lasting, "static", 29, text())).expect(rt, "it holds");
+    that(is_at(&made, "heap", 32, text())).expect(rt, "it holds");
+    equal(replies.len(), 12).expect(rt, "equal");
     for reply in &replies {
-        that(matches!(reply, Reply::BadPosition)).expect(&rt, "it holds");
+        that(matches!(reply, Reply::BadPosition)).expect(rt, "it holds");
     }
 }
 
@@ -149,44 +151,47 @@ fn run_drain(
 
 #[test]
 fn the_answer_of_a_drain_is_refused(rt: HostRuntime) {
+    let rt = &rt;
     let alloc = rt.alloc();
-    let mut value = value_of(alloc, letters(60)).expect(&rt, "memory");
-    let mut replies = room_for(&rt, alloc, 2);
-    let hog = take_all(alloc).expect(&rt, "room for the list of blocks");
-    run_drain(&rt, &mut value, 0, 25, &mut replies);
-    run_drain(&rt, &mut value, 0, 24, &mut replies);
+    let mut value = value_of(alloc, letters(60)).expect(rt, "memory");
+    let mut replies = room_for(rt, alloc, 2);
+    let hog = take_all(alloc).expect(rt, "room for the list of blocks");
+    run_drain(rt, &mut value, 0, 25, &mut replies);
+    run_drain(rt, &mut value, 0, 24, &mut replies);
     drop(hog);
-    was_refused(&rt, replies.as_slice(), 0, true);
-    was_refused(&rt, replies.as_slice(), 1, false);
-    that(is_heap(&value, 60, letters(36))).expect(&rt, "it holds");
+    was_refused(rt, replies.as_slice(), 0, true);
+    was_refused(rt, replies.as_slice(), 1, false);
+    that(is_heap(&value, 60, letters(36))).expect(rt, "it holds");
 }
 
 #[test]
 fn a_drain_that_makes_its_answer_finds_no_room_for_its_text(rt: HostRuntime) {
+    let rt = &rt;
     let alloc = rt.alloc();
     let mut value = lasting(alloc, 80);
-    let mut replies = room_for(&rt, alloc, 1);
-    let block = Vec::<u8>::with_capacity(alloc, 32).expect(&rt, "a spare block");
-    let hog = take_all(alloc).expect(&rt, "room for the list of blocks");
+    let mut replies = room_for(rt, alloc, 1);
+    let block = Vec::<u8>::with_capacity(alloc, 32).expect(rt, "a spare block");
+    let hog = take_all(alloc).expect(rt, "room for the list of blocks");
     drop(block);
-    run_drain(&rt, &mut value, 0, 30, &mut replies);
+    run_drain(rt, &mut value, 0, 30, &mut replies);
     drop(hog);
-    was_refused(&rt, replies.as_slice(), 0, true);
-    that(is_static(&value, letters(80))).expect(&rt, "it holds");
+    was_refused(rt, replies.as_slice(), 0, true);
+    that(is_static(&value, letters(80))).expect(rt, "it holds");
 }
 
 #[test]
 fn a_drain_of_60_bytes_is_refused_at_each_request(rt: HostRuntime) {
+    let rt = &rt;
     let alloc = rt.alloc();
     let mut value = lasting(alloc, 60);
-    let mut replies = room_for(&rt, alloc, 2);
-    let block = Vec::<u8>::with_capacity(alloc, 32).expect(&rt, "a spare block");
-    let hog = take_all(alloc).expect(&rt, "room for the list of blocks");
-    run_drain(&rt, &mut value, 0, 30, &mut replies);
+    let mut replies = room_for(rt, alloc, 2);
+    let block = Vec::<u8>::with_capacity(alloc, 32).expect(rt, "a spare block");
+    let hog = take_all(alloc).expect(rt, "room for the list of blocks");
+    run_drain(rt, &mut value, 0, 30, &mut replies);
     drop(block);
-    run_drain(&rt, &mut value, 0, 30, &mut replies);
+    run_drain(rt, &mut value, 0, 30, &mut replies);
     drop(hog);
-    was_refused(&rt, replies.as_slice(), 0, true);
-    was_refused(&rt, replies.as_slice(), 1, true);
-    that(is_static(&value, letters(60))).expect(&rt, "it holds");
+    was_refused(rt, replies.as_slice(), 0, true);
+    was_refused(rt, replies.as_slice(), 1, true);
+    that(is_static(&value, letters(60))).expect(rt, "it holds");
 }

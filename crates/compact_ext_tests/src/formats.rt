@@ -35,11 +35,12 @@ pub fn is(rt: &impl Abort, made: Made, text: &str) {
 
 #[test]
 fn formats_have_these_texts(rt: HostRuntime) {
+    let rt = &rt;
     let alloc = rt.alloc();
-    is(&rt, format_compact!(in alloc; "{}-{:04}", 7, 42), "7-0042");
-    is(&rt, format_compact!(in alloc; "a literal"), "a literal");
-    is(&rt, format_compact!(in alloc; ""), "");
-    is(&rt, format_compact!(in alloc; "{{{}}}", true), "{true}");
+    is(rt, format_compact!(in alloc; "{}-{:04}", 7, 42), "7-0042");
+    is(rt, format_compact!(in alloc; "a literal"), "a literal");
+    is(rt, format_compact!(in alloc; ""), "");
+    is(rt, format_compact!(in alloc; "{{{}}}", true), "{true}");
 }
 
 #[test]
@@ -63,12 +64,13 @@ fn arguments_may_have_names(rt: HostRuntime) {
 
 #[test]
 fn twenty_four_bytes_stand_inline_and_more_on_the_heap(rt: HostRuntime) {
+    let rt = &rt;
     let alloc = rt.alloc();
     let made = format_compact!(in alloc; "{}{}", letters(20), 1234);
-    is(&rt, made, "aaaaaaaaaaaaaaaaaaaa1234");
-    let text = text_of(&rt, format_compact!(in alloc; "{}{}", letters(20), 12345));
-    that(text.is_heap_allocated()).expect(&rt, "it holds");
-    equal(text.as_str(), "aaaaaaaaaaaaaaaaaaaa12345").expect(&rt, "equal");
+    is(rt, made, "aaaaaaaaaaaaaaaaaaaa1234");
+    let text = text_of(rt, format_compact!(in alloc; "{}{}", letters(20), 12345));
+    that(text.is_heap_allocated()).expect(rt, "it holds");
+    equal(text.as_str(), "aaaaaaaaaaaaaaaaaaaa12345").expect(rt, "equal");
 }
 
 #[test]

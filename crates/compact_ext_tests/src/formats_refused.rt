@@ -29,24 +29,26 @@ fn is_refused(made: Result<CompactString, ToCompactStringError>) -> bool {
 
 #[test]
 fn formats_and_strings_of_24_bytes_need_no_memory(rt: HostRuntime) {
+    let rt = &rt;
     let alloc = rt.alloc();
-    let string = string_with_room(alloc, 30, "i am 24 characters long!").expect(&rt, "memory");
-    let hog = take_all(alloc).expect(&rt, "room for the list of blocks");
+    let string = string_with_room(alloc, 30, "i am 24 characters long!").expect(rt, "memory");
+    let hog = take_all(alloc).expect(rt, "room for the list of blocks");
     let text = string.to_compact_string(alloc);
-    let text = text.expect(&rt, "no memory is needed");
-    that(is_inline(&text, "i am 24 characters long!")).expect(&rt, "it holds");
-    is(&rt, format_compact!(in alloc; "{}-{}", 7, "a"), "7-a");
+    let text = text.expect(rt, "no memory is needed");
+    that(is_inline(&text, "i am 24 characters long!")).expect(rt, "it holds");
+    is(rt, format_compact!(in alloc; "{}-{}", 7, "a"), "7-a");
     drop(hog);
 }
 
 #[test]
 fn a_refusal_that_is_hidden_is_told(rt: HostRuntime) {
+    let rt = &rt;
     let alloc = rt.alloc();
-    let hog = take_all(alloc).expect(&rt, "room for the list of blocks");
-    that(is_refused(format_compact!(in alloc; "{}", Hiding(1)))).expect(&rt, "it holds");
-    that(is_refused(format_compact!(in alloc; "{}a", Hiding(2)))).expect(&rt, "it holds");
+    let hog = take_all(alloc).expect(rt, "room for the list of blocks");
+    that(is_refused(format_compact!(in alloc; "{}", Hiding(1)))).expect(rt, "it holds");
+    that(is_refused(format_compact!(in alloc; "{}a", Hiding(2)))).expect(rt, "it holds");
     drop(hog);
-    let text = format_compact!(in alloc; "{}", Hiding(2)).expect(&rt, "memory");
-    equal(text.as_str(), letters(60)).expect(&rt, "equal");
-    that(text.is_heap_allocated()).expect(&rt, "it holds");
+    let text = format_compact!(in alloc; "{}", Hiding(2)).expect(rt, "memory");
+    equal(text.as_str(), letters(60)).expect(rt, "equal");
+    that(text.is_heap_allocated()).expect(rt, "it holds");
 }

@@ -33,23 +33,24 @@ fn assert_long<T: ToCompactString + Drop>(rt: &impl Abort, alloc: Global, value:
 
 #[test]
 fn numbers_have_these_texts(rt: HostRuntime) {
+    let rt = &rt;
     let alloc = rt.alloc();
-    assert_shown(&rt, alloc, 0u8, "0");
-    assert_shown(&rt, alloc, 9u8, "9");
-    assert_shown(&rt, alloc, 10u8, "10");
-    assert_shown(&rt, alloc, 99u8, "99");
-    assert_shown(&rt, alloc, 100u8, "100");
-    assert_shown(&rt, alloc, 255u8, "255");
-    assert_shown(&rt, alloc, 9999u16, "9999");
-    assert_shown(&rt, alloc, 10000u16, "10000");
-    assert_shown(&rt, alloc, 65535u16, "65535");
-    assert_shown(&rt, alloc, -128i8, "-128");
-    assert_shown(&rt, alloc, -100i8, "-100");
-    assert_shown(&rt, alloc, -99i8, "-99");
-    assert_shown(&rt, alloc, -10i8, "-10");
-    assert_shown(&rt, alloc, -9i8, "-9");
-    assert_shown(&rt, alloc, -1i8, "-1");
-    assert_shown(&rt, alloc, 127i8, "127");
+    assert_shown(rt, alloc, 0u8, "0");
+    assert_shown(rt, alloc, 9u8, "9");
+    assert_shown(rt, alloc, 10u8, "10");
+    assert_shown(rt, alloc, 99u8, "99");
+    assert_shown(rt, alloc, 100u8, "100");
+    assert_shown(rt, alloc, 255u8, "255");
+    assert_shown(rt, alloc, 9999u16, "9999");
+    assert_shown(rt, alloc, 10000u16, "10000");
+    assert_shown(rt, alloc, 65535u16, "65535");
+    assert_shown(rt, alloc, -128i8, "-128");
+    assert_shown(rt, alloc, -100i8, "-100");
+    assert_shown(rt, alloc, -99i8, "-99");
+    assert_shown(rt, alloc, -10i8, "-10");
+    assert_shown(rt, alloc, -9i8, "-9");
+    assert_shown(rt, alloc, -1i8, "-1");
+    assert_shown(rt, alloc, 127i8, "127");
 }
 
 /// Asserts the texts of numbers of 64 bits.
@@ -73,36 +74,38 @@ fn numbers_of_64_bits_have_these_texts(rt: &impl Abort, alloc: Global) {
 
 #[test]
 fn long_numbers_have_these_texts(rt: HostRuntime) {
+    let rt = &rt;
     let alloc = rt.alloc();
-    numbers_of_64_bits_have_these_texts(&rt, alloc);
-    assert_shown(&rt, alloc, i16::MIN, "-32768");
-    assert_shown(&rt, alloc, i32::MIN, "-2147483648");
-    assert_shown(&rt, alloc, u32::MAX, "4294967295");
-    assert_shown(&rt, alloc, 0u128, "0");
-    assert_shown(&rt, alloc, -1i128, "-1");
-    assert_shown(&rt, alloc, NonZeroU128::MIN, "1");
-    assert_shown(&rt, alloc, NonZeroU8::MAX, "255");
+    numbers_of_64_bits_have_these_texts(rt, alloc);
+    assert_shown(rt, alloc, i16::MIN, "-32768");
+    assert_shown(rt, alloc, i32::MIN, "-2147483648");
+    assert_shown(rt, alloc, u32::MAX, "4294967295");
+    assert_shown(rt, alloc, 0u128, "0");
+    assert_shown(rt, alloc, -1i128, "-1");
+    assert_shown(rt, alloc, NonZeroU128::MIN, "1");
+    assert_shown(rt, alloc, NonZeroU8::MAX, "255");
     assert_long(
-        &rt,
+        rt,
         alloc,
         u128::MAX,
         "340282366920938463463374607431768211455",
     );
     let least = "-170141183460469231731687303715884105728";
-    assert_long(&rt, alloc, i128::MIN, least);
-    assert_long(&rt, alloc, NonZeroI128::MIN, least);
+    assert_long(rt, alloc, i128::MIN, least);
+    assert_long(rt, alloc, NonZeroI128::MIN, least);
 }
 
 #[test]
 fn other_values_have_these_texts(rt: HostRuntime) {
+    let rt = &rt;
     let alloc = rt.alloc();
-    assert_shown(&rt, alloc, 'a', "a");
-    assert_shown(&rt, alloc, "äb", "äb");
-    assert_shown(&rt, alloc, short(alloc, "äb"), "äb");
+    assert_shown(rt, alloc, 'a', "a");
+    assert_shown(rt, alloc, "äb", "äb");
+    assert_shown(rt, alloc, short(alloc, "äb"), "äb");
     assert_shown(
-        &rt,
+        rt,
         alloc,
-        string_with_room(alloc, 256, "abc").expect(&rt, "memory"),
+        string_with_room(alloc, 256, "abc").expect(rt, "memory"),
         "abc",
     );
 }
@@ -114,9 +117,10 @@ fn assert_packed(rt: &impl Abort, value: &CompactString, bytes: &[u8; 24]) {
 
 #[test]
 fn numbers_are_packed_so(rt: HostRuntime) {
+    let rt = &rt;
     let alloc = rt.alloc();
     let two = b"42\0\0\0\0\0\0\0\0\0\0\0\0\0\0\0\0\0\0\0\0\0\xc2";
-    assert_packed(&rt, &shown(&rt, alloc, 42u8), two);
+    assert_packed(rt, &shown(rt, alloc, 42u8), two);
     let twenty = b"-9223372036854775808\0\0\0\xd4";
-    assert_packed(&rt, &shown(&rt, alloc, i64::MIN), twenty);
+    assert_packed(rt, &shown(rt, alloc, i64::MIN), twenty);
 }

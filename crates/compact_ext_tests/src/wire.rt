@@ -46,12 +46,13 @@ fn long_texts_are_written(rt: HostRuntime) {
 
 #[test]
 fn what_follows_a_form_stays_unread(rt: HostRuntime) {
+    let rt = &rt;
     let bytes: [u8; 7] = [2, 0, 0, 0, 0x48, 0x69, 0x4A];
     let mut rest: &[u8] = &bytes;
-    let text = read_wire(rt.alloc(), &mut rest).expect(&rt, "a text");
-    that(is_inline(&text, "Hi")).expect(&rt, "it holds");
-    equal(rest.len(), 1).expect(&rt, "equal");
-    that(rest.first() == Some(&0x4A)).expect(&rt, "it holds");
+    let text = read_wire(rt.alloc(), &mut rest).expect(rt, "a text");
+    that(is_inline(&text, "Hi")).expect(rt, "it holds");
+    equal(rest.len(), 1).expect(rt, "equal");
+    that(rest.first() == Some(&0x4A)).expect(rt, "it holds");
 }
 
 /// Asserts how an input ends that is no form, and that it is taken whole.
@@ -63,6 +64,7 @@ fn assert_no_form(rt: &impl Abort, alloc: Global, bytes: &[u8], fault: &str) {
 
 #[test]
 fn an_input_that_is_no_form_has_a_fault(rt: HostRuntime) {
+    let rt = &rt;
     let alloc = rt.alloc();
     for (bytes, fault) in [
         (b"".as_slice(), "end"),
@@ -74,24 +76,25 @@ fn an_input_that_is_no_form_has_a_fault(rt: HostRuntime) {
         (b"\x18\0\0\0aaaaaaaaaaaaaaaaaaaaaaa\xC1".as_slice(), "utf8"),
         (b"\x17\0\0\0aaaaaaaaaaaaaaaaaaaaaa\xC1".as_slice(), "utf8"),
     ] {
-        assert_no_form(&rt, alloc, bytes, fault);
+        assert_no_form(rt, alloc, bytes, fault);
     }
-    let form = form_of_letters(&rt, alloc, 55);
-    equal(form.len(), 59).expect(&rt, "equal");
-    assert_no_form(&rt, alloc, form.get(..58).unwrap_or(&[]), "end");
+    let form = form_of_letters(rt, alloc, 55);
+    equal(form.len(), 59).expect(rt, "equal");
+    assert_no_form(rt, alloc, form.get(..58).unwrap_or(&[]), "end");
 }
 
 #[test]
 fn a_text_is_read_in_pieces(rt: HostRuntime) {
+    let rt = &rt;
     let alloc = rt.alloc();
-    let form = form_of(&rt, alloc, 0x3C, "€".as_bytes(), 20);
+    let form = form_of(rt, alloc, 0x3C, "€".as_bytes(), 20);
     for step in 1..65 {
         let mut reader = Pieces::new(&form, step, Stop::Never);
-        let text = read_wire(alloc, &mut reader).expect(&rt, "a text");
-        equal(text.as_bytes(), form.get(4..).unwrap_or(&[])).expect(&rt, "equal");
-        that(text.is_heap_allocated()).expect(&rt, "it holds");
-        equal(text.capacity(), 60).expect(&rt, "equal");
-        equal(reader.rest.len(), 0).expect(&rt, "equal");
+        let text = read_wire(alloc, &mut reader).expect(rt, "a text");
+        equal(text.as_bytes(), form.get(4..).unwrap_or(&[])).expect(rt, "equal");
+        that(text.is_heap_allocated()).expect(rt, "it holds");
+        equal(text.capacity(), 60).expect(rt, "equal");
+        equal(reader.rest.len(), 0).expect(rt, "equal");
     }
 }
 
@@ -180,35 +183,37 @@ fn an_empty_text_needs_four_bytes(rt: HostRuntime) {
 
 #[test]
 fn a_long_text_is_read_in_rooms(rt: HostRuntime) {
+    let rt = &rt;
     let alloc = rt.alloc();
     let mut short = Letters::new(0x0010_0001, 1_048_576);
-    equal(end_of(&read_wire(alloc, &mut short)), "end").expect(&rt, "equal");
-    equal(short.given, 4 + 1_048_576).expect(&rt, "equal");
+    equal(end_of(&read_wire(alloc, &mut short)), "end").expect(rt, "equal");
+    equal(short.given, 4 + 1_048_576).expect(rt, "equal");
     let mut whole = Letters::new(0x0010_0001, 1_048_577);
-    let text = read_wire(alloc, &mut whole).expect(&rt, "a text");
-    that(text.is_heap_allocated()).expect(&rt, "it holds");
-    equal(text.len(), 1_048_577).expect(&rt, "equal");
-    equal(text.capacity(), 1_048_577).expect(&rt, "equal");
+    let text = read_wire(alloc, &mut whole).expect(rt, "a text");
+    that(text.is_heap_allocated()).expect(rt, "it holds");
+    equal(text.len(), 1_048_577).expect(rt, "equal");
+    equal(text.capacity(), 1_048_577).expect(rt, "equal");
 }
 
 #[test]
 fn texts_of_each_length_come_back(rt: HostRuntime) {
+    let rt = &rt;
     let alloc = rt.alloc();
     let mut bytes = Vec::new(alloc);
     for count in 0..80 {
         let sent = write_wire(
-            &value_of(alloc, letters(count)).expect(&rt, "memory"),
+            &value_of(alloc, letters(count)).expect(rt, "memory"),
             &mut bytes,
         );
-        that(sent.is_ok()).expect(&rt, "it holds");
+        that(sent.is_ok()).expect(rt, "it holds");
     }
     let mut rest = bytes.as_slice();
     for count in 0..80 {
-        let text = read_wire(alloc, &mut rest).expect(&rt, "a text");
-        equal(text.as_str(), letters(count)).expect(&rt, "equal");
-        that(text.is_heap_allocated() == (count > 24)).expect(&rt, "it holds");
+        let text = read_wire(alloc, &mut rest).expect(rt, "a text");
+        equal(text.as_str(), letters(count)).expect(rt, "equal");
+        that(text.is_heap_allocated() == (count > 24)).expect(rt, "it holds");
     }
-    equal(rest.len(), 0).expect(&rt, "equal");
+    equal(rest.len(), 0).expect(rt, "equal");
 }
 
 /// Asserts how a fault is shown.
@@ -220,27 +225,28 @@ fn assert_shown(rt: &impl Abort, alloc: Global, fault: WireError, text: &str) {
 
 #[test]
 fn faults_are_shown(rt: HostRuntime) {
+    let rt = &rt;
     let alloc = rt.alloc();
     assert_shown(
-        &rt,
+        rt,
         alloc,
         WireError::TooLong,
         "text too long for the wire form",
     );
     assert_shown(
-        &rt,
+        rt,
         alloc,
         WireError::UnexpectedEnd,
         "unexpected end of input",
     );
-    assert_shown(&rt, alloc, WireError::Utf8, "invalid utf-8");
+    assert_shown(rt, alloc, WireError::Utf8, "invalid utf-8");
     let failed = WireError::Io(io::Error::other("x"));
-    assert_shown(&rt, alloc, failed, "input or output failed");
-    assert_shown(&rt, alloc, WireError::WriteZero, "writer took no bytes");
+    assert_shown(rt, alloc, failed, "input or output failed");
+    assert_shown(rt, alloc, WireError::WriteZero, "writer took no bytes");
     let refused = WireError::from(ReserveError);
-    that(matches!(refused, WireError::Reserve(_))).expect(&rt, "it holds");
+    that(matches!(refused, WireError::Reserve(_))).expect(rt, "it holds");
     assert_shown(
-        &rt,
+        rt,
         alloc,
         refused,
         "Cannot allocate memory to hold CompactString",

@@ -175,12 +175,13 @@ fn assert_long_and_another<R: BufRead + Drop>(
 // A slice shows the whole form, and a buffer of eight bytes a part of it.
 #[test]
 fn long_records_have_just_their_room(rt: HostRuntime) {
+    let rt = &rt;
     let alloc = rt.alloc();
     for len in [25, 31, 32, 33, 63, 64, 80] {
-        let bytes = with_another(&rt, alloc, letters(len).as_bytes());
-        assert_long_and_another(&rt, alloc, bytes.as_slice(), letters(len));
-        let reader = BufReader::with_capacity(alloc, 8, bytes.as_slice()).expect(&rt, "a buffer");
-        assert_long_and_another(&rt, alloc, reader, letters(len));
+        let bytes = with_another(rt, alloc, letters(len).as_bytes());
+        assert_long_and_another(rt, alloc, bytes.as_slice(), letters(len));
+        let reader = BufReader::with_capacity(alloc, 8, bytes.as_slice()).expect(rt, "a buffer");
+        assert_long_and_another(rt, alloc, reader, letters(len));
     }
 }
 

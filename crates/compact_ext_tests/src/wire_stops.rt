@@ -22,14 +22,15 @@ fn assert_beginnings(rt: &impl Abort, alloc: Global, form: &[u8], step: usize) {
 
 #[test]
 fn each_beginning_of_a_form_ends_too_early(rt: HostRuntime) {
+    let rt = &rt;
     let alloc = rt.alloc();
-    let short = form_of_letters(&rt, alloc, 24);
-    equal(short.len(), 28).expect(&rt, "equal");
-    assert_beginnings(&rt, alloc, &short, 1);
-    assert_beginnings(&rt, alloc, &short, 5);
-    let long = form_of_letters(&rt, alloc, 30);
-    assert_beginnings(&rt, alloc, &long, 1);
-    assert_beginnings(&rt, alloc, &long, 5);
+    let short = form_of_letters(rt, alloc, 24);
+    equal(short.len(), 28).expect(rt, "equal");
+    assert_beginnings(rt, alloc, &short, 1);
+    assert_beginnings(rt, alloc, &short, 5);
+    let long = form_of_letters(rt, alloc, 30);
+    assert_beginnings(rt, alloc, &long, 1);
+    assert_beginnings(rt, alloc, &long, 5);
 }
 
 /// Asserts where a text of so many letters stands, which comes byte by byte.
@@ -55,12 +56,13 @@ fn assert_broken(rt: &impl Abort, alloc: Global, bytes: &[u8], left: usize) {
 
 #[test]
 fn broken_bytes_come_one_by_one(rt: HostRuntime) {
+    let rt = &rt;
     let alloc = rt.alloc();
-    assert_broken(&rt, alloc, b"\x02\0\0\0\xC0\x80", 0);
-    assert_broken(&rt, alloc, b"\x03\0\0\0\xED\xA0\x80\x41\x42", 2);
-    assert_broken(&rt, alloc, b"\x02\0\0\0\xE2\x82\xAC", 1);
+    assert_broken(rt, alloc, b"\x02\0\0\0\xC0\x80", 0);
+    assert_broken(rt, alloc, b"\x03\0\0\0\xED\xA0\x80\x41\x42", 2);
+    assert_broken(rt, alloc, b"\x02\0\0\0\xE2\x82\xAC", 1);
     assert_broken(
-        &rt,
+        rt,
         alloc,
         b"\x1A\0\0\0aaaaaaaaaaaaaaaaaaaaaaaa\xE2\x82\xAC",
         1,
@@ -76,21 +78,22 @@ fn assert_sent(rt: &impl Abort, text: &CompactString, stop: Stop, end: &str, out
 
 #[test]
 fn a_long_text_stops_at_each_byte(rt: HostRuntime) {
+    let rt = &rt;
     let alloc = rt.alloc();
-    let text = value_of(alloc, letters(30)).expect(&rt, "memory");
-    let form = form_of_letters(&rt, alloc, 30);
-    assert_sent(&rt, &text, Stop::Never, "done", &form);
+    let text = value_of(alloc, letters(30)).expect(rt, "memory");
+    let form = form_of_letters(rt, alloc, 30);
+    assert_sent(rt, &text, Stop::Never, "done", &form);
     for call in 1..form.len() + 1 {
         let out = form.get(..call - 1).unwrap_or(&[]);
-        assert_sent(&rt, &text, Stop::Fails(call, ErrorKind::Other), "io", out);
+        assert_sent(rt, &text, Stop::Fails(call, ErrorKind::Other), "io", out);
         assert_sent(
-            &rt,
+            rt,
             &text,
             Stop::Fails(call, ErrorKind::Interrupted),
             "io",
             out,
         );
-        assert_sent(&rt, &text, Stop::Pauses(call), "zero", out);
+        assert_sent(rt, &text, Stop::Pauses(call), "zero", out);
     }
 }
 

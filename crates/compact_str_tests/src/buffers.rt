@@ -51,13 +51,14 @@ fn assert_read(rt: &impl Abort, alloc: Global, text: &str) {
 
 #[test]
 fn a_text_is_read_wherever_it_is_parted(rt: HostRuntime) {
+    let rt = &rt;
     let alloc = rt.alloc();
-    assert_read(&rt, alloc, "");
-    assert_read(&rt, alloc, "aä€𝄞");
-    assert_read(&rt, alloc, "\u{1F496}");
-    assert_read(&rt, alloc, "€€€€€€€€");
-    assert_read(&rt, alloc, "€€€€€€€€€");
-    assert_read(&rt, alloc, "aä€𝄞aä€𝄞aä€𝄞aä€𝄞");
+    assert_read(rt, alloc, "");
+    assert_read(rt, alloc, "aä€𝄞");
+    assert_read(rt, alloc, "\u{1F496}");
+    assert_read(rt, alloc, "€€€€€€€€");
+    assert_read(rt, alloc, "€€€€€€€€€");
+    assert_read(rt, alloc, "aä€𝄞aä€𝄞aä€𝄞aä€𝄞");
 }
 
 /// Asserts that invalid bytes have one error wherever they are parted.
@@ -78,26 +79,28 @@ fn error_at(valid_up_to: usize, error_len: Option<usize>) -> FromUtf8Error {
 
 #[test]
 fn invalid_bytes_have_one_error_wherever_they_are_parted(rt: HostRuntime) {
+    let rt = &rt;
     let alloc = rt.alloc();
-    assert_invalid(&rt, alloc, b"\xE2\x82A", error_at(0, Some(2)));
-    assert_invalid(&rt, alloc, b"\xC3\xA4\xED\xA0\x80", error_at(2, Some(1)));
-    assert_invalid(&rt, alloc, b"a\xF0\x9F\x92", error_at(1, None));
+    assert_invalid(rt, alloc, b"\xE2\x82A", error_at(0, Some(2)));
+    assert_invalid(rt, alloc, b"\xC3\xA4\xED\xA0\x80", error_at(2, Some(1)));
+    assert_invalid(rt, alloc, b"a\xF0\x9F\x92", error_at(1, None));
     let short = b"\0\0\0\0\0\0\0\0\0\0\0\0\0\0\0\0\0\0\0\0\0\0\0\xC0";
-    assert_invalid(&rt, alloc, short, error_at(23, Some(1)));
+    assert_invalid(rt, alloc, short, error_at(23, Some(1)));
     let long = b"aaaaaaaaaaaaaaaaaaaaaaaa\xF4\x90\x80\x80";
-    assert_invalid(&rt, alloc, long, error_at(24, Some(1)));
+    assert_invalid(rt, alloc, long, error_at(24, Some(1)));
 }
 
 #[test]
 fn drips_of_24_bytes_need_no_memory(rt: HostRuntime) {
+    let rt = &rt;
     let alloc = rt.alloc();
-    let hog = take_all(alloc).expect(&rt, "room for the list of blocks");
-    assert_read(&rt, alloc, "€€€€€€€€");
-    assert_invalid(&rt, alloc, b"a\xF0\x9F\x92", error_at(1, None));
+    let hog = take_all(alloc).expect(rt, "room for the list of blocks");
+    assert_read(rt, alloc, "€€€€€€€€");
+    assert_invalid(rt, alloc, b"a\xF0\x9F\x92", error_at(1, None));
     let mut drips = Drips {
         rest: letters(25).as_bytes(),
     };
     let made = CompactString::from_utf8_buf(alloc, &mut drips);
-    that(matches!(made, Err(FromUtf8Error::Reserve(_)))).expect(&rt, "it holds");
+    that(matches!(made, Err(FromUtf8Error::Reserve(_)))).expect(rt, "it holds");
     drop(hog);
 }

@@ -16,12 +16,13 @@ fn an_append_grows_the_buffer_by_half(rt: HostRuntime) {
 
 #[test]
 fn room_is_given_back(rt: HostRuntime) {
-    let mut value = with_room(rt.alloc(), 100).expect(&rt, "memory");
-    append(&mut value, letters(40)).expect(&rt, "memory");
+    let rt = &rt;
+    let mut value = with_room(rt.alloc(), 100).expect(rt, "memory");
+    append(&mut value, letters(40)).expect(rt, "memory");
     value.shrink_to(50);
-    that(is_heap(&value, 50, letters(40))).expect(&rt, "it holds");
+    that(is_heap(&value, 50, letters(40))).expect(rt, "it holds");
     value.shrink_to_fit();
-    that(is_heap(&value, 40, letters(40))).expect(&rt, "it holds");
+    that(is_heap(&value, 40, letters(40))).expect(rt, "it holds");
 }
 
 /// Whether an empty value with this capacity is made.
@@ -31,12 +32,13 @@ fn has_room(alloc: Global, capacity: usize) -> bool {
 
 #[test]
 fn what_goes_past_the_limit_is_refused_with_ample_memory(rt: HostRuntime) {
+    let rt = &rt;
     let alloc = rt.alloc();
-    that(has_room(alloc, 100)).expect(&rt, "it holds");
-    that(!has_room(alloc, 72_057_594_037_927_935)).expect(&rt, "it holds");
-    that(!has_room(alloc, usize::MAX)).expect(&rt, "it holds");
+    that(has_room(alloc, 100)).expect(rt, "it holds");
+    that(!has_room(alloc, 72_057_594_037_927_935)).expect(rt, "it holds");
+    that(!has_room(alloc, usize::MAX)).expect(rt, "it holds");
     let mut value = short(alloc, "ab");
-    that(value.try_reserve(usize::MAX).is_err()).expect(&rt, "it holds");
-    that(is_inline(&value, "ab")).expect(&rt, "it holds");
-    that(value.repeat(36_028_797_018_963_968).is_err()).expect(&rt, "it holds");
+    that(value.try_reserve(usize::MAX).is_err()).expect(rt, "it holds");
+    that(is_inline(&value, "ab")).expect(rt, "it holds");
+    that(value.repeat(36_028_797_018_963_968).is_err()).expect(rt, "it holds");
 }

@@ -26,19 +26,20 @@ fn is_concatenated(rt: &impl Abort, alloc: Global, texts: [&str; 4], text: &str)
 
 #[test]
 fn items_are_joined_and_concatenated(rt: HostRuntime) {
+    let rt = &rt;
     let alloc = rt.alloc();
     is_joined(
-        &rt,
+        rt,
         alloc,
         &["apples", "oranges", "bananas"],
         ", ",
         "apples, oranges, bananas",
     );
-    is_joined(&rt, alloc, &[], "-", "");
-    is_joined(&rt, alloc, &["a"], "-", "a");
-    is_joined(&rt, alloc, &["a", ""], "-", "a-");
-    is_joined(&rt, alloc, &["", "", "b"], "-", "--b");
-    is_concatenated(&rt, alloc, ["hello", " ", "world", "!"], "hello world!");
+    is_joined(rt, alloc, &[], "-", "");
+    is_joined(rt, alloc, &["a"], "-", "a");
+    is_joined(rt, alloc, &["a", ""], "-", "a-");
+    is_joined(rt, alloc, &["", "", "b"], "-", "--b");
+    is_concatenated(rt, alloc, ["hello", " ", "world", "!"], "hello world!");
 }
 
 /// The five kinds of text, each collected alone.
@@ -69,13 +70,14 @@ fn the_five_kinds_of_text_are_items(rt: HostRuntime) {
 
 #[test]
 fn texts_by_value_are_items_of_the_traits(rt: HostRuntime) {
+    let rt = &rt;
     let mut value: CompactString = ["a", "bc"]
         .into_iter()
         .collect(rt.alloc())
-        .expect(&rt, "memory");
-    that(is_inline(&value, "abc")).expect(&rt, "it holds");
-    value.extend(["äb€", "x"]).expect(&rt, "memory");
-    that(is_inline(&value, "abcäb€x")).expect(&rt, "it holds");
+        .expect(rt, "memory");
+    that(is_inline(&value, "abc")).expect(rt, "it holds");
+    value.extend(["äb€", "x"]).expect(rt, "memory");
+    that(is_inline(&value, "abcäb€x")).expect(rt, "it holds");
 }
 
 #[test]
@@ -89,15 +91,16 @@ fn values_are_put_behind_a_string(rt: HostRuntime) {
 
 #[test]
 fn a_string_is_extended_by_values_and_collected_of_them(rt: HostRuntime) {
+    let rt = &rt;
     let alloc = rt.alloc();
-    let mut line = String::from_str(alloc, "a").expect(&rt, "memory");
+    let mut line = String::from_str(alloc, "a").expect(rt, "memory");
     let values = [CompactString::const_new(alloc, "é"), lasting(alloc, 30)];
-    line.extend(values).expect(&rt, "memory");
-    equal(line.as_str(), "aéaaaaaaaaaaaaaaaaaaaaaaaaaaaaaa").expect(&rt, "equal");
+    line.extend(values).expect(rt, "memory");
+    equal(line.as_str(), "aéaaaaaaaaaaaaaaaaaaaaaaaaaaaaaa").expect(rt, "equal");
     let values = [
         CompactString::const_new(alloc, "b"),
         CompactString::const_new(alloc, ""),
     ];
-    let whole: String = values.into_iter().collect(alloc).expect(&rt, "memory");
-    equal(whole.as_str(), "b").expect(&rt, "equal");
+    let whole: String = values.into_iter().collect(alloc).expect(rt, "memory");
+    equal(whole.as_str(), "b").expect(rt, "equal");
 }

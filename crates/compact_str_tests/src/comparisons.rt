@@ -46,17 +46,18 @@ fn assert_less(rt: &impl Abort, value: &CompactString, other: &CompactString) {
 
 #[test]
 fn places_and_capacities_have_no_part(rt: HostRuntime) {
+    let rt = &rt;
     let alloc = rt.alloc();
     let borrowed = lasting(alloc, 30);
-    let made = value_of(alloc, letters(30)).expect(&rt, "memory");
-    let text = string_with_room(alloc, 90, letters(30)).expect(&rt, "memory");
+    let made = value_of(alloc, letters(30)).expect(rt, "memory");
+    let text = string_with_room(alloc, 90, letters(30)).expect(rt, "memory");
     let taken_over = CompactString::from_string_buffer(text);
-    that(is_static(&borrowed, letters(30))).expect(&rt, "it holds");
-    that(is_heap(&made, 32, letters(30))).expect(&rt, "it holds");
-    that(is_heap(&taken_over, 90, letters(30))).expect(&rt, "it holds");
-    assert_same(&rt, &borrowed, &made);
-    assert_same(&rt, &made, &taken_over);
-    assert_same(&rt, &taken_over, &borrowed);
+    that(is_static(&borrowed, letters(30))).expect(rt, "it holds");
+    that(is_heap(&made, 32, letters(30))).expect(rt, "it holds");
+    that(is_heap(&taken_over, 90, letters(30))).expect(rt, "it holds");
+    assert_same(rt, &borrowed, &made);
+    assert_same(rt, &made, &taken_over);
+    assert_same(rt, &taken_over, &borrowed);
 }
 
 /// Keeps the first three bytes.
@@ -67,15 +68,16 @@ fn cut_to_3(rt: &impl Abort, value: &mut CompactString) {
 
 #[test]
 fn what_stood_behind_a_text_has_no_part(rt: HostRuntime) {
+    let rt = &rt;
     let alloc = rt.alloc();
     let plain = short(alloc, "äb");
     let mut inline = short(alloc, "äbcdefghijklmn");
-    cut_to_3(&rt, &mut inline);
-    assert_same(&rt, &plain, &inline);
-    let mut heap = with_room(alloc, 60).expect(&rt, "memory");
-    append(&mut heap, "äbcdefghijklmnopqrstuvwxyz0123456789").expect(&rt, "memory");
-    cut_to_3(&rt, &mut heap);
-    assert_same(&rt, &inline, &heap);
+    cut_to_3(rt, &mut inline);
+    assert_same(rt, &plain, &inline);
+    let mut heap = with_room(alloc, 60).expect(rt, "memory");
+    append(&mut heap, "äbcdefghijklmnopqrstuvwxyz0123456789").expect(rt, "memory");
+    cut_to_3(rt, &mut heap);
+    assert_same(rt, &inline, &heap);
 }
 
 #[test]
@@ -94,15 +96,16 @@ fn texts_are_in_this_order(rt: HostRuntime) {
 
 #[test]
 fn the_first_place_that_differs_decides_at_any_length(rt: HostRuntime) {
+    let rt = &rt;
     let alloc = rt.alloc();
     for count in 0..40 {
-        let mut less = value_of(alloc, letters(count)).expect(&rt, "memory");
-        let mut greater = value_of(alloc, letters(count)).expect(&rt, "memory");
-        assert_same(&rt, &less, &greater);
-        append(&mut less, "\u{ffff}zz").expect(&rt, "memory");
-        assert_less(&rt, &greater, &less);
-        append(&mut greater, "\u{10000}").expect(&rt, "memory");
-        assert_less(&rt, &less, &greater);
+        let mut less = value_of(alloc, letters(count)).expect(rt, "memory");
+        let mut greater = value_of(alloc, letters(count)).expect(rt, "memory");
+        assert_same(rt, &less, &greater);
+        append(&mut less, "\u{ffff}zz").expect(rt, "memory");
+        assert_less(rt, &greater, &less);
+        append(&mut greater, "\u{10000}").expect(rt, "memory");
+        assert_less(rt, &less, &greater);
     }
 }
 
@@ -185,8 +188,9 @@ fn checksum(texts: &[CompactString]) -> u64 {
 
 #[test]
 fn many_texts_are_sorted_by_their_characters(rt: HostRuntime) {
-    let mut texts = texts(&rt, rt.alloc()).expect(&rt, "memory");
-    equal(checksum(&texts), 0x09d0_5973_d45d_07b5).expect(&rt, "equal");
+    let rt = &rt;
+    let mut texts = texts(rt, rt.alloc()).expect(rt, "memory");
+    equal(checksum(&texts), 0x09d0_5973_d45d_07b5).expect(rt, "equal");
     texts.as_mut_slice().sort_unstable();
-    equal(checksum(&texts), 0x6be0_90d3_3511_8755).expect(&rt, "equal");
+    equal(checksum(&texts), 0x6be0_90d3_3511_8755).expect(rt, "equal");
 }

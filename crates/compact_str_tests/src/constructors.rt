@@ -41,12 +41,13 @@ fn assert_taken_over(
 
 #[test]
 fn strings_are_taken_over_or_move_inline(rt: HostRuntime) {
+    let rt = &rt;
     let alloc = rt.alloc();
-    assert_taken_over(&rt, alloc, 100, "", ("inline", 24));
-    assert_taken_over(&rt, alloc, 256, "abc", ("inline", 24));
-    assert_taken_over(&rt, alloc, 30, letters(30), ("heap", 30));
-    assert_taken_over(&rt, alloc, 31, letters(30), ("heap", 31));
-    assert_taken_over(&rt, alloc, 100, letters(30), ("heap", 100));
+    assert_taken_over(rt, alloc, 100, "", ("inline", 24));
+    assert_taken_over(rt, alloc, 256, "abc", ("inline", 24));
+    assert_taken_over(rt, alloc, 30, letters(30), ("heap", 30));
+    assert_taken_over(rt, alloc, 31, letters(30), ("heap", 31));
+    assert_taken_over(rt, alloc, 100, letters(30), ("heap", 100));
 }
 
 /// The same of a vector of bytes, and of a box.
@@ -68,11 +69,12 @@ fn assert_bytes_and_box(
 
 #[test]
 fn bytes_and_boxes_are_taken_over_or_move_inline(rt: HostRuntime) {
+    let rt = &rt;
     let alloc = rt.alloc();
-    assert_bytes_and_box(&rt, alloc, 100, "", ("inline", 24));
-    assert_bytes_and_box(&rt, alloc, 256, "abc", ("inline", 24));
-    assert_bytes_and_box(&rt, alloc, 90, letters(30), ("heap", 90));
-    assert_bytes_and_box(&rt, alloc, 100, letters(40), ("heap", 100));
+    assert_bytes_and_box(rt, alloc, 100, "", ("inline", 24));
+    assert_bytes_and_box(rt, alloc, 256, "abc", ("inline", 24));
+    assert_bytes_and_box(rt, alloc, 90, letters(30), ("heap", 90));
+    assert_bytes_and_box(rt, alloc, 100, letters(40), ("heap", 100));
 }
 
 /// Asserts that bytes are no text, and that they come back as they were.

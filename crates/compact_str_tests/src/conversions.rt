@@ -22,31 +22,33 @@ fn shortened(rt: &impl Abort, alloc: Global) -> CompactString {
 
 #[test]
 fn what_leaves_has_this_room(rt: HostRuntime) {
+    let rt = &rt;
     let alloc = rt.alloc();
-    let text = string_with_room(alloc, 90, letters(30)).expect(&rt, "memory");
+    let text = string_with_room(alloc, 90, letters(30)).expect(rt, "memory");
     let value = CompactString::from_string_buffer(text);
-    let text = value.into_string().expect(&rt, "memory");
-    equal(text.capacity(), 90).expect(&rt, "equal");
+    let text = value.into_string().expect(rt, "memory");
+    equal(text.capacity(), 90).expect(rt, "equal");
     let value = CompactString::from_string_buffer(text);
-    that(is_heap(&value, 90, letters(30))).expect(&rt, "it holds");
-    let bytes = value.into_vec().expect(&rt, "memory");
-    equal(bytes.capacity(), 90).expect(&rt, "equal");
-    let bytes = short(alloc, "äb").into_bytes().expect(&rt, "memory");
-    equal(bytes.as_slice(), [0xc3, 0xa4, 0x62].as_slice()).expect(&rt, "equal");
-    equal(bytes.capacity(), 24).expect(&rt, "equal");
+    that(is_heap(&value, 90, letters(30))).expect(rt, "it holds");
+    let bytes = value.into_vec().expect(rt, "memory");
+    equal(bytes.capacity(), 90).expect(rt, "equal");
+    let bytes = short(alloc, "äb").into_bytes().expect(rt, "memory");
+    equal(bytes.as_slice(), [0xc3, 0xa4, 0x62].as_slice()).expect(rt, "equal");
+    equal(bytes.capacity(), 24).expect(rt, "equal");
 }
 
 #[test]
 fn boxes_and_shared_texts_have_the_text(rt: HostRuntime) {
+    let rt = &rt;
     let alloc = rt.alloc();
-    let boxed = short(alloc, "äb").into_boxed_str().expect(&rt, "memory");
-    equal(boxed.as_str(), "äb").expect(&rt, "equal");
-    let boxed = shortened(&rt, alloc).into_boxed_str().expect(&rt, "memory");
-    equal(boxed.as_str(), "äb").expect(&rt, "equal");
-    let shared = shortened(&rt, alloc).into_rc().expect(&rt, "memory");
-    equal(shared.as_str(), "äb").expect(&rt, "equal");
-    let shared = lasting(alloc, 30).into_rc().expect(&rt, "memory");
-    equal(shared.as_str(), letters(30)).expect(&rt, "equal");
+    let boxed = short(alloc, "äb").into_boxed_str().expect(rt, "memory");
+    equal(boxed.as_str(), "äb").expect(rt, "equal");
+    let boxed = shortened(rt, alloc).into_boxed_str().expect(rt, "memory");
+    equal(boxed.as_str(), "äb").expect(rt, "equal");
+    let shared = shortened(rt, alloc).into_rc().expect(rt, "memory");
+    equal(shared.as_str(), "äb").expect(rt, "equal");
+    let shared = lasting(alloc, 30).into_rc().expect(rt, "memory");
+    equal(shared.as_str(), letters(30)).expect(rt, "equal");
 }
 
 /// Asserts that a text is borrowed, or that it is owned.
@@ -57,14 +59,15 @@ fn is_lent(rt: &impl Abort, cow: CowStr<'_>, text: &str, is_borrowed: bool) {
 
 #[test]
 fn a_static_text_is_borrowed_and_others_are_owned(rt: HostRuntime) {
+    let rt = &rt;
     let alloc = rt.alloc();
-    let cow = lasting(alloc, 30).into_cow().expect(&rt, "memory");
-    is_lent(&rt, cow, letters(30), true);
-    let cow = short(alloc, "äb").into_cow().expect(&rt, "memory");
-    is_lent(&rt, cow, "äb", false);
-    let value = shortened(&rt, alloc);
-    is_lent(&rt, value.as_cow(), "äb", true);
-    is_lent(&rt, value.into_cow().expect(&rt, "memory"), "äb", false);
+    let cow = lasting(alloc, 30).into_cow().expect(rt, "memory");
+    is_lent(rt, cow, letters(30), true);
+    let cow = short(alloc, "äb").into_cow().expect(rt, "memory");
+    is_lent(rt, cow, "äb", false);
+    let value = shortened(rt, alloc);
+    is_lent(rt, value.as_cow(), "äb", true);
+    is_lent(rt, value.into_cow().expect(rt, "memory"), "äb", false);
 }
 
 /// The JSON value of a text.
@@ -85,11 +88,12 @@ fn value_in(rt: &impl Abort, alloc: Global, json: &Value) -> CompactString {
 
 #[test]
 fn a_value_is_a_json_string(rt: HostRuntime) {
+    let rt = &rt;
     let alloc = rt.alloc();
-    is_printed(&rt, alloc, short(alloc, "abc"), "\"abc\"");
-    is_printed(&rt, alloc, short(alloc, "ä\"\n"), "\"ä\\\"\\n\"");
-    let json = json_of(&rt, &lasting(alloc, 30));
-    that(is_heap(&value_in(&rt, alloc, &json), 32, letters(30))).expect(&rt, "it holds");
+    is_printed(rt, alloc, short(alloc, "abc"), "\"abc\"");
+    is_printed(rt, alloc, short(alloc, "ä\"\n"), "\"ä\\\"\\n\"");
+    let json = json_of(rt, &lasting(alloc, 30));
+    that(is_heap(&value_in(rt, alloc, &json), 32, letters(30))).expect(rt, "it holds");
 }
 
 /// The JSON value that a text stands for.
@@ -106,10 +110,11 @@ fn is_no_string(rt: &impl Abort, alloc: Global, text: &str) {
 
 #[test]
 fn only_a_json_string_is_taken(rt: HostRuntime) {
+    let rt = &rt;
     let alloc = rt.alloc();
-    let json = json_in(&rt, alloc, "\"abc\"");
-    that(is_inline(&value_in(&rt, alloc, &json), "abc")).expect(&rt, "it holds");
+    let json = json_in(rt, alloc, "\"abc\"");
+    that(is_inline(&value_in(rt, alloc, &json), "abc")).expect(rt, "it holds");
     for text in ["1", "null", "true", "[]", "{}", "[\"abc\"]"] {
-        is_no_string(&rt, alloc, text);
+        is_no_string(rt, alloc, text);
     }
 }

@@ -164,22 +164,19 @@ fn assert_no_text(rt: &impl Abort, made: Result<CompactString, FromUtf16Error>) 
 
 #[test]
 fn invalid_bytes_of_units_are_told_and_replaced(rt: HostRuntime) {
+    let rt = &rt;
     let alloc = rt.alloc();
     for (odd, text) in [
         (b"\x3D\xD8\x6F".as_slice(), "\u{FFFD}\u{FFFD}"),
         (b"A\0B".as_slice(), "A\u{FFFD}"),
     ] {
-        assert_no_text(&rt, CompactString::from_utf16le(alloc, odd));
-        assert_inline(&rt, CompactString::from_utf16le_lossy(alloc, odd), text);
+        assert_no_text(rt, CompactString::from_utf16le(alloc, odd));
+        assert_inline(rt, CompactString::from_utf16le_lossy(alloc, odd), text);
     }
     let unpaired = b"\xD8\x3D\xDC\x6F\x20\x0D\x26\x40\xDE\x0F";
-    assert_no_text(&rt, CompactString::from_utf16be(alloc, unpaired));
+    assert_no_text(rt, CompactString::from_utf16be(alloc, unpaired));
     let text = "\u{1F46F}\u{200D}\u{2640}\u{FFFD}";
-    assert_inline(
-        &rt,
-        CompactString::from_utf16be_lossy(alloc, unpaired),
-        text,
-    );
+    assert_inline(rt, CompactString::from_utf16be_lossy(alloc, unpaired), text);
 }
 
 #[test]
@@ -193,8 +190,9 @@ fn a_buffer_that_is_known_to_be_a_text_is_read_to_its_end(rt: HostRuntime) {
 /// Bytes and units that are here already are validated first, and a buffer is read first.
 #[test]
 fn errors_are_told_before_memory_is_asked_for(rt: HostRuntime) {
+    let rt = &rt;
     let alloc = rt.alloc();
-    let hog = take_all(alloc).expect(&rt, "room for the list of blocks");
+    let hog = take_all(alloc).expect(rt, "room for the list of blocks");
     let error = CompactString::from_utf8(alloc, b"aaaaaaaaaaaaaaaaaaaaaaaaaaaaa\xFF").err();
     that(
         error
@@ -203,12 +201,12 @@ fn errors_are_told_before_memory_is_asked_for(rt: HostRuntime) {
                 error_len: Some(1),
             }),
     )
-    .expect(&rt, "it holds");
-    assert_no_text(&rt, CompactString::from_utf16(alloc, &[0xDC00; 30]));
-    assert_no_text(&rt, CompactString::from_utf16le(alloc, &[0x61; 59]));
+    .expect(rt, "it holds");
+    assert_no_text(rt, CompactString::from_utf16(alloc, &[0xDC00; 30]));
+    assert_no_text(rt, CompactString::from_utf16le(alloc, &[0x61; 59]));
     let mut invalid = b"\xFFaaaaaaaaaaaaaaaaaaaaaaaaaaaaa".as_slice();
     let refused = CompactString::from_utf8_buf(alloc, &mut invalid).err();
-    that(refused == Some(FromUtf8Error::Reserve(ReserveError))).expect(&rt, "it holds");
+    that(refused == Some(FromUtf8Error::Reserve(ReserveError))).expect(rt, "it holds");
     drop(hog);
 }
 

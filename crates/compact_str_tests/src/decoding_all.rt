@@ -50,40 +50,42 @@ fn mix_lossy(rt: &impl Abort, alloc: Global, sum: u64, bytes: &[u8]) -> u64 {
 
 #[test]
 fn all_inputs_of_two_bytes(rt: HostRuntime) {
+    let rt = &rt;
     let alloc = rt.alloc();
     let mut texts = 0u32;
     let mut sum = 0;
     for first in 0..=255 {
         for second in 0..=255 {
-            let error = error_of(&rt, alloc, &[first, second]);
+            let error = error_of(rt, alloc, &[first, second]);
             if error == 255 {
                 texts = texts.wrapping_add(1);
             }
-            sum = mix_lossy(&rt, alloc, mix(sum, error), &[first, second]);
+            sum = mix_lossy(rt, alloc, mix(sum, error), &[first, second]);
         }
     }
-    equal(texts, 18304).expect(&rt, "equal");
-    equal(sum, 0x0020_fb58_2b7c_9240).expect(&rt, "equal");
+    equal(texts, 18304).expect(rt, "equal");
+    equal(sum, 0x0020_fb58_2b7c_9240).expect(rt, "equal");
 }
 
 #[test]
 fn all_inputs_of_three_bytes_at_the_bounds(rt: HostRuntime) {
+    let rt = &rt;
     let alloc = rt.alloc();
     let mut texts = 0u32;
     let mut sum = 0;
     for first in BOUNDS {
         for second in BOUNDS {
             for third in BOUNDS {
-                let error = error_of(&rt, alloc, &[first, second, third]);
+                let error = error_of(rt, alloc, &[first, second, third]);
                 if error == 255 {
                     texts = texts.wrapping_add(1);
                 }
-                sum = mix_lossy(&rt, alloc, mix(sum, error), &[first, second, third]);
+                sum = mix_lossy(rt, alloc, mix(sum, error), &[first, second, third]);
             }
         }
     }
-    equal(texts, 279).expect(&rt, "equal");
-    equal(sum, 0xb65d_1f78_3995_512c).expect(&rt, "equal");
+    equal(texts, 279).expect(rt, "equal");
+    equal(sum, 0xb65d_1f78_3995_512c).expect(rt, "equal");
 }
 
 #[test]

@@ -90,10 +90,11 @@ fn what_json_escapes_is_read_back(rt: HostRuntime) {
 
 #[test]
 fn escapes_that_no_writer_makes_are_read(rt: HostRuntime) {
+    let rt = &rt;
     let alloc = rt.alloc();
-    that(is_fitted(&read(&rt, alloc, r#""\u00eb""#), "ë")).expect(&rt, "it holds");
-    that(is_fitted(&read(&rt, alloc, r#""\ud834\udd1e""#), "𝄞")).expect(&rt, "it holds");
-    that(is_fitted(&read(&rt, alloc, r#" "a\/b" "#), "a/b")).expect(&rt, "it holds");
+    that(is_fitted(&read(rt, alloc, r#""\u00eb""#), "ë")).expect(rt, "it holds");
+    that(is_fitted(&read(rt, alloc, r#""\ud834\udd1e""#), "𝄞")).expect(rt, "it holds");
+    that(is_fitted(&read(rt, alloc, r#" "a\/b" "#), "a/b")).expect(rt, "it holds");
 }
 
 #[test]

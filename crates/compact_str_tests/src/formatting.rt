@@ -15,25 +15,27 @@ fn is(rt: &impl Abort, made: Result<String, AllocError>, text: &str) {
 
 #[test]
 fn a_value_is_shown_as_its_text(rt: HostRuntime) {
+    let rt = &rt;
     let alloc = rt.alloc();
     let value = short(alloc, "äb");
-    is(&rt, format!(in alloc; "{value}"), "äb");
-    is(&rt, format!(in alloc; "<{value}>"), "<äb>");
+    is(rt, format!(in alloc; "{value}"), "äb");
+    is(rt, format!(in alloc; "<{value}>"), "<äb>");
     let long = lasting(alloc, 40);
-    is(&rt, format!(in alloc; "{long}"), letters(40));
+    is(rt, format!(in alloc; "{long}"), letters(40));
     let empty = CompactString::default(alloc);
-    is(&rt, format!(in alloc; "{empty}"), "");
+    is(rt, format!(in alloc; "{empty}"), "");
 }
 
 #[test]
 fn a_width_pads_by_characters(rt: HostRuntime) {
+    let rt = &rt;
     let alloc = rt.alloc();
     let value = short(alloc, "äb");
-    is(&rt, format!(in alloc; "{value:*>5}"), "***äb");
-    is(&rt, format!(in alloc; "{value:*^6}"), "**äb**");
-    is(&rt, format!(in alloc; "{value:>9}"), "       äb");
-    is(&rt, format!(in alloc; "{value:4}|"), "äb  |");
-    is(&rt, format!(in alloc; "{value:€<3}"), "äb€");
+    is(rt, format!(in alloc; "{value:*>5}"), "***äb");
+    is(rt, format!(in alloc; "{value:*^6}"), "**äb**");
+    is(rt, format!(in alloc; "{value:>9}"), "       äb");
+    is(rt, format!(in alloc; "{value:4}|"), "äb  |");
+    is(rt, format!(in alloc; "{value:€<3}"), "äb€");
 }
 
 #[test]
@@ -60,12 +62,13 @@ fn debug_quotes_and_escapes(rt: HostRuntime) {
 
 #[test]
 fn errors_are_shown_so(rt: HostRuntime) {
+    let rt = &rt;
     let alloc = rt.alloc();
     let text = "Cannot allocate memory to hold CompactString";
-    is(&rt, format!(in alloc; "{ReserveError}"), text);
+    is(rt, format!(in alloc; "{ReserveError}"), text);
     let error = FromJsonError::NotAString;
-    is(&rt, format!(in alloc; "{error}"), "not a JSON string");
+    is(rt, format!(in alloc; "{error}"), "not a JSON string");
     let error = FromJsonError::from(ReserveError);
-    that(matches!(error, FromJsonError::Reserve(ReserveError))).expect(&rt, "it holds");
-    is(&rt, format!(in alloc; "{error}"), text);
+    that(matches!(error, FromJsonError::Reserve(ReserveError))).expect(rt, "it holds");
+    is(rt, format!(in alloc; "{error}"), text);
 }

@@ -12,10 +12,11 @@ fn has_memory(alloc: Global) -> bool {
 
 #[test]
 fn each_request_is_refused_until_the_hog_is_dropped(rt: HostRuntime) {
+    let rt = &rt;
     let alloc = rt.alloc();
-    let hog = take_all(alloc).expect(&rt, "room for the list of blocks");
-    that(hog.block_count() > 0).expect(&rt, "it holds");
-    that(!has_memory(alloc)).expect(&rt, "it holds");
+    let hog = take_all(alloc).expect(rt, "room for the list of blocks");
+    that(hog.block_count() > 0).expect(rt, "it holds");
+    that(!has_memory(alloc)).expect(rt, "it holds");
     drop(hog);
-    that(has_memory(alloc)).expect(&rt, "it holds");
+    that(has_memory(alloc)).expect(rt, "it holds");
 }

@@ -47,10 +47,11 @@ fn is_packed_anew(rt: &impl Abort, alloc: Global, value: &CompactString) {
 
 #[test]
 fn rows_of_made_values(rt: HostRuntime) {
+    let rt = &rt;
     let alloc = rt.alloc();
     let mut row = [0; 24];
     row[23] = 0xC0;
-    equal(bytes_of(&rt, &CompactString::default(alloc)), row).expect(&rt, "equal");
+    equal(bytes_of(rt, &CompactString::default(alloc)), row).expect(rt, "equal");
     for (text, row) in [
         ("", b"\0\0\0\0\0\0\0\0\0\0\0\0\0\0\0\0\0\0\0\0\0\0\0\xC0"),
         ("hello world", b"hello world\0\0\0\0\0\0\0\0\0\0\0\0\xCB"),
@@ -59,22 +60,23 @@ fn rows_of_made_values(rt: HostRuntime) {
         ("i am 24 characters long!", b"i am 24 characters long!"),
     ] {
         equal(
-            &bytes_of(&rt, &value_of(alloc, text).expect(&rt, "memory")),
+            &bytes_of(rt, &value_of(alloc, text).expect(rt, "memory")),
             row,
         )
-        .expect(&rt, "equal");
+        .expect(rt, "equal");
     }
 }
 
 #[test]
 fn the_last_byte_of_24_is_of_the_text_or_its_length(rt: HostRuntime) {
+    let rt = &rt;
     let alloc = rt.alloc();
-    let euros = bytes_of(&rt, &value_of(alloc, "€€€€€€€€").expect(&rt, "memory"));
-    equal(euros[23], 0xAC).expect(&rt, "equal");
-    let mut cut = value_of(alloc, letters(24)).expect(&rt, "memory");
-    truncate(&rt, &mut cut, 3);
-    equal(bytes_of(&rt, &cut)[23], 0xC3).expect(&rt, "equal");
-    is_packed(&rt, alloc, &cut);
+    let euros = bytes_of(rt, &value_of(alloc, "€€€€€€€€").expect(rt, "memory"));
+    equal(euros[23], 0xAC).expect(rt, "equal");
+    let mut cut = value_of(alloc, letters(24)).expect(rt, "memory");
+    truncate(rt, &mut cut, 3);
+    equal(bytes_of(rt, &cut)[23], 0xC3).expect(rt, "equal");
+    is_packed(rt, alloc, &cut);
 }
 
 /// Asserts whether a value has the bytes.
@@ -84,32 +86,26 @@ fn has_bytes(rt: &impl Abort, value: CompactString, has: bool) {
 
 #[test]
 fn only_inline_values_have_the_bytes(rt: HostRuntime) {
+    let rt = &rt;
     let alloc = rt.alloc();
-    has_bytes(&rt, lasting(alloc, 25), false);
-    has_bytes(
-        &rt,
-        value_of(alloc, letters(25)).expect(&rt, "memory"),
-        false,
-    );
-    has_bytes(&rt, with_room(alloc, 25).expect(&rt, "memory"), false);
-    has_bytes(&rt, lasting(alloc, 24), true);
-    has_bytes(
-        &rt,
-        value_of(alloc, letters(24)).expect(&rt, "memory"),
-        true,
-    );
+    has_bytes(rt, lasting(alloc, 25), false);
+    has_bytes(rt, value_of(alloc, letters(25)).expect(rt, "memory"), false);
+    has_bytes(rt, with_room(alloc, 25).expect(rt, "memory"), false);
+    has_bytes(rt, lasting(alloc, 24), true);
+    has_bytes(rt, value_of(alloc, letters(24)).expect(rt, "memory"), true);
 }
 
 #[test]
 fn bytes_that_stand_for_a_text_are_read(rt: HostRuntime) {
+    let rt = &rt;
     let alloc = rt.alloc();
-    that(is_inline(&read(&rt, alloc, &[0x61; 24]), letters(24))).expect(&rt, "it holds");
+    that(is_inline(&read(rt, alloc, &[0x61; 24]), letters(24))).expect(rt, "it holds");
     let mut row = [0xFF; 24];
     row[0] = 0x61;
     row[23] = 0xC1;
-    that(is_inline(&read(&rt, alloc, &row), "a")).expect(&rt, "it holds");
+    that(is_inline(&read(rt, alloc, &row), "a")).expect(rt, "it holds");
     row[23] = 0xC0;
-    that(is_inline(&read(&rt, alloc, &row), "")).expect(&rt, "it holds");
+    that(is_inline(&read(rt, alloc, &row), "")).expect(rt, "it holds");
 }
 
 #[test]
@@ -126,9 +122,10 @@ fn bytes_that_stand_for_no_text_are_refused(rt: HostRuntime) {
 
 #[test]
 fn each_length_is_packed(rt: HostRuntime) {
+    let rt = &rt;
     let alloc = rt.alloc();
     let mut value = CompactString::default(alloc);
-    is_packed_anew(&rt, alloc, &value);
+    is_packed_anew(rt, alloc, &value);
     for count in 0..24u8 {
         value
             .push_str(
@@ -136,21 +133,22 @@ fn each_length_is_packed(rt: HostRuntime) {
                     .get(count as usize..count as usize + 1)
                     .unwrap_or(""),
             )
-            .expect(&rt, "memory");
-        is_packed_anew(&rt, alloc, &value);
+            .expect(rt, "memory");
+        is_packed_anew(rt, alloc, &value);
     }
-    that(is_inline(&value, "abcdefghijklmnopqrstuvwx")).expect(&rt, "it holds");
+    that(is_inline(&value, "abcdefghijklmnopqrstuvwx")).expect(rt, "it holds");
 }
 
 #[test]
 fn each_length_is_cut(rt: HostRuntime) {
+    let rt = &rt;
     let alloc = rt.alloc();
-    let mut value = value_of(alloc, "abcdefghijklmnopqrstuvwx").expect(&rt, "memory");
+    let mut value = value_of(alloc, "abcdefghijklmnopqrstuvwx").expect(rt, "memory");
     for _ in 0..24u8 {
-        that(value.pop().is_some()).expect(&rt, "it holds");
-        is_packed_anew(&rt, alloc, &value);
+        that(value.pop().is_some()).expect(rt, "it holds");
+        is_packed_anew(rt, alloc, &value);
     }
-    that(is_inline(&value, "")).expect(&rt, "it holds");
+    that(is_inline(&value, "")).expect(rt, "it holds");
 }
 
 #[test]
@@ -180,21 +178,18 @@ fn is_wiped(rt: &impl Abort, alloc: Global, mut value: CompactString) {
 
 #[test]
 fn a_wiped_value_has_zeros_and_the_mark_of_no_text(rt: HostRuntime) {
+    let rt = &rt;
     let alloc = rt.alloc();
     for count in 0..25 {
         is_wiped(
-            &rt,
+            rt,
             alloc,
-            value_of(alloc, letters(count)).expect(&rt, "memory"),
+            value_of(alloc, letters(count)).expect(rt, "memory"),
         );
-        let mut cut = value_of(alloc, letters(24)).expect(&rt, "memory");
-        truncate(&rt, &mut cut, count);
-        is_wiped(&rt, alloc, cut);
+        let mut cut = value_of(alloc, letters(24)).expect(rt, "memory");
+        truncate(rt, &mut cut, count);
+        is_wiped(rt, alloc, cut);
     }
-    is_wiped(
-        &rt,
-        alloc,
-        value_of(alloc, "€€€€€€€€").expect(&rt, "memory"),
-    );
-    is_wiped(&rt, alloc, lasting(alloc, 30));
+    is_wiped(rt, alloc, value_of(alloc, "€€€€€€€€").expect(rt, "memory"));
+    is_wiped(rt, alloc, lasting(alloc, 30));
 }

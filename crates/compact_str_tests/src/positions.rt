@@ -16,16 +16,17 @@ fn split(rt: &impl Abort, value: &mut CompactString, index: usize) -> CompactStr
 
 #[test]
 fn texts_of_the_program_are_split(rt: HostRuntime) {
+    let rt = &rt;
     let alloc = rt.alloc();
     let mut value = CompactString::const_new(alloc, "Hello, world!");
-    that(is_inline(&split(&rt, &mut value, 5), ", world!")).expect(&rt, "it holds");
-    that(is_inline(&value, "Hello")).expect(&rt, "it holds");
+    that(is_inline(&split(rt, &mut value, 5), ", world!")).expect(rt, "it holds");
+    that(is_inline(&value, "Hello")).expect(rt, "it holds");
     let mut value = lasting(alloc, 30);
-    that(is_static(&split(&rt, &mut value, 3), letters(27))).expect(&rt, "it holds");
-    that(is_static(&value, letters(3))).expect(&rt, "it holds");
+    that(is_static(&split(rt, &mut value, 3), letters(27))).expect(rt, "it holds");
+    that(is_static(&value, letters(3))).expect(rt, "it holds");
     let mut value = lasting(alloc, 30);
-    that(is_inline(&split(&rt, &mut value, 6), letters(24))).expect(&rt, "it holds");
-    that(is_static(&value, letters(6))).expect(&rt, "it holds");
+    that(is_inline(&split(rt, &mut value, 6), letters(24))).expect(rt, "it holds");
+    that(is_static(&value, letters(6))).expect(rt, "it holds");
 }
 
 #[test]

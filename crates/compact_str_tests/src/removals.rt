@@ -28,14 +28,15 @@ fn greeted<'a>(rt: &impl Abort, value: &'a mut CompactString) -> Drain<'a, Stand
 
 #[test]
 fn a_drain_gives_its_characters_from_both_ends(rt: HostRuntime) {
+    let rt = &rt;
     let mut value = short(rt.alloc(), "Hello, world!");
-    let mut drained = greeted(&rt, &mut value);
-    that(drained.size_hint() == (2, Some(7))).expect(&rt, "it holds");
-    equal(drained.next(), Some(',')).expect(&rt, "equal");
-    equal(drained.next_back(), Some('d')).expect(&rt, "equal");
-    equal(drained.as_str(), " worl").expect(&rt, "equal");
+    let mut drained = greeted(rt, &mut value);
+    that(drained.size_hint() == (2, Some(7))).expect(rt, "it holds");
+    equal(drained.next(), Some(',')).expect(rt, "equal");
+    equal(drained.next_back(), Some('d')).expect(rt, "equal");
+    equal(drained.as_str(), " worl").expect(rt, "equal");
     drop(drained);
-    that(is_inline(&value, "Hello!")).expect(&rt, "it holds");
+    that(is_inline(&value, "Hello!")).expect(rt, "it holds");
 }
 
 #[test]
@@ -62,12 +63,13 @@ fn a_drain_counts_what_is_left(rt: HostRuntime) {
 
 #[test]
 fn a_drain_shows_what_is_not_taken_yet(rt: HostRuntime) {
+    let rt = &rt;
     let mut value = short(rt.alloc(), "Hello, world!");
-    let mut drained = greeted(&rt, &mut value);
-    equal(drained.next(), Some(',')).expect(&rt, "equal");
-    equal(drained.as_str(), " world").expect(&rt, "equal");
+    let mut drained = greeted(rt, &mut value);
+    equal(drained.next(), Some(',')).expect(rt, "equal");
+    equal(drained.as_str(), " world").expect(rt, "equal");
     drop(drained);
-    that(is_inline(&value, "Hello!")).expect(&rt, "it holds");
+    that(is_inline(&value, "Hello!")).expect(rt, "it holds");
 }
 
 #[test]
@@ -97,16 +99,17 @@ fn a_drain_prints_what_is_left(rt: HostRuntime) {
 
 #[test]
 fn the_ends_of_a_drain_meet(rt: HostRuntime) {
+    let rt = &rt;
     let mut value = short(rt.alloc(), "𝄞🦄𝄢");
-    let mut drained = drain(&rt, &mut value, Unbounded, Unbounded);
-    equal(drained.next_back(), Some('𝄢')).expect(&rt, "equal");
-    equal(drained.next(), Some('𝄞')).expect(&rt, "equal");
-    equal(drained.next(), Some('🦄')).expect(&rt, "equal");
-    equal(drained.next(), None).expect(&rt, "equal");
-    equal(drained.next_back(), None).expect(&rt, "equal");
-    equal(drained.next(), None).expect(&rt, "equal");
+    let mut drained = drain(rt, &mut value, Unbounded, Unbounded);
+    equal(drained.next_back(), Some('𝄢')).expect(rt, "equal");
+    equal(drained.next(), Some('𝄞')).expect(rt, "equal");
+    equal(drained.next(), Some('🦄')).expect(rt, "equal");
+    equal(drained.next(), None).expect(rt, "equal");
+    equal(drained.next_back(), None).expect(rt, "equal");
+    equal(drained.next(), None).expect(rt, "equal");
     drop(drained);
-    that(is_inline(&value, "")).expect(&rt, "it holds");
+    that(is_inline(&value, "")).expect(rt, "it holds");
 }
 
 /// Asserts what a drain of a long text gives from its front, from its back and in between, and what it leaves.
@@ -128,13 +131,14 @@ fn assert_drained(
 
 #[test]
 fn a_drain_of_a_long_text_gives_its_characters(rt: HostRuntime) {
+    let rt = &rt;
     let alloc = rt.alloc();
-    let value = value_of(alloc, "abcdefghijklmnopqrstuvwxyzABCD").expect(&rt, "memory");
+    let value = value_of(alloc, "abcdefghijklmnopqrstuvwxyzABCD").expect(rt, "memory");
     let taken = ('c', "defghijklmnopqrstuvwxyzA", 'B');
-    assert_drained(&rt, value, (2, 28), taken, "abCD");
-    let value = value_of(alloc, "aéaéaéaéaéaéaéaéaé€").expect(&rt, "memory");
+    assert_drained(rt, value, (2, 28), taken, "abCD");
+    let value = value_of(alloc, "aéaéaéaéaéaéaéaéaé€").expect(rt, "memory");
     let taken = ('é', "aéaéaéaéaéaéaéaé", '€');
-    assert_drained(&rt, value, (1, 30), taken, "a");
+    assert_drained(rt, value, (1, 30), taken, "a");
 }
 
 #[test]
@@ -152,16 +156,17 @@ fn retain_asks_once_for_each_character(rt: HostRuntime) {
 
 #[test]
 fn a_refusal_of_retain_has_asked_nothing(rt: HostRuntime) {
+    let rt = &rt;
     let alloc = rt.alloc();
     let mut value = lasting(alloc, 30);
-    let hog = take_all(alloc).expect(&rt, "room for the list of blocks");
+    let hog = take_all(alloc).expect(rt, "room for the list of blocks");
     let mut asked = false;
     let kept = value.retain(|_| {
         asked = true;
         false
     });
     drop(hog);
-    that(kept.is_err()).expect(&rt, "it holds");
-    that(!asked).expect(&rt, "it holds");
-    that(is_static(&value, letters(30))).expect(&rt, "it holds");
+    that(kept.is_err()).expect(rt, "it holds");
+    that(!asked).expect(rt, "it holds");
+    that(is_static(&value, letters(30))).expect(rt, "it holds");
 }

@@ -15,26 +15,28 @@ use std::process::Abort;
 
 #[test]
 fn no_hint_asks_for_memory(rt: HostRuntime) {
+    let rt = &rt;
     let alloc = rt.alloc();
-    let hog = take_all(alloc).expect(&rt, "room for the list of blocks");
+    let hog = take_all(alloc).expect(rt, "room for the list of blocks");
     for too_much in [false, true] {
-        assert_collected(&rt, alloc, too_much);
-        assert_collected_by_trait(&rt, alloc, too_much);
-        assert_extended(&rt, alloc, too_much);
+        assert_collected(rt, alloc, too_much);
+        assert_collected_by_trait(rt, alloc, too_much);
+        assert_extended(rt, alloc, too_much);
     }
     drop(hog);
 }
 
 #[test]
 fn a_string_with_room_is_given_the_texts(rt: HostRuntime) {
+    let rt = &rt;
     let alloc = rt.alloc();
     let values = [short(alloc, "a"), short(alloc, "bc")];
-    let line = String::with_capacity(alloc, 32).expect(&rt, "memory");
-    let hog = take_all(alloc).expect(&rt, "room for the list of blocks");
-    let line = assert_appended(&rt, line, &values, false);
-    let line = assert_appended(&rt, line, &values, true);
+    let line = String::with_capacity(alloc, 32).expect(rt, "memory");
+    let hog = take_all(alloc).expect(rt, "room for the list of blocks");
+    let line = assert_appended(rt, line, &values, false);
+    let line = assert_appended(rt, line, &values, true);
     drop(hog);
-    equal(line.capacity(), 32).expect(&rt, "equal");
+    equal(line.capacity(), 32).expect(rt, "equal");
 }
 
 /// Asserts that more than 24 bytes of texts are refused.
@@ -150,15 +152,16 @@ fn assert_append_stops(
 
 #[test]
 fn a_string_stops_at_the_value_that_is_refused(rt: HostRuntime) {
+    let rt = &rt;
     let alloc = rt.alloc();
     let values = [
         short(alloc, "ab"),
-        value_of(alloc, letters(80)).expect(&rt, "memory"),
+        value_of(alloc, letters(80)).expect(rt, "memory"),
         short(alloc, "c"),
     ];
-    let mut line = String::with_capacity(alloc, 40).expect(&rt, "memory");
-    let hog = take_all(alloc).expect(&rt, "room for the list of blocks");
-    assert_append_stops(&rt, &mut line, &values, false);
-    assert_append_stops(&rt, &mut line, &values, true);
+    let mut line = String::with_capacity(alloc, 40).expect(rt, "memory");
+    let hog = take_all(alloc).expect(rt, "room for the list of blocks");
+    assert_append_stops(rt, &mut line, &values, false);
+    assert_append_stops(rt, &mut line, &values, true);
     drop(hog);
 }
