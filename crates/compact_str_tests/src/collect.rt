@@ -1,13 +1,14 @@
 //! What is collected, joined and extended, with values worked out by hand from the rules.
 
-use crate::made::assert_inline;
+use crate::made::{assert_inline, values_of};
 use compact_asserts::{equal, that};
 use compact_str::{AsText, CompactString, CompactStringExt, append_all};
 use compact_testing::seen::is_inline;
-use compact_testing::values::lasting;
+use compact_testing::values::letters;
 use std::alloc::Global;
 use std::borrow::CowStr;
 use std::boxed::BoxedStr;
+use std::iter::once;
 use std::process::Abort;
 
 /// Asserts what texts are with a separator between each two.
@@ -47,16 +48,16 @@ fn each_kind(rt: &impl Abort, alloc: Global) -> CompactString {
     let mut value = CompactString::default(alloc);
     value.extend_texts(["a"]).expect(rt, "memory");
     value
-        .extend_texts([String::from_str(alloc, "b").expect(rt, "memory")])
+        .extend_texts(once(String::from_str(alloc, "b").expect(rt, "memory")))
         .expect(rt, "memory");
     value
-        .extend_texts([BoxedStr::from_str(alloc, "c").expect(rt, "memory")])
+        .extend_texts(once(BoxedStr::from_str(alloc, "c").expect(rt, "memory")))
         .expect(rt, "memory");
     value
-        .extend_texts([CowStr::Borrowed("d")])
+        .extend_texts(once(CowStr::Borrowed("d")))
         .expect(rt, "memory");
     value
-        .extend_texts([CompactString::const_new(alloc, "e")])
+        .extend_texts(once(CompactString::const_new(alloc, "e")))
         .expect(rt, "memory");
     value
 }
@@ -82,11 +83,12 @@ fn texts_by_value_are_items_of_the_traits(rt: HostRuntime) {
 
 #[test]
 fn values_are_put_behind_a_string(rt: HostRuntime) {
+    let rt = &rt;
     let alloc = rt.alloc();
-    let mut line = String::from_str(alloc, "a").expect(&rt, "memory");
-    let values = [CompactString::const_new(alloc, "b"), lasting(alloc, 30)];
-    append_all(&mut line, values).expect(&rt, "memory");
-    equal(line.as_str(), "abaaaaaaaaaaaaaaaaaaaaaaaaaaaaaa").expect(&rt, "equal");
+    let mut line = String::from_str(alloc, "a").expect(rt, "memory");
+    let values = values_of(rt, alloc, &["b", letters(30)]);
+    append_all(&mut line, values).expect(rt, "memory");
+    equal(line.as_str(), "abaaaaaaaaaaaaaaaaaaaaaaaaaaaaaa").expect(rt, "equal");
 }
 
 #[test]
@@ -94,13 +96,10 @@ fn a_string_is_extended_by_values_and_collected_of_them(rt: HostRuntime) {
     let rt = &rt;
     let alloc = rt.alloc();
     let mut line = String::from_str(alloc, "a").expect(rt, "memory");
-    let values = [CompactString::const_new(alloc, "é"), lasting(alloc, 30)];
+    let values = values_of(rt, alloc, &["é", letters(30)]);
     line.extend(values).expect(rt, "memory");
     equal(line.as_str(), "aéaaaaaaaaaaaaaaaaaaaaaaaaaaaaaa").expect(rt, "equal");
-    let values = [
-        CompactString::const_new(alloc, "b"),
-        CompactString::const_new(alloc, ""),
-    ];
+    let values = values_of(rt, alloc, &["b", ""]);
     let whole: String = values.into_iter().collect(alloc).expect(rt, "memory");
     equal(whole.as_str(), "b").expect(rt, "equal");
 }

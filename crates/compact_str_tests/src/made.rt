@@ -3,6 +3,8 @@
 use compact_asserts::that_for;
 use compact_str::CompactString;
 use compact_testing::seen::{is_fitted, is_inline};
+use compact_testing::values::short;
+use std::alloc::Global;
 use std::process::Abort;
 
 /// Asserts that this short text was made, which stands inline.
@@ -10,12 +12,42 @@ pub fn assert_inline<E: Drop>(rt: &impl Abort, made: Result<CompactString, E>, t
     that_for(text, is_inline(&made.ok().expect(rt, "a text"), text)).expect(rt, "it holds");
 }
 
-/// Asserts that this text was made, inline where it has at most 24 bytes and else on the heap.
-pub fn assert_fitted<E: Drop>(rt: &impl Abort, made: Result<CompactString, E>, text: &str) {
-    that_for(text, is_fitted(&made.ok().expect(rt, "a text"), text)).expect(rt, "it holds");
+/// Asserts that the call of this name made a text, inline where it has at most 24 bytes and else on the heap; or, where there
+/// is none, that it was refused.
+pub fn assert_made<E: Drop>(
+    rt: &impl Abort,
+    call: &str,
+    made: Result<CompactString, E>,
+    wanted: Option<&str>,
+) {
+    that_for(call, is_wanted(made, wanted)).expect(rt, "it holds");
 }
 
-/// Asserts that the call of this name was refused.
-pub fn assert_refused<T: Drop, E: Drop>(rt: &impl Abort, call: &str, made: Result<T, E>) {
-    that_for(call, made.is_err()).expect(rt, "it holds");
+/// Whether that is what was made.
+fn is_wanted<E: Drop>(made: Result<CompactString, E>, wanted: Option<&str>) -> bool {
+    match made {
+        Ok(value) => match wanted {
+            Some(text) => is_placed(&value, text),
+            None => false,
+        },
+        Err(_) => wanted.is_none(),
+    }
+}
+
+/// Whether a value has this text of its own, where that stands.
+fn is_placed(value: &CompactString, text: &str) -> bool {
+    if text.len() <= 24 {
+        is_inline(value, text)
+    } else {
+        is_fitted(value, text)
+    }
+}
+
+/// Values with these texts of the program.
+pub fn values_of(rt: &impl Abort, alloc: Global, texts: &[&'static str]) -> Vec<CompactString> {
+    let mut values = Vec::new(alloc);
+    for text in texts {
+        values.push(short(alloc, text)).expect(rt, "memory");
+    }
+    values
 }

@@ -6,14 +6,18 @@ use compact_str::CompactString;
 use compact_testing::memory::take_all;
 use serde::Deserialize;
 use std::alloc::{AllocError, Global};
+use std::marker::PhantomData;
 use std::process::Abort;
 
 /// What is read: two texts, of which each would be a buffer of a `String`, of one size.
 const RECORD: &str = r#"{"a":"zoë","b":"of 24 bytes and no more."}"#;
 
-/// A record of two texts of one type.
+/// A record of two texts of one type. It names the lifetime of the input, so that `Deserialize` alone is derived: `from_str`
+/// asks for no `DeserializeOwned`.
 #[derive(Drop, Deserialize)]
-struct Record<T> {
+struct Record<'de, T> {
+    #[serde(skip)]
+    input: PhantomData<&'de ()>,
     a: T,
     b: T,
 }
@@ -31,7 +35,7 @@ fn blocks_of_each_size(alloc: Global, count: usize) -> Result<Vec<Vec<u8>>, Allo
 
 /// Whether the record that borrows is read.
 fn reads_borrowed(alloc: Global) -> bool {
-    let read: Result<Record<&str>, serde_json::Error> = serde_json::from_str(alloc, RECORD);
+    let read: Result<Record<'_, &str>, serde_json::Error> = serde_json::from_str(alloc, RECORD);
     match read {
         Ok(it) => [it.a, it.b] == ["zoë", "of 24 bytes and no more."],
         Err(_) => false,
@@ -40,7 +44,7 @@ fn reads_borrowed(alloc: Global) -> bool {
 
 /// Whether the record of values is.
 fn reads_values(alloc: Global) -> bool {
-    let read: Result<Record<CompactString>, serde_json::Error> = serde_json::from_str(
+    let read: Result<Record<'_, CompactString>, serde_json::Error> = serde_json::from_str(
         alloc, RECORD,
     );
     match read {
@@ -51,7 +55,7 @@ fn reads_values(alloc: Global) -> bool {
 
 /// Whether the record of strings is.
 fn reads_strings(alloc: Global) -> bool {
-    let read: Result<Record<String>, serde_json::Error> = serde_json::from_str(alloc, RECORD);
+    let read: Result<Record<'_, String>, serde_json::Error> = serde_json::from_str(alloc, RECORD);
     match read {
         Ok(it) => it.a.len() == 4 && it.b.len() == 24,
         Err(_) => false,

@@ -1,7 +1,7 @@
 //! Items whose hint tells nothing or too much, where there is memory: each call gives what the items give.
 
 use crate::hints::with_hint;
-use crate::made::{assert_fitted, assert_inline};
+use crate::made::{assert_made, values_of};
 use compact_asserts::{equal, that};
 use compact_str::{CompactString, CompactStringExt, append_all};
 use compact_testing::seen::{is_at, is_inline};
@@ -9,42 +9,111 @@ use compact_testing::values::{letters, short};
 use std::alloc::Global;
 use std::process::Abort;
 
-/// Asserts what is collected of a few items, which needs no memory.
-pub fn assert_collected(rt: &impl Abort, alloc: Global, too_much: bool) {
-    let characters = ['a', 'b', 'c'];
-    let texts = ["a", "", "bc"];
-    assert_inline(
+/// Asserts what each call makes of texts behind each other; `None` where it is refused.
+pub fn assert_texts(
+    rt: &impl Abort,
+    alloc: Global,
+    texts: &[&str],
+    wanted: Option<&str>,
+    too_much: bool,
+) {
+    assert_made(
         rt,
-        CompactString::from_chars(alloc, with_hint(&characters, too_much).copied()),
-        "abc",
+        "from_texts",
+        CompactString::from_texts(alloc, with_hint(texts, too_much)),
+        wanted,
     );
-    assert_inline(
+    assert_made(
         rt,
-        CompactString::from_texts(alloc, with_hint(&texts, too_much)),
-        "abc",
+        "concat_compact",
+        with_hint(texts, too_much).concat_compact(alloc),
+        wanted,
     );
-    assert_inline(rt, with_hint(&texts, too_much).concat_compact(alloc), "abc");
-    assert_inline(
+    assert_made(
         rt,
-        with_hint(&texts, too_much).join_compact(alloc, "-"),
-        "a--bc",
+        "collect, texts",
+        with_hint(texts, too_much).collect(alloc),
+        wanted,
     );
 }
 
-/// Asserts what the library's trait collects of them.
-pub fn assert_collected_by_trait(rt: &impl Abort, alloc: Global, too_much: bool) {
-    let characters = ['a', 'b', 'c'];
-    assert_inline(
+/// Asserts what texts are with a separator between each two; `None` where they are refused.
+pub fn assert_joined(
+    rt: &impl Abort,
+    alloc: Global,
+    texts: &[&str],
+    separator: &str,
+    wanted: Option<&str>,
+    too_much: bool,
+) {
+    assert_made(
         rt,
-        with_hint(&characters, too_much).copied().collect(alloc),
-        "abc",
+        "join_compact",
+        with_hint(texts, too_much).join_compact(alloc, separator),
+        wanted,
     );
-    assert_inline(rt, with_hint(&characters, too_much).collect(alloc), "abc");
-    assert_inline(
+}
+
+/// Asserts what each call makes of characters; `None` where it is refused.
+pub fn assert_characters(
+    rt: &impl Abort,
+    alloc: Global,
+    characters: &[char],
+    wanted: Option<&str>,
+    too_much: bool,
+) {
+    assert_made(
         rt,
-        with_hint(&["a", "", "bc"], too_much).collect(alloc),
-        "abc",
+        "from_chars",
+        CompactString::from_chars(alloc, with_hint(characters, too_much).copied()),
+        wanted,
     );
+    assert_made(
+        rt,
+        "collect, characters",
+        with_hint(characters, too_much).copied().collect(alloc),
+        wanted,
+    );
+    assert_made(
+        rt,
+        "collect, borrowed characters",
+        with_hint(characters, too_much).collect(alloc),
+        wanted,
+    );
+}
+
+/// Asserts what is collected of a few items, which needs no memory.
+pub fn assert_collected(rt: &impl Abort, alloc: Global, too_much: bool) {
+    let texts = ["a", "", "bc"];
+    assert_texts(rt, alloc, &texts, Some("abc"), too_much);
+    assert_joined(rt, alloc, &texts, "-", Some("a--bc"), too_much);
+    assert_characters(rt, alloc, &['a', 'b', 'c'], Some("abc"), too_much);
+}
+
+/// Whether texts are put behind a value, by its own call.
+pub fn is_given_texts(value: &mut CompactString, texts: &[&str], too_much: bool) -> bool {
+    value.extend_texts(with_hint(texts, too_much)).is_ok()
+}
+
+/// Whether they are by that of the trait.
+pub fn is_extended_by_texts(value: &mut CompactString, texts: &[&str], too_much: bool) -> bool {
+    value.extend(with_hint(texts, too_much)).is_ok()
+}
+
+/// Whether characters are put behind a value, by its own call.
+pub fn is_given_characters(value: &mut CompactString, characters: &[char], too_much: bool) -> bool {
+    value
+        .extend_chars(with_hint(characters, too_much).copied())
+        .is_ok()
+}
+
+/// Whether borrowed characters are by the call of the trait.
+pub fn is_extended_by_characters(
+    value: &mut CompactString,
+    characters: &[char],
+    too_much: bool,
+) -> bool {
+    value.extend(with_hint(characters, too_much)).is_ok()
 }
 
 /// Asserts that a value is extended up to 24 bytes, which needs no memory.
@@ -52,36 +121,27 @@ pub fn assert_extended(rt: &impl Abort, alloc: Global, too_much: bool) {
     let mut value = CompactString::default(alloc);
     let characters = ['ä', '€'];
     let texts = [letters(5), "", letters(5)];
-    value
-        .extend_chars(with_hint(&characters, too_much).copied())
-        .expect(rt, "no memory is needed");
-    value
-        .extend_texts(with_hint(&texts, too_much))
-        .expect(rt, "no memory is needed");
+    that(is_given_characters(&mut value, &characters, too_much)).expect(rt, "no memory is needed");
+    that(is_given_texts(&mut value, &texts, too_much)).expect(rt, "no memory is needed");
     that(is_inline(&value, "ä€aaaaaaaaaa")).expect(rt, "it holds");
     value
         .extend(with_hint(&characters, too_much).copied())
         .expect(rt, "no memory is needed");
-    value
-        .extend(with_hint(&['x'], too_much))
-        .expect(rt, "no memory is needed");
-    value
-        .extend(with_hint(&["yz", ""], too_much))
-        .expect(rt, "no memory is needed");
+    that(is_extended_by_characters(&mut value, &['x'], too_much)).expect(rt, "no memory is needed");
+    that(is_extended_by_texts(&mut value, &["yz", ""], too_much)).expect(rt, "no memory is needed");
     that(is_inline(&value, "ä€aaaaaaaaaaä€xyz")).expect(rt, "it holds");
 }
 
 /// Asserts that values are put behind a `String` that has room for them.
 pub fn assert_appended(
     rt: &impl Abort,
-    mut line: String,
+    line: &mut String,
     values: &[CompactString],
     too_much: bool,
-) -> String {
-    that(append_all(&mut line, with_hint(values, too_much)).is_ok()).expect(rt, "it holds");
+) {
+    that(append_all(line, with_hint(values, too_much)).is_ok()).expect(rt, "it holds");
     equal(line.as_str(), "abc").expect(rt, "equal");
     line.clear();
-    line
 }
 
 #[test]
@@ -89,7 +149,6 @@ fn short_texts_are_what_the_items_give(rt: HostRuntime) {
     let alloc = rt.alloc();
     for too_much in [false, true] {
         assert_collected(&rt, alloc, too_much);
-        assert_collected_by_trait(&rt, alloc, too_much);
         assert_extended(&rt, alloc, too_much);
     }
 }
@@ -97,37 +156,20 @@ fn short_texts_are_what_the_items_give(rt: HostRuntime) {
 #[test]
 fn a_string_is_given_what_the_items_give(rt: HostRuntime) {
     let alloc = rt.alloc();
-    let values = [short(alloc, "a"), short(alloc, ""), short(alloc, "bc")];
-    let line = assert_appended(&rt, String::new(alloc), &values, false);
-    let line = assert_appended(&rt, line, &values, true);
+    let values = values_of(&rt, alloc, &["a", "", "bc"]);
+    let mut line = String::new(alloc);
+    assert_appended(&rt, &mut line, &values, false);
+    assert_appended(&rt, &mut line, &values, true);
     equal(line.len(), 0).expect(&rt, "equal");
 }
 
 /// Asserts what is made of more than 24 bytes, on the heap.
 fn assert_long(rt: &impl Abort, alloc: Global, too_much: bool) {
-    let euros = ['€'; 9];
     let texts = [letters(20), "", letters(5)];
-    assert_fitted(
-        rt,
-        CompactString::from_chars(alloc, with_hint(&euros, too_much).copied()),
-        "€€€€€€€€€",
-    );
-    assert_fitted(
-        rt,
-        CompactString::from_texts(alloc, with_hint(&texts, too_much)),
-        letters(25),
-    );
-    assert_fitted(
-        rt,
-        with_hint(&texts, too_much).concat_compact(alloc),
-        letters(25),
-    );
-    assert_fitted(
-        rt,
-        with_hint(&texts, too_much).join_compact(alloc, letters(10)),
-        letters(45),
-    );
-    assert_fitted(rt, with_hint(&euros, too_much).collect(alloc), "€€€€€€€€€");
+    assert_texts(rt, alloc, &texts, Some(letters(25)), too_much);
+    let joined = Some(letters(45));
+    assert_joined(rt, alloc, &texts, letters(10), joined, too_much);
+    assert_characters(rt, alloc, &['€'; 9], Some("€€€€€€€€€"), too_much);
 }
 
 #[test]
@@ -141,22 +183,14 @@ fn long_texts_are_what_the_items_give(rt: HostRuntime) {
 /// half of what stands.
 fn assert_room(rt: &impl Abort, alloc: Global, too_much: bool) {
     let mut value = CompactString::const_new(alloc, letters(30));
-    value
-        .extend_texts(with_hint(&["", ""], too_much))
-        .expect(rt, "no memory is needed");
+    that(is_given_texts(&mut value, &["", ""], too_much)).expect(rt, "no memory is needed");
     that(is_at(&value, "static", 30, letters(30))).expect(rt, "it holds");
-    value
-        .extend_texts(with_hint(&["a"], too_much))
-        .expect(rt, "memory");
+    that(is_given_texts(&mut value, &["a"], too_much)).expect(rt, "memory");
     that(is_at(&value, "heap", 45, letters(31))).expect(rt, "it holds");
     let mut value = short(alloc, letters(24));
-    value
-        .extend_chars(with_hint(&['a'], too_much).copied())
-        .expect(rt, "memory");
+    that(is_given_characters(&mut value, &['a'], too_much)).expect(rt, "memory");
     that(is_at(&value, "heap", 36, letters(25))).expect(rt, "it holds");
-    value
-        .extend(with_hint(&["a", ""], too_much))
-        .expect(rt, "memory");
+    that(is_extended_by_texts(&mut value, &["a", ""], too_much)).expect(rt, "memory");
     that(is_at(&value, "heap", 36, letters(26))).expect(rt, "it holds");
 }
 

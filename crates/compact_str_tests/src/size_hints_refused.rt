@@ -1,16 +1,18 @@
 //! The same where no memory is left: up to 24 bytes nothing is refused, and more is, whatever the hint.
 
 use crate::hints::with_hint;
-use crate::made::assert_refused;
+use crate::made::values_of;
 use crate::size_hints::{
-    assert_appended, assert_collected, assert_collected_by_trait, assert_extended,
+    assert_appended, assert_characters, assert_collected, assert_extended, assert_joined,
+    assert_texts, is_extended_by_characters, is_extended_by_texts, is_given_characters,
+    is_given_texts,
 };
 use compact_asserts::{equal, that};
-use compact_str::{CompactString, CompactStringExt, append_all};
+use compact_str::{CompactString, append_all};
 use compact_testing::memory::take_all;
 use compact_testing::seen::is_inline;
 use compact_testing::values::{letters, short, value_of};
-use std::alloc::{AllocError, Global};
+use std::alloc::Global;
 use std::process::Abort;
 
 #[test]
@@ -20,7 +22,6 @@ fn no_hint_asks_for_memory(rt: HostRuntime) {
     let hog = take_all(alloc).expect(rt, "room for the list of blocks");
     for too_much in [false, true] {
         assert_collected(rt, alloc, too_much);
-        assert_collected_by_trait(rt, alloc, too_much);
         assert_extended(rt, alloc, too_much);
     }
     drop(hog);
@@ -30,58 +31,20 @@ fn no_hint_asks_for_memory(rt: HostRuntime) {
 fn a_string_with_room_is_given_the_texts(rt: HostRuntime) {
     let rt = &rt;
     let alloc = rt.alloc();
-    let values = [short(alloc, "a"), short(alloc, "bc")];
-    let line = String::with_capacity(alloc, 32).expect(rt, "memory");
+    let values = values_of(rt, alloc, &["a", "bc"]);
+    let mut line = String::with_capacity(alloc, 32).expect(rt, "memory");
     let hog = take_all(alloc).expect(rt, "room for the list of blocks");
-    let line = assert_appended(rt, line, &values, false);
-    let line = assert_appended(rt, line, &values, true);
+    assert_appended(rt, &mut line, &values, false);
+    assert_appended(rt, &mut line, &values, true);
     drop(hog);
     equal(line.capacity(), 32).expect(rt, "equal");
 }
 
-/// Asserts that more than 24 bytes of texts are refused.
-fn assert_texts_refused(rt: &impl Abort, alloc: Global, too_much: bool) {
-    let texts = [letters(20), letters(5)];
-    assert_refused(
-        rt,
-        "from_texts",
-        CompactString::from_texts(alloc, with_hint(&texts, too_much)),
-    );
-    assert_refused(
-        rt,
-        "concat_compact",
-        with_hint(&texts, too_much).concat_compact(alloc),
-    );
-    assert_refused(
-        rt,
-        "join_compact",
-        with_hint(&["a", "b"], too_much).join_compact(alloc, letters(23)),
-    );
-    assert_refused::<CompactString, AllocError>(
-        rt,
-        "collect, texts",
-        with_hint(&texts, too_much).collect(alloc),
-    );
-}
-
-/// Asserts that more than 24 bytes of characters are.
-fn assert_characters_refused(rt: &impl Abort, alloc: Global, too_much: bool) {
-    let euros = ['€'; 9];
-    assert_refused(
-        rt,
-        "from_chars",
-        CompactString::from_chars(alloc, with_hint(&euros, too_much).copied()),
-    );
-    assert_refused::<CompactString, AllocError>(
-        rt,
-        "collect, characters",
-        with_hint(&euros, too_much).copied().collect(alloc),
-    );
-    assert_refused::<CompactString, AllocError>(
-        rt,
-        "collect, borrowed characters",
-        with_hint(&euros, too_much).collect(alloc),
-    );
+/// Asserts that more than 24 bytes of texts are refused, and of characters.
+fn assert_refused(rt: &impl Abort, alloc: Global, too_much: bool) {
+    assert_texts(rt, alloc, &[letters(20), letters(5)], None, too_much);
+    assert_joined(rt, alloc, &["a", "b"], letters(23), None, too_much);
+    assert_characters(rt, alloc, &['€'; 9], None, too_much);
 }
 
 #[test]
@@ -89,8 +52,7 @@ fn more_than_24_bytes_are_refused(rt: HostRuntime) {
     let alloc = rt.alloc();
     let hog = take_all(alloc).expect(&rt, "room for the list of blocks");
     for too_much in [false, true] {
-        assert_texts_refused(&rt, alloc, too_much);
-        assert_characters_refused(&rt, alloc, too_much);
+        assert_refused(&rt, alloc, too_much);
     }
     drop(hog);
 }
@@ -99,29 +61,13 @@ fn more_than_24_bytes_are_refused(rt: HostRuntime) {
 fn assert_stops(rt: &impl Abort, alloc: Global, too_much: bool) {
     let mut value = CompactString::default(alloc);
     let texts = [letters(20), letters(4), "b", ""];
-    assert_refused(
-        rt,
-        "extend_texts",
-        value.extend_texts(with_hint(&texts, too_much)),
-    );
+    that(!is_given_texts(&mut value, &texts, too_much)).expect(rt, "a refusal");
     that(is_inline(&value, letters(24))).expect(rt, "it holds");
-    assert_refused(
-        rt,
-        "extend, texts",
-        value.extend(with_hint(&["", "b"], too_much)),
-    );
-    assert_refused(
-        rt,
-        "extend, characters",
-        value.extend(with_hint(&['b'], too_much)),
-    );
+    that(!is_extended_by_texts(&mut value, &["", "b"], too_much)).expect(rt, "a refusal");
+    that(!is_extended_by_characters(&mut value, &['b'], too_much)).expect(rt, "a refusal");
     that(is_inline(&value, letters(24))).expect(rt, "it holds");
     let mut value = CompactString::default(alloc);
-    assert_refused(
-        rt,
-        "extend_chars",
-        value.extend_chars(with_hint(&['€'; 9], too_much).copied()),
-    );
+    that(!is_given_characters(&mut value, &['€'; 9], too_much)).expect(rt, "a refusal");
     that(is_inline(&value, "€€€€€€€€")).expect(rt, "it holds");
 }
 
@@ -141,11 +87,7 @@ fn assert_append_stops(
     values: &[CompactString],
     too_much: bool,
 ) {
-    assert_refused(
-        rt,
-        "append_all",
-        append_all(line, with_hint(values, too_much)),
-    );
+    that(append_all(line, with_hint(values, too_much)).is_err()).expect(rt, "a refusal");
     equal(line.as_str(), "ab").expect(rt, "equal");
     line.clear();
 }
@@ -154,11 +96,10 @@ fn assert_append_stops(
 fn a_string_stops_at_the_value_that_is_refused(rt: HostRuntime) {
     let rt = &rt;
     let alloc = rt.alloc();
-    let values = [
-        short(alloc, "ab"),
-        value_of(alloc, letters(80)).expect(rt, "memory"),
-        short(alloc, "c"),
-    ];
+    let mut values = values_of(rt, alloc, &["ab"]);
+    let long = value_of(alloc, letters(80)).expect(rt, "memory");
+    values.push(long).expect(rt, "memory");
+    values.push(short(alloc, "c")).expect(rt, "memory");
     let mut line = String::with_capacity(alloc, 40).expect(rt, "memory");
     let hog = take_all(alloc).expect(rt, "room for the list of blocks");
     assert_append_stops(rt, &mut line, &values, false);
