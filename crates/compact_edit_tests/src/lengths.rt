@@ -1,7 +1,8 @@
 //! The longest lengths and positions, as edits.
 
-use compact_asserts::{equal, that};
-use compact_edit::{Edit, Reply, run};
+use crate::replies::assert_all;
+use compact_asserts::that;
+use compact_edit::{Edit, run};
 use compact_str::Standard;
 use compact_testing::seen::is_inline;
 use compact_testing::values::short;
@@ -9,26 +10,12 @@ use std::alloc::Global;
 use std::ops::Bound::{Excluded, Included, Unbounded};
 use std::process::Abort;
 
-/// The name of a reply that answers nothing.
-fn name_of(reply: &Reply<Standard>) -> &'static str {
-    match reply {
-        Reply::Done => "done",
-        Reply::Char(_) => "char",
-        Reply::Text(_) => "text",
-        Reply::BadPosition => "bad position",
-        Reply::Refused(_) => "refused",
-    }
-}
-
 /// Asserts that each edit of `a` is answered by this name, and that the value is as it was.
 fn assert_each(rt: &impl Abort, alloc: Global, edits: &[Edit<Standard>], name: &str) {
     let mut value = short(alloc, "a");
     let mut replies = Vec::new(alloc);
     run(&mut value, edits, &mut replies).expect(rt, "memory");
-    equal(replies.len(), edits.len()).expect(rt, "equal");
-    for reply in &replies {
-        equal(name_of(reply), name).expect(rt, "equal");
-    }
+    assert_all(rt, &replies, edits.len(), name);
     that(is_inline(&value, "a")).expect(rt, "it holds");
 }
 

@@ -13,4 +13,6 @@ mod push_reports;
 #[cfg(test)]
 mod random_pushes;
 #[cfg(test)]
+mod replies;
+#[cfg(test)]
 mod runs;

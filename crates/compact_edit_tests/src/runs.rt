@@ -1,5 +1,6 @@
 //! Lists of edits that are run, with ample memory and with none.
 
+use crate::replies::assert_all;
 use compact_asserts::{equal, that};
 use compact_edit::{Edit, Reply, run};
 use compact_str::{CompactString, Standard};
@@ -34,10 +35,7 @@ fn all_are_done(
 ) {
     let mut replies = Vec::new(alloc);
     run(value, edits, &mut replies).expect(rt, "memory");
-    equal(replies.len(), edits.len()).expect(rt, "equal");
-    for reply in &replies {
-        that(matches!(reply, Reply::Done)).expect(rt, "it holds");
-    }
+    assert_all(rt, &replies, edits.len(), "done");
 }
 
 #[test]
@@ -125,10 +123,7 @@ fn a_bad_position_is_told_before_a_refusal(rt: HostRuntime) {
     drop(hog);
     that(is_at(&lasting, "static", 29, text())).expect(rt, "it holds");
     that(is_at(&made, "heap", 32, text())).expect(rt, "it holds");
-    equal(replies.len(), 12).expect(rt, "equal");
-    for reply in &replies {
-        that(matches!(reply, Reply::BadPosition)).expect(rt, "it holds");
-    }
+    assert_all(rt, &replies, 12, "bad position");
 }
 
 /// Asserts what an edit answered: whether it was refused.
