@@ -8,23 +8,17 @@ mod session;
 use crate::inline_edits::ends::ENDS;
 use crate::inline_edits::session::Session;
 use compact_asserts::{equal, that};
-use std::alloc::Global;
-use std::process::Abort;
-
-/// Makes a thousand edits.
-fn make_thousand(rt: &impl Abort, alloc: Global, session: &mut Session) {
-    for _ in 0..1000 {
-        that(session.step(alloc).is_ok()).expect(rt, "it holds");
-    }
-}
 
 #[test]
 fn random_edits_go_as_in_a_string(rt: HostRuntime) {
     let alloc = rt.alloc();
     let mut session = Session::new(alloc, 1);
     for end in ENDS.lines() {
-        make_thousand(&rt, alloc, &mut session);
-        let seen = session.seen(alloc).expect(&rt, "memory");
+        for _ in 0..1000 {
+            that(session.step(alloc).is_ok()).expect(&rt, "it holds");
+        }
+        let (checksum, text) = (session.checksum(), session.text());
+        let seen = format!(in alloc; "{checksum} {text}").expect(&rt, "memory");
         equal(seen.as_str(), end).expect(&rt, "equal");
     }
 }

@@ -84,8 +84,7 @@ fn a_run_with_no_room_for_replies_runs_nothing(rt: HostRuntime) {
     run_all(rt, &mut value, &[], &mut replies);
     drop(hog);
     that(is_inline(&value, "abc")).expect(rt, "it holds");
-    equal(replies.len(), 40).expect(rt, "equal");
-    that(matches!(replies.get(39), Some(Reply::Done))).expect(rt, "it holds");
+    assert_all(rt, &replies, 40, "done");
 }
 
 /// A text of 29 bytes, of which the first two are one character.

@@ -5,7 +5,7 @@ use crate::inline_edits::drawn::edit;
 use compact_edit::{Edit, Reply, run};
 use compact_str::{CompactString, ReserveError, Standard};
 use compact_testing::random::Random;
-use std::alloc::{AllocError, Global};
+use std::alloc::Global;
 
 /// A text of at most 24 bytes, another that it was, and a checksum.
 #[derive(Drop)]
@@ -27,9 +27,14 @@ impl Session {
         }
     }
 
-    /// The checksum and the text.
-    pub fn seen(&self, alloc: Global) -> Result<String, AllocError> {
-        format!(in alloc; "{} {}", self.checksum.mixed, self.value.as_str())
+    /// The text.
+    pub fn text(&self) -> &str {
+        self.value.as_str()
+    }
+
+    /// The checksum.
+    pub fn checksum(&self) -> u64 {
+        self.checksum.mixed
     }
 
     /// Makes an edit that is drawn, and adds its answer and what then stands to the checksum. Before it the
@@ -56,23 +61,13 @@ impl Session {
         }
     }
 
-    /// Runs one edit, or copies the other text.
+    /// Runs one edit, or copies the other text. A value that was wiped is added as it stands, whole.
     fn run_one(&mut self, alloc: Global) -> Result<Option<Reply<Standard>>, ReserveError> {
-        match edit(&mut self.random, self.value.len()) {
-            Some(edit) => self.run_edit(alloc, edit),
-            None => {
-                self.value.clone_from(&self.other)?;
-                Ok(Some(Reply::Done))
-            }
-        }
-    }
-
-    /// Runs an edit. A value that was wiped is added as it stands, whole.
-    fn run_edit(
-        &mut self,
-        alloc: Global,
-        edit: Edit<Standard>,
-    ) -> Result<Option<Reply<Standard>>, ReserveError> {
+        let len = self.value.len();
+        let Some(edit) = edit(&mut self.random, len) else {
+            self.value.clone_from(&self.other)?;
+            return Ok(Some(Reply::Done));
+        };
         let is_wiped = matches!(edit, Edit::Zeroize);
         let mut replies = Vec::new(alloc);
         run(&mut self.value, &[edit], &mut replies)?;
