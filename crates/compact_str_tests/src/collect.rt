@@ -43,22 +43,21 @@ fn items_are_joined_and_concatenated(rt: HostRuntime) {
     is_concatenated(rt, alloc, ["hello", " ", "world", "!"], "hello world!");
 }
 
+/// Puts one item behind a value.
+fn extend_by<T: AsText + Drop>(rt: &impl Abort, value: &mut CompactString, item: T) {
+    value.extend_texts(once(item)).expect(rt, "memory");
+}
+
 /// The five kinds of text, each collected alone.
 fn each_kind(rt: &impl Abort, alloc: Global) -> CompactString {
     let mut value = CompactString::default(alloc);
-    value.extend_texts(["a"]).expect(rt, "memory");
-    value
-        .extend_texts(once(String::from_str(alloc, "b").expect(rt, "memory")))
-        .expect(rt, "memory");
-    value
-        .extend_texts(once(BoxedStr::from_str(alloc, "c").expect(rt, "memory")))
-        .expect(rt, "memory");
-    value
-        .extend_texts(once(CowStr::Borrowed("d")))
-        .expect(rt, "memory");
-    value
-        .extend_texts(once(CompactString::const_new(alloc, "e")))
-        .expect(rt, "memory");
+    let string = String::from_str(alloc, "b").expect(rt, "memory");
+    let boxed = BoxedStr::from_str(alloc, "c").expect(rt, "memory");
+    extend_by(rt, &mut value, "a");
+    extend_by(rt, &mut value, string);
+    extend_by(rt, &mut value, boxed);
+    extend_by(rt, &mut value, CowStr::Borrowed("d"));
+    extend_by(rt, &mut value, CompactString::const_new(alloc, "e"));
     value
 }
 

@@ -3,13 +3,17 @@
 use compact_asserts::that_for;
 use compact_str::CompactString;
 use compact_testing::seen::{is_fitted, is_inline};
-use compact_testing::values::short;
 use std::alloc::Global;
 use std::process::Abort;
 
 /// Asserts that this short text was made, which stands inline.
 pub fn assert_inline<E: Drop>(rt: &impl Abort, made: Result<CompactString, E>, text: &str) {
     that_for(text, is_inline(&made.ok().expect(rt, "a text"), text)).expect(rt, "it holds");
+}
+
+/// Asserts that the call of this name was refused.
+pub fn assert_refused<T: Drop, E: Drop>(rt: &impl Abort, call: &str, made: Result<T, E>) {
+    that_for(call, made.is_err()).expect(rt, "it holds");
 }
 
 /// Asserts that the call of this name made a text, inline where it has at most 24 bytes and else on the heap; or, where there
@@ -47,7 +51,9 @@ fn is_placed(value: &CompactString, text: &str) -> bool {
 pub fn values_of(rt: &impl Abort, alloc: Global, texts: &[&'static str]) -> Vec<CompactString> {
     let mut values = Vec::new(alloc);
     for text in texts {
-        values.push(short(alloc, text)).expect(rt, "memory");
+        values
+            .push(CompactString::const_new(alloc, text))
+            .expect(rt, "memory");
     }
     values
 }

@@ -45,25 +45,25 @@ fn is_packed_anew(rt: &impl Abort, alloc: Global, value: &CompactString) {
     that(len == 24 || bytes[len..23].iter().all(|byte| *byte == 0)).expect(rt, "it holds");
 }
 
+/// Asserts the bytes of an inline value.
+fn has_row(rt: &impl Abort, value: &CompactString, row: &[u8; 24]) {
+    equal(&bytes_of(rt, value), row).expect(rt, "equal");
+}
+
 #[test]
 fn rows_of_made_values(rt: HostRuntime) {
     let rt = &rt;
     let alloc = rt.alloc();
-    let mut row = [0; 24];
-    row[23] = 0xC0;
-    equal(bytes_of(rt, &CompactString::default(alloc)), row).expect(rt, "equal");
+    let empty = b"\0\0\0\0\0\0\0\0\0\0\0\0\0\0\0\0\0\0\0\0\0\0\0\xC0";
+    has_row(rt, &CompactString::default(alloc), empty);
     for (text, row) in [
-        ("", b"\0\0\0\0\0\0\0\0\0\0\0\0\0\0\0\0\0\0\0\0\0\0\0\xC0"),
+        ("", empty),
         ("hello world", b"hello world\0\0\0\0\0\0\0\0\0\0\0\0\xCB"),
         (letters(16), b"aaaaaaaaaaaaaaaa\0\0\0\0\0\0\0\xD0"),
         (letters(23), b"aaaaaaaaaaaaaaaaaaaaaaa\xD7"),
         ("i am 24 characters long!", b"i am 24 characters long!"),
     ] {
-        equal(
-            &bytes_of(rt, &value_of(alloc, text).expect(rt, "memory")),
-            row,
-        )
-        .expect(rt, "equal");
+        has_row(rt, &value_of(alloc, text).expect(rt, "memory"), row);
     }
 }
 
@@ -171,7 +171,7 @@ fn is_wiped(rt: &impl Abort, alloc: Global, mut value: CompactString) {
     value.zeroize();
     that(is_inline(&value, "")).expect(rt, "it holds");
     let row = b"\0\0\0\0\0\0\0\0\0\0\0\0\0\0\0\0\0\0\0\0\0\0\0\xC0";
-    equal(&bytes_of(rt, &value), row).expect(rt, "equal");
+    has_row(rt, &value, row);
     append(&mut value, "ab").expect(rt, "memory");
     is_packed(rt, alloc, &value);
 }

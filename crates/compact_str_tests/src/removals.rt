@@ -1,10 +1,10 @@
 //! What is taken out of a text, and what of it is changed.
 
-use compact_asserts::{equal, that};
+use compact_asserts::{equal, that, that_for};
 use compact_str::{CompactString, Drain, Standard};
 use compact_testing::memory::take_all;
-use compact_testing::seen::{is_heap, is_inline, is_static};
-use compact_testing::values::{lasting, letters, short, value_of};
+use compact_testing::seen::{is_at, is_inline, is_static};
+use compact_testing::values::{lasting, letters, place_of, short, value_of};
 use std::fmt::Write;
 use std::ops::Bound;
 use std::ops::Bound::{Excluded, Included, Unbounded};
@@ -26,17 +26,31 @@ fn greeted<'a>(rt: &impl Abort, value: &'a mut CompactString) -> Drain<'a, Stand
     drain(rt, value, Included(5), Excluded(12))
 }
 
+/// Asserts what a drain of a text gives from its front, from its back and in between, and what it leaves in the place and with
+/// the capacity that it had. A hint tells of at most so many characters as bytes, and at least of a quarter, rounded up.
+fn assert_drained(
+    rt: &impl Abort,
+    value: &mut CompactString,
+    (start, end): (usize, usize),
+    (first, rest, last): (char, &str, char),
+    left: &str,
+) {
+    let (place, capacity) = (place_of(value), value.capacity());
+    let count = end.saturating_sub(start);
+    let mut drained = drain(rt, value, Included(start), Excluded(end));
+    that(drained.size_hint() == (count.div_ceil(4), Some(count))).expect(rt, "it holds");
+    equal(drained.next(), Some(first)).expect(rt, "equal");
+    equal(drained.next_back(), Some(last)).expect(rt, "equal");
+    equal(drained.as_str(), rest).expect(rt, "equal");
+    drop(drained);
+    that(is_at(value, place, capacity, left)).expect(rt, "it holds");
+}
+
 #[test]
 fn a_drain_gives_its_characters_from_both_ends(rt: HostRuntime) {
-    let rt = &rt;
     let mut value = short(rt.alloc(), "Hello, world!");
-    let mut drained = greeted(rt, &mut value);
-    that(drained.size_hint() == (2, Some(7))).expect(rt, "it holds");
-    equal(drained.next(), Some(',')).expect(rt, "equal");
-    equal(drained.next_back(), Some('d')).expect(rt, "equal");
-    equal(drained.as_str(), " worl").expect(rt, "equal");
-    drop(drained);
-    that(is_inline(&value, "Hello!")).expect(rt, "it holds");
+    assert_drained(&rt, &mut value, (5, 12), (',', " worl", 'd'), "Hello!");
+    that(is_inline(&value, "Hello!")).expect(&rt, "it holds");
 }
 
 #[test]
@@ -102,43 +116,37 @@ fn the_ends_of_a_drain_meet(rt: HostRuntime) {
     let rt = &rt;
     let mut value = short(rt.alloc(), "𝄞🦄𝄢");
     let mut drained = drain(rt, &mut value, Unbounded, Unbounded);
-    equal(drained.next_back(), Some('𝄢')).expect(rt, "equal");
-    equal(drained.next(), Some('𝄞')).expect(rt, "equal");
-    equal(drained.next(), Some('🦄')).expect(rt, "equal");
-    equal(drained.next(), None).expect(rt, "equal");
-    equal(drained.next_back(), None).expect(rt, "equal");
-    equal(drained.next(), None).expect(rt, "equal");
+    for (step, is_last, wanted) in [
+        (1, true, Some('𝄢')),
+        (2, false, Some('𝄞')),
+        (3, false, Some('🦄')),
+        (4, false, None),
+        (5, true, None),
+        (6, false, None),
+    ] {
+        let given = if is_last {
+            drained.next_back()
+        } else {
+            drained.next()
+        };
+        that_for(step, given == wanted).expect(rt, "it holds");
+    }
     drop(drained);
     that(is_inline(&value, "")).expect(rt, "it holds");
-}
-
-/// Asserts what a drain of a long text gives from its front, from its back and in between, and what it leaves.
-fn assert_drained(
-    rt: &impl Abort,
-    mut value: CompactString,
-    (start, end): (usize, usize),
-    (first, rest, last): (char, &str, char),
-    left: &str,
-) {
-    let capacity = value.capacity();
-    let mut drained = drain(rt, &mut value, Included(start), Excluded(end));
-    equal(drained.next(), Some(first)).expect(rt, "equal");
-    equal(drained.next_back(), Some(last)).expect(rt, "equal");
-    equal(drained.as_str(), rest).expect(rt, "equal");
-    drop(drained);
-    that(is_heap(&value, capacity, left)).expect(rt, "it holds");
 }
 
 #[test]
 fn a_drain_of_a_long_text_gives_its_characters(rt: HostRuntime) {
     let rt = &rt;
     let alloc = rt.alloc();
-    let value = value_of(alloc, "abcdefghijklmnopqrstuvwxyzABCD").expect(rt, "memory");
+    let mut value = value_of(alloc, "abcdefghijklmnopqrstuvwxyzABCD").expect(rt, "memory");
+    that(value.is_heap_allocated()).expect(rt, "it holds");
     let taken = ('c', "defghijklmnopqrstuvwxyzA", 'B');
-    assert_drained(rt, value, (2, 28), taken, "abCD");
-    let value = value_of(alloc, "aéaéaéaéaéaéaéaéaé€").expect(rt, "memory");
+    assert_drained(rt, &mut value, (2, 28), taken, "abCD");
+    let mut value = value_of(alloc, "aéaéaéaéaéaéaéaéaé€").expect(rt, "memory");
+    that(value.is_heap_allocated()).expect(rt, "it holds");
     let taken = ('é', "aéaéaéaéaéaéaéaé", '€');
-    assert_drained(rt, value, (1, 30), taken, "a");
+    assert_drained(rt, &mut value, (1, 30), taken, "a");
 }
 
 #[test]

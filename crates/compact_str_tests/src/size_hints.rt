@@ -90,45 +90,27 @@ pub fn assert_collected(rt: &impl Abort, alloc: Global, too_much: bool) {
     assert_characters(rt, alloc, &['a', 'b', 'c'], Some("abc"), too_much);
 }
 
-/// Whether texts are put behind a value, by its own call.
-pub fn is_given_texts(value: &mut CompactString, texts: &[&str], too_much: bool) -> bool {
-    value.extend_texts(with_hint(texts, too_much)).is_ok()
-}
-
-/// Whether they are by that of the trait.
-pub fn is_extended_by_texts(value: &mut CompactString, texts: &[&str], too_much: bool) -> bool {
-    value.extend(with_hint(texts, too_much)).is_ok()
-}
-
-/// Whether characters are put behind a value, by its own call.
-pub fn is_given_characters(value: &mut CompactString, characters: &[char], too_much: bool) -> bool {
-    value
-        .extend_chars(with_hint(characters, too_much).copied())
-        .is_ok()
-}
-
-/// Whether borrowed characters are by the call of the trait.
-pub fn is_extended_by_characters(
-    value: &mut CompactString,
-    characters: &[char],
-    too_much: bool,
-) -> bool {
-    value.extend(with_hint(characters, too_much)).is_ok()
-}
-
 /// Asserts that a value is extended up to 24 bytes, which needs no memory.
 pub fn assert_extended(rt: &impl Abort, alloc: Global, too_much: bool) {
     let mut value = CompactString::default(alloc);
     let characters = ['ä', '€'];
     let texts = [letters(5), "", letters(5)];
-    that(is_given_characters(&mut value, &characters, too_much)).expect(rt, "no memory is needed");
-    that(is_given_texts(&mut value, &texts, too_much)).expect(rt, "no memory is needed");
+    value
+        .extend_chars(with_hint(&characters, too_much).copied())
+        .expect(rt, "no memory is needed");
+    value
+        .extend_texts(with_hint(&texts, too_much))
+        .expect(rt, "no memory is needed");
     that(is_inline(&value, "ä€aaaaaaaaaa")).expect(rt, "it holds");
     value
         .extend(with_hint(&characters, too_much).copied())
         .expect(rt, "no memory is needed");
-    that(is_extended_by_characters(&mut value, &['x'], too_much)).expect(rt, "no memory is needed");
-    that(is_extended_by_texts(&mut value, &["yz", ""], too_much)).expect(rt, "no memory is needed");
+    value
+        .extend(with_hint(&['x'], too_much))
+        .expect(rt, "no memory is needed");
+    value
+        .extend(with_hint(&["yz", ""], too_much))
+        .expect(rt, "no memory is needed");
     that(is_inline(&value, "ä€aaaaaaaaaaä€xyz")).expect(rt, "it holds");
 }
 
@@ -183,14 +165,22 @@ fn long_texts_are_what_the_items_give(rt: HostRuntime) {
 /// half of what stands.
 fn assert_room(rt: &impl Abort, alloc: Global, too_much: bool) {
     let mut value = CompactString::const_new(alloc, letters(30));
-    that(is_given_texts(&mut value, &["", ""], too_much)).expect(rt, "no memory is needed");
+    value
+        .extend_texts(with_hint(&["", ""], too_much))
+        .expect(rt, "no memory is needed");
     that(is_at(&value, "static", 30, letters(30))).expect(rt, "it holds");
-    that(is_given_texts(&mut value, &["a"], too_much)).expect(rt, "memory");
+    value
+        .extend_texts(with_hint(&["a"], too_much))
+        .expect(rt, "memory");
     that(is_at(&value, "heap", 45, letters(31))).expect(rt, "it holds");
     let mut value = short(alloc, letters(24));
-    that(is_given_characters(&mut value, &['a'], too_much)).expect(rt, "memory");
+    value
+        .extend_chars(with_hint(&['a'], too_much).copied())
+        .expect(rt, "memory");
     that(is_at(&value, "heap", 36, letters(25))).expect(rt, "it holds");
-    that(is_extended_by_texts(&mut value, &["a", ""], too_much)).expect(rt, "memory");
+    value
+        .extend(with_hint(&["a", ""], too_much))
+        .expect(rt, "memory");
     that(is_at(&value, "heap", 36, letters(26))).expect(rt, "it holds");
 }
 

@@ -1,17 +1,16 @@
 //! The same where no memory is left: up to 24 bytes nothing is refused, and more is, whatever the hint.
 
 use crate::hints::with_hint;
-use crate::made::values_of;
+use crate::made::{assert_refused, values_of};
 use crate::size_hints::{
     assert_appended, assert_characters, assert_collected, assert_extended, assert_joined,
-    assert_texts, is_extended_by_characters, is_extended_by_texts, is_given_characters,
-    is_given_texts,
+    assert_texts,
 };
 use compact_asserts::{equal, that};
 use compact_str::{CompactString, append_all};
 use compact_testing::memory::take_all;
 use compact_testing::seen::is_inline;
-use compact_testing::values::{letters, short, value_of};
+use compact_testing::values::letters;
 use std::alloc::Global;
 use std::process::Abort;
 
@@ -41,7 +40,7 @@ fn a_string_with_room_is_given_the_texts(rt: HostRuntime) {
 }
 
 /// Asserts that more than 24 bytes of texts are refused, and of characters.
-fn assert_refused(rt: &impl Abort, alloc: Global, too_much: bool) {
+fn assert_long_refused(rt: &impl Abort, alloc: Global, too_much: bool) {
     assert_texts(rt, alloc, &[letters(20), letters(5)], None, too_much);
     assert_joined(rt, alloc, &["a", "b"], letters(23), None, too_much);
     assert_characters(rt, alloc, &['€'; 9], None, too_much);
@@ -52,7 +51,7 @@ fn more_than_24_bytes_are_refused(rt: HostRuntime) {
     let alloc = rt.alloc();
     let hog = take_all(alloc).expect(&rt, "room for the list of blocks");
     for too_much in [false, true] {
-        assert_refused(&rt, alloc, too_much);
+        assert_long_refused(&rt, alloc, too_much);
     }
     drop(hog);
 }
@@ -61,13 +60,29 @@ fn more_than_24_bytes_are_refused(rt: HostRuntime) {
 fn assert_stops(rt: &impl Abort, alloc: Global, too_much: bool) {
     let mut value = CompactString::default(alloc);
     let texts = [letters(20), letters(4), "b", ""];
-    that(!is_given_texts(&mut value, &texts, too_much)).expect(rt, "a refusal");
+    assert_refused(
+        rt,
+        "extend_texts",
+        value.extend_texts(with_hint(&texts, too_much)),
+    );
     that(is_inline(&value, letters(24))).expect(rt, "it holds");
-    that(!is_extended_by_texts(&mut value, &["", "b"], too_much)).expect(rt, "a refusal");
-    that(!is_extended_by_characters(&mut value, &['b'], too_much)).expect(rt, "a refusal");
+    assert_refused(
+        rt,
+        "extend, texts",
+        value.extend(with_hint(&["", "b"], too_much)),
+    );
+    assert_refused(
+        rt,
+        "extend, characters",
+        value.extend(with_hint(&['b'], too_much)),
+    );
     that(is_inline(&value, letters(24))).expect(rt, "it holds");
     let mut value = CompactString::default(alloc);
-    that(!is_given_characters(&mut value, &['€'; 9], too_much)).expect(rt, "a refusal");
+    assert_refused(
+        rt,
+        "extend_chars",
+        value.extend_chars(with_hint(&['€'; 9], too_much).copied()),
+    );
     that(is_inline(&value, "€€€€€€€€")).expect(rt, "it holds");
 }
 
@@ -87,7 +102,11 @@ fn assert_append_stops(
     values: &[CompactString],
     too_much: bool,
 ) {
-    that(append_all(line, with_hint(values, too_much)).is_err()).expect(rt, "a refusal");
+    assert_refused(
+        rt,
+        "append_all",
+        append_all(line, with_hint(values, too_much)),
+    );
     equal(line.as_str(), "ab").expect(rt, "equal");
     line.clear();
 }
@@ -96,10 +115,7 @@ fn assert_append_stops(
 fn a_string_stops_at_the_value_that_is_refused(rt: HostRuntime) {
     let rt = &rt;
     let alloc = rt.alloc();
-    let mut values = values_of(rt, alloc, &["ab"]);
-    let long = value_of(alloc, letters(80)).expect(rt, "memory");
-    values.push(long).expect(rt, "memory");
-    values.push(short(alloc, "c")).expect(rt, "memory");
+    let values = values_of(rt, alloc, &["ab", letters(80), "c"]);
     let mut line = String::with_capacity(alloc, 40).expect(rt, "memory");
     let hog = take_all(alloc).expect(rt, "room for the list of blocks");
     assert_append_stops(rt, &mut line, &values, false);
