@@ -5,7 +5,6 @@ use compact_asserts::{equal, that};
 use compact_ext::{ToCompactString, ToCompactStringError, format_compact};
 use compact_str::{CompactString, ReserveError};
 use compact_testing::memory::take_all;
-use compact_testing::seen::is_inline;
 use compact_testing::values::{letters, string_with_room};
 use std::fmt;
 use std::fmt::Display;
@@ -33,9 +32,11 @@ fn formats_and_strings_of_24_bytes_need_no_memory(rt: HostRuntime) {
     let alloc = rt.alloc();
     let string = string_with_room(alloc, 30, "i am 24 characters long!").expect(rt, "memory");
     let hog = take_all(alloc).expect(rt, "room for the list of blocks");
-    let text = string.to_compact_string(alloc);
-    let text = text.expect(rt, "no memory is needed");
-    that(is_inline(&text, "i am 24 characters long!")).expect(rt, "it holds");
+    is(
+        rt,
+        string.to_compact_string(alloc),
+        "i am 24 characters long!",
+    );
     is(rt, format_compact!(in alloc; "{}-{}", 7, "a"), "7-a");
     drop(hog);
 }
