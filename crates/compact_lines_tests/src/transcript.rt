@@ -24,7 +24,10 @@ pub fn assert_sessions(rt: &impl Abort, alloc: Global, transcript: &str) {
 fn assert_session(rt: &impl Abort, alloc: Global, session: &str) {
     let mut input = Vec::new(alloc);
     let mut printed = Vec::new(alloc);
-    for line in session.lines().skip(1) {
+    let (_, lines) = session
+        .split_once('\n')
+        .expect(rt, "lines behind the first");
+    for line in lines.lines() {
         match line.strip_prefix("> ") {
             Some(command) => add_line(rt, &mut input, command),
             None => add_line(rt, &mut printed, line),
