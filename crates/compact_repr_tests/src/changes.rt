@@ -290,6 +290,15 @@ fn a_part_is_cut_out(rt: HostRuntime) {
     equal(text.capacity(), 32).expect(rt, "equal");
 }
 
+/// Asserts that a text is `ab` so many times.
+fn assert_pairs(rt: &impl Abort, text: &str, count: usize) {
+    let mut rest = text;
+    for _pair in 0..count {
+        rest = rest.strip_prefix("ab").expect(rt, "a pair");
+    }
+    that(rest.is_empty()).expect(rt, "it holds");
+}
+
 /// A large room is filled byte by byte, up to its last one.
 #[test]
 fn a_room_is_filled(rt: HostRuntime) {
@@ -301,13 +310,5 @@ fn a_room_is_filled(rt: HostRuntime) {
     that(!text.push_in_place("c")).expect(rt, "it holds");
     equal(text.len(), 1000).expect(rt, "equal");
     equal(text.capacity(), 1000).expect(rt, "equal");
-    that(text.as_str().chars().step_by(2).all(|letter| letter == 'a')).expect(rt, "it holds");
-    that(
-        text.as_str()
-            .chars()
-            .skip(1)
-            .step_by(2)
-            .all(|letter| letter == 'b'),
-    )
-    .expect(rt, "it holds");
+    assert_pairs(rt, text.as_str(), 500);
 }
