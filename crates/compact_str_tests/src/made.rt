@@ -7,7 +7,7 @@ use std::alloc::Global;
 use std::process::Abort;
 
 /// Asserts that this short text was made, which stands inline.
-pub fn assert_inline<E: Drop>(rt: &impl Abort, made: Result<CompactString, E>, text: &str) {
+pub fn assert_made_inline<E: Drop>(rt: &impl Abort, made: Result<CompactString, E>, text: &str) {
     that_for(text, is_inline(&made.ok().expect(rt, "a text"), text)).expect(rt, "it holds");
 }
 
