@@ -1,7 +1,7 @@
 //! Units read step by step and validated as a whole: unpaired surrogates, pairs, and pairs at each edge of the two ranges.
 
-use crate::asserts::{assert_equal, assert_that};
-use compact_asserts::{that, that_for};
+use crate::asserts::{assert_equal, assert_for, assert_that};
+use compact_asserts::that;
 use compact_codec::utf16::{first_character, is_utf16};
 use std::process::Abort;
 
@@ -11,7 +11,7 @@ fn assert_steps(rt: &impl Abort, units: &[u16], steps: &[(Option<char>, usize)])
     for (character, taken) in steps {
         that(!rest.is_empty()).expect(rt, "it holds");
         let step = first_character(rest);
-        that_for(units, step.character == *character).expect(rt, "it holds");
+        assert_for(rt, units, step.character == *character);
         assert_equal(rt, step.taken, *taken);
         rest = &rest[step.taken..];
     }
@@ -69,7 +69,7 @@ fn texts_are_told_from_others(rt: HostRuntime) {
         (&[0x0061, 0xD834], false),
     ];
     for (units, text) in cases {
-        that_for(units, is_utf16(units) == text).expect(&rt, "it holds");
+        assert_for(&rt, units, is_utf16(units) == text);
     }
 }
 

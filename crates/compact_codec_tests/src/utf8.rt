@@ -1,8 +1,7 @@
 //! Bytes validated as a whole and read chunk by chunk: texts, where each error is placed, the Standard's examples, long
 //! input, and every input of two bytes.
 
-use crate::asserts::{assert_equal, assert_that};
-use compact_asserts::that_for;
+use crate::asserts::{assert_equal, assert_for, assert_that};
 use compact_codec::utf8::{Utf8Error, chunk_at, first_chunk, is_utf8, validate};
 use std::process::Abort;
 
@@ -20,7 +19,7 @@ fn assert_chunks(rt: &impl Abort, bytes: &[u8], chunks: &[(&str, usize)]) {
 
 /// The bytes are no text: where the error lies, and how long it is, or `None` where they end too soon.
 fn assert_error(rt: &impl Abort, bytes: &[u8], valid_up_to: usize, error_len: Option<usize>) {
-    that_for(bytes, !is_utf8(bytes)).expect(rt, "it holds");
+    assert_for(rt, bytes, !is_utf8(bytes));
     let error = Utf8Error {
         valid_up_to,
         error_len,
@@ -41,7 +40,7 @@ fn texts_are_taken(rt: HostRuntime) {
     ];
     for (bytes, text) in cases {
         assert_equal(&rt, validate(bytes).ok(), Some(text));
-        that_for(bytes, is_utf8(bytes)).expect(&rt, "it holds");
+        assert_for(&rt, bytes, is_utf8(bytes));
     }
 }
 
@@ -49,11 +48,11 @@ fn texts_are_taken(rt: HostRuntime) {
 fn each_byte_of_a_short_text_is_looked_at(rt: HostRuntime) {
     for len in 0..80 {
         let mut bytes = [b'a'; 80];
-        that_for(len, is_utf8(&bytes[..len])).expect(&rt, "it holds");
+        assert_for(&rt, len, is_utf8(&bytes[..len]));
         for at in 0..len {
             bytes[at] = 0xFF;
-            that_for(at, !is_utf8(&bytes[..len])).expect(&rt, "it holds");
-            that_for(at, validate(&bytes[..len]).is_err()).expect(&rt, "it holds");
+            assert_for(&rt, at, !is_utf8(&bytes[..len]));
+            assert_for(&rt, at, validate(&bytes[..len]).is_err());
             bytes[at] = b'a';
         }
     }

@@ -1,8 +1,8 @@
 //! Each call once in each place. The texts and positions are written by hand: `ä`, `b` and the clef take 2, 1 and 4 bytes.
 
-use crate::asserts::{assert_equal, assert_that};
+use crate::asserts::{assert_equal, assert_for, assert_that};
 use crate::values::{borrowed, copied, empty, reserve};
-use compact_asserts::{that, that_for};
+use compact_asserts::that;
 use compact_repr::{Repr, Standard};
 use std::process::Abort;
 
@@ -76,11 +76,11 @@ fn inline(rt: HostRuntime) {
     let rt = &rt;
     let mut text = copied(rt, rt.alloc(), "äb𝄞");
     for index in 0..9 {
-        that_for(
+        assert_for(
+            rt,
             index,
             text.is_char_boundary(index) == matches!(index, 0 | 2 | 3 | 7),
-        )
-        .expect(rt, "it holds");
+        );
     }
     assert_chars(rt, &text, &[(0, 'ä'), (2, 'b'), (3, '𝄞')]);
     assert_equal(rt, text.last_char(), Some('𝄞'));

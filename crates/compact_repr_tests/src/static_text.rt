@@ -1,8 +1,7 @@
 //! A text of the program, of 29 bytes with one character of two bytes, at 4 and 5.
 
-use crate::asserts::assert_equal;
+use crate::asserts::{assert_equal, assert_for};
 use crate::values::borrowed;
-use compact_asserts::that_for;
 use std::alloc::Global;
 use std::process::Abort;
 
@@ -57,6 +56,6 @@ fn a_text_is_cut(rt: HostRuntime) {
         (29, Some(("a naïve reader of long lines", ""))),
         (30, None),
     ] {
-        that_for(index, cut(rt.alloc(), index) == parts).expect(&rt, "it holds");
+        assert_for(&rt, index, cut(rt.alloc(), index) == parts);
     }
 }

@@ -1,9 +1,9 @@
 //! Inline texts as their 24 bytes, at each length where another read begins or ends, and at each end of each word of eight
 //! bytes. Behind the text stand zeros, and last, where the text leaves it free, 192 and the length.
 
-use crate::asserts::{assert_equal, assert_that};
+use crate::asserts::{assert_equal, assert_for, assert_that};
 use crate::values::copied;
-use compact_asserts::{that, that_for};
+use compact_asserts::that;
 use compact_repr::{Repr, Standard};
 use std::alloc::Global;
 use std::ops::Range;
@@ -21,7 +21,7 @@ fn begins(rt: &impl Abort, alloc: Global, text: &str) {
     for (place, byte) in row.iter().enumerate() {
         let behind = if place == 23 { mark } else { 0 };
         let wanted = text.as_bytes().get(place).copied().unwrap_or(behind);
-        that_for(place, *byte == wanted).expect(rt, "it holds");
+        assert_for(rt, place, *byte == wanted);
     }
     assert_equal(rt, made.as_str(), text);
 }
@@ -67,7 +67,7 @@ fn a_byte_is_put_in(rt: HostRuntime) {
         let mut text = copied(rt, rt.alloc(), "abcdefghijklmnopqrstuvw");
         that(text.is_char_boundary(at)).expect(rt, "it holds");
         assert_that(rt, text.insert_ascii_in_place(at, b'-'));
-        that_for(at, text.packed() == Some(*row)).expect(rt, "it holds");
+        assert_for(rt, at, text.packed() == Some(*row));
     }
 }
 
@@ -105,11 +105,11 @@ fn a_byte_is_taken_out(rt: HostRuntime) {
     ] {
         let mut text = copied(rt, rt.alloc(), "abcdefghijklmnopqrstuvwx");
         remove(rt, &mut text, at);
-        that_for(at, text.packed() == Some(*first)).expect(rt, "it holds");
+        assert_for(rt, at, text.packed() == Some(*first));
         remove(rt, &mut text, 0);
         let row = text.packed().expect(rt, "an inline text");
-        that_for(at, &row[..22] == second.as_slice()).expect(rt, "it holds");
-        that_for(at, row[23] == 0xD6).expect(rt, "it holds");
-        that_for(at, text.as_str().as_bytes() == second.as_slice()).expect(rt, "it holds");
+        assert_for(rt, at, &row[..22] == second.as_slice());
+        assert_for(rt, at, row[23] == 0xD6);
+        assert_for(rt, at, text.as_str().as_bytes() == second.as_slice());
     }
 }

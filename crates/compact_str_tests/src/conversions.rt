@@ -1,7 +1,7 @@
 //! Values as they are handed on, with ample memory.
 
-use crate::asserts::{assert_equal, assert_heap, assert_inline, assert_that};
-use compact_asserts::{that, that_for};
+use crate::asserts::{assert_equal, assert_for, assert_heap, assert_inline, assert_that};
+use compact_asserts::that;
 use compact_str::{CompactString, FromJsonError};
 use compact_testing::values::{lasting, letters, short, string_with_room, with_room};
 use serde_json::Value;
@@ -109,7 +109,7 @@ fn json_in(rt: &impl Abort, alloc: Global, text: &str) -> Value {
 fn is_no_string(rt: &impl Abort, alloc: Global, text: &str) {
     let json = json_in(rt, alloc, text);
     let error = CompactString::from_json(alloc, &json).err();
-    that_for(text, matches!(error, Some(FromJsonError::NotAString))).expect(rt, "it holds");
+    assert_for(rt, text, matches!(error, Some(FromJsonError::NotAString)));
 }
 
 #[test]

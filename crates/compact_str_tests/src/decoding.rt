@@ -1,9 +1,8 @@
 //! Bytes and units that are decoded. Texts and errors are those of the Unicode Standard, worked by hand.
 
-use crate::asserts::{assert_equal, assert_that};
+use crate::asserts::{assert_equal, assert_for, assert_that};
 use crate::made::assert_made_inline;
 use bytes::Buf;
-use compact_asserts::that_for;
 use compact_str::{CompactString, FromUtf8Error, FromUtf16Error, ReserveError, Utf16Error};
 use compact_testing::memory::take_all;
 use compact_testing::values::letters;
@@ -24,7 +23,7 @@ fn assert_invalid(
         valid_up_to,
         error_len,
     };
-    that_for(bytes, error == Some(wanted)).expect(rt, "it holds");
+    assert_for(rt, bytes, error == Some(wanted));
     let lossy = CompactString::from_utf8_lossy(alloc, bytes).expect(rt, "memory");
     assert_equal(rt, lossy.as_str(), text);
     assert_that(rt, lossy.is_heap_allocated() == (text.len() > 24));

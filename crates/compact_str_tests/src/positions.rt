@@ -1,8 +1,8 @@
 //! Positions that a value has, and texts of the program that are split at one. Edits at positions are lines of the table of
 //! `compact_table_tests`.
 
-use crate::asserts::{assert_equal, assert_inline, assert_that};
-use compact_asserts::{that, that_for};
+use crate::asserts::{assert_equal, assert_for, assert_inline, assert_that};
+use compact_asserts::that;
 use compact_str::CompactString;
 use compact_testing::seen::is_static;
 use compact_testing::values::{lasting, letters, short};
@@ -44,7 +44,7 @@ fn boundaries_are_where_characters_begin_and_end(rt: HostRuntime) {
         (7, true),
         (8, false),
     ] {
-        that_for(index, value.is_char_boundary(index) == boundary).expect(&rt, "it holds");
+        assert_for(&rt, index, value.is_char_boundary(index) == boundary);
     }
 }
 

@@ -1,7 +1,7 @@
 //! What is taken out of a text, and what of it is changed.
 
-use crate::asserts::{assert_equal, assert_inline, assert_that};
-use compact_asserts::{that, that_for};
+use crate::asserts::{assert_equal, assert_for, assert_inline, assert_that};
+use compact_asserts::that;
 use compact_str::{CompactString, Drain, Standard};
 use compact_testing::memory::take_all;
 use compact_testing::seen::{is_at, is_static};
@@ -130,7 +130,7 @@ fn the_ends_of_a_drain_meet(rt: HostRuntime) {
         } else {
             drained.next()
         };
-        that_for(step, given == wanted).expect(rt, "it holds");
+        assert_for(rt, step, given == wanted);
     }
     drop(drained);
     assert_inline(rt, &value, "");
