@@ -35,15 +35,12 @@ fn has_text<P: Policy>(value: &PolicyString<P>, text: &str) -> bool {
 
 /// Whether values have these texts, in order.
 pub fn are_texts(values: &[CompactString], texts: &[&str]) -> bool {
-    if values.len() != texts.len() {
-        return false;
-    }
-    for (value, text) in values.iter().zip(texts.iter()) {
-        if value.as_str() != *text {
+    for (place, value) in values.iter().enumerate() {
+        if texts.get(place) != Some(&value.as_str()) {
             return false;
         }
     }
-    true
+    values.len() == texts.len()
 }
 
 /// Whether a value has this text of its own: inline where it has at most 24 bytes, else on the heap.
