@@ -11,14 +11,14 @@ pub fn assert_that(rt: &impl Abort, holds: bool) {
     that(holds).expect(rt, "it holds");
 }
 
-/// Asserts that a value has this text on the heap, in a buffer of so many bytes.
-pub fn assert_heap(rt: &impl Abort, value: &CompactString, capacity: usize, text: &str) {
-    that(is_heap(value, capacity, text)).expect(rt, "it holds");
-}
-
 /// Asserts that something holds for a case, which is shown where it does not.
 pub fn assert_for<C: Debug + Drop>(rt: &impl Abort, case: C, holds: bool) {
     that_for(case, holds).expect(rt, "it holds");
+}
+
+/// Asserts that both are equal.
+pub fn assert_equal<T: PartialEq + Debug + Drop>(rt: &impl Abort, left: T, right: T) {
+    equal(left, right).expect(rt, "equal");
 }
 
 /// Asserts that a value stands inline with this text.
@@ -26,9 +26,9 @@ pub fn assert_inline(rt: &impl Abort, value: &CompactString, text: &str) {
     that(is_inline(value, text)).expect(rt, "it holds");
 }
 
-/// Asserts that both are equal.
-pub fn assert_equal<T: PartialEq + Debug + Drop>(rt: &impl Abort, left: T, right: T) {
-    equal(left, right).expect(rt, "equal");
+/// Asserts that a value has this text on the heap, in a buffer of so many bytes.
+pub fn assert_heap(rt: &impl Abort, value: &CompactString, capacity: usize, text: &str) {
+    that(is_heap(value, capacity, text)).expect(rt, "it holds");
 }
 
 /// Asserts that a value has this text of its own, in the place that its length asks for.

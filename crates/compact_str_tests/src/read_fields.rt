@@ -1,14 +1,26 @@
-//! How much memory serde takes to read short texts: no more than the reader takes for itself, since texts that are borrowed of the
-//! input are read with as much.
+//! How much memory serde takes to read a record of short texts: no more than the reader takes for itself, since a record that
+//! borrows its texts of the input is read with as much.
 
 use crate::asserts::assert_equal;
 use compact_str::CompactString;
 use compact_testing::memory::take_all;
+use serde::Deserialize;
 use std::alloc::{AllocError, Global};
+use std::marker::PhantomData;
 use std::process::Abort;
 
 /// What is read: two texts, of which each would be a buffer of a `String`, of one size.
-const PAIR: &str = r#"["zoë","of 24 bytes and no more."]"#;
+const RECORD: &str = r#"{"a":"zoë","b":"of 24 bytes and no more."}"#;
+
+/// A record of two texts of one type. It names the lifetime of the input, so that `Deserialize` alone is derived: `from_str`
+/// asks for no `DeserializeOwned`.
+#[derive(Drop, Deserialize)]
+struct Record<'de, T> {
+    #[serde(skip)]
+    input: PhantomData<&'de ()>,
+    a: T,
+    b: T,
+}
 
 /// So many blocks of each size that a small request takes. The list of them stays, so that it leaves no room.
 fn blocks_of_each_size(alloc: Global, count: usize) -> Result<Vec<Vec<u8>>, AllocError> {
@@ -21,31 +33,31 @@ fn blocks_of_each_size(alloc: Global, count: usize) -> Result<Vec<Vec<u8>>, Allo
     Ok(blocks)
 }
 
-/// Whether the texts are read that are borrowed.
+/// Whether the record that borrows is read.
 fn reads_borrowed(alloc: Global) -> bool {
-    let read: Result<(&str, &str), serde_json::Error> = serde_json::from_str(alloc, PAIR);
+    let read: Result<Record<'_, &str>, serde_json::Error> = serde_json::from_str(alloc, RECORD);
     match read {
-        Ok(it) => [it.0, it.1] == ["zoë", "of 24 bytes and no more."],
+        Ok(it) => [it.a, it.b] == ["zoë", "of 24 bytes and no more."],
         Err(_) => false,
     }
 }
 
-/// Whether values are.
+/// Whether the record of values is.
 fn reads_values(alloc: Global) -> bool {
-    let read: Result<(CompactString, CompactString), serde_json::Error> = serde_json::from_str(
-        alloc, PAIR,
+    let read: Result<Record<'_, CompactString>, serde_json::Error> = serde_json::from_str(
+        alloc, RECORD,
     );
     match read {
-        Ok(it) => it.0.len() == 4 && it.1.len() == 24,
+        Ok(it) => it.a.len() == 4 && it.b.len() == 24,
         Err(_) => false,
     }
 }
 
-/// Whether strings are.
+/// Whether the record of strings is.
 fn reads_strings(alloc: Global) -> bool {
-    let read: Result<(String, String), serde_json::Error> = serde_json::from_str(alloc, PAIR);
+    let read: Result<Record<'_, String>, serde_json::Error> = serde_json::from_str(alloc, RECORD);
     match read {
-        Ok(it) => it.0.len() == 4 && it.1.len() == 24,
+        Ok(it) => it.a.len() == 4 && it.b.len() == 24,
         Err(_) => false,
     }
 }
@@ -65,7 +77,7 @@ fn are_read(rt: &impl Abort, alloc: Global, count: usize) -> [bool; 3] {
 }
 
 #[test]
-fn with_no_memory_no_text_is_read(rt: HostRuntime) {
+fn with_no_memory_no_record_is_read(rt: HostRuntime) {
     assert_equal(&rt, are_read(&rt, rt.alloc(), 0), [false, false, false]);
 }
 
