@@ -1,14 +1,3 @@
-pub mod Texts
-pub mod Ascii
-pub mod Cuts
-pub mod Shifts
-pub mod Ends
-pub mod Appends
-pub mod Parts
-pub mod SplicedSlices
-pub mod TextFacts
-pub mod HeapTexts
-pub mod Strings
 pub mod Changes
 pub mod MoreRoom
 pub mod Numbers
@@ -24,6 +13,3 @@ pub mod PackedFacts
 pub mod AsciiArrays
 pub mod PackedOrder
 pub mod Examples
-pub mod Letters
-pub mod Keeping
-pub mod Middles

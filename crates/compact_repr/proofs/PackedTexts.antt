@@ -9,9 +9,9 @@ use Rattle.std.proofs.lemmas.Str.{length-encode, len_utf8_bounds, encodes-chars,
 use lib.Dec.{ltb}
 use lib.ListN.{set}
 use lib.Utf8.{encode, encodes, next}
-use Rattle.compact_repr.specs.Text.{size, utf8, text_of}
+use Rattle.compact_buffers.specs.Text.{size, utf8, text_of}
 use Rattle.compact_repr.specs.Packed.{IsPackedFor, packed_len, packed_text, packed_bytes}
-use Rattle.compact_repr.proofs.Texts.{length-utf8, size-text_of}
+use Rattle.compact_buffers.proofs.Texts.{length-utf8, size-text_of}
 
 -- the last byte, if there is one, is at most 191
 abbrev EndsLow : List ℕ → Type 0

@@ -1,12 +1,11 @@
-pub mod Text
-pub mod Cut
+pub use Rattle.compact_buffers.specs.Text
+pub use Rattle.compact_buffers.specs.Cut
 pub mod Value
 pub mod Capacity
 pub mod Policies
 pub mod Change
-pub mod Retain
+pub use Rattle.compact_buffers.specs.Retain
 pub mod BufferValue
 pub mod Words
-pub mod Loan
 pub mod Packed
 pub mod PushOutcomes

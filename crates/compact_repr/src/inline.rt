@@ -2,16 +2,16 @@
 #![tactic(auto, using(crate::proofs::PackedFacts::packed_facts))]
 
 ghost use Rattle.std.specs.Prelude.{◌≡◌, ◌+◌, ◌-◌, ◌≤◌, ◌<◌, ℕ, List, [], ◌∷◌, ◌++◌, length, false, IsTrue, ◌↔◌, MatchOption};
-ghost use Rattle.compact_repr.specs.Text.{size, utf8, text_of, IsText, ascii_lowercase, ascii_uppercase};
-ghost use Rattle.compact_repr.specs.Cut.{IsBoundary, text_before, replaced_text};
+ghost use Rattle.compact_buffers.specs.Text.{size, utf8, text_of, IsText, ascii_lowercase, ascii_uppercase};
+ghost use Rattle.compact_buffers.specs.Cut.{IsBoundary, text_before, replaced_text};
 ghost use Rattle.compact_repr.specs.Packed.{IsPackedFor};
-ghost use Rattle.compact_repr.specs.Retain.{RetainsCharsTo};
+ghost use Rattle.compact_buffers.specs.Retain.{RetainsCharsTo};
 
 mod compare;
 mod packed;
 
-use crate::slices;
 use crate::words::{insert_byte, pack, remove_byte};
+use compact_buffers::slices;
 use packed::{is_packed, length_of, with_len, with_short_len, write_len};
 use std::marker::Model;
 

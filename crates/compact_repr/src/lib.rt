@@ -3,24 +3,17 @@
 //! A text of at most 24 bytes stands in the value itself, a longer one in a buffer on the heap, and a text of the
 //! program is borrowed for ever. This crate makes such a representation, reads it, makes room in it and changes its
 //! text; what a contract sees of it is a `PlacedText` of `specs/Value.antt`.
-#![tactic(auto, using(crate::proofs::TextFacts::text_facts))]
+#![tactic(auto, using(compact_buffers::proofs::TextFacts::text_facts))]
 
-mod block;
-mod cut;
-mod error;
-mod heap;
 mod inline;
 mod policy;
 mod repr;
-mod slices;
-mod static_text;
 mod words;
 
-pub use block::{Block, Padded};
-pub use cut::{
+pub use compact_buffers::cut::{
     cut_is_before_and_after, encode_char, first_ascii, first_char, last_char, substring,
 };
-pub use error::ReserveError;
+pub use compact_buffers::{Block, Padded, ReserveError};
 pub use inline::INLINE_CAPACITY;
 pub use policy::{Policy, Standard, standard_grows_by_half};
 pub use repr::Repr;

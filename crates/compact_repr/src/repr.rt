@@ -1,6 +1,6 @@
 //! The representation: a buffer of one of three kinds, with the allocator that its growth asks.
 ghost use Rattle.std.specs.Prelude.{◌≡◌, ◌<◌, ◌^◌, ◌↔◌, IsSome, IfSome, IsTrue};
-ghost use Rattle.compact_repr.specs.Text.{size, utf8, text_of};
+ghost use Rattle.compact_buffers.specs.Text.{size, utf8, text_of};
 ghost use Rattle.compact_repr.specs.Packed.{IsPackedFor};
 ghost use Rattle.compact_repr.specs.Value.{inline, is_heap, is_static, IsSound};
 ghost use Rattle.compact_repr.specs.BufferValue.{buffer_value, IsSoundBuffer};
@@ -13,10 +13,9 @@ mod out;
 mod position;
 pub mod room;
 
-use crate::heap::HeapBuffer;
 use crate::inline::{INLINE_CAPACITY, InlineBuffer};
 use crate::policy::Policy;
-use crate::static_text::StaticText;
+use compact_buffers::{HeapBuffer, StaticText};
 use std::alloc::Global;
 use std::marker::{Model, PhantomData};
 

@@ -12,13 +12,13 @@ use Rattle.std.proofs.iter.runs.Made.{run, to_end}
 use Rattle.std.specs.Str.{IsUtf8}
 use Rattle.compact_repr.specs.Text.{size, text_of}
 use Rattle.compact_repr.specs.Cut.{IsBoundary, text_before}
-use Rattle.compact_repr.proofs.Cuts.{text_before-append}
+use Rattle.compact_buffers.proofs.Cuts.{text_before-append}
 use Rattle.compact_repr.specs.Value.{PlacedText}
 use Rattle.compact_repr.specs.Capacity.{Growth}
 use Rattle.compact_repr.specs.Change.{push_str}
 use Rattle.compact_str.specs.Room.{HasRoomFor, sure_capacity}
 use Rattle.compact_str.specs.Collect.{Appends, AppendsAll, AppendsUpToRefused, PassesInline, GivesText, StopsWithout, char_text, join}
-use Rattle.compact_repr.proofs.Texts.{size-append, size-text_of}
+use Rattle.compact_buffers.proofs.Texts.{size-append, size-text_of}
 use Rattle.compact_repr.proofs.Changes.{push_str-text}
 use Rattle.compact_str.proofs.Rooms.{push_str-sure}
 

@@ -5,7 +5,7 @@ use Rattle.std.specs.declared.ops.Bound.TheVariants.{Included, Excluded, Unbound
 use Rattle.compact_repr.specs.Cut.{IsBoundary}
 use Rattle.compact_repr.specs.Value.{PlacedText, placed_text}
 use Rattle.compact_repr.specs.Capacity.{Growth, inline_placement, heap_placement, static_placement, with_capacity_placement}
-use Rattle.compact_repr.proofs.Cuts.{size-text_before, boundary-within, boundary-from_size}
+use Rattle.compact_buffers.proofs.Cuts.{size-text_before, boundary-within, boundary-from_size}
 use Rattle.compact_str.specs.Room.{own_capacity, sure_capacity}
 use Rattle.compact_repr.specs.Change.{truncate, insert_str, replace_range}
 use Rattle.compact_str.specs.PositionEdits.{Removes, split_tail, repeat}

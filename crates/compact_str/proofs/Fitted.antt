@@ -8,7 +8,7 @@ use Rattle.compact_repr.specs.Value.{PlacedText, placed_text, heap}
 use Rattle.compact_repr.specs.Capacity.{Growth, inline_placement}
 use Rattle.compact_repr.specs.Change.{push_str, push_str_asks}
 use Rattle.compact_str.specs.FittedValues.{IsFitted}
-use Rattle.compact_repr.proofs.Texts.{size-append}
+use Rattle.compact_buffers.proofs.Texts.{size-append}
 use Rattle.compact_repr.proofs.Changes.{push_str-text}
 
 short-push_str : (g : Growth) (v w : PlacedText) (s : List ℕ) → v.placement ≡ inline_placement → push_str g v s ≡ Some w → size v.text + size s ≤ 24 → w.placement ≡ inline_placement

@@ -9,7 +9,7 @@ use Rattle.compact_repr.specs.Text.{size, text_of}
 use Rattle.compact_repr.specs.Value.{PlacedText, placed_text, heap, is_heap}
 use Rattle.compact_repr.specs.Capacity.{Growth, inline_placement, with_capacity_asks, from_string_placement}
 use Rattle.compact_repr.specs.Change.{new, push_str, reserve}
-use Rattle.compact_repr.proofs.Texts.{size-append}
+use Rattle.compact_buffers.proofs.Texts.{size-append}
 use Rattle.compact_repr.proofs.Changes.{push_str-text}
 use Rattle.compact_codec.specs.Text.{replacement_character}
 use Rattle.compact_codec.specs.Utf8Text.{BytesEncode, replacement_text}

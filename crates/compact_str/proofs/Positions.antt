@@ -12,8 +12,8 @@ use Rattle.compact_repr.specs.Value.{PlacedText, placed_text, is_static}
 use Rattle.compact_repr.specs.Capacity.{Growth, shortened_placement, owned_placement, make_owned_asks}
 use Rattle.compact_repr.specs.Change.{truncate, insert_str, replace_range, replace_range_asks}
 use Rattle.compact_str.specs.PositionEdits.{LosesChar}
-use Rattle.compact_repr.proofs.Texts.{size-append, empty_text}
-use Rattle.compact_repr.proofs.Cuts.{boundary-from_size, text_before-text_after, text_before-append, text_after-append, size-text_before, size-text_after}
+use Rattle.compact_buffers.proofs.Texts.{size-append, empty_text}
+use Rattle.compact_buffers.proofs.Cuts.{boundary-from_size, text_before-text_after, text_before-append, text_after-append, size-text_before, size-text_after}
 
 -- a text that is cut before its last character
 pub truncate-last : (v : PlacedText) (front : List ℕ) (c : ℕ) → v.text ≡ front ++ c ∷ [] → truncate v (size v.text - len_utf8 c) ≡ placed_text front (shortened_placement v front)

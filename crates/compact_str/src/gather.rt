@@ -29,7 +29,7 @@ impl<P: Policy> Model for Gathered<P> {
     ghost invariant = { λ g. IsFitted g.value };
 }
 
-#[tactic(auto, using(compact_repr::proofs::TextFacts::text_facts, crate::proofs::CollectFacts::gather_facts))]
+#[tactic(auto, using(compact_buffers::proofs::TextFacts::text_facts, crate::proofs::CollectFacts::gather_facts))]
 impl<P: Policy> Gathered<P> {
     /// Nothing yet.
     #[inline]

@@ -3,7 +3,7 @@
 
 ghost use Rattle.std.specs.Prelude.{◌≡◌, ◌≤◌, ◌<◌, take, IsTrue, ◌↔◌};
 ghost use Rattle.std.specs.Str.{IsUtf8};
-ghost use Rattle.compact_repr.specs.Text.{text_of};
+ghost use Rattle.compact_buffers.specs.Text.{text_of};
 ghost use Rattle.compact_repr.specs.Packed.{IsPackedFor, packed_len, packed_text};
 
 use crate::inline::INLINE_CAPACITY;

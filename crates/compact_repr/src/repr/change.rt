@@ -1,13 +1,13 @@
 //! Changes of a representation's text that may have to make room first, or to make the value owned.
 ghost use Rattle.std.specs.Prelude.{◌≡◌, ◌≤◌, [], length, Some, OnOk, OnErr, IsTrue, false};
-ghost use Rattle.compact_repr.specs.Text.{text_of};
-ghost use Rattle.compact_repr.specs.Cut.{IsBoundary};
+ghost use Rattle.compact_buffers.specs.Text.{text_of};
+ghost use Rattle.compact_buffers.specs.Cut.{IsBoundary};
 ghost use Rattle.compact_repr.specs.Capacity.{fits_in_place, reserve_asks};
 ghost use Rattle.compact_repr.specs.Change.{push_str, push_str_asks, insert_str, replace_range, replace_range_asks};
 
-use crate::error::ReserveError;
 use crate::policy::Policy;
 use crate::repr::Repr;
+use compact_buffers::ReserveError;
 
 impl<P: Policy> Repr<P> {
     /// Appends `text`, of any length and with any place. It stands apart, so that a short append calls nothing.
@@ -16,7 +16,7 @@ impl<P: Policy> Repr<P> {
     ///
     /// [`ReserveError`] if the value has no room for `text` in place, and a new buffer is refused.
     #[inline(never)]
-    #[tactic(auto, using(crate::proofs::TextFacts::text_facts, crate::proofs::Changes::append_facts))]
+    #[tactic(auto, using(compact_buffers::proofs::TextFacts::text_facts, crate::proofs::Changes::append_facts))]
     pub fn push_str(&mut self, text: &str) -> Result<(), ReserveError>
         ensures ok { OnOk result (push_str P.growth self.old (text_of text.now) ≡ Some self.new) }
         ensures err { OnErr result
@@ -79,7 +79,7 @@ impl<P: Policy> Repr<P> {
     ///
     /// [`ReserveError`] if a static text cannot be made owned.
     #[inline]
-    #[tactic(auto, using(crate::proofs::TextFacts::text_facts, crate::proofs::Changes::removal_facts))]
+    #[tactic(auto, using(compact_buffers::proofs::TextFacts::text_facts, crate::proofs::Changes::removal_facts))]
     pub fn cut_out(&mut self, start: usize, end: usize) -> Result<(), ReserveError>
         requires order { start ≤ end }
         requires first { IsBoundary self.old.text start }

@@ -1,19 +1,19 @@
 //! Changes of a representation's text in bytes of its own, which never allocate and never move the text to another
 //! place.
 ghost use Rattle.std.specs.Prelude.{◌≡◌, ◌+◌, ◌-◌, ◌≤◌, ◌<◌, [], ◌∷◌, ◌++◌, length, IsTrue, true, false, ◌↔◌};
-ghost use Rattle.compact_repr.specs.Text.{size, text_of, ascii_lowercase, ascii_uppercase};
-ghost use Rattle.compact_repr.specs.Cut.{IsBoundary, replaced_text};
+ghost use Rattle.compact_buffers.specs.Text.{size, text_of, ascii_lowercase, ascii_uppercase};
+ghost use Rattle.compact_buffers.specs.Cut.{IsBoundary, replaced_text};
 ghost use Rattle.compact_repr.specs.Value.{placed_text, is_static};
 ghost use Rattle.compact_repr.specs.Capacity.{fits_in_place};
 ghost use Rattle.compact_repr.specs.Change.{clear, truncate, zeroize};
 ghost use Rattle.compact_repr.specs.PushOutcomes.{IsPushOutcome};
-ghost use Rattle.compact_repr.specs.Retain.{RetainsCharsTo};
+ghost use Rattle.compact_buffers.specs.Retain.{RetainsCharsTo};
 
 use crate::inline::InlineBuffer;
 use crate::policy::Policy;
 use crate::repr::{Buffer, Repr};
-use crate::slices::MAX_SHORT_LEN;
-use crate::static_text::StaticText;
+use compact_buffers::StaticText;
+use compact_buffers::slices::MAX_SHORT_LEN;
 
 /// What came of an append that takes short texts alone.
 #[derive(Clone, Copy, Debug, PartialEq, Eq, Drop)]

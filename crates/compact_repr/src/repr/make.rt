@@ -1,19 +1,17 @@
 //! How a representation is made.
 ghost use Rattle.std.specs.Prelude.{◌≡◌, ◌<◌, ◌≤◌, ℕ, List, length, nat_eq, if◌then◌else◌, [], Some, IfOk, OnErr, IsOk, IsTrue, MatchOption, string_bytes};
 ghost use Rattle.std.specs.String.{string_capacity};
-ghost use Rattle.compact_repr.specs.Text.{size, text_of};
+ghost use Rattle.compact_buffers.specs.Text.{size, text_of};
 ghost use Rattle.compact_repr.specs.Value.{placed_text};
 ghost use Rattle.compact_repr.specs.Packed.{IsPackedFor};
 ghost use Rattle.compact_repr.specs.Capacity.{inline_placement, heap_placement, with_capacity_asks, const_new_placement, from_string_placement, clone_asks};
 ghost use Rattle.compact_repr.specs.Change.{new, with_capacity, clone};
 
-use crate::error::ReserveError;
-use crate::heap::HeapBuffer;
 use crate::inline::{INLINE_CAPACITY, InlineBuffer};
 use crate::policy::Policy;
 use crate::repr::room::{MAX_CAPACITY, checked_capacity};
 use crate::repr::{Buffer, Repr};
-use crate::static_text::StaticText;
+use compact_buffers::{HeapBuffer, ReserveError, StaticText};
 use std::alloc::Global;
 
 impl<P: Policy> Repr<P> {

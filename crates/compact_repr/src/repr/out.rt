@@ -1,7 +1,7 @@
 //! How a text leaves the representation.
 ghost use Rattle.std.specs.Prelude.{◌≡◌, ◌≤◌, false, IfOk, IfErr, IsOk, IsTrue, string_bytes};
 ghost use Rattle.std.specs.String.{string_capacity};
-ghost use Rattle.compact_repr.specs.Text.{utf8, text_of};
+ghost use Rattle.compact_buffers.specs.Text.{utf8, text_of};
 ghost use Rattle.compact_repr.specs.Value.{is_heap};
 
 use crate::policy::Policy;

@@ -2,13 +2,13 @@
 ghost use Rattle.std.specs.Prelude.{◌≡◌, ◌-◌, ◌<◌, ◌≤◌, ℕ, List, [], ◌∷◌, ◌++◌, length, true, false, IsTrue, ◌↔◌, IfSome, MatchOption};
 ghost use Rattle.std.specs.Char.{len_utf8};
 ghost use Rattle.std.specs.Str.{IsCharBoundary};
-ghost use Rattle.compact_repr.specs.Text.{size, utf8, text_of};
-ghost use Rattle.compact_repr.specs.Cut.{IsBoundary, text_after, substring};
+ghost use Rattle.compact_buffers.specs.Text.{size, utf8, text_of};
+ghost use Rattle.compact_buffers.specs.Cut.{IsBoundary, text_after, substring};
 ghost use Rattle.compact_repr.specs.Value.{is_static};
 
-use crate::cut;
 use crate::policy::Policy;
 use crate::repr::{Buffer, Repr};
+use compact_buffers::cut;
 
 impl<P: Policy> Repr<P> {
     /// The text of a heap value; `None` of any other. In a loop it is found out once, and not at each turn, where the text stands.

@@ -1,15 +1,14 @@
 //! How room is made and given back.
 ghost use Rattle.std.specs.Prelude.{◌≡◌, ◌*◌, ◌/◌, ◌<◌, ◌≤◌, ◌^◌, [], false, max, nat_le, if◌then◌else◌, Some, None, IfOk, OnOk, OnErr, IsOk, IsTrue};
-ghost use Rattle.compact_repr.specs.Text.{size, text_of};
+ghost use Rattle.compact_buffers.specs.Text.{size, text_of};
 ghost use Rattle.compact_repr.specs.Value.{placed_text, is_heap, is_static};
 ghost use Rattle.compact_repr.specs.Capacity.{with_capacity_asks, fits_in_place, reserve_asks, make_owned_asks, inline_placement, heap_placement, max_capacity};
 ghost use Rattle.compact_repr.specs.Change.{reserve, make_owned, Shrinks};
 
-use crate::error::ReserveError;
-use crate::heap::HeapBuffer;
 use crate::inline::{INLINE_CAPACITY, InlineBuffer};
 use crate::policy::Policy;
 use crate::repr::{Buffer, Repr};
+use compact_buffers::{HeapBuffer, ReserveError};
 use std::alloc::Global;
 
 /// The largest capacity that may be asked for, 2^56 - 2 bytes.

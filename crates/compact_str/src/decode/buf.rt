@@ -26,7 +26,7 @@ impl PolicyString<Standard> {
     /// # Examples
     ///
     /// A buffer of F0 and 9F 92 96 in two pieces gives U+1F496.
-    #[tactic(auto, using(compact_repr::proofs::TextFacts::text_facts, crate::proofs::FittedTexts::buf_facts))]
+    #[tactic(auto, using(compact_buffers::proofs::TextFacts::text_facts, crate::proofs::FittedTexts::buf_facts))]
     pub fn from_utf8_buf<B: Buf>(alloc: Global, buf: &mut B) -> Result<CompactString, FromUtf8Error>
         ensures text { IfOk result (λ v. BytesEncode (B.unread buf.old) v.text) }
         ensures fitted { IfOk result IsFitted }
@@ -59,7 +59,7 @@ impl PolicyString<Standard> {
     /// # Errors
     ///
     /// [`ReserveError`] if memory for more than 24 bytes is refused; then a beginning of the bytes may be taken.
-    #[tactic(auto, using(compact_repr::proofs::TextFacts::text_facts, crate::proofs::FittedTexts::buf_facts))]
+    #[tactic(auto, using(compact_buffers::proofs::TextFacts::text_facts, crate::proofs::FittedTexts::buf_facts))]
     pub fn from_utf8_buf_unchecked<B: Buf>(
         alloc: Global,
         buf: &mut B,

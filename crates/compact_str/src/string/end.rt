@@ -25,7 +25,7 @@ impl<P: Policy> PolicyString<P> {
     ///
     /// `"ab"` and `"c"` give `"abc"`.
     #[inline]
-    #[tactic(auto, using(compact_repr::proofs::TextFacts::text_facts, crate::proofs::EditFacts::append_facts))]
+    #[tactic(auto, using(compact_buffers::proofs::TextFacts::text_facts, crate::proofs::EditFacts::append_facts))]
     pub fn push_str(&mut self, text: &str) -> Result<(), ReserveError>
         ensures ok { OnOk result (push_str P.growth self.old (text_of text.now) ≡ Some self.new) }
         ensures text { OnOk result (self.new.text ≡ self.old.text ++ text_of text.now) }
@@ -93,7 +93,7 @@ impl<P: Policy> PolicyString<P> {
     ///
     /// Of `"café"` it answers `'é'` and leaves `"caf"`.
     #[inline]
-    #[tactic(auto, using(compact_repr::proofs::TextFacts::text_facts, crate::proofs::EditFacts::position_facts))]
+    #[tactic(auto, using(compact_buffers::proofs::TextFacts::text_facts, crate::proofs::EditFacts::position_facts))]
     pub fn pop(&mut self) -> Option<char>
         ensures pops { Pops self.old result self.new }
         ensures text { MatchOption result (self.old.text ≡ [])
@@ -114,7 +114,7 @@ impl<P: Policy> PolicyString<P> {
     ///
     /// Of `"café"` the first 3 bytes are `"caf"`.
     #[inline]
-    #[tactic(auto, using(compact_repr::proofs::TextFacts::text_facts, crate::proofs::EditFacts::position_facts))]
+    #[tactic(auto, using(compact_buffers::proofs::TextFacts::text_facts, crate::proofs::EditFacts::position_facts))]
     pub fn truncate(&mut self, len: usize)
         requires { len < size self.old.text → IsBoundary self.old.text len }
         ensures value { self.new ≡ truncate self.old len }
@@ -149,7 +149,7 @@ impl<P: Policy> fmt::Write for PolicyString<P> {
     ///
     /// `fmt::Error` if `push_str` is refused; the value is then as it was. `write!` may have written some of its parts
     /// before the one that was refused, and `truncate` at the old length takes them off again.
-    #[tactic(auto, using(compact_repr::proofs::TextFacts::text_facts, crate::proofs::EditFacts::append_facts))]
+    #[tactic(auto, using(compact_buffers::proofs::TextFacts::text_facts, crate::proofs::EditFacts::append_facts))]
     fn write_str(&mut self, text: &str) -> fmt::Result
         ensures ok { IsOk result → Writes P.growth self.old text.now self.new }
         ensures text { OnOk result (self.new.text ≡ self.old.text ++ text_of text.now) }

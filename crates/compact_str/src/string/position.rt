@@ -40,7 +40,7 @@ impl<P: Policy> PolicyString<P> {
     /// # Examples
     ///
     /// Of `"äb"` from `Excluded(1)` to `Excluded(3)` it answers 2 and 3.
-    #[tactic(auto, using(compact_repr::proofs::TextFacts::text_facts, crate::proofs::EditFacts::position_facts))]
+    #[tactic(auto, using(compact_buffers::proofs::TextFacts::text_facts, crate::proofs::EditFacts::position_facts))]
     pub fn check_range(&self, start: Bound<usize>, end: Bound<usize>) -> Option<(usize, usize)>
         ensures { MatchOption result (¬ IsRange self.now.text start end)
             (λ range. IsRange self.now.text start end × (range.0 ≡ range_start start)
@@ -60,7 +60,7 @@ impl<P: Policy> PolicyString<P> {
     /// # Examples
     ///
     /// Of `"key=value"` from `Included(4)` to `Unbounded` it is `"value"`.
-    #[tactic(auto, using(compact_repr::proofs::TextFacts::text_facts, crate::proofs::EditFacts::position_facts))]
+    #[tactic(auto, using(compact_buffers::proofs::TextFacts::text_facts, crate::proofs::EditFacts::position_facts))]
     pub fn range(&self, start: Bound<usize>, end: Bound<usize>) -> &str
         requires { IsRange self.now.text start end }
         ensures bytes { result.now
@@ -88,7 +88,7 @@ impl<P: Policy> PolicyString<P> {
     ///
     /// `"bc"` put into `"ad"` at 1 gives `"abcd"`.
     #[inline]
-    #[tactic(auto, using(compact_repr::proofs::TextFacts::text_facts, crate::proofs::EditFacts::insertion_facts))]
+    #[tactic(auto, using(compact_buffers::proofs::TextFacts::text_facts, crate::proofs::EditFacts::insertion_facts))]
     pub fn insert_str(&mut self, index: usize, text: &str) -> Result<(), ReserveError>
         requires { IsBoundary self.old.text index }
         ensures ok { OnOk result
@@ -156,7 +156,7 @@ impl<P: Policy> PolicyString<P> {
     ///
     /// Of `"aéb"` at 1 it answers `'é'` and leaves `"ab"`.
     #[inline]
-    #[tactic(auto, using(compact_repr::proofs::TextFacts::text_facts, crate::proofs::EditFacts::position_facts))]
+    #[tactic(auto, using(compact_buffers::proofs::TextFacts::text_facts, crate::proofs::EditFacts::position_facts))]
     pub fn remove(&mut self, index: usize) -> Result<char, ReserveError>
         requires boundary { IsBoundary self.old.text index }
         requires within { index < size self.old.text }
@@ -173,7 +173,7 @@ impl<P: Policy> PolicyString<P> {
 
     /// `remove` of any character, in any place.
     #[inline(never)]
-    #[tactic(auto, using(compact_repr::proofs::TextFacts::text_facts, crate::proofs::EditFacts::position_facts))]
+    #[tactic(auto, using(compact_buffers::proofs::TextFacts::text_facts, crate::proofs::EditFacts::position_facts))]
     fn remove_char(&mut self, index: usize) -> Result<char, ReserveError>
         requires boundary { IsBoundary self.old.text index }
         requires within { index < size self.old.text }
@@ -198,7 +198,7 @@ impl<P: Policy> PolicyString<P> {
     /// # Examples
     ///
     /// `"abc"` from `Included(1)` to `Excluded(2)` replaced by `"xy"` gives `"axyc"`.
-    #[tactic(auto, using(compact_repr::proofs::TextFacts::text_facts, crate::proofs::EditFacts::replacement_facts))]
+    #[tactic(auto, using(compact_buffers::proofs::TextFacts::text_facts, crate::proofs::EditFacts::replacement_facts))]
     pub fn replace_range(
         &mut self,
         start: Bound<usize>,
@@ -241,7 +241,7 @@ impl<P: Policy> PolicyString<P> {
     /// # Examples
     ///
     /// `"key=value"` at 4 keeps `"key="` and answers `"value"`.
-    #[tactic(auto, using(compact_repr::proofs::TextFacts::text_facts, crate::proofs::EditFacts::position_facts))]
+    #[tactic(auto, using(compact_buffers::proofs::TextFacts::text_facts, crate::proofs::EditFacts::position_facts))]
     pub fn split_off(&mut self, index: usize) -> Result<Self, ReserveError>
         requires { IsBoundary self.old.text index }
         ensures ok { IfOk result (λ tail. SplitsOff P.growth self.old index tail self.new) }

@@ -14,7 +14,7 @@ const MAX_LOOKED_AT: usize = 1024;
 
 /// What stands in `text` from one position to another, in bytes; nothing where these begin and end no range.
 #[inline(always)]
-#[tactic(auto, using(compact_repr::proofs::TextFacts::text_facts, crate::proofs::Drains::part_facts))]
+#[tactic(auto, using(compact_buffers::proofs::TextFacts::text_facts, crate::proofs::Drains::part_facts))]
 pub fn range_text(text: &str, start: usize, end: usize) -> &str
     ensures text { text_of result.now ≡ range_text (text_of text.now) start end }
     ensures len { length result.now ≡ size (range_text (text_of text.now) start end) }
@@ -59,7 +59,7 @@ pub fn end_by_width(start: usize, word: u64) -> usize
 impl<P: Policy> PolicyString<P> {
     /// The text of a heap value; `None` of any other.
     #[inline(always)]
-    #[tactic(auto, using(compact_repr::proofs::TextFacts::text_facts))]
+    #[tactic(auto, using(compact_buffers::proofs::TextFacts::text_facts))]
     pub(crate) fn heap_str(&self) -> Option<&str>
         ensures text { IfSome result (λ s. text_of s.now ≡ self.now.text) }
         ensures len { IfSome result (λ s. length s.now ≡ size self.now.text) }
@@ -70,7 +70,7 @@ impl<P: Policy> PolicyString<P> {
     /// Whether a range is known to be ASCII. It answers `false` of a value that is not on the heap, and of a range so long that a
     /// drain from which no character is taken should not wait for the answer.
     #[inline(never)]
-    #[tactic(auto, using(compact_repr::proofs::TextFacts::text_facts, crate::proofs::Drains::part_facts))]
+    #[tactic(auto, using(compact_buffers::proofs::TextFacts::text_facts, crate::proofs::Drains::part_facts))]
     pub(crate) fn is_known_ascii(&self, start: usize, end: usize) -> bool
         requires { is_range self.now.text start end ≡ true }
         ensures { IsTrue result → IsAsciiRange self.now.text start end }
@@ -88,7 +88,7 @@ impl<P: Policy> PolicyString<P> {
     /// look at where the text stands.
     #[cold]
     #[inline(never)]
-    #[tactic(auto, using(compact_repr::proofs::TextFacts::text_facts))]
+    #[tactic(auto, using(compact_buffers::proofs::TextFacts::text_facts))]
     pub(crate) fn cold_range_text(&self, start: usize, end: usize) -> &str
         ensures text { text_of result.now ≡ range_text self.now.text start end }
         ensures len { length result.now ≡ size (range_text self.now.text start end) }
@@ -118,7 +118,7 @@ impl<P: Policy> PolicyString<P> {
     /// Takes out what stands from one position to another, in bytes of the value's own. If the text has `whole` bytes these
     /// are known to begin and end a range; else it is looked at, and where they do not, nothing changes.
     #[inline]
-    #[tactic(auto, using(compact_repr::proofs::TextFacts::text_facts, crate::proofs::Drains::part_facts))]
+    #[tactic(auto, using(compact_buffers::proofs::TextFacts::text_facts, crate::proofs::Drains::part_facts))]
     pub(crate) fn remove_range(&mut self, start: usize, end: usize, whole: usize)
         requires owned { is_static self.old.placement.place ≡ false }
         requires range { size self.old.text ≡ whole → is_range self.old.text start end ≡ true }
@@ -134,7 +134,7 @@ impl<P: Policy> PolicyString<P> {
     /// As `remove_range`, for what is not expected: it stays out of a drain's drop.
     #[cold]
     #[inline(never)]
-    #[tactic(auto, using(compact_repr::proofs::TextFacts::text_facts, crate::proofs::Drains::part_facts))]
+    #[tactic(auto, using(compact_buffers::proofs::TextFacts::text_facts, crate::proofs::Drains::part_facts))]
     fn remove_checked_range(&mut self, start: usize, end: usize)
         ensures { self.new ≡ without_range self.old start end }
     {

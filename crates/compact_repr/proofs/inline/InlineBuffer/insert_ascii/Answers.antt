@@ -1,8 +1,8 @@
 use Rattle.std.proofs.Common.{◌∙◌, refl, sym, arith}
 use Rattle.std.proofs.lemmas.Bool.{false≢true}
-use Rattle.compact_repr.proofs.Cuts.{boundary-within}
-use Rattle.compact_repr.proofs.Ascii.{ascii-inserted, utf8-ascii-inserted}
-use Rattle.compact_repr.proofs.SplicedSlices.{word-byte-in}
+use Rattle.compact_buffers.proofs.Cuts.{boundary-within}
+use Rattle.compact_buffers.proofs.Ascii.{ascii-inserted, utf8-ascii-inserted}
+use Rattle.compact_buffers.proofs.SplicedSlices.{word-byte-in}
 use Rattle.compact_repr.proofs.PackedTexts.{packed-text, packed-most, packed-again}
 use Rattle.compact_repr.proofs.PackedEdits.{len-seen, len-fits, utf8-seen}
 use Rattle.compact_repr.proofs.inline.InlineBuffer.insert_ascii.Goals as goal

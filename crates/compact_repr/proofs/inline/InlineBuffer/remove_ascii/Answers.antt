@@ -1,7 +1,7 @@
 use Rattle.std.proofs.Common.{◌∙◌, arith}
-use Rattle.compact_repr.proofs.Cuts.{boundary-within}
-use Rattle.compact_repr.proofs.Ascii.{ascii-removed, utf8-ascii-removed}
-use Rattle.compact_repr.proofs.SplicedSlices.{word-byte-out}
+use Rattle.compact_buffers.proofs.Cuts.{boundary-within}
+use Rattle.compact_buffers.proofs.Ascii.{ascii-removed, utf8-ascii-removed}
+use Rattle.compact_buffers.proofs.SplicedSlices.{word-byte-out}
 use Rattle.compact_repr.proofs.PackedTexts.{packed-text, packed-most, packed-again}
 use Rattle.compact_repr.proofs.PackedEdits.{len-seen, len-fits, utf8-seen}
 use Rattle.compact_repr.proofs.inline.InlineBuffer.remove_ascii.Goals as goal

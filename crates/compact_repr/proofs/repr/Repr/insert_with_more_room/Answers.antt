@@ -1,8 +1,8 @@
 use Rattle.std.proofs.Common.{ℕ, List, Result, Ok, Err, OnErr, length, refl, sym, subst, arith}
 use Rattle.std.proofs.lemmas.Bool.{false≢true}
 use Rattle.std.proofs.lemmas.Result.{IfOk-from_err}
-use Rattle.compact_repr.specs.Cut.{IsBoundary}
-use Rattle.compact_repr.proofs.Texts.{size-text_of}
+use Rattle.compact_buffers.specs.Cut.{IsBoundary}
+use Rattle.compact_buffers.proofs.Texts.{size-text_of}
 use Rattle.compact_repr.proofs.MoreRoom.{reserved-text, fits-now, insert-reserved}
 use Rattle.compact_repr.proofs.repr.Repr.insert_with_more_room.Goals as goal
 

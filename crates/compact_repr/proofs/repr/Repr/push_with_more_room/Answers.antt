@@ -1,9 +1,9 @@
 use Rattle.std.proofs.Common.{◌≡◌, Result, Ok, Err, OnErr, IsTrue, length, refl, sym, ◌∙◌}
 use Rattle.std.proofs.lemmas.Bool.{both_ways, eqb-true}
 use Rattle.std.proofs.lemmas.Result.{IfOk-from_err}
-use Rattle.compact_repr.specs.Text.{text_of}
+use Rattle.compact_buffers.specs.Text.{text_of}
 use Rattle.compact_repr.specs.Change.{push_str_asks}
-use Rattle.compact_repr.proofs.Texts.{size-text_of}
+use Rattle.compact_buffers.proofs.Texts.{size-text_of}
 use Rattle.compact_repr.proofs.MoreRoom.{push-nothing, push-asks, push-reserved}
 use Rattle.compact_repr.proofs.repr.Repr.push_with_more_room.Goals as goal
 

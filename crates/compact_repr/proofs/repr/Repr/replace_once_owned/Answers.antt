@@ -1,11 +1,11 @@
 use Rattle.std.proofs.Common.{◌≡◌, ◌-◌, ℕ, List, Some, Result, Ok, Err, OnErr, IsTrue, length, refl, sym, ap, ◌∙◌, subst}
 use Rattle.std.proofs.lemmas.Bool.{false≢true}
 use Rattle.std.proofs.lemmas.Result.{IfOk-from_err}
-use Rattle.compact_repr.specs.Text.{text_of}
-use Rattle.compact_repr.specs.Cut.{IsBoundary, replaced_text}
+use Rattle.compact_buffers.specs.Text.{text_of}
+use Rattle.compact_buffers.specs.Cut.{IsBoundary, replaced_text}
 use Rattle.compact_repr.specs.Value.{PlacedText, placed_text}
 use Rattle.compact_repr.specs.Change.{replace_range, replace_range_asks}
-use Rattle.compact_repr.proofs.Texts.{size-text_of}
+use Rattle.compact_buffers.proofs.Texts.{size-text_of}
 use Rattle.compact_repr.proofs.MoreRoom.{reserved-text, owned-text, FitsFor, fits-within, fits-beyond}
 use Rattle.compact_repr.proofs.MoreRoom.{replace-asks-within, replace-asks-beyond, replace-owned, replace-reserved}
 use Rattle.compact_repr.proofs.repr.Repr.replace_once_owned.Goals as goal

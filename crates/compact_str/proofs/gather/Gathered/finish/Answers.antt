@@ -3,7 +3,7 @@ use Rattle.std.specs.Prelude.{IsTrue}
 use Rattle.compact_repr.specs.Text.{size, text_of}
 use Rattle.compact_repr.specs.Value.{PlacedText}
 use Rattle.compact_repr.specs.Change.{push_str_asks}
-use Rattle.compact_repr.proofs.Texts.{size-append}
+use Rattle.compact_buffers.proofs.Texts.{size-append}
 use Rattle.compact_str.specs.FittedValues.{IsFitted}
 use Rattle.compact_str.proofs.Collecting.{on_err}
 use Rattle.compact_str.proofs.Fitted.{fitted-push_str, asks-over}

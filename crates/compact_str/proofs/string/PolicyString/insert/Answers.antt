@@ -8,7 +8,7 @@ use Rattle.compact_repr.specs.Capacity.{fits_in_place, reserve_asks}
 use Rattle.compact_repr.specs.Value.{PlacedText, is_static}
 use Rattle.compact_repr.specs.Change.{insert_str}
 use Rattle.compact_repr.proofs.Changes.{insert_str-in_place}
-use Rattle.compact_repr.proofs.Cuts.{boundary-within}
+use Rattle.compact_buffers.proofs.Cuts.{boundary-within}
 use Rattle.compact_str.proofs.Positions.{insert_str-text, insert_str-place, insert_str-behind}
 use Rattle.compact_str.proofs.Rooms.{insert_str-sure, reserve_asks-succeeds}
 use Rattle.compact_str.proofs.string.PolicyString.insert.Goals as goal

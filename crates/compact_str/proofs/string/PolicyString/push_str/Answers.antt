@@ -4,7 +4,7 @@ use Rattle.std.proofs.lemmas.Result.{on_ok_weaker}
 use Rattle.compact_repr.specs.Text.{text_of}
 use Rattle.compact_repr.specs.Value.{PlacedText}
 use Rattle.compact_repr.specs.Change.{push_str, push_str_asks}
-use Rattle.compact_repr.proofs.Texts.{size-text_of}
+use Rattle.compact_buffers.proofs.Texts.{size-text_of}
 use Rattle.compact_repr.proofs.Changes.{push_str-text, push_str-in_place}
 use Rattle.compact_str.proofs.Rooms.{push_str-sure, push_str_asks-succeeds}
 use Rattle.compact_str.proofs.string.PolicyString.push_str.Goals as goal

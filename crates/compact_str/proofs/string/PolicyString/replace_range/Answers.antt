@@ -8,9 +8,9 @@ use Rattle.compact_repr.specs.Cut.{IsBoundary}
 use Rattle.compact_repr.specs.Value.{PlacedText}
 use Rattle.compact_repr.specs.Capacity.{Growth}
 use Rattle.compact_repr.specs.Change.{replace_range, replace_range_asks}
-use Rattle.compact_repr.proofs.Texts.{size-text_of}
+use Rattle.compact_buffers.proofs.Texts.{size-text_of}
 use Rattle.compact_repr.proofs.Changes.{replace_range-in_place}
-use Rattle.compact_repr.proofs.Cuts.{boundary-within}
+use Rattle.compact_buffers.proofs.Cuts.{boundary-within}
 use Rattle.compact_str.specs.Room.{IsOwned, HasRoomFor}
 use Rattle.compact_str.specs.Ranges.{range_start, range_end}
 use Rattle.compact_str.proofs.Positions.{range_replaced-text}

@@ -9,7 +9,7 @@ use Rattle.std.specs.declared.string.String.{String}
 use Rattle.compact_repr.specs.Text.{size, text_of}
 use Rattle.compact_repr.specs.Value.{PlacedText}
 use Rattle.compact_repr.specs.Capacity.{standard_growth}
-use Rattle.compact_repr.proofs.Texts.{size-text_of}
+use Rattle.compact_buffers.proofs.Texts.{size-text_of}
 use Rattle.compact_codec.specs.InvalidSequence.{IsUtf8Error}
 use Rattle.compact_codec.specs.Utf8Text.{BytesEncode}
 use Rattle.compact_str.specs.FittedValues.{IsFitted}

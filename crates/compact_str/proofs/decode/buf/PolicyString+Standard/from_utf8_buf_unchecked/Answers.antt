@@ -9,7 +9,7 @@ use Rattle.std.specs.declared.string.String.{String}
 use Rattle.compact_repr.specs.Text.{size, text_of}
 use Rattle.compact_repr.specs.Value.{PlacedText}
 use Rattle.compact_repr.specs.Capacity.{standard_growth, with_capacity_asks}
-use Rattle.compact_repr.proofs.Texts.{size-text_of}
+use Rattle.compact_buffers.proofs.Texts.{size-text_of}
 use Rattle.compact_str.specs.FittedValues.{IsFitted}
 use Rattle.compact_str.specs.DecodeErrors.{IsSuffixOf}
 use Rattle.compact_str.proofs.FittedTexts.{new-fitted, from_string_placement-fitted, long-asks}

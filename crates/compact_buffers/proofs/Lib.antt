@@ -1,0 +1,14 @@
+pub mod Texts
+pub mod Ascii
+pub mod Cuts
+pub mod Shifts
+pub mod Ends
+pub mod Appends
+pub mod Parts
+pub mod SplicedSlices
+pub mod TextFacts
+pub mod HeapTexts
+pub mod Strings
+pub mod Letters
+pub mod Keeping
+pub mod Middles

@@ -1,0 +1,5 @@
+pub mod Text
+pub mod Cut
+pub mod Retain
+pub mod HeapText
+pub mod Loan
