@@ -2,8 +2,6 @@
 #![tactic(auto)]
 
 #[cfg(test)]
-mod asserts;
-#[cfg(test)]
 mod utf16;
 #[cfg(test)]
 mod utf16_bytes;

@@ -1,7 +1,6 @@
 //! Units read step by step and validated as a whole: unpaired surrogates, pairs, and pairs at each edge of the two ranges.
 
-use crate::asserts::{assert_equal, assert_for, assert_that};
-use compact_asserts::that;
+use compact_asserts::{equal, that, that_for};
 use compact_codec::utf16::{first_character, is_utf16};
 use std::process::Abort;
 
@@ -11,11 +10,11 @@ fn assert_steps(rt: &impl Abort, units: &[u16], steps: &[(Option<char>, usize)])
     for (character, taken) in steps {
         that(!rest.is_empty()).expect(rt, "it holds");
         let step = first_character(rest);
-        assert_for(rt, units, step.character == *character);
-        assert_equal(rt, step.taken, *taken);
+        that_for(units, step.character == *character).expect(rt, "it holds");
+        equal(step.taken, *taken).expect(rt, "equal");
         rest = &rest[step.taken..];
     }
-    assert_that(rt, rest.is_empty());
+    that(rest.is_empty()).expect(rt, "it holds");
 }
 
 #[test]
@@ -69,7 +68,7 @@ fn texts_are_told_from_others(rt: HostRuntime) {
         (&[0x0061, 0xD834], false),
     ];
     for (units, text) in cases {
-        assert_for(&rt, units, is_utf16(units) == text);
+        that_for(units, is_utf16(units) == text).expect(&rt, "it holds");
     }
 }
 
@@ -84,5 +83,5 @@ fn pairs_of_units_at_the_edges(rt: HostRuntime) {
             }
         }
     }
-    assert_equal(&rt, texts, 8);
+    equal(texts, 8).expect(&rt, "equal");
 }

@@ -1,7 +1,6 @@
 //! Bytes read as units, two a unit, in each order: step by step, and validated as a whole.
 
-use crate::asserts::{assert_equal, assert_for, assert_that};
-use compact_asserts::that;
+use compact_asserts::{equal, that, that_for};
 use compact_codec::utf16_bytes::{ByteOrder, first_character, is_utf16};
 use std::process::Abort;
 
@@ -11,11 +10,11 @@ fn assert_steps(rt: &impl Abort, order: ByteOrder, bytes: &[u8], steps: &[(Optio
     for (character, taken) in steps {
         that(!rest.is_empty()).expect(rt, "it holds");
         let step = first_character(order, rest);
-        assert_for(rt, bytes, step.character == *character);
-        assert_equal(rt, step.taken, *taken);
+        that_for(bytes, step.character == *character).expect(rt, "it holds");
+        equal(step.taken, *taken).expect(rt, "equal");
         rest = &rest[step.taken..];
     }
-    assert_that(rt, rest.is_empty());
+    that(rest.is_empty()).expect(rt, "it holds");
 }
 
 #[test]
@@ -74,6 +73,6 @@ fn texts_are_told_from_others(rt: HostRuntime) {
         ),
     ];
     for (order, bytes, text) in cases {
-        assert_for(&rt, bytes, is_utf16(order, bytes) == text);
+        that_for(bytes, is_utf16(order, bytes) == text).expect(&rt, "it holds");
     }
 }

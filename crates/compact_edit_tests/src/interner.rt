@@ -1,7 +1,6 @@
 //! The interner: numbers and names, refused memory, and many words beside a plain list.
 
-use crate::asserts::{assert_equal, assert_that};
-use compact_asserts::that;
+use compact_asserts::{equal, that};
 use compact_edit::{InternError, Interner};
 use compact_str::ReserveError;
 use compact_testing::memory::take_all;
@@ -12,12 +11,12 @@ use std::process::Abort;
 
 /// Asserts the name of a number.
 fn assert_name(rt: &impl Abort, names: &Interner, number: u32, name: Option<&str>) {
-    assert_equal(rt, names.name(number), name);
+    equal(names.name(number), name).expect(rt, "equal");
 }
 
 /// Asserts how many names there are.
 fn assert_count(rt: &impl Abort, names: &Interner, count: usize) {
-    assert_equal(rt, names.len(), count);
+    equal(names.len(), count).expect(rt, "equal");
 }
 
 /// The number of a text for which there is memory.
@@ -27,7 +26,7 @@ fn number_of(rt: &impl Abort, names: &mut Interner, text: &str) -> u32 {
 
 /// Asserts the number of a text for which there is memory.
 fn is_number(rt: &impl Abort, names: &mut Interner, text: &str, number: u32) {
-    assert_equal(rt, number_of(rt, names, text), number);
+    equal(number_of(rt, names, text), number).expect(rt, "equal");
 }
 
 /// Asserts the numbers of texts for which there is memory.
@@ -40,7 +39,7 @@ fn are_numbers(
 ) {
     let mut numbers = Vec::new(alloc);
     names.intern_all(texts, &mut numbers).expect(rt, "memory");
-    assert_equal(rt, numbers.as_slice(), wanted);
+    equal(numbers.as_slice(), wanted).expect(rt, "equal");
 }
 
 /// Asserts that a list of texts is refused where no memory is left.
@@ -54,16 +53,13 @@ fn is_refused(
     let hog = take_all(alloc).expect(rt, "room for the list of blocks");
     let taken = names.intern_all(texts, numbers);
     drop(hog);
-    assert_that(rt, matches!(taken, Err(InternError::Reserve(_))));
+    that(matches!(taken, Err(InternError::Reserve(_)))).expect(rt, "it holds");
 }
 
 /// Asserts that a text is refused for want of memory, and that so many names stand.
 fn assert_refused(rt: &impl Abort, names: &mut Interner, text: &str, count: usize) {
-    assert_that(
-        rt,
-        matches!(names.intern(text), Err(InternError::Reserve(_))),
-    );
-    assert_equal(rt, names.len(), count);
+    that(matches!(names.intern(text), Err(InternError::Reserve(_)))).expect(rt, "it holds");
+    equal(names.len(), count).expect(rt, "equal");
 }
 
 #[test]
@@ -128,7 +124,7 @@ fn with_no_room_for_the_numbers_nothing_is_taken(rt: HostRuntime) {
     let mut numbers = Vec::new(alloc);
     number_of(rt, &mut names, "a");
     is_refused(rt, alloc, &mut names, &["a", "b"], &mut numbers);
-    assert_equal(rt, numbers.len(), 0);
+    equal(numbers.len(), 0).expect(rt, "equal");
     assert_count(rt, &names, 1);
 }
 
@@ -142,7 +138,7 @@ fn the_texts_before_a_refused_one_are_taken(rt: HostRuntime) {
     number_of(rt, &mut names, "b");
     let texts = ["b", "a", letters(30), "b"];
     is_refused(rt, alloc, &mut names, &texts, &mut numbers);
-    assert_equal(rt, numbers.as_slice(), [1, 0].as_slice());
+    equal(numbers.as_slice(), [1, 0].as_slice()).expect(rt, "equal");
     assert_count(rt, &names, 2);
 }
 
@@ -191,11 +187,11 @@ impl PlainList {
 fn assert_names(rt: &impl Abort, alloc: Global, names: &Interner, list: &PlainList) {
     that(names.len() == list.words.len()).expect(rt, "as many");
     for (place, id) in list.words.iter().enumerate() {
-        assert_equal(
-            rt,
+        equal(
             names.name(place as u32),
             Some(word(rt, alloc, *id).as_str()),
-        );
+        )
+        .expect(rt, "equal");
     }
 }
 
@@ -210,7 +206,7 @@ fn many_words_are_numbered_as_in_a_plain_list(rt: HostRuntime) {
         let id = random.below(40_000);
         let text = word(rt, alloc, id);
         let number = number_of(rt, &mut names, text.as_str());
-        assert_equal(rt, number as usize, list.place_of(rt, id));
+        equal(number as usize, list.place_of(rt, id)).expect(rt, "equal");
     }
     assert_names(rt, alloc, &names, &list);
 }
@@ -220,10 +216,10 @@ fn refusals_are_shown_so(rt: HostRuntime) {
     let rt = &rt;
     let alloc = rt.alloc();
     let shown = format!(in alloc; "{}", InternError::Full);
-    assert_equal(rt, shown.expect(rt, "memory").as_str(), "interner is full");
+    equal(shown.expect(rt, "memory").as_str(), "interner is full").expect(rt, "equal");
     let refused = InternError::from(ReserveError);
-    assert_that(rt, matches!(refused, InternError::Reserve(_)));
+    that(matches!(refused, InternError::Reserve(_))).expect(rt, "it holds");
     let shown = format!(in alloc; "{refused}");
     let text = "Cannot allocate memory to hold CompactString";
-    assert_equal(rt, shown.expect(rt, "memory").as_str(), text);
+    equal(shown.expect(rt, "memory").as_str(), text).expect(rt, "equal");
 }

@@ -1,9 +1,8 @@
 //! Inline texts as their 24 bytes, at each length where another read begins or ends, and at each end of each word of eight
 //! bytes. Behind the text stand zeros, and last, where the text leaves it free, 192 and the length.
 
-use crate::asserts::{assert_equal, assert_for, assert_that};
 use crate::values::copied;
-use compact_asserts::that;
+use compact_asserts::{equal, that, that_for};
 use compact_repr::{Repr, Standard};
 use std::alloc::Global;
 use std::ops::Range;
@@ -21,9 +20,9 @@ fn begins(rt: &impl Abort, alloc: Global, text: &str) {
     for (place, byte) in row.iter().enumerate() {
         let behind = if place == 23 { mark } else { 0 };
         let wanted = text.as_bytes().get(place).copied().unwrap_or(behind);
-        assert_for(rt, place, *byte == wanted);
+        that_for(place, *byte == wanted).expect(rt, "it holds");
     }
-    assert_equal(rt, made.as_str(), text);
+    equal(made.as_str(), text).expect(rt, "equal");
 }
 
 /// The same of each beginning whose length is in the range.
@@ -43,13 +42,13 @@ fn each_begins(rt: &impl Abort, alloc: Global, lens: Range<usize>) -> usize {
 /// Of the letters there are 9 beginnings, of the others 5 and 4.
 #[test]
 fn rows_of_one_word(rt: HostRuntime) {
-    assert_equal(&rt, each_begins(&rt, rt.alloc(), 0..9), 18);
+    equal(each_begins(&rt, rt.alloc(), 0..9), 18).expect(&rt, "equal");
 }
 
 /// Of the letters there are 16 beginnings, of the others 8 each.
 #[test]
 fn rows_of_more_words(rt: HostRuntime) {
-    assert_equal(&rt, each_begins(&rt, rt.alloc(), 9..25), 32);
+    equal(each_begins(&rt, rt.alloc(), 9..25), 32).expect(&rt, "equal");
 }
 
 /// The last byte of the row is the text's own.
@@ -66,8 +65,8 @@ fn a_byte_is_put_in(rt: HostRuntime) {
     ] {
         let mut text = copied(rt, rt.alloc(), "abcdefghijklmnopqrstuvw");
         that(text.is_char_boundary(at)).expect(rt, "it holds");
-        assert_that(rt, text.insert_ascii_in_place(at, b'-'));
-        assert_for(rt, at, text.packed() == Some(*row));
+        that(text.insert_ascii_in_place(at, b'-')).expect(rt, "it holds");
+        that_for(at, text.packed() == Some(*row)).expect(rt, "it holds");
     }
 }
 
@@ -76,7 +75,7 @@ fn remove(rt: &impl Abort, text: &mut Repr<Standard>, at: usize) {
     that(at < 24).expect(rt, "it holds");
     that(text.is_char_boundary(at)).expect(rt, "it holds");
     that(text.is_char_boundary(at + 1)).expect(rt, "it holds");
-    assert_that(rt, text.remove_ascii_in_place(at));
+    that(text.remove_ascii_in_place(at)).expect(rt, "it holds");
 }
 
 /// A second byte is taken out, so that a mark is seen in the place of another. What stands before it, behind the text, is open.
@@ -105,11 +104,11 @@ fn a_byte_is_taken_out(rt: HostRuntime) {
     ] {
         let mut text = copied(rt, rt.alloc(), "abcdefghijklmnopqrstuvwx");
         remove(rt, &mut text, at);
-        assert_for(rt, at, text.packed() == Some(*first));
+        that_for(at, text.packed() == Some(*first)).expect(rt, "it holds");
         remove(rt, &mut text, 0);
         let row = text.packed().expect(rt, "an inline text");
-        assert_for(rt, at, &row[..22] == second.as_slice());
-        assert_for(rt, at, row[23] == 0xD6);
-        assert_for(rt, at, text.as_str().as_bytes() == second.as_slice());
+        that_for(at, &row[..22] == second.as_slice()).expect(rt, "it holds");
+        that_for(at, row[23] == 0xD6).expect(rt, "it holds");
+        that_for(at, text.as_str().as_bytes() == second.as_slice()).expect(rt, "it holds");
     }
 }

@@ -1,6 +1,6 @@
 //! What a call made, by functions that take it over: a test that owned what it asks of would be dear to prove.
 
-use crate::asserts::assert_for;
+use compact_asserts::that_for;
 use compact_str::CompactString;
 use compact_testing::seen::{is_fitted, is_inline};
 use std::alloc::Global;
@@ -8,12 +8,12 @@ use std::process::Abort;
 
 /// Asserts that this short text was made, which stands inline.
 pub fn assert_made_inline<E: Drop>(rt: &impl Abort, made: Result<CompactString, E>, text: &str) {
-    assert_for(rt, text, is_inline(&made.ok().expect(rt, "a text"), text));
+    that_for(text, is_inline(&made.ok().expect(rt, "a text"), text)).expect(rt, "it holds");
 }
 
 /// Asserts that the call of this name was refused.
 pub fn assert_refused<T: Drop, E: Drop>(rt: &impl Abort, call: &str, made: Result<T, E>) {
-    assert_for(rt, call, made.is_err());
+    that_for(call, made.is_err()).expect(rt, "it holds");
 }
 
 /// Asserts that the call of this name made a text, inline where it has at most 24 bytes and else on the heap; or, where there
@@ -24,7 +24,7 @@ pub fn assert_made<E: Drop>(
     made: Result<CompactString, E>,
     wanted: Option<&str>,
 ) {
-    assert_for(rt, call, is_wanted(made, wanted));
+    that_for(call, is_wanted(made, wanted)).expect(rt, "it holds");
 }
 
 /// Whether that is what was made.

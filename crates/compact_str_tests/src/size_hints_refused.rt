@@ -1,14 +1,15 @@
 //! The same where no memory is left: up to 24 bytes nothing is refused, and more is, whatever the hint.
 
-use crate::asserts::{assert_equal, assert_inline};
 use crate::hints::with_hint;
 use crate::made::{assert_refused, values_of};
 use crate::size_hints::{
     assert_appended, assert_characters, assert_collected, assert_extended, assert_joined,
     assert_texts,
 };
+use compact_asserts::{equal, that};
 use compact_str::{CompactString, append_all};
 use compact_testing::memory::take_all;
+use compact_testing::seen::is_inline;
 use compact_testing::values::letters;
 use std::alloc::Global;
 use std::process::Abort;
@@ -35,7 +36,7 @@ fn a_string_with_room_is_given_the_texts(rt: HostRuntime) {
     assert_appended(rt, &mut line, &values, false);
     assert_appended(rt, &mut line, &values, true);
     drop(hog);
-    assert_equal(rt, line.capacity(), 32);
+    equal(line.capacity(), 32).expect(rt, "equal");
 }
 
 /// Asserts that more than 24 bytes of texts are refused, and of characters.
@@ -64,7 +65,7 @@ fn assert_stops(rt: &impl Abort, alloc: Global, too_much: bool) {
         "extend_texts",
         value.extend_texts(with_hint(&texts, too_much)),
     );
-    assert_inline(rt, &value, letters(24));
+    that(is_inline(&value, letters(24))).expect(rt, "inline");
     assert_refused(
         rt,
         "extend, texts",
@@ -75,14 +76,14 @@ fn assert_stops(rt: &impl Abort, alloc: Global, too_much: bool) {
         "extend, characters",
         value.extend(with_hint(&['b'], too_much)),
     );
-    assert_inline(rt, &value, letters(24));
+    that(is_inline(&value, letters(24))).expect(rt, "inline");
     let mut value = CompactString::default(alloc);
     assert_refused(
         rt,
         "extend_chars",
         value.extend_chars(with_hint(&['€'; 9], too_much).copied()),
     );
-    assert_inline(rt, &value, "€€€€€€€€");
+    that(is_inline(&value, "€€€€€€€€")).expect(rt, "inline");
 }
 
 #[test]
@@ -106,7 +107,7 @@ fn assert_append_stops(
         "append_all",
         append_all(line, with_hint(values, too_much)),
     );
-    assert_equal(rt, line.as_str(), "ab");
+    equal(line.as_str(), "ab").expect(rt, "equal");
     line.clear();
 }
 

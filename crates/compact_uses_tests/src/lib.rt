@@ -2,8 +2,6 @@
 #![tactic(auto)]
 
 #[cfg(test)]
-mod asserts;
-#[cfg(test)]
 mod ranking;
 #[cfg(test)]
 mod record_stops;
