@@ -38,9 +38,16 @@ const MAX_COUNT: usize = 4294967295;
 /// The distinct texts that were taken, by first occurrence. The number of a text is its place, from 0, and stays.
 ///
 /// After `a`, `b`, `a` and the empty text the names are `a`, `b` and the empty text, with the numbers 0, 1 and 2.
-#[derive(Drop)]
 pub struct Interner {
     names: IndexSet<CompactString>,
+}
+
+/// It is dropped by one call, so that no function that has one takes the names apart at its ends.
+impl Drop for Interner {
+    fn drop(self) {
+        let Interner { names } = self;
+        drop(names);
+    }
 }
 
 impl Model for Interner {

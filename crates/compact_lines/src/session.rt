@@ -15,11 +15,23 @@ use std::marker::Model;
 const LETTERS: &str = "aaaaaaaaaaaaaaaaaaaaaaaaaaaaaa";
 
 /// A value, and room for the reply to one edit. A contract sees the value.
-#[derive(Drop)]
 pub struct Session {
     alloc: Global,
     value: CompactString,
     replies: Vec<Reply<Standard>>,
+}
+
+/// It is dropped by one call, so that no function that has one takes the replies apart at its ends.
+impl Drop for Session {
+    fn drop(self) {
+        let Session {
+            alloc: _,
+            value,
+            replies,
+        } = self;
+        drop(value);
+        drop(replies);
+    }
 }
 
 impl Model for Session {

@@ -12,7 +12,6 @@ use std::mem;
 
 /// What has come so far: a value, and behind it a block of short pieces that are appended to it at once. A contract sees
 /// the text of both. So a text of at most 1024 bytes asks for memory once, and for just what it takes.
-#[derive(Drop)]
 pub struct Gathered<P: Policy> {
     value: PolicyString<P>,
     block: Block,
@@ -27,6 +26,15 @@ impl<P: Policy> Model for Gathered<P> {
     ghost view = { λ g. g.value.text ++ g.block };
 
     ghost invariant = { λ g. IsFitted g.value };
+}
+
+/// It is dropped by one call, so that no function that gathers takes the value apart at its ends.
+impl<P: Policy> Drop for Gathered<P> {
+    #[inline]
+    fn drop(self) {
+        let Gathered { value, block: _ } = self;
+        drop(value);
+    }
 }
 
 #[tactic(auto, using(compact_buffers::proofs::TextFacts::text_facts, crate::proofs::CollectFacts::gather_facts))]
