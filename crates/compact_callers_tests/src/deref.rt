@@ -1,11 +1,10 @@
 //! Tests of the callers in `deref_callers.rt`.
 
-use compact_asserts::{equal, that};
+use crate::asserts::{assert_equal, assert_inline, assert_that};
 use compact_callers::deref_callers::{
     append_other, bytes_of_both, characters_of, filled_lines, longest_word, number_in, shown_name,
     split_at_sign, weight_of, with_commas,
 };
-use compact_testing::seen::is_inline;
 use compact_testing::values::short;
 
 #[test]
@@ -13,10 +12,10 @@ fn a_field_is_split(rt: HostRuntime) {
     let rt = &rt;
     let mut field = short(rt.alloc(), "clé=a=b");
     let value = split_at_sign(&mut field).expect(rt, "memory");
-    that(is_inline(&field, "clé")).expect(rt, "inline");
-    that(is_inline(&value.expect(rt, "a value"), "a=b")).expect(rt, "inline");
+    assert_inline(rt, &field, "clé");
+    assert_inline(rt, &value.expect(rt, "a value"), "a=b");
     let again = split_at_sign(&mut field).expect(rt, "memory");
-    that(again.is_none()).expect(rt, "it holds");
+    assert_that(rt, again.is_none());
 }
 
 #[test]
@@ -25,11 +24,11 @@ fn a_value_is_handed_on_as_a_text(rt: HostRuntime) {
     let alloc = rt.alloc();
     let mut line = short(alloc, "é");
     let other = short(alloc, "ab");
-    equal(bytes_of_both(&line, &other), Some(4)).expect(rt, "equal");
-    equal(weight_of(&line), 2).expect(rt, "equal");
+    assert_equal(rt, bytes_of_both(&line, &other), Some(4));
+    assert_equal(rt, weight_of(&line), 2);
     append_other(&mut line, &other).expect(rt, "memory");
-    that(is_inline(&line, "éab")).expect(rt, "inline");
-    equal(characters_of(&line), 3).expect(rt, "equal");
+    assert_inline(rt, &line, "éab");
+    assert_equal(rt, characters_of(&line), 3);
 }
 
 #[test]
@@ -37,19 +36,19 @@ fn a_line_is_read(rt: HostRuntime) {
     let rt = &rt;
     let alloc = rt.alloc();
     let line = short(alloc, " 42\n");
-    equal(number_in(&line), Some(42)).expect(rt, "equal");
-    equal(filled_lines(&short(alloc, "a\n \nb")), 2).expect(rt, "equal");
-    equal(longest_word(&short(alloc, "a bcé d")), 4).expect(rt, "equal");
-    equal(number_in(&short(alloc, "x")), None).expect(rt, "equal");
+    assert_equal(rt, number_in(&line), Some(42));
+    assert_equal(rt, filled_lines(&short(alloc, "a\n \nb")), 2);
+    assert_equal(rt, longest_word(&short(alloc, "a bcé d")), 4);
+    assert_equal(rt, number_in(&short(alloc, "x")), None);
 }
 
 #[test]
 fn a_name_is_shown(rt: HostRuntime) {
     let rt = &rt;
     let alloc = rt.alloc();
-    equal(shown_name(&Some(short(alloc, "zoë"))), "zoë").expect(rt, "equal");
-    equal(shown_name(&None), "none").expect(rt, "equal");
+    assert_equal(rt, shown_name(&Some(short(alloc, "zoë"))), "zoë");
+    assert_equal(rt, shown_name(&None), "none");
     let row = [short(alloc, "a"), short(alloc, "é")];
     let joined = with_commas(alloc, &row).expect(rt, "memory");
-    equal(joined.as_str(), "a,é").expect(rt, "equal");
+    assert_equal(rt, joined.as_str(), "a,é");
 }

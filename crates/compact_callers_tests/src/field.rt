@@ -1,8 +1,7 @@
 //! Tests of the callers in `field_callers.rt`.
 
-use compact_asserts::{equal, that};
+use crate::asserts::{assert_equal, assert_inline, assert_that};
 use compact_callers::field_callers::{read_name, read_person, write_person};
-use compact_testing::seen::is_inline;
 use compact_testing::values::short;
 
 /// A person with a name on the heap and with no note.
@@ -12,8 +11,8 @@ const WRITTEN: &str = r#"{"firstName":"zoë, of more than 24 bytes, on the heap"
 fn a_person_is_read(rt: HostRuntime) {
     let text = r#"{"firstName":"zo\u00eb","note":"n"}"#;
     let person = read_person(rt.alloc(), text).expect(&rt, "a person");
-    that(is_inline(&person.first_name, "zoë")).expect(&rt, "inline");
-    equal(person.note.as_deref(), Some("n")).expect(&rt, "equal");
+    assert_inline(&rt, &person.first_name, "zoë");
+    assert_equal(&rt, person.note.as_deref(), Some("n"));
 }
 
 #[test]
@@ -22,15 +21,15 @@ fn a_person_that_is_written_is_read_back(rt: HostRuntime) {
     let alloc = rt.alloc();
     let person = read_person(alloc, WRITTEN).expect(rt, "a person");
     let written = write_person(alloc, &person).expect(rt, "memory");
-    equal(written.as_str(), WRITTEN).expect(rt, "equal");
+    assert_equal(rt, written.as_str(), WRITTEN);
     let again = read_person(alloc, written.as_str()).expect(rt, "a person");
-    that(again == person).expect(rt, "it holds");
+    assert_that(rt, again == person);
 }
 
 #[test]
 fn a_name_is_a_text(rt: HostRuntime) {
     let alloc = rt.alloc();
     let name = read_name(alloc, r#""a\tb""#).expect(&rt, "a text");
-    that(name == short(alloc, "a\tb")).expect(&rt, "it holds");
-    that(read_name(alloc, "12").is_err()).expect(&rt, "it holds");
+    assert_that(&rt, name == short(alloc, "a\tb"));
+    assert_that(&rt, read_name(alloc, "12").is_err());
 }

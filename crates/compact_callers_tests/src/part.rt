@@ -1,6 +1,6 @@
 //! Tests of the callers in `part_callers.rt`.
 
-use compact_asserts::{equal, that};
+use crate::asserts::{assert_equal, assert_that};
 use compact_callers::part_callers::{
     answer_in, append_address, append_request, append_whole_address, first_of, first_two_bytes,
     is_abc, is_encoding_header, is_not_naive, key_and_value, number_and_name, sides_of_arrow,
@@ -14,7 +14,7 @@ fn an_address_is_appended(rt: HostRuntime) {
     let mut line = short(alloc, "> ");
     let host = short(alloc, "zoë.example");
     append_address(&mut line, "http", &host, 8080, "a").expect(&rt, "memory");
-    equal(line.as_str(), "> http://zoë.example:8080/a").expect(&rt, "equal");
+    assert_equal(&rt, line.as_str(), "> http://zoë.example:8080/a");
 }
 
 #[test]
@@ -25,7 +25,7 @@ fn a_whole_address_is_appended(rt: HostRuntime) {
     append_whole_address(&mut line, "http", "ä", "p", &host, 80, "a", "b=1", "c").expect(
         &rt, "memory",
     );
-    equal(line.as_str(), "> http://ä:p@zoë.example:80/a?b=1#c").expect(&rt, "equal");
+    assert_equal(&rt, line.as_str(), "> http://ä:p@zoë.example:80/a?b=1#c");
 }
 
 #[test]
@@ -34,52 +34,52 @@ fn a_request_is_appended(rt: HostRuntime) {
     let mut line = short(alloc, "");
     let host = short(alloc, "h");
     append_request(&mut line, "GET", &host, 1, "ä").expect(&rt, "memory");
-    equal(line.as_str(), "GET h:1/ä").expect(&rt, "equal");
+    assert_equal(&rt, line.as_str(), "GET h:1/ä");
 }
 
 #[test]
 fn a_word_is_known(rt: HostRuntime) {
     let rt = &rt;
     let alloc = rt.alloc();
-    that(is_abc(&short(alloc, "abc"))).expect(rt, "it holds");
-    that(!is_abc(&short(alloc, "abcd"))).expect(rt, "it holds");
-    that(!is_not_naive(&short(alloc, "naïve"))).expect(rt, "it holds");
-    that(is_not_naive(&short(alloc, "naive"))).expect(rt, "it holds");
+    assert_that(rt, is_abc(&short(alloc, "abc")));
+    assert_that(rt, !is_abc(&short(alloc, "abcd")));
+    assert_that(rt, !is_not_naive(&short(alloc, "naïve")));
+    assert_that(rt, is_not_naive(&short(alloc, "naive")));
     let name = value_of(alloc, "content-transfer-encoding").expect(rt, "memory");
-    that(is_encoding_header(&name)).expect(rt, "it holds");
-    that(!is_encoding_header(&short(alloc, "content-transfer"))).expect(rt, "it holds");
+    assert_that(rt, is_encoding_header(&name));
+    assert_that(rt, !is_encoding_header(&short(alloc, "content-transfer")));
 }
 
 #[test]
 fn an_answer_is_read(rt: HostRuntime) {
     let alloc = rt.alloc();
-    equal(answer_in(&short(alloc, "yes")), Some(true)).expect(&rt, "equal");
-    equal(answer_in(&short(alloc, "no")), Some(false)).expect(&rt, "equal");
-    equal(answer_in(&short(alloc, "yes!")), None).expect(&rt, "equal");
+    assert_equal(&rt, answer_in(&short(alloc, "yes")), Some(true));
+    assert_equal(&rt, answer_in(&short(alloc, "no")), Some(false));
+    assert_equal(&rt, answer_in(&short(alloc, "yes!")), None);
 }
 
 #[test]
 fn a_line_begins_with_a_character(rt: HostRuntime) {
     let alloc = rt.alloc();
-    equal(first_of(&short(alloc, "éa")), Some('é')).expect(&rt, "equal");
-    equal(first_of(&short(alloc, "")), None).expect(&rt, "equal");
+    assert_equal(&rt, first_of(&short(alloc, "éa")), Some('é'));
+    assert_equal(&rt, first_of(&short(alloc, "")), None);
 }
 
 #[test]
 fn a_text_is_cut_at_a_sign(rt: HostRuntime) {
     let alloc = rt.alloc();
     let field = short(alloc, "clé=a=b");
-    equal(key_and_value(&field), Some(("clé", "a=b"))).expect(&rt, "equal");
+    assert_equal(&rt, key_and_value(&field), Some(("clé", "a=b")));
     let title = short(alloc, "1§é");
-    equal(number_and_name(&title), Some(("1", "é"))).expect(&rt, "equal");
-    equal(number_and_name(&field), None).expect(&rt, "equal");
+    assert_equal(&rt, number_and_name(&title), Some(("1", "é")));
+    assert_equal(&rt, number_and_name(&field), None);
 }
 
 #[test]
 fn any_text_is_cut_at_a_sign_past_ascii(rt: HostRuntime) {
-    equal(sides_of_arrow("ä→b→c"), Some(("ä", "b→c"))).expect(&rt, "equal");
-    equal(sides_of_arrow("ä–b"), None).expect(&rt, "equal");
-    equal(sides_of_dash("1–é"), Some(("1", "é"))).expect(&rt, "equal");
+    assert_equal(&rt, sides_of_arrow("ä→b→c"), Some(("ä", "b→c")));
+    assert_equal(&rt, sides_of_arrow("ä–b"), None);
+    assert_equal(&rt, sides_of_dash("1–é"), Some(("1", "é")));
 }
 
 #[test]
@@ -87,8 +87,8 @@ fn what_stands_at_the_ends_is_left_out(rt: HostRuntime) {
     let rt = &rt;
     let alloc = rt.alloc();
     let name = short(alloc, "x-é");
-    equal(unmarked(&name), Some("é")).expect(rt, "equal");
-    equal(trimmed(&short(alloc, " a b\n")), "a b").expect(rt, "equal");
-    equal(first_two_bytes(&name), "x-").expect(rt, "equal");
-    equal(first_two_bytes(&short(alloc, "aé")), "").expect(rt, "equal");
+    assert_equal(rt, unmarked(&name), Some("é"));
+    assert_equal(rt, trimmed(&short(alloc, " a b\n")), "a b");
+    assert_equal(rt, first_two_bytes(&name), "x-");
+    assert_equal(rt, first_two_bytes(&short(alloc, "aé")), "");
 }

@@ -1,17 +1,17 @@
 //! Tests of the callers in `run_callers.rt`.
 
-use compact_asserts::{equal, that};
+use crate::asserts::{assert_equal, assert_inline, assert_that};
 use compact_callers::run_callers::{Doubling, bracket, refill, rewrite};
 use compact_str::PolicyString;
-use compact_testing::seen::{is_heap, is_inline};
+use compact_testing::seen::is_heap;
 use compact_testing::values::{letters, short};
 
 #[test]
 fn a_text_is_put_in_brackets(rt: HostRuntime) {
     let alloc = rt.alloc();
     let mut value = short(alloc, "ab");
-    that(bracket(alloc, &mut value).expect(&rt, "memory")).expect(&rt, "it holds");
-    that(is_inline(&value, "[ab]")).expect(&rt, "inline");
+    assert_that(&rt, bracket(alloc, &mut value).expect(&rt, "memory"));
+    assert_inline(&rt, &value, "[ab]");
 }
 
 #[test]
@@ -22,8 +22,8 @@ fn replies_come_after_those_of_an_earlier_run(rt: HostRuntime) {
     let mut replies = Vec::new(alloc);
     rewrite(&mut value, "c", &mut replies).expect(rt, "memory");
     rewrite(&mut value, letters(24), &mut replies).expect(rt, "memory");
-    equal(replies.len(), 4).expect(rt, "equal");
-    that(is_inline(&value, letters(24))).expect(rt, "inline");
+    assert_equal(rt, replies.len(), 4);
+    assert_inline(rt, &value, letters(24));
 }
 
 #[test]
@@ -32,9 +32,12 @@ fn a_buffer_of_ones_own_policy_is_refilled(rt: HostRuntime) {
     let alloc = rt.alloc();
     let made = PolicyString::<Doubling>::new(alloc, letters(25));
     let mut value = made.expect(rt, "memory");
-    that(is_heap(&value, 64, letters(25))).expect(rt, "it holds");
-    that(refill(alloc, &mut value, letters(70)).expect(rt, "memory")).expect(rt, "it holds");
-    that(is_heap(&value, 70, letters(70))).expect(rt, "it holds");
+    assert_that(rt, is_heap(&value, 64, letters(25)));
+    assert_that(
+        rt,
+        refill(alloc, &mut value, letters(70)).expect(rt, "memory"),
+    );
+    assert_that(rt, is_heap(&value, 70, letters(70)));
     value.push('a').expect(rt, "memory");
-    that(is_heap(&value, 140, letters(71))).expect(rt, "it holds");
+    assert_that(rt, is_heap(&value, 140, letters(71)));
 }

@@ -1,8 +1,8 @@
 //! Tests of the callers in `text.rt`.
 
-use compact_asserts::that;
+use crate::asserts::{assert_inline, assert_that};
 use compact_callers::text_callers::{append_field, keyword, label, record_line};
-use compact_testing::seen::{is_heap, is_inline};
+use compact_testing::seen::is_heap;
 use compact_testing::values::{letters, with_room};
 
 #[test]
@@ -10,9 +10,9 @@ fn keywords_and_labels_are_short(rt: HostRuntime) {
     let rt = &rt;
     let alloc = rt.alloc();
     let word = keyword(alloc, "while").expect(rt, "memory");
-    that(is_inline(&word, "while")).expect(rt, "inline");
+    assert_inline(rt, &word, "while");
     let line = label(alloc, "name", "value").expect(rt, "memory");
-    that(is_inline(&line, "name: value")).expect(rt, "inline");
+    assert_inline(rt, &line, "name: value");
 }
 
 #[test]
@@ -21,7 +21,7 @@ fn records_are_written_over_one_another(rt: HostRuntime) {
     let mut line = with_room(rt.alloc(), 100).expect(rt, "memory");
     record_line(&mut line, letters(20), letters(10)).expect(rt, "memory");
     append_field(&mut line, letters(3)).expect(rt, "memory");
-    that(is_heap(&line, 100, letters(33))).expect(rt, "it holds");
+    assert_that(rt, is_heap(&line, 100, letters(33)));
     record_line(&mut line, "a", "").expect(rt, "memory");
-    that(is_heap(&line, 100, letters(1))).expect(rt, "it holds");
+    assert_that(rt, is_heap(&line, 100, letters(1)));
 }

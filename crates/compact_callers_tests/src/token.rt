@@ -1,6 +1,6 @@
 //! Tests of the callers in `token_callers.rt`.
 
-use compact_asserts::equal;
+use crate::asserts::assert_equal;
 use compact_callers::token_callers::{learn, numbers_of};
 use compact_edit::Interner;
 use compact_testing::values::short;
@@ -12,9 +12,9 @@ fn a_text_is_learnt_once(rt: HostRuntime) {
     let mut names = Interner::new(alloc);
     let text = short(alloc, "ab, 12 ab");
     let count = learn(alloc, &mut names, &text).expect(rt, "memory");
-    equal(count, 4).expect(rt, "equal");
+    assert_equal(rt, count, 4);
     let count = learn(alloc, &mut names, &text).expect(rt, "memory");
-    equal(count, 0).expect(rt, "equal");
+    assert_equal(rt, count, 0);
 }
 
 #[test]
@@ -23,5 +23,5 @@ fn a_text_is_a_row_of_numbers(rt: HostRuntime) {
     let mut names = Interner::new(alloc);
     let text = short(alloc, "ab, 12 ab");
     let numbers = numbers_of(alloc, &mut names, &text).expect(&rt, "memory");
-    equal(numbers.as_slice(), [0, 1, 2, 3, 2, 0].as_slice()).expect(&rt, "equal");
+    assert_equal(&rt, numbers.as_slice(), [0, 1, 2, 3, 2, 0].as_slice());
 }

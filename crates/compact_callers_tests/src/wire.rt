@@ -1,13 +1,13 @@
 //! Tests of the callers in `wire_callers.rt`.
 
-use compact_asserts::{equal, that};
+use crate::asserts::{assert_equal, assert_inline, assert_that};
 use compact_callers::wire_callers::{
     first_record, next_record, next_text, pair_sent_and_received, read_records, read_texts,
     receive_field, send_field, sent_and_received,
 };
 use compact_ext::wire::{Records, WireError};
 use compact_str::CompactString;
-use compact_testing::seen::{is_fitted, is_inline};
+use compact_testing::seen::is_fitted;
 use compact_testing::values::{letters, short, value_of};
 use std::process::Abort;
 
@@ -21,10 +21,10 @@ fn a_reader_tells_its_next_record_and_its_end(rt: HostRuntime) {
     let mut rest: &[u8] = &RECORDS;
     for text in ["a", "", "Hi"] {
         let record = next_record(alloc, &mut rest).expect(rt, "a record");
-        that(is_inline(&record.expect(rt, "no end"), text)).expect(rt, "inline");
+        assert_inline(rt, &record.expect(rt, "no end"), text);
     }
     let end = next_record(alloc, &mut rest).expect(rt, "an end");
-    that(end.is_none()).expect(rt, "it holds");
+    assert_that(rt, end.is_none());
 }
 
 #[test]
@@ -44,9 +44,9 @@ fn one_record_that_is_no_text_is_passed_over(rt: HostRuntime) {
     let mut records = Records::new(rt.alloc(), MIXED.as_slice());
     for text in ["a", "", "Hi"] {
         let found = next_text(&mut records).expect(rt, "no end");
-        that(is_inline(&found.expect(rt, "a text"), text)).expect(rt, "inline");
+        assert_inline(rt, &found.expect(rt, "a text"), text);
     }
-    that(next_text(&mut records).is_none()).expect(rt, "it holds");
+    assert_that(rt, next_text(&mut records).is_none());
 }
 
 #[test]
@@ -57,30 +57,30 @@ fn what_is_no_text_is_passed_over(rt: HostRuntime) {
 
 /// Fails unless the texts are `a`, no text and `Hi`.
 fn expect_three(rt: &impl Abort, texts: Vec<CompactString>) {
-    equal(texts.len(), 3).expect(rt, "equal");
-    that(is_inline(texts.get(0).expect(rt, "a text"), "a")).expect(rt, "inline");
-    that(is_inline(texts.get(1).expect(rt, "a text"), "")).expect(rt, "inline");
-    that(is_inline(texts.get(2).expect(rt, "a text"), "Hi")).expect(rt, "inline");
+    assert_equal(rt, texts.len(), 3);
+    assert_inline(rt, texts.get(0).expect(rt, "a text"), "a");
+    assert_inline(rt, texts.get(1).expect(rt, "a text"), "");
+    assert_inline(rt, texts.get(2).expect(rt, "a text"), "Hi");
 }
 
 #[test]
 fn a_cut_behind_what_is_no_text_is_told(rt: HostRuntime) {
     let cut = MIXED.get(..25).expect(&rt, "bytes");
     let found = read_texts(rt.alloc(), cut);
-    that(matches!(found, Err(WireError::UnexpectedEnd))).expect(&rt, "it holds");
+    assert_that(&rt, matches!(found, Err(WireError::UnexpectedEnd)));
 }
 
 #[test]
 fn the_first_record_is_read_alone(rt: HostRuntime) {
     let first = first_record(rt.alloc(), RECORDS.as_slice()).expect(&rt, "no fault");
-    that(is_inline(&first.expect(&rt, "a record"), "a")).expect(&rt, "inline");
+    assert_inline(&rt, &first.expect(&rt, "a record"), "a");
 }
 
 #[test]
 fn no_bytes_have_no_first_record(rt: HostRuntime) {
     let none: &[u8] = &[];
     let first = first_record(rt.alloc(), none).expect(&rt, "no fault");
-    that(first.is_none()).expect(&rt, "it holds");
+    assert_that(&rt, first.is_none());
 }
 
 #[test]
@@ -91,15 +91,15 @@ fn a_field_is_sent_and_received(rt: HostRuntime) {
     let name = short(alloc, "name");
     let long = value_of(alloc, letters(30)).expect(rt, "memory");
     send_field(&name, &long, &mut bytes).expect(rt, "memory");
-    equal(bytes.len(), 42).expect(rt, "equal");
+    assert_equal(rt, bytes.len(), 42);
     let mut rest = bytes.as_slice();
     let (key, value) = receive_field(alloc, &mut rest).expect(rt, "a field");
-    that(is_inline(&key, "name")).expect(rt, "inline");
-    that(is_fitted(&value, letters(30))).expect(rt, "it holds");
+    assert_inline(rt, &key, "name");
+    assert_that(rt, is_fitted(&value, letters(30)));
     let back = sent_and_received(alloc, &value).expect(rt, "a text");
-    that(back == value).expect(rt, "it holds");
+    assert_that(rt, back == value);
     let both = pair_sent_and_received(alloc, &name, &value).expect(rt, "two texts");
-    equal(both.len(), 2).expect(rt, "equal");
-    that(is_inline(&both[0], "name")).expect(rt, "inline");
-    that(is_fitted(&both[1], letters(30))).expect(rt, "it holds");
+    assert_equal(rt, both.len(), 2);
+    assert_inline(rt, &both[0], "name");
+    assert_that(rt, is_fitted(&both[1], letters(30)));
 }

@@ -1,8 +1,8 @@
-//! Tests of `compact_codec`: where bytes and units stop being text. And of `compact_asserts`: what is not equal is told.
+//! Tests of `compact_codec`: where bytes and units stop being text.
 #![tactic(auto)]
 
 #[cfg(test)]
-mod equal;
+mod asserts;
 #[cfg(test)]
 mod utf16;
 #[cfg(test)]

@@ -1,6 +1,7 @@
 //! Units read step by step and validated as a whole: unpaired surrogates, pairs, and pairs at each edge of the two ranges.
 
-use compact_asserts::{equal, that, that_for};
+use crate::asserts::{assert_equal, assert_that};
+use compact_asserts::{that, that_for};
 use compact_codec::utf16::{first_character, is_utf16};
 use std::process::Abort;
 
@@ -11,10 +12,10 @@ fn assert_steps(rt: &impl Abort, units: &[u16], steps: &[(Option<char>, usize)])
         that(!rest.is_empty()).expect(rt, "it holds");
         let step = first_character(rest);
         that_for(units, step.character == *character).expect(rt, "it holds");
-        equal(step.taken, *taken).expect(rt, "equal");
+        assert_equal(rt, step.taken, *taken);
         rest = &rest[step.taken..];
     }
-    that(rest.is_empty()).expect(rt, "it holds");
+    assert_that(rt, rest.is_empty());
 }
 
 #[test]
@@ -83,5 +84,5 @@ fn pairs_of_units_at_the_edges(rt: HostRuntime) {
             }
         }
     }
-    equal(texts, 8).expect(&rt, "equal");
+    assert_equal(&rt, texts, 8);
 }

@@ -1,6 +1,7 @@
 //! Bytes read as units, two a unit, in each order: step by step, and validated as a whole.
 
-use compact_asserts::{equal, that, that_for};
+use crate::asserts::{assert_equal, assert_that};
+use compact_asserts::{that, that_for};
 use compact_codec::utf16_bytes::{ByteOrder, first_character, is_utf16};
 use std::process::Abort;
 
@@ -11,10 +12,10 @@ fn assert_steps(rt: &impl Abort, order: ByteOrder, bytes: &[u8], steps: &[(Optio
         that(!rest.is_empty()).expect(rt, "it holds");
         let step = first_character(order, rest);
         that_for(bytes, step.character == *character).expect(rt, "it holds");
-        equal(step.taken, *taken).expect(rt, "equal");
+        assert_equal(rt, step.taken, *taken);
         rest = &rest[step.taken..];
     }
-    that(rest.is_empty()).expect(rt, "it holds");
+    assert_that(rt, rest.is_empty());
 }
 
 #[test]

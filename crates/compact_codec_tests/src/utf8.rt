@@ -1,7 +1,8 @@
 //! Bytes validated as a whole and read chunk by chunk: texts, where each error is placed, the Standard's examples, long
 //! input, and every input of two bytes.
 
-use compact_asserts::{equal, that, that_for};
+use crate::asserts::{assert_equal, assert_that};
+use compact_asserts::that_for;
 use compact_codec::utf8::{Utf8Error, chunk_at, first_chunk, is_utf8, validate};
 use std::process::Abort;
 
@@ -10,11 +11,11 @@ fn assert_chunks(rt: &impl Abort, bytes: &[u8], chunks: &[(&str, usize)]) {
     let mut rest = bytes;
     for (text, invalid) in chunks {
         let chunk = first_chunk(rest);
-        that(chunk.valid == *text).expect(rt, "it holds");
-        equal(chunk.invalid.len(), *invalid).expect(rt, "equal");
+        assert_that(rt, chunk.valid == *text);
+        assert_equal(rt, chunk.invalid.len(), *invalid);
         rest = chunk.rest;
     }
-    that(rest.is_empty()).expect(rt, "it holds");
+    assert_that(rt, rest.is_empty());
 }
 
 /// The bytes are no text: where the error lies, and how long it is, or `None` where they end too soon.
@@ -24,7 +25,7 @@ fn assert_error(rt: &impl Abort, bytes: &[u8], valid_up_to: usize, error_len: Op
         valid_up_to,
         error_len,
     };
-    equal(validate(bytes).err(), Some(error)).expect(rt, "equal");
+    assert_equal(rt, validate(bytes).err(), Some(error));
 }
 
 #[test]
@@ -39,7 +40,7 @@ fn texts_are_taken(rt: HostRuntime) {
         (b"\xF0\x9F\x91\xAF", "\u{1F46F}"),
     ];
     for (bytes, text) in cases {
-        equal(validate(bytes).ok(), Some(text)).expect(&rt, "equal");
+        assert_equal(&rt, validate(bytes).ok(), Some(text));
         that_for(bytes, is_utf8(bytes)).expect(&rt, "it holds");
     }
 }
@@ -91,12 +92,12 @@ fn put(rt: &impl Abort, bytes: &mut [u8], place: usize, byte: u8) {
 fn long_input_is_validated_as_short(rt: HostRuntime) {
     let rt = &rt;
     let mut bytes = [b'a'; 20000];
-    that(validate(&bytes).is_ok()).expect(rt, "it holds");
+    assert_that(rt, validate(&bytes).is_ok());
     // A character across the end of the first 8192 bytes.
     put(rt, &mut bytes, 8190, 0xE2);
     put(rt, &mut bytes, 8191, 0x82);
     put(rt, &mut bytes, 8192, 0xAC);
-    that(validate(&bytes).is_ok()).expect(rt, "it holds");
+    assert_that(rt, validate(&bytes).is_ok());
     put(rt, &mut bytes, 19999, 0xE2);
     assert_error(rt, &bytes, 19999, None);
     put(rt, &mut bytes, 15000, 0xF4);
@@ -186,9 +187,9 @@ fn a_chunk_is_made_from_its_error(rt: HostRuntime) {
         panic!(rt; "C0 is no text");
     };
     let chunk = chunk_at(b"\x61\xC0\x80", error);
-    that(chunk.valid == "a").expect(&rt, "it holds");
-    that(chunk.invalid == b"\xC0".as_slice()).expect(&rt, "it holds");
-    that(chunk.rest == b"\x80".as_slice()).expect(&rt, "it holds");
+    assert_that(&rt, chunk.valid == "a");
+    assert_that(&rt, chunk.invalid == b"\xC0".as_slice());
+    assert_that(&rt, chunk.rest == b"\x80".as_slice());
 }
 
 /// How many of all inputs of two bytes are texts, and how many have each error; by another decoder.
@@ -213,9 +214,9 @@ fn all_inputs_of_two_bytes(rt: HostRuntime) {
             }
         }
     }
-    equal(texts, 18304).expect(rt, "equal");
-    equal(invalid_at_first, 29632).expect(rt, "equal");
-    equal(invalid_at_second, 9856).expect(rt, "equal");
-    equal(open_at_first, 1216).expect(rt, "equal");
-    equal(open_at_second, 6528).expect(rt, "equal");
+    assert_equal(rt, texts, 18304);
+    assert_equal(rt, invalid_at_first, 29632);
+    assert_equal(rt, invalid_at_second, 9856);
+    assert_equal(rt, open_at_first, 1216);
+    assert_equal(rt, open_at_second, 6528);
 }

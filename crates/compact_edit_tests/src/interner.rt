@@ -1,6 +1,7 @@
 //! The interner: numbers and names, refused memory, and many words beside a plain list.
 
-use compact_asserts::{equal, that};
+use crate::asserts::{assert_equal, assert_that};
+use compact_asserts::that;
 use compact_edit::{InternError, Interner};
 use compact_str::ReserveError;
 use compact_testing::memory::take_all;
@@ -11,12 +12,12 @@ use std::process::Abort;
 
 /// Asserts the name of a number.
 fn assert_name(rt: &impl Abort, names: &Interner, number: u32, name: Option<&str>) {
-    equal(names.name(number), name).expect(rt, "equal");
+    assert_equal(rt, names.name(number), name);
 }
 
 /// Asserts how many names there are.
 fn assert_count(rt: &impl Abort, names: &Interner, count: usize) {
-    equal(names.len(), count).expect(rt, "equal");
+    assert_equal(rt, names.len(), count);
 }
 
 /// The number of a text for which there is memory.
@@ -26,7 +27,7 @@ fn number_of(rt: &impl Abort, names: &mut Interner, text: &str) -> u32 {
 
 /// Asserts the number of a text for which there is memory.
 fn is_number(rt: &impl Abort, names: &mut Interner, text: &str, number: u32) {
-    equal(number_of(rt, names, text), number).expect(rt, "equal");
+    assert_equal(rt, number_of(rt, names, text), number);
 }
 
 /// Asserts the numbers of texts for which there is memory.
@@ -39,7 +40,7 @@ fn are_numbers(
 ) {
     let mut numbers = Vec::new(alloc);
     names.intern_all(texts, &mut numbers).expect(rt, "memory");
-    equal(numbers.as_slice(), wanted).expect(rt, "equal");
+    assert_equal(rt, numbers.as_slice(), wanted);
 }
 
 /// Asserts that a list of texts is refused where no memory is left.
@@ -53,13 +54,16 @@ fn is_refused(
     let hog = take_all(alloc).expect(rt, "room for the list of blocks");
     let taken = names.intern_all(texts, numbers);
     drop(hog);
-    that(matches!(taken, Err(InternError::Reserve(_)))).expect(rt, "it holds");
+    assert_that(rt, matches!(taken, Err(InternError::Reserve(_))));
 }
 
 /// Asserts that a text is refused for want of memory, and that so many names stand.
 fn assert_refused(rt: &impl Abort, names: &mut Interner, text: &str, count: usize) {
-    that(matches!(names.intern(text), Err(InternError::Reserve(_)))).expect(rt, "it holds");
-    equal(names.len(), count).expect(rt, "equal");
+    assert_that(
+        rt,
+        matches!(names.intern(text), Err(InternError::Reserve(_))),
+    );
+    assert_equal(rt, names.len(), count);
 }
 
 #[test]
@@ -124,7 +128,7 @@ fn with_no_room_for_the_numbers_nothing_is_taken(rt: HostRuntime) {
     let mut numbers = Vec::new(alloc);
     number_of(rt, &mut names, "a");
     is_refused(rt, alloc, &mut names, &["a", "b"], &mut numbers);
-    equal(numbers.len(), 0).expect(rt, "equal");
+    assert_equal(rt, numbers.len(), 0);
     assert_count(rt, &names, 1);
 }
 
@@ -138,7 +142,7 @@ fn the_texts_before_a_refused_one_are_taken(rt: HostRuntime) {
     number_of(rt, &mut names, "b");
     let texts = ["b", "a", letters(30), "b"];
     is_refused(rt, alloc, &mut names, &texts, &mut numbers);
-    equal(numbers.as_slice(), [1, 0].as_slice()).expect(rt, "equal");
+    assert_equal(rt, numbers.as_slice(), [1, 0].as_slice());
     assert_count(rt, &names, 2);
 }
 
@@ -187,11 +191,11 @@ impl PlainList {
 fn assert_names(rt: &impl Abort, alloc: Global, names: &Interner, list: &PlainList) {
     that(names.len() == list.words.len()).expect(rt, "as many");
     for (place, id) in list.words.iter().enumerate() {
-        equal(
+        assert_equal(
+            rt,
             names.name(place as u32),
             Some(word(rt, alloc, *id).as_str()),
-        )
-        .expect(rt, "equal");
+        );
     }
 }
 
@@ -206,7 +210,7 @@ fn many_words_are_numbered_as_in_a_plain_list(rt: HostRuntime) {
         let id = random.below(40_000);
         let text = word(rt, alloc, id);
         let number = number_of(rt, &mut names, text.as_str());
-        equal(number as usize, list.place_of(rt, id)).expect(rt, "equal");
+        assert_equal(rt, number as usize, list.place_of(rt, id));
     }
     assert_names(rt, alloc, &names, &list);
 }
@@ -216,10 +220,10 @@ fn refusals_are_shown_so(rt: HostRuntime) {
     let rt = &rt;
     let alloc = rt.alloc();
     let shown = format!(in alloc; "{}", InternError::Full);
-    equal(shown.expect(rt, "memory").as_str(), "interner is full").expect(rt, "equal");
+    assert_equal(rt, shown.expect(rt, "memory").as_str(), "interner is full");
     let refused = InternError::from(ReserveError);
-    that(matches!(refused, InternError::Reserve(_))).expect(rt, "it holds");
+    assert_that(rt, matches!(refused, InternError::Reserve(_)));
     let shown = format!(in alloc; "{refused}");
     let text = "Cannot allocate memory to hold CompactString";
-    equal(shown.expect(rt, "memory").as_str(), text).expect(rt, "equal");
+    assert_equal(rt, shown.expect(rt, "memory").as_str(), text);
 }

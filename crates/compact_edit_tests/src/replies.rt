@@ -1,6 +1,6 @@
 //! What a list of edits answered.
 
-use compact_asserts::equal;
+use crate::asserts::assert_equal;
 use compact_edit::Reply;
 use compact_str::Standard;
 use std::process::Abort;
@@ -18,8 +18,8 @@ fn name_of(reply: &Reply<Standard>) -> &'static str {
 
 /// Asserts that there are so many replies, each of this name.
 pub fn assert_all(rt: &impl Abort, replies: &[Reply<Standard>], count: usize, name: &str) {
-    equal(replies.len(), count).expect(rt, "equal");
+    assert_equal(rt, replies.len(), count);
     for reply in replies {
-        equal(name_of(reply), name).expect(rt, "equal");
+        assert_equal(rt, name_of(reply), name);
     }
 }

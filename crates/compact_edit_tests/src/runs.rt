@@ -1,11 +1,11 @@
 //! Lists of edits that are run, with ample memory and with none.
 
+use crate::asserts::{assert_equal, assert_heap, assert_inline, assert_that};
 use crate::replies::assert_all;
-use compact_asserts::{equal, that};
 use compact_edit::{Edit, Reply, run};
 use compact_str::{CompactString, Standard};
 use compact_testing::memory::take_all;
-use compact_testing::seen::{is_at, is_heap, is_inline, is_static};
+use compact_testing::seen::{is_at, is_static};
 use compact_testing::values::{lasting, letters, short, value_of};
 use std::alloc::Global;
 use std::ops::Bound::{Excluded, Included};
@@ -44,7 +44,7 @@ fn each_edit_of_a_list_is_run(rt: HostRuntime) {
     let mut value = short(alloc, letters(3));
     let edits = [Edit::PushStr("a"), Edit::Reserve(100), Edit::ShrinkTo(50)];
     all_are_done(&rt, alloc, &mut value, &edits);
-    that(is_heap(&value, 50, letters(4))).expect(&rt, "on the heap");
+    assert_heap(&rt, &value, 50, letters(4));
 }
 
 /// A list of 40 replies and no room for nine more, even where an allocator rounds a request up.
@@ -69,7 +69,7 @@ fn is_not_begun(rt: &impl Abort, value: &mut CompactString, replies: &mut Vec<Re
         Edit::Clear,
         Edit::PushStr("x"),
     ];
-    that(run(value, &edits, replies).is_err()).expect(rt, "it holds");
+    assert_that(rt, run(value, &edits, replies).is_err());
 }
 
 /// No edits are run even so.
@@ -83,7 +83,7 @@ fn a_run_with_no_room_for_replies_runs_nothing(rt: HostRuntime) {
     is_not_begun(rt, &mut value, &mut replies);
     run_all(rt, &mut value, &[], &mut replies);
     drop(hog);
-    that(is_inline(&value, "abc")).expect(rt, "inline");
+    assert_inline(rt, &value, "abc");
     assert_all(rt, &replies, 40, "done");
 }
 
@@ -120,15 +120,15 @@ fn a_bad_position_is_told_before_a_refusal(rt: HostRuntime) {
     tells_bad_positions(rt, &mut lasting, &mut replies);
     tells_bad_positions(rt, &mut made, &mut replies);
     drop(hog);
-    that(is_at(&lasting, "static", 29, text())).expect(rt, "it holds");
-    that(is_at(&made, "heap", 32, text())).expect(rt, "it holds");
+    assert_that(rt, is_at(&lasting, "static", 29, text()));
+    assert_that(rt, is_at(&made, "heap", 32, text()));
     assert_all(rt, &replies, 12, "bad position");
 }
 
 /// Asserts what an edit answered: whether it was refused.
 fn was_refused(rt: &impl Abort, replies: &[Reply<Standard>], place: usize, refused: bool) {
     let reply = replies.get(place).expect(rt, "a reply");
-    equal(matches!(reply, Reply::Refused(_)), refused).expect(rt, "equal");
+    assert_equal(rt, matches!(reply, Reply::Refused(_)), refused);
 }
 
 /// Runs the edit `Drain` of a range.
@@ -155,7 +155,7 @@ fn the_answer_of_a_drain_is_refused(rt: HostRuntime) {
     drop(hog);
     was_refused(rt, replies.as_slice(), 0, true);
     was_refused(rt, replies.as_slice(), 1, false);
-    that(is_heap(&value, 60, letters(36))).expect(rt, "on the heap");
+    assert_heap(rt, &value, 60, letters(36));
 }
 
 #[test]
@@ -170,7 +170,7 @@ fn a_drain_that_makes_its_answer_finds_no_room_for_its_text(rt: HostRuntime) {
     run_drain(rt, &mut value, 0, 30, &mut replies);
     drop(hog);
     was_refused(rt, replies.as_slice(), 0, true);
-    that(is_static(&value, letters(80))).expect(rt, "it holds");
+    assert_that(rt, is_static(&value, letters(80)));
 }
 
 #[test]
@@ -187,5 +187,5 @@ fn a_drain_of_60_bytes_is_refused_at_each_request(rt: HostRuntime) {
     drop(hog);
     was_refused(rt, replies.as_slice(), 0, true);
     was_refused(rt, replies.as_slice(), 1, true);
-    that(is_static(&value, letters(60))).expect(rt, "it holds");
+    assert_that(rt, is_static(&value, letters(60)));
 }

@@ -1,6 +1,7 @@
 //! Texts of formats, with ample memory.
 
-use compact_asserts::{equal, that, that_for};
+use crate::asserts::{assert_equal, assert_that};
+use compact_asserts::that_for;
 use compact_ext::{ToCompactStringError, format_compact};
 use compact_str::{CompactString, ReserveError};
 use compact_testing::seen::is_inline;
@@ -69,32 +70,38 @@ fn twenty_four_bytes_stand_inline_and_more_on_the_heap(rt: HostRuntime) {
     let made = format_compact!(in alloc; "{}{}", letters(20), 1234);
     is(rt, made, "aaaaaaaaaaaaaaaaaaaa1234");
     let text = text_of(rt, format_compact!(in alloc; "{}{}", letters(20), 12345));
-    that(text.is_heap_allocated()).expect(rt, "it holds");
-    equal(text.as_str(), "aaaaaaaaaaaaaaaaaaaa12345").expect(rt, "equal");
+    assert_that(rt, text.is_heap_allocated());
+    assert_equal(rt, text.as_str(), "aaaaaaaaaaaaaaaaaaaa12345");
 }
 
 #[test]
 fn what_fails_by_itself_is_no_refusal(rt: HostRuntime) {
     let alloc = rt.alloc();
     let failed = format_compact!(in alloc; "{Failing}");
-    that(failed.err() == Some(ToCompactStringError::Fmt(fmt::Error))).expect(&rt, "it holds");
+    assert_that(
+        &rt,
+        failed.err() == Some(ToCompactStringError::Fmt(fmt::Error)),
+    );
     let failed = format_compact!(in alloc; "{}{}", letters(40), Failing);
-    that(failed.err() == Some(ToCompactStringError::Fmt(fmt::Error))).expect(&rt, "it holds");
+    assert_that(
+        &rt,
+        failed.err() == Some(ToCompactStringError::Fmt(fmt::Error)),
+    );
 }
 
 #[test]
 fn errors_are_made_so(rt: HostRuntime) {
     let refused = ToCompactStringError::from(ReserveError);
     let failed = ToCompactStringError::from(fmt::Error);
-    that(refused == ToCompactStringError::Reserve(ReserveError)).expect(&rt, "it holds");
-    that(failed == ToCompactStringError::Fmt(fmt::Error)).expect(&rt, "it holds");
-    that(refused != failed).expect(&rt, "it holds");
+    assert_that(&rt, refused == ToCompactStringError::Reserve(ReserveError));
+    assert_that(&rt, failed == ToCompactStringError::Fmt(fmt::Error));
+    assert_that(&rt, refused != failed);
 }
 
 /// Asserts how an error is shown.
 fn is_shown(rt: &impl Abort, alloc: Global, error: ToCompactStringError, text: &str) {
     let made = text_of(rt, format_compact!(in alloc; "{error}"));
-    equal(made.as_str(), text).expect(rt, "equal");
+    assert_equal(rt, made.as_str(), text);
 }
 
 #[test]

@@ -1,7 +1,7 @@
 //! Texts of formats while requests for memory are refused, beside what `compact_table_tests` tries of each call.
 
+use crate::asserts::{assert_equal, assert_that};
 use crate::formats::is;
-use compact_asserts::{equal, that};
 use compact_ext::{ToCompactString, ToCompactStringError, format_compact};
 use compact_str::{CompactString, ReserveError};
 use compact_testing::memory::take_all;
@@ -46,10 +46,10 @@ fn a_refusal_that_is_hidden_is_told(rt: HostRuntime) {
     let rt = &rt;
     let alloc = rt.alloc();
     let hog = take_all(alloc).expect(rt, "room for the list of blocks");
-    that(is_refused(format_compact!(in alloc; "{}", Hiding(1)))).expect(rt, "it holds");
-    that(is_refused(format_compact!(in alloc; "{}a", Hiding(2)))).expect(rt, "it holds");
+    assert_that(rt, is_refused(format_compact!(in alloc; "{}", Hiding(1))));
+    assert_that(rt, is_refused(format_compact!(in alloc; "{}a", Hiding(2))));
     drop(hog);
     let text = format_compact!(in alloc; "{}", Hiding(2)).expect(rt, "memory");
-    equal(text.as_str(), letters(60)).expect(rt, "equal");
-    that(text.is_heap_allocated()).expect(rt, "it holds");
+    assert_equal(rt, text.as_str(), letters(60));
+    assert_that(rt, text.is_heap_allocated());
 }

@@ -1,7 +1,7 @@
 //! Texts of integers beside repeated division by ten: every value of the types of 8 and 16 bits, and of each wider type
 //! more than 10,000 at the powers of ten and of two and their neighbours.
 
-use compact_asserts::that;
+use crate::asserts::assert_that;
 use compact_ext::ToCompactString;
 use std::alloc::Global;
 use std::process::Abort;
@@ -48,8 +48,8 @@ fn assert_shows<T: ToCompactString>(
     } else {
         text
     };
-    that(is_decimal(digits, magnitude)).expect(rt, "it holds");
-    that(value.is_heap_allocated() == (text.len() > 24)).expect(rt, "it holds");
+    assert_that(rt, is_decimal(digits, magnitude));
+    assert_that(rt, value.is_heap_allocated() == (text.len() > 24));
 }
 
 /// How far from a power the numbers go.

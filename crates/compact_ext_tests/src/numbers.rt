@@ -1,6 +1,6 @@
 //! Texts of numbers and of other values, with ample memory.
 
-use compact_asserts::{equal, that};
+use crate::asserts::{assert_equal, assert_that};
 use compact_ext::ToCompactString;
 use compact_str::CompactString;
 use compact_testing::seen::{is_at, is_inline};
@@ -16,19 +16,22 @@ where
 {
     let first = value.to_compact_string(alloc).expect(rt, "memory");
     let second = value.try_to_compact_string(alloc).expect(rt, "memory");
-    that(first == second).expect(rt, "it holds");
-    that(first.is_heap_allocated() == second.is_heap_allocated()).expect(rt, "it holds");
+    assert_that(rt, first == second);
+    assert_that(rt, first.is_heap_allocated() == second.is_heap_allocated());
     first
 }
 
 /// Asserts the text of a value, and that it stands inline.
 fn assert_shown<T: ToCompactString + Drop>(rt: &impl Abort, alloc: Global, value: T, text: &str) {
-    that(is_inline(&shown(rt, alloc, value), text)).expect(rt, "it holds");
+    assert_that(rt, is_inline(&shown(rt, alloc, value), text));
 }
 
 /// Asserts the text of a value, and that it stands on the heap with just the room that it needs.
 fn assert_long<T: ToCompactString + Drop>(rt: &impl Abort, alloc: Global, value: T, text: &str) {
-    that(is_at(&shown(rt, alloc, value), "heap", text.len(), text)).expect(rt, "it holds");
+    assert_that(
+        rt,
+        is_at(&shown(rt, alloc, value), "heap", text.len(), text),
+    );
 }
 
 #[test]
@@ -112,7 +115,7 @@ fn other_values_have_these_texts(rt: HostRuntime) {
 
 /// Asserts the bytes of a value that stands inline.
 fn assert_packed(rt: &impl Abort, value: &CompactString, bytes: &[u8; 24]) {
-    equal(&value.packed().expect(rt, "inline"), bytes).expect(rt, "equal");
+    assert_equal(rt, &value.packed().expect(rt, "inline"), bytes);
 }
 
 #[test]

@@ -1,9 +1,9 @@
 //! Texts that are written over a wire and read: the bytes, and what each fault has taken or put out. The bytes were written
 //! by hand from the definition of the form.
 
+use crate::asserts::{assert_equal, assert_that};
 use crate::wire_forms::{end_of, form_of, form_of_letters};
 use crate::wire_letters::Letters;
-use compact_asserts::{equal, that};
 use compact_ext::wire::{WireError, read_wire, write_wire};
 use compact_str::{CompactString, ReserveError};
 use compact_testing::pieces::{Narrow, Pieces, Stop};
@@ -19,8 +19,8 @@ use std::process::Abort;
 fn assert_written(rt: &impl Abort, alloc: Global, text: &str, bytes: &[u8]) {
     let mut written = Vec::new(alloc);
     let sent = write_wire(&value_of(alloc, text).expect(rt, "memory"), &mut written);
-    that(sent.is_ok()).expect(rt, "it holds");
-    equal(written.as_slice(), bytes).expect(rt, "equal");
+    assert_that(rt, sent.is_ok());
+    assert_equal(rt, written.as_slice(), bytes);
 }
 
 #[test]
@@ -50,16 +50,16 @@ fn what_follows_a_form_stays_unread(rt: HostRuntime) {
     let bytes: [u8; 7] = [2, 0, 0, 0, 0x48, 0x69, 0x4A];
     let mut rest: &[u8] = &bytes;
     let text = read_wire(rt.alloc(), &mut rest).expect(rt, "a text");
-    that(is_inline(&text, "Hi")).expect(rt, "it holds");
-    equal(rest.len(), 1).expect(rt, "equal");
-    that(rest.first() == Some(&0x4A)).expect(rt, "it holds");
+    assert_that(rt, is_inline(&text, "Hi"));
+    assert_equal(rt, rest.len(), 1);
+    assert_that(rt, rest.first() == Some(&0x4A));
 }
 
 /// Asserts how an input ends that is no form, and that it is taken whole.
 fn assert_no_form(rt: &impl Abort, alloc: Global, bytes: &[u8], fault: &str) {
     let mut rest = bytes;
-    equal(end_of(&read_wire(alloc, &mut rest)), fault).expect(rt, "equal");
-    equal(rest.len(), 0).expect(rt, "equal");
+    assert_equal(rt, end_of(&read_wire(alloc, &mut rest)), fault);
+    assert_equal(rt, rest.len(), 0);
 }
 
 #[test]
@@ -79,7 +79,7 @@ fn an_input_that_is_no_form_has_a_fault(rt: HostRuntime) {
         assert_no_form(rt, alloc, bytes, fault);
     }
     let form = form_of_letters(rt, alloc, 55);
-    equal(form.len(), 59).expect(rt, "equal");
+    assert_equal(rt, form.len(), 59);
     assert_no_form(rt, alloc, form.get(..58).unwrap_or(&[]), "end");
 }
 
@@ -91,19 +91,19 @@ fn a_text_is_read_in_pieces(rt: HostRuntime) {
     for step in 1..65 {
         let mut reader = Pieces::new(&form, step, Stop::Never);
         let text = read_wire(alloc, &mut reader).expect(rt, "a text");
-        equal(text.as_bytes(), form.get(4..).unwrap_or(&[])).expect(rt, "equal");
-        that(text.is_heap_allocated()).expect(rt, "it holds");
-        equal(text.capacity(), 60).expect(rt, "equal");
-        equal(reader.rest.len(), 0).expect(rt, "equal");
+        assert_equal(rt, text.as_bytes(), form.get(4..).unwrap_or(&[]));
+        assert_that(rt, text.is_heap_allocated());
+        assert_equal(rt, text.capacity(), 60);
+        assert_equal(rt, reader.rest.len(), 0);
     }
 }
 
 /// Asserts that a reader that gives one byte a call, and stops at one, is not called again, and has given the bytes before.
 fn assert_stops(rt: &impl Abort, alloc: Global, form: &[u8], call: usize, stop: Stop, fault: &str) {
     let mut reader = Pieces::new(form, 1, stop);
-    equal(end_of(&read_wire(alloc, &mut reader)), fault).expect(rt, "equal");
-    equal(reader.calls, call).expect(rt, "equal");
-    equal(reader.rest.len().saturating_add(call), form.len() + 1).expect(rt, "equal");
+    assert_equal(rt, end_of(&read_wire(alloc, &mut reader)), fault);
+    assert_equal(rt, reader.calls, call);
+    assert_equal(rt, reader.rest.len().saturating_add(call), form.len() + 1);
 }
 
 /// Asserts that, at each call of a form, for each way to stop.
@@ -123,8 +123,8 @@ fn assert_each_stop(rt: &impl Abort, alloc: Global, form: &[u8]) {
     }
     let late = Stop::Breaks(form.len() + 1, ErrorKind::Other);
     let mut reader = Pieces::new(form, 1, late);
-    equal(end_of(&read_wire(alloc, &mut reader)), "done").expect(rt, "equal");
-    equal(reader.calls, form.len()).expect(rt, "equal");
+    assert_equal(rt, end_of(&read_wire(alloc, &mut reader)), "done");
+    assert_equal(rt, reader.calls, form.len());
 }
 
 #[test]
@@ -137,8 +137,8 @@ fn no_read_is_tried_again(rt: HostRuntime) {
 
 /// Asserts how a write to a writer ends, and what has gone out.
 fn assert_writes(rt: &impl Abort, text: &CompactString, mut writer: Narrow, end: &str, out: &[u8]) {
-    equal(end_of(&write_wire(text, &mut writer)), end).expect(rt, "equal");
-    equal(writer.bytes(), out).expect(rt, "equal");
+    assert_equal(rt, end_of(&write_wire(text, &mut writer)), end);
+    assert_equal(rt, writer.bytes(), out);
 }
 
 #[test]
@@ -186,13 +186,13 @@ fn a_long_text_is_read_in_rooms(rt: HostRuntime) {
     let rt = &rt;
     let alloc = rt.alloc();
     let mut short = Letters::new(0x0010_0001, 1_048_576);
-    equal(end_of(&read_wire(alloc, &mut short)), "end").expect(rt, "equal");
-    equal(short.given, 4 + 1_048_576).expect(rt, "equal");
+    assert_equal(rt, end_of(&read_wire(alloc, &mut short)), "end");
+    assert_equal(rt, short.given, 4 + 1_048_576);
     let mut whole = Letters::new(0x0010_0001, 1_048_577);
     let text = read_wire(alloc, &mut whole).expect(rt, "a text");
-    that(text.is_heap_allocated()).expect(rt, "it holds");
-    equal(text.len(), 1_048_577).expect(rt, "equal");
-    equal(text.capacity(), 1_048_577).expect(rt, "equal");
+    assert_that(rt, text.is_heap_allocated());
+    assert_equal(rt, text.len(), 1_048_577);
+    assert_equal(rt, text.capacity(), 1_048_577);
 }
 
 #[test]
@@ -205,22 +205,22 @@ fn texts_of_each_length_come_back(rt: HostRuntime) {
             &value_of(alloc, letters(count)).expect(rt, "memory"),
             &mut bytes,
         );
-        that(sent.is_ok()).expect(rt, "it holds");
+        assert_that(rt, sent.is_ok());
     }
     let mut rest = bytes.as_slice();
     for count in 0..80 {
         let text = read_wire(alloc, &mut rest).expect(rt, "a text");
-        equal(text.as_str(), letters(count)).expect(rt, "equal");
-        that(text.is_heap_allocated() == (count > 24)).expect(rt, "it holds");
+        assert_equal(rt, text.as_str(), letters(count));
+        assert_that(rt, text.is_heap_allocated() == (count > 24));
     }
-    equal(rest.len(), 0).expect(rt, "equal");
+    assert_equal(rt, rest.len(), 0);
 }
 
 /// Asserts how a fault is shown.
 fn assert_shown(rt: &impl Abort, alloc: Global, fault: WireError, text: &str) {
     let mut shown = CompactString::default(alloc);
     write!(shown, "{fault}").expect(rt, "memory");
-    equal(shown.as_str(), text).expect(rt, "equal");
+    assert_equal(rt, shown.as_str(), text);
 }
 
 #[test]
@@ -244,7 +244,7 @@ fn faults_are_shown(rt: HostRuntime) {
     assert_shown(rt, alloc, failed, "input or output failed");
     assert_shown(rt, alloc, WireError::WriteZero, "writer took no bytes");
     let refused = WireError::from(ReserveError);
-    that(matches!(refused, WireError::Reserve(_))).expect(rt, "it holds");
+    assert_that(rt, matches!(refused, WireError::Reserve(_)));
     assert_shown(
         rt,
         alloc,

@@ -1,8 +1,8 @@
 //! Texts of a reader that are read one after another until its end. The bytes were written by hand from the definition of
 //! the form.
 
+use crate::asserts::{assert_equal, assert_that};
 use crate::wire_forms::end_of;
-use compact_asserts::{equal, that};
 use compact_ext::wire::{Records, WireError};
 use compact_str::CompactString;
 use compact_testing::memory::take_all;
@@ -27,7 +27,7 @@ fn read_records<R: BufRead + Drop>(
 /// Asserts that the next record is this text, inline.
 fn assert_next<R: BufRead + Drop>(rt: &impl Abort, records: &mut Records<R>, text: &str) {
     let item = records.next().expect(rt, "no end");
-    that(is_inline(&item.expect(rt, "a text"), text)).expect(rt, "it holds");
+    assert_that(rt, is_inline(&item.expect(rt, "a text"), text));
 }
 
 /// Asserts that the next records are these texts, inline.
@@ -40,18 +40,18 @@ fn assert_texts<R: BufRead + Drop>(rt: &impl Abort, records: &mut Records<R>, te
 /// Asserts that the next record is a fault of this name.
 fn assert_next_fault<R: BufRead + Drop>(rt: &impl Abort, records: &mut Records<R>, fault: &str) {
     let item = records.next().expect(rt, "no end");
-    equal(end_of(&item), fault).expect(rt, "equal");
+    assert_equal(rt, end_of(&item), fault);
 }
 
 /// Asserts that there is no other record, however often it is asked for.
 fn assert_end<R: BufRead + Drop>(rt: &impl Abort, records: &mut Records<R>) {
-    that(records.next().is_none()).expect(rt, "it holds");
-    that(records.next().is_none()).expect(rt, "it holds");
+    assert_that(rt, records.next().is_none());
+    assert_that(rt, records.next().is_none());
 }
 
 /// Asserts that the records of some bytes are not collected, with this fault.
 fn assert_not_collected<R: BufRead + Drop>(rt: &impl Abort, alloc: Global, reader: R, fault: &str) {
-    equal(end_of(&read_records(alloc, reader)), fault).expect(rt, "equal");
+    assert_equal(rt, end_of(&read_records(alloc, reader)), fault);
 }
 
 #[test]
@@ -63,12 +63,15 @@ fn each_record_comes_in_its_turn(rt: HostRuntime) {
 
 /// Asserts that the record at a place is this text, inline.
 fn is_record(rt: &impl Abort, records: &[CompactString], place: usize, text: &str) {
-    that(is_inline(records.get(place).expect(rt, "a record"), text)).expect(rt, "it holds");
+    assert_that(
+        rt,
+        is_inline(records.get(place).expect(rt, "a record"), text),
+    );
 }
 
 /// Asserts that these are the three records, each inline.
 fn assert_records(rt: &impl Abort, records: &[CompactString]) {
-    equal(records.len(), 3).expect(rt, "equal");
+    assert_equal(rt, records.len(), 3);
     is_record(rt, records, 0, "a");
     is_record(rt, records, 1, "");
     is_record(rt, records, 2, "Hi");
@@ -94,9 +97,9 @@ fn no_bytes_are_no_records(rt: HostRuntime) {
     let alloc = rt.alloc();
     let none: &[u8] = &[];
     let records = read_records(alloc, none).expect(&rt, "records");
-    equal(records.len(), 0).expect(&rt, "equal");
+    assert_equal(&rt, records.len(), 0);
     let first = Records::new(alloc, none).next();
-    that(first.is_none()).expect(&rt, "it holds");
+    assert_that(&rt, first.is_none());
 }
 
 /// Asserts what comes of the first bytes of the three records, which end within the third.
@@ -167,7 +170,10 @@ fn assert_long_and_another<R: BufRead + Drop>(
 ) {
     let mut records = Records::new(alloc, reader);
     let item = records.next().expect(rt, "no end");
-    that(is_at(&item.expect(rt, "a text"), "heap", text.len(), text)).expect(rt, "it holds");
+    assert_that(
+        rt,
+        is_at(&item.expect(rt, "a text"), "heap", text.len(), text),
+    );
     assert_next(rt, &mut records, "a");
     assert_end(rt, &mut records);
 }

@@ -1,9 +1,9 @@
 //! Texts that are written over a wire and read while requests for memory are refused. How much room was asked for shows in
 //! how many bytes the reader had given when it was.
 
+use crate::asserts::{assert_equal, assert_that};
 use crate::wire_forms::end_of;
 use crate::wire_letters::Letters;
-use compact_asserts::{equal, that};
 use compact_ext::wire::{WireError, read_wire, write_wire};
 use compact_testing::memory::take_all;
 use compact_testing::values::short;
@@ -15,8 +15,8 @@ const MEGABYTE: usize = 1 << 20;
 /// Asserts that room for a text of so many bytes is refused once the reader has given `given`, the length among them.
 fn assert_refused(rt: &impl Abort, alloc: Global, len: u32, given: usize) {
     let mut reader = Letters::new(len, 16 * MEGABYTE);
-    equal(end_of(&read_wire(alloc, &mut reader)), "reserve").expect(rt, "equal");
-    equal(reader.given, given).expect(rt, "equal");
+    assert_equal(rt, end_of(&read_wire(alloc, &mut reader)), "reserve");
+    assert_equal(rt, reader.given, given);
 }
 
 #[test]
@@ -62,7 +62,10 @@ fn a_vector_with_no_room_is_a_writer_that_fails(rt: HostRuntime) {
     let text = short(alloc, "Hi");
     let mut bytes = Vec::new(alloc);
     let hog = take_all(alloc).expect(&rt, "room for the list of blocks");
-    that(matches!(write_wire(&text, &mut bytes), Err(WireError::Io(_)))).expect(&rt, "it holds");
+    assert_that(
+        &rt,
+        matches!(write_wire(&text, &mut bytes), Err(WireError::Io(_))),
+    );
     drop(hog);
-    equal(bytes.len(), 0).expect(&rt, "equal");
+    assert_equal(&rt, bytes.len(), 0);
 }

@@ -1,7 +1,7 @@
 //! Wire forms that come and go in pieces: a reader that ends at each of its bytes, and a writer that stops at each.
 
+use crate::asserts::{assert_equal, assert_that};
 use crate::wire_forms::{end_of, form_of_letters};
-use compact_asserts::{equal, that};
 use compact_ext::wire::{read_wire, write_wire};
 use compact_str::CompactString;
 use compact_testing::pieces::{Narrow, Pieces, Stop};
@@ -15,8 +15,8 @@ use std::process::Abort;
 fn assert_beginnings(rt: &impl Abort, alloc: Global, form: &[u8], step: usize) {
     for count in 0..form.len() {
         let mut reader = Pieces::new(form.get(..count).unwrap_or(&[]), step, Stop::Never);
-        equal(end_of(&read_wire(alloc, &mut reader)), "end").expect(rt, "equal");
-        equal(reader.rest.len(), 0).expect(rt, "equal");
+        assert_equal(rt, end_of(&read_wire(alloc, &mut reader)), "end");
+        assert_equal(rt, reader.rest.len(), 0);
     }
 }
 
@@ -25,7 +25,7 @@ fn each_beginning_of_a_form_ends_too_early(rt: HostRuntime) {
     let rt = &rt;
     let alloc = rt.alloc();
     let short = form_of_letters(rt, alloc, 24);
-    equal(short.len(), 28).expect(rt, "equal");
+    assert_equal(rt, short.len(), 28);
     assert_beginnings(rt, alloc, &short, 1);
     assert_beginnings(rt, alloc, &short, 5);
     let long = form_of_letters(rt, alloc, 30);
@@ -37,7 +37,7 @@ fn each_beginning_of_a_form_ends_too_early(rt: HostRuntime) {
 fn assert_byte_by_byte(rt: &impl Abort, alloc: Global, count: u8, place: &str, capacity: usize) {
     let form = form_of_letters(rt, alloc, count);
     let text = read_wire(alloc, &mut Pieces::new(&form, 1, Stop::Never)).expect(rt, "a text");
-    that(is_at(&text, place, capacity, letters(count as usize))).expect(rt, "it holds");
+    assert_that(rt, is_at(&text, place, capacity, letters(count as usize)));
 }
 
 #[test]
@@ -49,9 +49,9 @@ fn a_text_comes_byte_by_byte(rt: HostRuntime) {
 /// Asserts that bytes that are no text are told so once they have come, with what follows unread.
 fn assert_broken(rt: &impl Abort, alloc: Global, bytes: &[u8], left: usize) {
     let mut reader = Pieces::new(bytes, 1, Stop::Never);
-    equal(end_of(&read_wire(alloc, &mut reader)), "utf8").expect(rt, "equal");
-    equal(reader.rest.len(), left).expect(rt, "equal");
-    equal(reader.calls.saturating_add(left), bytes.len()).expect(rt, "equal");
+    assert_equal(rt, end_of(&read_wire(alloc, &mut reader)), "utf8");
+    assert_equal(rt, reader.rest.len(), left);
+    assert_equal(rt, reader.calls.saturating_add(left), bytes.len());
 }
 
 #[test]
@@ -72,8 +72,8 @@ fn broken_bytes_come_one_by_one(rt: HostRuntime) {
 /// Asserts how a text is written by a writer that takes one byte a call, and what has gone out.
 fn assert_sent(rt: &impl Abort, text: &CompactString, stop: Stop, end: &str, out: &[u8]) {
     let mut writer = Narrow::new(256, 1, stop);
-    equal(end_of(&write_wire(text, &mut writer)), end).expect(rt, "equal");
-    equal(writer.bytes(), out).expect(rt, "equal");
+    assert_equal(rt, end_of(&write_wire(text, &mut writer)), end);
+    assert_equal(rt, writer.bytes(), out);
 }
 
 #[test]
@@ -100,8 +100,8 @@ fn a_long_text_stops_at_each_byte(rt: HostRuntime) {
 /// Asserts how a claim of the greatest length ends, whose reader has given `count` bytes of the text when it stops.
 fn assert_claim_ends(rt: &impl Abort, alloc: Global, count: usize, stop: Stop, end: &str) {
     let mut reader = Pieces::new(b"\xFF\xFF\xFF\xFFabc", 1, stop);
-    equal(end_of(&read_wire(alloc, &mut reader)), end).expect(rt, "equal");
-    equal(reader.rest.len().saturating_add(count), 3).expect(rt, "equal");
+    assert_equal(rt, end_of(&read_wire(alloc, &mut reader)), end);
+    assert_equal(rt, reader.rest.len().saturating_add(count), 3);
 }
 
 /// Asserts that such a claim is told by how its reader ends.

@@ -1,6 +1,6 @@
 //! The program over a reader and a writer that stop at each of their calls in turn: what had been written stands.
 
-use compact_asserts::equal;
+use crate::asserts::assert_equal;
 use compact_lines::run_lines;
 use compact_testing::pieces::{Narrow, Pieces, Stop};
 use std::alloc::Global;
@@ -37,8 +37,8 @@ fn written_after(count: usize) -> &'static str {
 fn assert_read(rt: &impl Abort, alloc: Global, stop: Stop, status: u8, written: &[u8]) {
     let mut reader = Pieces::new(INPUT, 1, stop);
     let mut writer = Narrow::new(256, 256, Stop::Never);
-    equal(run_lines(alloc, &mut reader, &mut writer), status).expect(rt, "equal");
-    equal(writer.bytes(), written).expect(rt, "equal");
+    assert_equal(rt, run_lines(alloc, &mut reader, &mut writer), status);
+    assert_equal(rt, writer.bytes(), written);
 }
 
 #[test]
@@ -62,8 +62,8 @@ fn a_reader_that_is_interrupted_is_asked_again(rt: HostRuntime) {
 /// Asserts the status of a session whose writer takes one byte a call, and what it has taken.
 fn assert_written(rt: &impl Abort, alloc: Global, mut writer: Narrow, status: u8, taken: &[u8]) {
     let mut input = INPUT;
-    equal(run_lines(alloc, &mut input, &mut writer), status).expect(rt, "equal");
-    equal(writer.bytes(), taken).expect(rt, "equal");
+    assert_equal(rt, run_lines(alloc, &mut input, &mut writer), status);
+    assert_equal(rt, writer.bytes(), taken);
 }
 
 #[test]
@@ -109,6 +109,6 @@ fn a_flush_that_fails_ends_the_session(rt: HostRuntime) {
 fn no_input_is_answered_by_nothing(rt: HostRuntime) {
     let mut reader = Pieces::new(b"", 1, Stop::Never);
     let mut writer = Narrow::new(256, 1, Stop::Fails(1, ErrorKind::Other));
-    equal(run_lines(rt.alloc(), &mut reader, &mut writer), 0).expect(&rt, "equal");
-    equal(writer.bytes().len(), 0).expect(&rt, "equal");
+    assert_equal(&rt, run_lines(rt.alloc(), &mut reader, &mut writer), 0);
+    assert_equal(&rt, writer.bytes().len(), 0);
 }

@@ -1,7 +1,7 @@
 //! Sessions of lines, and readers and writers that fail.
 
+use crate::asserts::{assert_equal, assert_that};
 use crate::transcript::{assert_prints, assert_sessions};
-use compact_asserts::{equal, that};
 use compact_lines::run_lines;
 use compact_testing::memory::take_all;
 use std::alloc::Global;
@@ -165,23 +165,23 @@ fn a_line_of_a_million_bytes_is_read(rt: HostRuntime) {
     let alloc = rt.alloc();
     let input = a_million_letters(rt, alloc);
     let mut output = Vec::new(alloc);
-    equal(run_lines(alloc, &mut input.as_slice(), &mut output), 0).expect(rt, "equal");
+    assert_equal(rt, run_lines(alloc, &mut input.as_slice(), &mut output), 0);
     // `done`, then place, length and capacity are 26 bytes; the letters and the end of the line follow.
-    equal(output.len(), 26 + 1_000_000 + 1).expect(rt, "equal");
-    that(
+    assert_equal(rt, output.len(), 26 + 1_000_000 + 1);
+    assert_that(
+        rt,
         output
             .as_slice()
             .starts_with(b"done\nheap 1000000 1000000 zzz"),
-    )
-    .expect(rt, "it holds");
+    );
 }
 
 #[test]
 fn a_failing_reader_is_told(rt: HostRuntime) {
     let alloc = rt.alloc();
     let mut output = Vec::new(alloc);
-    equal(run_lines(alloc, &mut Broken, &mut output), 1).expect(&rt, "equal");
-    equal(output.len(), 0).expect(&rt, "equal");
+    assert_equal(&rt, run_lines(alloc, &mut Broken, &mut output), 1);
+    assert_equal(&rt, output.len(), 0);
 }
 
 /// What is answered for an input where nothing can be written.
@@ -192,9 +192,9 @@ fn status_of_unwritten(alloc: Global, mut input: &[u8]) -> u8 {
 #[test]
 fn a_failing_writer_is_told_where_it_is_written_to(rt: HostRuntime) {
     let alloc = rt.alloc();
-    equal(status_of_unwritten(alloc, b"clear\n"), 1).expect(&rt, "equal");
-    equal(status_of_unwritten(alloc, b"foo\n"), 1).expect(&rt, "equal");
-    equal(status_of_unwritten(alloc, b""), 0).expect(&rt, "equal");
+    assert_equal(&rt, status_of_unwritten(alloc, b"clear\n"), 1);
+    assert_equal(&rt, status_of_unwritten(alloc, b"foo\n"), 1);
+    assert_equal(&rt, status_of_unwritten(alloc, b""), 0);
 }
 
 #[test]
@@ -204,7 +204,7 @@ fn no_memory_for_a_line_is_told(rt: HostRuntime) {
     let mut output = Vec::with_capacity(alloc, 1000).expect(rt, "memory");
     let mut input: &[u8] = b"clear\n";
     let hog = take_all(alloc).expect(rt, "room for the list of blocks");
-    equal(run_lines(alloc, &mut input, &mut output), 1).expect(rt, "equal");
+    assert_equal(rt, run_lines(alloc, &mut input, &mut output), 1);
     drop(hog);
-    equal(output.len(), 0).expect(rt, "equal");
+    assert_equal(rt, output.len(), 0);
 }

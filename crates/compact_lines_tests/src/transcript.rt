@@ -1,6 +1,7 @@
 //! Sessions with the program, asserted by what it prints.
 
-use compact_asserts::{equal, that_for};
+use crate::asserts::assert_equal;
+use compact_asserts::that_for;
 use compact_lines::run_lines;
 use std::alloc::Global;
 use std::process::Abort;
@@ -8,8 +9,8 @@ use std::process::Abort;
 /// Asserts what the program prints for an input, and that it ends well.
 pub fn assert_prints(rt: &impl Abort, alloc: Global, mut input: &[u8], printed: &[u8]) {
     let mut output = Vec::new(alloc);
-    equal(run_lines(alloc, &mut input, &mut output), 0).expect(rt, "equal");
-    equal(output.as_slice(), printed).expect(rt, "equal");
+    assert_equal(rt, run_lines(alloc, &mut input, &mut output), 0);
+    assert_equal(rt, output.as_slice(), printed);
 }
 
 /// Asserts each session of a transcript, in which a line with `#` says what the session behind it shows, a line with `>` is

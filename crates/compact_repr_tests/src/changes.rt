@@ -1,7 +1,8 @@
 //! Each call once in each place. The texts and positions are written by hand: `ä`, `b` and the clef take 2, 1 and 4 bytes.
 
+use crate::asserts::{assert_equal, assert_that};
 use crate::values::{borrowed, copied, empty, reserve};
-use compact_asserts::{equal, that, that_for};
+use compact_asserts::{that, that_for};
 use compact_repr::{Repr, Standard};
 use std::process::Abort;
 
@@ -15,8 +16,8 @@ fn assert_replaced(
         that(*start <= *end).expect(rt, "it holds");
         that(text.is_char_boundary(*start)).expect(rt, "it holds");
         that(text.is_char_boundary(*end)).expect(rt, "it holds");
-        that(text.replace_in_place(*start, *end, with)).expect(rt, "it holds");
-        equal(text.as_str(), *outcome).expect(rt, "equal");
+        assert_that(rt, text.replace_in_place(*start, *end, with));
+        assert_equal(rt, text.as_str(), *outcome);
     }
 }
 
@@ -25,7 +26,7 @@ fn assert_truncated(rt: &impl Abort, text: &mut Repr<Standard>, steps: &[(usize,
     for (len, outcome) in steps {
         that(*len >= text.len() || text.is_char_boundary(*len)).expect(rt, "it holds");
         text.truncate(*len);
-        equal(text.as_str(), *outcome).expect(rt, "equal");
+        assert_equal(rt, text.as_str(), *outcome);
     }
 }
 
@@ -34,7 +35,7 @@ fn assert_chars(rt: &impl Abort, text: &Repr<Standard>, places: &[(usize, char)]
     for (index, character) in places {
         that(text.is_char_boundary(*index)).expect(rt, "it holds");
         that(*index < text.len()).expect(rt, "it holds");
-        equal(text.char_at(*index), *character).expect(rt, "equal");
+        assert_equal(rt, text.char_at(*index), *character);
     }
 }
 
@@ -42,8 +43,8 @@ fn assert_chars(rt: &impl Abort, text: &Repr<Standard>, places: &[(usize, char)]
 fn assert_dashes(rt: &impl Abort, text: &mut Repr<Standard>, steps: &[(usize, bool, &str)]) {
     for (index, fits, outcome) in steps {
         that(text.is_char_boundary(*index)).expect(rt, "it holds");
-        equal(text.insert_ascii_in_place(*index, b'-'), *fits).expect(rt, "equal");
-        equal(text.as_str(), *outcome).expect(rt, "equal");
+        assert_equal(rt, text.insert_ascii_in_place(*index, b'-'), *fits);
+        assert_equal(rt, text.as_str(), *outcome);
     }
 }
 
@@ -53,8 +54,8 @@ fn assert_removed(rt: &impl Abort, text: &mut Repr<Standard>, steps: &[(usize, b
         that(*index < text.len()).expect(rt, "it holds");
         that(text.is_char_boundary(*index)).expect(rt, "it holds");
         that(text.is_char_boundary(*index + 1)).expect(rt, "it holds");
-        equal(text.remove_ascii_in_place(*index), *owned).expect(rt, "equal");
-        equal(text.as_str(), *outcome).expect(rt, "equal");
+        assert_equal(rt, text.remove_ascii_in_place(*index), *owned);
+        assert_equal(rt, text.as_str(), *outcome);
     }
 }
 
@@ -65,8 +66,8 @@ fn assert_cut(rt: &impl Abort, text: &mut Repr<Standard>, steps: &[(usize, usize
         that(*start <= *end).expect(rt, "it holds");
         that(text.is_char_boundary(*start)).expect(rt, "it holds");
         that(text.is_char_boundary(*end)).expect(rt, "it holds");
-        equal(text.cut_out_in_place(*start, *end), *owned).expect(rt, "equal");
-        equal(text.as_str(), *outcome).expect(rt, "equal");
+        assert_equal(rt, text.cut_out_in_place(*start, *end), *owned);
+        assert_equal(rt, text.as_str(), *outcome);
     }
 }
 
@@ -82,7 +83,7 @@ fn inline(rt: HostRuntime) {
         .expect(rt, "it holds");
     }
     assert_chars(rt, &text, &[(0, 'ä'), (2, 'b'), (3, '𝄞')]);
-    equal(text.last_char(), Some('𝄞')).expect(rt, "equal");
+    assert_equal(rt, text.last_char(), Some('𝄞'));
     assert_replaced(
         rt,
         &mut text,
@@ -92,20 +93,20 @@ fn inline(rt: HostRuntime) {
             (6, 6, "end of a long tex", "yz𝄞end of a long tex"),
         ],
     );
-    equal(text.len(), 23).expect(rt, "equal");
+    assert_equal(rt, text.len(), 23);
     assert_truncated(
         rt,
         &mut text,
         &[(24, "yz𝄞end of a long tex"), (2, "yz"), (0, "")],
     );
-    equal(text.last_char(), None).expect(rt, "equal");
+    assert_equal(rt, text.last_char(), None);
 }
 
 #[test]
 fn heap(rt: HostRuntime) {
     let rt = &rt;
     let mut text = copied(rt, rt.alloc(), "äb𝄞0123456789012345678901234");
-    equal(text.capacity(), 32).expect(rt, "equal");
+    assert_equal(rt, text.capacity(), 32);
     assert_replaced(
         rt,
         &mut text,
@@ -116,10 +117,10 @@ fn heap(rt: HostRuntime) {
             (29, 29, "ß", "äyz0123456789012345678901234ß"),
         ],
     );
-    equal(text.last_char(), Some('ß')).expect(rt, "equal");
+    assert_equal(rt, text.last_char(), Some('ß'));
     assert_chars(rt, &text, &[(2, 'y')]);
     assert_truncated(rt, &mut text, &[(4, "äyz")]);
-    equal(text.capacity(), 32).expect(rt, "equal");
+    assert_equal(rt, text.capacity(), 32);
 }
 
 /// A text of 150 bytes that begins anew at each tenth. It is a function so that a proof need not carry each digit.
@@ -139,8 +140,8 @@ fn assert_front(
     that(text.is_char_boundary(start)).expect(rt, "it holds");
     that(text.is_char_boundary(end)).expect(rt, "it holds");
     that(start <= end).expect(rt, "it holds");
-    that(text.replace_in_place(start, end, with)).expect(rt, "it holds");
-    equal(text.as_str().strip_prefix(front), Some(digits())).expect(rt, "equal");
+    assert_that(rt, text.replace_in_place(start, end, with));
+    assert_equal(rt, text.as_str().strip_prefix(front), Some(digits()));
 }
 
 /// Takes a part of the digits out, and asserts how they begin then, and how many there are.
@@ -155,10 +156,13 @@ fn assert_digits(
     that(text.is_char_boundary(start)).expect(rt, "it holds");
     that(text.is_char_boundary(end)).expect(rt, "it holds");
     that(start <= end).expect(rt, "it holds");
-    that(text.cut_out_in_place(start, end)).expect(rt, "it holds");
-    that(text.as_str().starts_with(front)).expect(rt, "it holds");
-    that(digits().ends_with(text.as_str().get(1..).unwrap_or("-"))).expect(rt, "it holds");
-    equal(text.len(), len).expect(rt, "equal");
+    assert_that(rt, text.cut_out_in_place(start, end));
+    assert_that(rt, text.as_str().starts_with(front));
+    assert_that(
+        rt,
+        digits().ends_with(text.as_str().get(1..).unwrap_or("-")),
+    );
+    assert_equal(rt, text.len(), len);
 }
 
 /// The tail is longer than two blocks of 64 bytes, and its old and new places overlap.
@@ -183,16 +187,16 @@ fn of_the_program(rt: HostRuntime) {
     let mut text = borrowed(rt.alloc(), "äb𝄞 and so on, past the inline capacity");
     assert_chars(rt, &text, &[(0, 'ä'), (3, '𝄞'), (16, 'n')]);
     that(text.is_char_boundary(3)).expect(rt, "it holds");
-    equal(
+    assert_equal(
+        rt,
         text.static_suffix(3),
         Some("𝄞 and so on, past the inline capacity"),
-    )
-    .expect(rt, "equal");
-    equal(text.last_char(), Some('y')).expect(rt, "equal");
+    );
+    assert_equal(rt, text.last_char(), Some('y'));
     assert_truncated(rt, &mut text, &[(7, "äb𝄞")]);
-    equal(text.capacity(), 7).expect(rt, "equal");
+    assert_equal(rt, text.capacity(), 7);
     that(text.is_char_boundary(0)).expect(rt, "it holds");
-    equal(text.static_suffix(0), Some("äb𝄞")).expect(rt, "equal");
+    assert_equal(rt, text.static_suffix(0), Some("äb𝄞"));
 }
 
 #[test]
@@ -241,7 +245,7 @@ fn one_character_on_the_heap(rt: HostRuntime) {
             (0, true, "äb𝄞0123456789012345678901"),
         ],
     );
-    equal(text.capacity(), 32).expect(rt, "equal");
+    assert_equal(rt, text.capacity(), 32);
 }
 
 /// A text of the program, of 36 bytes.
@@ -261,10 +265,10 @@ fn nothing_in_place_of_the_program(rt: HostRuntime) {
         &mut text,
         &[(0, 7, false, line()), (3, 3, false, line())],
     );
-    that(!text.push_in_place("")).expect(rt, "it holds");
+    assert_that(rt, !text.push_in_place(""));
     that(text.is_char_boundary(2)).expect(rt, "it holds");
-    that(!text.replace_in_place(2, 2, "")).expect(rt, "it holds");
-    equal(text.as_static_str(), Some(line())).expect(rt, "equal");
+    assert_that(rt, !text.replace_in_place(2, 2, ""));
+    assert_equal(rt, text.as_static_str(), Some(line()));
 }
 
 /// A part is taken out in each place that is the value's own.
@@ -287,7 +291,7 @@ fn a_part_is_cut_out(rt: HostRuntime) {
             (10, 25, true, "ä23456789"),
         ],
     );
-    equal(text.capacity(), 32).expect(rt, "equal");
+    assert_equal(rt, text.capacity(), 32);
 }
 
 /// Asserts that a text is `ab` so many times.
@@ -296,7 +300,7 @@ fn assert_pairs(rt: &impl Abort, text: &str, count: usize) {
     for _pair in 0..count {
         rest = rest.strip_prefix("ab").expect(rt, "a pair");
     }
-    that(rest.is_empty()).expect(rt, "it holds");
+    assert_that(rt, rest.is_empty());
 }
 
 /// A large room is filled byte by byte, up to its last one.
@@ -305,10 +309,10 @@ fn a_room_is_filled(rt: HostRuntime) {
     let rt = &rt;
     let mut text = empty(rt, rt.alloc(), 1000);
     for _pushed in 0..500 {
-        that(text.push_in_place("ab")).expect(rt, "it holds");
+        assert_that(rt, text.push_in_place("ab"));
     }
-    that(!text.push_in_place("c")).expect(rt, "it holds");
-    equal(text.len(), 1000).expect(rt, "equal");
-    equal(text.capacity(), 1000).expect(rt, "equal");
+    assert_that(rt, !text.push_in_place("c"));
+    assert_equal(rt, text.len(), 1000);
+    assert_equal(rt, text.capacity(), 1000);
     assert_pairs(rt, text.as_str(), 500);
 }

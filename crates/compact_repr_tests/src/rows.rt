@@ -3,8 +3,9 @@
 //! text stands on the heap, in a buffer with room for the longer of the two texts, and once as it is made, so that what has
 //! at most 24 bytes before and afterwards stands inline.
 
+use crate::asserts::{assert_equal, assert_that};
 use crate::values::{copied, empty, reserve};
-use compact_asserts::{equal, that};
+use compact_asserts::that;
 use compact_repr::{Repr, Standard};
 use std::alloc::Global;
 use std::process::Abort;
@@ -44,20 +45,20 @@ fn source(rt: &impl Abort, alloc: Global, len: usize) -> String {
 
 /// Asserts the ten bytes before a part, `come` new ones, and the `tail` bytes that first stood from `end` on.
 fn assert_bytes(rt: &impl Abort, bytes: &[u8], come: usize, end: usize, tail: usize) {
-    equal(
+    assert_equal(
+        rt,
         bytes.len(),
         10usize.saturating_add(come).saturating_add(tail),
-    )
-    .expect(rt, "equal");
+    );
     for place in 0..10 {
-        equal(bytes.get(place), Some(&old(place))).expect(rt, "equal");
+        assert_equal(rt, bytes.get(place), Some(&old(place)));
     }
     for place in 0..come {
-        equal(bytes.get(place.saturating_add(10)), Some(&new(place))).expect(rt, "equal");
+        assert_equal(rt, bytes.get(place.saturating_add(10)), Some(&new(place)));
     }
     for place in 0..tail {
         let at = place.saturating_add(come).saturating_add(10);
-        equal(bytes.get(at), Some(&old(place.saturating_add(end)))).expect(rt, "equal");
+        assert_equal(rt, bytes.get(at), Some(&old(place.saturating_add(end))));
     }
 }
 
@@ -72,7 +73,7 @@ fn assert_replaced(
     that(10 <= end).expect(rt, "it holds");
     that(text.is_char_boundary(10)).expect(rt, "it holds");
     that(text.is_char_boundary(end)).expect(rt, "it holds");
-    that(text.replace_in_place(10, end, come)).expect(rt, "it holds");
+    assert_that(rt, text.replace_in_place(10, end, come));
     assert_bytes(rt, text.as_str().as_bytes(), come.len(), end, tail);
 }
 
@@ -80,19 +81,19 @@ fn assert_replaced(
 fn with_room(rt: &impl Abort, alloc: Global, text: &str, additional: usize) -> Repr<Standard> {
     let mut made = copied(rt, alloc, text);
     reserve(rt, &mut made, additional);
-    equal(
+    assert_equal(
+        rt,
         made.is_heap_allocated(),
         text.len().saturating_add(additional) > 24,
-    )
-    .expect(rt, "equal");
+    );
     made
 }
 
 /// The text on the heap, in a buffer with room for `additional` more bytes.
 fn on_the_heap(rt: &impl Abort, alloc: Global, text: &str, additional: usize) -> Repr<Standard> {
     let mut made = empty(rt, alloc, text.len().saturating_add(additional).max(25));
-    that(made.push_in_place(text)).expect(rt, "it holds");
-    that(made.is_heap_allocated()).expect(rt, "it holds");
+    assert_that(rt, made.push_in_place(text));
+    assert_that(rt, made.is_heap_allocated());
     made
 }
 
@@ -148,11 +149,11 @@ fn bytes_are_exchanged(rt: HostRuntime) {
 /// Puts a byte in behind the tenth, and takes it out again.
 fn assert_one_byte(rt: &impl Abort, text: &mut Repr<Standard>, tail: usize) {
     that(text.is_char_boundary(10)).expect(rt, "it holds");
-    that(text.insert_ascii_in_place(10, b'a')).expect(rt, "it holds");
+    assert_that(rt, text.insert_ascii_in_place(10, b'a'));
     assert_bytes(rt, text.as_str().as_bytes(), 1, 10, tail);
     that(text.is_char_boundary(10)).expect(rt, "it holds");
     that(text.is_char_boundary(11)).expect(rt, "it holds");
-    that(text.remove_ascii_in_place(10)).expect(rt, "it holds");
+    assert_that(rt, text.remove_ascii_in_place(10));
     assert_bytes(rt, text.as_str().as_bytes(), 0, 10, tail);
 }
 
@@ -172,7 +173,7 @@ fn assert_cut(rt: &impl Abort, text: &mut Repr<Standard>, end: usize, tail: usiz
     that(10 <= end).expect(rt, "it holds");
     that(text.is_char_boundary(10)).expect(rt, "it holds");
     that(text.is_char_boundary(end)).expect(rt, "it holds");
-    that(text.cut_out_in_place(10, end)).expect(rt, "it holds");
+    assert_that(rt, text.cut_out_in_place(10, end));
     assert_bytes(rt, text.as_str().as_bytes(), 0, end, tail);
 }
 

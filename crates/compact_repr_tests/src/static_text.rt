@@ -1,7 +1,8 @@
 //! A text of the program, of 29 bytes with one character of two bytes, at 4 and 5.
 
+use crate::asserts::assert_equal;
 use crate::values::borrowed;
-use compact_asserts::{equal, that_for};
+use compact_asserts::that_for;
 use std::alloc::Global;
 
 const LINE: &str = "a naïve reader of long lines";
@@ -16,12 +17,12 @@ fn a_text_is_read(rt: HostRuntime) {
     let rt = &rt;
     let alloc = rt.alloc();
     let mut text = borrowed(alloc, LINE);
-    equal(text.len(), 29).expect(rt, "equal");
-    equal(text.as_str(), "a naïve reader of long lines").expect(rt, "equal");
-    equal(outlived(alloc), Some("a naïve reader of long lines")).expect(rt, "equal");
+    assert_equal(rt, text.len(), 29);
+    assert_equal(rt, text.as_str(), "a naïve reader of long lines");
+    assert_equal(rt, outlived(alloc), Some("a naïve reader of long lines"));
     text.clear();
-    equal(text.len(), 0).expect(rt, "equal");
-    equal(text.as_static_str(), Some("")).expect(rt, "equal");
+    assert_equal(rt, text.len(), 0);
+    assert_equal(rt, text.as_static_str(), Some(""));
 }
 
 #[test]
@@ -31,7 +32,7 @@ fn a_text_is_had_twice(rt: HostRuntime) {
     drop(text);
     let shown = second.as_static_str();
     drop(second);
-    equal(shown, Some("a naïve reader of long lines")).expect(&rt, "equal");
+    assert_equal(&rt, shown, Some("a naïve reader of long lines"));
 }
 
 /// What stands before and behind a boundary; `None` where no character begins there, or where a part is not static.

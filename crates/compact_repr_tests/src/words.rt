@@ -1,8 +1,9 @@
 //! Inline texts as their 24 bytes, at each length where another read begins or ends, and at each end of each word of eight
 //! bytes. Behind the text stand zeros, and last, where the text leaves it free, 192 and the length.
 
+use crate::asserts::{assert_equal, assert_that};
 use crate::values::copied;
-use compact_asserts::{equal, that, that_for};
+use compact_asserts::{that, that_for};
 use compact_repr::{Repr, Standard};
 use std::alloc::Global;
 use std::ops::Range;
@@ -22,7 +23,7 @@ fn begins(rt: &impl Abort, alloc: Global, text: &str) {
         let wanted = text.as_bytes().get(place).copied().unwrap_or(behind);
         that_for(place, *byte == wanted).expect(rt, "it holds");
     }
-    equal(made.as_str(), text).expect(rt, "equal");
+    assert_equal(rt, made.as_str(), text);
 }
 
 /// The same of each beginning whose length is in the range.
@@ -42,13 +43,13 @@ fn each_begins(rt: &impl Abort, alloc: Global, lens: Range<usize>) -> usize {
 /// Of the letters there are 9 beginnings, of the others 5 and 4.
 #[test]
 fn rows_of_one_word(rt: HostRuntime) {
-    equal(each_begins(&rt, rt.alloc(), 0..9), 18).expect(&rt, "equal");
+    assert_equal(&rt, each_begins(&rt, rt.alloc(), 0..9), 18);
 }
 
 /// Of the letters there are 16 beginnings, of the others 8 each.
 #[test]
 fn rows_of_more_words(rt: HostRuntime) {
-    equal(each_begins(&rt, rt.alloc(), 9..25), 32).expect(&rt, "equal");
+    assert_equal(&rt, each_begins(&rt, rt.alloc(), 9..25), 32);
 }
 
 /// The last byte of the row is the text's own.
@@ -65,7 +66,7 @@ fn a_byte_is_put_in(rt: HostRuntime) {
     ] {
         let mut text = copied(rt, rt.alloc(), "abcdefghijklmnopqrstuvw");
         that(text.is_char_boundary(at)).expect(rt, "it holds");
-        that(text.insert_ascii_in_place(at, b'-')).expect(rt, "it holds");
+        assert_that(rt, text.insert_ascii_in_place(at, b'-'));
         that_for(at, text.packed() == Some(*row)).expect(rt, "it holds");
     }
 }
@@ -75,7 +76,7 @@ fn remove(rt: &impl Abort, text: &mut Repr<Standard>, at: usize) {
     that(at < 24).expect(rt, "it holds");
     that(text.is_char_boundary(at)).expect(rt, "it holds");
     that(text.is_char_boundary(at + 1)).expect(rt, "it holds");
-    that(text.remove_ascii_in_place(at)).expect(rt, "it holds");
+    assert_that(rt, text.remove_ascii_in_place(at));
 }
 
 /// A second byte is taken out, so that a mark is seen in the place of another. What stands before it, behind the text, is open.

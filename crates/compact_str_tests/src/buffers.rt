@@ -1,11 +1,10 @@
 //! Buffers whose bytes lie in pieces, parted at each place.
 
+use crate::asserts::{assert_equal, assert_fitted, assert_that};
 use crate::drips::Drips;
 use bytes::Buf;
-use compact_asserts::{equal, that};
 use compact_str::{CompactString, FromUtf8Error};
 use compact_testing::memory::take_all;
-use compact_testing::seen::is_fitted;
 use compact_testing::values::letters;
 use std::alloc::Global;
 use std::process::Abort;
@@ -17,7 +16,7 @@ fn read_whole<B: Buf>(
     buf: &mut B,
 ) -> Result<CompactString, FromUtf8Error> {
     let made = CompactString::from_utf8_buf(alloc, buf);
-    equal(buf.remaining(), 0).expect(rt, "equal");
+    assert_equal(rt, buf.remaining(), 0);
     made
 }
 
@@ -43,10 +42,10 @@ fn assert_read(rt: &impl Abort, alloc: Global, text: &str) {
     let bytes = text.as_bytes();
     for place in 0..bytes.len() + 1 {
         let made = of_two(rt, alloc, bytes, place).ok().expect(rt, "a text");
-        that(is_fitted(&made, text)).expect(rt, "fitted");
+        assert_fitted(rt, &made, text);
     }
     let made = of_drips(rt, alloc, bytes).ok().expect(rt, "a text");
-    that(is_fitted(&made, text)).expect(rt, "fitted");
+    assert_fitted(rt, &made, text);
 }
 
 #[test]
@@ -64,9 +63,9 @@ fn a_text_is_read_wherever_it_is_parted(rt: HostRuntime) {
 /// Asserts that invalid bytes have one error wherever they are parted.
 fn assert_invalid(rt: &impl Abort, alloc: Global, bytes: &[u8], error: FromUtf8Error) {
     for place in 0..bytes.len() + 1 {
-        that(of_two(rt, alloc, bytes, place).err() == Some(error)).expect(rt, "it holds");
+        assert_that(rt, of_two(rt, alloc, bytes, place).err() == Some(error));
     }
-    that(of_drips(rt, alloc, bytes).err() == Some(error)).expect(rt, "it holds");
+    assert_that(rt, of_drips(rt, alloc, bytes).err() == Some(error));
 }
 
 /// An error at a place, of an invalid sequence of so many bytes, or open at the end.
@@ -101,6 +100,6 @@ fn drips_of_24_bytes_need_no_memory(rt: HostRuntime) {
         rest: letters(25).as_bytes(),
     };
     let made = CompactString::from_utf8_buf(alloc, &mut drips);
-    that(matches!(made, Err(FromUtf8Error::Reserve(_)))).expect(rt, "it holds");
+    assert_that(rt, matches!(made, Err(FromUtf8Error::Reserve(_))));
     drop(hog);
 }

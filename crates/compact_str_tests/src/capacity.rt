@@ -1,9 +1,8 @@
 //! A value that grows and gives room back, where a mistake is to be found with no table. What each edit leaves is told by the
 //! table of `compact_table_tests`.
 
-use compact_asserts::that;
+use crate::asserts::{assert_heap, assert_inline, assert_that};
 use compact_str::CompactString;
-use compact_testing::seen::{is_heap, is_inline};
 use compact_testing::values::{append, letters, short, with_room};
 use std::alloc::Global;
 
@@ -11,7 +10,7 @@ use std::alloc::Global;
 fn an_append_grows_the_buffer_by_half(rt: HostRuntime) {
     let mut value = short(rt.alloc(), letters(24));
     append(&mut value, "a").expect(&rt, "memory");
-    that(is_heap(&value, 36, letters(25))).expect(&rt, "on the heap");
+    assert_heap(&rt, &value, 36, letters(25));
 }
 
 #[test]
@@ -20,9 +19,9 @@ fn room_is_given_back(rt: HostRuntime) {
     let mut value = with_room(rt.alloc(), 100).expect(rt, "memory");
     append(&mut value, letters(40)).expect(rt, "memory");
     value.shrink_to(50);
-    that(is_heap(&value, 50, letters(40))).expect(rt, "on the heap");
+    assert_heap(rt, &value, 50, letters(40));
     value.shrink_to_fit();
-    that(is_heap(&value, 40, letters(40))).expect(rt, "on the heap");
+    assert_heap(rt, &value, 40, letters(40));
 }
 
 /// Whether an empty value with this capacity is made.
@@ -34,11 +33,11 @@ fn has_room(alloc: Global, capacity: usize) -> bool {
 fn what_goes_past_the_limit_is_refused_with_ample_memory(rt: HostRuntime) {
     let rt = &rt;
     let alloc = rt.alloc();
-    that(has_room(alloc, 100)).expect(rt, "it holds");
-    that(!has_room(alloc, 72_057_594_037_927_935)).expect(rt, "it holds");
-    that(!has_room(alloc, usize::MAX)).expect(rt, "it holds");
+    assert_that(rt, has_room(alloc, 100));
+    assert_that(rt, !has_room(alloc, 72_057_594_037_927_935));
+    assert_that(rt, !has_room(alloc, usize::MAX));
     let mut value = short(alloc, "ab");
-    that(value.try_reserve(usize::MAX).is_err()).expect(rt, "it holds");
-    that(is_inline(&value, "ab")).expect(rt, "inline");
-    that(value.repeat(36_028_797_018_963_968).is_err()).expect(rt, "it holds");
+    assert_that(rt, value.try_reserve(usize::MAX).is_err());
+    assert_inline(rt, &value, "ab");
+    assert_that(rt, value.repeat(36_028_797_018_963_968).is_err());
 }

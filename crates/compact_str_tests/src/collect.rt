@@ -1,9 +1,8 @@
 //! What is collected, joined and extended, with values worked out by hand from the rules.
 
+use crate::asserts::{assert_equal, assert_inline};
 use crate::made::{assert_made_inline, values_of};
-use compact_asserts::{equal, that};
 use compact_str::{AsText, CompactString, CompactStringExt, append_all};
-use compact_testing::seen::is_inline;
 use compact_testing::values::letters;
 use std::alloc::Global;
 use std::borrow::CowStr;
@@ -64,8 +63,8 @@ fn each_kind(rt: &impl Abort, alloc: Global) -> CompactString {
 #[test]
 fn the_five_kinds_of_text_are_items(rt: HostRuntime) {
     let value = each_kind(&rt, rt.alloc());
-    that(is_inline(&value, "abcde")).expect(&rt, "inline");
-    equal((&value).text(), "abcde").expect(&rt, "equal");
+    assert_inline(&rt, &value, "abcde");
+    assert_equal(&rt, (&value).text(), "abcde");
 }
 
 #[test]
@@ -75,9 +74,9 @@ fn texts_by_value_are_items_of_the_traits(rt: HostRuntime) {
         .into_iter()
         .collect(rt.alloc())
         .expect(rt, "memory");
-    that(is_inline(&value, "abc")).expect(rt, "inline");
+    assert_inline(rt, &value, "abc");
     value.extend(["äb€", "x"]).expect(rt, "memory");
-    that(is_inline(&value, "abcäb€x")).expect(rt, "inline");
+    assert_inline(rt, &value, "abcäb€x");
 }
 
 #[test]
@@ -87,7 +86,7 @@ fn values_are_put_behind_a_string(rt: HostRuntime) {
     let mut line = String::from_str(alloc, "a").expect(rt, "memory");
     let values = values_of(rt, alloc, &["b", letters(30)]);
     append_all(&mut line, values).expect(rt, "memory");
-    equal(line.as_str(), "abaaaaaaaaaaaaaaaaaaaaaaaaaaaaaa").expect(rt, "equal");
+    assert_equal(rt, line.as_str(), "abaaaaaaaaaaaaaaaaaaaaaaaaaaaaaa");
 }
 
 #[test]
@@ -97,8 +96,8 @@ fn a_string_is_extended_by_values_and_collected_of_them(rt: HostRuntime) {
     let mut line = String::from_str(alloc, "a").expect(rt, "memory");
     let values = values_of(rt, alloc, &["é", letters(30)]);
     line.extend(values).expect(rt, "memory");
-    equal(line.as_str(), "aéaaaaaaaaaaaaaaaaaaaaaaaaaaaaaa").expect(rt, "equal");
+    assert_equal(rt, line.as_str(), "aéaaaaaaaaaaaaaaaaaaaaaaaaaaaaaa");
     let values = values_of(rt, alloc, &["b", ""]);
     let whole: String = values.into_iter().collect(alloc).expect(rt, "memory");
-    equal(whole.as_str(), "b").expect(rt, "equal");
+    assert_equal(rt, whole.as_str(), "b");
 }

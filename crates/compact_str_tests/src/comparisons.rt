@@ -1,9 +1,10 @@
 //! Values as they are compared and hashed. The order of the many texts was worked out by a program in Python, which sorts
 //! by code points.
 
-use compact_asserts::{equal, that};
+use crate::asserts::{assert_equal, assert_heap, assert_that};
+use compact_asserts::that;
 use compact_str::CompactString;
-use compact_testing::seen::{is_heap, is_static};
+use compact_testing::seen::is_static;
 use compact_testing::values::{
     append, lasting, letters, short, string_with_room, value_of, with_room,
 };
@@ -28,20 +29,20 @@ fn hash_of_str(text: &str) -> u64 {
 
 /// Asserts that two values are the same in each way.
 fn assert_same(rt: &impl Abort, value: &CompactString, other: &CompactString) {
-    that(value == other).expect(rt, "it holds");
-    that(other == value).expect(rt, "it holds");
-    equal(value.cmp(other), Ordering::Equal).expect(rt, "equal");
-    equal(value.partial_cmp(other), Some(Ordering::Equal)).expect(rt, "equal");
-    equal(hash_of(value), hash_of(other)).expect(rt, "equal");
-    equal(hash_of(value), hash_of_str(other.as_str())).expect(rt, "equal");
+    assert_that(rt, value == other);
+    assert_that(rt, other == value);
+    assert_equal(rt, value.cmp(other), Ordering::Equal);
+    assert_equal(rt, value.partial_cmp(other), Some(Ordering::Equal));
+    assert_equal(rt, hash_of(value), hash_of(other));
+    assert_equal(rt, hash_of(value), hash_of_str(other.as_str()));
 }
 
 /// Asserts that a value comes before another.
 fn assert_less(rt: &impl Abort, value: &CompactString, other: &CompactString) {
-    that(value != other).expect(rt, "it holds");
-    equal(value.cmp(other), Ordering::Less).expect(rt, "equal");
-    equal(other.cmp(value), Ordering::Greater).expect(rt, "equal");
-    equal(value.partial_cmp(other), Some(Ordering::Less)).expect(rt, "equal");
+    assert_that(rt, value != other);
+    assert_equal(rt, value.cmp(other), Ordering::Less);
+    assert_equal(rt, other.cmp(value), Ordering::Greater);
+    assert_equal(rt, value.partial_cmp(other), Some(Ordering::Less));
 }
 
 #[test]
@@ -52,9 +53,9 @@ fn places_and_capacities_have_no_part(rt: HostRuntime) {
     let made = value_of(alloc, letters(30)).expect(rt, "memory");
     let text = string_with_room(alloc, 90, letters(30)).expect(rt, "memory");
     let taken_over = CompactString::from_string_buffer(text);
-    that(is_static(&borrowed, letters(30))).expect(rt, "it holds");
-    that(is_heap(&made, 32, letters(30))).expect(rt, "on the heap");
-    that(is_heap(&taken_over, 90, letters(30))).expect(rt, "on the heap");
+    assert_that(rt, is_static(&borrowed, letters(30)));
+    assert_heap(rt, &made, 32, letters(30));
+    assert_heap(rt, &taken_over, 90, letters(30));
     assert_same(rt, &borrowed, &made);
     assert_same(rt, &made, &taken_over);
     assert_same(rt, &taken_over, &borrowed);
@@ -114,12 +115,12 @@ fn a_value_hashes_as_its_str(rt: HostRuntime) {
     let alloc = rt.alloc();
     for count in 0..65 {
         let text = letters(count);
-        equal(
+        assert_equal(
+            &rt,
             hash_of(&value_of(alloc, text).expect(&rt, "memory")),
             hash_of_str(text),
-        )
-        .expect(&rt, "equal");
-        equal(hash_of(&lasting(alloc, count)), hash_of_str(text)).expect(&rt, "equal");
+        );
+        assert_equal(&rt, hash_of(&lasting(alloc, count)), hash_of_str(text));
     }
 }
 
@@ -190,7 +191,7 @@ fn checksum(texts: &[CompactString]) -> u64 {
 fn many_texts_are_sorted_by_their_characters(rt: HostRuntime) {
     let rt = &rt;
     let mut texts = texts(rt, rt.alloc()).expect(rt, "memory");
-    equal(checksum(&texts), 0x09d0_5973_d45d_07b5).expect(rt, "equal");
+    assert_equal(rt, checksum(&texts), 0x09d0_5973_d45d_07b5);
     texts.as_mut_slice().sort_unstable();
-    equal(checksum(&texts), 0x6be0_90d3_3511_8755).expect(rt, "equal");
+    assert_equal(rt, checksum(&texts), 0x6be0_90d3_3511_8755);
 }

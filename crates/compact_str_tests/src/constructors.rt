@@ -1,8 +1,8 @@
 //! Values as they are made, with ample memory.
 
-use compact_asserts::{equal, that};
+use crate::asserts::{assert_equal, assert_heap, assert_inline, assert_that};
 use compact_str::CompactString;
-use compact_testing::seen::{is_at, is_heap, is_inline, is_static};
+use compact_testing::seen::{is_at, is_static};
 use compact_testing::values::{lasting, letters, string_with_room};
 use std::alloc::Global;
 use std::borrow::CowStr;
@@ -13,10 +13,10 @@ use std::process::Abort;
 fn texts_of_the_program_are_static_if_they_are_long(rt: HostRuntime) {
     let alloc = rt.alloc();
     let value = lasting(alloc, 30);
-    that(is_static(&value, letters(30))).expect(&rt, "it holds");
-    equal(value.as_static_str(), Some(letters(30))).expect(&rt, "equal");
+    assert_that(&rt, is_static(&value, letters(30)));
+    assert_equal(&rt, value.as_static_str(), Some(letters(30)));
     let short = CompactString::const_new(alloc, "abc");
-    that(is_inline(&short, "abc")).expect(&rt, "inline");
+    assert_inline(&rt, &short, "abc");
 }
 
 /// Where a value is to stand, with which capacity.
@@ -33,10 +33,10 @@ fn assert_taken_over(
     let (place, capacity) = placement;
     let string = string_with_room(alloc, room, text).expect(rt, "memory");
     let value = CompactString::from(string);
-    that(is_at(&value, place, capacity, text)).expect(rt, "it holds");
+    assert_that(rt, is_at(&value, place, capacity, text));
     let string = string_with_room(alloc, room, text).expect(rt, "memory");
     let value = CompactString::from_cow(alloc, CowStr::Owned(string)).expect(rt, "memory");
-    that(is_at(&value, place, capacity, text)).expect(rt, "it holds");
+    assert_that(rt, is_at(&value, place, capacity, text));
 }
 
 #[test]
@@ -61,10 +61,10 @@ fn assert_bytes_and_box(
     let (place, capacity) = placement;
     let string = string_with_room(alloc, room, text).expect(rt, "memory");
     let value = CompactString::try_from(string.into_bytes()).expect(rt, "a text");
-    that(is_at(&value, place, capacity, text)).expect(rt, "it holds");
+    assert_that(rt, is_at(&value, place, capacity, text));
     let string = string_with_room(alloc, room, text).expect(rt, "memory");
     let value = CompactString::from(string.into_boxed_str());
-    that(is_at(&value, place, capacity, text)).expect(rt, "it holds");
+    assert_that(rt, is_at(&value, place, capacity, text));
 }
 
 #[test]
@@ -82,7 +82,7 @@ fn are_no_text(rt: &impl Abort, alloc: Global, bytes: &[u8]) {
     let vector = Vec::from_slice(alloc, bytes).expect(rt, "memory");
     match CompactString::try_from(vector) {
         Ok(_) => panic!(rt; "these bytes are no text"),
-        Err(error) => equal(error.as_bytes(), bytes).expect(rt, "equal"),
+        Err(error) => assert_equal(rt, error.as_bytes(), bytes),
     }
 }
 
@@ -100,12 +100,12 @@ fn string_buffers_are_taken_over_with_short_texts_too(rt: HostRuntime) {
     let none = CompactString::from_string_buffer(string_with_room(alloc, 100, "").expect(
         &rt, "memory",
     ));
-    that(is_heap(&none, 100, letters(0))).expect(&rt, "on the heap");
+    assert_heap(&rt, &none, 100, letters(0));
     let unbuffered = CompactString::from_string_buffer(String::new(alloc));
-    that(is_inline(&unbuffered, "")).expect(&rt, "inline");
+    assert_inline(&rt, &unbuffered, "");
 }
 
 #[test]
 fn a_value_takes_32_bytes(rt: HostRuntime) {
-    equal(size_of::<CompactString>(), 32).expect(&rt, "equal");
+    assert_equal(&rt, size_of::<CompactString>(), 32);
 }

@@ -1,8 +1,8 @@
 //! Values as they are handed on, with ample memory.
 
-use compact_asserts::{equal, that, that_for};
+use crate::asserts::{assert_equal, assert_heap, assert_inline, assert_that};
+use compact_asserts::{that, that_for};
 use compact_str::{CompactString, FromJsonError};
-use compact_testing::seen::{is_heap, is_inline};
 use compact_testing::values::{lasting, letters, short, string_with_room, with_room};
 use serde_json::Value;
 use std::alloc::Global;
@@ -27,14 +27,14 @@ fn what_leaves_has_this_room(rt: HostRuntime) {
     let text = string_with_room(alloc, 90, letters(30)).expect(rt, "memory");
     let value = CompactString::from_string_buffer(text);
     let text = value.into_string().expect(rt, "memory");
-    equal(text.capacity(), 90).expect(rt, "equal");
+    assert_equal(rt, text.capacity(), 90);
     let value = CompactString::from_string_buffer(text);
-    that(is_heap(&value, 90, letters(30))).expect(rt, "on the heap");
+    assert_heap(rt, &value, 90, letters(30));
     let bytes = value.into_vec().expect(rt, "memory");
-    equal(bytes.capacity(), 90).expect(rt, "equal");
+    assert_equal(rt, bytes.capacity(), 90);
     let bytes = short(alloc, "äb").into_bytes().expect(rt, "memory");
-    equal(bytes.as_slice(), [0xc3, 0xa4, 0x62].as_slice()).expect(rt, "equal");
-    equal(bytes.capacity(), 24).expect(rt, "equal");
+    assert_equal(rt, bytes.as_slice(), [0xc3, 0xa4, 0x62].as_slice());
+    assert_equal(rt, bytes.capacity(), 24);
 }
 
 #[test]
@@ -42,19 +42,19 @@ fn boxes_and_shared_texts_have_the_text(rt: HostRuntime) {
     let rt = &rt;
     let alloc = rt.alloc();
     let boxed = short(alloc, "äb").into_boxed_str().expect(rt, "memory");
-    equal(boxed.as_str(), "äb").expect(rt, "equal");
+    assert_equal(rt, boxed.as_str(), "äb");
     let boxed = shortened(rt, alloc).into_boxed_str().expect(rt, "memory");
-    equal(boxed.as_str(), "äb").expect(rt, "equal");
+    assert_equal(rt, boxed.as_str(), "äb");
     let shared = shortened(rt, alloc).into_rc().expect(rt, "memory");
-    equal(shared.as_str(), "äb").expect(rt, "equal");
+    assert_equal(rt, shared.as_str(), "äb");
     let shared = lasting(alloc, 30).into_rc().expect(rt, "memory");
-    equal(shared.as_str(), letters(30)).expect(rt, "equal");
+    assert_equal(rt, shared.as_str(), letters(30));
 }
 
 /// Asserts that a text is borrowed, or that it is owned.
 fn is_lent(rt: &impl Abort, cow: CowStr<'_>, text: &str, is_borrowed: bool) {
-    that(matches!(cow, CowStr::Borrowed(_)) == is_borrowed).expect(rt, "it holds");
-    equal(cow.as_str(), text).expect(rt, "equal");
+    assert_that(rt, matches!(cow, CowStr::Borrowed(_)) == is_borrowed);
+    assert_equal(rt, cow.as_str(), text);
 }
 
 #[test]
@@ -78,7 +78,11 @@ fn json_of(rt: &impl Abort, value: &CompactString) -> Value {
 /// Asserts how the JSON value of a text is printed.
 fn is_printed(rt: &impl Abort, alloc: Global, value: CompactString, text: &str) {
     let json = json_of(rt, &value);
-    equal(json.to_string(alloc).expect(rt, "memory").as_str(), text).expect(rt, "equal");
+    assert_equal(
+        rt,
+        json.to_string(alloc).expect(rt, "memory").as_str(),
+        text,
+    );
 }
 
 /// The value of a JSON string.
@@ -93,7 +97,7 @@ fn a_value_is_a_json_string(rt: HostRuntime) {
     is_printed(rt, alloc, short(alloc, "abc"), "\"abc\"");
     is_printed(rt, alloc, short(alloc, "ä\"\n"), "\"ä\\\"\\n\"");
     let json = json_of(rt, &lasting(alloc, 30));
-    that(is_heap(&value_in(rt, alloc, &json), 32, letters(30))).expect(rt, "on the heap");
+    assert_heap(rt, &value_in(rt, alloc, &json), 32, letters(30));
 }
 
 /// The JSON value that a text stands for.
@@ -113,7 +117,7 @@ fn only_a_json_string_is_taken(rt: HostRuntime) {
     let rt = &rt;
     let alloc = rt.alloc();
     let json = json_in(rt, alloc, "\"abc\"");
-    that(is_inline(&value_in(rt, alloc, &json), "abc")).expect(rt, "inline");
+    assert_inline(rt, &value_in(rt, alloc, &json), "abc");
     for text in ["1", "null", "true", "[]", "{}", "[\"abc\"]"] {
         is_no_string(rt, alloc, text);
     }

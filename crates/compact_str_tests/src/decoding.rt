@@ -1,8 +1,9 @@
 //! Bytes and units that are decoded. Texts and errors are those of the Unicode Standard, worked by hand.
 
+use crate::asserts::{assert_equal, assert_that};
 use crate::made::assert_made_inline;
 use bytes::Buf;
-use compact_asserts::{equal, that, that_for};
+use compact_asserts::that_for;
 use compact_str::{CompactString, FromUtf8Error, FromUtf16Error, ReserveError, Utf16Error};
 use compact_testing::memory::take_all;
 use compact_testing::values::letters;
@@ -25,8 +26,8 @@ fn assert_invalid(
     };
     that_for(bytes, error == Some(wanted)).expect(rt, "it holds");
     let lossy = CompactString::from_utf8_lossy(alloc, bytes).expect(rt, "memory");
-    equal(lossy.as_str(), text).expect(rt, "equal");
-    that(lossy.is_heap_allocated() == (text.len() > 24)).expect(rt, "it holds");
+    assert_equal(rt, lossy.as_str(), text);
+    assert_that(rt, lossy.is_heap_allocated() == (text.len() > 24));
 }
 
 #[test]
@@ -68,8 +69,8 @@ fn invalid_bytes_are_told_and_replaced(rt: HostRuntime) {
 /// Asserts that 30 letters were made, on the heap.
 fn assert_letters<E: Drop>(rt: &impl Abort, made: Result<CompactString, E>) {
     let made = made.ok().expect(rt, "a text");
-    equal(made.as_str(), letters(30)).expect(rt, "equal");
-    that(made.is_heap_allocated()).expect(rt, "it holds");
+    assert_equal(rt, made.as_str(), letters(30));
+    assert_that(rt, made.is_heap_allocated());
 }
 
 /// Asserts that each decoder makes this short text of its form.
@@ -122,9 +123,9 @@ fn each_form_of_a_text_is_taken(rt: HostRuntime) {
 /// Asserts that the units are no text, and which text they give lossily.
 fn assert_unpaired(rt: &impl Abort, alloc: Global, units: &[u16], text: &str) {
     let strict = CompactString::from_utf16(alloc, units);
-    that(matches!(strict, Err(FromUtf16Error::Utf16(_)))).expect(rt, "it holds");
+    assert_that(rt, matches!(strict, Err(FromUtf16Error::Utf16(_))));
     let lossy = CompactString::from_utf16_lossy(alloc, units).expect(rt, "memory");
-    equal(lossy.as_str(), text).expect(rt, "equal");
+    assert_equal(rt, lossy.as_str(), text);
 }
 
 #[test]
@@ -159,7 +160,7 @@ fn units_of_a_text_are_taken(rt: HostRuntime) {
 
 /// Asserts that units are no text.
 fn assert_no_text(rt: &impl Abort, made: Result<CompactString, FromUtf16Error>) {
-    that(matches!(made, Err(FromUtf16Error::Utf16(_)))).expect(rt, "it holds");
+    assert_that(rt, matches!(made, Err(FromUtf16Error::Utf16(_))));
 }
 
 #[test]
@@ -184,7 +185,7 @@ fn a_buffer_that_is_known_to_be_a_text_is_read_to_its_end(rt: HostRuntime) {
     let mut known = "abc".as_bytes();
     let made = CompactString::from_utf8_buf_unchecked(rt.alloc(), &mut known);
     assert_made_inline(&rt, made, "abc");
-    equal(known.remaining(), 0).expect(&rt, "equal");
+    assert_equal(&rt, known.remaining(), 0);
 }
 
 /// Bytes and units that are here already are validated first, and a buffer is read first.
@@ -194,25 +195,25 @@ fn errors_are_told_before_memory_is_asked_for(rt: HostRuntime) {
     let alloc = rt.alloc();
     let hog = take_all(alloc).expect(rt, "room for the list of blocks");
     let error = CompactString::from_utf8(alloc, b"aaaaaaaaaaaaaaaaaaaaaaaaaaaaa\xFF").err();
-    that(
+    assert_that(
+        rt,
         error
             == Some(FromUtf8Error::Utf8 {
                 valid_up_to: 29,
                 error_len: Some(1),
             }),
-    )
-    .expect(rt, "it holds");
+    );
     assert_no_text(rt, CompactString::from_utf16(alloc, &[0xDC00; 30]));
     assert_no_text(rt, CompactString::from_utf16le(alloc, &[0x61; 59]));
     let mut invalid = b"\xFFaaaaaaaaaaaaaaaaaaaaaaaaaaaaa".as_slice();
     let refused = CompactString::from_utf8_buf(alloc, &mut invalid).err();
-    that(refused == Some(FromUtf8Error::Reserve(ReserveError))).expect(rt, "it holds");
+    assert_that(rt, refused == Some(FromUtf8Error::Reserve(ReserveError)));
     drop(hog);
 }
 
 /// Asserts how an error is shown.
 fn is_shown(rt: &impl Abort, made: Result<String, AllocError>, text: &str) {
-    equal(made.expect(rt, "memory").as_str(), text).expect(rt, "equal");
+    assert_equal(rt, made.expect(rt, "memory").as_str(), text);
 }
 
 #[test]
@@ -233,7 +234,7 @@ fn refusals_show_this_text(rt: HostRuntime) {
     let alloc = rt.alloc();
     let text = "Cannot allocate memory to hold CompactString";
     let refused = FromUtf8Error::from(ReserveError);
-    that(refused == FromUtf8Error::Reserve(ReserveError)).expect(&rt, "it holds");
+    assert_that(&rt, refused == FromUtf8Error::Reserve(ReserveError));
     is_shown(&rt, format!(in alloc; "{refused}"), text);
     let refused = FromUtf16Error::from(ReserveError);
     is_shown(&rt, format!(in alloc; "{refused}"), text);

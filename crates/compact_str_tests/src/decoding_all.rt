@@ -1,7 +1,7 @@
 //! All inputs of a kind, decoded. The counts and checksums were computed by Python's decoder, which puts one U+FFFD for each
 //! maximal subpart as well, and once more by that of Rust.
 
-use compact_asserts::{equal, that};
+use crate::asserts::{assert_equal, assert_that};
 use compact_str::{CompactString, FromUtf8Error};
 use std::alloc::Global;
 use std::process::Abort;
@@ -31,7 +31,7 @@ fn error_of(rt: &impl Abort, alloc: Global, bytes: &[u8]) -> u64 {
             .wrapping_mul(8)
             .wrapping_add(error_len.unwrap_or(0) as u64),
         Err(FromUtf8Error::Reserve(_)) => {
-            that(false).expect(rt, "it holds");
+            assert_that(rt, false);
             0
         }
     }
@@ -40,7 +40,7 @@ fn error_of(rt: &impl Abort, alloc: Global, bytes: &[u8]) -> u64 {
 /// The checksum with the bytes of the lossy text and their number. A text stands inline just up to 24 bytes.
 fn mix_lossy(rt: &impl Abort, alloc: Global, sum: u64, bytes: &[u8]) -> u64 {
     let text = CompactString::from_utf8_lossy(alloc, bytes).expect(rt, "memory");
-    that(text.is_heap_allocated() == (text.len() > 24)).expect(rt, "it holds");
+    assert_that(rt, text.is_heap_allocated() == (text.len() > 24));
     let mut sum = sum;
     for byte in text.as_bytes() {
         sum = mix(sum, u64::from(*byte));
@@ -63,8 +63,8 @@ fn all_inputs_of_two_bytes(rt: HostRuntime) {
             sum = mix_lossy(rt, alloc, mix(sum, error), &[first, second]);
         }
     }
-    equal(texts, 18304).expect(rt, "equal");
-    equal(sum, 0x0020_fb58_2b7c_9240).expect(rt, "equal");
+    assert_equal(rt, texts, 18304);
+    assert_equal(rt, sum, 0x0020_fb58_2b7c_9240);
 }
 
 #[test]
@@ -84,8 +84,8 @@ fn all_inputs_of_three_bytes_at_the_bounds(rt: HostRuntime) {
             }
         }
     }
-    equal(texts, 279).expect(rt, "equal");
-    equal(sum, 0xb65d_1f78_3995_512c).expect(rt, "equal");
+    assert_equal(rt, texts, 279);
+    assert_equal(rt, sum, 0xb65d_1f78_3995_512c);
 }
 
 #[test]
@@ -99,7 +99,7 @@ fn all_pairs_of_units_at_the_bounds(rt: HostRuntime) {
             }
         }
     }
-    equal(texts, 8).expect(&rt, "equal");
+    assert_equal(&rt, texts, 8);
 }
 
 /// A generator of numbers by xorshift.
@@ -175,6 +175,6 @@ fn two_thousand_invalid_inputs(rt: HostRuntime) {
         0xbd68_8240_e592_a257,
         0x830a_2d9a_d257_5f05,
     ] {
-        equal(hundred(&rt, rt.alloc(), &mut generator), sum).expect(&rt, "equal");
+        assert_equal(&rt, hundred(&rt, rt.alloc(), &mut generator), sum);
     }
 }

@@ -1,8 +1,8 @@
 //! Values as they are written and read by serde, as JSON.
 
-use compact_asserts::{equal, that};
+use crate::asserts::{assert_equal, assert_fitted, assert_that};
 use compact_str::CompactString;
-use compact_testing::seen::{are_texts, is_fitted};
+use compact_testing::seen::are_texts;
 use compact_testing::values::{append, lasting, value_of};
 use std::alloc::Global;
 use std::process::Abort;
@@ -34,15 +34,15 @@ fn read(rt: &impl Abort, alloc: Global, text: &str) -> CompactString {
 fn goes_round(rt: &impl Abort, alloc: Global, value: &CompactString) {
     let json = written(rt, alloc, value);
     let inner = json.strip_prefix('"').expect(rt, "a quote");
-    equal(inner.strip_suffix('"'), Some(value.as_str())).expect(rt, "equal");
-    that(is_fitted(&read(rt, alloc, json.as_str()), value.as_str())).expect(rt, "fitted");
+    assert_equal(rt, inner.strip_suffix('"'), Some(value.as_str()));
+    assert_fitted(rt, &read(rt, alloc, json.as_str()), value.as_str());
 }
 
 /// Asserts this of texts of each length up to 60 bytes.
 fn all_go_round(rt: &impl Abort, alloc: Global, character: &str) {
     for count in 0..=60 {
         let text = filled(rt, alloc, character, count);
-        equal(text.len(), count).expect(rt, "equal");
+        assert_equal(rt, text.len(), count);
         goes_round(rt, alloc, &text);
     }
 }
@@ -62,8 +62,8 @@ fn a_static_value_is_written_too(rt: HostRuntime) {
 
 /// Asserts how a value is written, and that it is read back.
 fn is_written(rt: &impl Abort, alloc: Global, value: &CompactString, json: &str) {
-    equal(written(rt, alloc, value).as_str(), json).expect(rt, "equal");
-    that(is_fitted(&read(rt, alloc, json), value.as_str())).expect(rt, "fitted");
+    assert_equal(rt, written(rt, alloc, value).as_str(), json);
+    assert_fitted(rt, &read(rt, alloc, json), value.as_str());
 }
 
 #[test]
@@ -92,9 +92,9 @@ fn what_json_escapes_is_read_back(rt: HostRuntime) {
 fn escapes_that_no_writer_makes_are_read(rt: HostRuntime) {
     let rt = &rt;
     let alloc = rt.alloc();
-    that(is_fitted(&read(rt, alloc, r#""\u00eb""#), "ë")).expect(rt, "fitted");
-    that(is_fitted(&read(rt, alloc, r#""\ud834\udd1e""#), "𝄞")).expect(rt, "fitted");
-    that(is_fitted(&read(rt, alloc, r#" "a\/b" "#), "a/b")).expect(rt, "fitted");
+    assert_fitted(rt, &read(rt, alloc, r#""\u00eb""#), "ë");
+    assert_fitted(rt, &read(rt, alloc, r#""\ud834\udd1e""#), "𝄞");
+    assert_fitted(rt, &read(rt, alloc, r#" "a\/b" "#), "a/b");
 }
 
 #[test]
@@ -104,13 +104,13 @@ fn texts_in_a_row_are_read_in_order(rt: HostRuntime) {
         &rt,
         "a row of texts",
     );
-    that(are_texts(row.as_slice(), &texts)).expect(&rt, "it holds");
+    assert_that(&rt, are_texts(row.as_slice(), &texts));
 }
 
 /// Asserts that a JSON text is no text.
 fn is_no_text(rt: &impl Abort, alloc: Global, json: &str) {
     let read: Result<CompactString, serde_json::Error> = serde_json::from_str(alloc, json);
-    that(read.is_err()).expect(rt, "it holds");
+    assert_that(rt, read.is_err());
 }
 
 #[test]

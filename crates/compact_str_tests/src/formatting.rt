@@ -2,7 +2,7 @@
 //!
 //! What a format made is handed to a function as it is: a test that answered each error would be dear to prove.
 
-use compact_asserts::{equal, that};
+use crate::asserts::{assert_equal, assert_that};
 use compact_str::{CompactString, FromJsonError, ReserveError};
 use compact_testing::values::{lasting, letters, short};
 use std::alloc::AllocError;
@@ -10,7 +10,7 @@ use std::process::Abort;
 
 /// Asserts what a format made.
 fn is(rt: &impl Abort, made: Result<String, AllocError>, text: &str) {
-    equal(made.expect(rt, "memory").as_str(), text).expect(rt, "equal");
+    assert_equal(rt, made.expect(rt, "memory").as_str(), text);
 }
 
 #[test]
@@ -69,6 +69,6 @@ fn errors_are_shown_so(rt: HostRuntime) {
     let error = FromJsonError::NotAString;
     is(rt, format!(in alloc; "{error}"), "not a JSON string");
     let error = FromJsonError::from(ReserveError);
-    that(matches!(error, FromJsonError::Reserve(ReserveError))).expect(rt, "it holds");
+    assert_that(rt, matches!(error, FromJsonError::Reserve(ReserveError)));
     is(rt, format!(in alloc; "{error}"), text);
 }

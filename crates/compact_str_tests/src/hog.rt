@@ -1,6 +1,6 @@
 //! That a test can take all memory, and give it back.
 
-use compact_asserts::that;
+use crate::asserts::assert_that;
 use compact_testing::memory::take_all;
 use std::alloc::{AllocError, Global};
 
@@ -15,8 +15,8 @@ fn each_request_is_refused_until_the_hog_is_dropped(rt: HostRuntime) {
     let rt = &rt;
     let alloc = rt.alloc();
     let hog = take_all(alloc).expect(rt, "room for the list of blocks");
-    that(hog.block_count() > 0).expect(rt, "it holds");
-    that(!has_memory(alloc)).expect(rt, "it holds");
+    assert_that(rt, hog.block_count() > 0);
+    assert_that(rt, !has_memory(alloc));
     drop(hog);
-    that(has_memory(alloc)).expect(rt, "it holds");
+    assert_that(rt, has_memory(alloc));
 }

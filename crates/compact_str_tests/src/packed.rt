@@ -1,8 +1,8 @@
 //! Inline values as their 24 bytes, by rows that are written out.
 
-use compact_asserts::{equal, that};
+use crate::asserts::{assert_equal, assert_inline, assert_that};
+use compact_asserts::that;
 use compact_str::CompactString;
-use compact_testing::seen::is_inline;
 use compact_testing::values::{append, lasting, letters, value_of, with_room};
 use std::alloc::Global;
 use std::process::Abort;
@@ -29,9 +29,9 @@ fn is_packed(rt: &impl Abort, alloc: Global, value: &CompactString) {
     let text = value.as_str();
     let len = text.len();
     that(len <= 24).expect(rt, "it holds");
-    equal(&bytes[..len], text.as_bytes()).expect(rt, "equal");
-    that(len == 24 || bytes[23] as usize == 192 + len).expect(rt, "it holds");
-    that(is_inline(&read(rt, alloc, &bytes), text)).expect(rt, "inline");
+    assert_equal(rt, &bytes[..len], text.as_bytes());
+    assert_that(rt, len == 24 || bytes[23] as usize == 192 + len);
+    assert_inline(rt, &read(rt, alloc, &bytes), text);
 }
 
 /// The same of a value that is made of the text at once, where zeros stand between the text and its length.
@@ -42,12 +42,15 @@ fn is_packed_anew(rt: &impl Abort, alloc: Global, value: &CompactString) {
     let bytes = bytes_of(rt, &made);
     let len = made.len();
     that(len <= 24).expect(rt, "it holds");
-    that(len == 24 || bytes[len..23].iter().all(|byte| *byte == 0)).expect(rt, "it holds");
+    assert_that(
+        rt,
+        len == 24 || bytes[len..23].iter().all(|byte| *byte == 0),
+    );
 }
 
 /// Asserts the bytes of an inline value.
 fn has_row(rt: &impl Abort, value: &CompactString, row: &[u8; 24]) {
-    equal(&bytes_of(rt, value), row).expect(rt, "equal");
+    assert_equal(rt, &bytes_of(rt, value), row);
 }
 
 #[test]
@@ -72,16 +75,16 @@ fn the_last_byte_of_24_is_of_the_text_or_its_length(rt: HostRuntime) {
     let rt = &rt;
     let alloc = rt.alloc();
     let euros = bytes_of(rt, &value_of(alloc, "€€€€€€€€").expect(rt, "memory"));
-    equal(euros[23], 0xAC).expect(rt, "equal");
+    assert_equal(rt, euros[23], 0xAC);
     let mut cut = value_of(alloc, letters(24)).expect(rt, "memory");
     truncate(rt, &mut cut, 3);
-    equal(bytes_of(rt, &cut)[23], 0xC3).expect(rt, "equal");
+    assert_equal(rt, bytes_of(rt, &cut)[23], 0xC3);
     is_packed(rt, alloc, &cut);
 }
 
 /// Asserts whether a value has the bytes.
 fn has_bytes(rt: &impl Abort, value: CompactString, has: bool) {
-    that(value.packed().is_some() == has).expect(rt, "it holds");
+    assert_that(rt, value.packed().is_some() == has);
 }
 
 #[test]
@@ -99,13 +102,13 @@ fn only_inline_values_have_the_bytes(rt: HostRuntime) {
 fn bytes_that_stand_for_a_text_are_read(rt: HostRuntime) {
     let rt = &rt;
     let alloc = rt.alloc();
-    that(is_inline(&read(rt, alloc, &[0x61; 24]), letters(24))).expect(rt, "inline");
+    assert_inline(rt, &read(rt, alloc, &[0x61; 24]), letters(24));
     let mut row = [0xFF; 24];
     row[0] = 0x61;
     row[23] = 0xC1;
-    that(is_inline(&read(rt, alloc, &row), "a")).expect(rt, "inline");
+    assert_inline(rt, &read(rt, alloc, &row), "a");
     row[23] = 0xC0;
-    that(is_inline(&read(rt, alloc, &row), "")).expect(rt, "inline");
+    assert_inline(rt, &read(rt, alloc, &row), "");
 }
 
 #[test]
@@ -115,9 +118,12 @@ fn bytes_that_stand_for_no_text_are_refused(rt: HostRuntime) {
         let mut row = [0; 24];
         row[0] = first;
         row[23] = last;
-        that(CompactString::from_packed(alloc, &row).is_none()).expect(&rt, "it holds");
+        assert_that(&rt, CompactString::from_packed(alloc, &row).is_none());
     }
-    that(CompactString::from_packed(alloc, &[0x80; 24]).is_none()).expect(&rt, "it holds");
+    assert_that(
+        &rt,
+        CompactString::from_packed(alloc, &[0x80; 24]).is_none(),
+    );
 }
 
 #[test]
@@ -136,7 +142,7 @@ fn each_length_is_packed(rt: HostRuntime) {
             .expect(rt, "memory");
         is_packed_anew(rt, alloc, &value);
     }
-    that(is_inline(&value, "abcdefghijklmnopqrstuvwx")).expect(rt, "inline");
+    assert_inline(rt, &value, "abcdefghijklmnopqrstuvwx");
 }
 
 #[test]
@@ -145,10 +151,10 @@ fn each_length_is_cut(rt: HostRuntime) {
     let alloc = rt.alloc();
     let mut value = value_of(alloc, "abcdefghijklmnopqrstuvwx").expect(rt, "memory");
     for _ in 0..24u8 {
-        that(value.pop().is_some()).expect(rt, "it holds");
+        assert_that(rt, value.pop().is_some());
         is_packed_anew(rt, alloc, &value);
     }
-    that(is_inline(&value, "")).expect(rt, "inline");
+    assert_inline(rt, &value, "");
 }
 
 #[test]
@@ -161,7 +167,7 @@ fn what_stands_behind_a_text_is_not_read(rt: HostRuntime) {
             row[place] = 0x61;
         }
         let value = read(&rt, alloc, &row);
-        that(is_inline(&value, letters(count as usize))).expect(&rt, "inline");
+        assert_inline(&rt, &value, letters(count as usize));
         is_packed_anew(&rt, alloc, &value);
     }
 }
@@ -169,7 +175,7 @@ fn what_stands_behind_a_text_is_not_read(rt: HostRuntime) {
 /// Wipes a value, and asserts that its bytes are those of the empty text.
 fn is_wiped(rt: &impl Abort, alloc: Global, mut value: CompactString) {
     value.zeroize();
-    that(is_inline(&value, "")).expect(rt, "inline");
+    assert_inline(rt, &value, "");
     let row = b"\0\0\0\0\0\0\0\0\0\0\0\0\0\0\0\0\0\0\0\0\0\0\0\xC0";
     has_row(rt, &value, row);
     append(&mut value, "ab").expect(rt, "memory");

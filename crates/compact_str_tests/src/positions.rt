@@ -1,9 +1,10 @@
 //! Positions that a value has, and texts of the program that are split at one. Edits at positions are lines of the table of
 //! `compact_table_tests`.
 
-use compact_asserts::{equal, that, that_for};
+use crate::asserts::{assert_equal, assert_inline, assert_that};
+use compact_asserts::{that, that_for};
 use compact_str::CompactString;
-use compact_testing::seen::{is_inline, is_static};
+use compact_testing::seen::is_static;
 use compact_testing::values::{lasting, letters, short};
 use std::ops::Bound::{Excluded, Included, Unbounded};
 use std::process::Abort;
@@ -19,14 +20,14 @@ fn texts_of_the_program_are_split(rt: HostRuntime) {
     let rt = &rt;
     let alloc = rt.alloc();
     let mut value = CompactString::const_new(alloc, "Hello, world!");
-    that(is_inline(&split(rt, &mut value, 5), ", world!")).expect(rt, "inline");
-    that(is_inline(&value, "Hello")).expect(rt, "inline");
+    assert_inline(rt, &split(rt, &mut value, 5), ", world!");
+    assert_inline(rt, &value, "Hello");
     let mut value = lasting(alloc, 30);
-    that(is_static(&split(rt, &mut value, 3), letters(27))).expect(rt, "it holds");
-    that(is_static(&value, letters(3))).expect(rt, "it holds");
+    assert_that(rt, is_static(&split(rt, &mut value, 3), letters(27)));
+    assert_that(rt, is_static(&value, letters(3)));
     let mut value = lasting(alloc, 30);
-    that(is_inline(&split(rt, &mut value, 6), letters(24))).expect(rt, "inline");
-    that(is_static(&value, letters(6))).expect(rt, "it holds");
+    assert_inline(rt, &split(rt, &mut value, 6), letters(24));
+    assert_that(rt, is_static(&value, letters(6)));
 }
 
 #[test]
@@ -61,6 +62,6 @@ fn bounds_make_a_range_or_none(rt: HostRuntime) {
         (Unbounded, Included(usize::MAX), None),
         (Excluded(usize::MAX), Unbounded, None),
     ] {
-        equal(value.check_range(start, end), range).expect(&rt, "equal");
+        assert_equal(&rt, value.check_range(start, end), range);
     }
 }

@@ -1,9 +1,10 @@
 //! What is taken out of a text, and what of it is changed.
 
-use compact_asserts::{equal, that, that_for};
+use crate::asserts::{assert_equal, assert_inline, assert_that};
+use compact_asserts::{that, that_for};
 use compact_str::{CompactString, Drain, Standard};
 use compact_testing::memory::take_all;
-use compact_testing::seen::{is_at, is_inline, is_static};
+use compact_testing::seen::{is_at, is_static};
 use compact_testing::values::{lasting, letters, place_of, short, value_of};
 use std::fmt::Write;
 use std::ops::Bound;
@@ -38,26 +39,26 @@ fn assert_drained(
     let (place, capacity) = (place_of(value), value.capacity());
     let count = end.saturating_sub(start);
     let mut drained = drain(rt, value, Included(start), Excluded(end));
-    that(drained.size_hint() == (count.div_ceil(4), Some(count))).expect(rt, "it holds");
-    equal(drained.next(), Some(first)).expect(rt, "equal");
-    equal(drained.next_back(), Some(last)).expect(rt, "equal");
-    equal(drained.as_str(), rest).expect(rt, "equal");
+    assert_that(rt, drained.size_hint() == (count.div_ceil(4), Some(count)));
+    assert_equal(rt, drained.next(), Some(first));
+    assert_equal(rt, drained.next_back(), Some(last));
+    assert_equal(rt, drained.as_str(), rest);
     drop(drained);
-    that(is_at(value, place, capacity, left)).expect(rt, "it holds");
+    assert_that(rt, is_at(value, place, capacity, left));
 }
 
 #[test]
 fn a_drain_gives_its_characters_from_both_ends(rt: HostRuntime) {
     let mut value = short(rt.alloc(), "Hello, world!");
     assert_drained(&rt, &mut value, (5, 12), (',', " worl", 'd'), "Hello!");
-    that(is_inline(&value, "Hello!")).expect(&rt, "inline");
+    assert_inline(&rt, &value, "Hello!");
 }
 
 #[test]
 fn a_drain_is_counted(rt: HostRuntime) {
     let mut value = short(rt.alloc(), "Hello, world!");
-    equal(greeted(&rt, &mut value).as_str().chars().count(), 7).expect(&rt, "equal");
-    that(is_inline(&value, "Hello!")).expect(&rt, "inline");
+    assert_equal(&rt, greeted(&rt, &mut value).as_str().chars().count(), 7);
+    assert_inline(&rt, &value, "Hello!");
 }
 
 /// How many characters are drained. That a number holds it, the length of what is left tells the proof.
@@ -71,8 +72,8 @@ fn drained_count(rt: &impl Abort, value: &mut CompactString) -> usize {
 #[test]
 fn a_drain_counts_what_is_left(rt: HostRuntime) {
     let mut value = short(rt.alloc(), "Hello, world!");
-    equal(drained_count(&rt, &mut value), 7).expect(&rt, "equal");
-    that(is_inline(&value, "Hello!")).expect(&rt, "inline");
+    assert_equal(&rt, drained_count(&rt, &mut value), 7);
+    assert_inline(&rt, &value, "Hello!");
 }
 
 #[test]
@@ -80,24 +81,24 @@ fn a_drain_shows_what_is_not_taken_yet(rt: HostRuntime) {
     let rt = &rt;
     let mut value = short(rt.alloc(), "Hello, world!");
     let mut drained = greeted(rt, &mut value);
-    equal(drained.next(), Some(',')).expect(rt, "equal");
-    equal(drained.as_str(), " world").expect(rt, "equal");
+    assert_equal(rt, drained.next(), Some(','));
+    assert_equal(rt, drained.as_str(), " world");
     drop(drained);
-    that(is_inline(&value, "Hello!")).expect(rt, "inline");
+    assert_inline(rt, &value, "Hello!");
 }
 
 #[test]
 fn the_last_of_a_drain_is_its_last(rt: HostRuntime) {
     let mut value = short(rt.alloc(), "Hello, world!");
-    equal(greeted(&rt, &mut value).last(), Some('d')).expect(&rt, "equal");
-    that(is_inline(&value, "Hello!")).expect(&rt, "inline");
+    assert_equal(&rt, greeted(&rt, &mut value).last(), Some('d'));
+    assert_inline(&rt, &value, "Hello!");
 }
 
 #[test]
 fn the_last_of_a_drain_from_the_back_is_its_first(rt: HostRuntime) {
     let mut value = short(rt.alloc(), "Hello, world!");
-    equal(greeted(&rt, &mut value).rev().last(), Some(',')).expect(&rt, "equal");
-    that(is_inline(&value, "Hello!")).expect(&rt, "inline");
+    assert_equal(&rt, greeted(&rt, &mut value).rev().last(), Some(','));
+    assert_inline(&rt, &value, "Hello!");
 }
 
 #[test]
@@ -106,9 +107,9 @@ fn a_drain_prints_what_is_left(rt: HostRuntime) {
     let mut value = short(alloc, "Hello, world!");
     let mut printed = short(alloc, "");
     let drained = greeted(&rt, &mut value);
-    that(write!(printed, "{drained:>9}{drained:?}").is_ok()).expect(&rt, "it holds");
+    assert_that(&rt, write!(printed, "{drained:>9}{drained:?}").is_ok());
     drop(drained);
-    that(is_inline(&printed, ", worldDrain(\", world\")")).expect(&rt, "inline");
+    assert_inline(&rt, &printed, ", worldDrain(\", world\")");
 }
 
 #[test]
@@ -132,7 +133,7 @@ fn the_ends_of_a_drain_meet(rt: HostRuntime) {
         that_for(step, given == wanted).expect(rt, "it holds");
     }
     drop(drained);
-    that(is_inline(&value, "")).expect(rt, "inline");
+    assert_inline(rt, &value, "");
 }
 
 #[test]
@@ -140,11 +141,11 @@ fn a_drain_of_a_long_text_gives_its_characters(rt: HostRuntime) {
     let rt = &rt;
     let alloc = rt.alloc();
     let mut value = value_of(alloc, "abcdefghijklmnopqrstuvwxyzABCD").expect(rt, "memory");
-    that(value.is_heap_allocated()).expect(rt, "it holds");
+    assert_that(rt, value.is_heap_allocated());
     let taken = ('c', "defghijklmnopqrstuvwxyzA", 'B');
     assert_drained(rt, &mut value, (2, 28), taken, "abCD");
     let mut value = value_of(alloc, "aéaéaéaéaéaéaéaéaé€").expect(rt, "memory");
-    that(value.is_heap_allocated()).expect(rt, "it holds");
+    assert_that(rt, value.is_heap_allocated());
     let taken = ('é', "aéaéaéaéaéaéaéaé", '€');
     assert_drained(rt, &mut value, (1, 30), taken, "a");
 }
@@ -157,9 +158,9 @@ fn retain_asks_once_for_each_character(rt: HostRuntime) {
         asked = asked.saturating_add(1);
         character != 'ä' && character != 'd'
     });
-    that(kept.is_ok()).expect(&rt, "it holds");
-    equal(asked, 5).expect(&rt, "equal");
-    that(is_inline(&value, "b𝄞€")).expect(&rt, "inline");
+    assert_that(&rt, kept.is_ok());
+    assert_equal(&rt, asked, 5);
+    assert_inline(&rt, &value, "b𝄞€");
 }
 
 #[test]
@@ -174,7 +175,7 @@ fn a_refusal_of_retain_has_asked_nothing(rt: HostRuntime) {
         false
     });
     drop(hog);
-    that(kept.is_err()).expect(rt, "it holds");
-    that(!asked).expect(rt, "it holds");
-    that(is_static(&value, letters(30))).expect(rt, "it holds");
+    assert_that(rt, kept.is_err());
+    assert_that(rt, !asked);
+    assert_that(rt, is_static(&value, letters(30)));
 }

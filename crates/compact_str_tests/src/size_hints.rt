@@ -1,10 +1,10 @@
 //! Items whose hint tells nothing or too much, where there is memory: each call gives what the items give.
 
+use crate::asserts::{assert_equal, assert_inline, assert_that};
 use crate::hints::with_hint;
 use crate::made::{assert_made, values_of};
-use compact_asserts::{equal, that};
 use compact_str::{CompactString, CompactStringExt, append_all};
-use compact_testing::seen::{is_at, is_inline};
+use compact_testing::seen::is_at;
 use compact_testing::values::{letters, short};
 use std::alloc::Global;
 use std::process::Abort;
@@ -101,7 +101,7 @@ pub fn assert_extended(rt: &impl Abort, alloc: Global, too_much: bool) {
     value
         .extend_texts(with_hint(&texts, too_much))
         .expect(rt, "no memory is needed");
-    that(is_inline(&value, "ä€aaaaaaaaaa")).expect(rt, "inline");
+    assert_inline(rt, &value, "ä€aaaaaaaaaa");
     value
         .extend(with_hint(&characters, too_much).copied())
         .expect(rt, "no memory is needed");
@@ -111,7 +111,7 @@ pub fn assert_extended(rt: &impl Abort, alloc: Global, too_much: bool) {
     value
         .extend(with_hint(&["yz", ""], too_much))
         .expect(rt, "no memory is needed");
-    that(is_inline(&value, "ä€aaaaaaaaaaä€xyz")).expect(rt, "inline");
+    assert_inline(rt, &value, "ä€aaaaaaaaaaä€xyz");
 }
 
 /// Asserts that values are put behind a `String` that has room for them.
@@ -121,8 +121,8 @@ pub fn assert_appended(
     values: &[CompactString],
     too_much: bool,
 ) {
-    that(append_all(line, with_hint(values, too_much)).is_ok()).expect(rt, "it holds");
-    equal(line.as_str(), "abc").expect(rt, "equal");
+    assert_that(rt, append_all(line, with_hint(values, too_much)).is_ok());
+    assert_equal(rt, line.as_str(), "abc");
     line.clear();
 }
 
@@ -142,7 +142,7 @@ fn a_string_is_given_what_the_items_give(rt: HostRuntime) {
     let mut line = String::new(alloc);
     assert_appended(&rt, &mut line, &values, false);
     assert_appended(&rt, &mut line, &values, true);
-    equal(line.len(), 0).expect(&rt, "equal");
+    assert_equal(&rt, line.len(), 0);
 }
 
 /// Asserts what is made of more than 24 bytes, on the heap.
@@ -168,20 +168,20 @@ fn assert_room(rt: &impl Abort, alloc: Global, too_much: bool) {
     value
         .extend_texts(with_hint(&["", ""], too_much))
         .expect(rt, "no memory is needed");
-    that(is_at(&value, "static", 30, letters(30))).expect(rt, "it holds");
+    assert_that(rt, is_at(&value, "static", 30, letters(30)));
     value
         .extend_texts(with_hint(&["a"], too_much))
         .expect(rt, "memory");
-    that(is_at(&value, "heap", 45, letters(31))).expect(rt, "it holds");
+    assert_that(rt, is_at(&value, "heap", 45, letters(31)));
     let mut value = short(alloc, letters(24));
     value
         .extend_chars(with_hint(&['a'], too_much).copied())
         .expect(rt, "memory");
-    that(is_at(&value, "heap", 36, letters(25))).expect(rt, "it holds");
+    assert_that(rt, is_at(&value, "heap", 36, letters(25)));
     value
         .extend(with_hint(&["a", ""], too_much))
         .expect(rt, "memory");
-    that(is_at(&value, "heap", 36, letters(26))).expect(rt, "it holds");
+    assert_that(rt, is_at(&value, "heap", 36, letters(26)));
 }
 
 #[test]

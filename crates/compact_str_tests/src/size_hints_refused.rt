@@ -1,15 +1,14 @@
 //! The same where no memory is left: up to 24 bytes nothing is refused, and more is, whatever the hint.
 
+use crate::asserts::{assert_equal, assert_inline};
 use crate::hints::with_hint;
 use crate::made::{assert_refused, values_of};
 use crate::size_hints::{
     assert_appended, assert_characters, assert_collected, assert_extended, assert_joined,
     assert_texts,
 };
-use compact_asserts::{equal, that};
 use compact_str::{CompactString, append_all};
 use compact_testing::memory::take_all;
-use compact_testing::seen::is_inline;
 use compact_testing::values::letters;
 use std::alloc::Global;
 use std::process::Abort;
@@ -36,7 +35,7 @@ fn a_string_with_room_is_given_the_texts(rt: HostRuntime) {
     assert_appended(rt, &mut line, &values, false);
     assert_appended(rt, &mut line, &values, true);
     drop(hog);
-    equal(line.capacity(), 32).expect(rt, "equal");
+    assert_equal(rt, line.capacity(), 32);
 }
 
 /// Asserts that more than 24 bytes of texts are refused, and of characters.
@@ -65,7 +64,7 @@ fn assert_stops(rt: &impl Abort, alloc: Global, too_much: bool) {
         "extend_texts",
         value.extend_texts(with_hint(&texts, too_much)),
     );
-    that(is_inline(&value, letters(24))).expect(rt, "inline");
+    assert_inline(rt, &value, letters(24));
     assert_refused(
         rt,
         "extend, texts",
@@ -76,14 +75,14 @@ fn assert_stops(rt: &impl Abort, alloc: Global, too_much: bool) {
         "extend, characters",
         value.extend(with_hint(&['b'], too_much)),
     );
-    that(is_inline(&value, letters(24))).expect(rt, "inline");
+    assert_inline(rt, &value, letters(24));
     let mut value = CompactString::default(alloc);
     assert_refused(
         rt,
         "extend_chars",
         value.extend_chars(with_hint(&['€'; 9], too_much).copied()),
     );
-    that(is_inline(&value, "€€€€€€€€")).expect(rt, "inline");
+    assert_inline(rt, &value, "€€€€€€€€");
 }
 
 #[test]
@@ -107,7 +106,7 @@ fn assert_append_stops(
         "append_all",
         append_all(line, with_hint(values, too_much)),
     );
-    equal(line.as_str(), "ab").expect(rt, "equal");
+    assert_equal(rt, line.as_str(), "ab");
     line.clear();
 }
 

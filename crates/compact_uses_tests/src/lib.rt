@@ -2,6 +2,8 @@
 #![tactic(auto)]
 
 #[cfg(test)]
+mod asserts;
+#[cfg(test)]
 mod ranking;
 #[cfg(test)]
 mod record_stops;

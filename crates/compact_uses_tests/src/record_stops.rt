@@ -1,6 +1,6 @@
 //! Records and their report over a reader that stops at each of its calls in turn.
 
-use compact_asserts::{equal, that};
+use crate::asserts::{assert_equal, assert_that};
 use compact_str::CompactString;
 use compact_testing::pieces::{Pieces, Stop};
 use compact_testing::seen::are_texts;
@@ -24,7 +24,7 @@ fn read(
 /// Asserts the report of some records, of which each has a line.
 fn assert_report(rt: &impl Abort, alloc: Global, records: &[Vec<CompactString>], lines: &[&str]) {
     let rows = aligned_rows(alloc, records).expect(rt, "memory");
-    that(are_texts(rows.as_slice(), lines)).expect(rt, "it holds");
+    assert_that(rt, are_texts(rows.as_slice(), lines));
 }
 
 /// The report of the first records.
@@ -48,8 +48,8 @@ fn assert_failed(rt: &impl Abort, alloc: Global, given: usize) {
     let outcome = read(alloc, stop, &mut records);
     let cause = RecordsCause::Read;
     let line = ended + 1;
-    that(outcome == Err(RecordsError { line, cause })).expect(rt, "it holds");
-    equal(records.len(), ended).expect(rt, "equal");
+    assert_that(rt, outcome == Err(RecordsError { line, cause }));
+    assert_equal(rt, records.len(), ended);
     assert_report(rt, alloc, &records, lines_of(ended));
 }
 
@@ -66,7 +66,7 @@ fn a_reader_that_is_interrupted_is_asked_again(rt: HostRuntime) {
     for call in 1..INPUT.len() + 2 {
         let mut records = Vec::new(alloc);
         let stop = Stop::Fails(call, ErrorKind::Interrupted);
-        that(read(alloc, stop, &mut records).is_ok()).expect(&rt, "it holds");
+        assert_that(&rt, read(alloc, stop, &mut records).is_ok());
         assert_report(&rt, alloc, &records, lines_of(2));
     }
 }
@@ -81,8 +81,8 @@ fn assert_ended(
 ) {
     let mut records = Vec::new(alloc);
     let outcome = read(alloc, Stop::Ends(given.saturating_add(1)), &mut records);
-    that(outcome.err() == fault).expect(rt, "it holds");
-    equal(records.len(), count).expect(rt, "equal");
+    assert_that(rt, outcome.err() == fault);
+    assert_equal(rt, records.len(), count);
 }
 
 #[test]

@@ -1,6 +1,6 @@
 //! Records: fields of a line, what is written and read back, faults with their lines, and a reader that fails.
 
-use compact_asserts::{equal, that};
+use crate::asserts::{assert_equal, assert_that};
 use compact_str::CompactString;
 use compact_testing::memory::take_all;
 use compact_testing::seen::are_texts;
@@ -34,7 +34,7 @@ impl Read for Failing {
 }
 
 fn assert_fields(rt: &impl Abort, fields: &Vec<CompactString>, texts: &[&str]) {
-    that(are_texts(fields.as_slice(), texts)).expect(rt, "it holds");
+    assert_that(rt, are_texts(fields.as_slice(), texts));
 }
 
 /// Asserts the fields of a line.
@@ -48,7 +48,10 @@ fn assert_line(rt: &impl Abort, alloc: Global, line: &str, texts: &[&str]) {
 /// Asserts that a line is no record.
 fn assert_fault(rt: &impl Abort, alloc: Global, line: &str, fault: Fault) {
     let fields = fields_of(alloc, ',', &value_of(alloc, line).expect(rt, "memory"));
-    that(matches!(fields, Err(LineError::Fault(told)) if told == fault)).expect(rt, "it holds");
+    assert_that(
+        rt,
+        matches!(fields, Err(LineError::Fault(told)) if told == fault),
+    );
 }
 
 // The fields are those that Python's csv reader gives, but for the empty line, which has one empty field here.
@@ -77,7 +80,7 @@ fn fields_are_written_in_quotes(rt: HostRuntime) {
     let alloc = rt.alloc();
     let fields = [short(alloc, "a"), short(alloc, "b\",")];
     let line = quoted_line(alloc, ',', &fields).expect(&rt, "memory");
-    equal(line.as_str(), "\"a\",\"b\"\",\"").expect(&rt, "equal");
+    assert_equal(&rt, line.as_str(), "\"a\",\"b\"\",\"");
 }
 
 #[test]
@@ -88,13 +91,13 @@ fn a_fault_tells_its_line(rt: HostRuntime) {
     let mut input = "a,b\nc\n\"d\n".as_bytes();
     let read = read_records(alloc, ',', &mut input, &mut records);
     let cause = RecordsCause::Fault(Fault::OpenQuote);
-    that(read == Err(RecordsError { line: 3, cause })).expect(rt, "it holds");
-    equal(records.len(), 2).expect(rt, "equal");
+    assert_that(rt, read == Err(RecordsError { line: 3, cause }));
+    assert_equal(rt, records.len(), 2);
     let mut input = b"a\n\xff\n".as_slice();
     let read = read_records(alloc, ',', &mut input, &mut records);
     let cause = RecordsCause::Utf8;
-    that(read == Err(RecordsError { line: 2, cause })).expect(rt, "it holds");
-    equal(records.len(), 3).expect(rt, "equal");
+    assert_that(rt, read == Err(RecordsError { line: 2, cause }));
+    assert_equal(rt, records.len(), 3);
 }
 
 /// Asserts that the first fault of some lines is told with this line and cause, and leaves the records before it.
@@ -102,8 +105,8 @@ fn assert_stop(rt: &impl Abort, alloc: Global, lines: &str, line: usize, cause: 
     let mut records = Vec::new(alloc);
     let mut input = lines.as_bytes();
     let read = read_records(alloc, ',', &mut input, &mut records);
-    that(read == Err(RecordsError { line, cause })).expect(rt, "it holds");
-    equal(records.len() + 1, line).expect(rt, "equal");
+    assert_that(rt, read == Err(RecordsError { line, cause }));
+    assert_equal(rt, records.len() + 1, line);
 }
 
 #[test]
@@ -123,8 +126,8 @@ fn a_reader_that_fails_leaves_the_lines_before(rt: HostRuntime) {
     let mut input = Failing { given: false };
     let read = read_records(alloc, ',', &mut input, &mut records);
     let cause = RecordsCause::Read;
-    that(read == Err(RecordsError { line: 2, cause })).expect(&rt, "it holds");
-    equal(records.len(), 1).expect(&rt, "equal");
+    assert_that(&rt, read == Err(RecordsError { line: 2, cause }));
+    assert_equal(&rt, records.len(), 1);
 }
 
 #[test]
@@ -136,8 +139,8 @@ fn with_no_memory_nothing_is_read(rt: HostRuntime) {
     let read = read_records(alloc, ',', &mut input, &mut records);
     drop(hog);
     let cause = RecordsCause::Reserve;
-    that(read == Err(RecordsError { line: 1, cause })).expect(&rt, "it holds");
-    equal(records.len(), 0).expect(&rt, "equal");
+    assert_that(&rt, read == Err(RecordsError { line: 1, cause }));
+    assert_equal(&rt, records.len(), 0);
 }
 
 // The reader's buffer has 8192 bytes, and what is refused is the memory for the bytes of the line.
@@ -153,6 +156,6 @@ fn no_memory_for_the_bytes_of_a_line_is_told_as_such(rt: HostRuntime) {
     let read = read_records(alloc, ',', &mut input, &mut records);
     drop(hog);
     let cause = RecordsCause::Reserve;
-    that(read == Err(RecordsError { line: 1, cause })).expect(rt, "it holds");
-    equal(records.len(), 0).expect(rt, "equal");
+    assert_that(rt, read == Err(RecordsError { line: 1, cause }));
+    assert_equal(rt, records.len(), 0);
 }

@@ -1,6 +1,6 @@
 //! The report: columns counted in characters, records that are too short, and refused memory.
 
-use compact_asserts::{equal, that};
+use crate::asserts::{assert_equal, assert_that};
 use compact_str::CompactString;
 use compact_testing::memory::take_all;
 use compact_testing::values::value_of;
@@ -20,7 +20,7 @@ fn fields_of(rt: &impl Abort, alloc: Global, texts: &[&str]) -> Vec<CompactStrin
 }
 
 fn assert_line(rt: &impl Abort, lines: &Vec<CompactString>, index: usize, text: &str) {
-    equal(lines.get(index).map(|line| line.as_str()), Some(text)).expect(rt, "equal");
+    assert_equal(rt, lines.get(index).map(|line| line.as_str()), Some(text));
 }
 
 // The widths are 2, 5 and 1 characters, the bytes of the fields more.
@@ -34,7 +34,7 @@ fn columns_are_as_wide_as_their_longest_field_in_characters(rt: HostRuntime) {
         fields_of(rt, alloc, &[]),
     ];
     let lines = aligned_rows(alloc, &table).expect(rt, "memory");
-    equal(lines.len(), 3).expect(rt, "equal");
+    assert_equal(rt, lines.len(), 3);
     assert_line(rt, &lines, 0, "| a  | größe | 1 |");
     assert_line(rt, &lines, 1, "| 😀字 | b     |   |");
     assert_line(rt, &lines, 2, "|    |       |   |");
@@ -43,7 +43,7 @@ fn columns_are_as_wide_as_their_longest_field_in_characters(rt: HostRuntime) {
 #[test]
 fn no_records_have_no_lines(rt: HostRuntime) {
     let lines = aligned_rows(rt.alloc(), &[]).expect(&rt, "memory");
-    equal(lines.len(), 0).expect(&rt, "equal");
+    assert_equal(&rt, lines.len(), 0);
 }
 
 #[test]
@@ -54,7 +54,7 @@ fn a_refused_report_leaves_the_records(rt: HostRuntime) {
     let hog = take_all(alloc).expect(rt, "room for the list of blocks");
     let lines = aligned_rows(alloc, &table);
     drop(hog);
-    that(lines.is_err()).expect(rt, "it holds");
+    assert_that(rt, lines.is_err());
     let lines = aligned_rows(alloc, &table).expect(rt, "memory");
     assert_line(rt, &lines, 0, "| a | b |");
 }

@@ -1,6 +1,6 @@
 //! The tokenizer: characters of each width, and refused memory.
 
-use compact_asserts::{equal, that};
+use crate::asserts::{assert_equal, assert_that};
 use compact_edit::{InternError, Interner};
 use compact_testing::memory::take_all;
 use compact_testing::values::{letters, value_of};
@@ -10,12 +10,12 @@ use std::process::Abort;
 
 /// Asserts what a token is made of, and its number.
 fn assert_token(rt: &impl Abort, token: Option<Token>, kind: Kind, name: u32) {
-    that(token == Some(Token { kind, name })).expect(rt, "it holds");
+    assert_that(rt, token == Some(Token { kind, name }));
 }
 
 /// Asserts the name of a number.
 fn assert_name(rt: &impl Abort, names: &Interner, number: u32, name: Option<&str>) {
-    equal(names.name(number), name).expect(rt, "equal");
+    assert_equal(rt, names.name(number), name);
 }
 
 /// The tokens of a text, for which there is memory.
@@ -56,11 +56,11 @@ fn characters_of_each_width_are_cut_by_their_kind(rt: HostRuntime) {
     let mut names = Interner::new(alloc);
     let text = "ab, 12 éß字٣\u{a0}😀😀x";
     let tokens = tokens_of(rt, alloc, &mut names, text);
-    equal(tokens.len(), 11).expect(rt, "equal");
+    assert_equal(rt, tokens.len(), 11);
     let numbers = [0, 1, 2, 3, 2, 4, 5, 6, 7, 7, 8];
     assert_tokens(rt, &tokens, "w.snswns..w", &numbers);
     assert_names(rt, &names, &[(4, "éß字"), (6, "\u{a0}"), (7, "😀")]);
-    equal(names.len(), 9).expect(rt, "equal");
+    assert_equal(rt, names.len(), 9);
 }
 
 #[test]
@@ -68,8 +68,8 @@ fn an_empty_text_has_no_tokens(rt: HostRuntime) {
     let alloc = rt.alloc();
     let mut names = Interner::new(alloc);
     let tokens = tokens_of(&rt, alloc, &mut names, "");
-    equal(tokens.len(), 0).expect(&rt, "equal");
-    equal(names.len(), 0).expect(&rt, "equal");
+    assert_equal(&rt, tokens.len(), 0);
+    assert_equal(&rt, names.len(), 0);
 }
 
 /// Asserts that a text is refused while there is no memory, and that the one name stands.
@@ -78,9 +78,9 @@ fn is_refused(rt: &impl Abort, alloc: Global, names: &mut Interner, text: &str) 
     let hog = take_all(alloc).expect(rt, "room for the list of blocks");
     let tokens = tokenize(alloc, names, &text);
     drop(hog);
-    that(matches!(tokens, Err(InternError::Reserve(_)))).expect(rt, "it holds");
+    assert_that(rt, matches!(tokens, Err(InternError::Reserve(_))));
     assert_name(rt, names, 0, Some("ab"));
-    equal(names.len(), 1).expect(rt, "equal");
+    assert_equal(rt, names.len(), 1);
 }
 
 #[test]
@@ -88,7 +88,7 @@ fn a_refused_list_of_tokens_or_a_long_word_leaves_the_names(rt: HostRuntime) {
     let rt = &rt;
     let alloc = rt.alloc();
     let mut names = Interner::new(alloc);
-    equal(names.intern("ab").expect(rt, "memory"), 0).expect(rt, "equal");
+    assert_equal(rt, names.intern("ab").expect(rt, "memory"), 0);
     for text in ["ab ab", letters(30)] {
         is_refused(rt, alloc, &mut names, text);
     }
