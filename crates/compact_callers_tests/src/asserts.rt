@@ -1,8 +1,6 @@
 //! What the tests of this crate assert, by calls that end the test where it does not hold.
 
 use compact_asserts::{equal, that};
-use compact_str::CompactString;
-use compact_testing::seen::is_inline;
 use std::fmt::Debug;
 use std::process::Abort;
 
@@ -14,9 +12,4 @@ pub fn assert_that(rt: &impl Abort, holds: bool) {
 /// Asserts that both are equal.
 pub fn assert_equal<T: PartialEq + Debug + Drop>(rt: &impl Abort, left: T, right: T) {
     equal(left, right).expect(rt, "equal");
-}
-
-/// Asserts that a value stands inline with this text.
-pub fn assert_inline(rt: &impl Abort, value: &CompactString, text: &str) {
-    that(is_inline(value, text)).expect(rt, "it holds");
 }

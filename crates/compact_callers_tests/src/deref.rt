@@ -1,10 +1,11 @@
 //! Tests of the callers in `deref_callers.rt`.
 
-use crate::asserts::{assert_equal, assert_inline, assert_that};
+use crate::asserts::{assert_equal, assert_that};
 use compact_callers::deref_callers::{
     append_other, bytes_of_both, characters_of, filled_lines, longest_word, number_in, shown_name,
     split_at_sign, weight_of, with_commas,
 };
+use compact_testing::seen::is_inline;
 use compact_testing::values::short;
 
 #[test]
@@ -12,8 +13,8 @@ fn a_field_is_split(rt: HostRuntime) {
     let rt = &rt;
     let mut field = short(rt.alloc(), "clé=a=b");
     let value = split_at_sign(&mut field).expect(rt, "memory");
-    assert_inline(rt, &field, "clé");
-    assert_inline(rt, &value.expect(rt, "a value"), "a=b");
+    assert_that(rt, is_inline(&field, "clé"));
+    assert_that(rt, is_inline(&value.expect(rt, "a value"), "a=b"));
     let again = split_at_sign(&mut field).expect(rt, "memory");
     assert_that(rt, again.is_none());
 }
@@ -27,7 +28,7 @@ fn a_value_is_handed_on_as_a_text(rt: HostRuntime) {
     assert_equal(rt, bytes_of_both(&line, &other), Some(4));
     assert_equal(rt, weight_of(&line), 2);
     append_other(&mut line, &other).expect(rt, "memory");
-    assert_inline(rt, &line, "éab");
+    assert_that(rt, is_inline(&line, "éab"));
     assert_equal(rt, characters_of(&line), 3);
 }
 

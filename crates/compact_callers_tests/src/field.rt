@@ -1,7 +1,8 @@
 //! Tests of the callers in `field_callers.rt`.
 
-use crate::asserts::{assert_equal, assert_inline, assert_that};
+use crate::asserts::{assert_equal, assert_that};
 use compact_callers::field_callers::{read_name, read_person, write_person};
+use compact_testing::seen::is_inline;
 use compact_testing::values::short;
 
 /// A person with a name on the heap and with no note.
@@ -11,7 +12,7 @@ const WRITTEN: &str = r#"{"firstName":"zoë, of more than 24 bytes, on the heap"
 fn a_person_is_read(rt: HostRuntime) {
     let text = r#"{"firstName":"zo\u00eb","note":"n"}"#;
     let person = read_person(rt.alloc(), text).expect(&rt, "a person");
-    assert_inline(&rt, &person.first_name, "zoë");
+    assert_that(&rt, is_inline(&person.first_name, "zoë"));
     assert_equal(&rt, person.note.as_deref(), Some("n"));
 }
 

@@ -1,9 +1,9 @@
 //! Tests of the callers in `lender.rt`.
 
-use crate::asserts::{assert_equal, assert_inline, assert_that};
+use crate::asserts::{assert_equal, assert_that};
 use compact_callers::lender_callers::{emptied, start_anew, take_out, try_to_empty, was_emptied};
 use compact_str::CompactString;
-use compact_testing::seen::is_static;
+use compact_testing::seen::{is_inline, is_static};
 
 #[test]
 fn a_lent_value_is_emptied(rt: HostRuntime) {
@@ -20,11 +20,11 @@ fn a_lent_value_is_written_anew(rt: HostRuntime) {
     let rt = &rt;
     let mut value = CompactString::const_new(rt.alloc(), "earlier");
     assert_that(rt, matches!(start_anew(&mut value, "later"), Ok(true)));
-    assert_inline(rt, &value, "later");
+    assert_that(rt, is_inline(&value, "later"));
     assert_that(rt, !try_to_empty(&mut value, 4));
-    assert_inline(rt, &value, "later");
+    assert_that(rt, is_inline(&value, "later"));
     assert_that(rt, try_to_empty(&mut value, 5));
-    assert_inline(rt, &value, "");
+    assert_that(rt, is_inline(&value, ""));
     assert_that(rt, !was_emptied(&mut value));
 }
 

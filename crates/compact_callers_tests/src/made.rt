@@ -1,8 +1,8 @@
 //! Tests of the callers in `made_callers.rt`.
 
-use crate::asserts::{assert_equal, assert_inline, assert_that};
+use crate::asserts::{assert_equal, assert_that};
 use compact_callers::made_callers::{append_note, lent_bytes, row_of, take_line, text_in, unboxed};
-use compact_testing::seen::is_heap;
+use compact_testing::seen::{is_heap, is_inline};
 use compact_testing::values::{letters, short, value_of};
 use std::boxed::BoxedStr;
 use std::collections::HashMap;
@@ -13,7 +13,7 @@ fn a_line_is_taken(rt: HostRuntime) {
     let mut line = value_of(rt.alloc(), letters(30)).expect(rt, "memory");
     let taken = take_line(&mut line).expect(rt, "no memory is needed");
     assert_that(rt, is_heap(&taken, 32, letters(30)));
-    assert_inline(rt, &line, "");
+    assert_that(rt, is_inline(&line, ""));
 }
 
 #[test]
@@ -23,8 +23,8 @@ fn a_row_has_its_names(rt: HostRuntime) {
     let Ok(row) = row_of(alloc, first, short(alloc, "é")) else {
         panic!(rt; "two of four names need no memory");
     };
-    assert_inline(&rt, &row[0], "a");
-    assert_inline(&rt, &row[1], "é");
+    assert_that(&rt, is_inline(&row[0], "a"));
+    assert_that(&rt, is_inline(&row[1], "é"));
 }
 
 #[test]
@@ -33,7 +33,7 @@ fn a_note_begins_empty(rt: HostRuntime) {
     let mut notes = HashMap::new(rt.alloc());
     append_note(&mut notes, 7, "a").expect(rt, "memory");
     append_note(&mut notes, 7, "é").expect(rt, "memory");
-    assert_inline(rt, notes.get(&7).expect(rt, "a note"), "aé");
+    assert_that(rt, is_inline(notes.get(&7).expect(rt, "a note"), "aé"));
 }
 
 #[test]
@@ -41,7 +41,7 @@ fn buffers_are_taken_over(rt: HostRuntime) {
     let rt = &rt;
     let alloc = rt.alloc();
     let bytes = Vec::from_slice(alloc, "é".as_bytes()).expect(rt, "memory");
-    assert_inline(rt, &text_in(bytes).expect(rt, "a text"), "é");
+    assert_that(rt, is_inline(&text_in(bytes).expect(rt, "a text"), "é"));
     let bytes = Vec::from_slice(alloc, &[0xc3]).expect(rt, "memory");
     assert_that(rt, text_in(bytes).is_err());
     let boxed = BoxedStr::from_str(alloc, letters(30)).expect(rt, "memory");

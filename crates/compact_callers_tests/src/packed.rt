@@ -1,7 +1,8 @@
 //! Tests of the callers in `packed_callers.rt`.
 
-use crate::asserts::{assert_equal, assert_inline, assert_that};
+use crate::asserts::{assert_equal, assert_that};
 use compact_callers::packed_callers::{cleaned, have_same_row, through_a_row};
+use compact_testing::seen::is_inline;
 use compact_testing::values::{lasting, short};
 
 #[test]
@@ -9,7 +10,7 @@ fn a_key_goes_through_a_row(rt: HostRuntime) {
     let alloc = rt.alloc();
     let key = short(alloc, "größe");
     let copy = through_a_row(alloc, &key).expect(&rt, "an inline key");
-    assert_inline(&rt, &copy, "größe");
+    assert_that(&rt, is_inline(&copy, "größe"));
     assert_that(&rt, through_a_row(alloc, &lasting(alloc, 30)).is_none());
 }
 

@@ -1,33 +1,33 @@
 //! Tests of the callers in `plain_callers.rt`.
 
-use crate::asserts::{assert_equal, assert_inline, assert_that};
+use crate::asserts::{assert_equal, assert_that};
 use compact_asserts::that;
 use compact_callers::plain_callers::{
     append_count, append_pair, append_record, append_report, split_and_join, split_field, type_two,
     with_suffix,
 };
-use compact_testing::seen::is_heap;
+use compact_testing::seen::{is_heap, is_inline};
 use compact_testing::values::{letters, short, with_room};
 
 #[test]
 fn a_report_is_written_past_ascii(rt: HostRuntime) {
     let mut line = short(rt.alloc(), "§ ");
     append_report(&mut line, "größe", "7 µm").expect(&rt, "memory");
-    assert_inline(&rt, &line, "§ größe → 7 µm");
+    assert_that(&rt, is_inline(&line, "§ größe → 7 µm"));
 }
 
 #[test]
 fn a_count_is_written_as_its_digits(rt: HostRuntime) {
     let mut line = short(rt.alloc(), "");
     append_count(&mut line, "ü", 1024).expect(&rt, "memory");
-    assert_inline(&rt, &line, "ü: 1024");
+    assert_that(&rt, is_inline(&line, "ü: 1024"));
 }
 
 #[test]
 fn a_record_is_appended_in_one_piece(rt: HostRuntime) {
     let mut line = short(rt.alloc(), "a;");
     append_record(&mut line, "b", "c").expect(&rt, "memory");
-    assert_inline(&rt, &line, "a;b,c");
+    assert_that(&rt, is_inline(&line, "a;b,c"));
 }
 
 #[test]
@@ -44,7 +44,7 @@ fn a_cursor_goes_on_by_what_is_typed(rt: HostRuntime) {
     that(line.is_char_boundary(1)).expect(rt, "it holds");
     let cursor = type_two(&mut line, 1, 'é', 'x').expect(rt, "memory");
     assert_equal(rt, cursor, 4);
-    assert_inline(rt, &line, "aéxb");
+    assert_that(rt, is_inline(&line, "aéxb"));
 }
 
 #[test]
@@ -52,15 +52,15 @@ fn a_split_line_is_joined(rt: HostRuntime) {
     let mut line = short(rt.alloc(), "äb");
     that(line.is_char_boundary(2)).expect(&rt, "it holds");
     split_and_join(&mut line, 2).expect(&rt, "memory");
-    assert_inline(&rt, &line, "äb");
+    assert_that(&rt, is_inline(&line, "äb"));
 }
 
 #[test]
 fn a_name_has_a_suffix(rt: HostRuntime) {
     let name = short(rt.alloc(), "name");
     let both = with_suffix(&name, "_1").expect(&rt, "memory");
-    assert_inline(&rt, &name, "name");
-    assert_inline(&rt, &both, "name_1");
+    assert_that(&rt, is_inline(&name, "name"));
+    assert_that(&rt, is_inline(&both, "name_1"));
 }
 
 #[test]
@@ -68,8 +68,8 @@ fn a_field_is_split_at_its_first_sign(rt: HostRuntime) {
     let rt = &rt;
     let mut field = short(rt.alloc(), "clé=a=b");
     let value = split_field(&mut field).expect(rt, "memory");
-    assert_inline(rt, &field, "clé");
-    assert_inline(rt, &value.expect(rt, "a value"), "a=b");
+    assert_that(rt, is_inline(&field, "clé"));
+    assert_that(rt, is_inline(&value.expect(rt, "a value"), "a=b"));
 }
 
 #[test]
@@ -77,5 +77,5 @@ fn a_field_with_no_sign_stays(rt: HostRuntime) {
     let mut field = short(rt.alloc(), "clé");
     let value = split_field(&mut field).expect(&rt, "memory");
     assert_that(&rt, value.is_none());
-    assert_inline(&rt, &field, "clé");
+    assert_that(&rt, is_inline(&field, "clé"));
 }

@@ -1,9 +1,9 @@
 //! Tests of the callers in `run_callers.rt`.
 
-use crate::asserts::{assert_equal, assert_inline, assert_that};
+use crate::asserts::{assert_equal, assert_that};
 use compact_callers::run_callers::{Doubling, bracket, refill, rewrite};
 use compact_str::PolicyString;
-use compact_testing::seen::is_heap;
+use compact_testing::seen::{is_heap, is_inline};
 use compact_testing::values::{letters, short};
 
 #[test]
@@ -11,7 +11,7 @@ fn a_text_is_put_in_brackets(rt: HostRuntime) {
     let alloc = rt.alloc();
     let mut value = short(alloc, "ab");
     assert_that(&rt, bracket(alloc, &mut value).expect(&rt, "memory"));
-    assert_inline(&rt, &value, "[ab]");
+    assert_that(&rt, is_inline(&value, "[ab]"));
 }
 
 #[test]
@@ -23,7 +23,7 @@ fn replies_come_after_those_of_an_earlier_run(rt: HostRuntime) {
     rewrite(&mut value, "c", &mut replies).expect(rt, "memory");
     rewrite(&mut value, letters(24), &mut replies).expect(rt, "memory");
     assert_equal(rt, replies.len(), 4);
-    assert_inline(rt, &value, letters(24));
+    assert_that(rt, is_inline(&value, letters(24)));
 }
 
 #[test]

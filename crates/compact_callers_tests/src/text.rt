@@ -1,8 +1,8 @@
 //! Tests of the callers in `text.rt`.
 
-use crate::asserts::{assert_inline, assert_that};
+use crate::asserts::assert_that;
 use compact_callers::text_callers::{append_field, keyword, label, record_line};
-use compact_testing::seen::is_heap;
+use compact_testing::seen::{is_heap, is_inline};
 use compact_testing::values::{letters, with_room};
 
 #[test]
@@ -10,9 +10,9 @@ fn keywords_and_labels_are_short(rt: HostRuntime) {
     let rt = &rt;
     let alloc = rt.alloc();
     let word = keyword(alloc, "while").expect(rt, "memory");
-    assert_inline(rt, &word, "while");
+    assert_that(rt, is_inline(&word, "while"));
     let line = label(alloc, "name", "value").expect(rt, "memory");
-    assert_inline(rt, &line, "name: value");
+    assert_that(rt, is_inline(&line, "name: value"));
 }
 
 #[test]

@@ -1,13 +1,13 @@
 //! Tests of the callers in `wire_callers.rt`.
 
-use crate::asserts::{assert_equal, assert_inline, assert_that};
+use crate::asserts::{assert_equal, assert_that};
 use compact_callers::wire_callers::{
     first_record, next_record, next_text, pair_sent_and_received, read_records, read_texts,
     receive_field, send_field, sent_and_received,
 };
 use compact_ext::wire::{Records, WireError};
 use compact_str::CompactString;
-use compact_testing::seen::is_fitted;
+use compact_testing::seen::{is_fitted, is_inline};
 use compact_testing::values::{letters, short, value_of};
 use std::process::Abort;
 
@@ -21,7 +21,7 @@ fn a_reader_tells_its_next_record_and_its_end(rt: HostRuntime) {
     let mut rest: &[u8] = &RECORDS;
     for text in ["a", "", "Hi"] {
         let record = next_record(alloc, &mut rest).expect(rt, "a record");
-        assert_inline(rt, &record.expect(rt, "no end"), text);
+        assert_that(rt, is_inline(&record.expect(rt, "no end"), text));
     }
     let end = next_record(alloc, &mut rest).expect(rt, "an end");
     assert_that(rt, end.is_none());
@@ -44,7 +44,7 @@ fn one_record_that_is_no_text_is_passed_over(rt: HostRuntime) {
     let mut records = Records::new(rt.alloc(), MIXED.as_slice());
     for text in ["a", "", "Hi"] {
         let found = next_text(&mut records).expect(rt, "no end");
-        assert_inline(rt, &found.expect(rt, "a text"), text);
+        assert_that(rt, is_inline(&found.expect(rt, "a text"), text));
     }
     assert_that(rt, next_text(&mut records).is_none());
 }
@@ -58,9 +58,9 @@ fn what_is_no_text_is_passed_over(rt: HostRuntime) {
 /// Fails unless the texts are `a`, no text and `Hi`.
 fn expect_three(rt: &impl Abort, texts: Vec<CompactString>) {
     assert_equal(rt, texts.len(), 3);
-    assert_inline(rt, texts.get(0).expect(rt, "a text"), "a");
-    assert_inline(rt, texts.get(1).expect(rt, "a text"), "");
-    assert_inline(rt, texts.get(2).expect(rt, "a text"), "Hi");
+    assert_that(rt, is_inline(texts.get(0).expect(rt, "a text"), "a"));
+    assert_that(rt, is_inline(texts.get(1).expect(rt, "a text"), ""));
+    assert_that(rt, is_inline(texts.get(2).expect(rt, "a text"), "Hi"));
 }
 
 #[test]
@@ -73,7 +73,7 @@ fn a_cut_behind_what_is_no_text_is_told(rt: HostRuntime) {
 #[test]
 fn the_first_record_is_read_alone(rt: HostRuntime) {
     let first = first_record(rt.alloc(), RECORDS.as_slice()).expect(&rt, "no fault");
-    assert_inline(&rt, &first.expect(&rt, "a record"), "a");
+    assert_that(&rt, is_inline(&first.expect(&rt, "a record"), "a"));
 }
 
 #[test]
@@ -94,12 +94,12 @@ fn a_field_is_sent_and_received(rt: HostRuntime) {
     assert_equal(rt, bytes.len(), 42);
     let mut rest = bytes.as_slice();
     let (key, value) = receive_field(alloc, &mut rest).expect(rt, "a field");
-    assert_inline(rt, &key, "name");
+    assert_that(rt, is_inline(&key, "name"));
     assert_that(rt, is_fitted(&value, letters(30)));
     let back = sent_and_received(alloc, &value).expect(rt, "a text");
     assert_that(rt, back == value);
     let both = pair_sent_and_received(alloc, &name, &value).expect(rt, "two texts");
     assert_equal(rt, both.len(), 2);
-    assert_inline(rt, &both[0], "name");
+    assert_that(rt, is_inline(&both[0], "name"));
     assert_that(rt, is_fitted(&both[1], letters(30)));
 }
