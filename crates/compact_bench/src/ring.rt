@@ -6,18 +6,11 @@ use compact_str::{CompactString, ReserveError};
 use std::alloc::Global;
 
 /// The latest 64 values, each in the place of its number, and the checksum of what has been seen of them.
+#[derive(Drop)]
 pub struct Ring {
     values: Vec<CompactString>,
     sum: u64,
     ghost full: { vec_len values ≡ 64 },
-}
-
-/// It is dropped by one call, so that no workload takes the values apart at its ends.
-impl Drop for Ring {
-    fn drop(self) {
-        let Ring { values, sum: _ } = self;
-        drop(values);
-    }
 }
 
 impl Ring {
