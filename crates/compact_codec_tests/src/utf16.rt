@@ -1,26 +1,12 @@
 //! Units read step by step and validated as a whole: unpaired surrogates, pairs, and pairs at each edge of the two ranges.
 
-use crate::asserts::{assert_equal, assert_that};
-use compact_asserts::{that, that_for};
+use crate::asserts::{assert_equal, assert_steps};
+use compact_asserts::that_for;
 use compact_codec::utf16::{first_character, is_utf16};
-use std::process::Abort;
-
-/// The units are read in these steps: a character, or `None` for an unpaired surrogate, and how many units it takes.
-fn assert_steps(rt: &impl Abort, units: &[u16], steps: &[(Option<char>, usize)]) {
-    let mut rest = units;
-    for (character, taken) in steps {
-        that(!rest.is_empty()).expect(rt, "it holds");
-        let step = first_character(rest);
-        that_for(units, step.character == *character).expect(rt, "it holds");
-        assert_equal(rt, step.taken, *taken);
-        rest = &rest[step.taken..];
-    }
-    assert_that(rt, rest.is_empty());
-}
 
 #[test]
 fn unpaired_surrogates_are_steps_of_their_own(rt: HostRuntime) {
-    assert_steps(&rt, &[], &[]);
+    assert_steps(&rt, first_character, &[], &[]);
     let cases: [(&[u16], &[(Option<char>, usize)]); 4] = [
         (&[0xDC00, 0xD800], &[(None, 1), (None, 1)]),
         (
@@ -54,7 +40,7 @@ fn unpaired_surrogates_are_steps_of_their_own(rt: HostRuntime) {
         ),
     ];
     for (units, steps) in cases {
-        assert_steps(&rt, units, steps);
+        assert_steps(&rt, first_character, units, steps);
     }
 }
 
