@@ -1,9 +1,10 @@
 //! The longest lengths and positions, as edits.
 
-use crate::asserts::assert_inline;
+use crate::asserts::assert_that;
 use crate::replies::assert_all;
 use compact_edit::{Edit, run};
 use compact_str::Standard;
+use compact_testing::seen::is_inline;
 use compact_testing::values::short;
 use std::alloc::Global;
 use std::ops::Bound::{Excluded, Included, Unbounded};
@@ -15,7 +16,7 @@ fn assert_each(rt: &impl Abort, alloc: Global, edits: &[Edit<Standard>], name: &
     let mut replies = Vec::new(alloc);
     run(&mut value, edits, &mut replies).expect(rt, "memory");
     assert_all(rt, &replies, edits.len(), name);
-    assert_inline(rt, &value, "a");
+    assert_that(rt, is_inline(&value, "a"));
 }
 
 #[test]

@@ -1,11 +1,12 @@
 //! Lists of pushes under several growth policies, with what they move; and other calls under those policies.
 
-use crate::asserts::{assert_equal, assert_heap, assert_inline};
+use crate::asserts::{assert_equal, assert_that};
 use compact_asserts::that;
 use compact_edit::{PushReport, run_pushes};
 use compact_str::{Policy, PolicyString, Standard};
 use compact_testing::memory::take_all;
 use compact_testing::policies::{Double, Large, Slow};
+use compact_testing::seen::{is_heap, is_inline};
 use compact_testing::values::{append, letters};
 use std::alloc::Global;
 use std::process::Abort;
@@ -40,7 +41,7 @@ fn assert_pushed<P: Policy>(
     moved: u64,
 ) {
     let report = run_pushes::<P>(alloc, texts);
-    assert_heap(rt, &report.value, capacity, letters(count));
+    assert_that(rt, is_heap(&report.value, capacity, letters(count)));
     assert_counts(rt, &report, moved, 0);
 }
 
@@ -57,7 +58,7 @@ fn each_growth_moves_the_text_that_stood(rt: HostRuntime) {
         letters(2),
     ];
     let inline = run_pushes::<Standard>(alloc, &texts[..1]);
-    assert_inline(rt, &inline.value, letters(24));
+    assert_that(rt, is_inline(&inline.value, letters(24)));
     assert_counts(rt, &inline, 0, 0);
     assert_pushed::<Standard>(rt, alloc, &texts[..2], 36, 25, 24);
     assert_pushed::<Standard>(rt, alloc, &texts[..3], 37, 37, 49);
@@ -69,7 +70,7 @@ fn each_growth_moves_the_text_that_stood(rt: HostRuntime) {
 #[test]
 fn no_texts_leave_the_empty_value(rt: HostRuntime) {
     let report = run_pushes::<Standard>(rt.alloc(), &[]);
-    assert_inline(&rt, &report.value, "");
+    assert_that(&rt, is_inline(&report.value, ""));
     assert_counts(&rt, &report, 0, 0);
 }
 
@@ -107,7 +108,7 @@ fn buffers_grow_by_a_quarter(rt: HostRuntime) {
     assert_pushed::<Slow>(rt, alloc, &[letters(25)], 25, 25, 0);
     assert_pushed::<Slow>(rt, alloc, &[letters(25), "a"], 31, 26, 25);
     let made = PolicyString::<Slow>::new(alloc, letters(25));
-    assert_heap(rt, &made.expect(rt, "memory"), 25, letters(25));
+    assert_that(rt, is_heap(&made.expect(rt, "memory"), 25, letters(25)));
 }
 
 #[test]
@@ -121,9 +122,9 @@ fn a_shrink_keeps_the_least_capacity(rt: HostRuntime) {
     let made = PolicyString::<Large>::with_capacity(rt.alloc(), 8192);
     let mut value = made.expect(rt, "memory");
     append(&mut value, letters(30)).expect(rt, "memory");
-    assert_heap(rt, &value, 8192, letters(30));
+    assert_that(rt, is_heap(&value, 8192, letters(30)));
     value.shrink_to_fit();
-    assert_heap(rt, &value, 4096, letters(30));
+    assert_that(rt, is_heap(&value, 4096, letters(30)));
 }
 
 /// Asserts that one of some texts is refused, where one block of so many bytes is all memory that is left, how many letters
@@ -141,7 +142,7 @@ fn assert_one_refused(
     drop(block);
     let report = run_pushes::<Standard>(alloc, texts);
     drop(hog);
-    assert_heap(rt, &report.value, room, letters(count));
+    assert_that(rt, is_heap(&report.value, room, letters(count)));
     assert_counts(rt, &report, moved, 1);
 }
 
@@ -163,7 +164,7 @@ fn only_what_fits_inline_is_pushed_with_no_memory(rt: HostRuntime) {
     let hog = take_all(alloc).expect(&rt, "room for the list of blocks");
     let report = run_pushes::<Slow>(alloc, &texts);
     drop(hog);
-    assert_inline(&rt, &report.value, letters(24));
+    assert_that(&rt, is_inline(&report.value, letters(24)));
     assert_counts(&rt, &report, 0, 2);
 }
 
@@ -172,14 +173,14 @@ fn another_policy_owns_in_its_own_least_buffer(rt: HostRuntime) {
     let rt = &rt;
     let mut value = PolicyString::<Large>::const_new(rt.alloc(), letters(30));
     remove_first(rt, &mut value);
-    assert_heap(rt, &value, 4096, letters(29));
+    assert_that(rt, is_heap(&value, 4096, letters(29)));
     insert(rt, &mut value, 0);
-    assert_heap(rt, &value, 4096, letters(30));
+    assert_that(rt, is_heap(&value, 4096, letters(30)));
 }
 
 #[test]
 fn another_policy_inserts_in_its_own_least_buffer(rt: HostRuntime) {
     let mut value = PolicyString::<Large>::const_new(rt.alloc(), letters(30));
     insert(&rt, &mut value, 30);
-    assert_heap(&rt, &value, 4096, letters(31));
+    assert_that(&rt, is_heap(&value, 4096, letters(31)));
 }

@@ -1,11 +1,11 @@
 //! Lists of edits that are run, with ample memory and with none.
 
-use crate::asserts::{assert_equal, assert_heap, assert_inline, assert_that};
+use crate::asserts::{assert_equal, assert_that};
 use crate::replies::assert_all;
 use compact_edit::{Edit, Reply, run};
 use compact_str::{CompactString, Standard};
 use compact_testing::memory::take_all;
-use compact_testing::seen::{is_at, is_static};
+use compact_testing::seen::{is_at, is_heap, is_inline, is_static};
 use compact_testing::values::{lasting, letters, short, value_of};
 use std::alloc::Global;
 use std::ops::Bound::{Excluded, Included};
@@ -44,7 +44,7 @@ fn each_edit_of_a_list_is_run(rt: HostRuntime) {
     let mut value = short(alloc, letters(3));
     let edits = [Edit::PushStr("a"), Edit::Reserve(100), Edit::ShrinkTo(50)];
     all_are_done(&rt, alloc, &mut value, &edits);
-    assert_heap(&rt, &value, 50, letters(4));
+    assert_that(&rt, is_heap(&value, 50, letters(4)));
 }
 
 /// A list of 40 replies and no room for nine more, even where an allocator rounds a request up.
@@ -83,7 +83,7 @@ fn a_run_with_no_room_for_replies_runs_nothing(rt: HostRuntime) {
     is_not_begun(rt, &mut value, &mut replies);
     run_all(rt, &mut value, &[], &mut replies);
     drop(hog);
-    assert_inline(rt, &value, "abc");
+    assert_that(rt, is_inline(&value, "abc"));
     assert_all(rt, &replies, 40, "done");
 }
 
@@ -155,7 +155,7 @@ fn the_answer_of_a_drain_is_refused(rt: HostRuntime) {
     drop(hog);
     was_refused(rt, replies.as_slice(), 0, true);
     was_refused(rt, replies.as_slice(), 1, false);
-    assert_heap(rt, &value, 60, letters(36));
+    assert_that(rt, is_heap(&value, 60, letters(36)));
 }
 
 #[test]

@@ -2,7 +2,7 @@
 //! by hand from the definition of the form.
 
 use crate::asserts::{assert_equal, assert_that};
-use crate::wire_forms::{end_of, form_of, form_of_letters};
+use crate::wire_forms::{assert_writes, end_of, form_of, form_of_letters};
 use crate::wire_letters::Letters;
 use compact_ext::wire::{WireError, read_wire, write_wire};
 use compact_str::{CompactString, ReserveError};
@@ -133,12 +133,6 @@ fn no_read_is_tried_again(rt: HostRuntime) {
     assert_each_stop(&rt, alloc, &[2, 0, 0, 0, 0x48, 0x69]);
     let form = form_of_letters(&rt, alloc, 55);
     assert_each_stop(&rt, alloc, &form);
-}
-
-/// Asserts how a write to a writer ends, and what has gone out.
-fn assert_writes(rt: &impl Abort, text: &CompactString, mut writer: Narrow, end: &str, out: &[u8]) {
-    assert_equal(rt, end_of(&write_wire(text, &mut writer)), end);
-    assert_equal(rt, writer.bytes(), out);
 }
 
 #[test]

@@ -1,6 +1,9 @@
-//! Forms of texts on a wire, and the names of what comes of a call.
+//! Forms of texts on a wire, the names of what comes of a call, and what a writer is given.
 
-use compact_ext::wire::WireError;
+use crate::asserts::assert_equal;
+use compact_ext::wire::{WireError, write_wire};
+use compact_str::CompactString;
+use compact_testing::pieces::Narrow;
 use std::alloc::Global;
 use std::process::Abort;
 
@@ -22,6 +25,18 @@ pub fn end_of<T>(ended: &Result<T, WireError>) -> &'static str {
         Ok(_) => "done",
         Err(fault) => name_of(fault),
     }
+}
+
+/// Asserts how a write to a writer ends, and what has gone out.
+pub fn assert_writes(
+    rt: &impl Abort,
+    text: &CompactString,
+    mut writer: Narrow,
+    end: &str,
+    out: &[u8],
+) {
+    assert_equal(rt, end_of(&write_wire(text, &mut writer)), end);
+    assert_equal(rt, writer.bytes(), out);
 }
 
 /// A form of so many letters: the length, and each letter.

@@ -1,8 +1,8 @@
 //! Wire forms that come and go in pieces: a reader that ends at each of its bytes, and a writer that stops at each.
 
 use crate::asserts::{assert_equal, assert_that};
-use crate::wire_forms::{end_of, form_of_letters};
-use compact_ext::wire::{read_wire, write_wire};
+use crate::wire_forms::{assert_writes, end_of, form_of_letters};
+use compact_ext::wire::read_wire;
 use compact_str::CompactString;
 use compact_testing::pieces::{Narrow, Pieces, Stop};
 use compact_testing::seen::is_at;
@@ -71,9 +71,7 @@ fn broken_bytes_come_one_by_one(rt: HostRuntime) {
 
 /// Asserts how a text is written by a writer that takes one byte a call, and what has gone out.
 fn assert_sent(rt: &impl Abort, text: &CompactString, stop: Stop, end: &str, out: &[u8]) {
-    let mut writer = Narrow::new(256, 1, stop);
-    assert_equal(rt, end_of(&write_wire(text, &mut writer)), end);
-    assert_equal(rt, writer.bytes(), out);
+    assert_writes(rt, text, Narrow::new(256, 1, stop), end, out);
 }
 
 #[test]

@@ -4,7 +4,7 @@
 use crate::asserts::{assert_equal, assert_heap, assert_that};
 use compact_asserts::that;
 use compact_str::CompactString;
-use compact_testing::seen::is_static;
+use compact_testing::seen::{hash_of, is_static};
 use compact_testing::values::{
     append, lasting, letters, short, string_with_room, value_of, with_room,
 };
@@ -13,14 +13,7 @@ use std::cmp::Ordering;
 use std::hash::{DefaultHasher, Hash, Hasher};
 use std::process::Abort;
 
-/// What a hasher makes of a value.
-fn hash_of(value: &CompactString) -> u64 {
-    let mut hasher = DefaultHasher::new();
-    value.hash(&mut hasher);
-    hasher.finish()
-}
-
-/// What it makes of a `str`.
+/// What the hasher of a map makes of a `str`.
 fn hash_of_str(text: &str) -> u64 {
     let mut hasher = DefaultHasher::new();
     text.hash(&mut hasher);

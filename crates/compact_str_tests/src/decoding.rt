@@ -1,13 +1,13 @@
 //! Bytes and units that are decoded. Texts and errors are those of the Unicode Standard, worked by hand.
 
 use crate::asserts::{assert_equal, assert_that};
-use crate::made::assert_made_inline;
+use crate::made::{assert_made_inline, assert_shown};
 use bytes::Buf;
 use compact_asserts::that_for;
 use compact_str::{CompactString, FromUtf8Error, FromUtf16Error, ReserveError, Utf16Error};
 use compact_testing::memory::take_all;
 use compact_testing::values::letters;
-use std::alloc::{AllocError, Global};
+use std::alloc::Global;
 use std::process::Abort;
 
 /// Asserts that the bytes are no text, with the error at that place, and which text they give lossily.
@@ -211,11 +211,6 @@ fn errors_are_told_before_memory_is_asked_for(rt: HostRuntime) {
     drop(hog);
 }
 
-/// Asserts how an error is shown.
-fn is_shown(rt: &impl Abort, made: Result<String, AllocError>, text: &str) {
-    assert_equal(rt, made.expect(rt, "memory").as_str(), text);
-}
-
 #[test]
 fn errors_show_these_texts(rt: HostRuntime) {
     let alloc = rt.alloc();
@@ -223,10 +218,10 @@ fn errors_show_these_texts(rt: HostRuntime) {
         valid_up_to: 0,
         error_len: None,
     };
-    is_shown(&rt, format!(in alloc; "{invalid}"), "invalid utf-8");
+    assert_shown(&rt, format!(in alloc; "{invalid}"), "invalid utf-8");
     let unpaired = FromUtf16Error::Utf16(Utf16Error);
     let text = "invalid utf-16: lone surrogate found";
-    is_shown(&rt, format!(in alloc; "{unpaired}"), text);
+    assert_shown(&rt, format!(in alloc; "{unpaired}"), text);
 }
 
 #[test]
@@ -235,7 +230,7 @@ fn refusals_show_this_text(rt: HostRuntime) {
     let text = "Cannot allocate memory to hold CompactString";
     let refused = FromUtf8Error::from(ReserveError);
     assert_that(&rt, refused == FromUtf8Error::Reserve(ReserveError));
-    is_shown(&rt, format!(in alloc; "{refused}"), text);
+    assert_shown(&rt, format!(in alloc; "{refused}"), text);
     let refused = FromUtf16Error::from(ReserveError);
-    is_shown(&rt, format!(in alloc; "{refused}"), text);
+    assert_shown(&rt, format!(in alloc; "{refused}"), text);
 }

@@ -1,14 +1,20 @@
 //! What a call made, by functions that take it over: a test that owned what it asks of would be dear to prove.
 
+use crate::asserts::assert_equal;
 use compact_asserts::that_for;
 use compact_str::CompactString;
 use compact_testing::seen::{is_fitted, is_inline};
-use std::alloc::Global;
+use std::alloc::{AllocError, Global};
 use std::process::Abort;
 
 /// Asserts that this short text was made, which stands inline.
 pub fn assert_made_inline<E: Drop>(rt: &impl Abort, made: Result<CompactString, E>, text: &str) {
     that_for(text, is_inline(&made.ok().expect(rt, "a text"), text)).expect(rt, "it holds");
+}
+
+/// Asserts what a format made.
+pub fn assert_shown(rt: &impl Abort, made: Result<String, AllocError>, text: &str) {
+    assert_equal(rt, made.expect(rt, "memory").as_str(), text);
 }
 
 /// Asserts that the call of this name was refused.

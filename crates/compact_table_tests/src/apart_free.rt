@@ -9,12 +9,12 @@ use crate::values::{Seen, Start, fitted, fixed, heap, inline, is_seen, letters};
 use compact_edit::{Interner, Reply, run};
 use compact_ext::wire::write_wire;
 use compact_str::{CompactString, Standard};
+use compact_testing::seen::hash_of;
 use compact_testing::values::string_with_room;
 use std::alloc::{AllocError, Global};
 use std::borrow::CowStr;
 use std::boxed::BoxedStr;
 use std::cmp::Ordering;
-use std::hash::{DefaultHasher, Hash, Hasher};
 use std::ops::Bound::{Excluded, Included};
 
 /// A value of each place, and one on the heap that was longer.
@@ -225,13 +225,6 @@ fn is_copy_same(alloc: Global, ration: &mut Ration, first: &CompactString) -> bo
 fn is_same(first: &CompactString, second: &CompactString) -> bool {
     let is_equal = first == second && first.cmp(second) == Ordering::Equal;
     is_equal && hash_of(first) == hash_of(second)
-}
-
-/// The hash of a value.
-fn hash_of(value: &CompactString) -> u64 {
-    let mut hasher = DefaultHasher::new();
-    value.hash(&mut hasher);
-    hasher.finish()
 }
 
 /// 8: the walk of a `Drain`, and its drop.

@@ -4,6 +4,7 @@
 
 use crate::values::place_of;
 use compact_str::{CompactString, Policy, PolicyString};
+use std::hash::{DefaultHasher, Hash, Hasher};
 
 /// Whether a value stands inline with this text.
 pub fn is_inline<P: Policy>(value: &PolicyString<P>, text: &str) -> bool {
@@ -50,4 +51,11 @@ pub fn is_fitted(value: &CompactString, text: &str) -> bool {
         && value.as_static_str().is_none()
         && value.is_heap_allocated() == (text.len() > 24)
         && value.capacity() >= text.len()
+}
+
+/// What the hasher of a map makes of a value.
+pub fn hash_of(value: &CompactString) -> u64 {
+    let mut hasher = DefaultHasher::new();
+    value.hash(&mut hasher);
+    hasher.finish()
 }

@@ -13,11 +13,6 @@ fn assert_token(rt: &impl Abort, token: Option<Token>, kind: Kind, name: u32) {
     assert_that(rt, token == Some(Token { kind, name }));
 }
 
-/// Asserts the name of a number.
-fn assert_name(rt: &impl Abort, names: &Interner, number: u32, name: Option<&str>) {
-    assert_equal(rt, names.name(number), name);
-}
-
 /// The tokens of a text, for which there is memory.
 fn tokens_of(rt: &impl Abort, alloc: Global, names: &mut Interner, text: &str) -> Vec<Token> {
     tokenize(alloc, names, &value_of(alloc, text).expect(rt, "memory")).expect(rt, "memory")
@@ -44,7 +39,7 @@ fn assert_tokens(rt: &impl Abort, tokens: &[Token], letters: &str, numbers: &[u3
 /// Asserts the names of some numbers.
 fn assert_names(rt: &impl Abort, names: &Interner, wanted: &[(u32, &str)]) {
     for (number, name) in wanted {
-        assert_name(rt, names, *number, Some(name));
+        assert_equal(rt, names.name(*number), Some(*name));
     }
 }
 
@@ -79,7 +74,7 @@ fn is_refused(rt: &impl Abort, alloc: Global, names: &mut Interner, text: &str) 
     let tokens = tokenize(alloc, names, &text);
     drop(hog);
     assert_that(rt, matches!(tokens, Err(InternError::Reserve(_))));
-    assert_name(rt, names, 0, Some("ab"));
+    assert_equal(rt, names.name(0), Some("ab"));
     assert_equal(rt, names.len(), 1);
 }
 
