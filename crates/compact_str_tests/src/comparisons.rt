@@ -13,7 +13,7 @@ use std::cmp::Ordering;
 use std::hash::{DefaultHasher, Hash, Hasher};
 use std::process::Abort;
 
-/// What the hasher of a map makes of a `str`.
+/// What `DefaultHasher` makes of a `str`.
 fn hash_of_str(text: &str) -> u64 {
     let mut hasher = DefaultHasher::new();
     text.hash(&mut hasher);

@@ -1,6 +1,6 @@
 //! What a test sees of a value, asked by functions with no clause.
 //!
-//! Each answers a `bool`: to compare two records of what is seen takes longer to prove.
+//! Each but `hash_of` answers a `bool`: to compare two records of what is seen takes longer to prove.
 
 use crate::values::place_of;
 use compact_str::{CompactString, Policy, PolicyString};
@@ -53,7 +53,7 @@ pub fn is_fitted(value: &CompactString, text: &str) -> bool {
         && value.capacity() >= text.len()
 }
 
-/// What the hasher of a map makes of a value.
+/// What `DefaultHasher` makes of a value.
 pub fn hash_of(value: &CompactString) -> u64 {
     let mut hasher = DefaultHasher::new();
     value.hash(&mut hasher);
