@@ -4,13 +4,13 @@
 #   replay/make.sh FOLDER [SEED [COUNT]]
 #
 # FOLDER holds the source of the Rust crate compact_str 0.10.0, as a cargo package whose dependencies cargo finds; `cargo`
-# is needed. It writes COUNT lines (20000) of the generator with this seed (1) to crates/compact_run/stdin, and the answers
-# to crates/compact_run/stdout. `rt ci` runs the program on the first and compares with the second. What is built lies in
+# is needed. It writes COUNT lines (20000) of the generator with this seed (1) to crates/compact_replay/stdin, and the answers
+# to crates/compact_replay/stdout. `rt ci` runs that program on the first and compares with the second. What is built lies in
 # replay/out; nothing is written in FOLDER.
 set -eu
 
 replay=$(cd "$(dirname "$0")" && pwd)
-program=$replay/../crates/compact_run
+program=$replay/../crates/compact_replay
 crate=$(cd "$1" && pwd)
 mkdir -p "$replay/out"
 cat >"$replay/out/Cargo.toml" <<END

@@ -36,6 +36,7 @@ pub fn run<P: Policy>(
     ensures succeeds { vec_len replies.old + length edits.now ≤ vec_capacity replies.old
         → IsOk result }
     ensures err { OnErr result ((value.new ≡ value.old) × (replies.new.items ≡ replies.old.items)) }
+    ensures room { OnErr result (vec_capacity replies.new ≡ vec_capacity replies.old) }
     ensures empty { edits.now ≡ [] → IsOk result }
 {
     replies.reserve(edits.len())?;

@@ -1,5 +1,5 @@
 -- Lines that are answered one by one.
-use Rattle.std.proofs.Common.{rules, codes, ◌≡◌, ℕ, ◌<◌, List, [], ◌∷◌, ◌++◌, ◌+◌, ◌-◌, length, take, drop, get_or, Option, Some, None, IfSome, sym, refl, ap, ◌∙◌, append_assoc, append-nil, take-append-drop, subst, IsTrue, Result, Ok, Err, IfOk, OnOk, OnErr, Bool, true, inl, inr}
+use Rattle.std.proofs.Common.{rules, codes, ◌≡◌, ℕ, ◌<◌, List, [], ◌∷◌, ◌++◌, ◌+◌, ◌-◌, length, take, drop, get_or, Option, Some, None, IfSome, sym, refl, ap, ◌∙◌, append_assoc, append-nil, take-append-drop, subst, IsTrue, Result, Ok, Err, OnOk, OnErr, Bool, true, inl, inr}
 use Rattle.std.specs.Option.{option_map}
 use Rattle.std.specs.List.{concat}
 use Rattle.std.specs.Io.KnownBytes.{Appends, Keeps, IsAtEnd}
@@ -22,9 +22,9 @@ use Rattle.compact_edit.specs.declared.edit.Reply.TheVariants.{Done, Char, Text,
 use Rattle.compact_edit.specs.Steps.{Step, IsLegal, edit_asks, EditDoes}
 use Rattle.compact_lines.specs.declared.command.Command.TheVariants as commands
 use Rattle.compact_lines.specs.declared.command.Command.{Command}
-use Rattle.compact_lines.specs.Sessions.{Executes, command_asks}
+use Rattle.compact_lines.specs.Sessions.{State, Executes, DoesOrRefuses, runs_edit, command_asks}
 use Rattle.compact_lines.specs.Commands.{reference_to, line_command, command_itself, edit_itself, command_of, answers_of}
-use Rattle.compact_lines.specs.Lines.{AnswersCommand, DoesOrRefuses, outcome_line, value_line, AnswersLine, AnswersLines, IsFirstLine, bytes_of, AppendsFront, AppendsPart, AppendsAnswers, AppendsSomeAnswers}
+use Rattle.compact_lines.specs.Lines.{AnswersCommand, outcome_line, value_line, AnswersLine, AnswersLines, IsFirstLine, bytes_of, AppendsFront, AppendsPart, AppendsAnswers, AppendsSomeAnswers}
 
 -- the growth of the program's value
 abbrev pub standard : Growth
@@ -103,7 +103,7 @@ texts-stopped (Err e) texts i d old mid new within first front =
     subst (λ l. AppendsFront old new l) parts (front-second old mid new (bytes_of (take i texts)) (text ++ others) first (front-first mid new text others front))
 
 -- after the first lines comes one more
-pub answers-more : (g : Growth) (v w u : PlacedText) (known left : Option (List ℕ)) (answers : List (List ℕ)) (line answer : List ℕ)
+pub answers-more : (g : Growth) (v w u : State) (known left : Option (List ℕ)) (answers : List (List ℕ)) (line answer : List ℕ)
     → AnswersLines g v known answers left w → IsFirstLine left line → AnswersLine g w line answer u
     → AnswersLines g v known (answers ++ answer ∷ []) (option_map (λ bytes. drop_through 10 bytes) left) u
 answers-more g v w u known left [] line answer so_far first is =
@@ -112,52 +112,47 @@ answers-more g v w u known left (a ∷ others) line answer so_far first is =
     (so_far.0, so_far.1, so_far.2, so_far.3, answers-more g so_far.1 w u _ left others line answer so_far.4 first is)
 
 -- the lines so far of the known bytes are answered so, and what is left of these is known
-abbrev pub AnswersSoFar : Growth → PlacedText → Option (List ℕ) → Option (List ℕ) → Option (List ℕ) → Option (List ℕ) → PlacedText → Type 0
+abbrev pub AnswersSoFar : Growth → State → Option (List ℕ) → Option (List ℕ) → Option (List ℕ) → Option (List ℕ) → State → Type 0
 AnswersSoFar g v known now old new w =
     (answers : List (List ℕ)) × (left : Option (List ℕ)) × AnswersLines g v known answers left w
     × IfSome left (λ _. now ≡ left) × Appends old new (concat answers)
 
-does-or-refuses : (g : Growth) (v w : PlacedText) (command : Command) (outcome : Result (Reply Standard) ReserveError)
-    → IfOk outcome (λ reply. Executes g v command reply w) → OnErr outcome ((w ≡ v) × IsTrue (command_asks command)) → DoesOrRefuses g v command outcome w
-does-or-refuses g v w command (Ok reply) ok err = ok
-does-or-refuses g v w command (Err e) ok err = err
-
 -- a command that is executed, and whose two lines are written, is answered
-pub command-answered : {X E : Type 0} (r : Result X E) (g : Growth) (v w u : PlacedText) (command : Command) (outcome : Result (Reply Standard) ReserveError)
-    (old mid new : Option (List ℕ)) → IfOk outcome (λ reply. Executes g v command reply w) → OnErr outcome ((w ≡ v) × IsTrue (command_asks command))
-    → Appends old mid (outcome_line outcome) → u ≡ w → OnOk r (Appends mid new (value_line u))
+pub command-answered : {X E : Type 0} (r : Result X E) (g : Growth) (v w : State) (u : PlacedText) (command : Command) (outcome : Result (Reply Standard) ReserveError)
+    (old mid new : Option (List ℕ)) → DoesOrRefuses g v command outcome w
+    → Appends old mid (outcome_line outcome) → u ≡ w.value → OnOk r (Appends mid new (value_line u))
     → OnOk r ((answer : List ℕ) × AnswersCommand g v (Some command) answer w × Appends old new answer)
-command-answered (Err e) g v w u command outcome old mid new ok err first same second = tt
-command-answered (Ok x) g v w u command outcome old mid new ok err first same second =
+command-answered (Err e) g v w u command outcome old mid new does first same second = tt
+command-answered (Ok x) g v w u command outcome old mid new does first same second =
     let line = rw same at second in (
-      outcome_line outcome ++ value_line w,
-      (outcome, refl, does-or-refuses g v w command outcome ok err),
-      appends-both old mid new (outcome_line outcome) (value_line w) first line,
+      outcome_line outcome ++ value_line w.value,
+      (outcome, refl, does),
+      appends-both old mid new (outcome_line outcome) (value_line w.value) first line,
     )
 
 -- a command that is executed, and whose lines are written in part, is answered in part
 
-pub outcome-stopped : {X E : Type 0} (r : Result X E) (g : Growth) (v w : PlacedText) (command : Command) (outcome : Result (Reply Standard) ReserveError) (old new : Option (List ℕ))
-    → IfOk outcome (λ reply. Executes g v command reply w) → OnErr outcome ((w ≡ v) × IsTrue (command_asks command))
+pub outcome-stopped : {X E : Type 0} (r : Result X E) (g : Growth) (v w : State) (command : Command) (outcome : Result (Reply Standard) ReserveError) (old new : Option (List ℕ))
+    → DoesOrRefuses g v command outcome w
     → AppendsFront old new (outcome_line outcome)
     → OnErr r ((answer : List ℕ) × AnswersCommand g v (Some command) answer w × AppendsFront old new answer)
-outcome-stopped (Ok x) g v w command outcome old new ok err front = tt
-outcome-stopped (Err e) g v w command outcome old new ok err front = (
-  outcome_line outcome ++ value_line w,
-  (outcome, refl, does-or-refuses g v w command outcome ok err),
-  front-first old new (outcome_line outcome) (value_line w) front,
+outcome-stopped (Ok x) g v w command outcome old new does front = tt
+outcome-stopped (Err e) g v w command outcome old new does front = (
+  outcome_line outcome ++ value_line w.value,
+  (outcome, refl, does),
+  front-first old new (outcome_line outcome) (value_line w.value) front,
 )
 
-pub value-stopped : {X E : Type 0} (r : Result X E) (g : Growth) (v w u : PlacedText) (command : Command) (outcome : Result (Reply Standard) ReserveError)
-    (old mid new : Option (List ℕ)) → IfOk outcome (λ reply. Executes g v command reply w) → OnErr outcome ((w ≡ v) × IsTrue (command_asks command))
-    → Appends old mid (outcome_line outcome) → u ≡ w → OnErr r (AppendsFront mid new (value_line u))
+pub value-stopped : {X E : Type 0} (r : Result X E) (g : Growth) (v w : State) (u : PlacedText) (command : Command) (outcome : Result (Reply Standard) ReserveError)
+    (old mid new : Option (List ℕ)) → DoesOrRefuses g v command outcome w
+    → Appends old mid (outcome_line outcome) → u ≡ w.value → OnErr r (AppendsFront mid new (value_line u))
     → OnErr r ((answer : List ℕ) × AnswersCommand g v (Some command) answer w × AppendsFront old new answer)
-value-stopped (Ok x) g v w u command outcome old mid new ok err first same second = tt
-value-stopped (Err e) g v w u command outcome old mid new ok err first same second =
+value-stopped (Ok x) g v w u command outcome old mid new does first same second = tt
+value-stopped (Err e) g v w u command outcome old mid new does first same second =
     let line = rw same at second in (
-      outcome_line outcome ++ value_line w,
-      (outcome, refl, does-or-refuses g v w command outcome ok err),
-      front-second old mid new (outcome_line outcome) (value_line w) first line,
+      outcome_line outcome ++ value_line w.value,
+      (outcome, refl, does),
+      front-second old mid new (outcome_line outcome) (value_line w.value) first line,
     )
 
 step-same : (g : Growth) (v w : PlacedText) (a b : Edit Standard) → (IsLegal v a → IsLegal v b) → (IsLegal v b → IsLegal v a)
@@ -191,19 +186,27 @@ executes-itself g v w (commands.WithCapacity n) reply does = does
 executes-itself g v w (commands.CloneFrom s) reply does = does
 executes-itself g v w (commands.Edit edit) reply does = step-itself g v w edit reply does
 
-asks-itself : (command : Command) → command_asks (command_itself command) ≡ command_asks command
-asks-itself (commands.New s) = refl
-asks-itself commands.Static = refl
-asks-itself (commands.WithCapacity n) = refl
-asks-itself (commands.CloneFrom s) = refl
-asks-itself (commands.Edit edit) = refl
+asks-itself : (has_room : Bool) (command : Command) → command_asks has_room (command_itself command) ≡ command_asks has_room command
+asks-itself has_room (commands.New s) = refl
+asks-itself has_room commands.Static = refl
+asks-itself has_room (commands.WithCapacity n) = refl
+asks-itself has_room (commands.CloneFrom s) = refl
+asks-itself has_room (commands.Edit edit) = refl
 
-does-itself : (g : Growth) (v w : PlacedText) (command : Command) (outcome : Result (Reply Standard) ReserveError)
+runs-itself : (command : Command) → runs_edit (command_itself command) ≡ runs_edit command
+runs-itself (commands.New s) = refl
+runs-itself commands.Static = refl
+runs-itself (commands.WithCapacity n) = refl
+runs-itself (commands.CloneFrom s) = refl
+runs-itself (commands.Edit edit) = refl
+
+does-itself : (g : Growth) (v w : State) (command : Command) (outcome : Result (Reply Standard) ReserveError)
     → DoesOrRefuses g v command outcome w → DoesOrRefuses g v (command_itself command) outcome w
-does-itself g v w command (Ok reply) does = executes-itself g v w command reply does
-does-itself g v w command (Err e) does = (does.0, rw (asks-itself command) does.1)
+does-itself g v w command (Ok reply) does =
+    (executes-itself g v.value w.value command reply does.0, rw (runs-itself command) does.1)
+does-itself g v w command (Err e) does = (does.0, rw (asks-itself v.has_room command) does.1)
 
-answered-itself : (g : Growth) (v w : PlacedText) (command : Option Command) (answer : List ℕ) → AnswersCommand g v command answer w
+answered-itself : (g : Growth) (v w : State) (command : Option Command) (answer : List ℕ) → AnswersCommand g v command answer w
     → AnswersCommand g v (option_map command_itself command) answer w
 answered-itself g v w None answer is = is
 answered-itself g v w (Some command) answer is = (is.0, is.1, does-itself g v w command is.0 is.2)
@@ -220,7 +223,7 @@ text-line line text bits items command is same spelt read =
     rw told of_text
 
 -- what a command is answered is the answer of its line
-pub command-of-line : {X E : Type 0} (r : Result X E) (g : Growth) (v w : PlacedText) (command : Option Command) (line : List ℕ) (old new : Option (List ℕ))
+pub command-of-line : {X E : Type 0} (r : Result X E) (g : Growth) (v w : State) (command : Option Command) (line : List ℕ) (old new : Option (List ℕ))
     → line_command line ≡ option_map command_itself command
     → OnOk r ((answer : List ℕ) × AnswersCommand g v command answer w × Appends old new answer)
     → OnOk r ((answer : List ℕ) × AnswersLine g v line answer w × Appends old new answer)
@@ -228,13 +231,13 @@ command-of-line (Err e) g v w command line old new is answered = tt
 command-of-line (Ok x) g v w command line old new is answered =
     (answered.0, rw is (answered-itself g v w command answered.0 answered.1), answered.2)
 
-pub no-command : {X E : Type 0} (r : Result X E) (g : Growth) (v : PlacedText) (old new : Option (List ℕ)) → OnOk r (Appends old new (codes "?\n"))
+pub no-command : {X E : Type 0} (r : Result X E) (g : Growth) (v : State) (old new : Option (List ℕ)) → OnOk r (Appends old new (codes "?\n"))
     → OnOk r ((answer : List ℕ) × AnswersCommand g v None answer v × Appends old new answer)
 no-command (Err e) g v old new wrote = tt
 no-command (Ok x) g v old new wrote = (codes "?\n", (refl, refl), wrote)
 
 -- and what is written of it is a part of the answer of its line
-pub part-of-line : {X E : Type 0} (r : Result X E) (g : Growth) (v w : PlacedText) (command : Option Command) (line : List ℕ) (old new : Option (List ℕ))
+pub part-of-line : {X E : Type 0} (r : Result X E) (g : Growth) (v w : State) (command : Option Command) (line : List ℕ) (old new : Option (List ℕ))
     → line_command line ≡ option_map command_itself command
     → OnErr r ((answer : List ℕ) × AnswersCommand g v command answer w × AppendsFront old new answer)
     → OnErr r (AppendsPart g v line old new)
@@ -242,7 +245,7 @@ part-of-line (Ok x) g v w command line old new is answered = tt
 part-of-line (Err e) g v w command line old new is answered =
     inr (answered.0, w, rw is (answered-itself g v w command answered.0 answered.1), answered.2)
 
-pub no-command-stopped : {X E : Type 0} (r : Result X E) (g : Growth) (v : PlacedText) (old new : Option (List ℕ)) → OnErr r (AppendsFront old new (codes "?\n"))
+pub no-command-stopped : {X E : Type 0} (r : Result X E) (g : Growth) (v : State) (old new : Option (List ℕ)) → OnErr r (AppendsFront old new (codes "?\n"))
     → OnErr r ((answer : List ℕ) × AnswersCommand g v None answer v × AppendsFront old new answer)
 no-command-stopped (Ok x) g v old new wrote = tt
 no-command-stopped (Err e) g v old new wrote = (codes "?\n", (refl, refl), wrote)
@@ -267,7 +270,7 @@ left-next : (now next left : Option (List ℕ)) → IfSome left (λ _. now ≡ l
 left-next now next None same drops = tt
 left-next now next (Some bytes) same drops = let dropped = rw same at drops in dropped
 
-pub so-far-more : (g : Growth) (v w u : PlacedText) (known now next old mid new kept : Option (List ℕ)) (taken line : List ℕ)
+pub so-far-more : (g : Growth) (v w u : State) (known now next old mid new kept : Option (List ℕ)) (taken line : List ℕ)
     → AnswersSoFar g v known now old mid w → IfSome now (λ bytes. taken ≡ take_through 10 bytes) → 0 < length taken
     → line ≡ strip_last 10 taken → DropsThrough now next 10
     → (answer : List ℕ) × AnswersLine g w line answer u × Appends mid new answer → Keeps new kept
@@ -289,31 +292,31 @@ at-end : (now left : Option (List ℕ)) → IfSome left (λ _. now ≡ left) →
 at-end now None same end = tt
 at-end now (Some bytes) same end = let here = rw same at end in here
 
-pub so-far-none : (g : Growth) (v : PlacedText) (known old : Option (List ℕ)) → AnswersSoFar g v known known old old v
+pub so-far-none : (g : Growth) (v : State) (known old : Option (List ℕ)) → AnswersSoFar g v known known old old v
 so-far-none g v known old = ([], known, (refl, refl), at-itself known, appends-nothing old)
 
 -- all lines are answered where what is left of the known bytes is at its end
-pub all-answered : (g : Growth) (v w : PlacedText) (known now old new : Option (List ℕ))
+pub all-answered : (g : Growth) (v w : State) (known now old new : Option (List ℕ))
     → AnswersSoFar g v known now old new w → IsAtEnd now
     → AppendsAnswers g v known old new w
 all-answered g v w known now old new so_far end = (so_far.0, (so_far.1, at-end now so_far.1 so_far.3 end, so_far.2), so_far.4)
 
 -- the session may stop before any line is read, after some lines, or within an answer
 
-pub stopped-at-first : {X E : Type 0} (r : Result X E) (g : Growth) (v : PlacedText) (known old : Option (List ℕ)) → OnErr r (AppendsSomeAnswers g v known old old)
+pub stopped-at-first : {X E : Type 0} (r : Result X E) (g : Growth) (v : State) (known old : Option (List ℕ)) → OnErr r (AppendsSomeAnswers g v known old old)
 stopped-at-first (Ok x) g v known old = tt
 stopped-at-first (Err e) g v known old = ([], known, v, (refl, refl), front-none old old [] (Keeps-refl old))
 
-pub stopped-so-far : (g : Growth) (v w : PlacedText) (known now old new : Option (List ℕ)) → AnswersSoFar g v known now old new w
+pub stopped-so-far : (g : Growth) (v w : State) (known now old new : Option (List ℕ)) → AnswersSoFar g v known now old new w
     → AppendsSomeAnswers g v known old new
 stopped-so-far g v w known now old new so_far = (so_far.0, so_far.1, w, so_far.2, front-all old new (concat so_far.0) so_far.4)
 
-pub stopped-after : {X E : Type 0} (r : Result X E) (g : Growth) (v w : PlacedText) (known now old new : Option (List ℕ)) → AnswersSoFar g v known now old new w
+pub stopped-after : {X E : Type 0} (r : Result X E) (g : Growth) (v w : State) (known now old new : Option (List ℕ)) → AnswersSoFar g v known now old new w
     → OnErr r (AppendsSomeAnswers g v known old new)
 stopped-after (Ok x) g v w known now old new so_far = tt
 stopped-after (Err e) g v w known now old new so_far = stopped-so-far g v w known now old new so_far
 
-within-part : (g : Growth) (v w : PlacedText) (known now old mid new : Option (List ℕ)) (taken line : List ℕ)
+within-part : (g : Growth) (v w : State) (known now old mid new : Option (List ℕ)) (taken line : List ℕ)
     → AnswersSoFar g v known now old mid w → IfSome now (λ bytes. taken ≡ take_through 10 bytes) → 0 < length taken
     → line ≡ strip_last 10 taken → AppendsPart g w line mid new → AppendsSomeAnswers g v known old new
 within-part g v w known now old mid new taken line so_far takes some stripped (inl kept) =
@@ -326,7 +329,7 @@ within-part g v w known now old mid new taken line so_far takes some stripped (i
   rw (concat-snoc so_far.0 part.0) (front-second old mid new (concat so_far.0) part.0 so_far.4 part.3),
 )
 
-pub stopped-within : {X E : Type 0} (r : Result X E) (g : Growth) (v w : PlacedText) (known now old mid new : Option (List ℕ)) (taken line : List ℕ)
+pub stopped-within : {X E : Type 0} (r : Result X E) (g : Growth) (v w : State) (known now old mid new : Option (List ℕ)) (taken line : List ℕ)
     → AnswersSoFar g v known now old mid w → IfSome now (λ bytes. taken ≡ take_through 10 bytes) → 0 < length taken
     → line ≡ strip_last 10 taken → AppendsPart g w line mid new → OnErr r (AppendsSomeAnswers g v known old new)
 stopped-within (Ok x) g v w known now old mid new taken line so_far takes some stripped part = tt

@@ -1,5 +1,5 @@
 -- What the lines of the input are answered. A line ends with the byte 10, which the last may lack.
-use Rattle.std.specs.Prelude.{◌≡◌, ◌<◌, ℕ, List, [], ◌∷◌, ◌++◌, ◌⊎◌, length, flat_map, codes, Option, None, Some, IfSome, IsTrue, Result, Ok, Err}
+use Rattle.std.specs.Prelude.{◌≡◌, ◌<◌, ℕ, List, [], ◌∷◌, ◌++◌, ◌⊎◌, length, flat_map, codes, Option, None, Some, IfSome, Result, Ok, Err}
 use Rattle.std.specs.Borrow.{Bor}
 use Rattle.std.specs.Option.{option_map}
 use Rattle.std.specs.List.{concat}
@@ -15,7 +15,7 @@ use Rattle.compact_str.specs.declared.ReserveError.{ReserveError}
 use Rattle.compact_edit.specs.declared.edit.Reply.{Reply}
 use Rattle.compact_edit.specs.declared.edit.Reply.TheVariants.{Done, Char, Text, BadPosition, Refused}
 use Rattle.compact_lines.specs.declared.command.Command.{Command}
-use Rattle.compact_lines.specs.Sessions.{Executes, command_asks}
+use Rattle.compact_lines.specs.Sessions.{State, DoesOrRefuses}
 use Rattle.compact_lines.specs.Commands.{line_command}
 
 -- the bytes of some texts, one after another
@@ -50,54 +50,49 @@ value_line v =
     place_word v.placement.place ++ codes " " ++ decimal (size v.text) ++ codes " " ++ decimal v.placement.capacity
     ++ codes " " ++ utf8 v.text ++ codes "\n"
 
--- from v a command is done with a reply and leaves w, or was refused the value that it makes
-abbrev pub DoesOrRefuses : Growth → PlacedText → Command → Result (Reply Standard) ReserveError → PlacedText → Type 0
-DoesOrRefuses g v command (Ok reply) w = Executes g v command reply w
-DoesOrRefuses g v command (Err e) w = (w ≡ v) × IsTrue (command_asks command)
-
 -- the line that says how a command ended
 abbrev pub outcome_line : Result (Reply Standard) ReserveError → List ℕ
 outcome_line (Ok reply) = reply_line reply
 outcome_line (Err e) = codes "refused\n"
 
--- from v a command may be answered by these bytes and leave w; what is no command is marked, and leaves v
-abbrev pub AnswersCommand : Growth → PlacedText → Option Command → List ℕ → PlacedText → Type 0
-AnswersCommand g v None answer w = (answer ≡ codes "?\n") × (w ≡ v)
-AnswersCommand g v (Some command) answer w =
-    (outcome : Result (Reply Standard) ReserveError) × (answer ≡ outcome_line outcome ++ value_line w)
-    × DoesOrRefuses g v command outcome w
+-- from s a command may be answered by these bytes and leave t; what is no command is marked, and leaves s
+abbrev pub AnswersCommand : Growth → State → Option Command → List ℕ → State → Type 0
+AnswersCommand g s None answer t = (answer ≡ codes "?\n") × (t ≡ s)
+AnswersCommand g s (Some command) answer t =
+    (outcome : Result (Reply Standard) ReserveError) × (answer ≡ outcome_line outcome ++ value_line t.value)
+    × DoesOrRefuses g s command outcome t
 
--- from v a line may be answered by these bytes and leave w
-abbrev pub AnswersLine : Growth → PlacedText → List ℕ → List ℕ → PlacedText → Type 0
-AnswersLine g v line answer w = AnswersCommand g v (line_command line) answer w
+-- from s a line may be answered by these bytes and leave t
+abbrev pub AnswersLine : Growth → State → List ℕ → List ℕ → State → Type 0
+AnswersLine g s line answer t = AnswersCommand g s (line_command line) answer t
 
--- what a writer has taken stayed, or grew by a front of what the line may be answered from v on
-abbrev pub AppendsPart : Growth → PlacedText → List ℕ → Option (List ℕ) → Option (List ℕ) → Type 0
-AppendsPart g v line old new =
-    Keeps old new ⊎ ((answer : List ℕ) × (w : PlacedText) × AnswersLine g v line answer w × AppendsFront old new answer)
+-- what a writer has taken stayed, or grew by a front of what the line may be answered from s on
+abbrev pub AppendsPart : Growth → State → List ℕ → Option (List ℕ) → Option (List ℕ) → Type 0
+AppendsPart g s line old new =
+    Keeps old new ⊎ ((answer : List ℕ) × (t : State) × AnswersLine g s line answer t × AppendsFront old new answer)
 
 -- the line is the first one of the known bytes
 abbrev pub IsFirstLine : Option (List ℕ) → List ℕ → Type 0
 IsFirstLine known line = IfSome known (λ bytes. (0 < length bytes) × (line ≡ first_piece 10 bytes))
 
--- from v the first lines of the known bytes are answered so, one by one, and w and the left bytes are there after them
-abbrev pub AnswersLines : Growth → PlacedText → Option (List ℕ) → List (List ℕ) → Option (List ℕ) → PlacedText → Type 0
-AnswersLines g v known [] left w = (left ≡ known) × (w ≡ v)
-AnswersLines g v known (answer ∷ answers) left w =
-    (line : List ℕ) × (u : PlacedText) × IsFirstLine known line × AnswersLine g v line answer u
-    × AnswersLines g u (option_map (λ bytes. drop_through 10 bytes) known) answers left w
+-- from s the first lines of the known bytes are answered so, one by one, and t and the left bytes are there after them
+abbrev pub AnswersLines : Growth → State → Option (List ℕ) → List (List ℕ) → Option (List ℕ) → State → Type 0
+AnswersLines g s known [] left t = (left ≡ known) × (t ≡ s)
+AnswersLines g s known (answer ∷ answers) left t =
+    (line : List ℕ) × (u : State) × IsFirstLine known line × AnswersLine g s line answer u
+    × AnswersLines g u (option_map (λ bytes. drop_through 10 bytes) known) answers left t
 
--- from v all lines of the known bytes are answered so, and leave w
-abbrev pub AnswersAll : Growth → PlacedText → Option (List ℕ) → List (List ℕ) → PlacedText → Type 0
-AnswersAll g v known answers w = (left : Option (List ℕ)) × IsAtEnd left × AnswersLines g v known answers left w
+-- from s all lines of the known bytes are answered so, and leave t
+abbrev pub AnswersAll : Growth → State → Option (List ℕ) → List (List ℕ) → State → Type 0
+AnswersAll g s known answers t = (left : Option (List ℕ)) × IsAtEnd left × AnswersLines g s known answers left t
 
 -- what a writer has taken grew by all answers
-abbrev pub AppendsAnswers : Growth → PlacedText → Option (List ℕ) → Option (List ℕ) → Option (List ℕ) → PlacedText → Type 0
-AppendsAnswers g v known old new w =
-    (answers : List (List ℕ)) × AnswersAll g v known answers w × Appends old new (concat answers)
+abbrev pub AppendsAnswers : Growth → State → Option (List ℕ) → Option (List ℕ) → Option (List ℕ) → State → Type 0
+AppendsAnswers g s known old new t =
+    (answers : List (List ℕ)) × AnswersAll g s known answers t × Appends old new (concat answers)
 
--- from v some first lines of the known bytes, or none, are answered so, and what a writer has taken grew by a front of that
-abbrev pub AppendsSomeAnswers : Growth → PlacedText → Option (List ℕ) → Option (List ℕ) → Option (List ℕ) → Type 0
-AppendsSomeAnswers g v known old new =
-    (answers : List (List ℕ)) × (left : Option (List ℕ)) × (w : PlacedText) × AnswersLines g v known answers left w
+-- from s some first lines of the known bytes, or none, are answered so, and what a writer has taken grew by a front of that
+abbrev pub AppendsSomeAnswers : Growth → State → Option (List ℕ) → Option (List ℕ) → Option (List ℕ) → Type 0
+AppendsSomeAnswers g s known old new =
+    (answers : List (List ℕ)) × (left : Option (List ℕ)) × (t : State) × AnswersLines g s known answers left t
     × AppendsFront old new (concat answers)

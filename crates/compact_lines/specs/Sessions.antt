@@ -1,17 +1,27 @@
 -- What a command does to the program's value.
-use Rattle.std.specs.Prelude.{◌≡◌, Bool, false, Some, replicate, length}
+use Rattle.std.specs.Prelude.{◌≡◌, Bool, true, false, not, [], ◌||◌, replicate, length, Some, IsTrue, Result, Ok, Err}
 use Rattle.std.specs.Borrow.{Bor}
 use Rattle.compact_str.specs.Text.{text_of}
-use Rattle.compact_str.specs.Value.{PlacedText}
-use Rattle.compact_str.specs.Capacity.{Growth, static_placement, with_capacity_asks}
+use Rattle.compact_str.specs.Value.{PlacedText, placed_text}
+use Rattle.compact_str.specs.Capacity.{Growth, inline_placement, static_placement, with_capacity_asks}
 use Rattle.compact_str.specs.Change.{new, with_capacity}
 use Rattle.compact_str.specs.declared.Standard.{Standard}
+use Rattle.compact_str.specs.declared.ReserveError.{ReserveError}
 use Rattle.compact_edit.specs.declared.edit.Edit.TheVariants as edits
 use Rattle.compact_edit.specs.declared.edit.Reply.{Reply}
 use Rattle.compact_edit.specs.declared.edit.Reply.TheVariants.{Done}
 use Rattle.compact_edit.specs.Steps.{Step}
 use Rattle.compact_lines.specs.declared.command.Command.{Command}
 use Rattle.compact_lines.specs.declared.command.Command.TheVariants.{New, Static, WithCapacity, CloneFrom, Edit}
+
+-- the value, and whether there is room for the reply to an edit
+pub record State : Type 0 where
+  pub value : PlacedText
+  pub has_room : Bool
+
+-- the empty value, inline, and no room yet
+abbrev pub first_state : State
+first_state = record { value = placed_text [] inline_placement; has_room = false }
 
 -- from v the command may be answered so and leave w
 abbrev pub Executes : Growth → PlacedText → Command → Reply Standard → PlacedText → Type 0
@@ -22,10 +32,22 @@ Executes g v (CloneFrom s) reply w =
     (source : Bor PlacedText) × (new g (text_of s.now) ≡ Some source.now) × Step g v (edits.CloneFrom source) reply w
 Executes g v (Edit edit) reply w = Step g v edit reply w
 
--- the command makes a new value, which asks for a heap buffer, so that it may be refused
-abbrev pub command_asks : Command → Bool
-command_asks (New s) = with_capacity_asks (length s.now)
-command_asks Static = false
-command_asks (WithCapacity n) = with_capacity_asks n
-command_asks (CloneFrom s) = with_capacity_asks (length s.now)
-command_asks (Edit edit) = false
+-- the command runs an edit, whose reply needs room; once there was some, it stays
+abbrev pub runs_edit : Command → Bool
+runs_edit (CloneFrom s) = true
+runs_edit (Edit edit) = true
+runs_edit command = false
+
+-- the command asks for memory, so that it may be refused: for a new value of more than 24 bytes, or for room for a reply
+abbrev pub command_asks : Bool → Command → Bool
+command_asks has_room (New s) = with_capacity_asks (length s.now)
+command_asks has_room Static = false
+command_asks has_room (WithCapacity n) = with_capacity_asks n
+command_asks has_room (CloneFrom s) = with_capacity_asks (length s.now) || not has_room
+command_asks has_room (Edit edit) = not has_room
+
+-- from s a command is done with a reply and leaves t, or was refused the memory that it asks for
+abbrev pub DoesOrRefuses : Growth → State → Command → Result (Reply Standard) ReserveError → State → Type 0
+DoesOrRefuses g s command (Ok reply) t =
+    Executes g s.value command reply t.value × (t.has_room ≡ (runs_edit command || s.has_room))
+DoesOrRefuses g s command (Err e) t = (t ≡ s) × IsTrue (command_asks s.has_room command)

@@ -1,40 +1,38 @@
 //! How the lines of a reader are answered on a writer.
-ghost use Rattle.std.specs.Prelude.{◌≡◌, ◌≤◌, List, ℕ, [], OnErr, OnOk, Some};
+ghost use Rattle.std.specs.Prelude.{◌≡◌, ◌≤◌, List, ℕ, OnErr, OnOk, Some};
+ghost use Rattle.std.specs.Fmt.{decimal};
 ghost use Rattle.std.specs.Io.BufRead.{strip_last};
 ghost use Rattle.std.specs.Io.KnownBytes.{Appends};
-ghost use Rattle.compact_str.specs.Value.{placed_text, PlacedText};
-ghost use Rattle.compact_str.specs.Capacity.{inline_placement};
-ghost use Rattle.compact_lines.specs.Lines.{AnswersLine, AnswersCommand, AppendsAnswers, AppendsFront, AppendsPart, AppendsSomeAnswers, outcome_line, reply_line, value_line};
+ghost use Rattle.compact_str.specs.Text.{utf8};
+ghost use Rattle.compact_lines.specs.Sessions.{State, first_state};
+ghost use Rattle.compact_lines.specs.Lines.{AnswersLine, AnswersCommand, AppendsAnswers, AppendsFront, AppendsPart, AppendsSomeAnswers, outcome_line, place_word, reply_line, value_line};
 
 use crate::command::{Command, answers, parse};
 use crate::session::Session;
 use crate::write::write_texts;
 use compact_edit::Reply;
+use compact_ext::ToCompactString;
 use compact_str::{CompactString, Policy, ReserveError, Standard};
-use itoa::Buffer;
 use std::alloc::Global;
 use std::io;
 use std::io::{BufRead, BufReader, Read, Write};
 
-/// Reads commands from `reader`, one a line, and writes what they answer to `writer`. Answers 0 at the end of the
-/// input, and 1 where reading or writing fails or no memory is found to begin or to read a line.
+/// Reads commands from `reader`, one a line, and writes their outcomes to `writer`. Returns 0 at the end of the input,
+/// and 1 if reading or writing fails, or if there is no memory for the reader's buffer or to read a line.
 ///
-/// Each command gives two lines: its answer, and the value as `PLACE LENGTH CAPACITY TEXT`. A line that is no command
-/// gives the one line `?` and changes nothing. Each answer goes out in pieces, and the writer is flushed after it.
+/// A command writes two lines: its outcome, and the value as `PLACE LENGTH CAPACITY TEXT`. The outcome is `refused` if a
+/// value cannot be allocated, or room for the reply to an edit; that room is made by the first edit, and kept. A line
+/// that is no command writes the one line `?` and changes nothing. Each answer is written in pieces, and then flushed.
 ///
-/// Where the bytes of the reader are known, 0 says that all their lines were answered, one by one from the empty value on;
-/// and where those of the writer are known, that just these answers have come behind them. 1 says that what has come behind
-/// them is a front of the answers to some first lines.
+/// If the bytes of the reader are known, 0 says that all their lines were answered, one by one from the empty value on;
+/// and if those of the writer are known, that it has just these answers after what it had. 1 says that it has a beginning
+/// of the answers to some first lines.
 pub fn run_lines<R: Read, W: Write>(alloc: Global, reader: &mut R, writer: &mut W) -> u8
     ensures status { result ≤ 1 }
-    ensures answers { result ≡ 0 → (w : PlacedText) × AppendsAnswers ⟦<Standard as Policy>⟧.growth
-        (placed_text [] inline_placement) (R.remaining reader.old) (W.contents writer.old)
-        (W.contents
-        writer.new) w }
+    ensures answers { result ≡ 0 → (t : State) × AppendsAnswers ⟦<Standard as Policy>⟧.growth
+        first_state (R.remaining reader.old) (W.contents writer.old) (W.contents writer.new) t }
     ensures stopped { result ≡ 1 → AppendsSomeAnswers ⟦<Standard as Policy>⟧.growth
-        (placed_text [] inline_placement) (R.remaining reader.old) (W.contents writer.old)
-        (W.contents
-        writer.new) }
+        first_state (R.remaining reader.old) (W.contents writer.old) (W.contents writer.new) }
 {
     match answer_input(alloc, reader, writer) {
         Ok(()) => 0,
@@ -44,17 +42,13 @@ pub fn run_lines<R: Read, W: Write>(alloc: Global, reader: &mut R, writer: &mut 
 
 /// Answers each line of a reader, from the empty value on.
 fn answer_input<R: Read, W: Write>(alloc: Global, reader: &mut R, writer: &mut W) -> io::Result<()>
-    ensures ok { OnOk result ((w : PlacedText) × AppendsAnswers ⟦<Standard as Policy>⟧.growth
-        (placed_text [] inline_placement) (R.remaining reader.old) (W.contents writer.old)
-        (W.contents
-        writer.new) w) }
+    ensures ok { OnOk result ((t : State) × AppendsAnswers ⟦<Standard as Policy>⟧.growth
+        first_state (R.remaining reader.old) (W.contents writer.old) (W.contents writer.new) t) }
     ensures err { OnErr result (AppendsSomeAnswers ⟦<Standard as Policy>⟧.growth
-        (placed_text [] inline_placement) (R.remaining reader.old) (W.contents writer.old)
-        (W.contents
-        writer.new)) }
+        first_state (R.remaining reader.old) (W.contents writer.old) (W.contents writer.new)) }
 {
     let mut reader = BufReader::new(alloc, reader)?;
-    let mut session = Session::new(alloc)?;
+    let mut session = Session::new(alloc);
     answer_lines(alloc, &mut session, &mut reader, writer)
 }
 
@@ -180,19 +174,42 @@ fn write_value<W: Write>(value: &CompactString, writer: &mut W) -> io::Result<()
     ensures err { OnErr result (AppendsFront (W.contents writer.old) (W.contents writer.new)
         (value_line value.now)) }
 {
-    let place = if value.is_heap_allocated() {
-        "heap"
-    } else if value.as_static_str().is_some() {
-        "static"
-    } else {
-        "inline"
-    };
-    let mut len_buffer = Buffer::new();
-    let mut capacity_buffer = Buffer::new();
-    let len = len_buffer.format(value.len());
-    let capacity = capacity_buffer.format(value.capacity());
+    let len = decimal(value.allocator(), value.len());
+    let capacity = decimal(value.allocator(), value.capacity());
     write_texts(
-        &[place, " ", len, " ", capacity, " ", value.as_str(), "\n"],
+        &[
+            place_word(value),
+            " ",
+            len.as_str(),
+            " ",
+            capacity.as_str(),
+            " ",
+            value.as_str(),
+            "\n",
+        ],
         writer,
     )
+}
+
+/// The word for the place of a value.
+fn place_word(value: &CompactString) -> &str
+    ensures { result.now ≡ place_word value.now.placement.place }
+{
+    if value.is_heap_allocated() {
+        return "heap";
+    }
+    match value.as_static_str() {
+        Some(_) => "static",
+        None => "inline",
+    }
+}
+
+/// The digits of a number, which are inline.
+fn decimal(alloc: Global, n: usize) -> CompactString
+    ensures { utf8 result.text ≡ decimal n }
+{
+    match n.to_compact_string(alloc) {
+        Ok(digits) => digits,
+        Err(_) => unreachable!(),
+    }
 }

@@ -1,84 +1,61 @@
 //! The one value that the commands work on.
-ghost use Rattle.std.specs.Prelude.{◌≡◌, [], IfOk, OnErr, IsTrue};
-ghost use Rattle.compact_str.specs.Value.{placed_text};
-ghost use Rattle.compact_str.specs.Capacity.{inline_placement};
+ghost use Rattle.std.specs.Prelude.{◌≡◌, IfOk, OnOk, OnErr, IsTrue, IsFalse};
 ghost use Rattle.compact_edit.specs.Steps.{Step};
-ghost use Rattle.compact_lines.specs.Sessions.{Executes, command_asks};
+ghost use Rattle.compact_lines.specs.Sessions.{DoesOrRefuses, first_state};
 
 use crate::command::Command;
 use compact_edit::{Edit, Reply, run};
 use compact_str::{CompactString, Policy, ReserveError, Standard};
-use std::alloc::{AllocError, Global};
+use std::alloc::Global;
 use std::marker::Model;
 
 /// What the command `static` makes a value of.
 const LETTERS: &str = "aaaaaaaaaaaaaaaaaaaaaaaaaaaaaa";
 
-/// A value, and room for the reply to one edit. A contract sees the value.
+/// A value, and room for the reply to an edit. A contract sees the value, and whether there is such room.
+#[derive(Drop)]
 pub struct Session {
     alloc: Global,
     value: CompactString,
     replies: Vec<Reply<Standard>>,
 }
 
-/// It is dropped by one call, so that no function that has one takes the replies apart at its ends.
-impl Drop for Session {
-    fn drop(self) {
-        let Session {
-            alloc: _,
-            value,
-            replies,
-        } = self;
-        drop(value);
-        drop(replies);
-    }
-}
-
 impl Model for Session {
-    ghost use Rattle.std.specs.Prelude.{◌≡◌, ◌≤◌, [], vec_capacity};
-    ghost use Rattle.compact_str.specs.Value.{PlacedText};
+    ghost use Rattle.std.specs.Prelude.{nat_lt, vec_capacity};
+    ghost use Rattle.compact_lines.specs.Sessions.{State};
 
-    ghost Value = { PlacedText };
+    ghost Value = { State };
 
-    ghost view = { λ s. s.value };
-
-    ghost invariant = { λ s. (s.replies.items ≡ []) × (1 ≤ vec_capacity s.replies) };
+    ghost view = { λ s. record { value = s.value; has_room = nat_lt 0 (vec_capacity s.replies) } };
 }
 
 impl Session {
     /// Begins with the empty value, inline.
-    ///
-    /// # Errors
-    ///
-    /// `AllocError` if no memory is found for a reply.
-    pub fn new(alloc: Global) -> Result<Self, AllocError>
-        ensures { IfOk result (λ session. session ≡ placed_text [] inline_placement) }
+    pub fn new(alloc: Global) -> Self
+        ensures { result ≡ first_state }
     {
-        Ok(Session {
+        Session {
             alloc,
             value: CompactString::default(alloc),
-            replies: Vec::with_capacity(alloc, 1)?,
-        })
+            replies: Vec::new(alloc),
+        }
     }
 
     /// The value as it is now.
     pub fn value(&self) -> &CompactString
-        ensures { result.now ≡ self.now }
+        ensures { result.now ≡ self.now.value }
     {
         &self.value
     }
 
-    /// Does what `command` asks for.
+    /// Runs a command and returns its reply. Room for the reply to an edit is made before the first one, and kept.
     ///
     /// # Errors
     ///
-    /// [`ReserveError`] if the value that the command makes is refused; only `new`, `cap` and `clonefrom` make one. The
-    /// session's value is then as it was.
+    /// [`ReserveError`] if the value that `new`, `cap` or `clonefrom` makes cannot be allocated, or room for the reply to
+    /// an edit, which comes before a bad position. The session is then unchanged.
     pub fn execute(&mut self, command: Command) -> Result<Reply<Standard>, ReserveError>
-        ensures ok { IfOk result
-            (λ reply. Executes ⟦<Standard as Policy>⟧.growth self.old command.entry reply
-            self.new) }
-        ensures err { OnErr result ((self.new ≡ self.old) × IsTrue (command_asks command.entry)) }
+        ensures { DoesOrRefuses ⟦<Standard as Policy>⟧.growth self.old command.entry result self.new }
     {
         match command {
             Command::New(text) => {
@@ -95,21 +72,23 @@ impl Session {
             }
             Command::CloneFrom(text) => {
                 let source = CompactString::new(self.alloc, text)?;
-                Ok(self.edit(Edit::CloneFrom(&source)))
+                self.edit(Edit::CloneFrom(&source))
             }
-            Command::Edit(edit) => Ok(self.edit(edit)),
+            Command::Edit(edit) => self.edit(edit),
         }
     }
 
-    /// Runs one edit, for whose reply there is room.
-    fn edit(&mut self, edit: Edit<Standard>) -> Reply<Standard>
-        ensures { Step ⟦<Standard as Policy>⟧.growth self.old edit.entry result self.new }
+    /// Runs one edit and returns its reply.
+    fn edit(&mut self, edit: Edit<Standard>) -> Result<Reply<Standard>, ReserveError>
+        ensures ok { IfOk result (λ reply.
+            Step ⟦<Standard as Policy>⟧.growth self.old.value edit.entry reply self.new.value) }
+        ensures room { OnOk result (IsTrue self.new.has_room) }
+        ensures err { OnErr result ((self.new ≡ self.old) × IsFalse self.old.has_room) }
     {
-        let Ok(()) = run(&mut self.value, &[edit], &mut self.replies) else {
-            unreachable!()
-        };
+        self.replies.clear();
+        run(&mut self.value, &[edit], &mut self.replies)?;
         match self.replies.pop() {
-            Some(reply) => reply,
+            Some(reply) => Ok(reply),
             None => unreachable!(),
         }
     }

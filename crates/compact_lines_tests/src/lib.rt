@@ -1,4 +1,5 @@
-//! Tests of `compact_lines`: sessions of lines, lines that are no commands, and readers and writers that stop.
+//! Tests of `compact_lines`: sessions of lines, lines that are no commands, readers and writers that stop, and
+//! no memory.
 #![tactic(auto)]
 
 #[cfg(test)]
@@ -11,6 +12,8 @@ mod growth;
 mod lines;
 #[cfg(test)]
 mod no_commands;
+#[cfg(test)]
+mod no_memory;
 #[cfg(test)]
 mod removals;
 #[cfg(test)]

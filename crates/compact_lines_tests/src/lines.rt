@@ -3,7 +3,6 @@
 use crate::asserts::{assert_equal, assert_that};
 use crate::transcript::{assert_prints, assert_sessions};
 use compact_lines::run_lines;
-use compact_testing::memory::take_all;
 use std::alloc::Global;
 use std::io;
 use std::io::{Read, Write};
@@ -195,16 +194,4 @@ fn a_failing_writer_is_told_where_it_is_written_to(rt: HostRuntime) {
     assert_equal(&rt, status_of_unwritten(alloc, b"clear\n"), 1);
     assert_equal(&rt, status_of_unwritten(alloc, b"foo\n"), 1);
     assert_equal(&rt, status_of_unwritten(alloc, b""), 0);
-}
-
-#[test]
-fn no_memory_for_a_line_is_told(rt: HostRuntime) {
-    let rt = &rt;
-    let alloc = rt.alloc();
-    let mut output = Vec::with_capacity(alloc, 1000).expect(rt, "memory");
-    let mut input: &[u8] = b"clear\n";
-    let hog = take_all(alloc).expect(rt, "room for the list of blocks");
-    assert_equal(rt, run_lines(alloc, &mut input, &mut output), 1);
-    drop(hog);
-    assert_equal(rt, output.len(), 0);
 }

@@ -51,5 +51,6 @@ returns g c = record {
   count = omega arith;
   succeeds = λ _. refl;
   err = tt;
+  room = tt;
   empty = λ _. refl;
 }
