@@ -1,4 +1,5 @@
 pub mod Positions
+pub mod InBytes
 pub mod Rooms
 pub mod Letters
 pub mod Drains

@@ -3,17 +3,18 @@ use Rattle.std.specs.Prelude.{◌≡◌, ◌≤◌, ℕ, List, length, Result, I
 use Rattle.std.specs.String.{string_capacity}
 use Rattle.std.specs.declared.borrow.CowStr.{CowStr}
 use Rattle.std.specs.declared.borrow.CowStr.TheVariants.{Borrowed, Owned}
-use Rattle.compact_repr.specs.Text.{text_of}
+use Rattle.compact_repr.specs.Text.{text_of, utf8}
 use Rattle.compact_repr.specs.Value.{PlacedText, placed_text}
 use Rattle.compact_repr.specs.Capacity.{Growth, with_capacity_asks, from_string_placement}
 use Rattle.compact_repr.specs.Change.{new}
 
--- r is a new value with the text of some bytes; up to 24 of them are never refused
-pub record IsNewOf {E : Type 0} (g : Growth) (bytes : List ℕ) (r : Result PlacedText E) : Type 0 where
-  pub ok : IfOk r (λ v. new g (text_of bytes) ≡ Some v)
-  pub text : IfOk r (λ v. v.text ≡ text_of bytes)
-  pub succeeds : length bytes ≤ 24 → IsOk r
-  pub err : OnErr r (IsTrue (with_capacity_asks (length bytes)))
+-- r is a new value with the text that the bytes s encode; up to 24 of them never fail
+pub record IsNewOf {E : Type 0} (g : Growth) (s : List ℕ) (r : Result PlacedText E) : Type 0 where
+  pub ok : IfOk r (λ v. new g (text_of s) ≡ Some v)
+  pub text : IfOk r (λ v. v.text ≡ text_of s)
+  pub bytes : IfOk r (λ v. utf8 v.text ≡ s)
+  pub succeeds : length s ≤ 24 → IsOk r
+  pub err : OnErr r (IsTrue (with_capacity_asks (length s)))
 
 -- a borrowed text is copied, and refused only where that asks for a heap buffer; an owned one is taken over
 abbrev pub TakesCow : {Z E : Type 0} → Growth → CowStr Z → Result PlacedText E → Type 0

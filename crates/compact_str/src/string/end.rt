@@ -1,6 +1,6 @@
 //! How the text is changed at its end.
 ghost use Rattle.std.specs.Prelude.{◌≡◌, ℕ, ◌<◌, ◌≤◌, ◌++◌, ◌∷◌, [], length, Some, IfOk, IfErr, OnOk, OnErr, IsOk, IsTrue, MatchOption};
-ghost use Rattle.std.specs.Char.{len_utf8};
+ghost use Rattle.std.specs.Char.{len_utf8, encode_utf8};
 ghost use Rattle.compact_repr.specs.Text.{size, text_of, utf8};
 ghost use Rattle.compact_repr.specs.Cut.{IsBoundary, text_before};
 ghost use Rattle.compact_repr.specs.Change.{push_str, push_str_asks, clear, truncate};
@@ -29,6 +29,7 @@ impl<P: Policy> PolicyString<P> {
     pub fn push_str(&mut self, text: &str) -> Result<(), ReserveError>
         ensures ok { OnOk result (push_str P.growth self.old (text_of text.now) ≡ Some self.new) }
         ensures text { OnOk result (self.new.text ≡ self.old.text ++ text_of text.now) }
+        ensures bytes { OnOk result (utf8 self.new.text ≡ utf8 self.old.text ++ text.now) }
         ensures room { OnOk result (sure_capacity self.old ≤ sure_capacity self.new) }
         ensures succeeds { HasRoomFor self.old (length text.now) → IsOk result }
         ensures err { OnErr result
@@ -51,9 +52,12 @@ impl<P: Policy> PolicyString<P> {
     ///
     /// `"caf"` and `'é'` give `"café"`.
     #[inline]
+    #[tactic(auto, using(compact_buffers::proofs::TextFacts::text_facts, crate::proofs::EditFacts::character_facts))]
     pub fn push(&mut self, character: char) -> Result<(), ReserveError>
         ensures ok { OnOk result (push_str P.growth self.old (character ∷ []) ≡ Some self.new) }
         ensures text { OnOk result (self.new.text ≡ self.old.text ++ character ∷ []) }
+        ensures bytes { OnOk result
+            (utf8 self.new.text ≡ utf8 self.old.text ++ encode_utf8 character) }
         ensures room { OnOk result (sure_capacity self.old ≤ sure_capacity self.new) }
         ensures succeeds { HasRoomFor self.old (len_utf8 character) → IsOk result }
         ensures err { OnErr result
@@ -75,6 +79,7 @@ impl<P: Policy> PolicyString<P> {
     pub fn add_str(mut self, text: &str) -> Result<Self, Refused<Self>>
         ensures ok { IfOk result (λ v. push_str P.growth self (text_of text.now) ≡ Some v) }
         ensures text { IfOk result (λ v. v.text ≡ self.text ++ text_of text.now) }
+        ensures bytes { IfOk result (λ v. utf8 v.text ≡ utf8 self.text ++ text.now) }
         ensures room { IfOk result (λ v. sure_capacity self ≤ sure_capacity v) }
         ensures succeeds { HasRoomFor self (length text.now) → IsOk result }
         ensures err { IfErr result

@@ -3,7 +3,7 @@ ghost use Rattle.std.specs.Prelude.{◌≡◌, ◌<◌, ◌≤◌, ℕ, List, []
 ghost use Rattle.std.specs.String.{string_capacity};
 ghost use Rattle.std.specs.Box.{boxed_str_bytes};
 ghost use Rattle.std.specs.Cow.{cow_str_bytes};
-ghost use Rattle.compact_repr.specs.Text.{text_of};
+ghost use Rattle.compact_repr.specs.Text.{text_of, utf8};
 ghost use Rattle.compact_repr.specs.Packed.{IsPackedFor};
 ghost use Rattle.compact_repr.specs.Value.{placed_text, is_heap};
 ghost use Rattle.compact_repr.specs.Capacity.{inline_placement, heap_placement, with_capacity_asks, const_new_placement, from_string_placement};
@@ -84,7 +84,8 @@ impl<P: Policy> PolicyString<P> {
     /// `CompactString::const_new(alloc, "abc")` is inline, and a text of 30 bytes is static with capacity 30.
     #[inline]
     pub fn const_new(alloc: Global, text: &'static str) -> Self
-        ensures { let t = text_of text.now in result ≡ placed_text t (const_new_placement t) }
+        ensures value { let t = text_of text.now in result ≡ placed_text t (const_new_placement t) }
+        ensures bytes { utf8 result.text ≡ text.now }
     {
         PolicyString {
             repr: Repr::from_static(alloc, text),
@@ -165,9 +166,11 @@ impl<P: Policy> PolicyString<P> {
     /// # Examples
     ///
     /// `CowStr::Borrowed("abc")` gives `"abc"` inline.
+    #[tactic(auto, using(compact_buffers::proofs::TextFacts::text_facts, crate::proofs::EditFacts::string_facts))]
     pub fn from_cow(alloc: Global, text: CowStr<'_>) -> Result<Self, ReserveError>
         ensures takes { TakesCow P.growth text.entry result }
         ensures text { IfOk result (λ v. v.text ≡ text_of (cow_str_bytes text.entry)) }
+        ensures bytes { IfOk result (λ v. utf8 v.text ≡ cow_str_bytes text.entry) }
         ensures succeeds { IsFreeCow text.entry → IsOk result }
     {
         match text {
@@ -188,6 +191,7 @@ impl<P: Policy> PolicyString<P> {
     pub fn from_boxed_str(alloc: Global, text: BoxedStr) -> Result<Self, Refused<BoxedStr>>
         ensures ok { IfOk result (λ v. new P.growth (text_of (boxed_str_bytes text)) ≡ Some v) }
         ensures text { IfOk result (λ v. v.text ≡ text_of (boxed_str_bytes text)) }
+        ensures bytes { IfOk result (λ v. utf8 v.text ≡ boxed_str_bytes text) }
         ensures succeeds { length (boxed_str_bytes text) ≤ 24 → IsOk result }
         ensures err { IfErr result
             (λ e. (e.value ≡ text) × IsTrue (with_capacity_asks (length (boxed_str_bytes text)))) }

@@ -1,6 +1,6 @@
 //! How the text is changed by byte position.
-ghost use Rattle.std.specs.Prelude.{◌≡◌, ℕ, ◌+◌, ◌-◌, ◌^◌, ◌<◌, ◌≤◌, ◌↔◌, ◌∷◌, [], length, Some, None, IfOk, OnOk, OnErr, IsOk, IsTrue, MatchOption};
-ghost use Rattle.std.specs.Char.{len_utf8};
+ghost use Rattle.std.specs.Prelude.{◌≡◌, ℕ, ◌+◌, ◌-◌, ◌^◌, ◌<◌, ◌≤◌, ◌↔◌, ◌∷◌, ◌++◌, [], length, take, drop, Some, None, IfOk, OnOk, OnErr, IsOk, IsTrue, MatchOption};
+ghost use Rattle.std.specs.Char.{len_utf8, encode_utf8};
 ghost use Rattle.std.specs.Range.Bound.{start_index, end_index};
 ghost use Rattle.std.specs.Str.{IsCharBoundary};
 ghost use Rattle.compact_repr.specs.Text.{size, utf8, text_of};
@@ -95,6 +95,8 @@ impl<P: Policy> PolicyString<P> {
             (insert_str P.growth self.old index (text_of text.now) ≡ Some self.new) }
         ensures text { OnOk result
             (self.new.text ≡ replaced_text self.old.text index index (text_of text.now)) }
+        ensures bytes { OnOk result (utf8 self.new.text
+            ≡ take index (utf8 self.old.text) ++ text.now ++ drop index (utf8 self.old.text)) }
         ensures place { OnOk result (IsBoundary self.new.text index) }
         ensures behind { OnOk result (IsBoundary self.new.text (index + length text.now)) }
         ensures behind_fits { OnOk result (index + length text.now < 2 ^ 64) }
@@ -128,6 +130,8 @@ impl<P: Policy> PolicyString<P> {
             (insert_str P.growth self.old index (character ∷ []) ≡ Some self.new) }
         ensures text { OnOk result
             (self.new.text ≡ replaced_text self.old.text index index (character ∷ [])) }
+        ensures bytes { OnOk result (utf8 self.new.text ≡ take index (utf8 self.old.text)
+            ++ encode_utf8 character ++ drop index (utf8 self.old.text)) }
         ensures place { OnOk result (IsBoundary self.new.text index) }
         ensures behind { OnOk result (IsBoundary self.new.text (index + len_utf8 character)) }
         ensures behind_fits { OnOk result (index + len_utf8 character < 2 ^ 64) }

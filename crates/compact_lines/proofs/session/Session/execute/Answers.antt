@@ -6,4 +6,4 @@ use Rattle.compact_lines.proofs.session.Session.execute.Goals as goal
 
 pub returns-in-Static : goal.returns-in-Static
 unfolding chars
-returns-in-Static c = rw (c.in-Static.is, c.const_new.ensures) ((refl, refl, refl), ap (λ (s : State). s.has_room) c.self-in-Static.view_is)
+returns-in-Static c = rw (c.in-Static.is, c.const_new.ensures.value) ((refl, refl, refl), ap (λ (s : State). s.has_room) c.self-in-Static.view_is)

@@ -10,6 +10,7 @@ use Rattle.compact_repr.specs.Change.{insert_str}
 use Rattle.compact_repr.proofs.Changes.{insert_str-in_place}
 use Rattle.compact_buffers.proofs.Cuts.{boundary-within}
 use Rattle.compact_str.proofs.Positions.{insert_str-text, insert_str-place, insert_str-behind}
+use Rattle.compact_str.proofs.InBytes.{insert-bytes}
 use Rattle.compact_str.proofs.Rooms.{insert_str-sure, reserve_asks-succeeds}
 use Rattle.compact_str.proofs.string.PolicyString.insert.Goals as goal
 use Rattle.compact_str.proofs.string.PolicyString.insert.Goals.{else-is_ascii-via-then-is_ascii+else-insert_ascii_in_place, else-is_ascii-via-else-is_ascii}
@@ -35,6 +36,7 @@ returns-then-insert_ascii_in_place g c =
     record {
       ok = done;
       text = insert_str-text g.P.Policy.growth v w p part done;
+      bytes = insert-bytes g.P.Policy.growth v w p c.args.character done c.requires;
       place = insert_str-place g.P.Policy.growth v w p part done c.requires;
       behind = insert_str-behind g.P.Policy.growth v w p (len_utf8 c.args.character) part done c.requires long;
       behind_fits = omega (arith, within, one, ap (λ (u : PlacedText). size u.text) c.self.view_is);
@@ -64,6 +66,7 @@ returns g c =
     record {
       ok = done;
       text = on_ok_weaker r (insert_str-text g.P.Policy.growth v w p part) done;
+      bytes = on_ok_weaker r (λ e. insert-bytes g.P.Policy.growth v w p c.args.character e c.requires) done;
       place = on_ok_weaker r (λ e. insert_str-place g.P.Policy.growth v w p part e c.requires) done;
       behind = on_ok_weaker r (λ e. insert_str-behind g.P.Policy.growth v w p n part e c.requires long) done;
       behind_fits = subst (λ (m : ℕ). OnOk r (p + m < 2 ^ 64)) c.encode_char.ensures.len c.insert_str.ensures.behind_fits;

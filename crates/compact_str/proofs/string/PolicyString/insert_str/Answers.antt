@@ -9,6 +9,7 @@ use Rattle.compact_buffers.proofs.Texts.{size-text_of}
 use Rattle.compact_repr.proofs.Changes.{insert_str-in_place}
 use Rattle.compact_buffers.proofs.Cuts.{boundary-within}
 use Rattle.compact_str.proofs.Positions.{insert_str-text, insert_str-place, insert_str-behind}
+use Rattle.compact_str.proofs.InBytes.{insert_str-bytes}
 use Rattle.compact_str.proofs.Rooms.{insert_str-sure, reserve_asks-succeeds}
 use Rattle.compact_str.proofs.string.PolicyString.insert_str.Goals as goal
 
@@ -26,6 +27,7 @@ returns-then-replace_in_place g c =
     record {
       ok = done;
       text = insert_str-text g.P.Policy.growth v w p part done;
+      bytes = insert_str-bytes g.P.Policy.growth v w p c.args.text.now done c.requires c.utf8.text;
       place = insert_str-place g.P.Policy.growth v w p part done c.requires;
       behind = insert_str-behind g.P.Policy.growth v w p (length c.args.text.now) part done c.requires long;
       behind_fits = omega (arith, within, ap (λ (u : PlacedText). size u.text) c.self.view_is);
@@ -52,6 +54,7 @@ returns g c =
     record {
       ok = done;
       text = on_ok_weaker r (insert_str-text g.P.Policy.growth v w p part) done;
+      bytes = on_ok_weaker r (λ e. insert_str-bytes g.P.Policy.growth v w p c.args.text.now e c.requires c.utf8.text) done;
       place = on_ok_weaker r (λ e. insert_str-place g.P.Policy.growth v w p part e c.requires) done;
       behind = on_ok_weaker r (λ e. insert_str-behind g.P.Policy.growth v w p n part e c.requires long) done;
       behind_fits = on_ok_weaker r (λ _. behind) done;

@@ -6,7 +6,7 @@ use Rattle.compact_repr.specs.Value.{PlacedText}
 use Rattle.compact_repr.specs.Change.{push_str, push_str_asks}
 use Rattle.compact_buffers.proofs.Texts.{size-text_of}
 use Rattle.compact_repr.proofs.Changes.{push_str-text, push_str-in_place}
-use Rattle.compact_str.proofs.Rooms.{push_str-sure, push_str_asks-succeeds}
+use Rattle.compact_str.proofs.Rooms.{push_str-sure, push_str-bytes, push_str_asks-succeeds}
 use Rattle.compact_str.proofs.string.PolicyString.push_str.Goals as goal
 
 pub returns-in-Done : goal.returns-in-Done
@@ -20,6 +20,7 @@ returns-in-Done g c =
     record {
       ok = done;
       text = push_str-text g.P.Policy.growth v w part done;
+      bytes = push_str-bytes g.P.Policy.growth v w c.args.text.now done c.utf8.text;
       room = push_str-sure g.P.Policy.growth v w part done;
       succeeds = λ _. refl;
       err = tt;
@@ -39,6 +40,7 @@ returns-in-NoRoom g c =
     record {
       ok = done;
       text = on_ok_weaker r (push_str-text g.P.Policy.growth v w part) done;
+      bytes = on_ok_weaker r (λ e. push_str-bytes g.P.Policy.growth v w c.args.text.now e c.utf8.text) done;
       room = on_ok_weaker r (push_str-sure g.P.Policy.growth v w part) done;
       succeeds = push_str_asks-succeeds v w (length c.args.text.now) part r (sym long) refused;
       err = refused;
@@ -58,6 +60,7 @@ returns-in-NotTried g c =
     record {
       ok = done;
       text = on_ok_weaker r (push_str-text g.P.Policy.growth v w part) done;
+      bytes = on_ok_weaker r (λ e. push_str-bytes g.P.Policy.growth v w c.args.text.now e c.utf8.text) done;
       room = on_ok_weaker r (push_str-sure g.P.Policy.growth v w part) done;
       succeeds = push_str_asks-succeeds v w (length c.args.text.now) part r (sym long) refused;
       err = refused;
