@@ -2,9 +2,11 @@
 //! them.
 #![tactic(auto)]
 
+pub mod bytes_callers;
 pub mod collect_callers;
 pub mod decode_callers;
 pub mod deref_callers;
+pub mod error_callers;
 pub mod field_callers;
 pub mod iterator_callers;
 pub mod key_callers;

@@ -2,7 +2,7 @@
 -- `#[tactic(auto, using(compact_str::proofs::ForCallers::for_callers))]`.
 use Rattle.std.proofs.Common.{◌≡◌, ℕ, Bool, IsTrue, false, nat_eq, ◌+◌, ◌-◌, ◌*◌, ◌^◌, ◌<◌, ◌≤◌, List, [], ◌∷◌, ◌++◌, length, drop, take, refl, ap, sym, subst, ◌∙◌, arith, append_assoc, append-nil}
 pub use Rattle.std.proofs.lemmas.Str.{chars_from_encodes}
-use Rattle.std.proofs.lemmas.Str.{chars-nil, chars-append, chars_past_char, IsUtf8-nil, chars-IsAscii, encodes-IsAscii, IsUtf8-string_bytes, IsUtf8-append, IsUtf8-drop, IsUtf8-from_ascii, IsUtf8-from_is_utf8, is_utf8-from_IsUtf8}
+use Rattle.std.proofs.lemmas.Str.{chars-nil, chars-append, chars_past_char, IsUtf8-nil, chars-IsAscii, IsUtf8-string_bytes, IsUtf8-append, IsUtf8-drop, IsUtf8-from_ascii, IsUtf8-from_is_utf8, is_utf8-from_IsUtf8}
 use Rattle.std.proofs.lemmas.Bool.Decides.{nat_tests}
 use Rattle.std.specs.Char.{len_utf8, encode_utf8}
 use Rattle.std.specs.Cmp.Lexicographic.{same_text}
@@ -25,7 +25,7 @@ pub use Rattle.compact_repr.proofs.Changes.{push_str-text}
 pub use Rattle.compact_buffers.proofs.Cuts.{text_before-text_after, text_before-append, text_after-append, boundary-text, text_of-take, text_of-drop, boundary-within, size-text_before, size-text_after}
 pub use Rattle.compact_repr.proofs.PackedTexts.{one_text}
 pub use Rattle.compact_repr.proofs.ByteOrder.{utf8-same}
-pub use Rattle.compact_str.proofs.InBytes.{made-bytes, appended-bytes, pushed-bytes}
+pub use Rattle.compact_str.proofs.InBytes.{made-bytes, appended-bytes, pushed-bytes, utf8-decimal, utf8-signed}
 pub use Rattle.compact_str.proofs.Positions.{text_before-text_before, boundary-seam}
 pub use Rattle.compact_str.proofs.Collecting.{join-map}
 pub use Rattle.compact_str.proofs.KeyFacts.{texts-from_same, same-from_texts, texts-from_equal}
@@ -129,7 +129,7 @@ pub ruleset for_callers = (
 
 -- for callers whose clauses are on bytes, as `utf8 v.text ≡ string_bytes s`: what becomes of the bytes of a value where its
 -- clauses are on characters, and that equal bytes are equal texts. Name it beside `for_callers` or alone.
-pub ruleset in_bytes = (made-bytes, appended-bytes, pushed-bytes, encodes-IsAscii, IsAscii-decimal, IsUtf8-string_bytes, IsUtf8-from_is_utf8, utf8-same, append_assoc)
+pub ruleset in_bytes = (made-bytes, appended-bytes, pushed-bytes, utf8-decimal, utf8-signed, IsUtf8-string_bytes, IsUtf8-from_is_utf8, utf8-same, append_assoc)
 
 -- for callers that decode bytes: the lossy text of bytes that encode one, and the test of std's that says whether they do
 pub invalid-is_utf8 : (bytes : List ℕ) → ¬ (IsUtf8 bytes) → is_utf8 bytes ≡ false

@@ -1,8 +1,12 @@
 -- For clauses in bytes, as those of `String`: what becomes of a text's bytes.
-use Rattle.std.proofs.Common.{◌≡◌, ℕ, Some, List, [], ◌∷◌, ◌++◌, take, drop, ap, sym, ◌∙◌, append-nil, take_at, drop_at}
+use Rattle.std.proofs.Common.{◌≡◌, ℕ, ◌<◌, ◌^◌, Some, List, [], ◌∷◌, ◌++◌, take, drop, ap, sym, ◌∙◌, append-nil, take_at, drop_at}
 use Rattle.std.specs.Char.{encode_utf8}
 use Rattle.std.specs.Str.{IsUtf8}
-use Rattle.std.proofs.lemmas.Str.{encodes-append, encodes-chars}
+use lib.IntN.{ℤ}
+use lib.Signed.{mag}
+use Rattle.std.specs.Fmt.{decimal, signed_decimal}
+use Rattle.std.proofs.lemmas.Fmt.{IsAscii-decimal, IsAscii-signed}
+use Rattle.std.proofs.lemmas.Str.{encodes-append, encodes-chars, encodes-IsAscii}
 use Rattle.compact_repr.specs.Text.{text_of, utf8}
 use Rattle.compact_repr.specs.Cut.{IsBoundary, text_before, text_after, replaced_text}
 use Rattle.compact_repr.specs.Value.{PlacedText}
@@ -22,6 +26,14 @@ appended-bytes t old bytes e u = ap utf8 e ∙ encodes-append old (text_of bytes
 
 pub pushed-bytes : (t old : List ℕ) (c : ℕ) → t ≡ old ++ c ∷ [] → utf8 t ≡ utf8 old ++ encode_utf8 c
 pushed-bytes t old c e = ap utf8 e ∙ encodes-append old (c ∷ []) ∙ ap (λ x. utf8 old ++ x) (append-nil (encode_utf8 c))
+
+-- a number is its own bytes
+
+pub utf8-decimal : (n : ℕ) → n < 2 ^ 64 → utf8 (decimal n) ≡ decimal n
+utf8-decimal n h = encodes-IsAscii (decimal n) (IsAscii-decimal n h)
+
+pub utf8-signed : (z : ℤ) → mag z < 2 ^ 63 → utf8 (signed_decimal z) ≡ signed_decimal z
+utf8-signed z h = encodes-IsAscii (signed_decimal z) (IsAscii-signed z h)
 
 -- a text into which another is inserted
 

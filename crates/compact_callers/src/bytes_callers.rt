@@ -1,0 +1,88 @@
+//! Callers whose clauses are in bytes, as those of `String` are.
+ghost use Rattle.std.specs.Prelude.{◌≡◌, ℕ, ◌++◌, codes, decimal, OnOk, IfOk, OnErr, take, drop};
+ghost use Rattle.std.specs.Char.{encode_utf8};
+ghost use Rattle.std.specs.Str.Replace.{ReplacesMatches};
+ghost use Rattle.std.specs.Cow.{cow_str_bytes};
+ghost use Rattle.compact_str.specs.Text.{utf8};
+ghost use Rattle.compact_str.specs.Cut.{IsBoundary};
+
+use compact_ext::{ToCompactString, ToCompactStringError};
+use compact_str::{CompactString, ReserveError};
+use std::alloc::{AllocError, Global};
+use std::borrow::CowStr;
+use std::str::pattern::Pattern;
+
+/// A greeting.
+pub fn greeting(alloc: Global, name: &str) -> Result<CompactString, ReserveError>
+    ensures { IfOk result (λ line. utf8 line.text ≡ codes "Hello, " ++ name.now ++ codes "!") }
+{
+    let mut line = CompactString::new(alloc, "Hello, ")?;
+    line.push_str(name)?;
+    line.push('!')?;
+    Ok(line)
+}
+
+/// Appends a character and a text.
+pub fn append_both(line: &mut CompactString, mark: char, text: &str) -> Result<(), ReserveError>
+    ensures { OnOk result (utf8 line.new.text ≡ utf8 line.old.text ++ encode_utf8 mark ++ text.now) }
+{
+    line.push(mark)?;
+    line.push_str(text)
+}
+
+/// Inserts a mark at a cursor.
+pub fn mark_at(line: &mut CompactString, cursor: usize, mark: &str) -> Result<(), ReserveError>
+    requires { IsBoundary line.old.text cursor }
+    ensures bytes { OnOk result (utf8 line.new.text
+        ≡ take cursor (utf8 line.old.text) ++ mark.now ++ drop cursor (utf8 line.old.text)) }
+    ensures unchanged { OnErr result (line.new ≡ line.old) }
+{
+    line.insert_str(cursor, mark)
+}
+
+/// A copy with a mark.
+pub fn marked(line: &CompactString) -> Result<CompactString, ReserveError>
+    ensures { IfOk result (λ v. utf8 v.text ≡ utf8 line.now.text ++ codes "!") }
+{
+    let mut copy = line.clone()?;
+    copy.push_str("!")?;
+    Ok(copy)
+}
+
+/// A heading, whose text may be borrowed.
+pub fn heading(alloc: Global, text: CowStr<'_>) -> Result<CompactString, ReserveError>
+    ensures { IfOk result (λ v. utf8 v.text ≡ codes "# " ++ cow_str_bytes text.entry) }
+{
+    let text = CompactString::from_cow(alloc, text)?;
+    let mut heading = CompactString::const_new(alloc, "# ");
+    heading.push_str(text.as_str())?;
+    Ok(heading)
+}
+
+/// A text with each comma written as a semicolon.
+#[tactic(auto, using(compact_str::proofs::ForCallers::in_bytes))]
+pub fn with_semicolons(alloc: Global, text: &str) -> Result<CompactString, AllocError>
+    ensures { IfOk result (λ v. (n : ℕ) × ReplacesMatches ⟦<char as Pattern>⟧.find_in_gives
+        ⟦<char as Pattern>⟧.same_pattern (codes ";") n 44 text.now (utf8 v.text)) }
+{
+    Ok(CompactString::from(text.replace(alloc, ',', ";")?))
+}
+
+/// The digits of a port.
+#[tactic(auto, using(compact_str::proofs::ForCallers::in_bytes))]
+pub fn port_text(alloc: Global, port: u16) -> Result<CompactString, ToCompactStringError>
+    ensures { IfOk result (λ v. utf8 v.text ≡ decimal port) }
+{
+    port.to_compact_string(alloc)
+}
+
+/// The digits of a port, behind a colon.
+#[tactic(auto, using(compact_str::proofs::ForCallers::in_bytes))]
+pub fn port_part(alloc: Global, port: u16) -> Result<CompactString, ToCompactStringError>
+    ensures { IfOk result (λ v. utf8 v.text ≡ codes ":" ++ decimal port) }
+{
+    let mut part = CompactString::const_new(alloc, ":");
+    let digits = port.to_compact_string(alloc)?;
+    part.push_str(digits.as_str())?;
+    Ok(part)
+}

@@ -1,0 +1,79 @@
+//! Callers with errors of their own kinds, to which those of the library convert by `?`.
+ghost use Rattle.std.specs.Prelude.{◌≡◌, ◌++◌, ◌∷◌, [], OnOk, IfOk, codes, string_bytes};
+ghost use Rattle.compact_str.specs.Text.{text_of, utf8};
+ghost use Rattle.compact_str.specs.Value.{PlacedText};
+
+use compact_str::{CompactString, ReserveError};
+use std::alloc::{AllocError, Global};
+use std::fmt;
+use std::io;
+use thiserror::Error;
+
+/// Appends a name to a list.
+pub fn add_name(alloc: Global, names: &mut Vec<CompactString>, name: &str) -> Result<(), AllocError>
+    ensures { OnOk result ((v : PlacedText) × (names.new.items ≡ names.old.items ++ v ∷ [])
+        × (v.text ≡ text_of name.now)) }
+{
+    names.push(CompactString::new(alloc, name)?)?;
+    Ok(())
+}
+
+/// The same, with the library's error.
+pub fn add_short_name(alloc: Global, names: &mut Vec<CompactString>, name: &str) -> Result<(), ReserveError>
+    ensures { OnOk result ((v : PlacedText) × (names.new.items ≡ names.old.items ++ v ∷ [])
+        × (v.text ≡ text_of name.now)) }
+{
+    names.push(CompactString::new(alloc, name)?)?;
+    Ok(())
+}
+
+/// The same in a program, whose error is `anyhow`'s.
+pub fn add_named(alloc: Global, names: &mut Vec<CompactString>, name: &str) -> anyhow::Result<()> {
+    names.push(CompactString::new(alloc, name)?)?;
+    Ok(())
+}
+
+/// The same beside input and output.
+pub fn add_read(alloc: Global, names: &mut Vec<CompactString>, name: &str) -> io::Result<()> {
+    names.push(CompactString::new(alloc, name)?)?;
+    Ok(())
+}
+
+/// What can fail in a list of names.
+#[derive(Debug, Drop, Error)]
+pub enum NamesError {
+    #[error("{0}")]
+    Reserve(#[from] ReserveError),
+    #[error("no memory for the list")]
+    List(#[from(alloc)] AllocError),
+}
+
+/// The same with an error that has both.
+pub fn add_checked(alloc: Global, names: &mut Vec<CompactString>, name: &str) -> Result<(), NamesError> {
+    names.push(CompactString::new(alloc, name)?)?;
+    Ok(())
+}
+
+/// A line with a mark at its end, as a `String`. A value that could not be changed is dropped.
+pub fn marked_line(line: CompactString) -> Result<String, ReserveError>
+    ensures { IfOk result (λ s. string_bytes s ≡ utf8 line.text ++ codes "!") }
+{
+    let line = line.add_str("!")?;
+    Ok(line.into_string()?)
+}
+
+/// Its bytes.
+pub fn marked_bytes(line: CompactString) -> Result<Vec<u8>, AllocError> {
+    Ok(line.add_str("!")?.into_vec()?)
+}
+
+/// The same beside input and output.
+pub fn marked_output(line: CompactString) -> io::Result<Vec<u8>> {
+    Ok(line.add_str("!")?.into_vec()?)
+}
+
+/// Writes a name that may have to be copied.
+pub fn write_name<W: fmt::Write>(line: CompactString, out: &mut W) -> fmt::Result {
+    let line = line.add_str("!")?;
+    out.write_str(&line.into_string()?)
+}
