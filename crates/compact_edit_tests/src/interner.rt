@@ -10,6 +10,14 @@ use compact_testing::values::letters;
 use std::alloc::Global;
 use std::process::Abort;
 
+/// Numbers that a list has before.
+const EIGHT: [u32; 8] = [7, 6, 5, 4, 3, 2, 1, 0];
+
+/// 25 letters. It is a function so that a proof need not carry each letter.
+fn long() -> &'static str {
+    "zzzzzzzzzzzzzzzzzzzzzzzzz"
+}
+
 /// Asserts the name of a number.
 fn assert_name(rt: &impl Abort, names: &Interner, number: u32, name: Option<&str>) {
     assert_equal(rt, names.name(number), name);
@@ -30,17 +38,25 @@ fn is_number(rt: &impl Abort, names: &mut Interner, text: &str, number: u32) {
     assert_equal(rt, number_of(rt, names, text), number);
 }
 
-/// Asserts the numbers of texts for which there is memory.
+/// Asserts what `numbers` is after those of `texts` are appended, for which there is memory.
 fn are_numbers(
     rt: &impl Abort,
-    alloc: Global,
     names: &mut Interner,
     texts: &[&str],
+    numbers: &mut Vec<u32>,
     wanted: &[u32],
 ) {
-    let mut numbers = Vec::new(alloc);
-    names.intern_all(texts, &mut numbers).expect(rt, "memory");
+    names.intern_all(texts, numbers).expect(rt, "memory");
     assert_equal(rt, numbers.as_slice(), wanted);
+}
+
+/// Returns eight numbers in a list with no room for more.
+fn eight_numbers(rt: &impl Abort, alloc: Global) -> Vec<u32> {
+    let mut numbers = Vec::with_capacity(alloc, 8).expect(rt, "memory");
+    for number in EIGHT {
+        numbers.push(number).expect(rt, "memory");
+    }
+    numbers
 }
 
 /// Asserts that a list of texts is refused where no memory is left.
@@ -71,12 +87,29 @@ fn a_text_has_the_place_of_its_first_occurrence(rt: HostRuntime) {
     let rt = &rt;
     let alloc = rt.alloc();
     let mut names = Interner::new(alloc);
-    are_numbers(rt, alloc, &mut names, &["a", "b", "a", ""], &[0, 1, 0, 2]);
+    let mut numbers = Vec::new(alloc);
+    let texts = ["a", "b", "a", ""];
+    are_numbers(rt, &mut names, &texts, &mut numbers, &[0, 1, 0, 2]);
     assert_count(rt, &names, 3);
     assert_name(rt, &names, 1, Some("b"));
     assert_name(rt, &names, 3, None);
-    is_number(rt, &mut names, letters(25), 3);
-    is_number(rt, &mut names, letters(25), 3);
+    is_number(rt, &mut names, long(), 3);
+    is_number(rt, &mut names, long(), 3);
+    assert_count(rt, &names, 4);
+}
+
+#[test]
+fn numbers_are_appended_to_those_in_the_list(rt: HostRuntime) {
+    let rt = &rt;
+    let alloc = rt.alloc();
+    let mut names = Interner::new(alloc);
+    let mut numbers = Vec::new(alloc);
+    let texts = ["a", "b", "a", ""];
+    are_numbers(rt, &mut names, &texts, &mut numbers, &[0, 1, 0, 2]);
+    let texts = ["", "c", "b"];
+    are_numbers(rt, &mut names, &texts, &mut numbers, &[0, 1, 0, 2, 2, 3, 1]);
+    are_numbers(rt, &mut names, &[], &mut numbers, &[0, 1, 0, 2, 2, 3, 1]);
+    assert_count(rt, &names, 4);
 }
 
 #[test]
@@ -87,13 +120,13 @@ fn a_short_name_needs_no_memory_and_a_long_text_does(rt: HostRuntime) {
     number_of(rt, &mut names, "a");
     number_of(rt, &mut names, "b");
     number_of(rt, &mut names, "");
-    number_of(rt, &mut names, letters(25));
+    number_of(rt, &mut names, long());
     let hog = take_all(alloc).expect(rt, "room for the list of blocks");
     is_number(rt, &mut names, "a", 0);
     assert_refused(rt, &mut names, letters(30), 4);
-    is_number(rt, &mut names, letters(25), 3);
+    is_number(rt, &mut names, long(), 3);
     drop(hog);
-    assert_name(rt, &names, 3, Some(letters(25)));
+    assert_name(rt, &names, 3, Some(long()));
     is_number(rt, &mut names, letters(30), 4);
 }
 
@@ -125,10 +158,10 @@ fn with_no_room_for_the_numbers_nothing_is_taken(rt: HostRuntime) {
     let rt = &rt;
     let alloc = rt.alloc();
     let mut names = Interner::new(alloc);
-    let mut numbers = Vec::new(alloc);
+    let mut numbers = eight_numbers(rt, alloc);
     number_of(rt, &mut names, "a");
     is_refused(rt, alloc, &mut names, &["a", "b"], &mut numbers);
-    assert_equal(rt, numbers.len(), 0);
+    assert_equal(rt, numbers.as_slice(), EIGHT.as_slice());
     assert_count(rt, &names, 1);
 }
 
@@ -138,11 +171,12 @@ fn the_texts_before_a_refused_one_are_taken(rt: HostRuntime) {
     let alloc = rt.alloc();
     let mut names = Interner::new(alloc);
     let mut numbers = Vec::with_capacity(alloc, 8).expect(rt, "memory");
+    numbers.push(7).expect(rt, "memory");
     number_of(rt, &mut names, "a");
     number_of(rt, &mut names, "b");
     let texts = ["b", "a", letters(30), "b"];
     is_refused(rt, alloc, &mut names, &texts, &mut numbers);
-    assert_equal(rt, numbers.as_slice(), [1, 0].as_slice());
+    assert_equal(rt, numbers.as_slice(), [7, 1, 0].as_slice());
     assert_count(rt, &names, 2);
 }
 

@@ -45,6 +45,13 @@ fn assert_pushed<P: Policy>(
     assert_counts(rt, &report, moved, 0);
 }
 
+/// Asserts that all of the texts are pushed, and are inline as `text`.
+fn assert_pushed_inline<P: Policy>(rt: &impl Abort, alloc: Global, texts: &[&str], text: &str) {
+    let report = run_pushes::<P>(alloc, texts);
+    assert_that(rt, is_inline(&report.value, text));
+    assert_counts(rt, &report, 0, 0);
+}
+
 #[test]
 fn each_growth_moves_the_text_that_stood(rt: HostRuntime) {
     let rt = &rt;
@@ -57,9 +64,7 @@ fn each_growth_moves_the_text_that_stood(rt: HostRuntime) {
         letters(18),
         letters(2),
     ];
-    let inline = run_pushes::<Standard>(alloc, &texts[..1]);
-    assert_that(rt, is_inline(&inline.value, letters(24)));
-    assert_counts(rt, &inline, 0, 0);
+    assert_pushed_inline::<Standard>(rt, alloc, &texts[..1], letters(24));
     assert_pushed::<Standard>(rt, alloc, &texts[..2], 36, 25, 24);
     assert_pushed::<Standard>(rt, alloc, &texts[..3], 37, 37, 49);
     assert_pushed::<Standard>(rt, alloc, &texts[..4], 55, 38, 86);
@@ -69,9 +74,7 @@ fn each_growth_moves_the_text_that_stood(rt: HostRuntime) {
 
 #[test]
 fn no_texts_leave_the_empty_value(rt: HostRuntime) {
-    let report = run_pushes::<Standard>(rt.alloc(), &[]);
-    assert_that(&rt, is_inline(&report.value, ""));
-    assert_counts(&rt, &report, 0, 0);
+    assert_pushed_inline::<Standard>(&rt, rt.alloc(), &[], "");
 }
 
 /// Asserts what a thousand pushes of one byte leave.
@@ -95,6 +98,7 @@ fn buffers_double(rt: HostRuntime) {
     let rt = &rt;
     let alloc = rt.alloc();
     let texts = [letters(24), "a", letters(24), "a", "a"];
+    assert_pushed_inline::<Double>(rt, alloc, &texts[..1], letters(24));
     assert_pushed::<Double>(rt, alloc, &texts[..2], 48, 25, 24);
     assert_pushed::<Double>(rt, alloc, &texts[..3], 50, 49, 49);
     assert_pushed::<Double>(rt, alloc, &texts[..4], 50, 50, 49);

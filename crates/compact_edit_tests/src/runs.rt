@@ -72,6 +72,29 @@ fn is_not_begun(rt: &impl Abort, value: &mut CompactString, replies: &mut Vec<Re
     assert_that(rt, run(value, &edits, replies).is_err());
 }
 
+/// Returns a list of replies that fills its capacity.
+fn full_replies(rt: &impl Abort, alloc: Global) -> Vec<Reply<Standard>> {
+    let mut replies = room_for(rt, alloc, 4);
+    for _ in 0..replies.capacity() {
+        replies.push(Reply::Done).expect(rt, "memory");
+    }
+    replies
+}
+
+#[test]
+fn an_edit_with_no_room_for_its_reply_is_not_run(rt: HostRuntime) {
+    let rt = &rt;
+    let alloc = rt.alloc();
+    let mut value = short(alloc, "abc");
+    let mut replies = full_replies(rt, alloc);
+    let hog = take_all(alloc).expect(rt, "room for the list of blocks");
+    let outcome = run(&mut value, &[Edit::Clear], &mut replies);
+    drop(hog);
+    assert_that(rt, outcome.is_err());
+    assert_that(rt, is_inline(&value, "abc"));
+    assert_all(rt, &replies, 4, "done");
+}
+
 /// No edits are run even so.
 #[test]
 fn a_run_with_no_room_for_replies_runs_nothing(rt: HostRuntime) {

@@ -103,3 +103,29 @@ fn drips_of_24_bytes_need_no_memory(rt: HostRuntime) {
     assert_that(rt, matches!(made, Err(FromUtf8Error::Reserve(_))));
     drop(hog);
 }
+
+/// Asserts that a buffer with this ASCII text cannot be read with no memory left, and that then an end of the text remains, which
+/// is read once there is memory.
+fn assert_end_remains<B: Buf>(rt: &impl Abort, alloc: Global, buf: &mut B, text: &str) {
+    let hog = take_all(alloc).expect(rt, "room for the list of blocks");
+    let made = CompactString::from_utf8_buf(alloc, buf);
+    drop(hog);
+    assert_that(rt, matches!(made, Err(FromUtf8Error::Reserve(_))));
+    let len = buf.remaining();
+    let rest = read_whole(rt, alloc, buf).ok().expect(rt, "a text");
+    assert_equal(rt, rest.len(), len);
+    assert_that(rt, text.ends_with(rest.as_str()));
+}
+
+#[test]
+fn an_end_of_a_buffer_remains_where_memory_fails(rt: HostRuntime) {
+    let rt = &rt;
+    let alloc = rt.alloc();
+    let text = "abcdefghijklmnopqrstuvwxyzABCD";
+    let (first, second) = (b"abcdefghi".as_slice(), b"jklmnopqrstuvwxyzABCD".as_slice());
+    assert_end_remains(rt, alloc, &mut Buf::chain(first, second), text);
+    let mut drips = Drips {
+        rest: text.as_bytes(),
+    };
+    assert_end_remains(rt, alloc, &mut drips, text);
+}

@@ -1,10 +1,10 @@
 //! Calls on a value that are no edits, or an edit under another name.
 
-use crate::edits::call;
+use crate::edits::{answers_of, call};
 use crate::notation::number;
 use crate::table::Case;
 use compact_edit::{Edit, Reply, run};
-use compact_ext::ToCompactString;
+use compact_ext::{ToCompactString, ToCompactStringError};
 use compact_str::{CompactString, Refused, ReserveError, Standard};
 use std::fmt::Write;
 use std::mem;
@@ -57,7 +57,9 @@ fn named(case: &Case<'_>, value: &mut CompactString) -> Reply<Standard> {
         "clone" => cloned(value),
         "to_ascii_lowercase" => given(value.to_ascii_lowercase()),
         "to_ascii_uppercase" => given(value.to_ascii_uppercase()),
-        "to_compact_string" => shown(value),
+        "to_compact_string" => shown(value.to_compact_string(value.allocator())),
+        "try_to_compact_string" => shown(value.try_to_compact_string(value.allocator())),
+        "retain_by" => retain_by(value, answers_of(first).unwrap_or(&[])),
         _ => Reply::BadPosition,
     }
 }
@@ -73,11 +75,27 @@ fn cloned(value: &CompactString) -> Reply<Standard> {
     }
 }
 
-fn shown(value: &CompactString) -> Reply<Standard> {
-    match value.to_compact_string(value.allocator()) {
+fn shown(outcome: Result<CompactString, ToCompactStringError>) -> Reply<Standard> {
+    match outcome {
         Ok(text) => Reply::Text(text),
         Err(_) => Reply::Refused(ReserveError),
     }
+}
+
+/// Retains by a borrowed closure. If that fails after a first call of the closure, it is told as a bad position, which no case
+/// expects.
+fn retain_by(value: &mut CompactString, answers: &[bool]) -> Reply<Standard> {
+    let mut next = 0;
+    let mut keep = |_| {
+        let answer = answers.get(next).copied().unwrap_or(true);
+        next = usize::min(next, answers.len()) + 1;
+        answer
+    };
+    let outcome = value.retain_by(&mut keep);
+    if outcome.is_err() && next > 0 {
+        return Reply::BadPosition;
+    }
+    done(outcome)
 }
 
 fn try_reserve(value: &mut CompactString, word: &str) -> Reply<Standard> {

@@ -26,14 +26,18 @@ pub fn edit_of<'a>(call: &'a str, listed: &'a Listed) -> Option<Edit<'a, Standar
     }
 }
 
-/// For each of the first characters whether it stays: 1 is one that does.
 fn retain_of<'a>(word: &str) -> Option<Edit<'a, Standard>> {
+    Some(Edit::Retain(answers_of(text_of(word))?))
+}
+
+/// For each of the first characters whether it stays: 1 is one that does.
+pub fn answers_of(word: &str) -> Option<&'static [bool]> {
     match word {
-        "_" => Some(Edit::Retain(&[])),
-        "0" => Some(Edit::Retain(&[false])),
-        "1" => Some(Edit::Retain(&[true])),
-        "01" => Some(Edit::Retain(&[false, true])),
-        "10" => Some(Edit::Retain(&[true, false])),
+        "" => Some(&[]),
+        "0" => Some(&[false]),
+        "1" => Some(&[true]),
+        "01" => Some(&[false, true]),
+        "10" => Some(&[true, false]),
         _ => None,
     }
 }

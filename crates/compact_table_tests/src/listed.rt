@@ -1,6 +1,7 @@
 //! Operands that a call is lent as a list of something else than texts, or as an owned value.
 
 use crate::notation::{halves_at, number};
+use crate::table::text_of;
 use crate::values::{copied, source};
 use compact_ext::wire::write_wire;
 use compact_str::CompactString;
@@ -15,9 +16,9 @@ pub enum Listed {
     Bytes(Vec<u8>),
     Units(Vec<u16>),
     Characters(Vec<char>),
-    String(String),
-    Box(BoxedStr),
-    Value(CompactString),
+    Strings(Vec<String>),
+    Boxes(Vec<BoxedStr>),
+    Values(Vec<CompactString>),
     Json(Value),
 }
 
@@ -43,16 +44,43 @@ impl Listed {
         }
     }
 
-    pub fn value(&self) -> Option<&CompactString> {
+    pub fn strings(&self) -> &[String] {
         match self {
-            Listed::Value(value) => Some(value),
+            Listed::Strings(strings) => strings.as_slice(),
+            _ => &[],
+        }
+    }
+
+    pub fn boxes(&self) -> &[BoxedStr] {
+        match self {
+            Listed::Boxes(boxes) => boxes.as_slice(),
+            _ => &[],
+        }
+    }
+
+    pub fn values(&self) -> &[CompactString] {
+        match self {
+            Listed::Values(values) => values.as_slice(),
+            _ => &[],
+        }
+    }
+
+    /// The first value.
+    pub fn value(&self) -> Option<&CompactString> {
+        self.values().first()
+    }
+
+    pub fn json(&self) -> Option<&Value> {
+        match self {
+            Listed::Json(json) => Some(json),
             _ => None,
         }
     }
 }
 
-/// Makes the operand of a call from the first word behind its name. `None` is a word that cannot be read.
-pub fn make_listed(alloc: Global, name: &str, word: &str) -> Option<Listed> {
+/// Makes the operand of a call from the words behind its name. `None` is a word that cannot be read.
+pub fn make_listed(alloc: Global, name: &str, operands: &str) -> Option<Listed> {
+    let word = text_of(operands.split_whitespace().next().unwrap_or(""));
     match name {
         "from_utf8"
         | "from_utf8_lossy"
@@ -63,21 +91,48 @@ pub fn make_listed(alloc: Global, name: &str, word: &str) -> Option<Listed> {
         "from_utf16" | "from_utf16_lossy" => units_of(alloc, word),
         "read_wire" => form_of(alloc, word),
         "from_json" => json_of(alloc, word),
-        _ => make_typed(alloc, name, word),
+        "collect:&char" | "extend:&char" => characters_of(alloc, word),
+        "clone_from" => values_of(alloc, operands),
+        _ => make_typed(alloc, name, operands),
     }
 }
 
-/// The same of the calls that take items of one type or another.
-fn make_typed(alloc: Global, name: &str, word: &str) -> Option<Listed> {
-    match name {
-        "collect:&char" | "extend:&char" => characters_of(alloc, word),
-        "from_texts:String" | "to_compact_string:String" => {
-            Some(Listed::String(String::from_str(alloc, word).ok()?))
-        }
-        "from_texts:BoxedStr" => Some(Listed::Box(BoxedStr::from_str(alloc, word).ok()?)),
-        "from_texts:CompactString" | "clone_from" => Some(Listed::Value(source(alloc, word)?)),
+/// The same of the calls that take texts of one type or another.
+fn make_typed(alloc: Global, name: &str, operands: &str) -> Option<Listed> {
+    match halves_at(name, ':') {
+        Some((_, "String")) => strings_of(alloc, operands),
+        Some((_, "BoxedStr")) => boxes_of(alloc, operands),
+        Some((_, "CompactString")) => values_of(alloc, operands),
         _ => Some(Listed::Nothing),
     }
+}
+
+fn strings_of(alloc: Global, operands: &str) -> Option<Listed> {
+    let mut strings = Vec::new(alloc);
+    for word in operands.split_whitespace() {
+        strings
+            .push(String::from_str(alloc, text_of(word)).ok()?)
+            .ok()?;
+    }
+    Some(Listed::Strings(strings))
+}
+
+fn boxes_of(alloc: Global, operands: &str) -> Option<Listed> {
+    let mut boxes = Vec::new(alloc);
+    for word in operands.split_whitespace() {
+        boxes
+            .push(BoxedStr::from_str(alloc, text_of(word)).ok()?)
+            .ok()?;
+    }
+    Some(Listed::Boxes(boxes))
+}
+
+fn values_of(alloc: Global, operands: &str) -> Option<Listed> {
+    let mut values = Vec::new(alloc);
+    for word in operands.split_whitespace() {
+        values.push(source(alloc, text_of(word))?).ok()?;
+    }
+    Some(Listed::Values(values))
 }
 
 /// The bytes of a text, or one byte so many times.

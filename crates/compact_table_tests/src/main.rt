@@ -13,8 +13,8 @@
 //! stands then. With each request refused in turn the value is to be as it was before the call. The head of the table says
 //! what each field may hold. A blank line, and one that begins with `#`, is no case.
 //!
-//! What no line can tell stands in functions, each of which is a case: those of the modules `apart`, `apart_free`, `numbers` and
-//! `interned`.
+//! What no line can tell stands in functions, each of which is a case: those of the modules `apart`, `apart_free`, `numbers`,
+//! `interned`, `strings` and `records`.
 #![tactic(auto)]
 
 mod apart;
@@ -30,7 +30,9 @@ mod making;
 mod memory;
 mod notation;
 mod numbers;
+mod records;
 mod showing;
+mod strings;
 mod table;
 mod trial;
 mod values;

@@ -1,7 +1,6 @@
 //! Calls that make a value of a text, of bytes, of items or of what is shown.
 
 use crate::decoding::decode;
-use crate::listed::Listed;
 use crate::notation::number;
 use crate::table::Case;
 use crate::trial::Made;
@@ -48,6 +47,12 @@ fn gather(case: &Case<'_>, alloc: Global) -> Made {
         "join_compact" => join(texts, alloc),
         "collect:char" => of_trait(word.chars().collect(alloc)),
         "collect:&str" => of_trait(texts.iter().collect(alloc)),
+        "collect:CowStr" => of_trait(
+            texts
+                .iter()
+                .map(|text| CowStr::Borrowed(*text))
+                .collect(alloc),
+        ),
         _ => decode(case, alloc),
     }
 }
@@ -62,17 +67,25 @@ fn join(texts: &[&str], alloc: Global) -> Made {
     }
 }
 
-/// A value of an operand that is no text. The two calls that take such an operand on a value make none.
+/// A value of an operand that was made before.
 pub fn make_of_listed(case: &Case<'_>, alloc: Global) -> Made {
-    match &case.listed {
-        Listed::String(text) => of_texts(&[text], alloc),
-        Listed::Box(text) => of_texts(&[text], alloc),
-        Listed::Value(text) if case.name != "clone_from" => of_texts(&[text], alloc),
-        Listed::Characters(characters) if case.name != "extend:&char" => {
-            of_trait(characters.iter().collect(alloc))
-        }
-        Listed::Json(json) if json.as_str() == Some(case.word(0)) => read_json(json, alloc),
-        Listed::Bytes(bytes) => read_form(bytes, alloc),
+    let listed = &case.listed;
+    match case.name {
+        "from_texts:String" => of_texts(listed.strings(), alloc),
+        "from_texts:BoxedStr" => of_texts(listed.boxes(), alloc),
+        "from_texts:CompactString" => of_texts(listed.values(), alloc),
+        "collect:&char" => of_trait(listed.characters().iter().collect(alloc)),
+        "collect:String" => of_trait(listed.strings().iter().collect(alloc)),
+        "collect:BoxedStr" => of_trait(listed.boxes().iter().collect(alloc)),
+        "collect:CompactString" => of_trait(listed.values().iter().collect(alloc)),
+        "read_wire" => read_form(listed.bytes(), alloc),
+        _ => make_of_json(case, alloc),
+    }
+}
+
+fn make_of_json(case: &Case<'_>, alloc: Global) -> Made {
+    match case.listed.json() {
+        Some(json) if json.as_str() == Some(case.word(0)) => read_json(json, alloc),
         _ => Made::Unknown,
     }
 }

@@ -2,6 +2,7 @@
 
 use crate::listed::Listed;
 use crate::making::make_of_listed;
+use crate::notation::halves_at;
 use crate::table::Case;
 use crate::trial::Made;
 use compact_ext::{ToCompactString, ToCompactStringError, format_compact};
@@ -9,6 +10,7 @@ use compact_str::CompactString;
 use std::alloc::Global;
 use std::fmt;
 use std::fmt::Display;
+use std::num::{NonZeroI128, NonZeroU128};
 
 /// It writes two texts, and answers `Ok` in spite of a refusal.
 #[derive(Drop)]
@@ -22,28 +24,46 @@ impl Display for Hiding<'_> {
     }
 }
 
-/// Makes the value of a case whose call shows something, or else of a case with an operand that is no text.
+/// Makes the value of a case whose call shows something, or of a case with an operand that was made before.
 pub fn show(case: &Case<'_>, alloc: Global) -> Made {
     let (first, last) = (case.word(0), case.word(1));
     match case.name {
-        "to_compact_string:u128" => match first.parse::<u128>() {
-            Ok(number) => shown(number.to_compact_string(alloc)),
-            Err(_) => Made::Unknown,
-        },
-        "to_compact_string:i128" => match first.parse::<i128>() {
-            Ok(number) => shown(number.to_compact_string(alloc)),
-            Err(_) => Made::Unknown,
-        },
-        "try_to_compact_string:u128" => match first.parse::<u128>() {
-            Ok(number) => shown(number.try_to_compact_string(alloc)),
-            Err(_) => Made::Unknown,
-        },
-        "to_compact_string:str" => shown(first.to_compact_string(alloc)),
-        "try_to_compact_string:str" => shown(first.try_to_compact_string(alloc)),
-        "to_compact_string:String" => show_string(&case.listed, alloc),
         "format_compact!" => format_both(first, last, alloc),
         "format_compact!:hiding" => format_hiding(first, last, alloc),
-        _ => make_of_listed(case, alloc),
+        _ => match halves_at(case.name, ':') {
+            Some(("to_compact_string", kind)) => show_as(case, kind, false, alloc),
+            Some(("try_to_compact_string", kind)) => show_as(case, kind, true, alloc),
+            _ => make_of_listed(case, alloc),
+        },
+    }
+}
+
+/// Makes the text of an operand of this type, by `try_to_compact_string` if `is_tried`.
+fn show_as(case: &Case<'_>, kind: &str, is_tried: bool, alloc: Global) -> Made {
+    let word = case.word(0);
+    match kind {
+        "u128" => show_item(word.parse::<u128>().ok(), is_tried, alloc),
+        "i128" => show_item(word.parse::<i128>().ok(), is_tried, alloc),
+        "NonZeroU128" => show_item(word.parse::<NonZeroU128>().ok(), is_tried, alloc),
+        "NonZeroI128" => show_item(word.parse::<NonZeroI128>().ok(), is_tried, alloc),
+        "str" => show_item(Some(word), is_tried, alloc),
+        "String" => show_string(&case.listed, is_tried, alloc),
+        _ => Made::Unknown,
+    }
+}
+
+fn show_item<T: ToCompactString + Drop>(item: Option<T>, is_tried: bool, alloc: Global) -> Made {
+    match item {
+        Some(item) => show_lent(&item, is_tried, alloc),
+        None => Made::Unknown,
+    }
+}
+
+fn show_lent<T: ToCompactString>(item: &T, is_tried: bool, alloc: Global) -> Made {
+    if is_tried {
+        shown(item.try_to_compact_string(alloc))
+    } else {
+        shown(item.to_compact_string(alloc))
     }
 }
 
@@ -55,10 +75,10 @@ fn format_hiding(first: &str, last: &str, alloc: Global) -> Made {
     shown(format_compact!(in alloc; "{}", Hiding(first, last)))
 }
 
-fn show_string(listed: &Listed, alloc: Global) -> Made {
-    match listed {
-        Listed::String(string) => shown(string.to_compact_string(alloc)),
-        _ => Made::Unknown,
+fn show_string(listed: &Listed, is_tried: bool, alloc: Global) -> Made {
+    match listed.strings().first() {
+        Some(string) => show_lent(string, is_tried, alloc),
+        None => Made::Unknown,
     }
 }
 

@@ -103,8 +103,7 @@ fn begin_case<'a>(alloc: Global, line: &'a str, fields: Fields<'a>) -> Option<Ca
     let start = start_of(fields.start)?;
     let answer = answer_of(fields.answer)?;
     let (name, operands) = first_word(fields.call);
-    let word = operands.split_whitespace().next().unwrap_or("");
-    let listed = make_listed(alloc, name, text_of(word))?;
+    let listed = make_listed(alloc, name, operands)?;
     Some(Case {
         line,
         start,

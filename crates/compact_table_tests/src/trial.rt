@@ -10,7 +10,7 @@ use crate::memory::Ration;
 use crate::table::{Answer, Case, first_word};
 use crate::values::{Start, is_seen, seen_of_source};
 use crate::ways_out::leave;
-use crate::{apart, apart_free, interned, numbers};
+use crate::{apart, apart_free, interned, numbers, records, strings};
 use compact_edit::{Edit, Reply, run};
 use compact_str::{CompactString, Standard};
 use std::alloc::{AllocError, Global};
@@ -58,6 +58,8 @@ impl Trial {
         apart_free::cases(self.alloc, &mut self.ration, &mut self.faults);
         numbers::cases(self.alloc, &mut self.faults);
         interned::cases(self.alloc, &mut self.ration, &mut self.faults);
+        strings::cases(self.alloc, &mut self.ration, &mut self.faults);
+        records::cases(self.alloc, &mut self.ration, &mut self.faults);
     }
 
     /// Tries each line in turn.

@@ -4,7 +4,7 @@
 
 use crate::memory::{Ask, Ration};
 use compact_str::CompactString;
-use compact_testing::values::{append, place_of, string_with_room};
+use compact_testing::values::{append, place_of, string_with_room, with_room};
 use std::alloc::Global;
 
 /// Of the 26 small letters, the 26 great ones and the ten digits those from one place to another.
@@ -39,6 +39,8 @@ pub enum Start<'a> {
     ShortHeap,
     /// `abc` of the program, which were 30 letters.
     ShortStatic,
+    /// No text on the heap, with room for 100.
+    EmptyHeap,
 }
 
 impl<'a> Start<'a> {
@@ -53,6 +55,7 @@ impl<'a> Start<'a> {
             "shortened" => Some(Start::Shortened),
             "short heap" => Some(Start::ShortHeap),
             "short static" => Some(Start::ShortStatic),
+            "empty heap" => Some(Start::EmptyHeap),
             _ => None,
         }
     }
@@ -69,6 +72,7 @@ impl<'a> Start<'a> {
             Start::Shortened => granted_and_cut(ration, alloc, 48, 48, 30),
             Start::ShortHeap => granted_and_cut(ration, alloc, 32, 30, 3),
             Start::ShortStatic => Some(cut(lasting(alloc), 3)),
+            Start::EmptyHeap => room(ration, alloc, 100),
         }
     }
 
@@ -84,6 +88,7 @@ impl<'a> Start<'a> {
             Start::Shortened => heap(48, letters(0, 30)),
             Start::ShortHeap => heap(32, letters(0, 3)),
             Start::ShortStatic => fixed(letters(0, 3)),
+            Start::EmptyHeap => heap(100, ""),
         }
     }
 }
@@ -142,6 +147,12 @@ fn granted_and_cut(
         Some(value) => Some(cut(value, kept)),
         None => None,
     }
+}
+
+/// An empty value with this capacity, for which its request is granted.
+fn room(ration: &mut Ration, alloc: Global, capacity: usize) -> Option<CompactString> {
+    ration.grant(Ask::New(capacity));
+    with_room(alloc, capacity).ok()
 }
 
 /// 30 letters of the program.
