@@ -33,7 +33,7 @@ pub fn add_named(alloc: Global, names: &mut Vec<CompactString>, name: &str) -> a
     Ok(())
 }
 
-/// The same beside input and output.
+/// The same in a function that reads and writes.
 pub fn add_read(alloc: Global, names: &mut Vec<CompactString>, name: &str) -> io::Result<()> {
     names.push(CompactString::new(alloc, name)?)?;
     Ok(())
@@ -62,18 +62,18 @@ pub fn marked_line(line: CompactString) -> Result<String, ReserveError>
     Ok(line.into_string()?)
 }
 
-/// Its bytes.
+/// The bytes of such a line.
 pub fn marked_bytes(line: CompactString) -> Result<Vec<u8>, AllocError> {
     Ok(line.add_str("!")?.into_vec()?)
 }
 
-/// The same beside input and output.
+/// The same in a function that reads and writes.
 pub fn marked_output(line: CompactString) -> io::Result<Vec<u8>> {
     Ok(line.add_str("!")?.into_vec()?)
 }
 
-/// Writes a name that may have to be copied.
-pub fn write_name<W: fmt::Write>(line: CompactString, out: &mut W) -> fmt::Result {
+/// Writes a line with a mark at its end.
+pub fn write_marked<W: fmt::Write>(line: CompactString, out: &mut W) -> fmt::Result {
     let line = line.add_str("!")?;
     out.write_str(&line.into_string()?)
 }

@@ -4,7 +4,11 @@
 #[cfg(test)]
 mod asserts;
 #[cfg(test)]
+mod bytes;
+#[cfg(test)]
 mod deref;
+#[cfg(test)]
+mod error;
 #[cfg(test)]
 mod field;
 #[cfg(test)]

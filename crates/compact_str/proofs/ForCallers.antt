@@ -2,19 +2,21 @@
 -- `#[tactic(auto, using(compact_str::proofs::ForCallers::for_callers))]`.
 use Rattle.std.proofs.Common.{◌≡◌, ℕ, Bool, IsTrue, false, nat_eq, ◌+◌, ◌-◌, ◌*◌, ◌^◌, ◌<◌, ◌≤◌, List, [], ◌∷◌, ◌++◌, length, drop, take, refl, ap, sym, subst, ◌∙◌, arith, append_assoc, append-nil}
 pub use Rattle.std.proofs.lemmas.Str.{chars_from_encodes}
-use Rattle.std.proofs.lemmas.Str.{chars-nil, chars-append, chars_past_char, IsUtf8-nil, chars-IsAscii, IsUtf8-string_bytes, IsUtf8-append, IsUtf8-drop, IsUtf8-from_ascii, IsUtf8-from_is_utf8, is_utf8-from_IsUtf8}
+use Rattle.std.proofs.lemmas.Str.{chars-nil, chars-append, chars_past_char, IsUtf8-nil, chars-IsAscii, encodes-append, encodes-chars, encodes-IsAscii, IsUtf8-string_bytes, IsUtf8-append, IsUtf8-drop, IsUtf8-from_ascii, IsUtf8-from_is_utf8, is_utf8-from_IsUtf8}
 use Rattle.std.proofs.lemmas.Bool.Decides.{nat_tests}
 use Rattle.std.specs.Char.{len_utf8, encode_utf8}
 use Rattle.std.specs.Cmp.Lexicographic.{same_text}
 use lib.Pointwise.{pointwise}
-use Rattle.std.proofs.lemmas.Fmt.{IsAscii-decimal}
-use Rattle.std.specs.Fmt.{WritesInCalls, decimal}
+use Rattle.std.proofs.lemmas.Fmt.{IsAscii-decimal, IsAscii-signed}
+use lib.IntN.{ℤ}
+use lib.Signed.{mag}
+use Rattle.std.specs.Fmt.{WritesInCalls, decimal, signed_decimal}
 use Rattle.std.proofs.lemmas.Bool.{false_from_ne_true}
 use Rattle.compact_codec.proofs.LossyReading.{utf8_lossy_text-IsUtf8}
 use Rattle.std.specs.Str.{IsUtf8, is_utf8, IsCharBoundary, chars, chars_after}
 use Rattle.std.specs.List.{FoldsTo, concat}
 use Rattle.std.specs.Str.Pattern.{HasCharAt}
-use Rattle.compact_repr.specs.Text.{text_of}
+use Rattle.compact_repr.specs.Text.{text_of, utf8}
 use Rattle.compact_repr.specs.Cut.{IsBoundary, text_before, text_after}
 use Rattle.compact_repr.specs.Packed.{IsPackedFor}
 use Rattle.compact_repr.specs.Value.{PlacedText}
@@ -25,7 +27,7 @@ pub use Rattle.compact_repr.proofs.Changes.{push_str-text}
 pub use Rattle.compact_buffers.proofs.Cuts.{text_before-text_after, text_before-append, text_after-append, boundary-text, text_of-take, text_of-drop, boundary-within, size-text_before, size-text_after}
 pub use Rattle.compact_repr.proofs.PackedTexts.{one_text}
 pub use Rattle.compact_repr.proofs.ByteOrder.{utf8-same}
-pub use Rattle.compact_str.proofs.InBytes.{made-bytes, appended-bytes, pushed-bytes, utf8-decimal, utf8-signed}
+pub use Rattle.compact_str.proofs.Rooms.{pushed-bytes}
 pub use Rattle.compact_str.proofs.Positions.{text_before-text_before, boundary-seam}
 pub use Rattle.compact_str.proofs.Collecting.{join-map}
 pub use Rattle.compact_str.proofs.KeyFacts.{texts-from_same, same-from_texts, texts-from_equal}
@@ -126,6 +128,20 @@ pub ruleset for_callers = (
   chars_from_encodes,
   join-map,
 )
+
+-- the bytes of a text made of bytes, of one to which others are appended, and of a number
+
+pub made-bytes : (t bytes : List ℕ) → t ≡ text_of bytes → IsUtf8 bytes → utf8 t ≡ bytes
+made-bytes t bytes e u = ap utf8 e ∙ encodes-chars bytes u
+
+pub appended-bytes : (t old bytes : List ℕ) → t ≡ old ++ text_of bytes → IsUtf8 bytes → utf8 t ≡ utf8 old ++ bytes
+appended-bytes t old bytes e u = ap utf8 e ∙ encodes-append old (text_of bytes) ∙ ap (λ x. utf8 old ++ x) (encodes-chars bytes u)
+
+pub utf8-decimal : (n : ℕ) → n < 2 ^ 64 → utf8 (decimal n) ≡ decimal n
+utf8-decimal n h = encodes-IsAscii (decimal n) (IsAscii-decimal n h)
+
+pub utf8-signed : (z : ℤ) → mag z < 2 ^ 63 → utf8 (signed_decimal z) ≡ signed_decimal z
+utf8-signed z h = encodes-IsAscii (signed_decimal z) (IsAscii-signed z h)
 
 -- for callers whose clauses are on bytes, as `utf8 v.text ≡ string_bytes s`: what becomes of the bytes of a value where its
 -- clauses are on characters, and that equal bytes are equal texts. Name it beside `for_callers` or alone.

@@ -1,5 +1,4 @@
 pub mod Positions
-pub mod InBytes
 pub mod Rooms
 pub mod Letters
 pub mod Drains

@@ -1,18 +1,19 @@
 -- What stands round a position of a text.
-use Rattle.std.proofs.Common.{◌≡◌, Some, Result, Ok, Err, true, false, ℕ, ◌+◌, ◌-◌, ◌<◌, ◌≤◌, List, [], ◌∷◌, ◌++◌, refl, ap, sym, subst, ◌∙◌, arith, append_assoc, append-nil}
+use Rattle.std.proofs.Common.{◌≡◌, Some, Result, Ok, Err, true, false, ℕ, ◌+◌, ◌-◌, ◌<◌, ◌≤◌, List, [], ◌∷◌, ◌++◌, take, drop, refl, ap, sym, subst, ◌∙◌, arith, append_assoc, append-nil, take_at, drop_at}
 use Rattle.std.proofs.lemmas.Grind.{common_steps}
 use Rattle.std.proofs.lemmas.Bool.{cond-true, cond-false, lt-leb, le-leb}
 use Rattle.std.proofs.lemmas.Bool.Decides.{nat_tests}
-use Rattle.std.proofs.lemmas.Str.{len_utf8_bounds}
+use Rattle.std.proofs.lemmas.Str.{len_utf8_bounds, encodes-append, encodes-chars}
 use Rattle.std.specs.Prelude.{IsTrue, IsErr, option_map}
-use Rattle.std.specs.Char.{len_utf8, is_ascii}
-use Rattle.compact_repr.specs.Text.{size}
+use Rattle.std.specs.Char.{len_utf8, encode_utf8, is_ascii}
+use Rattle.std.specs.Str.{IsUtf8}
+use Rattle.compact_repr.specs.Text.{size, text_of, utf8}
 use Rattle.compact_repr.specs.Cut.{IsCut, IsBoundary, text_before, text_after, replaced_text}
 use Rattle.compact_repr.specs.Value.{PlacedText, placed_text, is_static}
 use Rattle.compact_repr.specs.Capacity.{Growth, shortened_placement, owned_placement, make_owned_asks}
 use Rattle.compact_repr.specs.Change.{truncate, insert_str, replace_range, replace_range_asks}
 use Rattle.compact_str.specs.PositionEdits.{LosesChar}
-use Rattle.compact_buffers.proofs.Texts.{size-append, empty_text}
+use Rattle.compact_buffers.proofs.Texts.{length-utf8, size-append, empty_text}
 use Rattle.compact_buffers.proofs.Cuts.{boundary-from_size, text_before-text_after, text_before-append, text_after-append, size-text_before, size-text_after}
 
 -- a text that is cut before its last character
@@ -132,6 +133,33 @@ insert_str-place g v w p s e h = subst (λ (t : List ℕ). IsBoundary t p) (sym 
 
 pub insert_str-behind : (g : Growth) (v w : PlacedText) (p n : ℕ) (s : List ℕ) → insert_str g v p s ≡ Some w → IsBoundary v.text p → size s ≡ n → IsBoundary w.text (p + n)
 insert_str-behind g v w p n s e h k = subst (λ (t : List ℕ). IsBoundary t (p + n)) (sym (insert_str-text g v w p s e)) (replace_range-end v.text s p p (p + n) n h k refl)
+
+-- and its bytes
+
+inserted-bytes : (t s : List ℕ) (p : ℕ) → IsBoundary t p → utf8 (replaced_text t p p s) ≡ take p (utf8 t) ++ utf8 s ++ drop p (utf8 t)
+inserted-bytes t s p h =
+    let front = utf8 (text_before t p) in
+    let back = utf8 (text_after t p) in
+    let parts : utf8 t ≡ front ++ back = ap utf8 (text_before-text_after t p) ∙ encodes-append (text_before t p) (text_after t p) in
+    let long = length-utf8 (text_before t p) ∙ size-text_before t p h in
+    encodes-append (text_before t p ++ s) (text_after t p)
+    ∙ ap (λ x. x ++ back) (encodes-append (text_before t p) s)
+    ∙ ap (λ x. x ++ utf8 s ++ back) (sym (ap (take p) parts ∙ take_at front back p long))
+    ∙ ap (λ x. take p (utf8 t) ++ utf8 s ++ x) (sym (ap (drop p) parts ∙ drop_at front back p long))
+
+pub insert_str-bytes : (g : Growth) (v w : PlacedText) (p : ℕ) (bytes : List ℕ) → insert_str g v p (text_of bytes) ≡ Some w → IsBoundary v.text p → IsUtf8 bytes
+    → utf8 w.text ≡ take p (utf8 v.text) ++ bytes ++ drop p (utf8 v.text)
+insert_str-bytes g v w p bytes e h u =
+    ap utf8 (insert_str-text g v w p (text_of bytes) e)
+    ∙ inserted-bytes v.text (text_of bytes) p h
+    ∙ ap (λ x. take p (utf8 v.text) ++ x ++ drop p (utf8 v.text)) (encodes-chars bytes u)
+
+pub insert-bytes : (g : Growth) (v w : PlacedText) (p c : ℕ) → insert_str g v p (c ∷ []) ≡ Some w → IsBoundary v.text p
+    → utf8 w.text ≡ take p (utf8 v.text) ++ encode_utf8 c ++ drop p (utf8 v.text)
+insert-bytes g v w p c e h =
+    ap utf8 (insert_str-text g v w p (c ∷ []) e)
+    ∙ inserted-bytes v.text (c ∷ []) p h
+    ∙ ap (λ x. take p (utf8 v.text) ++ x ++ drop p (utf8 v.text)) (append-nil (encode_utf8 c))
 
 -- a value of which a part is replaced
 pub range_replaced-text : (g : Growth) (v w : PlacedText) (i j : ℕ) (s : List ℕ) → replace_range g v i j s ≡ Some w → w.text ≡ replaced_text v.text i j s

@@ -1,8 +1,9 @@
 -- What an append gives besides the text: the room that is left, and the bytes.
-use Rattle.std.proofs.Common.{◌≡◌, Some, ℕ, ◌≤◌, List, ◌++◌, refl, ap, subst, ◌∙◌, arith}
+use Rattle.std.proofs.Common.{◌≡◌, Some, ℕ, ◌≤◌, List, [], ◌∷◌, ◌++◌, refl, ap, subst, ◌∙◌, arith, append-nil}
 use Rattle.std.proofs.lemmas.Bool.{and_parts}
 use Rattle.std.proofs.lemmas.Grind.{common_steps}
 use Rattle.std.proofs.lemmas.Str.{encodes-append, encodes-chars}
+use Rattle.std.specs.Char.{encode_utf8}
 use Rattle.std.specs.Str.{IsUtf8}
 use Rattle.std.specs.Prelude.{max, if◌then◌else◌, Result, Ok, Err, OnErr, IsOk, IsTrue}
 use Rattle.compact_repr.specs.Text.{size, utf8, text_of}
@@ -26,6 +27,9 @@ insert_str-sure g v w p s e = grind (arith, common_steps, reserve_placement-sure
 pub push_str-bytes : (g : Growth) (v w : PlacedText) (bytes : List ℕ) → push_str g v (text_of bytes) ≡ Some w → IsUtf8 bytes → utf8 w.text ≡ utf8 v.text ++ bytes
 push_str-bytes g v w bytes e u =
     ap utf8 (push_str-text g v w (text_of bytes) e) ∙ encodes-append v.text (text_of bytes) ∙ ap (λ (x : List ℕ). utf8 v.text ++ x) (encodes-chars bytes u)
+
+pub pushed-bytes : (t old : List ℕ) (c : ℕ) → t ≡ old ++ c ∷ [] → utf8 t ≡ utf8 old ++ encode_utf8 c
+pushed-bytes t old c e = ap utf8 e ∙ encodes-append old (c ∷ []) ∙ ap (λ x. utf8 old ++ x) (append-nil (encode_utf8 c))
 
 -- what is sure to fit asks for no memory, and so is not refused
 asks-with_room : (v : PlacedText) (n : ℕ) → HasRoomFor v n → IsTrue (reserve_asks v n) → ⊥

@@ -9,8 +9,7 @@ use Rattle.compact_repr.specs.Value.{PlacedText, is_static}
 use Rattle.compact_repr.specs.Change.{insert_str}
 use Rattle.compact_repr.proofs.Changes.{insert_str-in_place}
 use Rattle.compact_buffers.proofs.Cuts.{boundary-within}
-use Rattle.compact_str.proofs.Positions.{insert_str-text, insert_str-place, insert_str-behind}
-use Rattle.compact_str.proofs.InBytes.{insert-bytes}
+use Rattle.compact_str.proofs.Positions.{insert_str-text, insert-bytes, insert_str-place, insert_str-behind}
 use Rattle.compact_str.proofs.Rooms.{insert_str-sure, reserve_asks-succeeds}
 use Rattle.compact_str.proofs.string.PolicyString.insert.Goals as goal
 use Rattle.compact_str.proofs.string.PolicyString.insert.Goals.{else-is_ascii-via-then-is_ascii+else-insert_ascii_in_place, else-is_ascii-via-else-is_ascii}

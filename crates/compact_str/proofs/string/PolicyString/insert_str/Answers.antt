@@ -8,8 +8,7 @@ use Rattle.compact_repr.specs.Change.{insert_str}
 use Rattle.compact_buffers.proofs.Texts.{size-text_of}
 use Rattle.compact_repr.proofs.Changes.{insert_str-in_place}
 use Rattle.compact_buffers.proofs.Cuts.{boundary-within}
-use Rattle.compact_str.proofs.Positions.{insert_str-text, insert_str-place, insert_str-behind}
-use Rattle.compact_str.proofs.InBytes.{insert_str-bytes}
+use Rattle.compact_str.proofs.Positions.{insert_str-text, insert_str-bytes, insert_str-place, insert_str-behind}
 use Rattle.compact_str.proofs.Rooms.{insert_str-sure, reserve_asks-succeeds}
 use Rattle.compact_str.proofs.string.PolicyString.insert_str.Goals as goal
 

@@ -1,0 +1,39 @@
+//! Tests of the callers in `bytes_callers.rt`.
+
+use crate::asserts::assert_that;
+use compact_asserts::that;
+use compact_callers::bytes_callers::{
+    append_both, greeting, heading, mark_at, marked, port_part, port_text, with_semicolons,
+};
+use compact_testing::seen::{is_heap, is_inline};
+use compact_testing::values::short;
+use std::borrow::CowStr;
+
+#[test]
+fn texts_are_made(rt: HostRuntime) {
+    let rt = &rt;
+    let alloc = rt.alloc();
+    let line = greeting(alloc, "Jürgen").expect(rt, "memory");
+    assert_that(rt, is_inline(&line, "Hello, Jürgen!"));
+    let line = marked(&line).expect(rt, "memory");
+    assert_that(rt, is_inline(&line, "Hello, Jürgen!!"));
+    let title = heading(alloc, CowStr::Borrowed("abcdefghijklmnopqrstuvwxyz")).expect(rt, "memory");
+    assert_that(rt, is_heap(&title, 32, "# abcdefghijklmnopqrstuvwxyz"));
+    let row = with_semicolons(alloc, "a,é,").expect(rt, "memory");
+    assert_that(rt, is_inline(&row, "a;é;"));
+    let port = port_text(alloc, 8080).expect(rt, "no memory is needed");
+    assert_that(rt, is_inline(&port, "8080"));
+    let port = port_part(alloc, 0).expect(rt, "no memory is needed");
+    assert_that(rt, is_inline(&port, ":0"));
+}
+
+#[test]
+fn texts_are_changed(rt: HostRuntime) {
+    let rt = &rt;
+    let mut line = short(rt.alloc(), "ä");
+    append_both(&mut line, '€', "x").expect(rt, "memory");
+    assert_that(rt, is_inline(&line, "ä€x"));
+    that(line.is_char_boundary(2)).expect(rt, "a boundary");
+    mark_at(&mut line, 2, "§").expect(rt, "memory");
+    assert_that(rt, is_inline(&line, "ä§€x"));
+}
