@@ -1,7 +1,7 @@
 -- For callers: what a map or a set of values has at any bytes, before and after a call that changes one key. A call by a
 -- value compares characters, and one by a `&str` bytes. Name `text_keys` at the caller, as
 -- `#[tactic(auto, using(compact_str::proofs::TextKeys::text_keys))]`. After std's `Map.Text`.
-use Rattle.std.proofs.Common.{◌≡◌, ℕ, Bool, true, false, cond, List, Option, BTreeMap, BTreeSet, HashMap, HashSet, refl, sym, ap, subst₂, ◌∙◌, ◌⊎◌, ◌≢◌, inl, inr, ⊎_elim, bytes_eq}
+use Rattle.std.proofs.Common.{◌≡◌, ℕ, Bool, true, false, cond, List, ◌∷◌, Option, Bor, BTreeMap, BTreeSet, HashMap, HashSet, refl, sym, ap, subst₂, ◌∙◌, ◌⊎◌, ◌≢◌, inl, inr, ⊎_elim, bytes_eq}
 use Rattle.std.specs.Map.{lookup, update, IsKeyTest, AreApart, KeepsOthers}
 use Rattle.std.specs.Set.{KeepsOthers as KeepsOtherKeys}
 use Rattle.std.specs.BTreeMap.{is_at}
@@ -10,9 +10,10 @@ use Rattle.std.specs.BTreeSet as btree_set
 use Rattle.std.specs.HashMap as hash_map
 use Rattle.std.specs.HashSet as hash_set
 use Rattle.std.specs.List.{list_any}
-use Rattle.std.specs.Ordering.{eq_by_cmp}
-use Rattle.std.specs.Cmp.Lexicographic.{bytes_decides, nat_list_eq_equiv, texts_ties}
+use Rattle.std.specs.Ordering.{nat_cmp, eq_by_cmp}
+use Rattle.std.specs.Cmp.Lexicographic.{slice_cmp, bytes_decides, nat_list_eq_equiv, texts_ties}
 use Rattle.std.proofs.lemmas.Bool.{cases_Bool, cond-true, cond-false, false≢true}
+use Rattle.std.proofs.lemmas.List.Sums.{fold_more, fold_push, sum_by_more_le, sum_by_more_le_part, count_by-le-length}
 use Rattle.std.proofs.lemmas.Map.Text.{is_eq-slice_cmp}
 use Rattle.compact_repr.specs.Text.{utf8}
 use Rattle.compact_repr.specs.Value.{PlacedText}
@@ -167,38 +168,55 @@ module _ (k : PlacedText) (cs : List ℕ) where
       → FindsAfter list_any (is_at (text_cmp k)) (is_at (bytes_cmp cs)) (KeepsOtherKeys (eq_by_cmp text_cmp) (is_at (text_cmp k)) old new) (utf8 k.text) cs old new
   btree_set_key_after old new h = finds_after list_any _ _ (utf8 k.text) cs (text_cmp-is k) (bytes_cmp-is cs) _ old new (kept_keys (eq_by_cmp text_cmp) _ _ old new h (one_sorted_key cs)) h
 
--- at the bytes bs, as `get_mut` and `remove` by a `&str` take
+-- at a `&str` q, as `get`, `get_mut` and `remove` take
 
-module _ {X : Type 0} (bs cs : List ℕ) where
-  pub hash_map_text_same : (xs : List (PlacedText × X)) → cs ≡ bs → FindsSame lookup (has_bytes bs) (has_bytes cs) cs xs
-  hash_map_text_same = finds_same lookup _ _ bs cs refl refl
+module _ {X : Type 0} (q : Bor (List ℕ)) (cs : List ℕ) where
+  pub hash_map_text_same : (xs : List (PlacedText × X)) → cs ≡ q.now → FindsSame lookup (λ k. bytes_eq q.now (utf8 k.text)) (has_bytes cs) cs xs
+  hash_map_text_same = finds_same lookup _ _ q.now cs refl refl
 
-  pub hash_map_text_after : (old new : List (PlacedText × X)) → KeepsOthers same_text (has_bytes bs) old new
-      → FindsAfter lookup (has_bytes bs) (has_bytes cs) (KeepsOthers same_text (has_bytes bs) old new) bs cs old new
-  hash_map_text_after old new h = finds_after lookup _ _ bs cs refl refl _ old new (kept_entries same_text _ _ old new h (one_key cs)) h
+  pub hash_map_text_after : (old new : List (PlacedText × X)) → KeepsOthers same_text (λ k. bytes_eq q.now (utf8 k.text)) old new
+      → FindsAfter lookup (λ k. bytes_eq q.now (utf8 k.text)) (has_bytes cs) (KeepsOthers same_text (λ k. bytes_eq q.now (utf8 k.text)) old new) q.now cs old new
+  hash_map_text_after old new h = finds_after lookup _ _ q.now cs refl refl _ old new (kept_entries same_text _ _ old new h (one_key cs)) h
 
-  pub btree_map_text_same : (xs : List (PlacedText × X)) → cs ≡ bs → FindsSame lookup (is_at (bytes_cmp bs)) (is_at (bytes_cmp cs)) cs xs
-  btree_map_text_same = finds_same lookup _ _ bs cs (bytes_cmp-is bs) (bytes_cmp-is cs)
+  pub btree_map_text_same : (xs : List (PlacedText × X)) → cs ≡ q.now → FindsSame lookup (is_at (λ k. slice_cmp nat_cmp q.now (utf8 k.text))) (is_at (bytes_cmp cs)) cs xs
+  btree_map_text_same = finds_same lookup _ _ q.now cs (bytes_cmp-is q.now) (bytes_cmp-is cs)
 
-  pub btree_map_text_after : (old new : List (PlacedText × X)) → KeepsOthers (eq_by_cmp text_cmp) (is_at (bytes_cmp bs)) old new
-      → FindsAfter lookup (is_at (bytes_cmp bs)) (is_at (bytes_cmp cs)) (KeepsOthers (eq_by_cmp text_cmp) (is_at (bytes_cmp bs)) old new) bs cs old new
-  btree_map_text_after old new h = finds_after lookup _ _ bs cs (bytes_cmp-is bs) (bytes_cmp-is cs) _ old new (kept_entries (eq_by_cmp text_cmp) _ _ old new h (one_sorted_key cs)) h
+  pub btree_map_text_after : (old new : List (PlacedText × X)) → KeepsOthers (eq_by_cmp text_cmp) (is_at (λ k. slice_cmp nat_cmp q.now (utf8 k.text))) old new
+      → FindsAfter lookup (is_at (λ k. slice_cmp nat_cmp q.now (utf8 k.text))) (is_at (bytes_cmp cs)) (KeepsOthers (eq_by_cmp text_cmp) (is_at (λ k. slice_cmp nat_cmp q.now (utf8 k.text))) old new) q.now cs old new
+  btree_map_text_after old new h = finds_after lookup _ _ q.now cs (bytes_cmp-is q.now) (bytes_cmp-is cs) _ old new (kept_entries (eq_by_cmp text_cmp) _ _ old new h (one_sorted_key cs)) h
 
-module _ (bs cs : List ℕ) where
-  pub hash_set_text_same : (xs : List PlacedText) → cs ≡ bs → FindsSame list_any (has_bytes bs) (has_bytes cs) cs xs
-  hash_set_text_same = finds_same list_any _ _ bs cs refl refl
+module _ (q : Bor (List ℕ)) (cs : List ℕ) where
+  pub hash_set_text_same : (xs : List PlacedText) → cs ≡ q.now → FindsSame list_any (λ k. bytes_eq q.now (utf8 k.text)) (has_bytes cs) cs xs
+  hash_set_text_same = finds_same list_any _ _ q.now cs refl refl
 
-  pub hash_set_text_after : (old new : List PlacedText) → KeepsOtherKeys same_text (has_bytes bs) old new
-      → FindsAfter list_any (has_bytes bs) (has_bytes cs) (KeepsOtherKeys same_text (has_bytes bs) old new) bs cs old new
-  hash_set_text_after old new h = finds_after list_any _ _ bs cs refl refl _ old new (kept_keys same_text _ _ old new h (one_key cs)) h
+  pub hash_set_text_after : (old new : List PlacedText) → KeepsOtherKeys same_text (λ k. bytes_eq q.now (utf8 k.text)) old new
+      → FindsAfter list_any (λ k. bytes_eq q.now (utf8 k.text)) (has_bytes cs) (KeepsOtherKeys same_text (λ k. bytes_eq q.now (utf8 k.text)) old new) q.now cs old new
+  hash_set_text_after old new h = finds_after list_any _ _ q.now cs refl refl _ old new (kept_keys same_text _ _ old new h (one_key cs)) h
 
-  pub btree_set_text_same : (xs : List PlacedText) → cs ≡ bs → FindsSame list_any (is_at (bytes_cmp bs)) (is_at (bytes_cmp cs)) cs xs
-  btree_set_text_same = finds_same list_any _ _ bs cs (bytes_cmp-is bs) (bytes_cmp-is cs)
+  pub btree_set_text_same : (xs : List PlacedText) → cs ≡ q.now → FindsSame list_any (is_at (λ k. slice_cmp nat_cmp q.now (utf8 k.text))) (is_at (bytes_cmp cs)) cs xs
+  btree_set_text_same = finds_same list_any _ _ q.now cs (bytes_cmp-is q.now) (bytes_cmp-is cs)
 
-  pub btree_set_text_after : (old new : List PlacedText) → KeepsOtherKeys (eq_by_cmp text_cmp) (is_at (bytes_cmp bs)) old new
-      → FindsAfter list_any (is_at (bytes_cmp bs)) (is_at (bytes_cmp cs)) (KeepsOtherKeys (eq_by_cmp text_cmp) (is_at (bytes_cmp bs)) old new) bs cs old new
-  btree_set_text_after old new h = finds_after list_any _ _ bs cs (bytes_cmp-is bs) (bytes_cmp-is cs) _ old new (kept_keys (eq_by_cmp text_cmp) _ _ old new h (one_sorted_key cs)) h
+  pub btree_set_text_after : (old new : List PlacedText) → KeepsOtherKeys (eq_by_cmp text_cmp) (is_at (λ k. slice_cmp nat_cmp q.now (utf8 k.text))) old new
+      → FindsAfter list_any (is_at (λ k. slice_cmp nat_cmp q.now (utf8 k.text))) (is_at (bytes_cmp cs)) (KeepsOtherKeys (eq_by_cmp text_cmp) (is_at (λ k. slice_cmp nat_cmp q.now (utf8 k.text))) old new) q.now cs old new
+  btree_set_text_after old new h = finds_after list_any _ _ q.now cs (bytes_cmp-is q.now) (bytes_cmp-is cs) _ old new (kept_keys (eq_by_cmp text_cmp) _ _ old new h (one_sorted_key cs)) h
 
+-- `grind` computes a test of a literal, as of `get("abc")`. These give it the test's name back
+
+module _ {X : Type 0} (c : ℕ) (cs : List ℕ) (xs : List (PlacedText × X)) where
+  pub hash_map_literal : lookup (λ k. bytes_eq (c ∷ cs) (utf8 k.text)) xs ≡ lookup (has_bytes (c ∷ cs)) xs
+  hash_map_literal = refl
+
+  pub btree_map_literal : lookup (is_at (λ k. slice_cmp nat_cmp (c ∷ cs) (utf8 k.text))) xs ≡ lookup (is_at (bytes_cmp (c ∷ cs))) xs
+  btree_map_literal = refl
+
+module _ (c : ℕ) (cs : List ℕ) (xs : List PlacedText) where
+  pub hash_set_literal : list_any (λ k. bytes_eq (c ∷ cs) (utf8 k.text)) xs ≡ list_any (has_bytes (c ∷ cs)) xs
+  hash_set_literal = refl
+
+  pub btree_set_literal : list_any (is_at (λ k. slice_cmp nat_cmp (c ∷ cs) (utf8 k.text))) xs ≡ list_any (is_at (bytes_cmp (c ∷ cs))) xs
+  btree_set_literal = refl
+
+-- the last five are of a count or a total for each key, in a loop
 pub ruleset text_keys = (
   hash_map_key_same,
   hash_map_key_after,
@@ -216,4 +234,13 @@ pub ruleset text_keys = (
   hash_set_text_after,
   btree_set_text_same,
   btree_set_text_after,
+  hash_map_literal,
+  btree_map_literal,
+  hash_set_literal,
+  btree_set_literal,
+  fold_more,
+  fold_push,
+  sum_by_more_le,
+  sum_by_more_le_part,
+  count_by-le-length,
 )
