@@ -12,6 +12,7 @@ pub mod Collecting
 pub mod Fitted
 pub mod CollectFacts
 pub mod KeyFacts
+pub mod TextKeys
 pub mod LawLemmas
 pub mod TextBytes
 pub mod ForCallers

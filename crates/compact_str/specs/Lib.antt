@@ -26,3 +26,5 @@ pub mod FittedValues
 pub mod DecodeErrors
 pub mod Fields
 pub mod Lookups
+pub mod HashedKeys
+pub mod SortedKeys
