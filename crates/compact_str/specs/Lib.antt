@@ -26,3 +26,4 @@ pub mod FittedValues
 pub mod DecodeErrors
 pub mod Fields
 pub mod Lookups
+pub mod Shown
