@@ -20,6 +20,7 @@ mod repeat;
 mod room;
 mod show;
 mod std_lookup;
+mod within;
 mod write;
 
 use compact_repr::{Policy, Repr, Standard};
