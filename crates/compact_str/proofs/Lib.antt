@@ -14,6 +14,7 @@ pub mod CollectFacts
 pub mod KeyFacts
 pub mod LawLemmas
 pub mod TextBytes
+pub mod Within
 pub mod Written
 pub mod ForCallers
 pub mod Examples

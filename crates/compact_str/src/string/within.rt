@@ -1,16 +1,17 @@
 //! Calls on a part of the text, given as a range of Rust's.
-ghost use Rattle.std.specs.Prelude.{◌≡◌, ◌-◌, ◌+◌, ◌≤◌, [], length, Some, IfOk, OnOk, OnErr, IsOk, IsTrue};
+ghost use Rattle.std.specs.Prelude.{◌≡◌, ◌-◌, ◌+◌, ◌≤◌, ◌++◌, [], length, Some, IfOk, OnOk, OnErr, IsOk, IsTrue};
 ghost use Rattle.std.specs.Borrow.{sem, RestsIfErr};
 ghost use Rattle.std.specs.Range.Bound.{bound_map};
 ghost use Rattle.compact_repr.specs.Text.{size, utf8, text_of};
 ghost use Rattle.compact_repr.specs.Cut.{substring, replaced_text};
 ghost use Rattle.compact_repr.specs.Capacity.{make_owned_asks};
-ghost use Rattle.compact_repr.specs.Change.{replace_range, replace_range_asks};
-ghost use Rattle.compact_str.specs.Room.{IsOwned, HasRoomFor};
+ghost use Rattle.compact_repr.specs.Change.{push_str, push_str_asks, replace_range, replace_range_asks};
+ghost use Rattle.compact_str.specs.Room.{IsOwned, HasRoomFor, sure_capacity};
 ghost use Rattle.compact_str.specs.Ranges.{IsRange, range_start, range_end};
 
 use crate::string::PolicyString;
 use crate::string::drain::Drain;
+use crate::string::position::byte_range;
 use compact_repr::{Policy, ReserveError};
 use std::ops::{Bound, RangeBounds};
 
@@ -110,6 +111,49 @@ impl<P: Policy> PolicyString<P> {
     {
         let (start, end) = bounds(range);
         self.replace_range(start, end, text)
+    }
+
+    /// Appends the part of the text in `range`, in bytes, once more, as `push_str` would append it. It is copied within
+    /// the buffer.
+    ///
+    /// # Errors
+    ///
+    /// [`ReserveError`] as from `push_str`.
+    ///
+    /// # Examples
+    ///
+    /// `"abc"` with `1..` gives `"abcbc"`.
+    #[tactic(auto, using(compact_buffers::proofs::TextFacts::text_facts, crate::proofs::Within::within_facts))]
+    pub fn extend_from_within<R: RangeBounds<usize>>(
+        &mut self,
+        range: R,
+    ) -> Result<(), ReserveError>
+        requires known { R.has_bounds range }
+        requires range { IsRange self.old.text (R.start_bound range) (R.end_bound range) }
+        ensures ok { OnOk result
+            (push_str P.growth self.old (substring self.old.text
+            (range_start (R.start_bound range)) (range_end self.old.text (R.end_bound range)))
+            ≡ Some self.new) }
+        ensures text { OnOk result
+            (self.new.text ≡ self.old.text ++ substring self.old.text
+            (range_start (R.start_bound range)) (range_end self.old.text (R.end_bound range))) }
+        ensures bytes { OnOk result
+            (utf8 self.new.text ≡ utf8 self.old.text ++ utf8 (substring self.old.text
+            (range_start (R.start_bound range)) (range_end self.old.text (R.end_bound range)))) }
+        ensures room { OnOk result (sure_capacity self.old ≤ sure_capacity self.new) }
+        ensures succeeds { HasRoomFor self.old
+            (range_end self.old.text (R.end_bound range) - range_start (R.start_bound range))
+            → IsOk result }
+        ensures err { OnErr result
+            ((self.new ≡ self.old)
+            × IsTrue (push_str_asks self.old (substring self.old.text
+            (range_start (R.start_bound range)) (range_end self.old.text (R.end_bound range))))) }
+    {
+        let (start, end) = bounds(range);
+        let Some((first, last)) = byte_range(start, end, self.len()) else {
+            unreachable!();
+        };
+        self.repr.push_within(first, last)
     }
 }
 
