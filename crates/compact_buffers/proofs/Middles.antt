@@ -1,11 +1,12 @@
 -- What stands between two boundaries of a text.
-use Rattle.std.proofs.Common.{◌≡◌, ℕ, ◌+◌, ◌-◌, ◌≤◌, List, [], ◌∷◌, ◌++◌, refl, ap, sym, ◌∙◌, arith, append_assoc}
-use Rattle.std.proofs.lemmas.Str.{len_utf8_bounds}
+use Rattle.std.proofs.Common.{◌≡◌, ℕ, ◌+◌, ◌-◌, ◌≤◌, List, [], ◌∷◌, ◌++◌, take, drop, refl, ap, sym, ◌∙◌, arith, append_assoc}
+use Rattle.std.proofs.lemmas.Str.{len_utf8_bounds, IsUtf8-drop}
+use Rattle.std.specs.Str.{IsUtf8}
 use Rattle.std.specs.Char.{len_utf8}
-use Rattle.compact_buffers.specs.Text.{size}
+use Rattle.compact_buffers.specs.Text.{size, text_of}
 use Rattle.compact_buffers.specs.Cut.{IsBoundary, text_before, text_after, substring}
 use Rattle.compact_buffers.proofs.Texts.{size-append}
-use Rattle.compact_buffers.proofs.Cuts.{text_before-text_after, text_before-append, text_after-append, size-text_before}
+use Rattle.compact_buffers.proofs.Cuts.{text_before-text_after, text_before-append, text_after-append, size-text_before, boundary-bytes, text_of-take, text_of-drop, utf8-take}
 
 abbrev head_or : ℕ → List ℕ → ℕ
 head_or d [] = d
@@ -51,3 +52,12 @@ pub boundary-substring : (t : List ℕ) (i j : ℕ) → IsBoundary t i → IsBou
 boundary-substring t i j h k order =
     let parts = substring-parts t i j h k order in
     (substring t i j, text_after t j, record { parts = parts.0; position = parts.1 })
+
+-- the bytes between two boundaries are UTF-8, and spell what stands there
+pub part-text : {t : List ℕ} (bytes : List ℕ) (i j : ℕ) → text_of bytes ≡ t → IsUtf8 bytes → IsBoundary t i → IsBoundary t j → i ≤ j
+    → IsUtf8 (take (j - i) (drop i bytes)) × (text_of (take (j - i) (drop i bytes)) ≡ substring t i j)
+part-text {t = t} bytes i j e u first last order =
+    let rest = text_of-drop bytes i e u first in
+    let behind = IsUtf8-drop bytes i u (boundary-bytes bytes i e u first) in
+    let cut = boundary-substring t i j first last order in
+    (utf8-take (drop i bytes) (j - i) rest behind cut, text_of-take (drop i bytes) (j - i) rest behind cut)

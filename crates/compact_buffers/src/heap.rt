@@ -2,7 +2,7 @@
 ghost use Rattle.std.specs.Prelude.{◌≡◌, ◌+◌, ◌-◌, ◌≤◌, ◌<◌, ◌^◌, [], ◌∷◌, ◌++◌, length, false, IfOk, OnOk, OnErr, IsTrue, ◌↔◌};
 ghost use Rattle.std.specs.String.{string_bytes, string_capacity};
 ghost use Rattle.compact_buffers.specs.Text.{size, utf8, text_of, IsText};
-ghost use Rattle.compact_buffers.specs.Cut.{IsBoundary, text_before, replaced_text};
+ghost use Rattle.compact_buffers.specs.Cut.{IsBoundary, text_before, substring, replaced_text};
 
 mod append;
 mod bytewise;
@@ -139,6 +139,22 @@ impl HeapBuffer {
         }
         append::append_all(&mut self.bytes, text.as_bytes());
         true
+    }
+
+    /// Appends what stands from one boundary to another, for which there is room. Positions are in bytes.
+    pub fn push_within(&mut self, start: usize, end: usize)
+        requires order { start ≤ end }
+        requires first { IsBoundary self.old.text start }
+        requires last { IsBoundary self.old.text end }
+        requires room { size self.old.text + (end - start) ≤ self.old.capacity }
+        ensures pushed { self.new
+            ≡ record {
+              text = self.old.text ++ substring self.old.text start end;
+              capacity = self.old.capacity;
+            } }
+        ensures within { size self.new.text ≤ self.old.capacity }
+    {
+        append::append_within(&mut self.bytes, start, end);
     }
 
     /// Replaces what stands from one boundary to another by `text` where the outcome fits, and takes no memory. Answers

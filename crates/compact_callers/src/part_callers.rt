@@ -6,9 +6,7 @@ ghost use Rattle.std.specs.Str.{trim};
 ghost use Rattle.compact_str.specs.Text.{text_of, utf8};
 ghost use Rattle.compact_str.specs.Ranges.{IsBetweenWhitespace};
 
-use compact_str::CompactString;
-use std::fmt;
-use std::fmt::Write;
+use compact_str::{CompactString, ReserveError};
 
 /// Appends an address. Its contract joins from the right, as what a formatter writes is joined.
 #[tactic(auto, using(compact_str::proofs::ForCallers::for_callers))]
@@ -18,12 +16,11 @@ pub fn append_address(
     host: &CompactString,
     port: u16,
     path: &str,
-) -> fmt::Result
+) -> Result<(), ReserveError>
     ensures { OnOk result (line.new.text ≡ line.old.text ++ (text_of scheme.now ++ (codes "://"
         ++ (host.now.text ++ (codes ":" ++ (decimal port ++ (codes "/" ++ text_of path.now))))))) }
 {
-    // The proof reads from it which characters the bytes spell that are written.
-    let _text = host.as_str();
+    let host = host.as_str();
     write!(line, "{scheme}://{host}:{port}/{path}")
 }
 
@@ -35,7 +32,7 @@ pub fn append_request(
     host: &CompactString,
     port: u16,
     path: &str,
-) -> fmt::Result
+) -> Result<(), ReserveError>
     ensures { OnOk result (utf8 line.new.text ≡ utf8 line.old.text ++ (method.now ++ (codes " "
         ++ (utf8 host.now.text ++ (codes ":" ++ (decimal port ++ (codes "/" ++ path.now))))))) }
 {
@@ -160,7 +157,7 @@ pub fn append_whole_address(
     path: &str,
     query: &str,
     fragment: &str,
-) -> fmt::Result
+) -> Result<(), ReserveError>
     ensures { OnOk result (line.new.text ≡ line.old.text ++ (text_of scheme.now ++ (codes "://"
         ++ (text_of user.now ++ (codes ":" ++ (text_of password.now ++ (codes "@" ++ (host.now.text
         ++ (codes ":" ++ (decimal port ++ (codes "/" ++ (text_of path.now ++ (codes "?"

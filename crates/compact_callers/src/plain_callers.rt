@@ -5,12 +5,10 @@ ghost use Rattle.compact_str.specs.Text.{text_of, size};
 ghost use Rattle.compact_str.specs.Cut.{IsBoundary, replaced_text};
 
 use compact_str::{CompactString, ReserveError};
-use std::fmt;
-use std::fmt::Write;
 
 /// Appends a line of a report: a name, an arrow and a value.
 #[tactic(auto, using(compact_str::proofs::ForCallers::for_callers))]
-pub fn append_report(line: &mut CompactString, name: &str, value: &str) -> fmt::Result
+pub fn append_report(line: &mut CompactString, name: &str, value: &str) -> Result<(), ReserveError>
     ensures { OnOk result
         (line.new.text ≡ line.old.text ++ text_of name.now ++ codes " → " ++ text_of value.now) }
 {
@@ -19,7 +17,7 @@ pub fn append_report(line: &mut CompactString, name: &str, value: &str) -> fmt::
 
 /// Appends a count to a report: a name, a colon and the number.
 #[tactic(auto, using(compact_str::proofs::ForCallers::for_callers))]
-pub fn append_count(line: &mut CompactString, name: &str, count: u64) -> fmt::Result
+pub fn append_count(line: &mut CompactString, name: &str, count: u64) -> Result<(), ReserveError>
     ensures { OnOk result
         (line.new.text ≡ line.old.text ++ text_of name.now ++ codes ": " ++ decimal count) }
 {
@@ -115,10 +113,9 @@ pub fn split_field(field: &mut CompactString) -> Result<Option<CompactString>, R
 
 /// Appends a value as it is shown.
 #[tactic(auto, using(compact_str::proofs::ForCallers::for_callers))]
-pub fn append_value(line: &mut CompactString, value: &CompactString) -> fmt::Result
+pub fn append_value(line: &mut CompactString, value: &CompactString) -> Result<(), ReserveError>
     ensures { OnOk result (line.new.text ≡ line.old.text ++ value.now.text) }
 {
-    // The proof reads from it which characters the bytes spell that are written.
-    let _text = value.as_str();
-    write!(line, "{value}")
+    let shown = value.as_str();
+    write!(line, "{shown}")
 }

@@ -12,6 +12,7 @@ mod make;
 mod out;
 mod position;
 pub mod room;
+mod within;
 
 use crate::inline::{INLINE_CAPACITY, InlineBuffer};
 use crate::policy::Policy;

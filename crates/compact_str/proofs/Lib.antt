@@ -15,6 +15,8 @@ pub mod KeyFacts
 pub mod TextKeys
 pub mod LawLemmas
 pub mod TextBytes
+pub mod Within
+pub mod Written
 pub mod ForCallers
 pub mod Examples
 pub mod PartFacts

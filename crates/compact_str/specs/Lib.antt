@@ -28,3 +28,4 @@ pub mod Fields
 pub mod Lookups
 pub mod HashedKeys
 pub mod SortedKeys
+pub mod Shown

@@ -1,14 +1,16 @@
 //! A value while it is collected, with the short pieces that are not yet appended to it.
-ghost use Rattle.std.specs.Prelude.{◌≡◌, ◌+◌, ◌<◌, [], ◌∷◌, ◌++◌, length, OnOk, OnErr, IfOk, IfSome};
+ghost use Rattle.std.specs.Prelude.{◌≡◌, ◌+◌, ◌<◌, [], ◌∷◌, ◌++◌, length, Some, OnOk, OnErr, IfOk, IfSome};
 ghost use Rattle.std.specs.Char.{len_utf8};
 ghost use Rattle.compact_repr.specs.Text.{size, text_of};
+ghost use Rattle.compact_repr.specs.Change.{push_str};
 ghost use Rattle.compact_str.specs.FittedValues.{IsFitted};
+ghost use Rattle.compact_str.specs.Shown.{Shows};
 
 use crate::string::PolicyString;
 use compact_repr::{Block, Padded, Policy, ReserveError, encode_char};
 use std::alloc::Global;
 use std::marker::Model;
-use std::mem;
+use std::{fmt, mem};
 
 /// What has come so far: a value, and behind it a block of short pieces that are appended to it at once. A contract sees
 /// the text of both. So a text of at most 1024 bytes asks for memory once, and for just what it takes.
@@ -148,5 +150,38 @@ impl<P: Policy> Gathered<P> {
         self.value.push_str(self.block.as_str())?;
         let nothing = PolicyString::default(self.value.allocator());
         Ok(mem::replace(&mut self.value, nothing))
+    }
+
+    /// Appends what has come to `target`, all of it at once.
+    ///
+    /// # Errors
+    ///
+    /// [`ReserveError`] if a buffer is refused; then `target` is as it was.
+    pub fn push_onto(&mut self, target: &mut PolicyString<P>) -> Result<(), ReserveError>
+        ensures ok { OnOk result (push_str P.growth target.old self.old ≡ Some target.new) }
+        ensures err { OnErr result (target.new ≡ target.old) }
+    {
+        if self.value.is_empty() {
+            return target.push_str(self.block.as_str());
+        }
+        self.value.push_str(self.block.as_str())?;
+        target.push_str(self.value.as_str())
+    }
+}
+
+impl<P: Policy> fmt::Write for Gathered<P> {
+    ghost write_str_gives = { Shows };
+
+    /// Takes `text` behind what has come.
+    ///
+    /// # Errors
+    ///
+    /// `fmt::Error` if a buffer is refused.
+    #[inline]
+    fn write_str(&mut self, text: &str) -> fmt::Result {
+        match self.push_str(text) {
+            Ok(()) => Ok(()),
+            Err(ReserveError) => Err(fmt::Error),
+        }
     }
 }

@@ -20,6 +20,8 @@ mod repeat;
 mod room;
 mod show;
 mod std_lookup;
+mod within;
+mod write;
 
 use compact_repr::{Policy, Repr, Standard};
 use std::marker::Model;

@@ -141,6 +141,20 @@ pub fn append_zeros(bytes: &mut Vec<u8>, len: usize)
     put_back(bytes, vec);
 }
 
+/// Appends what stands in a vector from one place to another, once more at its end.
+pub fn append_within(bytes: &mut Vec<u8>, start: usize, end: usize)
+    requires order { start ≤ end }
+    requires within { end ≤ vec_len bytes.old }
+    requires room { vec_len bytes.old + (end - start) ≤ vec_capacity bytes.old }
+    ensures items { bytes.new.items
+        ≡ bytes.old.items ++ take (end - start) (drop start bytes.old.items) }
+    ensures capacity { vec_capacity bytes.new ≡ vec_capacity bytes.old }
+{
+    let len = bytes.len();
+    append_gap(bytes, len + (end - start));
+    bytes.as_mut_slice().copy_within(start..end, len);
+}
+
 /// Appends bytes, at least `N` and at most twice as many, as the first `N` and the last `N` of them. Of the first it keeps
 /// those that do not come again. Each is read right before it is appended, so that it needs no place on the stack.
 #[inline(always)]

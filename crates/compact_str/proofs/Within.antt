@@ -1,0 +1,18 @@
+-- What stands in a range, when it is appended.
+use Rattle.std.proofs.Common.{◌≡◌, ℕ, ◌-◌, ◌≤◌, Result, OnErr, IsOk, IsTrue, sym}
+pub use Rattle.std.proofs.lemmas.Str.{encodes-append}
+pub use Rattle.compact_buffers.proofs.Middles.{substring-parts}
+use Rattle.compact_repr.specs.Cut.{IsBoundary, substring}
+use Rattle.compact_repr.specs.Value.{PlacedText}
+use Rattle.compact_repr.specs.Change.{push_str_asks}
+use Rattle.compact_repr.proofs.Changes.{push_str-text}
+use Rattle.compact_str.specs.Room.{HasRoomFor}
+use Rattle.compact_str.proofs.Rooms.{push_str-sure, push_str-bytes, push_str_asks-succeeds}
+
+-- what is sure to fit is not refused
+pub within-succeeds : {E : Type 0} (v w : PlacedText) (i j : ℕ) (r : Result (Unit {0}) E) → OnErr r ((w ≡ v) × IsTrue (push_str_asks v (substring v.text i j)))
+    → IsBoundary v.text i → IsBoundary v.text j → i ≤ j → HasRoomFor v (j - i) → IsOk r
+within-succeeds v w i j r err first last order room =
+    push_str_asks-succeeds v w (j - i) (substring v.text i j) r (sym (substring-parts v.text i j first last order).1) err room
+
+pub ruleset within_facts = (encodes-append, substring-parts, push_str-text, push_str-sure, push_str-bytes, within-succeeds)

@@ -1,0 +1,179 @@
+//! Calls on a part of the text, given as a range of Rust's.
+ghost use Rattle.std.specs.Prelude.{◌≡◌, ◌-◌, ◌+◌, ◌≤◌, ◌++◌, [], length, Some, IfOk, OnOk, OnErr, IsOk, IsTrue};
+ghost use Rattle.std.specs.Borrow.{sem, RestsIfErr};
+ghost use Rattle.std.specs.Range.Bound.{bound_map};
+ghost use Rattle.compact_repr.specs.Text.{size, utf8, text_of};
+ghost use Rattle.compact_repr.specs.Cut.{substring, replaced_text};
+ghost use Rattle.compact_repr.specs.Capacity.{make_owned_asks};
+ghost use Rattle.compact_repr.specs.Change.{push_str, push_str_asks, replace_range, replace_range_asks};
+ghost use Rattle.compact_str.specs.Room.{IsOwned, HasRoomFor, sure_capacity};
+ghost use Rattle.compact_str.specs.Ranges.{IsRange, range_start, range_end};
+
+use crate::string::PolicyString;
+use crate::string::drain::Drain;
+use crate::string::position::byte_range;
+use compact_repr::{Policy, ReserveError};
+use std::ops::{Bound, RangeBounds};
+
+impl<P: Policy> PolicyString<P> {
+    ghost use Rattle.compact_str.specs.Drain.{drain_rest, value_after_drain, drain_lender};
+    ghost use Rattle.compact_str.specs.contracts.string.PolicyString.{the_row};
+
+    /// The part of the text in `range`, in bytes, as `range` gives it by two bounds.
+    ///
+    /// # Examples
+    ///
+    /// Of `"key=value"` the part in `4..` is `"value"`.
+    pub fn range_within<R: RangeBounds<usize>>(&self, range: R) -> &str
+        requires known { R.has_bounds range }
+        requires range { IsRange self.now.text (R.start_bound range) (R.end_bound range) }
+        ensures bytes { result.now ≡ utf8 (substring self.now.text
+            (range_start (R.start_bound range)) (range_end self.now.text (R.end_bound range))) }
+        ensures text { text_of result.now ≡ substring self.now.text
+            (range_start (R.start_bound range)) (range_end self.now.text (R.end_bound range)) }
+        ensures len { length result.now
+            ≡ range_end self.now.text (R.end_bound range) - range_start (R.start_bound range) }
+    {
+        let (start, end) = bounds(range);
+        self.range(start, end)
+    }
+
+    /// Takes the characters in `range`, in bytes, out of the text, as `drain` does.
+    ///
+    /// # Errors
+    ///
+    /// [`ReserveError`] as from `drain`.
+    ///
+    /// # Examples
+    ///
+    /// Of `"Hello, world!"` in `5..12` it gives the characters of `", world"`, and leaves `"Hello!"`.
+    pub fn drain_within<R: RangeBounds<usize>>(
+        &mut self,
+        range: R,
+    ) -> Result<Drain<'_, P>, ReserveError>
+        requires known { R.has_bounds range }
+        requires range { IsRange self.old.text (R.start_bound range) (R.end_bound range) }
+        ensures* refused { sem 𝓛
+            (RestsIfErr (the_row P.row P.Policy) self.entry drain_lender result
+            (λ v. v ≡ self.old)) }
+        ensures same_reference { IfOk result (λ d. drain_lender d ≡ self.entry.ghost_name) }
+        ensures rest { IfOk result (λ d. drain_rest d ≡ substring self.old.text
+            (range_start (R.start_bound range)) (range_end self.old.text (R.end_bound range))) }
+        ensures leaves { IfOk result
+            (λ d. replace_range P.growth self.old (range_start (R.start_bound range))
+            (range_end self.old.text (R.end_bound range)) []
+            ≡ Some (value_after_drain d)) }
+        ensures text { IfOk result
+            (λ d. (value_after_drain d).text ≡ replaced_text self.old.text
+            (range_start (R.start_bound range))
+            (range_end self.old.text (R.end_bound range)) []) }
+        ensures succeeds { IsOwned self.old → IsOk result }
+        ensures succeeds_short { size self.old.text ≤ 24 → IsOk result }
+        ensures err { OnErr result (IsTrue (make_owned_asks self.old)) }
+    {
+        let (start, end) = bounds(range);
+        self.drain(start, end)
+    }
+
+    /// Replaces the part of the text in `range`, in bytes, as `replace_range` does.
+    ///
+    /// # Errors
+    ///
+    /// [`ReserveError`] as from `replace_range`.
+    ///
+    /// # Examples
+    ///
+    /// `"abc"` with `1..2` replaced by `"xy"` gives `"axyc"`.
+    pub fn replace_within<R: RangeBounds<usize>>(
+        &mut self,
+        range: R,
+        text: &str,
+    ) -> Result<(), ReserveError>
+        requires known { R.has_bounds range }
+        requires range { IsRange self.old.text (R.start_bound range) (R.end_bound range) }
+        ensures ok { OnOk result
+            (replace_range P.growth self.old (range_start (R.start_bound range))
+            (range_end self.old.text (R.end_bound range)) (text_of text.now) ≡ Some self.new) }
+        ensures text { OnOk result
+            (self.new.text ≡ replaced_text self.old.text (range_start (R.start_bound range))
+            (range_end self.old.text (R.end_bound range)) (text_of text.now)) }
+        ensures succeeds { HasRoomFor self.old
+            (length text.now
+            - (range_end self.old.text (R.end_bound range) - range_start (R.start_bound range)))
+            → IsOk result }
+        ensures succeeds_owned { IsOwned self.old
+            → range_start (R.start_bound range) + length text.now
+            ≤ range_end self.old.text (R.end_bound range) → IsOk result }
+        ensures err { OnErr result
+            ((self.new ≡ self.old)
+            × IsTrue (replace_range_asks self.old (range_start (R.start_bound range))
+            (range_end self.old.text (R.end_bound range)) (text_of text.now))) }
+    {
+        let (start, end) = bounds(range);
+        self.replace_range(start, end, text)
+    }
+
+    /// Appends the part of the text in `range`, in bytes, once more, as `push_str` would append it. It is copied within
+    /// the buffer.
+    ///
+    /// # Errors
+    ///
+    /// [`ReserveError`] as from `push_str`.
+    ///
+    /// # Examples
+    ///
+    /// `"abc"` with `1..` gives `"abcbc"`.
+    #[tactic(auto, using(compact_buffers::proofs::TextFacts::text_facts, crate::proofs::Within::within_facts))]
+    pub fn extend_from_within<R: RangeBounds<usize>>(
+        &mut self,
+        range: R,
+    ) -> Result<(), ReserveError>
+        requires known { R.has_bounds range }
+        requires range { IsRange self.old.text (R.start_bound range) (R.end_bound range) }
+        ensures ok { OnOk result
+            (push_str P.growth self.old (substring self.old.text
+            (range_start (R.start_bound range)) (range_end self.old.text (R.end_bound range)))
+            ≡ Some self.new) }
+        ensures text { OnOk result
+            (self.new.text ≡ self.old.text ++ substring self.old.text
+            (range_start (R.start_bound range)) (range_end self.old.text (R.end_bound range))) }
+        ensures bytes { OnOk result
+            (utf8 self.new.text ≡ utf8 self.old.text ++ utf8 (substring self.old.text
+            (range_start (R.start_bound range)) (range_end self.old.text (R.end_bound range)))) }
+        ensures room { OnOk result (sure_capacity self.old ≤ sure_capacity self.new) }
+        ensures succeeds { HasRoomFor self.old
+            (range_end self.old.text (R.end_bound range) - range_start (R.start_bound range))
+            → IsOk result }
+        ensures err { OnErr result
+            ((self.new ≡ self.old)
+            × IsTrue (push_str_asks self.old (substring self.old.text
+            (range_start (R.start_bound range)) (range_end self.old.text (R.end_bound range))))) }
+    {
+        let (start, end) = bounds(range);
+        let Some((first, last)) = byte_range(start, end, self.len()) else {
+            unreachable!();
+        };
+        self.repr.push_within(first, last)
+    }
+}
+
+/// The two bounds of a range.
+fn bounds<R: RangeBounds<usize>>(range: R) -> (Bound<usize>, Bound<usize>)
+    requires { R.has_bounds range }
+    ensures start { result.0 ≡ R.start_bound range }
+    ensures end { result.1 ≡ R.end_bound range }
+{
+    let start = copied(range.start_bound());
+    let end = copied(range.end_bound());
+    (start, end)
+}
+
+fn copied(bound: Bound<&usize>) -> Bound<usize>
+    ensures { bound_map (λ x. x.now) bound.entry ≡ result }
+{
+    match bound {
+        Bound::Included(index) => Bound::Included(*index),
+        Bound::Excluded(index) => Bound::Excluded(*index),
+        Bound::Unbounded => Bound::Unbounded,
+    }
+}

@@ -1,0 +1,90 @@
+//! How what a `Display` shows is appended.
+ghost use Rattle.std.specs.Prelude.{◌≡◌, ◌++◌, Some, IfSome, OnOk, OnErr};
+ghost use Rattle.std.specs.Fmt.{AppendsText, with_newline};
+ghost use Rattle.compact_repr.specs.Text.{text_of, utf8};
+ghost use Rattle.compact_repr.specs.Change.{push_str};
+
+use crate::gather::Gathered;
+use crate::string::PolicyString;
+use compact_repr::{Policy, ReserveError};
+use std::fmt;
+use std::fmt::{Display, Write};
+
+// These shadow the methods of `fmt::Write`, as the kit's `String` does.
+impl<P: Policy> PolicyString<P> {
+    /// Appends what `value` shows, as `push_str` appends it: all of it at once, or nothing.
+    ///
+    /// It is shown to the stack first, and past 1024 bytes to a buffer that is freed again.
+    ///
+    /// # Errors
+    ///
+    /// [`ReserveError`] if a new buffer is refused, and also if `value` fails by itself. `format_compact!` tells the two
+    /// apart.
+    ///
+    /// # Examples
+    ///
+    /// `"ab"` and the number 12 give `"ab12"`.
+    pub fn write<D: Display + Drop>(&mut self, value: D) -> Result<(), ReserveError>
+        ensures ok { OnOk result (IfSome (D.output value)
+            (λ shown. push_str P.growth self.old (text_of shown) ≡ Some self.new)) }
+        ensures text { OnOk result (IfSome (D.output value)
+            (λ shown. self.new.text ≡ self.old.text ++ text_of shown)) }
+        ensures bytes { OnOk result
+            (AppendsText (utf8 self.old.text) (utf8 self.new.text) (D.output value)) }
+        ensures err { OnErr result (self.new ≡ self.old) }
+    {
+        let mut shown = Gathered::new(self.allocator());
+        match shown.write(value) {
+            Ok(()) => shown.push_onto(self),
+            Err(fmt::Error) => Err(ReserveError),
+        }
+    }
+
+    /// What `write!` calls: appends what `value` shows, as `write` does.
+    ///
+    /// # Errors
+    ///
+    /// [`ReserveError`] as from `write`.
+    ///
+    /// # Examples
+    ///
+    /// `write!(line, "{name}: {count}")?` appends `"total: 3"`.
+    #[inline]
+    pub fn write_fmt<D: Display + Drop>(&mut self, value: D) -> Result<(), ReserveError>
+        ensures ok { OnOk result (IfSome (D.output value)
+            (λ shown. push_str P.growth self.old (text_of shown) ≡ Some self.new)) }
+        ensures text { OnOk result (IfSome (D.output value)
+            (λ shown. self.new.text ≡ self.old.text ++ text_of shown)) }
+        ensures bytes { OnOk result
+            (AppendsText (utf8 self.old.text) (utf8 self.new.text) (D.output value)) }
+        ensures err { OnErr result (self.new ≡ self.old) }
+    {
+        self.write(value)
+    }
+
+    /// Appends what `value` shows and a line feed, as `write` appends.
+    ///
+    /// # Errors
+    ///
+    /// [`ReserveError`] as from `write`.
+    ///
+    /// # Examples
+    ///
+    /// `"ab"` and the number 12 give `"ab12\n"`.
+    pub fn writeln<D: Display + Drop>(&mut self, value: D) -> Result<(), ReserveError>
+        ensures ok { OnOk result (IfSome (with_newline (D.output value))
+            (λ shown. push_str P.growth self.old (text_of shown) ≡ Some self.new)) }
+        ensures text { OnOk result (IfSome (with_newline (D.output value))
+            (λ shown. self.new.text ≡ self.old.text ++ text_of shown)) }
+        ensures bytes { OnOk result
+            (AppendsText (utf8 self.old.text) (utf8 self.new.text)
+            (with_newline (D.output value))) }
+        ensures err { OnErr result (self.new ≡ self.old) }
+    {
+        let mut shown = Gathered::new(self.allocator());
+        match shown.writeln(value) {
+            Ok(()) => shown.push_onto(self),
+            Err(fmt::Error) => Err(ReserveError),
+        }
+    }
+}
