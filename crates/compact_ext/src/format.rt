@@ -1,6 +1,6 @@
 //! Texts made of what a format shows.
 ghost use Rattle.std.specs.Prelude.{◌≡◌, IfOk, IfSome, IsTrue, OnOk, OnErr};
-ghost use Rattle.compact_str.specs.Text.{text_of};
+ghost use Rattle.compact_str.specs.Text.{text_of, utf8};
 ghost use Rattle.compact_str.specs.Change.{push_str_asks};
 ghost use Rattle.compact_str.specs.PositionEdits.{Writes};
 ghost use Rattle.compact_str.specs.FittedValues.{IsFitted};
@@ -87,6 +87,7 @@ pub fn collect_display<D: Display + Drop>(
     shown: D,
 ) -> Result<CompactString, ToCompactStringError>
     ensures text { IfOk result (λ v. IfSome (D.output shown) (λ bytes. v.text ≡ text_of bytes)) }
+    ensures bytes { IfOk result (λ v. IfSome (D.output shown) (λ bytes. utf8 v.text ≡ bytes)) }
     ensures fitted { IfOk result IsFitted }
 {
     let mut collector = Collector {
