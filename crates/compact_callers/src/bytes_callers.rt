@@ -6,7 +6,7 @@ ghost use Rattle.std.specs.Cow.{cow_str_bytes};
 ghost use Rattle.compact_str.specs.Text.{utf8};
 ghost use Rattle.compact_str.specs.Cut.{IsBoundary};
 
-use compact_ext::{ToCompactString, ToCompactStringError};
+use compact_ext::{ToCompactString, ToCompactStringError, format_compact};
 use compact_str::{CompactString, ReserveError};
 use std::alloc::{AllocError, Global};
 use std::borrow::CowStr;
@@ -85,4 +85,21 @@ pub fn port_part(alloc: Global, port: u16) -> Result<CompactString, ToCompactStr
     let digits = port.to_compact_string(alloc)?;
     part.push_str(digits.as_str())?;
     Ok(part)
+}
+
+/// An entry of a report.
+pub fn entry(alloc: Global, name: &str, count: u64) -> Result<CompactString, ToCompactStringError>
+    ensures { IfOk result (λ v. utf8 v.text ≡ name.now ++ (codes ": " ++ decimal count)) }
+{
+    format_compact!(in alloc; "{name}: {count}")
+}
+
+/// A name between two others.
+pub fn between(alloc: Global, first: &str, name: &str, last: &str) -> Result<CompactString, ReserveError>
+    ensures { IfOk result (λ v. utf8 v.text ≡ first.now ++ name.now ++ last.now) }
+{
+    let mut line = CompactString::new(alloc, first)?;
+    line.push_str(last)?;
+    line.insert_str(first.len(), name)?;
+    Ok(line)
 }

@@ -85,3 +85,17 @@ pub fn lent_bytes(value: &CompactString) -> usize
 {
     count_in(value)
 }
+
+/// A value that may be moved to another thread, and read from several.
+fn for_threads<T: Send + Sync>(value: T) -> T
+    ensures { result ≡ value }
+{
+    value
+}
+
+/// A value for a type that asks for both.
+pub fn shared(value: CompactString) -> CompactString
+    ensures { result ≡ value }
+{
+    for_threads(value)
+}

@@ -1,7 +1,9 @@
 //! Tests of the callers in `made_callers.rt`.
 
 use crate::asserts::{assert_equal, assert_that};
-use compact_callers::made_callers::{append_note, lent_bytes, row_of, take_line, text_in, unboxed};
+use compact_callers::made_callers::{
+    append_note, lent_bytes, row_of, shared, take_line, text_in, unboxed,
+};
 use compact_testing::seen::{is_heap, is_inline};
 use compact_testing::values::{letters, short, value_of};
 use std::boxed::BoxedStr;
@@ -12,7 +14,7 @@ fn a_line_is_taken(rt: HostRuntime) {
     let rt = &rt;
     let mut line = value_of(rt.alloc(), letters(30)).expect(rt, "memory");
     let taken = take_line(&mut line).expect(rt, "no memory is needed");
-    assert_that(rt, is_heap(&taken, 32, letters(30)));
+    assert_that(rt, is_heap(&shared(taken), 32, letters(30)));
     assert_that(rt, is_inline(&line, ""));
 }
 
