@@ -3,6 +3,7 @@
 #![tactic(auto)]
 
 pub mod collect_callers;
+pub mod count_callers;
 pub mod decode_callers;
 pub mod deref_callers;
 pub mod field_callers;

@@ -4,6 +4,8 @@
 #[cfg(test)]
 mod asserts;
 #[cfg(test)]
+mod count;
+#[cfg(test)]
 mod deref;
 #[cfg(test)]
 mod field;
