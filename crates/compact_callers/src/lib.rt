@@ -4,6 +4,7 @@
 
 pub mod bytes_callers;
 pub mod collect_callers;
+pub mod count_callers;
 pub mod decode_callers;
 pub mod deref_callers;
 pub mod error_callers;

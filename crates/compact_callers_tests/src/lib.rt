@@ -5,6 +5,7 @@
 mod asserts;
 #[cfg(test)]
 mod bytes;
+mod count;
 #[cfg(test)]
 mod deref;
 #[cfg(test)]
