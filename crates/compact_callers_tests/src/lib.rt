@@ -5,6 +5,7 @@
 mod asserts;
 #[cfg(test)]
 mod bytes;
+#[cfg(test)]
 mod count;
 #[cfg(test)]
 mod deref;
