@@ -19,3 +19,4 @@ pub mod Written
 pub mod ForCallers
 pub mod Examples
 pub mod PartFacts
+pub mod RangeFacts
