@@ -19,6 +19,19 @@ impl Display for Half {
     }
 }
 
+/// It writes 80 letters twenty times, and answers `Ok` in spite of a refusal.
+#[derive(Drop)]
+struct Hiding;
+
+impl Display for Hiding {
+    fn fmt<W: fmt::Write>(&self, f: &mut fmt::Formatter<W>) -> fmt::Result {
+        for _ in 0..20 {
+            let _refused = f.write_str(letters(80)).is_err();
+        }
+        Ok(())
+    }
+}
+
 /// With no import, the error of a write is that of an append.
 fn write_count(line: &mut CompactString, name: &str, count: u32) -> Result<(), ReserveError> {
     write!(line, "{name}: {count}")
@@ -98,4 +111,18 @@ fn a_refused_write_changes_nothing(rt: HostRuntime) {
     assert_inline(rt, &full, letters(24));
     assert_heap(rt, &long, 32, letters(32));
     assert_heap(rt, &roomy, 3000, "ab");
+}
+
+#[test]
+fn a_refusal_that_is_hidden_is_told(rt: HostRuntime) {
+    let rt = &rt;
+    let alloc = rt.alloc();
+    let mut roomy = with_room(alloc, 3000).expect(rt, "memory");
+    let hog = take_all(alloc).expect(rt, "room for the list of blocks");
+    let refused = roomy.write(Hiding).is_err();
+    drop(hog);
+    assert_that(rt, refused);
+    assert_heap(rt, &roomy, 3000, "");
+    roomy.write(Hiding).expect(rt, "memory");
+    assert_equal(rt, roomy.len(), 1600);
 }
