@@ -20,6 +20,7 @@ pub mod packed_callers;
 pub mod part_callers;
 pub mod plain_callers;
 pub mod push_callers;
+pub mod range_callers;
 pub mod removal_callers;
 pub mod report_callers;
 pub mod run_callers;

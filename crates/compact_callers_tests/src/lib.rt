@@ -34,6 +34,8 @@ mod plain;
 #[cfg(test)]
 mod push;
 #[cfg(test)]
+mod range;
+#[cfg(test)]
 mod removal;
 #[cfg(test)]
 mod run;

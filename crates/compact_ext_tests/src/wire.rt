@@ -10,7 +10,6 @@ use compact_testing::pieces::{Narrow, Pieces, Stop};
 use compact_testing::seen::is_inline;
 use compact_testing::values::{letters, short, value_of};
 use std::alloc::Global;
-use std::fmt::Write;
 use std::io;
 use std::io::ErrorKind;
 use std::process::Abort;

@@ -20,3 +20,4 @@ pub mod Written
 pub mod ForCallers
 pub mod Examples
 pub mod PartFacts
+pub mod RangeFacts

@@ -17,6 +17,8 @@ use std::{fmt, mem};
 pub struct Gathered<P: Policy> {
     value: PolicyString<P>,
     block: Block,
+    // Whether a piece of what is shown was refused: a `Display` may hide that and go on.
+    is_refused: bool,
 }
 
 impl<P: Policy> Model for Gathered<P> {
@@ -34,7 +36,11 @@ impl<P: Policy> Model for Gathered<P> {
 impl<P: Policy> Drop for Gathered<P> {
     #[inline]
     fn drop(self) {
-        let Gathered { value, block: _ } = self;
+        let Gathered {
+            value,
+            block: _,
+            is_refused: _,
+        } = self;
         drop(value);
     }
 }
@@ -49,6 +55,7 @@ impl<P: Policy> Gathered<P> {
         Gathered {
             value: PolicyString::default(alloc),
             block: Block::empty(),
+            is_refused: false,
         }
     }
 
@@ -156,11 +163,14 @@ impl<P: Policy> Gathered<P> {
     ///
     /// # Errors
     ///
-    /// [`ReserveError`] if a buffer is refused; then `target` is as it was.
+    /// [`ReserveError`] if a buffer is refused, or was for a piece that was shown; then `target` is as it was.
     pub fn push_onto(&mut self, target: &mut PolicyString<P>) -> Result<(), ReserveError>
         ensures ok { OnOk result (push_str P.growth target.old self.old ≡ Some target.new) }
         ensures err { OnErr result (target.new ≡ target.old) }
     {
+        if self.is_refused {
+            return Err(ReserveError);
+        }
         if self.value.is_empty() {
             return target.push_str(self.block.as_str());
         }
@@ -181,7 +191,10 @@ impl<P: Policy> fmt::Write for Gathered<P> {
     fn write_str(&mut self, text: &str) -> fmt::Result {
         match self.push_str(text) {
             Ok(()) => Ok(()),
-            Err(ReserveError) => Err(fmt::Error),
+            Err(ReserveError) => {
+                self.is_refused = true;
+                Err(fmt::Error)
+            }
         }
     }
 }

@@ -44,3 +44,9 @@ mod removals;
 mod size_hints;
 #[cfg(test)]
 mod size_hints_refused;
+#[cfg(test)]
+mod within;
+#[cfg(test)]
+mod written;
+#[cfg(test)]
+mod written_generic;

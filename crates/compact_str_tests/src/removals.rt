@@ -6,7 +6,6 @@ use compact_str::{CompactString, Drain, Standard};
 use compact_testing::memory::take_all;
 use compact_testing::seen::{is_at, is_static};
 use compact_testing::values::{lasting, letters, place_of, short, value_of};
-use std::fmt::Write;
 use std::ops::Bound;
 use std::ops::Bound::{Excluded, Included, Unbounded};
 use std::process::Abort;

@@ -3,7 +3,6 @@
 use compact_str::{CompactString, ReserveError};
 use serde::Serialize;
 use std::alloc::Global;
-use std::fmt::Write;
 
 /// The line and the column, counted from 1, at which the input is no visit, and why.
 #[derive(Drop, Serialize)]
@@ -20,7 +19,7 @@ impl Fault {
         alloc: Global,
         line: usize,
         error: &serde_json::Error,
-    ) -> Result<Self, std::fmt::Error> {
+    ) -> Result<Self, ReserveError> {
         let mut said = CompactString::const_new(alloc, "");
         write!(said, "{error}")?;
         if let Some(end) = said.find(" at line ") {

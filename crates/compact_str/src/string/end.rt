@@ -148,11 +148,11 @@ impl<P: Policy> PolicyString<P> {
 impl<P: Policy> fmt::Write for PolicyString<P> {
     ghost write_str_gives = { Writes P.growth };
 
-    /// Appends `text` as `push_str` does, so that `write!` and `writeln!` append what they show.
+    /// Appends `text` as `push_str` does, so that generic code may write to a value.
     ///
     /// # Errors
     ///
-    /// `fmt::Error` if `push_str` is refused; the value is then as it was. `write!` may have written some of its parts
+    /// `fmt::Error` if `push_str` is refused; the value is then as it was. Generic code may have written some of its parts
     /// before the one that was refused, and `truncate` at the old length takes them off again.
     #[tactic(auto, using(compact_buffers::proofs::TextFacts::text_facts, crate::proofs::EditFacts::append_facts))]
     fn write_str(&mut self, text: &str) -> fmt::Result

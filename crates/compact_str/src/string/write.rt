@@ -18,8 +18,8 @@ impl<P: Policy> PolicyString<P> {
     ///
     /// # Errors
     ///
-    /// [`ReserveError`] if a new buffer is refused, and also if `value` fails by itself. `format_compact!` tells the two
-    /// apart.
+    /// [`ReserveError`] if a buffer is refused, even if `value` hides that and goes on, and also if `value` fails by
+    /// itself. `format_compact!` tells the two apart.
     ///
     /// # Examples
     ///

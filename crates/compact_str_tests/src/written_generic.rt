@@ -1,0 +1,25 @@
+//! Writes where `fmt::Write` is imported: generic code uses it, and a value's own calls go before it.
+
+use crate::asserts::assert_inline;
+use compact_str::{CompactString, ReserveError};
+use compact_testing::values::short;
+use std::fmt;
+use std::fmt::Write;
+
+/// A `fmt::Write` of any type writes by its own `write_str`.
+fn write_mark<W: Write>(out: &mut W) -> fmt::Result {
+    write!(out, "{}!", 12)
+}
+
+/// Of a value it is the call of the type, whose error is `ReserveError`.
+fn write_own_mark(line: &mut CompactString) -> Result<(), ReserveError> {
+    write!(line, "{}?", 12)
+}
+
+#[test]
+fn a_value_is_written_to_with_the_import(rt: HostRuntime) {
+    let mut line = short(rt.alloc(), "ä");
+    write_mark(&mut line).expect(&rt, "memory");
+    write_own_mark(&mut line).expect(&rt, "memory");
+    assert_inline(&rt, &line, "ä12!12?");
+}
