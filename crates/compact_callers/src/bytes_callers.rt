@@ -95,7 +95,12 @@ pub fn entry(alloc: Global, name: &str, count: u64) -> Result<CompactString, ToC
 }
 
 /// A name between two others.
-pub fn between(alloc: Global, first: &str, name: &str, last: &str) -> Result<CompactString, ReserveError>
+pub fn between(
+    alloc: Global,
+    first: &str,
+    name: &str,
+    last: &str,
+) -> Result<CompactString, ReserveError>
     ensures { IfOk result (λ v. utf8 v.text ≡ first.now ++ name.now ++ last.now) }
 {
     let mut line = CompactString::new(alloc, first)?;

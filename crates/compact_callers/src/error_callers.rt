@@ -5,8 +5,7 @@ ghost use Rattle.compact_str.specs.Value.{PlacedText};
 
 use compact_str::{CompactString, ReserveError};
 use std::alloc::{AllocError, Global};
-use std::fmt;
-use std::io;
+use std::{fmt, io};
 use thiserror::Error;
 
 /// Appends a name to a list.
@@ -19,7 +18,11 @@ pub fn add_name(alloc: Global, names: &mut Vec<CompactString>, name: &str) -> Re
 }
 
 /// The same, with the library's error.
-pub fn add_short_name(alloc: Global, names: &mut Vec<CompactString>, name: &str) -> Result<(), ReserveError>
+pub fn add_short_name(
+    alloc: Global,
+    names: &mut Vec<CompactString>,
+    name: &str,
+) -> Result<(), ReserveError>
     ensures { OnOk result ((v : PlacedText) × (names.new.items ≡ names.old.items ++ v ∷ [])
         × (v.text ≡ text_of name.now)) }
 {
@@ -49,7 +52,11 @@ pub enum NamesError {
 }
 
 /// The same with an error that has both.
-pub fn add_checked(alloc: Global, names: &mut Vec<CompactString>, name: &str) -> Result<(), NamesError> {
+pub fn add_checked(
+    alloc: Global,
+    names: &mut Vec<CompactString>,
+    name: &str,
+) -> Result<(), NamesError> {
     names.push(CompactString::new(alloc, name)?)?;
     Ok(())
 }

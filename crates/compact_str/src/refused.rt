@@ -5,8 +5,7 @@ ghost use Rattle.std.specs.declared.io.ErrorKind.TheVariants.{OutOfMemory};
 
 use compact_repr::ReserveError;
 use std::alloc::AllocError;
-use std::fmt;
-use std::io;
+use std::{fmt, io};
 
 /// An allocation failed, and here is the value that was passed, unchanged.
 ///
