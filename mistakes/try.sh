@@ -1,12 +1,12 @@
 #!/usr/bin/env bash
-# Plants mistakes, each on a copy of the repository, and says whether the test that is named for it fails.
+# Plants mistakes, each on a copy of the repository, and says whether the tests that are named for it fail.
 #
 #   mistakes/try.sh [--quick] [NAME..]
 #
 # NAME is a file NAME.mistake beside this script; with no name all are tried. Each names a crate and a file of it, and has pairs
-# of lines `old:` and `new:`, of which each old text stands exactly once in that file. Its line `fails:` names a crate of tests
-# and the test that fails: `rt test` proves the mistaken crate, those above it and the tests, and then runs these, so that a
-# test that fails shows as well that no proof refused the mistake.
+# of lines `old:` and `new:`, of which each old text stands exactly once in that file. A line `fails:` names a crate of tests
+# and a test that fails; of several lines each test must fail. `rt test` proves the mistaken crate, those above it and the
+# tests, and then runs these, so that a test that fails shows as well that no proof refused the mistake.
 #
 # --quick runs the tests by `rt try`, before any proof, in a minute or three each. It leaves out a mistake with a line `needs:`,
 # whose test takes all memory and fails there always.
@@ -41,12 +41,16 @@ run_tests() {
     fi
 }
 
-# Says how a planted mistake was found, or fails.
+# Says by which tests a planted mistake was found, or fails where one of them did not find it.
 judge() {
     local name=$1 mistake=$here/$1.mistake log=$here/out/$1.log tests test
-    read -r tests test <<<"$(told "$mistake" fails)"
-    (cd "$copy/crates/$tests" && run_tests) >"$log" 2>&1 || true
-    grep -q "^test $test \.\.\. FAILED" "$log" && echo "$name: found by $test of $tests"
+    for tests in $(told "$mistake" fails | cut -d' ' -f1 | sort -u); do
+        (cd "$copy/crates/$tests" && run_tests) || true
+    done >"$log" 2>&1
+    while read -r tests test; do
+        grep -q "^test $test \.\.\. FAILED" "$log" || return 1
+        echo "$name: found by $test of $tests"
+    done < <(told "$mistake" fails)
 }
 
 copy=$(mktemp -d)

@@ -26,16 +26,17 @@ fn run_all(
     run(value, edits, replies).expect(rt, "room for the replies");
 }
 
-/// Runs edits, for whose replies there is memory, and asserts that each is done.
-fn all_are_done(
+/// Runs edits, for whose replies there is memory, and asserts that each reply has this name.
+fn run_anew(
     rt: &impl Abort,
     alloc: Global,
     value: &mut CompactString,
     edits: &[Edit<Standard>],
+    name: &str,
 ) {
     let mut replies = Vec::new(alloc);
     run(value, edits, &mut replies).expect(rt, "memory");
-    assert_all(rt, &replies, edits.len(), "done");
+    assert_all(rt, &replies, edits.len(), name);
 }
 
 #[test]
@@ -43,8 +44,34 @@ fn each_edit_of_a_list_is_run(rt: HostRuntime) {
     let alloc = rt.alloc();
     let mut value = short(alloc, letters(3));
     let edits = [Edit::PushStr("a"), Edit::Reserve(100), Edit::ShrinkTo(50)];
-    all_are_done(&rt, alloc, &mut value, &edits);
+    run_anew(&rt, alloc, &mut value, &edits, "done");
     assert_that(&rt, is_heap(&value, 50, letters(4)));
+}
+
+#[test]
+fn a_position_within_a_character_is_bad(rt: HostRuntime) {
+    let alloc = rt.alloc();
+    let mut value = short(alloc, "🦄");
+    let edits = [Edit::Insert(1, 'x')];
+    run_anew(&rt, alloc, &mut value, &edits, "bad position");
+    assert_that(&rt, is_inline(&value, "🦄"));
+}
+
+/// Asserts that the only reply is this text, inline.
+fn is_answered(rt: &impl Abort, replies: &[Reply<Standard>], text: &str) {
+    let is = matches!(replies, [Reply::Text(given)] if is_inline(given, text));
+    assert_that(rt, is);
+}
+
+#[test]
+fn a_range_is_drained(rt: HostRuntime) {
+    let rt = &rt;
+    let alloc = rt.alloc();
+    let mut value = short(alloc, "Hello, world!");
+    let mut replies = Vec::new(alloc);
+    run_drain(rt, &mut value, 5, 12, &mut replies);
+    is_answered(rt, &replies, ", world");
+    assert_that(rt, is_inline(&value, "Hello!"));
 }
 
 /// A list of 40 replies and no room for nine more, even where an allocator rounds a request up.
