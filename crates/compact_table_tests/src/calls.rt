@@ -3,6 +3,7 @@
 use crate::edits::{answers_of, call};
 use crate::notation::number;
 use crate::table::Case;
+use crate::within::reply_within;
 use compact_edit::{Edit, Reply, run};
 use compact_ext::{ToCompactString, ToCompactStringError};
 use compact_str::{CompactString, Refused, ReserveError, Standard};
@@ -53,6 +54,7 @@ fn named(case: &Case<'_>, value: &mut CompactString) -> Reply<Standard> {
         "try_reserve" => try_reserve(value, first),
         "write_str" => written(value.write_str(first).is_ok()),
         "write!" => write_both(value, first, last),
+        "write" => done(value.write(first)),
         "add_str" => add_str(value, first),
         "clone" => cloned(value),
         "to_ascii_lowercase" => given(value.to_ascii_lowercase()),
@@ -60,7 +62,7 @@ fn named(case: &Case<'_>, value: &mut CompactString) -> Reply<Standard> {
         "to_compact_string" => shown(value.to_compact_string(value.allocator())),
         "try_to_compact_string" => shown(value.try_to_compact_string(value.allocator())),
         "retain_by" => retain_by(value, answers_of(first).unwrap_or(&[])),
-        _ => Reply::BadPosition,
+        name => reply_within(name, value, first, last),
     }
 }
 

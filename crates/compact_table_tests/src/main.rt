@@ -37,6 +37,7 @@ mod table;
 mod trial;
 mod values;
 mod ways_out;
+mod within;
 
 use faults::Faults;
 use notation::expanded;

@@ -1,0 +1,45 @@
+//! Calls on a part of a value, which they take as a range of Rust's.
+ghost use Rattle.std.specs.Prelude.{IfSome};
+ghost use Rattle.std.specs.declared.ops.Bound.TheVariants.{Included, Excluded};
+ghost use Rattle.compact_str.specs.Ranges.{IsRange};
+
+use crate::calls::done;
+use crate::notation::number;
+use compact_edit::Reply;
+use compact_str::{CompactString, Standard};
+use std::ops::Bound;
+
+/// The reply to such a call, whose range is written as `1..2`. No range of the text, and no such call, is told as a bad
+/// position.
+pub fn reply_within(
+    name: &str,
+    value: &mut CompactString,
+    range: &str,
+    text: &str,
+) -> Reply<Standard> {
+    let Some((start, end)) = range_of(value, range) else {
+        return Reply::BadPosition;
+    };
+    match name {
+        "extend_from_within" => done(value.extend_from_within(start..end)),
+        "replace_within" => done(value.replace_within(start..end, text)),
+        "drain_within" => match value.drain_within(start..end) {
+            Ok(drained) => {
+                drop(drained);
+                Reply::Done
+            }
+            Err(error) => Reply::Refused(error),
+        },
+        _ => Reply::BadPosition,
+    }
+}
+
+/// The start and the end of a range that is written so, if it is one of the text.
+fn range_of(value: &CompactString, range: &str) -> Option<(usize, usize)>
+    ensures { IfSome result
+        (λ range. IsRange value.now.text (Included range.0) (Excluded range.1)) }
+{
+    let (start, end) = range.split_once("..")?;
+    let (start, end) = (number(start)?, number(end)?);
+    value.check_range(Bound::Included(start), Bound::Excluded(end))
+}
