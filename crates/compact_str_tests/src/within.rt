@@ -102,9 +102,20 @@ fn a_refused_range_changes_nothing(rt: HostRuntime) {
     let extended = value.extend_from_within(..1).is_err();
     that(value.check_range(Unbounded, Excluded(1)).is_some()).expect(rt, "it holds");
     let replaced = value.replace_within(..1, "b").is_err();
+    drop(hog);
+    assert_that(rt, extended && replaced);
+    assert_that(rt, is_static(&value, letters(30)));
+}
+
+#[test]
+fn a_refused_drain_of_a_range_changes_nothing(rt: HostRuntime) {
+    let rt = &rt;
+    let alloc = rt.alloc();
+    let mut value = lasting(alloc, 30);
+    let hog = take_all(alloc).expect(rt, "room for the list of blocks");
     that(value.check_range(Unbounded, Excluded(1)).is_some()).expect(rt, "it holds");
     let drained = value.drain_within(..1).is_err();
     drop(hog);
-    assert_that(rt, extended && replaced && drained);
+    assert_that(rt, drained);
     assert_that(rt, is_static(&value, letters(30)));
 }
