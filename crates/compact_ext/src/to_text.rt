@@ -2,7 +2,6 @@
 ghost use Rattle.std.specs.Prelude.{ℕ, List};
 ghost use Rattle.compact_ext.specs.Shown.{IsTextOf};
 
-mod digit_words;
 mod digits;
 mod integers;
 mod laws;
