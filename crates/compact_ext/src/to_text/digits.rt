@@ -26,8 +26,11 @@ const PAST_WORD: u128 = 0x1_0000_0000_0000_0000;
 pub fn number_row(magnitude: u64, is_negative: bool) -> [u8; 24]
     ensures { result ≡ packed_bytes (number_text is_negative magnitude) }
 {
-    let len = usize::from(is_negative) + count_digits(magnitude);
-    digits_of(magnitude).behind_sign(is_negative).packed(len)
+    let count = count_digits(magnitude);
+    let digits = digits_of(magnitude, count);
+    digits
+        .behind_sign(is_negative)
+        .packed(usize::from(is_negative) + count)
 }
 
 /// How many digits a number has.
@@ -43,22 +46,23 @@ fn count_digits(n: u64) -> usize
     n.ilog10() as usize + 1
 }
 
-/// The digits of a number: from the end four at a time, then two, and then the first one or two.
+/// The digits of a number, of which there are `count`: from the end four at a time, and then the first one to four, as two and two
+/// without the noughts before them.
 #[inline(always)]
 #[tactic(auto, using(crate::proofs::Digits::digit_groups))]
-fn digits_of(n: u64) -> ShortText
+fn digits_of(n: u64, count: usize) -> ShortText
+    requires { count ≡ length (decimal n) }
     ensures { result ≡ le_number (decimal n) }
 {
     let mut rest = n;
+    let mut left = count;
     let mut text = ShortText { low: 0, high: 0 };
     while rest >= 10_000 {
         text = text.behind(four(rest % 10_000), 4);
         rest /= 10_000;
+        left -= 4;
     }
-    if rest >= 100 {
-        return text.behind(pair(rest % 100), 2).behind_first(rest / 100);
-    }
-    text.behind_first(rest)
+    text.behind(four(rest) >> (8 * (4 - left)), left)
 }
 
 /// The four digits of a number below 10,000, the first as the lowest byte.
@@ -109,21 +113,6 @@ impl ShortText {
         ShortText {
             low: (self.low << bits) + u128::from(group),
             high: (self.high << bits) + (self.low >> (128 - bits)) as u64,
-        }
-    }
-
-    /// The text behind the one or two digits of a number below 100.
-    #[inline(always)]
-    #[tactic(auto, using(crate::proofs::Digits::first_digits))]
-    fn behind_first(self, n: u64) -> Self
-        requires small { n < 100 }
-        requires fits { self < 2 ^ 160 }
-        ensures { result ≡ number_behind self (decimal n) }
-    {
-        if n >= 10 {
-            self.behind(pair(n), 2)
-        } else {
-            self.behind(b'0' as u64 + n, 1)
         }
     }
 
