@@ -1,4 +1,4 @@
--- The digits of a number, four or two at a time from the end.
+-- The digits of a number, four at a time from the end.
 use Rattle.std.proofs.Common.{◌≡◌, ℕ, zero, suc, ◌+◌, ◌-◌, ◌*◌, ◌/◌, ◌%◌, ◌^◌, ◌<◌, ◌≤◌, Bool, true, false, ◌&&◌, T, eqb, List, [], ◌∷◌, ◌++◌, length, get_or, refl, ap, sym, ◌∙◌, inl, inr, arith, ⊎_elim, eq-zero-or-pos, eqb→eq, length-append}
 use mir.Val.{bool_byte}
 use lib.Ieee.Fits.{and_l, and_r}

@@ -1,4 +1,4 @@
-//! The text of a number of up to 64 bits: its digits from the end, four or two at a time, and then its sign.
+//! The text of a number of up to 64 bits: its digits from the end, four at a time, and then its sign.
 //!
 //! The text so far is a number whose lowest byte is the first character: a group of `k` characters moves it up by `8 * k`
 //! bits and is added below. So whole words come out. One that is read after its bytes were written one by one waits for them.
@@ -46,8 +46,8 @@ fn count_digits(n: u64) -> usize
     n.ilog10() as usize + 1
 }
 
-/// The digits of a number, of which there are `count`: from the end four at a time, and then the first one to four, as two and two
-/// without the noughts before them.
+/// The digits of a number, of which there are `count`: from the end four at a time, and then the first one to four, as two
+/// and two without the noughts before them.
 #[inline(always)]
 #[tactic(auto, using(crate::proofs::Digits::digit_groups))]
 fn digits_of(n: u64, count: usize) -> ShortText

@@ -1,4 +1,4 @@
-//! The texts of integers of up to 64 bits, two digits at a time.
+//! The texts of integers of up to 64 bits.
 ghost use Rattle.std.specs.Prelude.{◌≡◌, ⊤};
 ghost use Rattle.std.specs.Fmt.{decimal, signed_decimal};
 ghost use Rattle.compact_str.specs.Value.{placed_text};
