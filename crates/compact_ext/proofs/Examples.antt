@@ -5,7 +5,8 @@ use Rattle.std.specs.Fmt.{decimal, signed_decimal, digits}
 use Rattle.compact_str.specs.Value.{placed_text}
 use Rattle.compact_str.specs.Capacity.{Growth, inline_placement, heap_placement}
 use Rattle.compact_str.specs.Change.{new}
-use Rattle.compact_ext.specs.Digits.{two_digits, four_digits, eight_digits, array_with, number_text}
+use Rattle.compact_repr.specs.Words.{le_number}
+use Rattle.compact_ext.specs.Digits.{two_digits, four_digits, number_behind, number_text}
 use Rattle.compact_ext.specs.Shown.{bool_text}
 
 abbrev standard : Growth
@@ -55,11 +56,8 @@ seven_has_a_nought_before_it = refl
 seven_has_three_noughts_before_it : four_digits 7 ≡ codes "0007"
 seven_has_three_noughts_before_it = refl
 
-eight_digits_have_noughts_within : eight_digits 12003045 ≡ codes "12003045"
-eight_digits_have_noughts_within = refl
-
-two_of_five_are_written : array_with (codes "abcde") 1 (codes "42") ≡ codes "a42de"
-two_of_five_are_written = refl
+two_before_three_are_five : number_behind (le_number (codes "345")) (codes "12") ≡ le_number (codes "12345")
+two_before_three_are_five = refl
 
 twenty_characters_stand_inline : new standard (signed_decimal (negsuc 9223372036854775807)) ≡ Some (placed_text (codes "-9223372036854775808") inline_placement)
 unfolding digits

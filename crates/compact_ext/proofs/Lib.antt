@@ -1,6 +1,5 @@
-pub mod DigitRows
-pub mod DigitWords
 pub mod NumberTexts
+pub mod Digits
 pub mod ShownTexts
 pub mod Collecting
 pub mod ForCallers

@@ -1,9 +1,8 @@
 -- The text of a number as bytes, which are ASCII and few.
-use Rattle.std.proofs.Common.{◌≡◌, ℕ, ◌^◌, ◌<◌, ◌≤◌, Bool, true, false, List, length, take, Some, ap, sym, ◌∙◌, subst, arith}
+use Rattle.std.proofs.Common.{◌≡◌, ℕ, ◌^◌, ◌<◌, ◌≤◌, Bool, true, false, List, length, Some, ap, sym, ◌∙◌, subst, arith}
 use Rattle.std.proofs.lemmas.Str.{chars-IsAscii, IsUtf8-from_ascii}
 use Rattle.std.proofs.lemmas.Str.Ascii.{IsAscii-cons}
 use Rattle.std.proofs.lemmas.Fmt.{IsAscii-decimal, length-decimal-le}
-use Rattle.std.proofs.Math.Seq.{take-append_seam}
 use Rattle.std.proofs.lemmas.Grind.{common_steps}
 use Rattle.std.specs.Str.{IsAscii, IsUtf8}
 use Rattle.compact_str.specs.Text.{size, text_of}
@@ -13,19 +12,15 @@ use Rattle.compact_repr.proofs.PackedTexts.{stands-packed}
 use Rattle.compact_str.specs.Value.{placed_text}
 use Rattle.compact_str.specs.Capacity.{Growth, inline_placement}
 use Rattle.compact_str.specs.Change.{new}
-use Rattle.compact_ext.specs.Digits.{number_text, array_with}
+use Rattle.compact_ext.specs.Digits.{number_text}
 
-IsAscii-number : (s : Bool) (n : ℕ) → n < 2 ^ 64 → IsAscii (number_text s n)
+pub IsAscii-number : (s : Bool) (n : ℕ) → n < 2 ^ 64 → IsAscii (number_text s n)
 IsAscii-number true n h = IsAscii-cons 45 _ (omega arith) (IsAscii-decimal n h)
 IsAscii-number false n h = IsAscii-decimal n h
 
-length-number : (s : Bool) (n : ℕ) → n < 2 ^ 64 → length (number_text s n) ≤ 21
+pub length-number : (s : Bool) (n : ℕ) → n < 2 ^ 64 → length (number_text s n) ≤ 21
 length-number true n h = let e = length-decimal-le 20 n (omega arith) (omega arith) h in omega (arith, e)
 length-number false n h = let e = length-decimal-le 20 n (omega arith) (omega arith) h in omega (arith, e)
-
--- what is written at the front of a row is its first bytes
-pub take-written : (row bytes : List ℕ) (n : ℕ) → n ≡ length bytes → take n (array_with row 0 bytes) ≡ bytes
-take-written row bytes n e = ap (λ (k : ℕ). take k (array_with row 0 bytes)) e ∙ take-append_seam bytes _
 
 pub IsUtf8-number : (s : Bool) (n : ℕ) → n < 2 ^ 64 → IsUtf8 (number_text s n)
 IsUtf8-number s n h = IsUtf8-from_ascii _ (IsAscii-number s n h)
@@ -45,8 +40,6 @@ size-number s n h =
     let e = ap size (sym (text_of-number s n h)) ∙ size-text_of _ (IsUtf8-number s n h) in
     let few = length-number s n h in
     omega (arith, e, few)
-
-pub ruleset number_rows = (take-written, IsUtf8-number, text_of-number)
 
 pub new-short : (g : Growth) (t : List ℕ) → size t ≤ 24 → new g t ≡ Some (placed_text t inline_placement)
 new-short g t h = grind (arith, common_steps)

@@ -2,7 +2,6 @@
 ghost use Rattle.std.specs.Prelude.{ℕ, List};
 ghost use Rattle.compact_ext.specs.Shown.{IsTextOf};
 
-mod digit_words;
 mod digits;
 mod integers;
 mod laws;
@@ -15,7 +14,8 @@ use compact_str::{CompactString, Policy, Standard};
 pub use laws::{numbers_are_short, numbers_go_digit_by_digit};
 use std::alloc::Global;
 
-/// A value that has a text: the integers, `bool`, `char`, and the kinds of text.
+/// A value that has a text: the integers, `bool`, `char`, and the kinds of text, which are `&str`, `String`, `BoxedStr`,
+/// `CowStr` and `CompactString`.
 ///
 /// A contract sees the text as `shown_text v`. Where `IsShort v` holds it is inline and never refused: of an integer of up to
 /// 64 bits, a `bool` and a `char` always, of every other value where the text has at most 24 bytes.

@@ -6,8 +6,12 @@ use compact_ext::{ToCompactString, ToCompactStringError, format_compact};
 use compact_str::{CompactString, ReserveError};
 use compact_testing::memory::take_all;
 use compact_testing::values::{letters, string_with_room};
+use std::alloc::Global;
+use std::borrow::CowStr;
+use std::boxed::BoxedStr;
 use std::fmt;
 use std::fmt::Display;
+use std::process::Abort;
 
 /// It writes 30 letters so often, and answers `Ok` in spite of a refusal.
 #[derive(Drop)]
@@ -38,6 +42,30 @@ fn formats_and_strings_of_24_bytes_need_no_memory(rt: HostRuntime) {
         "i am 24 characters long!",
     );
     is(rt, format_compact!(in alloc; "{}-{}", 7, "a"), "7-a");
+    drop(hog);
+}
+
+/// Asserts that both calls on a value are refused.
+fn assert_refused<T: ToCompactString>(rt: &impl Abort, alloc: Global, value: &T) {
+    assert_that(rt, is_refused(value.to_compact_string(alloc)));
+    assert_that(rt, is_refused(value.try_to_compact_string(alloc)));
+}
+
+#[test]
+fn boxes_and_cows_of_24_bytes_need_no_memory(rt: HostRuntime) {
+    let rt = &rt;
+    let alloc = rt.alloc();
+    let short = BoxedStr::from_str(alloc, letters(24)).expect(rt, "memory");
+    let long = BoxedStr::from_str(alloc, letters(30)).expect(rt, "memory");
+    let hog = take_all(alloc).expect(rt, "room for the list of blocks");
+    is(rt, short.to_compact_string(alloc), letters(24));
+    is(
+        rt,
+        CowStr::Borrowed(letters(24)).to_compact_string(alloc),
+        letters(24),
+    );
+    assert_refused(rt, alloc, &long);
+    assert_refused(rt, alloc, &CowStr::Borrowed(letters(30)));
     drop(hog);
 }
 

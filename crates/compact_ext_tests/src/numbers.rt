@@ -3,9 +3,11 @@
 use crate::asserts::{assert_equal, assert_that};
 use compact_ext::ToCompactString;
 use compact_str::CompactString;
-use compact_testing::seen::{is_at, is_inline};
-use compact_testing::values::{short, string_with_room};
+use compact_testing::seen::{is_at, is_heap, is_inline};
+use compact_testing::values::{letters, short, string_with_room};
 use std::alloc::Global;
+use std::borrow::CowStr;
+use std::boxed::BoxedStr;
 use std::num::{NonZeroI128, NonZeroU8, NonZeroU128};
 use std::process::Abort;
 
@@ -111,6 +113,25 @@ fn other_values_have_these_texts(rt: HostRuntime) {
         string_with_room(alloc, 256, "abc").expect(rt, "memory"),
         "abc",
     );
+}
+
+/// Asserts the text of a value of 30 letters, on the heap in the least buffer.
+fn assert_thirty<T: ToCompactString + Drop>(rt: &impl Abort, alloc: Global, value: T) {
+    assert_that(rt, is_heap(&shown(rt, alloc, value), 32, letters(30)));
+}
+
+#[test]
+fn boxes_and_cows_have_these_texts(rt: HostRuntime) {
+    let rt = &rt;
+    let alloc = rt.alloc();
+    let short = BoxedStr::from_str(alloc, "äb").expect(rt, "memory");
+    assert_shown(rt, alloc, short, "äb");
+    let long = BoxedStr::from_str(alloc, letters(30)).expect(rt, "memory");
+    assert_thirty(rt, alloc, long);
+    let owned = string_with_room(alloc, 256, "abc").expect(rt, "memory");
+    assert_shown(rt, alloc, CowStr::Owned(owned), "abc");
+    assert_shown(rt, alloc, CowStr::Borrowed("äb"), "äb");
+    assert_thirty(rt, alloc, CowStr::Borrowed(letters(30)));
 }
 
 /// Asserts the bytes of a value that stands inline.

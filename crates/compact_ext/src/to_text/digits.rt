@@ -1,8 +1,14 @@
-//! How many digits a number has, and those of a number of eight bits, written from the last to the first.
-ghost use Rattle.std.specs.Prelude.{◌≡◌, ◌+◌, ◌<◌, ◌≤◌, length};
+//! The text of a number of up to 64 bits: its digits from the end, four at a time, and then its sign.
+//!
+//! The text so far is a number whose lowest byte is the first character: a group of `k` characters moves it up by `8 * k`
+//! bits and is added below. So whole words come out. One that is read after its bytes were written one by one waits for them.
+ghost use Rattle.std.specs.Prelude.{◌≡◌, ℕ, ◌+◌, ◌*◌, ◌^◌, ◌<◌, ◌≤◌, length};
 ghost use Rattle.std.specs.Fmt.{decimal, sign_text};
 ghost use Rattle.compact_repr.specs.Words.{le_number};
-ghost use Rattle.compact_ext.specs.Digits.{two_digits, array_with, number_text};
+ghost use Rattle.compact_repr.specs.Packed.{packed_bytes};
+ghost use Rattle.compact_ext.specs.Digits.{two_digits, four_digits, number_behind, number_text};
+
+use std::marker::Model;
 
 /// The two digits of each number below 100, one after another.
 static PAIRS: [u8; 200] = *b"0001020304050607080910111213141516171819\
@@ -11,40 +17,26 @@ static PAIRS: [u8; 200] = *b"0001020304050607080910111213141516171819\
 6061626364656667686970717273747576777879\
 8081828384858687888990919293949596979899";
 
-/// Writes a minus where the number is negative and the digits of its magnitude at the front of the row. Answers how many
-/// characters they are.
-#[inline]
-#[tactic(auto, using(crate::proofs::DigitRows::sign_rows))]
-pub fn write_small_number(magnitude: u8, is_negative: bool, row: &mut [u8; 24]) -> usize
-    ensures count { result ≡ length (number_text is_negative magnitude) }
-    ensures short { result ≤ 21 }
-    ensures text { row.new ≡ array_with row.old 0 (number_text is_negative magnitude) }
-{
-    let n = u64::from(magnitude);
-    let start = write_sign(is_negative, row);
-    let end = start + count_digits(n);
-    write_last_digits(n, row, start, end);
-    end
-}
+/// The least number that no word holds.
+const PAST_WORD: u128 = 0x1_0000_0000_0000_0000;
 
-/// Writes a minus at the front of the row where the number is negative. Answers where the digits begin.
-#[inline(always)]
-fn write_sign(is_negative: bool, row: &mut [u8; 24]) -> usize
-    ensures start { result ≡ length (sign_text is_negative) }
-    ensures most { result ≤ 1 }
-    ensures text { row.new ≡ array_with row.old 0 (sign_text is_negative) }
+/// The packed row of a number: a minus where it is negative, and the digits of its magnitude.
+#[inline]
+#[tactic(auto, using(crate::proofs::Digits::number_rows))]
+pub fn number_row(magnitude: u64, is_negative: bool) -> [u8; 24]
+    ensures { result ≡ packed_bytes (number_text is_negative magnitude) }
 {
-    if !is_negative {
-        return 0;
-    }
-    row[0] = b'-';
-    1
+    let count = count_digits(magnitude);
+    let digits = digits_of(magnitude, count);
+    digits
+        .behind_sign(is_negative)
+        .packed(usize::from(is_negative) + count)
 }
 
 /// How many digits a number has.
 #[inline]
-#[tactic(auto, using(crate::proofs::DigitRows::digit_counts))]
-pub fn count_digits(n: u64) -> usize
+#[tactic(auto, using(crate::proofs::Digits::digit_counts))]
+fn count_digits(n: u64) -> usize
     ensures count { result ≡ length (decimal n) }
     ensures short { result ≤ 20 }
 {
@@ -54,60 +46,103 @@ pub fn count_digits(n: u64) -> usize
     n.ilog10() as usize + 1
 }
 
-/// Writes the digits of a number below ten thousand, from a place to another: two from the end where there are more, and
-/// then the first one or two.
+/// The digits of a number, of which there are `count`: from the end four at a time, and then the first one to four, as two
+/// and two without the noughts before them.
 #[inline(always)]
-#[tactic(auto, using(crate::proofs::DigitRows::digit_rows))]
-fn write_last_digits(n: u64, row: &mut [u8], start: usize, end: usize)
-    requires small { n < 10000 }
-    requires place { end ≡ start + length (decimal n) }
-    requires fits { end ≤ length row.old }
-    ensures { row.new ≡ array_with row.old start (decimal n) }
+#[tactic(auto, using(crate::proofs::Digits::digit_groups))]
+fn digits_of(n: u64, count: usize) -> ShortText
+    requires { count ≡ length (decimal n) }
+    ensures { result ≡ le_number (decimal n) }
 {
-    if n < 100 {
-        write_first(n, row, start);
-        return;
+    let mut rest = n;
+    let mut left = count;
+    let mut text = ShortText { low: 0, high: 0 };
+    while rest >= 10_000 {
+        text = text.behind(four(rest % 10_000), 4);
+        rest /= 10_000;
+        left -= 4;
     }
-    write_pair(n % 100, row, end - 2);
-    write_first(n / 100, row, start);
+    text.behind(four(rest) >> (8 * (4 - left)), left)
 }
 
-/// Writes a number of one or two digits.
+/// The four digits of a number below 10,000, the first as the lowest byte.
 #[inline(always)]
-#[tactic(auto, using(crate::proofs::DigitRows::first_digits))]
-fn write_first(n: u64, row: &mut [u8], start: usize)
-    requires small { n < 100 }
-    requires fits { start + length (decimal n) ≤ length row.old }
-    ensures { row.new ≡ array_with row.old start (decimal n) }
+fn four(n: u64) -> u64
+    requires { n < 10000 }
+    ensures { result ≡ le_number (four_digits n) }
 {
-    if n < 10 {
-        row[start] = b'0' + n as u8;
-        return;
-    }
-    write_pair(n, row, start);
-}
-
-/// Writes the two digits of a number below 100.
-#[inline(always)]
-#[tactic(auto, using(crate::proofs::DigitRows::pair_written))]
-fn write_pair(n: u64, row: &mut [u8], at: usize)
-    requires small { n < 100 }
-    requires fits { at + 2 ≤ length row.old }
-    ensures { row.new ≡ array_with row.old at (two_digits n) }
-{
-    let place = n as usize * 2;
-    let (tens, ones) = (PAIRS[place], PAIRS[place + 1]);
-    row[at] = tens;
-    row[at + 1] = ones;
+    pair(n / 100) + (pair(n % 100) << 16)
 }
 
 /// The two digits of a number below 100, the first as the lowest byte.
 #[inline(always)]
-#[tactic(auto, using(crate::proofs::DigitRows::pairs_read))]
-pub fn pair(n: u64) -> u64
+#[tactic(auto, using(crate::proofs::Digits::pairs_read))]
+fn pair(n: u64) -> u64
     requires { n < 100 }
     ensures { result ≡ le_number (two_digits n) }
 {
     let place = n as usize * 2;
     u64::from(u16::from_le_bytes([PAIRS[place], PAIRS[place + 1]]))
+}
+
+/// A text of at most 23 bytes as a number, the first byte as the lowest: its first 16 bytes, and the others.
+#[derive(Drop)]
+struct ShortText {
+    low: u128,
+    high: u64,
+}
+
+impl Model for ShortText {
+    ghost Value = { ℕ };
+
+    ghost view = { λ text. text.high * 2 ^ 128 + text.low };
+}
+
+impl ShortText {
+    /// The text behind a group of so many characters.
+    #[inline(always)]
+    #[tactic(auto, using(crate::proofs::Digits::moves))]
+    fn behind(self, group: u64, count: usize) -> Self
+        requires some { 1 ≤ count }
+        requires most { count ≤ 4 }
+        requires group { group < 2 ^ (8 * count) }
+        requires fits { self < 2 ^ 160 }
+        ensures { result ≡ self * 2 ^ (8 * count) + group }
+    {
+        let bits = 8 * count;
+        ShortText {
+            low: (self.low << bits) + u128::from(group),
+            high: (self.high << bits) + (self.low >> (128 - bits)) as u64,
+        }
+    }
+
+    /// The text behind a minus where that is wanted.
+    #[inline(always)]
+    fn behind_sign(self, is_negative: bool) -> Self
+        requires { self < 2 ^ 160 }
+        ensures { result ≡ number_behind self (sign_text is_negative) }
+    {
+        if is_negative {
+            self.behind(b'-' as u64, 1)
+        } else {
+            self
+        }
+    }
+
+    /// The packed row of the text, with its length as the last byte.
+    #[inline(always)]
+    fn packed(self, len: usize) -> [u8; 24]
+        requires few { len ≤ 23 }
+        requires fits { self < 2 ^ 184 }
+        ensures { le_number result ≡ (192 + len) * 2 ^ 184 + self }
+    {
+        let first = (self.low % PAST_WORD) as u64;
+        let second = (self.low >> 64) as u64;
+        let third = self.high + ((192 + len as u64) << 56);
+        let mut row = [0; 24];
+        row[..8].copy_from_slice(&first.to_le_bytes());
+        row[8..16].copy_from_slice(&second.to_le_bytes());
+        row[16..].copy_from_slice(&third.to_le_bytes());
+        row
+    }
 }

@@ -1,8 +1,6 @@
-//! The texts of integers of up to 64 bits, two digits at a time.
-ghost use Rattle.std.specs.Prelude.{◌≡◌, ◌≤◌, take, ⊤};
-ghost use Rattle.std.specs.Str.{IsUtf8};
+//! The texts of integers of up to 64 bits.
+ghost use Rattle.std.specs.Prelude.{◌≡◌, ⊤};
 ghost use Rattle.std.specs.Fmt.{decimal, signed_decimal};
-ghost use Rattle.compact_str.specs.Text.{text_of};
 ghost use Rattle.compact_str.specs.Value.{placed_text};
 ghost use Rattle.compact_str.specs.Capacity.{inline_placement};
 ghost use Rattle.compact_ext.specs.Digits.{number_text};
@@ -10,9 +8,8 @@ ghost use Rattle.compact_ext.specs.Shown.{IsTextOf};
 
 use crate::format::ToCompactStringError;
 use crate::to_text::ToCompactString;
-use crate::to_text::digit_words::number_row;
-use crate::to_text::digits::write_small_number;
-use compact_str::{CompactString, INLINE_CAPACITY, Policy, Standard};
+use crate::to_text::digits::number_row;
+use compact_str::{CompactString, Policy, Standard};
 use std::alloc::Global;
 
 /// The text of a number, inline.
@@ -21,31 +18,6 @@ fn number_value(alloc: Global, magnitude: u64, is_negative: bool) -> CompactStri
     ensures { result ≡ placed_text (number_text is_negative magnitude) inline_placement }
 {
     match CompactString::from_packed(alloc, &number_row(magnitude, is_negative)) {
-        Some(value) => value,
-        None => unreachable!(),
-    }
-}
-
-/// The text of a number of eight bits, inline.
-#[inline]
-#[tactic(auto, using(crate::proofs::NumberTexts::number_rows))]
-fn small_number_value(alloc: Global, magnitude: u8, is_negative: bool) -> CompactString
-    ensures { result ≡ placed_text (number_text is_negative magnitude) inline_placement }
-{
-    let mut row = [0; 24];
-    let len = write_small_number(magnitude, is_negative, &mut row);
-    packed_value(alloc, &mut row, len)
-}
-
-/// The value of a row that begins with a text, once its last byte tells how long that is.
-#[inline(always)]
-fn packed_value(alloc: Global, row: &mut [u8; 24], len: usize) -> CompactString
-    requires short { len ≤ 23 }
-    requires text { IsUtf8 (take len row.old) }
-    ensures { result ≡ placed_text (text_of (take len row.old)) inline_placement }
-{
-    row[INLINE_CAPACITY - 1] = 192 + len as u8;
-    match CompactString::from_packed(alloc, row) {
         Some(value) => value,
         None => unreachable!(),
     }
@@ -77,32 +49,6 @@ pub fn signed(alloc: Global, n: i64) -> Result<CompactString, ToCompactStringErr
     Ok(number_value(alloc, n.unsigned_abs(), n < 0))
 }
 
-/// The text of a number of eight bits that is not negative.
-///
-/// # Errors
-///
-/// None ever comes, since the text is inline.
-#[inline]
-#[tactic(auto, using(crate::proofs::NumberTexts::number_values))]
-pub fn small_unsigned(alloc: Global, n: u8) -> Result<CompactString, ToCompactStringError>
-    ensures { IsTextOf ⟦<Standard as Policy>⟧.growth (decimal n) ⊤ result }
-{
-    Ok(small_number_value(alloc, n, false))
-}
-
-/// The text of a number of eight bits that may be negative.
-///
-/// # Errors
-///
-/// None ever comes, since the text is inline.
-#[inline]
-#[tactic(auto, using(crate::proofs::NumberTexts::number_values))]
-pub fn small_signed(alloc: Global, n: i8) -> Result<CompactString, ToCompactStringError>
-    ensures { IsTextOf ⟦<Standard as Policy>⟧.growth (signed_decimal n) ⊤ result }
-{
-    Ok(small_number_value(alloc, n.unsigned_abs(), n < 0))
-}
-
 impl ToCompactString for u8 {
     ghost shown_text = { decimal };
 
@@ -111,7 +57,7 @@ impl ToCompactString for u8 {
     #[inline]
     fn to_compact_string(&self, alloc: Global) -> Result<CompactString, ToCompactStringError> {
         let n: u8 = *self;
-        small_unsigned(alloc, n)
+        unsigned(alloc, u64::from(n))
     }
 }
 
@@ -171,7 +117,7 @@ impl ToCompactString for i8 {
     #[inline]
     fn to_compact_string(&self, alloc: Global) -> Result<CompactString, ToCompactStringError> {
         let n: i8 = *self;
-        small_signed(alloc, n)
+        signed(alloc, i64::from(n))
     }
 }
 

@@ -5,7 +5,7 @@ ghost use Rattle.std.specs.Int.NonZero.{non_zero_u8_get, non_zero_u16_get, non_z
 
 use crate::format::ToCompactStringError;
 use crate::to_text::ToCompactString;
-use crate::to_text::integers::{signed, small_signed, small_unsigned, unsigned};
+use crate::to_text::integers::{signed, unsigned};
 use crate::to_text::wide::printed;
 use compact_str::CompactString;
 use std::alloc::Global;
@@ -22,7 +22,7 @@ impl ToCompactString for NonZeroU8 {
     #[inline]
     fn to_compact_string(&self, alloc: Global) -> Result<CompactString, ToCompactStringError> {
         let n: u8 = self.get();
-        small_unsigned(alloc, n)
+        unsigned(alloc, u64::from(n))
     }
 }
 
@@ -94,7 +94,7 @@ impl ToCompactString for NonZeroI8 {
     #[inline]
     fn to_compact_string(&self, alloc: Global) -> Result<CompactString, ToCompactStringError> {
         let n: i8 = self.get();
-        small_signed(alloc, n)
+        signed(alloc, i64::from(n))
     }
 }
 

@@ -1,5 +1,7 @@
 //! The texts of `bool`, `char` and the kinds of text.
 ghost use Rattle.std.specs.Prelude.{◌≡◌, ◌≤◌, [], ◌∷◌, length, string_bytes, ⊤};
+ghost use Rattle.std.specs.Box.{boxed_str_bytes};
+ghost use Rattle.std.specs.Cow.{cow_str_bytes};
 ghost use Rattle.compact_str.specs.Text.{text_of, size};
 ghost use Rattle.compact_ext.specs.Shown.{IsTextOf, bool_text};
 
@@ -7,6 +9,8 @@ use crate::format::ToCompactStringError;
 use crate::to_text::ToCompactString;
 use compact_str::{CompactString, Policy, Standard};
 use std::alloc::Global;
+use std::borrow::CowStr;
+use std::boxed::BoxedStr;
 
 /// A copy of a text, placed as by `CompactString::new`.
 ///
@@ -70,6 +74,28 @@ impl ToCompactString for String {
     #[inline]
     fn to_compact_string(&self, alloc: Global) -> Result<CompactString, ToCompactStringError> {
         text_copy(alloc, self)
+    }
+}
+
+impl ToCompactString for BoxedStr {
+    ghost shown_text = { λ s. text_of (boxed_str_bytes s) };
+
+    ghost IsShort = { λ s. length (boxed_str_bytes s) ≤ 24 };
+
+    #[inline]
+    fn to_compact_string(&self, alloc: Global) -> Result<CompactString, ToCompactStringError> {
+        text_copy(alloc, BoxedStr::as_str(self))
+    }
+}
+
+impl ToCompactString for CowStr<'_> {
+    ghost shown_text = { λ s. text_of (cow_str_bytes s) };
+
+    ghost IsShort = { λ s. length (cow_str_bytes s) ≤ 24 };
+
+    #[inline]
+    fn to_compact_string(&self, alloc: Global) -> Result<CompactString, ToCompactStringError> {
+        text_copy(alloc, CowStr::as_str(self))
     }
 }
 

@@ -25,7 +25,9 @@ pub fn is_packed(bytes: &[u8; 24]) -> bool
     if begins_ascii(bytes) && (last < 128 || last >= 192) {
         return true;
     }
-    match std::str::from_utf8(&bytes[..length_of(bytes)]) {
+    // A copy is handed on, so that bytes which are made where they are asked for can stay in registers.
+    let copy = *bytes;
+    match std::str::from_utf8(&copy[..length_of(&copy)]) {
         Ok(_) => true,
         Err(_) => false,
     }

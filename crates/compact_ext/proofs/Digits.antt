@@ -1,0 +1,169 @@
+-- The digits of a number, four at a time from the end.
+use Rattle.std.proofs.Common.{◌≡◌, ℕ, zero, suc, ◌+◌, ◌-◌, ◌*◌, ◌/◌, ◌%◌, ◌^◌, ◌<◌, ◌≤◌, Bool, true, false, ◌&&◌, T, eqb, List, [], ◌∷◌, ◌++◌, length, get_or, refl, ap, sym, ◌∙◌, inl, inr, arith, ⊎_elim, eq-zero-or-pos, eqb→eq, length-append}
+use mir.Val.{bool_byte}
+use lib.Ieee.Fits.{and_l, and_r}
+use Rattle.std.proofs.lemmas.Fmt.{IsAscii-decimal, decimal_digit, decimal_nonempty, decimal_step, length-decimal-le}
+use Rattle.std.proofs.lemmas.Bool.{cases_lt, cond-true, lt-ltb}
+use Rattle.std.proofs.lemmas.List.{length-replicate}
+use Rattle.std.proofs.Math.Nat.{le-mul_of_pos_right}
+use Rattle.std.proofs.Math.Pow.{pow_mono}
+use Rattle.std.proofs.lemmas.Nat.{pow-add, pow_pos}
+use Rattle.std.specs.Prelude.{replicate}
+use Rattle.std.specs.Fmt.{decimal, sign_text}
+use Rattle.std.specs.Int.{from_le_bytes, w16}
+use Rattle.itoa.proofs.Decimal.{length_one, length_four, decimal_two, decimal_pair, decimal_four}
+use Rattle.compact_repr.specs.Words.{le_number}
+use Rattle.compact_repr.specs.Packed.{packed_bytes}
+use Rattle.compact_repr.proofs.Numbers.{AllBytes, AllBytes-append, AllBytes-cons, AllBytes-zeros, le_number-append, le_number-lt}
+use Rattle.compact_ext.specs.declared.to_text.digits.TheConstants.{PAIRS}
+use Rattle.compact_ext.specs.Digits.{two_digits, four_digits, number_behind, number_text}
+use Rattle.compact_ext.proofs.NumberTexts.{IsAscii-number}
+
+-- how many digits there are, by the power of ten that is reached
+
+power_of_ten : (k : ℕ) → 1 ≤ 10 ^ k
+power_of_ten zero = omega arith
+power_of_ten (suc k) = omega (arith, power_of_ten k)
+
+pub count-from_power : (k n : ℕ) → 10 ^ k ≤ n → n < 10 * 10 ^ k → n < 2 ^ 64 → length (decimal n) ≡ k + 1
+count-from_power zero n low high fits = length_one n (omega (arith, high))
+count-from_power (suc k) n low high fits =
+    let ten : 10 ^ suc k ≡ 10 * 10 ^ k = omega arith in
+    let some : 1 ≤ 10 ^ k = power_of_ten k in
+    let front = count-from_power k (n / 10) (omega (arith, ten, low)) (omega (arith, ten, high)) (omega arith) in
+    ap length (decimal_step n (omega (arith, ten, some, low)) fits) ∙ length-append (decimal (n / 10)) _ ∙ omega (arith, front)
+
+pub count-zero : (n : ℕ) → n ≡ 0 → 1 ≡ length (decimal n)
+count-zero n e = sym (length_one n (omega arith))
+
+pub count-short : (n : ℕ) → n < 2 ^ 64 → length (decimal n) ≤ 20
+count-short n h = length-decimal-le 20 n (omega arith) (omega arith) h
+
+pub ruleset digit_counts = (count-from_power, count-zero, count-short)
+
+-- the table has the two digits of each number below 100
+
+abbrev are_pairs : ℕ → Bool
+are_pairs zero = true
+are_pairs (suc p) = (eqb (get_or PAIRS (p * 2) 0) (48 + p / 10) && eqb (get_or PAIRS (p * 2 + 1) 0) (48 + p % 10)) && are_pairs p
+
+pair-among : (n p : ℕ) → T (are_pairs n) → p < n → (get_or PAIRS (p * 2) 0 ≡ 48 + p / 10) × (get_or PAIRS (p * 2 + 1) 0 ≡ 48 + p % 10)
+pair-among zero p t h = absurd (omega arith)
+pair-among (suc n) p t h =
+    elim (eq-zero-or-pos (n - p)) [
+      | inl z ↦ let e : p ≡ n = omega arith in let a = and_l _ (are_pairs n) t in rw e (eqb→eq _ _ (and_l _ _ a), eqb→eq _ _ (and_r _ _ a))
+      | inr g ↦ pair-among n p (and_r _ (are_pairs n) t) (omega arith)
+    ]
+
+pub pair_number : (p : ℕ) → p < 100 → from_le_bytes w16 (get_or PAIRS (p * 2) 0 ∷ get_or PAIRS (p * 2 + 1) 0 ∷ []) ≡ le_number (two_digits p)
+pair_number p h = let e = pair-among 100 p tt h in rw (e.0, e.1) (omega arith)
+
+pub ruleset pairs_read = (pair_number)
+
+-- the digits so far stand behind those that are still to come
+
+behind-append : (text : ℕ) (top group : List ℕ) → number_behind text (top ++ group) ≡ number_behind (number_behind text group) top
+behind-append text top group =
+    let both : 8 * length (top ++ group) ≡ 8 * length group + 8 * length top = ap (λ (k : ℕ). 8 * k) (length-append top group) ∙ omega arith in
+    let scale = ap (λ (k : ℕ). text * 2 ^ k) both ∙ ap (λ (k : ℕ). text * k) (pow-add 2 (8 * length group) (8 * length top)) in
+    omega (arith, scale, le_number-append top group)
+
+bytes-decimal : (n : ℕ) → n < 2 ^ 64 → AllBytes (decimal n)
+bytes-decimal n h i = omega (arith, IsAscii-decimal n h i)
+
+pub behind-four : (text n : ℕ) → 10000 ≤ n → n < 2 ^ 64 → number_behind text (decimal n) ≡ number_behind (text * 2 ^ 32 + le_number (four_digits (n % 10000))) (decimal (n / 10000))
+behind-four text n low fits = ap (number_behind text) (decimal_four n low fits) ∙ behind-append text (decimal (n / 10000)) (four_digits (n % 10000))
+
+pub number-fits : (n : ℕ) → n < 2 ^ 64 → le_number (decimal n) < 2 ^ 160
+number-fits n fits =
+    let few = count-short n fits in
+    let most = pow_mono {i = 8 * length (decimal n)} {j = 160} (omega arith) in
+    let below = le_number-lt (decimal n) (bytes-decimal n fits) in
+    omega arith
+
+pub behind-fits : (text n : ℕ) (front : List ℕ) → number_behind text front ≡ le_number (decimal n) → n < 2 ^ 64 → text < 2 ^ 160
+behind-fits text n front e fits = omega (arith, e, number-fits n fits, le-mul_of_pos_right {m = 2 ^ (8 * length front)} text (pow_pos (8 * length front)))
+
+-- four digits without the noughts before them
+pub first-four : (n k : ℕ) → n < 10000 → k ≡ length (decimal n) → le_number (four_digits n) / 2 ^ (8 * (4 - k)) ≡ le_number (decimal n)
+first-four n k h e = rw e (first-digits n h)
+  where
+    first-digits : (n : ℕ) → n < 10000 → le_number (four_digits n) / 2 ^ (8 * (4 - length (decimal n))) ≡ le_number (decimal n)
+    first-digits n h = ⊎_elim
+        (λ (two : n < 100). ⊎_elim (λ (one : n < 10). rw (decimal_digit n one) (omega arith)) (λ (ten : 10 ≤ n). rw (decimal_two n ten two) (omega arith)) (cases_lt n 10))
+        (λ (more : 100 ≤ n). rw (decimal_pair n more (omega arith))
+        (⊎_elim (λ (three : n / 100 < 10). rw (decimal_digit (n / 100) three) (omega arith)) (λ (four : 10 ≤ n / 100). rw (decimal_two (n / 100) four (omega arith)) (omega arith)) (cases_lt (n / 100) 10)))
+        (cases_lt n 100)
+
+pub count-first : (n : ℕ) → n < 10000 → length (decimal n) ≤ 4
+count-first n h = length-decimal-le 4 n (omega arith) (omega arith) (omega arith)
+
+pub count-some : (n : ℕ) → n < 2 ^ 64 → 1 ≤ length (decimal n)
+count-some n fits = let some = decimal_nonempty n fits in omega arith
+
+pub digits-fit : (n : ℕ) → n < 2 ^ 64 → le_number (decimal n) < 2 ^ (8 * length (decimal n))
+digits-fit n fits = le_number-lt (decimal n) (bytes-decimal n fits)
+
+pub ruleset digit_groups = (behind-four, behind-fits, first-four, count-first, count-some, digits-fit, length_four)
+
+-- what shifts make of the text and a group: no bit is lost
+
+pub moves : (k low high group : ℕ) → 1 ≤ k → k ≤ 4 → low < 2 ^ 128 → group < 2 ^ (8 * k) → high * 2 ^ 128 + low < 2 ^ 160
+    → (low * 2 ^ (8 * k) % 2 ^ 128 + group < 2 ^ 128) × (low / 2 ^ (128 - 8 * k) < 2 ^ 64)
+    × (high * 2 ^ (8 * k) % 2 ^ 64 + low / 2 ^ (128 - 8 * k) < 2 ^ 64)
+    × ((high * 2 ^ (8 * k) % 2 ^ 64 + low / 2 ^ (128 - 8 * k)) * 2 ^ 128 + (low * 2 ^ (8 * k) % 2 ^ 128 + group) ≡ (high * 2 ^ 128 + low) * 2 ^ (8 * k) + group)
+moves zero low high group some most a b c = absurd (omega arith)
+moves (suc zero) low high group some most a b c = (omega arith, omega arith, omega arith, omega arith)
+moves (suc (suc zero)) low high group some most a b c = (omega arith, omega arith, omega arith, omega arith)
+moves (suc (suc (suc zero))) low high group some most a b c = (omega arith, omega arith, omega arith, omega arith)
+moves (suc (suc (suc (suc zero)))) low high group some most a b c = (omega arith, omega arith, omega arith, omega arith)
+moves (suc (suc (suc (suc (suc k))))) low high group some most a b c = absurd (omega arith)
+
+-- a row is known by its number
+
+le_number-same : (xs ys : List ℕ) → AllBytes xs → AllBytes ys → length xs ≡ length ys → le_number xs ≡ le_number ys → xs ≡ ys
+le_number-same [] [] all each long e = refl
+le_number-same [] (y ∷ ys) all each long e = absurd (omega arith)
+le_number-same (x ∷ xs) [] all each long e = absurd (omega arith)
+le_number-same (x ∷ xs) (y ∷ ys) all each long e =
+    let first = all 0 in
+    let other = each 0 in
+    let head : x ≡ y = omega arith in
+    let rest = le_number-same xs ys (λ i. all (suc i)) (λ i. each (suc i)) (omega arith) (omega arith) in
+    rw (head, rest) refl
+
+le_number-zeros : (n : ℕ) → le_number (replicate n 0) ≡ 0
+le_number-zeros zero = refl
+le_number-zeros (suc n) = omega (arith, le_number-zeros n)
+
+pub row-packed : (text row : List ℕ) → length text ≤ 23 → AllBytes text → length row ≡ 24 → AllBytes row
+    → le_number row ≡ (192 + length text) * 2 ^ 184 + le_number text → row ≡ packed_bytes text
+row-packed text row few bytes long all e =
+    let gap : ℕ = 23 - length text in
+    let mark : List ℕ = (192 + length text) ∷ [] in
+    let front : length (text ++ replicate gap 0) ≡ 23 = length-append text (replicate gap 0) ∙ ap (λ (k : ℕ). length text + k) (length-replicate gap 0) ∙ omega arith in
+    let number : le_number ((text ++ replicate gap 0) ++ mark) ≡ (192 + length text) * 2 ^ 184 + le_number text =
+    le_number-append (text ++ replicate gap 0) mark
+    ∙ ap (λ (k : ℕ). le_number mark * 2 ^ (8 * k) + le_number (text ++ replicate gap 0)) front
+    ∙ ap (λ (k : ℕ). le_number mark * 2 ^ 184 + k) (le_number-append text (replicate gap 0) ∙ ap (λ (k : ℕ). k * 2 ^ (8 * length text) + le_number text) (le_number-zeros gap))
+    ∙ omega arith in
+    le_number-same row ((text ++ replicate gap 0) ++ mark) all
+    (AllBytes-append (text ++ replicate gap 0) mark (AllBytes-append text (replicate gap 0) bytes (AllBytes-zeros gap)) (AllBytes-cons (192 + length text) [] (omega arith) (λ i. omega arith)))
+    (long ∙ sym (length-append (text ++ replicate gap 0) mark ∙ omega arith))
+    (e ∙ sym number)
+    ∙ sym (cond-true _ _ _ (lt-ltb (length text) 24 (omega arith)))
+
+pub sign-fits : (s : Bool) (n : ℕ) → n < 2 ^ 64 → number_behind (le_number (decimal n)) (sign_text s) < 2 ^ 184
+sign-fits true n h = omega (arith, number-fits n h)
+sign-fits false n h = omega (arith, number-fits n h)
+
+-- the sign is a byte more
+pub number-row : (s : Bool) (n sign count first text : ℕ) (row : List ℕ) → n < 2 ^ 64 → sign ≡ bool_byte s → count ≡ length (decimal n)
+    → first ≡ le_number (decimal n) → text ≡ number_behind first (sign_text s) → length row ≡ 24 → AllBytes row
+    → le_number row ≡ (192 + (sign + count)) * 2 ^ 184 + text → row ≡ packed_bytes (number_text s n)
+number-row true n sign count first text row h one many is more long all e =
+    row-packed (number_text true n) row (omega (arith, count-short n h)) (λ i. omega (arith, IsAscii-number true n h i)) long all (omega arith)
+number-row false n sign count first text row h one many is more long all e =
+    row-packed (number_text false n) row (omega (arith, count-short n h)) (λ i. omega (arith, IsAscii-number false n h i)) long all (omega arith)
+
+pub ruleset number_rows = (number-fits, sign-fits)
