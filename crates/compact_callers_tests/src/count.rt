@@ -21,7 +21,10 @@ fn words_are_counted_in_order(rt: HostRuntime) {
     assert_equal(rt, counts.get("né").copied(), Some(2));
     assert_equal(rt, counts.get(LONG).copied(), Some(1));
     assert_equal(rt, counts.get("n").copied(), None);
-    assert_that(rt, word_counts(rt.alloc(), &[]).expect(rt, "memory").is_empty());
+    assert_that(
+        rt,
+        word_counts(rt.alloc(), &[]).expect(rt, "memory").is_empty(),
+    );
 }
 
 #[test]
@@ -33,7 +36,12 @@ fn words_are_counted_by_hash(rt: HostRuntime) {
     assert_equal(rt, counts.get("né").copied(), Some(2));
     assert_equal(rt, counts.get(LONG).copied(), Some(1));
     assert_equal(rt, counts.get("n").copied(), None);
-    assert_that(rt, hashed_word_counts(rt.alloc(), &[]).expect(rt, "memory").is_empty());
+    assert_that(
+        rt,
+        hashed_word_counts(rt.alloc(), &[])
+            .expect(rt, "memory")
+            .is_empty(),
+    );
 }
 
 #[test]
@@ -45,7 +53,12 @@ fn words_are_counted_by_first_occurrence(rt: HostRuntime) {
     assert_equal(rt, counts.get("né").copied(), Some(2));
     assert_equal(rt, counts.get(LONG).copied(), Some(1));
     assert_equal(rt, counts.get_index_of("né"), Some(1));
-    assert_that(rt, ordered_word_counts(rt.alloc(), &[]).expect(rt, "memory").is_empty());
+    assert_that(
+        rt,
+        ordered_word_counts(rt.alloc(), &[])
+            .expect(rt, "memory")
+            .is_empty(),
+    );
 }
 
 #[test]
@@ -87,15 +100,51 @@ fn an_added_word_is_in_the_set(rt: HostRuntime) {
     let rt = &rt;
     let alloc = rt.alloc();
     let mut words = HashSet::new(alloc);
-    assert_equal(rt, has_after_adding(alloc, &mut words, LONG, "né"), Ok(false));
-    assert_equal(rt, has_after_adding(alloc, &mut words, "né", "né"), Ok(true));
-    assert_equal(rt, has_after_adding(alloc, &mut words, "né", LONG), Ok(true));
+    assert_equal(
+        rt,
+        has_after_adding(alloc, &mut words, LONG, "né"),
+        Ok(false),
+    );
+    assert_equal(
+        rt,
+        has_after_adding(alloc, &mut words, "né", "né"),
+        Ok(true),
+    );
+    assert_equal(
+        rt,
+        has_after_adding(alloc, &mut words, "né", LONG),
+        Ok(true),
+    );
     let mut sorted_words = BTreeSet::new(alloc);
-    assert_equal(rt, sorted_has_after_adding(alloc, &mut sorted_words, LONG, "né"), Ok(false));
-    assert_equal(rt, sorted_has_after_adding(alloc, &mut sorted_words, "né", "né"), Ok(true));
-    assert_equal(rt, sorted_has_after_adding(alloc, &mut sorted_words, "né", LONG), Ok(true));
+    assert_equal(
+        rt,
+        sorted_has_after_adding(alloc, &mut sorted_words, LONG, "né"),
+        Ok(false),
+    );
+    assert_equal(
+        rt,
+        sorted_has_after_adding(alloc, &mut sorted_words, "né", "né"),
+        Ok(true),
+    );
+    assert_equal(
+        rt,
+        sorted_has_after_adding(alloc, &mut sorted_words, "né", LONG),
+        Ok(true),
+    );
     let mut row = IndexSet::new(alloc);
-    assert_equal(rt, ordered_has_after_adding(alloc, &mut row, LONG, "né"), Ok(false));
-    assert_equal(rt, ordered_has_after_adding(alloc, &mut row, "né", "né"), Ok(true));
-    assert_equal(rt, ordered_has_after_adding(alloc, &mut row, "né", LONG), Ok(true));
+    assert_equal(
+        rt,
+        ordered_has_after_adding(alloc, &mut row, LONG, "né"),
+        Ok(false),
+    );
+    assert_equal(
+        rt,
+        ordered_has_after_adding(alloc, &mut row, "né", "né"),
+        Ok(true),
+    );
+    assert_equal(
+        rt,
+        ordered_has_after_adding(alloc, &mut row, "né", LONG),
+        Ok(true),
+    );
 }
