@@ -93,18 +93,3 @@ pub fn entry(alloc: Global, name: &str, count: u64) -> Result<CompactString, ToC
 {
     format_compact!(in alloc; "{name}: {count}")
 }
-
-/// A name between two others.
-pub fn between(
-    alloc: Global,
-    first: &str,
-    name: &str,
-    last: &str,
-) -> Result<CompactString, ReserveError>
-    ensures { IfOk result (λ v. utf8 v.text ≡ first.now ++ name.now ++ last.now) }
-{
-    let mut line = CompactString::new(alloc, first)?;
-    line.push_str(last)?;
-    line.insert_str(first.len(), name)?;
-    Ok(line)
-}

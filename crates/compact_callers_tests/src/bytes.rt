@@ -3,8 +3,7 @@
 use crate::asserts::assert_that;
 use compact_asserts::that;
 use compact_callers::bytes_callers::{
-    append_both, between, entry, greeting, heading, mark_at, marked, port_part, port_text,
-    with_semicolons,
+    append_both, entry, greeting, heading, mark_at, marked, port_part, port_text, with_semicolons,
 };
 use compact_testing::seen::{is_heap, is_inline};
 use compact_testing::values::short;
@@ -28,8 +27,6 @@ fn texts_are_made(rt: HostRuntime) {
     assert_that(rt, is_inline(&port, ":0"));
     let line = entry(alloc, "é", 12).expect(rt, "memory");
     assert_that(rt, is_inline(&line, "é: 12"));
-    let line = between(alloc, "§", "é", "!").expect(rt, "memory");
-    assert_that(rt, is_inline(&line, "§é!"));
 }
 
 #[test]
