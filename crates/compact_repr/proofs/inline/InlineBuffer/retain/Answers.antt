@@ -1,4 +1,3 @@
-use Rattle.std.proofs.Common.{arith}
 use Rattle.compact_repr.proofs.PackedTexts.{packed-text, packed-again, packed-most}
 use Rattle.compact_repr.proofs.inline.InlineBuffer.retain.Goals as goal
 
