@@ -1,4 +1,4 @@
--- The digits of a number, four at a time from the end.
+-- The digits of a number, four or two at a time from the end.
 use Rattle.std.proofs.Common.{◌≡◌, ℕ, zero, suc, ◌+◌, ◌-◌, ◌*◌, ◌/◌, ◌%◌, ◌^◌, ◌<◌, ◌≤◌, Bool, true, false, ◌&&◌, T, eqb, List, [], ◌∷◌, ◌++◌, length, get_or, refl, ap, sym, ◌∙◌, inl, inr, arith, ⊎_elim, eq-zero-or-pos, eqb→eq, length-append}
 use mir.Val.{bool_byte}
 use lib.Ieee.Fits.{and_l, and_r}
@@ -11,7 +11,7 @@ use Rattle.std.proofs.lemmas.Nat.{pow-add, pow_pos}
 use Rattle.std.specs.Prelude.{replicate}
 use Rattle.std.specs.Fmt.{decimal, sign_text}
 use Rattle.std.specs.Int.{from_le_bytes, w16}
-use Rattle.itoa.proofs.Decimal.{length_one, length_four, decimal_two, decimal_pair, decimal_four}
+use Rattle.itoa.proofs.Decimal.{length_one, decimal_two, decimal_pair, decimal_four}
 use Rattle.compact_repr.specs.Words.{le_number}
 use Rattle.compact_repr.specs.Packed.{packed_bytes}
 use Rattle.compact_repr.proofs.Numbers.{AllBytes, AllBytes-append, AllBytes-cons, AllBytes-zeros, le_number-append, le_number-lt}
@@ -74,6 +74,9 @@ bytes-decimal n h i = omega (arith, IsAscii-decimal n h i)
 pub behind-four : (text n : ℕ) → 10000 ≤ n → n < 2 ^ 64 → number_behind text (decimal n) ≡ number_behind (text * 2 ^ 32 + le_number (four_digits (n % 10000))) (decimal (n / 10000))
 behind-four text n low fits = ap (number_behind text) (decimal_four n low fits) ∙ behind-append text (decimal (n / 10000)) (four_digits (n % 10000))
 
+pub behind-two : (text n : ℕ) → 100 ≤ n → n < 2 ^ 64 → number_behind text (decimal n) ≡ number_behind (text * 2 ^ 16 + le_number (two_digits (n % 100))) (decimal (n / 100))
+behind-two text n low fits = ap (number_behind text) (decimal_pair n low fits) ∙ behind-append text (decimal (n / 100)) (two_digits (n % 100))
+
 pub number-fits : (n : ℕ) → n < 2 ^ 64 → le_number (decimal n) < 2 ^ 160
 number-fits n fits =
     let few = count-short n fits in
@@ -84,19 +87,23 @@ number-fits n fits =
 pub behind-fits : (text n : ℕ) (front : List ℕ) → number_behind text front ≡ le_number (decimal n) → n < 2 ^ 64 → text < 2 ^ 160
 behind-fits text n front e fits = omega (arith, e, number-fits n fits, le-mul_of_pos_right {m = 2 ^ (8 * length front)} text (pow_pos (8 * length front)))
 
--- four digits without the noughts before them
-pub first-four : (n k : ℕ) → n < 10000 → k ≡ length (decimal n) → le_number (four_digits n) / 2 ^ (8 * (4 - k)) ≡ le_number (decimal n)
-first-four n k h e = rw e (first-digits n h)
-  where
-    first-digits : (n : ℕ) → n < 10000 → le_number (four_digits n) / 2 ^ (8 * (4 - length (decimal n))) ≡ le_number (decimal n)
-    first-digits n h = ⊎_elim
-        (λ (two : n < 100). ⊎_elim (λ (one : n < 10). rw (decimal_digit n one) (omega arith)) (λ (ten : 10 ≤ n). rw (decimal_two n ten two) (omega arith)) (cases_lt n 10))
-        (λ (more : 100 ≤ n). rw (decimal_pair n more (omega arith))
-        (⊎_elim (λ (three : n / 100 < 10). rw (decimal_digit (n / 100) three) (omega arith)) (λ (four : 10 ≤ n / 100). rw (decimal_two (n / 100) four (omega arith)) (omega arith)) (cases_lt (n / 100) 10)))
-        (cases_lt n 100)
+pub ruleset digit_groups = (behind-four, behind-two, behind-fits)
 
-pub count-first : (n : ℕ) → n < 10000 → length (decimal n) ≤ 4
-count-first n h = length-decimal-le 4 n (omega arith) (omega arith) (omega arith)
+pub one-digit : (n : ℕ) → n < 10 → length (decimal n) ≡ 1
+one-digit n low = ap length (decimal_digit n low)
+
+pub two-long : (n : ℕ) → 10 ≤ n → n < 100 → length (decimal n) ≡ 2
+two-long n low high = ap length (decimal_two n low high)
+
+-- the pair of a number below 100, without its nought
+pub first-pair : (n k : ℕ) → n < 100 → k ≡ length (decimal n) → le_number (two_digits n) / 2 ^ (8 * (2 - k)) ≡ le_number (decimal n)
+first-pair n k h e = rw e (cases n h)
+  where
+    cases : (n : ℕ) → n < 100 → le_number (two_digits n) / 2 ^ (8 * (2 - length (decimal n))) ≡ le_number (decimal n)
+    cases n h = ⊎_elim (λ (one : n < 10). rw (decimal_digit n one) (omega arith)) (λ (ten : 10 ≤ n). rw (decimal_two n ten h) (omega arith)) (cases_lt n 10)
+
+pub count-first : (n : ℕ) → n < 100 → length (decimal n) ≤ 2
+count-first n h = length-decimal-le 2 n (omega arith) (omega arith) (omega arith)
 
 pub count-some : (n : ℕ) → n < 2 ^ 64 → 1 ≤ length (decimal n)
 count-some n fits = let some = decimal_nonempty n fits in omega arith
@@ -104,7 +111,7 @@ count-some n fits = let some = decimal_nonempty n fits in omega arith
 pub digits-fit : (n : ℕ) → n < 2 ^ 64 → le_number (decimal n) < 2 ^ (8 * length (decimal n))
 digits-fit n fits = le_number-lt (decimal n) (bytes-decimal n fits)
 
-pub ruleset digit_groups = (behind-four, behind-fits, first-four, count-first, count-some, digits-fit, length_four)
+pub ruleset first_digits = (one-digit, two-long, first-pair, count-first, count-some, digits-fit)
 
 -- what shifts make of the text and a group: no bit is lost
 

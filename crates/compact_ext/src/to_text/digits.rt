@@ -1,4 +1,4 @@
-//! The text of a number of up to 64 bits: its digits from the end, four at a time, and then its sign.
+//! The text of a number of up to 64 bits: its digits from the end, four or two at a time, and then its sign.
 //!
 //! The text so far is a number whose lowest byte is the first character: a group of `k` characters moves it up by `8 * k`
 //! bits and is added below. So whole words come out. One that is read after its bytes were written one by one waits for them.
@@ -26,11 +26,8 @@ const PAST_WORD: u128 = 0x1_0000_0000_0000_0000;
 pub fn number_row(magnitude: u64, is_negative: bool) -> [u8; 24]
     ensures { result ≡ packed_bytes (number_text is_negative magnitude) }
 {
-    let count = count_digits(magnitude);
-    let digits = digits_of(magnitude, count);
-    digits
-        .behind_sign(is_negative)
-        .packed(usize::from(is_negative) + count)
+    let len = usize::from(is_negative) + count_digits(magnitude);
+    digits_of(magnitude).behind_sign(is_negative).packed(len)
 }
 
 /// How many digits a number has.
@@ -46,23 +43,32 @@ fn count_digits(n: u64) -> usize
     n.ilog10() as usize + 1
 }
 
-/// The digits of a number, of which there are `count`: from the end four at a time, and then the first one to four, as two
-/// and two without the noughts before them.
+/// The digits of a number: from the end four at a time, then two, and then the first one or two.
 #[inline(always)]
 #[tactic(auto, using(crate::proofs::Digits::digit_groups))]
-fn digits_of(n: u64, count: usize) -> ShortText
-    requires { count ≡ length (decimal n) }
+fn digits_of(n: u64) -> ShortText
     ensures { result ≡ le_number (decimal n) }
 {
     let mut rest = n;
-    let mut left = count;
     let mut text = ShortText { low: 0, high: 0 };
     while rest >= 10_000 {
         text = text.behind(four(rest % 10_000), 4);
         rest /= 10_000;
-        left -= 4;
     }
-    text.behind(four(rest) >> (8 * (4 - left)), left)
+    if rest >= 100 {
+        return text.behind(pair(rest % 100), 2).behind_first(rest / 100);
+    }
+    text.behind_first(rest)
+}
+
+/// How many digits a number below 100 has.
+#[inline(always)]
+#[tactic(auto, using(crate::proofs::Digits::first_digits))]
+fn count_first(n: u64) -> usize
+    requires { n < 100 }
+    ensures { result ≡ length (decimal n) }
+{
+    if n >= 10 { 2 } else { 1 }
 }
 
 /// The four digits of a number below 10,000, the first as the lowest byte.
@@ -114,6 +120,19 @@ impl ShortText {
             low: (self.low << bits) + u128::from(group),
             high: (self.high << bits) + (self.low >> (128 - bits)) as u64,
         }
+    }
+
+    /// The text behind the one or two digits of a number below 100.
+    #[inline(always)]
+    #[tactic(auto, using(crate::proofs::Digits::first_digits))]
+    fn behind_first(self, n: u64) -> Self
+        requires small { n < 100 }
+        requires fits { self < 2 ^ 160 }
+        ensures { result ≡ number_behind self (decimal n) }
+    {
+        // Both come from the table, and no test of how many they are is guessed.
+        let count = count_first(n);
+        self.behind(pair(n) >> (8 * (2 - count)), count)
     }
 
     /// The text behind a minus where that is wanted.

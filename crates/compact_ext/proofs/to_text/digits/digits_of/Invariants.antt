@@ -1,4 +1,4 @@
-use Rattle.std.proofs.Common.{length, ◌≡◌}
+use Rattle.std.proofs.Common.{◌≡◌}
 use Rattle.std.specs.Fmt.{decimal}
 use Rattle.compact_ext.specs.Digits.{number_behind}
 use Rattle.compact_repr.specs.Words.{le_number}
@@ -6,7 +6,7 @@ use Rattle.compact_ext.proofs.to_text.digits.digits_of.Given as goal
 
 -- behind what is left of the number the text so far is the whole
 abbrev pub invariant-loop-rest : goal.invariant-loop-rest
-invariant-loop-rest l = (number_behind l.text (decimal l.rest) ≡ le_number (decimal l.n)) × (l.left ≡ length (decimal l.rest))
+invariant-loop-rest l = number_behind l.text (decimal l.rest) ≡ le_number (decimal l.n)
 
 abbrev pub decreases-loop-rest : goal.decreases-loop-rest
 decreases-loop-rest l = l.rest
