@@ -141,7 +141,7 @@ impl HeapBuffer {
         true
     }
 
-    /// Appends what stands from one boundary to another, for which there is room. Positions are in bytes.
+    /// Appends the part between two boundaries, in bytes, for which there must be room.
     pub fn push_within(&mut self, start: usize, end: usize)
         requires order { start ≤ end }
         requires first { IsBoundary self.old.text start }

@@ -61,7 +61,7 @@ pub fn add_checked(
     Ok(())
 }
 
-/// A line with a mark at its end, as a `String`. A value that could not be changed is dropped.
+/// Returns a line with a mark at its end as a `String`. On failure the line is dropped.
 pub fn marked_line(line: CompactString) -> Result<String, ReserveError>
     ensures { IfOk result (λ s. string_bytes s ≡ utf8 line.text ++ codes "!") }
 {

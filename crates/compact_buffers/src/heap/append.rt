@@ -141,7 +141,7 @@ pub fn append_zeros(bytes: &mut Vec<u8>, len: usize)
     put_back(bytes, vec);
 }
 
-/// Appends what stands in a vector from one place to another, once more at its end.
+/// Appends a part of the vector to its end.
 pub fn append_within(bytes: &mut Vec<u8>, start: usize, end: usize)
     requires order { start ≤ end }
     requires within { end ≤ vec_len bytes.old }

@@ -20,7 +20,7 @@ static PAIRS: [u8; 200] = *b"0001020304050607080910111213141516171819\
 /// The least number that no word holds.
 const PAST_WORD: u128 = 0x1_0000_0000_0000_0000;
 
-/// The packed row of a number: a minus where it is negative, and the digits of its magnitude.
+/// Returns the packed form of a number: a minus if it is negative, and the digits of its magnitude.
 #[inline]
 #[tactic(auto, using(crate::proofs::Digits::number_rows))]
 pub fn number_row(magnitude: u64, is_negative: bool) -> [u8; 24]
@@ -30,7 +30,7 @@ pub fn number_row(magnitude: u64, is_negative: bool) -> [u8; 24]
     digits_of(magnitude).behind_sign(is_negative).packed(len)
 }
 
-/// How many digits a number has.
+/// Returns the number of digits of `n`.
 #[inline]
 #[tactic(auto, using(crate::proofs::Digits::digit_counts))]
 fn count_digits(n: u64) -> usize
@@ -43,7 +43,7 @@ fn count_digits(n: u64) -> usize
     n.ilog10() as usize + 1
 }
 
-/// The digits of a number: from the end four at a time, then two, and then the first one or two.
+/// Returns the digits of `n`, made from the end: four at a time, then two, then the last one or two.
 #[inline(always)]
 #[tactic(auto, using(crate::proofs::Digits::digit_groups))]
 fn digits_of(n: u64) -> ShortText
@@ -61,7 +61,7 @@ fn digits_of(n: u64) -> ShortText
     text.behind_first(rest)
 }
 
-/// How many digits a number below 100 has.
+/// Returns the number of digits of `n`, which is 1 or 2.
 #[inline(always)]
 #[tactic(auto, using(crate::proofs::Digits::first_digits))]
 fn count_first(n: u64) -> usize
@@ -105,7 +105,7 @@ impl Model for ShortText {
 }
 
 impl ShortText {
-    /// The text behind a group of so many characters.
+    /// Puts a group of `count` characters before the text.
     #[inline(always)]
     #[tactic(auto, using(crate::proofs::Digits::moves))]
     fn behind(self, group: u64, count: usize) -> Self
@@ -122,7 +122,7 @@ impl ShortText {
         }
     }
 
-    /// The text behind the one or two digits of a number below 100.
+    /// Puts the one or two digits of a number below 100 before the text.
     #[inline(always)]
     #[tactic(auto, using(crate::proofs::Digits::first_digits))]
     fn behind_first(self, n: u64) -> Self
@@ -130,12 +130,12 @@ impl ShortText {
         requires fits { self < 2 ^ 160 }
         ensures { result ≡ number_behind self (decimal n) }
     {
-        // Both come from the table, and no test of how many they are is guessed.
+        // Shifting the nought out of a pair avoids an unpredictable branch.
         let count = count_first(n);
         self.behind(pair(n) >> (8 * (2 - count)), count)
     }
 
-    /// The text behind a minus where that is wanted.
+    /// Puts a minus before the text if `is_negative`.
     #[inline(always)]
     fn behind_sign(self, is_negative: bool) -> Self
         requires { self < 2 ^ 160 }
@@ -148,7 +148,7 @@ impl ShortText {
         }
     }
 
-    /// The packed row of the text, with its length as the last byte.
+    /// Returns the packed form of the text, with its length in the last byte.
     #[inline(always)]
     fn packed(self, len: usize) -> [u8; 24]
         requires few { len ≤ 23 }

@@ -1,4 +1,4 @@
-//! A part of a representation's text that is appended once more.
+//! Appending a part of the text to itself.
 ghost use Rattle.std.specs.Prelude.{◌≡◌, ◌-◌, ◌≤◌, ◌++◌, Some, OnOk, OnErr, IsTrue};
 ghost use Rattle.compact_buffers.specs.Cut.{IsBoundary, substring};
 ghost use Rattle.compact_repr.specs.Value.{placed_text};
@@ -11,12 +11,12 @@ use compact_buffers::ReserveError;
 use compact_buffers::cut::substring;
 
 impl<P: Policy> Repr<P> {
-    /// Appends what stands from one boundary to another, in bytes; nothing if that is empty. It is copied within the
-    /// buffer.
+    /// Appends the part between two boundaries, in bytes. It is copied within the buffer, and an empty part changes
+    /// nothing.
     ///
     /// # Errors
     ///
-    /// [`ReserveError`] if the value has no room for it in place, and a new buffer is refused.
+    /// [`ReserveError`] if there is no room for it and a larger buffer cannot be allocated.
     pub fn push_within(&mut self, start: usize, end: usize) -> Result<(), ReserveError>
         requires order { start ≤ end }
         requires first { IsBoundary self.old.text start }
@@ -36,8 +36,8 @@ impl<P: Policy> Repr<P> {
         Ok(())
     }
 
-    /// Appends what stands from one boundary to another, in bytes, for which there is room. The place and the capacity
-    /// stay.
+    /// Appends the part between two boundaries, in bytes, for which there must be room. Keeps the place and the
+    /// capacity.
     #[tactic(auto, using(compact_buffers::proofs::TextFacts::text_facts))]
     fn push_within_in_place(&mut self, start: usize, end: usize)
         requires order { start ≤ end }

@@ -1,4 +1,4 @@
-//! How what a `Display` shows is appended.
+//! Appending what a `Display` shows.
 ghost use Rattle.std.specs.Prelude.{◌≡◌, ◌++◌, Some, IfSome, OnOk, OnErr};
 ghost use Rattle.std.specs.Fmt.{AppendsText, with_newline};
 ghost use Rattle.compact_repr.specs.Text.{text_of, utf8};
@@ -12,14 +12,14 @@ use std::fmt::{Display, Write};
 
 // These shadow the methods of `fmt::Write`, as the kit's `String` does.
 impl<P: Policy> PolicyString<P> {
-    /// Appends what `value` shows, as `push_str` appends it: all of it at once, or nothing.
+    /// Appends what `value` displays, all of it or nothing, with the capacity of one `push_str`.
     ///
-    /// It is shown to the stack first, and past 1024 bytes to a buffer that is freed again.
+    /// It is formatted on the stack first, and past 1024 bytes in a temporary heap buffer.
     ///
     /// # Errors
     ///
-    /// [`ReserveError`] if a buffer is refused, even if `value` hides that and goes on, and also if `value` fails by
-    /// itself. `format_compact!` tells the two apart.
+    /// [`ReserveError`] if a buffer cannot be allocated, even if `value` ignores that, and also if `value` itself returns
+    /// an error. `format_compact!` tells the two apart. The string is then unchanged.
     ///
     /// # Examples
     ///
