@@ -8,7 +8,7 @@ ghost use Rattle.std.specs.String.{string_capacity};
 ghost use Rattle.compact_str.specs.Text.{text_of, size};
 ghost use Rattle.compact_str.specs.Order.{text_in};
 ghost use Rattle.compact_str.specs.Collect.{join};
-ghost use Rattle.compact_str.specs.FittedValues.{IsFitted};
+ghost use Rattle.compact_str.specs.FittedValues.{IsPlacedBySize};
 
 use compact_str::{CompactString, CompactStringExt, ReserveError, append_all};
 use std::alloc::{AllocError, Global};
@@ -17,7 +17,7 @@ use std::alloc::{AllocError, Global};
 pub fn path(alloc: Global, parts: &[&str]) -> Result<CompactString, ReserveError>
     ensures text { IfOk result
         (λ v. v.text ≡ join (codes "/") (λ part. text_of part.now) parts.now) }
-    ensures place { IfOk result IsFitted }
+    ensures place { IfOk result IsPlacedBySize }
 {
     parts.iter().copied().join_compact(alloc, "/")
 }

@@ -10,7 +10,7 @@ use Rattle.std.proofs.lemmas.Str.{IsUtf8-from_is_utf8, is_utf8-from_IsUtf8, char
 use Rattle.std.proofs.lemmas.List.{length-take-le}
 use Rattle.compact_codec.specs.Utf8Table.{IsWellFormedSequence}
 use Rattle.compact_codec.specs.InvalidSequence.{IsLongestValidPrefix, IsUnconvertible, IsMaximalSubpart, IsUtf8Error}
-use Rattle.compact_codec.specs.Text.{replacement_character}
+use Rattle.compact_text.specs.Text.{replacement_character}
 use Rattle.compact_codec.specs.Utf8Text.{IsUtf8LossyText, utf8_lossy_text, BytesEncodeOneText, Utf8LossyTextIsUnique, Utf8LossyTextOfText, replacement_text, BeginsWithChunk}
 use Rattle.compact_codec.proofs.Rows.{IsWellFormedSequence-encode}
 use Rattle.compact_codec.proofs.Parts.{error_by_std, same_part, error_is, error_is_no_text}

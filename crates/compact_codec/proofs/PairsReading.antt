@@ -6,7 +6,7 @@ use Rattle.std.proofs.lemmas.Bool.{true≢false, false≢true}
 use Rattle.std.proofs.lemmas.Str.{utf16_chars-nil}
 use Rattle.compact_codec.specs.declared.utf16_bytes.ByteOrder.{ByteOrder}
 use Rattle.compact_codec.specs.declared.utf16_bytes.ByteOrder.TheVariants.{LittleEndian, BigEndian}
-use Rattle.compact_codec.specs.Text.{replacement_character}
+use Rattle.compact_text.specs.Text.{replacement_character}
 use Rattle.compact_codec.specs.Utf16Text.{AreUnits, IsUtf16, utf16_lossy_text, IsUtf16Step}
 use Rattle.compact_codec.specs.Utf16Bytes.{unit_of, unit_bytes, units_of, ArePairs, odd_byte_text, IsUtf16Bytes, utf16_bytes_lossy_text, BeginsWithInvalidBytes, IsUtf16BytesStep, AreBytes, PairsAreTheUnits, Utf16BytesLossyTextIsUnique, Utf16BytesLossyTextOfText}
 use Rattle.compact_codec.proofs.UnitsReading.{first_step_within, utf16_lossy_text-step, unpaired_is_no_text, rest_is_text, longer_is_text, utf16_lossy_text_is, utf16_lossy_text_of_text}

@@ -13,7 +13,7 @@ use Rattle.std.specs.Option.{option_copied}
 use Rattle.std.specs.Slice.{IsItemAt}
 use Rattle.std.proofs.lemmas.Str.{utf16_chars-nil, utf16_chars_lone, utf16_chars_pair}
 use lib.Utf8.{scalar, scalar_cases, low_scalar}
-use Rattle.compact_codec.specs.Text.{replacement_character}
+use Rattle.compact_text.specs.Text.{replacement_character}
 use Rattle.compact_codec.specs.Utf16Text.{AreUnits, IsHighSurrogate, IsLowSurrogate, UnitsEncode, IsUtf16, BeginsWithLowSurrogate, BeginsWithUnpairedSurrogate, IsUtf16LossyText, utf16_lossy_text, IsUtf16Step, UnitsEncodeOneText, Utf16HasNoUnpairedSurrogate, Utf16LossyTextIsUnique, Utf16LossyTextOfText}
 use Rattle.compact_codec.proofs.Rows.{high_scalar}
 

@@ -9,7 +9,7 @@ use Rattle.std.specs.Str.Lossy.{utf8_valid_len, utf8_error_len, utf8_lossy}
 use Rattle.std.proofs.lemmas.Bool.{false≢true}
 use Rattle.std.proofs.lemmas.Str.{is_utf8-from_IsUtf8}
 use Rattle.compact_codec.specs.declared.utf16_bytes.ByteOrder.TheVariants.{LittleEndian, BigEndian}
-use Rattle.compact_codec.specs.Text.{utf8, text_of}
+use Rattle.compact_text.specs.Text.{utf8, text_of}
 use Rattle.compact_codec.specs.Utf8Table.{IsWellFormedSequence}
 use Rattle.compact_codec.specs.InvalidSequence.{IsUtf8Error}
 use Rattle.compact_codec.specs.Utf8Text.{BytesEncode, utf8_lossy_text, IsUtf8LossyText, BeginsWithChunk}

@@ -1,4 +1,4 @@
-pub mod Text
+pub use Rattle.compact_text.specs.Text
 pub mod Utf8Table
 pub mod InvalidSequence
 pub mod Utf8Text

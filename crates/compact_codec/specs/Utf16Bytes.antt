@@ -5,7 +5,7 @@ use Rattle.std.specs.Char.Escape.{encode_utf16}
 use Rattle.std.specs.List.{flat_map}
 use Rattle.compact_codec.specs.declared.utf16_bytes.ByteOrder.{ByteOrder}
 use Rattle.compact_codec.specs.declared.utf16_bytes.ByteOrder.TheVariants.{LittleEndian, BigEndian}
-use Rattle.compact_codec.specs.Text.{replacement_character}
+use Rattle.compact_text.specs.Text.{replacement_character}
 use Rattle.compact_codec.specs.Utf16Text.{UnitsEncode, IsUtf16, BeginsWithUnpairedSurrogate, IsUtf16LossyText, utf16_lossy_text}
 
 -- the unit of two bytes: the low byte comes first in little-endian order, and the high byte in big-endian order

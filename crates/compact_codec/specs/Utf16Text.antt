@@ -4,7 +4,7 @@ use Rattle.std.specs.Char.{IsScalar}
 use Rattle.std.specs.Char.Escape.{encode_utf16}
 use Rattle.std.specs.Char.Utf16.{utf16_lossy_chars, has_unpaired_surrogate}
 use Rattle.std.specs.List.{flat_map}
-use Rattle.compact_codec.specs.Text.{IsText, replacement_character}
+use Rattle.compact_text.specs.Text.{IsText, replacement_character}
 
 -- the units of t in UTF-16: one or two for each character
 abbrev pub utf16 : List ℕ → List ℕ

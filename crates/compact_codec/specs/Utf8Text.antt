@@ -2,7 +2,7 @@
 use Rattle.std.specs.Prelude.{◌≡◌, ◌≢◌, ◌↔◌, ◌⊎◌, ℕ, List, [], ◌∷◌, ◌++◌, length, drop}
 use Rattle.std.specs.Char.{IsScalar, encode_utf8}
 use Rattle.std.specs.Str.Lossy.{utf8_lossy}
-use Rattle.compact_codec.specs.Text.{IsText, utf8, text_of, replacement_character}
+use Rattle.compact_text.specs.Text.{IsText, utf8, text_of, replacement_character}
 use Rattle.compact_codec.specs.InvalidSequence.{IsLongestValidPrefix, IsMaximalSubpart}
 
 -- the bytes encode this text

@@ -1,6 +1,6 @@
 //! Bytes read as UTF-16, two bytes a unit, in which a byte order mark is a character (Unicode Standard, 3.10).
 ghost use Rattle.std.specs.Prelude.{◌≡◌, ◌↔◌, ◌<◌, ◌≤◌, ◌∷◌, drop, length, unwrap_or, slice_get, IsSome, IfNone, IsTrue};
-ghost use Rattle.compact_codec.specs.Text.{replacement_character};
+ghost use Rattle.compact_text.specs.Text.{replacement_character};
 ghost use Rattle.compact_codec.specs.Utf16Bytes.{unit_of, units_of, IsUtf16Bytes, IsUtf16BytesStep, utf16_bytes_lossy_text, PairsAreTheUnits, Utf16BytesLossyTextIsUnique, Utf16BytesLossyTextOfText};
 
 use crate::utf16::{Utf16Step, step_over};

@@ -1,7 +1,7 @@
 //! Bytes read as UTF-8 (Unicode Standard, 3.9).
 ghost use Rattle.std.specs.Prelude.{◌≡◌, ◌↔◌, ◌+◌, ◌<◌, ◌≤◌, ◌++◌, take, length, IfOk, IfErr, OnErr, IsOk, IsTrue, IsUtf8};
 ghost use Rattle.std.specs.Str.{IsAscii};
-ghost use Rattle.compact_codec.specs.Text.{text_of};
+ghost use Rattle.compact_text.specs.Text.{text_of};
 ghost use Rattle.compact_codec.specs.Utf8Table.{TableIsTheEncodings};
 ghost use Rattle.compact_codec.specs.InvalidSequence.{IsUtf8Error, Validates, Utf8ErrorIsUnique};
 ghost use Rattle.compact_codec.specs.Utf8Text.{utf8_lossy_text, replacement_text, BeginsWithChunk, BytesEncodeOneText, Utf8LossyTextIsUnique, Utf8LossyTextOfText};

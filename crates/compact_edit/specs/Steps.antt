@@ -8,7 +8,7 @@ use Rattle.compact_str.specs.Capacity.{Growth, with_capacity_asks, reserve_asks,
 use Rattle.compact_str.specs.Change.{new, push_str, push_str_asks, clear, reserve, truncate, Shrinks, insert_str, replace_range, replace_range_asks, make_ascii_lowercase, make_ascii_uppercase, retain, zeroize}
 use Rattle.compact_str.specs.RetainRules.{retained_text, answer_rule}
 use Rattle.compact_str.specs.Clones.{clone_from, clone_from_asks}
-use Rattle.compact_str.specs.PositionEdits.{Removes, Pops, SplitsOff, split_asks, repeat, repeat_asks}
+use Rattle.compact_str.specs.PositionEdits.{Removes, PopsChar, SplitsOff, split_asks, repeat, repeat_asks}
 use Rattle.compact_str.specs.Ranges.{IsRange, range_start, range_end}
 use Rattle.compact_edit.specs.declared.edit.Edit.{Edit}
 use Rattle.compact_edit.specs.declared.edit.Edit.TheVariants.{Push, PushStr, Pop, Insert, InsertStr, Remove, Truncate, Clear, SplitOff, ReplaceRange, Drain, Retain, Reserve, ShrinkTo, ShrinkToFit, MakeLower, MakeUpper, Zeroize, Repeat, CloneFrom}
@@ -65,7 +65,7 @@ edit_asks v (CloneFrom source) = clone_from_asks v source.now
 abbrev pub EditDoes : {P : Type 0} → Growth → PlacedText → Edit P → Reply P → PlacedText → Type 0
 EditDoes g v (Push c) reply w = (reply ≡ Done) × (push_str g v (c ∷ []) ≡ Some w)
 EditDoes g v (PushStr s) reply w = (reply ≡ Done) × (push_str g v (text_of s.now) ≡ Some w)
-EditDoes g v Pop reply w = (c : Option ℕ) × (reply ≡ Char c) × Pops v c w
+EditDoes g v Pop reply w = (c : Option ℕ) × (reply ≡ Char c) × PopsChar v c w
 EditDoes g v (Insert p c) reply w = (reply ≡ Done) × (insert_str g v p (c ∷ []) ≡ Some w)
 EditDoes g v (InsertStr p s) reply w = (reply ≡ Done) × (insert_str g v p (text_of s.now) ≡ Some w)
 EditDoes g v (Remove p) reply w = (c : ℕ) × (reply ≡ Char (Some c)) × Removes g v p c w

@@ -12,9 +12,9 @@ use Rattle.std.specs.Prelude.{replicate}
 use Rattle.std.specs.Fmt.{decimal, sign_text}
 use Rattle.std.specs.Int.{from_le_bytes, w16}
 use Rattle.itoa.proofs.Decimal.{length_one, decimal_two, decimal_pair, decimal_four}
-use Rattle.compact_repr.specs.Words.{le_number}
+use Rattle.compact_text.specs.WordBytes.{le_number}
 use Rattle.compact_repr.specs.Packed.{packed_bytes}
-use Rattle.compact_repr.proofs.Numbers.{AllBytes, AllBytes-append, AllBytes-cons, AllBytes-zeros, le_number-append, le_number-lt}
+use Rattle.compact_text.proofs.Numbers.{AllBytes, AllBytes-append, AllBytes-cons, AllBytes-zeros, le_number-append, le_number-lt}
 use Rattle.compact_ext.specs.declared.to_text.digits.TheConstants.{PAIRS}
 use Rattle.compact_ext.specs.Digits.{two_digits, four_digits, number_behind, number_text}
 use Rattle.compact_ext.proofs.NumberTexts.{IsAscii-number}

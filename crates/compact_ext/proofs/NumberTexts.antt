@@ -7,7 +7,7 @@ use Rattle.std.proofs.lemmas.Grind.{common_steps}
 use Rattle.std.specs.Str.{IsAscii, IsUtf8}
 use Rattle.compact_str.specs.Text.{size, text_of}
 use Rattle.compact_repr.specs.Packed.{IsPackedFor, packed_bytes}
-use Rattle.compact_buffers.proofs.Texts.{size-text_of}
+use Rattle.compact_text.proofs.Texts.{size-text_of}
 use Rattle.compact_repr.proofs.PackedTexts.{stands-packed}
 use Rattle.compact_str.specs.Value.{placed_text}
 use Rattle.compact_str.specs.Capacity.{Growth, inline_placement}

@@ -4,7 +4,7 @@ use Rattle.std.specs.Str.{IsUtf8}
 use Rattle.std.proofs.lemmas.List.{length-take-le}
 use Rattle.compact_repr.specs.Text.{size, utf8, text_of}
 use Rattle.compact_repr.specs.Packed.{IsPackedFor, packed_len, packed_text}
-use Rattle.compact_buffers.proofs.Texts.{utf8-text_of, size-text_of}
+use Rattle.compact_text.proofs.Texts.{utf8-text_of, size-text_of}
 use Rattle.compact_repr.proofs.PackedTexts.{len-high, packed-len, packed-last, packed-utf8, packed-text, stands-full, stands-read}
 
 -- no text of 24 bytes ends in a byte that is a length

@@ -1,6 +1,6 @@
 -- The text of a number.
 use Rattle.std.specs.Prelude.{ℕ, ◌+◌, ◌*◌, ◌^◌, ◌/◌, ◌%◌, List, [], ◌∷◌, ◌++◌, Bool, length}
-use Rattle.compact_repr.specs.Words.{le_number}
+use Rattle.compact_text.specs.WordBytes.{le_number}
 use Rattle.std.specs.Fmt.{decimal, sign_text}
 
 -- the two digits of a number below 100

@@ -3,7 +3,7 @@ ghost use Rattle.std.specs.Prelude.{◌≡◌, IfOk, IfSome, IsTrue, OnOk, OnErr
 ghost use Rattle.compact_str.specs.Text.{text_of, utf8};
 ghost use Rattle.compact_str.specs.Change.{push_str_asks};
 ghost use Rattle.compact_str.specs.PositionEdits.{Writes};
-ghost use Rattle.compact_str.specs.FittedValues.{IsFitted};
+ghost use Rattle.compact_str.specs.FittedValues.{IsPlacedBySize};
 
 use compact_str::{CompactString, Policy, ReserveError, Standard};
 use std::alloc::Global;
@@ -49,7 +49,7 @@ impl From<fmt::Error> for ToCompactStringError {
 struct Collector {
     value: CompactString,
     is_refused: bool,
-    ghost fitted: { IsFitted value },
+    ghost fitted: { IsPlacedBySize value },
 }
 
 impl Write for Collector {
@@ -88,7 +88,7 @@ pub fn collect_display<D: Display + Drop>(
 ) -> Result<CompactString, ToCompactStringError>
     ensures text { IfOk result (λ v. IfSome (D.output shown) (λ bytes. v.text ≡ text_of bytes)) }
     ensures bytes { IfOk result (λ v. IfSome (D.output shown) (λ bytes. utf8 v.text ≡ bytes)) }
-    ensures fitted { IfOk result IsFitted }
+    ensures fitted { IfOk result IsPlacedBySize }
 {
     let mut collector = Collector {
         value: CompactString::default(alloc),

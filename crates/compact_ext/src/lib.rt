@@ -1,5 +1,5 @@
 //! Texts made of numbers and formats, and the form in which a text goes over a wire.
-#![tactic(auto, using(compact_buffers::proofs::TextFacts::text_facts))]
+#![tactic(auto, using(compact_text::proofs::TextFacts::text_facts))]
 
 mod format;
 mod to_text;

@@ -7,7 +7,7 @@ use Rattle.std.specs.Ordering.{nat_cmp, ordering_then, ordering_reverse, is_eq}
 use Rattle.std.specs.Cmp.Lexicographic.{slice_cmp, pointwise, texts_ties}
 use Rattle.std.proofs.lemmas.Bool.{cases_lt, cases_order, cond-true, cond-false, lt-ltb, le-ltb}
 use Rattle.std.proofs.lemmas.Cmp.{nat_list_cmp_total, nat_cmp_total, tied_itself}
-use Rattle.compact_buffers.specs.Text.{utf8}
+use Rattle.compact_text.specs.Text.{utf8}
 use lib.Utf8.{encode, next}
 
 abbrev list_cmp : List ℕ → List ℕ → Ordering

@@ -1,12 +1,12 @@
 -- What a change gives, in plain facts.
 use Rattle.std.proofs.Common.{◌≡◌, ℕ, ◌+◌, ◌-◌, ◌≤◌, List, [], ◌++◌, Some, true, false, arith, append-nil}
 use Rattle.std.proofs.lemmas.Grind.{common_steps}
-use Rattle.compact_buffers.specs.Text.{size}
+use Rattle.compact_text.specs.Text.{size}
 use Rattle.compact_repr.specs.Value.{PlacedText, placed_text, is_static}
-use Rattle.compact_buffers.specs.Cut.{replaced_text}
+use Rattle.compact_text.specs.Cut.{replaced_text}
 use Rattle.compact_repr.specs.Capacity.{Growth, fits_in_place}
 use Rattle.compact_repr.specs.Change.{push_str, insert_str, replace_range}
-use Rattle.compact_buffers.proofs.Texts.{empty_text}
+use Rattle.compact_text.proofs.Texts.{empty_text}
 
 pub push_str-text : (g : Growth) (v w : PlacedText) (s : List ℕ) → push_str g v s ≡ Some w → w.text ≡ v.text ++ s
 push_str-text g v w s e = grind (arith, common_steps, empty_text, append-nil)

@@ -4,8 +4,8 @@ use Rattle.std.proofs.Common.{inl, inr, arith}
 use lib.Utf8.{encode}
 use Rattle.compact_repr.specs.Packed.{IsPackedFor, packed_len, packed_text}
 use Rattle.compact_repr.proofs.PackedTexts.{packed-last, packed-text}
-use Rattle.compact_buffers.specs.Text.{size, ascii_lowercase, ascii_uppercase}
-use Rattle.compact_buffers.specs.Cut.{text_before, text_after, substring, replaced_text}
+use Rattle.compact_text.specs.Text.{size, ascii_lowercase, ascii_uppercase}
+use Rattle.compact_text.specs.Cut.{text_before, text_after, substring, replaced_text}
 use Rattle.compact_repr.specs.Value.{PlacedText, placed_text}
 use Rattle.compact_repr.specs.Capacity.{Growth, inline_placement, heap_placement, static_placement, checked_heap_placement, with_capacity_placement, with_capacity_asks, fits_in_place, reserve_placement, reserve_asks, shortened_placement, owned_placement, make_owned_asks, const_new_placement, from_string_placement, clone_placement, clone_asks, shrink_to_placement, shrink_to_asks}
 use Rattle.compact_repr.specs.Change.{new, push_str, push_str_asks, clear, reserve, with_capacity, make_owned, clone, truncate, make_ascii_lowercase, make_ascii_uppercase, retain, zeroize}

@@ -1,15 +1,11 @@
+pub mod HeapTexts
+pub mod Strings
 pub mod Changes
 pub mod MoreRoom
-pub mod Numbers
-pub mod WordArrays
-pub mod ChangedWords
-pub mod ChangedArrays
 pub mod ByteOrder
-pub mod SameArrays
 pub mod PackedArrays
 pub mod PackedTexts
 pub mod PackedEdits
 pub mod PackedFacts
-pub mod AsciiArrays
 pub mod PackedOrder
 pub mod Examples

@@ -3,8 +3,8 @@ use Rattle.std.proofs.Common.{◌≡◌, ℕ, ◌+◌, ◌-◌, ◌<◌, ◌≤�
 use Rattle.std.proofs.Common.{refl, ap, sym, ◌∙◌, arith}
 use Rattle.std.proofs.lemmas.Bool.{and_parts, not-true, leb-true, le-leb, lt-leb}
 use Rattle.std.specs.Prelude.{option_map, nat_eq}
-use Rattle.compact_buffers.specs.Text.{size}
-use Rattle.compact_buffers.specs.Cut.{replaced_text}
+use Rattle.compact_text.specs.Text.{size}
+use Rattle.compact_text.specs.Cut.{replaced_text}
 use Rattle.compact_repr.specs.Value.{Placement, PlacedText, placed_text, is_static}
 use Rattle.compact_repr.specs.Capacity.{Growth, fits_in_place, reserve_placement, reserve_asks, owned_placement, make_owned_asks}
 use Rattle.compact_repr.specs.Change.{reserve, make_owned, push_str, push_str_asks, insert_str, replace_range, replace_range_asks}

@@ -5,11 +5,10 @@ use Rattle.std.proofs.lemmas.Bool.{lt-ltb, le-ltb, cond-true, cond-false, cases_
 use Rattle.std.proofs.lemmas.List.{append-nil, length-drop, length-take-le, take-replicate, take_all, drop_all}
 use Rattle.std.proofs.Math.Nat.{pow-le-pow_right}
 use Rattle.std.proofs.Math.Seq.{take-append-add}
-use Rattle.compact_repr.specs.Words.{le_number, word_bytes}
+use Rattle.compact_text.specs.WordBytes.{le_number, word_bytes}
 use Rattle.compact_repr.specs.Packed.{packed_bytes}
-use Rattle.compact_repr.proofs.Numbers.{AllBytes, AllBytes-take, AllBytes-drop, word_bytes-le_number, length-word_bytes, le_number-lt, word_bytes-with_last}
-use Rattle.compact_repr.proofs.ChangedArrays.{array_is_three}
-use Rattle.compact_repr.proofs.WordArrays.{array_of_three, array_of_two, array_of_one}
+use Rattle.compact_text.proofs.Numbers.{AllBytes, AllBytes-take, AllBytes-drop, word_bytes-le_number, length-word_bytes, le_number-lt, word_bytes-with_last}
+use Rattle.compact_text.proofs.WordArrays.{array_of_three, array_of_two, array_of_one}
 
 -- the third word of such an array
 abbrev with_length : ℕ → ℕ → ℕ
@@ -95,15 +94,3 @@ pub packed_one : (xs : List ℕ) → AllBytes xs → length xs ≤ 8
     → word_bytes (le_number xs) ++ word_bytes 0 ++ word_bytes (with_length 0 (length xs)) ≡ packed_bytes xs
 packed_one xs all most =
     ended xs (word_bytes (le_number xs)) (word_bytes 0) 0 (length-word_bytes (le_number xs)) (length-word_bytes 0) (omega arith) (omega arith) (array_of_one xs all most)
-
--- an array with another last byte is its first two words and the third with that byte
-pub other_last : (xs x y z : List ℕ) (last : ℕ) → length xs ≡ 24 → x ≡ take 8 xs → y ≡ take 8 (drop 8 xs) → z ≡ take 8 (drop 16 xs)
-    → x ++ y ++ (take 7 z ++ last ∷ []) ≡ take 23 xs ++ last ∷ []
-other_last xs x y z last long first second third =
-    let array : x ++ y ++ z ≡ xs = array_is_three xs x y z long first second third in
-    let length_x : length x ≡ 8 = ap length first ∙ length-take-le 8 xs (omega arith) in
-    let length_y : length y ≡ 8 = ap length second ∙ length-take-le 8 (drop 8 xs) (omega (arith, length-drop 8 xs)) in
-    let two : length (x ++ y) + 7 ≡ 23 = omega (arith, length-append x y) in
-    let front : x ++ y ++ take 7 z ≡ take 23 xs =
-    sym (take-append-add (x ++ y) z 7) ∙ ap (λ (n : ℕ). take n (x ++ y ++ z)) two ∙ ap (take 23) array in
-    sym (append_assoc (x ++ y) (take 7 z) (last ∷ [])) ∙ ap (λ (ys : List ℕ). ys ++ last ∷ []) front

@@ -3,10 +3,10 @@
 use Rattle.std.proofs.Common.{◌≡◌, ℕ, ◌≤◌, List, take, ap, sym, ◌∙◌, subst, arith}
 use Rattle.std.specs.Str.{IsUtf8}
 use Rattle.std.proofs.lemmas.List.{take-take}
-use Rattle.compact_buffers.specs.Text.{size, text_of}
-use Rattle.compact_buffers.specs.Cut.{IsBoundary, text_before}
+use Rattle.compact_text.specs.Text.{size, text_of}
+use Rattle.compact_text.specs.Cut.{IsBoundary, text_before}
 use Rattle.compact_repr.specs.Packed.{IsPackedFor, packed_len, packed_text}
-use Rattle.compact_buffers.proofs.Cuts.{boundary-within, text_of-take, utf8-take}
+use Rattle.compact_text.proofs.Cuts.{boundary-within, text_of-take, utf8-take}
 use Rattle.compact_repr.proofs.PackedTexts.{packed-len, packed-most, packed-utf8, packed-seen}
 
 -- the length that is read is the size of the text

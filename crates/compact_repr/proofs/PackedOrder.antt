@@ -5,9 +5,9 @@ use Rattle.std.specs.Cmp.Lexicographic.{slice_cmp}
 use Rattle.std.specs.Ordering.{nat_cmp}
 use Rattle.std.proofs.lemmas.Bool.{cases_lt}
 use Rattle.std.proofs.lemmas.List.{get_or-take, length-take-le}
-use Rattle.compact_buffers.specs.Text.{utf8}
+use Rattle.compact_text.specs.Text.{utf8}
 use Rattle.compact_repr.specs.Packed.{IsPackedFor, packed_len, packed_text}
-use Rattle.compact_buffers.proofs.Texts.{utf8-text_of}
+use Rattle.compact_text.proofs.Texts.{utf8-text_of}
 use Rattle.compact_repr.proofs.ByteOrder.{utf8-order, first-decides}
 use Rattle.compact_repr.proofs.PackedTexts.{len-full, len-high, packed-utf8}
 use Rattle.compact_repr.proofs.PackedEdits.{len-fits}

@@ -1,17 +1,18 @@
 -- What 24 bytes stand for.
 use Rattle.std.proofs.Common.{◌≡◌, ℕ, ◌+◌, ◌-◌, ◌/◌, ◌<◌, ◌≤◌, List, [], ◌∷◌, ◌++◌, length, take, get_or, refl, ap, sym, ◌∙◌, subst, arith, length-append, append_assoc, inl, inr, ⊎_elim}
 use Prim.Native.Nat.{suc}
-use Rattle.std.specs.Prelude.{replicate}
-use Rattle.std.specs.Str.{IsUtf8}
+use Rattle.std.specs.Prelude.{replicate, ◌⊎◌}
+use Rattle.std.specs.Str.{IsUtf8, IsAscii}
 use Rattle.std.proofs.lemmas.Bool.{lt-ltb, le-ltb, ltb-true, cond-true, cond-false, cond_both, cases_lt}
 use Rattle.std.proofs.lemmas.List.{append-nil, length-take-le, length-replicate, take_all, take_at, take-take, take-append-le, get_or_push, get_or-append-add, get_or-set_same, take-set-le, length-set}
-use Rattle.std.proofs.lemmas.Str.{length-encode, len_utf8_bounds, encodes-chars, scalars-chars, chars-encodes}
+use Rattle.std.proofs.lemmas.Str.{length-encode, len_utf8_bounds, encodes-chars, scalars-chars, chars-encodes, IsAscii-take, IsUtf8-from_ascii}
+use Rattle.std.proofs.lemmas.Str.Ascii.{IsAscii-more}
 use lib.Dec.{ltb}
 use lib.ListN.{set}
 use lib.Utf8.{encode, encodes, next}
-use Rattle.compact_buffers.specs.Text.{size, utf8, text_of}
+use Rattle.compact_text.specs.Text.{size, utf8, text_of}
 use Rattle.compact_repr.specs.Packed.{IsPackedFor, packed_len, packed_text, packed_bytes}
-use Rattle.compact_buffers.proofs.Texts.{length-utf8, size-text_of}
+use Rattle.compact_text.proofs.Texts.{length-utf8, size-text_of}
 
 -- the last byte, if there is one, is at most 191
 abbrev EndsLow : List ℕ → Type 0
@@ -204,3 +205,17 @@ stands-packed bytes u most =
     let stands : IsPackedFor bytes (text_of bytes) = subst (λ (ys : List ℕ). IsPackedFor bytes (text_of ys)) front (stands-full bytes n full full (subst IsUtf8 (sym front) u)) in
     subst (λ (ys : List ℕ). IsPackedFor ys (text_of bytes)) (sym is) stands)
     (cases_lt n 24)
+
+-- an array whose first 23 bytes are ASCII holds a text, unless its last byte belongs to no ASCII text
+pub ascii_packed : (array : List ℕ) → length array ≡ 24 → IsAscii (take 23 array) → (get_or array 23 0 < 128) ⊎ (192 ≤ get_or array 23 0) → get_or array 23 0 ≤ 215
+    → IsUtf8 (take (packed_len array) array)
+ascii_packed array long all end most =
+    ⊎_elim
+    (λ (low : get_or array 23 0 < 128).
+    let e : packed_len array ≡ 23 + 1 = len-full array (omega (arith, low)) in
+    subst (λ (n : ℕ). IsUtf8 (take n array)) (sym e) (IsUtf8-from_ascii (take 24 array) (IsAscii-more array 23 (omega arith) all low)))
+    (λ (high : 192 ≤ get_or array 23 0).
+    let n : ℕ = packed_len array in
+    let e : n ≡ get_or array 23 0 - 192 = len-high array high in
+    subst IsUtf8 (take-take n 23 array (omega (arith, e, most))) (IsUtf8-from_ascii (take n (take 23 array)) (IsAscii-take (take 23 array) n all)))
+    end

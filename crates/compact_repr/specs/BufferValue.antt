@@ -2,7 +2,7 @@
 use Rattle.std.specs.Prelude.{◌≤◌}
 use Rattle.compact_repr.specs.declared.repr.Buffer.{Buffer}
 use Rattle.compact_repr.specs.declared.repr.Buffer.TheVariants.{Inline, Heap, Static}
-use Rattle.compact_buffers.specs.Text.{size}
+use Rattle.compact_text.specs.Text.{size}
 use Rattle.compact_repr.specs.Value.{PlacedText, placed_text}
 use Rattle.compact_repr.specs.Capacity.{inline_placement, heap_placement, static_placement}
 

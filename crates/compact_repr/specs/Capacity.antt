@@ -1,6 +1,6 @@
 -- Place and capacity by a text and a growth policy, and when a heap buffer is asked for.
 use Rattle.std.specs.Prelude.{ℕ, ◌+◌, ◌*◌, ◌/◌, ◌<◌, ◌≤◌, Bool, ◌&&◌, not, List, Option, Some, None, max, min, nat_le, nat_lt, if◌then◌else◌}
-use Rattle.compact_buffers.specs.Text.{size}
+use Rattle.compact_text.specs.Text.{size}
 use Rattle.compact_repr.specs.Value.{inline, heap, static, is_heap, is_static, Placement, PlacedText}
 
 -- how a heap capacity grows: the least one, and the ratio of a growth

@@ -1,7 +1,7 @@
 -- What making and changing a value gives: none where that must be refused.
 use Rattle.std.specs.Prelude.{◌≡◌, ◌⊎◌, ℕ, ◌-◌, Bool, not, ◌&&◌, IsTrue, List, [], ◌++◌, Option, Some, option_map, nat_eq, nat_le, if◌then◌else◌}
-use Rattle.compact_buffers.specs.Text.{size, ascii_lowercase, ascii_uppercase}
-use Rattle.compact_buffers.specs.Cut.{text_before, replaced_text}
+use Rattle.compact_text.specs.Text.{size, ascii_lowercase, ascii_uppercase}
+use Rattle.compact_text.specs.Cut.{text_before, replaced_text}
 use Rattle.compact_repr.specs.Value.{PlacedText, placed_text, is_static}
 use Rattle.compact_repr.specs.Capacity.{Growth, inline_placement, new_placement, with_capacity_placement, owned_placement, make_owned_asks, shortened_placement, reserve_placement, reserve_asks, clone_placement, shrink_to_placement, shrink_to_asks}
 

@@ -1,11 +1,11 @@
-pub use Rattle.compact_buffers.specs.Text
-pub use Rattle.compact_buffers.specs.Cut
+pub use Rattle.compact_text.specs.Text
+pub use Rattle.compact_text.specs.Cut
 pub mod Value
 pub mod Capacity
 pub mod Policies
 pub mod Change
-pub use Rattle.compact_buffers.specs.Retain
+pub use Rattle.compact_text.specs.Retain
 pub mod BufferValue
-pub mod Words
+pub mod Loan
 pub mod Packed
 pub mod PushOutcomes

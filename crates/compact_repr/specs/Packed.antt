@@ -1,6 +1,6 @@
 -- A text of at most 24 bytes packed into 24 bytes, which hold its length too.
 use Rattle.std.specs.Prelude.{◌≡◌, ℕ, ◌+◌, ◌-◌, ◌≤◌, ◌⊎◌, List, [], ◌∷◌, ◌++◌, length, take, replicate, slice_index, nat_lt, if◌then◌else◌}
-use Rattle.compact_buffers.specs.Text.{size, utf8, text_of, IsText}
+use Rattle.compact_text.specs.Text.{size, utf8, text_of, IsText}
 
 -- The 24 bytes stand for t: a t of 24 bytes is all of them; a shorter one is the first of them, and the last is 192 and its
 -- size. What stands between is open. No text ends in a byte above 191, so the last byte tells the two cases apart.

@@ -1,8 +1,8 @@
 -- What comes of an append of a short text.
 use Rattle.std.specs.Prelude.{◌≡◌, ℕ, ◌<◌, List, ◌++◌, length, false, IsTrue}
-use Rattle.compact_repr.specs.declared.repr.in_place.PushOutcome.{PushOutcome}
-use Rattle.compact_repr.specs.declared.repr.in_place.PushOutcome.TheVariants.{Done, NoRoom, NotTried}
-use Rattle.compact_buffers.specs.Text.{text_of}
+use Rattle.compact_repr.specs.declared.repr.edit.PushOutcome.{PushOutcome}
+use Rattle.compact_repr.specs.declared.repr.edit.PushOutcome.TheVariants.{Done, NoRoom, NotTried}
+use Rattle.compact_text.specs.Text.{text_of}
 use Rattle.compact_repr.specs.Value.{PlacedText, placed_text}
 use Rattle.compact_repr.specs.Capacity.{fits_in_place}
 

@@ -1,6 +1,6 @@
 -- A value is a text with a place and a capacity.
 use Rattle.std.specs.Prelude.{◌≡◌, ℕ, ◌≤◌, Bool, true, false, List}
-use Rattle.compact_buffers.specs.Text.{size, IsText}
+use Rattle.compact_text.specs.Text.{size, IsText}
 
 -- where the bytes are: in the value itself, in a buffer on the heap, or in the program
 pub data Place : Type 0 where
@@ -40,3 +40,8 @@ IsCapacityOf static capacity bytes = capacity ≡ bytes
 pub record IsSound (v : PlacedText) : Type 0 where
   pub text : IsText v.text
   pub fits : IsCapacityOf v.placement.place v.placement.capacity (size v.text)
+
+-- what a heap buffer is seen as: its text, and its capacity in bytes
+pub record HeapText : Type 0 where
+  pub text : List ℕ
+  pub capacity : ℕ

@@ -2,17 +2,17 @@
 #![tactic(auto, using(crate::proofs::PackedFacts::packed_facts))]
 
 ghost use Rattle.std.specs.Prelude.{◌≡◌, ◌+◌, ◌-◌, ◌≤◌, ◌<◌, ℕ, List, [], ◌∷◌, ◌++◌, length, false, IsTrue, ◌↔◌, MatchOption};
-ghost use Rattle.compact_buffers.specs.Text.{size, utf8, text_of, IsText, ascii_lowercase, ascii_uppercase};
-ghost use Rattle.compact_buffers.specs.Cut.{IsBoundary, text_before, replaced_text};
+ghost use Rattle.compact_text.specs.Text.{size, utf8, text_of, IsText, ascii_lowercase, ascii_uppercase};
+ghost use Rattle.compact_text.specs.Cut.{IsBoundary, text_before, replaced_text};
 ghost use Rattle.compact_repr.specs.Packed.{IsPackedFor};
-ghost use Rattle.compact_buffers.specs.Retain.{RetainsCharsTo};
+ghost use Rattle.compact_text.specs.Retain.{RetainsCharsTo};
 
 mod compare;
 mod packed;
 
-use crate::words::{insert_byte, pack, remove_byte};
-use compact_buffers::slices;
-use packed::{is_packed, length_of, with_len, with_short_len, write_len};
+use compact_text::slices;
+use compact_text::words::{insert_byte, remove_byte};
+use packed::{is_packed, length_of, pack, with_len, with_len_below_24, write_len};
 use std::marker::Model;
 
 /// The most bytes that stand inline.
@@ -60,7 +60,7 @@ impl InlineBuffer {
 
     /// The same text.
     #[inline]
-    pub fn duplicate(&self) -> Self
+    pub fn clone(&self) -> Self
         ensures { result ≡ self.now }
     {
         InlineBuffer { bytes: self.bytes }
@@ -87,7 +87,7 @@ impl InlineBuffer {
 
     /// Appends `text` where it fits. Answers whether it fitted; if not, nothing has changed.
     #[inline]
-    pub fn push_str(&mut self, text: &str) -> bool
+    pub fn try_push_str(&mut self, text: &str) -> bool
         ensures fits { IsTrue result ↔ (size self.old + length text.now ≤ 24) }
         ensures pushed { IsTrue result → self.new ≡ self.old ++ text_of text.now }
         ensures full { result ≡ false → self.new ≡ self.old }
@@ -127,7 +127,7 @@ impl InlineBuffer {
     /// Puts an ASCII character in at a boundary where it fits: the bytes shift by words. Answers whether it fitted; if not,
     /// nothing has changed.
     #[inline]
-    pub fn insert_ascii(&mut self, index: usize, byte: u8) -> bool
+    pub fn try_insert_ascii(&mut self, index: usize, byte: u8) -> bool
         requires ascii { byte < 128 }
         requires boundary { IsBoundary self.old index }
         ensures fits { IsTrue result ↔ (size self.old + 1 ≤ 24) }
@@ -155,7 +155,7 @@ impl InlineBuffer {
     {
         let len = length_of(&self.bytes);
         let array = remove_byte(&self.bytes, index);
-        self.bytes = with_short_len(&array, len - 1);
+        self.bytes = with_len_below_24(&array, len - 1);
     }
 
     /// Takes out what stands from one boundary to another, in bytes.
@@ -194,7 +194,7 @@ impl InlineBuffer {
     pub fn zeroize(&mut self)
         ensures { self.new ≡ [] }
     {
-        slices::wipe(&mut self.bytes);
+        slices::fill_zero(&mut self.bytes);
         write_len(&mut self.bytes, 0);
     }
 

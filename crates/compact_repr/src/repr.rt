@@ -1,22 +1,22 @@
 //! The representation: a buffer of one of three kinds, with the allocator that its growth asks.
-ghost use Rattle.std.specs.Prelude.{◌≡◌, ◌<◌, ◌^◌, ◌↔◌, IsSome, IfSome, IsTrue};
-ghost use Rattle.compact_buffers.specs.Text.{size, utf8, text_of};
+ghost use Rattle.std.specs.Prelude.{◌≡◌, ◌<◌, ◌≤◌, ◌^◌, ◌↔◌, IsSome, IfSome, IsTrue, false, IfOk, IfErr, string_bytes};
+ghost use Rattle.std.specs.String.{string_capacity};
+ghost use Rattle.compact_text.specs.Text.{size, utf8, text_of};
 ghost use Rattle.compact_repr.specs.Packed.{IsPackedFor};
 ghost use Rattle.compact_repr.specs.Value.{inline, is_heap, is_static, IsSound};
 ghost use Rattle.compact_repr.specs.BufferValue.{buffer_value, IsSoundBuffer};
 
-mod change;
+mod at;
+pub mod capacity;
 mod compare;
-pub mod in_place;
-mod make;
-mod out;
-mod position;
-pub mod room;
-mod within;
+pub mod edit;
+mod edit_slow;
+mod new;
 
+use crate::heap::HeapBuffer;
 use crate::inline::{INLINE_CAPACITY, InlineBuffer};
 use crate::policy::Policy;
-use compact_buffers::{HeapBuffer, StaticText};
+use crate::static_str::StaticStr;
 use std::alloc::Global;
 use std::marker::{Model, PhantomData};
 
@@ -25,7 +25,7 @@ use std::marker::{Model, PhantomData};
 pub enum Buffer {
     Inline([u64; 0], InlineBuffer),
     Heap(HeapBuffer),
-    Static(StaticText),
+    Static(StaticStr),
 }
 
 /// A text with a place and a capacity, whose heap buffers grow by the policy `P`.
@@ -136,6 +136,27 @@ impl<P: Policy> Repr<P> {
         match &self.buffer {
             Buffer::Inline(_, inline) => Some(inline.packed()),
             _ => None,
+        }
+    }
+
+    /// The text of a heap value with its buffer, of which nothing is copied.
+    ///
+    /// # Errors
+    ///
+    /// The value as it was, if it is not on the heap.
+    #[inline]
+    pub fn into_heap_string(self) -> Result<String, Self>
+        ensures bytes { IfOk result (λ s. string_bytes s ≡ utf8 self.text) }
+        ensures text { IfOk result (λ s. text_of (string_bytes s) ≡ self.text) }
+        ensures capacity { IfOk result (λ s. self.placement.capacity ≤ string_capacity s) }
+        ensures heap { IfOk result (λ _. IsTrue (is_heap self.placement.place)) }
+        ensures back { IfErr result (λ r. (r ≡ self) × (is_heap self.placement.place ≡ false)) }
+    {
+        let alloc = self.alloc;
+        match self.buffer {
+            Buffer::Heap(heap) => Ok(heap.into_string()),
+            Buffer::Inline(_, inline) => Err(Self::of(alloc, Buffer::Inline([], inline))),
+            Buffer::Static(text) => Err(Self::of(alloc, Buffer::Static(text))),
         }
     }
 }

@@ -16,7 +16,7 @@ fn assert_replaced(
         that(*start <= *end).expect(rt, "it holds");
         that(text.is_char_boundary(*start)).expect(rt, "it holds");
         that(text.is_char_boundary(*end)).expect(rt, "it holds");
-        assert_that(rt, text.replace_in_place(*start, *end, with));
+        assert_that(rt, text.try_replace_range(*start, *end, with));
         assert_equal(rt, text.as_str(), *outcome);
     }
 }
@@ -43,7 +43,7 @@ fn assert_chars(rt: &impl Abort, text: &Repr<Standard>, places: &[(usize, char)]
 fn assert_dashes(rt: &impl Abort, text: &mut Repr<Standard>, steps: &[(usize, bool, &str)]) {
     for (index, fits, outcome) in steps {
         that(text.is_char_boundary(*index)).expect(rt, "it holds");
-        assert_equal(rt, text.insert_ascii_in_place(*index, b'-'), *fits);
+        assert_equal(rt, text.try_insert_ascii(*index, b'-'), *fits);
         assert_equal(rt, text.as_str(), *outcome);
     }
 }
@@ -54,7 +54,7 @@ fn assert_removed(rt: &impl Abort, text: &mut Repr<Standard>, steps: &[(usize, b
         that(*index < text.len()).expect(rt, "it holds");
         that(text.is_char_boundary(*index)).expect(rt, "it holds");
         that(text.is_char_boundary(*index + 1)).expect(rt, "it holds");
-        assert_equal(rt, text.remove_ascii_in_place(*index), *owned);
+        assert_equal(rt, text.try_remove_ascii(*index), *owned);
         assert_equal(rt, text.as_str(), *outcome);
     }
 }
@@ -66,7 +66,7 @@ fn assert_cut(rt: &impl Abort, text: &mut Repr<Standard>, steps: &[(usize, usize
         that(*start <= *end).expect(rt, "it holds");
         that(text.is_char_boundary(*start)).expect(rt, "it holds");
         that(text.is_char_boundary(*end)).expect(rt, "it holds");
-        assert_equal(rt, text.cut_out_in_place(*start, *end), *owned);
+        assert_equal(rt, text.try_cut_out(*start, *end), *owned);
         assert_equal(rt, text.as_str(), *outcome);
     }
 }
@@ -140,7 +140,7 @@ fn assert_front(
     that(text.is_char_boundary(start)).expect(rt, "it holds");
     that(text.is_char_boundary(end)).expect(rt, "it holds");
     that(start <= end).expect(rt, "it holds");
-    assert_that(rt, text.replace_in_place(start, end, with));
+    assert_that(rt, text.try_replace_range(start, end, with));
     assert_equal(rt, text.as_str().strip_prefix(front), Some(digits()));
 }
 
@@ -156,7 +156,7 @@ fn assert_digits(
     that(text.is_char_boundary(start)).expect(rt, "it holds");
     that(text.is_char_boundary(end)).expect(rt, "it holds");
     that(start <= end).expect(rt, "it holds");
-    assert_that(rt, text.cut_out_in_place(start, end));
+    assert_that(rt, text.try_cut_out(start, end));
     assert_that(rt, text.as_str().starts_with(front));
     assert_that(
         rt,
@@ -265,9 +265,9 @@ fn nothing_in_place_of_the_program(rt: HostRuntime) {
         &mut text,
         &[(0, 7, false, line()), (3, 3, false, line())],
     );
-    assert_that(rt, !text.push_in_place(""));
+    assert_that(rt, !text.try_push_str(""));
     that(text.is_char_boundary(2)).expect(rt, "it holds");
-    assert_that(rt, !text.replace_in_place(2, 2, ""));
+    assert_that(rt, !text.try_replace_range(2, 2, ""));
     assert_equal(rt, text.as_static_str(), Some(line()));
 }
 
@@ -309,9 +309,9 @@ fn a_room_is_filled(rt: HostRuntime) {
     let rt = &rt;
     let mut text = empty(rt, rt.alloc(), 1000);
     for _pushed in 0..500 {
-        assert_that(rt, text.push_in_place("ab"));
+        assert_that(rt, text.try_push_str("ab"));
     }
-    assert_that(rt, !text.push_in_place("c"));
+    assert_that(rt, !text.try_push_str("c"));
     assert_equal(rt, text.len(), 1000);
     assert_equal(rt, text.capacity(), 1000);
     assert_pairs(rt, text.as_str(), 500);

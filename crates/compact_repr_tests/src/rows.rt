@@ -73,7 +73,7 @@ fn assert_replaced(
     that(10 <= end).expect(rt, "it holds");
     that(text.is_char_boundary(10)).expect(rt, "it holds");
     that(text.is_char_boundary(end)).expect(rt, "it holds");
-    assert_that(rt, text.replace_in_place(10, end, come));
+    assert_that(rt, text.try_replace_range(10, end, come));
     assert_bytes(rt, text.as_str().as_bytes(), come.len(), end, tail);
 }
 
@@ -92,7 +92,7 @@ fn with_room(rt: &impl Abort, alloc: Global, text: &str, additional: usize) -> R
 /// The text on the heap, in a buffer with room for `additional` more bytes.
 fn on_the_heap(rt: &impl Abort, alloc: Global, text: &str, additional: usize) -> Repr<Standard> {
     let mut made = empty(rt, alloc, text.len().saturating_add(additional).max(25));
-    assert_that(rt, made.push_in_place(text));
+    assert_that(rt, made.try_push_str(text));
     assert_that(rt, made.is_heap_allocated());
     made
 }
@@ -149,11 +149,11 @@ fn bytes_are_exchanged(rt: HostRuntime) {
 /// Puts a byte in behind the tenth, and takes it out again.
 fn assert_one_byte(rt: &impl Abort, text: &mut Repr<Standard>, tail: usize) {
     that(text.is_char_boundary(10)).expect(rt, "it holds");
-    assert_that(rt, text.insert_ascii_in_place(10, b'a'));
+    assert_that(rt, text.try_insert_ascii(10, b'a'));
     assert_bytes(rt, text.as_str().as_bytes(), 1, 10, tail);
     that(text.is_char_boundary(10)).expect(rt, "it holds");
     that(text.is_char_boundary(11)).expect(rt, "it holds");
-    assert_that(rt, text.remove_ascii_in_place(10));
+    assert_that(rt, text.try_remove_ascii(10));
     assert_bytes(rt, text.as_str().as_bytes(), 0, 10, tail);
 }
 
@@ -173,7 +173,7 @@ fn assert_cut(rt: &impl Abort, text: &mut Repr<Standard>, end: usize, tail: usiz
     that(10 <= end).expect(rt, "it holds");
     that(text.is_char_boundary(10)).expect(rt, "it holds");
     that(text.is_char_boundary(end)).expect(rt, "it holds");
-    assert_that(rt, text.cut_out_in_place(10, end));
+    assert_that(rt, text.try_cut_out(10, end));
     assert_bytes(rt, text.as_str().as_bytes(), 0, end, tail);
 }
 

@@ -66,7 +66,7 @@ fn a_byte_is_put_in(rt: HostRuntime) {
     ] {
         let mut text = copied(rt, rt.alloc(), "abcdefghijklmnopqrstuvw");
         that(text.is_char_boundary(at)).expect(rt, "it holds");
-        assert_that(rt, text.insert_ascii_in_place(at, b'-'));
+        assert_that(rt, text.try_insert_ascii(at, b'-'));
         that_for(at, text.packed() == Some(*row)).expect(rt, "it holds");
     }
 }
@@ -76,7 +76,7 @@ fn remove(rt: &impl Abort, text: &mut Repr<Standard>, at: usize) {
     that(at < 24).expect(rt, "it holds");
     that(text.is_char_boundary(at)).expect(rt, "it holds");
     that(text.is_char_boundary(at + 1)).expect(rt, "it holds");
-    assert_that(rt, text.remove_ascii_in_place(at));
+    assert_that(rt, text.try_remove_ascii(at));
 }
 
 /// A second byte is taken out, so that a mark is seen in the place of another. What stands before it, behind the text, is open.

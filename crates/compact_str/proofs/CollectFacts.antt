@@ -4,7 +4,7 @@ use Rattle.std.proofs.lemmas.Str.{IsUtf8-string_bytes}
 use Rattle.compact_str.proofs.Collecting.{each-alone, each-referred}
 use Rattle.compact_str.proofs.Fitted.{fitted-push_str, fitted-empty, asks-over}
 
-pub ruleset gather_facts = (fitted-push_str, fitted-empty, asks-over, append_assoc, append-nil)
+pub ruleset builder_facts = (fitted-push_str, fitted-empty, asks-over, append_assoc, append-nil)
 
 -- of characters that are collected
 pub ruleset collect_facts = (each-alone, each-referred)

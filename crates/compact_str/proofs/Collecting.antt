@@ -12,13 +12,13 @@ use Rattle.std.proofs.iter.runs.Made.{run, to_end}
 use Rattle.std.specs.Str.{IsUtf8}
 use Rattle.compact_repr.specs.Text.{size, text_of}
 use Rattle.compact_repr.specs.Cut.{IsBoundary, text_before}
-use Rattle.compact_buffers.proofs.Cuts.{text_before-append}
+use Rattle.compact_text.proofs.Cuts.{text_before-append}
 use Rattle.compact_repr.specs.Value.{PlacedText}
 use Rattle.compact_repr.specs.Capacity.{Growth}
 use Rattle.compact_repr.specs.Change.{push_str}
-use Rattle.compact_str.specs.Room.{HasRoomFor, sure_capacity}
+use Rattle.compact_str.specs.Room.{HasRoomFor, infallible_capacity}
 use Rattle.compact_str.specs.Collect.{Appends, AppendsAll, AppendsUpToRefused, PassesInline, GivesText, StopsWithout, char_text, join}
-use Rattle.compact_buffers.proofs.Texts.{size-append, size-text_of}
+use Rattle.compact_text.proofs.Texts.{size-append, size-text_of}
 use Rattle.compact_repr.proofs.Changes.{push_str-text}
 use Rattle.compact_str.proofs.Rooms.{push_str-sure}
 
@@ -32,8 +32,8 @@ Appends-text g f v w [] a = ap (λ (x : PlacedText). x.text) a ∙ sym (append-n
 Appends-text g f v w (x ∷ xs) a =
     Appends-text g f a.0 w xs a.2 ∙ ap (λ l. l ++ flat_map f xs) (push_str-text g v a.0 (f x) a.1) ∙ append_assoc v.text (f x) (flat_map f xs)
 
-pub Appends-sure : {T : Type 0} (g : Growth) (f : T → List ℕ) (v w : PlacedText) (xs : List T) → Appends g f v xs w → sure_capacity v ≤ sure_capacity w
-Appends-sure g f v w [] a = subst (λ (x : PlacedText). sure_capacity v ≤ sure_capacity x) (sym a) (omega (arith))
+pub Appends-sure : {T : Type 0} (g : Growth) (f : T → List ℕ) (v w : PlacedText) (xs : List T) → Appends g f v xs w → infallible_capacity v ≤ infallible_capacity w
+Appends-sure g f v w [] a = subst (λ (x : PlacedText). infallible_capacity v ≤ infallible_capacity x) (sym a) (omega (arith))
 Appends-sure g f v w (x ∷ xs) a = omega (arith, push_str-sure g v a.0 (f x) a.1, Appends-sure g f a.0 w xs a.2)
 
 pub size-next : {T : Type 0} (f : T → List ℕ) (xs : List T) (x : T) → size (flat_map f (xs ++ x ∷ [])) ≡ size (flat_map f xs) + size (f x)
@@ -75,7 +75,7 @@ module _ {U S T E : Type 0} (becomes : U → S → Type 0) (steps : S → Option
   extended-ran read same (Err _) e = tt
 
   -- no room is given back
-  pub extended-room : (r : Result (Unit {0}) E) → Extended r → Stopped r → sure_capacity v ≤ sure_capacity w
+  pub extended-room : (r : Result (Unit {0}) E) → Extended r → Stopped r → infallible_capacity v ≤ infallible_capacity w
   extended-room (Ok _) (it, b, (xs, d, a)) e = Appends-sure g f v w xs a
   extended-room (Err _) e (it, b, s) = Appends-sure g f v w s.0 s.4
 

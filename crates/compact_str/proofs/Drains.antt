@@ -12,10 +12,10 @@ use Rattle.compact_repr.specs.Cut.{IsBoundary, text_before, text_after, substrin
 use Rattle.compact_repr.specs.Value.{Place, inline, heap, static, IsCapacityOf, IsSound, PlacedText, placed_text, is_static}
 use Rattle.compact_repr.specs.Capacity.{Growth, owned_placement}
 use Rattle.compact_repr.specs.Change.{make_owned, replace_range}
-use Rattle.compact_buffers.proofs.Texts.{size-append, size-text_of}
-use Rattle.compact_buffers.proofs.Keeping.{first_ascii, first_past_ascii}
-use Rattle.compact_buffers.proofs.Cuts.{text_before-text_after, size-text_before, size-replaced, boundary-from_size}
-use Rattle.compact_buffers.proofs.Middles.{substring-parts, parts-substring}
+use Rattle.compact_text.proofs.Texts.{size-append, size-text_of}
+use Rattle.compact_text.proofs.Keeping.{first_ascii, first_past_ascii}
+use Rattle.compact_text.proofs.Cuts.{text_before-text_after, size-text_before, size-replaced, boundary-from_size}
+use Rattle.compact_text.proofs.Middles.{substring-parts, parts-substring}
 use Rattle.compact_str.specs.RangeTexts.{is_boundary, is_range, range_text, IsAsciiRange, without_range}
 use Rattle.compact_str.proofs.Letters.{make_owned-text}
 

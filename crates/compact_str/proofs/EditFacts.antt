@@ -1,11 +1,11 @@
 -- The facts that the edits of this crate name where they are proved, in sets by what an edit does.
 use Rattle.std.proofs.lemmas.Str.{IsUtf8-string_bytes}
-use Rattle.compact_buffers.proofs.Texts.{empty_text}
+use Rattle.compact_text.proofs.Texts.{empty_text}
 use Rattle.compact_repr.proofs.Changes.{push_str-text, push_str-in_place, insert_str-in_place, replace_range-in_place}
-use Rattle.compact_buffers.proofs.Cuts.{boundary-within, size-text_after}
+use Rattle.compact_text.proofs.Cuts.{boundary-within, size-text_after}
 use Rattle.compact_str.proofs.Positions.{truncate-last, boundary-next, text_after-next, truncate-boundary, truncate-text, boundary-cut, asks-by_nothing, insert_str-text, insert_str-place, insert_str-behind, range_replaced-text}
 use Rattle.compact_str.proofs.Rooms.{push_str-sure, push_str-bytes, pushed-bytes, insert_str-sure}
-use Rattle.compact_buffers.proofs.Letters.{boundary-lowercase, boundary-uppercase}
+use Rattle.compact_text.proofs.Letters.{boundary-lowercase, boundary-uppercase}
 use Rattle.compact_str.proofs.Letters.{make_ascii_lowercase-owned, make_ascii_uppercase-owned, make_owned-text, new-lowercase, new-uppercase}
 use Rattle.compact_str.proofs.Repeats.{repeated_text-none, repeated_text-one}
 

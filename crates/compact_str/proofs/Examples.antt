@@ -5,8 +5,8 @@ use Rattle.std.specs.declared.ops.Bound.TheVariants.{Included, Excluded, Unbound
 use Rattle.compact_repr.specs.Cut.{IsBoundary}
 use Rattle.compact_repr.specs.Value.{PlacedText, placed_text}
 use Rattle.compact_repr.specs.Capacity.{Growth, inline_placement, heap_placement, static_placement, with_capacity_placement}
-use Rattle.compact_buffers.proofs.Cuts.{size-text_before, boundary-within, boundary-from_size}
-use Rattle.compact_str.specs.Room.{own_capacity, sure_capacity}
+use Rattle.compact_text.proofs.Cuts.{size-text_before, boundary-within, boundary-from_size}
+use Rattle.compact_str.specs.Room.{own_capacity, infallible_capacity}
 use Rattle.compact_repr.specs.Change.{truncate, insert_str, replace_range}
 use Rattle.compact_str.specs.PositionEdits.{Removes, split_tail, repeat}
 use Rattle.compact_str.specs.Clones.{clone_from}
@@ -15,7 +15,7 @@ use Rattle.std.specs.Prelude.{true, false}
 use Rattle.std.specs.declared.cmp.Ordering.TheVariants.{Less, Equal, Greater}
 use Rattle.compact_str.specs.Order.{same_text, text_order, text_cmp}
 use Rattle.compact_str.specs.RangeTexts.{range_text, without_range}
-use Rattle.compact_str.specs.FittedValues.{IsFitted}
+use Rattle.compact_str.specs.FittedValues.{IsPlacedBySize}
 use Rattle.compact_str.specs.Collect.{Appends, join, char_text}
 use Rattle.compact_str.specs.RetainRules.{retained_text, answer_rule}
 
@@ -106,13 +106,13 @@ a_heap_source_fits_a_heap_target = refl
 a_static_text_owns_no_room : own_capacity lasting_30 ≡ 0
 a_static_text_owns_no_room = refl
 
-but_24_bytes_are_sure : sure_capacity lasting_30 ≡ 24
+but_24_bytes_are_sure : infallible_capacity lasting_30 ≡ 24
 but_24_bytes_are_sure = refl
 
-a_heap_buffer_is_sure : sure_capacity (placed_text abc (heap_placement 100)) ≡ 100
+a_heap_buffer_is_sure : infallible_capacity (placed_text abc (heap_placement 100)) ≡ 100
 a_heap_buffer_is_sure = refl
 
-a_small_heap_buffer_gives_way_to_24_bytes : sure_capacity (placed_text abc (heap_placement 5)) ≡ 24
+a_small_heap_buffer_gives_way_to_24_bytes : infallible_capacity (placed_text abc (heap_placement 5)) ≡ 24
 a_small_heap_buffer_gives_way_to_24_bytes = refl
 
 -- ranges of a text of two and one bytes
@@ -219,13 +219,13 @@ an_empty_item_leaves_a_static_value = (lasting_30, refl, refl)
 another_moves_it_by_growth : Appends standard (λ t. t) lasting_30 ([] ∷ (98 ∷ []) ∷ []) (placed_text (letters 30 ++ 98 ∷ []) (heap_placement 45))
 another_moves_it_by_growth = (lasting_30, refl, (placed_text (letters 30 ++ 98 ∷ []) (heap_placement 45), refl, refl))
 
-bytes_24_are_fitted_inline : IsFitted (placed_text (letters 24) inline_placement)
+bytes_24_are_fitted_inline : IsPlacedBySize (placed_text (letters 24) inline_placement)
 bytes_24_are_fitted_inline = record { short = λ _. refl; long = λ h. absurd (omega (arith, h)) }
 
-bytes_25_are_fitted_on_the_heap : IsFitted (placed_text (letters 25) (heap_placement 32))
+bytes_25_are_fitted_on_the_heap : IsPlacedBySize (placed_text (letters 25) (heap_placement 32))
 bytes_25_are_fitted_on_the_heap = record { short = λ h. absurd (omega (arith, h)); long = λ _. (refl, omega (arith)) }
 
-bytes_25_are_fitted_with_more_room : IsFitted (placed_text (letters 25) (heap_placement 100))
+bytes_25_are_fitted_with_more_room : IsPlacedBySize (placed_text (letters 25) (heap_placement 100))
 bytes_25_are_fitted_with_more_room = record { short = λ h. absurd (omega (arith, h)); long = λ _. (refl, omega (arith)) }
 
 answers_keep_three_of_five : retained_text answer_rule (false ∷ true ∷ true ∷ false ∷ true ∷ []) (0xE4 ∷ 0x62 ∷ 0x1D11E ∷ 0x64 ∷ 0x20AC ∷ []) ≡ 0x62 ∷ 0x1D11E ∷ 0x20AC ∷ []

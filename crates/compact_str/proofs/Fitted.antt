@@ -7,8 +7,8 @@ use Rattle.compact_repr.specs.Text.{size}
 use Rattle.compact_repr.specs.Value.{PlacedText, placed_text, heap}
 use Rattle.compact_repr.specs.Capacity.{Growth, inline_placement}
 use Rattle.compact_repr.specs.Change.{push_str, push_str_asks}
-use Rattle.compact_str.specs.FittedValues.{IsFitted}
-use Rattle.compact_buffers.proofs.Texts.{size-append}
+use Rattle.compact_str.specs.FittedValues.{IsPlacedBySize}
+use Rattle.compact_text.proofs.Texts.{size-append}
 use Rattle.compact_repr.proofs.Changes.{push_str-text}
 
 short-push_str : (g : Growth) (v w : PlacedText) (s : List ℕ) → v.placement ≡ inline_placement → push_str g v s ≡ Some w → size v.text + size s ≤ 24 → w.placement ≡ inline_placement
@@ -23,7 +23,7 @@ heap-push_str : (g : Growth) (v w : PlacedText) (s : List ℕ) → v.placement.p
 heap-push_str g v w s p c e k = grind (arith, common_steps)
 
 -- an append keeps a value fitted
-pub fitted-push_str : (g : Growth) (v w : PlacedText) (s : List ℕ) → IsFitted v → push_str g v s ≡ Some w → IsFitted w
+pub fitted-push_str : (g : Growth) (v w : PlacedText) (s : List ℕ) → IsPlacedBySize v → push_str g v s ≡ Some w → IsPlacedBySize w
 fitted-push_str g v w s f e =
     let long : size w.text ≡ size v.text + size s = ap size (push_str-text g v w s e) ∙ size-append v.text s in
     record {
@@ -34,7 +34,7 @@ fitted-push_str g v w s f e =
       ];
     }
 
-pub fitted-empty : IsFitted (placed_text [] inline_placement)
+pub fitted-empty : IsPlacedBySize (placed_text [] inline_placement)
 fitted-empty = record { short = λ _. refl; long = λ h. absurd (omega (arith, h)) }
 
 -- an append that asks for a heap buffer makes a text of more than 24 bytes
@@ -42,6 +42,6 @@ pub asks-over : (v : PlacedText) (t : List ℕ) → IsTrue (push_str_asks v t) �
 asks-over v t h = grind (arith, common_steps)
 
 -- also one that was refused
-pub fitted-tried : {E : Type 0} (g : Growth) (v w : PlacedText) (s : List ℕ) (r : Result (Unit {0}) E) → IsFitted v → OnOk r (push_str g v s ≡ Some w) → OnErr r ((w ≡ v) × IsTrue (push_str_asks v s)) → IsFitted w
+pub fitted-tried : {E : Type 0} (g : Growth) (v w : PlacedText) (s : List ℕ) (r : Result (Unit {0}) E) → IsPlacedBySize v → OnOk r (push_str g v s ≡ Some w) → OnErr r ((w ≡ v) × IsTrue (push_str_asks v s)) → IsPlacedBySize w
 fitted-tried g v w s (Ok _) f e n = fitted-push_str g v w s f e
-fitted-tried g v w s (Err _) f e n = subst IsFitted (sym n.0) f
+fitted-tried g v w s (Err _) f e n = subst IsPlacedBySize (sym n.0) f

@@ -9,16 +9,16 @@ use Rattle.compact_repr.specs.Text.{size, text_of}
 use Rattle.compact_repr.specs.Value.{PlacedText, placed_text, heap, is_heap}
 use Rattle.compact_repr.specs.Capacity.{Growth, inline_placement, with_capacity_asks, from_string_placement}
 use Rattle.compact_repr.specs.Change.{new, push_str, reserve}
-use Rattle.compact_buffers.proofs.Texts.{size-append}
+use Rattle.compact_text.proofs.Texts.{size-append}
 use Rattle.compact_repr.proofs.Changes.{push_str-text}
-use Rattle.compact_codec.specs.Text.{replacement_character}
+use Rattle.compact_text.specs.Text.{replacement_character}
 use Rattle.compact_codec.specs.Utf8Text.{BytesEncode, replacement_text}
 use Rattle.compact_codec.proofs.LossyReading.{replacement_text-some}
-use Rattle.compact_str.specs.FittedValues.{IsFitted, IsFittedOf}
+use Rattle.compact_str.specs.FittedValues.{IsPlacedBySize, MakesText}
 use Rattle.compact_str.proofs.Fitted.{fitted-push_str}
 
 -- a text of more than 24 bytes on the heap is fitted
-heap-fitted : (v : PlacedText) → 24 < size v.text → v.placement.place ≡ heap → size v.text ≤ v.placement.capacity → IsFitted v
+heap-fitted : (v : PlacedText) → 24 < size v.text → v.placement.place ≡ heap → size v.text ≤ v.placement.capacity → IsPlacedBySize v
 heap-fitted v more place room = record { short = λ h. absurd (omega (arith, more, h)); long = λ _. (place, room) }
 
 -- room that was made for a part that leaves the value itself is on the heap
@@ -26,7 +26,7 @@ reserve-heap : (g : Growth) (v u : PlacedText) (n : ℕ) → v.placement ≡ inl
     → (u.placement.place ≡ heap) × (u.text ≡ v.text)
 reserve-heap g v u n p more e = grind (arith, common_steps)
 
-on_heap-inline_placement : (v : PlacedText) → IsFitted v → is_heap v.placement.place ≡ false → (size v.text ≤ 24) × (v.placement ≡ inline_placement)
+on_heap-inline_placement : (v : PlacedText) → IsPlacedBySize v → is_heap v.placement.place ≡ false → (size v.text ≤ 24) × (v.placement ≡ inline_placement)
 on_heap-inline_placement v f h =
     elim (cases_lt 24 (size v.text)) [
       | inr k ↦ (k, f.short k)
@@ -37,8 +37,8 @@ grown-heap : (g : Growth) (u w : PlacedText) (s : List ℕ) → u.placement.plac
     → 0 < size s → push_str g u s ≡ Some w → (w.placement.place ≡ heap) × (size u.text + size s ≤ w.placement.capacity)
 grown-heap g u w s h more some e = grind (arith, common_steps)
 
-pub reserve-fitted : (g : Growth) (v u w : PlacedText) (s : List ℕ) (n : ℕ) → IsFitted v → is_heap v.placement.place ≡ false
-    → 24 < size v.text + size s → size s ≤ n → reserve g v n ≡ Some u → push_str g u s ≡ Some w → IsFitted w
+pub reserve-fitted : (g : Growth) (v u w : PlacedText) (s : List ℕ) (n : ℕ) → IsPlacedBySize v → is_heap v.placement.place ≡ false
+    → 24 < size v.text + size s → size s ≤ n → reserve g v n ≡ Some u → push_str g u s ≡ Some w → IsPlacedBySize w
 reserve-fitted g v u w s n f h more room e k =
     let is = on_heap-inline_placement v f h in
     let on_heap = reserve-heap g v u n is.1 (omega (arith, more, room)) e in
@@ -56,7 +56,7 @@ new-short g v t e h = grind (arith, common_steps)
 new-long : (g : Growth) (v : PlacedText) (t : List ℕ) → new g t ≡ Some v → 24 < size v.text → (v.placement.place ≡ heap) × (size v.text ≤ v.placement.capacity)
 new-long g v t e h = grind (arith, common_steps)
 
-pub new-fitted : (g : Growth) (v : PlacedText) (t : List ℕ) → new g t ≡ Some v → IsFitted v
+pub new-fitted : (g : Growth) (v : PlacedText) (t : List ℕ) → new g t ≡ Some v → IsPlacedBySize v
 new-fitted g v t e = record { short = new-short g v t e; long = new-long g v t e }
 
 pub ruleset new_facts = (new-fitted)
@@ -86,7 +86,7 @@ pub asks-succeeds : {E : Type 0} (t : List ℕ) (r : Result PlacedText E) → On
 asks-succeeds t (Ok _) e h = refl
 asks-succeeds t (Err _) e h = absurd (short-asks (size t) h e)
 
-pub refused-fitted : {E : Type 0} (t : List ℕ) (r : Result PlacedText E) → IsErr r → IsTrue (with_capacity_asks (size t)) → IsFittedOf t r
+pub refused-fitted : {E : Type 0} (t : List ℕ) (r : Result PlacedText E) → IsErr r → IsTrue (with_capacity_asks (size t)) → MakesText t r
 refused-fitted t (Ok _) h asks = absurd (true≢false (sym h))
 refused-fitted t (Err _) h asks = record { text = tt; fitted = tt; succeeds = λ k. absurd (short-asks (size t) k asks); err = asks }
 
@@ -117,7 +117,7 @@ from_string_placement-short t c h = grind (arith, common_steps)
 from_string_placement-long : (t : List ℕ) (c : ℕ) → size t ≤ c → 24 < size t → ((from_string_placement t c).place ≡ heap) × (size t ≤ (from_string_placement t c).capacity)
 from_string_placement-long t c fits h = grind (arith, common_steps)
 
-pub from_string_placement-fitted : (t : List ℕ) (c : ℕ) → size t ≤ c → IsFitted (placed_text t (from_string_placement t c))
+pub from_string_placement-fitted : (t : List ℕ) (c : ℕ) → size t ≤ c → IsPlacedBySize (placed_text t (from_string_placement t c))
 from_string_placement-fitted t c fits = record { short = from_string_placement-short t c; long = from_string_placement-long t c fits }
 
 pub ruleset buf_facts = (spelled-encoded, new-fitted, from_string_placement-fitted)

@@ -22,9 +22,9 @@ use Rattle.compact_repr.specs.Packed.{IsPackedFor}
 use Rattle.compact_repr.specs.Value.{PlacedText}
 use Rattle.compact_repr.specs.Capacity.{Growth}
 use Rattle.compact_str.specs.PositionEdits.{Writes}
-pub use Rattle.compact_buffers.proofs.Texts.{length-utf8, utf8-text_of, size-text_of, size-append, empty_text}
+pub use Rattle.compact_text.proofs.Texts.{length-utf8, utf8-text_of, size-text_of, size-append, empty_text}
 pub use Rattle.compact_repr.proofs.Changes.{push_str-text}
-pub use Rattle.compact_buffers.proofs.Cuts.{text_before-text_after, text_before-append, text_after-append, boundary-text, text_of-take, text_of-drop, boundary-within, size-text_before, size-text_after}
+pub use Rattle.compact_text.proofs.Cuts.{text_before-text_after, text_before-append, text_after-append, boundary-text, text_of-take, text_of-drop, boundary-within, size-text_before, size-text_after}
 pub use Rattle.compact_repr.proofs.PackedTexts.{one_text}
 pub use Rattle.compact_repr.proofs.ByteOrder.{utf8-same}
 pub use Rattle.compact_str.proofs.Rooms.{pushed-bytes}

@@ -12,9 +12,9 @@ use Rattle.compact_repr.specs.Cut.{IsCut, IsBoundary, text_before, text_after, r
 use Rattle.compact_repr.specs.Value.{PlacedText, placed_text, is_static}
 use Rattle.compact_repr.specs.Capacity.{Growth, shortened_placement, owned_placement, make_owned_asks}
 use Rattle.compact_repr.specs.Change.{truncate, insert_str, replace_range, replace_range_asks}
-use Rattle.compact_str.specs.PositionEdits.{LosesChar}
-use Rattle.compact_buffers.proofs.Texts.{length-utf8, size-append, empty_text}
-use Rattle.compact_buffers.proofs.Cuts.{boundary-from_size, text_before-text_after, text_before-append, text_after-append, size-text_before, size-text_after}
+use Rattle.compact_str.specs.PositionEdits.{RemovesChar}
+use Rattle.compact_text.proofs.Texts.{length-utf8, size-append, empty_text}
+use Rattle.compact_text.proofs.Cuts.{boundary-from_size, text_before-text_after, text_before-append, text_after-append, size-text_before, size-text_after}
 
 -- a text that is cut before its last character
 pub truncate-last : (v : PlacedText) (front : List ℕ) (c : ℕ) → v.text ≡ front ++ c ∷ [] → truncate v (size v.text - len_utf8 c) ≡ placed_text front (shortened_placement v front)
@@ -108,7 +108,7 @@ ascii-width c e = grind (arith, common_steps)
 
 -- an owned value that is cut round an ASCII character, in place
 pub removed-in_place : {E : Type 0} (g : Growth) (v w : PlacedText) (rest : List ℕ) (p c : ℕ) → IsBoundary v.text p → text_after v.text p ≡ c ∷ rest → is_ascii c ≡ true
-    → is_static v.placement.place ≡ false → w ≡ placed_text (replaced_text v.text p (p + 1) []) v.placement → LosesChar {E = E} g v p (Ok c) w
+    → is_static v.placement.place ≡ false → w ≡ placed_text (replaced_text v.text p (p + 1) []) v.placement → RemovesChar {E = E} g v p (Ok c) w
 removed-in_place g v w rest p c h e a o s =
     let width : p + 1 ≡ p + len_utf8 c = ap (λ (n : ℕ). p + n) (sym (ascii-width c a)) in
     let next : text_after v.text (p + 1) ≡ rest = ap (text_after v.text) width ∙ text_after-next v.text rest p c h e in
@@ -178,7 +178,7 @@ owning-long v h = grind (arith, common_steps)
 
 -- a value of which the character at a boundary is replaced by nothing
 pub replace_range-removes : {E : Type 0} (g : Growth) (v w : PlacedText) (rest : List ℕ) (p c n : ℕ) → IsBoundary v.text p → text_after v.text p ≡ c ∷ rest → n ≡ len_utf8 c
-    → replace_range g v p (p + n) [] ≡ Some w → LosesChar {E = E} g v p (Ok c) w
+    → replace_range g v p (p + n) [] ≡ Some w → RemovesChar {E = E} g v p (Ok c) w
 replace_range-removes g v w rest p c n h e k o =
     let next : text_after v.text (p + n) ≡ rest = ap (λ (m : ℕ). text_after v.text (p + m)) k ∙ text_after-next v.text rest p c h e in
     let cut : replaced_text v.text p (p + n) [] ≡ text_before v.text p ++ rest = rw (next, append-nil) refl in
@@ -194,7 +194,7 @@ replace_range-removes g v w rest p c n h e k o =
     }
 
 -- one that was to be owned first, which failed
-pub shortened_placement-character : {E : Type 0} (g : Growth) (v w : PlacedText) (p : ℕ) (r : Result ℕ E) → IsErr r → w ≡ v → IsTrue (make_owned_asks v) → LosesChar g v p r w
+pub shortened_placement-character : {E : Type 0} (g : Growth) (v w : PlacedText) (p : ℕ) (r : Result ℕ E) → IsErr r → w ≡ v → IsTrue (make_owned_asks v) → RemovesChar g v p r w
 shortened_placement-character g v w p (Ok c) fails same asks = absurd (grind (arith, fails))
 shortened_placement-character g v w p (Err e) fails same asks =
     let long = owning-long v asks in

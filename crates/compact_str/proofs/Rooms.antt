@@ -11,16 +11,16 @@ use Rattle.compact_repr.specs.Value.{Placement, PlacedText, is_static}
 use Rattle.compact_repr.specs.Capacity.{Growth, reserve_placement, reserve_asks}
 use Rattle.compact_repr.specs.Change.{push_str, insert_str, push_str_asks}
 use Rattle.compact_repr.proofs.Changes.{push_str-text}
-use Rattle.compact_str.specs.Room.{sure_capacity, HasRoomFor}
+use Rattle.compact_str.specs.Room.{infallible_capacity, HasRoomFor}
 
-reserve_placement-sure : (g : Growth) (v : PlacedText) (p : Placement) (n : ℕ) → reserve_placement g v n ≡ Some p → sure_capacity v ≤ max 24 (if is_static p.place then 0 else p.capacity)
+reserve_placement-sure : (g : Growth) (v : PlacedText) (p : Placement) (n : ℕ) → reserve_placement g v n ≡ Some p → infallible_capacity v ≤ max 24 (if is_static p.place then 0 else p.capacity)
 reserve_placement-sure g v p n e = grind (arith, common_steps)
 
 -- an append never lessens the room that is sure, nor does an insertion
-pub push_str-sure : (g : Growth) (v w : PlacedText) (s : List ℕ) → push_str g v s ≡ Some w → sure_capacity v ≤ sure_capacity w
+pub push_str-sure : (g : Growth) (v w : PlacedText) (s : List ℕ) → push_str g v s ≡ Some w → infallible_capacity v ≤ infallible_capacity w
 push_str-sure g v w s e = grind (arith, common_steps, reserve_placement-sure)
 
-pub insert_str-sure : (g : Growth) (v w : PlacedText) (p : ℕ) (s : List ℕ) → insert_str g v p s ≡ Some w → sure_capacity v ≤ sure_capacity w
+pub insert_str-sure : (g : Growth) (v w : PlacedText) (p : ℕ) (s : List ℕ) → insert_str g v p s ≡ Some w → infallible_capacity v ≤ infallible_capacity w
 insert_str-sure g v w p s e = grind (arith, common_steps, reserve_placement-sure)
 
 -- the bytes of what is appended stand behind those that stood

@@ -1,7 +1,7 @@
 -- What stands in a range, when it is appended.
 use Rattle.std.proofs.Common.{◌≡◌, ℕ, ◌-◌, ◌≤◌, Result, OnErr, IsOk, IsTrue, sym}
 pub use Rattle.std.proofs.lemmas.Str.{encodes-append}
-pub use Rattle.compact_buffers.proofs.Middles.{substring-parts}
+pub use Rattle.compact_text.proofs.Middles.{substring-parts}
 use Rattle.compact_repr.specs.Cut.{IsBoundary, substring}
 use Rattle.compact_repr.specs.Value.{PlacedText}
 use Rattle.compact_repr.specs.Change.{push_str_asks}

@@ -9,7 +9,7 @@ use Rattle.compact_repr.specs.Capacity.{Growth, with_capacity_asks, from_string_
 use Rattle.compact_repr.specs.Change.{new}
 
 -- r is a new value with the text that the bytes s encode; up to 24 of them never fail
-pub record IsNewOf {E : Type 0} (g : Growth) (s : List ℕ) (r : Result PlacedText E) : Type 0 where
+pub record CopiesText {E : Type 0} (g : Growth) (s : List ℕ) (r : Result PlacedText E) : Type 0 where
   pub ok : IfOk r (λ v. new g (text_of s) ≡ Some v)
   pub text : IfOk r (λ v. v.text ≡ text_of s)
   pub bytes : IfOk r (λ v. utf8 v.text ≡ s)

@@ -6,13 +6,13 @@ use Rattle.compact_repr.specs.Capacity.{inline_placement, with_capacity_asks}
 
 -- v stands as a text that came in parts: in the value itself up to 24 bytes, else on the heap, in a buffer of any
 -- capacity that holds the text
-pub record IsFitted (v : PlacedText) : Type 0 where
+pub record IsPlacedBySize (v : PlacedText) : Type 0 where
   pub short : size v.text ≤ 24 → v.placement ≡ inline_placement
   pub long : 24 < size v.text → (v.placement.place ≡ heap) × (size v.text ≤ v.placement.capacity)
 
 -- r is a fitted value with this text; up to 24 bytes it is never refused
-pub record IsFittedOf {E : Type 0} (t : List ℕ) (r : Result PlacedText E) : Type 0 where
+pub record MakesText {E : Type 0} (t : List ℕ) (r : Result PlacedText E) : Type 0 where
   pub text : IfOk r (λ v. v.text ≡ t)
-  pub fitted : IfOk r IsFitted
+  pub fitted : IfOk r IsPlacedBySize
   pub succeeds : size t ≤ 24 → IsOk r
   pub err : OnErr r (IsTrue (with_capacity_asks (size t)))

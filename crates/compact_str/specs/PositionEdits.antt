@@ -21,7 +21,7 @@ Removes g v index c w =
     (rest : List ℕ) × (text_after v.text index ≡ c ∷ rest) × (option_map (placed_text (text_before v.text index ++ rest)) (owned_placement g v) ≡ Some w)
 
 -- v has lost the character at a position, which was returned, and w is left; or w is v, where that fails
-pub record LosesChar {E : Type 0} (g : Growth) (v : PlacedText) (index : ℕ) (r : Result ℕ E) (w : PlacedText) : Type 0 where
+pub record RemovesChar {E : Type 0} (g : Growth) (v : PlacedText) (index : ℕ) (r : Result ℕ E) (w : PlacedText) : Type 0 where
   pub ok : IfOk r (λ c. Removes g v index c w)
   pub text : IfOk r (λ c. w.text ≡ replaced_text v.text index (index + len_utf8 c) [])
   pub character : IfOk r (λ c. text_after v.text index ≡ c ∷ text_after w.text index)
@@ -30,9 +30,9 @@ pub record LosesChar {E : Type 0} (g : Growth) (v : PlacedText) (index : ℕ) (r
   pub err : OnErr r ((w ≡ v) × IsTrue (make_owned_asks v))
 
 -- v without its last character, in its place; an empty v has none
-abbrev pub Pops : PlacedText → Option ℕ → PlacedText → Type 0
-Pops v None w = (v.text ≡ []) × (w ≡ v)
-Pops v (Some c) w = (front : List ℕ) × (v.text ≡ front ++ c ∷ []) × (w ≡ placed_text front (shortened_placement v front))
+abbrev pub PopsChar : PlacedText → Option ℕ → PlacedText → Type 0
+PopsChar v None w = (v.text ≡ []) × (w ≡ v)
+PopsChar v (Some c) w = (front : List ℕ) × (v.text ≡ front ++ c ∷ []) × (w ≡ placed_text front (shortened_placement v front))
 
 -- the placement of a tail that is split off: of a static text it is borrowed too
 abbrev pub tail_placement : Growth → PlacedText → List ℕ → Option Placement

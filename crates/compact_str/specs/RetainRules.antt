@@ -8,8 +8,8 @@ abbrev pub RetainsChars : {F : Type 0} → Mut F (ℕ × Unit {0}) Bool → F �
 RetainsChars test f t u = IsFiltered (λ p c b q. Called test p (c, tt) b q) f t u
 
 -- the test says of each character what `says` does, whatever it noted before
-abbrev pub SaysAlways : {F : Type 0} → Mut F (ℕ × Unit {0}) Bool → (ℕ → Bool) → Type 0
-SaysAlways {F} test says = (p : F) (c : ℕ) (b : Bool) (q : F) → Called test p (c, tt) b q → b ≡ says c
+abbrev pub AgreesWith : {F : Type 0} → Mut F (ℕ × Unit {0}) Bool → (ℕ → Bool) → Type 0
+AgreesWith {F} test says = (p : F) (c : ℕ) (b : Bool) (q : F) → Called test p (c, tt) b q → b ≡ says c
 
 -- the characters of a text that a rule keeps: it goes from a state on, and says of a state and a character whether that
 -- stays, and the next state

@@ -14,15 +14,15 @@ abbrev pub own_capacity : PlacedText → ℕ
 own_capacity v = if is_static v.placement.place then 0 else v.placement.capacity
 
 -- how many bytes v is sure to have room for with no memory: 24 in the value itself, or what it owns where that is more
-abbrev pub sure_capacity : PlacedText → ℕ
-sure_capacity v = max 24 (own_capacity v)
+abbrev pub infallible_capacity : PlacedText → ℕ
+infallible_capacity v = max 24 (own_capacity v)
 
 -- n more bytes fit v with no memory
 abbrev pub HasRoomFor : PlacedText → ℕ → Type 0
-HasRoomFor v n = size v.text + n ≤ sure_capacity v
+HasRoomFor v n = size v.text + n ≤ infallible_capacity v
 
 -- r is the empty text with room for n bytes; up to 24 are never refused
-pub record IsRoomFor {E : Type 0} (g : Growth) (n : ℕ) (r : Result PlacedText E) : Type 0 where
+pub record MakesEmpty {E : Type 0} (g : Growth) (n : ℕ) (r : Result PlacedText E) : Type 0 where
   pub ok : IfOk r (λ v. with_capacity g n ≡ Some v)
   pub text : IfOk r (λ v. v.text ≡ [])
   pub room : IfOk r (λ v. HasRoomFor v n)

@@ -1,7 +1,7 @@
 //! How bytes and units from outside become texts.
 ghost use Rattle.std.specs.Prelude.{◌≡◌, ◌+◌, ◌<◌, ◌++◌, length, OnOk, OnErr};
 ghost use Rattle.compact_repr.specs.Text.{size, text_of};
-ghost use Rattle.compact_str.specs.FittedValues.{IsFitted};
+ghost use Rattle.compact_str.specs.FittedValues.{IsPlacedBySize};
 
 mod buf;
 pub mod error;
@@ -18,10 +18,10 @@ const REPLACEMENT: &str = "\u{FFFD}";
 /// Appends `text` to a fitted value, which stays so. Where it leaves the value itself, room is also made for `more` bytes
 /// behind it, which the caller knows to come.
 #[inline]
-#[tactic(auto, using(compact_buffers::proofs::TextFacts::text_facts, crate::proofs::FittedTexts::fitted_facts))]
+#[tactic(auto, using(compact_text::proofs::TextFacts::text_facts, crate::proofs::FittedTexts::fitted_facts))]
 fn push_fitted(made: &mut CompactString, text: &str, more: usize) -> Result<(), ReserveError>
-    requires { IsFitted made.old }
-    ensures fitted { OnOk result (IsFitted made.new) }
+    requires { IsPlacedBySize made.old }
+    ensures fitted { OnOk result (IsPlacedBySize made.new) }
     ensures text { OnOk result (made.new.text ≡ made.old.text ++ text_of text.now) }
     ensures err { OnErr result (24 < size made.old.text + length text.now) }
 {

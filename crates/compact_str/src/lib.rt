@@ -4,13 +4,14 @@
 //! `CompactString` stands where a `String` would. It takes no memory for short texts, answers a `Result` where memory
 //! may be refused, and leaves text, place and capacity as they were where it is. A contract sees a value as a text, a
 //! list of characters, with a place and a capacity: the `PlacedText` of `specs/`.
-#![tactic(auto, using(compact_buffers::proofs::TextFacts::text_facts))]
+#![tactic(auto, using(compact_text::proofs::TextFacts::text_facts))]
 
+mod builder;
 mod decode;
-mod gather;
 mod iter;
 mod laws;
 mod refused;
+mod stack_buffer;
 mod string;
 
 pub use compact_repr::{

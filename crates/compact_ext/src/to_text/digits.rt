@@ -4,7 +4,7 @@
 //! bits and is added below. So whole words come out. One that is read after its bytes were written one by one waits for them.
 ghost use Rattle.std.specs.Prelude.{◌≡◌, ℕ, ◌+◌, ◌*◌, ◌^◌, ◌<◌, ◌≤◌, length};
 ghost use Rattle.std.specs.Fmt.{decimal, sign_text};
-ghost use Rattle.compact_repr.specs.Words.{le_number};
+ghost use Rattle.compact_text.specs.WordBytes.{le_number};
 ghost use Rattle.compact_repr.specs.Packed.{packed_bytes};
 ghost use Rattle.compact_ext.specs.Digits.{two_digits, four_digits, number_behind, number_text};
 

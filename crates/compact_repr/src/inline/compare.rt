@@ -4,7 +4,7 @@ ghost use Rattle.std.specs.Cmp.Lexicographic.{pointwise, slice_cmp};
 ghost use Rattle.std.specs.Ordering.{nat_cmp};
 
 use crate::inline::{INLINE_CAPACITY, InlineBuffer};
-use crate::words::{end_byte, same_array};
+use compact_text::words::{last_byte, same_array};
 use std::cmp::Ordering;
 
 /// The last byte of the packed empty text.
@@ -19,7 +19,7 @@ impl InlineBuffer {
         ensures { result ≡ pointwise nat_eq self.now other.now }
     {
         let same = same_array(&self.bytes, &other.bytes);
-        if same | (end_byte(&self.bytes) != end_byte(&other.bytes)) {
+        if same | (last_byte(&self.bytes) != last_byte(&other.bytes)) {
             return same;
         }
         self.as_str() == other.as_str()

@@ -1,13 +1,16 @@
 //! What 24 packed bytes tell, and how their last byte is written.
 #![tactic(auto, using(crate::proofs::PackedFacts::packed_facts))]
 
-ghost use Rattle.std.specs.Prelude.{◌≡◌, ◌≤◌, ◌<◌, take, IsTrue, ◌↔◌};
+ghost use Rattle.std.specs.Prelude.{◌≡◌, ◌+◌, ◌*◌, ◌^◌, ◌≤◌, ◌<◌, length, take, bit_or, nat_lt, if◌then◌else◌, IsTrue, ◌↔◌};
 ghost use Rattle.std.specs.Str.{IsUtf8};
-ghost use Rattle.compact_buffers.specs.Text.{text_of};
-ghost use Rattle.compact_repr.specs.Packed.{IsPackedFor, packed_len, packed_text};
+ghost use Rattle.compact_text.specs.Text.{text_of};
+ghost use Rattle.compact_repr.specs.Packed.{IsPackedFor, packed_len, packed_text, packed_bytes};
 
 use crate::inline::INLINE_CAPACITY;
-use crate::words::{begins_ascii, end_byte, with_last_byte};
+use compact_text::words::{
+    array_of_words, first_23_are_ascii, last_byte, load_up_to_8, load8, second_word, third_word,
+    with_last_byte,
+};
 
 /// The largest last byte of a packed text: behind a text of 23 bytes.
 const MAX_LAST_BYTE: usize = 215;
@@ -18,11 +21,11 @@ const MAX_LAST_BYTE: usize = 215;
 pub fn is_packed(bytes: &[u8; 24]) -> bool
     ensures { IsTrue result ↔ IsPackedFor bytes.now (packed_text bytes.now) }
 {
-    let last = end_byte(bytes);
+    let last = last_byte(bytes);
     if last > MAX_LAST_BYTE {
         return false;
     }
-    if begins_ascii(bytes) && (last < 128 || last >= 192) {
+    if first_23_are_ascii(bytes) && (last < 128 || last >= 192) {
         return true;
     }
     // A copy is handed on, so that bytes which are made where they are asked for can stay in registers.
@@ -39,7 +42,7 @@ pub fn length_of(bytes: &[u8; 24]) -> usize
     requires { packed_len bytes.now ≤ 24 }
     ensures { result ≡ packed_len bytes.now }
 {
-    let len = end_byte(bytes).wrapping_sub(192);
+    let len = last_byte(bytes).wrapping_sub(192);
     if len < INLINE_CAPACITY {
         len
     } else {
@@ -61,7 +64,7 @@ pub fn write_len(bytes: &mut [u8; 24], len: usize)
 
 /// The array with the length of the text that stands first, which is shorter than the array, as a part of its last word.
 #[inline(always)]
-pub fn with_short_len(array: &[u8; 24], len: usize) -> [u8; 24]
+pub fn with_len_below_24(array: &[u8; 24], len: usize) -> [u8; 24]
     requires short { len < 24 }
     requires text { IsUtf8 (take len array.now) }
     ensures { IsPackedFor result (text_of (take len array.now)) }
@@ -77,8 +80,41 @@ pub fn with_len(array: &[u8; 24], len: usize) -> [u8; 24]
     ensures { IsPackedFor result (text_of (take len array.now)) }
 {
     if len < INLINE_CAPACITY {
-        with_short_len(array, len)
+        with_len_below_24(array, len)
     } else {
         *array
+    }
+}
+
+/// The last word of a packed array: with the length of the text as its last byte, where the text leaves that free.
+#[inline(always)]
+fn with_length(word: u64, len: usize) -> u64
+    requires { len ≤ 24 }
+    ensures { result ≡ (if nat_lt len 24 then bit_or word ((192 + len) * 2 ^ 56) else word) }
+{
+    if len < 24 {
+        word | ((192 + len as u64) << 56)
+    } else {
+        word
+    }
+}
+
+/// The packed array of `text`: its bytes, zeros, and its length, or its 24 bytes alone.
+///
+/// From eight bytes on there is no branch on the length.
+#[inline]
+pub fn pack(text: &[u8]) -> [u8; 24]
+    requires { length text.now ≤ 24 }
+    ensures { result ≡ packed_bytes text.now }
+{
+    let len = text.len();
+    if len >= 8 {
+        array_of_words(
+            load8(text, 0),
+            second_word(text),
+            with_length(third_word(text), len),
+        )
+    } else {
+        array_of_words(load_up_to_8(text), 0, with_length(0, len))
     }
 }

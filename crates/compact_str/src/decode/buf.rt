@@ -4,7 +4,7 @@ ghost use Rattle.std.specs.Str.{IsUtf8};
 ghost use Rattle.compact_repr.specs.Text.{text_of};
 ghost use Rattle.compact_repr.specs.Capacity.{with_capacity_asks};
 ghost use Rattle.compact_codec.specs.Utf8Text.{BytesEncode};
-ghost use Rattle.compact_str.specs.FittedValues.{IsFitted};
+ghost use Rattle.compact_str.specs.FittedValues.{IsPlacedBySize};
 ghost use Rattle.compact_str.specs.DecodeErrors.{IsSuffixOf, IsUtf8BufRefusal};
 
 use crate::decode::error::FromUtf8Error;
@@ -26,10 +26,10 @@ impl PolicyString<Standard> {
     /// # Examples
     ///
     /// A buffer of F0 and 9F 92 96 in two pieces gives U+1F496.
-    #[tactic(auto, using(compact_buffers::proofs::TextFacts::text_facts, crate::proofs::FittedTexts::buf_facts))]
+    #[tactic(auto, using(compact_text::proofs::TextFacts::text_facts, crate::proofs::FittedTexts::buf_facts))]
     pub fn from_utf8_buf<B: Buf>(alloc: Global, buf: &mut B) -> Result<CompactString, FromUtf8Error>
         ensures text { IfOk result (λ v. BytesEncode (B.unread buf.old) v.text) }
-        ensures fitted { IfOk result IsFitted }
+        ensures fitted { IfOk result IsPlacedBySize }
         ensures consumed { OnOk result (B.unread buf.new ≡ []) }
         ensures kept { B.kept buf.new ≡ B.kept buf.old }
         ensures succeeds { IsUtf8 (B.unread buf.old) → length (B.unread buf.old) ≤ 24
@@ -59,14 +59,14 @@ impl PolicyString<Standard> {
     /// # Errors
     ///
     /// [`ReserveError`] if memory for more than 24 bytes is refused; then a beginning of the bytes may be taken.
-    #[tactic(auto, using(compact_buffers::proofs::TextFacts::text_facts, crate::proofs::FittedTexts::buf_facts))]
+    #[tactic(auto, using(compact_text::proofs::TextFacts::text_facts, crate::proofs::FittedTexts::buf_facts))]
     pub fn from_utf8_buf_unchecked<B: Buf>(
         alloc: Global,
         buf: &mut B,
     ) -> Result<CompactString, ReserveError>
         requires { IsUtf8 (B.unread buf.old) }
         ensures text { IfOk result (λ v. v.text ≡ text_of (B.unread buf.old)) }
-        ensures fitted { IfOk result IsFitted }
+        ensures fitted { IfOk result IsPlacedBySize }
         ensures consumed { OnOk result (B.unread buf.new ≡ []) }
         ensures kept { B.kept buf.new ≡ B.kept buf.old }
         ensures succeeds { length (B.unread buf.old) ≤ 24 → IsOk result }

@@ -4,13 +4,13 @@ ghost use Rattle.compact_repr.specs.Text.{size};
 ghost use Rattle.compact_codec.specs.Utf16Text.{UnitsEncode, utf16_lossy_text};
 ghost use Rattle.compact_codec.specs.Utf16Bytes.{utf16_bytes_lossy_text};
 ghost use Rattle.compact_codec.specs.declared.utf16_bytes.ByteOrder.TheVariants.{LittleEndian, BigEndian};
-ghost use Rattle.compact_str.specs.FittedValues.{IsFitted, IsFittedOf};
+ghost use Rattle.compact_str.specs.FittedValues.{IsPlacedBySize, MakesText};
 ghost use Rattle.compact_str.specs.DecodeErrors.{IsUtf16Refusal, IsUtf16BytesRefusal, PairsEncode};
 
 use crate::decode::error::{FromUtf16Error, Utf16Error};
 use crate::decode::push_fitted;
 use crate::decode::row::{ROW, fill, utf8_room};
-use crate::gather::Gathered;
+use crate::builder::Builder;
 use crate::string::{CompactString, PolicyString};
 use compact_codec::utf16;
 use compact_codec::utf16_bytes::{self, ByteOrder};
@@ -31,7 +31,7 @@ impl PolicyString<Standard> {
     #[tactic(auto, using(compact_codec::proofs::ForDecoders::strict_decoding))]
     pub fn from_utf16(alloc: Global, units: &[u16]) -> Result<CompactString, FromUtf16Error>
         ensures text { IfOk result (λ v. UnitsEncode units.now v.text) }
-        ensures fitted { IfOk result IsFitted }
+        ensures fitted { IfOk result IsPlacedBySize }
         ensures succeeds { (text : List ℕ) → UnitsEncode units.now text → size text ≤ 24
             → IsOk result }
         ensures err { IfErr result (IsUtf16Refusal units.now) }
@@ -55,9 +55,9 @@ impl PolicyString<Standard> {
     /// # Examples
     ///
     /// `[0xD834, 0x0041]` gives U+FFFD and `A`.
-    #[tactic(auto, using(compact_buffers::proofs::TextFacts::text_facts, compact_codec::proofs::ForDecoders::lossy_decoding, crate::proofs::FittedTexts::part_facts))]
+    #[tactic(auto, using(compact_text::proofs::TextFacts::text_facts, compact_codec::proofs::ForDecoders::lossy_decoding, crate::proofs::FittedTexts::part_facts))]
     pub fn from_utf16_lossy(alloc: Global, units: &[u16]) -> Result<CompactString, ReserveError>
-        ensures { IsFittedOf (utf16_lossy_text units.now) result }
+        ensures { MakesText (utf16_lossy_text units.now) result }
     {
         let mut made = CompactString::default(alloc);
         let mut row = [0; ROW];
@@ -88,7 +88,7 @@ impl PolicyString<Standard> {
     /// `41 00` is `"A"`.
     pub fn from_utf16le(alloc: Global, bytes: &[u8]) -> Result<CompactString, FromUtf16Error>
         ensures text { IfOk result (λ v. PairsEncode LittleEndian bytes.now v.text) }
-        ensures fitted { IfOk result IsFitted }
+        ensures fitted { IfOk result IsPlacedBySize }
         ensures succeeds { (text : List ℕ) → PairsEncode LittleEndian bytes.now text
             → size text ≤ 24 → IsOk result }
         ensures err { IfErr result (IsUtf16BytesRefusal LittleEndian bytes.now) }
@@ -108,7 +108,7 @@ impl PolicyString<Standard> {
     /// `00 41` is `"A"`.
     pub fn from_utf16be(alloc: Global, bytes: &[u8]) -> Result<CompactString, FromUtf16Error>
         ensures text { IfOk result (λ v. PairsEncode BigEndian bytes.now v.text) }
-        ensures fitted { IfOk result IsFitted }
+        ensures fitted { IfOk result IsPlacedBySize }
         ensures succeeds { (text : List ℕ) → PairsEncode BigEndian bytes.now text → size text ≤ 24
             → IsOk result }
         ensures err { IfErr result (IsUtf16BytesRefusal BigEndian bytes.now) }
@@ -127,7 +127,7 @@ impl PolicyString<Standard> {
     ///
     /// `41 00 42` gives `A` and U+FFFD.
     pub fn from_utf16le_lossy(alloc: Global, bytes: &[u8]) -> Result<CompactString, ReserveError>
-        ensures { IsFittedOf (utf16_bytes_lossy_text LittleEndian bytes.now) result }
+        ensures { MakesText (utf16_bytes_lossy_text LittleEndian bytes.now) result }
     {
         from_bytes_lossy(alloc, ByteOrder::LittleEndian, bytes)
     }
@@ -143,7 +143,7 @@ impl PolicyString<Standard> {
     ///
     /// `00 41 42` gives `A` and U+FFFD.
     pub fn from_utf16be_lossy(alloc: Global, bytes: &[u8]) -> Result<CompactString, ReserveError>
-        ensures { IsFittedOf (utf16_bytes_lossy_text BigEndian bytes.now) result }
+        ensures { MakesText (utf16_bytes_lossy_text BigEndian bytes.now) result }
     {
         from_bytes_lossy(alloc, ByteOrder::BigEndian, bytes)
     }
@@ -157,7 +157,7 @@ fn from_bytes(
     bytes: &[u8],
 ) -> Result<CompactString, FromUtf16Error>
     ensures text { IfOk result (λ v. PairsEncode order bytes.now v.text) }
-    ensures fitted { IfOk result IsFitted }
+    ensures fitted { IfOk result IsPlacedBySize }
     ensures succeeds { (text : List ℕ) → PairsEncode order bytes.now text → size text ≤ 24
         → IsOk result }
     ensures err { IfErr result (IsUtf16BytesRefusal order bytes.now) }
@@ -172,15 +172,15 @@ fn from_bytes(
 }
 
 /// The text of the bytes, two bytes a unit, with U+FFFD for what is invalid.
-#[tactic(auto, using(compact_buffers::proofs::TextFacts::text_facts, compact_codec::proofs::ForDecoders::lossy_decoding, crate::proofs::FittedTexts::first_facts))]
+#[tactic(auto, using(compact_text::proofs::TextFacts::text_facts, compact_codec::proofs::ForDecoders::lossy_decoding, crate::proofs::FittedTexts::first_facts))]
 fn from_bytes_lossy(
     alloc: Global,
     order: ByteOrder,
     bytes: &[u8],
 ) -> Result<CompactString, ReserveError>
-    ensures { IsFittedOf (utf16_bytes_lossy_text order bytes.now) result }
+    ensures { MakesText (utf16_bytes_lossy_text order bytes.now) result }
 {
-    let mut gathered = Gathered::new(alloc);
+    let mut gathered = Builder::new(alloc);
     let mut rest = bytes;
     while !rest.is_empty() {
         let step = utf16_bytes::first_character(order, rest);

@@ -5,8 +5,8 @@ ghost use Rattle.compact_repr.specs.Text.{text_of};
 ghost use Rattle.compact_repr.specs.Change.{new};
 ghost use Rattle.compact_codec.specs.InvalidSequence.{IsUtf8Error};
 ghost use Rattle.compact_codec.specs.Utf8Text.{BytesEncode, utf8_lossy_text};
-ghost use Rattle.compact_str.specs.FittedValues.{IsFittedOf};
-ghost use Rattle.compact_str.specs.Conversions.{IsNewOf};
+ghost use Rattle.compact_str.specs.FittedValues.{MakesText};
+ghost use Rattle.compact_str.specs.Conversions.{CopiesText};
 ghost use Rattle.compact_str.specs.DecodeErrors.{IsUtf8Refusal};
 
 use crate::decode::error::FromUtf8Error;
@@ -28,7 +28,7 @@ impl PolicyString<Standard> {
     ///
     /// `[0xC3, 0xA9]` gives `"é"`. `[0x61, 0xE2, 0x82]` has its error after 1 byte, with an open end.
     #[inline]
-    #[tactic(auto, using(compact_buffers::proofs::TextFacts::text_facts, crate::proofs::FittedTexts::strict_facts))]
+    #[tactic(auto, using(compact_text::proofs::TextFacts::text_facts, crate::proofs::FittedTexts::strict_facts))]
     pub fn from_utf8(alloc: Global, bytes: &[u8]) -> Result<CompactString, FromUtf8Error>
         ensures ok { IfOk result
             (λ v. new ⟦<Standard as Policy>⟧.growth (text_of bytes.now) ≡ Some v) }
@@ -62,9 +62,9 @@ impl PolicyString<Standard> {
     ///
     /// `[0xE1, 0x80, 0x41]` gives U+FFFD and `A`, and `[0xC0, 0x80]` two U+FFFD.
     #[inline]
-    #[tactic(auto, using(compact_buffers::proofs::TextFacts::text_facts, compact_codec::proofs::ForDecoders::lossy_decoding, crate::proofs::FittedTexts::new_facts))]
+    #[tactic(auto, using(compact_text::proofs::TextFacts::text_facts, compact_codec::proofs::ForDecoders::lossy_decoding, crate::proofs::FittedTexts::new_facts))]
     pub fn from_utf8_lossy(alloc: Global, bytes: &[u8]) -> Result<CompactString, ReserveError>
-        ensures { IsFittedOf (utf8_lossy_text bytes.now) result }
+        ensures { MakesText (utf8_lossy_text bytes.now) result }
     {
         match utf8::validate(bytes) {
             Ok(text) => Self::new(alloc, text),
@@ -81,21 +81,21 @@ impl PolicyString<Standard> {
     #[inline]
     pub fn from_utf8_unchecked(alloc: Global, bytes: &[u8]) -> Result<CompactString, ReserveError>
         requires { IsUtf8 bytes.now }
-        ensures { IsNewOf ⟦<Standard as Policy>⟧.growth bytes.now result }
+        ensures { CopiesText ⟦<Standard as Policy>⟧.growth bytes.now result }
     {
         Self::new(alloc, unsafe { std::str::from_utf8_unchecked(bytes) })
     }
 }
 
 /// The text of bytes of which the error is known, chunk by chunk.
-#[tactic(auto, using(compact_buffers::proofs::TextFacts::text_facts, compact_codec::proofs::ForDecoders::lossy_decoding, crate::proofs::FittedTexts::part_facts))]
+#[tactic(auto, using(compact_text::proofs::TextFacts::text_facts, compact_codec::proofs::ForDecoders::lossy_decoding, crate::proofs::FittedTexts::part_facts))]
 fn from_invalid(
     alloc: Global,
     bytes: &[u8],
     error: Utf8Error,
 ) -> Result<CompactString, ReserveError>
     requires { IsUtf8Error bytes.now error.valid_up_to error.error_len }
-    ensures { IsFittedOf (utf8_lossy_text bytes.now) result }
+    ensures { MakesText (utf8_lossy_text bytes.now) result }
 {
     let mut made = CompactString::default(alloc);
     let mut chunk = utf8::chunk_at(bytes, error);

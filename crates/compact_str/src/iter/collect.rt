@@ -2,10 +2,10 @@
 ghost use Rattle.std.specs.Prelude.{◌≡◌, ◌+◌, ◌≤◌, List, ℕ, flat_map, fold, map, IfOk, OnErr, IsOk};
 ghost use Rattle.std.specs.Iterator.{Drains, IsFiniteIterable};
 ghost use Rattle.compact_repr.specs.Text.{size};
-ghost use Rattle.compact_str.specs.FittedValues.{IsFitted};
+ghost use Rattle.compact_str.specs.FittedValues.{IsPlacedBySize};
 ghost use Rattle.compact_str.specs.Collect.{OfIterator, OfItems, OfAllItems, PassesInline, char_text};
 
-use crate::gather::Gathered;
+use crate::builder::Builder;
 use crate::iter::AsText;
 use crate::iter::piece::Piece;
 use crate::string::PolicyString;
@@ -21,12 +21,12 @@ fn collect_pieces<P: Policy, T: Piece, U: IntoIterator<Item = T>>(
     ensures ok { IfOk result
         (λ v. (it : U.IntoIter) × (xs : List T) × U.into_iter_gives iter it
         × Drains U.IntoIter.next_gives it xs × (v.text ≡ flat_map T.letters xs)) }
-    ensures fitted { IfOk result IsFitted }
+    ensures fitted { IfOk result IsPlacedBySize }
     ensures err { OnErr result
         (OfIterator U.into_iter_gives iter
         (λ it. PassesInline U.IntoIter.next_gives (flat_map T.letters) it)) }
 {
-    let mut gathered = Gathered::new(alloc);
+    let mut gathered = Builder::new(alloc);
     for piece in iter {
         piece.gather_into(&mut gathered)?;
     }
@@ -59,7 +59,7 @@ impl<P: Policy> PolicyString<P> {
         ensures size { IfOk result
             (λ v. OfItems U.into_iter_gives U.IntoIter.next_gives texts
             (λ xs. size v.text ≡ fold (λ n text. n + size (T.spells text)) 0 xs)) }
-        ensures fitted { IfOk result IsFitted }
+        ensures fitted { IfOk result IsPlacedBySize }
         ensures succeeds { OfAllItems U.into_iter_gives U.IntoIter.next_gives texts
             (λ xs. size (flat_map T.spells xs) ≤ 24) → IsOk result }
         ensures err { OnErr result
@@ -87,7 +87,7 @@ impl<P: Policy> PolicyString<P> {
             characters }
         ensures text { IfOk result
             (λ v. OfItems U.into_iter_gives U.IntoIter.next_gives characters (λ xs. v.text ≡ xs)) }
-        ensures fitted { IfOk result IsFitted }
+        ensures fitted { IfOk result IsPlacedBySize }
         ensures succeeds { OfAllItems U.into_iter_gives U.IntoIter.next_gives characters
             (λ xs. size xs ≤ 24) → IsOk result }
         ensures err { OnErr result
@@ -101,7 +101,7 @@ impl<P: Policy> PolicyString<P> {
 impl<P: Policy, T: AsText> FromIterator<T> for PolicyString<P> {
     type Alloc = Global;
 
-    ghost from_iter_gives = { λ xs v. (v.text ≡ flat_map T.spells xs) × IsFitted v };
+    ghost from_iter_gives = { λ xs v. (v.text ≡ flat_map T.spells xs) × IsPlacedBySize v };
 
     /// `from_texts` for `collect`, which tells a caller the text and the place, but not that up to 24 bytes are never
     /// refused.
@@ -115,7 +115,7 @@ impl<P: Policy, T: AsText> FromIterator<T> for PolicyString<P> {
         ensures text { IfOk result
             (λ v. (it : U.IntoIter) × (xs : List T) × U.into_iter_gives texts it
             × Drains U.IntoIter.next_gives it xs × (v.text ≡ flat_map T.spells xs)) }
-        ensures fitted { IfOk result IsFitted }
+        ensures fitted { IfOk result IsPlacedBySize }
         ensures succeeds { OfAllItems U.into_iter_gives U.IntoIter.next_gives texts
             (λ xs. size (flat_map T.spells xs) ≤ 24) → IsOk result }
         ensures err { OnErr result
@@ -132,7 +132,7 @@ impl<P: Policy, T: AsText> FromIterator<T> for PolicyString<P> {
 impl<P: Policy> FromIterator<char> for PolicyString<P> {
     type Alloc = Global;
 
-    ghost from_iter_gives = { λ xs v. (v.text ≡ xs) × IsFitted v };
+    ghost from_iter_gives = { λ xs v. (v.text ≡ xs) × IsPlacedBySize v };
 
     /// `from_chars` for `collect`.
     ///
@@ -149,7 +149,7 @@ impl<P: Policy> FromIterator<char> for PolicyString<P> {
         ensures text { IfOk result
             (λ v. (it : U.IntoIter) × (xs : List ℕ) × U.into_iter_gives characters it
             × Drains U.IntoIter.next_gives it xs × (v.text ≡ xs)) }
-        ensures fitted { IfOk result IsFitted }
+        ensures fitted { IfOk result IsPlacedBySize }
         ensures succeeds { OfAllItems U.into_iter_gives U.IntoIter.next_gives characters
             (λ xs. size xs ≤ 24) → IsOk result }
         ensures err { OnErr result
@@ -166,7 +166,7 @@ impl<P: Policy> FromIterator<char> for PolicyString<P> {
 impl<'a, P: Policy> FromIterator<&'a char> for PolicyString<P> {
     type Alloc = Global;
 
-    ghost from_iter_gives = { λ xs v. (v.text ≡ map (λ c. c.now) xs) × IsFitted v };
+    ghost from_iter_gives = { λ xs v. (v.text ≡ map (λ c. c.now) xs) × IsPlacedBySize v };
 
     /// `from_chars` of the characters that are referred to, for `collect`.
     ///
@@ -183,7 +183,7 @@ impl<'a, P: Policy> FromIterator<&'a char> for PolicyString<P> {
         ensures text { IfOk result
             (λ v. (it : U.IntoIter) × (xs : List _) × U.into_iter_gives references it
             × Drains U.IntoIter.next_gives it xs × (v.text ≡ map (λ c. c.now) xs)) }
-        ensures fitted { IfOk result IsFitted }
+        ensures fitted { IfOk result IsPlacedBySize }
         ensures succeeds { OfAllItems U.into_iter_gives U.IntoIter.next_gives references
             (λ xs. size (map (λ c. c.now) xs) ≤ 24) → IsOk result }
         ensures err { OnErr result

@@ -3,7 +3,7 @@ ghost use Rattle.std.specs.Prelude.{◌≡◌, ◌≤◌, List, ◌++◌, flat_m
 ghost use Rattle.std.specs.Iterator.{IsFiniteIterable};
 ghost use Rattle.compact_repr.specs.Text.{size};
 ghost use Rattle.compact_repr.specs.Cut.{IsBoundary, text_before};
-ghost use Rattle.compact_str.specs.Room.{HasRoomFor, sure_capacity};
+ghost use Rattle.compact_str.specs.Room.{HasRoomFor, infallible_capacity};
 ghost use Rattle.compact_str.specs.Collect.{OfIterator, OfItems, OfAllItems, Appends, AppendsAll, AppendsUpToRefused, char_text};
 
 use crate::iter::AsText;
@@ -61,7 +61,7 @@ impl<P: Policy> PolicyString<P> {
             (λ xs. self.new.text ≡ self.old.text ++ flat_map T.spells xs)) }
         ensures boundary { IsBoundary self.new.text (size self.old.text) }
         ensures front { text_before self.new.text (size self.old.text) ≡ self.old.text }
-        ensures room { sure_capacity self.old ≤ sure_capacity self.new }
+        ensures room { infallible_capacity self.old ≤ infallible_capacity self.new }
         ensures succeeds { OfAllItems U.into_iter_gives U.IntoIter.next_gives texts
             (λ xs. HasRoomFor self.old (size (flat_map T.spells xs))) → IsOk result }
         ensures err { OnErr result
@@ -97,7 +97,7 @@ impl<P: Policy> PolicyString<P> {
             (λ xs. self.new.text ≡ self.old.text ++ xs)) }
         ensures boundary { IsBoundary self.new.text (size self.old.text) }
         ensures front { text_before self.new.text (size self.old.text) ≡ self.old.text }
-        ensures room { sure_capacity self.old ≤ sure_capacity self.new }
+        ensures room { infallible_capacity self.old ≤ infallible_capacity self.new }
         ensures succeeds { OfAllItems U.into_iter_gives U.IntoIter.next_gives characters
             (λ xs. HasRoomFor self.old (size xs)) → IsOk result }
         ensures err { OnErr result

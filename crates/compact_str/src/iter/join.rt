@@ -3,13 +3,14 @@ ghost use Rattle.std.specs.Prelude.{◌≡◌, ◌≤◌, List, flat_map, IfOk, 
 ghost use Rattle.std.specs.Iterator.{Drains, HoldsAlong, IsFinite};
 ghost use Rattle.std.specs.Iterator.Runs.{WholeRun};
 ghost use Rattle.compact_repr.specs.Text.{size, text_of};
-ghost use Rattle.compact_str.specs.FittedValues.{IsFitted};
+ghost use Rattle.compact_str.specs.FittedValues.{IsPlacedBySize};
 ghost use Rattle.compact_str.specs.Collect.{PassesInline, join};
 
-use crate::gather::Gathered;
+use crate::builder::Builder;
 use crate::iter::AsText;
 use crate::string::{CompactString, PolicyString};
-use compact_repr::{Padded, Policy, ReserveError};
+use crate::stack_buffer::PaddedStr;
+use compact_repr::{Policy, ReserveError};
 use std::alloc::Global;
 
 /// What an iterator of texts can be made into.
@@ -33,7 +34,7 @@ pub trait CompactStringExt: Iterator {
         ensures text { IfOk result
             (λ v. WholeRun Self.next_gives self
             (λ run. v.text ≡ flat_map Self.Item.spells run.items)) }
-        ensures fitted { IfOk result IsFitted }
+        ensures fitted { IfOk result IsPlacedBySize }
         ensures succeeds { HoldsAlong Self.next_gives self
             (λ xs. size (flat_map Self.Item.spells xs) ≤ 24) → IsOk result }
         ensures err { OnErr result (PassesInline Self.next_gives (flat_map Self.Item.spells) self) }
@@ -64,7 +65,7 @@ pub trait CompactStringExt: Iterator {
         ensures text { IfOk result
             (λ v. WholeRun Self.next_gives self
             (λ run. v.text ≡ join (text_of separator.now) Self.Item.spells run.items)) }
-        ensures fitted { IfOk result IsFitted }
+        ensures fitted { IfOk result IsPlacedBySize }
         ensures succeeds { HoldsAlong Self.next_gives self
             (λ xs. size (join (text_of separator.now) Self.Item.spells xs) ≤ 24) → IsOk result }
         ensures err { OnErr result
@@ -87,19 +88,19 @@ fn join_pieces<P: Policy, T: AsText, I: Iterator<Item = T> + Drop>(
     ensures ok { IfOk result
         (λ v. (xs : List T) × Drains I.next_gives pieces xs
         × (v.text ≡ join (text_of separator.now) T.spells xs)) }
-    ensures fitted { IfOk result IsFitted }
+    ensures fitted { IfOk result IsPlacedBySize }
     ensures err { OnErr result
         (PassesInline I.next_gives (join (text_of separator.now) T.spells) pieces) }
 {
     let mut pieces = pieces;
-    let mut gathered = Gathered::new(alloc);
+    let mut gathered = Builder::new(alloc);
     let Some(first) = pieces.next() else {
         return gathered.finish();
     };
     gathered.push_str(first.text())?;
-    let padded = Padded::new(separator);
+    let padded = PaddedStr::new(separator);
     for piece in pieces {
-        gathered.push_parted(separator, &padded, piece.text())?;
+        gathered.push_separated(separator, &padded, piece.text())?;
     }
     gathered.finish()
 }

@@ -2,10 +2,10 @@
 ghost use Rattle.std.specs.Prelude.{◌≡◌, ℕ, ◌+◌, ◌<◌, ◌≤◌, List, ◌++◌, OnOk, OnErr, IsOk, IsTrue, Some};
 ghost use Rattle.compact_repr.specs.Text.{size};
 ghost use Rattle.compact_repr.specs.Change.{push_str, push_str_asks};
-ghost use Rattle.compact_str.specs.Room.{HasRoomFor, sure_capacity};
+ghost use Rattle.compact_str.specs.Room.{HasRoomFor, infallible_capacity};
 ghost use Rattle.compact_str.specs.Collect.{char_text};
 
-use crate::gather::Gathered;
+use crate::builder::Builder;
 use crate::iter::AsText;
 use crate::string::PolicyString;
 use compact_repr::{Policy, ReserveError};
@@ -31,7 +31,7 @@ pub trait Piece: Drop {
     /// # Errors
     ///
     /// [`ReserveError`] if a buffer is refused, for more than 24 bytes.
-    fn gather_into<P: Policy>(&self, gathered: &mut Gathered<P>) -> Result<(), ReserveError>
+    fn gather_into<P: Policy>(&self, gathered: &mut Builder<P>) -> Result<(), ReserveError>
         ensures ok { OnOk result (gathered.new ≡ gathered.old ++ letters self.now) }
         ensures err { OnErr result (24 < size gathered.old + size (letters self.now)) };
 }
@@ -45,7 +45,7 @@ impl<T: AsText> Piece for T {
     }
 
     #[inline]
-    fn gather_into<P: Policy>(&self, gathered: &mut Gathered<P>) -> Result<(), ReserveError> {
+    fn gather_into<P: Policy>(&self, gathered: &mut Builder<P>) -> Result<(), ReserveError> {
         gathered.push_str(self.text())
     }
 }
@@ -59,7 +59,7 @@ impl Piece for char {
     }
 
     #[inline]
-    fn gather_into<P: Policy>(&self, gathered: &mut Gathered<P>) -> Result<(), ReserveError> {
+    fn gather_into<P: Policy>(&self, gathered: &mut Builder<P>) -> Result<(), ReserveError> {
         gathered.push(*self)
     }
 }
@@ -73,7 +73,7 @@ impl Piece for &char {
     }
 
     #[inline]
-    fn gather_into<P: Policy>(&self, gathered: &mut Gathered<P>) -> Result<(), ReserveError> {
+    fn gather_into<P: Policy>(&self, gathered: &mut Builder<P>) -> Result<(), ReserveError> {
         gathered.push(**self)
     }
 }

@@ -93,7 +93,7 @@ impl<P: Policy> From<BoxedStr> for PolicyString<P> {
 
     /// Takes the text over as `From<String>` does, with the capacity that the box keeps. It never allocates, where
     /// `from_boxed_str` copies.
-    #[tactic(auto, using(compact_buffers::proofs::TextFacts::text_facts, crate::proofs::EditFacts::string_facts))]
+    #[tactic(auto, using(compact_text::proofs::TextFacts::text_facts, crate::proofs::EditFacts::string_facts))]
     fn from(text: BoxedStr) -> Self {
         let text = text.into_string();
         Self::from(text)

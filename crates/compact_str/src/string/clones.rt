@@ -4,7 +4,7 @@ ghost use Rattle.compact_repr.specs.Text.{size};
 ghost use Rattle.compact_repr.specs.Value.{is_heap, is_static};
 ghost use Rattle.compact_repr.specs.Capacity.{clone_asks};
 ghost use Rattle.compact_repr.specs.Change.{clone};
-ghost use Rattle.compact_str.specs.Room.{sure_capacity};
+ghost use Rattle.compact_str.specs.Room.{infallible_capacity};
 ghost use Rattle.compact_str.specs.Clones.{clone_from, clone_from_asks};
 
 use crate::string::PolicyString;
@@ -50,7 +50,7 @@ impl<P: Policy> PolicyString<P> {
     pub fn clone_from(&mut self, source: &Self) -> Result<(), ReserveError>
         ensures ok { OnOk result (clone_from P.growth self.old source.now ≡ Some self.new) }
         ensures text { OnOk result (self.new.text ≡ source.now.text) }
-        ensures succeeds { size source.now.text ≤ sure_capacity self.old → IsOk result }
+        ensures succeeds { size source.now.text ≤ infallible_capacity self.old → IsOk result }
         ensures copies_in_place { is_heap source.now.placement.place ≡ false → IsOk result }
         ensures err { OnErr result
             ((self.new ≡ self.old) × IsTrue (clone_from_asks self.old source.now)) }

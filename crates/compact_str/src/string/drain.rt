@@ -14,7 +14,8 @@ mod range;
 
 use crate::string::PolicyString;
 use crate::string::position::byte_range;
-use compact_repr::{Policy, ReserveError, first_ascii, last_char, substring};
+use compact_repr::{Policy, ReserveError};
+use compact_text::str_parts::{first_ascii, last_char, substring};
 use std::fmt;
 use std::fmt::{Debug, Display, Formatter, Write};
 use std::iter::FusedIterator;
@@ -104,7 +105,7 @@ impl<P: Policy> PolicyString<P> {
         ensures leaves { value_after_drain result ≡ without_range self.old start end }
     {
         let whole = self.len();
-        let is_ascii = self.is_known_ascii(start, end);
+        let is_ascii = self.is_short_ascii_range(start, end);
         Drain {
             value: self,
             start,
@@ -185,8 +186,8 @@ impl<P: Policy> Iterator for Drain<'_, P> {
             }
         }
         // It takes the positions, so that the loop need not count what is left.
-        let word = self.value.first_code_and_width(front, back)?;
-        self.front = range::end_by_width(front, word);
+        let word = self.value.first_char_packed(front, back)?;
+        self.front = range::position_after(front, word);
         Some(unsafe { char::from_u32_unchecked((word >> 32) as u32) })
     }
 

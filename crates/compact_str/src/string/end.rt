@@ -4,12 +4,13 @@ ghost use Rattle.std.specs.Char.{len_utf8, encode_utf8};
 ghost use Rattle.compact_repr.specs.Text.{size, text_of, utf8};
 ghost use Rattle.compact_repr.specs.Cut.{IsBoundary, text_before};
 ghost use Rattle.compact_repr.specs.Change.{push_str, push_str_asks, clear, truncate};
-ghost use Rattle.compact_str.specs.Room.{HasRoomFor, sure_capacity};
-ghost use Rattle.compact_str.specs.PositionEdits.{Pops, Writes};
+ghost use Rattle.compact_str.specs.Room.{HasRoomFor, infallible_capacity};
+ghost use Rattle.compact_str.specs.PositionEdits.{PopsChar, Writes};
 
 use crate::refused::Refused;
 use crate::string::PolicyString;
-use compact_repr::{Policy, PushOutcome, ReserveError, encode_char};
+use compact_repr::{Policy, PushOutcome, ReserveError};
+use compact_text::str_parts::encode_char;
 use std::fmt;
 
 impl<P: Policy> PolicyString<P> {
@@ -25,19 +26,19 @@ impl<P: Policy> PolicyString<P> {
     ///
     /// `"ab"` and `"c"` give `"abc"`.
     #[inline]
-    #[tactic(auto, using(compact_buffers::proofs::TextFacts::text_facts, crate::proofs::EditFacts::append_facts))]
+    #[tactic(auto, using(compact_text::proofs::TextFacts::text_facts, crate::proofs::EditFacts::append_facts))]
     pub fn push_str(&mut self, text: &str) -> Result<(), ReserveError>
         ensures ok { OnOk result (push_str P.growth self.old (text_of text.now) ≡ Some self.new) }
         ensures text { OnOk result (self.new.text ≡ self.old.text ++ text_of text.now) }
         ensures bytes { OnOk result (utf8 self.new.text ≡ utf8 self.old.text ++ text.now) }
-        ensures room { OnOk result (sure_capacity self.old ≤ sure_capacity self.new) }
+        ensures room { OnOk result (infallible_capacity self.old ≤ infallible_capacity self.new) }
         ensures succeeds { HasRoomFor self.old (length text.now) → IsOk result }
         ensures err { OnErr result
             ((self.new ≡ self.old) × IsTrue (push_str_asks self.old (text_of text.now))) }
     {
         match self.repr.push_short(text) {
             PushOutcome::Done => Ok(()),
-            PushOutcome::NoRoom => self.repr.push_with_more_room(text),
+            PushOutcome::NoRoom => self.repr.push_str_slow(text),
             PushOutcome::NotTried => self.repr.push_str(text),
         }
     }
@@ -52,13 +53,13 @@ impl<P: Policy> PolicyString<P> {
     ///
     /// `"caf"` and `'é'` give `"café"`.
     #[inline]
-    #[tactic(auto, using(compact_buffers::proofs::TextFacts::text_facts, crate::proofs::EditFacts::character_facts))]
+    #[tactic(auto, using(compact_text::proofs::TextFacts::text_facts, crate::proofs::EditFacts::character_facts))]
     pub fn push(&mut self, character: char) -> Result<(), ReserveError>
         ensures ok { OnOk result (push_str P.growth self.old (character ∷ []) ≡ Some self.new) }
         ensures text { OnOk result (self.new.text ≡ self.old.text ++ character ∷ []) }
         ensures bytes { OnOk result
             (utf8 self.new.text ≡ utf8 self.old.text ++ encode_utf8 character) }
-        ensures room { OnOk result (sure_capacity self.old ≤ sure_capacity self.new) }
+        ensures room { OnOk result (infallible_capacity self.old ≤ infallible_capacity self.new) }
         ensures succeeds { HasRoomFor self.old (len_utf8 character) → IsOk result }
         ensures err { OnErr result
             ((self.new ≡ self.old) × IsTrue (push_str_asks self.old (character ∷ []))) }
@@ -80,7 +81,7 @@ impl<P: Policy> PolicyString<P> {
         ensures ok { IfOk result (λ v. push_str P.growth self (text_of text.now) ≡ Some v) }
         ensures text { IfOk result (λ v. v.text ≡ self.text ++ text_of text.now) }
         ensures bytes { IfOk result (λ v. utf8 v.text ≡ utf8 self.text ++ text.now) }
-        ensures room { IfOk result (λ v. sure_capacity self ≤ sure_capacity v) }
+        ensures room { IfOk result (λ v. infallible_capacity self ≤ infallible_capacity v) }
         ensures succeeds { HasRoomFor self (length text.now) → IsOk result }
         ensures err { IfErr result
             (λ e. (e.value ≡ self) × IsTrue (push_str_asks self (text_of text.now))) }
@@ -98,9 +99,9 @@ impl<P: Policy> PolicyString<P> {
     ///
     /// Of `"café"` it answers `'é'` and leaves `"caf"`.
     #[inline]
-    #[tactic(auto, using(compact_buffers::proofs::TextFacts::text_facts, crate::proofs::EditFacts::position_facts))]
+    #[tactic(auto, using(compact_text::proofs::TextFacts::text_facts, crate::proofs::EditFacts::position_facts))]
     pub fn pop(&mut self) -> Option<char>
-        ensures pops { Pops self.old result self.new }
+        ensures pops { PopsChar self.old result self.new }
         ensures text { MatchOption result (self.old.text ≡ [])
             (λ c. self.old.text ≡ self.new.text ++ c ∷ []) }
     {
@@ -119,7 +120,7 @@ impl<P: Policy> PolicyString<P> {
     ///
     /// Of `"café"` the first 3 bytes are `"caf"`.
     #[inline]
-    #[tactic(auto, using(compact_buffers::proofs::TextFacts::text_facts, crate::proofs::EditFacts::position_facts))]
+    #[tactic(auto, using(compact_text::proofs::TextFacts::text_facts, crate::proofs::EditFacts::position_facts))]
     pub fn truncate(&mut self, len: usize)
         requires { len < size self.old.text → IsBoundary self.old.text len }
         ensures value { self.new ≡ truncate self.old len }
@@ -154,11 +155,11 @@ impl<P: Policy> fmt::Write for PolicyString<P> {
     ///
     /// `fmt::Error` if `push_str` is refused; the value is then as it was. Generic code may have written some of its parts
     /// before the one that was refused, and `truncate` at the old length takes them off again.
-    #[tactic(auto, using(compact_buffers::proofs::TextFacts::text_facts, crate::proofs::EditFacts::append_facts))]
+    #[tactic(auto, using(compact_text::proofs::TextFacts::text_facts, crate::proofs::EditFacts::append_facts))]
     fn write_str(&mut self, text: &str) -> fmt::Result
         ensures ok { IsOk result → Writes P.growth self.old text.now self.new }
         ensures text { OnOk result (self.new.text ≡ self.old.text ++ text_of text.now) }
-        ensures room { OnOk result (sure_capacity self.old ≤ sure_capacity self.new) }
+        ensures room { OnOk result (infallible_capacity self.old ≤ infallible_capacity self.new) }
         ensures succeeds { HasRoomFor self.old (length text.now) → IsOk result }
         ensures err { OnErr result
             ((self.new ≡ self.old) × IsTrue (push_str_asks self.old (text_of text.now))) }

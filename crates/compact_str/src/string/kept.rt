@@ -3,7 +3,7 @@ ghost use Rattle.std.specs.Prelude.{◌≡◌, ◌≤◌, ℕ, Bool, Some, OnOk,
 ghost use Rattle.compact_repr.specs.Text.{size};
 ghost use Rattle.compact_repr.specs.Capacity.{owned_placement, make_owned_asks};
 ghost use Rattle.compact_repr.specs.Retain.{RetainsCharsTo};
-ghost use Rattle.compact_str.specs.RetainRules.{RetainsChars, SaysAlways};
+ghost use Rattle.compact_str.specs.RetainRules.{RetainsChars, AgreesWith};
 ghost use Rattle.compact_str.specs.Room.{IsOwned};
 
 use crate::string::PolicyString;
@@ -27,7 +27,7 @@ impl<P: Policy> PolicyString<P> {
     pub fn retain<F: FnMut(char) -> bool>(&mut self, mut keep: F) -> Result<(), ReserveError>
         requires { F.IsAlwaysCallable keep }
         ensures text { OnOk result (RetainsChars F.FnMut keep self.old.text self.new.text) }
-        ensures filter { (says : ℕ → Bool) → SaysAlways F.FnMut says
+        ensures filter { (says : ℕ → Bool) → AgreesWith F.FnMut says
             → OnOk result (self.new.text ≡ filter says self.old.text) }
         ensures placement { OnOk result
             (owned_placement P.growth self.old ≡ Some self.new.placement) }
@@ -49,7 +49,7 @@ impl<P: Policy> PolicyString<P> {
         requires { F.IsAlwaysCallable keep.old }
         ensures text { OnOk result
             (RetainsCharsTo F.FnMut keep.old self.old.text self.new.text keep.new) }
-        ensures filter { (says : ℕ → Bool) → SaysAlways F.FnMut says
+        ensures filter { (says : ℕ → Bool) → AgreesWith F.FnMut says
             → OnOk result (self.new.text ≡ filter says self.old.text) }
         ensures placement { OnOk result
             (owned_placement P.growth self.old ≡ Some self.new.placement) }

@@ -20,7 +20,7 @@ impl<P: Policy> PolicyString<P> {
     /// # Examples
     ///
     /// `"ABCÄ"` becomes `"abcÄ"`.
-    #[tactic(auto, using(compact_buffers::proofs::TextFacts::text_facts, crate::proofs::EditFacts::letter_facts))]
+    #[tactic(auto, using(compact_text::proofs::TextFacts::text_facts, crate::proofs::EditFacts::letter_facts))]
     pub fn make_ascii_lowercase(&mut self) -> Result<(), ReserveError>
         ensures ok { OnOk result (make_ascii_lowercase P.growth self.old ≡ Some self.new) }
         ensures text { OnOk result (self.new.text ≡ ascii_lowercase self.old.text) }
@@ -44,7 +44,7 @@ impl<P: Policy> PolicyString<P> {
     /// # Examples
     ///
     /// `"abcä"` becomes `"ABCä"`.
-    #[tactic(auto, using(compact_buffers::proofs::TextFacts::text_facts, crate::proofs::EditFacts::letter_facts))]
+    #[tactic(auto, using(compact_text::proofs::TextFacts::text_facts, crate::proofs::EditFacts::letter_facts))]
     pub fn make_ascii_uppercase(&mut self) -> Result<(), ReserveError>
         ensures ok { OnOk result (make_ascii_uppercase P.growth self.old ≡ Some self.new) }
         ensures text { OnOk result (self.new.text ≡ ascii_uppercase self.old.text) }
@@ -67,7 +67,7 @@ impl<P: Policy> PolicyString<P> {
     /// # Examples
     ///
     /// Of `"ABCÄ"` it is `"abcÄ"`.
-    #[tactic(auto, using(compact_buffers::proofs::TextFacts::text_facts, crate::proofs::EditFacts::letter_facts))]
+    #[tactic(auto, using(compact_text::proofs::TextFacts::text_facts, crate::proofs::EditFacts::letter_facts))]
     pub fn to_ascii_lowercase(&self) -> Result<Self, ReserveError>
         ensures ok { IfOk result (λ v. new P.growth (ascii_lowercase self.now.text) ≡ Some v) }
         ensures text { IfOk result (λ v. v.text ≡ ascii_lowercase self.now.text) }
@@ -88,7 +88,7 @@ impl<P: Policy> PolicyString<P> {
     /// # Examples
     ///
     /// Of `"abcä"` it is `"ABCä"`.
-    #[tactic(auto, using(compact_buffers::proofs::TextFacts::text_facts, crate::proofs::EditFacts::letter_facts))]
+    #[tactic(auto, using(compact_text::proofs::TextFacts::text_facts, crate::proofs::EditFacts::letter_facts))]
     pub fn to_ascii_uppercase(&self) -> Result<Self, ReserveError>
         ensures ok { IfOk result (λ v. new P.growth (ascii_uppercase self.now.text) ≡ Some v) }
         ensures text { IfOk result (λ v. v.text ≡ ascii_uppercase self.now.text) }

@@ -8,8 +8,8 @@ ghost use Rattle.compact_repr.specs.Packed.{IsPackedFor};
 ghost use Rattle.compact_repr.specs.Value.{placed_text, is_heap};
 ghost use Rattle.compact_repr.specs.Capacity.{inline_placement, heap_placement, with_capacity_asks, const_new_placement, from_string_placement};
 ghost use Rattle.compact_repr.specs.Change.{new};
-ghost use Rattle.compact_str.specs.Room.{IsRoomFor};
-ghost use Rattle.compact_str.specs.Conversions.{IsNewOf, TakesCow, IsFreeCow};
+ghost use Rattle.compact_str.specs.Room.{MakesEmpty};
+ghost use Rattle.compact_str.specs.Conversions.{CopiesText, TakesCow, IsFreeCow};
 
 use crate::refused::Refused;
 use crate::string::PolicyString;
@@ -45,7 +45,7 @@ impl<P: Policy> PolicyString<P> {
     /// `CompactString::new(alloc, "abc")?` is inline with capacity 24, and a text of 25 bytes has capacity 32.
     #[inline]
     pub fn new(alloc: Global, text: &str) -> Result<Self, ReserveError>
-        ensures { IsNewOf P.growth text.now result }
+        ensures { CopiesText P.growth text.now result }
     {
         match Repr::new(alloc, text) {
             Ok(repr) => Ok(PolicyString { repr }),
@@ -60,7 +60,7 @@ impl<P: Policy> PolicyString<P> {
     /// [`ReserveError`] as from `new`.
     #[inline]
     pub fn try_new(alloc: Global, text: &str) -> Result<Self, ReserveError>
-        ensures { IsNewOf P.growth text.now result }
+        ensures { CopiesText P.growth text.now result }
     {
         Self::new(alloc, text)
     }
@@ -72,7 +72,7 @@ impl<P: Policy> PolicyString<P> {
     /// [`ReserveError`] as from `new`.
     #[inline]
     pub fn from_str(alloc: Global, text: &str) -> Result<Self, ReserveError>
-        ensures { IsNewOf P.growth text.now result }
+        ensures { CopiesText P.growth text.now result }
     {
         Self::try_new(alloc, text)
     }
@@ -122,7 +122,7 @@ impl<P: Policy> PolicyString<P> {
     ///
     /// `CompactString::with_capacity(alloc, 30)?` has capacity 32, and no append up to that is refused.
     pub fn with_capacity(alloc: Global, capacity: usize) -> Result<Self, ReserveError>
-        ensures { IsRoomFor P.growth capacity result }
+        ensures { MakesEmpty P.growth capacity result }
     {
         match Repr::with_capacity(alloc, capacity) {
             Ok(repr) => Ok(PolicyString { repr }),
@@ -136,7 +136,7 @@ impl<P: Policy> PolicyString<P> {
     ///
     /// [`ReserveError`] as from `with_capacity`.
     pub fn try_with_capacity(alloc: Global, capacity: usize) -> Result<Self, ReserveError>
-        ensures { IsRoomFor P.growth capacity result }
+        ensures { MakesEmpty P.growth capacity result }
     {
         Self::with_capacity(alloc, capacity)
     }
@@ -166,7 +166,7 @@ impl<P: Policy> PolicyString<P> {
     /// # Examples
     ///
     /// `CowStr::Borrowed("abc")` gives `"abc"` inline.
-    #[tactic(auto, using(compact_buffers::proofs::TextFacts::text_facts, crate::proofs::EditFacts::string_facts))]
+    #[tactic(auto, using(compact_text::proofs::TextFacts::text_facts, crate::proofs::EditFacts::string_facts))]
     pub fn from_cow(alloc: Global, text: CowStr<'_>) -> Result<Self, ReserveError>
         ensures takes { TakesCow P.growth text.entry result }
         ensures text { IfOk result (λ v. v.text ≡ text_of (cow_str_bytes text.entry)) }

@@ -7,14 +7,15 @@ ghost use Rattle.compact_repr.specs.Text.{size, utf8, text_of};
 ghost use Rattle.compact_repr.specs.Cut.{IsCut, IsBoundary, text_before, text_after, substring, replaced_text};
 ghost use Rattle.compact_repr.specs.Value.{is_static};
 ghost use Rattle.compact_repr.specs.Capacity.{reserve_asks};
-ghost use Rattle.compact_str.specs.Room.{IsOwned, HasRoomFor, sure_capacity};
+ghost use Rattle.compact_str.specs.Room.{IsOwned, HasRoomFor, infallible_capacity};
 ghost use Rattle.compact_repr.specs.Change.{insert_str, replace_range, replace_range_asks};
-ghost use Rattle.compact_str.specs.PositionEdits.{LosesChar, SplitsOff, split_asks};
+ghost use Rattle.compact_str.specs.PositionEdits.{RemovesChar, SplitsOff, split_asks};
 ghost use Rattle.compact_str.specs.Ranges.{IsRange, range_start, range_end};
 ghost use Rattle.compact_str.specs.RangeTexts.{is_boundary};
 
 use crate::string::PolicyString;
-use compact_repr::{Policy, Repr, ReserveError, encode_char};
+use compact_repr::{Policy, Repr, ReserveError};
+use compact_text::str_parts::encode_char;
 use std::ops::Bound;
 
 impl<P: Policy> PolicyString<P> {
@@ -40,7 +41,7 @@ impl<P: Policy> PolicyString<P> {
     /// # Examples
     ///
     /// Of `"äb"` from `Excluded(1)` to `Excluded(3)` it answers 2 and 3.
-    #[tactic(auto, using(compact_buffers::proofs::TextFacts::text_facts, crate::proofs::EditFacts::position_facts))]
+    #[tactic(auto, using(compact_text::proofs::TextFacts::text_facts, crate::proofs::EditFacts::position_facts))]
     pub fn check_range(&self, start: Bound<usize>, end: Bound<usize>) -> Option<(usize, usize)>
         ensures { MatchOption result (¬ IsRange self.now.text start end)
             (λ range. IsRange self.now.text start end × (range.0 ≡ range_start start)
@@ -60,7 +61,7 @@ impl<P: Policy> PolicyString<P> {
     /// # Examples
     ///
     /// Of `"key=value"` from `Included(4)` to `Unbounded` it is `"value"`.
-    #[tactic(auto, using(compact_buffers::proofs::TextFacts::text_facts, crate::proofs::EditFacts::position_facts))]
+    #[tactic(auto, using(compact_text::proofs::TextFacts::text_facts, crate::proofs::EditFacts::position_facts))]
     pub fn range(&self, start: Bound<usize>, end: Bound<usize>) -> &str
         requires { IsRange self.now.text start end }
         ensures bytes { result.now
@@ -88,7 +89,7 @@ impl<P: Policy> PolicyString<P> {
     ///
     /// `"bc"` put into `"ad"` at 1 gives `"abcd"`.
     #[inline]
-    #[tactic(auto, using(compact_buffers::proofs::TextFacts::text_facts, crate::proofs::EditFacts::insertion_facts))]
+    #[tactic(auto, using(compact_text::proofs::TextFacts::text_facts, crate::proofs::EditFacts::insertion_facts))]
     pub fn insert_str(&mut self, index: usize, text: &str) -> Result<(), ReserveError>
         requires { IsBoundary self.old.text index }
         ensures ok { OnOk result
@@ -100,17 +101,17 @@ impl<P: Policy> PolicyString<P> {
         ensures place { OnOk result (IsBoundary self.new.text index) }
         ensures behind { OnOk result (IsBoundary self.new.text (index + length text.now)) }
         ensures behind_fits { OnOk result (index + length text.now < 2 ^ 64) }
-        ensures room { OnOk result (sure_capacity self.old ≤ sure_capacity self.new) }
+        ensures room { OnOk result (infallible_capacity self.old ≤ infallible_capacity self.new) }
         ensures succeeds { HasRoomFor self.old (length text.now) → IsOk result }
         ensures err { OnErr result
             ((self.new ≡ self.old) × IsTrue (reserve_asks self.old (size (text_of text.now)))) }
     {
         // The proof reads from it that the text is short of 2^63 bytes.
         let _len = self.repr.len();
-        if self.repr.replace_in_place(index, index, text) {
+        if self.repr.try_replace_range(index, index, text) {
             return Ok(());
         }
-        self.repr.insert_with_more_room(index, text)
+        self.repr.insert_str_slow(index, text)
     }
 
     /// Puts a character in at the boundary `index`, in bytes, as `insert_str` puts its text in. A cursor goes on by
@@ -135,14 +136,14 @@ impl<P: Policy> PolicyString<P> {
         ensures place { OnOk result (IsBoundary self.new.text index) }
         ensures behind { OnOk result (IsBoundary self.new.text (index + len_utf8 character)) }
         ensures behind_fits { OnOk result (index + len_utf8 character < 2 ^ 64) }
-        ensures room { OnOk result (sure_capacity self.old ≤ sure_capacity self.new) }
+        ensures room { OnOk result (infallible_capacity self.old ≤ infallible_capacity self.new) }
         ensures succeeds { HasRoomFor self.old (len_utf8 character) → IsOk result }
         ensures err { OnErr result
             ((self.new ≡ self.old) × IsTrue (reserve_asks self.old (len_utf8 character))) }
     {
         // The proof reads from it that the text is short of 2^63 bytes.
         let _len = self.repr.len();
-        if character.is_ascii() && self.repr.insert_ascii_in_place(index, character as u8) {
+        if character.is_ascii() && self.repr.try_insert_ascii(index, character as u8) {
             return Ok(());
         }
         let mut bytes = [0; 4];
@@ -160,15 +161,15 @@ impl<P: Policy> PolicyString<P> {
     ///
     /// Of `"aéb"` at 1 it answers `'é'` and leaves `"ab"`.
     #[inline]
-    #[tactic(auto, using(compact_buffers::proofs::TextFacts::text_facts, crate::proofs::EditFacts::position_facts))]
+    #[tactic(auto, using(compact_text::proofs::TextFacts::text_facts, crate::proofs::EditFacts::position_facts))]
     pub fn remove(&mut self, index: usize) -> Result<char, ReserveError>
         requires boundary { IsBoundary self.old.text index }
         requires within { index < size self.old.text }
-        ensures { LosesChar P.growth self.old index result self.new }
+        ensures { RemovesChar P.growth self.old index result self.new }
     {
         if let Some(character) = self.repr.ascii_at(index) {
             // The compiler knows that it is; the proof reads it here.
-            if character.is_ascii() && self.repr.remove_ascii_in_place(index) {
+            if character.is_ascii() && self.repr.try_remove_ascii(index) {
                 return Ok(character);
             }
         }
@@ -177,11 +178,11 @@ impl<P: Policy> PolicyString<P> {
 
     /// `remove` of any character, in any place.
     #[inline(never)]
-    #[tactic(auto, using(compact_buffers::proofs::TextFacts::text_facts, crate::proofs::EditFacts::position_facts))]
+    #[tactic(auto, using(compact_text::proofs::TextFacts::text_facts, crate::proofs::EditFacts::position_facts))]
     fn remove_char(&mut self, index: usize) -> Result<char, ReserveError>
         requires boundary { IsBoundary self.old.text index }
         requires within { index < size self.old.text }
-        ensures { LosesChar P.growth self.old index result self.new }
+        ensures { RemovesChar P.growth self.old index result self.new }
     {
         let len = self.repr.len();
         // The position is in the text, so that what follows the character is too.
@@ -202,7 +203,7 @@ impl<P: Policy> PolicyString<P> {
     /// # Examples
     ///
     /// `"abc"` from `Included(1)` to `Excluded(2)` replaced by `"xy"` gives `"axyc"`.
-    #[tactic(auto, using(compact_buffers::proofs::TextFacts::text_facts, crate::proofs::EditFacts::replacement_facts))]
+    #[tactic(auto, using(compact_text::proofs::TextFacts::text_facts, crate::proofs::EditFacts::replacement_facts))]
     pub fn replace_range(
         &mut self,
         start: Bound<usize>,
@@ -228,10 +229,10 @@ impl<P: Policy> PolicyString<P> {
         let Some((first, last)) = byte_range(start, end, self.len()) else {
             unreachable!();
         };
-        if self.repr.replace_in_place(first, last, text) {
+        if self.repr.try_replace_range(first, last, text) {
             return Ok(());
         }
-        self.repr.replace_once_owned(first, last, text)
+        self.repr.replace_slow(first, last, text)
     }
 
     /// Splits the text at the boundary `index`, in bytes: keeps what stands before it, in its place, and answers the
@@ -245,7 +246,7 @@ impl<P: Policy> PolicyString<P> {
     /// # Examples
     ///
     /// `"key=value"` at 4 keeps `"key="` and answers `"value"`.
-    #[tactic(auto, using(compact_buffers::proofs::TextFacts::text_facts, crate::proofs::EditFacts::position_facts))]
+    #[tactic(auto, using(compact_text::proofs::TextFacts::text_facts, crate::proofs::EditFacts::position_facts))]
     pub fn split_off(&mut self, index: usize) -> Result<Self, ReserveError>
         requires { IsBoundary self.old.text index }
         ensures ok { IfOk result (λ tail. SplitsOff P.growth self.old index tail self.new) }

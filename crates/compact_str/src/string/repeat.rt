@@ -18,7 +18,7 @@ impl<P: Policy> PolicyString<P> {
     /// # Examples
     ///
     /// `"abc"` three times is `"abcabcabc"`.
-    #[tactic(auto, using(compact_buffers::proofs::TextFacts::text_facts, crate::proofs::EditFacts::repeat_facts))]
+    #[tactic(auto, using(compact_text::proofs::TextFacts::text_facts, crate::proofs::EditFacts::repeat_facts))]
     pub fn repeat(&self, count: usize) -> Result<Self, ReserveError>
         ensures ok { IfOk result (λ v. repeat P.growth self.now count ≡ Some v) }
         ensures text { IfOk result (λ v. v.text ≡ repeated_text count self.now.text) }

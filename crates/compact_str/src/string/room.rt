@@ -70,7 +70,7 @@ impl<P: Policy> PolicyString<P> {
     ///
     /// [`ReserveError`] if the value is static and the copy of its text is refused.
     #[inline(always)]
-    #[tactic(auto, using(compact_buffers::proofs::TextFacts::text_facts, crate::proofs::Drains::owned_facts))]
+    #[tactic(auto, using(compact_text::proofs::TextFacts::text_facts, crate::proofs::Drains::owned_facts))]
     pub(crate) fn make_owned(&mut self) -> Result<(), ReserveError>
         ensures ok { OnOk result (make_owned P.growth self.old ≡ Some self.new) }
         ensures text { self.new.text ≡ self.old.text }

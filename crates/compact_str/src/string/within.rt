@@ -6,7 +6,7 @@ ghost use Rattle.compact_repr.specs.Text.{size, utf8, text_of};
 ghost use Rattle.compact_repr.specs.Cut.{substring, replaced_text};
 ghost use Rattle.compact_repr.specs.Capacity.{make_owned_asks};
 ghost use Rattle.compact_repr.specs.Change.{push_str, push_str_asks, replace_range, replace_range_asks};
-ghost use Rattle.compact_str.specs.Room.{IsOwned, HasRoomFor, sure_capacity};
+ghost use Rattle.compact_str.specs.Room.{IsOwned, HasRoomFor, infallible_capacity};
 ghost use Rattle.compact_str.specs.Ranges.{IsRange, range_start, range_end};
 
 use crate::string::PolicyString;
@@ -123,7 +123,7 @@ impl<P: Policy> PolicyString<P> {
     /// # Examples
     ///
     /// `"abc"` with `1..` gives `"abcbc"`.
-    #[tactic(auto, using(compact_buffers::proofs::TextFacts::text_facts, crate::proofs::Within::within_facts))]
+    #[tactic(auto, using(compact_text::proofs::TextFacts::text_facts, crate::proofs::Within::within_facts))]
     pub fn extend_from_within<R: RangeBounds<usize>>(
         &mut self,
         range: R,
@@ -140,7 +140,7 @@ impl<P: Policy> PolicyString<P> {
         ensures bytes { OnOk result
             (utf8 self.new.text ≡ utf8 self.old.text ++ utf8 (substring self.old.text
             (range_start (R.start_bound range)) (range_end self.old.text (R.end_bound range)))) }
-        ensures room { OnOk result (sure_capacity self.old ≤ sure_capacity self.new) }
+        ensures room { OnOk result (infallible_capacity self.old ≤ infallible_capacity self.new) }
         ensures succeeds { HasRoomFor self.old
             (range_end self.old.text (R.end_bound range) - range_start (R.start_bound range))
             → IsOk result }

@@ -4,7 +4,7 @@ ghost use Rattle.std.specs.Fmt.{AppendsText, with_newline};
 ghost use Rattle.compact_repr.specs.Text.{text_of, utf8};
 ghost use Rattle.compact_repr.specs.Change.{push_str};
 
-use crate::gather::Gathered;
+use crate::builder::Builder;
 use crate::string::PolicyString;
 use compact_repr::{Policy, ReserveError};
 use std::fmt;
@@ -33,7 +33,7 @@ impl<P: Policy> PolicyString<P> {
             (AppendsText (utf8 self.old.text) (utf8 self.new.text) (D.output value)) }
         ensures err { OnErr result (self.new ≡ self.old) }
     {
-        let mut shown = Gathered::new(self.allocator());
+        let mut shown = Builder::new(self.allocator());
         match shown.write(value) {
             Ok(()) => shown.push_onto(self),
             Err(fmt::Error) => Err(ReserveError),
@@ -81,7 +81,7 @@ impl<P: Policy> PolicyString<P> {
             (with_newline (D.output value))) }
         ensures err { OnErr result (self.new ≡ self.old) }
     {
-        let mut shown = Gathered::new(self.allocator());
+        let mut shown = Builder::new(self.allocator());
         match shown.writeln(value) {
             Ok(()) => shown.push_onto(self),
             Err(fmt::Error) => Err(ReserveError),

@@ -2,7 +2,7 @@ use Rattle.std.proofs.Common.{◌≡◌, ◌+◌, ◌<◌, ◌≤◌, false, rul
 use Rattle.compact_repr.specs.Text.{size, text_of}
 use Rattle.compact_repr.specs.Value.{is_heap}
 use Rattle.std.proofs.lemmas.Result.{on_ok_weaker}
-use Rattle.compact_buffers.proofs.Texts.{size-text_of}
+use Rattle.compact_text.proofs.Texts.{size-text_of}
 use Rattle.compact_str.proofs.Fitted.{fitted-push_str}
 use Rattle.compact_str.proofs.FittedTexts.{reserve-fitted}
 use Rattle.compact_str.proofs.decode.push_fitted.Goals as goal

@@ -7,14 +7,15 @@ ghost use Rattle.compact_str.specs.RangeTexts.{is_range, range_text, IsAsciiRang
 
 use crate::string::PolicyString;
 use crate::string::position::is_boundary;
-use compact_repr::{Policy, first_char, substring};
+use compact_repr::Policy;
+use compact_text::str_parts::{first_char, substring};
 
 /// The most bytes of a range that are looked at ahead.
 const MAX_LOOKED_AT: usize = 1024;
 
 /// What stands in `text` from one position to another, in bytes; nothing where these begin and end no range.
 #[inline(always)]
-#[tactic(auto, using(compact_buffers::proofs::TextFacts::text_facts, crate::proofs::Drains::part_facts))]
+#[tactic(auto, using(compact_text::proofs::TextFacts::text_facts, crate::proofs::Drains::part_facts))]
 pub fn range_text(text: &str, start: usize, end: usize) -> &str
     ensures text { text_of result.now ≡ range_text (text_of text.now) start end }
     ensures len { length result.now ≡ size (range_text (text_of text.now) start end) }
@@ -46,10 +47,10 @@ pub fn first_of_ascii(text: &str) -> Option<char>
     Some(char::from(text.as_bytes()[0]))
 }
 
-/// Where a character ends that begins at `start`, in bytes, by what `first_code_and_width` answers of it.
+/// Where a character ends that begins at `start`, in bytes, by what `first_char_packed` answers of it.
 #[cold]
 #[inline(never)]
-pub fn end_by_width(start: usize, word: u64) -> usize
+pub fn position_after(start: usize, word: u64) -> usize
     requires { start + word % 2 ^ 32 < 2 ^ 64 }
     ensures { result ≡ start + word % 2 ^ 32 }
 {
@@ -59,7 +60,7 @@ pub fn end_by_width(start: usize, word: u64) -> usize
 impl<P: Policy> PolicyString<P> {
     /// The text of a heap value; `None` of any other.
     #[inline(always)]
-    #[tactic(auto, using(compact_buffers::proofs::TextFacts::text_facts))]
+    #[tactic(auto, using(compact_text::proofs::TextFacts::text_facts))]
     pub(crate) fn heap_str(&self) -> Option<&str>
         ensures text { IfSome result (λ s. text_of s.now ≡ self.now.text) }
         ensures len { IfSome result (λ s. length s.now ≡ size self.now.text) }
@@ -70,8 +71,8 @@ impl<P: Policy> PolicyString<P> {
     /// Whether a range is known to be ASCII. It answers `false` of a value that is not on the heap, and of a range so long that a
     /// drain from which no character is taken should not wait for the answer.
     #[inline(never)]
-    #[tactic(auto, using(compact_buffers::proofs::TextFacts::text_facts, crate::proofs::Drains::part_facts))]
-    pub(crate) fn is_known_ascii(&self, start: usize, end: usize) -> bool
+    #[tactic(auto, using(compact_text::proofs::TextFacts::text_facts, crate::proofs::Drains::part_facts))]
+    pub(crate) fn is_short_ascii_range(&self, start: usize, end: usize) -> bool
         requires { is_range self.now.text start end ≡ true }
         ensures { IsTrue result → IsAsciiRange self.now.text start end }
     {
@@ -88,7 +89,7 @@ impl<P: Policy> PolicyString<P> {
     /// look at where the text stands.
     #[cold]
     #[inline(never)]
-    #[tactic(auto, using(compact_buffers::proofs::TextFacts::text_facts))]
+    #[tactic(auto, using(compact_text::proofs::TextFacts::text_facts))]
     pub(crate) fn cold_range_text(&self, start: usize, end: usize) -> &str
         ensures text { text_of result.now ≡ range_text self.now.text start end }
         ensures len { length result.now ≡ size (range_text self.now.text start end) }
@@ -98,11 +99,11 @@ impl<P: Policy> PolicyString<P> {
 
     /// The first character of what stands from one position to another, for where it is seldom asked: its code in the upper
     /// half of a word, and how many bytes it takes in the lower one. It stays out of its caller's loop, and so does
-    /// `end_by_width`; neither writes, so what the loop has read it need not read again. And of the upper half of a word the
+    /// `position_after`; neither writes, so what the loop has read it need not read again. And of the upper half of a word the
     /// compiler knows that it fits in 32 bits, so a loop that widens its characters need not widen each of them anew.
     #[cold]
     #[inline(never)]
-    pub(crate) fn first_code_and_width(&self, start: usize, end: usize) -> Option<u64>
+    pub(crate) fn first_char_packed(&self, start: usize, end: usize) -> Option<u64>
         ensures { MatchOption result (range_text self.now.text start end ≡ [])
             (λ w. (c : ℕ) × (rest : List ℕ) × (w ≡ c * 2 ^ 32 + len_utf8 c) × InScalarRange c
             × (range_text self.now.text start end ≡ c ∷ rest)) }
@@ -118,14 +119,14 @@ impl<P: Policy> PolicyString<P> {
     /// Takes out what stands from one position to another, in bytes of the value's own. If the text has `whole` bytes these
     /// are known to begin and end a range; else it is looked at, and where they do not, nothing changes.
     #[inline]
-    #[tactic(auto, using(compact_buffers::proofs::TextFacts::text_facts, crate::proofs::Drains::part_facts))]
+    #[tactic(auto, using(compact_text::proofs::TextFacts::text_facts, crate::proofs::Drains::part_facts))]
     pub(crate) fn remove_range(&mut self, start: usize, end: usize, whole: usize)
         requires owned { is_static self.old.placement.place ≡ false }
         requires range { size self.old.text ≡ whole → is_range self.old.text start end ≡ true }
         ensures { self.new ≡ without_range self.old start end }
     {
         if self.len() == whole {
-            self.repr.cut_out_in_place(start, end);
+            self.repr.try_cut_out(start, end);
         } else {
             self.remove_checked_range(start, end);
         }
@@ -134,12 +135,12 @@ impl<P: Policy> PolicyString<P> {
     /// As `remove_range`, for what is not expected: it stays out of a drain's drop.
     #[cold]
     #[inline(never)]
-    #[tactic(auto, using(compact_buffers::proofs::TextFacts::text_facts, crate::proofs::Drains::part_facts))]
+    #[tactic(auto, using(compact_text::proofs::TextFacts::text_facts, crate::proofs::Drains::part_facts))]
     fn remove_checked_range(&mut self, start: usize, end: usize)
         ensures { self.new ≡ without_range self.old start end }
     {
         if is_range(self.as_str(), start, end) {
-            self.repr.cut_out_in_place(start, end);
+            self.repr.try_cut_out(start, end);
         }
     }
 }

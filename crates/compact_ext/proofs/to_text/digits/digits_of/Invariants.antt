@@ -1,7 +1,7 @@
 use Rattle.std.proofs.Common.{◌≡◌}
 use Rattle.std.specs.Fmt.{decimal}
 use Rattle.compact_ext.specs.Digits.{number_behind}
-use Rattle.compact_repr.specs.Words.{le_number}
+use Rattle.compact_text.specs.WordBytes.{le_number}
 use Rattle.compact_ext.proofs.to_text.digits.digits_of.Given as goal
 
 -- behind what is left of the number the text so far is the whole

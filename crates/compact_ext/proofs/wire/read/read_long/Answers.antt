@@ -4,7 +4,7 @@ use Rattle.std.specs.Str.{IsUtf8}
 use Rattle.std.specs.Io.KnownBytes.{Consumes}
 use Rattle.compact_str.specs.Text.{text_of}
 use Rattle.compact_str.specs.Value.{PlacedText}
-use Rattle.compact_buffers.proofs.Texts.{length-utf8}
+use Rattle.compact_text.proofs.Texts.{length-utf8}
 use Rattle.compact_ext.proofs.WireForms.{text-fails, made-text, made-utf8}
 use Rattle.compact_ext.proofs.wire.read.read_long.Goals as goal
 

@@ -5,7 +5,7 @@ use Rattle.std.specs.Vec.{vec_capacity}
 use Rattle.compact_str.specs.Text.{size, text_of, utf8}
 use Rattle.compact_str.specs.Value.{PlacedText}
 use Rattle.compact_str.specs.Capacity.{from_string_placement}
-use Rattle.compact_buffers.proofs.Texts.{length-utf8}
+use Rattle.compact_text.proofs.Texts.{length-utf8}
 use Rattle.compact_ext.proofs.WireForms.{made-text, made-utf8}
 use Rattle.compact_ext.proofs.wire.records.copy_of.Goals as goal
 

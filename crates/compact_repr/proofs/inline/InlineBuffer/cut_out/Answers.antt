@@ -1,5 +1,5 @@
 use Rattle.std.proofs.Common.{◌∙◌, arith}
-use Rattle.compact_buffers.proofs.Cuts.{text_of-cut_out, utf8-cut_out, boundary-within}
+use Rattle.compact_text.proofs.Cuts.{text_of-cut_out, utf8-cut_out, boundary-within}
 use Rattle.compact_repr.proofs.PackedTexts.{packed-text, packed-most, packed-again}
 use Rattle.compact_repr.proofs.PackedEdits.{utf8-seen, len-fits, len-seen}
 use Rattle.compact_repr.proofs.inline.InlineBuffer.cut_out.Goals as goal

@@ -1,5 +1,5 @@
 use Rattle.std.proofs.Common.{◌∙◌, arith}
-use Rattle.compact_buffers.proofs.Letters.{utf8-uppercase, text_of-uppercase}
+use Rattle.compact_text.proofs.Letters.{utf8-uppercase, text_of-uppercase}
 use Rattle.compact_repr.proofs.PackedTexts.{packed-text, packed-again, packed-most}
 use Rattle.compact_repr.proofs.PackedEdits.{utf8-seen, len-fits}
 use Rattle.compact_repr.proofs.inline.InlineBuffer.make_ascii_uppercase.Goals as goal

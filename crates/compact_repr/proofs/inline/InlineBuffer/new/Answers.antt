@@ -1,5 +1,5 @@
 use Rattle.std.proofs.Common.{◌≡◌, length, ap, ◌∙◌, arith}
-use Rattle.compact_buffers.specs.Text.{text_of}
+use Rattle.compact_text.specs.Text.{text_of}
 use Rattle.compact_repr.proofs.PackedTexts.{stands-packed, packed-again, packed-text}
 use Rattle.compact_repr.proofs.inline.InlineBuffer.new.Goals as goal
 

@@ -1,13 +1,13 @@
 use Rattle.std.proofs.Common.{◌∙◌, arith}
-use Rattle.compact_buffers.proofs.Cuts.{boundary-within}
-use Rattle.compact_buffers.proofs.Ascii.{ascii-removed, utf8-ascii-removed}
-use Rattle.compact_buffers.proofs.SplicedSlices.{word-byte-out}
+use Rattle.compact_text.proofs.Cuts.{boundary-within}
+use Rattle.compact_text.proofs.Ascii.{ascii-removed, utf8-ascii-removed}
+use Rattle.compact_text.proofs.SplicedSlices.{word-byte-out}
 use Rattle.compact_repr.proofs.PackedTexts.{packed-text, packed-most, packed-again}
 use Rattle.compact_repr.proofs.PackedEdits.{len-seen, len-fits, utf8-seen}
 use Rattle.compact_repr.proofs.inline.InlineBuffer.remove_ascii.Goals as goal
 
-pub with_short_len-self-inside-requires-clause-text : goal.with_short_len-self-inside-requires-clause-text
-with_short_len-self-inside-requires-clause-text c =
+pub with_len_below_24-self-inside-requires-clause-text : goal.with_len_below_24-self-inside-requires-clause-text
+with_len_below_24-self-inside-requires-clause-text c =
     let stands = len-seen _ c.self.view_is c.self.invariant in
     let most = len-fits _ c.self.view_is c.self.invariant in
     let within = boundary-within _ _ c.requires.next in
@@ -16,7 +16,7 @@ with_short_len-self-inside-requires-clause-text c =
     rw (bytes, e) (utf8-ascii-removed _ c.args.index c.self.view_is (utf8-seen _ c.self.invariant) c.requires.boundary c.requires.next)
 
 pub invariant_of-self : goal.invariant_of-self
-invariant_of-self c = packed-again _ _ c.with_short_len-self-inside.ensures
+invariant_of-self c = packed-again _ _ c.with_len_below_24-self-inside.ensures
 
 pub returns-clause-removed : goal.returns-clause-removed
 returns-clause-removed c =
@@ -25,7 +25,7 @@ returns-clause-removed c =
     let within = boundary-within _ _ c.requires.next in
     let e = c.length_of-len.ensures in
     let bytes = word-byte-out c.self.inside.bytes c.remove_byte-array.result c.length_of-len.result c.args.index (omega (arith, stands, within, e)) (omega (arith, most, e)) c.self.told c.remove_byte-array.ensures in
-    packed-text _ _ c.with_short_len-self-inside.ensures
+    packed-text _ _ c.with_len_below_24-self-inside.ensures
     ∙ rw (bytes, e) (ascii-removed _ c.args.index c.self.view_is (utf8-seen _ c.self.invariant) c.requires.boundary c.requires.next)
 
 pub length_of-len-requires : goal.length_of-len-requires
@@ -38,8 +38,8 @@ remove_byte-array-requires c =
     let within = boundary-within _ _ c.requires.next in
     omega (arith, most, stands, within)
 
-pub with_short_len-self-inside-requires-clause-short : goal.with_short_len-self-inside-requires-clause-short
-with_short_len-self-inside-requires-clause-short c =
+pub with_len_below_24-self-inside-requires-clause-short : goal.with_len_below_24-self-inside-requires-clause-short
+with_len_below_24-self-inside-requires-clause-short c =
     let most = len-fits _ c.self.view_is c.self.invariant in
     let stands = len-seen _ c.self.view_is c.self.invariant in
     let within = boundary-within _ _ c.requires.next in
@@ -54,4 +54,4 @@ overflow_sub-len c =
     omega (arith, stands, within, e)
 
 pub returns-clause-within : goal.returns-clause-within
-returns-clause-within c = rw (packed-text _ _ c.with_short_len-self-inside.ensures) (packed-most _ _ c.with_short_len-self-inside.ensures)
+returns-clause-within c = rw (packed-text _ _ c.with_len_below_24-self-inside.ensures) (packed-most _ _ c.with_len_below_24-self-inside.ensures)

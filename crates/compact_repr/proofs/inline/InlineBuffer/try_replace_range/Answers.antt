@@ -1,7 +1,7 @@
 -- The first bytes spell the text, and so a part of the bytes is replaced where that part of the text is.
 use Rattle.std.proofs.Common.{◌∙◌, refl, sym, arith, rules}
 use Rattle.std.proofs.lemmas.Bool.{false≢true}
-use Rattle.compact_buffers.proofs.Cuts.{text_of-replaced, utf8-replaced, boundary-within}
+use Rattle.compact_text.proofs.Cuts.{text_of-replaced, utf8-replaced, boundary-within}
 use Rattle.compact_repr.proofs.PackedTexts.{packed-text, packed-most, packed-again}
 use Rattle.compact_repr.proofs.PackedEdits.{utf8-seen, len-fits, len-seen}
 use Rattle.compact_repr.proofs.inline.InlineBuffer.try_replace_range.Goals as goal

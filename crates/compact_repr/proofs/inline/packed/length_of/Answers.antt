@@ -6,7 +6,7 @@ use Rattle.compact_repr.proofs.inline.packed.length_of.Goals as goal
 pub returns-else-len-lt-INLINE_CAPACITY : goal.returns-else-len-lt-INLINE_CAPACITY
 returns-else-len-lt-INLINE_CAPACITY c =
     let bytes = c.args.bytes.now in
-    let read = c.end_byte-len.ensures in
+    let read = c.last_byte-len.ensures in
     let over = c.if-len-lt-INLINE_CAPACITY.false in
     let most = c.requires in
     ⊎_elim

@@ -1,8 +1,8 @@
 use Rattle.std.proofs.Common.{◌<◌, refl, ◌∙◌, arith}
 use Rattle.std.proofs.lemmas.Bool.{cond-false, lt-leb}
 use Rattle.std.specs.Prelude.{string_bytes}
-use Rattle.compact_buffers.specs.Text.{size, text_of}
-use Rattle.compact_buffers.proofs.Strings.{size-string}
+use Rattle.compact_text.specs.Text.{size, text_of}
+use Rattle.compact_repr.proofs.Strings.{size-string}
 use Rattle.compact_repr.proofs.repr.Repr.from_string.Goals as goal
 
 pub returns : goal.returns

@@ -1,7 +1,7 @@
 use Rattle.std.proofs.Common.{◌≡◌, refl, sym, ◌∙◌}
 use Rattle.std.proofs.lemmas.Str.{chars-nil}
 use Rattle.std.specs.String.{string_capacity}
-use Rattle.compact_buffers.proofs.Strings.{no_buffer}
+use Rattle.compact_repr.proofs.Strings.{no_buffer}
 use Rattle.compact_repr.proofs.repr.Repr.from_string_buffer.Goals as goal
 
 pub returns-then-capacity-eq0 : goal.returns-then-capacity-eq0

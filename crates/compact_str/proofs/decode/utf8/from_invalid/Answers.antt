@@ -1,7 +1,7 @@
 use Rattle.std.proofs.Common.{rules, ◌≡◌, ℕ, List, ◌+◌, ◌++◌, length, ◌<◌, IsTrue, refl, ap, sym, ◌∙◌, append_assoc, append-nil}
 use Rattle.compact_repr.specs.Text.{size, text_of}
 use Rattle.compact_repr.specs.Capacity.{with_capacity_asks}
-use Rattle.compact_buffers.proofs.Texts.{size-text_of}
+use Rattle.compact_text.proofs.Texts.{size-text_of}
 use Rattle.compact_codec.specs.Utf8Text.{utf8_lossy_text, replacement_text}
 use Rattle.compact_codec.proofs.LossyReading.{utf8_lossy_text-empty, replacement_text-none, replacement_text-some}
 use Rattle.compact_str.proofs.Fitted.{fitted-empty}

@@ -1,13 +1,13 @@
 use Rattle.std.proofs.Common.{◌≡◌, ◌+◌, ◌++◌, length}
 use Rattle.compact_repr.specs.Text.{text_of}
 use Rattle.compact_codec.specs.Utf8Text.{utf8_lossy_text, replacement_text}
-use Rattle.compact_str.specs.FittedValues.{IsFitted}
+use Rattle.compact_str.specs.FittedValues.{IsPlacedBySize}
 use Rattle.compact_str.proofs.decode.utf8.from_invalid.Given as goal
 
 -- what was made and the text of what is left are the whole
 abbrev pub invariant-loop-made : goal.invariant-loop-made
 invariant-loop-made l = record {
-  fitted : IsFitted l.made;
+  fitted : IsPlacedBySize l.made;
   text : l.made.text ++ (text_of l.chunk.valid.now ++ (replacement_text l.chunk.invalid.now ++ utf8_lossy_text l.chunk.rest.now))
       ≡ utf8_lossy_text l.bytes;
   whole : length l.chunk.invalid.now ≡ 0 → length l.chunk.rest.now ≡ 0;

@@ -2,7 +2,7 @@ use Rattle.std.proofs.lemmas.Str.{IsUtf8-string_bytes}
 use Rattle.std.specs.Prelude.{string_bytes}
 use Rattle.std.specs.String.{string_capacity}
 use Rattle.compact_repr.specs.Text.{text_of}
-use Rattle.compact_buffers.proofs.Texts.{size-text_of}
+use Rattle.compact_text.proofs.Texts.{size-text_of}
 use Rattle.compact_str.proofs.Collecting.{strings-ran, strings-succeed}
 use Rattle.compact_str.proofs.iter.append.append_all.Goals as goal
 

@@ -16,12 +16,12 @@ returns-in_err-push_str-clause-err g c =
     c.in_err-push_str.ensures.err
     )
 
-pub returns-in_err-push_parted-clause-err : goal.returns-in_err-push_parted-clause-err
-returns-in_err-push_parted-clause-err g c =
-    on_err c.from_residual-in_err-push_parted.result (
+pub returns-in_err-push_separated-clause-err : goal.returns-in_err-push_separated-clause-err
+returns-in_err-push_separated-clause-err g c =
+    on_err c.from_residual-in_err-push_separated.result (
     join-piece g.I.Iterator.next_gives g.T.AsText.spells _ c.args.separator.now c.loop-piece.yielded c.in-Some-piece.piece c.text-in-loop-piece.result.now c.in-Some.ensures.steps
     c.into_iter-piece-iterator.ensures.into_iter_gives c.loop-piece.yielded_by c.in-Some-piece.ensures.steps c.loop-piece.invariant c.utf8.separator
-    c.text-in-loop-piece.ensures c.text-in-loop-piece.utf8 c.in_err-push_parted.ensures.err
+    c.text-in-loop-piece.ensures c.text-in-loop-piece.utf8 c.in_err-push_separated.ensures.err
     )
 
 pub returns-clause-ok : goal.returns-clause-ok
@@ -44,7 +44,7 @@ returns-clause-err g c =
 pub loop-piece-preserved : goal.loop-piece-preserved
 loop-piece-preserved g c =
     join-turn g.T.AsText.spells (text_of c.args.separator.now) c.in-Some.first c.loop-piece.yielded c.in-Some-piece.piece c.loop-piece.invariant c.text-in-loop-piece.ensures
-    c.in_ok-push_parted.ensures.ok
+    c.in_ok-push_separated.ensures.ok
 
 pub loop-piece-init : goal.loop-piece-init
 loop-piece-init g c =
@@ -67,5 +67,5 @@ returns-in_default-clause-fitted g c = c.finish.ensures.fitted
 pub returns-clause-fitted : goal.returns-clause-fitted
 returns-clause-fitted g c = c.finish-2.ensures.fitted
 
-pub push_parted-requires : goal.push_parted-requires
-push_parted-requires g c = record { same = c.new-padded.ensures.text }
+pub push_separated-requires : goal.push_separated-requires
+push_separated-requires g c = record { same = c.new-padded.ensures.text }

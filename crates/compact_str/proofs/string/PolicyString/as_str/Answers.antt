@@ -1,7 +1,7 @@
 -- Where the bytes may be cut, the text may.
 use Rattle.std.proofs.Common.{ap, ◌∙◌}
 use Rattle.compact_repr.specs.Value.{PlacedText}
-use Rattle.compact_buffers.proofs.Cuts.{boundary-text}
+use Rattle.compact_text.proofs.Cuts.{boundary-text}
 use Rattle.compact_str.proofs.string.PolicyString.as_str.Goals as goal
 
 pub returns-clause-boundaries : goal.returns-clause-boundaries

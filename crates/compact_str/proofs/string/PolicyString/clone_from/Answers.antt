@@ -8,7 +8,7 @@ use Rattle.compact_repr.specs.Text.{size}
 use Rattle.compact_repr.specs.Value.{PlacedText, is_heap, is_static}
 use Rattle.compact_repr.specs.Capacity.{Growth, clone_asks}
 use Rattle.compact_repr.specs.Change.{push_str, clear, clone}
-use Rattle.compact_str.specs.Room.{sure_capacity, HasRoomFor}
+use Rattle.compact_str.specs.Room.{infallible_capacity, HasRoomFor}
 use Rattle.compact_str.specs.Clones.{clone_from, clone_from_asks}
 use Rattle.compact_str.proofs.string.PolicyString.clone_from.Goals as goal
 use Rattle.compact_str.proofs.string.PolicyString.clone_from.Goals.{then-is_none, else-is_none, then-len-eq0, else-len-eq0}
@@ -75,7 +75,7 @@ copy-asks : (v s : PlacedText) (len : ℕ) → len ≡ size s.text → stays_for
 copy-asks v s len is stays asks = grind (arith, common_steps)
 
 copy-long : (v s : PlacedText) (len : ℕ) → len ≡ size s.text → stays_for v len ≡ false → IsTrue (clone_asks s)
-    → size s.text ≤ sure_capacity v → ⊥
+    → size s.text ≤ infallible_capacity v → ⊥
 copy-long v s len is stays asks room = grind (arith, common_steps)
 
 copy-some : (s : PlacedText) (len : ℕ) → len ≡ size s.text → IsTrue (clone_asks s) → len ≢ 0

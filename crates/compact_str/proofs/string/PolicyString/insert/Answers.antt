@@ -8,11 +8,11 @@ use Rattle.compact_repr.specs.Capacity.{fits_in_place, reserve_asks}
 use Rattle.compact_repr.specs.Value.{PlacedText, is_static}
 use Rattle.compact_repr.specs.Change.{insert_str}
 use Rattle.compact_repr.proofs.Changes.{insert_str-in_place}
-use Rattle.compact_buffers.proofs.Cuts.{boundary-within}
+use Rattle.compact_text.proofs.Cuts.{boundary-within}
 use Rattle.compact_str.proofs.Positions.{insert_str-text, insert-bytes, insert_str-place, insert_str-behind}
 use Rattle.compact_str.proofs.Rooms.{insert_str-sure, reserve_asks-succeeds}
 use Rattle.compact_str.proofs.string.PolicyString.insert.Goals as goal
-use Rattle.compact_str.proofs.string.PolicyString.insert.Goals.{else-is_ascii-via-then-is_ascii+else-insert_ascii_in_place, else-is_ascii-via-else-is_ascii}
+use Rattle.compact_str.proofs.string.PolicyString.insert.Goals.{else-is_ascii-via-then-is_ascii+else-try_insert_ascii, else-is_ascii-via-else-is_ascii}
 
 ascii-size : (character : ℕ) → is_ascii character ≡ true → 1 ≡ size (character ∷ [])
 ascii-size character h = grind (arith, common_steps)
@@ -20,14 +20,14 @@ ascii-size character h = grind (arith, common_steps)
 fits-owned : (v : PlacedText) (n p : ℕ) → fits_in_place v n ≡ true → (is_static v.placement.place ≡ false) × (size v.text + n ≤ v.placement.capacity + (p - p))
 fits-owned v n p h = (grind (arith, common_steps), grind (arith, common_steps))
 
-pub returns-then-insert_ascii_in_place : goal.returns-then-insert_ascii_in_place
-returns-then-insert_ascii_in_place g c =
+pub returns-then-try_insert_ascii : goal.returns-then-try_insert_ascii
+returns-then-try_insert_ascii g c =
     let v = c.args.self.now in
-    let w = c.insert_ascii_in_place.new.self in
+    let w = c.try_insert_ascii.new.self in
     let p = c.args.index in
     let part = c.args.character ∷ [] in
-    let fits = fits-owned c.self.inside.repr 1 p (sym c.if-insert_ascii_in_place.ensures.fits) in
-    let at_view = insert_str-in_place g.P.Policy.growth c.self.inside.repr w p 1 part (ascii-size c.args.character (sym c.if-is_ascii.ensures)) fits.0 fits.1 (c.if-insert_ascii_in_place.ensures.inserted refl) in
+    let fits = fits-owned c.self.inside.repr 1 p (sym c.if-try_insert_ascii.ensures.fits) in
+    let at_view = insert_str-in_place g.P.Policy.growth c.self.inside.repr w p 1 part (ascii-size c.args.character (sym c.if-is_ascii.ensures)) fits.0 fits.1 (c.if-try_insert_ascii.ensures.inserted refl) in
     let done : insert_str g.P.Policy.growth v p part ≡ Some w = subst (λ (u : PlacedText). insert_str g.P.Policy.growth u p part ≡ Some w) c.self.view_is at_view in
     let long : size part ≡ len_utf8 c.args.character = omega arith in
     let one = ascii-size c.args.character (sym c.if-is_ascii.ensures) in
@@ -53,7 +53,7 @@ returns g c =
     let n = len_utf8 c.args.character in
     let part = c.args.character ∷ [] in
     let same : c.else-is_ascii.self ≡ v = elim c.else-is_ascii.branch [
-      | else-is_ascii-via-then-is_ascii+else-insert_ascii_in_place w ↦ w.self-is ∙ w.if-insert_ascii_in_place.ensures.full refl ∙ c.self.view_is
+      | else-is_ascii-via-then-is_ascii+else-try_insert_ascii w ↦ w.self-is ∙ w.if-try_insert_ascii.ensures.full refl ∙ c.self.view_is
       | else-is_ascii-via-else-is_ascii w ↦ search rules
     ] in
     let done : OnOk r (insert_str g.P.Policy.growth v p part ≡ Some w) =

@@ -4,7 +4,7 @@ use Rattle.std.proofs.lemmas.Result.{on_ok_weaker}
 use Rattle.compact_repr.specs.Text.{text_of}
 use Rattle.compact_repr.specs.Value.{PlacedText}
 use Rattle.compact_repr.specs.Change.{push_str, push_str_asks}
-use Rattle.compact_buffers.proofs.Texts.{size-text_of}
+use Rattle.compact_text.proofs.Texts.{size-text_of}
 use Rattle.compact_repr.proofs.Changes.{push_str-text, push_str-in_place}
 use Rattle.compact_str.proofs.Rooms.{push_str-sure, push_str-bytes, push_str_asks-succeeds}
 use Rattle.compact_str.proofs.string.PolicyString.push_str.Goals as goal
@@ -29,14 +29,14 @@ returns-in-Done g c =
 pub returns-in-NoRoom : goal.returns-in-NoRoom
 returns-in-NoRoom g c =
     let v = c.args.self.now in
-    let w = c.push_with_more_room.new.self in
-    let r = c.push_with_more_room.result in
+    let w = c.push_str_slow.new.self in
+    let r = c.push_str_slow.result in
     let part = text_of c.args.text.now in
     let long = size-text_of c.args.text.now c.utf8.text in
     let same : c.push_short.new.self ≡ v = c.in-NoRoom.ensures.1 ∙ c.self.view_is in
     let done : OnOk r (push_str g.P.Policy.growth v part ≡ Some w) =
-    subst (λ (u : PlacedText). OnOk r (push_str g.P.Policy.growth u part ≡ Some w)) same c.push_with_more_room.ensures.ok in
-    let refused : OnErr r ((w ≡ v) × IsTrue (push_str_asks v part)) = subst (λ (u : PlacedText). OnErr r ((w ≡ u) × IsTrue (push_str_asks u part))) same c.push_with_more_room.ensures.err in
+    subst (λ (u : PlacedText). OnOk r (push_str g.P.Policy.growth u part ≡ Some w)) same c.push_str_slow.ensures.ok in
+    let refused : OnErr r ((w ≡ v) × IsTrue (push_str_asks v part)) = subst (λ (u : PlacedText). OnErr r ((w ≡ u) × IsTrue (push_str_asks u part))) same c.push_str_slow.ensures.err in
     record {
       ok = done;
       text = on_ok_weaker r (push_str-text g.P.Policy.growth v w part) done;

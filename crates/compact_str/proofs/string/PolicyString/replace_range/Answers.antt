@@ -8,9 +8,9 @@ use Rattle.compact_repr.specs.Cut.{IsBoundary}
 use Rattle.compact_repr.specs.Value.{PlacedText}
 use Rattle.compact_repr.specs.Capacity.{Growth}
 use Rattle.compact_repr.specs.Change.{replace_range, replace_range_asks}
-use Rattle.compact_buffers.proofs.Texts.{size-text_of}
+use Rattle.compact_text.proofs.Texts.{size-text_of}
 use Rattle.compact_repr.proofs.Changes.{replace_range-in_place}
-use Rattle.compact_buffers.proofs.Cuts.{boundary-within}
+use Rattle.compact_text.proofs.Cuts.{boundary-within}
 use Rattle.compact_str.specs.Room.{IsOwned, HasRoomFor}
 use Rattle.compact_str.specs.Ranges.{range_start, range_end}
 use Rattle.compact_str.proofs.Positions.{range_replaced-text}
@@ -41,8 +41,8 @@ unreachable-requires g c =
       subst (λ (n : ℕ). end_index c.args.end n ≤ n) len (boundary-within text _ c.requires.last),
     )
 
-pub replace_in_place-requires : goal.replace_in_place-requires
-replace_in_place-requires g c =
+pub try_replace_range-requires : goal.try_replace_range-requires
+try_replace_range-requires g c =
     let first = c.in-Some.ensures.0 in
     let last = c.in-Some.ensures.1 ∙ ap (λ (n : ℕ). end_index c.args.end n) c.len.ensures.value in
     record {
@@ -51,11 +51,11 @@ replace_in_place-requires g c =
       last = boundary-at _ _ _ _ c.self.view_is last c.requires.last;
     }
 
-pub replace_once_owned-requires : goal.replace_once_owned-requires
-replace_once_owned-requires g c =
+pub replace_slow-requires : goal.replace_slow-requires
+replace_slow-requires g c =
     let first = c.in-Some.ensures.0 in
     let last = c.in-Some.ensures.1 ∙ ap (λ (n : ℕ). end_index c.args.end n) c.len.ensures.value in
-    let same = c.if-replace_in_place.ensures.full refl ∙ c.self.view_is in
+    let same = c.if-try_replace_range.ensures.full refl ∙ c.self.view_is in
     record {
       order = rw (first, last) c.requires.order;
       first = boundary-at _ _ _ _ same first c.requires.first;
@@ -70,20 +70,20 @@ asks-at : {E : Type 0} (u v w : PlacedText) (p q i j : ℕ) (s : List ℕ) (r : 
     → OnErr r ((w ≡ u) × IsTrue (replace_range_asks u p q s)) → OnErr r ((w ≡ v) × IsTrue (replace_range_asks v i j s))
 asks-at u v w p q i j s r same first last refused = rw (← same, ← first, ← last) refused
 
-pub returns-then-replace_in_place : goal.returns-then-replace_in_place
-returns-then-replace_in_place g c =
+pub returns-then-try_replace_range : goal.returns-then-try_replace_range
+returns-then-try_replace_range g c =
     let v = c.args.self.now in
     let u : PlacedText = c.self.inside.repr in
-    let w = c.replace_in_place.new.self in
+    let w = c.try_replace_range.new.self in
     let i = range_start c.args.start in
     let j = range_end v.text c.args.end in
     let s = text_of c.args.text.now in
     let first = c.in-Some.ensures.0 in
     let last = c.in-Some.ensures.1 ∙ ap (λ (n : ℕ). end_index c.args.end n) c.len.ensures.value in
-    let fits = c.if-replace_in_place.ensures.fits.0 refl in
+    let fits = c.if-try_replace_range.ensures.fits.0 refl in
     let long = sym (size-text_of c.args.text.now c.utf8.text) in
     let at_view = replace_range-in_place g.P.Policy.growth u w c.in-Some.first c.in-Some.last (length c.args.text.now) s long
-    fits.0 fits.1 (c.if-replace_in_place.ensures.replaced refl) in
+    fits.0 fits.1 (c.if-try_replace_range.ensures.replaced refl) in
     let done = replaces-at g.P.Policy.growth u v w _ _ i j s c.self.view_is first last at_view in
     record {
       ok = done;
@@ -96,8 +96,8 @@ returns-then-replace_in_place g c =
 pub returns : goal.returns
 returns g c =
     let v = c.args.self.now in
-    let w = c.replace_once_owned.new.self in
-    let r = c.replace_once_owned.result in
+    let w = c.replace_slow.new.self in
+    let r = c.replace_slow.result in
     let i = range_start c.args.start in
     let j = range_end v.text c.args.end in
     let n = length c.args.text.now in
@@ -105,10 +105,10 @@ returns g c =
     let long = sym (size-text_of c.args.text.now c.utf8.text) in
     let first = c.in-Some.ensures.0 in
     let last = c.in-Some.ensures.1 ∙ ap (λ (n : ℕ). end_index c.args.end n) c.len.ensures.value in
-    let same : c.replace_in_place.new.self ≡ v = c.if-replace_in_place.ensures.full refl ∙ c.self.view_is in
+    let same : c.try_replace_range.new.self ≡ v = c.if-try_replace_range.ensures.full refl ∙ c.self.view_is in
     let done : OnOk r (replace_range g.P.Policy.growth v i j s ≡ Some w) =
-    on_ok_weaker r (replaces-at _ _ v w _ _ i j s same first last) c.replace_once_owned.ensures.ok in
-    let refused = asks-at _ v w _ _ i j s r same first last c.replace_once_owned.ensures.err in
+    on_ok_weaker r (replaces-at _ _ v w _ _ i j s same first last) c.replace_slow.ensures.ok in
+    let refused = asks-at _ v w _ _ i j s r same first last c.replace_slow.ensures.err in
     record {
       ok = done;
       text = on_ok_weaker r (range_replaced-text g.P.Policy.growth v w i j s) done;

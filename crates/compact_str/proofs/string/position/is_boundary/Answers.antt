@@ -1,6 +1,6 @@
 use Rattle.std.proofs.Common.{refl}
 use Rattle.compact_repr.specs.Text.{text_of}
-use Rattle.compact_buffers.proofs.Cuts.{boundary-bytes, boundary-text}
+use Rattle.compact_text.proofs.Cuts.{boundary-bytes, boundary-text}
 use Rattle.compact_str.proofs.Drains.{is_boundary-test}
 use Rattle.compact_str.proofs.string.position.is_boundary.Goals as goal
 

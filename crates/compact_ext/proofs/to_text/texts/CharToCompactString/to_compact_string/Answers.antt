@@ -1,7 +1,7 @@
 -- A character takes at most four bytes, which spell it alone.
 use Rattle.std.proofs.Common.{◌∙◌, arith, refl, []}
 use Rattle.std.proofs.lemmas.Str.{chars-nil, IsUtf8-nil}
-use Rattle.compact_buffers.proofs.Cuts.{text_of-last}
+use Rattle.compact_text.proofs.Cuts.{text_of-last}
 use Rattle.compact_ext.proofs.ShownTexts.{shown-as}
 use Rattle.compact_ext.proofs.to_text.texts.CharToCompactString.to_compact_string.Goals as goal
 

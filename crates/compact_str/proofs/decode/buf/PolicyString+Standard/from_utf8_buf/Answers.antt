@@ -9,10 +9,10 @@ use Rattle.std.specs.declared.string.String.{String}
 use Rattle.compact_repr.specs.Text.{size, text_of}
 use Rattle.compact_repr.specs.Value.{PlacedText}
 use Rattle.compact_repr.specs.Capacity.{standard_growth}
-use Rattle.compact_buffers.proofs.Texts.{size-text_of}
+use Rattle.compact_text.proofs.Texts.{size-text_of}
 use Rattle.compact_codec.specs.InvalidSequence.{IsUtf8Error}
 use Rattle.compact_codec.specs.Utf8Text.{BytesEncode}
-use Rattle.compact_str.specs.FittedValues.{IsFitted}
+use Rattle.compact_str.specs.FittedValues.{IsPlacedBySize}
 use Rattle.compact_str.specs.DecodeErrors.{IsUtf8Refusal, IsUtf8BufRefusal}
 use Rattle.compact_str.specs.declared.decode.error.FromUtf8Error.{FromUtf8Error}
 use Rattle.compact_str.specs.declared.decode.error.FromUtf8Error.TheVariants.{Utf8, Reserve}
@@ -42,7 +42,7 @@ returns-then-remaining-le-INLINE_CAPACITY g c =
     let same : c.read_short.result.now ≡ bytes = c.read_short.ensures.bytes in
     record {
       text = subst (λ (bs : List ℕ). IfOk r (λ v. BytesEncode bs v.text)) same c.from_utf8.ensures.encoded;
-      fitted = IfOk-weaker r _ IsFitted (λ v is. new-fitted standard_growth v (text_of c.read_short.result.now) is)
+      fitted = IfOk-weaker r _ IsPlacedBySize (λ v is. new-fitted standard_growth v (text_of c.read_short.result.now) is)
           c.from_utf8.ensures.ok;
       consumed = on_ok r c.read_short.ensures.consumed;
       kept = c.read_short.ensures.kept;
@@ -97,7 +97,7 @@ returns g c =
     let fits : size (text_of (string_bytes s)) ≤ string_capacity s = omega (arith, long, bytes-held s) in
     record {
       text = spelled-encoded bytes c.from.result.text is (ap (λ (v : PlacedText). v.text) c.from.ensures ∙ ap text_of same);
-      fitted = subst IsFitted (sym c.from.ensures) (from_string_placement-fitted _ (string_capacity s) fits);
+      fitted = subst IsPlacedBySize (sym c.from.ensures) (from_string_placement-fitted _ (string_capacity s) fits);
       consumed = c.in-Ok.ensures.consumed;
       kept = c.read_long.ensures.kept;
       succeeds = λ _ _. refl;

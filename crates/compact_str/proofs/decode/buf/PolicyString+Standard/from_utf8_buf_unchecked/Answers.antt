@@ -9,8 +9,8 @@ use Rattle.std.specs.declared.string.String.{String}
 use Rattle.compact_repr.specs.Text.{size, text_of}
 use Rattle.compact_repr.specs.Value.{PlacedText}
 use Rattle.compact_repr.specs.Capacity.{standard_growth, with_capacity_asks}
-use Rattle.compact_buffers.proofs.Texts.{size-text_of}
-use Rattle.compact_str.specs.FittedValues.{IsFitted}
+use Rattle.compact_text.proofs.Texts.{size-text_of}
+use Rattle.compact_str.specs.FittedValues.{IsPlacedBySize}
 use Rattle.compact_str.specs.DecodeErrors.{IsSuffixOf}
 use Rattle.compact_str.proofs.FittedTexts.{new-fitted, from_string_placement-fitted, long-asks}
 use Rattle.compact_str.proofs.decode.buf.PolicyString+Standard.from_utf8_buf_unchecked.Goals as goal
@@ -37,7 +37,7 @@ returns-then-remaining-le-INLINE_CAPACITY g c =
     let same : c.read_short.result.now ≡ bytes = c.read_short.ensures.bytes in
     record {
       text = subst (λ (bs : List ℕ). IfOk r (λ v. v.text ≡ text_of bs)) same c.from_utf8_unchecked.ensures.text;
-      fitted = IfOk-weaker r _ IsFitted (λ v is. new-fitted standard_growth v (text_of c.read_short.result.now) is)
+      fitted = IfOk-weaker r _ IsPlacedBySize (λ v is. new-fitted standard_growth v (text_of c.read_short.result.now) is)
           c.from_utf8_unchecked.ensures.ok;
       consumed = on_ok r c.read_short.ensures.consumed;
       kept = c.read_short.ensures.kept;
@@ -58,7 +58,7 @@ returns g c =
           let fits : size (text_of (string_bytes s)) ≤ string_capacity s = omega (arith, long, bytes-held s) in
           rw w.result-is (record {
             text = ap (λ (v : PlacedText). v.text) w.from.ensures ∙ ap text_of same;
-            fitted = subst IsFitted (sym w.from.ensures) (from_string_placement-fitted _ (string_capacity s) fits);
+            fitted = subst IsPlacedBySize (sym w.from.ensures) (from_string_placement-fitted _ (string_capacity s) fits);
             consumed = w.in-Ok.ensures.consumed;
             kept = c.read_long.ensures.kept;
             succeeds = λ _. refl;

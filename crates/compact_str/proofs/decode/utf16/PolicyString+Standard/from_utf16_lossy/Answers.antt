@@ -1,6 +1,6 @@
 use Rattle.std.proofs.Common.{rules, refl, ℕ, ◌≡◌, ◌-◌, List, ◌++◌, ◌∙◌, ap, sym, length, take, drop, take_all, length-drop, arith, append_assoc}
 use Rattle.compact_repr.specs.Text.{text_of}
-use Rattle.compact_buffers.proofs.Texts.{size-text_of}
+use Rattle.compact_text.proofs.Texts.{size-text_of}
 use Rattle.compact_codec.specs.Utf16Text.{utf16_lossy_text}
 use Rattle.compact_codec.proofs.ForDecoders.{made-utf16_lossy_text}
 use Rattle.compact_str.proofs.FittedTexts.{part-asks, refused-fitted}

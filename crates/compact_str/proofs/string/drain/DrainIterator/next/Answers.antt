@@ -82,8 +82,8 @@ returns-in-Some-first_ascii-clause-goes g c =
     search rules
 
 -- a wider character
-pub end_by_width-self-requires : goal.end_by_width-self-requires
-end_by_width-self-requires g c =
+pub position_after-self-requires : goal.position_after-self-requires
+position_after-self-requires g c =
     let d = c.args.self.now in
     let fits = (word-taken d.value.now.text d.front d.back c.in_ok-word.word _ refl c.in_ok-word.ensures).1 in
     search rules
@@ -91,7 +91,7 @@ end_by_width-self-requires g c =
 pub invariant_of-self-2 : goal.invariant_of-self-2
 invariant_of-self-2 g c =
     let d = c.args.self.now in
-    let taken = word-taken d.value.now.text d.front d.back c.in_ok-word.word _ c.end_by_width-self.ensures c.in_ok-word.ensures in
+    let taken = word-taken d.value.now.text d.front d.back c.in_ok-word.word _ c.position_after-self.ensures c.in_ok-word.ensures in
     record {
       owned = d.owned;
       within = d.within;
@@ -104,19 +104,19 @@ pub returns-clause-steps : goal.returns-clause-steps
 returns-clause-steps g c =
     let d = c.args.self.now in
     let first = c.in_ok-word.ensures in
-    let taken = word-taken d.value.now.text d.front d.back c.in_ok-word.word _ c.end_by_width-self.ensures first in
+    let taken = word-taken d.value.now.text d.front d.back c.in_ok-word.word _ c.position_after-self.ensures first in
     let bounds = len_utf8_bounds first.0 in
     let word = first.2 in
     let scalar = first.3 in
     let wide : c.in_ok-word.word % 2 ^ 32 ≡ len_utf8 first.0 = width-of_word c.in_ok-word.word first.0 word in
     let is : c.from_u32_unchecked.result ≡ first.0 = search rules in
-    record { lender = refl; leaves = refl; step = first.4 ∙ ap (λ l. first.0 ∷ l) (sym taken.0) ∙ ap (λ w. w ∷ range_text d.value.now.text c.end_by_width-self.result d.back) (sym is) }
+    record { lender = refl; leaves = refl; step = first.4 ∙ ap (λ l. first.0 ∷ l) (sym taken.0) ∙ ap (λ w. w ∷ range_text d.value.now.text c.position_after-self.result d.back) (sym is) }
 
 pub returns-clause-goes : goal.returns-clause-goes
 returns-clause-goes g c =
     let d = c.args.self.now in
     let first = c.in_ok-word.ensures in
-    let taken = word-taken d.value.now.text d.front d.back c.in_ok-word.word _ c.end_by_width-self.ensures first in
+    let taken = word-taken d.value.now.text d.front d.back c.in_ok-word.word _ c.position_after-self.ensures first in
     let old = ap length first.4 in
     let left = ap length taken.0 in
     search rules

@@ -1,5 +1,0 @@
-use Rattle.compact_buffers.proofs.Cuts.{cut_is_before_and_after}
-use Rattle.compact_buffers.proofs.cut.cut_is_before_and_after.Goals as goal
-
-pub returns : goal.returns
-returns c = cut_is_before_and_after

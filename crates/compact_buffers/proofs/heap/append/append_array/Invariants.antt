@@ -1,9 +1,0 @@
-use Rattle.std.proofs.Common.{◌≡◌, ◌+◌, ◌++◌, take}
-use Rattle.std.specs.Vec.{vec_len, vec_capacity}
-use Rattle.compact_buffers.proofs.heap.append.append_array.Given as goal
-
--- So many bytes of the piece stand behind what stood there.
-abbrev pub invariant-loop-i : goal.invariant-loop-i
-invariant-loop-i n l = (l.vec.items ≡ l.initial.vec.items ++ take l.i l.piece)
-    × (vec_len l.vec ≡ vec_len l.initial.vec + l.i)
-    × (vec_capacity l.vec ≡ vec_capacity l.initial.vec)

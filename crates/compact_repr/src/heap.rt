@@ -1,0 +1,322 @@
+//! A text in a vector of bytes on the heap, whose capacity is the vector's.
+ghost use Rattle.std.specs.Prelude.{◌≡◌, ◌+◌, ◌-◌, ◌≤◌, ◌<◌, ◌^◌, [], ◌∷◌, ◌++◌, length, false, IfOk, OnOk, OnErr, IsTrue, ◌↔◌};
+ghost use Rattle.std.specs.String.{string_bytes, string_capacity};
+ghost use Rattle.compact_text.specs.Text.{size, utf8, text_of, IsText, ascii_lowercase, ascii_uppercase};
+ghost use Rattle.compact_text.specs.Cut.{IsBoundary, text_before, substring, replaced_text};
+ghost use Rattle.compact_text.specs.Retain.{RetainsCharsTo};
+
+use compact_text::{slices, vec};
+use std::alloc::{AllocError, Global};
+use std::marker::Model;
+
+/// The bytes of the vector are the text, and no more. What the vector has reserved behind them may hold old bytes.
+///
+/// The vector changes by calls that say exactly what it has reserved afterwards, and so the capacity needs no field.
+#[derive(Drop)]
+pub struct HeapBuffer {
+    bytes: Vec<u8>,
+}
+
+impl Model for HeapBuffer {
+    ghost use Rattle.std.specs.Str.{IsUtf8};
+    ghost use Rattle.std.specs.Vec.{vec_capacity};
+    ghost use Rattle.compact_text.specs.Text.{text_of};
+    ghost use Rattle.compact_repr.specs.Value.{HeapText};
+
+    ghost Value = { HeapText };
+
+    ghost view = { λ b. record { text = text_of b.bytes.items; capacity = vec_capacity b.bytes } };
+
+    ghost invariant = { λ b. IsUtf8 b.bytes.items };
+}
+
+impl HeapBuffer {
+    /// The empty text with room for `capacity` bytes, of which none is touched.
+    ///
+    /// # Errors
+    ///
+    /// `AllocError` if no memory is found.
+    #[inline]
+    pub fn with_capacity(alloc: Global, capacity: usize) -> Result<Self, AllocError>
+        ensures { IfOk result (λ b. b ≡ record { text = []; capacity = capacity }) }
+    {
+        let bytes = Vec::with_capacity(alloc, capacity)?;
+        Ok(HeapBuffer { bytes })
+    }
+
+    /// A copy of `text` in a new buffer with room for `capacity` bytes, at least as many as the text has.
+    ///
+    /// # Errors
+    ///
+    /// `AllocError` if no memory is found.
+    #[inline(always)]
+    pub fn copy_of(alloc: Global, text: &str, capacity: usize) -> Result<Self, AllocError>
+        requires { length text.now ≤ capacity }
+        ensures { IfOk result (λ b. b ≡ record { text = text_of text.now; capacity = capacity }) }
+    {
+        let mut bytes = Vec::with_capacity(alloc, capacity)?;
+        vec::append_first(&mut bytes, text.as_bytes());
+        Ok(HeapBuffer { bytes })
+    }
+
+    /// Takes `text` over, with its capacity.
+    pub fn from_string(text: String) -> Self
+        ensures value { result
+            ≡ record { text = text_of (string_bytes text); capacity = string_capacity text } }
+        ensures fits { size result.text ≤ result.capacity }
+    {
+        let bytes = text.into_bytes();
+        HeapBuffer { bytes }
+    }
+
+    /// The length in bytes.
+    #[inline]
+    pub fn len(&self) -> usize
+        ensures value { result ≡ size self.now.text }
+        ensures fits { size self.now.text ≤ self.now.capacity }
+        ensures small { result < 2 ^ 63 }
+        ensures text { IsText self.now.text }
+    {
+        self.bytes.len()
+    }
+
+    /// How many bytes have room.
+    #[inline]
+    pub fn capacity(&self) -> usize
+        ensures { result ≡ self.now.capacity }
+    {
+        self.bytes.capacity()
+    }
+
+    /// Whether `additional` bytes fit after the text.
+    #[inline]
+    pub fn has_room(&self, additional: usize) -> bool
+        ensures { IsTrue result ↔ (size self.now.text + additional ≤ self.now.capacity) }
+    {
+        additional <= self.bytes.capacity() - self.bytes.len()
+    }
+
+    /// The text.
+    #[inline]
+    pub fn as_str(&self) -> &str
+        ensures bytes { result.now ≡ utf8 self.now.text }
+        ensures text { text_of result.now ≡ self.now.text }
+    {
+        unsafe { std::str::from_utf8_unchecked(self.bytes.as_slice()) }
+    }
+
+    /// Makes room for `capacity` bytes in all.
+    ///
+    /// # Errors
+    ///
+    /// `AllocError` if no memory is found; then nothing has changed.
+    pub fn grow(&mut self, capacity: usize) -> Result<(), AllocError>
+        requires { self.old.capacity ≤ capacity }
+        ensures ok { OnOk result (self.new ≡ record { text = self.old.text; capacity = capacity }) }
+        ensures err { OnErr result (self.new ≡ self.old) }
+    {
+        self.bytes.reserve_exact(capacity - self.bytes.len())
+    }
+
+    /// Appends `text` where it fits, and takes no memory. Answers whether it fitted; if not, nothing has changed.
+    ///
+    /// It stands where it is called, so that where the text is known to be short nothing is called.
+    #[inline(always)]
+    pub fn try_push_str(&mut self, text: &str) -> bool
+        ensures fits { IsTrue result ↔ (size self.old.text + length text.now ≤ self.old.capacity) }
+        ensures pushed { IsTrue result
+            → self.new ≡ record {
+              text = self.old.text ++ text_of text.now;
+              capacity = self.old.capacity;
+            } }
+        ensures full { result ≡ false → self.new ≡ self.old }
+    {
+        if !self.has_room(text.len()) {
+            return false;
+        }
+        vec::append_all(&mut self.bytes, text.as_bytes());
+        true
+    }
+
+    /// Appends the part between two boundaries, in bytes, for which there must be room.
+    pub fn push_within(&mut self, start: usize, end: usize)
+        requires order { start ≤ end }
+        requires first { IsBoundary self.old.text start }
+        requires last { IsBoundary self.old.text end }
+        requires room { size self.old.text + (end - start) ≤ self.old.capacity }
+        ensures pushed { self.new
+            ≡ record {
+              text = self.old.text ++ substring self.old.text start end;
+              capacity = self.old.capacity;
+            } }
+        ensures within { size self.new.text ≤ self.old.capacity }
+    {
+        vec::append_within(&mut self.bytes, start, end);
+    }
+
+    /// Replaces what stands from one boundary to another by `text` where the outcome fits, and takes no memory. Answers
+    /// whether it fitted; if not, nothing has changed. Positions are in bytes.
+    #[inline(always)]
+    pub fn try_replace_range(&mut self, start: usize, end: usize, text: &str) -> bool
+        requires order { start ≤ end }
+        requires first { IsBoundary self.old.text start }
+        requires last { IsBoundary self.old.text end }
+        ensures fits { IsTrue result
+            ↔ (size self.old.text + length text.now ≤ self.old.capacity + (end - start)) }
+        ensures replaced { IsTrue result
+            → self.new ≡ record {
+              text = replaced_text self.old.text start end (text_of text.now);
+              capacity = self.old.capacity;
+            } }
+        ensures within { size self.new.text ≤ self.old.capacity }
+        ensures full { result ≡ false → self.new ≡ self.old }
+    {
+        let old = self.bytes.len();
+        let len = old - (end - start) + text.len();
+        if len > self.bytes.capacity() {
+            return false;
+        }
+        if len > old {
+            vec::append_zeros(&mut self.bytes, len);
+            slices::splice(self.bytes.as_mut_slice(), old, start, end, text.as_bytes());
+        } else {
+            slices::splice(self.bytes.as_mut_slice(), old, start, end, text.as_bytes());
+            self.bytes.truncate(len);
+        }
+        true
+    }
+
+    /// Puts an ASCII character in at a boundary where it fits, and takes no memory. Answers whether it fitted; if not,
+    /// nothing has changed.
+    #[inline]
+    pub fn try_insert_ascii(&mut self, index: usize, byte: u8) -> bool
+        requires ascii { byte < 128 }
+        requires boundary { IsBoundary self.old.text index }
+        ensures fits { IsTrue result ↔ (size self.old.text + 1 ≤ self.old.capacity) }
+        ensures inserted { IsTrue result
+            → self.new ≡ record {
+              text = replaced_text self.old.text index index (byte ∷ []);
+              capacity = self.old.capacity;
+            } }
+        ensures within { size self.new.text ≤ self.old.capacity }
+        ensures full { result ≡ false → self.new ≡ self.old }
+    {
+        let len = self.bytes.len();
+        if len >= self.bytes.capacity() {
+            return false;
+        }
+        // The vector is one byte longer then, whichever byte it is.
+        self.bytes.push_reserved(byte);
+        slices::insert_byte(self.bytes.as_mut_slice(), len, index, byte);
+        true
+    }
+
+    /// Takes the ASCII character out that begins at a boundary.
+    #[inline]
+    pub fn remove_ascii(&mut self, index: usize)
+        requires boundary { IsBoundary self.old.text index }
+        requires next { IsBoundary self.old.text (index + 1) }
+        ensures removed { self.new
+            ≡ record {
+              text = replaced_text self.old.text index (index + 1) [];
+              capacity = self.old.capacity;
+            } }
+        ensures within { size self.new.text ≤ self.old.capacity }
+    {
+        let len = self.bytes.len();
+        slices::remove_byte(self.bytes.as_mut_slice(), len, index);
+        let _last = self.bytes.take_last();
+    }
+
+    /// Takes out what stands from one boundary to another, in bytes.
+    #[inline(always)]
+    pub fn cut_out(&mut self, start: usize, end: usize)
+        requires order { start ≤ end }
+        requires first { IsBoundary self.old.text start }
+        requires last { IsBoundary self.old.text end }
+        ensures cut { self.new
+            ≡ record {
+              text = replaced_text self.old.text start end [];
+              capacity = self.old.capacity;
+            } }
+        ensures within { size self.new.text ≤ self.old.capacity }
+    {
+        let len = self.bytes.len();
+        slices::cut_out(self.bytes.as_mut_slice(), len, start, end);
+        self.bytes.truncate(len - (end - start));
+    }
+
+    /// Keeps the first `len` bytes, which end at a boundary, and the capacity.
+    #[inline]
+    pub fn truncate(&mut self, len: usize)
+        requires { IsBoundary self.old.text len }
+        ensures value { self.new
+            ≡ record { text = text_before self.old.text len; capacity = self.old.capacity } }
+        ensures fits { size self.new.text ≤ self.old.capacity }
+    {
+        self.bytes.truncate(len);
+    }
+
+    /// Leaves the empty text, with the same capacity.
+    #[inline]
+    pub fn clear(&mut self)
+        ensures { self.new ≡ record { text = []; capacity = self.old.capacity } }
+    {
+        self.bytes.clear();
+    }
+
+    /// Leaves the empty text, with the same capacity, and writes every byte of the buffer with zero: those of the text, and
+    /// behind them all that is reserved, where old bytes stay when a text gets shorter.
+    pub fn zeroize(&mut self)
+        ensures { self.new ≡ record { text = []; capacity = self.old.capacity } }
+    {
+        let capacity = self.bytes.capacity();
+        slices::fill_zero(self.bytes.as_mut_slice());
+        vec::append_zeros_each(&mut self.bytes, capacity);
+        self.bytes.clear();
+    }
+
+    /// Makes A to Z lowercase, and keeps the capacity.
+    pub fn make_ascii_lowercase(&mut self)
+        ensures value { self.new
+            ≡ record { text = ascii_lowercase self.old.text; capacity = self.old.capacity } }
+        ensures fits { size self.new.text ≤ self.old.capacity }
+    {
+        let len = self.bytes.len();
+        slices::make_lowercase(self.bytes.as_mut_slice(), len);
+    }
+
+    /// Makes a to z uppercase, and keeps the capacity.
+    pub fn make_ascii_uppercase(&mut self)
+        ensures value { self.new
+            ≡ record { text = ascii_uppercase self.old.text; capacity = self.old.capacity } }
+        ensures fits { size self.new.text ≤ self.old.capacity }
+    {
+        let len = self.bytes.len();
+        slices::make_uppercase(self.bytes.as_mut_slice(), len);
+    }
+
+    /// Keeps the characters for which `keep`, asked once of each in order, answers true, and the capacity.
+    #[inline]
+    pub fn retain<F: FnMut(char) -> bool>(&mut self, keep: &mut F)
+        requires { F.IsAlwaysCallable keep.old }
+        ensures text { RetainsCharsTo F.FnMut keep.old self.old.text self.new.text keep.new }
+        ensures callable { F.IsAlwaysCallable keep.new }
+        ensures capacity { self.new.capacity ≡ self.old.capacity }
+        ensures fits { size self.new.text ≤ self.old.capacity }
+    {
+        let len = self.bytes.len();
+        let kept = slices::retain(self.bytes.as_mut_slice(), len, keep);
+        self.bytes.truncate(kept);
+    }
+
+    /// The text with its buffer, of which nothing is copied.
+    pub fn into_string(self) -> String
+        ensures bytes { string_bytes result ≡ utf8 self.text }
+        ensures text { text_of (string_bytes result) ≡ self.text }
+        ensures capacity { self.capacity ≤ string_capacity result }
+    {
+        let HeapBuffer { bytes } = self;
+        unsafe { String::from_utf8_unchecked(bytes) }
+    }
+}

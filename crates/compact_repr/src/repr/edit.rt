@@ -1,0 +1,267 @@
+//! Changes of a representation's text in bytes of its own, which never allocate and never move the text to another
+//! place.
+ghost use Rattle.std.specs.Prelude.{◌≡◌, ◌+◌, ◌-◌, ◌≤◌, ◌<◌, [], ◌∷◌, ◌++◌, length, IsTrue, true, false, ◌↔◌};
+ghost use Rattle.compact_text.specs.Text.{size, text_of, ascii_lowercase, ascii_uppercase};
+ghost use Rattle.compact_text.specs.Cut.{IsBoundary, substring, replaced_text};
+ghost use Rattle.compact_repr.specs.Value.{placed_text, is_static};
+ghost use Rattle.compact_repr.specs.Capacity.{fits_in_place};
+ghost use Rattle.compact_repr.specs.Change.{clear, truncate, zeroize};
+ghost use Rattle.compact_repr.specs.PushOutcomes.{IsPushOutcome};
+ghost use Rattle.compact_text.specs.Retain.{RetainsCharsTo};
+
+use crate::inline::InlineBuffer;
+use crate::policy::Policy;
+use crate::repr::{Buffer, Repr};
+use crate::static_str::StaticStr;
+use compact_text::slices::MAX_SHORT_LEN;
+use compact_text::str_parts::substring;
+
+/// What came of an append that takes short texts alone.
+#[derive(Clone, Copy, Debug, PartialEq, Eq, Drop)]
+pub enum PushOutcome {
+    /// It is done.
+    Done,
+    /// The value has no room of its own for it, and is as it was.
+    NoRoom,
+    /// The text is too long to be tried, and the value is as it was.
+    NotTried,
+}
+
+impl<P: Policy> Repr<P> {
+    /// Appends `text` if the value is owned and has room. Answers whether that was so; if not, nothing has changed.
+    #[inline(always)]
+    pub fn try_push_str(&mut self, text: &str) -> bool
+        ensures fits { result ≡ fits_in_place self.old (length text.now) }
+        ensures pushed { IsTrue result
+            → self.new ≡ placed_text (self.old.text ++ text_of text.now) self.old.placement }
+        ensures full { result ≡ false → self.new ≡ self.old }
+    {
+        match &mut self.buffer {
+            Buffer::Inline(_, inline) => inline.try_push_str(text),
+            Buffer::Heap(heap) => heap.try_push_str(text),
+            Buffer::Static(_) => false,
+        }
+    }
+
+    /// Appends a text of at most 32 bytes if the value is owned and has room. A longer one is not looked at, so that
+    /// the short way calls nothing.
+    #[inline(always)]
+    pub fn push_short(&mut self, text: &str) -> PushOutcome
+        ensures { IsPushOutcome self.old text.now result self.new }
+    {
+        if text.len() > MAX_SHORT_LEN {
+            return PushOutcome::NotTried;
+        }
+        if self.try_push_str(text) {
+            PushOutcome::Done
+        } else {
+            PushOutcome::NoRoom
+        }
+    }
+
+    /// Replaces what stands from one boundary to another, in bytes, by `text` if the value is owned and the outcome
+    /// fits. Answers whether that was so; if not, nothing has changed. The place and the capacity stay.
+    #[inline(always)]
+    pub fn try_replace_range(&mut self, start: usize, end: usize, text: &str) -> bool
+        requires order { start ≤ end }
+        requires first { IsBoundary self.old.text start }
+        requires last { IsBoundary self.old.text end }
+        ensures fits { IsTrue result
+            ↔ ((is_static self.old.placement.place ≡ false)
+            × (size self.old.text + length text.now
+            ≤ self.old.placement.capacity + (end - start))) }
+        ensures replaced { IsTrue result
+            → self.new ≡ placed_text (replaced_text self.old.text start end
+            (text_of text.now)) self.old.placement }
+        ensures full { result ≡ false → self.new ≡ self.old }
+    {
+        match &mut self.buffer {
+            Buffer::Static(_) => false,
+            Buffer::Inline(_, inline) => inline.try_replace_range(start, end, text),
+            Buffer::Heap(heap) => heap.try_replace_range(start, end, text),
+        }
+    }
+
+    /// Takes out what stands from one boundary to another, in bytes, if the value is owned. Answers whether it is; if
+    /// not, nothing has changed. The place and the capacity stay.
+    #[inline(always)]
+    pub fn try_cut_out(&mut self, start: usize, end: usize) -> bool
+        requires order { start ≤ end }
+        requires first { IsBoundary self.old.text start }
+        requires last { IsBoundary self.old.text end }
+        ensures owned { IsTrue result ↔ (is_static self.old.placement.place ≡ false) }
+        ensures cut { IsTrue result
+            → self.new ≡ placed_text (replaced_text self.old.text start end []) self.old.placement }
+        ensures full { result ≡ false → self.new ≡ self.old }
+    {
+        match &mut self.buffer {
+            Buffer::Static(_) => false,
+            Buffer::Inline(_, inline) => {
+                inline.cut_out(start, end);
+                true
+            }
+            Buffer::Heap(heap) => {
+                heap.cut_out(start, end);
+                true
+            }
+        }
+    }
+
+    /// Puts an ASCII character in at a boundary, in bytes, if the value is owned and has room. Answers whether that was
+    /// so; if not, nothing has changed.
+    #[inline]
+    pub fn try_insert_ascii(&mut self, index: usize, byte: u8) -> bool
+        requires ascii { byte < 128 }
+        requires boundary { IsBoundary self.old.text index }
+        ensures fits { result ≡ fits_in_place self.old 1 }
+        ensures inserted { IsTrue result
+            → self.new ≡ placed_text (replaced_text self.old.text index index
+            (byte ∷ [])) self.old.placement }
+        ensures full { result ≡ false → self.new ≡ self.old }
+    {
+        match &mut self.buffer {
+            Buffer::Static(_) => false,
+            Buffer::Inline(_, inline) => inline.try_insert_ascii(index, byte),
+            Buffer::Heap(heap) => heap.try_insert_ascii(index, byte),
+        }
+    }
+
+    /// Takes out the ASCII character that begins at a boundary, in bytes, if the value is owned. Answers whether it is;
+    /// if not, nothing has changed.
+    #[inline]
+    pub fn try_remove_ascii(&mut self, index: usize) -> bool
+        requires boundary { IsBoundary self.old.text index }
+        requires next { IsBoundary self.old.text (index + 1) }
+        ensures owned { IsTrue result ↔ (is_static self.old.placement.place ≡ false) }
+        ensures removed { IsTrue result
+            → self.new ≡ placed_text (replaced_text self.old.text index
+            (index + 1) []) self.old.placement }
+        ensures full { result ≡ false → self.new ≡ self.old }
+    {
+        match &mut self.buffer {
+            Buffer::Static(_) => false,
+            Buffer::Inline(_, inline) => {
+                inline.remove_ascii(index);
+                true
+            }
+            Buffer::Heap(heap) => {
+                heap.remove_ascii(index);
+                true
+            }
+        }
+    }
+
+    /// Keeps the first `len` bytes, which end at a boundary; from the end on, `len` changes nothing. The place stays,
+    /// and so does an owned capacity: a static text becomes the front of the same static text.
+    #[inline]
+    pub fn truncate(&mut self, len: usize)
+        requires { len < size self.old.text → IsBoundary self.old.text len }
+        ensures { self.new ≡ truncate self.old len }
+    {
+        match &mut self.buffer {
+            Buffer::Static(text) => {
+                if len < text.len() {
+                    *text = text.slice_to(len);
+                }
+            }
+            Buffer::Inline(_, inline) => {
+                if len < inline.len() {
+                    inline.truncate(len);
+                }
+            }
+            Buffer::Heap(heap) => {
+                if len < heap.len() {
+                    heap.truncate(len);
+                }
+            }
+        }
+    }
+
+    /// Leaves the empty text, in its place.
+    #[inline]
+    pub fn clear(&mut self)
+        ensures { self.new ≡ clear self.old }
+    {
+        match &mut self.buffer {
+            Buffer::Static(text) => *text = StaticStr::new(""),
+            Buffer::Inline(_, inline) => inline.clear(),
+            Buffer::Heap(heap) => heap.clear(),
+        }
+    }
+
+    /// Makes A to Z lowercase in an owned value; the place and the capacity stay.
+    pub fn make_ascii_lowercase(&mut self)
+        requires { is_static self.old.placement.place ≡ false }
+        ensures { self.new ≡ placed_text (ascii_lowercase self.old.text) self.old.placement }
+    {
+        match &mut self.buffer {
+            Buffer::Inline(_, inline) => inline.make_ascii_lowercase(),
+            Buffer::Heap(heap) => heap.make_ascii_lowercase(),
+            Buffer::Static(_) => unreachable!(),
+        }
+    }
+
+    /// Makes a to z uppercase in an owned value; the place and the capacity stay.
+    pub fn make_ascii_uppercase(&mut self)
+        requires { is_static self.old.placement.place ≡ false }
+        ensures { self.new ≡ placed_text (ascii_uppercase self.old.text) self.old.placement }
+    {
+        match &mut self.buffer {
+            Buffer::Inline(_, inline) => inline.make_ascii_uppercase(),
+            Buffer::Heap(heap) => heap.make_ascii_uppercase(),
+            Buffer::Static(_) => unreachable!(),
+        }
+    }
+
+    /// Leaves the empty text, and writes zero over every byte that the value's own text has ever held. A static value
+    /// becomes inline; every other keeps its place and its capacity.
+    pub fn zeroize(&mut self)
+        ensures { self.new ≡ zeroize self.old }
+    {
+        match &mut self.buffer {
+            Buffer::Inline(_, inline) => inline.zeroize(),
+            Buffer::Heap(heap) => heap.zeroize(),
+            Buffer::Static(_) => self.buffer = Buffer::Inline([], InlineBuffer::empty()),
+        }
+    }
+
+    /// Keeps the characters for which `keep`, asked once of each in order, answers true, in an owned value. The place
+    /// and the capacity stay.
+    #[inline]
+    pub fn retain<F: FnMut(char) -> bool>(&mut self, keep: &mut F)
+        requires owned { is_static self.old.placement.place ≡ false }
+        requires callable { F.IsAlwaysCallable keep.old }
+        ensures text { RetainsCharsTo F.FnMut keep.old self.old.text self.new.text keep.new }
+        ensures callable { F.IsAlwaysCallable keep.new }
+        ensures placement { self.new.placement ≡ self.old.placement }
+    {
+        match &mut self.buffer {
+            Buffer::Inline(_, inline) => inline.retain(keep),
+            Buffer::Heap(heap) => heap.retain(keep),
+            Buffer::Static(_) => unreachable!(),
+        }
+    }
+
+    /// Appends the part between two boundaries, in bytes, for which there must be room. Keeps the place and the
+    /// capacity.
+    #[tactic(auto, using(compact_text::proofs::TextFacts::text_facts))]
+    pub(super) fn push_within_in_place(&mut self, start: usize, end: usize)
+        requires order { start ≤ end }
+        requires first { IsBoundary self.old.text start }
+        requires last { IsBoundary self.old.text end }
+        requires room { IsTrue (fits_in_place self.old (end - start)) }
+        ensures { self.new
+            ≡ placed_text (self.old.text ++ substring self.old.text start end) self.old.placement }
+    {
+        match &mut self.buffer {
+            Buffer::Inline(_, inline) => {
+                let copy = inline.clone();
+                if !inline.try_push_str(substring(copy.as_str(), start, end)) {
+                    unreachable!();
+                }
+            }
+            Buffer::Heap(heap) => heap.push_within(start, end),
+            Buffer::Static(_) => unreachable!(),
+        }
+    }
+}

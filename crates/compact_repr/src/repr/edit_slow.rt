@@ -1,0 +1,151 @@
+//! Changes of a representation's text that may have to make room first, or to make the value owned.
+ghost use Rattle.std.specs.Prelude.{◌≡◌, ◌≤◌, [], length, Some, OnOk, OnErr, IsTrue, false};
+ghost use Rattle.compact_text.specs.Text.{text_of};
+ghost use Rattle.compact_text.specs.Cut.{IsBoundary, substring};
+ghost use Rattle.compact_repr.specs.Capacity.{fits_in_place, reserve_asks};
+ghost use Rattle.compact_repr.specs.Change.{push_str, push_str_asks, insert_str, replace_range, replace_range_asks};
+
+use crate::error::ReserveError;
+use crate::policy::Policy;
+use crate::repr::Repr;
+
+impl<P: Policy> Repr<P> {
+    /// Appends `text`, of any length and with any place. It stands apart, so that a short append calls nothing.
+    ///
+    /// # Errors
+    ///
+    /// [`ReserveError`] if the value has no room for `text` in place, and a new buffer is refused.
+    #[inline(never)]
+    #[tactic(auto, using(compact_text::proofs::TextFacts::text_facts, crate::proofs::Changes::append_facts))]
+    pub fn push_str(&mut self, text: &str) -> Result<(), ReserveError>
+        ensures ok { OnOk result (push_str P.growth self.old (text_of text.now) ≡ Some self.new) }
+        ensures err { OnErr result
+            ((self.new ≡ self.old) × IsTrue (push_str_asks self.old (text_of text.now))) }
+    {
+        if self.try_push_str(text) {
+            return Ok(());
+        }
+        self.push_str_slow(text)
+    }
+
+    /// Appends `text` to a value that has no room for it in place.
+    ///
+    /// # Errors
+    ///
+    /// [`ReserveError`] if a new buffer is refused.
+    #[cold]
+    #[inline(never)]
+    pub fn push_str_slow(&mut self, text: &str) -> Result<(), ReserveError>
+        requires { fits_in_place self.old (length text.now) ≡ false }
+        ensures ok { OnOk result (push_str P.growth self.old (text_of text.now) ≡ Some self.new) }
+        ensures err { OnErr result
+            ((self.new ≡ self.old) × IsTrue (push_str_asks self.old (text_of text.now))) }
+    {
+        if text.is_empty() {
+            return Ok(());
+        }
+        self.make_room(text.len())?;
+        if !self.try_push_str(text) {
+            unreachable!();
+        }
+        Ok(())
+    }
+
+    /// Puts `text` in at a boundary, in bytes, once there is room for it; a static value becomes owned even for an
+    /// empty text.
+    ///
+    /// # Errors
+    ///
+    /// [`ReserveError`] if a new buffer is refused.
+    #[cold]
+    #[inline(never)]
+    pub fn insert_str_slow(&mut self, index: usize, text: &str) -> Result<(), ReserveError>
+        requires { IsBoundary self.old.text index }
+        ensures ok { OnOk result
+            (insert_str P.growth self.old index (text_of text.now) ≡ Some self.new) }
+        ensures err { OnErr result
+            ((self.new ≡ self.old) × IsTrue (reserve_asks self.old (length text.now))) }
+    {
+        self.reserve(text.len())?;
+        if !self.try_replace_range(index, index, text) {
+            unreachable!();
+        }
+        Ok(())
+    }
+
+    /// Takes out what stands from one boundary to another, in bytes, once the value is owned.
+    ///
+    /// # Errors
+    ///
+    /// [`ReserveError`] if a static text cannot be made owned.
+    #[inline]
+    #[tactic(auto, using(compact_text::proofs::TextFacts::text_facts, crate::proofs::Changes::removal_facts))]
+    pub fn cut_out(&mut self, start: usize, end: usize) -> Result<(), ReserveError>
+        requires order { start ≤ end }
+        requires first { IsBoundary self.old.text start }
+        requires last { IsBoundary self.old.text end }
+        ensures ok { OnOk result (replace_range P.growth self.old start end [] ≡ Some self.new) }
+        ensures err { OnErr result
+            ((self.new ≡ self.old) × IsTrue (replace_range_asks self.old start end [])) }
+    {
+        if self.try_cut_out(start, end) {
+            return Ok(());
+        }
+        self.replace_slow(start, end, "")
+    }
+
+    /// Replaces what stands from one boundary to another, in bytes, once the value is owned and has room for the
+    /// outcome.
+    ///
+    /// # Errors
+    ///
+    /// [`ReserveError`] if a static text cannot be made owned, or a larger buffer is refused.
+    #[cold]
+    #[inline(never)]
+    pub fn replace_slow(&mut self, start: usize, end: usize, text: &str) -> Result<(), ReserveError>
+        requires order { start ≤ end }
+        requires first { IsBoundary self.old.text start }
+        requires last { IsBoundary self.old.text end }
+        ensures ok { OnOk result
+            (replace_range P.growth self.old start end (text_of text.now) ≡ Some self.new) }
+        ensures err { OnErr result
+            ((self.new ≡ self.old)
+            × IsTrue (replace_range_asks self.old start end (text_of text.now))) }
+    {
+        let replaced = end - start;
+        if text.len() <= replaced {
+            self.make_owned()?;
+        } else {
+            self.reserve(text.len() - replaced)?;
+        }
+        if !self.try_replace_range(start, end, text) {
+            unreachable!();
+        }
+        Ok(())
+    }
+
+    /// Appends the part between two boundaries, in bytes. It is copied within the buffer, and an empty part changes
+    /// nothing.
+    ///
+    /// # Errors
+    ///
+    /// [`ReserveError`] if there is no room for it and a larger buffer cannot be allocated.
+    pub fn push_within(&mut self, start: usize, end: usize) -> Result<(), ReserveError>
+        requires order { start ≤ end }
+        requires first { IsBoundary self.old.text start }
+        requires last { IsBoundary self.old.text end }
+        ensures ok { OnOk result
+            (push_str P.growth self.old (substring self.old.text start end) ≡ Some self.new) }
+        ensures err { OnErr result
+            ((self.new ≡ self.old)
+            × IsTrue (push_str_asks self.old (substring self.old.text start end))) }
+    {
+        let len = end - start;
+        if len == 0 {
+            return Ok(());
+        }
+        self.reserve(len)?;
+        self.push_within_in_place(start, end);
+        Ok(())
+    }
+}

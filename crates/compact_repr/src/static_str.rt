@@ -1,0 +1,129 @@
+//! A text of the program, held by a pointer, so that the type names no lifetime.
+//!
+//! A type that names one, `'static` too, costs whoever holds it: a call that is generic over iterators takes no
+//! iterator of references beside it, and a guard in a `Result` hides from its caller what the value becomes.
+ghost use Rattle.std.specs.Prelude.{◌≡◌, ◌<◌, ◌^◌, ℕ, List, length};
+ghost use denote.Ref.{Bor};
+ghost use Rattle.compact_repr.specs.Loan.{static_loan, address};
+ghost use Rattle.compact_text.specs.Text.{size, utf8, text_of, IsText};
+ghost use Rattle.compact_text.specs.Cut.{IsBoundary, text_before, text_after};
+
+use compact_text::str_parts;
+use std::marker::Model;
+use std::{slice, str};
+
+/// The right to read bytes of the program for ever. It takes no memory.
+#[derive(Drop)]
+struct StaticLoan {
+    ghost bytes: { Bor (List ℕ) },
+}
+
+impl Model for StaticLoan {
+    ghost also_owns = { λ loan. static_loan loan.bytes };
+
+    ghost also_shares = { λ loan _ _. static_loan loan.bytes };
+}
+
+impl StaticLoan {
+    /// Where `bytes` lie, and the right to read them there.
+    #[inline]
+    fn of(bytes: &'static [u8]) -> (*const u8, StaticLoan)
+        ensures { (result.0 ≡ address result.1.bytes) × (result.1.bytes.now ≡ bytes.now) }
+    {
+        (bytes.as_ptr(), StaticLoan {})
+    }
+
+    /// The bytes, which lie at `at` and are `len`.
+    #[inline]
+    fn read(&self, at: *const u8, len: usize) -> &'static [u8]
+        requires { (at ≡ address self.now.bytes) × (len ≡ length self.now.bytes.now) }
+        ensures { result.now ≡ self.now.bytes.now }
+    {
+        unsafe { slice::from_raw_parts(at, len) }
+    }
+}
+
+/// A text that stands in the program and outlives every value. A contract sees the text.
+#[derive(Drop)]
+pub struct StaticStr {
+    at: *const u8,
+    len: usize,
+    loan: StaticLoan,
+}
+
+impl Model for StaticStr {
+    ghost use Rattle.std.specs.Prelude.{◌≡◌, ◌<◌, ◌^◌, ℕ, List, length, IsUtf8};
+    ghost use Rattle.compact_repr.specs.Loan.{address};
+    ghost use Rattle.compact_text.specs.Text.{text_of};
+
+    ghost Value = { List ℕ };
+
+    ghost view = { λ t. text_of t.loan.bytes.now };
+
+    ghost invariant = { λ t. (t.at ≡ address t.loan.bytes) × (t.len ≡ length t.loan.bytes.now)
+        × (t.len < 2 ^ 63) × IsUtf8 t.loan.bytes.now };
+}
+
+// Nothing writes to what the pointer points to, so every thread may read it.
+unsafe impl Send for StaticStr {}
+
+unsafe impl Sync for StaticStr {}
+
+impl StaticStr {
+    /// The whole of `text`, of which nothing is copied.
+    #[inline]
+    pub fn new(text: &'static str) -> Self
+        ensures { result ≡ text_of text.now }
+    {
+        let bytes = text.as_bytes();
+        let len = bytes.len();
+        let (at, loan) = StaticLoan::of(bytes);
+        StaticStr { at, len, loan }
+    }
+
+    /// The length in bytes.
+    #[inline]
+    pub fn len(&self) -> usize
+        ensures value { result ≡ size self.now }
+        ensures small { result < 2 ^ 63 }
+        ensures text { IsText self.now }
+    {
+        self.len
+    }
+
+    /// The text, which outlives the value.
+    #[inline]
+    pub fn as_static_str(&self) -> &'static str
+        ensures bytes { result.now ≡ utf8 self.now }
+        ensures text { text_of result.now ≡ self.now }
+    {
+        let bytes = self.loan.read(self.at, self.len);
+        unsafe { str::from_utf8_unchecked(bytes) }
+    }
+
+    /// The same text again, of which nothing is copied.
+    #[inline]
+    pub fn clone(&self) -> Self
+        ensures { result ≡ self.now }
+    {
+        Self::new(self.as_static_str())
+    }
+
+    /// The first `len` bytes, which end at a boundary.
+    #[inline]
+    pub fn slice_to(&self, len: usize) -> Self
+        requires { IsBoundary self.now len }
+        ensures { result ≡ text_before self.now len }
+    {
+        Self::new(str_parts::prefix(self.as_static_str(), len))
+    }
+
+    /// What stands behind the first `index` bytes, which end at a boundary.
+    #[inline]
+    pub fn slice_from(&self, index: usize) -> Self
+        requires { IsBoundary self.now index }
+        ensures { result ≡ text_after self.now index }
+    {
+        Self::new(str_parts::suffix(self.as_static_str(), index))
+    }
+}

@@ -1,0 +1,202 @@
+//! A value while it is collected, with the short pieces that are not yet appended to it.
+ghost use Rattle.std.specs.Prelude.{◌≡◌, ◌+◌, ◌<◌, [], ◌∷◌, ◌++◌, length, Some, OnOk, OnErr, IfOk, IfSome};
+ghost use Rattle.std.specs.Char.{len_utf8};
+ghost use Rattle.compact_repr.specs.Text.{size, text_of};
+ghost use Rattle.compact_repr.specs.Change.{push_str};
+ghost use Rattle.compact_str.specs.FittedValues.{IsPlacedBySize};
+ghost use Rattle.compact_str.specs.Shown.{Shows};
+
+use crate::string::PolicyString;
+use crate::stack_buffer::{PaddedStr, StackBuffer};
+use compact_repr::{Policy, ReserveError};
+use compact_text::str_parts::encode_char;
+use std::alloc::Global;
+use std::marker::Model;
+use std::{fmt, mem};
+
+/// What has come so far: a value, and behind it a block of short pieces that are appended to it at once. A contract sees
+/// the text of both. So a text of at most 1024 bytes asks for memory once, and for just what it takes.
+pub struct Builder<P: Policy> {
+    value: PolicyString<P>,
+    block: StackBuffer,
+    // Whether a piece of what is shown was refused: a `Display` may hide that and go on.
+    is_refused: bool,
+}
+
+impl<P: Policy> Model for Builder<P> {
+    ghost use Rattle.std.specs.Prelude.{ℕ, List, ◌++◌};
+    ghost use Rattle.compact_str.specs.FittedValues.{IsPlacedBySize};
+
+    ghost Value = { List ℕ };
+
+    ghost view = { λ g. g.value.text ++ g.block };
+
+    ghost invariant = { λ g. IsPlacedBySize g.value };
+}
+
+/// It is dropped by one call, so that no function that gathers takes the value apart at its ends.
+impl<P: Policy> Drop for Builder<P> {
+    #[inline]
+    fn drop(self) {
+        let Builder {
+            value,
+            block: _,
+            is_refused: _,
+        } = self;
+        drop(value);
+    }
+}
+
+#[tactic(auto, using(compact_text::proofs::TextFacts::text_facts, crate::proofs::CollectFacts::builder_facts))]
+impl<P: Policy> Builder<P> {
+    /// Nothing yet.
+    #[inline]
+    pub fn new(alloc: Global) -> Self
+        ensures { result ≡ [] }
+    {
+        Builder {
+            value: PolicyString::default(alloc),
+            block: StackBuffer::empty(),
+            is_refused: false,
+        }
+    }
+
+    /// Takes `text` behind what has come.
+    ///
+    /// # Errors
+    ///
+    /// [`ReserveError`] if a buffer is refused, for more than 24 bytes.
+    #[inline]
+    pub fn push_str(&mut self, text: &str) -> Result<(), ReserveError>
+        ensures ok { OnOk result (self.new ≡ self.old ++ text_of text.now) }
+        ensures err { OnErr result (24 < size self.old + length text.now) }
+    {
+        if self.block.try_push_str(text) {
+            return Ok(());
+        }
+        self.flush_and_push(text)
+    }
+
+    /// Takes `separator` and then `text` behind what has come; `padded` is the separator too, where it is a short one.
+    ///
+    /// # Errors
+    ///
+    /// [`ReserveError`] if a buffer is refused, for more than 24 bytes.
+    #[inline]
+    pub fn push_separated(
+        &mut self,
+        separator: &str,
+        padded: &Option<PaddedStr>,
+        text: &str,
+    ) -> Result<(), ReserveError>
+        requires same { IfSome padded.now (λ p. p ≡ text_of separator.now) }
+        ensures ok { OnOk result
+            (self.new ≡ (self.old ++ text_of separator.now) ++ text_of text.now) }
+        ensures err { OnErr result (24 < size self.old + length separator.now + length text.now) }
+    {
+        if let Some(padded) = padded {
+            if self.block.try_push_separated(padded, text) {
+                return Ok(());
+            }
+        }
+        self.push_separately(separator, text)
+    }
+
+    /// The same where the two do not go together.
+    #[inline(never)]
+    fn push_separately(&mut self, separator: &str, text: &str) -> Result<(), ReserveError>
+        ensures ok { OnOk result
+            (self.new ≡ (self.old ++ text_of separator.now) ++ text_of text.now) }
+        ensures err { OnErr result (24 < size self.old + length separator.now + length text.now) }
+    {
+        self.push_str(separator)?;
+        self.push_str(text)
+    }
+
+    /// Takes a character behind what has come.
+    ///
+    /// # Errors
+    ///
+    /// [`ReserveError`] if a buffer is refused, for more than 24 bytes.
+    #[inline]
+    pub fn push(&mut self, character: char) -> Result<(), ReserveError>
+        ensures ok { OnOk result (self.new ≡ self.old ++ character ∷ []) }
+        ensures err { OnErr result (24 < size self.old + len_utf8 character) }
+    {
+        if character.is_ascii() && self.block.try_push_ascii(character as u8) {
+            return Ok(());
+        }
+        let mut bytes = [0; 4];
+        self.push_str(encode_char(character, &mut bytes))
+    }
+
+    /// Appends the block to the value, and then takes `text`.
+    #[cold]
+    #[inline(never)]
+    fn flush_and_push(&mut self, text: &str) -> Result<(), ReserveError>
+        ensures ok { OnOk result (self.new ≡ self.old ++ text_of text.now) }
+        ensures err { OnErr result (24 < size self.old + length text.now) }
+    {
+        self.value.push_str(self.block.as_str())?;
+        self.block.clear();
+        if self.block.try_push_str(text) {
+            return Ok(());
+        }
+        self.value.push_str(text)
+    }
+
+    /// The value; of what is left nothing is said. It takes a reference, for a move would copy the block.
+    ///
+    /// # Errors
+    ///
+    /// [`ReserveError`] if a buffer is refused, for more than 24 bytes.
+    #[inline]
+    pub fn finish(&mut self) -> Result<PolicyString<P>, ReserveError>
+        ensures text { IfOk result (λ v. v.text ≡ self.old) }
+        ensures fitted { IfOk result IsPlacedBySize }
+        ensures err { OnErr result (24 < size self.old) }
+    {
+        self.value.push_str(self.block.as_str())?;
+        let nothing = PolicyString::default(self.value.allocator());
+        Ok(mem::replace(&mut self.value, nothing))
+    }
+
+    /// Appends what has come to `target`, all of it at once.
+    ///
+    /// # Errors
+    ///
+    /// [`ReserveError`] if a buffer is refused, or was for a piece that was shown; then `target` is as it was.
+    pub fn push_onto(&mut self, target: &mut PolicyString<P>) -> Result<(), ReserveError>
+        ensures ok { OnOk result (push_str P.growth target.old self.old ≡ Some target.new) }
+        ensures err { OnErr result (target.new ≡ target.old) }
+    {
+        if self.is_refused {
+            return Err(ReserveError);
+        }
+        if self.value.is_empty() {
+            return target.push_str(self.block.as_str());
+        }
+        self.value.push_str(self.block.as_str())?;
+        target.push_str(self.value.as_str())
+    }
+}
+
+impl<P: Policy> fmt::Write for Builder<P> {
+    ghost write_str_gives = { Shows };
+
+    /// Takes `text` behind what has come.
+    ///
+    /// # Errors
+    ///
+    /// `fmt::Error` if a buffer is refused.
+    #[inline]
+    fn write_str(&mut self, text: &str) -> fmt::Result {
+        match self.push_str(text) {
+            Ok(()) => Ok(()),
+            Err(ReserveError) => {
+                self.is_refused = true;
+                Err(fmt::Error)
+            }
+        }
+    }
+}

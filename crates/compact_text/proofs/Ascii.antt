@@ -1,0 +1,48 @@
+-- An ASCII character that comes into a text or goes from it: one byte that is its own character.
+use Rattle.std.proofs.Common.{◌≡◌, ℕ, ◌+◌, ◌<◌, List, [], ◌∷◌, ◌++◌, length, take, slice_set, zero, suc, ap, sym, ◌∙◌, arith}
+use Rattle.std.proofs.lemmas.List.{take_more_set}
+use Rattle.std.proofs.lemmas.Str.{IsUtf8-append, IsUtf8-from_ascii, chars-append, chars-IsAscii}
+use Rattle.std.specs.List.{replace_range}
+use Rattle.std.specs.Str.{IsUtf8, IsAscii}
+use Rattle.compact_text.specs.Text.{size, text_of}
+use Rattle.compact_text.specs.Cut.{IsBoundary, replaced_text}
+use Rattle.compact_text.proofs.Texts.{size-text_of}
+use Rattle.compact_text.proofs.Cuts.{size-replaced, text_of-replaced, utf8-replaced, text_of-cut_out, utf8-cut_out}
+
+is_ascii : (byte : ℕ) → byte < 128 → IsAscii (byte ∷ [])
+is_ascii byte h zero = h
+is_ascii byte h (suc i) = omega arith
+
+pub ascii-inserted : {t : List ℕ} (bytes : List ℕ) (index byte : ℕ) → text_of bytes ≡ t → IsUtf8 bytes → byte < 128 → IsBoundary t index
+    → text_of (replace_range bytes index index (byte ∷ [])) ≡ replaced_text t index index (byte ∷ [])
+ascii-inserted {t} bytes index byte e u h b =
+    text_of-replaced bytes (byte ∷ []) index index e u (IsUtf8-from_ascii _ (is_ascii byte h)) b b
+    ∙ ap (λ (s : List ℕ). replaced_text t index index s) (chars-IsAscii _ (is_ascii byte h))
+
+pub utf8-ascii-inserted : {t : List ℕ} (bytes : List ℕ) (index byte : ℕ) → text_of bytes ≡ t → IsUtf8 bytes → byte < 128 → IsBoundary t index
+    → IsUtf8 (replace_range bytes index index (byte ∷ []))
+utf8-ascii-inserted bytes index byte e u h b = utf8-replaced bytes (byte ∷ []) index index e u (IsUtf8-from_ascii _ (is_ascii byte h)) b b
+
+pub size-ascii-inserted : (t : List ℕ) (index byte : ℕ) → byte < 128 → IsBoundary t index → size (replaced_text t index index (byte ∷ [])) ≡ size t + 1
+size-ascii-inserted t index byte h b =
+    let whole = size-replaced t (byte ∷ []) index index b b (omega arith) in
+    let one : size (byte ∷ []) ≡ 1 = ap size (sym (chars-IsAscii _ (is_ascii byte h))) ∙ size-text_of (byte ∷ []) (IsUtf8-from_ascii _ (is_ascii byte h)) in
+    omega (arith, whole, one)
+
+pub ascii-removed : {t : List ℕ} (bytes : List ℕ) (index : ℕ) → text_of bytes ≡ t → IsUtf8 bytes → IsBoundary t index → IsBoundary t (index + 1)
+    → text_of (replace_range bytes index (index + 1) []) ≡ replaced_text t index (index + 1) []
+ascii-removed bytes index e u b n = text_of-cut_out bytes index (index + 1) e u b n
+
+pub utf8-ascii-removed : {t : List ℕ} (bytes : List ℕ) (index : ℕ) → text_of bytes ≡ t → IsUtf8 bytes → IsBoundary t index → IsBoundary t (index + 1)
+    → IsUtf8 (replace_range bytes index (index + 1) [])
+utf8-ascii-removed bytes index e u b n = utf8-cut_out bytes index (index + 1) e u b n
+
+-- one that is written behind the first bytes of a row
+pub ascii-behind : (slice : List ℕ) (n byte : ℕ) → n < length slice → IsUtf8 (take n slice) → byte < 128 → IsUtf8 (take (n + 1) (slice_set slice n byte))
+ascii-behind slice n byte l u h = rw (take_more_set slice n byte l) (IsUtf8-append _ _ u (IsUtf8-from_ascii _ (is_ascii byte h)))
+
+pub text_of-ascii_behind : {t : List ℕ} (slice : List ℕ) (n byte : ℕ) → n < length slice → text_of (take n slice) ≡ t → IsUtf8 (take n slice) → byte < 128
+    → text_of (take (n + 1) (slice_set slice n byte)) ≡ t ++ byte ∷ []
+text_of-ascii_behind {t} slice n byte l e u h =
+    ap text_of (take_more_set slice n byte l) ∙ chars-append _ (byte ∷ []) u ∙ ap (λ s. s ++ text_of (byte ∷ [])) e
+    ∙ ap (λ s. t ++ s) (chars-IsAscii _ (is_ascii byte h))

@@ -1,0 +1,116 @@
+-- Characters that are kept, one after another, in a slice of bytes.
+use Rattle.std.proofs.Common.{◌≡◌, ◌∙◌, refl, ap, sym, subst, arith, ℕ, ◌+◌, ◌-◌, ◌<◌, ◌≤◌, List, [], ◌∷◌, ◌++◌, length, take, drop, Bool, true, false, cond, inl, inr, append_assoc, append-nil, length-append}
+use Rattle.std.proofs.lemmas.List.{length-drop, drop-drop, drop_all}
+use Rattle.std.proofs.lemmas.Bool.{cases_lt}
+use Rattle.std.proofs.lemmas.Str.{encode_ascii, byte_from_char, encodes-chars, len_utf8_ascii, drop_past_char, chars_past_char, IsUtf8-past_char, IsUtf8-append, IsUtf8-encode, IsUtf8-nil, chars-nil, length-encode}
+use Rattle.std.specs.Char.{len_utf8, IsScalar}
+use Rattle.std.specs.Fn.{Called, Mut}
+use Rattle.std.specs.Str.{IsUtf8}
+use lib.ListN.{get_or}
+use Rattle.std.proofs.Math.Seq.{drop-cons}
+use lib.Utf8.{encode, encodes}
+use Rattle.compact_text.specs.Text.{text_of}
+use Rattle.compact_text.specs.Retain.{RetainsCharsTo}
+use Rattle.compact_text.proofs.Cuts.{text_of-last}
+
+-- what stands behind the character that begins at a place
+pub behind_char : (slice rest : List ℕ) (at c : ℕ) → drop at slice ≡ encode c ++ rest → drop at slice ≡ encode c ++ drop (at + len_utf8 c) slice
+behind_char slice rest at c e = e ∙ ap (λ (l : List ℕ). encode c ++ l) (sym (drop_past_char slice rest at c e))
+
+pub within_char : (slice rest : List ℕ) (at c : ℕ) → at < length slice → drop at slice ≡ encode c ++ rest → at + len_utf8 c ≤ length slice
+within_char slice rest at c h e = omega (arith, h, ap length e, length-drop at slice, length-append (encode c) rest, length-encode c)
+
+pub utf8-behind_char : (slice rest : List ℕ) (at c : ℕ) → IsUtf8 (drop at slice) → drop at slice ≡ encode c ++ rest → IsUtf8 (drop (at + len_utf8 c) slice)
+utf8-behind_char slice rest at c u e = subst IsUtf8 (sym (drop_past_char slice rest at c e)) (IsUtf8-past_char (drop at slice) rest c u e)
+
+-- one more character in front
+keeps-step : {F : Type 0} (g : Mut F (ℕ × Unit {0}) Bool) (f h last : F) (c : ℕ) (b : Bool) (t u : List ℕ) → Called g f (c, tt) b h → RetainsCharsTo g h t u last → RetainsCharsTo g f (c ∷ t) (cond b (c ∷ u) u) last
+keeps-step g f h last c true t u s k = (true ∷ k.0, omega (arith, k.1), (h, s, k.2), ap (λ l. c ∷ l) k.3)
+keeps-step g f h last c false t u s k = (false ∷ k.0, omega (arith, k.1), (h, s, k.2), k.3)
+
+pub keeps-nil : {F : Type 0} (g : Mut F (ℕ × Unit {0}) Bool) (f : F) → RetainsCharsTo g f [] [] f
+keeps-nil g f = ([], refl, refl, refl)
+
+-- what is kept of the rest goes on what is kept so far
+abbrev pub GoesOn : {F : Type 0} → Mut F (ℕ × Unit {0}) Bool → F → List ℕ → F → List ℕ → List ℕ → Type 0
+GoesOn {F} g first whole f done rest = (u : List ℕ) (last : F) → RetainsCharsTo g f rest u last → RetainsCharsTo g first whole (done ++ u) last
+
+pub goes_on-kept : {F : Type 0} (g : Mut F (ℕ × Unit {0}) Bool) (first f h : F) (whole t r done : List ℕ) (c : ℕ) → t ≡ c ∷ r → Called g f (c, tt) true h → GoesOn g first whole f done t → GoesOn g first whole h (done ++ c ∷ []) r
+goes_on-kept g first f h whole t r done c e called so u last k =
+    subst (λ (l : List ℕ). RetainsCharsTo g first whole l last) (sym (append_assoc done (c ∷ []) u))
+    (so (c ∷ u) last (subst (λ (x : List ℕ). RetainsCharsTo g f x (c ∷ u) last) (sym e) (keeps-step g f h last c true r u called k)))
+
+pub goes_on-dropped : {F : Type 0} (g : Mut F (ℕ × Unit {0}) Bool) (first f h : F) (whole t r done : List ℕ) (c : ℕ) → t ≡ c ∷ r → Called g f (c, tt) false h → GoesOn g first whole f done t → GoesOn g first whole h done r
+goes_on-dropped g first f h whole t r done c e called so u last k =
+    so u last (subst (λ (x : List ℕ). RetainsCharsTo g f x u last) (sym e) (keeps-step g f h last c false r u called k))
+
+pub goes_on-end : {F : Type 0} (g : Mut F (ℕ × Unit {0}) Bool) (first f : F) (whole done : List ℕ) → GoesOn g first whole f done [] → RetainsCharsTo g first whole done f
+goes_on-end g first f whole done so = subst (λ (l : List ℕ). RetainsCharsTo g first whole l f) (append-nil done) (so [] f (keeps-nil g f))
+
+-- the bytes of a text with a character written behind them
+pub utf8-put : (bytes : List ℕ) (c : ℕ) → IsScalar c → IsUtf8 bytes → IsUtf8 (bytes ++ encode c)
+utf8-put bytes c s u = IsUtf8-append bytes (encode c) u (IsUtf8-encode c s)
+
+pub text_of-put : (bytes : List ℕ) (c : ℕ) → IsScalar c → IsUtf8 bytes → text_of (bytes ++ encode c) ≡ text_of bytes ++ c ∷ []
+text_of-put bytes c s u = text_of-last (bytes ++ encode c) bytes c (utf8-put bytes c s u) u refl
+
+-- slices that agree from one place on agree from a later one on
+pub drop-later : (xs ys : List ℕ) (i j : ℕ) → i ≤ j → drop i xs ≡ drop i ys → drop j xs ≡ drop j ys
+drop-later xs ys i j h e =
+    let later : i + (j - i) ≡ j = omega arith in
+    ap (λ (n : ℕ). drop n xs) (sym later) ∙ sym (drop-drop (j - i) i xs) ∙ ap (λ (l : List ℕ). drop (j - i) l) e ∙ drop-drop (j - i) i ys ∙ ap (λ (n : ℕ). drop n ys) later
+
+-- a loop over a slice: what is kept stands at its front, and what is not yet asked from `read` on
+abbrev pub Stands : {F : Type 0} → Mut F (ℕ × Unit {0}) Bool → F → List ℕ → F → List ℕ → ℕ → ℕ → Type 0
+Stands g first whole f slice kept read =
+    IsUtf8 (drop read slice) × IsUtf8 (take kept slice) × GoesOn g first whole f (text_of (take kept slice)) (text_of (drop read slice))
+
+pub stands-kept : {F : Type 0} (g : Mut F (ℕ × Unit {0}) Bool) (first f h : F) (whole slice now : List ℕ) (kept read n c : ℕ) (said : Bool)
+    → said ≡ true → Called g f (c, tt) said h → IsScalar c → kept ≤ read → drop read slice ≡ encode c ++ drop (read + n) slice → IsUtf8 (drop (read + n) slice)
+    → take (kept + n) now ≡ take kept slice ++ encode c → drop (kept + n) now ≡ drop (kept + n) slice
+    → Stands g first whole f slice kept read → Stands g first whole h now (kept + n) (read + n)
+stands-kept g first f h whole slice now kept read n c said says called s order e u front behind stands =
+    let later : drop (read + n) now ≡ drop (read + n) slice = drop-later now slice (kept + n) (read + n) (omega (arith, order)) behind in
+    let text : text_of (take (kept + n) now) ≡ text_of (take kept slice) ++ c ∷ [] = ap (λ (l : List ℕ). text_of l) front ∙ text_of-put (take kept slice) c s stands.1 in
+    let rest = chars_past_char (drop read slice) (drop (read + n) slice) c stands.0 e in
+    let on = goes_on-kept g first f h whole (text_of (drop read slice)) (text_of (drop (read + n) slice)) (text_of (take kept slice)) c rest (subst (λ (b : Bool). Called g f (c, tt) b h) says called) stands.2 in (
+      subst IsUtf8 (sym later) u,
+      subst IsUtf8 (sym front) (utf8-put (take kept slice) c s stands.1),
+      subst (λ (l : List ℕ). GoesOn g first whole h (text_of (take (kept + n) now)) (text_of l)) (sym later)
+          (subst (λ (l : List ℕ). GoesOn g first whole h l (text_of (drop (read + n) slice))) (sym text) on),
+    )
+
+-- where the answer is false the slice stays
+pub stands-dropped : {F : Type 0} (g : Mut F (ℕ × Unit {0}) Bool) (first f h : F) (whole slice : List ℕ) (kept read n c : ℕ) (said : Bool)
+    → said ≡ false → Called g f (c, tt) said h → drop read slice ≡ encode c ++ drop (read + n) slice → IsUtf8 (drop (read + n) slice)
+    → Stands g first whole f slice kept read → Stands g first whole h slice kept (read + n)
+stands-dropped g first f h whole slice kept read n c said says called e u stands =
+    let rest = chars_past_char (drop read slice) (drop (read + n) slice) c stands.0 e in
+    (u, stands.1, goes_on-dropped g first f h whole (text_of (drop read slice)) (text_of (drop (read + n) slice)) (text_of (take kept slice)) c rest (subst (λ (b : Bool). Called g f (c, tt) b h) says called) stands.2)
+
+pub stands-first : {F : Type 0} (g : Mut F (ℕ × Unit {0}) Bool) (first : F) (slice : List ℕ) → IsUtf8 slice → Stands g first (text_of slice) first slice 0 0
+stands-first g first slice u = (u, IsUtf8-nil, λ v last k. subst (λ (l : List ℕ). RetainsCharsTo g first (text_of slice) l last) (ap (λ (l : List ℕ). l ++ v) (sym chars-nil)) k)
+
+pub stands-last : {F : Type 0} (g : Mut F (ℕ × Unit {0}) Bool) (first f : F) (whole slice : List ℕ) (kept read : ℕ) → length slice ≤ read → Stands g first whole f slice kept read → RetainsCharsTo g first whole (text_of (take kept slice)) f
+stands-last g first f whole slice kept read h stands =
+    let none : text_of (drop read slice) ≡ [] = ap (λ (l : List ℕ). text_of l) (drop_all read slice h) ∙ chars-nil in
+    goes_on-end g first f whole (text_of (take kept slice)) (subst (λ (l : List ℕ). GoesOn g first whole f (text_of (take kept slice)) l) none stands.2)
+
+-- a text whose first byte is ASCII begins with that character
+pub first_ascii : {text : List ℕ} (bytes : List ℕ) (b c : ℕ) → bytes ≡ text → IsUtf8 text → 0 < length bytes → b ≡ get_or bytes 0 0 → b < 128 → c ≡ b
+    → (len_utf8 c ≡ 1) × ((rest : List ℕ) × (text_of text ≡ c ∷ rest))
+first_ascii {text} bytes b c e u some is low same =
+    let head : bytes ≡ b ∷ drop 1 bytes = drop-cons bytes 0 0 some ∙ ap (λ (x : ℕ). x ∷ drop 1 bytes) (sym is) in
+    let split : text ≡ encode c ++ drop 1 bytes =
+    sym e ∙ head ∙ ap (λ (l : List ℕ). l ++ drop 1 bytes) (sym (encode_ascii b low)) ∙ ap (λ (x : ℕ). encode x ++ drop 1 bytes) (sym same) in
+    (len_utf8_ascii c (omega (arith, same, low)), (text_of (drop 1 bytes), chars_past_char text (drop 1 bytes) c u split))
+
+-- a text whose first byte is past ASCII begins with no character of ASCII
+pub first_past_ascii : {text : List ℕ} (bytes : List ℕ) (b : ℕ) → bytes ≡ text → IsUtf8 text → b ≡ get_or bytes 0 0 → 128 ≤ b
+    → (c : ℕ) (rest : List ℕ) → text_of text ≡ c ∷ rest → 128 ≤ c
+first_past_ascii {text} bytes b e u is high c rest split =
+    let spelled : bytes ≡ encode c ++ encodes rest = e ∙ sym (encodes-chars text u) ∙ ap encodes split in
+    elim (cases_lt c 128) [
+      | inl low ↦ absurd (omega (arith, is, high, low, byte_from_char bytes (encodes rest) c spelled low))
+      | inr h ↦ h
+    ]

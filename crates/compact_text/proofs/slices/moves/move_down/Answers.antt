@@ -1,0 +1,7 @@
+use Rattle.std.proofs.Common.{◌+◌, ◌-◌, refl, arith}
+use Rattle.compact_text.proofs.Parts.{part-down}
+use Rattle.compact_text.proofs.slices.moves.move_down.Goals as goal
+
+pub returns : goal.returns
+returns g c =
+    rw c.move_part_down.ensures (part-down c.args.slice.now _ c.args.to g.row.DISTANCE c.args.count (c.args.to + g.row.DISTANCE + c.args.count - c.args.to) (omega arith) c.requires refl)

@@ -1,0 +1,21 @@
+use Rattle.std.proofs.Common.{◌∙◌, ◌+◌, ◌-◌, drop, arith}
+use Rattle.std.proofs.lemmas.List.Edits.{paste_none}
+use Rattle.compact_text.proofs.Shifts.{shifted-down}
+use Rattle.compact_text.proofs.slices.moves.shift_down.Goals as goal
+
+pub moves-init : goal.moves-init
+moves-init c = (omega arith, paste_none c.args.slice.now c.args.to (drop c.args.from c.args.slice.now))
+
+pub moves-preserved : goal.moves-preserved
+moves-preserved c = (
+  omega arith,
+  c.copy_both_ends.ensures
+      ∙ shifted-down c.args.slice.now c.moves.slice c.args.from c.args.to c.moves.done 64 (c.args.from + c.moves.done) (c.args.to + c.moves.done) (c.moves.done + 64)
+      (omega arith) (omega arith) (omega arith) (omega arith) (omega arith) c.moves.invariant.1,
+)
+
+pub returns : goal.returns
+returns c =
+    c.copy_up_to_128.ensures
+    ∙ shifted-down c.args.slice.now c.moves.slice c.args.from c.args.to c.moves.done (c.args.count - c.moves.done) (c.args.from + c.moves.done) (c.args.to + c.moves.done) c.args.count
+    (omega arith) (omega arith) (omega arith) (omega arith) (omega arith) c.moves.invariant.1

@@ -1,0 +1,27 @@
+use Rattle.std.proofs.Common.{◌≡◌, ℕ, ◌-◌, ◌+◌, drop, ap, ◌∙◌, arith}
+use Rattle.std.proofs.lemmas.List.Edits.{paste_none}
+use lib.Seq.{paste}
+use Rattle.compact_text.proofs.Shifts.{shifted-up}
+use Rattle.compact_text.proofs.slices.moves.shift_up.Goals as goal
+
+pub moves-init : goal.moves-init
+moves-init c =
+    let none : 0 ≡ c.args.count - c.args.count = omega arith in (
+      omega arith,
+      paste_none c.args.slice.now (c.args.to + c.args.count) (drop (c.args.from + c.args.count) c.args.slice.now)
+          ∙ ap (λ (n : ℕ). paste c.args.slice.now (c.args.to + c.args.count) (drop (c.args.from + c.args.count) c.args.slice.now) n) none,
+    )
+
+pub moves-preserved : goal.moves-preserved
+moves-preserved c = (
+  omega arith,
+  c.copy_both_ends.ensures
+      ∙ shifted-up c.args.slice.now c.moves.slice (c.args.from + (c.moves.left - 64)) (c.args.to + (c.moves.left - 64)) 64 (c.args.count - c.moves.left) (c.args.from + c.moves.left) (c.args.to + c.moves.left) (c.args.count - (c.moves.left - 64))
+      (omega arith) (omega arith) (omega arith) (omega arith) (omega arith) c.moves.invariant.1,
+)
+
+pub returns : goal.returns
+returns c =
+    c.copy_up_to_128.ensures
+    ∙ shifted-up c.args.slice.now c.moves.slice c.args.from c.args.to c.moves.left (c.args.count - c.moves.left) (c.args.from + c.moves.left) (c.args.to + c.moves.left) c.args.count
+    (omega arith) (omega arith) (omega arith) (omega arith) (omega arith) c.moves.invariant.1

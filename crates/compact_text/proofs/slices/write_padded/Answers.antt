@@ -1,0 +1,8 @@
+use Rattle.std.proofs.Common.{take, ◌+◌, ap, ◌∙◌}
+use Rattle.compact_text.proofs.SplicedSlices.{padded}
+use Rattle.compact_text.proofs.slices.write_padded.Goals as goal
+
+pub returns : goal.returns
+returns c =
+    ap (take (c.args.at + c.args.count)) c.set_chunk.ensures
+    ∙ padded c.args.slice.now c.args.source.now c.chunk.result c.args.at c.args.count c.requires.most c.requires.target c.chunk.ensures.bytes c.chunk.ensures.lanes

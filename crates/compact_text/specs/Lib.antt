@@ -1,0 +1,4 @@
+pub mod Text
+pub mod Cut
+pub mod Retain
+pub mod WordBytes

@@ -1,0 +1,138 @@
+//! Work on slices of bytes, in few wide reads and writes.
+ghost use Rattle.std.specs.Prelude.{◌≡◌, ◌+◌, ◌-◌, ◌≤◌, ◌<◌, [], ◌∷◌, ◌++◌, length, take, drop};
+ghost use Rattle.std.specs.List.{replace_range};
+ghost use lib.Seq.{paste};
+
+mod bytewise;
+mod chunks;
+mod filter;
+mod moves;
+
+pub use bytewise::{fill_zero, make_lowercase, make_uppercase};
+use chunks::{chunk, set_chunk};
+pub use filter::retain;
+use moves::{move_down, move_up, shift};
+
+/// Of the first `len` bytes of `slice` replaces those from `start` to `end` by `source`. The tail moves once.
+#[inline]
+pub fn splice(slice: &mut [u8], len: usize, start: usize, end: usize, source: &[u8])
+    requires order { start ≤ end }
+    requires within { end ≤ len }
+    requires long_enough { len ≤ length slice.old }
+    requires room { len + length source.now ≤ length slice.old + (end - start) }
+    ensures { take (len - (end - start) + length source.now) slice.new
+        ≡ replace_range (take len slice.old) start end source.now }
+{
+    shift(slice, end, start + source.len(), len - end);
+    write(slice, start, source);
+}
+
+/// Puts `byte` in at a place of the first `len` bytes of `slice`; what stands from there on moves one place up.
+#[inline(always)]
+pub fn insert_byte(slice: &mut [u8], len: usize, index: usize, byte: u8)
+    requires within { index ≤ len }
+    requires long_enough { len < length slice.old }
+    ensures { take (len + 1) slice.new
+        ≡ replace_range (take len slice.old) index index (byte ∷ []) }
+{
+    move_up::<1>(slice, index, len - index);
+    write(slice, index, &[byte]);
+}
+
+/// Takes the byte at a place of the first `len` bytes of `slice` out; what stands behind it moves one place down.
+#[inline(always)]
+pub fn remove_byte(slice: &mut [u8], len: usize, index: usize)
+    requires within { index < len }
+    requires long_enough { len ≤ length slice.old }
+    ensures { take (len - 1) slice.new ≡ replace_range (take len slice.old) index (index + 1) [] }
+{
+    move_down::<1>(slice, index, len - index - 1);
+}
+
+/// Takes the bytes from `start` to `end` out of the first `len` bytes of `slice`. The tail moves once.
+#[inline(always)]
+pub fn cut_out(slice: &mut [u8], len: usize, start: usize, end: usize)
+    requires order { start ≤ end }
+    requires within { end ≤ len }
+    requires long_enough { len ≤ length slice.old }
+    ensures { take (len - (end - start)) slice.new
+        ≡ replace_range (take len slice.old) start end [] }
+{
+    shift(slice, end, start, len - end);
+}
+
+/// Writes `source` at a place of `slice`.
+#[inline(always)]
+#[tactic(auto, using(crate::proofs::SplicedSlices::appended))]
+pub fn write(slice: &mut [u8], at: usize, source: &[u8])
+    requires { at + length source.now ≤ length slice.old }
+    ensures written { slice.new ≡ paste slice.old at source.now (length source.now) }
+    ensures behind { take (at + length source.now) slice.new ≡ take at slice.old ++ source.now }
+{
+    if source.len() > MAX_SHORT_LEN {
+        write_long(slice, at, source);
+    } else {
+        write_short(slice, at, source);
+    }
+}
+
+/// The most bytes that `write_short` takes.
+pub const MAX_SHORT_LEN: usize = 32;
+
+/// Writes `source`, of at most 32 bytes, at a place of `slice`: its first and its last 16, 8, 4, 2 or 1, and no loop.
+#[inline(always)]
+#[tactic(auto, using(crate::proofs::SplicedSlices::appended))]
+pub fn write_short(slice: &mut [u8], at: usize, source: &[u8])
+    requires short { length source.now ≤ 32 }
+    requires target { at + length source.now ≤ length slice.old }
+    ensures written { slice.new ≡ paste slice.old at source.now (length source.now) }
+    ensures behind { take (at + length source.now) slice.new ≡ take at slice.old ++ source.now }
+{
+    let count = source.len();
+    if count > 16 {
+        write_ends::<16>(slice, at, source);
+    } else if count >= 8 {
+        write_ends::<8>(slice, at, source);
+    } else if count >= 4 {
+        write_ends::<4>(slice, at, source);
+    } else if count >= 2 {
+        write_ends::<2>(slice, at, source);
+    } else if count == 1 {
+        write_ends::<1>(slice, at, source);
+    }
+}
+
+/// Writes the first `count` bytes of `source` at a place of `slice`, and the others behind them, with no look at how many
+/// are wanted.
+#[inline(always)]
+pub fn write_padded(slice: &mut [u8], at: usize, source: &[u8; 16], count: usize)
+    requires most { count ≤ 16 }
+    requires target { at + 16 ≤ length slice.old }
+    ensures { take (at + count) slice.new ≡ take at slice.old ++ take count source.now }
+{
+    set_chunk(slice, at, chunk::<16>(source, 0));
+}
+
+/// `write` by one copy, apart: so few steps are left of a short write that they stand where it is called.
+#[inline(never)]
+fn write_long(slice: &mut [u8], at: usize, source: &[u8])
+    requires { at + length source.now ≤ length slice.old }
+    ensures { slice.new ≡ paste slice.old at source.now (length source.now) }
+{
+    slice[at..at + source.len()].copy_from_slice(source);
+}
+
+/// Writes the bytes of `source`, which are at least `N` and at most twice as many, as the first `N` and the last `N` of them.
+#[inline(always)]
+fn write_ends<const N: usize>(slice: &mut [u8], at: usize, source: &[u8])
+    requires least { N ≤ length source.now }
+    requires most { length source.now ≤ N + N }
+    requires target { at + length source.now ≤ length slice.old }
+    ensures { slice.new ≡ paste slice.old at source.now (length source.now) }
+{
+    let count = source.len();
+    let first = chunk::<N>(source, 0);
+    let last = chunk::<N>(source, count - N);
+    set_chunk(slice, at, first);
+    set_chunk(slice, at + (count - N), last);
+}

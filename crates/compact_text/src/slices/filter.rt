@@ -1,0 +1,115 @@
+//! Which characters of a text in a slice stay.
+ghost use Rattle.std.specs.Prelude.{◌≡◌, ◌+◌, ◌≤◌, ◌<◌, ◌++◌, length, take, drop, IfSome, IsSome};
+ghost use Rattle.std.specs.Char.{len_utf8, encode_utf8, IsScalar};
+ghost use Rattle.std.specs.Str.{IsUtf8};
+ghost use Rattle.compact_text.specs.Text.{text_of};
+ghost use Rattle.compact_text.specs.Retain.{RetainsCharsTo};
+
+use super::write;
+
+/// Of the text in the first `len` bytes of `slice` moves to the front the characters for which `keep`, asked once of each in
+/// order, answers true. Answers how many bytes they take.
+#[inline(always)]
+pub fn retain<F: FnMut(char) -> bool>(slice: &mut [u8], len: usize, keep: &mut F) -> usize
+    requires long_enough { len ≤ length slice.old }
+    requires utf8 { IsUtf8 (take len slice.old) }
+    requires callable { F.IsAlwaysCallable keep.old }
+    ensures text { RetainsCharsTo F.FnMut keep.old (text_of (take len slice.old))
+        (text_of (take result slice.new)) keep.new }
+    ensures callable { F.IsAlwaysCallable keep.new }
+    ensures utf8 { IsUtf8 (take result slice.new) }
+    ensures within { result ≤ len }
+{
+    move_retained(&mut slice[..len], keep)
+}
+
+/// `retain` of a whole slice. It goes once over the slice, and a character moves where it is kept.
+#[inline(always)]
+fn move_retained<F: FnMut(char) -> bool>(slice: &mut [u8], keep: &mut F) -> usize
+    requires utf8 { IsUtf8 slice.old }
+    requires callable { F.IsAlwaysCallable keep.old }
+    ensures text { RetainsCharsTo F.FnMut keep.old (text_of slice.old)
+        (text_of (take result slice.new)) keep.new }
+    ensures callable { F.IsAlwaysCallable keep.new }
+    ensures utf8 { IsUtf8 (take result slice.new) }
+    ensures within { result ≤ length slice.old }
+{
+    let mut read = 0;
+    let mut kept = 0;
+    while read < slice.len() {
+        // A place that hangs on the answers would hold the next read up, so nothing is written ahead of an answer.
+        while let Some(character) = ascii_at(slice, read) {
+            if keep(character) {
+                write_char(slice, kept, character, 1);
+                kept += 1;
+            }
+            read += 1;
+        }
+        if read < slice.len() {
+            let (character, width) = char_from(slice, read);
+            if keep(character) {
+                write_char(slice, kept, character, width);
+                kept += width;
+            }
+            read += width;
+        }
+    }
+    kept
+}
+
+/// The character at a place of `slice` where it is one of ASCII, else `None`; so it is at the end.
+#[inline(always)]
+fn ascii_at(slice: &[u8], at: usize) -> Option<char>
+    requires utf8 { IsUtf8 (drop at slice.now) }
+    ensures encoded { IfSome result
+        (λ c. drop at slice.now ≡ encode_utf8 c ++ drop (at + 1) slice.now) }
+    ensures width { IfSome result (λ c. 1 ≡ len_utf8 c) }
+    ensures within { IsSome result → at + 1 ≤ length slice.now }
+    ensures rest { IsSome result → IsUtf8 (drop (at + 1) slice.now) }
+    ensures scalar { IfSome result (λ c. IsScalar c) }
+{
+    if at < slice.len() && slice[at] < 128 {
+        return Some(char::from(slice[at]));
+    }
+    None
+}
+
+/// The character that begins at a place of `slice`, and how many bytes it has.
+#[inline(always)]
+fn char_from(slice: &[u8], at: usize) -> (char, usize)
+    requires utf8 { IsUtf8 (drop at slice.now) }
+    requires inside { at < length slice.now }
+    ensures encoded { drop at slice.now ≡ encode_utf8 result.0 ++ drop (at + result.1) slice.now }
+    ensures width { result.1 ≡ len_utf8 result.0 }
+    ensures within { at + result.1 ≤ length slice.now }
+    ensures rest { IsUtf8 (drop (at + result.1) slice.now) }
+    ensures scalar { IsScalar result.0 }
+{
+    let byte = slice[at];
+    if byte < 128 {
+        return (char::from(byte), 1);
+    }
+    match unsafe { std::str::from_utf8_unchecked(&slice[at..]) }
+        .chars()
+        .next()
+    {
+        Some(character) => (character, character.len_utf8()),
+        None => unreachable!(),
+    }
+}
+
+/// Writes a character of that many bytes at a place of `slice`.
+#[inline(always)]
+fn write_char(slice: &mut [u8], at: usize, character: char, width: usize)
+    requires room { at + width ≤ length slice.old }
+    requires width { width ≡ len_utf8 character }
+    ensures front { take (at + width) slice.new ≡ take at slice.old ++ encode_utf8 character }
+    ensures behind { drop (at + width) slice.new ≡ drop (at + width) slice.old }
+{
+    if width == 1 {
+        slice[at] = character as u8;
+        return;
+    }
+    let mut bytes = [0; 4];
+    write(slice, at, character.encode_utf8(&mut bytes).as_bytes());
+}

@@ -1,0 +1,152 @@
+//! Moves within a slice of bytes, where the old and the new places may overlap.
+//!
+//! Up to 128 bytes move by their two ends, which are both read before either is written. More of them move at once where
+//! they go by one to four places, and else in blocks of 64, from the end where the new place is the later one.
+ghost use Rattle.std.specs.Prelude.{◌≡◌, ◌+◌, ◌-◌, ◌≤◌, length, drop};
+ghost use lib.Seq.{paste};
+
+use super::chunks::{chunk, set_chunk};
+
+/// Moves `count` bytes of `slice` from one place to another, which may overlap.
+#[inline(always)]
+#[tactic(auto, using(crate::proofs::Shifts::shifts))]
+pub fn shift(slice: &mut [u8], from: usize, to: usize, count: usize)
+    requires source { from + count ≤ length slice.old }
+    requires target { to + count ≤ length slice.old }
+    ensures { slice.new ≡ paste slice.old to (drop from slice.old) count }
+{
+    if count <= 2 * BLOCK {
+        copy_up_to_128(slice, from, to, count);
+    } else if from < to {
+        match to - from {
+            1 => move_up::<1>(slice, from, count),
+            2 => move_up::<2>(slice, from, count),
+            3 => move_up::<3>(slice, from, count),
+            4 => move_up::<4>(slice, from, count),
+            _ => shift_up(slice, from, to, count),
+        }
+    } else if to < from {
+        match from - to {
+            1 => move_down::<1>(slice, to, count),
+            2 => move_down::<2>(slice, to, count),
+            3 => move_down::<3>(slice, to, count),
+            4 => move_down::<4>(slice, to, count),
+            _ => shift_down(slice, from, to, count),
+        }
+    }
+}
+
+/// Moves `count` bytes up by `DISTANCE` places.
+#[inline(always)]
+pub fn move_up<const DISTANCE: usize>(slice: &mut [u8], from: usize, count: usize)
+    requires { from + DISTANCE + count ≤ length slice.old }
+    ensures { slice.new ≡ paste slice.old (from + DISTANCE) (drop from slice.old) count }
+{
+    move_part_up::<DISTANCE>(&mut slice[from..from + DISTANCE + count]);
+}
+
+/// Moves `count` bytes down by `DISTANCE` places.
+#[inline(always)]
+pub fn move_down<const DISTANCE: usize>(slice: &mut [u8], to: usize, count: usize)
+    requires { to + DISTANCE + count ≤ length slice.old }
+    ensures { slice.new ≡ paste slice.old to (drop (to + DISTANCE) slice.old) count }
+{
+    move_part_down::<DISTANCE>(&mut slice[to..to + DISTANCE + count]);
+}
+
+/// Moves all but the last `DISTANCE` bytes up by as many places.
+///
+/// It stands alone, with the distance known, so that the compiler makes one `memmove` of it.
+#[inline(never)]
+fn move_part_up<const DISTANCE: usize>(part: &mut [u8])
+    requires { DISTANCE ≤ length part.old }
+    ensures { part.new ≡ paste part.old DISTANCE part.old (length part.old - DISTANCE) }
+{
+    let count = part.len() - DISTANCE;
+    part.copy_within(0..count, DISTANCE);
+}
+
+/// Moves all but the first `DISTANCE` bytes down by as many places.
+///
+/// It stands alone, with the distance known, so that the compiler makes one `memmove` of it.
+#[inline(never)]
+fn move_part_down<const DISTANCE: usize>(part: &mut [u8])
+    requires { DISTANCE ≤ length part.old }
+    ensures { part.new ≡ paste part.old 0 (drop DISTANCE part.old) (length part.old - DISTANCE) }
+{
+    let len = part.len();
+    part.copy_within(DISTANCE..len, 0);
+}
+
+/// As many bytes move at once.
+const BLOCK: usize = 64;
+
+/// Moves bytes to a later place, the last ones first.
+#[inline(never)]
+fn shift_up(slice: &mut [u8], from: usize, to: usize, count: usize)
+    requires upward { from ≤ to }
+    requires target { to + count ≤ length slice.old }
+    ensures { slice.new ≡ paste slice.old to (drop from slice.old) count }
+{
+    let mut left = count;
+    'moves: while BLOCK < left {
+        left -= BLOCK;
+        copy_both_ends::<BLOCK>(slice, from + left, to + left, BLOCK);
+    }
+    copy_up_to_128(slice, from, to, left);
+}
+
+/// Moves bytes to an earlier place, the first ones first.
+#[inline(never)]
+fn shift_down(slice: &mut [u8], from: usize, to: usize, count: usize)
+    requires downward { to ≤ from }
+    requires source { from + count ≤ length slice.old }
+    ensures { slice.new ≡ paste slice.old to (drop from slice.old) count }
+{
+    let mut done = 0;
+    'moves: while BLOCK < count - done {
+        copy_both_ends::<BLOCK>(slice, from + done, to + done, BLOCK);
+        done += BLOCK;
+    }
+    copy_up_to_128(slice, from + done, to + done, count - done);
+}
+
+/// Moves at most two blocks of bytes.
+#[inline(always)]
+fn copy_up_to_128(slice: &mut [u8], from: usize, to: usize, count: usize)
+    requires two_blocks { count ≤ 128 }
+    requires source { from + count ≤ length slice.old }
+    requires target { to + count ≤ length slice.old }
+    ensures { slice.new ≡ paste slice.old to (drop from slice.old) count }
+{
+    if count >= 64 {
+        copy_both_ends::<64>(slice, from, to, count);
+    } else if count >= 32 {
+        copy_both_ends::<32>(slice, from, to, count);
+    } else if count >= 16 {
+        copy_both_ends::<16>(slice, from, to, count);
+    } else if count >= 8 {
+        copy_both_ends::<8>(slice, from, to, count);
+    } else if count >= 4 {
+        copy_both_ends::<4>(slice, from, to, count);
+    } else if count >= 2 {
+        copy_both_ends::<2>(slice, from, to, count);
+    } else if count == 1 {
+        copy_both_ends::<1>(slice, from, to, count);
+    }
+}
+
+/// Moves `count` bytes, which are at least `N` and at most twice as many, as the first `N` and the last `N` of them.
+#[inline(always)]
+fn copy_both_ends<const N: usize>(slice: &mut [u8], from: usize, to: usize, count: usize)
+    requires least { N ≤ count }
+    requires most { count ≤ N + N }
+    requires source { from + count ≤ length slice.old }
+    requires target { to + count ≤ length slice.old }
+    ensures { slice.new ≡ paste slice.old to (drop from slice.old) count }
+{
+    let first = chunk::<N>(slice, from);
+    let last = chunk::<N>(slice, from + (count - N));
+    set_chunk(slice, to, first);
+    set_chunk(slice, to + (count - N), last);
+}

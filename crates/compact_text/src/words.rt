@@ -1,0 +1,260 @@
+//! Arrays of 24 bytes as three words: each read and each write is of a whole word, and no loop goes over bytes.
+#![tactic(auto)]
+
+ghost use Rattle.std.specs.Prelude.{◌≡◌, ◌+◌, ◌-◌, ◌*◌, ◌/◌, ◌^◌, ◌≤◌, ◌<◌, ◌∷◌, [], ◌++◌, length, take, drop, slice_index, nat_lt, if◌then◌else◌, bit_or, IsTrue};
+ghost use Rattle.std.specs.Str.{IsAscii};
+ghost use Rattle.compact_text.specs.WordBytes.{le_number, word_bytes};
+
+/// The eight bytes from a place on, as a word.
+#[inline(always)]
+pub fn load8(bytes: &[u8], at: usize) -> u64
+    requires { at + 8 ≤ length bytes.now }
+    ensures value { result ≡ le_number (take 8 (drop at bytes.now)) }
+    ensures bytes { word_bytes result ≡ take 8 (drop at bytes.now) }
+{
+    match bytes[at..].first_chunk::<8>() {
+        Some(chunk) => u64::from_le_bytes(*chunk),
+        None => unreachable!(),
+    }
+}
+
+/// Whether two arrays are the same: three words are compared, with no branch between.
+#[inline(always)]
+pub fn same_array(array: &[u8; 24], other: &[u8; 24]) -> bool
+    ensures same { IsTrue result → array.now ≡ other.now }
+    ensures found { array.now ≡ other.now → IsTrue result }
+{
+    (load8(array, 0) == load8(other, 0))
+        & (load8(array, 8) == load8(other, 8))
+        & (load8(array, 16) == load8(other, 16))
+}
+
+/// The four bytes from a place on, as a number.
+#[inline(always)]
+fn load4(bytes: &[u8], at: usize) -> u64
+    requires { at + 4 ≤ length bytes.now }
+    ensures { result ≡ le_number (take 4 (drop at bytes.now)) }
+{
+    match bytes[at..].first_chunk::<4>() {
+        Some(chunk) => u64::from(u32::from_le_bytes(*chunk)),
+        None => unreachable!(),
+    }
+}
+
+/// The two bytes from a place on, as a number.
+#[inline(always)]
+fn load2(bytes: &[u8], at: usize) -> u64
+    requires { at + 2 ≤ length bytes.now }
+    ensures { result ≡ le_number (take 2 (drop at bytes.now)) }
+{
+    match bytes[at..].first_chunk::<2>() {
+        Some(chunk) => u64::from(u16::from_le_bytes(*chunk)),
+        None => unreachable!(),
+    }
+}
+
+/// Three words as an array.
+#[inline(always)]
+#[tactic(auto, unfolding(crate::specs::WordBytes::word_bytes))]
+pub fn array_of_words(first: u64, second: u64, third: u64) -> [u8; 24]
+    ensures { result ≡ word_bytes first ++ word_bytes second ++ word_bytes third }
+{
+    let mut array = [0u8; 24];
+    store8(&mut array[..8], first);
+    store8(&mut array[8..16], second);
+    store8(&mut array[16..], third);
+    array
+}
+
+/// Writes a word over eight bytes.
+#[inline(always)]
+#[tactic(auto, unfolding(crate::specs::WordBytes::word_bytes))]
+fn store8(bytes: &mut [u8], word: u64)
+    requires { length bytes.old ≡ 8 }
+    ensures { bytes.new ≡ word_bytes word }
+{
+    match bytes.first_chunk_mut::<8>() {
+        Some(chunk) => *chunk = word.to_le_bytes(),
+        None => unreachable!(),
+    }
+}
+
+/// A word without its first `count` bytes. It shifts by half of them twice, since one shift may not be of all eight.
+#[inline(always)]
+fn without_bytes(word: u64, count: usize) -> u64
+    requires { count ≤ 8 }
+    ensures { result ≡ word / 2 ^ (8 * count) }
+{
+    (word >> (4 * count)) >> (4 * count)
+}
+
+/// The second eight bytes of a text, or as many as follow the first eight. Of fewer the last eight bytes of the text are
+/// read, and those before the eighth are shifted out.
+#[inline(always)]
+pub fn second_word(text: &[u8]) -> u64
+    requires { 8 ≤ length text.now }
+    ensures { result ≡ le_number (take 8 (drop 8 text.now)) }
+{
+    let at = (text.len() - 8).min(8);
+    without_bytes(load8(text, at), 8 - at)
+}
+
+/// The bytes that follow the first sixteen, at most eight: the last eight of the text, without those before the sixteenth.
+#[inline(always)]
+pub fn third_word(text: &[u8]) -> u64
+    requires long_enough { 8 ≤ length text.now }
+    requires most { length text.now ≤ 24 }
+    ensures { result ≡ le_number (drop 16 text.now) }
+{
+    let len = text.len();
+    let count = len.saturating_sub(16);
+    without_bytes(load8(text, len - 8), 8 - count)
+}
+
+/// At most eight bytes as a number. Of two reads the first begins at the start and the second ends at the end; a byte that
+/// both read is the same in both.
+#[inline(always)]
+pub fn load_up_to_8(text: &[u8]) -> u64
+    requires { length text.now ≤ 8 }
+    ensures { result ≡ le_number text.now }
+{
+    let len = text.len();
+    if len >= 4 {
+        load4(text, 0) | (load4(text, len - 4) << (8 * (len - 4)))
+    } else if len >= 2 {
+        load2(text, 0) | (load2(text, len - 2) << (8 * (len - 2)))
+    } else if len == 1 {
+        u64::from(text[0])
+    } else {
+        0
+    }
+}
+
+/// The last byte of an array, read with its whole word: so it is there as soon as the word is.
+#[inline(always)]
+pub fn last_byte(array: &[u8; 24]) -> usize
+    ensures { result ≡ slice_index array.now 23 }
+{
+    usize::from(high_byte(load8(array, 16)))
+}
+
+/// The array with another last byte. It is written in whole words: a word that is read after one of its bytes was written
+/// alone waits for that byte.
+#[inline(always)]
+pub fn with_last_byte(array: &[u8; 24], last: u8) -> [u8; 24]
+    ensures { result ≡ take 23 array.now ++ last ∷ [] }
+{
+    let third = load8(array, 16) % 0x100_0000_0000_0000;
+    array_of_words(
+        load8(array, 0),
+        load8(array, 8),
+        third | (u64::from(last) << 56),
+    )
+}
+
+/// The highest bit of each byte of a word.
+const HIGH_BITS: u64 = 0x8080_8080_8080_8080;
+
+/// Whether the first 23 bytes of an array are ASCII: three words and a mask.
+#[inline(always)]
+pub fn first_23_are_ascii(array: &[u8; 24]) -> bool
+    ensures { IsTrue result → IsAscii (take 23 array.now) }
+{
+    (load8(array, 0) & HIGH_BITS == 0)
+        & (load8(array, 8) & HIGH_BITS == 0)
+        & (load8(array, 16) % 0x100_0000_0000_0000 & HIGH_BITS == 0)
+}
+
+/// What a byte at a place of a word is multiplied by.
+#[inline(always)]
+fn place_value(at: usize) -> u64
+    requires { at < 8 }
+    ensures { result ≡ 2 ^ (8 * at) }
+{
+    1 << (8 * at)
+}
+
+/// The last byte of a word.
+#[inline(always)]
+pub fn high_byte(word: u64) -> u8
+    ensures { drop 7 (word_bytes word) ≡ result ∷ [] }
+{
+    (word >> 56) as u8
+}
+
+/// The word with `byte` put in at a place; what stands from there on moves one place up, and the last byte goes.
+/// The three parts share no byte, so no sum wraps.
+#[inline(always)]
+fn word_insert_byte(word: u64, at: usize, byte: u8) -> u64
+    requires { at < 8 }
+    ensures { word_bytes result
+        ≡ take at (word_bytes word) ++ byte ∷ take (7 - at) (drop at (word_bytes word)) }
+{
+    let before = word % place_value(at);
+    before
+        .wrapping_add(u64::from(byte) << (8 * at))
+        .wrapping_add((word - before) << 8)
+}
+
+/// The word without the byte at a place; what stands after it moves one place down, and the first byte of the next word
+/// comes last. The three parts share no byte, so no sum wraps.
+#[inline(always)]
+fn word_remove_byte(word: u64, at: usize, next: u64) -> u64
+    requires { at < 8 }
+    ensures { word_bytes result
+        ≡ take at (word_bytes word) ++ drop (at + 1) (word_bytes word) ++ take 1 (word_bytes next) }
+{
+    let weight = place_value(at);
+    let down = word >> 8;
+    (word % weight)
+        .wrapping_add(down - down % weight)
+        .wrapping_add(next << 56)
+}
+
+/// The array with `byte` put in at a place; what stands from there on moves one place up, and the last byte goes.
+#[inline]
+pub fn insert_byte(array: &[u8; 24], at: usize, byte: u8) -> [u8; 24]
+    requires { at < 24 }
+    ensures { result ≡ take at array.now ++ byte ∷ take (23 - at) (drop at array.now) }
+{
+    let first = load8(array, 0);
+    let second = load8(array, 8);
+    let third = load8(array, 16);
+    match at / 8 {
+        0 => array_of_words(
+            word_insert_byte(first, at, byte),
+            word_insert_byte(second, 0, high_byte(first)),
+            word_insert_byte(third, 0, high_byte(second)),
+        ),
+        1 => array_of_words(
+            first,
+            word_insert_byte(second, at - 8, byte),
+            word_insert_byte(third, 0, high_byte(second)),
+        ),
+        _ => array_of_words(first, second, word_insert_byte(third, at - 16, byte)),
+    }
+}
+
+/// The array without the byte at a place; what stands after it moves one place down, and a zero comes last.
+#[inline]
+pub fn remove_byte(array: &[u8; 24], at: usize) -> [u8; 24]
+    requires { at < 24 }
+    ensures { result ≡ take at array.now ++ drop (at + 1) array.now ++ 0 ∷ [] }
+{
+    let first = load8(array, 0);
+    let second = load8(array, 8);
+    let third = load8(array, 16);
+    match at / 8 {
+        0 => array_of_words(
+            word_remove_byte(first, at, second),
+            word_remove_byte(second, 0, third),
+            word_remove_byte(third, 0, 0),
+        ),
+        1 => array_of_words(
+            first,
+            word_remove_byte(second, at - 8, third),
+            word_remove_byte(third, 0, 0),
+        ),
+        _ => array_of_words(first, second, word_remove_byte(third, at - 16, 0)),
+    }
+}
