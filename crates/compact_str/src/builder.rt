@@ -6,8 +6,8 @@ ghost use Rattle.compact_repr.specs.Change.{push_str};
 ghost use Rattle.compact_str.specs.FittedValues.{IsPlacedBySize};
 ghost use Rattle.compact_str.specs.Shown.{Shows};
 
-use crate::string::PolicyString;
 use crate::stack_buffer::{PaddedStr, StackBuffer};
+use crate::string::PolicyString;
 use compact_repr::{Policy, ReserveError};
 use compact_text::str_parts::encode_char;
 use std::alloc::Global;

@@ -7,10 +7,10 @@ ghost use Rattle.compact_codec.specs.declared.utf16_bytes.ByteOrder.TheVariants.
 ghost use Rattle.compact_str.specs.FittedValues.{IsPlacedBySize, MakesText};
 ghost use Rattle.compact_str.specs.DecodeErrors.{IsUtf16Refusal, IsUtf16BytesRefusal, PairsEncode};
 
+use crate::builder::Builder;
 use crate::decode::error::{FromUtf16Error, Utf16Error};
 use crate::decode::push_fitted;
 use crate::decode::row::{ROW, fill, utf8_room};
-use crate::builder::Builder;
 use crate::string::{CompactString, PolicyString};
 use compact_codec::utf16;
 use compact_codec::utf16_bytes::{self, ByteOrder};

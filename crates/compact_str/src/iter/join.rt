@@ -8,8 +8,8 @@ ghost use Rattle.compact_str.specs.Collect.{PassesInline, join};
 
 use crate::builder::Builder;
 use crate::iter::AsText;
-use crate::string::{CompactString, PolicyString};
 use crate::stack_buffer::PaddedStr;
+use crate::string::{CompactString, PolicyString};
 use compact_repr::{Policy, ReserveError};
 use std::alloc::Global;
 
