@@ -91,3 +91,7 @@ replace-reserved g v u w i j n s long more made is =
     ap (option_map (placed_text (replaced_text v.text i j s))) parts.1
     ∙ ap Some (ap (λ t. placed_text (replaced_text t i j s) u.placement) (sym parts.0) ∙ sym is)
     )
+
+-- of an edit that makes room first
+pub ruleset slow_facts =
+    (reserved-text, owned-text, fits-now, push-nothing, push-asks, push-reserved, insert-reserved, replace-asks-within, replace-asks-beyond, replace-owned, replace-reserved)

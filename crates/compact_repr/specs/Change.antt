@@ -1,5 +1,5 @@
 -- What making and changing a value gives: none where that must be refused.
-use Rattle.std.specs.Prelude.{◌≡◌, ◌⊎◌, ℕ, ◌-◌, Bool, not, ◌&&◌, IsTrue, List, [], ◌++◌, Option, Some, option_map, nat_eq, nat_le, if◌then◌else◌}
+use Rattle.std.specs.Prelude.{◌≡◌, ◌⊎◌, ℕ, ◌-◌, Bool, not, ◌&&◌, IsTrue, List, [], ◌∷◌, ◌++◌, Option, Some, None, option_map, nat_eq, nat_le, if◌then◌else◌}
 use Rattle.compact_text.specs.Text.{size, ascii_lowercase, ascii_uppercase}
 use Rattle.compact_text.specs.Cut.{text_before, replaced_text}
 use Rattle.compact_repr.specs.Value.{PlacedText, placed_text, is_static}
@@ -75,3 +75,8 @@ retain g v t = option_map (placed_text t) (owned_placement g v)
 -- v with no text: a static one inline, every other in its place
 abbrev pub zeroize : PlacedText → PlacedText
 zeroize v = placed_text [] (if is_static v.placement.place then inline_placement else v.placement)
+
+-- v without its last character, in its place; an empty v has none
+abbrev pub PopsChar : PlacedText → Option ℕ → PlacedText → Type 0
+PopsChar v None w = (v.text ≡ []) × (w ≡ v)
+PopsChar v (Some c) w = (front : List ℕ) × (v.text ≡ front ++ c ∷ []) × (w ≡ placed_text front (shortened_placement v front))

@@ -8,4 +8,3 @@ pub use Rattle.compact_text.specs.Retain
 pub mod BufferValue
 pub mod Loan
 pub mod Packed
-pub mod PushOutcomes

@@ -1,10 +1,11 @@
 //! A text in a vector of bytes on the heap, whose capacity is the vector's.
-ghost use Rattle.std.specs.Prelude.{◌≡◌, ◌+◌, ◌-◌, ◌≤◌, ◌<◌, ◌^◌, [], ◌∷◌, ◌++◌, length, false, IfOk, OnOk, OnErr, IsTrue, ◌↔◌};
+ghost use Rattle.std.specs.Prelude.{◌≡◌, ◌+◌, ◌-◌, ◌≤◌, ◌<◌, ◌^◌, [], ◌∷◌, ◌++◌, length, false, IfOk, OnOk, OnErr, IsSome, IsTrue, ◌↔◌, MatchOption};
 ghost use Rattle.std.specs.String.{string_bytes, string_capacity};
 ghost use Rattle.compact_text.specs.Text.{size, utf8, text_of, IsText, ascii_lowercase, ascii_uppercase};
-ghost use Rattle.compact_text.specs.Cut.{IsBoundary, text_before, substring, replaced_text};
+ghost use Rattle.compact_text.specs.Cut.{IsBoundary, IsAsciiAt, text_before, substring, replaced_text};
 ghost use Rattle.compact_text.specs.Retain.{RetainsCharsTo};
 
+use compact_text::str_parts::{first_ascii, last_char, suffix};
 use compact_text::{slices, vec};
 use std::alloc::{AllocError, Global};
 use std::marker::Model;
@@ -169,6 +170,8 @@ impl HeapBuffer {
               capacity = self.old.capacity;
             } }
         ensures within { size self.new.text ≤ self.old.capacity }
+        ensures short { size self.old.text ≤ self.old.capacity }
+        ensures small { size self.old.text < 2 ^ 63 }
         ensures full { result ≡ false → self.new ≡ self.old }
     {
         let old = self.bytes.len();
@@ -199,6 +202,8 @@ impl HeapBuffer {
               capacity = self.old.capacity;
             } }
         ensures within { size self.new.text ≤ self.old.capacity }
+        ensures short { size self.old.text ≤ self.old.capacity }
+        ensures small { size self.old.text < 2 ^ 63 }
         ensures full { result ≡ false → self.new ≡ self.old }
     {
         let len = self.bytes.len();
@@ -211,9 +216,28 @@ impl HeapBuffer {
         true
     }
 
+    /// Removes and returns the character at a boundary if it is ASCII. Returns `None`, with nothing changed, if it is not, or
+    /// at the end.
+    #[inline]
+    pub fn try_remove_ascii(&mut self, index: usize) -> Option<char>
+        requires { IsBoundary self.old.text index }
+        ensures removed { MatchOption result (self.new ≡ self.old)
+            (λ c. IsAsciiAt self.old.text index c
+            × (self.new
+            ≡ record {
+              text = replaced_text self.old.text index (index + 1) [];
+              capacity = self.old.capacity;
+            })) }
+        ensures within { IsSome result → size self.new.text ≤ self.old.capacity }
+    {
+        let character = first_ascii(suffix(self.as_str(), index))?;
+        self.remove_ascii(index);
+        Some(character)
+    }
+
     /// Takes the ASCII character out that begins at a boundary.
     #[inline]
-    pub fn remove_ascii(&mut self, index: usize)
+    fn remove_ascii(&mut self, index: usize)
         requires boundary { IsBoundary self.old.text index }
         requires next { IsBoundary self.old.text (index + 1) }
         ensures removed { self.new
@@ -244,6 +268,35 @@ impl HeapBuffer {
         let len = self.bytes.len();
         slices::cut_out(self.bytes.as_mut_slice(), len, start, end);
         self.bytes.truncate(len - (end - start));
+    }
+
+    /// Removes and returns the last character, or returns `None` if the text is empty. Keeps the capacity.
+    #[inline]
+    #[tactic(auto, using(compact_text::proofs::TextFacts::text_facts, compact_text::proofs::Cuts::last_facts))]
+    pub fn pop(&mut self) -> Option<char>
+        ensures popped { MatchOption result ((self.old.text ≡ []) × (self.new ≡ self.old))
+            (λ c. (self.old.text ≡ self.new.text ++ c ∷ []) × (self.new.capacity ≡ self.old.capacity)) }
+        ensures within { IsSome result → size self.new.text ≤ self.old.capacity }
+    {
+        let character = last_char(self.as_str())?;
+        self.truncate(self.len() - character.len_utf8());
+        Some(character)
+    }
+
+    /// Replaces the whole text by `text` if it fits. Returns whether it did; if not, nothing has changed. Keeps the capacity.
+    #[inline]
+    pub fn try_assign(&mut self, text: &str) -> bool
+        ensures fits { IsTrue result ↔ (length text.now ≤ self.old.capacity) }
+        ensures assigned { IsTrue result
+            → self.new ≡ record { text = text_of text.now; capacity = self.old.capacity } }
+        ensures full { result ≡ false → self.new ≡ self.old }
+    {
+        if text.len() > self.bytes.capacity() {
+            return false;
+        }
+        self.bytes.clear();
+        vec::append_all(&mut self.bytes, text.as_bytes());
+        true
     }
 
     /// Keeps the first `len` bytes, which end at a boundary, and the capacity.

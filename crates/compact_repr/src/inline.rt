@@ -1,9 +1,9 @@
 //! A text of at most 24 bytes that stands in the value itself, packed.
 #![tactic(auto, using(crate::proofs::PackedFacts::packed_facts))]
 
-ghost use Rattle.std.specs.Prelude.{◌≡◌, ◌+◌, ◌-◌, ◌≤◌, ◌<◌, ℕ, List, [], ◌∷◌, ◌++◌, length, false, IsTrue, ◌↔◌, MatchOption};
+ghost use Rattle.std.specs.Prelude.{◌≡◌, ◌+◌, ◌-◌, ◌≤◌, ◌<◌, ℕ, List, [], ◌∷◌, ◌++◌, length, false, IsSome, IsTrue, ◌↔◌, MatchOption};
 ghost use Rattle.compact_text.specs.Text.{size, utf8, text_of, IsText, ascii_lowercase, ascii_uppercase};
-ghost use Rattle.compact_text.specs.Cut.{IsBoundary, text_before, replaced_text};
+ghost use Rattle.compact_text.specs.Cut.{IsBoundary, IsAsciiAt, text_before, replaced_text};
 ghost use Rattle.compact_repr.specs.Packed.{IsPackedFor};
 ghost use Rattle.compact_text.specs.Retain.{RetainsCharsTo};
 
@@ -11,6 +11,7 @@ mod compare;
 mod packed;
 
 use compact_text::slices;
+use compact_text::str_parts::{first_ascii, last_char, suffix};
 use compact_text::words::{insert_byte, remove_byte};
 use packed::{is_packed, length_of, pack, with_len, with_len_below_24, write_len};
 use std::marker::Model;
@@ -112,6 +113,7 @@ impl InlineBuffer {
         ensures replaced { IsTrue result
             → self.new ≡ replaced_text self.old start end (text_of text.now) }
         ensures within { size self.new ≤ 24 }
+        ensures short { size self.old ≤ 24 }
         ensures full { result ≡ false → self.new ≡ self.old }
     {
         let old_len = length_of(&self.bytes);
@@ -134,6 +136,7 @@ impl InlineBuffer {
         ensures inserted { IsTrue result
             → self.new ≡ replaced_text self.old index index (byte ∷ []) }
         ensures within { size self.new ≤ 24 }
+        ensures short { size self.old ≤ 24 }
         ensures full { result ≡ false → self.new ≡ self.old }
     {
         let len = length_of(&self.bytes);
@@ -145,9 +148,23 @@ impl InlineBuffer {
         true
     }
 
+    /// Removes and returns the character at a boundary if it is ASCII. Returns `None`, with nothing changed, if it is not, or
+    /// at the end.
+    #[inline]
+    pub fn try_remove_ascii(&mut self, index: usize) -> Option<char>
+        requires { IsBoundary self.old index }
+        ensures removed { MatchOption result (self.new ≡ self.old)
+            (λ c. IsAsciiAt self.old index c × (self.new ≡ replaced_text self.old index (index + 1) [])) }
+        ensures within { IsSome result → size self.new ≤ 24 }
+    {
+        let character = first_ascii(suffix(self.as_str(), index))?;
+        self.remove_ascii(index);
+        Some(character)
+    }
+
     /// Takes the ASCII character out that begins at a boundary: the bytes shift by words.
     #[inline]
-    pub fn remove_ascii(&mut self, index: usize)
+    fn remove_ascii(&mut self, index: usize)
         requires boundary { IsBoundary self.old index }
         requires next { IsBoundary self.old (index + 1) }
         ensures removed { self.new ≡ replaced_text self.old index (index + 1) [] }
@@ -170,6 +187,34 @@ impl InlineBuffer {
         let len = length_of(&self.bytes);
         slices::cut_out(&mut self.bytes, len, start, end);
         write_len(&mut self.bytes, len - (end - start));
+    }
+
+    /// Removes and returns the last character, or returns `None` if the text is empty.
+    #[inline]
+    #[tactic(auto, using(crate::proofs::PackedFacts::packed_facts, compact_text::proofs::Cuts::last_facts))]
+    pub fn pop(&mut self) -> Option<char>
+        ensures popped { MatchOption result ((self.old ≡ []) × (self.new ≡ self.old))
+            (λ c. self.old ≡ self.new ++ c ∷ []) }
+        ensures within { IsSome result → size self.new ≤ 24 }
+    {
+        let character = last_char(self.as_str())?;
+        self.truncate(self.len() - character.len_utf8());
+        Some(character)
+    }
+
+    /// Replaces the whole text by `text` if it fits. Returns whether it did; if not, nothing has changed.
+    #[inline]
+    pub fn try_assign(&mut self, text: &str) -> bool
+        ensures fits { IsTrue result ↔ (length text.now ≤ 24) }
+        ensures assigned { IsTrue result → self.new ≡ text_of text.now }
+        ensures within { IsTrue result → size self.new ≤ 24 }
+        ensures full { result ≡ false → self.new ≡ self.old }
+    {
+        if text.len() > INLINE_CAPACITY {
+            return false;
+        }
+        *self = InlineBuffer::new(text);
+        true
     }
 
     /// Keeps the first `len` bytes, which end at a boundary.

@@ -16,5 +16,4 @@ pub use error::ReserveError;
 pub use inline::INLINE_CAPACITY;
 pub use policy::{Policy, Standard, standard_grows_by_half};
 pub use repr::Repr;
-pub use repr::edit::PushOutcome;
 pub use repr::capacity::MAX_CAPACITY;

@@ -2,7 +2,7 @@
 //!
 //! A type that names one, `'static` too, costs whoever holds it: a call that is generic over iterators takes no
 //! iterator of references beside it, and a guard in a `Result` hides from its caller what the value becomes.
-ghost use Rattle.std.specs.Prelude.{◌≡◌, ◌<◌, ◌^◌, ℕ, List, length};
+ghost use Rattle.std.specs.Prelude.{◌≡◌, ◌<◌, ◌^◌, ℕ, List, [], ◌∷◌, ◌++◌, length, MatchOption};
 ghost use denote.Ref.{Bor};
 ghost use Rattle.compact_repr.specs.Loan.{static_loan, address};
 ghost use Rattle.compact_text.specs.Text.{size, utf8, text_of, IsText};
@@ -116,6 +116,18 @@ impl StaticStr {
         ensures { result ≡ text_before self.now len }
     {
         Self::new(str_parts::prefix(self.as_static_str(), len))
+    }
+
+    /// Removes and returns the last character, or returns `None` if the text is empty.
+    #[inline]
+    #[tactic(auto, using(compact_text::proofs::TextFacts::text_facts, compact_text::proofs::Cuts::last_facts))]
+    pub fn pop(&mut self) -> Option<char>
+        ensures { MatchOption result ((self.old ≡ []) × (self.new ≡ self.old))
+            (λ c. self.old ≡ self.new ++ c ∷ []) }
+    {
+        let character = str_parts::last_char(self.as_static_str())?;
+        *self = self.slice_to(self.len() - character.len_utf8());
+        Some(character)
     }
 
     /// What stands behind the first `index` bytes, which end at a boundary.

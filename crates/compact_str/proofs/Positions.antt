@@ -25,31 +25,6 @@ truncate-last v front c e =
     let cut : text_before v.text (size v.text - len_utf8 c) ≡ front = ap (λ t. text_before t (size v.text - len_utf8 c)) e ∙ text_before-append front (c ∷ []) _ (omega (arith, whole)) in
     rw (cond-false _ _ _ (lt-leb _ _ shorter), cut) refl
 
--- a text has the width of its last character, and may be cut before it
-pub size-last : (t front : List ℕ) (c : ℕ) → t ≡ front ++ c ∷ [] → len_utf8 c ≤ size t
-size-last t front c e =
-    let whole : size t ≡ size front + (len_utf8 c + 0) = ap size e ∙ size-append front (c ∷ []) in
-    omega (arith, whole)
-
-pub boundary-last : (t front : List ℕ) (c : ℕ) → t ≡ front ++ c ∷ [] → IsBoundary t (size t - len_utf8 c)
-boundary-last t front c e =
-    let whole : size t ≡ size front + (len_utf8 c + 0) = ap size e ∙ size-append front (c ∷ []) in
-    (front, c ∷ [], record { parts = e; position = omega (arith, whole) })
-
--- past the character at a boundary there is a boundary
-pub boundary-next : (t rest : List ℕ) (p c : ℕ) → IsBoundary t p → text_after t p ≡ c ∷ rest → IsBoundary t (p + len_utf8 c)
-boundary-next t rest p c h e =
-    let parts : t ≡ (text_before t p ++ c ∷ []) ++ rest = text_before-text_after t p ∙ ap (λ x. text_before t p ++ x) e ∙ sym (append_assoc (text_before t p) (c ∷ []) rest) in
-    let front = size-text_before t p h in
-    (text_before t p ++ c ∷ [], rest, record { parts = parts; position = size-append (text_before t p) (c ∷ []) ∙ omega (arith, front) })
-
-pub text_after-next : (t rest : List ℕ) (p c : ℕ) → IsBoundary t p → text_after t p ≡ c ∷ rest → text_after t (p + len_utf8 c) ≡ rest
-text_after-next t rest p c h e =
-    let front = size-text_before t p h in
-    let parts : t ≡ (text_before t p ++ c ∷ []) ++ rest = text_before-text_after t p ∙ ap (λ x. text_before t p ++ x) e ∙ sym (append_assoc (text_before t p) (c ∷ []) rest) in
-    let position : size (text_before t p ++ c ∷ []) ≡ p + len_utf8 c = size-append (text_before t p) (c ∷ []) ∙ omega (arith, front) in
-    ap (λ x. text_after x (p + len_utf8 c)) parts ∙ text_after-append (text_before t p ++ c ∷ []) rest (p + len_utf8 c) position
-
 -- a text that is cut at its end
 pub text_before-end : (t : List ℕ) (p : ℕ) → IsBoundary t p → size t ≤ p → text_before t p ≡ t
 text_before-end t p h k =

@@ -29,11 +29,6 @@ pub record RemovesChar {E : Type 0} (g : Growth) (v : PlacedText) (index : ℕ) 
   pub succeeds_short : size v.text ≤ 24 → IsOk r
   pub err : OnErr r ((w ≡ v) × IsTrue (make_owned_asks v))
 
--- v without its last character, in its place; an empty v has none
-abbrev pub PopsChar : PlacedText → Option ℕ → PlacedText → Type 0
-PopsChar v None w = (v.text ≡ []) × (w ≡ v)
-PopsChar v (Some c) w = (front : List ℕ) × (v.text ≡ front ++ c ∷ []) × (w ≡ placed_text front (shortened_placement v front))
-
 -- the placement of a tail that is split off: of a static text it is borrowed too
 abbrev pub tail_placement : Growth → PlacedText → List ℕ → Option Placement
 tail_placement g v tail = if is_static v.placement.place then Some (const_new_placement tail) else new_placement g tail

@@ -1,5 +1,5 @@
 -- Where a text is cut, and where its bytes are.
-use Rattle.std.proofs.Common.{◌≡◌, ℕ, ◌+◌, ◌-◌, ◌<◌, ◌≤◌, List, [], ◌∷◌, ◌++◌, take, drop, refl, ap, sym, ◌∙◌, subst, arith, true, ⊎_elim}
+use Rattle.std.proofs.Common.{◌≡◌, ℕ, ◌+◌, ◌-◌, ◌<◌, ◌≤◌, List, [], ◌∷◌, ◌++◌, take, drop, refl, ap, sym, ◌∙◌, subst, arith, true, ⊎_elim, append_assoc}
 use Rattle.std.proofs.lemmas.List.{append-nil, length-take-le, take-append-drop}
 use Rattle.std.proofs.lemmas.Bool.{cases_Bool, cond-true, cond-false, le-leb, lt-leb, and_parts}
 use Rattle.std.proofs.lemmas.Str.{IsUtf8-append, IsUtf8-nil, IsUtf8-take, IsUtf8-drop, chars-append, chars-nil, scalars-chars, encodes-chars, encodes-append, encodes_same, chars_past_char, len_utf8_bounds, IsCharBoundary-at_seam}
@@ -9,7 +9,7 @@ use Rattle.std.specs.Str.{IsUtf8, IsCharBoundary}
 use lib.Dec.{leb}
 use lib.Utf8.{encode, encodes, scalar, scalars}
 use Rattle.compact_text.specs.Text.{size, text_of}
-use Rattle.compact_text.specs.Cut.{IsCut, IsBoundary, text_before, text_after, replaced_text, CutIsBeforeAndAfter}
+use Rattle.compact_text.specs.Cut.{IsCut, IsBoundary, IsAsciiAt, text_before, text_after, replaced_text, CutIsBeforeAndAfter}
 use Rattle.compact_text.proofs.Texts.{length-utf8, size-text_of, size-append}
 
 -- a text is what stands before a position and what stands after it
@@ -147,3 +147,40 @@ utf8-cut_out bytes start end e u h k = utf8-replaced bytes [] start end e u IsUt
 pub text_of-cut_out : {t : List ℕ} (bytes : List ℕ) (start end : ℕ) → text_of bytes ≡ t → IsUtf8 bytes → IsBoundary t start → IsBoundary t end
     → text_of (replace_range bytes start end []) ≡ replaced_text t start end []
 text_of-cut_out {t} bytes start end e u h k = text_of-replaced bytes [] start end e u IsUtf8-nil h k ∙ ap (λ (s : List ℕ). replaced_text t start end s) chars-nil
+
+-- a text has the width of its last character, and may be cut before it
+pub size-last : (t front : List ℕ) (c : ℕ) → t ≡ front ++ c ∷ [] → len_utf8 c ≤ size t
+size-last t front c e =
+    let whole : size t ≡ size front + (len_utf8 c + 0) = ap size e ∙ size-append front (c ∷ []) in
+    omega (arith, whole)
+
+pub boundary-last : (t front : List ℕ) (c : ℕ) → t ≡ front ++ c ∷ [] → IsBoundary t (size t - len_utf8 c)
+boundary-last t front c e =
+    let whole : size t ≡ size front + (len_utf8 c + 0) = ap size e ∙ size-append front (c ∷ []) in
+    (front, c ∷ [], record { parts = e; position = omega (arith, whole) })
+
+-- past the character at a boundary there is a boundary
+pub boundary-next : (t rest : List ℕ) (p c : ℕ) → IsBoundary t p → text_after t p ≡ c ∷ rest → IsBoundary t (p + len_utf8 c)
+boundary-next t rest p c h e =
+    let parts : t ≡ (text_before t p ++ c ∷ []) ++ rest = text_before-text_after t p ∙ ap (λ x. text_before t p ++ x) e ∙ sym (append_assoc (text_before t p) (c ∷ []) rest) in
+    let front = size-text_before t p h in
+    (text_before t p ++ c ∷ [], rest, record { parts = parts; position = size-append (text_before t p) (c ∷ []) ∙ omega (arith, front) })
+
+pub text_after-next : (t rest : List ℕ) (p c : ℕ) → IsBoundary t p → text_after t p ≡ c ∷ rest → text_after t (p + len_utf8 c) ≡ rest
+text_after-next t rest p c h e =
+    let front = size-text_before t p h in
+    let parts : t ≡ (text_before t p ++ c ∷ []) ++ rest = text_before-text_after t p ∙ ap (λ x. text_before t p ++ x) e ∙ sym (append_assoc (text_before t p) (c ∷ []) rest) in
+    let position : size (text_before t p ++ c ∷ []) ≡ p + len_utf8 c = size-append (text_before t p) (c ∷ []) ∙ omega (arith, front) in
+    ap (λ x. text_after x (p + len_utf8 c)) parts ∙ text_after-append (text_before t p ++ c ∷ []) rest (p + len_utf8 c) position
+
+pub text_before-last : (t front : List ℕ) (c : ℕ) → t ≡ front ++ c ∷ [] → text_before t (size t - len_utf8 c) ≡ front
+text_before-last t front c e =
+    let whole : size t ≡ size front + (len_utf8 c + 0) = ap size e ∙ size-append front (c ∷ []) in
+    ap (λ x. text_before x (size t - len_utf8 c)) e ∙ text_before-append front (c ∷ []) _ (omega (arith, whole))
+
+-- so it may after an ASCII character
+pub boundary-ascii : (t : List ℕ) (p c : ℕ) → IsBoundary t p → IsAsciiAt t p c → IsBoundary t (p + 1)
+boundary-ascii t p c h a = subst (λ (n : ℕ). IsBoundary t (p + n)) a.width (boundary-next t a.rest p c h a.text)
+
+-- of the last character
+pub ruleset last_facts = (size-last, boundary-last, text_before-last)

@@ -1,7 +1,7 @@
 -- Texts and their bytes.
 use Rattle.std.proofs.Common.{◌≡◌, ℕ, ◌+◌, ◌≤◌, List, [], ◌∷◌, ◌++◌, length, take, refl, ap, sym, ◌∙◌, arith, length-append, zero-add}
-use Rattle.std.proofs.lemmas.List.{length-take-le}
-use Rattle.std.proofs.lemmas.Str.{length-encode, encodes-chars, len_utf8_bounds}
+use Rattle.std.proofs.lemmas.List.{length-take-le, nil_from_length}
+use Rattle.std.proofs.lemmas.Str.{length-encode, encodes-chars, len_utf8_bounds, chars-nil}
 use Rattle.std.specs.Str.{IsUtf8}
 use lib.Utf8.{encode, encodes}
 use Rattle.compact_text.specs.Text.{size, utf8, text_of}
@@ -28,3 +28,9 @@ size-front bytes n e u h = ap size (sym e) ∙ size-text_of (take n bytes) u ∙
 pub empty_text : (t : List ℕ) → size t ≡ 0 → t ≡ []
 empty_text [] e = refl
 empty_text (c ∷ cs) e = absurd (let w = len_utf8_bounds c in omega (arith, w.0, e))
+
+pub text_of-empty : (bytes : List ℕ) → length bytes ≡ 0 → text_of bytes ≡ []
+text_of-empty bytes e = ap text_of (nil_from_length bytes e) ∙ chars-nil
+
+-- of a text with no bytes
+pub ruleset empty_facts = (text_of-empty)

@@ -48,26 +48,6 @@ pub fn char_at(text: &str, index: usize) -> char
     }
 }
 
-/// The character that begins at a boundary before the end, if it is one of ASCII, or `None`. It looks at one byte, and not
-/// at how long the text is.
-#[inline(always)]
-pub fn ascii_at(text: &str, index: usize) -> Option<char>
-    requires boundary { IsBoundary (text_of text.now) index }
-    requires within { index < length text.now }
-    ensures { MatchOption result ((c : ℕ) (rest : List ℕ)
-        → text_after (text_of text.now) index ≡ c ∷ rest → 128 ≤ c)
-        (λ c. (len_utf8 c ≡ 1)
-        × ((rest : List ℕ) × (text_after (text_of text.now) index ≡ c ∷ rest))) }
-{
-    let rest = &text[index..];
-    let byte = rest.as_bytes()[0];
-    if byte < 128 {
-        Some(char::from(byte))
-    } else {
-        None
-    }
-}
-
 /// The first character if it is one of ASCII, or `None` if it is not or the text is empty.
 #[inline(always)]
 pub fn first_ascii(text: &str) -> Option<char>

@@ -1,10 +1,10 @@
 //! What stands at a position of a representation's text, in bytes.
-ghost use Rattle.std.specs.Prelude.{◌≡◌, ◌-◌, ◌<◌, ◌≤◌, ℕ, List, [], ◌∷◌, ◌++◌, length, true, false, IsTrue, ◌↔◌, IfSome, MatchOption};
+ghost use Rattle.std.specs.Prelude.{◌≡◌, ◌-◌, ◌<◌, ◌≤◌, ℕ, List, [], ◌∷◌, ◌++◌, length, true, false, IsTrue, ◌↔◌, IfSome, IsSome, MatchOption};
 ghost use Rattle.std.specs.Char.{len_utf8};
 ghost use Rattle.std.specs.Str.{IsCharBoundary};
 ghost use Rattle.compact_text.specs.Text.{size, utf8, text_of};
 ghost use Rattle.compact_text.specs.Cut.{IsBoundary, text_after, substring};
-ghost use Rattle.compact_repr.specs.Value.{is_static};
+ghost use Rattle.compact_repr.specs.Value.{is_heap, is_static};
 
 use crate::policy::Policy;
 use crate::repr::{Buffer, Repr};
@@ -14,6 +14,7 @@ impl<P: Policy> Repr<P> {
     /// The text of a heap value; `None` of any other. In a loop it is found out once, and not at each turn, where the text stands.
     #[inline(always)]
     pub fn heap_str(&self) -> Option<&str>
+        ensures place { IsSome result ↔ IsTrue (is_heap self.now.placement.place) }
         ensures bytes { IfSome result (λ s. s.now ≡ utf8 self.now.text) }
         ensures text { IfSome result (λ s. text_of s.now ≡ self.now.text) }
     {
@@ -40,28 +41,6 @@ impl<P: Policy> Repr<P> {
         ensures { (rest : List ℕ) × (text_after self.now.text index ≡ result ∷ rest) }
     {
         str_parts::char_at(self.as_str(), index)
-    }
-
-    /// The character that begins at `index`, in bytes, where it is one of ASCII, else `None`.
-    #[inline(always)]
-    pub fn ascii_at(&self, index: usize) -> Option<char>
-        requires boundary { IsBoundary self.now.text index }
-        requires within { index < size self.now.text }
-        ensures { MatchOption result ((c : ℕ) (rest : List ℕ)
-            → text_after self.now.text index ≡ c ∷ rest → 128 ≤ c)
-            (λ c. (len_utf8 c ≡ 1)
-            × ((rest : List ℕ) × (text_after self.now.text index ≡ c ∷ rest))) }
-    {
-        str_parts::ascii_at(self.as_str(), index)
-    }
-
-    /// The last character, found from the end; `None` of the empty text.
-    #[inline]
-    pub fn last_char(&self) -> Option<char>
-        ensures { MatchOption result (self.now.text ≡ [])
-            (λ c. (front : List ℕ) × (self.now.text ≡ front ++ c ∷ [])) }
-    {
-        str_parts::last_char(self.as_str())
     }
 
     /// What stands after `index`, in bytes.

@@ -1,9 +1,9 @@
 //! How room is made and given back.
-ghost use Rattle.std.specs.Prelude.{◌≡◌, ◌*◌, ◌/◌, ◌<◌, ◌≤◌, ◌^◌, [], false, max, nat_le, if◌then◌else◌, Some, None, IfOk, OnOk, OnErr, IsOk, IsTrue};
+ghost use Rattle.std.specs.Prelude.{length, ◌≡◌, ◌*◌, ◌/◌, ◌<◌, ◌≤◌, ◌^◌, [], false, max, nat_le, if◌then◌else◌, Some, None, IfOk, OnOk, OnErr, IsOk, IsTrue};
 ghost use Rattle.compact_text.specs.Text.{size, text_of};
 ghost use Rattle.compact_repr.specs.Value.{placed_text, is_heap, is_static};
 ghost use Rattle.compact_repr.specs.Capacity.{with_capacity_asks, fits_in_place, reserve_asks, make_owned_asks, inline_placement, heap_placement, max_capacity};
-ghost use Rattle.compact_repr.specs.Change.{reserve, make_owned, Shrinks};
+ghost use Rattle.compact_repr.specs.Change.{new, reserve, make_owned, Shrinks};
 
 use crate::error::ReserveError;
 use crate::heap::HeapBuffer;
@@ -59,6 +59,7 @@ impl<P: Policy> Repr<P> {
         ensures room { OnOk result (IsTrue (fits_in_place self.new additional)) }
         ensures err { OnErr result
             ((self.new ≡ self.old) × IsTrue (reserve_asks self.old additional)) }
+        ensures small { size self.old.text < 2 ^ 63 }
     {
         let len = self.len();
         let Some(needed) = len.checked_add(additional) else {
@@ -85,25 +86,22 @@ impl<P: Policy> Repr<P> {
         ensures room { OnOk result (IsTrue (fits_in_place self.new 0)) }
         ensures err { OnErr result ((self.new ≡ self.old) × IsTrue (make_owned_asks self.old)) }
     {
-        if let Buffer::Static(_) = &self.buffer {
-            return self.own_static();
-        }
-        Ok(())
-    }
-
-    #[cold]
-    #[inline(never)]
-    fn own_static(&mut self) -> Result<(), ReserveError>
-        ensures ok { OnOk result (make_owned P.growth self.old ≡ Some self.new) }
-        ensures room { OnOk result (IsTrue (fits_in_place self.new 0)) }
-        ensures err { OnErr result ((self.new ≡ self.old) × IsTrue (make_owned_asks self.old)) }
-    {
         let Buffer::Static(text) = &self.buffer else {
             return Ok(());
         };
-        let owned = Self::new(self.alloc, text.as_static_str())?;
+        let owned = Self::copy_static(self.alloc, text.as_static_str())?;
         *self = owned;
         Ok(())
+    }
+
+    /// `new`, for the static value that becomes owned: out of the way of those that are.
+    #[cold]
+    #[inline(never)]
+    fn copy_static(alloc: Global, text: &'static str) -> Result<Self, ReserveError>
+        ensures ok { IfOk result (λ r. new P.growth (text_of text.now) ≡ Some r) }
+        ensures err { OnErr result (IsTrue (with_capacity_asks (length text.now))) }
+    {
+        Self::new(alloc, text)
     }
 
     /// Gives room back: keeps room for the text and for `min_capacity` bytes. A lower capacity on the heap is a new

@@ -1,31 +1,18 @@
 //! Changes of a representation's text in bytes of its own, which never allocate and never move the text to another
 //! place.
-ghost use Rattle.std.specs.Prelude.{◌≡◌, ◌+◌, ◌-◌, ◌≤◌, ◌<◌, [], ◌∷◌, ◌++◌, length, IsTrue, true, false, ◌↔◌};
+ghost use Rattle.std.specs.Prelude.{◌≡◌, ◌+◌, ◌-◌, ◌^◌, ◌≤◌, ◌<◌, [], ◌∷◌, ◌++◌, length, nat_eq, ◌||◌, IsTrue, false, ◌↔◌, IsSome, IfSome, None};
 ghost use Rattle.compact_text.specs.Text.{size, text_of, ascii_lowercase, ascii_uppercase};
-ghost use Rattle.compact_text.specs.Cut.{IsBoundary, substring, replaced_text};
+ghost use Rattle.compact_text.specs.Cut.{IsBoundary, IsAsciiAt, substring, replaced_text};
 ghost use Rattle.compact_repr.specs.Value.{placed_text, is_static};
 ghost use Rattle.compact_repr.specs.Capacity.{fits_in_place};
-ghost use Rattle.compact_repr.specs.Change.{clear, truncate, zeroize};
-ghost use Rattle.compact_repr.specs.PushOutcomes.{IsPushOutcome};
+ghost use Rattle.compact_repr.specs.Change.{clear, truncate, zeroize, PopsChar};
 ghost use Rattle.compact_text.specs.Retain.{RetainsCharsTo};
 
 use crate::inline::InlineBuffer;
 use crate::policy::Policy;
 use crate::repr::{Buffer, Repr};
 use crate::static_str::StaticStr;
-use compact_text::slices::MAX_SHORT_LEN;
 use compact_text::str_parts::substring;
-
-/// What came of an append that takes short texts alone.
-#[derive(Clone, Copy, Debug, PartialEq, Eq, Drop)]
-pub enum PushOutcome {
-    /// It is done.
-    Done,
-    /// The value has no room of its own for it, and is as it was.
-    NoRoom,
-    /// The text is too long to be tried, and the value is as it was.
-    NotTried,
-}
 
 impl<P: Policy> Repr<P> {
     /// Appends `text` if the value is owned and has room. Answers whether that was so; if not, nothing has changed.
@@ -43,22 +30,6 @@ impl<P: Policy> Repr<P> {
         }
     }
 
-    /// Appends a text of at most 32 bytes if the value is owned and has room. A longer one is not looked at, so that
-    /// the short way calls nothing.
-    #[inline(always)]
-    pub fn push_short(&mut self, text: &str) -> PushOutcome
-        ensures { IsPushOutcome self.old text.now result self.new }
-    {
-        if text.len() > MAX_SHORT_LEN {
-            return PushOutcome::NotTried;
-        }
-        if self.try_push_str(text) {
-            PushOutcome::Done
-        } else {
-            PushOutcome::NoRoom
-        }
-    }
-
     /// Replaces what stands from one boundary to another, in bytes, by `text` if the value is owned and the outcome
     /// fits. Answers whether that was so; if not, nothing has changed. The place and the capacity stay.
     #[inline(always)]
@@ -66,10 +37,8 @@ impl<P: Policy> Repr<P> {
         requires order { start ≤ end }
         requires first { IsBoundary self.old.text start }
         requires last { IsBoundary self.old.text end }
-        ensures fits { IsTrue result
-            ↔ ((is_static self.old.placement.place ≡ false)
-            × (size self.old.text + length text.now
-            ≤ self.old.placement.capacity + (end - start))) }
+        ensures fits { result ≡ fits_in_place self.old (length text.now - (end - start)) }
+        ensures small { IsTrue result → size self.old.text < 2 ^ 63 }
         ensures replaced { IsTrue result
             → self.new ≡ placed_text (replaced_text self.old.text start end
             (text_of text.now)) self.old.placement }
@@ -114,6 +83,7 @@ impl<P: Policy> Repr<P> {
         requires ascii { byte < 128 }
         requires boundary { IsBoundary self.old.text index }
         ensures fits { result ≡ fits_in_place self.old 1 }
+        ensures small { IsTrue result → size self.old.text < 2 ^ 63 }
         ensures inserted { IsTrue result
             → self.new ≡ placed_text (replaced_text self.old.text index index
             (byte ∷ [])) self.old.placement }
@@ -126,28 +96,35 @@ impl<P: Policy> Repr<P> {
         }
     }
 
-    /// Takes out the ASCII character that begins at a boundary, in bytes, if the value is owned. Answers whether it is;
-    /// if not, nothing has changed.
+    /// Removes and returns the character at a boundary, in bytes, if it is ASCII and the value is owned. Returns `None`, with
+    /// nothing changed, if not. The place and the capacity stay.
     #[inline]
-    pub fn try_remove_ascii(&mut self, index: usize) -> bool
-        requires boundary { IsBoundary self.old.text index }
-        requires next { IsBoundary self.old.text (index + 1) }
-        ensures owned { IsTrue result ↔ (is_static self.old.placement.place ≡ false) }
-        ensures removed { IsTrue result
+    pub fn try_remove_ascii(&mut self, index: usize) -> Option<char>
+        requires { IsBoundary self.old.text index }
+        ensures owned { IsSome result → is_static self.old.placement.place ≡ false }
+        ensures character { IfSome result (λ c. IsAsciiAt self.old.text index c) }
+        ensures removed { IsSome result
             → self.new ≡ placed_text (replaced_text self.old.text index
             (index + 1) []) self.old.placement }
-        ensures full { result ≡ false → self.new ≡ self.old }
+        ensures unchanged { result ≡ None → self.new ≡ self.old }
     {
         match &mut self.buffer {
-            Buffer::Static(_) => false,
-            Buffer::Inline(_, inline) => {
-                inline.remove_ascii(index);
-                true
-            }
-            Buffer::Heap(heap) => {
-                heap.remove_ascii(index);
-                true
-            }
+            Buffer::Static(_) => None,
+            Buffer::Inline(_, inline) => inline.try_remove_ascii(index),
+            Buffer::Heap(heap) => heap.try_remove_ascii(index),
+        }
+    }
+
+    /// Removes and returns the last character, or returns `None` if the text is empty. The place stays, and so does an owned
+    /// capacity: a static text becomes a shorter part of the same static text.
+    #[inline]
+    pub fn pop(&mut self) -> Option<char>
+        ensures { PopsChar self.old result self.new }
+    {
+        match &mut self.buffer {
+            Buffer::Inline(_, inline) => inline.pop(),
+            Buffer::Heap(heap) => heap.pop(),
+            Buffer::Static(text) => text.pop(),
         }
     }
 
@@ -173,6 +150,30 @@ impl<P: Policy> Repr<P> {
                 if len < heap.len() {
                     heap.truncate(len);
                 }
+            }
+        }
+    }
+
+    /// Replaces the whole text by `text` if the value is owned and has room for it, or if `text` is empty. Returns whether it
+    /// did; if not, nothing has changed. The place stays, and so does an owned capacity.
+    #[inline]
+    #[tactic(auto, using(compact_text::proofs::TextFacts::text_facts, compact_text::proofs::Texts::empty_facts))]
+    pub fn try_assign(&mut self, text: &str) -> bool
+        ensures fits { result
+            ≡ (nat_eq (length text.now) 0 || fits_in_place (clear self.old) (length text.now)) }
+        ensures assigned { IsTrue result
+            → self.new ≡ placed_text (text_of text.now) (clear self.old).placement }
+        ensures full { result ≡ false → self.new ≡ self.old }
+    {
+        match &mut self.buffer {
+            Buffer::Inline(_, inline) => inline.try_assign(text),
+            Buffer::Heap(heap) => heap.try_assign(text),
+            Buffer::Static(old) => {
+                if !text.is_empty() {
+                    return false;
+                }
+                *old = StaticStr::new("");
+                true
             }
         }
     }

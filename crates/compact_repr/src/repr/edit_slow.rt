@@ -1,6 +1,6 @@
 //! Changes of a representation's text that may have to make room first, or to make the value owned.
-ghost use Rattle.std.specs.Prelude.{◌≡◌, ◌≤◌, [], length, Some, OnOk, OnErr, IsTrue, false};
-ghost use Rattle.compact_text.specs.Text.{text_of};
+ghost use Rattle.std.specs.Prelude.{◌≡◌, ◌-◌, ◌^◌, ◌<◌, ◌≤◌, [], length, Some, OnOk, OnErr, IsTrue, false};
+ghost use Rattle.compact_text.specs.Text.{size, text_of};
 ghost use Rattle.compact_text.specs.Cut.{IsBoundary, substring};
 ghost use Rattle.compact_repr.specs.Capacity.{fits_in_place, reserve_asks};
 ghost use Rattle.compact_repr.specs.Change.{push_str, push_str_asks, insert_str, replace_range, replace_range_asks};
@@ -10,38 +10,21 @@ use crate::policy::Policy;
 use crate::repr::Repr;
 
 impl<P: Policy> Repr<P> {
-    /// Appends `text`, of any length and with any place. It stands apart, so that a short append calls nothing.
+    /// Appends `text`, whatever its length, and makes room first if it does not fit. Not inlined, so that a short append that
+    /// fits calls nothing.
     ///
     /// # Errors
     ///
-    /// [`ReserveError`] if the value has no room for `text` in place, and a new buffer is refused.
+    /// [`ReserveError`] if `text` does not fit and a new buffer cannot be allocated.
     #[inline(never)]
-    #[tactic(auto, using(compact_text::proofs::TextFacts::text_facts, crate::proofs::Changes::append_facts))]
-    pub fn push_str(&mut self, text: &str) -> Result<(), ReserveError>
-        ensures ok { OnOk result (push_str P.growth self.old (text_of text.now) ≡ Some self.new) }
-        ensures err { OnErr result
-            ((self.new ≡ self.old) × IsTrue (push_str_asks self.old (text_of text.now))) }
-    {
-        if self.try_push_str(text) {
-            return Ok(());
-        }
-        self.push_str_slow(text)
-    }
-
-    /// Appends `text` to a value that has no room for it in place.
-    ///
-    /// # Errors
-    ///
-    /// [`ReserveError`] if a new buffer is refused.
-    #[cold]
-    #[inline(never)]
+    #[tactic(auto, using(compact_text::proofs::TextFacts::text_facts, crate::proofs::Changes::append_facts, crate::proofs::MoreRoom::slow_facts))]
     pub fn push_str_slow(&mut self, text: &str) -> Result<(), ReserveError>
-        requires { fits_in_place self.old (length text.now) ≡ false }
         ensures ok { OnOk result (push_str P.growth self.old (text_of text.now) ≡ Some self.new) }
         ensures err { OnErr result
             ((self.new ≡ self.old) × IsTrue (push_str_asks self.old (text_of text.now))) }
     {
-        if text.is_empty() {
+        // A text that was too long to be tried inline may fit.
+        if self.try_push_str(text) || text.is_empty() {
             return Ok(());
         }
         self.make_room(text.len())?;
@@ -51,22 +34,25 @@ impl<P: Policy> Repr<P> {
         Ok(())
     }
 
-    /// Puts `text` in at a boundary, in bytes, once there is room for it; a static value becomes owned even for an
-    /// empty text.
+    /// Inserts `text`, which does not fit in place, at a boundary, in bytes. A static value becomes owned even if `text` is
+    /// empty.
     ///
     /// # Errors
     ///
-    /// [`ReserveError`] if a new buffer is refused.
+    /// [`ReserveError`] if a new buffer cannot be allocated.
     #[cold]
     #[inline(never)]
+    #[tactic(auto, using(compact_text::proofs::TextFacts::text_facts, crate::proofs::MoreRoom::slow_facts))]
     pub fn insert_str_slow(&mut self, index: usize, text: &str) -> Result<(), ReserveError>
-        requires { IsBoundary self.old.text index }
+        requires full { fits_in_place self.old (length text.now) ≡ false }
+        requires boundary { IsBoundary self.old.text index }
         ensures ok { OnOk result
             (insert_str P.growth self.old index (text_of text.now) ≡ Some self.new) }
         ensures err { OnErr result
             ((self.new ≡ self.old) × IsTrue (reserve_asks self.old (length text.now))) }
+        ensures small { size self.old.text < 2 ^ 63 }
     {
-        self.reserve(text.len())?;
+        self.make_room(text.len())?;
         if !self.try_replace_range(index, index, text) {
             unreachable!();
         }
@@ -94,15 +80,17 @@ impl<P: Policy> Repr<P> {
         self.replace_slow(start, end, "")
     }
 
-    /// Replaces what stands from one boundary to another, in bytes, once the value is owned and has room for the
-    /// outcome.
+    /// Replaces the part between two boundaries, in bytes, by a `text` that does not fit in place: the value becomes owned
+    /// first, or makes room.
     ///
     /// # Errors
     ///
-    /// [`ReserveError`] if a static text cannot be made owned, or a larger buffer is refused.
+    /// [`ReserveError`] if a new buffer cannot be allocated.
     #[cold]
     #[inline(never)]
+    #[tactic(auto, using(compact_text::proofs::TextFacts::text_facts, crate::proofs::MoreRoom::slow_facts))]
     pub fn replace_slow(&mut self, start: usize, end: usize, text: &str) -> Result<(), ReserveError>
+        requires full { fits_in_place self.old (length text.now - (end - start)) ≡ false }
         requires order { start ≤ end }
         requires first { IsBoundary self.old.text start }
         requires last { IsBoundary self.old.text end }
@@ -116,7 +104,7 @@ impl<P: Policy> Repr<P> {
         if text.len() <= replaced {
             self.make_owned()?;
         } else {
-            self.reserve(text.len() - replaced)?;
+            self.make_room(text.len() - replaced)?;
         }
         if !self.try_replace_range(start, end, text) {
             unreachable!();

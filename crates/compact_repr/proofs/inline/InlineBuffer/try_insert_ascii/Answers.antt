@@ -48,6 +48,7 @@ returns-then-len-ge-INLINE_CAPACITY c =
       fits = (λ h. absurd (false≢true h), λ h. absurd (omega (arith, h, stands, e, over)));
       inserted = λ h. absurd (false≢true h);
       within = omega (arith, stands, most);
+      short = omega (arith, stands, most);
       full = λ _. refl;
     }
 

@@ -79,6 +79,7 @@ returns-then-len-gt-INLINE_CAPACITY c =
       fits = (λ h. absurd (false≢true h), λ h. absurd (omega (arith, h, e, last, read, over)));
       replaced = λ h. absurd (false≢true h);
       within = omega (arith, e, most);
+      short = omega (arith, e, most);
       full = λ _. refl;
     }
 
