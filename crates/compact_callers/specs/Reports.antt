@@ -1,8 +1,8 @@
 -- What a report says.
 use Rattle.std.specs.Prelude.{ℕ, List, [], ◌++◌, codes, flat_map}
 use Rattle.std.specs.Fmt.{decimal}
-use Rattle.compact_callers.specs.declared.report_callers.Row.{Row}
-use Rattle.compact_callers.specs.declared.report_callers.Rows.{Rows, End, Then'}
+use Rattle.compact_callers.specs.declared.report.Row.{Row}
+use Rattle.compact_callers.specs.declared.report.Rows.{Rows, End, Then'}
 
 -- a line: the name, a colon and the number
 abbrev pub row_line : Row → List ℕ

@@ -1,8 +1,8 @@
-//! Tests of the callers in `bytes_callers.rt`.
+//! Tests of the callers in `in_bytes.rt`.
 
 use crate::asserts::assert_that;
 use compact_asserts::that;
-use compact_callers::bytes_callers::{
+use compact_callers::in_bytes::{
     append_both, entry, greeting, heading, mark_at, marked, port_part, port_text, with_semicolons,
 };
 use compact_testing::seen::{is_heap, is_inline};

@@ -1,7 +1,7 @@
-//! Tests of the callers in `count_callers.rt`.
+//! Tests of the callers in `count.rt`.
 
 use crate::asserts::{assert_equal, assert_that};
-use compact_callers::count_callers::{
+use compact_callers::count::{
     has_after_adding, hashed_word_counts, ordered_has_after_adding, ordered_word_counts,
     remove_price, set_and_find, set_price, sorted_has_after_adding, total_after, word_counts,
 };

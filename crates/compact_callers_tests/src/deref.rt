@@ -1,7 +1,7 @@
-//! Tests of the callers in `deref_callers.rt`.
+//! Tests of the callers in `deref.rt`.
 
 use crate::asserts::{assert_equal, assert_that};
-use compact_callers::deref_callers::{
+use compact_callers::deref::{
     append_other, bytes_of_both, characters_of, filled_lines, longest_word, number_in, shown_name,
     split_at_sign, weight_of, with_commas,
 };

@@ -1,7 +1,7 @@
-//! Tests of the callers in `error_callers.rt`.
+//! Tests of the callers in `error.rt`.
 
 use crate::asserts::{assert_equal, assert_that};
-use compact_callers::error_callers::{
+use compact_callers::error::{
     add_checked, add_name, add_named, add_read, add_short_name, marked_bytes, marked_line,
     marked_output, write_marked,
 };

@@ -1,7 +1,7 @@
-//! Tests of the callers in `field_callers.rt`.
+//! Tests of the callers in `field.rt`.
 
 use crate::asserts::{assert_equal, assert_that};
-use compact_callers::field_callers::{read_name, read_person, write_person};
+use compact_callers::field::{read_name, read_person, write_person};
 use compact_testing::seen::is_inline;
 use compact_testing::values::short;
 

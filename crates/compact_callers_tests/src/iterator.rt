@@ -1,7 +1,7 @@
 //! Tests of the callers in `iterator.rt`.
 
 use crate::asserts::assert_that;
-use compact_callers::iterator_callers::{
+use compact_callers::iterator::{
     append_fields, long_names, names_by_reference, names_of, path, whole,
 };
 use compact_str::CompactString;

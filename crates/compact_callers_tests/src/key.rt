@@ -1,7 +1,7 @@
 //! Tests of the callers in `key.rt`.
 
 use crate::asserts::{assert_equal, assert_that};
-use compact_callers::key_callers::{count_of, place_of, set_count};
+use compact_callers::key::{count_of, place_of, set_count};
 use compact_testing::values::{lasting, letters, short, value_of};
 use std::collections::HashMap;
 

@@ -1,7 +1,7 @@
 //! Tests of the callers in `lender.rt`.
 
 use crate::asserts::{assert_equal, assert_that};
-use compact_callers::lender_callers::{emptied, start_anew, take_out, try_to_empty, was_emptied};
+use compact_callers::lender::{emptied, start_anew, take_out, try_to_empty, was_emptied};
 use compact_str::CompactString;
 use compact_testing::seen::{is_inline, is_static};
 

@@ -1,8 +1,8 @@
-//! Tests of the callers in `lookup_callers.rt`.
+//! Tests of the callers in `lookup.rt`.
 
 use crate::asserts::{assert_equal, assert_that};
-use compact_callers::key_callers::{set_count, set_rank};
-use compact_callers::lookup_callers::{
+use compact_callers::key::{set_count, set_rank};
+use compact_callers::lookup::{
     count_by_text, forget, held_by_text, is_in_both, place_by_text, rank_by_text, total,
 };
 use compact_testing::values::short;

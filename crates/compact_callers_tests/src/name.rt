@@ -1,7 +1,7 @@
-//! Tests of the callers in `name_callers.rt`.
+//! Tests of the callers in `name.rt`.
 
 use crate::asserts::assert_equal;
-use compact_callers::name_callers::{known, pair};
+use compact_callers::name::{known, pair};
 use compact_edit::Interner;
 
 #[test]

@@ -1,7 +1,7 @@
-//! Tests of the callers in `packed_callers.rt`.
+//! Tests of the callers in `packed.rt`.
 
 use crate::asserts::{assert_equal, assert_that};
-use compact_callers::packed_callers::{cleaned, have_same_row, through_a_row};
+use compact_callers::packed::{cleaned, have_same_row, through_a_row};
 use compact_testing::seen::is_inline;
 use compact_testing::values::{lasting, short};
 

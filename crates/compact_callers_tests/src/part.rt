@@ -1,7 +1,7 @@
-//! Tests of the callers in `part_callers.rt`.
+//! Tests of the callers in `part.rt`.
 
 use crate::asserts::{assert_equal, assert_that};
-use compact_callers::part_callers::{
+use compact_callers::part::{
     answer_in, append_address, append_request, append_whole_address, first_of, first_two_bytes,
     is_abc, is_encoding_header, is_not_naive, key_and_value, number_and_name, sides_of_arrow,
     sides_of_dash, trimmed, unmarked,

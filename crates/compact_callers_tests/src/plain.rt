@@ -1,8 +1,8 @@
-//! Tests of the callers in `plain_callers.rt`.
+//! Tests of the callers in `plain.rt`.
 
 use crate::asserts::{assert_equal, assert_that};
 use compact_asserts::that;
-use compact_callers::plain_callers::{
+use compact_callers::plain::{
     append_count, append_pair, append_record, append_report, split_and_join, split_field, type_two,
     with_suffix,
 };

@@ -1,7 +1,7 @@
 //! Tests of the callers in `push.rt`.
 
 use crate::asserts::{assert_equal, assert_that};
-use compact_callers::push_callers::{joined, joined_in_doubled_room};
+use compact_callers::push::{joined, joined_in_doubled_room};
 use compact_testing::seen::is_heap;
 use compact_testing::values::letters;
 

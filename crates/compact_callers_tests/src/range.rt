@@ -1,8 +1,8 @@
-//! Tests of the callers in `range_callers.rt`.
+//! Tests of the callers in `range.rt`.
 
 use crate::asserts::assert_equal;
 use compact_asserts::that;
-use compact_callers::range_callers::{bytes_between, cover, drop_mark, part_between, repeat_from};
+use compact_callers::range::{bytes_between, cover, drop_mark, part_between, repeat_from};
 use compact_testing::values::short;
 
 #[test]

@@ -1,7 +1,7 @@
 //! Tests of the callers in `removal.rt`.
 
 use crate::asserts::assert_that;
-use compact_callers::removal_callers::{
+use compact_callers::removal::{
     every_second, every_second_told, folded, note_spaces, without_spaces,
 };
 use compact_testing::seen::{is_heap, is_inline};

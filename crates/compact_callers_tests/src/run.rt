@@ -1,7 +1,7 @@
-//! Tests of the callers in `run_callers.rt`.
+//! Tests of the callers in `run.rt`.
 
 use crate::asserts::{assert_equal, assert_that};
-use compact_callers::run_callers::{Doubling, bracket, refill, rewrite};
+use compact_callers::run::{Doubling, bracket, refill, rewrite};
 use compact_str::PolicyString;
 use compact_testing::seen::{is_heap, is_inline};
 use compact_testing::values::{letters, short};

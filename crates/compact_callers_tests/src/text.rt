@@ -1,7 +1,7 @@
 //! Tests of the callers in `text.rt`.
 
 use crate::asserts::assert_that;
-use compact_callers::text_callers::{append_field, keyword, label, record_line};
+use compact_callers::text::{append_field, keyword, label, record_line};
 use compact_testing::seen::{is_heap, is_inline};
 use compact_testing::values::{letters, with_room};
 

@@ -1,7 +1,7 @@
-//! Tests of the callers in `token_callers.rt`.
+//! Tests of the callers in `token.rt`.
 
 use crate::asserts::assert_equal;
-use compact_callers::token_callers::{learn, numbers_of};
+use compact_callers::token::{learn, numbers_of};
 use compact_edit::Interner;
 use compact_testing::values::short;
 

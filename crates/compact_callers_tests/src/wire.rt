@@ -1,7 +1,7 @@
-//! Tests of the callers in `wire_callers.rt`.
+//! Tests of the callers in `wire.rt`.
 
 use crate::asserts::{assert_equal, assert_that};
-use compact_callers::wire_callers::{
+use compact_callers::wire::{
     first_record, next_record, next_text, pair_sent_and_received, read_records, read_texts,
     receive_field, send_field, sent_and_received,
 };

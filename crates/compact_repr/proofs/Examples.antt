@@ -8,7 +8,7 @@ use Rattle.compact_text.specs.Text.{size, ascii_lowercase, ascii_uppercase}
 use Rattle.compact_text.specs.Cut.{text_before, text_after, substring, replaced_text}
 use Rattle.compact_repr.specs.Value.{PlacedText, placed_text}
 use Rattle.compact_repr.specs.Capacity.{Growth, inline_placement, heap_placement, static_placement, checked_heap_placement, with_capacity_placement, with_capacity_asks, fits_in_place, reserve_placement, reserve_asks, shortened_placement, owned_placement, make_owned_asks, const_new_placement, from_string_placement, clone_placement, clone_asks, shrink_to_placement, shrink_to_asks}
-use Rattle.compact_repr.specs.Change.{new, push_str, push_str_asks, clear, reserve, with_capacity, make_owned, clone, truncate, make_ascii_lowercase, make_ascii_uppercase, retain, zeroize}
+use Rattle.compact_repr.specs.Calls.{new, push_str, push_str_asks, clear, reserve, with_capacity, make_owned, clone, truncate, make_ascii_lowercase, make_ascii_uppercase, retain, zeroize}
 
 abbrev standard : Growth
 standard = record { least = 32; numerator = 3; denominator = 2 }

@@ -7,7 +7,7 @@ use Rattle.compact_text.specs.Text.{size}
 use Rattle.compact_text.specs.Cut.{replaced_text}
 use Rattle.compact_repr.specs.Value.{Placement, PlacedText, placed_text, is_static}
 use Rattle.compact_repr.specs.Capacity.{Growth, fits_in_place, reserve_placement, reserve_asks, owned_placement, make_owned_asks}
-use Rattle.compact_repr.specs.Change.{reserve, make_owned, push_str, push_str_asks, insert_str, replace_range, replace_range_asks}
+use Rattle.compact_repr.specs.Calls.{reserve, make_owned, push_str, push_str_asks, insert_str, replace_range, replace_range_asks}
 
 -- the parts of a value that was put together
 placed : (t : List ℕ) (o : Option Placement) (u : PlacedText) → option_map (placed_text t) o ≡ Some u

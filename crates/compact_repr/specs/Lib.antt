@@ -3,7 +3,7 @@ pub use Rattle.compact_text.specs.Cut
 pub mod Value
 pub mod Capacity
 pub mod Policies
-pub mod Change
+pub mod Calls
 pub use Rattle.compact_text.specs.Retain
 pub mod BufferValue
 pub mod Loan

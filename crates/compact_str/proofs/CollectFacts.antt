@@ -1,6 +1,5 @@
 -- Facts on a value that is collected.
 use Rattle.std.proofs.Common.{append_assoc, append-nil}
-use Rattle.std.proofs.lemmas.Str.{IsUtf8-string_bytes}
 use Rattle.compact_str.proofs.Collecting.{each-alone, each-referred}
 use Rattle.compact_str.proofs.Fitted.{fitted-push_str, fitted-empty, asks-over}
 
@@ -8,6 +7,3 @@ pub ruleset builder_facts = (fitted-push_str, fitted-empty, asks-over, append_as
 
 -- of characters that are collected
 pub ruleset collect_facts = (each-alone, each-referred)
-
--- of a `String`
-pub ruleset string_facts = (IsUtf8-string_bytes)

@@ -15,7 +15,7 @@ use Rattle.compact_repr.specs.Cut.{IsBoundary, text_before}
 use Rattle.compact_text.proofs.Cuts.{text_before-append}
 use Rattle.compact_repr.specs.Value.{PlacedText}
 use Rattle.compact_repr.specs.Capacity.{Growth}
-use Rattle.compact_repr.specs.Change.{push_str}
+use Rattle.compact_repr.specs.Calls.{push_str}
 use Rattle.compact_str.specs.Room.{HasRoomFor, infallible_capacity}
 use Rattle.compact_str.specs.Collect.{Appends, AppendsAll, AppendsUpToRefused, PassesInline, GivesText, StopsWithout, char_text, join}
 use Rattle.compact_text.proofs.Texts.{size-append, size-text_of}

@@ -11,12 +11,12 @@ use Rattle.compact_repr.specs.Text.{size, text_of}
 use Rattle.compact_repr.specs.Cut.{IsBoundary, text_before, text_after, substring, replaced_text}
 use Rattle.compact_repr.specs.Value.{Place, inline, heap, static, IsCapacityOf, IsSound, PlacedText, placed_text, is_static}
 use Rattle.compact_repr.specs.Capacity.{Growth, owned_placement}
-use Rattle.compact_repr.specs.Change.{make_owned, replace_range}
+use Rattle.compact_repr.specs.Calls.{make_owned, replace_range}
 use Rattle.compact_text.proofs.Texts.{size-append, size-text_of}
 use Rattle.compact_text.proofs.Keeping.{first_ascii, first_past_ascii}
 use Rattle.compact_text.proofs.Cuts.{text_before-text_after, size-text_before, size-replaced, boundary-from_size}
 use Rattle.compact_text.proofs.Middles.{substring-parts, parts-substring}
-use Rattle.compact_str.specs.RangeTexts.{is_boundary, is_range, range_text, IsAsciiRange, without_range}
+use Rattle.compact_str.specs.TotalRanges.{is_boundary, is_range, range_text, IsAsciiRange, without_range}
 use Rattle.compact_str.proofs.Letters.{make_owned-text}
 
 pub make_owned-owned_placement : (g : Growth) (v u : PlacedText) → make_owned g v ≡ Some u → is_static u.placement.place ≡ false
@@ -287,6 +287,6 @@ ascii-back t r front back c width old new all =
     let rest = length-least r in
     rw new (omega (arith, whole, sizes, lengths, wide, rest))
 
-pub ruleset part_facts = (range-is_range, room-owned_placement)
+pub ruleset drain_facts = (range-is_range, room-owned_placement)
 
 pub ruleset owned_facts = (make_owned-text, make_owned-owned_placement)

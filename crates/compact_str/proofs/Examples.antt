@@ -7,14 +7,14 @@ use Rattle.compact_repr.specs.Value.{PlacedText, placed_text}
 use Rattle.compact_repr.specs.Capacity.{Growth, inline_placement, heap_placement, static_placement, with_capacity_placement}
 use Rattle.compact_text.proofs.Cuts.{size-text_before, boundary-within, boundary-from_size}
 use Rattle.compact_str.specs.Room.{own_capacity, infallible_capacity}
-use Rattle.compact_repr.specs.Change.{truncate, insert_str, replace_range}
-use Rattle.compact_str.specs.PositionEdits.{Removes, split_tail, repeat}
+use Rattle.compact_repr.specs.Calls.{truncate, insert_str, replace_range}
+use Rattle.compact_str.specs.Edits.{Removes, split_tail, repeat}
 use Rattle.compact_str.specs.Clones.{clone_from}
 use Rattle.compact_str.specs.Ranges.{IsRange, range_start, range_end}
 use Rattle.std.specs.Prelude.{true, false}
 use Rattle.std.specs.declared.cmp.Ordering.TheVariants.{Less, Equal, Greater}
 use Rattle.compact_str.specs.Order.{same_text, text_order, text_cmp}
-use Rattle.compact_str.specs.RangeTexts.{range_text, without_range}
+use Rattle.compact_str.specs.TotalRanges.{range_text, without_range}
 use Rattle.compact_str.specs.FittedValues.{IsPlacedBySize}
 use Rattle.compact_str.specs.Collect.{Appends, join, char_text}
 use Rattle.compact_str.specs.RetainRules.{retained_text, answer_rule}

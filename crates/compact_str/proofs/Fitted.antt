@@ -6,7 +6,7 @@ use Rattle.std.specs.Prelude.{IsTrue, Result, Ok, Err, OnOk, OnErr}
 use Rattle.compact_repr.specs.Text.{size}
 use Rattle.compact_repr.specs.Value.{PlacedText, placed_text, heap}
 use Rattle.compact_repr.specs.Capacity.{Growth, inline_placement}
-use Rattle.compact_repr.specs.Change.{push_str, push_str_asks}
+use Rattle.compact_repr.specs.Calls.{push_str, push_str_asks}
 use Rattle.compact_str.specs.FittedValues.{IsPlacedBySize}
 use Rattle.compact_text.proofs.Texts.{size-append}
 use Rattle.compact_repr.proofs.Changes.{push_str-text}

@@ -8,7 +8,7 @@ use Rattle.std.proofs.lemmas.Str.{encodes-chars, scalars-chars}
 use Rattle.compact_repr.specs.Text.{size, text_of}
 use Rattle.compact_repr.specs.Value.{PlacedText, placed_text, heap, is_heap}
 use Rattle.compact_repr.specs.Capacity.{Growth, inline_placement, with_capacity_asks, from_string_placement}
-use Rattle.compact_repr.specs.Change.{new, push_str, reserve}
+use Rattle.compact_repr.specs.Calls.{new, push_str, reserve}
 use Rattle.compact_text.proofs.Texts.{size-append}
 use Rattle.compact_repr.proofs.Changes.{push_str-text}
 use Rattle.compact_text.specs.Text.{replacement_character}
@@ -93,7 +93,7 @@ refused-fitted t (Err _) h asks = record { text = tt; fitted = tt; succeeds = λ
 pub long-asks : (n : ℕ) → 24 < n → IsTrue (with_capacity_asks n)
 long-asks n h = grind (arith, common_steps)
 
-pub ruleset part_facts = (part-asks)
+pub ruleset decoded_part_facts = (part-asks)
 
 pub ruleset first_facts = (first-asks)
 

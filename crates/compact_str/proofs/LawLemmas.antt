@@ -6,8 +6,8 @@ use Rattle.compact_repr.specs.Text.{size}
 use Rattle.compact_repr.specs.Cut.{IsBoundary, text_before, text_after}
 use Rattle.compact_repr.specs.Value.{PlacedText}
 use Rattle.compact_repr.specs.Capacity.{Growth, make_owned_asks}
-use Rattle.compact_repr.specs.Change.{insert_str}
-use Rattle.compact_str.specs.PositionEdits.{Removes, split_tail}
+use Rattle.compact_repr.specs.Calls.{insert_str}
+use Rattle.compact_str.specs.Edits.{Removes, split_tail}
 use Rattle.compact_str.specs.Laws.{RemovalUndoesInsertion, TruncationUndoesAppend, AppendUndoesSplit, CloneIsEqual, DecodingUndoesEncoding}
 use Rattle.compact_codec.proofs.LossyReading.{utf8_lossy_text-IsUtf8}
 use Rattle.compact_repr.proofs.Changes.{push_str-text}

@@ -4,7 +4,7 @@ use Rattle.std.proofs.lemmas.Grind.{common_steps}
 use Rattle.compact_repr.specs.Text.{ascii_lowercase, ascii_uppercase}
 use Rattle.compact_repr.specs.Value.{PlacedText, placed_text}
 use Rattle.compact_repr.specs.Capacity.{Growth}
-use Rattle.compact_repr.specs.Change.{new, make_owned, make_ascii_lowercase, make_ascii_uppercase}
+use Rattle.compact_repr.specs.Calls.{new, make_owned, make_ascii_lowercase, make_ascii_uppercase}
 use Rattle.compact_text.proofs.Letters.{size-lowercase, size-uppercase}
 
 -- a value that is made owned and then changed

@@ -21,8 +21,8 @@ use lib.Utf8.{scalar, scalars, low_scalar}
 use Rattle.compact_repr.specs.Text.{text_of, utf8}
 use Rattle.compact_repr.specs.Value.{PlacedText}
 use Rattle.compact_repr.specs.Capacity.{Growth}
-use Rattle.compact_str.specs.PositionEdits.{Writes}
-use Rattle.compact_str.specs.Ranges.{IsBetweenWhitespace}
+use Rattle.compact_str.specs.Edits.{Writes}
+use Rattle.compact_str.specs.Trim.{IsBetweenWhitespace}
 use Rattle.compact_str.proofs.ForCallers.{written-text, text_of-one, text_of-two, text_of-three, text_of-four, text_of-decimal, text_of-decimal_append}
 
 -- the text before a character that was found, the character, and the text behind it
@@ -47,7 +47,7 @@ cut-at t s c i j h e u is_scalar =
 written-parts : (g : Growth) (v w : PlacedText) (parts : List (List ℕ)) → FoldsTo (Writes g) v parts w → utf8 w.text ≡ utf8 v.text ++ concat parts
 written-parts g v w [] same = ap (λ (x : PlacedText). utf8 x.text) (sym same) ∙ sym (append-nil (utf8 v.text))
 written-parts g v w (part ∷ parts) (x, first, rest) =
-    written-parts g x w parts rest ∙ ap (λ bytes. bytes ++ concat parts) first.spells ∙ append_assoc (utf8 v.text) part (concat parts)
+    written-parts g x w parts rest ∙ ap (λ bytes. bytes ++ concat parts) first.written ∙ append_assoc (utf8 v.text) part (concat parts)
 
 pub written-bytes : (g : Growth) (v w : PlacedText) (bytes : List ℕ) → WritesInCalls (Writes g) v bytes w → utf8 w.text ≡ utf8 v.text ++ bytes
 written-bytes g v w bytes writes = written-parts g v w writes.parts writes.calls ∙ ap (λ x. utf8 v.text ++ x) writes.whole

@@ -8,13 +8,13 @@ use Rattle.std.specs.Prelude.{IsTrue, IsErr, option_map}
 use Rattle.std.specs.Char.{len_utf8, encode_utf8, is_ascii}
 use Rattle.std.specs.Str.{IsUtf8}
 use Rattle.compact_repr.specs.Text.{size, text_of, utf8}
-use Rattle.compact_repr.specs.Cut.{IsCut, IsBoundary, text_before, text_after, replaced_text}
+use Rattle.compact_repr.specs.Cut.{IsCut, IsBoundary, IsAsciiAt, text_before, text_after, replaced_text}
 use Rattle.compact_repr.specs.Value.{PlacedText, placed_text, is_static}
 use Rattle.compact_repr.specs.Capacity.{Growth, shortened_placement, owned_placement, make_owned_asks}
-use Rattle.compact_repr.specs.Change.{truncate, insert_str, replace_range, replace_range_asks}
-use Rattle.compact_str.specs.PositionEdits.{RemovesChar}
+use Rattle.compact_repr.specs.Calls.{truncate, insert_str, replace_range, replace_range_asks}
+use Rattle.compact_str.specs.Edits.{RemovesChar}
 use Rattle.compact_text.proofs.Texts.{length-utf8, size-append, empty_text}
-use Rattle.compact_text.proofs.Cuts.{boundary-from_size, text_before-text_after, text_before-append, text_after-append, size-text_before, size-text_after}
+use Rattle.compact_text.proofs.Cuts.{boundary-from_size, boundary-next, text_after-next, text_before-text_after, text_before-append, text_after-append, size-text_before, size-text_after}
 
 -- a text that is cut before its last character
 pub truncate-last : (v : PlacedText) (front : List ℕ) (c : ℕ) → v.text ≡ front ++ c ∷ [] → truncate v (size v.text - len_utf8 c) ≡ placed_text front (shortened_placement v front)
@@ -82,10 +82,12 @@ ascii-width : (c : ℕ) → is_ascii c ≡ true → len_utf8 c ≡ 1
 ascii-width c e = grind (arith, common_steps)
 
 -- an owned value that is cut round an ASCII character, in place
-pub removed-in_place : {E : Type 0} (g : Growth) (v w : PlacedText) (rest : List ℕ) (p c : ℕ) → IsBoundary v.text p → text_after v.text p ≡ c ∷ rest → is_ascii c ≡ true
+pub removed-in_place : {E : Type 0} (g : Growth) (v w : PlacedText) (p c : ℕ) → IsBoundary v.text p → IsAsciiAt v.text p c
     → is_static v.placement.place ≡ false → w ≡ placed_text (replaced_text v.text p (p + 1) []) v.placement → RemovesChar {E = E} g v p (Ok c) w
-removed-in_place g v w rest p c h e a o s =
-    let width : p + 1 ≡ p + len_utf8 c = ap (λ (n : ℕ). p + n) (sym (ascii-width c a)) in
+removed-in_place g v w p c h a o s =
+    let rest : List ℕ = a.rest in
+    let e : text_after v.text p ≡ c ∷ rest = a.text in
+    let width : p + 1 ≡ p + len_utf8 c = ap (λ (n : ℕ). p + n) (sym a.width) in
     let next : text_after v.text (p + 1) ≡ rest = ap (text_after v.text) width ∙ text_after-next v.text rest p c h e in
     let cut : replaced_text v.text p (p + 1) [] ≡ text_before v.text p ++ rest = rw (next, append-nil) refl in
     let owned_is : owned_placement g v ≡ Some v.placement = rw o refl in

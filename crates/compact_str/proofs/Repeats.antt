@@ -6,8 +6,8 @@ use Rattle.std.specs.Prelude.{IsTrue, not, ◌&&◌, nat_le}
 use Rattle.compact_repr.specs.Text.{size}
 use Rattle.compact_repr.specs.Value.{Placement, PlacedText, placed_text, is_static}
 use Rattle.compact_repr.specs.Capacity.{Growth, with_capacity_placement, fits_in_place}
-use Rattle.compact_repr.specs.Change.{push_str, push_str_asks}
-use Rattle.compact_str.specs.PositionEdits.{repeated_text}
+use Rattle.compact_repr.specs.Calls.{push_str, push_str_asks}
+use Rattle.compact_str.specs.Edits.{repeated_text}
 use Rattle.compact_text.proofs.Texts.{size-append, empty_text}
 
 repeated_text-suc : (n : ℕ) (t : List ℕ) → repeated_text n t ++ t ≡ repeated_text (suc n) t

@@ -9,7 +9,7 @@ use Rattle.std.specs.Prelude.{max, if◌then◌else◌, Result, Ok, Err, OnErr, 
 use Rattle.compact_repr.specs.Text.{size, utf8, text_of}
 use Rattle.compact_repr.specs.Value.{Placement, PlacedText, is_static}
 use Rattle.compact_repr.specs.Capacity.{Growth, reserve_placement, reserve_asks}
-use Rattle.compact_repr.specs.Change.{push_str, insert_str, push_str_asks}
+use Rattle.compact_repr.specs.Calls.{push_str, insert_str, push_str_asks}
 use Rattle.compact_repr.proofs.Changes.{push_str-text}
 use Rattle.compact_str.specs.Room.{infallible_capacity, HasRoomFor}
 

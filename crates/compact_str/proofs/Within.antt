@@ -4,7 +4,7 @@ pub use Rattle.std.proofs.lemmas.Str.{encodes-append}
 pub use Rattle.compact_text.proofs.Middles.{substring-parts}
 use Rattle.compact_repr.specs.Cut.{IsBoundary, substring}
 use Rattle.compact_repr.specs.Value.{PlacedText}
-use Rattle.compact_repr.specs.Change.{push_str_asks}
+use Rattle.compact_repr.specs.Calls.{push_str_asks}
 use Rattle.compact_repr.proofs.Changes.{push_str-text}
 use Rattle.compact_str.specs.Room.{HasRoomFor}
 use Rattle.compact_str.proofs.Rooms.{push_str-sure, push_str-bytes, push_str_asks-succeeds}

@@ -7,7 +7,7 @@ use Rattle.std.specs.Str.{IsUtf8}
 use Rattle.compact_repr.specs.Text.{text_of, utf8}
 use Rattle.compact_repr.specs.Value.{PlacedText}
 use Rattle.compact_repr.specs.Capacity.{Growth}
-use Rattle.compact_repr.specs.Change.{push_str}
+use Rattle.compact_repr.specs.Calls.{push_str}
 use Rattle.compact_repr.proofs.Changes.{push_str-text}
 use Rattle.compact_str.specs.Shown.{Shows}
 

@@ -2,7 +2,7 @@
 use Rattle.std.specs.Prelude.{Bool, ◌&&◌, Option, Some, if◌then◌else◌}
 use Rattle.compact_repr.specs.Value.{PlacedText, is_heap}
 use Rattle.compact_repr.specs.Capacity.{Growth}
-use Rattle.compact_repr.specs.Change.{push_str, push_str_asks, clear}
+use Rattle.compact_repr.specs.Calls.{push_str, push_str_asks, clear}
 
 -- v made a clone of w: an inline or static w gives its place and capacity, and the text of a heap w is joined to v
 -- once v is cleared

@@ -5,16 +5,16 @@ use Rattle.std.specs.Iterator.Runs.{WholeRun}
 use Rattle.compact_repr.specs.Text.{size}
 use Rattle.compact_repr.specs.Value.{PlacedText}
 use Rattle.compact_repr.specs.Capacity.{Growth}
-use Rattle.compact_repr.specs.Change.{push_str, push_str_asks}
+use Rattle.compact_repr.specs.Calls.{push_str, push_str_asks}
 
--- the text of each item, as `spells` reads it, is joined to v's end in turn, which leaves w
+-- the text of each item, as `text` reads it, is joined to v's end in turn, which leaves w
 abbrev pub Appends : {A : Type 0} → Growth → (A → List ℕ) → PlacedText → List A → PlacedText → Type 0
-Appends g spells v [] w = w ≡ v
-Appends g spells v (x ∷ xs) w = (u : PlacedText) × (push_str g v (spells x) ≡ Some u) × Appends g spells u xs w
+Appends g text v [] w = w ≡ v
+Appends g text v (x ∷ xs) w = (u : PlacedText) × (push_str g v (text x) ≡ Some u) × Appends g text u xs w
 
 -- the texts of the items with a separator between each two: each stands behind a separator, but for the first separator
 abbrev pub join : {A : Type 0} → List ℕ → (A → List ℕ) → List A → List ℕ
-join separator spells xs = drop (length separator) (flat_map (λ x. separator ++ spells x) xs)
+join separator text xs = drop (length separator) (flat_map (λ x. separator ++ text x) xs)
 
 -- the text of one character
 abbrev pub char_text : ℕ → List ℕ
@@ -35,22 +35,22 @@ OfAllItems {S = S} becomes steps iterable P = (it : S) → becomes iterable it �
 module _ {S A : Type 0} (steps : S → Option A → S → Type 0) where
   -- all items of an iterator are appended in turn
   abbrev pub AppendsAll : Growth → (A → List ℕ) → S → PlacedText → PlacedText → Type 0
-  AppendsAll g spells s v w = (xs : List A) × Drains steps s xs × Appends g spells v xs w
+  AppendsAll g text s v w = (xs : List A) × Drains steps s xs × Appends g text v xs w
 
   -- the items before one that is refused are appended, and that one asks for a heap buffer
   abbrev pub AppendsUpToRefused : Growth → (A → List ℕ) → S → PlacedText → PlacedText → Type 0
-  AppendsUpToRefused g spells s v w =
-      (xs : List A) × (x : A) × (t : S) × YieldsThen steps s xs (Some x) t × Appends g spells v xs w × IsTrue (push_str_asks w (spells x))
+  AppendsUpToRefused g text s v w =
+      (xs : List A) × (x : A) × (t : S) × YieldsThen steps s xs (Some x) t × Appends g text v xs w × IsTrue (push_str_asks w (text x))
 
   -- items that an iterator gave make a text of more than 24 bytes
   abbrev pub PassesInline : (List A → List ℕ) → S → Type 0
-  PassesInline spells s = (xs : List A) × (t : S) × Yields steps s xs t × (24 < size (spells xs))
+  PassesInline text s = (xs : List A) × (t : S) × Yields steps s xs t × (24 < size (text xs))
 
   -- items that an iterator gave make a text that is not empty
   abbrev pub GivesText : (List A → List ℕ) → S → Type 0
-  GivesText spells s = (xs : List A) × (t : S) × Yields steps s xs t × (0 < size (spells xs))
+  GivesText text s = (xs : List A) × (t : S) × Yields steps s xs t × (0 < size (text xs))
 
   -- the items before one that is refused are joined to a text t, which leaves u, and there that one is past a capacity
   abbrev pub StopsWithout : (A → List ℕ) → S → ℕ → List ℕ → List ℕ → Type 0
-  StopsWithout spells s capacity t u =
-      (xs : List A) × (x : A) × (r : S) × YieldsThen steps s xs (Some x) r × (u ≡ t ++ flat_map spells xs) × (capacity < size u + size (spells x))
+  StopsWithout text s capacity t u =
+      (xs : List A) × (x : A) × (r : S) × YieldsThen steps s xs (Some x) r × (u ≡ t ++ flat_map text xs) × (capacity < size u + size (text x))

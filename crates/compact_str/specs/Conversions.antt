@@ -6,7 +6,7 @@ use Rattle.std.specs.declared.borrow.CowStr.TheVariants.{Borrowed, Owned}
 use Rattle.compact_repr.specs.Text.{text_of, utf8}
 use Rattle.compact_repr.specs.Value.{PlacedText, placed_text}
 use Rattle.compact_repr.specs.Capacity.{Growth, with_capacity_asks, from_string_placement}
-use Rattle.compact_repr.specs.Change.{new}
+use Rattle.compact_repr.specs.Calls.{new}
 
 -- r is a new value with the text that the bytes s encode; up to 24 of them never fail
 pub record CopiesText {E : Type 0} (g : Growth) (s : List ℕ) (r : Result PlacedText E) : Type 0 where

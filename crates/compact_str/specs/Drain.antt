@@ -3,13 +3,13 @@ use Rattle.std.specs.Prelude.{◌≡◌, ℕ, List, [], ◌∷◌, ◌++◌, Opt
 use Rattle.std.specs.Borrow.{GName}
 use Rattle.compact_repr.specs.Value.{PlacedText}
 use Rattle.compact_repr.specs.declared.policy.Policy.{Ghosts}
-use Rattle.compact_str.specs.RangeTexts.{range_text, without_range}
+use Rattle.compact_str.specs.TotalRanges.{range_text, without_range}
 use Rattle.compact_str.specs.declared.string.drain.Drain.{Drain}
 
 module _ {P : Type 0} {G : Ghosts P} where
   -- the characters that are not yet taken
   abbrev pub drain_rest : Drain P G → List ℕ
-  drain_rest d = range_text d.value.now.text d.front d.back
+  drain_rest d = range_text d.value.now.text d.rest_start d.rest_end
 
   -- what the lender is once the drain is dropped
   abbrev pub value_after_drain : Drain P G → PlacedText

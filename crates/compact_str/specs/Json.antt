@@ -4,7 +4,7 @@ use Rattle.serde_json.specs.Data.{Data, null, boolean, number, string, array, ob
 use Rattle.compact_repr.specs.Text.{text_of}
 use Rattle.compact_repr.specs.Value.{PlacedText}
 use Rattle.compact_repr.specs.Capacity.{Growth, with_capacity_asks}
-use Rattle.compact_repr.specs.Change.{new}
+use Rattle.compact_repr.specs.Calls.{new}
 use Rattle.compact_str.specs.declared.string.json.FromJsonError.{FromJsonError}
 use Rattle.compact_str.specs.declared.string.json.FromJsonError.TheVariants.{NotAString, Reserve}
 

@@ -7,8 +7,8 @@ use Rattle.compact_repr.specs.Cut.{IsBoundary, text_before}
 use Rattle.compact_repr.specs.Packed.{IsPackedFor}
 use Rattle.compact_repr.specs.Value.{PlacedText, placed_text, IsSound}
 use Rattle.compact_repr.specs.Capacity.{Growth, shortened_placement, make_owned_asks}
-use Rattle.compact_repr.specs.Change.{push_str, clone, truncate, insert_str}
-use Rattle.compact_str.specs.PositionEdits.{Removes, split_tail}
+use Rattle.compact_repr.specs.Calls.{push_str, clone, truncate, insert_str}
+use Rattle.compact_str.specs.Edits.{Removes, split_tail}
 
 -- where a character was put in one may be taken out, which asks for no memory: it is that character, and the text is as
 -- before

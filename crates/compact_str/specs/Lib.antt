@@ -3,7 +3,7 @@ pub use Rattle.compact_repr.specs.Cut
 pub use Rattle.compact_repr.specs.Value
 pub use Rattle.compact_repr.specs.Capacity
 pub use Rattle.compact_repr.specs.Policies
-pub use Rattle.compact_repr.specs.Change
+pub use Rattle.compact_repr.specs.Calls
 pub use Rattle.compact_repr.specs.Packed
 pub use Rattle.compact_repr.specs.Retain
 pub use Rattle.compact_codec.specs.InvalidSequence
@@ -13,10 +13,11 @@ pub use Rattle.compact_codec.specs.Utf16Bytes
 pub mod Room
 pub mod Clones
 pub mod Conversions
-pub mod PositionEdits
+pub mod Edits
 pub mod Ranges
+pub mod Trim
 pub mod RetainRules
-pub mod RangeTexts
+pub mod TotalRanges
 pub mod Drain
 pub mod Laws
 pub mod Order
@@ -24,7 +25,7 @@ pub mod Collect
 pub mod Json
 pub mod FittedValues
 pub mod DecodeErrors
-pub mod Fields
+pub mod GivenTexts
 pub mod Lookups
 pub mod HashedKeys
 pub mod SortedKeys

@@ -1,7 +1,5 @@
--- Ranges of a text by two bounds, and the part that `trim` leaves.
-use Rattle.std.specs.Prelude.{◌≡◌, ℕ, ◌≤◌, List, ◌++◌}
-use Rattle.std.specs.List.{AllPass}
-use Rattle.std.specs.Char.{is_whitespace}
+-- Ranges of a text by two bounds.
+use Rattle.std.specs.Prelude.{ℕ, ◌≤◌, List}
 use Rattle.std.specs.declared.ops.Bound.{Bound}
 use Rattle.std.specs.Range.Bound.{start_index, end_index}
 use Rattle.compact_repr.specs.Text.{size}
@@ -20,11 +18,3 @@ pub record IsRange (t : List ℕ) (start end : Bound ℕ) : Type 0 where
   pub order : range_start start ≤ range_end t end
   pub first : IsBoundary t (range_start start)
   pub last : IsBoundary t (range_end t end)
-
--- t is white space, then r, and then white space
-pub record IsBetweenWhitespace (t r : List ℕ) : Type 0 where
-  pub head : List ℕ
-  pub tail : List ℕ
-  pub whole : t ≡ head ++ r ++ tail
-  pub white_head : AllPass is_whitespace head
-  pub white_tail : AllPass is_whitespace tail

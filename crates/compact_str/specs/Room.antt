@@ -3,7 +3,7 @@ use Rattle.std.specs.Prelude.{◌≡◌, ℕ, ◌+◌, ◌≤◌, [], false, max
 use Rattle.compact_repr.specs.Text.{size}
 use Rattle.compact_repr.specs.Value.{PlacedText, is_static}
 use Rattle.compact_repr.specs.Capacity.{Growth, with_capacity_asks, reserve_asks}
-use Rattle.compact_repr.specs.Change.{with_capacity, reserve}
+use Rattle.compact_repr.specs.Calls.{with_capacity, reserve}
 
 -- v's bytes are its own, and may be changed in place
 abbrev pub IsOwned : PlacedText → Type 0

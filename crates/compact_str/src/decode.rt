@@ -5,8 +5,8 @@ ghost use Rattle.compact_str.specs.FittedValues.{IsPlacedBySize};
 
 mod buf;
 pub mod error;
-mod row;
 pub mod utf16;
+mod utf16_block;
 pub mod utf8;
 
 use crate::string::CompactString;

@@ -1,27 +1,28 @@
 //! The string type.
 
-mod as_bytes;
+mod accessors;
+mod as_ref;
+mod ascii_case;
+mod capacity;
 mod clones;
 mod compare;
+mod constructors;
 mod deref;
 pub mod drain;
-mod empty;
-mod end;
-mod fields;
+mod emptied;
+mod equivalent;
+mod fmt;
+pub mod insert_remove;
+mod into;
 pub mod json;
-mod kept;
-mod letters;
-mod look;
-mod lookup;
-mod make;
-mod out;
-pub mod position;
+mod push_pop;
 mod repeat;
-mod room;
-mod show;
-mod std_lookup;
+mod retain;
+mod serialize;
+mod std_equivalent;
 mod within;
 mod write;
+mod zeroize;
 
 use compact_repr::{Policy, Repr, Standard};
 use std::marker::Model;

@@ -67,7 +67,7 @@ pub fn cut_out(slice: &mut [u8], len: usize, start: usize, end: usize)
 pub fn write(slice: &mut [u8], at: usize, source: &[u8])
     requires { at + length source.now ≤ length slice.old }
     ensures written { slice.new ≡ paste slice.old at source.now (length source.now) }
-    ensures behind { take (at + length source.now) slice.new ≡ take at slice.old ++ source.now }
+    ensures after { take (at + length source.now) slice.new ≡ take at slice.old ++ source.now }
 {
     if source.len() > MAX_SHORT_LEN {
         write_long(slice, at, source);
@@ -86,7 +86,7 @@ pub fn write_short(slice: &mut [u8], at: usize, source: &[u8])
     requires short { length source.now ≤ 32 }
     requires target { at + length source.now ≤ length slice.old }
     ensures written { slice.new ≡ paste slice.old at source.now (length source.now) }
-    ensures behind { take (at + length source.now) slice.new ≡ take at slice.old ++ source.now }
+    ensures after { take (at + length source.now) slice.new ≡ take at slice.old ++ source.now }
 {
     let count = source.len();
     if count > 16 {

@@ -87,7 +87,7 @@ fn read_lines<R: Read>(
         ReadsAll separator bytes records.old.items records.new.items)) }
     ensures err { IfErr result (λ cause. IfSome (R.remaining reader.old) (λ bytes.
         ReadsUpTo separator bytes records.old.items records.new.items cause)) }
-    ensures behind { (read : List (Vec PlacedText))
+    ensures after { (read : List (Vec PlacedText))
         × (records.new.items ≡ records.old.items ++ read) }
 {
     let Ok(reader) = BufReader::new(alloc, reader) else {

@@ -3,7 +3,7 @@ ghost use Rattle.std.specs.Prelude.{length, ◌≡◌, ◌*◌, ◌/◌, ◌<◌
 ghost use Rattle.compact_text.specs.Text.{size, text_of};
 ghost use Rattle.compact_repr.specs.Value.{placed_text, is_heap, is_static};
 ghost use Rattle.compact_repr.specs.Capacity.{with_capacity_asks, fits_in_place, reserve_asks, make_owned_asks, inline_placement, heap_placement, max_capacity};
-ghost use Rattle.compact_repr.specs.Change.{new, reserve, make_owned, Shrinks};
+ghost use Rattle.compact_repr.specs.Calls.{new, reserve, make_owned, Shrinks};
 
 use crate::error::ReserveError;
 use crate::heap::HeapBuffer;

@@ -5,7 +5,7 @@ ghost use Rattle.compact_text.specs.Text.{size, text_of, ascii_lowercase, ascii_
 ghost use Rattle.compact_text.specs.Cut.{IsBoundary, IsAsciiAt, substring, replaced_text};
 ghost use Rattle.compact_repr.specs.Value.{placed_text, is_static};
 ghost use Rattle.compact_repr.specs.Capacity.{fits_in_place};
-ghost use Rattle.compact_repr.specs.Change.{clear, truncate, zeroize, PopsChar};
+ghost use Rattle.compact_repr.specs.Calls.{clear, truncate, zeroize, PopsChar};
 ghost use Rattle.compact_text.specs.Retain.{RetainsCharsTo};
 
 use crate::inline::InlineBuffer;

@@ -3,7 +3,7 @@ ghost use Rattle.std.specs.Prelude.{◌≡◌, ◌-◌, ◌^◌, ◌<◌, ◌≤
 ghost use Rattle.compact_text.specs.Text.{size, text_of};
 ghost use Rattle.compact_text.specs.Cut.{IsBoundary, substring};
 ghost use Rattle.compact_repr.specs.Capacity.{fits_in_place, reserve_asks};
-ghost use Rattle.compact_repr.specs.Change.{push_str, push_str_asks, insert_str, replace_range, replace_range_asks};
+ghost use Rattle.compact_repr.specs.Calls.{push_str, push_str_asks, insert_str, replace_range, replace_range_asks};
 
 use crate::error::ReserveError;
 use crate::policy::Policy;
@@ -17,7 +17,7 @@ impl<P: Policy> Repr<P> {
     ///
     /// [`ReserveError`] if `text` does not fit and a new buffer cannot be allocated.
     #[inline(never)]
-    #[tactic(auto, using(compact_text::proofs::TextFacts::text_facts, crate::proofs::Changes::append_facts, crate::proofs::MoreRoom::slow_facts))]
+    #[tactic(auto, using(compact_text::proofs::TextFacts::text_facts, crate::proofs::Changes::append_in_place_facts, crate::proofs::MoreRoom::slow_facts))]
     pub fn push_str_slow(&mut self, text: &str) -> Result<(), ReserveError>
         ensures ok { OnOk result (push_str P.growth self.old (text_of text.now) ≡ Some self.new) }
         ensures err { OnErr result

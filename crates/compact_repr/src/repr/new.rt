@@ -5,7 +5,7 @@ ghost use Rattle.compact_text.specs.Text.{size, text_of};
 ghost use Rattle.compact_repr.specs.Value.{placed_text};
 ghost use Rattle.compact_repr.specs.Packed.{IsPackedFor};
 ghost use Rattle.compact_repr.specs.Capacity.{inline_placement, heap_placement, with_capacity_asks, const_new_placement, from_string_placement, clone_asks};
-ghost use Rattle.compact_repr.specs.Change.{new, with_capacity, clone};
+ghost use Rattle.compact_repr.specs.Calls.{new, with_capacity, clone};
 
 use crate::error::ReserveError;
 use crate::heap::HeapBuffer;

@@ -10,7 +10,7 @@ ghost use Rattle.compact_str.specs.DecodeErrors.{IsUtf16Refusal, IsUtf16BytesRef
 use crate::builder::Builder;
 use crate::decode::error::{FromUtf16Error, Utf16Error};
 use crate::decode::push_fitted;
-use crate::decode::row::{ROW, fill, utf8_room};
+use crate::decode::utf16_block::{ROW, fill, utf8_room};
 use crate::string::{CompactString, PolicyString};
 use compact_codec::utf16;
 use compact_codec::utf16_bytes::{self, ByteOrder};
@@ -55,7 +55,7 @@ impl PolicyString<Standard> {
     /// # Examples
     ///
     /// `[0xD834, 0x0041]` gives U+FFFD and `A`.
-    #[tactic(auto, using(compact_text::proofs::TextFacts::text_facts, compact_codec::proofs::ForDecoders::lossy_decoding, crate::proofs::FittedTexts::part_facts))]
+    #[tactic(auto, using(compact_text::proofs::TextFacts::text_facts, compact_codec::proofs::ForDecoders::lossy_decoding, crate::proofs::FittedTexts::decoded_part_facts))]
     pub fn from_utf16_lossy(alloc: Global, units: &[u16]) -> Result<CompactString, ReserveError>
         ensures { MakesText (utf16_lossy_text units.now) result }
     {

@@ -27,14 +27,14 @@ pub fn append_all<T: AsText, U: IntoIterator<Item = T>>(
     ensures text { OnOk result
         (OfItems U.into_iter_gives U.IntoIter.next_gives items
         (λ xs. text_of (string_bytes line.new)
-        ≡ text_of (string_bytes line.old) ++ flat_map T.spells xs)) }
+        ≡ text_of (string_bytes line.old) ++ flat_map T.text xs)) }
     ensures succeeds { OfAllItems U.into_iter_gives U.IntoIter.next_gives items
-        (λ xs. length (string_bytes line.old) + size (flat_map T.spells xs)
+        (λ xs. length (string_bytes line.old) + size (flat_map T.text xs)
         ≤ string_capacity line.old) → IsOk result }
     ensures capacity { string_capacity line.old ≤ string_capacity line.new }
     ensures err { OnErr result
         (OfIterator U.into_iter_gives items
-        (λ it. StopsWithout U.IntoIter.next_gives T.spells it (string_capacity line.new)
+        (λ it. StopsWithout U.IntoIter.next_gives T.text it (string_capacity line.new)
         (text_of (string_bytes line.old)) (text_of (string_bytes line.new)))) }
 {
     append_texts(line, items)
@@ -54,11 +54,11 @@ pub fn append_texts<T: AsText, U: IntoIterator<Item = T>>(
         ((it : U.IntoIter) × (xs : List T) × U.into_iter_gives items it
         × Drains U.IntoIter.next_gives it xs
         × (text_of (string_bytes line.new)
-        ≡ text_of (string_bytes line.old) ++ flat_map T.spells xs)) }
+        ≡ text_of (string_bytes line.old) ++ flat_map T.text xs)) }
     ensures capacity { string_capacity line.old ≤ string_capacity line.new }
     ensures err { OnErr result
         (OfIterator U.into_iter_gives items
-        (λ it. StopsWithout U.IntoIter.next_gives T.spells it (string_capacity line.new)
+        (λ it. StopsWithout U.IntoIter.next_gives T.text it (string_capacity line.new)
         (text_of (string_bytes line.old)) (text_of (string_bytes line.new)))) }
 {
     for item in items {
@@ -69,7 +69,7 @@ pub fn append_texts<T: AsText, U: IntoIterator<Item = T>>(
 
 /// Appends one text, for which room is made first: so a refusal leaves the capacity that had no room for it.
 #[inline]
-#[tactic(auto, using(compact_text::proofs::TextFacts::text_facts, crate::proofs::CollectFacts::string_facts))]
+#[tactic(auto, using(compact_text::proofs::TextFacts::text_facts, crate::proofs::EditFacts::string_facts))]
 fn append_text(line: &mut String, text: &str) -> Result<(), ReserveError>
     ensures ok { OnOk result
         (text_of (string_bytes line.new) ≡ text_of (string_bytes line.old) ++ text_of text.now) }

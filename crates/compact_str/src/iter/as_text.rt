@@ -15,7 +15,7 @@ use std::boxed::BoxedStr;
 /// It is there for `&str`, `String`, `BoxedStr`, `CowStr` and `CompactString`, and for a reference to any of them.
 pub trait AsText: Drop {
     // Its text, as a list of characters.
-    ghost spells: { Self → List ℕ };
+    ghost text: { Self → List ℕ };
 
     /// The text.
     ///
@@ -23,11 +23,11 @@ pub trait AsText: Drop {
     ///
     /// `"abc".text()` is `"abc"`.
     fn text(&self) -> &str
-        ensures { text_of result.now ≡ spells self.now };
+        ensures { text_of result.now ≡ text self.now };
 }
 
 impl AsText for &str {
-    ghost spells = { λ s. text_of s.now };
+    ghost text = { λ s. text_of s.now };
 
     #[inline]
     fn text(&self) -> &str {
@@ -36,7 +36,7 @@ impl AsText for &str {
 }
 
 impl AsText for String {
-    ghost spells = { λ s. text_of (string_bytes s) };
+    ghost text = { λ s. text_of (string_bytes s) };
 
     #[inline]
     fn text(&self) -> &str {
@@ -45,7 +45,7 @@ impl AsText for String {
 }
 
 impl AsText for BoxedStr {
-    ghost spells = { λ s. text_of (boxed_str_bytes s) };
+    ghost text = { λ s. text_of (boxed_str_bytes s) };
 
     #[inline]
     fn text(&self) -> &str {
@@ -54,7 +54,7 @@ impl AsText for BoxedStr {
 }
 
 impl AsText for CowStr<'_> {
-    ghost spells = { λ s. text_of (cow_str_bytes s) };
+    ghost text = { λ s. text_of (cow_str_bytes s) };
 
     #[inline]
     fn text(&self) -> &str {
@@ -63,7 +63,7 @@ impl AsText for CowStr<'_> {
 }
 
 impl<P: Policy> AsText for PolicyString<P> {
-    ghost spells = { text_in };
+    ghost text = { text_in };
 
     #[inline]
     fn text(&self) -> &str {
@@ -72,7 +72,7 @@ impl<P: Policy> AsText for PolicyString<P> {
 }
 
 impl<T: AsText> AsText for &T {
-    ghost spells = { λ t. T.spells t.now };
+    ghost text = { λ t. T.text t.now };
 
     #[inline]
     fn text(&self) -> &str {

@@ -20,11 +20,11 @@ fn collect_pieces<P: Policy, T: Piece, U: IntoIterator<Item = T>>(
     requires { IsFiniteIterable U.into_iter_gives U.IntoIter.can_next U.IntoIter.remaining iter }
     ensures ok { IfOk result
         (λ v. (it : U.IntoIter) × (xs : List T) × U.into_iter_gives iter it
-        × Drains U.IntoIter.next_gives it xs × (v.text ≡ flat_map T.letters xs)) }
+        × Drains U.IntoIter.next_gives it xs × (v.text ≡ flat_map T.text xs)) }
     ensures fitted { IfOk result IsPlacedBySize }
     ensures err { OnErr result
         (OfIterator U.into_iter_gives iter
-        (λ it. PassesInline U.IntoIter.next_gives (flat_map T.letters) it)) }
+        (λ it. PassesInline U.IntoIter.next_gives (flat_map T.text) it)) }
 {
     let mut gathered = Builder::new(alloc);
     for piece in iter {
@@ -55,16 +55,16 @@ impl<P: Policy> PolicyString<P> {
             texts }
         ensures text { IfOk result
             (λ v. OfItems U.into_iter_gives U.IntoIter.next_gives texts
-            (λ xs. v.text ≡ flat_map T.spells xs)) }
+            (λ xs. v.text ≡ flat_map T.text xs)) }
         ensures size { IfOk result
             (λ v. OfItems U.into_iter_gives U.IntoIter.next_gives texts
-            (λ xs. size v.text ≡ fold (λ n text. n + size (T.spells text)) 0 xs)) }
+            (λ xs. size v.text ≡ fold (λ n text. n + size (T.text text)) 0 xs)) }
         ensures fitted { IfOk result IsPlacedBySize }
         ensures succeeds { OfAllItems U.into_iter_gives U.IntoIter.next_gives texts
-            (λ xs. size (flat_map T.spells xs) ≤ 24) → IsOk result }
+            (λ xs. size (flat_map T.text xs) ≤ 24) → IsOk result }
         ensures err { OnErr result
             (OfIterator U.into_iter_gives texts
-            (λ it. PassesInline U.IntoIter.next_gives (flat_map T.spells) it)) }
+            (λ it. PassesInline U.IntoIter.next_gives (flat_map T.text) it)) }
     {
         collect_pieces(alloc, texts)
     }
@@ -101,7 +101,7 @@ impl<P: Policy> PolicyString<P> {
 impl<P: Policy, T: AsText> FromIterator<T> for PolicyString<P> {
     type Alloc = Global;
 
-    ghost from_iter_gives = { λ xs v. (v.text ≡ flat_map T.spells xs) × IsPlacedBySize v };
+    ghost from_iter_gives = { λ xs v. (v.text ≡ flat_map T.text xs) × IsPlacedBySize v };
 
     /// `from_texts` for `collect`, which tells a caller the text and the place, but not that up to 24 bytes are never
     /// refused.
@@ -114,13 +114,13 @@ impl<P: Policy, T: AsText> FromIterator<T> for PolicyString<P> {
             texts }
         ensures text { IfOk result
             (λ v. (it : U.IntoIter) × (xs : List T) × U.into_iter_gives texts it
-            × Drains U.IntoIter.next_gives it xs × (v.text ≡ flat_map T.spells xs)) }
+            × Drains U.IntoIter.next_gives it xs × (v.text ≡ flat_map T.text xs)) }
         ensures fitted { IfOk result IsPlacedBySize }
         ensures succeeds { OfAllItems U.into_iter_gives U.IntoIter.next_gives texts
-            (λ xs. size (flat_map T.spells xs) ≤ 24) → IsOk result }
+            (λ xs. size (flat_map T.text xs) ≤ 24) → IsOk result }
         ensures err { OnErr result
             (OfIterator U.into_iter_gives texts
-            (λ it. PassesInline U.IntoIter.next_gives (flat_map T.spells) it)) }
+            (λ it. PassesInline U.IntoIter.next_gives (flat_map T.text) it)) }
     {
         match collect_pieces(alloc, texts) {
             Ok(value) => Ok(value),

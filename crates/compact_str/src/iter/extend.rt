@@ -20,12 +20,12 @@ fn extend_pieces<P: Policy, T: Piece, U: IntoIterator<Item = T>>(
     requires { IsFiniteIterable U.into_iter_gives U.IntoIter.can_next U.IntoIter.remaining iter }
     ensures ok { OnOk result
         (OfIterator U.into_iter_gives iter
-        (λ it. AppendsAll U.IntoIter.next_gives P.growth T.letters it value.old value.new)) }
+        (λ it. AppendsAll U.IntoIter.next_gives P.growth T.text it value.old value.new)) }
     ensures succeeds { OfAllItems U.into_iter_gives U.IntoIter.next_gives iter
-        (λ xs. HasRoomFor value.old (size (flat_map T.letters xs))) → IsOk result }
+        (λ xs. HasRoomFor value.old (size (flat_map T.text xs))) → IsOk result }
     ensures err { OnErr result
         (OfIterator U.into_iter_gives iter
-        (λ it. AppendsUpToRefused U.IntoIter.next_gives P.growth T.letters it value.old
+        (λ it. AppendsUpToRefused U.IntoIter.next_gives P.growth T.text it value.old
         value.new)) }
 {
     for piece in iter {
@@ -55,18 +55,18 @@ impl<P: Policy> PolicyString<P> {
             texts }
         ensures ok { OnOk result
             (OfIterator U.into_iter_gives texts
-            (λ it. AppendsAll U.IntoIter.next_gives P.growth T.spells it self.old self.new)) }
+            (λ it. AppendsAll U.IntoIter.next_gives P.growth T.text it self.old self.new)) }
         ensures text { OnOk result
             (OfItems U.into_iter_gives U.IntoIter.next_gives texts
-            (λ xs. self.new.text ≡ self.old.text ++ flat_map T.spells xs)) }
+            (λ xs. self.new.text ≡ self.old.text ++ flat_map T.text xs)) }
         ensures boundary { IsBoundary self.new.text (size self.old.text) }
         ensures front { text_before self.new.text (size self.old.text) ≡ self.old.text }
         ensures room { infallible_capacity self.old ≤ infallible_capacity self.new }
         ensures succeeds { OfAllItems U.into_iter_gives U.IntoIter.next_gives texts
-            (λ xs. HasRoomFor self.old (size (flat_map T.spells xs))) → IsOk result }
+            (λ xs. HasRoomFor self.old (size (flat_map T.text xs))) → IsOk result }
         ensures err { OnErr result
             (OfIterator U.into_iter_gives texts
-            (λ it. AppendsUpToRefused U.IntoIter.next_gives P.growth T.spells it self.old
+            (λ it. AppendsUpToRefused U.IntoIter.next_gives P.growth T.text it self.old
             self.new)) }
     {
         extend_pieces(self, texts)
@@ -110,7 +110,7 @@ impl<P: Policy> PolicyString<P> {
 }
 
 impl<P: Policy, T: AsText> Extend<T> for PolicyString<P> {
-    ghost extend_gives = { λ v xs w. Appends P.growth T.spells v xs w };
+    ghost extend_gives = { λ v xs w. Appends P.growth T.text v xs w };
 
     /// `extend_texts` as the library's trait has it.
     ///
@@ -122,15 +122,15 @@ impl<P: Policy, T: AsText> Extend<T> for PolicyString<P> {
             texts }
         ensures ok { OnOk result
             (OfIterator U.into_iter_gives texts
-            (λ it. AppendsAll U.IntoIter.next_gives P.growth T.spells it self.old self.new)) }
+            (λ it. AppendsAll U.IntoIter.next_gives P.growth T.text it self.old self.new)) }
         ensures text { OnOk result
             (OfItems U.into_iter_gives U.IntoIter.next_gives texts
-            (λ xs. self.new.text ≡ self.old.text ++ flat_map T.spells xs)) }
+            (λ xs. self.new.text ≡ self.old.text ++ flat_map T.text xs)) }
         ensures succeeds { OfAllItems U.into_iter_gives U.IntoIter.next_gives texts
-            (λ xs. HasRoomFor self.old (size (flat_map T.spells xs))) → IsOk result }
+            (λ xs. HasRoomFor self.old (size (flat_map T.text xs))) → IsOk result }
         ensures err { OnErr result
             (OfIterator U.into_iter_gives texts
-            (λ it. AppendsUpToRefused U.IntoIter.next_gives P.growth T.spells it self.old
+            (λ it. AppendsUpToRefused U.IntoIter.next_gives P.growth T.text it self.old
             self.new)) }
     {
         match self.extend_texts(texts) {

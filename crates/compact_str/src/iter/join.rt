@@ -33,11 +33,11 @@ pub trait CompactStringExt: Iterator {
         requires ends { IsFinite (Self.remaining self) }
         ensures text { IfOk result
             (λ v. WholeRun Self.next_gives self
-            (λ run. v.text ≡ flat_map Self.Item.spells run.items)) }
+            (λ run. v.text ≡ flat_map Self.Item.text run.items)) }
         ensures fitted { IfOk result IsPlacedBySize }
         ensures succeeds { HoldsAlong Self.next_gives self
-            (λ xs. size (flat_map Self.Item.spells xs) ≤ 24) → IsOk result }
-        ensures err { OnErr result (PassesInline Self.next_gives (flat_map Self.Item.spells) self) }
+            (λ xs. size (flat_map Self.Item.text xs) ≤ 24) → IsOk result }
+        ensures err { OnErr result (PassesInline Self.next_gives (flat_map Self.Item.text) self) }
     {
         CompactString::from_texts(alloc, self)
     }
@@ -64,12 +64,12 @@ pub trait CompactStringExt: Iterator {
         requires ends { IsFinite (Self.remaining self) }
         ensures text { IfOk result
             (λ v. WholeRun Self.next_gives self
-            (λ run. v.text ≡ join (text_of separator.now) Self.Item.spells run.items)) }
+            (λ run. v.text ≡ join (text_of separator.now) Self.Item.text run.items)) }
         ensures fitted { IfOk result IsPlacedBySize }
         ensures succeeds { HoldsAlong Self.next_gives self
-            (λ xs. size (join (text_of separator.now) Self.Item.spells xs) ≤ 24) → IsOk result }
+            (λ xs. size (join (text_of separator.now) Self.Item.text xs) ≤ 24) → IsOk result }
         ensures err { OnErr result
-            (PassesInline Self.next_gives (join (text_of separator.now) Self.Item.spells) self) }
+            (PassesInline Self.next_gives (join (text_of separator.now) Self.Item.text) self) }
     {
         join_pieces(alloc, self, separator)
     }
@@ -87,10 +87,10 @@ fn join_pieces<P: Policy, T: AsText, I: Iterator<Item = T> + Drop>(
     requires ends { IsFinite (I.remaining pieces) }
     ensures ok { IfOk result
         (λ v. (xs : List T) × Drains I.next_gives pieces xs
-        × (v.text ≡ join (text_of separator.now) T.spells xs)) }
+        × (v.text ≡ join (text_of separator.now) T.text xs)) }
     ensures fitted { IfOk result IsPlacedBySize }
     ensures err { OnErr result
-        (PassesInline I.next_gives (join (text_of separator.now) T.spells) pieces) }
+        (PassesInline I.next_gives (join (text_of separator.now) T.text) pieces) }
 {
     let mut pieces = pieces;
     let mut gathered = Builder::new(alloc);

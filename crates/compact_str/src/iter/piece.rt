@@ -1,7 +1,7 @@
 //! What is collected or appended: a text, or a character.
 ghost use Rattle.std.specs.Prelude.{◌≡◌, ℕ, ◌+◌, ◌<◌, ◌≤◌, List, ◌++◌, OnOk, OnErr, IsOk, IsTrue, Some};
 ghost use Rattle.compact_repr.specs.Text.{size};
-ghost use Rattle.compact_repr.specs.Change.{push_str, push_str_asks};
+ghost use Rattle.compact_repr.specs.Calls.{push_str, push_str_asks};
 ghost use Rattle.compact_str.specs.Room.{HasRoomFor, infallible_capacity};
 ghost use Rattle.compact_str.specs.Collect.{char_text};
 
@@ -13,7 +13,7 @@ use compact_repr::{Policy, ReserveError};
 /// A piece of a text, which is appended as a whole.
 pub trait Piece: Drop {
     // Its text, as a list of characters.
-    ghost letters: { Self → List ℕ };
+    ghost text: { Self → List ℕ };
 
     /// Appends the piece, as `push_str` and `push` do.
     ///
@@ -21,10 +21,10 @@ pub trait Piece: Drop {
     ///
     /// [`ReserveError`] as from `push_str`.
     fn push_to<P: Policy>(&self, value: &mut PolicyString<P>) -> Result<(), ReserveError>
-        ensures ok { OnOk result (push_str P.growth value.old (letters self.now) ≡ Some value.new) }
-        ensures succeeds { HasRoomFor value.old (size (letters self.now)) → IsOk result }
+        ensures ok { OnOk result (push_str P.growth value.old (text self.now) ≡ Some value.new) }
+        ensures succeeds { HasRoomFor value.old (size (text self.now)) → IsOk result }
         ensures err { OnErr result
-            ((value.new ≡ value.old) × IsTrue (push_str_asks value.old (letters self.now))) };
+            ((value.new ≡ value.old) × IsTrue (push_str_asks value.old (text self.now))) };
 
     /// Takes the piece behind what has come.
     ///
@@ -32,12 +32,12 @@ pub trait Piece: Drop {
     ///
     /// [`ReserveError`] if a buffer is refused, for more than 24 bytes.
     fn gather_into<P: Policy>(&self, gathered: &mut Builder<P>) -> Result<(), ReserveError>
-        ensures ok { OnOk result (gathered.new ≡ gathered.old ++ letters self.now) }
-        ensures err { OnErr result (24 < size gathered.old + size (letters self.now)) };
+        ensures ok { OnOk result (gathered.new ≡ gathered.old ++ text self.now) }
+        ensures err { OnErr result (24 < size gathered.old + size (text self.now)) };
 }
 
 impl<T: AsText> Piece for T {
-    ghost letters = { T.spells };
+    ghost text = { T.text };
 
     #[inline]
     fn push_to<P: Policy>(&self, value: &mut PolicyString<P>) -> Result<(), ReserveError> {
@@ -51,7 +51,7 @@ impl<T: AsText> Piece for T {
 }
 
 impl Piece for char {
-    ghost letters = { char_text };
+    ghost text = { char_text };
 
     #[inline]
     fn push_to<P: Policy>(&self, value: &mut PolicyString<P>) -> Result<(), ReserveError> {
@@ -65,7 +65,7 @@ impl Piece for char {
 }
 
 impl Piece for &char {
-    ghost letters = { λ c. char_text c.now };
+    ghost text = { λ c. char_text c.now };
 
     #[inline]
     fn push_to<P: Policy>(&self, value: &mut PolicyString<P>) -> Result<(), ReserveError> {

@@ -3,7 +3,7 @@ ghost use Rattle.std.specs.Prelude.{◌≡◌, ◌≤◌, Some, OnOk, OnErr, IsO
 ghost use Rattle.compact_repr.specs.Text.{size};
 ghost use Rattle.compact_repr.specs.Value.{is_heap, is_static};
 ghost use Rattle.compact_repr.specs.Capacity.{clone_asks};
-ghost use Rattle.compact_repr.specs.Change.{clone};
+ghost use Rattle.compact_repr.specs.Calls.{clone};
 ghost use Rattle.compact_str.specs.Room.{infallible_capacity};
 ghost use Rattle.compact_str.specs.Clones.{clone_from, clone_from_asks};
 
@@ -55,11 +55,10 @@ impl<P: Policy> PolicyString<P> {
         ensures err { OnErr result
             ((self.new ≡ self.old) × IsTrue (clone_from_asks self.old source.now)) }
     {
-        let len = source.len();
-        let stays = self.as_static_str().is_none() && len <= self.capacity();
-        if source.is_heap_allocated() && (len == 0 || stays) {
-            self.clear();
-            return self.push_str(source.as_str());
+        if let Some(text) = source.repr.heap_str()
+            && self.repr.try_assign(text)
+        {
+            return Ok(());
         }
         let copy = source.repr.try_clone()?;
         self.repr = copy;

@@ -5,15 +5,15 @@ ghost use Rattle.compact_repr.specs.Text.{size, utf8, text_of};
 ghost use Rattle.compact_repr.specs.Cut.{substring, replaced_text};
 ghost use Rattle.compact_repr.specs.Capacity.{make_owned_asks};
 ghost use Rattle.compact_repr.specs.Value.{is_static};
-ghost use Rattle.compact_repr.specs.Change.{replace_range};
+ghost use Rattle.compact_repr.specs.Calls.{replace_range};
 ghost use Rattle.compact_str.specs.Room.{IsOwned};
 ghost use Rattle.compact_str.specs.Ranges.{IsRange, range_start, range_end};
-ghost use Rattle.compact_str.specs.RangeTexts.{is_range, IsAsciiRange};
+ghost use Rattle.compact_str.specs.TotalRanges.{is_range, IsAsciiRange};
 
 mod range;
 
 use crate::string::PolicyString;
-use crate::string::position::byte_range;
+use crate::string::insert_remove::byte_range;
 use compact_repr::{Policy, ReserveError};
 use compact_text::str_parts::{first_ascii, last_char, substring};
 use std::fmt;
@@ -23,31 +23,32 @@ use std::ops::Bound;
 
 /// The characters of a range that `drain` takes out of a value: an iterator from both ends, each character once.
 ///
-/// Its drop takes the whole range out, however much was taken from it.
+/// Its drop takes the old_len range out, however much was taken from it.
 pub struct Drain<'a, P: Policy> {
     value: &'a mut PolicyString<P>,
     // The range, in bytes.
     start: usize,
     end: usize,
-    // The bytes of the text, until the range is taken out.
-    whole: usize,
-    // What of the range is not yet taken.
-    front: usize,
-    back: usize,
+    // The length of the text before the range is removed. The ghost fields hold of a drain whose drop has run too, when its
+    // positions may be no boundaries any more, so they speak of a text of this length alone. While the length is this one,
+    // neither a step nor the drop tests whether a position is a boundary.
+    old_len: usize,
+    // The part of the range that has not been returned yet.
+    rest_start: usize,
+    rest_end: usize,
     // Whether the range is known to be ASCII. A loop over such a range tests no character for its width, so the compiler
     // may take several in one step.
     is_ascii: bool,
     ghost owned: { is_static value.now.placement.place ≡ false },
-    ghost within: { size value.now.text ≤ whole },
-    // So neither a step nor the drop need test whether these are boundaries.
-    ghost range: { size value.now.text ≡ whole → is_range value.now.text front back ≡ true },
-    ghost span: { size value.now.text ≡ whole → is_range value.now.text start end ≡ true },
-    ghost ascii: { size value.now.text ≡ whole → is_ascii ≡ true
-        → IsAsciiRange value.now.text front back },
+    ghost within: { size value.now.text ≤ old_len },
+    ghost range: { size value.now.text ≡ old_len → is_range value.now.text rest_start rest_end ≡ true },
+    ghost span: { size value.now.text ≡ old_len → is_range value.now.text start end ≡ true },
+    ghost ascii: { size value.now.text ≡ old_len → is_ascii ≡ true
+        → IsAsciiRange value.now.text rest_start rest_end },
 }
 
 impl<P: Policy> PolicyString<P> {
-    ghost use Rattle.compact_str.specs.RangeTexts.{range_text, without_range};
+    ghost use Rattle.compact_str.specs.TotalRanges.{range_text, without_range};
     ghost use Rattle.compact_str.specs.Drain.{drain_rest, value_after_drain, drain_lender};
     ghost use Rattle.compact_str.specs.contracts.string.PolicyString.{the_row};
 
@@ -104,15 +105,15 @@ impl<P: Policy> PolicyString<P> {
         ensures rest { drain_rest result ≡ range_text self.old.text start end }
         ensures leaves { value_after_drain result ≡ without_range self.old start end }
     {
-        let whole = self.len();
+        let old_len = self.len();
         let is_ascii = self.is_short_ascii_range(start, end);
         Drain {
             value: self,
             start,
             end,
-            whole,
-            front: start,
-            back: end,
+            old_len,
+            rest_start: start,
+            rest_end: end,
             is_ascii,
         }
     }
@@ -131,7 +132,7 @@ impl<P: Policy> Drain<'_, P> {
         // An inline text is short: the loop has one way of reading alone, that of the heap.
         match self.heap_rest() {
             Some(rest) => rest,
-            None => self.value.cold_range_text(self.front, self.back),
+            None => self.value.cold_range_text(self.rest_start, self.rest_end),
         }
     }
 
@@ -144,8 +145,8 @@ impl<P: Policy> Drain<'_, P> {
             (λ s. self.now.is_ascii ≡ true → length (text_of s.now) ≡ size (text_of s.now)) }
     {
         if let Some(text) = self.value.heap_str() {
-            if text.len() == self.whole {
-                return Some(substring(text, self.front, self.back));
+            if text.len() == self.old_len {
+                return Some(substring(text, self.rest_start, self.rest_end));
             }
         }
         None
@@ -168,11 +169,11 @@ impl<P: Policy> Iterator for Drain<'_, P> {
     #[inline(always)]
     fn next(&mut self) -> Option<char> {
         // That `front` is before `back` tells the proof that the sums below fit.
-        let (front, back) = (self.front, self.back);
+        let (front, back) = (self.rest_start, self.rest_end);
         if self.is_ascii {
             if let Some(rest) = self.heap_rest() {
                 let letter = range::first_of_ascii(rest)?;
-                self.front = front + 1;
+                self.rest_start = front + 1;
                 return Some(letter);
             }
         } else {
@@ -181,13 +182,13 @@ impl<P: Policy> Iterator for Drain<'_, P> {
                 return None;
             }
             if let Some(character) = first_ascii(rest) {
-                self.front = front + 1;
+                self.rest_start = front + 1;
                 return Some(character);
             }
         }
         // It takes the positions, so that the loop need not count what is left.
         let word = self.value.first_char_packed(front, back)?;
-        self.front = range::position_after(front, word);
+        self.rest_start = range::position_after(front, word);
         Some(unsafe { char::from_u32_unchecked((word >> 32) as u32) })
     }
 
@@ -213,7 +214,7 @@ impl<P: Policy> DoubleEndedIterator for Drain<'_, P> {
     #[inline]
     fn next_back(&mut self) -> Option<char> {
         let character = last_char(self.as_str())?;
-        self.back -= character.len_utf8();
+        self.rest_end -= character.len_utf8();
         Some(character)
     }
 }
@@ -223,7 +224,7 @@ impl<P: Policy> FusedIterator for Drain<'_, P> {}
 impl<P: Policy> Drop for Drain<'_, P> {
     ghost use Rattle.compact_str.specs.Drain.{value_after_drain};
 
-    /// Takes the whole range out of the value.
+    /// Takes the old_len range out of the value.
     #[inline]
     fn drop(self)
         ensures { self.exit.0.now ≡ value_after_drain self.entry }
@@ -232,12 +233,12 @@ impl<P: Policy> Drop for Drain<'_, P> {
             value,
             start,
             end,
-            whole,
-            front: _,
-            back: _,
+            old_len,
+            rest_start: _,
+            rest_end: _,
             is_ascii: _,
         } = self;
-        value.remove_range(start, end, whole);
+        value.remove_range(start, end, old_len);
     }
 }
 

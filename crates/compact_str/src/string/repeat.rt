@@ -3,7 +3,7 @@ ghost use Rattle.std.specs.Prelude.{◌≡◌, ◌≤◌, ◌*◌, [], Some, IfO
 ghost use Rattle.compact_repr.specs.Text.{size};
 ghost use Rattle.compact_repr.specs.Value.{placed_text};
 ghost use Rattle.compact_repr.specs.Capacity.{with_capacity_placement};
-ghost use Rattle.compact_str.specs.PositionEdits.{repeat, repeat_asks, repeated_text};
+ghost use Rattle.compact_str.specs.Edits.{repeat, repeat_asks, repeated_text};
 
 use crate::string::PolicyString;
 use compact_repr::{Policy, ReserveError};

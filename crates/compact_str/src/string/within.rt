@@ -5,13 +5,13 @@ ghost use Rattle.std.specs.Range.Bound.{bound_map};
 ghost use Rattle.compact_repr.specs.Text.{size, utf8, text_of};
 ghost use Rattle.compact_repr.specs.Cut.{substring, replaced_text};
 ghost use Rattle.compact_repr.specs.Capacity.{make_owned_asks};
-ghost use Rattle.compact_repr.specs.Change.{push_str, push_str_asks, replace_range, replace_range_asks};
+ghost use Rattle.compact_repr.specs.Calls.{push_str, push_str_asks, replace_range, replace_range_asks};
 ghost use Rattle.compact_str.specs.Room.{IsOwned, HasRoomFor, infallible_capacity};
 ghost use Rattle.compact_str.specs.Ranges.{IsRange, range_start, range_end};
 
 use crate::string::PolicyString;
 use crate::string::drain::Drain;
-use crate::string::position::byte_range;
+use crate::string::insert_remove::byte_range;
 use compact_repr::{Policy, ReserveError};
 use std::ops::{Bound, RangeBounds};
 

@@ -2,7 +2,7 @@
 ghost use Rattle.std.specs.Prelude.{◌≡◌, ◌++◌, Some, IfSome, OnOk, OnErr};
 ghost use Rattle.std.specs.Fmt.{AppendsText, with_newline};
 ghost use Rattle.compact_repr.specs.Text.{text_of, utf8};
-ghost use Rattle.compact_repr.specs.Change.{push_str};
+ghost use Rattle.compact_repr.specs.Calls.{push_str};
 
 use crate::builder::Builder;
 use crate::string::PolicyString;

@@ -15,7 +15,7 @@ pub fn fill_zero(slice: &mut [u8])
 pub fn make_lowercase(slice: &mut [u8], len: usize)
     requires { len ≤ length slice.old }
     ensures front { take len slice.new ≡ map to_ascii_lowercase (take len slice.old) }
-    ensures behind { drop len slice.new ≡ drop len slice.old }
+    ensures after { drop len slice.new ≡ drop len slice.old }
 {
     slice[..len].make_ascii_lowercase();
 }
@@ -25,7 +25,7 @@ pub fn make_lowercase(slice: &mut [u8], len: usize)
 pub fn make_uppercase(slice: &mut [u8], len: usize)
     requires { len ≤ length slice.old }
     ensures front { take len slice.new ≡ map to_ascii_uppercase (take len slice.old) }
-    ensures behind { drop len slice.new ≡ drop len slice.old }
+    ensures after { drop len slice.new ≡ drop len slice.old }
 {
     slice[..len].make_ascii_uppercase();
 }

@@ -104,7 +104,7 @@ fn write_char(slice: &mut [u8], at: usize, character: char, width: usize)
     requires room { at + width ≤ length slice.old }
     requires width { width ≡ len_utf8 character }
     ensures front { take (at + width) slice.new ≡ take at slice.old ++ encode_utf8 character }
-    ensures behind { drop (at + width) slice.new ≡ drop (at + width) slice.old }
+    ensures after { drop (at + width) slice.new ≡ drop (at + width) slice.old }
 {
     if width == 1 {
         slice[at] = character as u8;

@@ -18,29 +18,29 @@ write_ends-requires c = record { least = search (rules, arith); most = c.require
 pub returns-then-count-gt16 : goal.returns-then-count-gt16
 returns-then-count-gt16 c =
     let written = c.write_ends.ensures in
-    record { written = written; behind = behind _ _ _ _ written c.requires.target }
+    record { written = written; after = behind _ _ _ _ written c.requires.target }
 
 pub returns-then-count-ge8 : goal.returns-then-count-ge8
 returns-then-count-ge8 c =
     let written = c.write_ends-then-count-ge8.ensures in
-    record { written = written; behind = behind _ _ _ _ written c.requires.target }
+    record { written = written; after = behind _ _ _ _ written c.requires.target }
 
 pub returns-then-count-ge4 : goal.returns-then-count-ge4
 returns-then-count-ge4 c =
     let written = c.write_ends-then-count-ge4.ensures in
-    record { written = written; behind = behind _ _ _ _ written c.requires.target }
+    record { written = written; after = behind _ _ _ _ written c.requires.target }
 
 pub returns-then-count-ge2 : goal.returns-then-count-ge2
 returns-then-count-ge2 c =
     let written = c.write_ends-then-count-ge2.ensures in
-    record { written = written; behind = behind _ _ _ _ written c.requires.target }
+    record { written = written; after = behind _ _ _ _ written c.requires.target }
 
 pub returns-then-count-eq1 : goal.returns-then-count-eq1
 returns-then-count-eq1 c =
     let written = c.write_ends-then-count-eq1.ensures in
-    record { written = written; behind = behind _ _ _ _ written c.requires.target }
+    record { written = written; after = behind _ _ _ _ written c.requires.target }
 
 pub returns-else-count-eq1 : goal.returns-else-count-eq1
 returns-else-count-eq1 c =
     let written = nothing c.args.slice.now c.args.source.now c.args.at (omega arith) in
-    record { written = written; behind = behind _ _ _ _ written c.requires.target }
+    record { written = written; after = behind _ _ _ _ written c.requires.target }

@@ -48,20 +48,20 @@ returns-in_default-clause-err g c =
     stops-at-line _ _ _ _ _ _ Reserve (none-read c.args.separator (g.R.Read.remaining c.args.reader.now)
     c.args.records.now.items) refl (λ rest known. tt)
 
-pub returns-in_default-clause-behind : goal.returns-in_default-clause-behind
-returns-in_default-clause-behind g c = none-behind _
+pub returns-in_default-clause-after : goal.returns-in_default-clause-after
+returns-in_default-clause-after g c = none-behind _
 
 pub returns-in-Err-take_line-clause-ok : goal.returns-in-Err-take_line-clause-ok
 returns-in-Err-take_line-clause-ok g c = tt
 
-pub returns-in-Err-take_line-clause-behind : goal.returns-in-Err-take_line-clause-behind
-returns-in-Err-take_line-clause-behind g c = same-behind _ _ _ c.loop-bytes.invariant.behind c.in-Err-take_line.ensures.err
+pub returns-in-Err-take_line-clause-after : goal.returns-in-Err-take_line-clause-after
+returns-in-Err-take_line-clause-after g c = same-behind _ _ _ c.loop-bytes.invariant.behind c.in-Err-take_line.ensures.err
 
 pub returns-in-Err-clause-ok : goal.returns-in-Err-clause-ok
 returns-in-Err-clause-ok g c = tt
 
-pub returns-in-Err-clause-behind : goal.returns-in-Err-clause-behind
-returns-in-Err-clause-behind g c = c.loop-bytes.invariant.behind
+pub returns-in-Err-clause-after : goal.returns-in-Err-clause-after
+returns-in-Err-clause-after g c = c.loop-bytes.invariant.behind
 
 pub returns-clause-ok : goal.returns-clause-ok
 returns-clause-ok g c = all-read _ _ _ _ _ c.loop-bytes.invariant.reads c.in-None.ensures.steps.2
@@ -69,5 +69,5 @@ returns-clause-ok g c = all-read _ _ _ _ _ c.loop-bytes.invariant.reads c.in-Non
 pub returns-clause-err : goal.returns-clause-err
 returns-clause-err g c = tt
 
-pub returns-clause-behind : goal.returns-clause-behind
-returns-clause-behind g c = c.loop-bytes.invariant.behind
+pub returns-clause-after : goal.returns-clause-after
+returns-clause-after g c = c.loop-bytes.invariant.behind

@@ -22,7 +22,7 @@ pub returns-in-Ok-clause-line : goal.returns-in-Ok-clause-line
 returns-in-Ok-clause-line g c = tt
 
 pub returns-in-Ok-clause-kept : goal.returns-in-Ok-clause-kept
-returns-in-Ok-clause-kept g c = behind-kept _ _ _ c.in-Ok.ensures.behind.1
+returns-in-Ok-clause-kept g c = behind-kept _ _ _ c.in-Ok.ensures.after.1
 
 pub returns-in-Err-clause-ok : goal.returns-in-Err-clause-ok
 returns-in-Err-clause-ok g c = tt
@@ -32,7 +32,7 @@ returns-in-Err-clause-err g c = c.in-Err.ensures.err
 
 pub returns-in-Err-clause-line : goal.returns-in-Err-clause-line
 returns-in-Err-clause-line g c =
-    let behind = c.in-Err.ensures.behind in (
+    let behind = c.in-Err.ensures.after in (
       behind.0,
       behind.1,
       behind-counted _ _ _ _ _ _ _ c.len-before.ensures c.args.records.now.ok.0 c.len.ensures c.read_lines.new.records.ok.0
@@ -40,7 +40,7 @@ returns-in-Err-clause-line g c =
     )
 
 pub returns-in-Err-clause-kept : goal.returns-in-Err-clause-kept
-returns-in-Err-clause-kept g c = behind-kept _ _ _ c.in-Err.ensures.behind.1
+returns-in-Err-clause-kept g c = behind-kept _ _ _ c.in-Err.ensures.after.1
 
 pub overflow_add-line : goal.overflow_add-line
 overflow_add-line g c = omega (arith, c.len.ensures, c.read_lines.new.records.ok.1, c.read_lines.new.records.small)

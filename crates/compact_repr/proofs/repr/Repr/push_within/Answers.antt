@@ -2,7 +2,7 @@ use Rattle.std.proofs.Common.{◌≡◌, ◌-◌, ◌++◌, List, ℕ, Result, O
 use Rattle.std.proofs.lemmas.Bool.{ne_eqb}
 use Rattle.compact_text.specs.Cut.{substring}
 use Rattle.compact_repr.specs.Value.{placed_text}
-use Rattle.compact_repr.specs.Change.{push_str_asks}
+use Rattle.compact_repr.specs.Calls.{push_str_asks}
 use Rattle.compact_text.proofs.Middles.{substring-parts}
 use Rattle.compact_repr.proofs.MoreRoom.{reserved-text, push-nothing, push-asks, push-reserved}
 use Rattle.compact_repr.proofs.repr.Repr.push_within.Goals as goal

@@ -3,7 +3,7 @@ use Rattle.std.proofs.lemmas.Grind.{common_steps}
 use Rattle.std.specs.Prelude.{nat_le, if◌then◌else◌}
 use Rattle.compact_repr.specs.Value.{placed_text}
 use Rattle.compact_repr.specs.Capacity.{Growth, max_capacity, heap_placement}
-use Rattle.compact_repr.specs.Change.{with_capacity}
+use Rattle.compact_repr.specs.Calls.{with_capacity}
 use Rattle.compact_repr.proofs.repr.Repr.with_capacity.Goals as goal
 
 -- a capacity that is granted

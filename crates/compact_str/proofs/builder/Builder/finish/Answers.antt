@@ -2,7 +2,7 @@ use Rattle.std.proofs.Common.{◌≡◌, ◌<◌, List, ℕ, ◌++◌, ap, sym, 
 use Rattle.std.specs.Prelude.{IsTrue}
 use Rattle.compact_repr.specs.Text.{size, text_of}
 use Rattle.compact_repr.specs.Value.{PlacedText}
-use Rattle.compact_repr.specs.Change.{push_str_asks}
+use Rattle.compact_repr.specs.Calls.{push_str_asks}
 use Rattle.compact_text.proofs.Texts.{size-append}
 use Rattle.compact_str.specs.FittedValues.{IsPlacedBySize}
 use Rattle.compact_str.proofs.Collecting.{on_err}

@@ -49,7 +49,7 @@ loop-item-init g c = record {
 
 pub loop-item-preserved : goal.loop-item-preserved
 loop-item-preserved g c = record {
-  text = appended-next g.T.AsText.spells (text_of (string_bytes c.args.line.now)) c.loop-item.yielded c.in-Some.item c.in_ok-append_text.ensures.ok c.text.ensures c.loop-item.invariant.text;
+  text = appended-next g.T.AsText.text (text_of (string_bytes c.args.line.now)) c.loop-item.yielded c.in-Some.item c.in_ok-append_text.ensures.ok c.text.ensures c.loop-item.invariant.text;
   capacity = no_less (string_capacity c.args.line.now) (string_capacity c.loop-item.line) (string_capacity c.append_text.new.line) c.loop-item.invariant.capacity c.append_text.ensures.capacity;
 }
 

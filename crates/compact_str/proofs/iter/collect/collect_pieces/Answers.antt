@@ -29,22 +29,22 @@ returns-in_err-gather_into-clause-err g c =
     on_err c.from_residual.result (
       c.into_iter-piece-iterator.result,
       c.into_iter-piece-iterator.ensures.into_iter_gives,
-      passes g.U.IntoIter.Iterator.next_gives g.T.Piece.letters _ _ c.next.new.self c.loop-piece.yielded c.in-Some.piece _ c.loop-piece.yielded_by c.in-Some.ensures.steps
+      passes g.U.IntoIter.Iterator.next_gives g.T.Piece.text _ _ c.next.new.self c.loop-piece.yielded c.in-Some.piece _ c.loop-piece.yielded_by c.in-Some.ensures.steps
           c.loop-piece.invariant c.in_err-gather_into.ensures.err,
     )
 
 pub loop-piece-preserved : goal.loop-piece-preserved
-loop-piece-preserved g c = gathered-next g.T.Piece.letters c.loop-piece.yielded c.in-Some.piece c.in_ok-gather_into.ensures.ok c.loop-piece.invariant
+loop-piece-preserved g c = gathered-next g.T.Piece.text c.loop-piece.yielded c.in-Some.piece c.in_ok-gather_into.ensures.ok c.loop-piece.invariant
 
 pub returns-clause-ok : goal.returns-clause-ok
 returns-clause-ok g c =
-    gathered-ok g.U.IntoIterator.into_iter_gives g.U.IntoIter.Iterator.next_gives g.T.Piece.letters c.args.iter c.into_iter-piece-iterator.result c.loop-piece.gathered c.loop-piece.yielded
+    gathered-ok g.U.IntoIterator.into_iter_gives g.U.IntoIter.Iterator.next_gives g.T.Piece.text c.args.iter c.into_iter-piece-iterator.result c.loop-piece.gathered c.loop-piece.yielded
     c.finish.result c.finish.ensures.text c.loop-piece.invariant c.into_iter-piece-iterator.ensures.into_iter_gives
     (c.next.new.self, (c.loop-piece.piece-iterator, c.loop-piece.yielded_by, c.in-None.ensures.steps))
 
 pub returns-clause-err : goal.returns-clause-err
 returns-clause-err g c =
-    gathered-err g.U.IntoIterator.into_iter_gives g.U.IntoIter.Iterator.next_gives g.T.Piece.letters c.args.iter c.into_iter-piece-iterator.result c.loop-piece.gathered c.loop-piece.yielded
+    gathered-err g.U.IntoIterator.into_iter_gives g.U.IntoIter.Iterator.next_gives g.T.Piece.text c.args.iter c.into_iter-piece-iterator.result c.loop-piece.gathered c.loop-piece.yielded
     c.loop-piece.piece-iterator c.finish.result c.finish.ensures.err c.loop-piece.invariant c.into_iter-piece-iterator.ensures.into_iter_gives c.loop-piece.yielded_by
 
 pub returns-clause-fitted : goal.returns-clause-fitted

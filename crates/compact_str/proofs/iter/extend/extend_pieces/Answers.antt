@@ -7,7 +7,7 @@ returns-in_err-push_to-clause-succeeds g c = λ h.
     absurd (
     true≢false (sym (
     c.in_err-push_to.ensures.succeeds (
-    room-left g.P.Policy.growth g.T.Piece.letters c.args.value.now _ c.loop-piece.yielded c.in-Some.piece c.loop-piece.invariant
+    room-left g.P.Policy.growth g.T.Piece.text c.args.value.now _ c.loop-piece.yielded c.in-Some.piece c.loop-piece.invariant
     (h c.into_iter-piece-iterator.result c.into_iter-piece-iterator.ensures.into_iter_gives (c.loop-piece.yielded ++ c.in-Some.piece ∷ []) c.next.new.self
     (yields-next g.U.IntoIter.Iterator.next_gives _ _ _ c.loop-piece.yielded c.in-Some.piece c.loop-piece.yielded_by c.in-Some.ensures.steps))
     )))
@@ -15,4 +15,4 @@ returns-in_err-push_to-clause-succeeds g c = λ h.
 
 pub loop-piece-preserved : goal.loop-piece-preserved
 loop-piece-preserved g c =
-    Appends-next g.P.Policy.growth g.T.Piece.letters _ c.loop-piece.yielded _ _ c.in-Some.piece c.loop-piece.invariant c.in_ok-push_to.ensures.ok
+    Appends-next g.P.Policy.growth g.T.Piece.text _ c.loop-piece.yielded _ _ c.in-Some.piece c.loop-piece.invariant c.in_ok-push_to.ensures.ok

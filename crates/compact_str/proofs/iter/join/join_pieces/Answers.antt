@@ -12,21 +12,21 @@ join-none f separator z e = e ∙ sym (drop-nil (length separator))
 pub returns-in_err-push_str-clause-err : goal.returns-in_err-push_str-clause-err
 returns-in_err-push_str-clause-err g c =
     on_err c.from_residual.result (
-    join-first g.I.Iterator.next_gives g.T.AsText.spells _ c.args.separator.now c.text.result.now c.in-Some.ensures.steps c.new-gathered.ensures c.text.ensures c.text.utf8
+    join-first g.I.Iterator.next_gives g.T.AsText.text _ c.args.separator.now c.text.result.now c.in-Some.ensures.steps c.new-gathered.ensures c.text.ensures c.text.utf8
     c.in_err-push_str.ensures.err
     )
 
 pub returns-in_err-push_separated-clause-err : goal.returns-in_err-push_separated-clause-err
 returns-in_err-push_separated-clause-err g c =
     on_err c.from_residual-in_err-push_separated.result (
-    join-piece g.I.Iterator.next_gives g.T.AsText.spells _ c.args.separator.now c.loop-piece.yielded c.in-Some-piece.piece c.text-in-loop-piece.result.now c.in-Some.ensures.steps
+    join-piece g.I.Iterator.next_gives g.T.AsText.text _ c.args.separator.now c.loop-piece.yielded c.in-Some-piece.piece c.text-in-loop-piece.result.now c.in-Some.ensures.steps
     c.into_iter-piece-iterator.ensures.into_iter_gives c.loop-piece.yielded_by c.in-Some-piece.ensures.steps c.loop-piece.invariant c.utf8.separator
     c.text-in-loop-piece.ensures c.text-in-loop-piece.utf8 c.in_err-push_separated.ensures.err
     )
 
 pub returns-clause-ok : goal.returns-clause-ok
 returns-clause-ok g c =
-    finished-ok g.I.Iterator.next_gives c.args.pieces (join_of g.I.Iterator.next_gives g.T.AsText.spells c.args.pieces c.args.separator.now) c.loop-piece.gathered
+    finished-ok g.I.Iterator.next_gives c.args.pieces (join_of g.I.Iterator.next_gives g.T.AsText.text c.args.pieces c.args.separator.now) c.loop-piece.gathered
     (c.in-Some.first ∷ c.loop-piece.yielded) c.finish-2.result c.finish-2.ensures.text c.loop-piece.invariant (
     first-drained g.I.Iterator.next_gives c.loop-piece.yielded c.in-Some.ensures.steps c.into_iter-piece-iterator.ensures.into_iter_gives c.loop-piece.yielded_by
     c.in-None.ensures.steps
@@ -34,7 +34,7 @@ returns-clause-ok g c =
 
 pub returns-clause-err : goal.returns-clause-err
 returns-clause-err g c =
-    finished-err g.I.Iterator.next_gives c.args.pieces (join_of g.I.Iterator.next_gives g.T.AsText.spells c.args.pieces c.args.separator.now) c.loop-piece.gathered
+    finished-err g.I.Iterator.next_gives c.args.pieces (join_of g.I.Iterator.next_gives g.T.AsText.text c.args.pieces c.args.separator.now) c.loop-piece.gathered
     (c.in-Some.first ∷ c.loop-piece.yielded) _ c.finish-2.result c.finish-2.ensures.err c.loop-piece.invariant (
       c.next.new.self,
       c.in-Some.ensures.steps,
@@ -43,23 +43,23 @@ returns-clause-err g c =
 
 pub loop-piece-preserved : goal.loop-piece-preserved
 loop-piece-preserved g c =
-    join-turn g.T.AsText.spells (text_of c.args.separator.now) c.in-Some.first c.loop-piece.yielded c.in-Some-piece.piece c.loop-piece.invariant c.text-in-loop-piece.ensures
+    join-turn g.T.AsText.text (text_of c.args.separator.now) c.in-Some.first c.loop-piece.yielded c.in-Some-piece.piece c.loop-piece.invariant c.text-in-loop-piece.ensures
     c.in_ok-push_separated.ensures.ok
 
 pub loop-piece-init : goal.loop-piece-init
 loop-piece-init g c =
-    join-start g.T.AsText.spells (text_of c.args.separator.now) c.in-Some.first _ _ _ c.new-gathered.ensures c.text.ensures c.in_ok-push_str.ensures.ok
+    join-start g.T.AsText.text (text_of c.args.separator.now) c.in-Some.first _ _ _ c.new-gathered.ensures c.text.ensures c.in_ok-push_str.ensures.ok
 
 pub returns-in_default-clause-ok : goal.returns-in_default-clause-ok
 returns-in_default-clause-ok g c =
-    finished-ok g.I.Iterator.next_gives c.args.pieces (join_of g.I.Iterator.next_gives g.T.AsText.spells c.args.pieces c.args.separator.now) c.new-gathered.result [] c.finish.result
-    c.finish.ensures.text (join-none g.T.AsText.spells (text_of c.args.separator.now) c.new-gathered.result c.new-gathered.ensures)
+    finished-ok g.I.Iterator.next_gives c.args.pieces (join_of g.I.Iterator.next_gives g.T.AsText.text c.args.pieces c.args.separator.now) c.new-gathered.result [] c.finish.result
+    c.finish.ensures.text (join-none g.T.AsText.text (text_of c.args.separator.now) c.new-gathered.result c.new-gathered.ensures)
     (c.next.new.self, (c.args.pieces, refl, c.in_default.ensures.steps))
 
 pub returns-in_default-clause-err : goal.returns-in_default-clause-err
 returns-in_default-clause-err g c =
-    finished-err g.I.Iterator.next_gives c.args.pieces (join_of g.I.Iterator.next_gives g.T.AsText.spells c.args.pieces c.args.separator.now) c.new-gathered.result [] c.args.pieces
-    c.finish.result c.finish.ensures.err (join-none g.T.AsText.spells (text_of c.args.separator.now) c.new-gathered.result c.new-gathered.ensures) refl
+    finished-err g.I.Iterator.next_gives c.args.pieces (join_of g.I.Iterator.next_gives g.T.AsText.text c.args.pieces c.args.separator.now) c.new-gathered.result [] c.args.pieces
+    c.finish.result c.finish.ensures.err (join-none g.T.AsText.text (text_of c.args.separator.now) c.new-gathered.result c.new-gathered.ensures) refl
 
 pub returns-in_default-clause-fitted : goal.returns-in_default-clause-fitted
 returns-in_default-clause-fitted g c = c.finish.ensures.fitted

@@ -5,4 +5,4 @@ use Rattle.compact_str.proofs.iter.join.join_pieces.Given as goal
 
 -- the items so far are joined behind the first
 abbrev pub invariant-loop-piece : goal.invariant-loop-piece
-invariant-loop-piece g l = l.gathered ≡ join (text_of l.separator) g.T.AsText.spells (l.first ∷ l.yielded)
+invariant-loop-piece g l = l.gathered ≡ join (text_of l.separator) g.T.AsText.text (l.first ∷ l.yielded)

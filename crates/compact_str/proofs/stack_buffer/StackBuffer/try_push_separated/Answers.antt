@@ -21,12 +21,12 @@ returns-clause-fits c =
 pub invariant_of-self : goal.invariant_of-self
 invariant_of-self c = (
   omega (arith, c.if-self.false, c.if-text-gt-MAX_SHORT_LEN.false, c.separator.invariant.0),
-  rw (← c.as_bytes.ensures.value, c.write_short.ensures.behind, c.write_padded.ensures)
+  rw (← c.as_bytes.ensures.value, c.write_short.ensures.after, c.write_padded.ensures)
       (IsUtf8-append _ _ (IsUtf8-append _ _ c.self.invariant.1 c.separator.invariant.1) c.as_bytes.ensures.utf8),
 )
 
 pub returns-clause-pushed : goal.returns-clause-pushed
 returns-clause-pushed c _ =
     let front = IsUtf8-append _ _ c.self.invariant.1 c.separator.invariant.1 in
-    rw (← c.as_bytes.ensures.value, c.write_short.ensures.behind, c.write_padded.ensures)
+    rw (← c.as_bytes.ensures.value, c.write_short.ensures.after, c.write_padded.ensures)
     (chars-append _ _ front ∙ rw (chars-append _ _ c.self.invariant.1, c.self.view_is, c.separator.view_is) refl)

@@ -17,5 +17,5 @@ returns-clause-fits c =
 pub invariant_of-self : goal.invariant_of-self
 invariant_of-self c = (
   omega (arith, c.if-text-self.false),
-  rw (← c.as_bytes.ensures.value, c.write.ensures.behind) (IsUtf8-append _ _ c.self.invariant.1 c.as_bytes.ensures.utf8),
+  rw (← c.as_bytes.ensures.value, c.write.ensures.after) (IsUtf8-append _ _ c.self.invariant.1 c.as_bytes.ensures.utf8),
 )

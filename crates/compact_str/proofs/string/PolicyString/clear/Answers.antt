@@ -1,6 +1,6 @@
 use Rattle.std.proofs.Common.{ap, ◌∙◌}
 use Rattle.compact_repr.specs.Value.{PlacedText}
-use Rattle.compact_repr.specs.Change.{clear}
+use Rattle.compact_repr.specs.Calls.{clear}
 use Rattle.compact_str.proofs.string.PolicyString.clear.Goals as goal
 
 pub returns-clause-value : goal.returns-clause-value

@@ -4,20 +4,20 @@ use Rattle.compact_str.proofs.string.PolicyString.extend_texts.Goals as goal
 
 pub returns-clause-text : goal.returns-clause-text
 returns-clause-text g c =
-    extended-ran g.U.IntoIterator.into_iter_gives g.U.IntoIter.Iterator.next_gives g.P.Policy.growth g.T.AsText.spells _ _ _ (flat_map g.T.AsText.spells) (λ xs. refl)
+    extended-ran g.U.IntoIterator.into_iter_gives g.U.IntoIter.Iterator.next_gives g.P.Policy.growth g.T.AsText.text _ _ _ (flat_map g.T.AsText.text) (λ xs. refl)
     c.extend_pieces.result c.extend_pieces.ensures.ok
 
 pub returns-clause-room : goal.returns-clause-room
 returns-clause-room g c =
-    extended-room g.U.IntoIterator.into_iter_gives g.U.IntoIter.Iterator.next_gives g.P.Policy.growth g.T.AsText.spells c.args.texts _ _ c.extend_pieces.result
+    extended-room g.U.IntoIterator.into_iter_gives g.U.IntoIter.Iterator.next_gives g.P.Policy.growth g.T.AsText.text c.args.texts _ _ c.extend_pieces.result
     c.extend_pieces.ensures.ok c.extend_pieces.ensures.err
 
 pub returns-clause-boundary : goal.returns-clause-boundary
 returns-clause-boundary g c =
-    extended-boundary g.U.IntoIterator.into_iter_gives g.U.IntoIter.Iterator.next_gives g.P.Policy.growth g.T.AsText.spells c.args.texts _ _ c.extend_pieces.result c.extend_pieces.ensures.ok
+    extended-boundary g.U.IntoIterator.into_iter_gives g.U.IntoIter.Iterator.next_gives g.P.Policy.growth g.T.AsText.text c.args.texts _ _ c.extend_pieces.result c.extend_pieces.ensures.ok
     c.extend_pieces.ensures.err
 
 pub returns-clause-front : goal.returns-clause-front
 returns-clause-front g c =
-    extended-front g.U.IntoIterator.into_iter_gives g.U.IntoIter.Iterator.next_gives g.P.Policy.growth g.T.AsText.spells c.args.texts _ _ c.extend_pieces.result c.extend_pieces.ensures.ok
+    extended-front g.U.IntoIterator.into_iter_gives g.U.IntoIter.Iterator.next_gives g.P.Policy.growth g.T.AsText.text c.args.texts _ _ c.extend_pieces.result c.extend_pieces.ensures.ok
     c.extend_pieces.ensures.err

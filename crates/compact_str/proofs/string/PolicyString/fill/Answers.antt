@@ -3,7 +3,7 @@ use Rattle.std.specs.Prelude.{IsTrue}
 use Rattle.compact_repr.specs.Text.{size}
 use Rattle.compact_repr.specs.Value.{PlacedText}
 use Rattle.compact_repr.specs.Capacity.{fits_in_place}
-use Rattle.compact_repr.specs.Change.{push_str, push_str_asks}
+use Rattle.compact_repr.specs.Calls.{push_str, push_str_asks}
 use Rattle.compact_str.proofs.Repeats.{room_to_fill, push-never_asks, push_str-in_place, repeated_text-more}
 use Rattle.compact_str.proofs.string.PolicyString.fill.Goals as goal
 

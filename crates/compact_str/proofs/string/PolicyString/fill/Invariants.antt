@@ -1,5 +1,5 @@
 use Rattle.std.proofs.Common.{◌≡◌}
-use Rattle.compact_str.specs.PositionEdits.{repeated_text}
+use Rattle.compact_str.specs.Edits.{repeated_text}
 use Rattle.compact_str.proofs.string.PolicyString.fill.Given as goal
 
 -- so many pieces stand, where the value was

@@ -1,5 +1,5 @@
 use Rattle.std.proofs.Common.{List, ℕ, ap, sym, ◌∙◌}
-use Rattle.compact_str.specs.RangeTexts.{is_range}
+use Rattle.compact_str.specs.TotalRanges.{is_range}
 use Rattle.compact_str.proofs.Drains.{range-is_range}
 use Rattle.compact_str.proofs.string.PolicyString.remove_checked_range.Goals as goal
 

@@ -7,9 +7,9 @@ use Rattle.std.specs.Prelude.{option_map}
 use Rattle.compact_repr.specs.Text.{size}
 use Rattle.compact_repr.specs.Value.{Placement, PlacedText, placed_text}
 use Rattle.compact_repr.specs.Capacity.{Growth, with_capacity_placement, with_capacity_asks, clone_asks}
-use Rattle.compact_repr.specs.Change.{clone, with_capacity}
+use Rattle.compact_repr.specs.Calls.{clone, with_capacity}
 use Rattle.compact_text.proofs.Texts.{empty_text}
-use Rattle.compact_str.specs.PositionEdits.{repeat, repeat_asks, repeated_text, repeats_by_copy}
+use Rattle.compact_str.specs.Edits.{repeat, repeat_asks, repeated_text, repeats_by_copy}
 use Rattle.compact_str.proofs.Repeats.{repeated_text-none}
 use Rattle.compact_str.proofs.string.PolicyString.repeat.Goals as goal
 use Rattle.compact_str.proofs.string.PolicyString.repeat.Goals.{in-Ok, in-Err, else-count-eq1-via-else-count-eq1}

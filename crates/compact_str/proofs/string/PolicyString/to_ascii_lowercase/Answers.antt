@@ -1,7 +1,7 @@
 use Rattle.std.proofs.Common.{◌≡◌, ℕ, List, Some, ap, subst, ◌∙◌}
 use Rattle.compact_repr.specs.Text.{ascii_lowercase}
 use Rattle.compact_repr.specs.Value.{PlacedText, placed_text}
-use Rattle.compact_repr.specs.Change.{new}
+use Rattle.compact_repr.specs.Calls.{new}
 use Rattle.compact_str.proofs.Letters.{new-lowercase}
 use Rattle.compact_str.proofs.string.PolicyString.to_ascii_lowercase.Goals as goal
 

@@ -28,7 +28,7 @@ loop-character-preserved g c =
       | then-keep w ↦
           rw (w.kept-is, w.slice-is)
           (stands-kept g.F.FnMut c.args.keep.now c.loop-character.keep c.keep.new.self (text_of c.args.slice.now) c.loop-character.slice w.write_char.new.slice c.loop-character.kept c.loop-character.read 1 c.in-Some.character c.keep.result
-          w.if-keep.true c.keep.ensures next.scalar inv.1 next.encoded (next.rest refl) w.write_char.ensures.front w.write_char.ensures.behind inv.3)
+          w.if-keep.true c.keep.ensures next.scalar inv.1 next.encoded (next.rest refl) w.write_char.ensures.front w.write_char.ensures.after inv.3)
       | else-keep w ↦
           rw (w.kept-is, w.slice-is)
           (stands-dropped g.F.FnMut c.args.keep.now c.loop-character.keep c.keep.new.self (text_of c.args.slice.now) c.loop-character.slice c.loop-character.kept c.loop-character.read 1 c.in-Some.character c.keep.result
@@ -50,7 +50,7 @@ loop-read-preserved-then-read-slice g c =
       | then-keep-2 w ↦
           rw (w.kept-is, w.slice-is)
           (stands-kept g.F.FnMut c.args.keep.now c.loop-character.keep c.keep-then-read-slice.new.self (text_of c.args.slice.now) c.loop-character.slice w.write_char-then-keep-2.new.slice c.loop-character.kept c.loop-character.read c.char_from-character.result.1 c.char_from-character.result.0 c.keep-then-read-slice.result
-          w.if-keep-2.true c.keep-then-read-slice.ensures next.scalar inv.1 next.encoded next.rest w.write_char-then-keep-2.ensures.front w.write_char-then-keep-2.ensures.behind inv.3)
+          w.if-keep-2.true c.keep-then-read-slice.ensures next.scalar inv.1 next.encoded next.rest w.write_char-then-keep-2.ensures.front w.write_char-then-keep-2.ensures.after inv.3)
       | else-keep-2 w ↦
           rw (w.kept-is, w.slice-is)
           (stands-dropped g.F.FnMut c.args.keep.now c.loop-character.keep c.keep-then-read-slice.new.self (text_of c.args.slice.now) c.loop-character.slice c.loop-character.kept c.loop-character.read c.char_from-character.result.1 c.char_from-character.result.0 c.keep-then-read-slice.result

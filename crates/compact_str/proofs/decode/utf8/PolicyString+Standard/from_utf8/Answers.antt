@@ -2,7 +2,7 @@ use Rattle.std.proofs.Common.{◌≡◌, ◌≤◌, List, ℕ, Some, IsTrue, len
 use Rattle.compact_repr.specs.Text.{text_of}
 use Rattle.compact_repr.specs.Value.{PlacedText}
 use Rattle.compact_repr.specs.Capacity.{standard_growth, with_capacity_asks}
-use Rattle.compact_repr.specs.Change.{new}
+use Rattle.compact_repr.specs.Calls.{new}
 use Rattle.compact_str.proofs.FittedTexts.{spelled-encoded}
 use Rattle.compact_str.proofs.decode.utf8.PolicyString+Standard.from_utf8.Goals as goal
 

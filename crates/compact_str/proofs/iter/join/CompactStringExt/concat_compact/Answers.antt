@@ -3,4 +3,4 @@ use Rattle.compact_str.proofs.Collecting.{ran-here}
 use Rattle.compact_str.proofs.iter.join.CompactStringExt.concat_compact.Goals as goal
 
 pub returns-clause-text : goal.returns-clause-text
-returns-clause-text g c = ran-here g.Self.Iterator.next_gives c.args.self (flat_map g.Self.Item.AsText.spells) c.from_texts.result c.from_texts.ensures.text
+returns-clause-text g c = ran-here g.Self.Iterator.next_gives c.args.self (flat_map g.Self.Item.AsText.text) c.from_texts.result c.from_texts.ensures.text

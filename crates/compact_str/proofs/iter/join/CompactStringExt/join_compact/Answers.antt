@@ -5,8 +5,8 @@ use Rattle.compact_str.proofs.iter.join.CompactStringExt.join_compact.Goals as g
 
 pub returns-clause-text : goal.returns-clause-text
 returns-clause-text g c =
-    joined-ran g.Self.Iterator.next_gives c.args.self (join (text_of c.args.separator.now) g.Self.Item.AsText.spells) c.join_pieces.result c.join_pieces.ensures.ok
+    joined-ran g.Self.Iterator.next_gives c.args.self (join (text_of c.args.separator.now) g.Self.Item.AsText.text) c.join_pieces.result c.join_pieces.ensures.ok
 
 pub returns-clause-succeeds : goal.returns-clause-succeeds
 returns-clause-succeeds g c =
-    joined-succeeds g.Self.Iterator.next_gives c.args.self (join (text_of c.args.separator.now) g.Self.Item.AsText.spells) c.join_pieces.result c.join_pieces.ensures.err
+    joined-succeeds g.Self.Iterator.next_gives c.args.self (join (text_of c.args.separator.now) g.Self.Item.AsText.text) c.join_pieces.result c.join_pieces.ensures.err

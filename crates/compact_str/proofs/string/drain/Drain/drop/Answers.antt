@@ -12,7 +12,7 @@ invariant_of-self g c =
     rw c.remove_range.ensures record {
       owned = without_range-owned_placement v i j c.args.self.owned;
       within = omega (arith, less, within);
-      range = without_range-is_range v i j c.args.self.front c.args.self.back c.args.self.whole within c.args.self.range;
-      ascii = λ is on. without_range-ascii v i j c.args.self.front c.args.self.back c.args.self.whole within (λ e. c.args.self.ascii e on) is;
-      span = without_range-is_range v i j i j c.args.self.whole within c.args.self.span;
+      range = without_range-is_range v i j c.args.self.rest_start c.args.self.rest_end c.args.self.old_len within c.args.self.range;
+      ascii = λ is on. without_range-ascii v i j c.args.self.rest_start c.args.self.rest_end c.args.self.old_len within (λ e. c.args.self.ascii e on) is;
+      span = without_range-is_range v i j i j c.args.self.old_len within c.args.self.span;
     }

@@ -1,0 +1,14 @@
+use Rattle.std.proofs.Common.{◌≡◌, ◌++◌, flat_map, append_assoc, append-nil}
+use Rattle.std.proofs.lemmas.Grind.{flat_map-append}
+use Rattle.compact_str.specs.Text.{text_of}
+use Rattle.compact_callers.proofs.WholeRuns.{ran_to_end}
+use Rattle.compact_callers.proofs.iterator.Lines.join_lines.Goals as goal
+
+pub returns : goal.returns
+returns g c =
+    ran_to_end _ _ _ _ _ c.loop-part.yielded (λ xs. c.loop-part.lines.text ≡ flat_map (λ part. g.Self.Item.Spelled.text part ++ text_of c.args.end.now) xs)
+    c.into_iter-part-iterator.ensures.into_iter_gives c.loop-part.yielded_by c.in-None.ensures.steps c.loop-part.invariant
+
+pub loop-part-preserved : goal.loop-part-preserved
+loop-part-preserved g c =
+    search (c.loop-part.invariant, c.in_ok-push_str.ensures.text, c.in_ok-push_str-2.ensures.text, c.spelled.ensures, append_assoc, append-nil, flat_map-append)

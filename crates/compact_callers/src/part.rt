@@ -1,0 +1,172 @@
+//! Callers that cut a text or write one: each says which parts it hands out or appends.
+#![tactic(auto, using(compact_str::proofs::ForCallers::for_callers, compact_str::proofs::PartFacts::part_facts))]
+
+ghost use Rattle.std.specs.Prelude.{◌≡◌, ◌≢◌, ◌↔◌, ◌++◌, ◌∷◌, IfSome, OnOk, IsTrue, Some, true, false, codes, decimal, slice_get};
+ghost use Rattle.std.specs.Str.{trim};
+ghost use Rattle.compact_str.specs.Text.{text_of, utf8};
+ghost use Rattle.compact_str.specs.Trim.{IsBetweenWhitespace};
+
+use compact_str::{CompactString, ReserveError};
+
+/// Appends an address. Its contract joins from the right, as what a formatter writes is joined.
+#[tactic(auto, using(compact_str::proofs::ForCallers::for_callers))]
+pub fn append_address(
+    line: &mut CompactString,
+    scheme: &str,
+    host: &CompactString,
+    port: u16,
+    path: &str,
+) -> Result<(), ReserveError>
+    ensures { OnOk result (line.new.text ≡ line.old.text ++ (text_of scheme.now ++ (codes "://"
+        ++ (host.now.text ++ (codes ":" ++ (decimal port ++ (codes "/" ++ text_of path.now))))))) }
+{
+    let host = host.as_str();
+    write!(line, "{scheme}://{host}:{port}/{path}")
+}
+
+/// Appends a request, and says so in bytes, which no proof has to read as characters.
+#[tactic(auto, using(compact_str::proofs::PartFacts::part_facts))]
+pub fn append_request(
+    line: &mut CompactString,
+    method: &str,
+    host: &CompactString,
+    port: u16,
+    path: &str,
+) -> Result<(), ReserveError>
+    ensures { OnOk result (utf8 line.new.text ≡ utf8 line.old.text ++ (method.now ++ (codes " "
+        ++ (utf8 host.now.text ++ (codes ":" ++ (decimal port ++ (codes "/" ++ path.now))))))) }
+{
+    write!(line, "{method} {host}:{port}/{path}")
+}
+
+/// Whether a word is `"abc"`.
+#[tactic(auto, using(compact_str::proofs::PartFacts::words))]
+pub fn is_abc(word: &CompactString) -> bool
+    ensures { IsTrue result ↔ (word.now.text ≡ codes "abc") }
+{
+    word.as_str() == "abc"
+}
+
+/// Whether a word is another one than `"naïve"`.
+#[tactic(auto, using(compact_str::proofs::PartFacts::words))]
+pub fn is_not_naive(word: &CompactString) -> bool
+    ensures { IsTrue result ↔ (word.now.text ≢ codes "naïve") }
+{
+    word.as_str() != "naïve"
+}
+
+/// Whether a header tells how a body is encoded.
+#[tactic(auto, using(compact_str::proofs::PartFacts::words))]
+pub fn is_encoding_header(name: &CompactString) -> bool
+    ensures { IsTrue result ↔ (name.now.text ≡ codes "content-transfer-encoding") }
+{
+    name.as_str() == "content-transfer-encoding"
+}
+
+/// Which answer a word is.
+#[tactic(auto, using(compact_str::proofs::PartFacts::words))]
+pub fn answer_in(word: &CompactString) -> Option<bool>
+    ensures yes { result ≡ Some true ↔ (word.now.text ≡ codes "yes") }
+    ensures no { result ≡ Some false ↔ (word.now.text ≡ codes "no") }
+{
+    match word.as_str() {
+        "yes" => Some(true),
+        "no" => Some(false),
+        _ => None,
+    }
+}
+
+/// The first character of a line.
+pub fn first_of(line: &CompactString) -> Option<char>
+    ensures { result ≡ slice_get line.now.text 0 }
+{
+    line.chars().next()
+}
+
+/// The key and the value of a `key=value` field.
+pub fn key_and_value(field: &CompactString) -> Option<(&str, &str)>
+    ensures { IfSome result (λ parts.
+        field.now.text ≡ text_of parts.0.now ++ codes "=" ++ text_of parts.1.now) }
+{
+    field.split_once('=')
+}
+
+/// The number of a section, and its name, between which a sign stands.
+pub fn number_and_name(title: &CompactString) -> Option<(&str, &str)>
+    ensures { IfSome result (λ parts.
+        title.now.text ≡ text_of parts.0.now ++ codes "§" ++ text_of parts.1.now) }
+{
+    match title.find('§') {
+        Some(at) => Some((&title[..at], &title[at + '§'.len_utf8()..])),
+        None => None,
+    }
+}
+
+/// What stands on both sides of the first arrow, in any text.
+pub fn sides_of_arrow(line: &str) -> Option<(&str, &str)>
+    ensures { IfSome result (λ parts.
+        text_of line.now ≡ text_of parts.0.now ++ codes "→" ++ text_of parts.1.now) }
+{
+    line.split_once('→')
+}
+
+/// What stands on both sides of the first dash, in any text.
+pub fn sides_of_dash(line: &str) -> Option<(&str, &str)>
+    ensures { IfSome result (λ parts.
+        text_of line.now ≡ text_of parts.0.now ++ codes "–" ++ text_of parts.1.now) }
+{
+    match line.find('–') {
+        Some(at) => Some((&line[..at], &line[at + '–'.len_utf8()..])),
+        None => None,
+    }
+}
+
+/// A name without its mark.
+pub fn unmarked(name: &CompactString) -> Option<&str>
+    ensures { IfSome result (λ rest. name.now.text ≡ codes "x-" ++ text_of rest.now) }
+{
+    name.strip_prefix("x-")
+}
+
+/// A line without the white space at its ends.
+pub fn trimmed(line: &CompactString) -> &str
+    ensures text { IsBetweenWhitespace line.now.text (text_of result.now) }
+    ensures bytes { result.now ≡ trim (utf8 line.now.text) }
+{
+    line.trim()
+}
+
+/// The first two bytes of a line, where they may be cut off.
+pub fn first_two_bytes(line: &CompactString) -> &str {
+    if line.is_char_boundary(2) {
+        &line[..2]
+    } else {
+        ""
+    }
+}
+
+/// Appends an address with all its parts.
+#[tactic(auto, using(compact_str::proofs::PartFacts::many_parts))]
+pub fn append_whole_address(
+    line: &mut CompactString,
+    scheme: &str,
+    user: &str,
+    password: &str,
+    host: &CompactString,
+    port: u16,
+    path: &str,
+    query: &str,
+    fragment: &str,
+) -> Result<(), ReserveError>
+    ensures { OnOk result (line.new.text ≡ line.old.text ++ (text_of scheme.now ++ (codes "://"
+        ++ (text_of user.now ++ (codes ":" ++ (text_of password.now ++ (codes "@" ++ (host.now.text
+        ++ (codes ":" ++ (decimal port ++ (codes "/" ++ (text_of path.now ++ (codes "?"
+        ++ (text_of query.now ++ (codes "#" ++ text_of fragment.now))))))))))))))) }
+{
+    // Of a hole that is a value itself, up to six prove.
+    let host = host.as_str();
+    write!(
+        line,
+        "{scheme}://{user}:{password}@{host}:{port}/{path}?{query}#{fragment}"
+    )
+}

@@ -1,0 +1,111 @@
+//! A value as a field of what serde writes and reads.
+ghost use Rattle.std.specs.Prelude.{◌≡◌, IfOk, string_bytes};
+ghost use Rattle.serde.specs.Event.{Logs, text as text_event};
+ghost use Rattle.compact_repr.specs.Text.{utf8};
+ghost use Rattle.compact_str.specs.GivenTexts.{IsGivenText};
+
+use crate::string::PolicyString;
+use compact_repr::{Policy, ReserveError};
+use serde::{
+    Described, Deserialize, DeserializeOwned, Deserializer, Format, Serialize, Serializer,
+};
+use std::alloc::Global;
+
+impl<P: Policy> Described for PolicyString<P> {
+    ghost writes = { λ v old new. Logs old new (text_event (utf8 v.text)) };
+}
+
+impl<P: Policy> Serialize for PolicyString<P> {
+    /// Writes the text as a `String` is written.
+    ///
+    /// # Errors
+    ///
+    /// That of `out`, where it takes no more.
+    ///
+    /// # Examples
+    ///
+    /// In JSON `"abc"` is written with its quotes.
+    #[inline]
+    fn serialize<S: Serializer>(&self, out: &mut S) -> Result<(), S::Error> {
+        out.str(self.as_str())
+    }
+}
+
+impl<P: Policy> DeserializeOwned for PolicyString<P> {
+    /// A text that the reader gives. One with no escape is copied as by `new`, so that up to 24 bytes never allocate.
+    /// The clause tells a caller of one reader nothing of which text was read.
+    ///
+    /// # Errors
+    ///
+    /// The reader's own, if it has no text to give or no memory is found.
+    fn deserialize_owned<F: Format>(
+        alloc: Global,
+        from: &mut Deserializer<'_, '_, F>,
+    ) -> Result<Self, F::Error>
+        ensures { IfOk result (λ v. IsGivenText F.gives (utf8 v.text)) }
+    {
+        read_text(alloc, from)
+    }
+}
+
+impl<'de, P: Policy> Deserialize<'de> for PolicyString<P> {
+    /// As `deserialize_owned`: the value borrows nothing of what is read.
+    ///
+    /// # Errors
+    ///
+    /// As from `deserialize_owned`.
+    fn deserialize<F: Format>(
+        alloc: Global,
+        from: &mut Deserializer<'de, '_, F>,
+    ) -> Result<Self, F::Error>
+        ensures { IfOk result (λ v. IsGivenText F.gives (utf8 v.text)) }
+    {
+        read_text(alloc, from)
+    }
+}
+
+/// A text that stands in the input as it reads is copied from there. Any other, as one with an escape, is read as a `String`
+/// and taken over.
+fn read_text<P: Policy, F: Format>(
+    alloc: Global,
+    from: &mut Deserializer<'_, '_, F>,
+) -> Result<PolicyString<P>, F::Error>
+    ensures { IfOk result (λ v. IsGivenText F.gives (utf8 v.text)) }
+{
+    let mark = from.mark();
+    match from.borrowed_str() {
+        Ok(text) => {
+            from.release(mark);
+            return match copy_of(alloc, text) {
+                Ok(value) => Ok(value),
+                Err(_) => Err(from.no_memory()),
+            };
+        }
+        Err(error) => {
+            if from.is_fatal(&error) {
+                return Err(error);
+            }
+        }
+    }
+    from.rewind(mark);
+    from.release(mark);
+    let text = from.string(alloc)?;
+    Ok(taken_over(text))
+}
+
+/// A copy, as `new` makes it.
+#[inline]
+fn copy_of<P: Policy>(alloc: Global, text: &str) -> Result<PolicyString<P>, ReserveError>
+    ensures { IfOk result (λ v. utf8 v.text ≡ text.now) }
+{
+    PolicyString::new(alloc, text)
+}
+
+/// A text as `From<String>` takes it over.
+#[inline]
+#[tactic(auto, using(compact_text::proofs::TextFacts::text_facts, crate::proofs::EditFacts::string_facts))]
+fn taken_over<P: Policy>(text: String) -> PolicyString<P>
+    ensures { utf8 result.text ≡ string_bytes text }
+{
+    PolicyString::from(text)
+}
