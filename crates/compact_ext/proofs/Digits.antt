@@ -11,7 +11,7 @@ use Rattle.std.proofs.lemmas.Nat.{pow-add, pow_pos}
 use Rattle.std.specs.Prelude.{replicate}
 use Rattle.std.specs.Fmt.{decimal, sign_text}
 use Rattle.std.specs.Int.{from_le_bytes, w16}
-use Rattle.itoa.proofs.Decimal.{length_one, decimal_two, decimal_pair, decimal_four}
+use Rattle.itoa.proofs.Decimal.{length_one, length_pair, decimal_two, decimal_pair, decimal_four}
 use Rattle.compact_text.specs.WordBytes.{le_number}
 use Rattle.compact_repr.specs.Packed.{packed_bytes}
 use Rattle.compact_text.proofs.Numbers.{AllBytes, AllBytes-append, AllBytes-cons, AllBytes-zeros, le_number-append, le_number-lt}
@@ -111,14 +111,74 @@ count-some n fits = let some = decimal_nonempty n fits in omega arith
 pub digits-fit : (n : ℕ) → n < 2 ^ 64 → le_number (decimal n) < 2 ^ (8 * length (decimal n))
 digits-fit n fits = le_number-lt (decimal n) (bytes-decimal n fits)
 
-pub ruleset first_digits = (one-digit, two-long, first-pair, count-first, count-some, digits-fit)
+pub ruleset first_digits = (one-digit, two-long)
+
+-- below 10,000 there are two digits and the last one or two, or these alone
+
+pub last-steps : (n p : ℕ) → n < 10000 → (n < 100 → p ≡ 0) → (100 ≤ n → p ≡ 1) → (p ≤ 1) × ((n - n / 100) * p ≤ n) × (n - (n - n / 100) * p < 100)
+last-steps n p h none one =
+    ⊎_elim
+    (λ (low : n < 100). rw (none low) (omega arith, omega arith, omega arith))
+    (λ (high : 100 ≤ n). rw (one high) (omega arith, omega arith, omega arith))
+    (cases_lt n 100)
+
+pub last-count : (n : ℕ) → n < 10000 → length (decimal n) ≤ 4
+last-count n h = length-decimal-le 4 n (omega arith) (omega arith) (omega arith)
+
+pub last-fits : (n : ℕ) → n < 10000 → le_number (decimal n) < 2 ^ 32
+last-fits n h =
+    let most = pow_mono {i = 8 * length (decimal n)} {j = 32} (omega (arith, last-count n h)) in
+    let below = digits-fit n (omega arith) in
+    omega arith
+
+append-two : (n c : ℕ) → n < 10000 → 100 ≤ n → c ≡ length (decimal (n / 100)) → le_number (decimal n) ≡ le_number (two_digits (n % 100)) * 2 ^ (8 * c) + le_number (decimal (n / 100))
+append-two n c h high e = rw e (ap le_number (decimal_pair n high (omega arith)) ∙ le_number-append (decimal (n / 100)) (two_digits (n % 100)))
+
+-- a group of a pair and of the last one or two digits, which are `c`
+two-and-last : (n c : ℕ) → n < 10000 → 100 ≤ n → c ≡ length (decimal (n / 100)) → 1 ≤ c → c ≤ 2
+    → le_number (two_digits (n % 100)) * 1 * 2 ^ (8 * c) % 2 ^ 64 + le_number (two_digits (n / 100)) / 2 ^ (8 * (2 - c)) ≡ le_number (decimal n)
+two-and-last n zero h high e some most = absurd (omega arith)
+two-and-last n (suc zero) h high e some most = omega (arith, append-two n 1 h high e, first-pair (n / 100) 1 (omega arith) e)
+two-and-last n (suc (suc zero)) h high e some most = omega (arith, append-two n 2 h high e, first-pair (n / 100) 2 (omega arith) e)
+two-and-last n (suc (suc (suc c))) h high e some most = absurd (omega arith)
+
+last-alone : (n c pair : ℕ) → n < 100 → c ≡ length (decimal n) → 1 ≤ c → c ≤ 2 → pair * 0 * 2 ^ (8 * c) % 2 ^ 64 + le_number (two_digits n) / 2 ^ (8 * (2 - c)) ≡ le_number (decimal n)
+last-alone n zero pair low e some most = absurd (omega arith)
+last-alone n (suc zero) pair low e some most = omega (arith, first-pair n 1 low e)
+last-alone n (suc (suc zero)) pair low e some most = omega (arith, first-pair n 2 low e)
+last-alone n (suc (suc (suc c))) pair low e some most = absurd (omega arith)
+
+pub last-group : (n p c two last : ℕ) → n < 10000 → (n < 100 → p ≡ 0) → (100 ≤ n → p ≡ 1) → c ≡ length (decimal (n - (n - n / 100) * p))
+    → two ≡ le_number (two_digits (n % 100)) → last ≡ le_number (two_digits (n - (n - n / 100) * p))
+    → (1 ≤ c) × (c ≤ 2) × (c + 2 * p ≡ length (decimal n)) × (two * p * 2 ^ (8 * c) % 2 ^ 64 + last / 2 ^ (8 * (2 - c)) ≡ le_number (decimal n))
+last-group n p c two last h none one many pair first =
+    ⊎_elim
+    (λ (low : n < 100).
+    let zeros : p ≡ 0 = none low in
+    let same : n - (n - n / 100) * p ≡ n = rw zeros (omega arith) in
+    let count : c ≡ length (decimal n) = many ∙ ap (λ (k : ℕ). length (decimal k)) same in
+    let ends : last ≡ le_number (two_digits n) = first ∙ ap (λ (k : ℕ). le_number (two_digits k)) same in
+    let some : 1 ≤ c = omega (arith, count, count-some n (omega arith)) in
+    let most : c ≤ 2 = omega (arith, count, count-first n low) in
+    rw (zeros, ends) (some, most, omega (arith, count), last-alone n c two low count some most))
+    (λ (high : 100 ≤ n).
+    let ones : p ≡ 1 = one high in
+    let same : n - (n - n / 100) * p ≡ n / 100 = rw ones (omega arith) in
+    let count : c ≡ length (decimal (n / 100)) = many ∙ ap (λ (k : ℕ). length (decimal k)) same in
+    let ends : last ≡ le_number (two_digits (n / 100)) = first ∙ ap (λ (k : ℕ). le_number (two_digits k)) same in
+    let some : 1 ≤ c = omega (arith, count, count-some (n / 100) (omega arith)) in
+    let most : c ≤ 2 = omega (arith, count, count-first (n / 100) (omega arith)) in
+    rw (ones, pair, ends) (some, most, omega (arith, count, length_pair n high (omega arith)), two-and-last n c h high count some most))
+    (cases_lt n 100)
+
+pub ruleset last_digits = (last-steps)
 
 -- what shifts make of the text and a group: no bit is lost
 
 pub moves : (k low high group : ℕ) → 1 ≤ k → k ≤ 4 → low < 2 ^ 128 → group < 2 ^ (8 * k) → high * 2 ^ 128 + low < 2 ^ 160
-    → (low * 2 ^ (8 * k) % 2 ^ 128 + group < 2 ^ 128) × (low / 2 ^ (128 - 8 * k) < 2 ^ 64)
-    × (high * 2 ^ (8 * k) % 2 ^ 64 + low / 2 ^ (128 - 8 * k) < 2 ^ 64)
-    × ((high * 2 ^ (8 * k) % 2 ^ 64 + low / 2 ^ (128 - 8 * k)) * 2 ^ 128 + (low * 2 ^ (8 * k) % 2 ^ 128 + group) ≡ (high * 2 ^ 128 + low) * 2 ^ (8 * k) + group)
+    → (low * 2 ^ (8 * k) % 2 ^ 128 + group < 2 ^ 128) × (low / 2 ^ 64 < 2 ^ 64)
+    × (high * 2 ^ (8 * k) % 2 ^ 64 + low / 2 ^ 64 / 2 ^ (64 - 8 * k) < 2 ^ 64)
+    × ((high * 2 ^ (8 * k) % 2 ^ 64 + low / 2 ^ 64 / 2 ^ (64 - 8 * k)) * 2 ^ 128 + (low * 2 ^ (8 * k) % 2 ^ 128 + group) ≡ (high * 2 ^ 128 + low) * 2 ^ (8 * k) + group)
 moves zero low high group some most a b c = absurd (omega arith)
 moves (suc zero) low high group some most a b c = (omega arith, omega arith, omega arith, omega arith)
 moves (suc (suc zero)) low high group some most a b c = (omega arith, omega arith, omega arith, omega arith)

@@ -55,10 +55,16 @@ fn digits_of(n: u64) -> ShortText
         text = text.behind(four(rest % 10_000), 4);
         rest /= 10_000;
     }
-    if rest >= 100 {
-        return text.behind(pair(rest % 100), 2).behind_first(rest / 100);
-    }
     text.behind_first(rest)
+}
+
+/// Returns the number of pairs of digits that follow the first one or two of a number below 10,000: none below 100, else one.
+#[inline(always)]
+fn count_pairs(n: u64) -> u64
+    ensures none { n < 100 → result ≡ 0 }
+    ensures one { 100 ≤ n → result ≡ 1 }
+{
+    if n >= 100 { 1 } else { 0 }
 }
 
 /// Returns the number of digits of `n`, which is 1 or 2.
@@ -118,21 +124,25 @@ impl ShortText {
         let bits = 8 * count;
         ShortText {
             low: (self.low << bits) + u128::from(group),
-            high: (self.high << bits) + (self.low >> (128 - bits)) as u64,
+            high: (self.high << bits) + ((self.low >> 64) as u64 >> (64 - bits)),
         }
     }
 
-    /// Puts the one or two digits of a number below 100 before the text.
+    /// Puts the digits of a number below 10,000 before the text: two, then the last one or two.
     #[inline(always)]
-    #[tactic(auto, using(crate::proofs::Digits::first_digits))]
+    #[tactic(auto, using(crate::proofs::Digits::last_digits))]
     fn behind_first(self, n: u64) -> Self
-        requires small { n < 100 }
+        requires small { n < 10000 }
         requires fits { self < 2 ^ 160 }
         ensures { result ≡ number_behind self (decimal n) }
     {
-        // Shifting the nought out of a pair avoids an unpredictable branch.
-        let count = count_first(n);
-        self.behind(pair(n) >> (8 * (2 - count)), count)
+        // Products and shifts avoid an unpredictable branch.
+        let pairs = count_pairs(n);
+        let two = pair(n % 100) * pairs;
+        let last = n - (n - n / 100) * pairs;
+        let count = count_first(last);
+        let group = (two << (8 * count)) + (pair(last) >> (8 * (2 - count)));
+        self.behind(group, count + 2 * pairs as usize)
     }
 
     /// Puts a minus before the text if `is_negative`.

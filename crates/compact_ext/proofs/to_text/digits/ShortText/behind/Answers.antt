@@ -8,11 +8,6 @@ overflow_add-result c =
     let m = moves _ c.self.inside.low c.self.inside.high c.args.group c.requires.some c.requires.most (omega arith) c.requires.group (rw c.self.view_is c.requires.fits) in
     omega arith
 
-pub overflow_cast-result-3 : goal.overflow_cast-result-3
-overflow_cast-result-3 c =
-    let m = moves _ c.self.inside.low c.self.inside.high c.args.group c.requires.some c.requires.most (omega arith) c.requires.group (rw c.self.view_is c.requires.fits) in
-    omega arith
-
 pub overflow_add-result-2 : goal.overflow_add-result-2
 overflow_add-result-2 c =
     let m = moves _ c.self.inside.low c.self.inside.high c.args.group c.requires.some c.requires.most (omega arith) c.requires.group (rw c.self.view_is c.requires.fits) in
