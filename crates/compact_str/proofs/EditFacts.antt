@@ -3,7 +3,7 @@ use Rattle.std.proofs.lemmas.Str.{IsUtf8-string_bytes}
 use Rattle.compact_text.proofs.Texts.{empty_text}
 use Rattle.compact_repr.proofs.Changes.{push_str-text, push_str-in_place, insert_str-in_place, replace_range-in_place}
 use Rattle.compact_text.proofs.Cuts.{boundary-within, size-text_after, boundary-next, text_after-next}
-use Rattle.compact_str.proofs.Positions.{truncate-last, removed-in_place, truncate-boundary, truncate-text, boundary-cut, asks-by_nothing, insert_str-text, insert_str-place, insert_str-behind, range_replaced-text}
+use Rattle.compact_str.proofs.Positions.{truncate-last, removed-in_place, truncate-boundary, truncate-text, boundary-cut, asks-by_nothing, insert_str-text, insert_str-place, insert_str-behind, insert_str-bytes, insert-bytes, range_replaced-text}
 use Rattle.compact_str.proofs.Rooms.{push_str-sure, push_str-bytes, pushed-bytes, insert_str-sure}
 use Rattle.compact_text.proofs.Letters.{boundary-lowercase, boundary-uppercase}
 use Rattle.compact_str.proofs.Letters.{make_ascii_lowercase-owned, make_ascii_uppercase-owned, make_owned-text, new-lowercase, new-uppercase}
@@ -20,7 +20,8 @@ pub ruleset position_facts =
     (boundary-within, size-text_after, removed-in_place, truncate-last, boundary-next, text_after-next, truncate-boundary, truncate-text, boundary-cut, asks-by_nothing)
 
 -- of an insertion
-pub ruleset insertion_facts = (insert_str-text, insert_str-place, insert_str-behind, insert_str-sure, insert_str-in_place)
+pub ruleset insertion_facts =
+    (insert_str-text, insert_str-place, insert_str-behind, insert_str-bytes, insert-bytes, insert_str-sure, insert_str-in_place)
 
 -- of a replacement
 pub ruleset replacement_facts = (replace_range-in_place, range_replaced-text)

@@ -7,8 +7,8 @@ use Rattle.compact_repr.specs.Value.{PlacedText}
 use Rattle.std.specs.Prelude.{IsTrue}
 use Rattle.compact_repr.specs.Capacity.{make_owned_asks}
 use Rattle.compact_repr.specs.Calls.{replace_range}
-use Rattle.compact_text.proofs.Cuts.{boundary-within}
-use Rattle.compact_str.proofs.Positions.{boundary-next, replace_range-removes, asks-by_nothing, shortened_placement-character}
+use Rattle.compact_text.proofs.Cuts.{boundary-within, boundary-next}
+use Rattle.compact_str.proofs.Positions.{replace_range-removes, asks-by_nothing, shortened_placement-character}
 use Rattle.compact_str.proofs.string.PolicyString.remove_char.Goals as goal
 
 pub overflow_add-index : goal.overflow_add-index
