@@ -1,13 +1,14 @@
 //! Callers whose clauses are in bytes, as those of `String` are.
-ghost use Rattle.std.specs.Prelude.{◌≡◌, ℕ, ◌++◌, codes, decimal, OnOk, IfOk, OnErr, take, drop};
+ghost use Rattle.std.specs.Prelude.{◌≡◌, ℕ, ◌++◌, codes, decimal, OnOk, IfOk, OnErr, take, drop, flat_map};
 ghost use Rattle.std.specs.Char.{encode_utf8};
 ghost use Rattle.std.specs.Str.Replace.{ReplacesMatches};
 ghost use Rattle.std.specs.Cow.{cow_str_bytes};
 ghost use Rattle.compact_str.specs.Text.{utf8};
 ghost use Rattle.compact_str.specs.Cut.{IsBoundary};
+ghost use Rattle.compact_str.specs.Collect.{join};
 
 use compact_ext::{ToCompactString, ToCompactStringError, format_compact};
-use compact_str::{CompactString, ReserveError};
+use compact_str::{CompactString, CompactStringExt, ReserveError};
 use std::alloc::{AllocError, Global};
 use std::borrow::CowStr;
 use std::str::pattern::Pattern;
@@ -85,6 +86,27 @@ pub fn port_part(alloc: Global, port: u16) -> Result<CompactString, ToCompactStr
     let digits = port.to_compact_string(alloc)?;
     part.push_str(digits.as_str())?;
     Ok(part)
+}
+
+/// Names in one line.
+#[tactic(auto, using(compact_str::proofs::ForCallers::for_callers))]
+pub fn names_in_line(
+    alloc: Global,
+    names: &[CompactString],
+    separator: &str,
+) -> Result<CompactString, ReserveError>
+    ensures { IfOk result
+        (λ v. utf8 v.text ≡ join separator.now (λ name. utf8 name.text) names.now) }
+{
+    names.iter().join_compact(alloc, separator)
+}
+
+/// Names end to end.
+#[tactic(auto, using(compact_str::proofs::ForCallers::for_callers))]
+pub fn names_in_a_row(alloc: Global, names: &[CompactString]) -> Result<CompactString, ReserveError>
+    ensures { IfOk result (λ v. utf8 v.text ≡ flat_map (λ name. utf8 name.text) names.now) }
+{
+    names.iter().concat_compact(alloc)
 }
 
 /// An entry of a report.

@@ -21,6 +21,7 @@ pub mod part;
 pub mod plain;
 pub mod push;
 pub mod range;
+pub mod read;
 pub mod removal;
 pub mod report;
 pub mod run;

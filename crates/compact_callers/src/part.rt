@@ -1,7 +1,7 @@
 //! Callers that cut a text or write one: each says which parts it hands out or appends.
 #![tactic(auto, using(compact_str::proofs::ForCallers::for_callers, compact_str::proofs::PartFacts::part_facts))]
 
-ghost use Rattle.std.specs.Prelude.{◌≡◌, ◌≢◌, ◌↔◌, ◌++◌, ◌∷◌, IfSome, OnOk, IsTrue, Some, true, false, codes, decimal, slice_get};
+ghost use Rattle.std.specs.Prelude.{◌≡◌, ◌≢◌, ◌↔◌, ◌++◌, ◌∷◌, IfSome, OnOk, OnErr, IsTrue, Some, true, false, codes, decimal, slice_get};
 ghost use Rattle.std.specs.Str.{trim};
 ghost use Rattle.compact_str.specs.Text.{text_of, utf8};
 ghost use Rattle.compact_str.specs.Trim.{IsBetweenWhitespace};
@@ -37,6 +37,24 @@ pub fn append_request(
         ++ (utf8 host.now.text ++ (codes ":" ++ (decimal port ++ (codes "/" ++ path.now))))))) }
 {
     write!(line, "{method} {host}:{port}/{path}")
+}
+
+/// Appends a line of a list. Where that fails, nothing has changed.
+#[tactic(auto, using(compact_str::proofs::PartFacts::part_facts))]
+pub fn append_line(line: &mut CompactString, name: &str, count: u64) -> Result<(), ReserveError>
+    ensures bytes { OnOk result (utf8 line.new.text
+        ≡ utf8 line.old.text ++ (name.now ++ (codes ": " ++ (decimal count ++ codes "\n")))) }
+    ensures unchanged { OnErr result (line.new ≡ line.old) }
+{
+    writeln!(line, "{name}: {count}")
+}
+
+/// Appends a text as it is shown.
+pub fn append_shown(line: &mut CompactString, text: &str) -> Result<(), ReserveError>
+    ensures bytes { OnOk result (utf8 line.new.text ≡ utf8 line.old.text ++ text.now) }
+    ensures unchanged { OnErr result (line.new ≡ line.old) }
+{
+    line.write(text)
 }
 
 /// Whether a word is `"abc"`.

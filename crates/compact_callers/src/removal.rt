@@ -46,7 +46,7 @@ pub fn take_range(
     ensures unchanged { OnErr result (value.new ≡ value.old) }
 {
     let mut drained = value.drain(start, end)?;
-    let _first = drained.next();
+    drained.next();
     Ok(drained.next_back())
 }
 

@@ -3,7 +3,8 @@
 use crate::asserts::assert_that;
 use compact_asserts::that;
 use compact_callers::in_bytes::{
-    append_both, entry, greeting, heading, mark_at, marked, port_part, port_text, with_semicolons,
+    append_both, entry, greeting, heading, mark_at, marked, names_in_a_row, names_in_line,
+    port_part, port_text, with_semicolons,
 };
 use compact_testing::seen::{is_heap, is_inline};
 use compact_testing::values::short;
@@ -27,6 +28,17 @@ fn texts_are_made(rt: HostRuntime) {
     assert_that(rt, is_inline(&port, ":0"));
     let line = entry(alloc, "é", 12).expect(rt, "memory");
     assert_that(rt, is_inline(&line, "é: 12"));
+}
+
+#[test]
+fn names_are_joined(rt: HostRuntime) {
+    let rt = &rt;
+    let alloc = rt.alloc();
+    let names = [short(alloc, "ä"), short(alloc, ""), short(alloc, "b")];
+    let line = names_in_line(alloc, &names, "→").expect(rt, "memory");
+    assert_that(rt, is_inline(&line, "ä→→b"));
+    let row = names_in_a_row(alloc, &names).expect(rt, "memory");
+    assert_that(rt, is_inline(&row, "äb"));
 }
 
 #[test]

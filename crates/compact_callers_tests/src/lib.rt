@@ -36,6 +36,8 @@ mod push;
 #[cfg(test)]
 mod range;
 #[cfg(test)]
+mod read;
+#[cfg(test)]
 mod removal;
 #[cfg(test)]
 mod run;

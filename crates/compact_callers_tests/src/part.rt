@@ -2,9 +2,9 @@
 
 use crate::asserts::{assert_equal, assert_that};
 use compact_callers::part::{
-    answer_in, append_address, append_request, append_whole_address, first_of, first_two_bytes,
-    is_abc, is_encoding_header, is_not_naive, key_and_value, number_and_name, sides_of_arrow,
-    sides_of_dash, trimmed, unmarked,
+    answer_in, append_address, append_line, append_request, append_shown, append_whole_address,
+    first_of, first_two_bytes, is_abc, is_encoding_header, is_not_naive, key_and_value,
+    number_and_name, sides_of_arrow, sides_of_dash, trimmed, unmarked,
 };
 use compact_testing::values::{short, value_of};
 
@@ -35,6 +35,15 @@ fn a_request_is_appended(rt: HostRuntime) {
     let host = short(alloc, "h");
     append_request(&mut line, "GET", &host, 1, "ä").expect(&rt, "memory");
     assert_equal(&rt, line.as_str(), "GET h:1/ä");
+}
+
+#[test]
+fn lines_are_appended(rt: HostRuntime) {
+    let rt = &rt;
+    let mut list = short(rt.alloc(), "§\n");
+    append_line(&mut list, "größe", 7).expect(rt, "memory");
+    append_shown(&mut list, "é").expect(rt, "memory");
+    assert_equal(rt, list.as_str(), "§\ngröße: 7\né");
 }
 
 #[test]

@@ -1,10 +1,7 @@
 //! The error of an allocation.
-ghost use Rattle.std.specs.Prelude.{◌≡◌, alloc_error};
-ghost use Rattle.std.specs.IoError.{error_kind};
-ghost use Rattle.std.specs.declared.io.ErrorKind.TheVariants.{OutOfMemory};
+ghost use Rattle.std.specs.Prelude.{◌≡◌};
 
-use std::alloc::{AllocError, AllocFailed};
-use std::{fmt, io};
+use std::alloc::AllocError;
 use thiserror::Error;
 
 /// A heap buffer could not be allocated: no memory was found, or it would have more than 2^56 - 2 bytes, which is
@@ -24,36 +21,5 @@ impl From<AllocError> for ReserveError {
 
     fn from(_error: AllocError) -> Self {
         ReserveError
-    }
-}
-
-/// The value that was not stored is dropped.
-impl<T: Drop> From<AllocFailed<T>> for ReserveError {
-    ghost from_gives = { λ _ error. error ≡ record {} };
-
-    fn from(_failed: AllocFailed<T>) -> Self {
-        ReserveError
-    }
-}
-
-impl From<ReserveError> for AllocError {
-    ghost from_gives = { λ _ error. error ≡ alloc_error };
-
-    fn from(_error: ReserveError) -> AllocError {
-        AllocError
-    }
-}
-
-impl From<ReserveError> for fmt::Error {
-    fn from(_error: ReserveError) -> fmt::Error {
-        fmt::Error
-    }
-}
-
-impl From<ReserveError> for io::Error {
-    ghost from_gives = { λ _ error. error_kind error ≡ OutOfMemory };
-
-    fn from(_error: ReserveError) -> io::Error {
-        io::Error::from(AllocError)
     }
 }

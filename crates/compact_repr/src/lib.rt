@@ -6,6 +6,7 @@
 #![tactic(auto, using(compact_text::proofs::TextFacts::text_facts))]
 
 mod error;
+mod error_conversions;
 mod heap;
 mod inline;
 mod policy;

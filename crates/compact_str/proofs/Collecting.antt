@@ -2,7 +2,8 @@
 use Rattle.std.proofs.Common.{◌≡◌, ℕ, ◌+◌, ◌<◌, ◌≤◌, List, [], ◌∷◌, ◌++◌, length, drop, fold, Some, map, flat_map, refl, ap, sym, subst, ◌∙◌, arith, append_assoc, append-nil, true}
 use Rattle.std.proofs.lemmas.Grind.{flat_map-append}
 use Rattle.std.proofs.lemmas.List.Folds.{flat_map-map}
-use Rattle.std.proofs.Math.Seq.{drop-append_seam}
+use Rattle.std.proofs.Math.Seq.{drop-append_seam, drop-nil}
+use Rattle.std.proofs.lemmas.Str.{encodes-append}
 use Rattle.std.specs.Prelude.{Option, None, Result, Ok, Err, IfOk, OnOk, OnErr, IsOk}
 use Rattle.std.specs.Result.{MatchResult}
 use Rattle.std.specs.Iterator.{Yields, Drains, DrainsIf, HoldsAlong}
@@ -10,7 +11,7 @@ use Rattle.std.specs.Borrow.{Bor}
 use Rattle.std.specs.Iterator.Runs.{WholeRun}
 use Rattle.std.proofs.iter.runs.Made.{run, to_end}
 use Rattle.std.specs.Str.{IsUtf8}
-use Rattle.compact_repr.specs.Text.{size, text_of}
+use Rattle.compact_repr.specs.Text.{size, text_of, utf8}
 use Rattle.compact_repr.specs.Cut.{IsBoundary, text_before}
 use Rattle.compact_text.proofs.Cuts.{text_before-append}
 use Rattle.compact_repr.specs.Value.{PlacedText}
@@ -174,6 +175,25 @@ join-one f separator x = join-cons f separator x [] ∙ append-nil (f x)
 
 pub join-start : {T : Type 0} (f : T → List ℕ) (separator : List ℕ) (x : T) (z p w : List ℕ) → z ≡ [] → p ≡ f x → w ≡ z ++ p → w ≡ join separator f (x ∷ [])
 join-start f separator x z p w e k h = h ∙ ap (λ l. l ++ p) e ∙ k ∙ sym (join-one f separator x)
+
+-- the bytes of texts end to end, and joined
+
+pub utf8-flat_map : {T : Type 0} (f : T → List ℕ) (xs : List T) → utf8 (flat_map f xs) ≡ flat_map (λ x. utf8 (f x)) xs
+utf8-flat_map f [] = refl
+utf8-flat_map f (x ∷ xs) = encodes-append (f x) (flat_map f xs) ∙ ap (λ bytes. utf8 (f x) ++ bytes) (utf8-flat_map f xs)
+
+pub utf8-join : {T : Type 0} (f : T → List ℕ) (separator : List ℕ) (xs : List T) → utf8 (join separator f xs) ≡ join (utf8 separator) (λ x. utf8 (f x)) xs
+utf8-join f separator [] = ap utf8 (drop-nil (length separator)) ∙ sym (drop-nil (length (utf8 separator)))
+utf8-join f separator (x ∷ xs) =
+    ap utf8 (join-cons f separator x xs)
+    ∙ encodes-append (f x) (flat_map (λ y. separator ++ f y) xs)
+    ∙ ap (λ bytes. utf8 (f x) ++ bytes) (utf8-flat_map (λ y. separator ++ f y) xs ∙ ap (λ g. flat_map g xs) (λ i y. encodes-append separator (f y) i))
+    ∙ sym (join-cons (λ y. utf8 (f y)) (utf8 separator) x xs)
+
+pub ran-bytes : {S T E : Type 0} (steps : S → Option T → S → Type 0) (s : S) (read write : List T → List ℕ) → ((xs : List T) → utf8 (read xs) ≡ write xs) → (r : Result PlacedText E)
+    → IfOk r (λ v. WholeRun steps s (λ p. v.text ≡ read p.items)) → IfOk r (λ v. WholeRun steps s (λ p. utf8 v.text ≡ write p.items))
+ran-bytes steps s read write same (Ok v) (p, start, whole, e) = (p, start, whole, ap utf8 e ∙ same p.items)
+ran-bytes steps s read write same (Err _) h = tt
 
 -- one more item behind the first
 pub join-next : {T : Type 0} (f : T → List ℕ) (separator : List ℕ) (z : T) (xs : List T) (x : T) → join separator f (z ∷ (xs ++ x ∷ [])) ≡ (join separator f (z ∷ xs) ++ separator) ++ f x

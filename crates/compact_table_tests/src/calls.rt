@@ -55,6 +55,7 @@ fn named(case: &Case<'_>, value: &mut CompactString) -> Reply<Standard> {
         "write_str" => written(value.write_str(first).is_ok()),
         "write!" => write_both(value, first, last),
         "write" => done(value.write(first)),
+        "writeln" => write_line(value, first),
         "add_str" => add_str(value, first),
         "clone" => cloned(value),
         "to_ascii_lowercase" => given(value.to_ascii_lowercase()),
@@ -68,6 +69,16 @@ fn named(case: &Case<'_>, value: &mut CompactString) -> Reply<Standard> {
 
 fn write_both(value: &mut CompactString, first: &str, last: &str) -> Reply<Standard> {
     written(write!(value, "{first}{last}").is_ok())
+}
+
+/// Writes a line. The line feed at its end is taken off again, and where none is there, it is told as a bad position, which no
+/// case expects.
+fn write_line(value: &mut CompactString, text: &str) -> Reply<Standard> {
+    let outcome = value.writeln(text);
+    if outcome.is_ok() && value.pop() != Some('\n') {
+        return Reply::BadPosition;
+    }
+    done(outcome)
 }
 
 fn cloned(value: &CompactString) -> Reply<Standard> {

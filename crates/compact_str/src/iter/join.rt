@@ -2,7 +2,7 @@
 ghost use Rattle.std.specs.Prelude.{◌≡◌, ◌≤◌, List, flat_map, IfOk, OnErr, IsOk};
 ghost use Rattle.std.specs.Iterator.{Drains, HoldsAlong, IsFinite};
 ghost use Rattle.std.specs.Iterator.Runs.{WholeRun};
-ghost use Rattle.compact_repr.specs.Text.{size, text_of};
+ghost use Rattle.compact_repr.specs.Text.{size, text_of, utf8};
 ghost use Rattle.compact_str.specs.FittedValues.{IsPlacedBySize};
 ghost use Rattle.compact_str.specs.Collect.{PassesInline, join};
 
@@ -34,6 +34,9 @@ pub trait CompactStringExt: Iterator {
         ensures text { IfOk result
             (λ v. WholeRun Self.next_gives self
             (λ run. v.text ≡ flat_map Self.Item.text run.items)) }
+        ensures bytes { IfOk result
+            (λ v. WholeRun Self.next_gives self
+            (λ run. utf8 v.text ≡ flat_map (λ x. utf8 (Self.Item.text x)) run.items)) }
         ensures fitted { IfOk result IsPlacedBySize }
         ensures succeeds { HoldsAlong Self.next_gives self
             (λ xs. size (flat_map Self.Item.text xs) ≤ 24) → IsOk result }
@@ -65,6 +68,9 @@ pub trait CompactStringExt: Iterator {
         ensures text { IfOk result
             (λ v. WholeRun Self.next_gives self
             (λ run. v.text ≡ join (text_of separator.now) Self.Item.text run.items)) }
+        ensures bytes { IfOk result
+            (λ v. WholeRun Self.next_gives self
+            (λ run. utf8 v.text ≡ join separator.now (λ x. utf8 (Self.Item.text x)) run.items)) }
         ensures fitted { IfOk result IsPlacedBySize }
         ensures succeeds { HoldsAlong Self.next_gives self
             (λ xs. size (join (text_of separator.now) Self.Item.text xs) ≤ 24) → IsOk result }

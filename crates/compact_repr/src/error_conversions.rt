@@ -1,0 +1,42 @@
+//! What `ReserveError` converts to, and from, beside `AllocError`.
+//!
+//! A contract imports all that its file imports. So these stand apart, and a program that needs none of them loads none of the
+//! types.
+ghost use Rattle.std.specs.Prelude.{◌≡◌, alloc_error};
+ghost use Rattle.std.specs.IoError.{error_kind};
+ghost use Rattle.std.specs.declared.io.ErrorKind.TheVariants.{OutOfMemory};
+
+use crate::error::ReserveError;
+use std::alloc::{AllocError, AllocFailed};
+use std::{fmt, io};
+
+/// The value that was not stored is dropped.
+impl<T: Drop> From<AllocFailed<T>> for ReserveError {
+    ghost from_gives = { λ _ error. error ≡ record {} };
+
+    fn from(_failed: AllocFailed<T>) -> Self {
+        ReserveError
+    }
+}
+
+impl From<ReserveError> for AllocError {
+    ghost from_gives = { λ _ error. error ≡ alloc_error };
+
+    fn from(_error: ReserveError) -> AllocError {
+        AllocError
+    }
+}
+
+impl From<ReserveError> for fmt::Error {
+    fn from(_error: ReserveError) -> fmt::Error {
+        fmt::Error
+    }
+}
+
+impl From<ReserveError> for io::Error {
+    ghost from_gives = { λ _ error. error_kind error ≡ OutOfMemory };
+
+    fn from(_error: ReserveError) -> io::Error {
+        io::Error::from(AllocError)
+    }
+}
