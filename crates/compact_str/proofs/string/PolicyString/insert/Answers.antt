@@ -1,7 +1,7 @@
 use Rattle.std.proofs.Common.{◌≡◌, ◌-◌, ◌∷◌, [], ℕ, Some, true, OnOk, refl, sym, ◌∙◌, subst, rules, arith}
 use Rattle.std.proofs.lemmas.Grind.{common_steps}
 use Rattle.std.proofs.lemmas.Result.{on_ok_weaker}
-use Rattle.std.specs.Char.{is_ascii}
+use Rattle.std.specs.Char.{is_ascii, len_utf8}
 use Rattle.compact_repr.specs.Text.{size}
 use Rattle.compact_repr.specs.Value.{PlacedText}
 use Rattle.compact_repr.specs.Calls.{insert_str}
@@ -24,15 +24,15 @@ in_place g c =
     subst (λ (u : PlacedText). insert_str g.P.Policy.growth u c.args.index (c.args.character ∷ []) ≡ Some w) c.self.view_is done
 
 pub returns-then-try_insert_ascii-clause-bytes : goal.returns-then-try_insert_ascii-clause-bytes
-returns-then-try_insert_ascii-clause-bytes g c = insert-bytes g.P.Policy.growth _ _ c.args.index c.args.character (in_place g c) c.requires
+returns-then-try_insert_ascii-clause-bytes g c = insert-bytes g.P.Policy.growth c.args.self.now c.try_insert_ascii.new.self c.args.index c.args.character (in_place g c) c.requires
 
 pub returns-then-try_insert_ascii-clause-place : goal.returns-then-try_insert_ascii-clause-place
-returns-then-try_insert_ascii-clause-place g c = insert_str-place g.P.Policy.growth _ _ c.args.index _ (in_place g c) c.requires
+returns-then-try_insert_ascii-clause-place g c = insert_str-place g.P.Policy.growth c.args.self.now c.try_insert_ascii.new.self c.args.index (c.args.character ∷ []) (in_place g c) c.requires
 
 pub returns-then-try_insert_ascii-clause-after : goal.returns-then-try_insert_ascii-clause-after
-returns-then-try_insert_ascii-clause-after g c = insert_str-behind g.P.Policy.growth _ _ c.args.index _ _ (in_place g c) c.requires (omega arith)
+returns-then-try_insert_ascii-clause-after g c = insert_str-behind g.P.Policy.growth c.args.self.now c.try_insert_ascii.new.self c.args.index (len_utf8 c.args.character) (c.args.character ∷ []) (in_place g c) c.requires (omega arith)
 
-slow : (g : Over) (c : goal.After-insert_str g) → OnOk c.insert_str.result (insert_str g.P.Policy.growth c.args.self.now c.args.index (c.args.character ∷ []) ≡ Some c.insert_str.new.self)
+slow : (g : Over) (c : goal.After-bytes-2-1 g) → OnOk c.insert_str.result (insert_str g.P.Policy.growth c.args.self.now c.args.index (c.args.character ∷ []) ≡ Some c.insert_str.new.self)
 slow g c =
     let same : c.else-is_ascii.self ≡ c.args.self.now = elim c.else-is_ascii.branch [
       | else-is_ascii-via-then-is_ascii+else-try_insert_ascii w ↦ w.self-is ∙ w.if-try_insert_ascii.ensures.full refl ∙ c.self.view_is
