@@ -9,7 +9,7 @@ use Rattle.std.proofs.lemmas.Grind.{common_steps}
 use Rattle.compact_str.specs.Text.{size, text_of}
 use Rattle.compact_str.specs.Value.{PlacedText, placed_text}
 use Rattle.compact_str.specs.Capacity.{Growth, IsLawful, inline_placement}
-use Rattle.compact_str.specs.Change.{push_str, push_str_asks}
+use Rattle.compact_str.specs.Calls.{push_str, push_str_asks}
 use Rattle.compact_str.specs.declared.ReserveError.{ReserveError}
 use Rattle.compact_edit.specs.declared.edit.Edit.{Edit}
 use Rattle.compact_edit.specs.declared.edit.Edit.TheVariants.{PushStr}

@@ -8,7 +8,7 @@ use Rattle.compact_str.specs.Text.{text_of, size}
 use Rattle.compact_str.specs.Cut.{IsBoundary}
 use Rattle.compact_str.specs.Value.{PlacedText}
 use Rattle.compact_str.specs.Capacity.{Growth, reserve_asks}
-use Rattle.compact_str.specs.Change.{insert_str}
+use Rattle.compact_str.specs.Calls.{insert_str}
 use Rattle.compact_edit.specs.declared.edit.Edit.{Edit}
 use Rattle.compact_edit.specs.declared.edit.Edit.TheVariants.{InsertStr}
 use Rattle.compact_edit.specs.declared.edit.Reply.{Reply}

@@ -5,10 +5,10 @@ use Rattle.compact_str.specs.Text.{text_of, size}
 use Rattle.compact_str.specs.Cut.{IsBoundary, substring}
 use Rattle.compact_str.specs.Value.{PlacedText}
 use Rattle.compact_str.specs.Capacity.{Growth, with_capacity_asks, reserve_asks, make_owned_asks}
-use Rattle.compact_str.specs.Change.{new, push_str, push_str_asks, clear, reserve, truncate, Shrinks, insert_str, replace_range, replace_range_asks, make_ascii_lowercase, make_ascii_uppercase, retain, zeroize}
+use Rattle.compact_str.specs.Calls.{new, push_str, push_str_asks, clear, reserve, truncate, Shrinks, insert_str, replace_range, replace_range_asks, make_ascii_lowercase, make_ascii_uppercase, retain, zeroize}
 use Rattle.compact_str.specs.RetainRules.{retained_text, answer_rule}
 use Rattle.compact_str.specs.Clones.{clone_from, clone_from_asks}
-use Rattle.compact_str.specs.Edits.{Removes, PopsChar, SplitsOff, split_asks, repeat, repeat_asks}
+use Rattle.compact_str.specs.Edits.{Removes, SplitsOff, split_asks, repeat, repeat_asks}
 use Rattle.compact_str.specs.Ranges.{IsRange, range_start, range_end}
 use Rattle.compact_edit.specs.declared.edit.Edit.{Edit}
 use Rattle.compact_edit.specs.declared.edit.Edit.TheVariants.{Push, PushStr, Pop, Insert, InsertStr, Remove, Truncate, Clear, SplitOff, ReplaceRange, Drain, Retain, Reserve, ShrinkTo, ShrinkToFit, MakeLower, MakeUpper, Zeroize, Repeat, CloneFrom}

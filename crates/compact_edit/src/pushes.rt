@@ -1,7 +1,7 @@
 //! Texts that are pushed one after another, with a count of the bytes that this moves.
 ghost use Rattle.std.specs.Prelude.{◌≡◌, ◌+◌, ◌-◌, ◌*◌, ◌/◌, ◌≤◌, flat_map, Some, IsTrue, max, IfOk, OnErr};
 ghost use Rattle.compact_str.specs.Text.{size, text_of};
-ghost use Rattle.compact_str.specs.Change.{push_str, push_str_asks};
+ghost use Rattle.compact_str.specs.Calls.{push_str, push_str_asks};
 ghost use Rattle.compact_edit.specs.Pushes.{PushesTo, bytes_moved_by_step};
 
 use compact_str::{Policy, PolicyString, ReserveError};

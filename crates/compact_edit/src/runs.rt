@@ -3,7 +3,7 @@ ghost use Rattle.std.specs.Prelude.{◌≡◌, ◌+◌, ◌≤◌, [], length, d
 ghost use Rattle.compact_str.specs.Text.{size};
 ghost use Rattle.compact_str.specs.Cut.{substring};
 ghost use Rattle.compact_str.specs.Capacity.{with_capacity_asks, make_owned_asks};
-ghost use Rattle.compact_str.specs.Change.{new, replace_range, retain};
+ghost use Rattle.compact_str.specs.Calls.{new, replace_range, retain};
 ghost use Rattle.compact_str.specs.RetainRules.{retained_text, answer_rule, next_answer};
 ghost use Rattle.compact_str.specs.Ranges.{IsRange, range_start, range_end};
 ghost use Rattle.compact_edit.specs.Steps.{Step};

@@ -3,7 +3,7 @@ use Rattle.std.specs.Prelude.{◌≡◌, ℕ, List, Bool, IsTrue, Result, IfOk, 
 use Rattle.compact_str.specs.Text.{size}
 use Rattle.compact_str.specs.Value.{PlacedText}
 use Rattle.compact_str.specs.Capacity.{Growth, inline_placement, with_capacity_asks}
-use Rattle.compact_str.specs.Change.{new}
+use Rattle.compact_str.specs.Calls.{new}
 use Rattle.compact_ext.specs.declared.format.ToCompactStringError.{ToCompactStringError}
 use Rattle.compact_ext.specs.declared.format.ToCompactStringError.TheVariants.{Reserve, Fmt}
 

@@ -1,7 +1,7 @@
 //! Texts made of what a format shows.
 ghost use Rattle.std.specs.Prelude.{◌≡◌, IfOk, IfSome, IsTrue, OnOk, OnErr};
 ghost use Rattle.compact_str.specs.Text.{text_of, utf8};
-ghost use Rattle.compact_str.specs.Change.{push_str_asks};
+ghost use Rattle.compact_str.specs.Calls.{push_str_asks};
 ghost use Rattle.compact_str.specs.Edits.{Writes};
 ghost use Rattle.compact_str.specs.FittedValues.{IsPlacedBySize};
 

@@ -4,7 +4,7 @@ use Rattle.std.specs.Borrow.{Bor}
 use Rattle.compact_str.specs.Text.{text_of}
 use Rattle.compact_str.specs.Value.{PlacedText, placed_text}
 use Rattle.compact_str.specs.Capacity.{Growth, inline_placement, static_placement, with_capacity_asks}
-use Rattle.compact_str.specs.Change.{new, with_capacity}
+use Rattle.compact_str.specs.Calls.{new, with_capacity}
 use Rattle.compact_str.specs.declared.Standard.{Standard}
 use Rattle.compact_str.specs.declared.ReserveError.{ReserveError}
 use Rattle.compact_edit.specs.declared.edit.Edit.TheVariants as edits
