@@ -5,7 +5,7 @@ use Rattle.compact_str.specs.Text.{text_of, size}
 use Rattle.compact_str.specs.Cut.{IsBoundary, substring}
 use Rattle.compact_str.specs.Value.{PlacedText}
 use Rattle.compact_str.specs.Capacity.{Growth, with_capacity_allocates, reserve_allocates, make_owned_allocates}
-use Rattle.compact_str.specs.Calls.{new, push_str, push_str_allocates, clear, reserve, truncate, Shrinks, insert_str, replace_range, replace_range_allocates, make_ascii_lowercase, make_ascii_uppercase, retain, zeroize}
+use Rattle.compact_str.specs.Calls.{new, push_str, push_str_allocates, clear, reserve, truncate, Shrinks, insert_str, replace_range, replace_range_allocates, make_ascii_lowercase, make_ascii_uppercase, retain, zeroize, PopsChar}
 use Rattle.compact_str.specs.RetainRules.{retained_text, answer_rule}
 use Rattle.compact_str.specs.Clones.{clone_from, clone_from_allocates}
 use Rattle.compact_str.specs.Edits.{Removes, SplitsOff, split_allocates, repeat, repeat_allocates}

@@ -14,7 +14,7 @@ use Rattle.std.specs.Int.{from_le_bytes, w16}
 use Rattle.itoa.proofs.Decimal.{length_one, length_pair, decimal_two, decimal_pair, decimal_four}
 use Rattle.compact_text.specs.WordBytes.{le_number}
 use Rattle.compact_repr.specs.Packed.{packed_bytes}
-use Rattle.compact_text.proofs.Numbers.{AllBytes, AllBytes-append, AllBytes-cons, AllBytes-zeros, le_number-append, le_number-lt}
+use Rattle.compact_text.proofs.Numbers.{AllBytes, AllBytes-append, AllBytes-cons, AllBytes-zeros, le_number-append, le_number-lt, three-words}
 use Rattle.compact_ext.specs.declared.to_text.digits.TheConstants.{PAIRS}
 use Rattle.compact_ext.specs.Digits.{two_digits, four_digits, number_behind, number_text}
 use Rattle.compact_ext.proofs.NumberTexts.{IsAscii-number}
@@ -234,3 +234,6 @@ number-row false n sign count first text row h one many is more long all e =
     row-packed (number_text false n) row (omega (arith, count-short n h)) (λ i. omega (arith, IsAscii-number false n h i)) long all (omega arith)
 
 pub ruleset number_rows = (number-fits, sign-fits)
+
+-- the words of a packed text as one number
+pub ruleset packed_words = (three-words)

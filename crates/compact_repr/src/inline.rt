@@ -8,12 +8,12 @@ ghost use Rattle.compact_repr.specs.Packed.{IsPackedFor};
 ghost use Rattle.compact_text.specs.Retain.{RetainsCharsTo};
 
 mod compare;
-mod packed;
+mod length;
 
 use compact_text::slices;
 use compact_text::str_parts::{first_ascii, last_char, suffix};
 use compact_text::words::{insert_byte, remove_byte};
-use packed::{is_packed, length_of, pack, with_len, with_len_below_24, write_len};
+use length::{is_packed, length_of, pack, with_len, with_len_below_24, write_len};
 use std::marker::Model;
 
 /// The most bytes that stand inline.

@@ -7,14 +7,13 @@
 
 mod error;
 mod error_conversions;
+mod growth;
 mod heap;
 mod inline;
-mod policy;
 mod repr;
 mod static_str;
 
 pub use error::ReserveError;
 pub use inline::INLINE_CAPACITY;
-pub use policy::{Policy, Standard, standard_grows_by_half};
+pub use growth::{MAX_CAPACITY, Policy, Standard, standard_grows_by_half};
 pub use repr::Repr;
-pub use repr::capacity::MAX_CAPACITY;

@@ -15,7 +15,7 @@ mod new;
 
 use crate::heap::HeapBuffer;
 use crate::inline::{INLINE_CAPACITY, InlineBuffer};
-use crate::policy::Policy;
+use crate::growth::Policy;
 use crate::static_str::StaticStr;
 use std::alloc::Global;
 use std::marker::{Model, PhantomData};

@@ -9,7 +9,7 @@ use Rattle.std.specs.Str.{IsUtf8, IsAscii, IsNotAscii}
 use Rattle.std.specs.Char.{len_utf8, InScalarRange}
 use Rattle.compact_text.proofs.TextFacts.{text_facts}
 use Rattle.compact_repr.specs.Text.{size, text_of}
-use Rattle.compact_repr.specs.Cut.{IsBoundary, text_before, text_after, substring, replaced_text}
+use Rattle.compact_repr.specs.Cut.{IsBoundary, text_before, text_after, substring, replaced_text, is_boundary}
 use Rattle.compact_repr.specs.Value.{Place, inline, heap, static, IsCapacityOf, IsSound, PlacedText, placed_text, is_static}
 use Rattle.compact_repr.specs.Capacity.{Growth, owned_placement}
 use Rattle.compact_repr.specs.Calls.{make_owned, replace_range}
@@ -17,7 +17,7 @@ use Rattle.compact_text.proofs.Texts.{size-append, size-text_of}
 use Rattle.compact_text.proofs.Keeping.{first_ascii, first_past_ascii}
 use Rattle.compact_text.proofs.Cuts.{text_before-text_after, size-text_before, size-replaced, boundary-from_size}
 use Rattle.compact_text.proofs.Middles.{substring-parts, parts-substring}
-use Rattle.compact_str.specs.TotalRanges.{is_boundary, is_range, range_text, IsAsciiRange, without_range}
+use Rattle.compact_str.specs.TotalRanges.{is_range, range_text, IsAsciiRange, without_range}
 use Rattle.compact_str.proofs.Letters.{make_owned-text}
 
 pub make_owned-owned_placement : (g : Growth) (v u : PlacedText) → make_owned g v ≡ Some u → is_static u.placement.place ≡ false
@@ -41,10 +41,6 @@ is_boundary-boundary t p h = eq-eqb _ _ (size-text_before t p h)
 
 boundary-is_boundary : (t : List ℕ) (p : ℕ) → is_boundary t p ≡ true → IsBoundary t p
 boundary-is_boundary t p e = boundary-from_size t p (eqb-true _ _ e)
-
-pub is_boundary-test : (b : Bool) (t : List ℕ) (p : ℕ) → (IsTrue b ↔ IsBoundary t p) → b ≡ is_boundary t p
-is_boundary-test true t p h = sym (is_boundary-boundary t p (h.0 refl))
-is_boundary-test false t p h = sym (ne_eqb _ _ (λ e. true≢false (sym (h.1 (boundary-from_size t p e)))))
 
 -- and `is_range` the ranges
 pub is_range-range : (t : List ℕ) (i j : ℕ) → i ≤ j → IsBoundary t i → IsBoundary t j → is_range t i j ≡ true

@@ -2,7 +2,7 @@
 use Rattle.std.specs.Prelude.{◌≡◌, ℕ, List, [], ◌∷◌, ◌++◌, Option, MatchOption}
 use Rattle.std.specs.Borrow.{GName}
 use Rattle.compact_repr.specs.Value.{PlacedText}
-use Rattle.compact_repr.specs.declared.policy.Policy.{Ghosts}
+use Rattle.compact_repr.specs.declared.growth.Policy.{Ghosts}
 use Rattle.compact_str.specs.TotalRanges.{range_text, without_range}
 use Rattle.compact_str.specs.declared.string.drain.Drain.{Drain}
 

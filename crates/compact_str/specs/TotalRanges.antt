@@ -1,12 +1,8 @@
 -- How a range is taken out of a value, by words that have an outcome for all positions.
-use Rattle.std.specs.Prelude.{◌≡◌, ℕ, Bool, not, ◌&&◌, List, [], length, nat_eq, nat_le, if◌then◌else◌}
+use Rattle.std.specs.Prelude.{◌≡◌, ℕ, Bool, not, ◌&&◌, List, [], length, nat_le, if◌then◌else◌}
 use Rattle.compact_repr.specs.Text.{size}
-use Rattle.compact_repr.specs.Cut.{text_before, substring, replaced_text}
+use Rattle.compact_repr.specs.Cut.{is_boundary, substring, replaced_text}
 use Rattle.compact_repr.specs.Value.{PlacedText, placed_text, is_static}
-
--- t can be cut at p
-abbrev pub is_boundary : List ℕ → ℕ → Bool
-is_boundary t p = nat_eq (size (text_before t p)) p
 
 -- what stands from i to j may be cut out of t
 abbrev pub is_range : List ℕ → ℕ → ℕ → Bool

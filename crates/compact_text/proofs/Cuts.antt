@@ -1,7 +1,7 @@
 -- Where a text is cut, and where its bytes are.
-use Rattle.std.proofs.Common.{◌≡◌, ℕ, ◌+◌, ◌-◌, ◌<◌, ◌≤◌, List, [], ◌∷◌, ◌++◌, take, drop, refl, ap, sym, ◌∙◌, subst, arith, true, ⊎_elim, append_assoc}
+use Rattle.std.proofs.Common.{◌≡◌, ℕ, ◌+◌, ◌-◌, ◌<◌, ◌≤◌, List, [], ◌∷◌, ◌++◌, take, drop, refl, ap, sym, ◌∙◌, subst, arith, true, ⊎_elim, append_assoc, Bool, false, IsTrue, ◌↔◌}
 use Rattle.std.proofs.lemmas.List.{append-nil, length-take-le, take-append-drop}
-use Rattle.std.proofs.lemmas.Bool.{cases_Bool, cond-true, cond-false, le-leb, lt-leb, and_parts}
+use Rattle.std.proofs.lemmas.Bool.{eq-eqb, ne_eqb, true≢false, cases_Bool, cond-true, cond-false, le-leb, lt-leb, and_parts}
 use Rattle.std.proofs.lemmas.Str.{IsUtf8-append, IsUtf8-nil, IsUtf8-take, IsUtf8-drop, chars-append, chars-nil, scalars-chars, encodes-chars, encodes-append, encodes_same, chars_past_char, len_utf8_bounds, IsCharBoundary-at_seam}
 use Rattle.std.specs.Char.{len_utf8}
 use Rattle.std.specs.List.{replace_range}
@@ -9,7 +9,7 @@ use Rattle.std.specs.Str.{IsUtf8, IsCharBoundary}
 use lib.Dec.{leb}
 use lib.Utf8.{encode, encodes, scalar, scalars}
 use Rattle.compact_text.specs.Text.{size, text_of}
-use Rattle.compact_text.specs.Cut.{IsCut, IsBoundary, IsAsciiAt, text_before, text_after, replaced_text, CutIsBeforeAndAfter}
+use Rattle.compact_text.specs.Cut.{IsCut, IsBoundary, IsAsciiAt, is_boundary, text_before, text_after, replaced_text, CutIsBeforeAndAfter}
 use Rattle.compact_text.proofs.TextFacts.{text_facts}
 use Rattle.compact_text.proofs.Texts.{length-utf8, size-text_of, size-append}
 
@@ -182,6 +182,11 @@ text_before-last t front c e =
 -- so it may after an ASCII character
 pub boundary-ascii : (t : List ℕ) (p c : ℕ) → IsBoundary t p → IsAsciiAt t p c → IsBoundary t (p + 1)
 boundary-ascii t p c h a = subst (λ (n : ℕ). IsBoundary t (p + n)) a.width (boundary-next t a.rest p c h a.text)
+
+-- a test of a boundary is `is_boundary`
+pub is_boundary-test : (b : Bool) (t : List ℕ) (p : ℕ) → (IsTrue b ↔ IsBoundary t p) → b ≡ is_boundary t p
+is_boundary-test true t p h = sym (eq-eqb _ _ (size-text_before t p (h.0 refl)))
+is_boundary-test false t p h = sym (ne_eqb _ _ (λ e. true≢false (sym (h.1 (boundary-from_size t p e)))))
 
 -- of the last character
 pub ruleset last_facts = (text_facts, size-last, boundary-last, text_before-last)

@@ -268,3 +268,11 @@ word_bytes-other_last word byte given fits small is =
     ∙ word_bytes-with_last (word % 2 ^ 56) byte (omega arith) small
     ∙ ap (λ (ys : List ℕ). take 7 ys ++ byte ∷ []) spelled
     ∙ ap (λ (ys : List ℕ). ys ++ byte ∷ []) (take_at front (replicate (8 - length front) 0) 7 length_front)
+
+-- three words as one number
+pub three-words : (a b c : ℕ) → a < 2 ^ 64 → b < 2 ^ 64 → c < 2 ^ 64
+    → le_number (word_bytes a ++ word_bytes b ++ word_bytes c) ≡ c * 2 ^ 128 + (b * 2 ^ 64 + a)
+three-words a b c p q r =
+    let two : length (word_bytes a ++ word_bytes b) ≡ 16 = omega (arith, length-append (word_bytes a) (word_bytes b), length-word_bytes a, length-word_bytes b) in
+    le_number-append (word_bytes a ++ word_bytes b) (word_bytes c)
+    ∙ rw (two, le_number-append (word_bytes a) (word_bytes b), length-word_bytes a, le_number-word_bytes a p, le_number-word_bytes b q, le_number-word_bytes c r) refl

@@ -1,5 +1,5 @@
 -- Where a text is cut: between two characters, at a position that is counted in bytes of UTF-8.
-use Rattle.std.specs.Prelude.{◌≡◌, ℕ, ◌-◌, List, [], ◌∷◌, ◌++◌, if◌then◌else◌, nat_le, ◌↔◌}
+use Rattle.std.specs.Prelude.{◌≡◌, ℕ, ◌-◌, List, [], ◌∷◌, ◌++◌, if◌then◌else◌, Bool, nat_eq, nat_le, ◌↔◌}
 use Rattle.std.specs.Char.{len_utf8}
 use Rattle.compact_text.specs.Text.{size}
 
@@ -21,6 +21,10 @@ text_before (c ∷ cs) p = if nat_le (len_utf8 c) p then c ∷ text_before cs (p
 abbrev pub text_after : List ℕ → ℕ → List ℕ
 text_after [] p = []
 text_after (c ∷ cs) p = if nat_le (len_utf8 c) p then text_after cs (p - len_utf8 c) else c ∷ cs
+
+-- the same as a test: what is before p has p bytes
+abbrev pub is_boundary : List ℕ → ℕ → Bool
+is_boundary t p = nat_eq (size (text_before t p)) p
 
 -- t with what stands from one position to another replaced by s
 abbrev pub replaced_text : List ℕ → ℕ → ℕ → List ℕ → List ℕ

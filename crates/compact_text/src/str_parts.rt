@@ -1,8 +1,8 @@
 //! Parts and characters of a borrowed text, by byte position.
-ghost use Rattle.std.specs.Prelude.{◌≡◌, ◌-◌, ◌<◌, ◌≤◌, List, ℕ, [], ◌∷◌, ◌++◌, length, MatchOption};
+ghost use Rattle.std.specs.Prelude.{◌≡◌, ◌-◌, ◌<◌, ◌≤◌, List, ℕ, [], ◌∷◌, ◌++◌, length, MatchOption, IsTrue, ◌↔◌};
 ghost use Rattle.std.specs.Char.{len_utf8};
 ghost use Rattle.compact_text.specs.Text.{text_of};
-ghost use Rattle.compact_text.specs.Cut.{IsBoundary, text_before, text_after, substring, CutIsBeforeAndAfter};
+ghost use Rattle.compact_text.specs.Cut.{IsBoundary, is_boundary, text_before, text_after, substring, CutIsBeforeAndAfter};
 
 /// What stands before a boundary.
 #[inline]
@@ -33,6 +33,15 @@ pub fn substring(text: &str, start: usize, end: usize) -> &str
     ensures len { length result.now ≡ end - start }
 {
     prefix(suffix(text, start), end - start)
+}
+
+/// Whether `index`, in bytes, is a boundary of `text`.
+#[inline]
+pub fn is_boundary(text: &str, index: usize) -> bool
+    ensures boundary { IsTrue result ↔ IsBoundary (text_of text.now) index }
+    ensures value { result ≡ is_boundary (text_of text.now) index }
+{
+    text.is_char_boundary(index)
 }
 
 /// The character that begins at a boundary before the end.

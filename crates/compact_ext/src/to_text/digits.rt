@@ -8,6 +8,7 @@ ghost use Rattle.compact_text.specs.WordBytes.{le_number};
 ghost use Rattle.compact_repr.specs.Packed.{packed_bytes};
 ghost use Rattle.compact_ext.specs.Digits.{two_digits, four_digits, number_behind, number_text};
 
+use compact_text::words::array_of_words;
 use std::marker::Model;
 
 /// The two digits of each number below 100, one after another.
@@ -160,6 +161,7 @@ impl ShortText {
 
     /// Returns the packed form of the text, with its length in the last byte.
     #[inline(always)]
+    #[tactic(auto, using(crate::proofs::Digits::packed_words))]
     fn packed(self, len: usize) -> [u8; 24]
         requires few { len ≤ 23 }
         requires fits { self < 2 ^ 184 }
@@ -168,10 +170,6 @@ impl ShortText {
         let first = (self.low % PAST_WORD) as u64;
         let second = (self.low >> 64) as u64;
         let third = self.high + ((192 + len as u64) << 56);
-        let mut row = [0; 24];
-        row[..8].copy_from_slice(&first.to_le_bytes());
-        row[8..16].copy_from_slice(&second.to_le_bytes());
-        row[16..].copy_from_slice(&third.to_le_bytes());
-        row
+        array_of_words(first, second, third)
     }
 }

@@ -6,7 +6,7 @@ ghost use Rattle.compact_text.specs.Text.{size, utf8, text_of};
 ghost use Rattle.compact_text.specs.Cut.{IsBoundary, text_after, substring};
 ghost use Rattle.compact_repr.specs.Value.{is_static, IsOwned, IsHeap};
 
-use crate::policy::Policy;
+use crate::growth::Policy;
 use crate::repr::{Buffer, Repr};
 use compact_text::str_parts;
 

@@ -8,12 +8,9 @@ ghost use Rattle.compact_repr.specs.Calls.{new, reserve, make_owned, Shrinks};
 use crate::error::ReserveError;
 use crate::heap::HeapBuffer;
 use crate::inline::{INLINE_CAPACITY, InlineBuffer};
-use crate::policy::Policy;
+use crate::growth::{Policy, grown_capacity};
 use crate::repr::{Buffer, Repr};
 use std::alloc::Global;
-
-/// The largest capacity that may be asked for, 2^56 - 2 bytes.
-pub const MAX_CAPACITY: usize = 72057594037927934;
 
 impl<P: Policy> Repr<P> {
     /// Makes room for `additional` more bytes.
@@ -153,29 +150,4 @@ impl<P: Policy> Repr<P> {
         self.buffer = Buffer::Heap(heap);
         Ok(())
     }
-}
-
-/// The capacity of a heap buffer for `needed` bytes where `len` stand; `None` is past `MAX_CAPACITY`.
-fn grown_capacity<P: Policy>(len: usize, needed: usize) -> Option<usize>
-    requires { len < 2 ^ 63 }
-    ensures { let c = max P.growth.least
-        (max needed (P.growth.numerator * len / P.growth.denominator))
-        in result ≡ (if nat_le c max_capacity then Some c else None) }
-{
-    let Some(product) = len.checked_mul(P::NUM) else {
-        return None;
-    };
-    checked_capacity::<P>(needed.max(product / P::DEN))
-}
-
-/// The capacity of a heap buffer for `wanted` bytes, at least that of the policy; `None` is past `MAX_CAPACITY`.
-pub(super) fn checked_capacity<P: Policy>(wanted: usize) -> Option<usize>
-    ensures { let c = max P.growth.least wanted
-        in result ≡ (if nat_le c max_capacity then Some c else None) }
-{
-    let capacity = wanted.max(P::MIN_HEAP);
-    if capacity > MAX_CAPACITY {
-        return None;
-    }
-    Some(capacity)
 }

@@ -3,7 +3,7 @@ ghost use Rattle.std.specs.Prelude.{◌≡◌, nat_eq};
 ghost use Rattle.std.specs.Cmp.Lexicographic.{pointwise, slice_cmp};
 ghost use Rattle.std.specs.Ordering.{nat_cmp};
 
-use crate::policy::Policy;
+use crate::growth::Policy;
 use crate::repr::{Buffer, Repr};
 use std::cmp::Ordering;
 

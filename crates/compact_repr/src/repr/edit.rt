@@ -9,7 +9,7 @@ ghost use Rattle.compact_repr.specs.Calls.{clear, truncate, zeroize, PopsChar};
 ghost use Rattle.compact_text.specs.Retain.{RetainsCharsTo};
 
 use crate::inline::InlineBuffer;
-use crate::policy::Policy;
+use crate::growth::Policy;
 use crate::repr::{Buffer, Repr};
 use crate::static_str::StaticStr;
 use compact_text::str_parts::substring;

@@ -6,7 +6,7 @@ ghost use Rattle.compact_repr.specs.Capacity.{fits_in_place, ReserveAllocates};
 ghost use Rattle.compact_repr.specs.Calls.{push_str, insert_str, replace_range, PushStrAllocates, ReplaceRangeAllocates};
 
 use crate::error::ReserveError;
-use crate::policy::Policy;
+use crate::growth::Policy;
 use crate::repr::Repr;
 
 impl<P: Policy> Repr<P> {

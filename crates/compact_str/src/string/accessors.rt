@@ -128,4 +128,18 @@ impl<P: Policy> PolicyString<P> {
     {
         self.repr.is_heap_allocated()
     }
+
+    /// Whether `index`, in bytes, is a boundary: 0, the length, or where a character begins. If it is, the text may be
+    /// cut there as a `&str`, as by `&value[..index]`.
+    ///
+    /// # Examples
+    ///
+    /// In `"äb"` 0, 2 and 3 are boundaries.
+    #[inline]
+    pub fn is_char_boundary(&self, index: usize) -> bool
+        ensures text { IsTrue result ↔ IsBoundary self.now.text index }
+        ensures bytes { IsTrue result → IsCharBoundary (utf8 self.now.text) index }
+    {
+        self.repr.is_char_boundary(index)
+    }
 }

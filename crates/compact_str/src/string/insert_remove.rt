@@ -9,30 +9,15 @@ ghost use Rattle.compact_str.specs.Room.{HasRoomFor, infallible_capacity};
 ghost use Rattle.compact_repr.specs.Calls.{insert_str, replace_range, ReplaceRangeAllocates};
 ghost use Rattle.compact_str.specs.Edits.{RemovesChar, SplitsOff, SplitAllocates};
 ghost use Rattle.compact_str.specs.Ranges.{IsRange, range_start, range_end};
-ghost use Rattle.compact_str.specs.TotalRanges.{is_boundary};
 ghost use Rattle.compact_repr.specs.Capacity.{ReserveAllocates};
 ghost use Rattle.compact_repr.specs.Value.{IsOwned, IsStatic};
 
 use crate::string::PolicyString;
 use compact_repr::{Policy, Repr, ReserveError};
-use compact_text::str_parts::encode_char;
+use compact_text::str_parts::{encode_char, is_boundary};
 use std::ops::Bound;
 
 impl<P: Policy> PolicyString<P> {
-    /// Whether `index`, in bytes, is a boundary: 0, the length, or where a character begins. If it is, the text may be
-    /// cut there as a `&str`, as by `&value[..index]`.
-    ///
-    /// # Examples
-    ///
-    /// In `"äb"` 0, 2 and 3 are boundaries.
-    #[inline]
-    pub fn is_char_boundary(&self, index: usize) -> bool
-        ensures text { IsTrue result ↔ IsBoundary self.now.text index }
-        ensures bytes { IsTrue result → IsCharBoundary (utf8 self.now.text) index }
-    {
-        self.repr.is_char_boundary(index)
-    }
-
     /// Where a range of the text begins and ends, in bytes; `None` exactly of one that ends before it starts, or of
     /// which an end is no boundary. An excluded start is a byte after the bound, and so is an included end.
     ///
@@ -280,13 +265,4 @@ pub fn byte_range(start: Bound<usize>, end: Bound<usize>, len: usize) -> Option<
         Bound::Unbounded => len,
     };
     Some((first, last))
-}
-
-/// Whether `index`, in bytes, is a boundary of `text`.
-#[inline]
-pub fn is_boundary(text: &str, index: usize) -> bool
-    ensures boundary { IsTrue result ↔ IsBoundary (text_of text.now) index }
-    ensures value { result ≡ is_boundary (text_of text.now) index }
-{
-    text.is_char_boundary(index)
 }

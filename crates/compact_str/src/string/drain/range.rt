@@ -6,9 +6,8 @@ ghost use Rattle.compact_str.specs.TotalRanges.{is_range, range_text, IsAsciiRan
 ghost use Rattle.compact_repr.specs.Value.{IsOwned};
 
 use crate::string::PolicyString;
-use crate::string::insert_remove::is_boundary;
 use compact_repr::Policy;
-use compact_text::str_parts::{first_char, substring};
+use compact_text::str_parts::{first_char, is_boundary, substring};
 
 /// The most bytes of a range that are looked at ahead.
 const MAX_LOOKED_AT: usize = 1024;

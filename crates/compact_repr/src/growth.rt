@@ -1,6 +1,6 @@
 //! How the capacity of a heap buffer grows.
-ghost use Rattle.std.specs.Prelude.{◌≡◌, ℕ};
-ghost use Rattle.compact_repr.specs.Capacity.{Growth, IsLawful, standard_growth};
+ghost use Rattle.std.specs.Prelude.{◌≡◌, ℕ, ◌*◌, ◌/◌, ◌<◌, ◌^◌, max, nat_le, if◌then◌else◌, Some, None};
+ghost use Rattle.compact_repr.specs.Capacity.{Growth, IsLawful, standard_growth, max_capacity};
 
 /// The least capacity of a heap buffer, and the ratio of a growth, `NUM / DEN`.
 ///
@@ -59,3 +59,31 @@ impl Policy for Standard {
 pub fn standard_grows_by_half()
     ensures { ⟦<Standard as Policy>⟧.growth ≡ standard_growth }
 {}
+
+/// The largest capacity that may be asked for, 2^56 - 2 bytes.
+pub const MAX_CAPACITY: usize = 72057594037927934;
+
+/// The capacity of a heap buffer for `needed` bytes where `len` stand; `None` is past `MAX_CAPACITY`.
+pub fn grown_capacity<P: Policy>(len: usize, needed: usize) -> Option<usize>
+    requires { len < 2 ^ 63 }
+    ensures { let c = max P.growth.least
+        (max needed (P.growth.numerator * len / P.growth.denominator))
+        in result ≡ (if nat_le c max_capacity then Some c else None) }
+{
+    let Some(product) = len.checked_mul(P::NUM) else {
+        return None;
+    };
+    checked_capacity::<P>(needed.max(product / P::DEN))
+}
+
+/// The capacity of a heap buffer for `wanted` bytes, at least that of the policy; `None` is past `MAX_CAPACITY`.
+pub fn checked_capacity<P: Policy>(wanted: usize) -> Option<usize>
+    ensures { let c = max P.growth.least wanted
+        in result ≡ (if nat_le c max_capacity then Some c else None) }
+{
+    let capacity = wanted.max(P::MIN_HEAP);
+    if capacity > MAX_CAPACITY {
+        return None;
+    }
+    Some(capacity)
+}

@@ -1,7 +1,7 @@
 use Rattle.std.proofs.Common.{◌<◌, ◌≤◌, sym, arith, ⊎_elim, get_or}
 use Rattle.std.proofs.lemmas.Bool.{cases_lt}
 use Rattle.compact_repr.proofs.PackedTexts.{len-full, len-high}
-use Rattle.compact_repr.proofs.inline.packed.length_of.Goals as goal
+use Rattle.compact_repr.proofs.inline.length.length_of.Goals as goal
 
 pub returns-else-len-lt-INLINE_CAPACITY : goal.returns-else-len-lt-INLINE_CAPACITY
 returns-else-len-lt-INLINE_CAPACITY c =

@@ -2,7 +2,7 @@
 use Rattle.std.proofs.Common.{◌≡◌, max, sym, ap, ◌∙◌, arith}
 use Rattle.std.proofs.lemmas.Bool.{cond-true, le-leb}
 use Rattle.compact_repr.specs.Capacity.{Growth}
-use Rattle.compact_repr.proofs.repr.capacity.checked_capacity.Goals as goal
+use Rattle.compact_repr.proofs.growth.checked_capacity.Goals as goal
 
 pub returns : goal.returns
 returns g c =
