@@ -14,6 +14,6 @@ mod repr;
 mod static_str;
 
 pub use error::ReserveError;
-pub use inline::INLINE_CAPACITY;
 pub use growth::{MAX_CAPACITY, Policy, Standard, standard_grows_by_half};
+pub use inline::INLINE_CAPACITY;
 pub use repr::Repr;

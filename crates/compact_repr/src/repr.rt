@@ -13,9 +13,9 @@ pub mod edit;
 mod edit_slow;
 mod new;
 
+use crate::growth::Policy;
 use crate::heap::HeapBuffer;
 use crate::inline::{INLINE_CAPACITY, InlineBuffer};
-use crate::growth::Policy;
 use crate::static_str::StaticStr;
 use std::alloc::Global;
 use std::marker::{Model, PhantomData};

@@ -6,9 +6,9 @@ ghost use Rattle.compact_repr.specs.Capacity.{fits_in_place, inline_placement, h
 ghost use Rattle.compact_repr.specs.Calls.{new, reserve, make_owned, Shrinks};
 
 use crate::error::ReserveError;
+use crate::growth::{Policy, grown_capacity};
 use crate::heap::HeapBuffer;
 use crate::inline::{INLINE_CAPACITY, InlineBuffer};
-use crate::growth::{Policy, grown_capacity};
 use crate::repr::{Buffer, Repr};
 use std::alloc::Global;
 

@@ -8,8 +8,8 @@ ghost use Rattle.compact_repr.specs.Capacity.{fits_in_place};
 ghost use Rattle.compact_repr.specs.Calls.{clear, truncate, zeroize, PopsChar};
 ghost use Rattle.compact_text.specs.Retain.{RetainsCharsTo};
 
-use crate::inline::InlineBuffer;
 use crate::growth::Policy;
+use crate::inline::InlineBuffer;
 use crate::repr::{Buffer, Repr};
 use crate::static_str::StaticStr;
 use compact_text::str_parts::substring;

@@ -8,9 +8,9 @@ ghost use Rattle.compact_repr.specs.Capacity.{inline_placement, heap_placement, 
 ghost use Rattle.compact_repr.specs.Calls.{new, with_capacity, clone};
 
 use crate::error::ReserveError;
+use crate::growth::{MAX_CAPACITY, Policy, checked_capacity};
 use crate::heap::HeapBuffer;
 use crate::inline::{INLINE_CAPACITY, InlineBuffer};
-use crate::growth::{MAX_CAPACITY, Policy, checked_capacity};
 use crate::repr::{Buffer, Repr};
 use crate::static_str::StaticStr;
 use std::alloc::Global;
