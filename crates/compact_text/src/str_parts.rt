@@ -35,7 +35,7 @@ pub fn substring(text: &str, start: usize, end: usize) -> &str
     prefix(suffix(text, start), end - start)
 }
 
-/// Whether `index`, in bytes, is a boundary of `text`.
+/// Returns `true` if `index`, in bytes, is a boundary of `text`.
 #[inline]
 pub fn is_boundary(text: &str, index: usize) -> bool
     ensures boundary { IsTrue result ↔ IsBoundary (text_of text.now) index }
