@@ -47,7 +47,7 @@ pub trait ToCompactString {
         ensures { IsTextOf ⟦<Standard as Policy>⟧.growth (shown_text self.now)
             (IsShort self.now) result };
 
-    /// Same as [`to_compact_string`](Self::to_compact_string).
+    /// Another name of `to_compact_string`. See [`to_compact_string`](Self::to_compact_string).
     ///
     /// # Errors
     ///

@@ -23,7 +23,7 @@ pub enum WireError {
     /// The text has more than 2^32 - 1 bytes. Nothing was written.
     #[error("text too long for the wire form")]
     TooLong,
-    /// The input ended inside the form, and has been consumed.
+    /// The input ended inside the form. All of it has been consumed.
     #[error("unexpected end of input")]
     UnexpectedEnd,
     /// The text is not valid UTF-8. Exactly its form has been consumed.
@@ -63,7 +63,7 @@ impl From<AllocError> for WireError {
     }
 }
 
-/// A law: a wire form determines its text and where it ends. So forms in sequence are read in one way.
+/// A law: a wire form determines its text and where it ends. So a sequence of forms is read in one way.
 pub fn a_form_tells_its_text()
     ensures { FormTellsText }
 {}

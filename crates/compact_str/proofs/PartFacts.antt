@@ -1,6 +1,6 @@
 -- For crates that call this one: three rulesets.
--- `part_facts`, beside `ForCallers::for_callers`: the text on both sides of a character that was found, or of what `trim`
--- returns, and what a formatter wrote, in bytes.
+-- `part_facts`, beside `ForCallers::for_callers`: the text on both sides of a character that was found, or of what
+-- `trim` returns, and what a formatter wrote, in bytes.
 -- `many_parts`, alone, for a `write!` of up to twelve values: with all of `for_callers` a proof reaches its limit of
 -- instances. Past twelve pieces, values and literals together, `format_args!` nests, hence `append_assoc`.
 -- `words`, without the two: the characters of a literal of any length, and `==` with one.

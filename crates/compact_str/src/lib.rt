@@ -1,9 +1,9 @@
 //! A drop-in replacement for `String`. Up to 24 bytes are stored inline, longer text on the heap, and a `&'static str`
 //! by reference.
 //!
-//! Short strings never allocate. Methods that may allocate return a `Result`, and leave text, place and capacity
-//! unchanged on `Err`. A contract sees the characters of a string, its place and its capacity: the `PlacedText` of
-//! `specs/`.
+//! Short strings never allocate. Methods that may allocate return a `Result`. On `Err` text, place and capacity are
+//! unchanged, but extending keeps the items before the one that failed. A contract sees a string as its characters,
+//! place and capacity: the `PlacedText` of `specs/`.
 #![tactic(auto, using(compact_text::proofs::TextFacts::text_facts))]
 
 mod builder;

@@ -1,8 +1,7 @@
 //! The text of an integer of up to 64 bits: its digits from the end, four or two at a time, and then its sign.
 //!
-//! The text so far is a number whose lowest byte is the first character. A group of `k` characters shifts it by `8 *
-//! k` bits and is added below. So whole words are written: one read soon after bytes were written singly would wait
-//! for them.
+//! The text so far is a number whose lowest byte is the first character. Each group of characters shifts it up and is
+//! added below. So whole words are written, which avoids a store-forwarding stall when they are read.
 ghost use Rattle.std.specs.Prelude.{◌≡◌, ℕ, ◌+◌, ◌*◌, ◌^◌, ◌<◌, ◌≤◌, length};
 ghost use Rattle.std.specs.Fmt.{decimal, sign_text};
 ghost use Rattle.compact_text.specs.WordBytes.{le_number};

@@ -25,7 +25,7 @@ const FIRST_ROOM: usize = 1 << 20;
 ///
 /// # Errors
 ///
-/// - `UnexpectedEnd` if the input ends inside the form. It has been consumed.
+/// - `UnexpectedEnd` if the input ends inside the form. All of it has been consumed.
 /// - `Io` if the reader fails. Part of the form has been consumed.
 /// - `Reserve` if allocation fails, past 24 bytes. Part of the form has been consumed, at least its length.
 /// - `Utf8` if the text is not valid UTF-8. Exactly its form has been consumed.

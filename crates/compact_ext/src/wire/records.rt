@@ -15,13 +15,13 @@ use std::alloc::Global;
 use std::io;
 use std::io::{BufRead, ErrorKind};
 
-// The length of the length.
+// The bytes of the length.
 const HEAD: usize = 4;
 
 /// An iterator over the strings whose wire forms follow each other in a reader, each read like `read_wire`.
 ///
-/// `next` returns `None` at the end of the reader, and `UnexpectedEnd` inside a form. After an error it continues from
-/// where the reader is: after `Utf8` that is the next form.
+/// `next` returns `None` at the end of the reader, or `UnexpectedEnd` if that is inside a form. After an error it
+/// continues from where the reader is: after `Utf8` that is the next form.
 ///
 /// A form that the reader's buffer shows whole is copied once, so reading from a slice or a `BufReader` is faster than
 /// by `read_wire`. If that copy fails, only the length has been consumed.

@@ -15,8 +15,8 @@ use std::io::Write;
 /// # Errors
 ///
 /// - `TooLong` if the text has more than 2^32 - 1 bytes. Nothing was written.
-/// - `Io` if the writer fails, or `WriteZero` if it accepts no bytes. A part of the form has been written, perhaps
-///   nothing and never all.
+/// - `Io` if the writer fails, or `WriteZero` if it accepts no bytes. Less than the form has been written, perhaps
+///   nothing.
 ///
 /// # Examples
 ///

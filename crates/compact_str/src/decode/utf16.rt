@@ -51,7 +51,7 @@ impl PolicyString<Standard> {
         }
     }
 
-    /// Converts UTF-16 units to a string, replacing each unpaired surrogate by U+FFFD. The result is inline up to 24
+    /// Converts UTF-16 units to a string, replacing each unpaired surrogate with U+FFFD. The result is inline up to 24
     /// bytes, else on the heap.
     ///
     /// # Errors
@@ -192,7 +192,7 @@ fn from_bytes(
     }
 }
 
-/// Converts pairs of bytes, replacing what is invalid by U+FFFD.
+/// Converts pairs of bytes, replacing what is invalid with U+FFFD.
 #[tactic(auto, using(compact_text::proofs::TextFacts::text_facts, compact_codec::proofs::ForDecoders::lossy_decoding, crate::proofs::FittedTexts::first_facts))]
 fn from_bytes_lossy(
     alloc: Global,

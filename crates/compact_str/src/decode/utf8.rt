@@ -57,7 +57,7 @@ impl PolicyString<Standard> {
         }
     }
 
-    /// Converts bytes to a string, replacing each invalid sequence by U+FFFD. An invalid sequence is the longest run
+    /// Converts bytes to a string, replacing each invalid sequence with U+FFFD. An invalid sequence is the longest run
     /// of bytes that begins a character, or else one byte. The result is inline up to 24 bytes, else on the heap.
     ///
     /// # Errors

@@ -8,7 +8,7 @@ ghost use Rattle.compact_str.specs.Collect.{OfIterator, OfItems, OfAllItems, Sto
 use crate::iter::AsText;
 use compact_repr::ReserveError;
 
-/// Appends each item of `items` to `line`, as for values that become part of a `String`. Never shrinks the capacity.
+/// Appends each item of `items` to `line`. Never shrinks the capacity.
 ///
 /// # Errors
 ///

@@ -36,8 +36,8 @@ fn collect_pieces<P: Policy, T: Piece, U: IntoIterator<Item = T>>(
 impl<P: Policy> PolicyString<P> {
     /// Concatenates `texts`, like `collect`. The result is inline up to 24 bytes, else on the heap.
     ///
-    /// Ignores `size_hint`. Up to 1024 bytes it allocates once, the exact capacity or the minimum; a longer text
-    /// grows.
+    /// Ignores `size_hint`. Up to 1024 bytes a heap buffer is allocated once, with the exact or the minimum capacity;
+    /// a longer text grows.
     ///
     /// # Errors
     ///
@@ -50,6 +50,7 @@ impl<P: Policy> PolicyString<P> {
     /// assert_eq!(rt; name.as_str(), "café");
     ///
     /// let full = CompactString::from_texts(alloc, ["twelve bytes", "twelve more."])?;
+    /// assert_eq!(rt; full.len(), 24);
     /// assert!(rt; !full.is_heap_allocated());
     /// ```
     pub fn from_texts<T: AsText, U: IntoIterator<Item = T>>(

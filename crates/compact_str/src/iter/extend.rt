@@ -39,8 +39,8 @@ impl<P: Policy> PolicyString<P> {
     ///
     /// # Errors
     ///
-    /// [`ReserveError`] if allocation fails, which is never if all items fit the capacity. The items before the one
-    /// that failed have been appended, and later ones are not consumed; `truncate` at the old length undoes it.
+    /// [`ReserveError`] if allocation fails. The items before the one that failed have been appended, and later ones
+    /// are not consumed; `truncate` at the old length undoes it. Never fails if there is room for all items.
     ///
     /// # Examples
     ///
