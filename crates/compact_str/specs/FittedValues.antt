@@ -1,8 +1,8 @@
 -- Values whose text came in parts.
-use Rattle.std.specs.Prelude.{◌≡◌, ◌<◌, ◌≤◌, ℕ, List, Result, IfOk, OnErr, IsOk, IsTrue}
+use Rattle.std.specs.Prelude.{◌≡◌, ◌<◌, ◌≤◌, ℕ, List, Result, IfOk, OnErr, IsOk}
 use Rattle.compact_repr.specs.Text.{size}
 use Rattle.compact_repr.specs.Value.{heap, PlacedText}
-use Rattle.compact_repr.specs.Capacity.{inline_placement, with_capacity_asks}
+use Rattle.compact_repr.specs.Capacity.{inline_placement, WithCapacityAllocates}
 
 -- v is inline up to 24 bytes, else on the heap with any capacity that holds the text
 pub record IsPlacedBySize (v : PlacedText) : Type 0 where
@@ -14,4 +14,4 @@ pub record MakesText {E : Type 0} (t : List ℕ) (r : Result PlacedText E) : Typ
   pub text : IfOk r (λ v. v.text ≡ t)
   pub fitted : IfOk r IsPlacedBySize
   pub succeeds : size t ≤ 24 → IsOk r
-  pub err : OnErr r (IsTrue (with_capacity_asks (size t)))
+  pub err : OnErr r (WithCapacityAllocates (size t))

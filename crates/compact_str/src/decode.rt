@@ -18,7 +18,7 @@ const REPLACEMENT: &str = "\u{FFFD}";
 /// Appends `text` to a value placed by its size, which stays so. A value that moves to the heap also reserves `more`
 /// bytes, for what the caller knows to follow.
 #[inline]
-#[tactic(auto, using(compact_text::proofs::TextFacts::text_facts, crate::proofs::FittedTexts::fitted_facts))]
+#[tactic(auto, using(crate::proofs::FittedTexts::fitted_facts))]
 fn push_fitted(made: &mut CompactString, text: &str, more: usize) -> Result<(), ReserveError>
     requires { IsPlacedBySize made.old }
     ensures fitted { OnOk result (IsPlacedBySize made.new) }

@@ -174,7 +174,7 @@ fn shown_text(alloc: Global, bytes: &[u8]) -> Result<Option<CompactString>, Rese
 
 /// Copies valid UTF-8: inline up to 24 bytes, else on the heap with the exact capacity. Fails if allocation does.
 #[inline]
-#[tactic(auto, using(compact_text::proofs::TextFacts::text_facts, crate::proofs::WireForms::made_texts))]
+#[tactic(auto, using(crate::proofs::WireForms::made_texts))]
 fn copy_of(alloc: Global, bytes: &[u8]) -> Result<CompactString, ReserveError>
     requires { IsUtf8 bytes.now }
     ensures bytes { IfOk result (λ v. utf8 v.text ≡ bytes.now) }

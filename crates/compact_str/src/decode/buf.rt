@@ -1,11 +1,11 @@
 //! Decoding UTF-8 from a `Buf`.
-ghost use Rattle.std.specs.Prelude.{◌≡◌, ◌<◌, ◌≤◌, ◌++◌, [], length, IfOk, IfErr, OnOk, OnErr, IsOk, IsTrue};
+ghost use Rattle.std.specs.Prelude.{◌≡◌, ◌<◌, ◌≤◌, ◌++◌, [], length, IfOk, IfErr, OnOk, OnErr, IsOk};
 ghost use Rattle.std.specs.Str.{IsUtf8};
 ghost use Rattle.compact_repr.specs.Text.{text_of};
-ghost use Rattle.compact_repr.specs.Capacity.{with_capacity_asks};
 ghost use Rattle.compact_codec.specs.Utf8Text.{BytesEncode};
 ghost use Rattle.compact_str.specs.FittedValues.{IsPlacedBySize};
 ghost use Rattle.compact_str.specs.DecodeErrors.{IsSuffixOf, IsUtf8BufRefusal};
+ghost use Rattle.compact_repr.specs.Capacity.{WithCapacityAllocates};
 
 use crate::decode::error::FromUtf8Error;
 use crate::string::{CompactString, PolicyString};
@@ -32,7 +32,7 @@ impl PolicyString<Standard> {
     /// assert_eq!(rt; name.as_str(), "café");
     /// assert!(rt; !buf.has_remaining());
     /// ```
-    #[tactic(auto, using(compact_text::proofs::TextFacts::text_facts, crate::proofs::FittedTexts::buf_facts))]
+    #[tactic(auto, using(crate::proofs::FittedTexts::buf_facts))]
     pub fn from_utf8_buf<B: Buf>(alloc: Global, buf: &mut B) -> Result<CompactString, FromUtf8Error>
         ensures text { IfOk result (λ v. BytesEncode (B.unread buf.old) v.text) }
         ensures fitted { IfOk result IsPlacedBySize }
@@ -65,7 +65,7 @@ impl PolicyString<Standard> {
     /// # Errors
     ///
     /// [`ReserveError`] if allocation fails, which is never up to 24 bytes. Some bytes may have been consumed.
-    #[tactic(auto, using(compact_text::proofs::TextFacts::text_facts, crate::proofs::FittedTexts::buf_facts))]
+    #[tactic(auto, using(crate::proofs::FittedTexts::buf_facts))]
     pub fn from_utf8_buf_unchecked<B: Buf>(
         alloc: Global,
         buf: &mut B,
@@ -77,7 +77,7 @@ impl PolicyString<Standard> {
         ensures kept { B.kept buf.new ≡ B.kept buf.old }
         ensures succeeds { length (B.unread buf.old) ≤ 24 → IsOk result }
         ensures err { OnErr result
-            (IsTrue (with_capacity_asks (length (B.unread buf.old)))
+            (WithCapacityAllocates (length (B.unread buf.old))
             × IsSuffixOf (B.unread buf.new) (B.unread buf.old)) }
     {
         if buf.remaining() <= INLINE_CAPACITY {

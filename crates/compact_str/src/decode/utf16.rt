@@ -64,7 +64,7 @@ impl PolicyString<Standard> {
     /// let name = CompactString::from_utf16_lossy(alloc, &[0xD834, 0x41])?;
     /// assert_eq!(rt; name.as_str(), "\u{FFFD}A");
     /// ```
-    #[tactic(auto, using(compact_text::proofs::TextFacts::text_facts, compact_codec::proofs::ForDecoders::lossy_decoding, crate::proofs::FittedTexts::decoded_part_facts))]
+    #[tactic(auto, using(compact_codec::proofs::ForDecoders::lossy_decoding, crate::proofs::FittedTexts::decoded_part_facts))]
     pub fn from_utf16_lossy(alloc: Global, units: &[u16]) -> Result<CompactString, ReserveError>
         ensures { MakesText (utf16_lossy_text units.now) result }
     {
@@ -193,7 +193,7 @@ fn from_bytes(
 }
 
 /// Converts pairs of bytes, replacing what is invalid with U+FFFD.
-#[tactic(auto, using(compact_text::proofs::TextFacts::text_facts, compact_codec::proofs::ForDecoders::lossy_decoding, crate::proofs::FittedTexts::first_facts))]
+#[tactic(auto, using(compact_codec::proofs::ForDecoders::lossy_decoding, crate::proofs::FittedTexts::first_facts))]
 fn from_bytes_lossy(
     alloc: Global,
     order: ByteOrder,

@@ -35,7 +35,7 @@ impl PolicyString<Standard> {
     /// assert!(rt; error == Some(FromUtf8Error::Utf8 { valid_up_to: 1, error_len: None }));
     /// ```
     #[inline]
-    #[tactic(auto, using(compact_text::proofs::TextFacts::text_facts, crate::proofs::FittedTexts::strict_facts))]
+    #[tactic(auto, using(crate::proofs::FittedTexts::strict_facts))]
     pub fn from_utf8(alloc: Global, bytes: &[u8]) -> Result<CompactString, FromUtf8Error>
         ensures ok { IfOk result
             (λ v. new ⟦<Standard as Policy>⟧.growth (text_of bytes.now) ≡ Some v) }
@@ -74,7 +74,7 @@ impl PolicyString<Standard> {
     /// assert_eq!(rt; name.as_str(), "\u{FFFD}\u{FFFD}");
     /// ```
     #[inline]
-    #[tactic(auto, using(compact_text::proofs::TextFacts::text_facts, compact_codec::proofs::ForDecoders::lossy_decoding, crate::proofs::FittedTexts::new_facts))]
+    #[tactic(auto, using(compact_codec::proofs::ForDecoders::lossy_decoding, crate::proofs::FittedTexts::new_facts))]
     pub fn from_utf8_lossy(alloc: Global, bytes: &[u8]) -> Result<CompactString, ReserveError>
         ensures { MakesText (utf8_lossy_text bytes.now) result }
     {
@@ -100,7 +100,7 @@ impl PolicyString<Standard> {
 }
 
 /// Converts invalid bytes, chunk by chunk, from their first error on.
-#[tactic(auto, using(compact_text::proofs::TextFacts::text_facts, compact_codec::proofs::ForDecoders::lossy_decoding, crate::proofs::FittedTexts::decoded_part_facts))]
+#[tactic(auto, using(compact_codec::proofs::ForDecoders::lossy_decoding, crate::proofs::FittedTexts::decoded_part_facts))]
 fn from_invalid(
     alloc: Global,
     bytes: &[u8],

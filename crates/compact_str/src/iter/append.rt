@@ -73,7 +73,7 @@ pub fn append_texts<T: AsText, U: IntoIterator<Item = T>>(
 
 /// Reserves first, so that `Err` implies that the capacity was too small.
 #[inline]
-#[tactic(auto, using(compact_text::proofs::TextFacts::text_facts, crate::proofs::EditFacts::string_facts))]
+#[tactic(auto, using(crate::proofs::EditFacts::string_facts))]
 fn append_text(line: &mut String, text: &str) -> Result<(), ReserveError>
     ensures ok { OnOk result
         (text_of (string_bytes line.new) ≡ text_of (string_bytes line.old) ++ text_of text.now) }
