@@ -1,4 +1,4 @@
--- Results of edits by byte position: `none` if they must fail.
+-- Results of edits by byte position, `None` if they fail.
 use Rattle.std.specs.Prelude.{IsTrue, ◌≡◌, ◌≤◌, ℕ, ◌+◌, ◌*◌, Bool, not, ◌&&◌, List, [], ◌∷◌, ◌++◌, Option, Some, None, option_map, nat_eq, zero, suc, if◌then◌else◌, Result, IfOk, IsOk, OnErr}
 use Rattle.std.specs.Char.{len_utf8}
 use Rattle.std.specs.Str.{IsUtf8}
