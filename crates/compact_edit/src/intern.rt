@@ -195,7 +195,7 @@ impl Interner {
     /// let mut names = Interner::new(alloc);
     /// let mut numbers = Vec::new(alloc);
     /// names.intern_all(&["né", "e", "né", ""], &mut numbers)?;
-    /// assert_eq!(rt; numbers.as_slice(), [0, 1, 0, 2]);
+    /// assert_eq!(rt; numbers.as_slice(), [0, 1, 0, 2].as_slice());
     /// assert_eq!(rt; names.name(2), Some(""));
     /// ```
     #[tactic(auto, using(crate::proofs::NameFacts::list_facts))]
