@@ -1,6 +1,6 @@
 //! Conversions of `ReserveError`, other than that from `AllocError`.
 //!
-//! A file of their own, since a contract imports all that its file imports: a program that needs no conversion loads
+//! A separate file, since a contract imports all that its file imports: a program that needs no conversion loads
 //! none of these types.
 ghost use Rattle.std.specs.Prelude.{◌≡◌, alloc_error};
 ghost use Rattle.std.specs.IoError.{error_kind};

@@ -119,7 +119,7 @@ impl HeapBuffer {
         self.bytes.reserve_exact(capacity - self.bytes.len())
     }
 
-    /// Appends `text` if it fits, without allocating. Returns whether it did; otherwise nothing is changed.
+    /// Appends `text` if it fits, without allocating. Returns whether it did; otherwise changes nothing.
     ///
     /// Always inlined, so that a text known to be short calls nothing.
     #[inline(always)]
@@ -156,7 +156,7 @@ impl HeapBuffer {
     }
 
     /// Replaces the bytes from one boundary to another with `text` if the result fits, without allocating. Returns
-    /// whether it did; otherwise nothing is changed.
+    /// whether it did; otherwise changes nothing.
     #[inline(always)]
     pub fn try_replace_range(&mut self, start: usize, end: usize, text: &str) -> bool
         requires order { start ≤ end }
@@ -190,7 +190,7 @@ impl HeapBuffer {
     }
 
     /// Inserts an ASCII character at byte `index`, a boundary, if it fits, without allocating. Returns whether it did;
-    /// otherwise nothing is changed.
+    /// otherwise changes nothing.
     #[inline]
     pub fn try_insert_ascii(&mut self, index: usize, byte: u8) -> bool
         requires ascii { byte < 128 }
@@ -283,7 +283,7 @@ impl HeapBuffer {
         Some(character)
     }
 
-    /// Replaces the whole text with `text` if it fits. Returns whether it did; otherwise nothing is changed. Keeps the
+    /// Replaces the whole text with `text` if it fits. Returns whether it did; otherwise changes nothing. Keeps the
     /// capacity.
     #[inline]
     pub fn try_assign(&mut self, text: &str) -> bool

@@ -86,7 +86,7 @@ impl InlineBuffer {
         unsafe { std::str::from_utf8_unchecked(&self.bytes[..length_of(&self.bytes)]) }
     }
 
-    /// Appends `text` if it fits. Returns whether it did; otherwise nothing is changed.
+    /// Appends `text` if it fits. Returns whether it did; otherwise changes nothing.
     #[inline]
     pub fn try_push_str(&mut self, text: &str) -> bool
         ensures fits { IsTrue result ↔ (size self.old + length text.now ≤ 24) }
@@ -103,7 +103,7 @@ impl InlineBuffer {
     }
 
     /// Replaces the bytes from one boundary to another with `text` if the result fits. Returns whether it did;
-    /// otherwise nothing is changed.
+    /// otherwise changes nothing.
     #[inline(always)]
     pub fn try_replace_range(&mut self, start: usize, end: usize, text: &str) -> bool
         requires order { start ≤ end }
@@ -127,7 +127,7 @@ impl InlineBuffer {
     }
 
     /// Inserts an ASCII character at byte `index`, a boundary, if it fits. Shifts by words. Returns whether it did;
-    /// otherwise nothing is changed.
+    /// otherwise changes nothing.
     #[inline]
     pub fn try_insert_ascii(&mut self, index: usize, byte: u8) -> bool
         requires ascii { byte < 128 }
@@ -202,7 +202,7 @@ impl InlineBuffer {
         Some(character)
     }
 
-    /// Replaces the whole text with `text` if it fits. Returns whether it did; otherwise nothing is changed.
+    /// Replaces the whole text with `text` if it fits. Returns whether it did; otherwise changes nothing.
     #[inline]
     pub fn try_assign(&mut self, text: &str) -> bool
         ensures fits { IsTrue result ↔ (length text.now ≤ 24) }

@@ -14,7 +14,7 @@ use crate::static_str::StaticStr;
 use compact_text::str_parts::substring;
 
 impl<P: Policy> Repr<P> {
-    /// Appends `text` if the value is owned and has room. Returns whether it did; otherwise nothing is changed.
+    /// Appends `text` if the value is owned and has room. Returns whether it did; otherwise changes nothing.
     #[inline(always)]
     pub fn try_push_str(&mut self, text: &str) -> bool
         ensures fits { result ≡ fits_in_place self.old (length text.now) }
@@ -30,7 +30,7 @@ impl<P: Policy> Repr<P> {
     }
 
     /// Replaces the bytes from one boundary to another with `text` if the value is owned and the result fits. Returns
-    /// whether it did; otherwise nothing is changed. Keeps the place and the capacity.
+    /// whether it did; otherwise changes nothing. Keeps the place and the capacity.
     #[inline(always)]
     pub fn try_replace_range(&mut self, start: usize, end: usize, text: &str) -> bool
         requires order { start ≤ end }
@@ -50,8 +50,8 @@ impl<P: Policy> Repr<P> {
         }
     }
 
-    /// Removes the bytes from one boundary to another if the value is owned. Returns whether it did; otherwise nothing
-    /// is changed. Keeps the place and the capacity.
+    /// Removes the bytes from one boundary to another if the value is owned. Returns whether it did; otherwise changes
+    /// nothing. Keeps the place and the capacity.
     #[inline(always)]
     pub fn try_cut_out(&mut self, start: usize, end: usize) -> bool
         requires order { start ≤ end }
@@ -76,7 +76,7 @@ impl<P: Policy> Repr<P> {
     }
 
     /// Inserts an ASCII character at byte `index`, a boundary, if the value is owned and has room. Returns whether it
-    /// did; otherwise nothing is changed.
+    /// did; otherwise changes nothing.
     #[inline]
     pub fn try_insert_ascii(&mut self, index: usize, byte: u8) -> bool
         requires ascii { byte < 128 }
@@ -155,7 +155,7 @@ impl<P: Policy> Repr<P> {
     }
 
     /// Replaces the whole text with `text` if the value is owned and has room, or if `text` is empty. Returns whether
-    /// it did; otherwise nothing is changed. Keeps the place, and the capacity of an owned value.
+    /// it did; otherwise changes nothing. Keeps the place, and the capacity of an owned value.
     #[inline]
     #[tactic(auto, using(compact_text::proofs::TextFacts::text_facts, compact_text::proofs::Texts::empty_facts))]
     pub fn try_assign(&mut self, text: &str) -> bool
