@@ -24,7 +24,7 @@ const BLOCK_LEN: usize = 64;
 /// The most bytes that are validated at a time.
 const MAX_WINDOW_LEN: usize = 8192;
 
-/// Converts the bytes into a text.
+/// Returns the bytes as a `&str`.
 ///
 /// # Errors
 ///

@@ -48,7 +48,7 @@ fn append_short(bytes: &mut Vec<u8>, source: &[u8])
     }
 }
 
-/// Appends `source` to a vector that is owned by the caller.
+/// Appends `source` to a vector that is local to the caller.
 #[inline(always)]
 pub fn append_first(vec: &mut Vec<u8>, source: &[u8])
     requires { vec_len vec.old + length source.now ≤ vec_capacity vec.old }

@@ -63,8 +63,8 @@ fn goes_on(kind: Kind, next: Kind) -> bool
 ///
 /// # Errors
 ///
-/// Returns `Reserve` if allocation fails, and `Full` if all 2^32 - 1 numbers are in use. The texts of the first tokens,
-/// up to some position, are among the names then. Never fails if the text is empty.
+/// Returns `Reserve` if allocation fails, and `Full` if all 2^32 - 1 numbers are in use. Only the texts of the first
+/// tokens, up to some position, are added to the names then. Never fails if the text is empty.
 ///
 /// # Examples
 ///
