@@ -32,8 +32,8 @@ const MAX_WINDOW_LEN: usize = 8192;
 ///
 /// # Examples
 ///
-/// `[0x61, 0xE2, 0x82]` has its error after 1 byte, with an open end: one byte more could make it `a€`. `[0xE1, 0x80,
-/// 0x41]` has its error at its start, with an invalid sequence of 2 bytes.
+/// `[0x61, 0xE2, 0x82]` has its error after 1 byte, with an open end: one byte more could make it `a€`.
+/// `[0xE1, 0x80, 0x41]` has its error at its start, with an invalid sequence of 2 bytes.
 #[inline]
 pub fn validate(bytes: &[u8]) -> Result<&str, Utf8Error>
     ensures { Validates bytes.now result }

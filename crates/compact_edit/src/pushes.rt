@@ -21,8 +21,9 @@ pub struct PushReport<P: Policy> {
 /// Pushes each text onto an empty value, in order. A push that fails changes nothing, and the next one goes on. Only a
 /// push that allocates can fail, so none does if the texts have at most 24 bytes together.
 ///
-/// For a policy that grows by p/q from at least h bytes, and N bytes in the end, `(p - q) * moved` is at most `(p + q)
-/// * N`, and the capacity at most the greater of h and `p * N / q`. Under `Standard`, `moved` is at most five times N.
+/// For a policy that grows by p/q from at least h bytes, and N bytes in the end, `(p - q) * moved` is at most
+/// `(p + q) * N`, and the capacity at most the greater of h and `p * N / q`. Under `Standard`, `moved` is at most five
+/// times N.
 ///
 /// # Examples
 ///

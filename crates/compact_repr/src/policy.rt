@@ -4,8 +4,8 @@ ghost use Rattle.compact_repr.specs.Capacity.{Growth, IsLawful, standard_growth}
 
 /// The least capacity of a heap buffer, and its growth factor, `NUM / DEN`.
 ///
-/// Each implementation proves that `MIN_HEAP` is from 25 to 2^56 - 2, `DEN` is at least 1 and below `NUM`, and `NUM +
-/// DEN` is at most 255.
+/// Each implementation proves that `MIN_HEAP` is from 25 to 2^56 - 2, `DEN` is at least 1 and below `NUM`, and
+/// `NUM + DEN` is at most 255.
 pub trait Policy {
     /// The least capacity of a heap buffer, in bytes.
     const MIN_HEAP: usize;

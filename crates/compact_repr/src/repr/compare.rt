@@ -35,8 +35,8 @@ impl<P: Policy> Repr<P> {
 
 /// Compares two texts by their bytes.
 ///
-/// Tests the first bytes alone at first: the general comparison branches on the lengths, which short texts make hard to
-/// predict. Not inlined: LLVM would turn the comparison of the two bytes into such a branch.
+/// Decides by the first bytes if they differ: the general comparison branches on the lengths, which is hard to predict
+/// for short texts. Not inlined: LLVM would turn the comparison of two bytes into such a branch.
 #[inline(never)]
 #[tactic(auto, using(crate::proofs::ByteOrder::order_facts))]
 fn byte_order(text: &str, other: &str) -> Ordering
