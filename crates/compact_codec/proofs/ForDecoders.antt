@@ -1,5 +1,5 @@
--- For crates that decode a text by these steps. Use it at the decoder, as `#[tactic(auto,
--- using(compact_codec::proofs::ForDecoders::lossy_decoding))]`.
+-- For crates that decode a text by these steps. Use it at the decoder, as
+-- `#[tactic(auto, using(compact_codec::proofs::ForDecoders::lossy_decoding))]`.
 use Rattle.std.proofs.Common.{◌≡◌, ℕ, List, ◌++◌, length, IsUtf8, sym, ap, subst, ◌∙◌, append-nil}
 use Rattle.compact_codec.specs.declared.utf16_bytes.ByteOrder.{ByteOrder}
 use Rattle.compact_codec.specs.Utf8Text.{BytesEncode, utf8_lossy_text}

@@ -41,10 +41,9 @@ const MAX_COUNT: usize = 4294967295;
 ///
 /// ```
 /// let mut names = Interner::new(alloc);
-/// assert_eq!(rt; names.intern("naïve")?, 0);
-/// assert_eq!(rt; names.intern("café")?, 1);
-/// assert_eq!(rt; names.intern("naïve")?, 0);
-/// assert_eq!(rt; names.len(), 2);
+/// let number = names.intern("café")?;
+/// assert_eq!(rt; names.intern("café")?, number);
+/// assert_eq!(rt; names.name(number), Some("café"));
 /// ```
 pub struct Interner {
     names: IndexSet<CompactString>,

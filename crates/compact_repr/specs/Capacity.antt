@@ -35,7 +35,7 @@ heap_placement c = record { place = heap; capacity = c }
 abbrev pub static_placement : List ℕ → Placement
 static_placement t = record { place = static; capacity = size t }
 
--- a heap buffer of c bytes, unless that exceeds the limit
+-- a heap buffer of c bytes; None if that exceeds the limit
 abbrev pub checked_heap_placement : ℕ → Option Placement
 checked_heap_placement c = if nat_le c max_capacity then Some (heap_placement c) else None
 
@@ -74,8 +74,7 @@ reserve_placement g v n =
     else if nat_le (size v.text + n) 24 then Some inline_placement
     else checked_heap_placement (grown_capacity g v n)
 
--- `with_capacity_placement`, `owned_placement` and `reserve_placement` allocate a heap buffer; otherwise they never
--- fail
+-- `with_capacity_placement`, `owned_placement` and `reserve_placement` allocate a heap buffer; if not, they never fail
 abbrev pub with_capacity_asks : ℕ → Bool
 with_capacity_asks c = not (nat_le c 24)
 
