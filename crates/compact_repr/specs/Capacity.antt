@@ -92,7 +92,7 @@ const_new_placement t = if nat_le (size t) 24 then inline_placement else static_
 abbrev pub from_string_placement : List ℕ → ℕ → Placement
 from_string_placement t capacity = if nat_le (size t) 24 then inline_placement else heap_placement capacity
 
--- a clone's placement: a heap text gets a new buffer
+-- a clone's placement: a heap text gets that of a new value
 abbrev pub clone_placement : Growth → PlacedText → Option Placement
 clone_placement g v = if is_heap v.placement.place then new_placement g v.text else Some v.placement
 

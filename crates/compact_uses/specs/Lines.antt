@@ -88,7 +88,7 @@ abbrev pub quoted_line : ℕ → List (List ℕ) → List ℕ
 quoted_line separator [] = []
 quoted_line separator (field ∷ fields) = quoted_field field ++ flat_map (λ other. separator ∷ quoted_field other) fields
 
--- that line reads as the fields, if there is at least one
+-- that line reads as the fields, if there is at least one and the separator is not a quote
 abbrev pub QuotedFieldsReadBack : Type 0
 QuotedFieldsReadBack =
     (separator : ℕ) (fields : List (List ℕ)) → separator ≢ quote → fields ≢ []
