@@ -1,7 +1,7 @@
 //! Callers of the packed form as the writers of tables with rows of a fixed width write them. Each is proved from the
 //! contracts of the calls and the facts for callers alone, with no proof of its own.
 ghost use Rattle.std.specs.Prelude.{◌≡◌, ◌↔◌, ℕ, List, IfSome, IsSome, IsTrue};
-ghost use Rattle.compact_str.specs.Value.{inline};
+ghost use Rattle.compact_str.specs.Value.{inline, IsInline};
 ghost use Rattle.compact_str.specs.Capacity.{inline_placement};
 ghost use Rattle.compact_str.specs.Packed.{IsPackedFor};
 
@@ -13,7 +13,7 @@ use std::alloc::Global;
 pub fn through_a_row(alloc: Global, key: &CompactString) -> Option<CompactString>
     ensures text { IfSome result (λ copy. copy.text ≡ key.now.text) }
     ensures inline { IfSome result (λ copy. copy.placement ≡ inline_placement) }
-    ensures succeeds { key.now.placement.place ≡ inline → IsSome result }
+    ensures succeeds { IsInline key.now → IsSome result }
 {
     let row = key.packed()?;
     CompactString::from_packed(alloc, &row)

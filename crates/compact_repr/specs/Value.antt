@@ -1,5 +1,5 @@
 -- Values: a text with a place and a capacity.
-use Rattle.std.specs.Prelude.{◌≡◌, ℕ, ◌≤◌, Bool, true, false, List}
+use Rattle.std.specs.Prelude.{◌≡◌, ℕ, ◌≤◌, Bool, true, false, IsTrue, List}
 use Rattle.compact_text.specs.Text.{size, IsText}
 
 -- in the value itself, in a heap buffer, or static
@@ -28,6 +28,19 @@ pub record PlacedText : Type 0 where
 
 abbrev pub placed_text : List ℕ → Placement → PlacedText
 placed_text t p = record { text = t; placement = p }
+
+-- the place of a value; an owned value may be edited in place
+abbrev pub IsInline : PlacedText → Type 0
+IsInline v = v.placement.place ≡ inline
+
+abbrev pub IsHeap : PlacedText → Type 0
+IsHeap v = IsTrue (is_heap v.placement.place)
+
+abbrev pub IsStatic : PlacedText → Type 0
+IsStatic v = IsTrue (is_static v.placement.place)
+
+abbrev pub IsOwned : PlacedText → Type 0
+IsOwned v = is_static v.placement.place ≡ false
 
 -- the place with this capacity may hold that many bytes
 abbrev pub IsCapacityOf : Place → ℕ → ℕ → Type 0

@@ -1,10 +1,10 @@
 //! Characters and parts of a representation's text, by byte position.
-ghost use Rattle.std.specs.Prelude.{◌≡◌, ◌-◌, ◌<◌, ◌≤◌, ℕ, List, [], ◌∷◌, ◌++◌, length, true, false, IsTrue, ◌↔◌, IfSome, IsSome, MatchOption};
+ghost use Rattle.std.specs.Prelude.{◌≡◌, ◌-◌, ◌<◌, ◌≤◌, ℕ, List, [], ◌∷◌, ◌++◌, length, true, IsTrue, ◌↔◌, IfSome, IsSome, MatchOption};
 ghost use Rattle.std.specs.Char.{len_utf8};
 ghost use Rattle.std.specs.Str.{IsCharBoundary};
 ghost use Rattle.compact_text.specs.Text.{size, utf8, text_of};
 ghost use Rattle.compact_text.specs.Cut.{IsBoundary, text_after, substring};
-ghost use Rattle.compact_repr.specs.Value.{is_heap, is_static};
+ghost use Rattle.compact_repr.specs.Value.{is_static, IsOwned, IsHeap};
 
 use crate::policy::Policy;
 use crate::repr::{Buffer, Repr};
@@ -15,7 +15,7 @@ impl<P: Policy> Repr<P> {
     /// each turn.
     #[inline(always)]
     pub fn heap_str(&self) -> Option<&str>
-        ensures place { IsSome result ↔ IsTrue (is_heap self.now.placement.place) }
+        ensures place { IsSome result ↔ IsHeap self.now }
         ensures bytes { IfSome result (λ s. s.now ≡ utf8 self.now.text) }
         ensures text { IfSome result (λ s. text_of s.now ≡ self.now.text) }
     {
@@ -70,7 +70,7 @@ impl<P: Policy> Repr<P> {
     #[inline]
     pub fn static_suffix(&self, index: usize) -> Option<&'static str>
         requires { IsBoundary self.now.text index }
-        ensures { MatchOption result (is_static self.now.placement.place ≡ false)
+        ensures { MatchOption result (IsOwned self.now)
             (λ s. (is_static self.now.placement.place ≡ true)
             × (text_of s.now ≡ text_after self.now.text index)) }
     {
