@@ -1,19 +1,25 @@
+<<<<<<< HEAD:crates/compact_repr/src/growth.rt
 //! How the capacity of a heap buffer grows.
 ghost use Rattle.std.specs.Prelude.{◌≡◌, ℕ, ◌*◌, ◌/◌, ◌<◌, ◌^◌, max, nat_le, if◌then◌else◌, Some, None};
 ghost use Rattle.compact_repr.specs.Capacity.{Growth, IsLawful, standard_growth, max_capacity};
+=======
+//! Growth policies.
+ghost use Rattle.std.specs.Prelude.{◌≡◌, ℕ};
+ghost use Rattle.compact_repr.specs.Capacity.{Growth, IsLawful, standard_growth};
+>>>>>>> e76c557278bb68489dd1388a5e03d0b47f9bca07:crates/compact_repr/src/policy.rt
 
-/// The least capacity of a heap buffer, and the ratio of a growth, `NUM / DEN`.
+/// The least capacity of a heap buffer, and its growth factor, `NUM / DEN`.
 ///
-/// Each implementation proves the law: `MIN_HEAP` is from 25 to 2^56 - 2, `DEN` is at least 1 and below `NUM`, and
+/// Each implementation proves that `MIN_HEAP` is from 25 to 2^56 - 2, `DEN` is at least 1 and below `NUM`, and
 /// `NUM + DEN` is at most 255.
 pub trait Policy {
     /// The least capacity of a heap buffer, in bytes.
     const MIN_HEAP: usize;
 
-    /// The numerator of the growth.
+    /// The numerator of the growth factor.
     const NUM: usize;
 
-    /// The denominator of the growth.
+    /// The denominator of the growth factor.
     const DEN: usize;
 
     ghost MIN_HEAP: { ℕ };
@@ -29,7 +35,7 @@ pub trait Policy {
     ghost lawful: { IsLawful growth };
 }
 
-/// The policy of `CompactString`: at least 32 bytes, and half as much again at each growth.
+/// The policy of `CompactString`: at least 32 bytes, and a growth factor of 1.5.
 pub struct Standard;
 
 impl Policy for Standard {
@@ -55,7 +61,7 @@ impl Policy for Standard {
     ghost lawful = { IsLawful-test _ refl };
 }
 
-/// A law, and the function does nothing: a heap buffer of `Standard` has at least 32 bytes, and grows by half.
+/// A law; the function does nothing. `Standard` allocates at least 32 bytes, and grows by half.
 pub fn standard_grows_by_half()
     ensures { ⟦<Standard as Policy>⟧.growth ≡ standard_growth }
 {}
