@@ -254,7 +254,7 @@ pub fn short_words(alloc: Global, count: usize) -> Result<Vec<String>, ReserveEr
 /// The number of words to intern.
 pub const INTERNED_WORDS: u32 = 20_000;
 
-/// The number of draws that give as many distinct words.
+/// The number of draws for that many distinct words.
 const DRAWN_WORDS: u32 = 40_000;
 
 /// Words of 1 to 30 letters, some of which are the same.

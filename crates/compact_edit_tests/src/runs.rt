@@ -122,7 +122,7 @@ fn an_edit_with_no_room_for_its_reply_is_not_run(rt: HostRuntime) {
     assert_all(rt, &replies, 4, "done");
 }
 
-/// An empty run needs no room.
+/// An empty list needs no room.
 #[test]
 fn a_run_with_no_room_for_replies_runs_nothing(rt: HostRuntime) {
     let rt = &rt;
