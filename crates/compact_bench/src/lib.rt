@@ -3,7 +3,7 @@
 //!
 //! Each function makes its inputs, does `n` operations and returns a checksum, or `u64::MAX` if allocation fails.
 //! Those from `cs_bench_grow_push_build` on also take the size of a text, in bytes or words. Nothing is kept between
-//! calls, except by `cs_bench_hold_words`, which measures the memory it keeps.
+//! calls, except by `cs_bench_hold_words`, whose memory is measured.
 #![tactic(auto)]
 
 mod checksum;

@@ -40,7 +40,7 @@ fn assert_refused_within(rt: &impl Abort, alloc: Global, left: usize, given: usi
 }
 
 // The sizes were found by trial with the C library's allocator: one buffer succeeds from 2 megabytes on, two from 6
-// and three from 10, since it takes more than it is asked and keeps a buffer until its bytes are moved.
+// and three from 10, since it takes more than requested and keeps a buffer until its bytes are moved.
 
 #[test]
 fn the_second_room_is_refused(rt: HostRuntime) {

@@ -24,7 +24,7 @@ number-no-digits len v most all none = grind (arith, nat_tests)
 own : IsNumeralModel (λ ds. list_all is_ascii_digit ds ≡ true) (digits_value 10)
 own = numerals_by_value _ (search rules)
 
--- digits that parse are a number; other digits are none
+-- digits are a number just if they parse
 pub number-parsed : {E : Type 0} (word : List ℕ) (r : Result ℕ E) → ParsesUnsigned 64 10 word r → list_all is_ascii_digit word ≡ true
     → result_ok r ≡ number_of word
 number-parsed {E} word (Ok n) h are =

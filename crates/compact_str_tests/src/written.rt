@@ -1,4 +1,4 @@
-//! What `write!`, `writeln!`, `write` and `writeln` append, and what they leave on `Err`.
+//! `write!`, `writeln!`, `write` and `writeln`: the text appended, and the value on `Err`.
 
 use crate::asserts::{assert_equal, assert_heap, assert_inline, assert_that};
 use compact_str::{CompactString, ReserveError};

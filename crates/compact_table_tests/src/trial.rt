@@ -173,7 +173,7 @@ impl Trial {
         self.is_answered(&answer, case.answer);
     }
 
-    /// Expects a shrink without memory to leave the value unchanged, and to shrink it once its allocation is granted.
+    /// Expects a shrink to succeed without memory, changing nothing, and to shrink once its allocation is granted.
     fn shrinks(&mut self, case: &Case<'_>, start: Start<'_>, by: By<'_, '_>) {
         if let Some(mut value) = self.start(start) {
             self.replies(case, by, &mut value);

@@ -18,7 +18,7 @@ pub enum Stop {
     Ends(usize),
 }
 
-/// Returns the result of a call that stops.
+/// Returns the result of a call if it stops.
 fn stopped(stop: Stop, call: usize) -> Option<io::Result<usize>> {
     match stop {
         Stop::Fails(at, kind) if at == call => Some(Err(io::Error::from(kind))),

@@ -1,4 +1,4 @@
-//! What a test sees of a value, by functions without clauses.
+//! Checks of a value, by functions without clauses.
 //!
 //! All but `hash_of` return a `bool`: comparing two records takes longer to prove.
 
