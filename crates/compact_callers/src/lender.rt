@@ -5,7 +5,7 @@
 ghost use Rattle.std.specs.Prelude.{◌≡◌, ◌<◌, [], true, false, Ok, IfOk, OnOk, OnErr, IfSome, IfNone};
 ghost use Rattle.std.specs.Borrow.{sem, RestsIfErr};
 ghost use Rattle.compact_str.specs.Text.{text_of, size};
-ghost use Rattle.compact_str.specs.Change.{clear};
+ghost use Rattle.compact_str.specs.Calls.{clear};
 ghost use Rattle.compact_str.specs.contracts.string.PolicyString.{the_row};
 
 use compact_str::{CompactString, Policy, PolicyString};

@@ -1,9 +1,9 @@
 //! Values converted to `String` and bytes, and made from JSON.
-ghost use Rattle.std.specs.Prelude.{◌≡◌, ◌++◌, IfOk, IfErr, IfSome, IsOk, IsTrue, string_bytes};
+ghost use Rattle.std.specs.Prelude.{◌≡◌, ◌++◌, IfOk, IfErr, IfSome, IsOk, string_bytes};
 ghost use Rattle.serde_json.specs.View.{view as json_view};
 ghost use Rattle.serde_json.specs.Data.{string as json_string};
 ghost use Rattle.compact_str.specs.Text.{text_of, utf8};
-ghost use Rattle.compact_str.specs.Value.{is_heap};
+ghost use Rattle.compact_str.specs.Value.{IsHeap};
 
 use compact_str::{CompactString, FromJsonError, Refused, ReserveError};
 use serde_json::Value;
@@ -26,7 +26,7 @@ pub fn finished_line(alloc: Global, first: &str, second: &str) -> Result<String,
 pub fn bytes_of_line(line: CompactString) -> Result<Vec<u8>, Refused<CompactString>>
     ensures text { IfOk result (λ v. text_of v.items ≡ line.text) }
     ensures stays { IfErr result (λ back. back.value ≡ line) }
-    ensures succeeds { IsTrue (is_heap line.placement.place) → IsOk result }
+    ensures succeeds { IsHeap line → IsOk result }
 {
     line.into_vec()
 }

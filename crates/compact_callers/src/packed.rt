@@ -1,6 +1,6 @@
 //! The packed form in tables of fixed-width rows.
 ghost use Rattle.std.specs.Prelude.{◌≡◌, ◌↔◌, ℕ, List, IfSome, IsSome, IsTrue};
-ghost use Rattle.compact_str.specs.Value.{inline};
+ghost use Rattle.compact_str.specs.Value.{inline, IsInline};
 ghost use Rattle.compact_str.specs.Capacity.{inline_placement};
 ghost use Rattle.compact_str.specs.Packed.{IsPackedFor};
 
@@ -12,7 +12,7 @@ use std::alloc::Global;
 pub fn through_a_row(alloc: Global, key: &CompactString) -> Option<CompactString>
     ensures text { IfSome result (λ copy. copy.text ≡ key.now.text) }
     ensures inline { IfSome result (λ copy. copy.placement ≡ inline_placement) }
-    ensures succeeds { key.now.placement.place ≡ inline → IsSome result }
+    ensures succeeds { IsInline key.now → IsSome result }
 {
     let row = key.packed()?;
     CompactString::from_packed(alloc, &row)

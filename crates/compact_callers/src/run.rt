@@ -3,7 +3,7 @@ ghost use Rattle.std.specs.Prelude.{◌≡◌, ◌⊎◌, ◌+◌, [], Some, vec
 ghost use Rattle.std.specs.Bool.{OnTrue};
 ghost use Rattle.compact_str.specs.Text.{text_of};
 ghost use Rattle.compact_str.specs.Capacity.{Growth, IsLawful};
-ghost use Rattle.compact_str.specs.Change.{clear, push_str};
+ghost use Rattle.compact_str.specs.Calls.{clear, push_str};
 
 use compact_edit::{Edit, Reply, run};
 use compact_str::{CompactString, Policy, PolicyString, ReserveError};

@@ -6,7 +6,7 @@ use Rattle.compact_str.proofs.ForCallers.{size-append}
 use Rattle.compact_str.specs.Text.{size}
 use Rattle.compact_str.specs.Value.{Place, inline, heap, static, is_static, IsSound, Placement, PlacedText}
 use Rattle.compact_str.specs.Capacity.{Growth, IsLawful, max_capacity, inline_placement, heap_placement, grown_capacity}
-use Rattle.compact_str.specs.Change.{push_str}
+use Rattle.compact_str.specs.Calls.{push_str}
 use Rattle.compact_edit.specs.Pushes.{same_place, bytes_moved_by_step}
 
 -- what holds once m bytes were moved for a text of l bytes

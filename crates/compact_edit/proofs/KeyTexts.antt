@@ -11,7 +11,7 @@ use Rattle.std.specs.Str.{IsUtf8, bytes_eq}
 use Rattle.indexmap.specs.IndexSet.{insert_key}
 use Rattle.compact_str.specs.Text.{size, text_of, utf8}
 use Rattle.compact_str.specs.Value.{PlacedText}
-use Rattle.compact_str.specs.Capacity.{with_capacity_asks}
+use Rattle.compact_str.specs.Capacity.{with_capacity_allocates}
 use Rattle.compact_str.specs.Order.{text_in, same_text}
 use Rattle.compact_str.proofs.ForCallers.{size-text_of, utf8-text_of, texts-from_same}
 use Rattle.compact_str.proofs.TextBytes.{utf8-same}
@@ -118,5 +118,5 @@ known-text keys t distinct there =
     ∙ sym (distinct_texts-push (texts keys) t)
 
 -- a text whose copy asked for a heap buffer has more than 24 bytes
-pub asked-long : (bytes : List ℕ) → IsUtf8 bytes → IsTrue (with_capacity_asks (length bytes)) → 24 < size (text_of bytes)
+pub asked-long : (bytes : List ℕ) → IsUtf8 bytes → IsTrue (with_capacity_allocates (length bytes)) → 24 < size (text_of bytes)
 asked-long bytes is_text asked = grind (arith, common_steps, size-text_of)

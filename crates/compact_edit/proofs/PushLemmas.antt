@@ -9,7 +9,7 @@ use Rattle.std.proofs.lemmas.Grind.{common_steps}
 use Rattle.compact_str.specs.Text.{size, text_of}
 use Rattle.compact_str.specs.Value.{PlacedText, placed_text}
 use Rattle.compact_str.specs.Capacity.{Growth, IsLawful, inline_placement}
-use Rattle.compact_str.specs.Change.{push_str, push_str_asks}
+use Rattle.compact_str.specs.Calls.{push_str, push_str_allocates}
 use Rattle.compact_str.specs.declared.ReserveError.{ReserveError}
 use Rattle.compact_edit.specs.declared.edit.Edit.{Edit}
 use Rattle.compact_edit.specs.declared.edit.Edit.TheVariants.{PushStr}
@@ -60,7 +60,7 @@ pushes-done P g texts i d v w b m n k l within runs step bytes more count =
     rw (take_more texts i d within) (pushes-append P g (take i texts) (get_or texts i d) v w m n k l Done runs (tt, (refl, step)) (omega (arith, bytes, more)) (omega (arith, count)))
 
 pub pushes-refused : (P : Type 0) (g : Growth) (texts : List (Bor (List ℕ))) (i : ℕ) (d : Bor (List ℕ)) (v w : PlacedText) (m n k l : ℕ) (e : ReserveError) → i < length texts
-    → PushesTo P g (take i texts) v m k → (w ≡ v) × IsTrue (push_str_asks v (text_of (get_or texts i d).now)) → n ≡ m → l ≡ k + 1 → PushesTo P g (take (i + 1) texts) w n l
+    → PushesTo P g (take i texts) v m k → (w ≡ v) × IsTrue (push_str_allocates v (text_of (get_or texts i d).now)) → n ≡ m → l ≡ k + 1 → PushesTo P g (take (i + 1) texts) w n l
 pushes-refused P g texts i d v w m n k l e within runs step bytes count =
     let same : w.placement ≡ v.placement = ap (λ (x : PlacedText). x.placement) step.0 in
     rw (take_more texts i d within)
@@ -94,7 +94,7 @@ run-text g v (t ∷ ts) (Refused e ∷ rs) w run none = absurd (omega (arith, no
 pub pushes-text : {P : Type 0} (g : Growth) (texts : List (Bor (List ℕ))) (w : PlacedText) (m k : ℕ) → PushesTo P g texts w m k → k ≡ 0 → w.text ≡ texts_of texts
 pushes-text g texts w m k runs none = run-text g (placed_text [] inline_placement) texts runs.0 w runs.1 (sym runs.3 ∙ none)
 
-refused-long : (v : PlacedText) (s : List ℕ) → IsTrue (push_str_asks v s) → 24 < size v.text + size s
+refused-long : (v : PlacedText) (s : List ℕ) → IsTrue (push_str_allocates v s) → 24 < size v.text + size s
 refused-long v s asks = grind (arith, common_steps)
 
 -- texts of at most 24 bytes together stay in the value itself, so that none is refused

@@ -7,8 +7,8 @@ use Rattle.compact_str.specs.declared.ReserveError.{ReserveError}
 use Rattle.compact_str.specs.Text.{text_of, size}
 use Rattle.compact_str.specs.Cut.{IsBoundary}
 use Rattle.compact_str.specs.Value.{PlacedText}
-use Rattle.compact_str.specs.Capacity.{Growth, reserve_asks}
-use Rattle.compact_str.specs.Change.{insert_str}
+use Rattle.compact_str.specs.Capacity.{Growth, reserve_allocates}
+use Rattle.compact_str.specs.Calls.{insert_str}
 use Rattle.compact_edit.specs.declared.edit.Edit.{Edit}
 use Rattle.compact_edit.specs.declared.edit.Edit.TheVariants.{InsertStr}
 use Rattle.compact_edit.specs.declared.edit.Reply.{Reply}
@@ -34,7 +34,7 @@ RunsTo-take_more g v edits i edit before after u w reply h is runs step =
 -- an insertion at a boundary is a step
 pub Step-insert_str : {P T : Type 0} (g : Growth) (v w : PlacedText) (p : ℕ) (s : Bor (List ℕ)) (r : Result T ReserveError)
     (reply : Reply P) → IsBoundary v.text p → OnOk r (insert_str g v p (text_of s.now) ≡ Some w)
-    → OnErr r ((w ≡ v) × IsTrue (reserve_asks v (size (text_of s.now))))
+    → OnErr r ((w ≡ v) × IsTrue (reserve_allocates v (size (text_of s.now))))
     → MatchResult r (λ _. reply ≡ Done) (λ e. reply ≡ Refused e) → Step g v (InsertStr p s) reply w
 Step-insert_str g v w p s (Ok x) reply legal ok err is = rw is (legal, (refl, ok))
 Step-insert_str g v w p s (Err e) reply legal ok err is = rw is (err.0, legal, err.1)

@@ -1,14 +1,14 @@
 -- What one edit does to a value, and what it answers.
-use Rattle.std.specs.Prelude.{◌≡◌, ℕ, ◌<◌, Bool, ◌||◌, false, Option, Some, IsTrue, [], ◌∷◌}
+use Rattle.std.specs.Prelude.{IsTrue, ◌≡◌, ℕ, ◌<◌, Bool, ◌||◌, false, Option, Some, [], ◌∷◌}
 use Rattle.std.specs.Char.{len_utf8}
 use Rattle.compact_str.specs.Text.{text_of, size}
 use Rattle.compact_str.specs.Cut.{IsBoundary, substring}
 use Rattle.compact_str.specs.Value.{PlacedText}
-use Rattle.compact_str.specs.Capacity.{Growth, with_capacity_asks, reserve_asks, make_owned_asks}
-use Rattle.compact_str.specs.Change.{new, push_str, push_str_asks, clear, reserve, truncate, Shrinks, insert_str, replace_range, replace_range_asks, make_ascii_lowercase, make_ascii_uppercase, retain, zeroize}
+use Rattle.compact_str.specs.Capacity.{Growth, with_capacity_allocates, reserve_allocates, make_owned_allocates}
+use Rattle.compact_str.specs.Calls.{new, push_str, push_str_allocates, clear, reserve, truncate, Shrinks, insert_str, replace_range, replace_range_allocates, make_ascii_lowercase, make_ascii_uppercase, retain, zeroize}
 use Rattle.compact_str.specs.RetainRules.{retained_text, answer_rule}
-use Rattle.compact_str.specs.Clones.{clone_from, clone_from_asks}
-use Rattle.compact_str.specs.Edits.{Removes, PopsChar, SplitsOff, split_asks, repeat, repeat_asks}
+use Rattle.compact_str.specs.Clones.{clone_from, clone_from_allocates}
+use Rattle.compact_str.specs.Edits.{Removes, SplitsOff, split_allocates, repeat, repeat_allocates}
 use Rattle.compact_str.specs.Ranges.{IsRange, range_start, range_end}
 use Rattle.compact_edit.specs.declared.edit.Edit.{Edit}
 use Rattle.compact_edit.specs.declared.edit.Edit.TheVariants.{Push, PushStr, Pop, Insert, InsertStr, Remove, Truncate, Clear, SplitOff, ReplaceRange, Drain, Retain, Reserve, ShrinkTo, ShrinkToFit, MakeLower, MakeUpper, Zeroize, Repeat, CloneFrom}
@@ -39,27 +39,30 @@ IsLegal v (Repeat n) = Unit {0}
 IsLegal v (CloneFrom source) = Unit {0}
 
 -- the edit asks for a heap buffer, so that it may be refused
-abbrev pub edit_asks : {P : Type 0} → PlacedText → Edit P → Bool
-edit_asks v (Push c) = push_str_asks v (c ∷ [])
-edit_asks v (PushStr s) = push_str_asks v (text_of s.now)
-edit_asks v Pop = false
-edit_asks v (Insert p c) = reserve_asks v (len_utf8 c)
-edit_asks v (InsertStr p s) = reserve_asks v (size (text_of s.now))
-edit_asks v (Remove p) = make_owned_asks v
-edit_asks v (Truncate n) = false
-edit_asks v Clear = false
-edit_asks v (SplitOff p) = split_asks v p
-edit_asks v (ReplaceRange start end s) = replace_range_asks v (range_start start) (range_end v.text end) (text_of s.now)
-edit_asks v (Drain start end) = with_capacity_asks (size (substring v.text (range_start start) (range_end v.text end))) || make_owned_asks v
-edit_asks v (Retain answers) = make_owned_asks v
-edit_asks v (Reserve n) = reserve_asks v n
-edit_asks v (ShrinkTo n) = false
-edit_asks v ShrinkToFit = false
-edit_asks v MakeLower = make_owned_asks v
-edit_asks v MakeUpper = make_owned_asks v
-edit_asks v Zeroize = false
-edit_asks v (Repeat n) = repeat_asks v n
-edit_asks v (CloneFrom source) = clone_from_asks v source.now
+abbrev pub edit_allocates : {P : Type 0} → PlacedText → Edit P → Bool
+edit_allocates v (Push c) = push_str_allocates v (c ∷ [])
+edit_allocates v (PushStr s) = push_str_allocates v (text_of s.now)
+edit_allocates v Pop = false
+edit_allocates v (Insert p c) = reserve_allocates v (len_utf8 c)
+edit_allocates v (InsertStr p s) = reserve_allocates v (size (text_of s.now))
+edit_allocates v (Remove p) = make_owned_allocates v
+edit_allocates v (Truncate n) = false
+edit_allocates v Clear = false
+edit_allocates v (SplitOff p) = split_allocates v p
+edit_allocates v (ReplaceRange start end s) = replace_range_allocates v (range_start start) (range_end v.text end) (text_of s.now)
+edit_allocates v (Drain start end) = with_capacity_allocates (size (substring v.text (range_start start) (range_end v.text end))) || make_owned_allocates v
+edit_allocates v (Retain answers) = make_owned_allocates v
+edit_allocates v (Reserve n) = reserve_allocates v n
+edit_allocates v (ShrinkTo n) = false
+edit_allocates v ShrinkToFit = false
+edit_allocates v MakeLower = make_owned_allocates v
+edit_allocates v MakeUpper = make_owned_allocates v
+edit_allocates v Zeroize = false
+edit_allocates v (Repeat n) = repeat_allocates v n
+edit_allocates v (CloneFrom source) = clone_from_allocates v source.now
+
+abbrev pub EditAllocates : {P : Type 0} → PlacedText → Edit P → Type 0
+EditAllocates v edit = IsTrue (edit_allocates v edit)
 
 -- what the edit answers and leaves where it is done
 abbrev pub EditDoes : {P : Type 0} → Growth → PlacedText → Edit P → Reply P → PlacedText → Type 0
@@ -90,7 +93,7 @@ EditDoes g v (CloneFrom source) reply w = (reply ≡ Done) × (clone_from g v so
 -- from v the edit may get this reply and leave w
 abbrev pub Step : {P : Type 0} → Growth → PlacedText → Edit P → Reply P → PlacedText → Type 0
 Step g v edit BadPosition w = (w ≡ v) × ¬ (IsLegal v edit)
-Step g v edit (Refused e) w = (w ≡ v) × IsLegal v edit × IsTrue (edit_asks v edit)
+Step g v edit (Refused e) w = (w ≡ v) × IsLegal v edit × EditAllocates v edit
 Step g v edit Done w = IsLegal v edit × EditDoes g v edit Done w
 Step g v edit (Char c) w = IsLegal v edit × EditDoes g v edit (Char c) w
 Step g v edit (Text t) w = IsLegal v edit × EditDoes g v edit (Text t) w

@@ -1,7 +1,7 @@
 //! Texts that are pushed one after another, with a count of the bytes that this moves.
-ghost use Rattle.std.specs.Prelude.{◌≡◌, ◌+◌, ◌-◌, ◌*◌, ◌/◌, ◌≤◌, flat_map, Some, IsTrue, max, IfOk, OnErr};
+ghost use Rattle.std.specs.Prelude.{◌≡◌, ◌+◌, ◌-◌, ◌*◌, ◌/◌, ◌≤◌, flat_map, Some, max, IfOk, OnErr};
 ghost use Rattle.compact_str.specs.Text.{size, text_of};
-ghost use Rattle.compact_str.specs.Change.{push_str, push_str_asks};
+ghost use Rattle.compact_str.specs.Calls.{push_str, PushStrAllocates};
 ghost use Rattle.compact_edit.specs.Pushes.{PushesTo, bytes_moved_by_step};
 
 use compact_str::{Policy, PolicyString, ReserveError};
@@ -64,7 +64,7 @@ fn push_counted<P: Policy>(value: &mut PolicyString<P>, text: &str) -> Result<u6
         (λ bytes. push_str P.growth value.old (text_of text.now) ≡ Some value.new) }
     ensures bytes { IfOk result (λ bytes. bytes ≡ bytes_moved_by_step value.old value.new) }
     ensures err { OnErr result
-        ((value.new ≡ value.old) × IsTrue (push_str_asks value.old (text_of text.now))) }
+        ((value.new ≡ value.old) × PushStrAllocates value.old (text_of text.now)) }
 {
     let len = value.len();
     let capacity = value.capacity();

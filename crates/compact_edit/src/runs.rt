@@ -1,13 +1,13 @@
 //! How edits are run.
-ghost use Rattle.std.specs.Prelude.{◌≡◌, ◌+◌, ◌≤◌, [], length, drop, Some, vec_len, vec_capacity, IfOk, OnOk, OnErr, IsOk, IsTrue, MatchResult};
+ghost use Rattle.std.specs.Prelude.{◌≡◌, ◌+◌, ◌≤◌, [], length, drop, Some, vec_len, vec_capacity, IfOk, OnOk, OnErr, IsOk, MatchResult};
 ghost use Rattle.compact_str.specs.Text.{size};
 ghost use Rattle.compact_str.specs.Cut.{substring};
-ghost use Rattle.compact_str.specs.Capacity.{with_capacity_asks, make_owned_asks};
-ghost use Rattle.compact_str.specs.Change.{new, replace_range, retain};
+ghost use Rattle.compact_str.specs.Calls.{new, replace_range, retain};
 ghost use Rattle.compact_str.specs.RetainRules.{retained_text, answer_rule, next_answer};
 ghost use Rattle.compact_str.specs.Ranges.{IsRange, range_start, range_end};
 ghost use Rattle.compact_edit.specs.Steps.{Step};
 ghost use Rattle.compact_edit.specs.Runs.{RunsTo};
+ghost use Rattle.compact_str.specs.Capacity.{WithCapacityAllocates, MakeOwnedAllocates};
 
 use crate::edit::{Edit, Reply};
 use compact_str::{Policy, PolicyString, ReserveError};
@@ -182,8 +182,8 @@ fn copy_of_range<P: Policy>(
         (λ v. new P.growth (substring value.now.text (range_start start)
         (range_end value.now.text end)) ≡ Some v) }
     ensures err { OnErr result
-        (IsTrue (with_capacity_asks
-        (size (substring value.now.text (range_start start) (range_end value.now.text end))))) }
+        (WithCapacityAllocates
+        (size (substring value.now.text (range_start start) (range_end value.now.text end)))) }
 {
     PolicyString::new(value.allocator(), value.range(start, end))
 }
@@ -198,7 +198,7 @@ fn take_out<P: Policy>(
     ensures ok { OnOk result
         (replace_range P.growth value.old (range_start start) (range_end value.old.text end) []
         ≡ Some value.new) }
-    ensures err { OnErr result ((value.new ≡ value.old) × IsTrue (make_owned_asks value.old)) }
+    ensures err { OnErr result ((value.new ≡ value.old) × MakeOwnedAllocates value.old) }
 {
     drop(value.drain(start, end)?);
     Ok(())
@@ -209,7 +209,7 @@ fn retain<P: Policy>(value: &mut PolicyString<P>, answers: &[bool]) -> Result<()
     ensures ok { OnOk result
         (retain P.growth value.old (retained_text answer_rule answers.now value.old.text)
         ≡ Some value.new) }
-    ensures err { OnErr result ((value.new ≡ value.old) × IsTrue (make_owned_asks value.old)) }
+    ensures err { OnErr result ((value.new ≡ value.old) × MakeOwnedAllocates value.old) }
 {
     let mut rest = answers;
     value.retain(|_| {

@@ -4,7 +4,7 @@ use Rattle.std.specs.Prelude.{codes}
 use Rattle.std.specs.Fmt.{decimal, signed_decimal, digits}
 use Rattle.compact_str.specs.Value.{placed_text}
 use Rattle.compact_str.specs.Capacity.{Growth, inline_placement, heap_placement}
-use Rattle.compact_str.specs.Change.{new}
+use Rattle.compact_str.specs.Calls.{new}
 use Rattle.compact_text.specs.WordBytes.{le_number}
 use Rattle.compact_ext.specs.Digits.{two_digits, four_digits, number_behind, number_text}
 use Rattle.compact_ext.specs.Shown.{bool_text}

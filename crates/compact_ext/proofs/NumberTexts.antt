@@ -11,7 +11,7 @@ use Rattle.compact_text.proofs.Texts.{size-text_of}
 use Rattle.compact_repr.proofs.PackedTexts.{stands-packed}
 use Rattle.compact_str.specs.Value.{placed_text}
 use Rattle.compact_str.specs.Capacity.{Growth, inline_placement}
-use Rattle.compact_str.specs.Change.{new}
+use Rattle.compact_str.specs.Calls.{new}
 use Rattle.compact_ext.specs.Digits.{number_text}
 
 pub IsAscii-number : (s : Bool) (n : ℕ) → n < 2 ^ 64 → IsAscii (number_text s n)

@@ -13,6 +13,7 @@ use Rattle.std.specs.Io.{StartsWith}
 use Rattle.std.specs.Io.BufRead.{DropsConsumable}
 use Rattle.std.specs.Io.KnownBytes.{Appends, Consumes, Keeps}
 use lib.Seq.{take-add, take-take}
+use Rattle.compact_text.proofs.TextFacts.{text_facts}
 use Rattle.compact_str.specs.Text.{IsText, size, text_of, utf8}
 use Rattle.compact_str.specs.Value.{PlacedText}
 use Rattle.compact_text.proofs.Texts.{length-utf8, utf8-text_of}
@@ -27,7 +28,7 @@ made-text bytes t is same = subst IsText (sym same) (scalars-chars bytes is)
 pub made-utf8 : (bytes t : List ℕ) → IsUtf8 bytes → t ≡ text_of bytes → utf8 t ≡ bytes
 made-utf8 bytes t is same = ap utf8 same ∙ utf8-text_of bytes is
 
-pub ruleset made_texts = (made-text)
+pub ruleset made_texts = (text_facts, made-text)
 
 pub IfOk-join : {A E : Type 0} (P Q S : A → Type 0) (r : Result A E) → ((a : A) → P a → Q a → S a) → IfOk r P → IfOk r Q → IfOk r S
 IfOk-join P Q S (Ok a) f h k = f a h k

@@ -1,9 +1,9 @@
 -- What becomes of a value that is shown as a text.
-use Rattle.std.specs.Prelude.{◌≡◌, ℕ, List, Bool, IsTrue, Result, IfOk, IfErr, IsOk, Some, if◌then◌else◌, codes, ⊤}
+use Rattle.std.specs.Prelude.{◌≡◌, ℕ, List, Bool, Result, IfOk, IfErr, IsOk, Some, if◌then◌else◌, codes, ⊤}
 use Rattle.compact_str.specs.Text.{size}
 use Rattle.compact_str.specs.Value.{PlacedText}
-use Rattle.compact_str.specs.Capacity.{Growth, inline_placement, with_capacity_asks}
-use Rattle.compact_str.specs.Change.{new}
+use Rattle.compact_str.specs.Capacity.{Growth, inline_placement, WithCapacityAllocates}
+use Rattle.compact_str.specs.Calls.{new}
 use Rattle.compact_ext.specs.declared.format.ToCompactStringError.{ToCompactStringError}
 use Rattle.compact_ext.specs.declared.format.ToCompactStringError.TheVariants.{Reserve, Fmt}
 
@@ -19,7 +19,7 @@ pub record IsTextOf (g : Growth) (t : List ℕ) (IsShort : Type 0) (r : Result P
   pub text : IfOk r (λ v. v.text ≡ t)
   pub inline : IsShort → IfOk r (λ v. v.placement ≡ inline_placement)
   pub succeeds : IsShort → IsOk r
-  pub err : IfErr r (λ e. IsFormatReserve e × IsTrue (with_capacity_asks (size t)))
+  pub err : IfErr r (λ e. IsFormatReserve e × WithCapacityAllocates (size t))
 
 -- the text of a `bool`
 abbrev pub bool_text : Bool → List ℕ

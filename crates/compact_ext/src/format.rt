@@ -1,9 +1,9 @@
 //! Texts made of what a format shows.
 ghost use Rattle.std.specs.Prelude.{◌≡◌, IfOk, IfSome, IsTrue, OnOk, OnErr};
 ghost use Rattle.compact_str.specs.Text.{text_of, utf8};
-ghost use Rattle.compact_str.specs.Change.{push_str_asks};
 ghost use Rattle.compact_str.specs.Edits.{Writes};
 ghost use Rattle.compact_str.specs.FittedValues.{IsPlacedBySize};
+ghost use Rattle.compact_str.specs.Calls.{PushStrAllocates};
 
 use compact_str::{CompactString, Policy, ReserveError, Standard};
 use std::alloc::Global;
@@ -63,7 +63,7 @@ impl Write for Collector {
         ensures still { OnOk result (self.new.is_refused ≡ self.old.is_refused) }
         ensures err { OnErr result
             ((self.new.value ≡ self.old.value) × IsTrue self.new.is_refused) }
-        ensures asks { OnErr result (IsTrue (push_str_asks self.old.value (text_of s.now))) }
+        ensures asks { OnErr result (PushStrAllocates self.old.value (text_of s.now)) }
     {
         match self.value.write_str(s) {
             Ok(()) => Ok(()),

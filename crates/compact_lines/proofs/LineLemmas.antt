@@ -19,10 +19,10 @@ use Rattle.compact_edit.specs.declared.edit.Edit.{Edit}
 use Rattle.compact_edit.specs.declared.edit.Edit.TheVariants as edits
 use Rattle.compact_edit.specs.declared.edit.Reply.{Reply}
 use Rattle.compact_edit.specs.declared.edit.Reply.TheVariants.{Done, Char, Text, BadPosition, Refused}
-use Rattle.compact_edit.specs.Steps.{Step, IsLegal, edit_asks, EditDoes}
+use Rattle.compact_edit.specs.Steps.{Step, IsLegal, edit_allocates, EditDoes}
 use Rattle.compact_lines.specs.declared.command.Command.TheVariants as commands
 use Rattle.compact_lines.specs.declared.command.Command.{Command}
-use Rattle.compact_lines.specs.Sessions.{State, Executes, DoesOrRefuses, runs_edit, command_asks}
+use Rattle.compact_lines.specs.Sessions.{State, Executes, DoesOrRefuses, runs_edit, command_allocates}
 use Rattle.compact_lines.specs.Commands.{reference_to, line_command, command_itself, edit_itself, command_of, answers_of}
 use Rattle.compact_lines.specs.Lines.{AnswersCommand, outcome_line, value_line, AnswersLine, AnswersLines, IsFirstLine, bytes_of, AppendsFront, AppendsPart, AppendsAnswers, AppendsSomeAnswers}
 
@@ -155,7 +155,7 @@ value-stopped (Err e) g v w u command outcome old mid new does first same second
     )
 
 step-same : (g : Growth) (v w : PlacedText) (a b : Edit Standard) → (IsLegal v a → IsLegal v b) → (IsLegal v b → IsLegal v a)
-    → (IsTrue (edit_asks v a) → IsTrue (edit_asks v b)) → ((reply : Reply Standard) → EditDoes g v a reply w → EditDoes g v b reply w)
+    → (IsTrue (edit_allocates v a) → IsTrue (edit_allocates v b)) → ((reply : Reply Standard) → EditDoes g v a reply w → EditDoes g v b reply w)
     → (reply : Reply Standard) → Step g v a reply w → Step g v b reply w
 step-same g v w a b legal back asks does BadPosition step = (step.0, λ is. step.1 (back is))
 step-same g v w a b legal back asks does (Refused e) step = (step.0, legal step.1, asks step.2)
@@ -185,7 +185,7 @@ executes-itself g v w (commands.WithCapacity n) reply does = does
 executes-itself g v w (commands.CloneFrom s) reply does = does
 executes-itself g v w (commands.Edit edit) reply does = step-itself g v w edit reply does
 
-asks-itself : (has_room : Bool) (command : Command) → command_asks has_room (command_itself command) ≡ command_asks has_room command
+asks-itself : (has_room : Bool) (command : Command) → command_allocates has_room (command_itself command) ≡ command_allocates has_room command
 asks-itself has_room (commands.New s) = refl
 asks-itself has_room commands.Static = refl
 asks-itself has_room (commands.WithCapacity n) = refl

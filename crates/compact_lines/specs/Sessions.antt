@@ -3,8 +3,8 @@ use Rattle.std.specs.Prelude.{◌≡◌, Bool, true, false, not, [], ◌||◌, r
 use Rattle.std.specs.Borrow.{Bor}
 use Rattle.compact_str.specs.Text.{text_of}
 use Rattle.compact_str.specs.Value.{PlacedText, placed_text}
-use Rattle.compact_str.specs.Capacity.{Growth, inline_placement, static_placement, with_capacity_asks}
-use Rattle.compact_str.specs.Change.{new, with_capacity}
+use Rattle.compact_str.specs.Capacity.{Growth, inline_placement, static_placement, with_capacity_allocates}
+use Rattle.compact_str.specs.Calls.{new, with_capacity}
 use Rattle.compact_str.specs.declared.Standard.{Standard}
 use Rattle.compact_str.specs.declared.ReserveError.{ReserveError}
 use Rattle.compact_edit.specs.declared.edit.Edit.TheVariants as edits
@@ -39,15 +39,15 @@ runs_edit (Edit edit) = true
 runs_edit command = false
 
 -- the command allocates, and so can fail: for a new value of more than 24 bytes, or room for a reply
-abbrev pub command_asks : Bool → Command → Bool
-command_asks has_room (New s) = with_capacity_asks (length s.now)
-command_asks has_room Static = false
-command_asks has_room (WithCapacity n) = with_capacity_asks n
-command_asks has_room (CloneFrom s) = with_capacity_asks (length s.now) || not has_room
-command_asks has_room (Edit edit) = not has_room
+abbrev pub command_allocates : Bool → Command → Bool
+command_allocates has_room (New s) = with_capacity_allocates (length s.now)
+command_allocates has_room Static = false
+command_allocates has_room (WithCapacity n) = with_capacity_allocates n
+command_allocates has_room (CloneFrom s) = with_capacity_allocates (length s.now) || not has_room
+command_allocates has_room (Edit edit) = not has_room
 
 -- from s, the command succeeds with a reply and leaves t, or an allocation fails and s is unchanged
 abbrev pub DoesOrRefuses : Growth → State → Command → Result (Reply Standard) ReserveError → State → Type 0
 DoesOrRefuses g s command (Ok reply) t =
     Executes g s.value command reply t.value × (t.has_room ≡ (runs_edit command || s.has_room))
-DoesOrRefuses g s command (Err e) t = (t ≡ s) × IsTrue (command_asks s.has_room command)
+DoesOrRefuses g s command (Err e) t = (t ≡ s) × IsTrue (command_allocates s.has_room command)

@@ -1,6 +1,7 @@
 -- What a change gives, in plain facts.
 use Rattle.std.proofs.Common.{◌≡◌, ℕ, ◌+◌, ◌-◌, ◌≤◌, List, [], ◌++◌, Some, true, false, arith, append-nil}
 use Rattle.std.proofs.lemmas.Grind.{common_steps}
+use Rattle.compact_text.proofs.TextFacts.{text_facts}
 use Rattle.compact_text.specs.Text.{size}
 use Rattle.compact_repr.specs.Value.{PlacedText, placed_text, is_static}
 use Rattle.compact_text.specs.Cut.{replaced_text}
@@ -30,7 +31,7 @@ pub cut_out-in_place : (g : Growth) (v w : PlacedText) (i j : ℕ) → is_static
 cut_out-in_place g v w i j o e = grind (arith, common_steps)
 
 -- of an append
-pub ruleset append_in_place_facts = (empty_text, push_str-in_place)
+pub ruleset append_in_place_facts = (text_facts, empty_text, push_str-in_place)
 
 -- of a removal
-pub ruleset removal_facts = (cut_out-in_place)
+pub ruleset removal_facts = (text_facts, cut_out-in_place)

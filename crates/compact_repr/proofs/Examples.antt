@@ -7,8 +7,8 @@ use Rattle.compact_repr.proofs.PackedTexts.{packed-last, packed-text}
 use Rattle.compact_text.specs.Text.{size, ascii_lowercase, ascii_uppercase}
 use Rattle.compact_text.specs.Cut.{text_before, text_after, substring, replaced_text}
 use Rattle.compact_repr.specs.Value.{PlacedText, placed_text}
-use Rattle.compact_repr.specs.Capacity.{Growth, inline_placement, heap_placement, static_placement, checked_heap_placement, with_capacity_placement, with_capacity_asks, fits_in_place, reserve_placement, reserve_asks, shortened_placement, owned_placement, make_owned_asks, const_new_placement, from_string_placement, clone_placement, clone_asks, shrink_to_placement, shrink_to_asks}
-use Rattle.compact_repr.specs.Calls.{new, push_str, push_str_asks, clear, reserve, with_capacity, make_owned, clone, truncate, make_ascii_lowercase, make_ascii_uppercase, retain, zeroize}
+use Rattle.compact_repr.specs.Capacity.{Growth, inline_placement, heap_placement, static_placement, checked_heap_placement, with_capacity_placement, with_capacity_allocates, fits_in_place, reserve_placement, reserve_allocates, shortened_placement, owned_placement, make_owned_allocates, const_new_placement, from_string_placement, clone_placement, clone_allocates, shrink_to_placement, shrink_to_allocates}
+use Rattle.compact_repr.specs.Calls.{new, push_str, push_str_allocates, clear, reserve, with_capacity, make_owned, clone, truncate, make_ascii_lowercase, make_ascii_uppercase, retain, zeroize}
 
 abbrev standard : Growth
 standard = record { least = 32; numerator = 3; denominator = 2 }
@@ -83,10 +83,10 @@ one_more_is_not = refl
 nor_is_it_made_anew : with_capacity_placement standard 72057594037927935 ≡ None
 nor_is_it_made_anew = refl
 
-room_for_24_bytes_asks_for_nothing : with_capacity_asks 24 ≡ false
+room_for_24_bytes_asks_for_nothing : with_capacity_allocates 24 ≡ false
 room_for_24_bytes_asks_for_nothing = refl
 
-one_byte_more_than_24_asks : push_str_asks (placed_text (letters 24) inline_placement) (letters 1) ≡ true
+one_byte_more_than_24_asks : push_str_allocates (placed_text (letters 24) inline_placement) (letters 1) ≡ true
 one_byte_more_than_24_asks = refl
 
 a_static_text_is_owned_in_32_bytes : owned_placement standard (static 30) ≡ Some (heap_placement 32)
@@ -98,10 +98,10 @@ a_short_static_text_is_owned_inline = refl
 a_heap_text_is_owned_as_it_is : owned_placement standard (heap 60 100) ≡ Some (heap_placement 100)
 a_heap_text_is_owned_as_it_is = refl
 
-owning_a_static_text_of_25_bytes_asks : make_owned_asks (static 25) ≡ true
+owning_a_static_text_of_25_bytes_asks : make_owned_allocates (static 25) ≡ true
 owning_a_static_text_of_25_bytes_asks = refl
 
-owning_a_static_text_of_24_bytes_asks_for_nothing : make_owned_asks (static 24) ≡ false
+owning_a_static_text_of_24_bytes_asks_for_nothing : make_owned_allocates (static 24) ≡ false
 owning_a_static_text_of_24_bytes_asks_for_nothing = refl
 
 a_heap_text_is_copied_with_a_buffer_of_its_size : clone standard (heap 60 100) ≡ Some (heap 60 60)
@@ -116,10 +116,10 @@ a_static_text_is_copied_as_it_stands = refl
 an_inline_text_is_copied_as_it_stands : clone_placement standard (placed_text (letters 3) inline_placement) ≡ Some inline_placement
 an_inline_text_is_copied_as_it_stands = refl
 
-copying_a_heap_text_of_25_bytes_asks : clone_asks (heap 25 100) ≡ true
+copying_a_heap_text_of_25_bytes_asks : clone_allocates (heap 25 100) ≡ true
 copying_a_heap_text_of_25_bytes_asks = refl
 
-copying_a_heap_text_of_24_bytes_asks_for_nothing : clone_asks (heap 24 100) ≡ false
+copying_a_heap_text_of_24_bytes_asks_for_nothing : clone_allocates (heap 24 100) ≡ false
 copying_a_heap_text_of_24_bytes_asks_for_nothing = refl
 
 room_of_100_is_shrunk_to_50 : shrink_to_placement standard (heap 0 100) 50 ≡ heap_placement 50
@@ -146,13 +146,13 @@ a_shrink_never_raises_a_capacity = refl
 a_static_text_is_not_shrunk : shrink_to_placement standard (static 30) 0 ≡ static_placement (letters 30)
 a_static_text_is_not_shrunk = refl
 
-a_shrink_to_a_lower_capacity_asks : shrink_to_asks standard (heap 28 100) 0 ≡ true
+a_shrink_to_a_lower_capacity_asks : shrink_to_allocates standard (heap 28 100) 0 ≡ true
 a_shrink_to_a_lower_capacity_asks = refl
 
-a_shrink_that_lowers_nothing_asks_for_nothing : shrink_to_asks standard (heap 26 26) 0 ≡ false
+a_shrink_that_lowers_nothing_asks_for_nothing : shrink_to_allocates standard (heap 26 26) 0 ≡ false
 a_shrink_that_lowers_nothing_asks_for_nothing = refl
 
-a_shrink_to_inline_asks_for_nothing : shrink_to_asks standard (heap 0 100) 10 ≡ false
+a_shrink_to_inline_asks_for_nothing : shrink_to_allocates standard (heap 0 100) 10 ≡ false
 a_shrink_to_inline_asks_for_nothing = refl
 
 a_short_string_is_taken_over_inline : from_string_placement (letters 3) 256 ≡ inline_placement
@@ -182,7 +182,7 @@ a_static_text_of_20_bytes_has_room_inline = refl
 a_static_text_never_fits_in_place : fits_in_place (static 3) 0 ≡ false
 a_static_text_never_fits_in_place = refl
 
-room_for_nothing_in_a_static_text_of_25_bytes_asks : reserve_asks (static 25) 0 ≡ true
+room_for_nothing_in_a_static_text_of_25_bytes_asks : reserve_allocates (static 25) 0 ≡ true
 room_for_nothing_in_a_static_text_of_25_bytes_asks = refl
 
 room_for_200_is_just_that : reserve standard (placed_text [] inline_placement) 200 ≡ Some (placed_text [] (heap_placement 200))

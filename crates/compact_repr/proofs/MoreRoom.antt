@@ -3,11 +3,12 @@ use Rattle.std.proofs.Common.{◌≡◌, ℕ, ◌+◌, ◌-◌, ◌<◌, ◌≤�
 use Rattle.std.proofs.Common.{refl, ap, sym, ◌∙◌, arith}
 use Rattle.std.proofs.lemmas.Bool.{and_parts, not-true, leb-true, le-leb, lt-leb}
 use Rattle.std.specs.Prelude.{option_map, nat_eq}
+use Rattle.compact_text.proofs.TextFacts.{text_facts}
 use Rattle.compact_text.specs.Text.{size}
 use Rattle.compact_text.specs.Cut.{replaced_text}
 use Rattle.compact_repr.specs.Value.{Placement, PlacedText, placed_text, is_static}
-use Rattle.compact_repr.specs.Capacity.{Growth, fits_in_place, reserve_placement, reserve_asks, owned_placement, make_owned_asks}
-use Rattle.compact_repr.specs.Calls.{reserve, make_owned, push_str, push_str_asks, insert_str, replace_range, replace_range_asks}
+use Rattle.compact_repr.specs.Capacity.{Growth, fits_in_place, reserve_placement, reserve_allocates, owned_placement, make_owned_allocates}
+use Rattle.compact_repr.specs.Calls.{reserve, make_owned, push_str, push_str_allocates, insert_str, replace_range, replace_range_allocates}
 
 -- the parts of a value that was put together
 placed : (t : List ℕ) (o : Option Placement) (u : PlacedText) → option_map (placed_text t) o ≡ Some u
@@ -41,8 +42,8 @@ fits-beyond u n k fits = let h = fits-now u (n - k) fits in (h.0, omega (arith, 
 pub push-nothing : (g : Growth) (v : PlacedText) (s : List ℕ) → size s ≡ 0 → push_str g v s ≡ Some v
 push-nothing g v s none = rw none refl
 
-pub push-asks : (v : PlacedText) (s : List ℕ) (n : ℕ) → size s ≡ n → nat_eq n 0 ≡ false → IsTrue (reserve_asks v n)
-    → IsTrue (push_str_asks v s)
+pub push-asks : (v : PlacedText) (s : List ℕ) (n : ℕ) → size s ≡ n → nat_eq n 0 ≡ false → IsTrue (reserve_allocates v n)
+    → IsTrue (push_str_allocates v s)
 push-asks v s n long some asks = rw (long, some) asks
 
 pub push-reserved : (g : Growth) (v u w : PlacedText) (s : List ℕ) (n : ℕ) → size s ≡ n → nat_eq n 0 ≡ false
@@ -65,12 +66,12 @@ insert-reserved g v u w p n s long made is =
     )
 
 -- a replacement, by no more bytes than are taken out, or by more
-pub replace-asks-within : (v : PlacedText) (i j n : ℕ) (s : List ℕ) → size s ≡ n → n ≤ j - i → IsTrue (make_owned_asks v)
-    → IsTrue (replace_range_asks v i j s)
+pub replace-asks-within : (v : PlacedText) (i j n : ℕ) (s : List ℕ) → size s ≡ n → n ≤ j - i → IsTrue (make_owned_allocates v)
+    → IsTrue (replace_range_allocates v i j s)
 replace-asks-within v i j n s long short asks = rw (long, le-leb n (j - i) short) asks
 
 pub replace-asks-beyond : (v : PlacedText) (i j n : ℕ) (s : List ℕ) → size s ≡ n → j - i < n
-    → IsTrue (reserve_asks v (n - (j - i))) → IsTrue (replace_range_asks v i j s)
+    → IsTrue (reserve_allocates v (n - (j - i))) → IsTrue (replace_range_allocates v i j s)
 replace-asks-beyond v i j n s long more asks = rw (long, lt-leb n (j - i) more) asks
 
 pub replace-owned : (g : Growth) (v u w : PlacedText) (i j n : ℕ) (s : List ℕ) → size s ≡ n → n ≤ j - i
@@ -94,4 +95,4 @@ replace-reserved g v u w i j n s long more made is =
 
 -- of an edit that makes room first
 pub ruleset slow_facts =
-    (reserved-text, owned-text, fits-now, push-nothing, push-asks, push-reserved, insert-reserved, replace-asks-within, replace-asks-beyond, replace-owned, replace-reserved)
+    (text_facts, reserved-text, owned-text, fits-now, push-nothing, push-asks, push-reserved, insert-reserved, replace-asks-within, replace-asks-beyond, replace-owned, replace-reserved)

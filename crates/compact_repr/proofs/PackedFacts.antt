@@ -1,6 +1,6 @@
 -- The facts on texts and on packed bytes that the goals of the inline buffer use.
-use Rattle.std.proofs.lemmas.Str.{chars-nil, chars-append, IsUtf8-append, IsUtf8-nil}
-use Rattle.compact_text.proofs.Texts.{length-utf8, utf8-text_of, size-text_of, size-append}
+use Rattle.std.proofs.lemmas.Str.{IsUtf8-nil}
+use Rattle.compact_text.proofs.TextFacts.{text_facts}
 use Rattle.compact_repr.proofs.PackedTexts.{packed-len, packed-most, packed-utf8, packed-text, packed-again, stands-packed}
 
-pub ruleset packed_facts = (length-utf8, utf8-text_of, size-text_of, size-append, chars-nil, chars-append, IsUtf8-append, IsUtf8-nil, packed-len, packed-most, packed-utf8, packed-text, packed-again, stands-packed)
+pub ruleset packed_facts = (text_facts, IsUtf8-nil, packed-len, packed-most, packed-utf8, packed-text, packed-again, stands-packed)

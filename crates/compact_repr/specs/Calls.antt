@@ -3,7 +3,7 @@ use Rattle.std.specs.Prelude.{◌≡◌, ◌⊎◌, ℕ, ◌-◌, Bool, not, ◌
 use Rattle.compact_text.specs.Text.{size, ascii_lowercase, ascii_uppercase}
 use Rattle.compact_text.specs.Cut.{text_before, replaced_text}
 use Rattle.compact_repr.specs.Value.{PlacedText, placed_text, is_static}
-use Rattle.compact_repr.specs.Capacity.{Growth, inline_placement, new_placement, with_capacity_placement, owned_placement, make_owned_asks, shortened_placement, reserve_placement, reserve_asks, clone_placement, shrink_to_placement, shrink_to_asks}
+use Rattle.compact_repr.specs.Capacity.{Growth, inline_placement, new_placement, with_capacity_placement, owned_placement, make_owned_allocates, shortened_placement, reserve_placement, reserve_allocates, clone_placement, shrink_to_placement, shrink_to_allocates}
 
 -- a new value with the text t
 abbrev pub new : Growth → List ℕ → Option PlacedText
@@ -16,8 +16,11 @@ push_str g v s =
     else option_map (placed_text (v.text ++ s)) (reserve_placement g v (size s))
 
 -- `push_str` asks for a heap buffer
-abbrev pub push_str_asks : PlacedText → List ℕ → Bool
-push_str_asks v s = not (nat_eq (size s) 0) && reserve_asks v (size s)
+abbrev pub push_str_allocates : PlacedText → List ℕ → Bool
+push_str_allocates v s = not (nat_eq (size s) 0) && reserve_allocates v (size s)
+
+abbrev pub PushStrAllocates : PlacedText → List ℕ → Type 0
+PushStrAllocates v s = IsTrue (push_str_allocates v s)
 
 -- v with no text, in its place
 abbrev pub clear : PlacedText → PlacedText
@@ -41,7 +44,7 @@ clone g v = option_map (placed_text v.text) (clone_placement g v)
 
 -- v after a shrink to n: shrunk, or as it was where the new buffer that this takes was refused
 abbrev pub Shrinks : Growth → PlacedText → ℕ → PlacedText → Type 0
-Shrinks g v n w = (w ≡ placed_text v.text (shrink_to_placement g v n)) ⊎ ((w ≡ v) × IsTrue (shrink_to_asks g v n))
+Shrinks g v n w = (w ≡ placed_text v.text (shrink_to_placement g v n)) ⊎ ((w ≡ v) × IsTrue (shrink_to_allocates g v n))
 
 -- v with its text cut at a position, in its place; one past the end changes nothing
 abbrev pub truncate : PlacedText → ℕ → PlacedText
@@ -58,8 +61,11 @@ abbrev pub replace_range : Growth → PlacedText → ℕ → ℕ → List ℕ �
 replace_range g v start end s =
     option_map (placed_text (replaced_text v.text start end s)) (if nat_le (size s) (end - start) then owned_placement g v else reserve_placement g v (size s - (end - start)))
 
-abbrev pub replace_range_asks : PlacedText → ℕ → ℕ → List ℕ → Bool
-replace_range_asks v start end s = if nat_le (size s) (end - start) then make_owned_asks v else reserve_asks v (size s - (end - start))
+abbrev pub replace_range_allocates : PlacedText → ℕ → ℕ → List ℕ → Bool
+replace_range_allocates v start end s = if nat_le (size s) (end - start) then make_owned_allocates v else reserve_allocates v (size s - (end - start))
+
+abbrev pub ReplaceRangeAllocates : PlacedText → ℕ → ℕ → List ℕ → Type 0
+ReplaceRangeAllocates v start end s = IsTrue (replace_range_allocates v start end s)
 
 -- v made owned, with A to Z made lowercase, or a to z made uppercase
 abbrev pub make_ascii_lowercase : Growth → PlacedText → Option PlacedText

@@ -1,5 +1,5 @@
 -- Place and capacity by a text and a growth policy, and when a heap buffer is asked for.
-use Rattle.std.specs.Prelude.{ℕ, ◌+◌, ◌*◌, ◌/◌, ◌<◌, ◌≤◌, Bool, ◌&&◌, not, List, Option, Some, None, max, min, nat_le, nat_lt, if◌then◌else◌}
+use Rattle.std.specs.Prelude.{IsTrue, ℕ, ◌+◌, ◌*◌, ◌/◌, ◌<◌, ◌≤◌, Bool, ◌&&◌, not, List, Option, Some, None, max, min, nat_le, nat_lt, if◌then◌else◌}
 use Rattle.compact_text.specs.Text.{size}
 use Rattle.compact_repr.specs.Value.{inline, heap, static, is_heap, is_static, Placement, PlacedText}
 
@@ -78,14 +78,23 @@ reserve_placement g v n =
 
 -- `with_capacity_placement`, `owned_placement` and `reserve_placement` ask for a heap buffer; where they do not, they are
 -- never refused
-abbrev pub with_capacity_asks : ℕ → Bool
-with_capacity_asks c = not (nat_le c 24)
+abbrev pub with_capacity_allocates : ℕ → Bool
+with_capacity_allocates c = not (nat_le c 24)
 
-abbrev pub make_owned_asks : PlacedText → Bool
-make_owned_asks v = is_static v.placement.place && with_capacity_asks (size v.text)
+abbrev pub WithCapacityAllocates : ℕ → Type 0
+WithCapacityAllocates c = IsTrue (with_capacity_allocates c)
 
-abbrev pub reserve_asks : PlacedText → ℕ → Bool
-reserve_asks v n = not (fits_in_place v n) && with_capacity_asks (size v.text + n)
+abbrev pub make_owned_allocates : PlacedText → Bool
+make_owned_allocates v = is_static v.placement.place && with_capacity_allocates (size v.text)
+
+abbrev pub MakeOwnedAllocates : PlacedText → Type 0
+MakeOwnedAllocates v = IsTrue (make_owned_allocates v)
+
+abbrev pub reserve_allocates : PlacedText → ℕ → Bool
+reserve_allocates v n = not (fits_in_place v n) && with_capacity_allocates (size v.text + n)
+
+abbrev pub ReserveAllocates : PlacedText → ℕ → Type 0
+ReserveAllocates v n = IsTrue (reserve_allocates v n)
 
 -- a text of the program: in the value itself where it fits, else borrowed for ever
 abbrev pub const_new_placement : List ℕ → Placement
@@ -99,17 +108,20 @@ from_string_placement t capacity = if nat_le (size t) 24 then inline_placement e
 abbrev pub clone_placement : Growth → PlacedText → Option Placement
 clone_placement g v = if is_heap v.placement.place then new_placement g v.text else Some v.placement
 
-abbrev pub clone_asks : PlacedText → Bool
-clone_asks v = is_heap v.placement.place && with_capacity_asks (size v.text)
+abbrev pub clone_allocates : PlacedText → Bool
+clone_allocates v = is_heap v.placement.place && with_capacity_allocates (size v.text)
+
+abbrev pub CloneAllocates : PlacedText → Type 0
+CloneAllocates v = IsTrue (clone_allocates v)
 
 -- how many bytes v keeps room for when it is shrunk to n
 abbrev pub shrink_to_capacity : PlacedText → ℕ → ℕ
 shrink_to_capacity v n = max (size v.text) n
 
 -- a shrink to n makes a new heap buffer: the goal does not fit inline, and its capacity is below the present one
-abbrev pub shrink_to_asks : Growth → PlacedText → ℕ → Bool
-shrink_to_asks g v n =
-    is_heap v.placement.place && with_capacity_asks (shrink_to_capacity v n) && nat_lt (max g.least (shrink_to_capacity v n)) v.placement.capacity
+abbrev pub shrink_to_allocates : Growth → PlacedText → ℕ → Bool
+shrink_to_allocates g v n =
+    is_heap v.placement.place && with_capacity_allocates (shrink_to_capacity v n) && nat_lt (max g.least (shrink_to_capacity v n)) v.placement.capacity
 
 -- v's placement shrunk to n, where memory is found: never a greater capacity, and only a heap buffer changes
 abbrev pub shrink_to_placement : Growth → PlacedText → ℕ → Placement

@@ -1,5 +1,5 @@
 -- A value is a text with a place and a capacity.
-use Rattle.std.specs.Prelude.{◌≡◌, ℕ, ◌≤◌, Bool, true, false, List}
+use Rattle.std.specs.Prelude.{◌≡◌, ℕ, ◌≤◌, Bool, true, false, IsTrue, List}
 use Rattle.compact_text.specs.Text.{size, IsText}
 
 -- where the bytes are: in the value itself, in a buffer on the heap, or in the program
@@ -29,6 +29,19 @@ pub record PlacedText : Type 0 where
 
 abbrev pub placed_text : List ℕ → Placement → PlacedText
 placed_text t p = record { text = t; placement = p }
+
+-- where a value's bytes are; an owned value may change them in place
+abbrev pub IsInline : PlacedText → Type 0
+IsInline v = v.placement.place ≡ inline
+
+abbrev pub IsHeap : PlacedText → Type 0
+IsHeap v = IsTrue (is_heap v.placement.place)
+
+abbrev pub IsStatic : PlacedText → Type 0
+IsStatic v = IsTrue (is_static v.placement.place)
+
+abbrev pub IsOwned : PlacedText → Type 0
+IsOwned v = is_static v.placement.place ≡ false
 
 -- a place with a capacity may hold so many bytes
 abbrev pub IsCapacityOf : Place → ℕ → ℕ → Type 0

@@ -272,7 +272,7 @@ impl HeapBuffer {
 
     /// Removes and returns the last character, or returns `None` if the text is empty. Keeps the capacity.
     #[inline]
-    #[tactic(auto, using(compact_text::proofs::TextFacts::text_facts, compact_text::proofs::Cuts::last_facts))]
+    #[tactic(auto, using(compact_text::proofs::Cuts::last_facts))]
     pub fn pop(&mut self) -> Option<char>
         ensures popped { MatchOption result ((self.old.text ≡ []) × (self.new ≡ self.old))
             (λ c. (self.old.text ≡ self.new.text ++ c ∷ []) × (self.new.capacity ≡ self.old.capacity)) }

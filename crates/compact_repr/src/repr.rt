@@ -1,9 +1,9 @@
 //! The representation: a buffer of one of three kinds, with the allocator that its growth asks.
-ghost use Rattle.std.specs.Prelude.{◌≡◌, ◌<◌, ◌≤◌, ◌^◌, ◌↔◌, IsSome, IfSome, IsTrue, false, IfOk, IfErr, string_bytes};
+ghost use Rattle.std.specs.Prelude.{◌≡◌, ◌<◌, ◌≤◌, ◌^◌, ◌↔◌, IsSome, IfSome, false, IfOk, IfErr, string_bytes};
 ghost use Rattle.std.specs.String.{string_capacity};
 ghost use Rattle.compact_text.specs.Text.{size, utf8, text_of};
 ghost use Rattle.compact_repr.specs.Packed.{IsPackedFor};
-ghost use Rattle.compact_repr.specs.Value.{inline, is_heap, is_static, IsSound};
+ghost use Rattle.compact_repr.specs.Value.{inline, is_heap, IsSound, IsStatic, IsHeap, IsInline};
 ghost use Rattle.compact_repr.specs.BufferValue.{buffer_value, IsSoundBuffer};
 
 mod at;
@@ -97,7 +97,7 @@ impl<P: Policy> Repr<P> {
     /// The text of a static value, which outlives the value; `None` of every other.
     #[inline]
     pub fn as_static_str(&self) -> Option<&'static str>
-        ensures place { IsSome result ↔ IsTrue (is_static self.now.placement.place) }
+        ensures place { IsSome result ↔ IsStatic self.now }
         ensures bytes { IfSome result (λ s. s.now ≡ utf8 self.now.text) }
         ensures text { IfSome result (λ s. text_of s.now ≡ self.now.text) }
     {
@@ -130,7 +130,7 @@ impl<P: Policy> Repr<P> {
     /// An inline text packed into 24 bytes; `None` of every other.
     #[inline]
     pub fn packed(&self) -> Option<[u8; 24]>
-        ensures place { IsSome result ↔ (self.now.placement.place ≡ inline) }
+        ensures place { IsSome result ↔ (IsInline self.now) }
         ensures bytes { IfSome result (λ bytes. IsPackedFor bytes self.now.text) }
     {
         match &self.buffer {
@@ -149,7 +149,7 @@ impl<P: Policy> Repr<P> {
         ensures bytes { IfOk result (λ s. string_bytes s ≡ utf8 self.text) }
         ensures text { IfOk result (λ s. text_of (string_bytes s) ≡ self.text) }
         ensures capacity { IfOk result (λ s. self.placement.capacity ≤ string_capacity s) }
-        ensures heap { IfOk result (λ _. IsTrue (is_heap self.placement.place)) }
+        ensures heap { IfOk result (λ _. IsHeap self) }
         ensures back { IfErr result (λ r. (r ≡ self) × (is_heap self.placement.place ≡ false)) }
     {
         let alloc = self.alloc;

@@ -120,7 +120,7 @@ impl StaticStr {
 
     /// Removes and returns the last character, or returns `None` if the text is empty.
     #[inline]
-    #[tactic(auto, using(compact_text::proofs::TextFacts::text_facts, compact_text::proofs::Cuts::last_facts))]
+    #[tactic(auto, using(compact_text::proofs::Cuts::last_facts))]
     pub fn pop(&mut self) -> Option<char>
         ensures { MatchOption result ((self.old ≡ []) × (self.new ≡ self.old))
             (λ c. self.old ≡ self.new ++ c ∷ []) }

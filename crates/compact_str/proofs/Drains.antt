@@ -7,6 +7,7 @@ use Rattle.std.proofs.lemmas.Str.{len_utf8_bounds, chars-IsAscii}
 use Rattle.std.specs.Bool.{MatchBool}
 use Rattle.std.specs.Str.{IsUtf8, IsAscii, IsNotAscii}
 use Rattle.std.specs.Char.{len_utf8, InScalarRange}
+use Rattle.compact_text.proofs.TextFacts.{text_facts}
 use Rattle.compact_repr.specs.Text.{size, text_of}
 use Rattle.compact_repr.specs.Cut.{IsBoundary, text_before, text_after, substring, replaced_text}
 use Rattle.compact_repr.specs.Value.{Place, inline, heap, static, IsCapacityOf, IsSound, PlacedText, placed_text, is_static}
@@ -287,6 +288,6 @@ ascii-back t r front back c width old new all =
     let rest = length-least r in
     rw new (omega (arith, whole, sizes, lengths, wide, rest))
 
-pub ruleset drain_facts = (range-is_range, room-owned_placement)
+pub ruleset drain_facts = (text_facts, range-is_range, room-owned_placement)
 
-pub ruleset owned_facts = (make_owned-text, make_owned-owned_placement)
+pub ruleset owned_facts = (text_facts, make_owned-text, make_owned-owned_placement)

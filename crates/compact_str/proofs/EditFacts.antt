@@ -1,5 +1,6 @@
 -- The facts that the edits of this crate name where they are proved, in sets by what an edit does.
 use Rattle.std.proofs.lemmas.Str.{IsUtf8-string_bytes}
+use Rattle.compact_text.proofs.TextFacts.{text_facts}
 use Rattle.compact_text.proofs.Texts.{empty_text}
 use Rattle.compact_repr.proofs.Changes.{push_str-text, push_str-in_place, insert_str-in_place, replace_range-in_place}
 use Rattle.compact_text.proofs.Cuts.{boundary-within, size-text_after, boundary-next, text_after-next}
@@ -10,27 +11,27 @@ use Rattle.compact_str.proofs.Letters.{make_ascii_lowercase-owned, make_ascii_up
 use Rattle.compact_str.proofs.Repeats.{repeated_text-none, repeated_text-one}
 
 -- of an append
-pub ruleset append_facts = (empty_text, push_str-text, push_str-in_place, push_str-sure, push_str-bytes)
+pub ruleset append_facts = (text_facts, empty_text, push_str-text, push_str-in_place, push_str-sure, push_str-bytes)
 
 -- of an append of a character
-pub ruleset character_facts = (pushed-bytes)
+pub ruleset character_facts = (text_facts, pushed-bytes)
 
 -- of an edit at a position
 pub ruleset position_facts =
-    (boundary-within, size-text_after, removed-in_place, truncate-last, boundary-next, text_after-next, truncate-boundary, truncate-text, boundary-cut, asks-by_nothing)
+    (text_facts, boundary-within, size-text_after, removed-in_place, truncate-last, boundary-next, text_after-next, truncate-boundary, truncate-text, boundary-cut, asks-by_nothing)
 
 -- of an insertion
 pub ruleset insertion_facts =
-    (insert_str-text, insert_str-place, insert_str-behind, insert_str-bytes, insert-bytes, insert_str-sure, insert_str-in_place)
+    (text_facts, insert_str-text, insert_str-place, insert_str-behind, insert_str-bytes, insert-bytes, insert_str-sure, insert_str-in_place)
 
 -- of a replacement
-pub ruleset replacement_facts = (replace_range-in_place, range_replaced-text)
+pub ruleset replacement_facts = (text_facts, replace_range-in_place, range_replaced-text)
 
 -- of a repetition
-pub ruleset repeat_facts = (repeated_text-none, repeated_text-one)
+pub ruleset repeat_facts = (text_facts, repeated_text-none, repeated_text-one)
 
 -- of a change of the letters
-pub ruleset letter_facts = (make_ascii_lowercase-owned, make_ascii_uppercase-owned, make_owned-text, new-lowercase, new-uppercase, boundary-lowercase, boundary-uppercase)
+pub ruleset letter_facts = (text_facts, make_ascii_lowercase-owned, make_ascii_uppercase-owned, make_owned-text, new-lowercase, new-uppercase, boundary-lowercase, boundary-uppercase)
 
 -- of a `String` that is taken over
-pub ruleset string_facts = (IsUtf8-string_bytes)
+pub ruleset string_facts = (text_facts, IsUtf8-string_bytes)

@@ -6,7 +6,7 @@ use Rattle.std.specs.Prelude.{IsTrue, Result, Ok, Err, OnOk, OnErr}
 use Rattle.compact_repr.specs.Text.{size}
 use Rattle.compact_repr.specs.Value.{PlacedText, placed_text, heap}
 use Rattle.compact_repr.specs.Capacity.{Growth, inline_placement}
-use Rattle.compact_repr.specs.Calls.{push_str, push_str_asks}
+use Rattle.compact_repr.specs.Calls.{push_str, push_str_allocates}
 use Rattle.compact_str.specs.FittedValues.{IsPlacedBySize}
 use Rattle.compact_text.proofs.Texts.{size-append}
 use Rattle.compact_repr.proofs.Changes.{push_str-text}
@@ -38,10 +38,10 @@ pub fitted-empty : IsPlacedBySize (placed_text [] inline_placement)
 fitted-empty = record { short = λ _. refl; long = λ h. absurd (omega (arith, h)) }
 
 -- an append that asks for a heap buffer makes a text of more than 24 bytes
-pub asks-over : (v : PlacedText) (t : List ℕ) → IsTrue (push_str_asks v t) → 24 < size v.text + size t
+pub asks-over : (v : PlacedText) (t : List ℕ) → IsTrue (push_str_allocates v t) → 24 < size v.text + size t
 asks-over v t h = grind (arith, common_steps)
 
 -- also one that was refused
-pub fitted-tried : {E : Type 0} (g : Growth) (v w : PlacedText) (s : List ℕ) (r : Result (Unit {0}) E) → IsPlacedBySize v → OnOk r (push_str g v s ≡ Some w) → OnErr r ((w ≡ v) × IsTrue (push_str_asks v s)) → IsPlacedBySize w
+pub fitted-tried : {E : Type 0} (g : Growth) (v w : PlacedText) (s : List ℕ) (r : Result (Unit {0}) E) → IsPlacedBySize v → OnOk r (push_str g v s ≡ Some w) → OnErr r ((w ≡ v) × IsTrue (push_str_allocates v s)) → IsPlacedBySize w
 fitted-tried g v w s (Ok _) f e n = fitted-push_str g v w s f e
 fitted-tried g v w s (Err _) f e n = subst IsPlacedBySize (sym n.0) f

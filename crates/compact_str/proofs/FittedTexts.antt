@@ -5,9 +5,10 @@ use Rattle.std.proofs.lemmas.Bool.{cases_lt, true≢false}
 use Rattle.std.specs.Prelude.{Result, Ok, Err, OnErr, IsOk, IsErr}
 use Rattle.std.specs.Str.{chars, IsUtf8}
 use Rattle.std.proofs.lemmas.Str.{encodes-chars, scalars-chars}
+use Rattle.compact_text.proofs.TextFacts.{text_facts}
 use Rattle.compact_repr.specs.Text.{size, text_of}
 use Rattle.compact_repr.specs.Value.{PlacedText, placed_text, heap, is_heap}
-use Rattle.compact_repr.specs.Capacity.{Growth, inline_placement, with_capacity_asks, from_string_placement}
+use Rattle.compact_repr.specs.Capacity.{Growth, inline_placement, with_capacity_allocates, from_string_placement}
 use Rattle.compact_repr.specs.Calls.{new, push_str, reserve}
 use Rattle.compact_text.proofs.Texts.{size-append}
 use Rattle.compact_repr.proofs.Changes.{push_str-text}
@@ -47,7 +48,7 @@ reserve-fitted g v u w s n f h more room e k =
     let long : size w.text ≡ size u.text + size s = ap size (push_str-text g u w s k) ∙ size-append u.text s in
     heap-fitted w (omega (arith, long, longer)) stands.0 (omega (arith, long, stands.1))
 
-pub ruleset fitted_facts = (fitted-push_str, reserve-fitted)
+pub ruleset fitted_facts = (text_facts, fitted-push_str, reserve-fitted)
 
 -- a new value is fitted
 new-short : (g : Growth) (v : PlacedText) (t : List ℕ) → new g t ≡ Some v → size v.text ≤ 24 → v.placement ≡ inline_placement
@@ -59,43 +60,43 @@ new-long g v t e h = grind (arith, common_steps)
 pub new-fitted : (g : Growth) (v : PlacedText) (t : List ℕ) → new g t ≡ Some v → IsPlacedBySize v
 new-fitted g v t e = record { short = new-short g v t e; long = new-long g v t e }
 
-pub ruleset new_facts = (new-fitted)
+pub ruleset new_facts = (text_facts, new-fitted)
 
 -- bytes that encode a text encode the one that they spell
 pub spelled-encoded : (bytes t : List ℕ) → IsUtf8 bytes → t ≡ text_of bytes → BytesEncode bytes t
 spelled-encoded bytes t is e = subst (BytesEncode bytes) (sym e) (scalars-chars bytes is, encodes-chars bytes is)
 
-pub ruleset strict_facts = (spelled-encoded)
+pub ruleset strict_facts = (text_facts, spelled-encoded)
 
 -- where a part is refused for its length, so is the text that it is a part of
-pub part-asks : (t a p rest : List ℕ) (n : ℕ) → a ++ (p ++ rest) ≡ t → n ≡ size p → 24 < size a + n → IsTrue (with_capacity_asks (size t))
+pub part-asks : (t a p rest : List ℕ) (n : ℕ) → a ++ (p ++ rest) ≡ t → n ≡ size p → 24 < size a + n → IsTrue (with_capacity_allocates (size t))
 part-asks t a p rest n e k more =
     let long : size t ≡ size a + (size p + size rest) = ap size (sym e) ∙ size-append a (p ++ rest) ∙ ap (λ (n : ℕ). size a + n) (size-append p rest) in
     grind (arith, common_steps)
 
 -- the same where the part is the first character of what is left
 pub first-asks : (t a left rest p : List ℕ) (c n : ℕ) → a ++ left ≡ t → left ≡ c ∷ rest → p ≡ c ∷ [] → n ≡ size p → 24 < size a + n
-    → IsTrue (with_capacity_asks (size t))
+    → IsTrue (with_capacity_allocates (size t))
 first-asks t a left rest p c n e l q k more = part-asks t a p rest n (rw q (ap (λ (x : List ℕ). a ++ x) (sym l)) ∙ e) k more
 
 -- a text of at most 24 bytes is not refused, and one that is refused is longer
-short-asks : (n : ℕ) → n ≤ 24 → IsTrue (with_capacity_asks n) → ⊥
+short-asks : (n : ℕ) → n ≤ 24 → IsTrue (with_capacity_allocates n) → ⊥
 short-asks n h asks = grind (arith, common_steps)
 
-pub asks-succeeds : {E : Type 0} (t : List ℕ) (r : Result PlacedText E) → OnErr r (IsTrue (with_capacity_asks (size t))) → size t ≤ 24 → IsOk r
+pub asks-succeeds : {E : Type 0} (t : List ℕ) (r : Result PlacedText E) → OnErr r (IsTrue (with_capacity_allocates (size t))) → size t ≤ 24 → IsOk r
 asks-succeeds t (Ok _) e h = refl
 asks-succeeds t (Err _) e h = absurd (short-asks (size t) h e)
 
-pub refused-fitted : {E : Type 0} (t : List ℕ) (r : Result PlacedText E) → IsErr r → IsTrue (with_capacity_asks (size t)) → MakesText t r
+pub refused-fitted : {E : Type 0} (t : List ℕ) (r : Result PlacedText E) → IsErr r → IsTrue (with_capacity_allocates (size t)) → MakesText t r
 refused-fitted t (Ok _) h asks = absurd (true≢false (sym h))
 refused-fitted t (Err _) h asks = record { text = tt; fitted = tt; succeeds = λ k. absurd (short-asks (size t) k asks); err = asks }
 
-pub long-asks : (n : ℕ) → 24 < n → IsTrue (with_capacity_asks n)
+pub long-asks : (n : ℕ) → 24 < n → IsTrue (with_capacity_allocates n)
 long-asks n h = grind (arith, common_steps)
 
-pub ruleset decoded_part_facts = (part-asks)
+pub ruleset decoded_part_facts = (text_facts, part-asks)
 
-pub ruleset first_facts = (first-asks)
+pub ruleset first_facts = (text_facts, first-asks)
 
 mark-text : text_of (0xEF ∷ 0xBF ∷ 0xBD ∷ []) ≡ replacement_character ∷ []
 unfolding chars
@@ -120,4 +121,4 @@ from_string_placement-long t c fits h = grind (arith, common_steps)
 pub from_string_placement-fitted : (t : List ℕ) (c : ℕ) → size t ≤ c → IsPlacedBySize (placed_text t (from_string_placement t c))
 from_string_placement-fitted t c fits = record { short = from_string_placement-short t c; long = from_string_placement-long t c fits }
 
-pub ruleset buf_facts = (spelled-encoded, new-fitted, from_string_placement-fitted)
+pub ruleset buf_facts = (text_facts, spelled-encoded, new-fitted, from_string_placement-fitted)

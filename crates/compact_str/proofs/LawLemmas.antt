@@ -5,7 +5,7 @@ use Rattle.std.proofs.lemmas.Str.{len_utf8_bounds, chars-encodes}
 use Rattle.compact_repr.specs.Text.{size}
 use Rattle.compact_repr.specs.Cut.{IsBoundary, text_before, text_after}
 use Rattle.compact_repr.specs.Value.{PlacedText}
-use Rattle.compact_repr.specs.Capacity.{Growth, make_owned_asks}
+use Rattle.compact_repr.specs.Capacity.{Growth, make_owned_allocates}
 use Rattle.compact_repr.specs.Calls.{insert_str}
 use Rattle.compact_str.specs.Edits.{Removes, split_tail}
 use Rattle.compact_str.specs.Laws.{RemovalUndoesInsertion, TruncationUndoesAppend, AppendUndoesSplit, CloneIsEqual, DecodingUndoesEncoding}
@@ -14,7 +14,7 @@ use Rattle.compact_repr.proofs.Changes.{push_str-text}
 use Rattle.compact_text.proofs.Cuts.{text_before-text_after, text_before-append, text_after-append, size-text_before, size-text_after, boundary-from_size}
 use Rattle.compact_str.proofs.Positions.{insert_str-text, boundary-seam, truncate-text}
 
-insert_str-owned : (g : Growth) (v w : PlacedText) (p : ℕ) (s : List ℕ) → insert_str g v p s ≡ Some w → make_owned_asks w ≡ false
+insert_str-owned : (g : Growth) (v w : PlacedText) (p : ℕ) (s : List ℕ) → insert_str g v p s ≡ Some w → make_owned_allocates w ≡ false
 insert_str-owned g v w p s e = grind (arith, common_steps)
 
 removes-text : (g : Growth) (w u : PlacedText) (p d : ℕ) (r : Removes g w p d u) → u.text ≡ text_before w.text p ++ r.0

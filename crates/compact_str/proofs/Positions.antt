@@ -10,8 +10,8 @@ use Rattle.std.specs.Str.{IsUtf8}
 use Rattle.compact_repr.specs.Text.{size, text_of, utf8}
 use Rattle.compact_repr.specs.Cut.{IsCut, IsBoundary, IsAsciiAt, text_before, text_after, replaced_text}
 use Rattle.compact_repr.specs.Value.{PlacedText, placed_text, is_static}
-use Rattle.compact_repr.specs.Capacity.{Growth, shortened_placement, owned_placement, make_owned_asks}
-use Rattle.compact_repr.specs.Calls.{truncate, insert_str, replace_range, replace_range_asks}
+use Rattle.compact_repr.specs.Capacity.{Growth, shortened_placement, owned_placement, make_owned_allocates}
+use Rattle.compact_repr.specs.Calls.{truncate, insert_str, replace_range, replace_range_allocates}
 use Rattle.compact_str.specs.Edits.{RemovesChar}
 use Rattle.compact_text.proofs.Texts.{length-utf8, size-append, empty_text}
 use Rattle.compact_text.proofs.Cuts.{boundary-from_size, boundary-next, text_after-next, text_before-text_after, text_before-append, text_after-append, size-text_before, size-text_after}
@@ -146,11 +146,11 @@ replace_range-by_nothing : (g : Growth) (v w : PlacedText) (i j : ℕ) → repla
 replace_range-by_nothing g v w i j e = grind (arith, common_steps)
 
 -- that asks where owning does
-pub asks-by_nothing : (v : PlacedText) (i j : ℕ) → IsTrue (replace_range_asks v i j []) → IsTrue (make_owned_asks v)
+pub asks-by_nothing : (v : PlacedText) (i j : ℕ) → IsTrue (replace_range_allocates v i j []) → IsTrue (make_owned_allocates v)
 asks-by_nothing v i j h = grind (arith, common_steps)
 
 -- and owning asks of a long text alone
-pub owning-long : (v : PlacedText) → IsTrue (make_owned_asks v) → 24 < size v.text
+pub owning-long : (v : PlacedText) → IsTrue (make_owned_allocates v) → 24 < size v.text
 owning-long v h = grind (arith, common_steps)
 
 -- a value of which the character at a boundary is replaced by nothing
@@ -171,7 +171,7 @@ replace_range-removes g v w rest p c n h e k o =
     }
 
 -- one that was to be owned first, which failed
-pub shortened_placement-character : {E : Type 0} (g : Growth) (v w : PlacedText) (p : ℕ) (r : Result ℕ E) → IsErr r → w ≡ v → IsTrue (make_owned_asks v) → RemovesChar g v p r w
+pub shortened_placement-character : {E : Type 0} (g : Growth) (v w : PlacedText) (p : ℕ) (r : Result ℕ E) → IsErr r → w ≡ v → IsTrue (make_owned_allocates v) → RemovesChar g v p r w
 shortened_placement-character g v w p (Ok c) fails same asks = absurd (grind (arith, fails))
 shortened_placement-character g v w p (Err e) fails same asks =
     let long = owning-long v asks in

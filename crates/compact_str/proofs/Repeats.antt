@@ -6,7 +6,7 @@ use Rattle.std.specs.Prelude.{IsTrue, not, ◌&&◌, nat_le}
 use Rattle.compact_repr.specs.Text.{size}
 use Rattle.compact_repr.specs.Value.{Placement, PlacedText, placed_text, is_static}
 use Rattle.compact_repr.specs.Capacity.{Growth, with_capacity_placement, fits_in_place}
-use Rattle.compact_repr.specs.Calls.{push_str, push_str_asks}
+use Rattle.compact_repr.specs.Calls.{push_str, push_str_allocates}
 use Rattle.compact_str.specs.Edits.{repeated_text}
 use Rattle.compact_text.proofs.Texts.{size-append, empty_text}
 
@@ -37,7 +37,7 @@ pub push_str-in_place : (g : Growth) (v w : PlacedText) (s : List ℕ) → push_
 push_str-in_place g v w s e k = grind (arith, common_steps, empty_text, append-nil)
 
 -- and is never refused
-pub push-never_asks : (v : PlacedText) (s : List ℕ) → IsTrue (fits_in_place v (size s)) → IsTrue (push_str_asks v s) → ⊥
+pub push-never_asks : (v : PlacedText) (s : List ℕ) → IsTrue (fits_in_place v (size s)) → IsTrue (push_str_allocates v s) → ⊥
 push-never_asks v s h k = grind (arith, common_steps)
 
 pub repeated_text-none : (n : ℕ) (t : List ℕ) → size t * n ≡ 0 → repeated_text n t ≡ []

@@ -8,8 +8,8 @@ use Rattle.std.specs.Str.{IsUtf8}
 use Rattle.std.specs.Prelude.{max, if◌then◌else◌, Result, Ok, Err, OnErr, IsOk, IsTrue}
 use Rattle.compact_repr.specs.Text.{size, utf8, text_of}
 use Rattle.compact_repr.specs.Value.{Placement, PlacedText, is_static}
-use Rattle.compact_repr.specs.Capacity.{Growth, reserve_placement, reserve_asks}
-use Rattle.compact_repr.specs.Calls.{push_str, insert_str, push_str_asks}
+use Rattle.compact_repr.specs.Capacity.{Growth, reserve_placement, reserve_allocates}
+use Rattle.compact_repr.specs.Calls.{push_str, insert_str, push_str_allocates}
 use Rattle.compact_repr.proofs.Changes.{push_str-text}
 use Rattle.compact_str.specs.Room.{infallible_capacity, HasRoomFor}
 
@@ -32,13 +32,13 @@ pub pushed-bytes : (t old : List ℕ) (c : ℕ) → t ≡ old ++ c ∷ [] → ut
 pushed-bytes t old c e = ap utf8 e ∙ encodes-append old (c ∷ []) ∙ ap (λ x. utf8 old ++ x) (append-nil (encode_utf8 c))
 
 -- what is sure to fit asks for no memory, and so is not refused
-asks-with_room : (v : PlacedText) (n : ℕ) → HasRoomFor v n → IsTrue (reserve_asks v n) → ⊥
+asks-with_room : (v : PlacedText) (n : ℕ) → HasRoomFor v n → IsTrue (reserve_allocates v n) → ⊥
 asks-with_room v n h asks = grind (arith, common_steps)
 
-pub reserve_asks-succeeds : {E : Type 0} (v w : PlacedText) (n : ℕ) (r : Result (Unit {0}) E) → OnErr r ((w ≡ v) × IsTrue (reserve_asks v n)) → HasRoomFor v n → IsOk r
-reserve_asks-succeeds v w n (Ok _) e h = refl
-reserve_asks-succeeds v w n (Err _) e h = absurd (asks-with_room v n h e.1)
+pub reserve_allocates-succeeds : {E : Type 0} (v w : PlacedText) (n : ℕ) (r : Result (Unit {0}) E) → OnErr r ((w ≡ v) × IsTrue (reserve_allocates v n)) → HasRoomFor v n → IsOk r
+reserve_allocates-succeeds v w n (Ok _) e h = refl
+reserve_allocates-succeeds v w n (Err _) e h = absurd (asks-with_room v n h e.1)
 
-pub push_str_asks-succeeds : {E : Type 0} (v w : PlacedText) (n : ℕ) (s : List ℕ) (r : Result (Unit {0}) E) → n ≡ size s → OnErr r ((w ≡ v) × IsTrue (push_str_asks v s)) → HasRoomFor v n → IsOk r
-push_str_asks-succeeds v w n s (Ok _) k e h = refl
-push_str_asks-succeeds v w n s (Err _) k e h = absurd (asks-with_room v (size s) (subst (HasRoomFor v) k h) (and_parts _ _ e.1).1)
+pub push_str_allocates-succeeds : {E : Type 0} (v w : PlacedText) (n : ℕ) (s : List ℕ) (r : Result (Unit {0}) E) → n ≡ size s → OnErr r ((w ≡ v) × IsTrue (push_str_allocates v s)) → HasRoomFor v n → IsOk r
+push_str_allocates-succeeds v w n s (Ok _) k e h = refl
+push_str_allocates-succeeds v w n s (Err _) k e h = absurd (asks-with_room v (size s) (subst (HasRoomFor v) k h) (and_parts _ _ e.1).1)

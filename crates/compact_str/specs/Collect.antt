@@ -1,11 +1,11 @@
 -- Texts that come one after another: collected, joined with a separator, and appended.
-use Rattle.std.specs.Prelude.{◌≡◌, ℕ, ◌+◌, ◌<◌, List, [], ◌∷◌, ◌++◌, Option, Some, IsTrue, length, drop, flat_map}
+use Rattle.std.specs.Prelude.{◌≡◌, ℕ, ◌+◌, ◌<◌, List, [], ◌∷◌, ◌++◌, Option, Some, length, drop, flat_map}
 use Rattle.std.specs.Iterator.{Drains, HoldsAlong, Yields, YieldsThen}
 use Rattle.std.specs.Iterator.Runs.{WholeRun}
 use Rattle.compact_repr.specs.Text.{size}
 use Rattle.compact_repr.specs.Value.{PlacedText}
 use Rattle.compact_repr.specs.Capacity.{Growth}
-use Rattle.compact_repr.specs.Calls.{push_str, push_str_asks}
+use Rattle.compact_repr.specs.Calls.{push_str, PushStrAllocates}
 
 -- the text of each item, as `text` reads it, is joined to v's end in turn, which leaves w
 abbrev pub Appends : {A : Type 0} → Growth → (A → List ℕ) → PlacedText → List A → PlacedText → Type 0
@@ -40,7 +40,7 @@ module _ {S A : Type 0} (steps : S → Option A → S → Type 0) where
   -- the items before one that is refused are appended, and that one asks for a heap buffer
   abbrev pub AppendsUpToRefused : Growth → (A → List ℕ) → S → PlacedText → PlacedText → Type 0
   AppendsUpToRefused g text s v w =
-      (xs : List A) × (x : A) × (t : S) × YieldsThen steps s xs (Some x) t × Appends g text v xs w × IsTrue (push_str_asks w (text x))
+      (xs : List A) × (x : A) × (t : S) × YieldsThen steps s xs (Some x) t × Appends g text v xs w × PushStrAllocates w (text x)
 
   -- items that an iterator gave make a text of more than 24 bytes
   abbrev pub PassesInline : (List A → List ℕ) → S → Type 0

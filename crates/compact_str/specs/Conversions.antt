@@ -1,11 +1,11 @@
 -- What a new value is made of.
-use Rattle.std.specs.Prelude.{◌≡◌, ◌≤◌, ℕ, List, length, Result, IfOk, OnErr, IsOk, MatchResult, IsOkAnd, Some, IsTrue, string_bytes, ⊤}
+use Rattle.std.specs.Prelude.{◌≡◌, ◌≤◌, ℕ, List, length, Result, IfOk, OnErr, IsOk, MatchResult, IsOkAnd, Some, string_bytes, ⊤}
 use Rattle.std.specs.String.{string_capacity}
 use Rattle.std.specs.declared.borrow.CowStr.{CowStr}
 use Rattle.std.specs.declared.borrow.CowStr.TheVariants.{Borrowed, Owned}
 use Rattle.compact_repr.specs.Text.{text_of, utf8}
 use Rattle.compact_repr.specs.Value.{PlacedText, placed_text}
-use Rattle.compact_repr.specs.Capacity.{Growth, with_capacity_asks, from_string_placement}
+use Rattle.compact_repr.specs.Capacity.{Growth, from_string_placement, WithCapacityAllocates}
 use Rattle.compact_repr.specs.Calls.{new}
 
 -- r is a new value with the text that the bytes s encode; up to 24 of them never fail
@@ -14,11 +14,11 @@ pub record CopiesText {E : Type 0} (g : Growth) (s : List ℕ) (r : Result Place
   pub text : IfOk r (λ v. v.text ≡ text_of s)
   pub bytes : IfOk r (λ v. utf8 v.text ≡ s)
   pub succeeds : length s ≤ 24 → IsOk r
-  pub err : OnErr r (IsTrue (with_capacity_asks (length s)))
+  pub err : OnErr r (WithCapacityAllocates (length s))
 
 -- a borrowed text is copied, and refused only where that asks for a heap buffer; an owned one is taken over
 abbrev pub TakesCow : {Z E : Type 0} → Growth → CowStr Z → Result PlacedText E → Type 0
-TakesCow g (Borrowed s) r = MatchResult r (λ v. new g (text_of s.now) ≡ Some v) (λ _. IsTrue (with_capacity_asks (length s.now)))
+TakesCow g (Borrowed s) r = MatchResult r (λ v. new g (text_of s.now) ≡ Some v) (λ _. WithCapacityAllocates (length s.now))
 TakesCow g (Owned s) r = IsOkAnd r (λ v. let t = text_of (string_bytes s) in v ≡ placed_text t (from_string_placement t (string_capacity s)))
 
 -- taking the text is never refused: it is owned, or has at most 24 bytes

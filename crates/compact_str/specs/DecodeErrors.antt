@@ -1,5 +1,5 @@
 -- Why bytes or units were not decoded.
-use Rattle.std.specs.Prelude.{◌≡◌, ℕ, List, [], length, drop, IsTrue}
+use Rattle.std.specs.Prelude.{◌≡◌, ℕ, List, [], length, drop}
 use Rattle.std.specs.Str.{IsUtf8, valid_up_to, error_len}
 use Rattle.std.specs.declared.str.Utf8Error.{Utf8Error}
 use Rattle.compact_codec.specs.InvalidSequence.{IsUtf8Error}
@@ -7,11 +7,11 @@ use Rattle.compact_codec.specs.Utf16Text.{IsUtf16, UnitsEncode}
 use Rattle.compact_codec.specs.Utf16Bytes.{units_of, ArePairs, IsUtf16Bytes}
 use Rattle.compact_codec.specs.declared.utf16_bytes.ByteOrder.{ByteOrder}
 use Rattle.compact_repr.specs.Text.{size}
-use Rattle.compact_repr.specs.Capacity.{with_capacity_asks}
 use Rattle.compact_str.specs.declared.decode.error.FromUtf8Error.{FromUtf8Error}
 use Rattle.compact_str.specs.declared.decode.error.FromUtf8Error.TheVariants.{Utf8, Reserve}
 use Rattle.compact_str.specs.declared.decode.error.FromUtf16Error.{FromUtf16Error}
 use Rattle.compact_str.specs.declared.decode.error.FromUtf16Error.TheVariants.{Utf16, Reserve as NoRoom}
+use Rattle.compact_repr.specs.Capacity.{WithCapacityAllocates}
 
 -- the bytes that are left of these, once a beginning of them is taken
 abbrev pub IsSuffixOf : List ℕ → List ℕ → Type 0
@@ -24,18 +24,18 @@ pub record IsErrorOf (bytes : List ℕ) (e : Utf8Error) : Type 0 where
 -- a slice of bytes encodes no text, and the error tells where; or it encodes one, for which memory was refused
 abbrev pub IsUtf8Refusal : List ℕ → FromUtf8Error → Type 0
 IsUtf8Refusal bytes (Utf8 valid_up_to error_len) = ¬ (IsUtf8 bytes) × IsUtf8Error bytes valid_up_to error_len
-IsUtf8Refusal bytes (Reserve _) = IsUtf8 bytes × IsTrue (with_capacity_asks (length bytes))
+IsUtf8Refusal bytes (Reserve _) = IsUtf8 bytes × WithCapacityAllocates (length bytes)
 
 -- a reader of these bytes that leaves those took them all, and they encode no text; or it took a beginning of them, and was
 -- refused memory before it validated them
 abbrev pub IsUtf8BufRefusal : List ℕ → List ℕ → FromUtf8Error → Type 0
 IsUtf8BufRefusal bytes left (Utf8 valid_up_to error_len) = ¬ (IsUtf8 bytes) × IsUtf8Error bytes valid_up_to error_len × (left ≡ [])
-IsUtf8BufRefusal bytes left (Reserve _) = IsTrue (with_capacity_asks (length bytes)) × IsSuffixOf left bytes
+IsUtf8BufRefusal bytes left (Reserve _) = WithCapacityAllocates (length bytes) × IsSuffixOf left bytes
 
 -- units encode no text; or they encode one, for which memory was refused
 abbrev pub IsUtf16Refusal : List ℕ → FromUtf16Error → Type 0
 IsUtf16Refusal units (Utf16 _) = ¬ (IsUtf16 units)
-IsUtf16Refusal units (NoRoom _) = (text : List ℕ) × UnitsEncode units text × IsTrue (with_capacity_asks (size text))
+IsUtf16Refusal units (NoRoom _) = (text : List ℕ) × UnitsEncode units text × WithCapacityAllocates (size text)
 
 -- the bytes are those of this text's units, two and two
 abbrev pub PairsEncode : ByteOrder → List ℕ → List ℕ → Type 0
@@ -44,4 +44,4 @@ PairsEncode order bytes text = ArePairs bytes × UnitsEncode (units_of order byt
 -- the same of bytes that stand for units
 abbrev pub IsUtf16BytesRefusal : ByteOrder → List ℕ → FromUtf16Error → Type 0
 IsUtf16BytesRefusal order bytes (Utf16 _) = ¬ (IsUtf16Bytes order bytes)
-IsUtf16BytesRefusal order bytes (NoRoom _) = (text : List ℕ) × PairsEncode order bytes text × IsTrue (with_capacity_asks (size text))
+IsUtf16BytesRefusal order bytes (NoRoom _) = (text : List ℕ) × PairsEncode order bytes text × WithCapacityAllocates (size text)

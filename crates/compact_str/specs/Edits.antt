@@ -1,13 +1,12 @@
 -- What an edit by byte position gives: none where it must be refused.
-use Rattle.std.specs.Prelude.{◌≡◌, ◌≤◌, ℕ, ◌+◌, ◌*◌, Bool, not, ◌&&◌, List, [], ◌∷◌, ◌++◌, Option, Some, None, option_map, nat_eq, zero, suc, if◌then◌else◌, Result, IfOk, IsOk, OnErr, IsTrue}
+use Rattle.std.specs.Prelude.{IsTrue, ◌≡◌, ◌≤◌, ℕ, ◌+◌, ◌*◌, Bool, not, ◌&&◌, List, [], ◌∷◌, ◌++◌, Option, Some, None, option_map, nat_eq, zero, suc, if◌then◌else◌, Result, IfOk, IsOk, OnErr}
 use Rattle.std.specs.Char.{len_utf8}
 use Rattle.std.specs.Str.{IsUtf8}
 use Rattle.compact_repr.specs.Text.{size, text_of, utf8}
 use Rattle.compact_repr.specs.Cut.{text_before, text_after, replaced_text}
-use Rattle.compact_repr.specs.Value.{Placement, PlacedText, placed_text, is_static}
+use Rattle.compact_repr.specs.Value.{Placement, PlacedText, placed_text, is_static, IsOwned}
 use Rattle.compact_repr.specs.Calls.{push_str}
-use Rattle.compact_repr.specs.Capacity.{Growth, new_placement, with_capacity_placement, with_capacity_asks, shortened_placement, owned_placement, make_owned_asks, const_new_placement, clone_placement, clone_asks}
-use Rattle.compact_str.specs.Room.{IsOwned}
+use Rattle.compact_repr.specs.Capacity.{Growth, new_placement, with_capacity_placement, with_capacity_allocates, shortened_placement, owned_placement, const_new_placement, clone_placement, clone_allocates, MakeOwnedAllocates}
 
 -- a formatter's write of some bytes takes v to w: they are those of a text, which is joined to v
 pub record Writes (g : Growth) (v : PlacedText) (bytes : List ℕ) (w : PlacedText) : Type 0 where
@@ -27,7 +26,7 @@ pub record RemovesChar {E : Type 0} (g : Growth) (v : PlacedText) (index : ℕ) 
   pub character : IfOk r (λ c. text_after v.text index ≡ c ∷ text_after w.text index)
   pub succeeds : IsOwned v → IsOk r
   pub succeeds_short : size v.text ≤ 24 → IsOk r
-  pub err : OnErr r ((w ≡ v) × IsTrue (make_owned_asks v))
+  pub err : OnErr r ((w ≡ v) × MakeOwnedAllocates v)
 
 -- the placement of a tail that is split off: of a static text it is borrowed too
 abbrev pub tail_placement : Growth → PlacedText → List ℕ → Option Placement
@@ -42,8 +41,11 @@ pub record SplitsOff (g : Growth) (v : PlacedText) (index : ℕ) (tail w : Place
   pub leaves : split_tail g v index ≡ Some tail
   pub stays : let front = text_before v.text index in w ≡ placed_text front (shortened_placement v front)
 
-abbrev pub split_asks : PlacedText → ℕ → Bool
-split_asks v index = not (is_static v.placement.place) && with_capacity_asks (size (text_after v.text index))
+abbrev pub split_allocates : PlacedText → ℕ → Bool
+split_allocates v index = not (is_static v.placement.place) && with_capacity_allocates (size (text_after v.text index))
+
+abbrev pub SplitAllocates : PlacedText → ℕ → Type 0
+SplitAllocates v index = IsTrue (split_allocates v index)
 
 -- t so many times
 abbrev pub repeated_text : ℕ → List ℕ → List ℕ
@@ -59,5 +61,8 @@ abbrev pub repeat : Growth → PlacedText → ℕ → Option PlacedText
 repeat g v n =
     option_map (placed_text (repeated_text n v.text)) (if repeats_by_copy v n then clone_placement g v else with_capacity_placement g (size v.text * n))
 
-abbrev pub repeat_asks : PlacedText → ℕ → Bool
-repeat_asks v n = if repeats_by_copy v n then clone_asks v else with_capacity_asks (size v.text * n)
+abbrev pub repeat_allocates : PlacedText → ℕ → Bool
+repeat_allocates v n = if repeats_by_copy v n then clone_allocates v else with_capacity_allocates (size v.text * n)
+
+abbrev pub RepeatAllocates : PlacedText → ℕ → Type 0
+RepeatAllocates v n = IsTrue (repeat_allocates v n)

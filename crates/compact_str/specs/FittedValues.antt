@@ -1,8 +1,8 @@
 -- A value whose text came in parts: where it stands, and how it is made.
-use Rattle.std.specs.Prelude.{◌≡◌, ◌<◌, ◌≤◌, ℕ, List, Result, IfOk, OnErr, IsOk, IsTrue}
+use Rattle.std.specs.Prelude.{◌≡◌, ◌<◌, ◌≤◌, ℕ, List, Result, IfOk, OnErr, IsOk}
 use Rattle.compact_repr.specs.Text.{size}
 use Rattle.compact_repr.specs.Value.{heap, PlacedText}
-use Rattle.compact_repr.specs.Capacity.{inline_placement, with_capacity_asks}
+use Rattle.compact_repr.specs.Capacity.{inline_placement, WithCapacityAllocates}
 
 -- v stands as a text that came in parts: in the value itself up to 24 bytes, else on the heap, in a buffer of any
 -- capacity that holds the text
@@ -15,4 +15,4 @@ pub record MakesText {E : Type 0} (t : List ℕ) (r : Result PlacedText E) : Typ
   pub text : IfOk r (λ v. v.text ≡ t)
   pub fitted : IfOk r IsPlacedBySize
   pub succeeds : size t ≤ 24 → IsOk r
-  pub err : OnErr r (IsTrue (with_capacity_asks (size t)))
+  pub err : OnErr r (WithCapacityAllocates (size t))

@@ -1,9 +1,9 @@
 -- What becomes of a JSON value.
-use Rattle.std.specs.Prelude.{◌≡◌, ◌≤◌, ℕ, List, length, Result, IsOk, MatchResult, IsTrue, Some, Err, ⊤}
+use Rattle.std.specs.Prelude.{◌≡◌, ◌≤◌, ℕ, List, length, Result, IsOk, MatchResult, Some, Err, ⊤}
 use Rattle.serde_json.specs.Data.{Data, null, boolean, number, string, array, object}
 use Rattle.compact_repr.specs.Text.{text_of}
 use Rattle.compact_repr.specs.Value.{PlacedText}
-use Rattle.compact_repr.specs.Capacity.{Growth, with_capacity_asks}
+use Rattle.compact_repr.specs.Capacity.{Growth, WithCapacityAllocates}
 use Rattle.compact_repr.specs.Calls.{new}
 use Rattle.compact_str.specs.declared.string.json.FromJsonError.{FromJsonError}
 use Rattle.compact_str.specs.declared.string.json.FromJsonError.TheVariants.{NotAString, Reserve}
@@ -15,7 +15,7 @@ IsJsonReserve (Reserve _) = ⊤
 
 -- r is what a JSON string with some bytes gives: a new value with their text, which up to 24 of them is never refused
 pub record ReadsString (g : Growth) (bytes : List ℕ) (r : Result PlacedText FromJsonError) : Type 0 where
-  pub outcome : MatchResult r (λ v. new g (text_of bytes) ≡ Some v) (λ e. IsJsonReserve e × IsTrue (with_capacity_asks (length bytes)))
+  pub outcome : MatchResult r (λ v. new g (text_of bytes) ≡ Some v) (λ e. IsJsonReserve e × WithCapacityAllocates (length bytes))
   pub succeeds : length bytes ≤ 24 → IsOk r
 
 -- a string is copied, and every other JSON value is no string

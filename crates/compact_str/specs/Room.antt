@@ -1,13 +1,9 @@
 -- When a text is sure to fit.
-use Rattle.std.specs.Prelude.{◌≡◌, ℕ, ◌+◌, ◌≤◌, [], false, max, if◌then◌else◌, Result, IfOk, OnOk, OnErr, IsOk, Some, IsTrue}
+use Rattle.std.specs.Prelude.{◌≡◌, ℕ, ◌+◌, ◌≤◌, [], false, max, if◌then◌else◌, Result, IfOk, OnOk, OnErr, IsOk, Some}
 use Rattle.compact_repr.specs.Text.{size}
-use Rattle.compact_repr.specs.Value.{PlacedText, is_static}
-use Rattle.compact_repr.specs.Capacity.{Growth, with_capacity_asks, reserve_asks}
+use Rattle.compact_repr.specs.Value.{PlacedText, is_static, IsOwned}
+use Rattle.compact_repr.specs.Capacity.{Growth, WithCapacityAllocates, ReserveAllocates}
 use Rattle.compact_repr.specs.Calls.{with_capacity, reserve}
-
--- v's bytes are its own, and may be changed in place
-abbrev pub IsOwned : PlacedText → Type 0
-IsOwned v = is_static v.placement.place ≡ false
 
 -- the capacity that v owns
 abbrev pub own_capacity : PlacedText → ℕ
@@ -27,7 +23,7 @@ pub record MakesEmpty {E : Type 0} (g : Growth) (n : ℕ) (r : Result PlacedText
   pub text : IfOk r (λ v. v.text ≡ [])
   pub room : IfOk r (λ v. HasRoomFor v n)
   pub succeeds : n ≤ 24 → IsOk r
-  pub err : OnErr r (IsTrue (with_capacity_asks n))
+  pub err : OnErr r (WithCapacityAllocates n)
 
 -- v has made room for n more bytes, which leaves w, or is as it was where that is refused
 pub record Reserves {E : Type 0} (g : Growth) (v : PlacedText) (n : ℕ) (r : Result (Unit {0}) E) (w : PlacedText) : Type 0 where
@@ -35,4 +31,4 @@ pub record Reserves {E : Type 0} (g : Growth) (v : PlacedText) (n : ℕ) (r : Re
   pub text : w.text ≡ v.text
   pub room : OnOk r (HasRoomFor w n)
   pub succeeds : HasRoomFor v n → IsOk r
-  pub err : OnErr r ((w ≡ v) × IsTrue (reserve_asks v n))
+  pub err : OnErr r ((w ≡ v) × ReserveAllocates v n)

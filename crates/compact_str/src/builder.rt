@@ -47,7 +47,7 @@ impl<P: Policy> Drop for Builder<P> {
     }
 }
 
-#[tactic(auto, using(compact_text::proofs::TextFacts::text_facts, crate::proofs::CollectFacts::builder_facts))]
+#[tactic(auto, using(crate::proofs::CollectFacts::builder_facts))]
 impl<P: Policy> Builder<P> {
     /// Nothing yet.
     #[inline]

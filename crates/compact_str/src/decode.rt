@@ -18,7 +18,7 @@ const REPLACEMENT: &str = "\u{FFFD}";
 /// Appends `text` to a fitted value, which stays so. Where it leaves the value itself, room is also made for `more` bytes
 /// behind it, which the caller knows to come.
 #[inline]
-#[tactic(auto, using(compact_text::proofs::TextFacts::text_facts, crate::proofs::FittedTexts::fitted_facts))]
+#[tactic(auto, using(crate::proofs::FittedTexts::fitted_facts))]
 fn push_fitted(made: &mut CompactString, text: &str, more: usize) -> Result<(), ReserveError>
     requires { IsPlacedBySize made.old }
     ensures fitted { OnOk result (IsPlacedBySize made.new) }

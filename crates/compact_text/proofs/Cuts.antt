@@ -10,6 +10,7 @@ use lib.Dec.{leb}
 use lib.Utf8.{encode, encodes, scalar, scalars}
 use Rattle.compact_text.specs.Text.{size, text_of}
 use Rattle.compact_text.specs.Cut.{IsCut, IsBoundary, IsAsciiAt, text_before, text_after, replaced_text, CutIsBeforeAndAfter}
+use Rattle.compact_text.proofs.TextFacts.{text_facts}
 use Rattle.compact_text.proofs.Texts.{length-utf8, size-text_of, size-append}
 
 -- a text is what stands before a position and what stands after it
@@ -183,4 +184,4 @@ pub boundary-ascii : (t : List ℕ) (p c : ℕ) → IsBoundary t p → IsAsciiAt
 boundary-ascii t p c h a = subst (λ (n : ℕ). IsBoundary t (p + n)) a.width (boundary-next t a.rest p c h a.text)
 
 -- of the last character
-pub ruleset last_facts = (size-last, boundary-last, text_before-last)
+pub ruleset last_facts = (text_facts, size-last, boundary-last, text_before-last)

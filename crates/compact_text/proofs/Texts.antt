@@ -31,6 +31,3 @@ empty_text (c ∷ cs) e = absurd (let w = len_utf8_bounds c in omega (arith, w.0
 
 pub text_of-empty : (bytes : List ℕ) → length bytes ≡ 0 → text_of bytes ≡ []
 text_of-empty bytes e = ap text_of (nil_from_length bytes e) ∙ chars-nil
-
--- of a text with no bytes
-pub ruleset empty_facts = (text_of-empty)

@@ -139,7 +139,7 @@ fn tell_len(room: &mut [u8; 24], len: usize) -> bool
 }
 
 /// Reads a text of so many bytes, of which nothing is copied once it has come.
-#[tactic(auto, using(compact_text::proofs::TextFacts::text_facts, crate::proofs::WireForms::made_texts))]
+#[tactic(auto, using(crate::proofs::WireForms::made_texts))]
 fn read_long<R: Read>(alloc: Global, len: usize, reader: &mut R) -> Result<CompactString, WireError>
     requires long { 24 < len }
     requires fits { len < 2 ^ 32 }

@@ -160,7 +160,7 @@ fn shown_text(alloc: Global, bytes: &[u8]) -> Result<Option<CompactString>, Rese
 /// A text of the bytes, which are one: inline up to 24 bytes, and a longer one on the heap with just the capacity that it
 /// needs. The error says that room for that was refused.
 #[inline]
-#[tactic(auto, using(compact_text::proofs::TextFacts::text_facts, crate::proofs::WireForms::made_texts))]
+#[tactic(auto, using(crate::proofs::WireForms::made_texts))]
 fn copy_of(alloc: Global, bytes: &[u8]) -> Result<CompactString, ReserveError>
     requires { IsUtf8 bytes.now }
     ensures bytes { IfOk result (λ v. utf8 v.text ≡ bytes.now) }

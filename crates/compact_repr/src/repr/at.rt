@@ -1,10 +1,10 @@
 //! What stands at a position of a representation's text, in bytes.
-ghost use Rattle.std.specs.Prelude.{◌≡◌, ◌-◌, ◌<◌, ◌≤◌, ℕ, List, [], ◌∷◌, ◌++◌, length, true, false, IsTrue, ◌↔◌, IfSome, IsSome, MatchOption};
+ghost use Rattle.std.specs.Prelude.{◌≡◌, ◌-◌, ◌<◌, ◌≤◌, ℕ, List, [], ◌∷◌, ◌++◌, length, true, IsTrue, ◌↔◌, IfSome, IsSome, MatchOption};
 ghost use Rattle.std.specs.Char.{len_utf8};
 ghost use Rattle.std.specs.Str.{IsCharBoundary};
 ghost use Rattle.compact_text.specs.Text.{size, utf8, text_of};
 ghost use Rattle.compact_text.specs.Cut.{IsBoundary, text_after, substring};
-ghost use Rattle.compact_repr.specs.Value.{is_heap, is_static};
+ghost use Rattle.compact_repr.specs.Value.{is_static, IsOwned, IsHeap};
 
 use crate::policy::Policy;
 use crate::repr::{Buffer, Repr};
@@ -14,7 +14,7 @@ impl<P: Policy> Repr<P> {
     /// The text of a heap value; `None` of any other. In a loop it is found out once, and not at each turn, where the text stands.
     #[inline(always)]
     pub fn heap_str(&self) -> Option<&str>
-        ensures place { IsSome result ↔ IsTrue (is_heap self.now.placement.place) }
+        ensures place { IsSome result ↔ IsHeap self.now }
         ensures bytes { IfSome result (λ s. s.now ≡ utf8 self.now.text) }
         ensures text { IfSome result (λ s. text_of s.now ≡ self.now.text) }
     {
@@ -69,7 +69,7 @@ impl<P: Policy> Repr<P> {
     #[inline]
     pub fn static_suffix(&self, index: usize) -> Option<&'static str>
         requires { IsBoundary self.now.text index }
-        ensures { MatchOption result (is_static self.now.placement.place ≡ false)
+        ensures { MatchOption result (IsOwned self.now)
             (λ s. (is_static self.now.placement.place ≡ true)
             × (text_of s.now ≡ text_after self.now.text index)) }
     {

@@ -1,8 +1,8 @@
 //! How room is made and given back.
 ghost use Rattle.std.specs.Prelude.{length, ◌≡◌, ◌*◌, ◌/◌, ◌<◌, ◌≤◌, ◌^◌, [], false, max, nat_le, if◌then◌else◌, Some, None, IfOk, OnOk, OnErr, IsOk, IsTrue};
 ghost use Rattle.compact_text.specs.Text.{size, text_of};
-ghost use Rattle.compact_repr.specs.Value.{placed_text, is_heap, is_static};
-ghost use Rattle.compact_repr.specs.Capacity.{with_capacity_asks, fits_in_place, reserve_asks, make_owned_asks, inline_placement, heap_placement, max_capacity};
+ghost use Rattle.compact_repr.specs.Value.{placed_text, IsHeap};
+ghost use Rattle.compact_repr.specs.Capacity.{fits_in_place, inline_placement, heap_placement, max_capacity, WithCapacityAllocates, MakeOwnedAllocates, ReserveAllocates};
 ghost use Rattle.compact_repr.specs.Calls.{new, reserve, make_owned, Shrinks};
 
 use crate::error::ReserveError;
@@ -26,7 +26,7 @@ impl<P: Policy> Repr<P> {
         ensures ok { OnOk result (reserve P.growth self.old additional ≡ Some self.new) }
         ensures room { OnOk result (IsTrue (fits_in_place self.new additional)) }
         ensures err { OnErr result
-            ((self.new ≡ self.old) × IsTrue (reserve_asks self.old additional)) }
+            ((self.new ≡ self.old) × ReserveAllocates self.old additional) }
     {
         if self.fits_in_place(additional) {
             return Ok(());
@@ -58,7 +58,7 @@ impl<P: Policy> Repr<P> {
         ensures ok { OnOk result (reserve P.growth self.old additional ≡ Some self.new) }
         ensures room { OnOk result (IsTrue (fits_in_place self.new additional)) }
         ensures err { OnErr result
-            ((self.new ≡ self.old) × IsTrue (reserve_asks self.old additional)) }
+            ((self.new ≡ self.old) × ReserveAllocates self.old additional) }
         ensures small { size self.old.text < 2 ^ 63 }
     {
         let len = self.len();
@@ -84,7 +84,7 @@ impl<P: Policy> Repr<P> {
     pub fn make_owned(&mut self) -> Result<(), ReserveError>
         ensures ok { OnOk result (make_owned P.growth self.old ≡ Some self.new) }
         ensures room { OnOk result (IsTrue (fits_in_place self.new 0)) }
-        ensures err { OnErr result ((self.new ≡ self.old) × IsTrue (make_owned_asks self.old)) }
+        ensures err { OnErr result ((self.new ≡ self.old) × MakeOwnedAllocates self.old) }
     {
         let Buffer::Static(text) = &self.buffer else {
             return Ok(());
@@ -99,7 +99,7 @@ impl<P: Policy> Repr<P> {
     #[inline(never)]
     fn copy_static(alloc: Global, text: &'static str) -> Result<Self, ReserveError>
         ensures ok { IfOk result (λ r. new P.growth (text_of text.now) ≡ Some r) }
-        ensures err { OnErr result (IsTrue (with_capacity_asks (length text.now))) }
+        ensures err { OnErr result (WithCapacityAllocates (length text.now)) }
     {
         Self::new(alloc, text)
     }
@@ -140,7 +140,7 @@ impl<P: Policy> Repr<P> {
     /// [`ReserveError`] if that buffer is refused.
     fn move_to_heap(&mut self, capacity: usize) -> Result<(), ReserveError>
         requires fits { size self.old.text ≤ capacity }
-        requires grows { IsTrue (is_heap self.old.placement.place)
+        requires grows { IsHeap self.old
             → self.old.placement.capacity ≤ capacity }
         ensures ok { OnOk result (self.new ≡ placed_text self.old.text (heap_placement capacity)) }
         ensures err { OnErr result (self.new ≡ self.old) }

@@ -3,7 +3,7 @@
 ghost use Rattle.std.specs.Prelude.{◌≡◌, ◌+◌, ◌-◌, ◌^◌, ◌≤◌, ◌<◌, [], ◌∷◌, ◌++◌, length, nat_eq, ◌||◌, IsTrue, false, ◌↔◌, IsSome, IfSome, None};
 ghost use Rattle.compact_text.specs.Text.{size, text_of, ascii_lowercase, ascii_uppercase};
 ghost use Rattle.compact_text.specs.Cut.{IsBoundary, IsAsciiAt, substring, replaced_text};
-ghost use Rattle.compact_repr.specs.Value.{placed_text, is_static};
+ghost use Rattle.compact_repr.specs.Value.{placed_text, IsOwned};
 ghost use Rattle.compact_repr.specs.Capacity.{fits_in_place};
 ghost use Rattle.compact_repr.specs.Calls.{clear, truncate, zeroize, PopsChar};
 ghost use Rattle.compact_text.specs.Retain.{RetainsCharsTo};
@@ -58,7 +58,7 @@ impl<P: Policy> Repr<P> {
         requires order { start ≤ end }
         requires first { IsBoundary self.old.text start }
         requires last { IsBoundary self.old.text end }
-        ensures owned { IsTrue result ↔ (is_static self.old.placement.place ≡ false) }
+        ensures owned { IsTrue result ↔ (IsOwned self.old) }
         ensures cut { IsTrue result
             → self.new ≡ placed_text (replaced_text self.old.text start end []) self.old.placement }
         ensures full { result ≡ false → self.new ≡ self.old }
@@ -101,7 +101,7 @@ impl<P: Policy> Repr<P> {
     #[inline]
     pub fn try_remove_ascii(&mut self, index: usize) -> Option<char>
         requires { IsBoundary self.old.text index }
-        ensures owned { IsSome result → is_static self.old.placement.place ≡ false }
+        ensures owned { IsSome result → IsOwned self.old }
         ensures character { IfSome result (λ c. IsAsciiAt self.old.text index c) }
         ensures removed { IsSome result
             → self.new ≡ placed_text (replaced_text self.old.text index
@@ -157,7 +157,7 @@ impl<P: Policy> Repr<P> {
     /// Replaces the whole text by `text` if the value is owned and has room for it, or if `text` is empty. Returns whether it
     /// did; if not, nothing has changed. The place stays, and so does an owned capacity.
     #[inline]
-    #[tactic(auto, using(compact_text::proofs::TextFacts::text_facts, compact_text::proofs::Texts::empty_facts))]
+    #[tactic(auto, using(compact_text::proofs::TextFacts::empty_facts))]
     pub fn try_assign(&mut self, text: &str) -> bool
         ensures fits { result
             ≡ (nat_eq (length text.now) 0 || fits_in_place (clear self.old) (length text.now)) }
@@ -192,7 +192,7 @@ impl<P: Policy> Repr<P> {
 
     /// Makes A to Z lowercase in an owned value; the place and the capacity stay.
     pub fn make_ascii_lowercase(&mut self)
-        requires { is_static self.old.placement.place ≡ false }
+        requires { IsOwned self.old }
         ensures { self.new ≡ placed_text (ascii_lowercase self.old.text) self.old.placement }
     {
         match &mut self.buffer {
@@ -204,7 +204,7 @@ impl<P: Policy> Repr<P> {
 
     /// Makes a to z uppercase in an owned value; the place and the capacity stay.
     pub fn make_ascii_uppercase(&mut self)
-        requires { is_static self.old.placement.place ≡ false }
+        requires { IsOwned self.old }
         ensures { self.new ≡ placed_text (ascii_uppercase self.old.text) self.old.placement }
     {
         match &mut self.buffer {
@@ -230,7 +230,7 @@ impl<P: Policy> Repr<P> {
     /// and the capacity stay.
     #[inline]
     pub fn retain<F: FnMut(char) -> bool>(&mut self, keep: &mut F)
-        requires owned { is_static self.old.placement.place ≡ false }
+        requires owned { IsOwned self.old }
         requires callable { F.IsAlwaysCallable keep.old }
         ensures text { RetainsCharsTo F.FnMut keep.old self.old.text self.new.text keep.new }
         ensures callable { F.IsAlwaysCallable keep.new }

@@ -1,9 +1,9 @@
 //! Changes of a representation's text that may have to make room first, or to make the value owned.
-ghost use Rattle.std.specs.Prelude.{◌≡◌, ◌-◌, ◌^◌, ◌<◌, ◌≤◌, [], length, Some, OnOk, OnErr, IsTrue, false};
+ghost use Rattle.std.specs.Prelude.{◌≡◌, ◌-◌, ◌^◌, ◌<◌, ◌≤◌, [], length, Some, OnOk, OnErr, false};
 ghost use Rattle.compact_text.specs.Text.{size, text_of};
 ghost use Rattle.compact_text.specs.Cut.{IsBoundary, substring};
-ghost use Rattle.compact_repr.specs.Capacity.{fits_in_place, reserve_asks};
-ghost use Rattle.compact_repr.specs.Calls.{push_str, push_str_asks, insert_str, replace_range, replace_range_asks};
+ghost use Rattle.compact_repr.specs.Capacity.{fits_in_place, ReserveAllocates};
+ghost use Rattle.compact_repr.specs.Calls.{push_str, insert_str, replace_range, PushStrAllocates, ReplaceRangeAllocates};
 
 use crate::error::ReserveError;
 use crate::policy::Policy;
@@ -17,11 +17,11 @@ impl<P: Policy> Repr<P> {
     ///
     /// [`ReserveError`] if `text` does not fit and a new buffer cannot be allocated.
     #[inline(never)]
-    #[tactic(auto, using(compact_text::proofs::TextFacts::text_facts, crate::proofs::Changes::append_in_place_facts, crate::proofs::MoreRoom::slow_facts))]
+    #[tactic(auto, using(crate::proofs::Changes::append_in_place_facts, crate::proofs::MoreRoom::slow_facts))]
     pub fn push_str_slow(&mut self, text: &str) -> Result<(), ReserveError>
         ensures ok { OnOk result (push_str P.growth self.old (text_of text.now) ≡ Some self.new) }
         ensures err { OnErr result
-            ((self.new ≡ self.old) × IsTrue (push_str_asks self.old (text_of text.now))) }
+            ((self.new ≡ self.old) × PushStrAllocates self.old (text_of text.now)) }
     {
         // A text that was too long to be tried inline may fit.
         if self.try_push_str(text) || text.is_empty() {
@@ -42,14 +42,14 @@ impl<P: Policy> Repr<P> {
     /// [`ReserveError`] if a new buffer cannot be allocated.
     #[cold]
     #[inline(never)]
-    #[tactic(auto, using(compact_text::proofs::TextFacts::text_facts, crate::proofs::MoreRoom::slow_facts))]
+    #[tactic(auto, using(crate::proofs::MoreRoom::slow_facts))]
     pub fn insert_str_slow(&mut self, index: usize, text: &str) -> Result<(), ReserveError>
         requires full { fits_in_place self.old (length text.now) ≡ false }
         requires boundary { IsBoundary self.old.text index }
         ensures ok { OnOk result
             (insert_str P.growth self.old index (text_of text.now) ≡ Some self.new) }
         ensures err { OnErr result
-            ((self.new ≡ self.old) × IsTrue (reserve_asks self.old (length text.now))) }
+            ((self.new ≡ self.old) × ReserveAllocates self.old (length text.now)) }
         ensures small { size self.old.text < 2 ^ 63 }
     {
         self.make_room(text.len())?;
@@ -65,14 +65,14 @@ impl<P: Policy> Repr<P> {
     ///
     /// [`ReserveError`] if a static text cannot be made owned.
     #[inline]
-    #[tactic(auto, using(compact_text::proofs::TextFacts::text_facts, crate::proofs::Changes::removal_facts))]
+    #[tactic(auto, using(crate::proofs::Changes::removal_facts))]
     pub fn cut_out(&mut self, start: usize, end: usize) -> Result<(), ReserveError>
         requires order { start ≤ end }
         requires first { IsBoundary self.old.text start }
         requires last { IsBoundary self.old.text end }
         ensures ok { OnOk result (replace_range P.growth self.old start end [] ≡ Some self.new) }
         ensures err { OnErr result
-            ((self.new ≡ self.old) × IsTrue (replace_range_asks self.old start end [])) }
+            ((self.new ≡ self.old) × ReplaceRangeAllocates self.old start end []) }
     {
         if self.try_cut_out(start, end) {
             return Ok(());
@@ -88,7 +88,7 @@ impl<P: Policy> Repr<P> {
     /// [`ReserveError`] if a new buffer cannot be allocated.
     #[cold]
     #[inline(never)]
-    #[tactic(auto, using(compact_text::proofs::TextFacts::text_facts, crate::proofs::MoreRoom::slow_facts))]
+    #[tactic(auto, using(crate::proofs::MoreRoom::slow_facts))]
     pub fn replace_slow(&mut self, start: usize, end: usize, text: &str) -> Result<(), ReserveError>
         requires full { fits_in_place self.old (length text.now - (end - start)) ≡ false }
         requires order { start ≤ end }
@@ -98,7 +98,7 @@ impl<P: Policy> Repr<P> {
             (replace_range P.growth self.old start end (text_of text.now) ≡ Some self.new) }
         ensures err { OnErr result
             ((self.new ≡ self.old)
-            × IsTrue (replace_range_asks self.old start end (text_of text.now))) }
+            × ReplaceRangeAllocates self.old start end (text_of text.now)) }
     {
         let replaced = end - start;
         if text.len() <= replaced {
@@ -126,7 +126,7 @@ impl<P: Policy> Repr<P> {
             (push_str P.growth self.old (substring self.old.text start end) ≡ Some self.new) }
         ensures err { OnErr result
             ((self.new ≡ self.old)
-            × IsTrue (push_str_asks self.old (substring self.old.text start end))) }
+            × PushStrAllocates self.old (substring self.old.text start end)) }
     {
         let len = end - start;
         if len == 0 {

@@ -1,10 +1,10 @@
 //! How a representation is made.
-ghost use Rattle.std.specs.Prelude.{◌≡◌, ◌<◌, ◌≤◌, ℕ, List, length, nat_eq, if◌then◌else◌, [], Some, IfOk, OnErr, IsOk, IsTrue, MatchOption, string_bytes};
+ghost use Rattle.std.specs.Prelude.{◌≡◌, ◌<◌, ◌≤◌, ℕ, List, length, nat_eq, if◌then◌else◌, [], Some, IfOk, OnErr, IsOk, MatchOption, string_bytes};
 ghost use Rattle.std.specs.String.{string_capacity};
 ghost use Rattle.compact_text.specs.Text.{size, text_of};
 ghost use Rattle.compact_repr.specs.Value.{placed_text};
 ghost use Rattle.compact_repr.specs.Packed.{IsPackedFor};
-ghost use Rattle.compact_repr.specs.Capacity.{inline_placement, heap_placement, with_capacity_asks, const_new_placement, from_string_placement, clone_asks};
+ghost use Rattle.compact_repr.specs.Capacity.{inline_placement, heap_placement, const_new_placement, from_string_placement, WithCapacityAllocates, CloneAllocates};
 ghost use Rattle.compact_repr.specs.Calls.{new, with_capacity, clone};
 
 use crate::error::ReserveError;
@@ -33,7 +33,7 @@ impl<P: Policy> Repr<P> {
     #[inline(always)]
     pub fn new(alloc: Global, text: &str) -> Result<Self, ReserveError>
         ensures ok { IfOk result (λ r. new P.growth (text_of text.now) ≡ Some r) }
-        ensures err { OnErr result (IsTrue (with_capacity_asks (length text.now))) }
+        ensures err { OnErr result (WithCapacityAllocates (length text.now)) }
     {
         if text.len() > INLINE_CAPACITY {
             let heap = Self::long_copy(alloc, text)?;
@@ -90,7 +90,7 @@ impl<P: Policy> Repr<P> {
     /// [`ReserveError`] if the heap buffer is refused.
     pub fn with_capacity(alloc: Global, capacity: usize) -> Result<Self, ReserveError>
         ensures ok { IfOk result (λ r. with_capacity P.growth capacity ≡ Some r) }
-        ensures err { OnErr result (IsTrue (with_capacity_asks capacity)) }
+        ensures err { OnErr result (WithCapacityAllocates capacity) }
     {
         if capacity <= INLINE_CAPACITY {
             return Ok(Self::empty(alloc));
@@ -137,7 +137,7 @@ impl<P: Policy> Repr<P> {
     #[inline(always)]
     pub fn try_clone(&self) -> Result<Self, ReserveError>
         ensures ok { IfOk result (λ r. clone P.growth self.now ≡ Some r) }
-        ensures err { OnErr result (IsTrue (clone_asks self.now)) }
+        ensures err { OnErr result (CloneAllocates self.now) }
     {
         match &self.buffer {
             Buffer::Static(text) => Ok(Self::of(self.alloc, Buffer::Static(text.clone()))),

@@ -1,11 +1,11 @@
 //! Whole buffers of bytes read as UTF-8.
-ghost use Rattle.std.specs.Prelude.{◌≡◌, ◌<◌, ◌≤◌, ◌++◌, [], length, IfOk, IfErr, OnOk, OnErr, IsOk, IsTrue};
+ghost use Rattle.std.specs.Prelude.{◌≡◌, ◌<◌, ◌≤◌, ◌++◌, [], length, IfOk, IfErr, OnOk, OnErr, IsOk};
 ghost use Rattle.std.specs.Str.{IsUtf8};
 ghost use Rattle.compact_repr.specs.Text.{text_of};
-ghost use Rattle.compact_repr.specs.Capacity.{with_capacity_asks};
 ghost use Rattle.compact_codec.specs.Utf8Text.{BytesEncode};
 ghost use Rattle.compact_str.specs.FittedValues.{IsPlacedBySize};
 ghost use Rattle.compact_str.specs.DecodeErrors.{IsSuffixOf, IsUtf8BufRefusal};
+ghost use Rattle.compact_repr.specs.Capacity.{WithCapacityAllocates};
 
 use crate::decode::error::FromUtf8Error;
 use crate::string::{CompactString, PolicyString};
@@ -26,7 +26,7 @@ impl PolicyString<Standard> {
     /// # Examples
     ///
     /// A buffer of F0 and 9F 92 96 in two pieces gives U+1F496.
-    #[tactic(auto, using(compact_text::proofs::TextFacts::text_facts, crate::proofs::FittedTexts::buf_facts))]
+    #[tactic(auto, using(crate::proofs::FittedTexts::buf_facts))]
     pub fn from_utf8_buf<B: Buf>(alloc: Global, buf: &mut B) -> Result<CompactString, FromUtf8Error>
         ensures text { IfOk result (λ v. BytesEncode (B.unread buf.old) v.text) }
         ensures fitted { IfOk result IsPlacedBySize }
@@ -59,7 +59,7 @@ impl PolicyString<Standard> {
     /// # Errors
     ///
     /// [`ReserveError`] if memory for more than 24 bytes is refused; then a beginning of the bytes may be taken.
-    #[tactic(auto, using(compact_text::proofs::TextFacts::text_facts, crate::proofs::FittedTexts::buf_facts))]
+    #[tactic(auto, using(crate::proofs::FittedTexts::buf_facts))]
     pub fn from_utf8_buf_unchecked<B: Buf>(
         alloc: Global,
         buf: &mut B,
@@ -71,7 +71,7 @@ impl PolicyString<Standard> {
         ensures kept { B.kept buf.new ≡ B.kept buf.old }
         ensures succeeds { length (B.unread buf.old) ≤ 24 → IsOk result }
         ensures err { OnErr result
-            (IsTrue (with_capacity_asks (length (B.unread buf.old)))
+            (WithCapacityAllocates (length (B.unread buf.old))
             × IsSuffixOf (B.unread buf.new) (B.unread buf.old)) }
     {
         if buf.remaining() <= INLINE_CAPACITY {

@@ -55,7 +55,7 @@ impl PolicyString<Standard> {
     /// # Examples
     ///
     /// `[0xD834, 0x0041]` gives U+FFFD and `A`.
-    #[tactic(auto, using(compact_text::proofs::TextFacts::text_facts, compact_codec::proofs::ForDecoders::lossy_decoding, crate::proofs::FittedTexts::decoded_part_facts))]
+    #[tactic(auto, using(compact_codec::proofs::ForDecoders::lossy_decoding, crate::proofs::FittedTexts::decoded_part_facts))]
     pub fn from_utf16_lossy(alloc: Global, units: &[u16]) -> Result<CompactString, ReserveError>
         ensures { MakesText (utf16_lossy_text units.now) result }
     {
@@ -172,7 +172,7 @@ fn from_bytes(
 }
 
 /// The text of the bytes, two bytes a unit, with U+FFFD for what is invalid.
-#[tactic(auto, using(compact_text::proofs::TextFacts::text_facts, compact_codec::proofs::ForDecoders::lossy_decoding, crate::proofs::FittedTexts::first_facts))]
+#[tactic(auto, using(compact_codec::proofs::ForDecoders::lossy_decoding, crate::proofs::FittedTexts::first_facts))]
 fn from_bytes_lossy(
     alloc: Global,
     order: ByteOrder,

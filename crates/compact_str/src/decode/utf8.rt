@@ -28,7 +28,7 @@ impl PolicyString<Standard> {
     ///
     /// `[0xC3, 0xA9]` gives `"é"`. `[0x61, 0xE2, 0x82]` has its error after 1 byte, with an open end.
     #[inline]
-    #[tactic(auto, using(compact_text::proofs::TextFacts::text_facts, crate::proofs::FittedTexts::strict_facts))]
+    #[tactic(auto, using(crate::proofs::FittedTexts::strict_facts))]
     pub fn from_utf8(alloc: Global, bytes: &[u8]) -> Result<CompactString, FromUtf8Error>
         ensures ok { IfOk result
             (λ v. new ⟦<Standard as Policy>⟧.growth (text_of bytes.now) ≡ Some v) }
@@ -62,7 +62,7 @@ impl PolicyString<Standard> {
     ///
     /// `[0xE1, 0x80, 0x41]` gives U+FFFD and `A`, and `[0xC0, 0x80]` two U+FFFD.
     #[inline]
-    #[tactic(auto, using(compact_text::proofs::TextFacts::text_facts, compact_codec::proofs::ForDecoders::lossy_decoding, crate::proofs::FittedTexts::new_facts))]
+    #[tactic(auto, using(compact_codec::proofs::ForDecoders::lossy_decoding, crate::proofs::FittedTexts::new_facts))]
     pub fn from_utf8_lossy(alloc: Global, bytes: &[u8]) -> Result<CompactString, ReserveError>
         ensures { MakesText (utf8_lossy_text bytes.now) result }
     {
@@ -88,7 +88,7 @@ impl PolicyString<Standard> {
 }
 
 /// The text of bytes of which the error is known, chunk by chunk.
-#[tactic(auto, using(compact_text::proofs::TextFacts::text_facts, compact_codec::proofs::ForDecoders::lossy_decoding, crate::proofs::FittedTexts::decoded_part_facts))]
+#[tactic(auto, using(compact_codec::proofs::ForDecoders::lossy_decoding, crate::proofs::FittedTexts::decoded_part_facts))]
 fn from_invalid(
     alloc: Global,
     bytes: &[u8],

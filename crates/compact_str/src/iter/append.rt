@@ -69,7 +69,7 @@ pub fn append_texts<T: AsText, U: IntoIterator<Item = T>>(
 
 /// Appends one text, for which room is made first: so a refusal leaves the capacity that had no room for it.
 #[inline]
-#[tactic(auto, using(compact_text::proofs::TextFacts::text_facts, crate::proofs::EditFacts::string_facts))]
+#[tactic(auto, using(crate::proofs::EditFacts::string_facts))]
 fn append_text(line: &mut String, text: &str) -> Result<(), ReserveError>
     ensures ok { OnOk result
         (text_of (string_bytes line.new) ≡ text_of (string_bytes line.old) ++ text_of text.now) }

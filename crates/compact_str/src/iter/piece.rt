@@ -1,7 +1,7 @@
 //! What is collected or appended: a text, or a character.
-ghost use Rattle.std.specs.Prelude.{◌≡◌, ℕ, ◌+◌, ◌<◌, ◌≤◌, List, ◌++◌, OnOk, OnErr, IsOk, IsTrue, Some};
+ghost use Rattle.std.specs.Prelude.{◌≡◌, ℕ, ◌+◌, ◌<◌, ◌≤◌, List, ◌++◌, OnOk, OnErr, IsOk, Some};
 ghost use Rattle.compact_repr.specs.Text.{size};
-ghost use Rattle.compact_repr.specs.Calls.{push_str, push_str_asks};
+ghost use Rattle.compact_repr.specs.Calls.{push_str, PushStrAllocates};
 ghost use Rattle.compact_str.specs.Room.{HasRoomFor, infallible_capacity};
 ghost use Rattle.compact_str.specs.Collect.{char_text};
 
@@ -24,7 +24,7 @@ pub trait Piece: Drop {
         ensures ok { OnOk result (push_str P.growth value.old (text self.now) ≡ Some value.new) }
         ensures succeeds { HasRoomFor value.old (size (text self.now)) → IsOk result }
         ensures err { OnErr result
-            ((value.new ≡ value.old) × IsTrue (push_str_asks value.old (text self.now))) };
+            ((value.new ≡ value.old) × PushStrAllocates value.old (text self.now)) };
 
     /// Takes the piece behind what has come.
     ///

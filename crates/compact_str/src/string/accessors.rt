@@ -4,7 +4,7 @@ ghost use Rattle.std.specs.Str.{IsCharBoundary, IsUtf8};
 ghost use Rattle.compact_repr.specs.Text.{size, utf8, text_of};
 ghost use Rattle.compact_repr.specs.Cut.{IsBoundary};
 ghost use Rattle.compact_repr.specs.Packed.{IsPackedFor};
-ghost use Rattle.compact_repr.specs.Value.{inline, is_heap, is_static, IsSound};
+ghost use Rattle.compact_repr.specs.Value.{inline, is_heap, IsSound, IsStatic, IsInline};
 
 use crate::string::PolicyString;
 use compact_repr::Policy;
@@ -54,7 +54,7 @@ impl<P: Policy> PolicyString<P> {
     /// `CompactString::const_new(alloc, text).as_static_str()` is `Some(text)` for a `text` of more than 24 bytes.
     #[inline]
     pub fn as_static_str(&self) -> Option<&'static str>
-        ensures place { IsSome result ↔ IsTrue (is_static self.now.placement.place) }
+        ensures place { IsSome result ↔ IsStatic self.now }
         ensures bytes { IfSome result (λ s. s.now ≡ utf8 self.now.text) }
         ensures text { IfSome result (λ s. text_of s.now ≡ self.now.text) }
     {
@@ -71,7 +71,7 @@ impl<P: Policy> PolicyString<P> {
     /// Of the empty text the last byte is C0, and of a static value there are none.
     #[inline]
     pub fn packed(&self) -> Option<[u8; 24]>
-        ensures place { IsSome result ↔ (self.now.placement.place ≡ inline) }
+        ensures place { IsSome result ↔ (IsInline self.now) }
         ensures bytes { IfSome result (λ bytes. IsPackedFor bytes self.now.text) }
     {
         self.repr.packed()

@@ -1,8 +1,9 @@
 //! How room is made and given back.
-ghost use Rattle.std.specs.Prelude.{◌≡◌, Some, OnOk, OnErr, IsTrue};
-ghost use Rattle.compact_repr.specs.Capacity.{make_owned_asks};
+ghost use Rattle.std.specs.Prelude.{◌≡◌, Some, OnOk, OnErr};
 ghost use Rattle.compact_repr.specs.Calls.{make_owned, Shrinks};
-ghost use Rattle.compact_str.specs.Room.{IsOwned, Reserves};
+ghost use Rattle.compact_str.specs.Room.{Reserves};
+ghost use Rattle.compact_repr.specs.Capacity.{MakeOwnedAllocates};
+ghost use Rattle.compact_repr.specs.Value.{IsOwned};
 
 use crate::string::PolicyString;
 use compact_repr::{Policy, ReserveError};
@@ -70,12 +71,12 @@ impl<P: Policy> PolicyString<P> {
     ///
     /// [`ReserveError`] if the value is static and the copy of its text is refused.
     #[inline(always)]
-    #[tactic(auto, using(compact_text::proofs::TextFacts::text_facts, crate::proofs::Drains::owned_facts))]
+    #[tactic(auto, using(crate::proofs::Drains::owned_facts))]
     pub(crate) fn make_owned(&mut self) -> Result<(), ReserveError>
         ensures ok { OnOk result (make_owned P.growth self.old ≡ Some self.new) }
         ensures text { self.new.text ≡ self.old.text }
         ensures owned { OnOk result (IsOwned self.new) }
-        ensures err { OnErr result ((self.new ≡ self.old) × IsTrue (make_owned_asks self.old)) }
+        ensures err { OnErr result ((self.new ≡ self.old) × MakeOwnedAllocates self.old) }
     {
         self.repr.make_owned()
     }

@@ -1,11 +1,11 @@
 //! How a value is copied.
 ghost use Rattle.std.specs.Prelude.{◌≡◌, ◌≤◌, Some, OnOk, OnErr, IsOk, IsTrue, not, false};
 ghost use Rattle.compact_repr.specs.Text.{size};
-ghost use Rattle.compact_repr.specs.Value.{is_heap, is_static};
-ghost use Rattle.compact_repr.specs.Capacity.{clone_asks};
+ghost use Rattle.compact_repr.specs.Value.{is_heap};
+ghost use Rattle.compact_repr.specs.Capacity.{clone_allocates};
 ghost use Rattle.compact_repr.specs.Calls.{clone};
 ghost use Rattle.compact_str.specs.Room.{infallible_capacity};
-ghost use Rattle.compact_str.specs.Clones.{clone_from, clone_from_asks};
+ghost use Rattle.compact_str.specs.Clones.{clone_from, CloneFromAllocates};
 
 use crate::string::PolicyString;
 use compact_repr::{Policy, ReserveError};
@@ -14,7 +14,7 @@ use std::alloc::AllocError;
 impl<P: Policy> Clone for PolicyString<P> {
     ghost is_clone = { λ v w. (clone P.growth v ≡ Some w) × (w.text ≡ v.text) };
 
-    ghost is_infallible = { λ v. IsTrue (not (clone_asks v)) };
+    ghost is_infallible = { λ v. IsTrue (not (clone_allocates v)) };
 
     /// A copy with the same text. An inline or static value is copied as it stands, which never allocates; a heap value
     /// is copied by `new`, with no spare room.
@@ -53,7 +53,7 @@ impl<P: Policy> PolicyString<P> {
         ensures succeeds { size source.now.text ≤ infallible_capacity self.old → IsOk result }
         ensures copies_in_place { is_heap source.now.placement.place ≡ false → IsOk result }
         ensures err { OnErr result
-            ((self.new ≡ self.old) × IsTrue (clone_from_asks self.old source.now)) }
+            ((self.new ≡ self.old) × CloneFromAllocates self.old source.now) }
     {
         if let Some(text) = source.repr.heap_str()
             && self.repr.try_assign(text)

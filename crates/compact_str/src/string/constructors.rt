@@ -1,5 +1,5 @@
 //! How a value is made.
-ghost use Rattle.std.specs.Prelude.{◌≡◌, ◌<◌, ◌≤◌, ℕ, List, [], length, nat_eq, if◌then◌else◌, Some, IfOk, IfErr, IsOk, IsTrue, ◌↔◌, MatchOption, MatchResult, string_bytes};
+ghost use Rattle.std.specs.Prelude.{◌≡◌, ◌<◌, ◌≤◌, ℕ, List, [], length, nat_eq, if◌then◌else◌, Some, IfOk, IfErr, IsOk, ◌↔◌, MatchOption, MatchResult, string_bytes};
 ghost use Rattle.std.specs.Str.{IsUtf8};
 ghost use Rattle.std.specs.Vec.{vec_capacity};
 ghost use Rattle.std.specs.String.{string_capacity, from_utf8_error_vec, from_utf8_error_cause};
@@ -7,8 +7,8 @@ ghost use Rattle.std.specs.Box.{boxed_str_bytes};
 ghost use Rattle.std.specs.Cow.{cow_str_bytes};
 ghost use Rattle.compact_repr.specs.Text.{text_of, utf8};
 ghost use Rattle.compact_repr.specs.Packed.{IsPackedFor};
-ghost use Rattle.compact_repr.specs.Value.{placed_text, is_heap};
-ghost use Rattle.compact_repr.specs.Capacity.{inline_placement, heap_placement, with_capacity_asks, const_new_placement, from_string_placement};
+ghost use Rattle.compact_repr.specs.Value.{placed_text, IsHeap};
+ghost use Rattle.compact_repr.specs.Capacity.{inline_placement, heap_placement, const_new_placement, from_string_placement, WithCapacityAllocates};
 ghost use Rattle.compact_repr.specs.Calls.{new};
 ghost use Rattle.compact_str.specs.Room.{MakesEmpty};
 ghost use Rattle.compact_str.specs.Conversions.{CopiesText, TakesCow, IsFreeCow};
@@ -154,7 +154,7 @@ impl<P: Policy> PolicyString<P> {
         ensures value { let t = text_of (string_bytes text)
             in result ≡ placed_text t (if nat_eq (string_capacity text) 0 then inline_placement
             else heap_placement (string_capacity text)) }
-        ensures place { 0 < length (string_bytes text) → IsTrue (is_heap result.placement.place) }
+        ensures place { 0 < length (string_bytes text) → IsHeap result }
     {
         PolicyString {
             repr: Repr::from_string_buffer(text),
@@ -170,7 +170,7 @@ impl<P: Policy> PolicyString<P> {
     /// # Examples
     ///
     /// `CowStr::Borrowed("abc")` gives `"abc"` inline.
-    #[tactic(auto, using(compact_text::proofs::TextFacts::text_facts, crate::proofs::EditFacts::string_facts))]
+    #[tactic(auto, using(crate::proofs::EditFacts::string_facts))]
     pub fn from_cow(alloc: Global, text: CowStr<'_>) -> Result<Self, ReserveError>
         ensures takes { TakesCow P.growth text.entry result }
         ensures text { IfOk result (λ v. v.text ≡ text_of (cow_str_bytes text.entry)) }
@@ -198,7 +198,7 @@ impl<P: Policy> PolicyString<P> {
         ensures bytes { IfOk result (λ v. utf8 v.text ≡ boxed_str_bytes text) }
         ensures succeeds { length (boxed_str_bytes text) ≤ 24 → IsOk result }
         ensures err { IfErr result
-            (λ e. (e.value ≡ text) × IsTrue (with_capacity_asks (length (boxed_str_bytes text)))) }
+            (λ e. (e.value ≡ text) × WithCapacityAllocates (length (boxed_str_bytes text))) }
     {
         match Self::new(alloc, text.as_str()) {
             Ok(value) => Ok(value),
@@ -251,7 +251,7 @@ impl<P: Policy> From<BoxedStr> for PolicyString<P> {
 
     /// Takes the text over as `From<String>` does, with the capacity that the box keeps. It never allocates, where
     /// `from_boxed_str` copies.
-    #[tactic(auto, using(compact_text::proofs::TextFacts::text_facts, crate::proofs::EditFacts::string_facts))]
+    #[tactic(auto, using(crate::proofs::EditFacts::string_facts))]
     fn from(text: BoxedStr) -> Self {
         let text = text.into_string();
         Self::from(text)

@@ -1,14 +1,13 @@
 //! A range of a value that is taken out, character by character.
-ghost use Rattle.std.specs.Prelude.{◌≡◌, ℕ, ◌≤◌, List, length, [], Some, IfSome, IfOk, OnErr, IsOk, IsTrue, true, false};
+ghost use Rattle.std.specs.Prelude.{◌≡◌, ℕ, ◌≤◌, List, length, [], Some, IfSome, IfOk, OnErr, IsOk, true};
 ghost use Rattle.std.specs.Borrow.{sem, RestsIfErr};
 ghost use Rattle.compact_repr.specs.Text.{size, utf8, text_of};
 ghost use Rattle.compact_repr.specs.Cut.{substring, replaced_text};
-ghost use Rattle.compact_repr.specs.Capacity.{make_owned_asks};
-ghost use Rattle.compact_repr.specs.Value.{is_static};
 ghost use Rattle.compact_repr.specs.Calls.{replace_range};
-ghost use Rattle.compact_str.specs.Room.{IsOwned};
 ghost use Rattle.compact_str.specs.Ranges.{IsRange, range_start, range_end};
 ghost use Rattle.compact_str.specs.TotalRanges.{is_range, IsAsciiRange};
+ghost use Rattle.compact_repr.specs.Capacity.{MakeOwnedAllocates};
+ghost use Rattle.compact_repr.specs.Value.{IsOwned};
 
 mod range;
 
@@ -39,7 +38,7 @@ pub struct Drain<'a, P: Policy> {
     // Whether the range is known to be ASCII. A loop over such a range tests no character for its width, so the compiler
     // may take several in one step.
     is_ascii: bool,
-    ghost owned: { is_static value.now.placement.place ≡ false },
+    ghost owned: { IsOwned value.now },
     ghost within: { size value.now.text ≤ old_len },
     ghost range: { size value.now.text ≡ old_len → is_range value.now.text rest_start rest_end ≡ true },
     ghost span: { size value.now.text ≡ old_len → is_range value.now.text start end ≡ true },
@@ -87,7 +86,7 @@ impl<P: Policy> PolicyString<P> {
             ≡ replaced_text self.old.text (range_start start) (range_end self.old.text end) []) }
         ensures succeeds { IsOwned self.old → IsOk result }
         ensures succeeds_short { size self.old.text ≤ 24 → IsOk result }
-        ensures err { OnErr result (IsTrue (make_owned_asks self.old)) }
+        ensures err { OnErr result (MakeOwnedAllocates self.old) }
     {
         let Some((first, last)) = byte_range(start, end, self.len()) else {
             unreachable!();
@@ -99,7 +98,7 @@ impl<P: Policy> PolicyString<P> {
     /// The characters from one position to another, in bytes, which are taken out when the answer is dropped.
     #[inline]
     fn drain_between(&mut self, start: usize, end: usize) -> Drain<'_, P>
-        requires owned { is_static self.old.placement.place ≡ false }
+        requires owned { IsOwned self.old }
         requires range { is_range self.old.text start end ≡ true }
         ensures same_reference { drain_lender result ≡ self.entry.ghost_name }
         ensures rest { drain_rest result ≡ range_text self.old.text start end }

@@ -5,13 +5,13 @@ ghost use Rattle.std.specs.Range.Bound.{start_index, end_index};
 ghost use Rattle.std.specs.Str.{IsCharBoundary};
 ghost use Rattle.compact_repr.specs.Text.{size, utf8, text_of};
 ghost use Rattle.compact_repr.specs.Cut.{IsCut, IsBoundary, text_before, text_after, substring, replaced_text};
-ghost use Rattle.compact_repr.specs.Value.{is_static};
-ghost use Rattle.compact_repr.specs.Capacity.{reserve_asks};
-ghost use Rattle.compact_str.specs.Room.{IsOwned, HasRoomFor, infallible_capacity};
-ghost use Rattle.compact_repr.specs.Calls.{insert_str, replace_range, replace_range_asks};
-ghost use Rattle.compact_str.specs.Edits.{RemovesChar, SplitsOff, split_asks};
+ghost use Rattle.compact_str.specs.Room.{HasRoomFor, infallible_capacity};
+ghost use Rattle.compact_repr.specs.Calls.{insert_str, replace_range, ReplaceRangeAllocates};
+ghost use Rattle.compact_str.specs.Edits.{RemovesChar, SplitsOff, SplitAllocates};
 ghost use Rattle.compact_str.specs.Ranges.{IsRange, range_start, range_end};
 ghost use Rattle.compact_str.specs.TotalRanges.{is_boundary};
+ghost use Rattle.compact_repr.specs.Capacity.{ReserveAllocates};
+ghost use Rattle.compact_repr.specs.Value.{IsOwned, IsStatic};
 
 use crate::string::PolicyString;
 use compact_repr::{Policy, Repr, ReserveError};
@@ -41,7 +41,7 @@ impl<P: Policy> PolicyString<P> {
     /// # Examples
     ///
     /// Of `"äb"` from `Excluded(1)` to `Excluded(3)` it answers 2 and 3.
-    #[tactic(auto, using(compact_text::proofs::TextFacts::text_facts, crate::proofs::EditFacts::position_facts))]
+    #[tactic(auto, using(crate::proofs::EditFacts::position_facts))]
     pub fn check_range(&self, start: Bound<usize>, end: Bound<usize>) -> Option<(usize, usize)>
         ensures { MatchOption result (¬ IsRange self.now.text start end)
             (λ range. IsRange self.now.text start end × (range.0 ≡ range_start start)
@@ -61,7 +61,7 @@ impl<P: Policy> PolicyString<P> {
     /// # Examples
     ///
     /// Of `"key=value"` from `Included(4)` to `Unbounded` it is `"value"`.
-    #[tactic(auto, using(compact_text::proofs::TextFacts::text_facts, crate::proofs::EditFacts::position_facts))]
+    #[tactic(auto, using(crate::proofs::EditFacts::position_facts))]
     pub fn range(&self, start: Bound<usize>, end: Bound<usize>) -> &str
         requires { IsRange self.now.text start end }
         ensures bytes { result.now
@@ -89,7 +89,7 @@ impl<P: Policy> PolicyString<P> {
     ///
     /// `"bc"` put into `"ad"` at 1 gives `"abcd"`.
     #[inline]
-    #[tactic(auto, using(compact_text::proofs::TextFacts::text_facts, crate::proofs::EditFacts::insertion_facts))]
+    #[tactic(auto, using(crate::proofs::EditFacts::insertion_facts))]
     pub fn insert_str(&mut self, index: usize, text: &str) -> Result<(), ReserveError>
         requires { IsBoundary self.old.text index }
         ensures ok { OnOk result
@@ -104,7 +104,7 @@ impl<P: Policy> PolicyString<P> {
         ensures room { OnOk result (infallible_capacity self.old ≤ infallible_capacity self.new) }
         ensures succeeds { HasRoomFor self.old (length text.now) → IsOk result }
         ensures err { OnErr result
-            ((self.new ≡ self.old) × IsTrue (reserve_asks self.old (size (text_of text.now)))) }
+            ((self.new ≡ self.old) × ReserveAllocates self.old (size (text_of text.now))) }
     {
         if self.repr.try_replace_range(index, index, text) {
             return Ok(());
@@ -137,7 +137,7 @@ impl<P: Policy> PolicyString<P> {
         ensures room { OnOk result (infallible_capacity self.old ≤ infallible_capacity self.new) }
         ensures succeeds { HasRoomFor self.old (len_utf8 character) → IsOk result }
         ensures err { OnErr result
-            ((self.new ≡ self.old) × IsTrue (reserve_asks self.old (len_utf8 character))) }
+            ((self.new ≡ self.old) × ReserveAllocates self.old (len_utf8 character)) }
     {
         if character.is_ascii() && self.repr.try_insert_ascii(index, character as u8) {
             return Ok(());
@@ -157,7 +157,7 @@ impl<P: Policy> PolicyString<P> {
     ///
     /// Of `"aéb"` at 1 it answers `'é'` and leaves `"ab"`.
     #[inline]
-    #[tactic(auto, using(compact_text::proofs::TextFacts::text_facts, crate::proofs::EditFacts::position_facts))]
+    #[tactic(auto, using(crate::proofs::EditFacts::position_facts))]
     pub fn remove(&mut self, index: usize) -> Result<char, ReserveError>
         requires boundary { IsBoundary self.old.text index }
         requires within { index < size self.old.text }
@@ -171,7 +171,7 @@ impl<P: Policy> PolicyString<P> {
 
     /// `remove` of any character, in any place.
     #[inline(never)]
-    #[tactic(auto, using(compact_text::proofs::TextFacts::text_facts, crate::proofs::EditFacts::position_facts))]
+    #[tactic(auto, using(crate::proofs::EditFacts::position_facts))]
     fn remove_char(&mut self, index: usize) -> Result<char, ReserveError>
         requires boundary { IsBoundary self.old.text index }
         requires within { index < size self.old.text }
@@ -196,7 +196,7 @@ impl<P: Policy> PolicyString<P> {
     /// # Examples
     ///
     /// `"abc"` from `Included(1)` to `Excluded(2)` replaced by `"xy"` gives `"axyc"`.
-    #[tactic(auto, using(compact_text::proofs::TextFacts::text_facts, crate::proofs::EditFacts::replacement_facts))]
+    #[tactic(auto, using(crate::proofs::EditFacts::replacement_facts))]
     pub fn replace_range(
         &mut self,
         start: Bound<usize>,
@@ -216,8 +216,8 @@ impl<P: Policy> PolicyString<P> {
             → range_start start + length text.now ≤ range_end self.old.text end → IsOk result }
         ensures err { OnErr result
             ((self.new ≡ self.old)
-            × IsTrue (replace_range_asks self.old (range_start start) (range_end self.old.text end)
-            (text_of text.now))) }
+            × ReplaceRangeAllocates self.old (range_start start) (range_end self.old.text end)
+            (text_of text.now)) }
     {
         let Some((first, last)) = byte_range(start, end, self.len()) else {
             unreachable!();
@@ -239,7 +239,7 @@ impl<P: Policy> PolicyString<P> {
     /// # Examples
     ///
     /// `"key=value"` at 4 keeps `"key="` and answers `"value"`.
-    #[tactic(auto, using(compact_text::proofs::TextFacts::text_facts, crate::proofs::EditFacts::position_facts))]
+    #[tactic(auto, using(crate::proofs::EditFacts::position_facts))]
     pub fn split_off(&mut self, index: usize) -> Result<Self, ReserveError>
         requires { IsBoundary self.old.text index }
         ensures ok { IfOk result (λ tail. SplitsOff P.growth self.old index tail self.new) }
@@ -250,8 +250,8 @@ impl<P: Policy> PolicyString<P> {
         ensures boundaries { IsOk result → (i : ℕ) → i ≤ index → IsBoundary self.old.text i
             → IsBoundary self.new.text i }
         ensures succeeds { size self.old.text ≤ index + 24 → IsOk result }
-        ensures succeeds_static { IsTrue (is_static self.old.placement.place) → IsOk result }
-        ensures err { OnErr result ((self.new ≡ self.old) × IsTrue (split_asks self.old index)) }
+        ensures succeeds_static { IsStatic self.old → IsOk result }
+        ensures err { OnErr result ((self.new ≡ self.old) × SplitAllocates self.old index) }
     {
         let alloc = self.repr.allocator();
         let repr = match self.repr.static_suffix(index) {

@@ -1,13 +1,13 @@
 //! How a text leaves its value.
-ghost use Rattle.std.specs.Prelude.{◌≡◌, ◌≤◌, false, IfOk, IfErr, IsOk, IsTrue, string_bytes, not};
+ghost use Rattle.std.specs.Prelude.{◌≡◌, ◌≤◌, false, IfOk, IfErr, IsOk, string_bytes, not};
 ghost use Rattle.std.specs.Vec.{vec_capacity};
 ghost use Rattle.std.specs.String.{string_capacity};
 ghost use Rattle.std.specs.Box.{boxed_str_bytes};
 ghost use Rattle.std.specs.Rc.{rc_str_bytes};
 ghost use Rattle.std.specs.Cow.{cow_str_bytes, IsBorrowedStr};
 ghost use Rattle.compact_repr.specs.Text.{size, utf8, text_of};
-ghost use Rattle.compact_repr.specs.Value.{is_heap, is_static};
-ghost use Rattle.compact_repr.specs.Capacity.{make_owned_asks};
+ghost use Rattle.compact_repr.specs.Value.{is_heap, IsOwned, IsStatic, IsHeap};
+ghost use Rattle.compact_repr.specs.Capacity.{MakeOwnedAllocates};
 
 use crate::refused::Refused;
 use crate::string::PolicyString;
@@ -30,9 +30,9 @@ impl<P: Policy> PolicyString<P> {
     pub fn into_string(self) -> Result<String, Refused<Self>>
         ensures bytes { IfOk result (λ s. string_bytes s ≡ utf8 self.text) }
         ensures text { IfOk result (λ s. text_of (string_bytes s) ≡ self.text) }
-        ensures capacity { IsTrue (is_heap self.placement.place)
+        ensures capacity { IsHeap self
             → IfOk result (λ s. self.placement.capacity ≤ string_capacity s) }
-        ensures succeeds { IsTrue (is_heap self.placement.place) → IsOk result }
+        ensures succeeds { IsHeap self → IsOk result }
         ensures err { IfErr result
             (λ e. (e.value ≡ self) × (is_heap self.placement.place ≡ false)) }
     {
@@ -58,9 +58,9 @@ impl<P: Policy> PolicyString<P> {
     pub fn into_vec(self) -> Result<Vec<u8>, Refused<Self>>
         ensures bytes { IfOk result (λ v. v.items ≡ utf8 self.text) }
         ensures text { IfOk result (λ v. text_of v.items ≡ self.text) }
-        ensures capacity { IsTrue (is_heap self.placement.place)
+        ensures capacity { IsHeap self
             → IfOk result (λ v. self.placement.capacity ≤ vec_capacity v) }
-        ensures succeeds { IsTrue (is_heap self.placement.place) → IsOk result }
+        ensures succeeds { IsHeap self → IsOk result }
         ensures err { IfErr result
             (λ e. (e.value ≡ self) × (is_heap self.placement.place ≡ false)) }
     {
@@ -85,8 +85,8 @@ impl<P: Policy> PolicyString<P> {
         ensures bytes { IfOk result (λ v. v.items ≡ utf8 self.text) }
         ensures text { IfOk result (λ v. text_of v.items ≡ self.text) }
         ensures succeeds { size self.text ≤ 24 → IsOk result }
-        ensures succeeds_owned { is_static self.placement.place ≡ false → IsOk result }
-        ensures err { IfErr result (λ e. (e.value ≡ self) × IsTrue (make_owned_asks self)) }
+        ensures succeeds_owned { IsOwned self → IsOk result }
+        ensures err { IfErr result (λ e. (e.value ≡ self) × MakeOwnedAllocates self) }
     {
         let PolicyString { repr } = self;
         match repr.into_heap_string() {
@@ -110,7 +110,7 @@ impl<P: Policy> PolicyString<P> {
     pub fn into_boxed_str(self) -> Result<BoxedStr, Refused<Self>>
         ensures bytes { IfOk result (λ b. boxed_str_bytes b ≡ utf8 self.text) }
         ensures text { IfOk result (λ b. text_of (boxed_str_bytes b) ≡ self.text) }
-        ensures succeeds { IsTrue (is_heap self.placement.place) → IsOk result }
+        ensures succeeds { IsHeap self → IsOk result }
         ensures err { IfErr result
             (λ e. (e.value ≡ self) × (is_heap self.placement.place ≡ false)) }
     {
@@ -156,13 +156,13 @@ impl<P: Policy> PolicyString<P> {
     pub fn into_cow(self) -> Result<CowStr<'static>, Refused<Self>>
         ensures bytes { IfOk result (λ c. cow_str_bytes c ≡ utf8 self.text) }
         ensures text { IfOk result (λ c. text_of (cow_str_bytes c) ≡ self.text) }
-        ensures borrowed { IsTrue (is_static self.placement.place) → IfOk result IsBorrowedStr }
-        ensures owned { is_static self.placement.place ≡ false
+        ensures borrowed { IsStatic self → IfOk result IsBorrowedStr }
+        ensures owned { IsOwned self
             → IfOk result (λ c. ¬ IsBorrowedStr c) }
-        ensures succeeds_static { IsTrue (is_static self.placement.place) → IsOk result }
-        ensures succeeds_heap { IsTrue (is_heap self.placement.place) → IsOk result }
+        ensures succeeds_static { IsStatic self → IsOk result }
+        ensures succeeds_heap { IsHeap self → IsOk result }
         ensures err { IfErr result
-            (λ e. (e.value ≡ self) × (is_static self.placement.place ≡ false)
+            (λ e. (e.value ≡ self) × (IsOwned self)
             × (is_heap self.placement.place ≡ false)) }
     {
         if let Some(text) = self.repr.as_static_str() {

@@ -1,9 +1,9 @@
 //! How the text is changed at its end.
-ghost use Rattle.std.specs.Prelude.{◌≡◌, ℕ, ◌<◌, ◌≤◌, ◌++◌, ◌∷◌, [], length, Some, IfOk, IfErr, OnOk, OnErr, IsOk, IsTrue, MatchOption};
+ghost use Rattle.std.specs.Prelude.{◌≡◌, ℕ, ◌<◌, ◌≤◌, ◌++◌, ◌∷◌, [], length, Some, IfOk, IfErr, OnOk, OnErr, IsOk, MatchOption};
 ghost use Rattle.std.specs.Char.{len_utf8, encode_utf8};
 ghost use Rattle.compact_repr.specs.Text.{size, text_of, utf8};
 ghost use Rattle.compact_repr.specs.Cut.{IsBoundary, text_before};
-ghost use Rattle.compact_repr.specs.Calls.{push_str, push_str_asks, clear, truncate, PopsChar};
+ghost use Rattle.compact_repr.specs.Calls.{push_str, clear, truncate, PopsChar, PushStrAllocates};
 ghost use Rattle.compact_str.specs.Room.{HasRoomFor, infallible_capacity};
 ghost use Rattle.compact_str.specs.Edits.{Writes};
 
@@ -27,7 +27,7 @@ impl<P: Policy> PolicyString<P> {
     ///
     /// `"ab"` and `"c"` give `"abc"`.
     #[inline]
-    #[tactic(auto, using(compact_text::proofs::TextFacts::text_facts, crate::proofs::EditFacts::append_facts))]
+    #[tactic(auto, using(crate::proofs::EditFacts::append_facts))]
     pub fn push_str(&mut self, text: &str) -> Result<(), ReserveError>
         ensures ok { OnOk result (push_str P.growth self.old (text_of text.now) ≡ Some self.new) }
         ensures text { OnOk result (self.new.text ≡ self.old.text ++ text_of text.now) }
@@ -35,7 +35,7 @@ impl<P: Policy> PolicyString<P> {
         ensures room { OnOk result (infallible_capacity self.old ≤ infallible_capacity self.new) }
         ensures succeeds { HasRoomFor self.old (length text.now) → IsOk result }
         ensures err { OnErr result
-            ((self.new ≡ self.old) × IsTrue (push_str_asks self.old (text_of text.now))) }
+            ((self.new ≡ self.old) × PushStrAllocates self.old (text_of text.now)) }
     {
         if text.len() <= MAX_SHORT_LEN && self.repr.try_push_str(text) {
             return Ok(());
@@ -53,7 +53,7 @@ impl<P: Policy> PolicyString<P> {
     ///
     /// `"caf"` and `'é'` give `"café"`.
     #[inline]
-    #[tactic(auto, using(compact_text::proofs::TextFacts::text_facts, crate::proofs::EditFacts::character_facts))]
+    #[tactic(auto, using(crate::proofs::EditFacts::character_facts))]
     pub fn push(&mut self, character: char) -> Result<(), ReserveError>
         ensures ok { OnOk result (push_str P.growth self.old (character ∷ []) ≡ Some self.new) }
         ensures text { OnOk result (self.new.text ≡ self.old.text ++ character ∷ []) }
@@ -62,7 +62,7 @@ impl<P: Policy> PolicyString<P> {
         ensures room { OnOk result (infallible_capacity self.old ≤ infallible_capacity self.new) }
         ensures succeeds { HasRoomFor self.old (len_utf8 character) → IsOk result }
         ensures err { OnErr result
-            ((self.new ≡ self.old) × IsTrue (push_str_asks self.old (character ∷ []))) }
+            ((self.new ≡ self.old) × PushStrAllocates self.old (character ∷ [])) }
     {
         let mut bytes = [0; 4];
         self.push_str(encode_char(character, &mut bytes))
@@ -84,7 +84,7 @@ impl<P: Policy> PolicyString<P> {
         ensures room { IfOk result (λ v. infallible_capacity self ≤ infallible_capacity v) }
         ensures succeeds { HasRoomFor self (length text.now) → IsOk result }
         ensures err { IfErr result
-            (λ e. (e.value ≡ self) × IsTrue (push_str_asks self (text_of text.now))) }
+            (λ e. (e.value ≡ self) × PushStrAllocates self (text_of text.now)) }
     {
         match self.push_str(text) {
             Ok(()) => Ok(self),
@@ -99,7 +99,7 @@ impl<P: Policy> PolicyString<P> {
     ///
     /// Of `"café"` it answers `'é'` and leaves `"caf"`.
     #[inline]
-    #[tactic(auto, using(compact_text::proofs::TextFacts::text_facts, crate::proofs::EditFacts::position_facts))]
+    #[tactic(auto, using(crate::proofs::EditFacts::position_facts))]
     pub fn pop(&mut self) -> Option<char>
         ensures pops { PopsChar self.old result self.new }
         ensures text { MatchOption result (self.old.text ≡ [])
@@ -118,7 +118,7 @@ impl<P: Policy> PolicyString<P> {
     ///
     /// Of `"café"` the first 3 bytes are `"caf"`.
     #[inline]
-    #[tactic(auto, using(compact_text::proofs::TextFacts::text_facts, crate::proofs::EditFacts::position_facts))]
+    #[tactic(auto, using(crate::proofs::EditFacts::position_facts))]
     pub fn truncate(&mut self, len: usize)
         requires { len < size self.old.text → IsBoundary self.old.text len }
         ensures value { self.new ≡ truncate self.old len }
@@ -153,14 +153,14 @@ impl<P: Policy> fmt::Write for PolicyString<P> {
     ///
     /// `fmt::Error` if `push_str` is refused; the value is then as it was. Generic code may have written some of its parts
     /// before the one that was refused, and `truncate` at the old length takes them off again.
-    #[tactic(auto, using(compact_text::proofs::TextFacts::text_facts, crate::proofs::EditFacts::append_facts))]
+    #[tactic(auto, using(crate::proofs::EditFacts::append_facts))]
     fn write_str(&mut self, text: &str) -> fmt::Result
         ensures ok { IsOk result → Writes P.growth self.old text.now self.new }
         ensures text { OnOk result (self.new.text ≡ self.old.text ++ text_of text.now) }
         ensures room { OnOk result (infallible_capacity self.old ≤ infallible_capacity self.new) }
         ensures succeeds { HasRoomFor self.old (length text.now) → IsOk result }
         ensures err { OnErr result
-            ((self.new ≡ self.old) × IsTrue (push_str_asks self.old (text_of text.now))) }
+            ((self.new ≡ self.old) × PushStrAllocates self.old (text_of text.now)) }
     {
         match self.push_str(text) {
             Ok(()) => Ok(()),

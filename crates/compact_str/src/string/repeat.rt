@@ -1,9 +1,9 @@
 //! How a text is repeated.
-ghost use Rattle.std.specs.Prelude.{◌≡◌, ◌≤◌, ◌*◌, [], Some, IfOk, OnErr, IsOk, IsTrue};
+ghost use Rattle.std.specs.Prelude.{◌≡◌, ◌≤◌, ◌*◌, [], Some, IfOk, OnErr, IsOk};
 ghost use Rattle.compact_repr.specs.Text.{size};
 ghost use Rattle.compact_repr.specs.Value.{placed_text};
 ghost use Rattle.compact_repr.specs.Capacity.{with_capacity_placement};
-ghost use Rattle.compact_str.specs.Edits.{repeat, repeat_asks, repeated_text};
+ghost use Rattle.compact_str.specs.Edits.{repeat, repeated_text, RepeatAllocates};
 
 use crate::string::PolicyString;
 use compact_repr::{Policy, ReserveError};
@@ -18,12 +18,12 @@ impl<P: Policy> PolicyString<P> {
     /// # Examples
     ///
     /// `"abc"` three times is `"abcabcabc"`.
-    #[tactic(auto, using(compact_text::proofs::TextFacts::text_facts, crate::proofs::EditFacts::repeat_facts))]
+    #[tactic(auto, using(crate::proofs::EditFacts::repeat_facts))]
     pub fn repeat(&self, count: usize) -> Result<Self, ReserveError>
         ensures ok { IfOk result (λ v. repeat P.growth self.now count ≡ Some v) }
         ensures text { IfOk result (λ v. v.text ≡ repeated_text count self.now.text) }
         ensures succeeds { size self.now.text * count ≤ 24 → IsOk result }
-        ensures err { OnErr result (IsTrue (repeat_asks self.now count)) }
+        ensures err { OnErr result (RepeatAllocates self.now count) }
     {
         if count == 1 && !self.is_empty() {
             return match self.repr.try_clone() {

@@ -1,10 +1,10 @@
 //! How the text is reduced to the characters that a test keeps.
-ghost use Rattle.std.specs.Prelude.{◌≡◌, ◌≤◌, ℕ, Bool, Some, OnOk, OnErr, IsOk, IsTrue, filter};
+ghost use Rattle.std.specs.Prelude.{◌≡◌, ◌≤◌, ℕ, Bool, Some, OnOk, OnErr, IsOk, filter};
 ghost use Rattle.compact_repr.specs.Text.{size};
-ghost use Rattle.compact_repr.specs.Capacity.{owned_placement, make_owned_asks};
+ghost use Rattle.compact_repr.specs.Capacity.{owned_placement, MakeOwnedAllocates};
 ghost use Rattle.compact_repr.specs.Retain.{RetainsCharsTo};
 ghost use Rattle.compact_str.specs.RetainRules.{RetainsChars, AgreesWith};
-ghost use Rattle.compact_str.specs.Room.{IsOwned};
+ghost use Rattle.compact_repr.specs.Value.{IsOwned};
 
 use crate::string::PolicyString;
 use compact_repr::{Policy, ReserveError};
@@ -33,7 +33,7 @@ impl<P: Policy> PolicyString<P> {
             (owned_placement P.growth self.old ≡ Some self.new.placement) }
         ensures succeeds { IsOwned self.old → IsOk result }
         ensures succeeds_short { size self.old.text ≤ 24 → IsOk result }
-        ensures err { OnErr result ((self.new ≡ self.old) × IsTrue (make_owned_asks self.old)) }
+        ensures err { OnErr result ((self.new ≡ self.old) × MakeOwnedAllocates self.old) }
     {
         self.retain_by(&mut keep)
     }
@@ -57,7 +57,7 @@ impl<P: Policy> PolicyString<P> {
         ensures succeeds_short { size self.old.text ≤ 24 → IsOk result }
         ensures callable { F.IsAlwaysCallable keep.new }
         ensures unasked { OnErr result (keep.new ≡ keep.old) }
-        ensures err { OnErr result ((self.new ≡ self.old) × IsTrue (make_owned_asks self.old)) }
+        ensures err { OnErr result ((self.new ≡ self.old) × MakeOwnedAllocates self.old) }
     {
         self.make_owned()?;
         self.repr.retain(keep);

@@ -103,7 +103,7 @@ fn copy_of<P: Policy>(alloc: Global, text: &str) -> Result<PolicyString<P>, Rese
 
 /// A text as `From<String>` takes it over.
 #[inline]
-#[tactic(auto, using(compact_text::proofs::TextFacts::text_facts, crate::proofs::EditFacts::string_facts))]
+#[tactic(auto, using(crate::proofs::EditFacts::string_facts))]
 fn taken_over<P: Policy>(text: String) -> PolicyString<P>
     ensures { utf8 result.text ≡ string_bytes text }
 {

@@ -1,13 +1,14 @@
 //! Calls on a part of the text, given as a range of Rust's.
-ghost use Rattle.std.specs.Prelude.{◌≡◌, ◌-◌, ◌+◌, ◌≤◌, ◌++◌, [], length, Some, IfOk, OnOk, OnErr, IsOk, IsTrue};
+ghost use Rattle.std.specs.Prelude.{◌≡◌, ◌-◌, ◌+◌, ◌≤◌, ◌++◌, [], length, Some, IfOk, OnOk, OnErr, IsOk};
 ghost use Rattle.std.specs.Borrow.{sem, RestsIfErr};
 ghost use Rattle.std.specs.Range.Bound.{bound_map};
 ghost use Rattle.compact_repr.specs.Text.{size, utf8, text_of};
 ghost use Rattle.compact_repr.specs.Cut.{substring, replaced_text};
-ghost use Rattle.compact_repr.specs.Capacity.{make_owned_asks};
-ghost use Rattle.compact_repr.specs.Calls.{push_str, push_str_asks, replace_range, replace_range_asks};
-ghost use Rattle.compact_str.specs.Room.{IsOwned, HasRoomFor, infallible_capacity};
+ghost use Rattle.compact_repr.specs.Calls.{push_str, replace_range, PushStrAllocates, ReplaceRangeAllocates};
+ghost use Rattle.compact_str.specs.Room.{HasRoomFor, infallible_capacity};
 ghost use Rattle.compact_str.specs.Ranges.{IsRange, range_start, range_end};
+ghost use Rattle.compact_repr.specs.Capacity.{MakeOwnedAllocates};
+ghost use Rattle.compact_repr.specs.Value.{IsOwned};
 
 use crate::string::PolicyString;
 use crate::string::drain::Drain;
@@ -69,7 +70,7 @@ impl<P: Policy> PolicyString<P> {
             (range_end self.old.text (R.end_bound range)) []) }
         ensures succeeds { IsOwned self.old → IsOk result }
         ensures succeeds_short { size self.old.text ≤ 24 → IsOk result }
-        ensures err { OnErr result (IsTrue (make_owned_asks self.old)) }
+        ensures err { OnErr result (MakeOwnedAllocates self.old) }
     {
         let (start, end) = bounds(range);
         self.drain(start, end)
@@ -106,8 +107,8 @@ impl<P: Policy> PolicyString<P> {
             ≤ range_end self.old.text (R.end_bound range) → IsOk result }
         ensures err { OnErr result
             ((self.new ≡ self.old)
-            × IsTrue (replace_range_asks self.old (range_start (R.start_bound range))
-            (range_end self.old.text (R.end_bound range)) (text_of text.now))) }
+            × ReplaceRangeAllocates self.old (range_start (R.start_bound range))
+            (range_end self.old.text (R.end_bound range)) (text_of text.now)) }
     {
         let (start, end) = bounds(range);
         self.replace_range(start, end, text)
@@ -123,7 +124,7 @@ impl<P: Policy> PolicyString<P> {
     /// # Examples
     ///
     /// `"abc"` with `1..` gives `"abcbc"`.
-    #[tactic(auto, using(compact_text::proofs::TextFacts::text_facts, crate::proofs::Within::within_facts))]
+    #[tactic(auto, using(crate::proofs::Within::within_facts))]
     pub fn extend_from_within<R: RangeBounds<usize>>(
         &mut self,
         range: R,
@@ -146,8 +147,8 @@ impl<P: Policy> PolicyString<P> {
             → IsOk result }
         ensures err { OnErr result
             ((self.new ≡ self.old)
-            × IsTrue (push_str_asks self.old (substring self.old.text
-            (range_start (R.start_bound range)) (range_end self.old.text (R.end_bound range))))) }
+            × PushStrAllocates self.old (substring self.old.text
+            (range_start (R.start_bound range)) (range_end self.old.text (R.end_bound range)))) }
     {
         let (start, end) = bounds(range);
         let Some((first, last)) = byte_range(start, end, self.len()) else {

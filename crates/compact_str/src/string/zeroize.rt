@@ -1,7 +1,7 @@
 //! Zeroing the buffer.
 ghost use Rattle.std.specs.Prelude.{◌≡◌, []};
 ghost use Rattle.compact_repr.specs.Calls.{zeroize};
-ghost use Rattle.compact_str.specs.Room.{IsOwned};
+ghost use Rattle.compact_repr.specs.Value.{IsOwned};
 
 use crate::string::PolicyString;
 use compact_repr::Policy;

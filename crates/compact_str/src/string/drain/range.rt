@@ -2,8 +2,8 @@
 ghost use Rattle.std.specs.Prelude.{◌≡◌, IsTrue, ℕ, ◌+◌, ◌*◌, ◌%◌, ◌^◌, ◌<◌, ◌≤◌, List, [], ◌∷◌, length, IfSome, MatchOption, true, false};
 ghost use Rattle.std.specs.Char.{len_utf8, InScalarRange};
 ghost use Rattle.compact_repr.specs.Text.{size, text_of};
-ghost use Rattle.compact_repr.specs.Value.{is_static};
 ghost use Rattle.compact_str.specs.TotalRanges.{is_range, range_text, IsAsciiRange, without_range};
+ghost use Rattle.compact_repr.specs.Value.{IsOwned};
 
 use crate::string::PolicyString;
 use crate::string::insert_remove::is_boundary;
@@ -15,7 +15,7 @@ const MAX_LOOKED_AT: usize = 1024;
 
 /// What stands in `text` from one position to another, in bytes; nothing where these begin and end no range.
 #[inline(always)]
-#[tactic(auto, using(compact_text::proofs::TextFacts::text_facts, crate::proofs::Drains::drain_facts))]
+#[tactic(auto, using(crate::proofs::Drains::drain_facts))]
 pub fn range_text(text: &str, start: usize, end: usize) -> &str
     ensures text { text_of result.now ≡ range_text (text_of text.now) start end }
     ensures len { length result.now ≡ size (range_text (text_of text.now) start end) }
@@ -71,7 +71,7 @@ impl<P: Policy> PolicyString<P> {
     /// Whether a range is known to be ASCII. It answers `false` of a value that is not on the heap, and of a range so long that a
     /// drain from which no character is taken should not wait for the answer.
     #[inline(never)]
-    #[tactic(auto, using(compact_text::proofs::TextFacts::text_facts, crate::proofs::Drains::drain_facts))]
+    #[tactic(auto, using(crate::proofs::Drains::drain_facts))]
     pub(crate) fn is_short_ascii_range(&self, start: usize, end: usize) -> bool
         requires { is_range self.now.text start end ≡ true }
         ensures { IsTrue result → IsAsciiRange self.now.text start end }
@@ -119,9 +119,9 @@ impl<P: Policy> PolicyString<P> {
     /// Takes out what stands from one position to another, in bytes of the value's own. If the text has `old_len` bytes these
     /// are known to begin and end a range; else it is looked at, and where they do not, nothing changes.
     #[inline]
-    #[tactic(auto, using(compact_text::proofs::TextFacts::text_facts, crate::proofs::Drains::drain_facts))]
+    #[tactic(auto, using(crate::proofs::Drains::drain_facts))]
     pub(crate) fn remove_range(&mut self, start: usize, end: usize, old_len: usize)
-        requires owned { is_static self.old.placement.place ≡ false }
+        requires owned { IsOwned self.old }
         requires range { size self.old.text ≡ old_len → is_range self.old.text start end ≡ true }
         ensures { self.new ≡ without_range self.old start end }
     {
@@ -135,7 +135,7 @@ impl<P: Policy> PolicyString<P> {
     /// As `remove_range`, for what is not expected: it stays out of a drain's drop.
     #[cold]
     #[inline(never)]
-    #[tactic(auto, using(compact_text::proofs::TextFacts::text_facts, crate::proofs::Drains::drain_facts))]
+    #[tactic(auto, using(crate::proofs::Drains::drain_facts))]
     fn remove_checked_range(&mut self, start: usize, end: usize)
         ensures { self.new ≡ without_range self.old start end }
     {

@@ -2,7 +2,7 @@ use Rattle.std.proofs.Common.{◌≡◌, ◌-◌, ◌++◌, List, ℕ, Result, O
 use Rattle.std.proofs.lemmas.Bool.{ne_eqb}
 use Rattle.compact_text.specs.Cut.{substring}
 use Rattle.compact_repr.specs.Value.{placed_text}
-use Rattle.compact_repr.specs.Calls.{push_str_asks}
+use Rattle.compact_repr.specs.Calls.{push_str_allocates}
 use Rattle.compact_text.proofs.Middles.{substring-parts}
 use Rattle.compact_repr.proofs.MoreRoom.{reserved-text, push-nothing, push-asks, push-reserved}
 use Rattle.compact_repr.proofs.repr.Repr.push_within.Goals as goal
@@ -21,7 +21,7 @@ returns-in_err-reserve-clause-err g c =
     let long = (substring-parts c.args.self.now.text c.args.start c.args.end c.requires.first c.requires.last c.requires.order).1 in
     let err = c.in_err-reserve.ensures.err in
     let some = ne_eqb (c.args.end - c.args.start) 0 c.if-len-eq0.false in
-    let refused : (c.reserve.new.self ≡ c.args.self.now) × IsTrue (push_str_asks c.args.self.now (substring c.args.self.now.text c.args.start c.args.end)) =
+    let refused : (c.reserve.new.self ≡ c.args.self.now) × IsTrue (push_str_allocates c.args.self.now (substring c.args.self.now.text c.args.start c.args.end)) =
     (err.0, push-asks c.args.self.now _ _ long some err.1) in
     on_err _ refused
 

@@ -2,14 +2,14 @@ use Rattle.std.proofs.Common.{◌≡◌, ◌<◌, List, ℕ, ◌++◌, ap, sym, 
 use Rattle.std.specs.Prelude.{IsTrue}
 use Rattle.compact_repr.specs.Text.{size, text_of}
 use Rattle.compact_repr.specs.Value.{PlacedText}
-use Rattle.compact_repr.specs.Calls.{push_str_asks}
+use Rattle.compact_repr.specs.Calls.{push_str_allocates}
 use Rattle.compact_text.proofs.Texts.{size-append}
 use Rattle.compact_str.specs.FittedValues.{IsPlacedBySize}
 use Rattle.compact_str.proofs.Collecting.{on_err}
 use Rattle.compact_str.proofs.Fitted.{fitted-push_str, asks-over}
 use Rattle.compact_str.proofs.builder.Builder.finish.Goals as goal
 
-block-over : (v : PlacedText) (b p s : List ℕ) → IsTrue (push_str_asks v p) → p ≡ b → v.text ++ b ≡ s → 24 < size s
+block-over : (v : PlacedText) (b p s : List ℕ) → IsTrue (push_str_allocates v p) → p ≡ b → v.text ++ b ≡ s → 24 < size s
 block-over v b p s h e k = omega (arith, asks-over v p h, ap size e, ap size k, size-append v.text b)
 
 pub returns-in_err-push_str-clause-err : goal.returns-in_err-push_str-clause-err

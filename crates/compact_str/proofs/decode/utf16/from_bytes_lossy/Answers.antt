@@ -2,7 +2,7 @@ use Rattle.std.proofs.Common.{rules, arith, refl, ℕ, ◌≡◌, ◌-◌, ◌<�
 use Rattle.std.proofs.lemmas.Result.{on_err_weaker}
 use Rattle.std.specs.Char.{len_utf8}
 use Rattle.compact_repr.specs.Text.{size}
-use Rattle.compact_repr.specs.Capacity.{with_capacity_asks}
+use Rattle.compact_repr.specs.Capacity.{with_capacity_allocates}
 use Rattle.compact_codec.specs.Utf16Bytes.{utf16_bytes_lossy_text}
 use Rattle.compact_codec.proofs.ForDecoders.{made-utf16_bytes_lossy_text}
 use Rattle.compact_str.proofs.FittedTexts.{first-asks, refused-fitted, asks-succeeds, long-asks}
@@ -39,7 +39,7 @@ returns c =
     let r = c.finish.result in
     let none : length c.loop-rest.rest.now ≡ 0 = search rules in
     let same : c.loop-rest.gathered ≡ whole = sym (made-utf16_bytes_lossy_text c.args.order c.loop-rest.gathered c.loop-rest.rest.now none) ∙ c.loop-rest.invariant in
-    let asks : OnErr r (IsTrue (with_capacity_asks (size whole))) = on_err_weaker r (λ h. long-asks (size whole) (subst (λ (t : List ℕ). 24 < size t) same h)) c.finish.ensures.err in
+    let asks : OnErr r (IsTrue (with_capacity_allocates (size whole))) = on_err_weaker r (λ h. long-asks (size whole) (subst (λ (t : List ℕ). 24 < size t) same h)) c.finish.ensures.err in
     record {
       text = subst (λ (t : List ℕ). IfOk r (λ v. v.text ≡ t)) same c.finish.ensures.text;
       fitted = c.finish.ensures.fitted;

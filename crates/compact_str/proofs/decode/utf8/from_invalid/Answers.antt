@@ -1,6 +1,6 @@
 use Rattle.std.proofs.Common.{rules, ◌≡◌, ℕ, List, ◌+◌, ◌++◌, length, ◌<◌, IsTrue, refl, ap, sym, ◌∙◌, append_assoc, append-nil}
 use Rattle.compact_repr.specs.Text.{size, text_of}
-use Rattle.compact_repr.specs.Capacity.{with_capacity_asks}
+use Rattle.compact_repr.specs.Capacity.{with_capacity_allocates}
 use Rattle.compact_text.proofs.Texts.{size-text_of}
 use Rattle.compact_codec.specs.Utf8Text.{utf8_lossy_text, replacement_text}
 use Rattle.compact_codec.proofs.LossyReading.{utf8_lossy_text-empty, replacement_text-none, replacement_text-some}
@@ -10,7 +10,7 @@ use Rattle.compact_str.proofs.decode.utf8.from_invalid.Goals as goal
 
 -- a mark that is refused makes the whole longer than 24 bytes
 mark-asks : (whole old half front invalid rest : List ℕ) → old ++ (front ++ (replacement_text invalid ++ rest)) ≡ whole → 0 < length invalid
-    → half ≡ old ++ front → 24 < size half + 3 → IsTrue (with_capacity_asks (size whole))
+    → half ≡ old ++ front → 24 < size half + 3 → IsTrue (with_capacity_allocates (size whole))
 mark-asks whole old half front invalid rest e some h more =
     part-asks whole half (replacement_text invalid) rest 3 (rw h (append_assoc old front (replacement_text invalid ++ rest)) ∙ e) (rw (replacement_text-some invalid some) refl) more
 
@@ -40,7 +40,7 @@ loop-made-preserved c =
 
 pub returns-in_err-push_fitted : goal.returns-in_err-push_fitted
 returns-in_err-push_fitted c =
-    let asks : IsTrue (with_capacity_asks (size (utf8_lossy_text c.args.bytes.now))) =
+    let asks : IsTrue (with_capacity_allocates (size (utf8_lossy_text c.args.bytes.now))) =
     part-asks (utf8_lossy_text c.args.bytes.now) c.loop-made.made.text (text_of c.loop-made.chunk.valid.now)
     (replacement_text c.loop-made.chunk.invalid.now ++ utf8_lossy_text c.loop-made.chunk.rest.now)
     (length c.loop-made.chunk.valid.now) c.loop-made.invariant.text (sym (size-text_of c.loop-made.chunk.valid.now (search rules))) c.in_err-push_fitted.ensures.err in
@@ -49,14 +49,14 @@ returns-in_err-push_fitted c =
 pub returns-in_err-push_fitted-2 : goal.returns-in_err-push_fitted-2
 returns-in_err-push_fitted-2 c =
     let some : 0 < length c.loop-made.chunk.invalid.now = search rules in
-    let asks : IsTrue (with_capacity_asks (size (utf8_lossy_text c.args.bytes.now))) =
+    let asks : IsTrue (with_capacity_allocates (size (utf8_lossy_text c.args.bytes.now))) =
     mark-asks (utf8_lossy_text c.args.bytes.now) c.loop-made.made.text c.push_fitted.new.made.text (text_of c.loop-made.chunk.valid.now) c.loop-made.chunk.invalid.now
     (utf8_lossy_text c.loop-made.chunk.rest.now) c.loop-made.invariant.text some c.in_ok-push_fitted.ensures.text c.in_err-push_fitted-2.ensures.err in
     refused-fitted _ _ c.from_residual-in_err-push_fitted-2.ensures.0 asks
 
 pub returns-in_err-push_fitted-3 : goal.returns-in_err-push_fitted-3
 returns-in_err-push_fitted-3 c =
-    let asks : IsTrue (with_capacity_asks (size (utf8_lossy_text c.args.bytes.now))) =
+    let asks : IsTrue (with_capacity_allocates (size (utf8_lossy_text c.args.bytes.now))) =
     part-asks (utf8_lossy_text c.args.bytes.now) c.loop-made.made.text (text_of c.loop-made.chunk.valid.now)
     (replacement_text c.loop-made.chunk.invalid.now ++ utf8_lossy_text c.loop-made.chunk.rest.now)
     (length c.loop-made.chunk.valid.now) c.loop-made.invariant.text (sym (size-text_of c.loop-made.chunk.valid.now (search rules))) c.in_err-push_fitted-3.ensures.err in

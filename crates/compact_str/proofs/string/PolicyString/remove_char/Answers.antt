@@ -5,7 +5,7 @@ use Rattle.compact_repr.specs.Text.{size}
 use Rattle.compact_repr.specs.Cut.{IsBoundary, text_after}
 use Rattle.compact_repr.specs.Value.{PlacedText}
 use Rattle.std.specs.Prelude.{IsTrue}
-use Rattle.compact_repr.specs.Capacity.{make_owned_asks}
+use Rattle.compact_repr.specs.Capacity.{make_owned_allocates}
 use Rattle.compact_repr.specs.Calls.{replace_range}
 use Rattle.compact_text.proofs.Cuts.{boundary-within, boundary-next}
 use Rattle.compact_str.proofs.Positions.{replace_range-removes, asks-by_nothing, shortened_placement-character}
@@ -35,5 +35,5 @@ returns g c =
 
 pub returns-in_err-cut_out : goal.returns-in_err-cut_out
 returns-in_err-cut_out g c =
-    let asks : IsTrue (make_owned_asks c.args.self.now) = subst (λ (v : PlacedText). IsTrue (make_owned_asks v)) c.self.view_is (asks-by_nothing c.self.inside.repr c.args.index _ c.in_err-cut_out.ensures.err.1) in
+    let asks : IsTrue (make_owned_allocates c.args.self.now) = subst (λ (v : PlacedText). IsTrue (make_owned_allocates v)) c.self.view_is (asks-by_nothing c.self.inside.repr c.args.index _ c.in_err-cut_out.ensures.err.1) in
     shortened_placement-character g.P.Policy.growth c.args.self.now c.cut_out.new.self c.args.index _ (search rules) (c.in_err-cut_out.ensures.err.0 ∙ c.self.view_is) asks

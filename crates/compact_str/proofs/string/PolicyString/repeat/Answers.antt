@@ -6,10 +6,10 @@ use Rattle.std.proofs.lemmas.Result.{IfOk-from_err}
 use Rattle.std.specs.Prelude.{option_map}
 use Rattle.compact_repr.specs.Text.{size}
 use Rattle.compact_repr.specs.Value.{Placement, PlacedText, placed_text}
-use Rattle.compact_repr.specs.Capacity.{Growth, with_capacity_placement, with_capacity_asks, clone_asks}
+use Rattle.compact_repr.specs.Capacity.{Growth, with_capacity_placement, with_capacity_allocates, clone_allocates}
 use Rattle.compact_repr.specs.Calls.{clone, with_capacity}
 use Rattle.compact_text.proofs.Texts.{empty_text}
-use Rattle.compact_str.specs.Edits.{repeat, repeat_asks, repeated_text, repeats_by_copy}
+use Rattle.compact_str.specs.Edits.{repeat, repeat_allocates, repeated_text, repeats_by_copy}
 use Rattle.compact_str.proofs.Repeats.{repeated_text-none}
 use Rattle.compact_str.proofs.string.PolicyString.repeat.Goals as goal
 use Rattle.compact_str.proofs.string.PolicyString.repeat.Goals.{in-Ok, in-Err, else-count-eq1-via-else-count-eq1}
@@ -33,15 +33,15 @@ copied : (g : Growth) (u v w : PlacedText) (n : ℕ) → u ≡ v → n ≡ 1 →
     → repeat g v n ≡ Some w
 copied g u v w n same once by done = rw by (rw (once, append-nil) (rw same at done))
 
-copy-asks : (u v : PlacedText) (n : ℕ) → u ≡ v → repeats_by_copy v n ≡ true → IsTrue (clone_asks u) → IsTrue (repeat_asks v n)
+copy-asks : (u v : PlacedText) (n : ℕ) → u ≡ v → repeats_by_copy v n ≡ true → IsTrue (clone_allocates u) → IsTrue (repeat_allocates v n)
 copy-asks u v n same by asks = rw by (rw same at asks)
 
 -- what fits in the value itself asks for no memory
-short-never_asks : (v : PlacedText) (n : ℕ) → size v.text * n ≤ 24 → IsTrue (repeat_asks v n) → ⊥
+short-never_asks : (v : PlacedText) (n : ℕ) → size v.text * n ≤ 24 → IsTrue (repeat_allocates v n) → ⊥
 short-never_asks v n short asks = grind (arith, common_steps)
 
 too_long-asks : (v : PlacedText) (n len : ℕ) → len ≡ size v.text → len < 2 ^ 63 → (len * n < 2 ^ 64 → ⊥)
-    → IsTrue (repeat_asks v n)
+    → IsTrue (repeat_allocates v n)
 too_long-asks v n len is small long = grind (arith, common_steps)
 
 -- else its room is made anew
@@ -52,7 +52,7 @@ anew-other : (v : PlacedText) (n : ℕ) → n ≢ 1 → repeats_by_copy v n ≡ 
 anew-other v n other = grind (arith, common_steps)
 
 anew-asks : (v : PlacedText) (n total : ℕ) → repeats_by_copy v n ≡ false → total ≡ size v.text * n
-    → IsTrue (with_capacity_asks total) → IsTrue (repeat_asks v n)
+    → IsTrue (with_capacity_allocates total) → IsTrue (repeat_allocates v n)
 anew-asks v n total by is asks = rw by (rw is at asks)
 
 room-for : (g : Growth) (w : PlacedText) (m n : ℕ) → m ≡ n → with_capacity g m ≡ Some w

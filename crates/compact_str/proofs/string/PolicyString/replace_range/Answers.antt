@@ -3,19 +3,19 @@ use Rattle.std.proofs.lemmas.Grind.{common_steps}
 use Rattle.std.specs.Range.Bound.{end_index}
 use Rattle.compact_repr.specs.Text.{size, text_of}
 use Rattle.compact_repr.specs.Value.{PlacedText}
-use Rattle.compact_repr.specs.Calls.{replace_range_asks}
+use Rattle.compact_repr.specs.Calls.{replace_range_allocates}
 use Rattle.compact_text.proofs.Texts.{size-text_of}
 use Rattle.compact_str.specs.Room.{HasRoomFor}
 use Rattle.compact_str.proofs.string.PolicyString.replace_range.Goals as goal
 
-never_asks : (v : PlacedText) (i j n : ℕ) (s : List ℕ) → size s ≡ n → HasRoomFor v (n - (j - i)) → IsTrue (replace_range_asks v i j s) → ⊥
+never_asks : (v : PlacedText) (i j n : ℕ) (s : List ℕ) → size s ≡ n → HasRoomFor v (n - (j - i)) → IsTrue (replace_range_allocates v i j s) → ⊥
 never_asks v i j n s long room asks = grind (arith, common_steps)
 
 succeeds : {E : Type 0} (u v w : PlacedText) (p q i j n : ℕ) (s : List ℕ) (r : Result (Unit {0}) E) → u ≡ v → p ≡ i → q ≡ j → size s ≡ n
-    → OnErr r ((w ≡ u) × IsTrue (replace_range_asks u p q s)) → HasRoomFor v (n - (j - i)) → IsOk r
+    → OnErr r ((w ≡ u) × IsTrue (replace_range_allocates u p q s)) → HasRoomFor v (n - (j - i)) → IsOk r
 succeeds u v w p q i j n s (Ok _) same first last long err room = refl
 succeeds u v w p q i j n s (Err _) same first last long err room =
-    let asks : IsTrue (replace_range_asks v i j s) = rw (← same, ← first, ← last) err.1 in
+    let asks : IsTrue (replace_range_allocates v i j s) = rw (← same, ← first, ← last) err.1 in
     absurd (never_asks v i j n s long room asks)
 
 pub returns-clause-succeeds : goal.returns-clause-succeeds

@@ -8,7 +8,7 @@ use Rattle.std.specs.String.{string_bytes, string_capacity}
 use Rattle.std.specs.declared.string.String.{String}
 use Rattle.compact_repr.specs.Text.{size, text_of}
 use Rattle.compact_repr.specs.Value.{PlacedText}
-use Rattle.compact_repr.specs.Capacity.{standard_growth, with_capacity_asks}
+use Rattle.compact_repr.specs.Capacity.{standard_growth, with_capacity_allocates}
 use Rattle.compact_text.proofs.Texts.{size-text_of}
 use Rattle.compact_str.specs.FittedValues.{IsPlacedBySize}
 use Rattle.compact_str.specs.DecodeErrors.{IsSuffixOf}
@@ -25,7 +25,7 @@ bytes-held s = grind (arith, common_steps)
 
 -- a slice that was refused is a buffer of which all was taken
 all_taken : {T E : Type 0} (r : Result T E) (bytes left : List ℕ) → left ≡ []
-    → OnErr r (IsTrue (with_capacity_asks (length bytes))) → OnErr r (IsTrue (with_capacity_asks (length bytes)) × IsSuffixOf left bytes)
+    → OnErr r (IsTrue (with_capacity_allocates (length bytes))) → OnErr r (IsTrue (with_capacity_allocates (length bytes)) × IsSuffixOf left bytes)
 all_taken (Ok _) bytes left none h = tt
 all_taken (Err _) bytes left none h = (h, (length bytes, none ∙ sym (drop_of_length-le bytes (omega arith))))
 
@@ -43,7 +43,7 @@ returns-then-remaining-le-INLINE_CAPACITY g c =
       kept = c.read_short.ensures.kept;
       succeeds = subst (λ (bs : List ℕ). length bs ≤ 24 → IsOk r) same c.from_utf8_unchecked.ensures.succeeds;
       err = all_taken r bytes left c.read_short.ensures.consumed
-          (subst (λ (bs : List ℕ). OnErr r (IsTrue (with_capacity_asks (length bs)))) same c.from_utf8_unchecked.ensures.err);
+          (subst (λ (bs : List ℕ). OnErr r (IsTrue (with_capacity_allocates (length bs)))) same c.from_utf8_unchecked.ensures.err);
     }
 
 pub returns : goal.returns

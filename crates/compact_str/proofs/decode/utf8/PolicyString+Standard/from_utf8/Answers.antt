@@ -1,7 +1,7 @@
 use Rattle.std.proofs.Common.{◌≡◌, ◌≤◌, List, ℕ, Some, IsTrue, length, refl, sym, subst}
 use Rattle.compact_repr.specs.Text.{text_of}
 use Rattle.compact_repr.specs.Value.{PlacedText}
-use Rattle.compact_repr.specs.Capacity.{standard_growth, with_capacity_asks}
+use Rattle.compact_repr.specs.Capacity.{standard_growth, with_capacity_allocates}
 use Rattle.compact_repr.specs.Calls.{new}
 use Rattle.compact_str.proofs.FittedTexts.{spelled-encoded}
 use Rattle.compact_str.proofs.decode.utf8.PolicyString+Standard.from_utf8.Goals as goal
@@ -32,7 +32,7 @@ returns-in-Err-new c =
       succeeds = λ _ short. c.in-Err-new.ensures.succeeds (subst (λ (bs : List ℕ). length bs ≤ 24) (sym same) short);
       err = (
         c.in-Ok.ensures.text.1,
-        subst (λ (bs : List ℕ). IsTrue (with_capacity_asks (length bs))) same c.in-Err-new.ensures.err,
+        subst (λ (bs : List ℕ). IsTrue (with_capacity_allocates (length bs))) same c.in-Err-new.ensures.err,
       );
     }
 
