@@ -1,12 +1,6 @@
-<<<<<<< HEAD:crates/compact_repr/src/growth.rt
-//! How the capacity of a heap buffer grows.
+//! Growth policies, and the capacity that a heap buffer grows to.
 ghost use Rattle.std.specs.Prelude.{◌≡◌, ℕ, ◌*◌, ◌/◌, ◌<◌, ◌^◌, max, nat_le, if◌then◌else◌, Some, None};
 ghost use Rattle.compact_repr.specs.Capacity.{Growth, IsLawful, standard_growth, max_capacity};
-=======
-//! Growth policies.
-ghost use Rattle.std.specs.Prelude.{◌≡◌, ℕ};
-ghost use Rattle.compact_repr.specs.Capacity.{Growth, IsLawful, standard_growth};
->>>>>>> e76c557278bb68489dd1388a5e03d0b47f9bca07:crates/compact_repr/src/policy.rt
 
 /// The least capacity of a heap buffer, and its growth factor, `NUM / DEN`.
 ///
@@ -66,10 +60,10 @@ pub fn standard_grows_by_half()
     ensures { ⟦<Standard as Policy>⟧.growth ≡ standard_growth }
 {}
 
-/// The largest capacity that may be asked for, 2^56 - 2 bytes.
+/// The largest capacity that can be allocated, 2^56 - 2 bytes.
 pub const MAX_CAPACITY: usize = 72057594037927934;
 
-/// The capacity of a heap buffer for `needed` bytes where `len` stand; `None` is past `MAX_CAPACITY`.
+/// Returns the capacity to which a text of `len` bytes grows for `needed` bytes, or `None` if it exceeds `MAX_CAPACITY`.
 pub fn grown_capacity<P: Policy>(len: usize, needed: usize) -> Option<usize>
     requires { len < 2 ^ 63 }
     ensures { let c = max P.growth.least
@@ -82,7 +76,7 @@ pub fn grown_capacity<P: Policy>(len: usize, needed: usize) -> Option<usize>
     checked_capacity::<P>(needed.max(product / P::DEN))
 }
 
-/// The capacity of a heap buffer for `wanted` bytes, at least that of the policy; `None` is past `MAX_CAPACITY`.
+/// Returns the heap capacity for `wanted` bytes, at least the policy's least, or `None` if it exceeds `MAX_CAPACITY`.
 pub fn checked_capacity<P: Policy>(wanted: usize) -> Option<usize>
     ensures { let c = max P.growth.least wanted
         in result ≡ (if nat_le c max_capacity then Some c else None) }
