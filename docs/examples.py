@@ -102,7 +102,10 @@ def test_module(examples):
 
 
 def run(sources):
-    """Runs all examples in a copy of the repository. Returns what rt printed, and its status."""
+    """Runs all examples in a copy of the repository. Returns what rt printed, and its status.
+
+    The copy has no out/: `rt try` is no faster with it, and to copy it takes longer than to run the examples.
+    """
     with tempfile.TemporaryDirectory() as folder:
         copy = pathlib.Path(folder)
         shutil.copytree(ROOT / "crates", copy / "crates", ignore=shutil.ignore_patterns("out"))
