@@ -1,20 +1,19 @@
 //! The representation of a compact string: a text with a place and a capacity.
 //!
-//! A text of at most 24 bytes is stored in the value itself, a longer one in a buffer on the heap, and a string literal by
-//! reference. This crate makes such a representation, reads it, makes room in it and edits its text. Contracts see the
-//! `PlacedText` of `specs/Value.antt`.
+//! Up to 24 bytes are stored in the value itself, a longer text in a buffer on the heap, and a string literal by
+//! reference. This crate creates, reads, grows and edits such a representation. Contracts see the `PlacedText` of
+//! `specs/Value.antt`.
 #![tactic(auto, using(compact_text::proofs::TextFacts::text_facts))]
 
 mod error;
 mod error_conversions;
+mod growth;
 mod heap;
 mod inline;
-mod policy;
 mod repr;
 mod static_str;
 
 pub use error::ReserveError;
+pub use growth::{MAX_CAPACITY, Policy, Standard, standard_grows_by_half};
 pub use inline::INLINE_CAPACITY;
-pub use policy::{Policy, Standard, standard_grows_by_half};
 pub use repr::Repr;
-pub use repr::capacity::MAX_CAPACITY;

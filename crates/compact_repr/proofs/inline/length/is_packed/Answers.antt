@@ -3,7 +3,7 @@ use Rattle.std.specs.Prelude.{◌⊎◌}
 use Rattle.std.proofs.lemmas.Bool.{false≢true}
 use Rattle.compact_repr.proofs.PackedTexts.{packed-last, packed-utf8, len-most, stands-read}
 use Rattle.compact_repr.proofs.PackedTexts.{ascii_packed}
-use Rattle.compact_repr.proofs.inline.packed.is_packed.Goals as goal
+use Rattle.compact_repr.proofs.inline.length.is_packed.Goals as goal
 
 pub returns-then-last-gt-MAX_LAST_BYTE : goal.returns-then-last-gt-MAX_LAST_BYTE
 returns-then-last-gt-MAX_LAST_BYTE c = (

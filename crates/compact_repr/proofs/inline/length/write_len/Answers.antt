@@ -1,6 +1,6 @@
 use Rattle.std.proofs.Common.{arith}
 use Rattle.compact_repr.proofs.PackedTexts.{stands-marked, stands-full}
-use Rattle.compact_repr.proofs.inline.packed.write_len.Goals as goal
+use Rattle.compact_repr.proofs.inline.length.write_len.Goals as goal
 
 pub returns-then-len-lt-INLINE_CAPACITY : goal.returns-then-len-lt-INLINE_CAPACITY
 returns-then-len-lt-INLINE_CAPACITY c = stands-marked c.args.bytes.now c.args.len (omega arith) (omega arith) c.requires.text

@@ -1,6 +1,6 @@
 use Rattle.std.proofs.Common.{ℕ, arith}
 use Rattle.compact_repr.proofs.PackedArrays.{packed_long, packed_one}
-use Rattle.compact_repr.proofs.inline.packed.pack.Goals as goal
+use Rattle.compact_repr.proofs.inline.length.pack.Goals as goal
 
 pub returns-then-len-ge8 : goal.returns-then-len-ge8
 returns-then-len-ge8 c =

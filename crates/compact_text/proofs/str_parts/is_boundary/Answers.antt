@@ -1,8 +1,7 @@
 use Rattle.std.proofs.Common.{refl}
-use Rattle.compact_repr.specs.Text.{text_of}
-use Rattle.compact_text.proofs.Cuts.{boundary-bytes, boundary-text}
-use Rattle.compact_str.proofs.Drains.{is_boundary-test}
-use Rattle.compact_str.proofs.string.insert_remove.is_boundary.Goals as goal
+use Rattle.compact_text.specs.Text.{text_of}
+use Rattle.compact_text.proofs.Cuts.{boundary-bytes, boundary-text, is_boundary-test}
+use Rattle.compact_text.proofs.str_parts.is_boundary.Goals as goal
 
 pub returns-clause-boundary : goal.returns-clause-boundary
 returns-clause-boundary c = (

@@ -2,7 +2,7 @@
 use Rattle.std.proofs.Common.{◌≡◌, ℕ, ◌*◌, ◌/◌, max, sym, ap, ◌∙◌, arith}
 use Rattle.std.proofs.Math.Nat.{mul_comm}
 use Rattle.compact_repr.specs.Capacity.{Growth}
-use Rattle.compact_repr.proofs.repr.capacity.grown_capacity.Goals as goal
+use Rattle.compact_repr.proofs.growth.grown_capacity.Goals as goal
 
 pub returns : goal.returns
 returns g c =
