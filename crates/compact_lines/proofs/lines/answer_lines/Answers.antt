@@ -1,7 +1,6 @@
 use Rattle.std.proofs.Common.{◌≡◌, ◌<◌, ◌∙◌, ◌+◌, ℕ, List, length, ap, arith}
 use Rattle.std.specs.Io.BufRead.{strip_last}
-use Rattle.std.proofs.lemmas.Result.{IfOk-from_err}
-use Rattle.compact_lines.proofs.LineLemmas.{so-far-more, stopped-after, stopped-within, stopped-so-far, so-far-none, all-answered, standard}
+use Rattle.compact_lines.proofs.LineLemmas.{so-far-more, stopped-after, stopped-within, standard}
 use Rattle.compact_lines.proofs.lines.answer_lines.Goals as goal
 
 some-read : (bytes : List ℕ) (len before n : ℕ) → len ≡ length bytes → len ≡ before + n → (n ≡ 0 → ⊥) → 0 < length bytes
@@ -47,33 +46,3 @@ returns-in_err-flush-clause-err g c =
     (g.W.Write.contents c.args.writer.now) (g.W.Write.contents c.loop.writer) (g.W.Write.contents c.answer_line.new.writer) (g.W.Write.contents c.flush.new.self)
     c.read_until.new.buf.items c.without_end.result.now c.loop.invariant takes some stripped c.in_ok-read_until.ensures.rest
     c.in_ok-answer_line.ensures.ok c.flush.ensures.bytes)
-
-pub loop-init : goal.loop-init
-loop-init g c = so-far-none standard c.args.session.now (g.B.Read.remaining c.args.reader.now)
-    (g.W.Write.contents c.args.writer.now)
-
-pub returns-in_err-read_until-clause-ok : goal.returns-in_err-read_until-clause-ok
-returns-in_err-read_until-clause-ok g c = IfOk-from_err _ _ c.from_residual.ensures.0
-
-pub returns-in_err-answer_line-clause-ok : goal.returns-in_err-answer_line-clause-ok
-returns-in_err-answer_line-clause-ok g c = IfOk-from_err _ _ c.from_residual-in_err-answer_line.ensures.0
-
-pub returns-in_err-flush-clause-ok : goal.returns-in_err-flush-clause-ok
-returns-in_err-flush-clause-ok g c = IfOk-from_err _ _ c.from_residual-in_err-flush.ensures.0
-
-pub returns-then-branch-eq0-clause-ok : goal.returns-then-branch-eq0-clause-ok
-returns-then-branch-eq0-clause-ok g c =
-    all-answered standard c.args.session.now c.loop.session (g.B.Read.remaining c.args.reader.now)
-    (g.B.Read.remaining c.loop.reader) (g.W.Write.contents c.args.writer.now) (g.W.Write.contents c.loop.writer) c.loop.invariant
-    (c.in_ok-read_until.ensures.end c.if-branch-eq0.true)
-
-pub returns-then-branch-eq0-clause-err : goal.returns-then-branch-eq0-clause-err
-returns-then-branch-eq0-clause-err g c = tt
-
-pub returns-clause-ok : goal.returns-clause-ok
-returns-clause-ok g c = tt
-
-pub returns-clause-err : goal.returns-clause-err
-returns-clause-err g c =
-    stopped-so-far standard c.args.session.now c.loop.session (g.B.Read.remaining c.args.reader.now)
-    (g.B.Read.remaining c.loop.reader) (g.W.Write.contents c.args.writer.now) (g.W.Write.contents c.loop.writer) c.loop.invariant

@@ -1,11 +1,10 @@
-use Rattle.std.proofs.Common.{◌≡◌, ◌<◌, true, false, not, slice_index, slice_index_or, refl, ap, ◌∙◌, true≢false, arith, rules}
+use Rattle.std.proofs.Common.{◌≡◌, ◌<◌, true, false, not, slice_index, slice_index_or, refl, true≢false, arith, rules}
 use denote.Enum.Bare.{sameb}
 use Rattle.std.proofs.lemmas.Grind.{common_steps}
-use Rattle.std.proofs.lemmas.List.{take_all}
 use Rattle.compact_uses.specs.contracts.tokenizer.Kind.{the_type}
 use Rattle.compact_uses.specs.declared.tokenizer.Kind.{Kind}
 use Rattle.compact_uses.specs.declared.tokenizer.Kind.TheVariants.{Word, Number, Space, Mark}
-use Rattle.compact_uses.specs.Entries.{is_word_kind, word_count}
+use Rattle.compact_uses.specs.Entries.{is_word_kind}
 use Rattle.compact_uses.proofs.CountLemmas.{count-bound, counted, uncounted, counts-other, no-word}
 use Rattle.compact_uses.proofs.entries.word_counts.Goals as goal
 
@@ -48,6 +47,3 @@ loop-token-preserved-then-token-names c =
       len = c.loop-token.invariant.len;
       counts = λ n lt. uncounted c.args.tokens.now c.loop-token.token-index n _ c.loop-token.counts.items c.loop-token-test.true (counts-other n token (λ same. omega (arith, same, lt, c.if-token-names.true))) (c.loop-token.invariant.counts n lt);
     }
-
-pub returns-clause-counts : goal.returns-clause-counts
-returns-clause-counts c = λ n lt. c.loop-token.invariant.counts n lt ∙ ap (λ tokens. word_count tokens n) (take_all c.loop-token.token-index c.args.tokens.now c.loop-token-test.false)

@@ -1,17 +1,10 @@
-use Rattle.std.proofs.Common.{◌≡◌, ◌≤◌, ◌<◌, ◌+◌, ℕ, List, length, ap, refl, ◌++◌, ◌∷◌, [], sym, arith, append-nil}
+use Rattle.std.proofs.Common.{◌≡◌, ◌+◌, ◌++◌, ◌∷◌, [], sym, arith, append-nil}
 use Rattle.std.proofs.lemmas.Grind.{common_steps}
-use Rattle.std.proofs.lemmas.Result.{IfOk-from_err}
 use Rattle.compact_str.specs.Text.{text_of}
 use Rattle.compact_uses.proofs.PieceLemmas.{no-text, filled-text}
 use Rattle.compact_uses.proofs.TokenLemmas.{put-joined, put-names, put-tokens, one-name, parted-push, last-apart, none-apart, front-left, front-with}
 use Rattle.compact_uses.specs.declared.tokenizer.Kind.TheVariants.{Mark}
 use Rattle.compact_uses.proofs.tokenizer.push_token.Goals as goal
-
-no-more : {X : Type 0} (old new : List X) (n : ℕ) → new ≡ old → length new ≤ length old + n
-no-more old new n same = let lengths = ap length same in omega arith
-
-not-empty : (text : List ℕ) → 0 < length text → text ≡ [] → ⊥
-not-empty text some none = let lengths = ap length none in omega arith
 
 pub returns-clause-joined : goal.returns-clause-joined
 returns-clause-joined c =
@@ -66,91 +59,3 @@ returns-then-is_err-clause-front c =
     λ before others are apart. front-with before _ _ _ (record { kind = c.args.kind; name = c.in_ok-name.name }) _ others c.intern.ensures.kept
     c.requires.tokens c.requires.parted c.requires.follows c.in_ok-name.ensures.number c.in_ok-name.ensures.names filled c.requires.alike
     c.requires.single apart are
-
-pub returns-then-is_empty-clause-parted : goal.returns-then-is_empty-clause-parted
-returns-then-is_empty-clause-parted c = c.requires.parted
-
-pub returns-then-is_empty-clause-tokens : goal.returns-then-is_empty-clause-tokens
-returns-then-is_empty-clause-tokens c = c.requires.tokens
-
-pub returns-then-is_empty-clause-names : goal.returns-then-is_empty-clause-names
-returns-then-is_empty-clause-names c = λ before are. are
-
-pub returns-then-is_empty-clause-kept : goal.returns-then-is_empty-clause-kept
-returns-then-is_empty-clause-kept c = λ n name at. at
-
-pub returns-then-is_empty-clause-empty : goal.returns-then-is_empty-clause-empty
-returns-then-is_empty-clause-empty c = λ none. refl
-
-pub returns-then-is_empty-clause-front : goal.returns-then-is_empty-clause-front
-returns-then-is_empty-clause-front c = tt
-
-pub returns-then-is_empty-clause-err : goal.returns-then-is_empty-clause-err
-returns-then-is_empty-clause-err c = tt
-
-pub returns-in_err-name-clause-joined : goal.returns-in_err-name-clause-joined
-returns-in_err-name-clause-joined c = IfOk-from_err _ _ c.from_residual.ensures.0
-
-pub returns-in_err-name-clause-parted : goal.returns-in_err-name-clause-parted
-returns-in_err-name-clause-parted c = IfOk-from_err _ _ c.from_residual.ensures.0
-
-pub returns-in_err-name-clause-last : goal.returns-in_err-name-clause-last
-returns-in_err-name-clause-last c = IfOk-from_err _ _ c.from_residual.ensures.0
-
-pub returns-in_err-name-clause-tokens : goal.returns-in_err-name-clause-tokens
-returns-in_err-name-clause-tokens c = IfOk-from_err _ _ c.from_residual.ensures.0
-
-pub returns-in_err-name-clause-names : goal.returns-in_err-name-clause-names
-returns-in_err-name-clause-names c = IfOk-from_err _ _ c.from_residual.ensures.0
-
-pub returns-in_err-name-clause-kept : goal.returns-in_err-name-clause-kept
-returns-in_err-name-clause-kept c = c.intern.ensures.kept
-
-pub returns-then-is_err-clause-joined : goal.returns-then-is_err-clause-joined
-returns-then-is_err-clause-joined c = tt
-
-pub returns-then-is_err-clause-parted : goal.returns-then-is_err-clause-parted
-returns-then-is_err-clause-parted c = tt
-
-pub returns-then-is_err-clause-last : goal.returns-then-is_err-clause-last
-returns-then-is_err-clause-last c = tt
-
-pub returns-then-is_err-clause-tokens : goal.returns-then-is_err-clause-tokens
-returns-then-is_err-clause-tokens c = tt
-
-pub returns-then-is_err-clause-names : goal.returns-then-is_err-clause-names
-returns-then-is_err-clause-names c = tt
-
-pub returns-then-is_err-clause-kept : goal.returns-then-is_err-clause-kept
-returns-then-is_err-clause-kept c = c.intern.ensures.kept
-
-pub returns-clause-kept : goal.returns-clause-kept
-returns-clause-kept c = c.intern.ensures.kept
-
-pub returns-clause-empty : goal.returns-clause-empty
-returns-clause-empty c = λ none. refl
-
-pub returns-clause-front : goal.returns-clause-front
-returns-clause-front c = tt
-
-pub returns-clause-err : goal.returns-clause-err
-returns-clause-err c = tt
-
-pub returns-then-is_empty-clause-bound : goal.returns-then-is_empty-clause-bound
-returns-then-is_empty-clause-bound c = no-more _ _ _ refl
-
-pub returns-in_err-name-clause-bound : goal.returns-in_err-name-clause-bound
-returns-in_err-name-clause-bound c = no-more _ _ _ c.in_err-name.ensures.err
-
-pub returns-in_err-name-clause-empty : goal.returns-in_err-name-clause-empty
-returns-in_err-name-clause-empty c =
-    let filled = filled-text c.args.piece.now c.is_empty.result c.utf8.piece c.is_empty.ensures c.if-is_empty.false in
-    λ none. absurd (not-empty _ filled none)
-
-pub returns-then-is_err-clause-empty : goal.returns-then-is_err-clause-empty
-returns-then-is_err-clause-empty c =
-    let filled = filled-text c.args.piece.now c.is_empty.result c.utf8.piece c.is_empty.ensures c.if-is_empty.false in
-    λ none. absurd (not-empty _ filled none)
-
-pub returns-then-is_err-clause-err : goal.returns-then-is_err-clause-err
-returns-then-is_err-clause-err c = tt

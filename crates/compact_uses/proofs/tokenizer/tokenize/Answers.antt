@@ -1,43 +1,15 @@
-use Rattle.std.proofs.Common.{◌≡◌, ◌<◌, ◌^◌, Fits, w64, ℕ, ◌+◌, [], ◌∷◌, ◌++◌, true, false, true≢false, Result, Ok, Err, IfErr, IsErrAnd, drop, length, length-append, refl, sym, ap, ap₂, List, ◌∙◌, arith, append-nil}
-use Rattle.std.proofs.lemmas.Grind.{common_steps}
-use Rattle.std.proofs.lemmas.Result.{IfOk-from_err}
-use Rattle.std.proofs.lemmas.Str.{IsUtf8-drop, IsUtf8-take, length-encode, len_utf8_bounds}
-use Rattle.std.specs.Char.{encode_utf8}
+use Rattle.std.proofs.Common.{◌≡◌, ℕ, ◌+◌, [], true, false, drop, length, length-append, refl, sym, ap, ap₂, List, ◌∙◌, arith, append-nil}
+use Rattle.std.proofs.lemmas.Str.{IsUtf8-drop}
 use Rattle.std.specs.Str.Iter.{chars_rest}
-use Rattle.compact_str.specs.Text.{size, text_of}
+use Rattle.compact_str.specs.Text.{text_of}
 use Rattle.compact_str.specs.Cut.{text_before, text_after}
-use Rattle.compact_str.proofs.ForCallers.{text_before-text_after, text_of-take, size-append}
+use Rattle.compact_str.proofs.ForCallers.{text_before-text_after, text_of-take}
 use Rattle.compact_str.proofs.TextBytes.{boundary-bytes}
 use Rattle.compact_edit.specs.Names.{distinct_texts}
-use Rattle.compact_uses.proofs.PieceLemmas.{next-character, first-character, first-piece, start-boundary, whole-piece, cut-joined, none-next, next-text}
+use Rattle.compact_uses.proofs.PieceLemmas.{next-character, first-character, first-piece, start-boundary, whole-piece, cut-joined, next-text}
 use Rattle.compact_uses.proofs.TokenLemmas.{alike-push, alike-one, goes_on-same, goes_on-no-mark, push-some, one-character, none-alike, few-names, front-of, begins-apart}
 use Rattle.compact_uses.specs.Tokens.{goes_on}
 use Rattle.compact_uses.proofs.tokenizer.tokenize.Goals as goal
-
--- an error that is handed on is that of the call
-handed-error : {T E : Type 0} (r : Result T E) (P : E → Type 0) (e : E) → IsErrAnd r (λ y. y ≡ e) → P e → IfErr r P
-handed-error (Ok x) P e is holds = tt
-handed-error (Err y) P e is holds = rw is holds
-
-none-behind : (xs ys : List ℕ) → xs ++ ys ≡ [] → ys ≡ []
-none-behind [] ys none = none
-none-behind (x ∷ xs) ys none = grind (arith, common_steps, none)
-
-fewer-left : (c : ℕ) (before later : List ℕ) → before ≡ encode_utf8 c ++ later → length later < length before
-fewer-left c before later is =
-    let more = ap length is in
-    let joined = length-append (encode_utf8 c) later in
-    let width = length-encode c in
-    let some = len_utf8_bounds c in omega arith
-
-on-fits : (front rest whole piece later : List ℕ) (n bytes : ℕ) → front ++ rest ≡ whole → rest ≡ piece ++ later
-    → size piece ≡ n → bytes ≡ size whole
-    → bytes < 2 ^ 64 → Fits w64 n
-on-fits front rest whole piece later n bytes joined parts position is fits =
-    let all = ap size joined in
-    let two = ap size parts in
-    let first = size-append front rest in
-    let second = size-append piece later in omega arith
 
 pub loop-character-init : goal.loop-character-init
 loop-character-init c = record {
@@ -133,11 +105,6 @@ push_token-requires-2-clause-single c =
     let whole = whole-piece c.loop-character.rest.now c.loop-character.len c.loop-character.invariant.is_text c.loop-character.invariant.boundary (ap length c.loop-character.invariant.here ∙ ended) in
     rw (sym whole) c.loop-character.invariant.single
 
-pub returns-in_err-push_token-clause-empty : goal.returns-in_err-push_token-clause-empty
-returns-in_err-push_token-clause-empty c = λ none.
-    absurd (none-next _ c.loop-character.rest.now _ c.loop-character.len c.in-Some.character c.loop-character.invariant.is_text (c.loop-character.invariant.joined ∙ none)
-    (c.loop-character.invariant.here ∙ c.in-Some.ensures.steps.0))
-
 pub returns-in_err-push_token-clause-bound : goal.returns-in_err-push_token-clause-bound
 returns-in_err-push_token-clause-bound c =
     let rest : List ℕ = text_of c.loop-character.rest.now in
@@ -176,119 +143,6 @@ pub returns-in_err-push_token-2-clause-front : goal.returns-in_err-push_token-2-
 returns-in_err-push_token-2-clause-front c =
     front-of _ _ _ _ _ (append-nil _ ∙ c.loop-character.invariant.joined)
     (c.in_err-push_token-2.ensures.front _ [] c.loop-character.invariant.names tt)
-
-pub push_token-requires-clause-tokens : goal.push_token-requires-clause-tokens
-push_token-requires-clause-tokens c = c.loop-character.invariant.tokens
-
-pub push_token-requires-clause-parted : goal.push_token-requires-clause-parted
-push_token-requires-clause-parted c = c.loop-character.invariant.parted
-
-pub push_token-requires-clause-follows : goal.push_token-requires-clause-follows
-push_token-requires-clause-follows c = c.loop-character.invariant.follows
-
-pub push_token-requires-2-clause-tokens : goal.push_token-requires-2-clause-tokens
-push_token-requires-2-clause-tokens c = c.loop-character.invariant.tokens
-
-pub push_token-requires-2-clause-first : goal.push_token-requires-2-clause-first
-push_token-requires-2-clause-first c =
-    let ended : length (chars_rest c.loop-character.character-iterator) ≡ 0 = c.in-None.ensures.steps.0.0 in
-    let whole = whole-piece c.loop-character.rest.now c.loop-character.len c.loop-character.invariant.is_text c.loop-character.invariant.boundary (ap length c.loop-character.invariant.here ∙ ended) in
-    rw (sym whole) c.loop-character.invariant.first
-
-pub push_token-requires-2-clause-parted : goal.push_token-requires-2-clause-parted
-push_token-requires-2-clause-parted c = c.loop-character.invariant.parted
-
-pub push_token-requires-2-clause-follows : goal.push_token-requires-2-clause-follows
-push_token-requires-2-clause-follows c = c.loop-character.invariant.follows
-
-pub returns-clause-joined : goal.returns-clause-joined
-returns-clause-joined c = c.in_ok-push_token-2.ensures.joined ∙ c.loop-character.invariant.joined
-
-pub returns-clause-parted : goal.returns-clause-parted
-returns-clause-parted c = c.in_ok-push_token-2.ensures.parted
-
-pub returns-clause-tokens : goal.returns-clause-tokens
-returns-clause-tokens c = c.in_ok-push_token-2.ensures.tokens
-
-pub returns-clause-names : goal.returns-clause-names
-returns-clause-names c = c.in_ok-push_token-2.ensures.names _ c.loop-character.invariant.names
-
-pub returns-clause-kept : goal.returns-clause-kept
-returns-clause-kept c = λ n name at. c.push_token-2.ensures.kept n name (c.loop-character.invariant.kept n name at)
-
-pub returns-clause-empty : goal.returns-clause-empty
-returns-clause-empty c = λ none. refl
-
-pub returns-clause-front : goal.returns-clause-front
-returns-clause-front c = tt
-
-pub returns-clause-err : goal.returns-clause-err
-returns-clause-err c = tt
-
-pub returns-in_err-push_token-clause-kept : goal.returns-in_err-push_token-clause-kept
-returns-in_err-push_token-clause-kept c = λ n name at. c.push_token.ensures.kept n name (c.loop-character.invariant.kept n name at)
-
-pub returns-in_err-push_token-2-clause-kept : goal.returns-in_err-push_token-2-clause-kept
-returns-in_err-push_token-2-clause-kept c = λ n name at. c.push_token-2.ensures.kept n name (c.loop-character.invariant.kept n name at)
-
-pub returns-in_err-push_token-clause-joined : goal.returns-in_err-push_token-clause-joined
-returns-in_err-push_token-clause-joined c = IfOk-from_err _ _ c.from_residual.ensures.0
-
-pub returns-in_err-push_token-clause-parted : goal.returns-in_err-push_token-clause-parted
-returns-in_err-push_token-clause-parted c = IfOk-from_err _ _ c.from_residual.ensures.0
-
-pub returns-in_err-push_token-clause-tokens : goal.returns-in_err-push_token-clause-tokens
-returns-in_err-push_token-clause-tokens c = IfOk-from_err _ _ c.from_residual.ensures.0
-
-pub returns-in_err-push_token-clause-names : goal.returns-in_err-push_token-clause-names
-returns-in_err-push_token-clause-names c = IfOk-from_err _ _ c.from_residual.ensures.0
-
-pub returns-in_err-push_token-clause-err : goal.returns-in_err-push_token-clause-err
-returns-in_err-push_token-clause-err c = handed-error _ _ _ c.from_residual.ensures.1 c.in_err-push_token.ensures.err
-
-pub returns-in_err-push_token-2-clause-joined : goal.returns-in_err-push_token-2-clause-joined
-returns-in_err-push_token-2-clause-joined c = IfOk-from_err _ _ c.from_residual-in_err-push_token-2.ensures.0
-
-pub returns-in_err-push_token-2-clause-parted : goal.returns-in_err-push_token-2-clause-parted
-returns-in_err-push_token-2-clause-parted c = IfOk-from_err _ _ c.from_residual-in_err-push_token-2.ensures.0
-
-pub returns-in_err-push_token-2-clause-tokens : goal.returns-in_err-push_token-2-clause-tokens
-returns-in_err-push_token-2-clause-tokens c = IfOk-from_err _ _ c.from_residual-in_err-push_token-2.ensures.0
-
-pub returns-in_err-push_token-2-clause-names : goal.returns-in_err-push_token-2-clause-names
-returns-in_err-push_token-2-clause-names c = IfOk-from_err _ _ c.from_residual-in_err-push_token-2.ensures.0
-
-pub returns-in_err-push_token-2-clause-err : goal.returns-in_err-push_token-2-clause-err
-returns-in_err-push_token-2-clause-err c = handed-error _ _ _ c.from_residual-in_err-push_token-2.ensures.1 c.in_err-push_token-2.ensures.err
-
-pub returns-in_err-push_token-2-clause-empty : goal.returns-in_err-push_token-2-clause-empty
-returns-in_err-push_token-2-clause-empty c = λ none. absurd (true≢false (sym (c.in_err-push_token-2.ensures.empty (none-behind _ _ (c.loop-character.invariant.joined ∙ none)))))
-
-pub loop-character-smaller : goal.loop-character-smaller
-loop-character-smaller c = fewer-left _ _ _ c.in-Some.ensures.steps.0
-
-pub loop-character-smaller-then-goes_on : goal.loop-character-smaller-then-goes_on
-loop-character-smaller-then-goes_on c = fewer-left _ _ _ c.in-Some.ensures.steps.0
-
-pub overflow_add-len : goal.overflow_add-len
-overflow_add-len c =
-    let next = next-character c.loop-character.rest.now _ c.loop-character.len c.in-Some.character
-    c.loop-character.invariant.is_text c.loop-character.invariant.boundary
-    (c.loop-character.invariant.here ∙ c.in-Some.ensures.steps.0) in
-    let fits = c.as_str-rest.type_inv.0 in
-    let len = c.as_str-rest.ensures.len in
-    rw c.len_utf8-len.ensures.value (on-fits _ (text_of c.loop-character.rest.now) _ next.boundary.0 next.boundary.1 _ _
-    c.loop-character.invariant.joined
-    next.boundary.2.parts next.boundary.2.position len fits)
-
-pub push_token-requires-text-piece : goal.push_token-requires-text-piece
-push_token-requires-text-piece c κs =
-    rw c.split_at.ensures.front (IsUtf8-take c.loop-character.rest.now c.loop-character.len c.loop-character.invariant.is_text
-    (boundary-bytes c.loop-character.rest.now c.loop-character.len refl c.loop-character.invariant.is_text
-    c.loop-character.invariant.boundary))
-
-pub push_token-requires-2-text-piece : goal.push_token-requires-2-text-piece
-push_token-requires-2-text-piece c κs = c.loop-character.invariant.is_text
 
 pub split_at-requires-text-self : goal.split_at-requires-text-self
 split_at-requires-text-self c κs = c.loop-character.invariant.is_text

@@ -1,13 +1,9 @@
 use Rattle.std.proofs.Common.{◌≡◌, ◌^◌, ◌<◌, ◌++◌, rules, arith, ap, ◌∙◌, subst}
-use Rattle.std.proofs.KnownBytes.{Keeps-refl}
 use Rattle.std.specs.Int.{w32, to_le_bytes}
 use Rattle.compact_str.specs.Text.{size, utf8}
 use Rattle.compact_ext.specs.Wire.{WritesFront}
 use Rattle.compact_ext.proofs.WireForms.{IfErr-join, front-first, front-second, write-fails}
 use Rattle.compact_ext.proofs.wire.write.write_wire.Goals as goal
-
-pub returns-in_default-clause-err : goal.returns-in_default-clause-err
-returns-in_default-clause-err g c = (omega arith, Keeps-refl _)
 
 pub returns-in-Err-clause-err : goal.returns-in-Err-clause-err
 returns-in-Err-clause-err g c =

@@ -4,7 +4,6 @@ use Rattle.compact_repr.specs.Capacity.{with_capacity_allocates}
 use Rattle.compact_text.proofs.Texts.{size-text_of}
 use Rattle.compact_codec.specs.Utf8Text.{utf8_lossy_text, replacement_text}
 use Rattle.compact_codec.proofs.LossyReading.{utf8_lossy_text-empty, replacement_text-none, replacement_text-some}
-use Rattle.compact_str.proofs.Fitted.{fitted-empty}
 use Rattle.compact_str.proofs.FittedTexts.{chunk-read, part-asks, refused-fitted}
 use Rattle.compact_str.proofs.decode.utf8.from_invalid.Goals as goal
 

@@ -1,8 +1,5 @@
-use Rattle.std.proofs.Common.{◌≡◌, ℕ, ◌≤◌, List, [], ◌∷◌, ◌++◌, flat_map, ◌∙◌, ap, sym, arith, append_assoc, append-nil}
-use Rattle.std.proofs.lemmas.Grind.{flat_map-append}
-use Rattle.std.specs.Prelude.{string_bytes}
-use Rattle.std.specs.String.{string_capacity}
-use Rattle.compact_repr.specs.Text.{size, text_of}
+use Rattle.std.proofs.Common.{◌∙◌, ap, arith}
+use Rattle.compact_repr.specs.Text.{size}
 use Rattle.compact_text.proofs.Texts.{size-text_of}
 use Rattle.compact_str.proofs.Collecting.{on_err}
 use Rattle.compact_str.proofs.iter.append.append_texts.Goals as goal

@@ -1,10 +1,3 @@
-use Rattle.std.proofs.Common.{◌≡◌, ℕ, ◌<◌, List, [], ◌∷◌, ◌++◌, flat_map, ap, sym, subst, ◌∙◌, append-nil}
-use Rattle.std.proofs.lemmas.Grind.{flat_map-append}
-use Rattle.std.specs.Prelude.{Option, Result, Ok, Err, IfOk, OnErr}
-use Rattle.std.specs.Iterator.{Yields, Drains}
-use Rattle.compact_repr.specs.Text.{size}
-use Rattle.compact_repr.specs.Value.{PlacedText}
-use Rattle.compact_str.specs.Collect.{PassesInline}
 use Rattle.compact_str.proofs.Collecting.{on_err, passes}
 use Rattle.compact_str.proofs.iter.collect.collect_pieces.Goals as goal
 

@@ -1,9 +1,6 @@
-use Rattle.std.proofs.Common.{◌≡◌, List, ℕ, [], ◌∷◌, length, refl, sym, subst, ◌∙◌}
-use Rattle.std.proofs.Math.Seq.{drop-nil}
+use Rattle.std.proofs.Common.{◌∷◌, subst}
 use Rattle.std.specs.Iterator.{Yields}
-use Rattle.compact_repr.specs.Text.{text_of}
-use Rattle.compact_str.specs.Collect.{join}
-use Rattle.compact_str.proofs.Collecting.{on_err, join_of, join-first, join-piece, first-drained, finished-ok, finished-err, join-turn, join-start}
+use Rattle.compact_str.proofs.Collecting.{on_err, join_of, join-first, join-piece, first-drained, finished-ok, finished-err}
 use Rattle.compact_str.proofs.iter.join.join_pieces.Goals as goal
 
 pub returns-in_err-push_str-clause-err : goal.returns-in_err-push_str-clause-err

@@ -1,7 +1,7 @@
-use Rattle.std.proofs.Common.{◌≡◌, ℕ, List, Some, true, length, refl, sym, ap, ◌∙◌, arith}
+use Rattle.std.proofs.Common.{◌≡◌, ℕ, Some, true, length, refl, sym, ap, ◌∙◌, arith}
 use Rattle.std.proofs.lemmas.Grind.{common_steps}
 use Rattle.std.specs.Prelude.{nat_eq, ◌||◌}
-use Rattle.compact_repr.specs.Text.{size, text_of}
+use Rattle.compact_repr.specs.Text.{size}
 use Rattle.compact_repr.specs.Value.{PlacedText, placed_text, is_heap}
 use Rattle.compact_repr.specs.Capacity.{Growth, fits_in_place}
 use Rattle.compact_repr.specs.Calls.{clear}

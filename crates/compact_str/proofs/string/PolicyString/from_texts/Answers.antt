@@ -1,5 +1,5 @@
 use Rattle.std.proofs.Common.{flat_map, refl}
-use Rattle.compact_str.proofs.Collecting.{collected-ran, collected-size, collected-succeeds}
+use Rattle.compact_str.proofs.Collecting.{collected-ran, collected-size}
 use Rattle.compact_str.proofs.string.PolicyString.from_texts.Goals as goal
 
 pub returns-clause-text : goal.returns-clause-text

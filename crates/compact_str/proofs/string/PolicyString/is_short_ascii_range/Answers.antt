@@ -1,6 +1,6 @@
 use Rattle.std.proofs.Common.{ℕ, List, ap, ◌∙◌}
 use Rattle.compact_repr.specs.Cut.{substring}
-use Rattle.compact_str.proofs.Drains.{ascii-of_bytes, range-is_range}
+use Rattle.compact_str.proofs.Drains.{ascii-of_bytes}
 use Rattle.compact_str.proofs.string.PolicyString.is_short_ascii_range.Goals as goal
 
 pub returns-then-range-le-MAX_LOOKED_AT : goal.returns-then-range-le-MAX_LOOKED_AT

@@ -1,13 +1,12 @@
 -- The character that begins at the position, and what stands after it.
-use Rattle.std.proofs.Common.{◌≡◌, ◌+◌, ◌∷◌, [], Some, sym, ap, ◌∙◌, subst, rules, arith}
+use Rattle.std.proofs.Common.{◌≡◌, ◌+◌, ◌∷◌, [], Some, sym, ap, ◌∙◌, subst, rules}
 use Rattle.std.specs.Char.{len_utf8}
-use Rattle.compact_repr.specs.Text.{size}
 use Rattle.compact_repr.specs.Cut.{IsBoundary, text_after}
 use Rattle.compact_repr.specs.Value.{PlacedText}
 use Rattle.std.specs.Prelude.{IsTrue}
 use Rattle.compact_repr.specs.Capacity.{make_owned_allocates}
 use Rattle.compact_repr.specs.Calls.{replace_range}
-use Rattle.compact_text.proofs.Cuts.{boundary-within, boundary-next}
+use Rattle.compact_text.proofs.Cuts.{boundary-next}
 use Rattle.compact_str.proofs.Positions.{replace_range-removes, asks-by_nothing, shortened_placement-character}
 use Rattle.compact_str.proofs.string.PolicyString.remove_char.Goals as goal
 

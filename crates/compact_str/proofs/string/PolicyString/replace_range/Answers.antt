@@ -1,7 +1,7 @@
-use Rattle.std.proofs.Common.{◌≡◌, ◌-◌, ℕ, List, length, refl, ap, ◌∙◌, Result, Ok, Err, OnErr, IsOk, IsTrue, arith}
+use Rattle.std.proofs.Common.{◌≡◌, ◌-◌, ℕ, List, refl, ap, ◌∙◌, Result, Ok, Err, OnErr, IsOk, IsTrue, arith}
 use Rattle.std.proofs.lemmas.Grind.{common_steps}
 use Rattle.std.specs.Range.Bound.{end_index}
-use Rattle.compact_repr.specs.Text.{size, text_of}
+use Rattle.compact_repr.specs.Text.{size}
 use Rattle.compact_repr.specs.Value.{PlacedText}
 use Rattle.compact_repr.specs.Calls.{replace_range_allocates}
 use Rattle.compact_text.proofs.Texts.{size-text_of}

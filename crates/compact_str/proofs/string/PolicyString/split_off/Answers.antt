@@ -1,9 +1,8 @@
 -- What is kept and what is split off are the cut.
-use Rattle.std.proofs.Common.{◌≡◌, List, ℕ, ap, refl, sym, ◌∙◌, subst, arith}
+use Rattle.std.proofs.Common.{◌≡◌, List, ℕ, ap, sym, ◌∙◌, subst, arith}
 use Rattle.std.proofs.lemmas.Grind.{common_steps}
 use Rattle.compact_repr.specs.Cut.{IsBoundary, text_before, text_after}
-use Rattle.compact_repr.specs.Value.{PlacedText, placed_text}
-use Rattle.compact_repr.specs.Capacity.{shortened_placement}
+use Rattle.compact_repr.specs.Value.{PlacedText}
 use Rattle.compact_repr.specs.Calls.{truncate}
 use Rattle.compact_text.proofs.TextFacts.{text_facts}
 use Rattle.compact_str.proofs.Positions.{truncate-text, text_before-boundary, boundary-cut}

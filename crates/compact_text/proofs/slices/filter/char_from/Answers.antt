@@ -3,7 +3,7 @@ use Rattle.std.specs.Char.{encode_utf8}
 use Rattle.std.proofs.lemmas.Str.{IsUtf8-past_char}
 use Rattle.std.proofs.lemmas.List.{take_all, length-drop}
 use Rattle.std.proofs.lemmas.Grind.{common_steps}
-use Rattle.compact_text.proofs.Keeping.{behind_char, within_char, utf8-behind_char}
+use Rattle.compact_text.proofs.Keeping.{behind_char, utf8-behind_char}
 use Rattle.compact_text.proofs.slices.filter.char_from.Goals as goal
 
 pub returns-then-byte-lt128-clause-rest : goal.returns-then-byte-lt128-clause-rest

@@ -1,6 +1,6 @@
 use Rattle.std.proofs.Common.{◌≡◌, ◌+◌, ◌≤◌, length, refl, of_calls, arith}
 use Rattle.compact_text.specs.Text.{text_of}
-use Rattle.compact_text.proofs.Keeping.{Stands, stands-first, stands-kept, stands-dropped, stands-last}
+use Rattle.compact_text.proofs.Keeping.{Stands, stands-kept, stands-dropped, stands-last}
 use Rattle.compact_text.proofs.slices.filter.move_retained.Goals.{then-keep, else-keep, then-keep-2, else-keep-2}
 use Rattle.compact_text.proofs.slices.filter.move_retained.Goals as goal
 

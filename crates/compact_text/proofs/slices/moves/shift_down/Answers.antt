@@ -1,5 +1,4 @@
-use Rattle.std.proofs.Common.{◌∙◌, ◌+◌, ◌-◌, drop, arith}
-use Rattle.std.proofs.lemmas.List.Edits.{paste_none}
+use Rattle.std.proofs.Common.{◌∙◌, ◌+◌, ◌-◌, arith}
 use Rattle.compact_text.proofs.Shifts.{shifted-down}
 use Rattle.compact_text.proofs.slices.moves.shift_down.Goals as goal
 

@@ -1,6 +1,4 @@
-use Rattle.std.proofs.Common.{◌≡◌, ℕ, ◌-◌, ◌+◌, drop, ap, ◌∙◌, arith}
-use Rattle.std.proofs.lemmas.List.Edits.{paste_none}
-use lib.Seq.{paste}
+use Rattle.std.proofs.Common.{◌-◌, ◌+◌, ◌∙◌, arith}
 use Rattle.compact_text.proofs.Shifts.{shifted-up}
 use Rattle.compact_text.proofs.slices.moves.shift_up.Goals as goal
 

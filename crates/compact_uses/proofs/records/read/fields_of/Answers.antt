@@ -1,11 +1,10 @@
-use Rattle.std.proofs.Common.{◌≡◌, ◌≢◌, ℕ, List, ◌∷◌, ◌++◌, [], refl, ap, sym, ◌∙◌, suc, length, drop, map, rules, arith}
+use Rattle.std.proofs.Common.{◌≡◌, ◌≢◌, ℕ, List, ◌∷◌, ◌++◌, [], sym, ◌∙◌, suc, length, drop, map, rules, arith}
 use Rattle.std.proofs.lemmas.Grind.{common_steps}
 use Rattle.std.proofs.lemmas.Iterator.{YieldsList-from_chars}
 use Rattle.std.proofs.lemmas.Iterator.Consumers.{YieldsList-turn, YieldsList-end, YieldsList-so_far}
 use Rattle.std.proofs.lemmas.List.{map-id}
 use Rattle.compact_str.specs.Text.{text_of}
 use Rattle.compact_str.specs.Order.{text_in}
-use Rattle.compact_str.specs.Value.{PlacedText}
 use Rattle.compact_uses.specs.Lines.{IsFault}
 use Rattle.compact_uses.specs.Reading.{HasRead, IsStop}
 use Rattle.compact_uses.specs.declared.records.read.LineError.{LineError}
@@ -53,13 +52,3 @@ returns-clause-fields c =
     rw (items, texts-push c.loop-character.reading.done.items c.loop-character.reading.field, sym whole)
     (reads-as_written c.args.separator c.loop-character.yielded (map text_in c.loop-character.reading.done.items ++ c.loop-character.reading.field.text ∷ [])
     (whole-line c.args.separator c.loop-character.yielded (map text_in c.loop-character.reading.done.items) c.loop-character.reading.place c.loop-character.reading.field.text closed c.loop-character.invariant.reads))
-
-pub loop-character-init : goal.loop-character-init
-loop-character-init c = record {
-  can = tt;
-  finite = tt;
-  reads = rw c.new.ensures.items ([], refl, (ap (λ (v : PlacedText). v.text) c.default.ensures, refl));
-}
-
-pub loop-character-preserved : goal.loop-character-preserved
-loop-character-preserved c = record { can = tt; finite = tt; reads = c.in_default.ensures.ok _ c.loop-character.invariant.reads }

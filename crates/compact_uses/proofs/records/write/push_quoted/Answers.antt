@@ -1,4 +1,4 @@
-use Rattle.std.proofs.Common.{◌≡◌, ◌≤◌, ◌++◌, ℕ, List, append-nil, ◌+◌, ◌∷◌, [], ap, sym, ◌∙◌, arith, append_assoc}
+use Rattle.std.proofs.Common.{◌≡◌, ◌+◌, ◌∷◌, [], ap, sym, ◌∙◌, arith, append_assoc}
 use Rattle.std.proofs.lemmas.Grind.{common_steps}
 use Rattle.std.proofs.lemmas.Iterator.{YieldsList-from_chars}
 use Rattle.std.proofs.lemmas.Iterator.Consumers.{YieldsList-turn, YieldsList-end, YieldsList-so_far}
@@ -6,24 +6,10 @@ use Rattle.std.proofs.lemmas.List.{map-id}
 use Rattle.compact_uses.proofs.FieldParts.{escaped-quote, escaped-other}
 use Rattle.std.specs.Char.{len_utf8}
 use Rattle.compact_str.specs.Text.{size, text_of}
-use Rattle.compact_str.specs.Value.{PlacedText}
 use Rattle.compact_str.proofs.ForCallers.{size-append}
-use Rattle.compact_uses.specs.Lines.{quote, escaped_text, quoted_field}
+use Rattle.compact_uses.specs.Lines.{quote}
 use Rattle.compact_uses.proofs.ShortLines.{room-at, size-quote, size-other, not-refused}
 use Rattle.compact_uses.proofs.records.write.push_quoted.Goals as goal
-
-first-room : (n k : ℕ) → n + (1 + k) ≤ 24 → n + 1 ≤ 24
-first-room n k small = omega arith
-
--- the field is written but for the last quote, which has room
-last-room : (v : PlacedText) (before front text done : List ℕ) → front ≡ before ++ quote ∷ []
-    → v.text ≡ front ++ escaped_text done → done ≡ text
-    → size before + size (quoted_field text) ≤ 24 → size v.text + 1 ≤ 24
-last-room v before front text done begun now same small =
-    let lead = ap size begun ∙ size-append before (quote ∷ []) in
-    let line = ap size now ∙ size-append front (escaped_text done) in
-    let inside = ap (λ t. size (escaped_text t)) same in
-    let tail = size-append (escaped_text text) (quote ∷ []) in omega arith
 
 pub loop-character-preserved-then-character-eq34 : goal.loop-character-preserved-then-character-eq34
 loop-character-preserved-then-character-eq34 c =
@@ -70,21 +56,3 @@ returns-in_err-push-4-clause-succeeds c = λ small.
     c.in_ok-push.ensures.text c.loop-character.invariant.text c.as_str.ensures.text so_far turn small in
     let other = size-other c.in-Some.character c.if-character-eq34.false in
     absurd (not-refused c.loop-character.line (len_utf8 c.in-Some.character) (omega (arith, room, other)) c.in_err-push-4.ensures.succeeds)
-
-pub loop-character-init : goal.loop-character-init
-loop-character-init c = record { can = tt; finite = tt; text = sym (append-nil _) }
-
-pub returns-in_err-push-clause-succeeds : goal.returns-in_err-push-clause-succeeds
-returns-in_err-push-clause-succeeds c = λ small.
-    absurd (not-refused c.args.line.now 1 (first-room _ _ small) c.in_err-push.ensures.succeeds)
-
-pub returns-in_err-push-5-clause-succeeds : goal.returns-in_err-push-5-clause-succeeds
-returns-in_err-push-5-clause-succeeds c = λ small.
-    let end = YieldsList-end (YieldsList-from_chars c.as_str.result.now c.as_str.utf8 cc) c.loop-character.yielded _
-    c.loop-character.yielded_by _ _ c.in-None.is c.next.ensures.steps in
-    let whole : c.loop-character.yielded ≡ c.args.field.now.text = sym (map-id c.loop-character.yielded) ∙ end.0 ∙
-    c.as_str.ensures.text in
-    let room = last-room c.loop-character.line c.args.line.now.text c.push.new.self.text c.args.field.now.text
-    c.loop-character.yielded
-    c.in_ok-push.ensures.text c.loop-character.invariant.text whole small in
-    absurd (not-refused c.loop-character.line 1 room c.in_err-push-5.ensures.succeeds)

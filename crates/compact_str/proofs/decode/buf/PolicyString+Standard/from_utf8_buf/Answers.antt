@@ -1,22 +1,14 @@
-use Rattle.std.proofs.Common.{◌≡◌, ◌≤◌, ◌∙◌, refl, sym, ap, subst, arith, List, [], ℕ, length, Vec, Global}
-use Rattle.std.proofs.Common.{Result, Ok, Err, OnOk, IfOk, IfErr, IsOk}
-use Rattle.std.proofs.Math.ListN.{drop_of_length-le}
+use Rattle.std.proofs.Common.{◌≡◌, ◌≤◌, ◌∙◌, refl, sym, ap, subst, arith, List, ℕ, length, Vec, Global}
 use Rattle.std.proofs.lemmas.Grind.{common_steps}
-use Rattle.std.proofs.lemmas.Result.{IfOk-weaker, IfErr-weaker}
 use Rattle.std.specs.Str.{IsUtf8}
 use Rattle.std.specs.String.{string_bytes, string_capacity}
 use Rattle.std.specs.declared.string.String.{String}
 use Rattle.compact_repr.specs.Text.{size, text_of}
 use Rattle.compact_repr.specs.Value.{PlacedText}
-use Rattle.compact_repr.specs.Capacity.{standard_growth}
 use Rattle.compact_text.proofs.Texts.{size-text_of}
 use Rattle.compact_codec.specs.InvalidSequence.{IsUtf8Error}
-use Rattle.compact_codec.specs.Utf8Text.{BytesEncode}
 use Rattle.compact_str.specs.FittedValues.{IsPlacedBySize}
-use Rattle.compact_str.specs.DecodeErrors.{IsUtf8Refusal, IsUtf8BufRefusal}
-use Rattle.compact_str.specs.declared.decode.error.FromUtf8Error.{FromUtf8Error}
-use Rattle.compact_str.specs.declared.decode.error.FromUtf8Error.TheVariants.{Utf8, Reserve}
-use Rattle.compact_str.proofs.FittedTexts.{spelled-encoded, new-fitted, from_string_placement-fitted, long-asks}
+use Rattle.compact_str.proofs.FittedTexts.{spelled-encoded, from_string_placement-fitted, long-asks}
 use Rattle.compact_str.proofs.decode.buf.PolicyString+Standard.from_utf8_buf.Goals as goal
 
 bytes-held : (s : String Global) → length (string_bytes s) ≤ string_capacity s

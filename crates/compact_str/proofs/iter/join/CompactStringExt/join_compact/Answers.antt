@@ -2,7 +2,7 @@ use Rattle.std.proofs.Common.{ap, ◌∙◌}
 use Rattle.std.proofs.lemmas.Str.{encodes-chars}
 use Rattle.compact_repr.specs.Text.{text_of, utf8}
 use Rattle.compact_str.specs.Collect.{join}
-use Rattle.compact_str.proofs.Collecting.{joined-ran, joined-succeeds, ran-bytes, utf8-join}
+use Rattle.compact_str.proofs.Collecting.{joined-ran, ran-bytes, utf8-join}
 use Rattle.compact_str.proofs.iter.join.CompactStringExt.join_compact.Goals as goal
 
 pub returns-clause-text : goal.returns-clause-text
