@@ -1,9 +1,9 @@
-//! The workloads that go over the characters of a text, over Rust's types.
+//! The workloads over the characters of a text, for Rust's types.
 
 use crate::{Generator, Text, mix, probe, words};
 use std::hint::black_box;
 
-/// How many lines are taken in turn, and how many letters each has.
+/// The number of lines, and their length.
 const LINES: usize = 16;
 const LINE: u32 = 200;
 

@@ -1,15 +1,15 @@
-//! The figures as a picture: for each workload a bar for each type, as a share of one type's time, which is 1.
+//! The figures as a picture: for each workload a bar for each type, relative to one type's time.
 
 use crate::{LIBRARY, Measured, TYPES};
 use std::fmt::Write;
 
-/// The type whose time is 1: the Rust crate where it is there, and else `String`.
+/// The type whose time is 1: the Rust crate if present, else `String`.
 const REFERENCE: usize = LIBRARY - 1;
 
-/// What is longer than so many times the reference's time is drawn as long as that, and ends in an arrow.
+/// Longer bars are cut off at this many times the reference's time, and end in an arrow.
 const LONGEST: f64 = 2.5;
 
-/// Measures of the picture, in its own units.
+/// Measures of the picture, in its units.
 const LEFT: f64 = 150.0;
 const UNIT: f64 = 180.0;
 const BAR: f64 = 8.0;
@@ -17,7 +17,7 @@ const GAP: f64 = 7.0;
 const TOP: f64 = 74.0;
 const RIGHT: f64 = 60.0;
 
-/// Colours for paper that is light, and for paper that is dark.
+/// Colours for light and dark paper.
 const STYLE: &str = "\
 text { font: 11px sans-serif; fill: #24292f }
 .paper { fill: #ffffff } .line { stroke: #8c959f } .title { font-size: 14px; font-weight: bold }
@@ -28,12 +28,12 @@ text { font: 11px sans-serif; fill: #24292f }
 }
 ";
 
-/// The class of a type's colour. This library has the last one in any case.
+/// The class of a type's colour. This library always has the last one.
 fn colour(place: usize) -> usize {
     if place == LIBRARY { 2 } else { place }
 }
 
-/// The picture, with a line below its title that tells where and when it was measured.
+/// The picture, with a line below its title for where and when it was measured.
 pub fn chart(measured: &[Measured], told: &str) -> String {
     let group = BAR * TYPES.len() as f64 + GAP;
     let width = LEFT + UNIT * LONGEST + RIGHT;
@@ -116,7 +116,7 @@ fn bars(workload: &Measured, top: f64, group: f64) -> String {
     text
 }
 
-/// A text with the three characters replaced that mean something in the picture.
+/// Escapes the three special characters of the picture's format.
 fn escaped(text: &str) -> String {
     text.replace('&', "&amp;")
         .replace('<', "&lt;")

@@ -1,11 +1,11 @@
-//! The workloads that collect and join, over Rust's types.
+//! The workloads that collect and join, for Rust's types.
 
 use crate::{Generator, Text, mix, probe, words};
 use std::hint::black_box;
 
-/// A type whose values are made of what comes one after another.
+/// A type that values are collected into.
 pub trait Collected: Text + FromIterator<char> {
-    /// The words with `separator` between each two.
+    /// Joins the words by `separator`.
     fn joined(words: &[String], separator: &str) -> Self;
 }
 

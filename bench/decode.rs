@@ -1,9 +1,9 @@
-//! The workloads that decode bytes and units, over Rust's types.
+//! The workloads that decode bytes and units, for Rust's types.
 
 use crate::{Generator, Ring, Text, letter, words};
 use std::hint::black_box;
 
-/// How many texts are decoded in turn.
+/// The number of texts to decode.
 const TEXTS: usize = 16;
 
 /// A type whose values are decoded from bytes and units.
@@ -48,13 +48,13 @@ impl Decoded for compact_str::CompactString {
     }
 }
 
-/// Texts of 1024 bytes: half their characters are letters, and the others of two, three or four bytes.
+/// Texts of 1024 bytes: half their characters are ASCII, the others of two, three or four bytes.
 fn mixed_texts() -> Vec<String> {
     let mut generator = Generator::new();
     (0..TEXTS).map(|_| mixed(&mut generator)).collect()
 }
 
-/// One such text.
+/// Draws one such text.
 fn mixed(generator: &mut Generator) -> String {
     let mut text = String::new();
     while text.len() < 1021 {
@@ -72,7 +72,7 @@ fn mixed(generator: &mut Generator) -> String {
     text
 }
 
-/// Makes a value of each input in turn.
+/// Decodes each input in turn.
 fn decoded<T: Text, I>(n: u64, inputs: &[I], decode: impl Fn(&I) -> T) -> u64 {
     let mut ring = Ring::<T>::new();
     for i in 0..n as usize {

@@ -1,4 +1,4 @@
-//! The workloads that make, clone and edit values, over Rust's types.
+//! The workloads that make, clone and edit values, for Rust's types.
 
 use crate::{
     Generator, Held, LONG_TEXTS, PIECES, Ring, SHORT_TEXTS, Text, letter, long_texts, mix, pieces,
@@ -27,7 +27,7 @@ pub fn cloned<T: Held, const COUNT: usize>(n: u64, texts: &[String]) -> u64 {
     clone_in_turn::<T, COUNT>(n, &values)
 }
 
-/// The loop stands apart, so that what made the values takes none of its registers.
+/// Not inlined, so that the code that made the values takes none of its registers.
 #[inline(never)]
 fn clone_in_turn<T: Held, const COUNT: usize>(n: u64, values: &[T]) -> u64 {
     let mut ring = Ring::new();

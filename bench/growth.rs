@@ -1,4 +1,4 @@
-//! How cost grows with the size of a text: the same work on 1000 to 1000000 bytes or words, over all types.
+//! Cost by the size of a text: the same work on 1000 to 1000000 bytes or words, for all types.
 
 use crate::collect::Collected;
 use crate::decode::Decoded;
@@ -9,7 +9,6 @@ use crate::{
 use std::hash::Hash;
 use std::hint::black_box;
 
-/// The sizes.
 const SIZES: [u32; 4] = [1_000, 10_000, 100_000, 1_000_000];
 
 /// How often each is timed for each type.
@@ -70,7 +69,7 @@ fn intern<T: Text + Hash + Eq>(n: u64, size: u32) -> u64 {
     sum
 }
 
-/// Work on a text of any size, as it is run for each of the types, and how many bytes or words are timed.
+/// Work on a text of any size, for each type, and how many bytes or words are timed.
 struct Growth {
     name: &'static str,
     total: u64,
@@ -117,7 +116,7 @@ fn figures(run: fn(u64, u32) -> u64, total: u64, turns: usize) -> (Vec<f64>, Vec
     SIZES.map(figure).into_iter().unzip()
 }
 
-/// The table of how cost grows, and whether all types agree in their checksums.
+/// The table of costs, and whether all types agree in their checksums.
 pub fn growth_table(turns: usize) -> (String, bool) {
     let mut rows = vec![vec![String::from("call"), String::from("type")]];
     rows[0].extend(SIZES.map(|size| size.to_string()));

@@ -1,6 +1,6 @@
-//! The texts that the workloads start from, and how they come about.
+//! The inputs of the workloads.
 
-/// A generator of numbers by xorshift.
+/// An xorshift generator.
 pub struct Generator {
     state: u64,
 }
@@ -19,13 +19,13 @@ impl Generator {
         self.state
     }
 
-    /// A number below `limit`.
+    /// Draws a number below `limit`.
     pub fn below(&mut self, limit: u32) -> u32 {
         let high = self.next() >> 32;
         ((high * u64::from(limit)) >> 32) as u32
     }
 
-    /// A word of `len` letters.
+    /// Draws a word of `len` letters.
     pub fn word(&mut self, len: u32) -> String {
         let mut word = String::new();
         for _ in 0..len {
@@ -35,17 +35,17 @@ impl Generator {
     }
 }
 
-/// The letter with that place in the alphabet, from 0.
+/// Returns the letter at an index of the alphabet.
 pub fn letter(place: u32) -> char {
     char::from(b'a' + place as u8)
 }
 
-/// Words of at least `least` letters and less than `span` more.
+/// Draws words of at least `least` letters and less than `span` more.
 pub fn words(count: usize, least: u32, span: u32) -> Vec<String> {
     words_from(&mut Generator::new(), count, least, span)
 }
 
-/// Such words, for which a generator goes on.
+/// The same with a given generator.
 pub fn words_from(generator: &mut Generator, count: usize, least: u32, span: u32) -> Vec<String> {
     let mut words = Vec::with_capacity(count);
     for _ in 0..count {

@@ -3,16 +3,16 @@
 #
 #   bench/instructions.sh [NAME..]
 #
-# It runs the program that `bench/run.sh FOLDER` built last, and needs `valgrind`. A count is the difference of a run of 1000
-# operations and one of none, by their number; of a workload whose operation is long, of 10. It is the same in each run and on
-# each machine, whatever else the machine does, and says nothing of how long an instruction takes.
+# Runs the program that `bench/run.sh FOLDER` built last, and needs `valgrind`. A count is the difference between a run
+# of 1000 operations and one of none, by their number; 10 for long operations. It is the same in each run and on each
+# machine, whatever else the machine does, and does not show how long an instruction takes.
 set -eu
 
 program=$(cd "$(dirname "$0")" && pwd)/out/target/release/bench
 counted=$(mktemp)
 trap 'rm -f "$counted"' EXIT
 
-# How many instructions a run has.
+# The number of instructions of a run.
 instructions() {
     valgrind --tool=callgrind --callgrind-out-file=/dev/null "$program" once "$@" 2>"$counted" >&2
     sed -n 's/.*Collected : *//p' "$counted"

@@ -1,23 +1,23 @@
-//! The workloads that give words numbers, alone and as tokens of a text, over Rust's types.
+//! The workloads that intern words, alone and as tokens of a text, for Rust's types.
 
 use crate::{Generator, Text, mix, words_from};
 use std::collections::HashSet;
 use std::hash::{BuildHasherDefault, Hash, Hasher};
 
-/// How many words are interned in turn.
+/// The number of words to intern.
 const WORDS: u32 = 20_000;
 
-/// How many words are made to find so many distinct ones.
+/// The number of draws for that many distinct words.
 const DRAWN: u32 = 40_000;
 
-/// How many bytes of prose there are, but for a few more.
+/// The length of the prose in bytes, but for a few more.
 const PROSE: usize = 1 << 20;
 
-/// How many words the prose is made of.
+/// The number of words that the prose is made of.
 const PROSE_WORDS: u32 = 4096;
 
-/// The hasher that a set has by default in this library's kit: 16 bytes at a time are multiplied to 128 bits, whose halves
-/// are joined. So what is compared is the types and the tables, and not two hashers.
+/// The default hasher of this library's kit: multiplies 16 bytes at a time to 128 bits and joins the halves. So the
+/// benchmark compares types and tables, not hashers.
 pub struct Fold(u64);
 
 const MULTIPLIER: u64 = 0x9e37_79b9_7f4a_7c15;
@@ -36,7 +36,7 @@ fn eight(bytes: &[u8], at: usize) -> u64 {
     u64::from_le_bytes(bytes[at..at + 8].try_into().expect("eight bytes"))
 }
 
-/// At most eight bytes as one number.
+/// Reads at most eight bytes as one number.
 fn short(bytes: &[u8]) -> u64 {
     let len = bytes.len();
     if len >= 4 {
@@ -98,8 +98,8 @@ impl<T: Hash + Eq> Names<T> {
     }
 }
 
-/// The distinct words with their numbers. With std alone there is no set that keeps an order, so no list of the words is
-/// kept: it is less work than an interner does.
+/// The distinct words with their numbers. Std alone has no ordered set, so no list of the words is kept: less work
+/// than an interner does.
 #[cfg(not(feature = "peer"))]
 pub struct Names<T>(std::collections::HashMap<T, u64, BuildHasherDefault<Fold>>);
 
@@ -140,7 +140,7 @@ fn interned<T: Text + Hash + Eq>(n: u64, mut generator: Generator, words: &[Stri
     })
 }
 
-/// Distinct words of 1 to 12 letters.
+/// Draws distinct words of 1 to 12 letters.
 fn distinct_words(generator: &mut Generator) -> Vec<String> {
     let mut known = HashSet::new();
     let mut words = Vec::new();
@@ -156,7 +156,8 @@ fn distinct_words(generator: &mut Generator) -> Vec<String> {
     words
 }
 
-/// A text of 1 MiB: words of 1 to 12 letters, with white space between, some marks and numbers, and some words with ä.
+/// Returns a text of 1 MiB: words of 1 to 12 letters, separated by white space, with some marks, numbers, and words
+/// with ä.
 fn prose() -> String {
     let mut generator = Generator::new();
     let words = words_from(&mut generator, PROSE_WORDS as usize, 1, 12);
@@ -174,7 +175,7 @@ fn prose() -> String {
     text
 }
 
-/// What a token is made of.
+/// The kind of a token.
 #[derive(Clone, Copy, PartialEq, Eq)]
 enum Kind {
     Word,
@@ -200,7 +201,7 @@ fn kind_of(character: char) -> Kind {
     }
 }
 
-/// The program of `compact_uses::tokenize` over a type of Rust.
+/// `compact_uses::tokenize` for a type of Rust.
 fn tokenized<T: Text + Hash + Eq>(names: &mut Names<T>, text: &str) -> Vec<Token> {
     let mut tokens = Vec::new();
     let mut start = 0;

@@ -1,15 +1,15 @@
-//! The workloads that compare and hash values, and make a string of a value, over Rust's types.
+//! The workloads that compare and hash values, and convert them to a string, for Rust's types.
 
 use crate::{Generator, SHORT_TEXTS, Text, mix, probe, short_texts};
 use std::hash::{Hash, Hasher};
 use std::hint::black_box;
 
-/// A type whose values are compared and hashed, and made of a `String` with its buffer.
+/// A type whose values are compared and hashed, and made of a `String`, reusing its buffer.
 pub trait Keyed: Text + Ord + Hash {
-    /// The value by way of a `String` with the same buffer.
+    /// Converts into a `String` and back, reusing the buffer.
     fn through_string(self) -> Self;
 
-    /// A value that takes the string over with its buffer.
+    /// Converts a string, reusing its buffer.
     fn taken_over(text: String) -> Self;
 }
 
@@ -38,7 +38,7 @@ impl Keyed for compact_str::CompactString {
     }
 }
 
-/// FNV-1a with 64 bits.
+/// 64-bit FNV-1a.
 struct Fnv(u64);
 
 impl Hasher for Fnv {

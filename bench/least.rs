@@ -1,16 +1,16 @@
-//! What a clone of a short value takes at the least: of values in Rust that have no place on the heap, and so nothing to look at
-//! before a copy and nothing to drop. A value that may stand on the heap is asked where it stands for the clone, for the drop and
-//! for the look at its text.
+//! The least cost of a clone of a short value: for values in Rust that are never on the heap, so nothing is checked
+//! before a copy, and nothing is dropped. A value that may be on the heap is checked for it at the clone, at the drop
+//! and at the read of its text.
 
 use crate::edits::cloned;
 use crate::report::columns;
 use crate::types::Held;
 use crate::{LIBRARY, SHORT_TEXTS, TYPES, library, measured_once, median, short_texts};
 
-/// How many clones are timed.
+/// The number of clones timed.
 const CLONES: u64 = 1_000_000;
 
-/// A text of at most 24 bytes at a whole word, with zeros behind it.
+/// A text of at most 24 bytes, aligned to a word and padded with zeros.
 #[derive(Clone, Copy)]
 #[repr(align(8))]
 struct Row([u8; 24]);
@@ -23,7 +23,7 @@ impl Row {
     }
 }
 
-/// A row whose last byte is 192 and the length, unless the text has 24 bytes: the form that the Rust crate keeps inline.
+/// An array whose last byte is 192 plus the length, unless the text has 24 bytes: the inline form of the Rust crate.
 #[derive(Clone, Copy)]
 struct Packed(Row);
 
@@ -43,7 +43,7 @@ impl Held for Packed {
     }
 }
 
-/// A row beside the length.
+/// An array beside the length.
 #[derive(Clone, Copy)]
 struct Plain {
     row: Row,

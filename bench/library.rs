@@ -1,4 +1,4 @@
-//! The workloads of this library, from the static library `compact_bench`.
+//! This library's workloads, from the static library `compact_bench`.
 
 unsafe extern "C" {
     pub safe fn cs_bench_new_short(n: u64) -> u64;

@@ -1,21 +1,21 @@
-//! Times this library's `CompactString` beside the `String` of Rust, and beside the `CompactString` of the Rust crate
-//! where the feature `peer` is on. `run.sh` builds and runs it.
+//! Times this library's `CompactString` beside the `String` of Rust, and, with the feature `peer`, the `CompactString`
+//! of the Rust crate. `run.sh` builds and runs it.
 //!
-//! The workloads of this library are the C functions of `crates/compact_bench`. Those here do the same to Rust's types, on
-//! the same inputs: `n` operations and a checksum. To make the inputs is no part of an operation, so a workload is run once
-//! with no operation and once with `n`, and the difference counts. In each of `TURNS` turns all types are measured, one
-//! after another, and the table has the median of the turns.
+//! The workloads of this library are the C functions of `crates/compact_bench`. Those here do the same to Rust's
+//! types, on the same inputs: `n` operations and a checksum. To leave out the cost of the inputs, a workload is run
+//! once with no operation and once with `n`, and the difference counts. In each of `TURNS` turns all types are
+//! measured in turn, and the table has the median of the turns.
 //!
-//! Then it prints how cost grows with the size of a text, what a clone of a short value takes at the least, and last what memory
-//! the types take: the bytes of a value, and those in memory for each of a million short words in a vector, for which it runs
-//! itself anew, once for each type.
+//! Then it prints how cost grows with the size of a text, the least cost of a clone of a short value, and the memory
+//! of the types: the size of a value, and the memory for each of a million short words in a vector. For these it runs
+//! itself anew for each type.
 //!
-//! With the arguments `once NAME PLACE COUNT` it only runs a workload for the type at a place, 0 for the first one of the table,
-//! which `instructions.sh` counts.
+//! With the arguments `once NAME PLACE COUNT` it only runs a workload for the type at an index of the table, which
+//! `instructions.sh` counts.
 //!
-//! What it reads of its environment: `BENCH_TURNS`, another number of turns; `BENCH_ONLY`, the beginnings of the names of
-//! the workloads that are run, with nothing else; `BENCH_TO` and `BENCH_PICTURE`, the files that get the figures as text and
-//! as a picture, unless only some workloads are run or in fewer turns; `BENCH_TOLD`, what these say of time and place.
+//! Its environment: `BENCH_TURNS`, another number of turns; `BENCH_ONLY`, prefixes of the names of the only workloads
+//! to run; `BENCH_TO` and `BENCH_PICTURE`, the files for the figures as text and as a picture, which are not written
+//! with fewer workloads or turns; `BENCH_TOLD`, the time and place in these files.
 //!
 //! The status is 1 if two types differ in a checksum.
 
@@ -68,10 +68,10 @@ const TYPES: [&str; 2] = ["String", "CompactString"];
 #[cfg(feature = "peer")]
 const TYPES: [&str; 3] = ["String", "Rust crate", "CompactString"];
 
-/// The place of this library's type.
+/// The index of this library's type.
 const LIBRARY: usize = TYPES.len() - 1;
 
-/// A workload as it is run for each of the types, and how many operations are timed.
+/// A workload, for each type, and how many operations are timed.
 struct Workload {
     name: &'static str,
     n: u64,
@@ -143,7 +143,7 @@ fn measured_once(run: &dyn Fn(u64) -> u64, n: u64) -> (f64, u64) {
     )
 }
 
-/// What was measured of a workload: for each type the nanoseconds for one operation, and the checksum.
+/// The measurement of a workload: for each type the nanoseconds for one operation, and the checksum.
 struct Measured {
     name: &'static str,
     times: Vec<f64>,
@@ -156,13 +156,13 @@ impl Measured {
         let mut sums = vec![0; TYPES.len()];
         let mut kept = Vec::new();
         for turn in 0..=turns {
-            // What is kept takes the places of earlier texts, so that those of this turn lie elsewhere: the time of a long
-            // move depends on whether the text lies across two pages.
+            // This takes the place of earlier texts, so that those of this turn are elsewhere: the time of a long move
+            // depends on whether the text crosses a page.
             kept.extend((0..3).map(|_| black_box(vec![0u8; 1000])));
             for (place, &run) in workload.runs.iter().enumerate() {
                 let (time, sum) = measured_once(&run, workload.n);
                 sums[place] = sum;
-                // One turn more goes ahead, in which the processor gets to know the work.
+                // The first turn only warms up.
                 if turn > 0 {
                     times[place].push(time);
                 }
@@ -180,14 +180,14 @@ impl Measured {
         self.sums.iter().all(|sum| *sum == self.sums[0])
     }
 
-    /// The time of this library's type as a share of that of each type of Rust.
+    /// The time of this library's type relative to each type of Rust.
     fn ratios(&self) -> impl Iterator<Item = f64> {
         self.times[..LIBRARY]
             .iter()
             .map(|time| self.times[LIBRARY] / time)
     }
 
-    /// The line that is printed once the workload has been measured.
+    /// The line that is printed after a workload is measured.
     fn line(&self) -> String {
         let mut line = format!("{}:", self.name);
         for (name, time) in TYPES.iter().zip(&self.times) {
@@ -205,13 +205,12 @@ impl Measured {
     }
 }
 
-/// The middle one of an odd number of times.
+/// The median of an odd number of times.
 fn median(mut times: Vec<f64>) -> f64 {
     times.sort_by(f64::total_cmp);
     times[times.len() / 2]
 }
 
-/// How many turns are wanted.
 fn turns() -> usize {
     let wanted = env::var("BENCH_TURNS").ok();
     wanted
@@ -220,7 +219,7 @@ fn turns() -> usize {
         .max(1)
 }
 
-/// Whether the workload is wanted.
+/// Returns `true` if the workload is selected.
 fn is_wanted(name: &str) -> bool {
     match env::var("BENCH_ONLY") {
         Ok(names) => names
@@ -230,7 +229,7 @@ fn is_wanted(name: &str) -> bool {
     }
 }
 
-/// Measures the workloads and prints a line for each. `None` says that two types differ in a checksum.
+/// Measures the workloads and prints a line for each. Returns `None` if two types differ in a checksum.
 fn measured(turns: usize) -> Option<Vec<Measured>> {
     let mut all = Vec::new();
     for workload in workloads() {
@@ -243,7 +242,7 @@ fn measured(turns: usize) -> Option<Vec<Measured>> {
     all.iter().all(Measured::agrees).then_some(all)
 }
 
-/// Writes the table and the picture, where files are given for them.
+/// Writes the table and the picture to the files given for them, if any.
 fn write_figures(text: &str, measured: &[Measured], told: &str) -> Option<()> {
     if let Ok(file) = env::var("BENCH_TO") {
         fs::write(file, text).ok()?;
@@ -254,7 +253,7 @@ fn write_figures(text: &str, measured: &[Measured], told: &str) -> Option<()> {
     Some(())
 }
 
-/// All that is measured and printed. `None` says that two types differ in a checksum, or that something failed.
+/// Measures and prints all. Returns `None` if two types differ in a checksum, or on failure.
 fn run() -> Option<()> {
     let turns = turns();
     let measured = measured(turns)?;
@@ -281,7 +280,7 @@ fn run() -> Option<()> {
     agree.then_some(())
 }
 
-/// Runs so many operations of a workload for the type at a place. `None` says that there is no such one.
+/// Runs operations of a workload for the type at an index. Returns `None` if there is no such one.
 fn run_once(name: &str, place: &str, count: &str) -> Option<()> {
     let workload = workloads().into_iter().find(|each| each.name == name)?;
     let run = workload.runs.get(place.parse::<usize>().ok()?)?;

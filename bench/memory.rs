@@ -1,5 +1,5 @@
-//! What memory the types take: the bytes of a value, and those in memory for each of a million short words in a vector. The
-//! program runs itself anew for each type, so that each begins with the same memory.
+//! The memory of the types: the size of a value, and the memory for each of a million short words in a vector. The
+//! program runs itself anew for each type, so that each starts with the same memory.
 
 use crate::report::columns;
 use crate::{Generator, TYPES, Text, library, mix, probe};
@@ -8,13 +8,13 @@ use std::fs;
 use std::mem::{self, size_of};
 use std::process::Command;
 
-/// How many words are held.
+/// The number of words held.
 const HELD: u64 = 1_000_000;
 
-/// The argument with which the program runs itself anew to hold words of one type. The place of the type follows.
+/// The argument with which the program runs itself anew to hold words of one type, followed by the type's index.
 pub const HOLD: &str = "hold";
 
-/// Makes a vector of `n` values of words of 1 to 24 letters, and never gives it back.
+/// Makes a vector of `n` values of words of 1 to 24 letters, and leaks it.
 fn hold_words<T: Text>(n: u64) -> u64 {
     let mut generator = Generator::new();
     let mut values = Vec::with_capacity(n as usize);
@@ -29,7 +29,7 @@ fn hold_words<T: Text>(n: u64) -> u64 {
     sum
 }
 
-/// For each type the bytes of a value itself, and how words of it are held.
+/// For each type the size of a value, and the function that holds words of it.
 fn held() -> Vec<(u64, fn(u64) -> u64)> {
     vec![
         (size_of::<String>() as u64, hold_words::<String>),
@@ -44,15 +44,14 @@ fn held() -> Vec<(u64, fn(u64) -> u64)> {
     ]
 }
 
-/// The bytes of this process that are in memory. On x86-64 a page has 4096.
+/// The resident bytes of this process. On x86-64 a page has 4096.
 fn resident() -> Option<u64> {
     let figures = fs::read_to_string("/proc/self/statm").ok()?;
     let pages: u64 = figures.split(' ').nth(1)?.parse().ok()?;
     Some(pages * 4096)
 }
 
-/// What the program does when it runs itself anew: holds words of one type, and prints by how much its memory grew and the
-/// checksum.
+/// The program when run anew: holds words of one type, and prints by how much its memory grew, and the checksum.
 pub fn hold(place: usize) -> Option<()> {
     let (_, words) = *held().get(place)?;
     let before = resident()?;
@@ -62,7 +61,7 @@ pub fn hold(place: usize) -> Option<()> {
     Some(())
 }
 
-/// The same in a process of its own: the resident bytes for each word, and the checksum.
+/// Does this in a new process, and returns the resident bytes for each word, and the checksum.
 fn hold_alone(place: usize) -> Option<(f64, u64)> {
     let program = env::current_exe().ok()?;
     let output = Command::new(program)
@@ -76,7 +75,7 @@ fn hold_alone(place: usize) -> Option<(f64, u64)> {
     Some((grown as f64 / HELD as f64, sum))
 }
 
-/// The table of the memory; `None` where it could not be measured, or two types hold different words.
+/// The table of the memory; `None` if it could not be measured, or if two types hold different words.
 pub fn memory_table() -> Option<String> {
     let mut head = vec![String::from("memory")];
     let mut sizes = vec![String::from("a value")];

@@ -1,4 +1,4 @@
-//! The workloads that make texts of numbers and of formats, over Rust's types.
+//! The workloads that format numbers and more, for Rust's types.
 
 use crate::{Generator, Ring, Text, words};
 #[cfg(feature = "peer")]
@@ -8,12 +8,12 @@ use std::hint::black_box;
 const NUMBERS: usize = 4096;
 const NAMES: usize = 1024;
 
-/// A type whose values are made of numbers and of formats.
+/// A type whose values are made by formatting.
 pub trait Shown: Text {
-    /// The text of a number.
+    /// Formats a number.
     fn of_number(number: u64) -> Self;
 
-    /// A name and a number.
+    /// Formats a name and a number.
     fn of_format(name: &str, number: u64) -> Self;
 }
 
@@ -42,7 +42,7 @@ impl Shown for compact_str::CompactString {
     }
 }
 
-/// Numbers of 1 to 64 bits, of each length about as many.
+/// Numbers of 1 to 64 bits, about as many of each length.
 fn shifted_numbers() -> Vec<u64> {
     let mut generator = Generator::new();
     (0..NUMBERS)
@@ -53,7 +53,7 @@ fn shifted_numbers() -> Vec<u64> {
         .collect()
 }
 
-/// Numbers of 1 to 20 digits, of each length about as many.
+/// Numbers of 1 to 20 digits, about as many of each length.
 fn numbers() -> Vec<u64> {
     let mut generator = Generator::new();
     (0..NUMBERS)

@@ -2,7 +2,7 @@
 
 use crate::{LIBRARY, Measured, TYPES};
 
-/// Rows in columns of one width each: the first column to the left, the others to the right where they are numbers.
+/// Aligns rows in columns: the first to the left, the others to the right if they are numbers.
 pub fn columns(rows: &[Vec<String>]) -> String {
     let count = rows.iter().map(Vec::len).max().unwrap_or(0);
     let width = |column: usize| {
@@ -29,7 +29,8 @@ pub fn columns(rows: &[Vec<String>]) -> String {
     text
 }
 
-/// The nanoseconds for one operation of each workload, and the ratios of this library's time to that of each other type.
+/// The nanoseconds for one operation of each workload, and the ratios of this library's time to that of each other
+/// type.
 pub fn times(measured: &[Measured]) -> String {
     let mut head = vec![String::from("workload")];
     head.extend(TYPES.map(String::from));

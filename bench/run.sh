@@ -3,27 +3,27 @@
 #
 #   bench/run.sh [FOLDER]
 #
-# It needs `rt`, `rustc` and `objcopy`, proves and builds what it times, and prints a line for each workload and then a table.
-# From nothing the proofs take twelve to twenty minutes on four processors; once an earlier run has proved the crates, in any
-# checkout on the machine, it takes three to four minutes in all. A ratio is this library's time over that of the other type:
-# below 1 this library is faster. The status is 1 if two types differ in a checksum.
+# Needs `rt`, `rustc` and `objcopy`. Proves and builds what it times, and prints a line for each workload, then a
+# table. From nothing the proofs take twelve to twenty minutes on four processors; once an earlier run has proved the
+# crates, in any checkout on the machine, it takes three to four minutes in all. A ratio is this library's time over
+# that of the other type: below 1 this library is faster. The status is 1 if two types differ in a checksum.
 #
-# FOLDER holds the source of the Rust crate compact_str, as a cargo package. With it the table has a column for that crate
-# too, and `cargo` is needed. Cargo runs in FOLDER, so that the settings of a `.cargo/config.toml` in or above it hold, as
-# of a folder with the packages that it depends on, but for its `rustflags`; with no such settings cargo fetches them as it does for any package.
-# Nothing is written there.
+# FOLDER has the source of the Rust crate compact_str, as a cargo package. With it the table has a column for that
+# crate too; this needs `cargo`. Cargo runs in FOLDER, so that the settings of a `.cargo/config.toml` in or above it
+# hold, such as a folder with its dependencies, except for `rustflags`; without such settings cargo fetches them as
+# usual. Nothing is written there.
 #
-# The figures go to docs/speed.txt too, and as a picture to docs/speed.svg. BENCH_TURNS=1 in the environment times each
-# workload once and writes neither, which shows whether the checksums agree; BENCH_ONLY='intern join' runs only the
+# The figures also go to docs/speed.txt, and as a picture to docs/speed.svg. BENCH_TURNS=1 in the environment times
+# each workload once and writes neither, to check that the checksums agree; BENCH_ONLY='intern join' runs only the
 # workloads whose names begin so.
 #
-# Each function of the library begins at a multiple of 64 bytes, and so does each function of the program and of the Rust
-# crate. Compilers put functions at multiples of 16, and then a loop of 21 bytes lies in one line of a processor's decoded
-# instructions or in two by where the linker happens to put it: the same code takes up to a quarter longer. With
-# BENCH_AS_LINKED=1 all functions stay where the linker puts them, and the figures go to docs/speed_as_linked.txt alone. With
-# BENCH_FURTHER=16 those of the library begin 16 bytes behind a multiple of 64, and the figures are not written to docs.
+# Each function of the library, of the program and of the Rust crate is aligned to 64 bytes. Compilers align functions
+# to 16, so that a loop of 21 bytes lies in one line of a processor's decoded instructions or in two, depending on
+# where the linker happens to place it: the same code takes up to a quarter longer. With BENCH_AS_LINKED=1 all
+# functions stay where the linker places them, and the figures go only to docs/speed_as_linked.txt. With
+# BENCH_FURTHER=16 those of the library begin 16 bytes after a multiple of 64, and the figures are not written to docs.
 #
-# What is built lies in bench/out and in the out/ folders of the crates.
+# Builds in bench/out and in the out/ folders of the crates.
 set -eu
 
 bench=$(cd "$(dirname "$0")" && pwd)
@@ -31,8 +31,8 @@ built=$bench/out
 crate=${1:+$(cd "$1" && pwd)}
 mkdir -p "$built"
 
-# The static library, and the functions of the kit by which it allocates. `rt` keeps a library that stands there where only
-# bodies of the crates below have changed, so an earlier one goes first.
+# The static library, and the functions of the kit by which it allocates. `rt` keeps an existing library if only bodies
+# of the crates below have changed, so remove an earlier one.
 echo 'proving and building the static library' >&2
 library=$bench/../crates/compact_bench/out/libcompact_bench.a
 rm -f "$library"
@@ -47,7 +47,7 @@ if [ -z "${BENCH_AS_LINKED:-}" ]; then
     place=(-C llvm-args=-align-all-functions=6)
 fi
 if [ -n "${BENCH_FURTHER:-}" ]; then
-    # All objects as one, whose functions lie at multiples of 64 from its start, behind as many bytes that nothing runs.
+    # All objects as one, with functions at multiples of 64 from its start, after as many bytes that nothing runs.
     rm -rf "$built/further"
     mkdir "$built/further"
     (
@@ -107,7 +107,7 @@ lto = "fat"
 [workspace]
 END
 cd "$crate"
-# Cargo does not look at what a link argument names, and would keep a program with an earlier library in it.
+# Cargo does not check the files that a link argument names, and would keep a program with an earlier library in it.
 rm -rf "$built"/target/release/.fingerprint/bench-*
 RUSTFLAGS="${RUSTFLAGS:-} ${place[*]}" cargo rustc -q --release --features peer --manifest-path "$built/Cargo.toml" --target-dir "$built/target" -- "${link[@]}"
 exec "$built/target/release/bench"

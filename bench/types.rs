@@ -88,21 +88,21 @@ text!(String);
 #[cfg(feature = "peer")]
 text!(compact_str::CompactString);
 
-/// The checksum `sum` with a further number.
+/// Mixes a number into `sum`.
 pub fn mix(sum: u64, number: u64) -> u64 {
     sum.wrapping_mul(31).wrapping_add(number)
 }
 
-/// A number that tells of a text: 256 times its length and its last byte, and 0 of the empty text.
+/// Returns 256 times the length of a text plus its last byte, or 0 if it is empty.
 pub fn probe<T: Held>(value: &T) -> u64 {
     let bytes = value.as_bytes();
     let last = bytes.last().map_or(0, |&byte| u64::from(byte));
     bytes.len() as u64 * 256 + last
 }
 
-/// The latest values, each in the place of its number, and the checksum of what has been seen of them.
+/// The latest values, each at its number modulo the length, and a checksum over those seen.
 ///
-/// The length is in the type, so that no place needs a test. In this library that is proved.
+/// The length is in the type, so that no index is checked. This library proves that.
 pub struct Ring<T> {
     values: [T; 64],
     pub sum: u64,

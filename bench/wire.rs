@@ -1,19 +1,19 @@
-//! The workload that writes texts over a wire and reads them back, over Rust's types: their length as four bytes, the low one
-//! first, and then their bytes.
+//! The workload that writes and reads the wire form, for Rust's types: the length as four bytes, low byte first, then
+//! the bytes.
 
 use crate::{Text, mix, probe, words};
 use std::io::{Read, Write};
 
-/// How many records there are.
+/// The number of records.
 const RECORDS: usize = 100;
 
-/// A type whose values are made of the bytes that a reader gives.
+/// A type whose values are read from a reader.
 pub trait Wired: Text {
-    /// The text of the next `len` bytes.
+    /// Reads a text of `len` bytes.
     fn read(len: usize, reader: &mut impl Read) -> Self;
 }
 
-/// The text of the next `len` bytes, with a buffer of just that size.
+/// Reads a text of `len` bytes into a buffer of just that size.
 fn read_string(len: usize, reader: &mut impl Read) -> String {
     let mut bytes = vec![0; len];
     reader.read_exact(&mut bytes).expect("the bytes");
@@ -27,7 +27,7 @@ impl Wired for String {
     }
 }
 
-// As the crate's own reader of this form does: a text that fits in the value goes by way of a fixed buffer.
+// As the crate's own reader of this form: a text that fits inline goes through a fixed buffer.
 #[cfg(feature = "peer")]
 impl Wired for compact_str::CompactString {
     #[inline]

@@ -1,15 +1,15 @@
-"""Tries wrong bodies one by one, and says of each whether the proof of its own function refuses it.
+"""Tries wrong bodies one by one, and reports of each whether the proof of its function refuses it.
 
     python3 mistakes/apart.py [CRATE..]
 
 The wrong bodies of a crate are those of crates/CRATE/must-fail, one a file, which the gate tries too, and those of
-mistakes/CRATE, several a file, each under a comment line with its name. With no crate named all are tried.
+mistakes/CRATE, several a file, each under a comment line with its name. The default is all crates.
 
-Each crate is proved first as it stands. Then the bodies are tried on copies of the repository, as many side by side as there
-are processors, or as RT_JOBS says. Each check begins with what is proved of the crate as it stands. A check takes the bodies
-of a file together, and says of each function whether its own proof fails. A body gets a check of its own where it shares its
-function with another, where it changes what is no function, and where the function was not tried, since one that it calls is
-not proved either. The status is 0 where each body is refused.
+Each crate is proved unchanged first. Then the bodies are tried on copies of the repository, as many side by side as there are
+processors, or as RT_JOBS says; each check reuses the proofs of the unchanged crate. A check takes the bodies of a file
+together, and reports of each function whether its proof fails. A body is checked alone if it shares its function with another,
+if it changes no function, and if the function was not tried because one that it calls is not proved either. The status is 0 if
+each body is refused.
 """
 
 import concurrent.futures
@@ -22,9 +22,9 @@ import sys
 import tempfile
 
 ROOT = os.path.dirname(os.path.dirname(os.path.abspath(__file__)))
-# How many checks run side by side.
+# The number of checks side by side.
 JOBS = int(os.environ.get("RT_JOBS") or os.cpu_count())
-# A function whose own proof fails, in what a check prints.
+# A function whose own proof fails, in the output of a check.
 UNPROVED = re.compile(r"^fn (\S+): (?:not proved|no proof: (?!it calls))", re.M)
 
 
@@ -45,7 +45,7 @@ class Body:
         self.name, self.changes = name, []
 
     def put_into(self, texts, crate):
-        """Puts its changes into the texts of files, and says whether each old text stood there just once."""
+        """Applies its changes to the texts of files, and returns whether each old text occurred there just once."""
         fits = True
         for file, old, new in self.changes:
             text = texts.get(file) or read(f"{crate}/{file}")
@@ -54,18 +54,18 @@ class Body:
         return fits
 
     def place(self, crate):
-        """The file that it changes, and there where its function begins and what its name is; `None` where it changes none."""
+        """The file that it changes, and the start and name of the function there; `None` if it changes none."""
         file, old, _ = self.changes[0]
         text = read(f"{crate}/{file}")
         above = list(re.finditer(r"\bfn (\w+)", text[: text.find(old) + len(old)]))
-        # A brace at the start of a line ends the function, or its `impl`: a constant or a ghost stands behind it.
+        # A brace at the start of a line ends the function, or its `impl`: a constant or a ghost follows.
         if not above or not file.startswith("src/") or "\n}" in text[above[-1].start() : text.find(old)]:
             return None
         return file, above[-1].start(), above[-1][1]
 
 
 def bodies_of(path):
-    """The wrong bodies of a file. One that stands alone needs no name but the file's."""
+    """The wrong bodies of a file. A single one may be named by the file alone."""
     bodies, file, old, name = [], None, None, os.path.basename(path).removesuffix(".edit")
     for line in read(path).split("\n"):
         word, _, text = line.partition(" ")
@@ -83,7 +83,7 @@ def bodies_of(path):
 
 
 def check(crate, jobs):
-    """What a check of the crate prints, with so many parts of it side by side."""
+    """The output of a check of the crate, with `jobs` parts side by side."""
     command = ["rt", "check", "--jobs", str(jobs)]
     return subprocess.run(command, cwd=crate, stdin=subprocess.DEVNULL, stdout=subprocess.PIPE, stderr=subprocess.STDOUT, text=True, errors="replace").stdout
 
@@ -95,7 +95,7 @@ def files_below(folder):
 
 
 def put_back(crate):
-    """Gives the copy of a crate what was proved of the crate as it stands, and nothing that an earlier wrong body left."""
+    """Restores in the copy of a crate the proofs of the unchanged crate, and removes what an earlier wrong body left."""
     kept, folder = (f"{above}/out/incremental" for above in (f"{ROOT}/crates/{os.path.basename(crate)}", crate))
     wanted, found = files_below(kept), files_below(folder)
     for path in found.keys() - wanted.keys():
@@ -107,7 +107,7 @@ def put_back(crate):
 
 
 def unproved(crate, bodies):
-    """The functions whose own proof fails in a check of the crate with these wrong bodies, and whether the crate is refused."""
+    """The functions whose proof fails in a check of the crate with these wrong bodies, and whether the crate is refused."""
     texts = {}
     for body in bodies:
         body.put_into(texts, crate)
@@ -124,7 +124,7 @@ def unproved(crate, bodies):
 
 
 def try_together(crate, bodies):
-    """Tries wrong bodies of one crate, says what came of each, and returns how many were refused."""
+    """Tries wrong bodies of one crate, prints the outcome of each, and returns how many were refused."""
     places = {body: body.place(crate) for body in bodies if body.put_into({}, crate)}
     together = [body for body in places if places[body] and list(places.values()).count(places[body]) == 1]
     found = unproved(crate, together)[0] if together else []
@@ -132,7 +132,7 @@ def try_together(crate, bodies):
     for body in bodies:
         function = places.get(body) and places[body][2]
         by = [it for it in found if it.endswith(f"::{function}")]
-        # Two functions of one name may stand in the crate: both are to be found then.
+        # The crate may have two functions of one name; both must then be found.
         if body in places and (body not in together or len(by) < sum(places[it][2] == function for it in together)):
             by, is_refused = unproved(crate, [body])
             by = [it for it in by if is_refused and function in (None, it.rpartition("::")[2])]
@@ -143,19 +143,19 @@ def try_together(crate, bodies):
 
 
 def edits_in(folder):
-    """The paths of the wrong bodies in a folder, which need not be there."""
+    """The paths of the wrong bodies in a folder, which need not exist."""
     names = os.listdir(folder) if os.path.isdir(folder) else []
     return [f"{folder}/{name}" for name in sorted(names) if name.endswith(".edit")]
 
 
 def files_of_bodies(name):
-    """The wrong bodies of a crate, in lists that are tried together: those of the gate, and those of each file of mistakes/."""
+    """The wrong bodies of a crate, in lists that are tried together: the gate's, and those of each file of mistakes/."""
     alone = [body for path in edits_in(f"{ROOT}/crates/{name}/must-fail") for body in bodies_of(path)]
     return [it for it in [alone] + [bodies_of(path) for path in edits_in(f"{ROOT}/mistakes/{name}")] if it]
 
 
 def copy_of_all(folder):
-    """Copies the repository into a folder, without what checks kept, and returns the folder."""
+    """Copies the repository into a folder, without the results of checks, and returns the folder."""
     shutil.copytree(f"{ROOT}/crates", f"{folder}/crates", ignore=shutil.ignore_patterns("must-fail", "incremental"))
     for name in ("crates.txt", "HANDLES"):
         shutil.copy(f"{ROOT}/{name}", folder)
@@ -170,7 +170,7 @@ def main(names):
     copies = queue.Queue()
 
     def try_one(task):
-        """Tries the bodies of a file in a copy that no other check works in."""
+        """Tries the bodies of a file in a copy that no other check uses."""
         name, bodies = task
         copy = copies.get()
         try:
@@ -181,7 +181,7 @@ def main(names):
     with tempfile.TemporaryDirectory() as folder, concurrent.futures.ThreadPoolExecutor(JOBS) as pool:
         for number in range(JOBS):
             copies.put(copy_of_all(f"{folder}/{number}"))
-        # The longest files come first, so that no copy waits long for the last.
+        # The longest files first, so that no copy waits long for the last.
         refused = sum(pool.map(try_one, sorted(tasks, key=lambda task: -len(task[1]))))
     tried = sum(len(bodies) for _, bodies in tasks)
     print(f"{tried} wrong bodies: {refused} refused by their own function, {tried - refused} not")

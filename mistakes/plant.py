@@ -1,4 +1,4 @@
-"""Puts a mistake into a copy: plant.py MISTAKE CRATES."""
+"""Plants a mistake in a copy: plant.py MISTAKE CRATES."""
 
 import sys
 

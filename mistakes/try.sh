@@ -1,17 +1,17 @@
 #!/usr/bin/env bash
-# Plants mistakes, each on a copy of the repository, and says whether the tests that are named for it fail.
+# Plants mistakes, each in a copy of the repository, and reports whether the tests named for it fail.
 #
 #   mistakes/try.sh [--quick] [NAME..]
 #
-# NAME is a file NAME.mistake beside this script; with no name all are tried. Each names a crate and a file of it, and has pairs
-# of lines `old:` and `new:`, of which each old text stands exactly once in that file. A line `fails:` names a crate of tests
-# and a test that fails; of several lines each test must fail. `rt test` proves the mistaken crate, those above it and the
-# tests, and then runs these, so that a test that fails shows as well that no proof refused the mistake.
+# NAME is a file NAME.mistake beside this script; the default is all. Each names a crate and a file of it, and has
+# pairs of lines `old:` and `new:`; each old text must occur exactly once in that file. A line `fails:` names a crate
+# of tests and a test that must fail; there may be several. `rt test` proves the mistaken crate, those above it and the
+# tests before it runs them, so a failing test also shows that no proof refused the mistake.
 #
-# --quick runs the tests by `rt try`, before any proof, in a minute or three each. It leaves out a mistake with a line `needs:`,
-# whose test takes all memory and fails there always.
+# --quick runs the tests by `rt try`, before any proof, in one to three minutes each. It skips a mistake with a line
+# `needs:`, whose test takes all memory and always fails there.
 #
-# What `rt` printed stays in mistakes/out/NAME.log. The status is 0 where each mistake that was tried was found as it says.
+# The output of `rt` is in mistakes/out/NAME.log. The status is 0 if each mistake tried was found as it says.
 set -eu
 
 here=$(cd "$(dirname "$0")" && pwd)
@@ -27,12 +27,12 @@ if [ $# -eq 0 ]; then
     set -- "$here"/*.mistake
 fi
 
-# What stands behind a word of a mistake.
+# The value of a key of a mistake.
 told() {
     sed -n "s/^$2: //p" "$1"
 }
 
-# Runs the tests of the crate that is to find a mistake.
+# Runs the tests of the crate that must find a mistake.
 run_tests() {
     if [ $quick = yes ]; then
         rt try --test
@@ -41,7 +41,7 @@ run_tests() {
     fi
 }
 
-# Says by which tests a planted mistake was found, or fails where one of them did not find it.
+# Prints the tests that found a planted mistake, or fails if one of them did not.
 judge() {
     local name=$1 mistake=$here/$1.mistake log=$here/out/$1.log tests test
     for tests in $(told "$mistake" fails | cut -d' ' -f1 | sort -u); do

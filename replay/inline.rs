@@ -1,9 +1,9 @@
-//! 100,000 random edits of a text of at most 24 bytes, by Rust's `String`, as the test `inline_edits` of
-//! `crates/compact_edit_tests` makes them. After each thousand it prints a checksum over all that was seen, and the text.
-//! `replay/inline.sh` writes that down.
+//! 100,000 random edits of a text of at most 24 bytes by Rust's `String`, as in the test `inline_edits` of
+//! `crates/compact_edit_tests`. After each thousand it prints a checksum over all that was seen, and the text.
+//! `replay/inline.sh` stores the output.
 //!
-//! The 24 bytes of a text are those of its definition: a text of 24 bytes is all of them, a shorter one the first of them, and
-//! then the last is 192 and its length. A text that was wiped is 23 zeros, and 192.
+//! The 24 bytes of a text are those of its definition: a text of 24 bytes fills them; a shorter one is a prefix, and
+//! the last byte is 192 plus its length. A wiped text is 23 zeros, and 192.
 
 use std::io::{self, Write};
 
@@ -17,7 +17,7 @@ const PIECES: [&str; 16] = [
     "", "a", "Bc", "xyz", "0123", "-----", "ä", "€", "𝄞", "äb", "a€", "x𝄞", "abcdefgh", "Ü€𝄞", "ABCDEFGHIJKLM", "€€€€",
 ];
 
-/// Answers to the question which characters stay.
+/// Which characters `retain` keeps.
 const ANSWERS: [&[bool]; 4] = [
     &[],
     &[false],
@@ -25,7 +25,7 @@ const ANSWERS: [&[bool]; 4] = [
     &[true, true, true, true, true, false, false, true, false],
 ];
 
-/// A linear congruential generator, of which a draw is the high 31 bits.
+/// A linear congruential generator; a draw is the high 31 bits.
 struct Random {
     state: u64,
 }
@@ -44,7 +44,7 @@ impl Random {
         PIECES[self.below(16)].to_string()
     }
 
-    /// What is lacking to 22, 23 or 24 bytes.
+    /// A text that fills up to 22, 23 or 24 bytes.
     fn filling(&mut self, len: usize) -> String {
         "f".repeat((self.below(3) + 22).saturating_sub(len))
     }
@@ -106,7 +106,7 @@ enum Answer {
     BadPosition,
 }
 
-/// How long the longest text is that an edit makes.
+/// The greatest length that an edit can give.
 fn len_after(edit: &Edit, len: usize) -> usize {
     match edit {
         Edit::PushStr(text) | Edit::InsertStr(_, text) => len + text.len(),

@@ -1,10 +1,10 @@
 #!/usr/bin/env bash
-# Makes the random edits of inline texts with Rust's String, and writes down what they give.
+# Makes the random edits of inline texts with Rust's String, and stores the output.
 #
 #   replay/inline.sh
 #
-# What replay/inline.rs prints goes to crates/compact_edit_tests/src/inline_edits/ends.rt, which the tests of that crate compare
-# with. `rustc` is needed. What is built lies in replay/out.
+# The output of replay/inline.rs goes to crates/compact_edit_tests/src/inline_edits/ends.rt, which the tests of that
+# crate compare with. Needs `rustc`. Builds in replay/out.
 set -eu
 
 replay=$(cd "$(dirname "$0")" && pwd)

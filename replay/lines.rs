@@ -1,7 +1,7 @@
 //! Random lines of the program.
 //!
-//! No line is left out for a difference between the two libraries: those that docs/DIFFERENCES.md lists are of other calls
-//! than these, or of capacities past the limit, where both refuse.
+//! No line is omitted for a difference between the two libraries: docs/DIFFERENCES.md lists only other calls, and
+//! capacities past the limit, where both fail.
 
 /// Characters of one to four bytes.
 const CHARACTERS: [char; 24] = [
@@ -43,14 +43,14 @@ impl Generator {
         CHARACTERS[self.below(count)]
     }
 
-    /// A text of few characters, seldom of many.
+    /// A text of few characters, rarely of many.
     fn short_text(&mut self) -> String {
         let most = [1, 3, 6, 13, 30][self.below(5)];
         let count = self.below(most + 1);
         (0..count).map(|_| self.character()).collect()
     }
 
-    /// A text that brings one of `len` bytes to one of the lengths where a place or a capacity changes, where it is shorter.
+    /// A text that fills `len` bytes, if shorter, up to a length where a place or a capacity changes.
     fn filling(&mut self, len: usize) -> String {
         let wanted = [23, 24, 25, 31, 32, 33, 36, 37, 48, 49][self.below(10)];
         "f".repeat(usize::saturating_sub(wanted, len))
@@ -60,7 +60,7 @@ impl Generator {
         if self.below(6) == 0 { self.filling(len) } else { self.short_text() }
     }
 
-    /// A position: within the text, within a character of it too, at its end, or past it.
+    /// A position: in the text, perhaps within a character, at its end, or past it.
     fn position(&mut self, len: usize) -> usize {
         match self.below(20) {
             0 => len + 1 + self.below(3),
@@ -70,7 +70,7 @@ impl Generator {
         }
     }
 
-    /// A position where a character of the text begins, most often.
+    /// Mostly a position where a character begins.
     fn boundary(&mut self, text: &str) -> usize {
         let at = self.position(text.len());
         if self.below(3) == 0 {
@@ -83,7 +83,7 @@ impl Generator {
         if self.below(6) == 0 { "-".into() } else { self.boundary(text).to_string() }
     }
 
-    /// A number of bytes: around the lengths where a place or a capacity changes, and past what there is.
+    /// A number of bytes: around the lengths where a place or a capacity changes, and past the text.
     fn size(&mut self, len: usize) -> usize {
         const SIZES: [usize; 16] = [
             0, 1, 23, 24, 25, 26, 31, 32, 33, 36, 48, 100, 1 << 56, (1 << 56) - 2, (1 << 56) - 1, usize::MAX,

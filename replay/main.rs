@@ -1,7 +1,7 @@
 //! The lines of the program, answered by the Rust crate compact_str.
 //!
-//! `replay answer` reads lines from standard input and answers each as `run_lines` of this repository does.
-//! `replay make SEED COUNT INPUT OUTPUT` makes COUNT random lines, and writes them to one file and their answers to another.
+//! `replay answer` reads lines from standard input and answers each as `run_lines` of this repository does. `replay
+//! make SEED COUNT INPUT OUTPUT` writes COUNT random lines to one file and their answers to another.
 
 mod lines;
 mod session;
@@ -13,7 +13,7 @@ use std::fs::File;
 use std::io::{self, BufRead, BufWriter, Write};
 use std::process::ExitCode;
 
-/// What stands before the random lines: what a new line of 24 bytes becomes, and what is no command.
+/// The lines before the random ones: what a new line of 24 bytes becomes, and lines that are no commands.
 const FIRST: [&[u8]; 12] = [
     b"new i am 24 characters long!",
     b"pushstr x",

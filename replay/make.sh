@@ -1,12 +1,12 @@
 #!/usr/bin/env bash
-# Makes the stored lines of the program anew, and the answers that the Rust crate gives to them.
+# Makes the stored lines of the program, and the Rust crate's answers to them.
 #
 #   replay/make.sh FOLDER [SEED [COUNT]]
 #
-# FOLDER holds the source of the Rust crate compact_str 0.10.0, as a cargo package whose dependencies cargo finds; `cargo`
-# is needed. It writes COUNT lines (20000) of the generator with this seed (1) to crates/compact_replay/stdin, and the answers
-# to crates/compact_replay/stdout. `rt ci` runs that program on the first and compares with the second. What is built lies in
-# replay/out; nothing is written in FOLDER.
+# FOLDER has the source of the Rust crate compact_str 0.10.0, as a cargo package whose dependencies cargo finds. Needs
+# `cargo`. Writes COUNT lines (20000) of the generator with this seed (1) to crates/compact_replay/stdin, and the
+# answers to crates/compact_replay/stdout. `rt ci` runs that program on the first and compares with the second. Builds
+# in replay/out; writes nothing in FOLDER.
 set -eu
 
 replay=$(cd "$(dirname "$0")" && pwd)

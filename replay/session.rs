@@ -1,26 +1,26 @@
-//! One value of the Rust crate, and what a line does to it.
+//! One value of the Rust crate, edited by lines.
 
 use compact_str::CompactString;
 use std::io::{self, Write};
 use zeroize::Zeroize;
 
-/// From this capacity on nothing is asked of the crate: no machine has so much memory, so the answer is a refusal, and past
-/// 2^56 - 2 bytes the crate itself goes on with a wrong assumption.
+/// The capacity from which the crate is not called: no machine has as much memory, so allocation must fail, and past
+/// 2^56 - 2 bytes the crate itself relies on a wrong assumption.
 const TOO_MUCH: usize = 1 << 55;
 
-/// A static value of the program `static`.
+/// The text of the command `static`.
 const LASTING: &str = "aaaaaaaaaaaaaaaaaaaaaaaaaaaaaa";
 
 pub struct Session {
     value: CompactString,
 }
 
-/// What follows the words of a line that are already read.
+/// The rest of a line, after the words already read.
 #[derive(Clone, Copy)]
 struct Rest<'a>(Option<&'a str>);
 
 impl<'a> Rest<'a> {
-    /// The next word, up to a space, and what follows that space.
+    /// Splits at the next space.
     fn word(self) -> Option<(&'a str, Rest<'a>)> {
         let text = self.0?;
         Some(match text.split_once(' ') {
@@ -29,24 +29,24 @@ impl<'a> Rest<'a> {
         })
     }
 
-    /// All of it, which may be nothing.
+    /// Returns all of it, perhaps nothing.
     fn text(self) -> &'a str {
         self.0.unwrap_or("")
     }
 
-    /// It, as one character.
+    /// Parses it as one character.
     fn character(self) -> Option<char> {
         let mut characters = self.text().chars();
         let character = characters.next()?;
         characters.next().is_none().then_some(character)
     }
 
-    /// It, as a number.
+    /// Parses it as a number.
     fn number(self) -> Option<usize> {
         digits(self.0?)
     }
 
-    /// Nothing, not even a space.
+    /// Requires nothing, not even a space.
     fn nothing(self) -> Option<()> {
         self.0.is_none().then_some(())
     }
@@ -57,7 +57,7 @@ fn digits(word: &str) -> Option<usize> {
     if is_number { word.parse().ok() } else { None }
 }
 
-/// An end of a range: a number, or `None` for an end of the text.
+/// Parses an end of a range: a number, or `None` for an end of the text.
 fn bound(word: &str) -> Option<Option<usize>> {
     if word == "-" {
         Some(None)
@@ -75,7 +75,7 @@ impl Session {
         &self.value
     }
 
-    /// Does what a line says, and writes its answer and the value.
+    /// Runs a line, and writes its answer and the value.
     pub fn answer(&mut self, line: &[u8], output: &mut impl Write) -> io::Result<()> {
         let Some(answer) = str::from_utf8(line).ok().and_then(|line| self.execute(line)) else {
             return output.write_all(b"?\n");
@@ -91,7 +91,7 @@ impl Session {
         writeln!(output, "{answer}\n{place} {len} {capacity} {}", self.value)
     }
 
-    /// Does what a line says, and gives its answer; `None` of a line that is no command.
+    /// Runs a line, and returns its answer, or `None` if it is no command.
     fn execute(&mut self, line: &str) -> Option<String> {
         let (name, rest) = Rest(Some(line)).word()?;
         match name {
@@ -122,7 +122,7 @@ impl Session {
         Some(())
     }
 
-    /// A command of one word.
+    /// Runs a command of one word.
     fn alone(&mut self, name: &str) -> Option<String> {
         match name {
             "static" => self.value = CompactString::const_new(LASTING),
@@ -140,7 +140,7 @@ impl Session {
         Some("done".into())
     }
 
-    /// A command with a number of bytes or of repetitions.
+    /// Runs a command with a number of bytes or of repetitions.
     fn sized(&mut self, name: &str, number: usize) -> Option<String> {
         let is_granted = match name {
             "cap" if number < TOO_MUCH => {
@@ -160,7 +160,7 @@ impl Session {
         Some(if is_granted { "done".into() } else { "refused".into() })
     }
 
-    /// A command with a position.
+    /// Runs a command with a position.
     fn at_position(&mut self, name: &str, rest: Rest<'_>) -> Option<String> {
         let (word, rest) = rest.word()?;
         let at = digits(word)?;
@@ -202,7 +202,7 @@ impl Session {
         Some("bad position".into())
     }
 
-    /// A command with a range.
+    /// Runs a command with a range.
     fn over_range(&mut self, name: &str, rest: Rest<'_>) -> Option<String> {
         let (start, rest) = rest.word()?;
         let (end, rest) = rest.word()?;

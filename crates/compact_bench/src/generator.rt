@@ -4,7 +4,7 @@ ghost use Rattle.compact_bench.specs.Xorshift.{start, next_state, scaled_number}
 
 use std::marker::Model;
 
-/// A generator of numbers by xorshift. A contract sees the latest number.
+/// An xorshift generator. A contract sees the latest number.
 #[derive(Drop)]
 pub struct Generator {
     state: u64,
@@ -19,7 +19,7 @@ impl Model for Generator {
 }
 
 impl Generator {
-    /// The generator at its start, which is always the same.
+    /// Creates the generator, always with the same seed.
     pub fn new() -> Self
         ensures { result ≡ start }
     {
@@ -28,7 +28,7 @@ impl Generator {
         }
     }
 
-    /// The next number.
+    /// Returns the next number.
     #[tactic(auto, unfolding(crate::specs::Xorshift::next_state))]
     pub fn next(&mut self) -> u64
         ensures next { self.new ≡ next_state self.old }
@@ -40,7 +40,7 @@ impl Generator {
         self.state
     }
 
-    /// A number below `limit`: the next one, scaled.
+    /// Returns the next number, scaled below `limit`.
     pub fn below(&mut self, limit: u32) -> u32
         requires { 0 < limit }
         ensures next { self.new ≡ next_state self.old }
@@ -51,7 +51,7 @@ impl Generator {
         ((high * u64::from(limit)) >> 32) as u32
     }
 
-    /// A letter from `a` to `z`.
+    /// Draws from `a` to `z`.
     pub fn letter(&mut self) -> char
         ensures next { self.new ≡ next_state self.old }
         ensures value { result ≡ 97 + scaled_number self.new 26 }
@@ -60,7 +60,7 @@ impl Generator {
     }
 }
 
-/// The letter with that place in the alphabet, from 0.
+/// Returns the letter at an index of the alphabet.
 #[inline]
 pub fn letter(place: u32) -> char
     requires { place < 26 }

@@ -2,12 +2,12 @@
 
 use std::hash::Hasher;
 
-/// FNV-1a with 64 bits.
+/// 64-bit FNV-1a.
 #[derive(Drop)]
 pub struct Fnv(u64);
 
 impl Fnv {
-    /// The hasher at its start.
+    /// Creates a hasher.
     #[inline]
     pub fn new() -> Self {
         Fnv(0xcbf2_9ce4_8422_2325)

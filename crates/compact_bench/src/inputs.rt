@@ -1,4 +1,4 @@
-//! The texts that the workloads start from.
+//! The inputs of the workloads.
 ghost use Rattle.std.specs.Prelude.{◌<◌};
 
 use crate::generator::Generator;
@@ -6,25 +6,25 @@ use compact_edit::{InternError, Interner};
 use compact_str::{CompactString, ReserveError};
 use std::alloc::Global;
 
-/// How many short texts there are.
+/// The number of short texts.
 pub const SHORT_TEXTS: usize = 4096;
 
-/// How many long texts there are.
+/// The number of long texts.
 pub const LONG_TEXTS: usize = 1024;
 
-/// How many pieces there are.
+/// The number of pieces.
 pub const PIECES: usize = 1024;
 
-/// How many numbers there are.
+/// The number of numbers.
 pub const NUMBERS: usize = 4096;
 
-/// How many names there are.
+/// The number of names.
 pub const NAMES: usize = 1024;
 
-/// How many records there are.
+/// The number of records.
 pub const RECORDS: usize = 100;
 
-/// Puts an item behind the others.
+/// Appends an item.
 pub fn put<T: Drop>(items: &mut Vec<T>, item: T) -> Result<(), ReserveError> {
     match items.push(item) {
         Ok(()) => Ok(()),
@@ -32,7 +32,7 @@ pub fn put<T: Drop>(items: &mut Vec<T>, item: T) -> Result<(), ReserveError> {
     }
 }
 
-/// A word of `len` letters.
+/// Draws a word of `len` letters.
 pub fn word(alloc: Global, generator: &mut Generator, len: u32) -> Result<String, ReserveError> {
     let mut word = String::with_capacity(alloc, len as usize)?;
     for _ in 0..len {
@@ -41,12 +41,12 @@ pub fn word(alloc: Global, generator: &mut Generator, len: u32) -> Result<String
     Ok(word)
 }
 
-/// A value of so many letters.
+/// Returns a value of `len` letters.
 pub fn letters(alloc: Global, len: u32) -> Result<CompactString, ReserveError> {
     value(alloc, &mut Generator::new(), len)
 }
 
-/// Such a value, for which a generator goes on.
+/// The same with a given generator.
 pub fn value(
     alloc: Global,
     generator: &mut Generator,
@@ -56,14 +56,14 @@ pub fn value(
     CompactString::new(alloc, word.as_str())
 }
 
-/// Words of at least `least` letters and less than `span` more.
+/// Draws words of at least `least` letters and less than `span` more.
 fn words(alloc: Global, count: usize, least: u32, span: u32) -> Result<Vec<String>, ReserveError>
     requires { 0 < span }
 {
     words_from(alloc, &mut Generator::new(), count, least, span)
 }
 
-/// Such words, for which a generator goes on.
+/// The same with a given generator.
 fn words_from(
     alloc: Global,
     generator: &mut Generator,
@@ -96,9 +96,9 @@ pub fn pieces(alloc: Global) -> Result<Vec<String>, ReserveError> {
     words(alloc, PIECES, 1, 16)
 }
 
-/// For each text a value of itself, or at an odd place of the text `step` places on, where `step` is 0 or 1.
+/// Returns a value for each text: of itself, or at odd indices of the text `step` further on, 0 or 1.
 ///
-/// Behind the last text comes the first one.
+/// The first text follows the last.
 pub fn values_of(
     alloc: Global,
     texts: &[String],
@@ -114,7 +114,7 @@ pub fn values_of(
     Ok(values)
 }
 
-/// How many texts are decoded in turn.
+/// The number of texts to decode.
 pub const TEXTS: usize = 16;
 
 /// Words of 1024 letters.
@@ -127,7 +127,7 @@ pub fn lines(alloc: Global) -> Result<Vec<String>, ReserveError> {
     words(alloc, TEXTS, 200, 1)
 }
 
-/// Texts of 1024 bytes: half their characters are letters, and the others of two, three or four bytes.
+/// Texts of 1024 bytes: half their characters are ASCII, the others of two, three or four bytes.
 pub fn mixed_texts(alloc: Global) -> Result<Vec<String>, ReserveError> {
     let mut generator = Generator::new();
     let mut texts = Vec::new(alloc);
@@ -137,10 +137,10 @@ pub fn mixed_texts(alloc: Global) -> Result<Vec<String>, ReserveError> {
     Ok(texts)
 }
 
-/// One such text.
+/// Draws one such text.
 fn mixed(alloc: Global, generator: &mut Generator) -> Result<String, ReserveError> {
     let mut text = String::with_capacity(alloc, 1024)?;
-    // Each turn puts a character, so that these are enough.
+    // Each iteration appends a character, so this is enough.
     for _ in 0..1024 {
         if text.len() < 1021 {
             text.push(mixed_character(generator))?;
@@ -151,7 +151,7 @@ fn mixed(alloc: Global, generator: &mut Generator) -> Result<String, ReserveErro
     Ok(text)
 }
 
-/// A letter in half of the cases, else ä, Σ, € or 𝄞.
+/// Draws an ASCII letter half of the time, else ä, Σ, € or 𝄞.
 fn mixed_character(generator: &mut Generator) -> char {
     match generator.below(8) {
         0..=3 => generator.letter(),
@@ -172,7 +172,7 @@ pub fn mixed_rows(alloc: Global) -> Result<Vec<Vec<u8>>, ReserveError> {
     Ok(rows)
 }
 
-/// The bytes of such texts, of which each with a number one below a multiple of 64 is FF.
+/// The same, with FF at every 64th byte.
 pub fn invalid_rows(alloc: Global) -> Result<Vec<Vec<u8>>, ReserveError> {
     let mut rows = mixed_rows(alloc)?;
     for row in rows.iter_mut() {
@@ -181,7 +181,7 @@ pub fn invalid_rows(alloc: Global) -> Result<Vec<Vec<u8>>, ReserveError> {
     Ok(rows)
 }
 
-/// Makes each byte FF whose number is one below a multiple of 64.
+/// Sets every 64th byte to FF, from index 63 on.
 fn make_invalid(row: &mut [u8]) {
     for place in 0..row.len() {
         if place % 64 == 63
@@ -192,7 +192,7 @@ fn make_invalid(row: &mut [u8]) {
     }
 }
 
-/// The units of such texts in UTF-16.
+/// The same as UTF-16 units.
 pub fn units(alloc: Global) -> Result<Vec<Vec<u16>>, ReserveError> {
     let texts = mixed_texts(alloc)?;
     let mut rows = Vec::new(alloc);
@@ -215,7 +215,7 @@ pub fn names(alloc: Global) -> Result<Vec<String>, ReserveError> {
     short_words(alloc, NAMES)
 }
 
-/// Numbers of 1 to 64 bits, of each length about as many.
+/// Numbers of 1 to 64 bits, about as many of each length.
 pub fn shifted_numbers(alloc: Global) -> Result<Vec<u64>, ReserveError> {
     let mut generator = Generator::new();
     let mut numbers = Vec::new(alloc);
@@ -226,7 +226,7 @@ pub fn shifted_numbers(alloc: Global) -> Result<Vec<u64>, ReserveError> {
     Ok(numbers)
 }
 
-/// Numbers of 1 to 20 digits, of each length about as many.
+/// Numbers of 1 to 20 digits, about as many of each length.
 pub fn numbers(alloc: Global) -> Result<Vec<u64>, ReserveError> {
     let mut generator = Generator::new();
     let mut numbers = Vec::new(alloc);
@@ -246,15 +246,15 @@ pub fn records(alloc: Global) -> Result<Vec<String>, ReserveError> {
     words(alloc, RECORDS, 1, 40)
 }
 
-/// So many words of 1 to 12 letters.
+/// `count` words of 1 to 12 letters.
 pub fn short_words(alloc: Global, count: usize) -> Result<Vec<String>, ReserveError> {
     words(alloc, count, 1, 12)
 }
 
-/// How many words are interned in turn.
+/// The number of words to intern.
 pub const INTERNED_WORDS: u32 = 20_000;
 
-/// How many words are made to find so many distinct ones.
+/// The number of draws for that many distinct words.
 const DRAWN_WORDS: u32 = 40_000;
 
 /// Words of 1 to 30 letters, some of which are the same.
@@ -280,7 +280,7 @@ pub fn distinct_words(
     Ok(words)
 }
 
-/// Draws a word, and puts it behind the others, unless it is one of them.
+/// Draws a word, and appends it unless it is already there.
 fn put_drawn(
     alloc: Global,
     generator: &mut Generator,
@@ -296,13 +296,14 @@ fn put_drawn(
     Ok(())
 }
 
-/// How many bytes of prose there are, but for a few more.
+/// The length of the prose in bytes, but for a few more.
 const PROSE: usize = 1_048_576;
 
-/// How many words the prose is made of.
+/// The number of words that the prose is made of.
 const PROSE_WORDS: u32 = 4096;
 
-/// A text of 1 MiB: words of 1 to 12 letters, with white space between, some marks and numbers, and some words with ä.
+/// Returns a text of 1 MiB: words of 1 to 12 letters, separated by white space, with some marks, numbers, and words
+/// with ä.
 pub fn prose(alloc: Global) -> Result<CompactString, ReserveError> {
     let mut generator = Generator::new();
     let words = words_from(alloc, &mut generator, PROSE_WORDS as usize, 1, 12)?;
@@ -318,7 +319,7 @@ pub fn prose(alloc: Global) -> Result<CompactString, ReserveError> {
     Ok(text)
 }
 
-/// What stands behind a word of the prose.
+/// Draws what follows a word of the prose.
 fn behind_word(generator: &mut Generator) -> &'static str {
     match generator.below(16) {
         0 => ", ",

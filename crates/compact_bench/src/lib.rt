@@ -1,9 +1,9 @@
-//! Workloads over `CompactString`, as C functions for a benchmark: `bench/main.rs` times them beside the same workloads
-//! over the `String` of Rust.
+//! Workloads over `CompactString`, as C functions for a benchmark: `bench/main.rs` times them beside the same
+//! workloads over Rust's `String`.
 //!
-//! Each function makes its inputs, does `n` operations and answers a checksum, or `u64::MAX` where memory is refused. Those
-//! from `cs_bench_grow_push_build` on take the size of a text too, in bytes or words. A function
-//! keeps nothing between calls, but for `cs_bench_hold_words`, which is there to be measured by the memory that it keeps.
+//! Each function makes its inputs, does `n` operations and returns a checksum, or `u64::MAX` if allocation fails.
+//! Those from `cs_bench_grow_push_build` on also take the size of a text, in bytes or words. Nothing is kept between
+//! calls, except by `cs_bench_hold_words`, whose memory is measured.
 #![tactic(auto)]
 
 mod checksum;
@@ -56,7 +56,7 @@ pub extern "C" fn cs_bench_clone_long(alloc: Global, n: u64) -> u64 {
     workloads::copy::cloned::<LONG_TEXTS>(alloc, n, &texts).unwrap_or(u64::MAX)
 }
 
-/// Appends pieces of 1 to 16 bytes to a value until it has 1000000 bytes, and then begins a new one.
+/// Appends pieces of 1 to 16 bytes to a value until it has 1000000 bytes, then begins a new one.
 #[unsafe(no_mangle)]
 pub extern "C" fn cs_bench_push_build(alloc: Global, n: u64) -> u64 {
     workloads::append::build(alloc, n).unwrap_or(u64::MAX)
@@ -98,13 +98,13 @@ pub extern "C" fn cs_bench_join(alloc: Global, n: u64) -> u64 {
     workloads::collect::words(alloc, n, &words).unwrap_or(u64::MAX)
 }
 
-/// The bytes of a value itself.
+/// The size of a value.
 #[unsafe(no_mangle)]
 pub extern "C" fn cs_bench_size_of_value() -> u64 {
     size_of::<CompactString>() as u64
 }
 
-/// Makes a vector of `n` values of words of 1 to 24 letters, and keeps it for ever.
+/// Makes a vector of `n` values of words of 1 to 24 letters, and leaks it.
 #[unsafe(no_mangle)]
 pub extern "C" fn cs_bench_hold_words(alloc: Global, n: u64) -> u64 {
     workloads::hold::words(alloc, n).unwrap_or(u64::MAX)
@@ -134,19 +134,19 @@ pub extern "C" fn cs_bench_hash_short(alloc: Global, n: u64) -> u64 {
     workloads::compare::hash(n, &values)
 }
 
-/// Makes a string of a value of 100000 bytes on the heap, and a value of the string.
+/// Converts a value of 100000 bytes on the heap into a string and back.
 #[unsafe(no_mangle)]
 pub extern "C" fn cs_bench_into_string(alloc: Global, n: u64) -> u64 {
     workloads::out::into_string(alloc, n).unwrap_or(u64::MAX)
 }
 
-/// Keeps all letters but one in 200 bytes.
+/// Retains all letters but one in 200 bytes.
 #[unsafe(no_mangle)]
 pub extern "C" fn cs_bench_retain(alloc: Global, n: u64) -> u64 {
     workloads::characters::retain(alloc, n).unwrap_or(u64::MAX)
 }
 
-/// Keeps two letters of three in 1024 bytes.
+/// Retains two letters of three in 1024 bytes.
 #[unsafe(no_mangle)]
 pub extern "C" fn cs_bench_retain_long(alloc: Global, n: u64) -> u64 {
     let Ok(text) = inputs::letters(alloc, 1024) else {
@@ -158,25 +158,25 @@ pub extern "C" fn cs_bench_retain_long(alloc: Global, n: u64) -> u64 {
     workloads::characters::two_of_three(n, text.as_str(), &mut value).unwrap_or(u64::MAX)
 }
 
-/// Takes the middle half out of 200 bytes, character by character.
+/// Drains the middle half of 200 bytes, character by character.
 #[unsafe(no_mangle)]
 pub extern "C" fn cs_bench_drain(alloc: Global, n: u64) -> u64 {
     workloads::characters::drain(alloc, n).unwrap_or(u64::MAX)
 }
 
-/// Takes the middle fifth out of 1024 bytes, character by character.
+/// Drains the middle fifth of 1024 bytes, character by character.
 #[unsafe(no_mangle)]
 pub extern "C" fn cs_bench_drain_long(alloc: Global, n: u64) -> u64 {
     workloads::characters::drain_long(alloc, n).unwrap_or(u64::MAX)
 }
 
-/// Makes 1024 letters great, and small again.
+/// Makes 1024 letters uppercase, and lowercase again.
 #[unsafe(no_mangle)]
 pub extern "C" fn cs_bench_change_letters(alloc: Global, n: u64) -> u64 {
     workloads::characters::change_letters(alloc, n).unwrap_or(u64::MAX)
 }
 
-/// Decodes 1024 letters strictly from UTF-8.
+/// Decodes 1024 ASCII bytes strictly from UTF-8.
 #[unsafe(no_mangle)]
 pub extern "C" fn cs_bench_utf8_ascii(alloc: Global, n: u64) -> u64 {
     let Ok(texts) = inputs::long_words(alloc) else {
@@ -203,7 +203,7 @@ pub extern "C" fn cs_bench_utf8_lossy(alloc: Global, n: u64) -> u64 {
     workloads::decode::lossy(alloc, n, &rows).unwrap_or(u64::MAX)
 }
 
-/// Decodes 1024 such bytes, of which none is invalid, lossily from UTF-8.
+/// Decodes 1024 such bytes, all valid, lossily from UTF-8.
 #[unsafe(no_mangle)]
 pub extern "C" fn cs_bench_utf8_lossy_valid(alloc: Global, n: u64) -> u64 {
     let Ok(rows) = inputs::mixed_rows(alloc) else {
@@ -218,7 +218,7 @@ pub extern "C" fn cs_bench_utf16(alloc: Global, n: u64) -> u64 {
     workloads::decode::utf16(alloc, n).unwrap_or(u64::MAX)
 }
 
-/// Makes the texts of numbers of 1 to 64 bits.
+/// Formats numbers of 1 to 64 bits.
 #[unsafe(no_mangle)]
 pub extern "C" fn cs_bench_u64_text(alloc: Global, n: u64) -> u64 {
     let Ok(numbers) = inputs::shifted_numbers(alloc) else {
@@ -227,7 +227,7 @@ pub extern "C" fn cs_bench_u64_text(alloc: Global, n: u64) -> u64 {
     workloads::numbers::texts(alloc, n, &numbers).unwrap_or(u64::MAX)
 }
 
-/// Makes the texts of numbers of 1 to 20 digits.
+/// Formats numbers of 1 to 20 digits.
 #[unsafe(no_mangle)]
 pub extern "C" fn cs_bench_u64_digits(alloc: Global, n: u64) -> u64 {
     let Ok(numbers) = inputs::numbers(alloc) else {
@@ -236,7 +236,7 @@ pub extern "C" fn cs_bench_u64_digits(alloc: Global, n: u64) -> u64 {
     workloads::numbers::texts(alloc, n, &numbers).unwrap_or(u64::MAX)
 }
 
-/// Makes texts by a format of a word and a number.
+/// Formats a word and a number.
 #[unsafe(no_mangle)]
 pub extern "C" fn cs_bench_format(alloc: Global, n: u64) -> u64 {
     let Ok(names) = inputs::names(alloc) else {
@@ -289,7 +289,7 @@ pub extern "C" fn cs_bench_grow_push_build(alloc: Global, n: u64, size: u32) -> 
     workloads::growth::push_build(alloc, n, size).unwrap_or(u64::MAX)
 }
 
-/// Decodes `size` letters strictly from UTF-8.
+/// Decodes `size` ASCII bytes strictly from UTF-8.
 #[unsafe(no_mangle)]
 pub extern "C" fn cs_bench_grow_from_utf8(alloc: Global, n: u64, size: u32) -> u64 {
     let Ok(text) = inputs::letters(alloc, size) else {
@@ -298,7 +298,7 @@ pub extern "C" fn cs_bench_grow_from_utf8(alloc: Global, n: u64, size: u32) -> u
     workloads::growth::from_utf8(alloc, n, text.as_bytes()).unwrap_or(u64::MAX)
 }
 
-/// Keeps two letters of three in `size` bytes.
+/// Retains two letters of three in `size` bytes.
 #[unsafe(no_mangle)]
 pub extern "C" fn cs_bench_grow_retain(alloc: Global, n: u64, size: u32) -> u64 {
     let Ok(text) = inputs::letters(alloc, size) else {

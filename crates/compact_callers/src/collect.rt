@@ -1,5 +1,4 @@
-//! Callers that collect, join and extend, as users write them: each is proved from the contracts alone, with the facts for
-//! callers.
+//! Collecting, joining and extending.
 #![tactic(auto, using(compact_str::proofs::ForCallers::for_callers))]
 
 ghost use Rattle.std.specs.Prelude.{◌≡◌, ℕ, ◌+◌, ◌≤◌, ◌++◌, List, [], map, flat_map, fold, filter, ◌==◌, not, IfOk, OnOk, OnErr, codes, string_bytes};
@@ -13,7 +12,7 @@ ghost use Rattle.compact_str.specs.FittedValues.{IsPlacedBySize};
 use compact_str::{CompactString, CompactStringExt, ReserveError, append_all};
 use std::alloc::{AllocError, Global};
 
-/// A path of its parts.
+/// Joins the parts of a path.
 pub fn path(alloc: Global, parts: &[&str]) -> Result<CompactString, ReserveError>
     ensures text { IfOk result
         (λ v. v.text ≡ join (codes "/") (λ part. text_of part.now) parts.now) }
@@ -22,7 +21,7 @@ pub fn path(alloc: Global, parts: &[&str]) -> Result<CompactString, ReserveError
     parts.iter().copied().join_compact(alloc, "/")
 }
 
-/// The same of parts that are handed in, by any separator.
+/// Joins parts by any separator.
 pub fn joined_parts(
     alloc: Global,
     parts: Vec<&str>,
@@ -35,7 +34,7 @@ pub fn joined_parts(
     parts.into_iter().join_compact(alloc, separator)
 }
 
-/// A list of names in one line, by references to them.
+/// Lists names in one line, by reference.
 pub fn list_of_names(
     alloc: Global,
     names: &[CompactString],
@@ -46,21 +45,21 @@ pub fn list_of_names(
     names.iter().join_compact(alloc, separator)
 }
 
-/// The names end to end, collected with `map`: as many bytes as they take.
+/// Concatenates names, collected with `map`; the length is the sum of theirs.
 pub fn names_by_map(alloc: Global, names: &[CompactString]) -> Result<CompactString, ReserveError>
     ensures { IfOk result (λ v. size v.text ≡ fold (λ n name. n + size name.text) 0 names.now) }
 {
     CompactString::from_texts(alloc, names.iter().map(|name| name.as_str()))
 }
 
-/// A copy of a line in uppercase, collected with `map`.
+/// Returns an uppercase copy of a line, collected with `map`.
 pub fn in_uppercase(alloc: Global, line: &str) -> Result<CompactString, ReserveError>
     ensures { IfOk result (λ v. v.text ≡ map to_ascii_uppercase (text_of line.now)) }
 {
     CompactString::from_chars(alloc, line.chars().map(|c| c.to_ascii_uppercase()))
 }
 
-/// The names end to end, by references to them.
+/// Concatenates names, by reference.
 pub fn names_end_to_end(
     alloc: Global,
     names: &[CompactString],
@@ -70,28 +69,28 @@ pub fn names_end_to_end(
     CompactString::from_texts(alloc, names.iter())
 }
 
-/// The words of a line end to end, by references to them.
+/// Concatenates the words of a line, by reference.
 pub fn words_end_to_end(alloc: Global, words: &[&str]) -> Result<CompactString, ReserveError>
     ensures { IfOk result (λ v. v.text ≡ flat_map (λ word. text_of word.now) words.now) }
 {
     words.iter().concat_compact(alloc)
 }
 
-/// The same by the library's `collect`.
+/// Same as `words_end_to_end`, with the library's `collect`.
 pub fn gathered_words(alloc: Global, words: &[&str]) -> Result<CompactString, AllocError>
     ensures { IfOk result (λ v. v.text ≡ flat_map (λ word. text_of word.now) words.now) }
 {
     words.iter().copied().collect(alloc)
 }
 
-/// A copy of a line, character by character.
+/// Copies a line character by character.
 pub fn letter_by_letter(alloc: Global, line: &str) -> Result<CompactString, ReserveError>
     ensures { IfOk result (λ v. v.text ≡ text_of line.now) }
 {
     CompactString::from_chars(alloc, line.chars())
 }
 
-/// A line without its spaces.
+/// Copies a line without its spaces.
 pub fn without_spaces(alloc: Global, line: &str) -> Result<CompactString, ReserveError>
     ensures { IfOk result (λ v. v.text ≡ filter (λ c. not (c == 32)) (text_of line.now)) }
 {
@@ -106,7 +105,7 @@ pub fn append_fields(line: &mut CompactString, fields: &[&str]) -> Result<(), Re
     line.extend_texts(fields.iter().copied())
 }
 
-/// Appends all fields, or leaves the text as it was.
+/// Appends all fields, or leaves the text unchanged.
 pub fn append_all_or_none(line: &mut CompactString, fields: &[&str]) -> Result<(), ReserveError>
     ensures text { OnOk result
         (line.new.text ≡ line.old.text ++ flat_map (λ field. text_of field.now) fields.now) }
@@ -129,7 +128,7 @@ pub fn append_letters(line: &mut CompactString, name: &str) -> Result<(), Reserv
     line.extend_chars(name.chars())
 }
 
-/// Puts values behind a `String`.
+/// Appends values to a `String`.
 pub fn append_values(line: &mut String, values: Vec<CompactString>) -> Result<(), ReserveError>
     ensures { OnOk result
         (text_of (string_bytes line.new)
@@ -138,8 +137,8 @@ pub fn append_values(line: &mut String, values: Vec<CompactString>) -> Result<()
     append_all(line, values)
 }
 
-/// Puts values in place of what stands in a `String`. Where one is refused the line is empty, and never has it less room
-/// than before: what it had room for then still fits.
+/// Overwrites a `String` with values. If that fails the line is empty. Never shrinks the capacity, so what fitted
+/// before still fits.
 pub fn rewrite_line(line: &mut String, values: Vec<CompactString>) -> Result<(), ReserveError>
     ensures text { OnOk result (text_of (string_bytes line.new) ≡ flat_map text_in values.items) }
     ensures room { string_capacity line.old ≤ string_capacity line.new }

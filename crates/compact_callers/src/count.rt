@@ -1,4 +1,4 @@
-//! Words counted in maps. Maps and sets that are read by a text after a change.
+//! Word counts in maps, and lookups by text after a change to a map or set.
 #![tactic(auto, using(compact_str::proofs::TextKeys::text_keys))]
 
 ghost use Rattle.std.specs.Prelude.{◌≡◌, ℕ, List, Some, None, IfOk, OnOk, codes, ◌||◌, if◌then◌else◌, bytes_eq, count_by, unwrap_or};
@@ -61,7 +61,7 @@ pub fn ordered_word_counts(
     Ok(counts)
 }
 
-/// Sets the price of an article and no other.
+/// Sets the price of one article only.
 pub fn set_price(
     prices: &mut HashMap<CompactString, u64>,
     article: CompactString,
@@ -74,7 +74,7 @@ pub fn set_price(
     Ok(())
 }
 
-/// Removes the price of an article and no other.
+/// Removes the price of one article only.
 pub fn remove_price(prices: &mut BTreeMap<CompactString, u64>, article: &str)
     ensures { (bs : List ℕ) → sorted.get_by_text prices.new bs
         ≡ update bytes_eq (sorted.get_by_text prices.old) article.now None bs }
@@ -82,7 +82,7 @@ pub fn remove_price(prices: &mut BTreeMap<CompactString, u64>, article: &str)
     prices.remove(article);
 }
 
-/// Sets the price of an article, and returns what is then found for its name.
+/// Sets the price of an article, and returns what its name then maps to.
 pub fn set_and_find(
     alloc: Global,
     prices: &mut HashMap<CompactString, u64>,
@@ -95,7 +95,7 @@ pub fn set_and_find(
     Ok(prices.get(article).copied())
 }
 
-/// Sets the price of an article, and returns what is then found for `"total"`.
+/// Sets the price of an article, and returns what `"total"` then maps to.
 pub fn total_after(
     alloc: Global,
     bill: &mut IndexMap<CompactString, u64>,
@@ -109,7 +109,7 @@ pub fn total_after(
     Ok(bill.get("total").copied().unwrap_or(0))
 }
 
-/// Adds a word, and returns whether `other` is then in the set.
+/// Adds a word, and returns `true` if `other` is then in the set.
 pub fn has_after_adding(
     alloc: Global,
     words: &mut HashSet<CompactString>,
@@ -123,7 +123,7 @@ pub fn has_after_adding(
     Ok(words.contains(other))
 }
 
-/// `has_after_adding` of a sorted set.
+/// `has_after_adding` for a sorted set.
 pub fn sorted_has_after_adding(
     alloc: Global,
     sorted_words: &mut BTreeSet<CompactString>,
@@ -137,7 +137,7 @@ pub fn sorted_has_after_adding(
     Ok(sorted_words.contains(other))
 }
 
-/// `has_after_adding` of a set in the order of insertions.
+/// `has_after_adding` for a set in insertion order.
 pub fn ordered_has_after_adding(
     alloc: Global,
     row: &mut IndexSet<CompactString>,

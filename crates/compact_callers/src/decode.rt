@@ -1,4 +1,4 @@
-//! Callers that decode bytes from outside, as users write them, each proved with no proof file.
+//! Decoding bytes from outside.
 ghost use Rattle.std.specs.Prelude.{◌≡◌, ◌↔◌, ◌≤◌, length, not, filter, IsTrue, IsOk, IfOk};
 ghost use Rattle.std.specs.Str.{IsUtf8, is_utf8};
 ghost use Rattle.compact_str.specs.Text.{size};
@@ -7,7 +7,7 @@ ghost use Rattle.compact_str.specs.Utf8Text.{utf8_lossy_text};
 use compact_str::{CompactString, FromUtf8Error, ReserveError};
 use std::alloc::Global;
 
-/// Decodes each row of a list, and counts those that are invalid: a row that is refused for memory is none.
+/// Counts the invalid byte strings of a list. One whose allocation fails is not counted.
 #[tactic(auto)]
 pub fn invalid_rows(alloc: Global, rows: &[&[u8]]) -> usize
     ensures { result ≡ length (filter (λ row. not (is_utf8 row.now)) rows.now) }
@@ -15,7 +15,7 @@ pub fn invalid_rows(alloc: Global, rows: &[&[u8]]) -> usize
     rows.iter().filter(|row| is_invalid(alloc, **row)).count()
 }
 
-/// Whether bytes encode no text.
+/// Returns `true` if the bytes are not valid UTF-8.
 #[tactic(auto, using(compact_str::proofs::ForCallers::decoding))]
 fn is_invalid(alloc: Global, bytes: &[u8]) -> bool
     ensures { result ≡ not (is_utf8 bytes.now) }
@@ -26,7 +26,7 @@ fn is_invalid(alloc: Global, bytes: &[u8]) -> bool
     )
 }
 
-/// A name of which invalid sequences are replaced, and whether there were any.
+/// Decodes a name, replacing invalid sequences, and returns whether there were any.
 #[tactic(auto, using(compact_str::proofs::ForCallers::for_callers, compact_str::proofs::ForCallers::decoding))]
 pub fn decoded_name(alloc: Global, bytes: &[u8]) -> Result<(CompactString, bool), ReserveError>
     ensures text { IfOk result (λ answer. answer.0.text ≡ utf8_lossy_text bytes.now) }
@@ -43,7 +43,7 @@ pub fn decoded_name(alloc: Global, bytes: &[u8]) -> Result<(CompactString, bool)
     }
 }
 
-/// The text of a value, by way of its bytes. It is never told to be invalid.
+/// Copies a text by way of its bytes; never fails as invalid.
 #[tactic(auto, using(compact_str::proofs::ForCallers::for_callers, compact_str::proofs::ForCallers::decoding))]
 pub fn through_bytes(alloc: Global, value: &CompactString) -> Result<CompactString, ReserveError>
     ensures text { IfOk result (λ copy. copy.text ≡ value.now.text) }

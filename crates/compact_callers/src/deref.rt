@@ -1,4 +1,4 @@
-//! Callers of the methods of `&str` on a value, and of what takes a `&str`, as they are written over a `String`.
+//! `&str` methods on a value, and functions that take a `&str`, as written for a `String`.
 #![tactic(auto, using(compact_str::proofs::ForCallers::for_callers))]
 
 ghost use Rattle.std.specs.Prelude.{◌≡◌, ◌+◌, ◌^◌, ◌≤◌, ◌++◌, length, IfOk, OnOk, OnErr, IsOk, MatchOption, codes};
@@ -8,7 +8,8 @@ use compact_str::{CompactString, ReserveError};
 use std::alloc::{AllocError, Global};
 use std::convert::AsStr;
 
-/// Leaves the key of a `key=value` field and answers its value; `None`, and the field as it was, where it has no `=`.
+/// Keeps the key of a `key=value` field and returns its value. Returns `None`, with the field unchanged, if it has no
+/// `=`.
 pub fn split_at_sign(field: &mut CompactString) -> Result<Option<CompactString>, ReserveError>
     ensures parts { IfOk result (λ value. MatchOption value (field.new ≡ field.old)
         (λ v. field.old.text ≡ field.new.text ++ codes "=" ++ v.text)) }
@@ -22,14 +23,14 @@ pub fn split_at_sign(field: &mut CompactString) -> Result<Option<CompactString>,
     Ok(Some(value))
 }
 
-/// How many bytes a text has.
+/// Returns the length in bytes.
 fn bytes_in(text: &str) -> usize
     ensures { result ≡ length text.now }
 {
     text.len()
 }
 
-/// How many bytes two values have, of which each is handed on as a `&str`.
+/// Returns the total length of two values, each passed as a `&str`.
 pub fn bytes_of_both(first: &CompactString, second: &CompactString) -> Option<usize>
     ensures { MatchOption result (2 ^ 64 ≤ size first.now.text + size second.now.text)
         (λ n. n ≡ size first.now.text + size second.now.text) }
@@ -46,12 +47,12 @@ pub fn append_other(line: &mut CompactString, other: &CompactString) -> Result<(
     line.push_str(other)
 }
 
-/// The number that a line has between its spaces.
+/// Parses the number between a line's spaces.
 pub fn number_in(line: &CompactString) -> Option<u32> {
     line.trim().parse::<u32>().ok()
 }
 
-/// The bytes of the longest word of a line.
+/// Returns the length in bytes of the longest word.
 pub fn longest_word(line: &CompactString) -> usize {
     line.split_whitespace()
         .map(|word| word.len())
@@ -59,42 +60,42 @@ pub fn longest_word(line: &CompactString) -> usize {
         .unwrap_or(0)
 }
 
-/// How many lines of a text have more than spaces.
+/// Counts the lines that are not all spaces.
 pub fn filled_lines(text: &CompactString) -> usize {
     text.lines()
         .filter(|line| !line.trim_start().is_empty())
         .count()
 }
 
-/// How many characters a value has.
+/// Counts the characters.
 pub fn characters_of(line: &CompactString) -> usize
     ensures { result ≡ length line.now.text }
 {
     line.chars().count()
 }
 
-/// A name as it is shown: `"none"` of none.
+/// Returns the name, or `"none"`.
 pub fn shown_name(name: &Option<CompactString>) -> &str
     ensures { MatchOption name.now (result.now ≡ codes "none") (λ v. text_of result.now ≡ v.text) }
 {
     name.as_deref().unwrap_or("none")
 }
 
-/// How many bytes a text has, whatever holds it.
+/// Returns the length in bytes of anything that has a text.
 pub fn weight<T: AsStr>(text: &T) -> usize
     ensures { result ≡ length (T.text text.now) }
 {
     text.as_str().len()
 }
 
-/// How many bytes a value has.
+/// Calls `weight` on a value.
 pub fn weight_of(value: &CompactString) -> usize
     ensures { result ≡ size value.now.text }
 {
     weight(value)
 }
 
-/// The texts of a row in one `String`, with commas.
+/// Joins texts with commas into a `String`.
 pub fn with_commas(alloc: Global, row: &[CompactString]) -> Result<String, AllocError> {
     row.join(alloc, ",")
 }

@@ -1,4 +1,4 @@
-//! Callers with errors of their own kinds, to which those of the library convert by `?`.
+//! Error types that the library's errors convert to by `?`.
 ghost use Rattle.std.specs.Prelude.{◌≡◌, ◌++◌, ◌∷◌, [], OnOk, IfOk, codes, string_bytes};
 ghost use Rattle.compact_str.specs.Text.{text_of, utf8};
 ghost use Rattle.compact_str.specs.Value.{PlacedText};
@@ -36,13 +36,13 @@ pub fn add_named(alloc: Global, names: &mut Vec<CompactString>, name: &str) -> a
     Ok(())
 }
 
-/// The same in a function that reads and writes.
+/// The same, with an I/O error.
 pub fn add_read(alloc: Global, names: &mut Vec<CompactString>, name: &str) -> io::Result<()> {
     names.push(CompactString::new(alloc, name)?)?;
     Ok(())
 }
 
-/// What can fail in a list of names.
+/// The errors of a list of names.
 #[derive(Debug, Drop, Error)]
 pub enum NamesError {
     #[error("{0}")]
@@ -51,7 +51,7 @@ pub enum NamesError {
     List(#[from(alloc)] AllocError),
 }
 
-/// The same with an error that has both.
+/// The same, with an error that covers both.
 pub fn add_checked(
     alloc: Global,
     names: &mut Vec<CompactString>,
@@ -61,7 +61,7 @@ pub fn add_checked(
     Ok(())
 }
 
-/// Returns a line with a mark at its end as a `String`. On failure the line is dropped.
+/// Returns a line with a mark at its end as a `String`. Drops the line on failure.
 pub fn marked_line(line: CompactString) -> Result<String, ReserveError>
     ensures { IfOk result (λ s. string_bytes s ≡ utf8 line.text ++ codes "!") }
 {
@@ -69,12 +69,12 @@ pub fn marked_line(line: CompactString) -> Result<String, ReserveError>
     Ok(line.into_string()?)
 }
 
-/// The bytes of such a line.
+/// Returns the bytes of such a line.
 pub fn marked_bytes(line: CompactString) -> Result<Vec<u8>, AllocError> {
     Ok(line.add_str("!")?.into_vec()?)
 }
 
-/// The same in a function that reads and writes.
+/// The same, with an I/O error.
 pub fn marked_output(line: CompactString) -> io::Result<Vec<u8>> {
     Ok(line.add_str("!")?.into_vec()?)
 }

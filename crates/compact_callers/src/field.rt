@@ -1,5 +1,5 @@
-//! Records whose fields are values, as JSON: what derives `Serialize` and `Deserialize` takes a value as a field and in an
-//! `Option`. The program `compact_visits` reads and writes records that have one in a `Vec` too.
+//! Values in JSON records: derived `Serialize` and `Deserialize` take one as a field and in an `Option`. The program
+//! `compact_visits` also has them in a `Vec`.
 use compact_str::CompactString;
 use serde::{Deserialize, Serialize};
 use serde_json::Error;
@@ -13,17 +13,17 @@ pub struct Person {
     pub note: Option<CompactString>,
 }
 
-/// A person of a JSON text.
+/// Parses a person from JSON.
 pub fn read_person(alloc: Global, text: &str) -> Result<Person, Error> {
     serde_json::from_str(alloc, text)
 }
 
-/// A person as a JSON text.
+/// Writes a person as JSON.
 pub fn write_person(alloc: Global, person: &Person) -> Result<String, Error> {
     serde_json::to_string(alloc, person)
 }
 
-/// The text that a JSON text is.
+/// Parses a JSON string.
 pub fn read_name(alloc: Global, text: &str) -> Result<CompactString, Error> {
     serde_json::from_str(alloc, text)
 }

@@ -1,4 +1,4 @@
-//! Callers whose clauses are in bytes, as those of `String` are.
+//! Contracts stated in bytes, as those of `String` are.
 ghost use Rattle.std.specs.Prelude.{◌≡◌, ℕ, ◌++◌, codes, decimal, OnOk, IfOk, OnErr, take, drop, flat_map};
 ghost use Rattle.std.specs.Char.{encode_utf8};
 ghost use Rattle.std.specs.Str.Replace.{ReplacesMatches};
@@ -13,7 +13,7 @@ use std::alloc::{AllocError, Global};
 use std::borrow::CowStr;
 use std::str::pattern::Pattern;
 
-/// A greeting.
+/// Builds a greeting.
 pub fn greeting(alloc: Global, name: &str) -> Result<CompactString, ReserveError>
     ensures { IfOk result (λ line. utf8 line.text ≡ codes "Hello, " ++ name.now ++ codes "!") }
 {
@@ -41,7 +41,7 @@ pub fn mark_at(line: &mut CompactString, cursor: usize, mark: &str) -> Result<()
     line.insert_str(cursor, mark)
 }
 
-/// A copy with a mark.
+/// Copies a line and appends a mark.
 pub fn marked(line: &CompactString) -> Result<CompactString, ReserveError>
     ensures { IfOk result (λ v. utf8 v.text ≡ utf8 line.now.text ++ codes "!") }
 {
@@ -50,7 +50,7 @@ pub fn marked(line: &CompactString) -> Result<CompactString, ReserveError>
     Ok(copy)
 }
 
-/// A heading, whose text may be borrowed.
+/// Makes a heading from a text that may be borrowed.
 pub fn heading(alloc: Global, text: CowStr<'_>) -> Result<CompactString, ReserveError>
     ensures { IfOk result (λ v. utf8 v.text ≡ codes "# " ++ cow_str_bytes text.entry) }
 {
@@ -60,7 +60,7 @@ pub fn heading(alloc: Global, text: CowStr<'_>) -> Result<CompactString, Reserve
     Ok(heading)
 }
 
-/// A text with each comma written as a semicolon.
+/// Replaces each comma by a semicolon.
 #[tactic(auto, using(compact_str::proofs::ForCallers::in_bytes))]
 pub fn with_semicolons(alloc: Global, text: &str) -> Result<CompactString, AllocError>
     ensures { IfOk result (λ v. (n : ℕ) × ReplacesMatches ⟦<char as Pattern>⟧.find_in_gives
@@ -69,7 +69,7 @@ pub fn with_semicolons(alloc: Global, text: &str) -> Result<CompactString, Alloc
     Ok(CompactString::from(text.replace(alloc, ',', ";")?))
 }
 
-/// The digits of a port.
+/// Formats a port.
 #[tactic(auto, using(compact_str::proofs::ForCallers::in_bytes))]
 pub fn port_text(alloc: Global, port: u16) -> Result<CompactString, ToCompactStringError>
     ensures { IfOk result (λ v. utf8 v.text ≡ decimal port) }
@@ -77,7 +77,7 @@ pub fn port_text(alloc: Global, port: u16) -> Result<CompactString, ToCompactStr
     port.to_compact_string(alloc)
 }
 
-/// The digits of a port, behind a colon.
+/// Formats a port after a colon.
 #[tactic(auto, using(compact_str::proofs::ForCallers::in_bytes))]
 pub fn port_part(alloc: Global, port: u16) -> Result<CompactString, ToCompactStringError>
     ensures { IfOk result (λ v. utf8 v.text ≡ codes ":" ++ decimal port) }
@@ -88,7 +88,7 @@ pub fn port_part(alloc: Global, port: u16) -> Result<CompactString, ToCompactStr
     Ok(part)
 }
 
-/// Names in one line.
+/// Joins names in one line.
 #[tactic(auto, using(compact_str::proofs::ForCallers::for_callers))]
 pub fn names_in_line(
     alloc: Global,
@@ -101,7 +101,7 @@ pub fn names_in_line(
     names.iter().join_compact(alloc, separator)
 }
 
-/// Names end to end.
+/// Concatenates names.
 #[tactic(auto, using(compact_str::proofs::ForCallers::for_callers))]
 pub fn names_in_a_row(alloc: Global, names: &[CompactString]) -> Result<CompactString, ReserveError>
     ensures { IfOk result (λ v. utf8 v.text ≡ flat_map (λ name. utf8 name.text) names.now) }
@@ -109,7 +109,7 @@ pub fn names_in_a_row(alloc: Global, names: &[CompactString]) -> Result<CompactS
     names.iter().concat_compact(alloc)
 }
 
-/// An entry of a report.
+/// Formats an entry of a report.
 pub fn entry(alloc: Global, name: &str, count: u64) -> Result<CompactString, ToCompactStringError>
     ensures { IfOk result (λ v. utf8 v.text ≡ name.now ++ (codes ": " ++ decimal count)) }
 {

@@ -1,7 +1,7 @@
-//! Iterators of texts, handed to calls whose signature names a `CompactString`.
+//! Iterators of texts, passed to calls whose signature names a `CompactString`.
 //!
-//! `Spelled`, `Lines` and the two calls before it stand for what a library offers: each takes any iterator. Those below
-//! are the callers that a user writes first, with a slice's iterator, and each is proved from the contracts alone.
+//! `Spelled`, `Lines`, `append_all` and `gather` play a library that takes any iterator. The functions below them call
+//! it with a slice's iterator, as a user would first.
 ghost use Rattle.std.specs.Prelude.{◌≡◌, ℕ, List, ◌++◌, ◌+◌, flat_map, fold, IfOk, OnOk, codes};
 ghost use Rattle.std.specs.Iterator.{IsFinite};
 ghost use Rattle.std.specs.Iterator.Runs.{WholeRun};
@@ -10,12 +10,12 @@ ghost use Rattle.compact_str.specs.Text.{text_of, size};
 use compact_str::{CompactString, ReserveError};
 use std::alloc::Global;
 
-/// What is read as a text.
+/// Items that have a text.
 pub trait Spelled: Drop {
-    // Its text, as a list of characters.
+    // The text as a list of characters.
     ghost text: { Self → List ℕ };
 
-    /// The text.
+    /// Returns the text.
     fn spelled(&self) -> &str
         ensures { text_of result.now ≡ text self.now };
 }
@@ -61,7 +61,7 @@ fn append_all<T: Spelled, I: Iterator<Item = T> + Drop>(
     Ok(())
 }
 
-/// The texts of `parts`, one after another.
+/// Concatenates `parts`.
 fn gather<T: Spelled, I: Iterator<Item = T> + Drop>(
     alloc: Global,
     parts: I,
@@ -79,9 +79,9 @@ fn gather<T: Spelled, I: Iterator<Item = T> + Drop>(
     Ok(line)
 }
 
-/// What an iterator of texts can be made into.
+/// Conversions from an iterator of texts.
 pub trait Lines: Iterator {
-    /// The texts of the items, with `end` behind each.
+    /// Concatenates the items, with `end` after each.
     final fn join_lines(self, alloc: Global, end: &str) -> Result<CompactString, ReserveError>
     where
         Self: Sized + Drop,
@@ -104,7 +104,7 @@ pub trait Lines: Iterator {
 
 impl<I: Iterator> Lines for I {}
 
-/// A path of parts that are borrowed, by copies.
+/// Joins borrowed parts into a path, by copy.
 pub fn path(alloc: Global, parts: &[&str]) -> Result<CompactString, ReserveError>
     ensures { IfOk result
         (λ v. v.text ≡ flat_map (λ part. text_of part.now ++ text_of (codes "/")) parts.now) }
@@ -112,7 +112,7 @@ pub fn path(alloc: Global, parts: &[&str]) -> Result<CompactString, ReserveError
     parts.iter().copied().join_lines(alloc, "/")
 }
 
-/// The parts as one text, by references to them.
+/// Concatenates parts, by reference.
 pub fn whole(alloc: Global, parts: &[&str]) -> Result<CompactString, ReserveError>
     ensures { IfOk result (λ v. v.text ≡ flat_map (λ part. text_of part.now) parts.now) }
 {
@@ -127,14 +127,14 @@ pub fn append_fields(line: &mut CompactString, fields: &[&str]) -> Result<(), Re
     append_all(line, fields.iter().copied())
 }
 
-/// The names as one text.
+/// Concatenates names.
 pub fn names_of(alloc: Global, names: &[CompactString]) -> Result<CompactString, ReserveError>
     ensures { IfOk result (λ v. size v.text ≡ fold (λ n name. n + size name.text) 0 names.now) }
 {
     gather(alloc, names.iter().map(|name| name.as_str()))
 }
 
-/// The same by references to the names.
+/// Concatenates names, by reference.
 pub fn names_by_reference(
     alloc: Global,
     names: &[CompactString],
@@ -144,7 +144,7 @@ pub fn names_by_reference(
     gather(alloc, names.iter())
 }
 
-/// The names longer than `least` bytes, in their order.
+/// Returns the names longer than `least` bytes, in order.
 pub fn long_names(
     alloc: Global,
     names: &[CompactString],

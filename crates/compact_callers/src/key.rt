@@ -1,4 +1,4 @@
-//! Values as keys: compared, looked for in a sorted row and in a map, by functions with no proof of their own.
+//! Values as keys: compared, looked up in a sorted slice and in a map.
 ghost use Rattle.std.specs.Prelude.{◌≡◌, ◌↔◌, Some, IsTrue, OnOk, IfOk, IfErr};
 ghost use Rattle.std.specs.List.{HoldsAt};
 ghost use Rattle.std.specs.List.Sorted.{IsSorted, IsPartitionPoint};
@@ -12,7 +12,7 @@ use std::alloc::AllocFailed;
 use std::cmp::Ordering;
 use std::collections::{BTreeMap, HashMap};
 
-/// Whether a word is the keyword.
+/// Returns `true` if a word is the keyword.
 #[tactic(auto, using(compact_str::proofs::ForCallers::for_callers))]
 pub fn is_keyword(word: &CompactString, keyword: &CompactString) -> bool
     ensures { IsTrue result ↔ (word.now.text ≡ keyword.now.text) }
@@ -20,15 +20,15 @@ pub fn is_keyword(word: &CompactString, keyword: &CompactString) -> bool
     word == keyword
 }
 
-/// Whether a record comes before another.
+/// Returns `true` if one record sorts before another.
 pub fn comes_first(first: &CompactString, second: &CompactString) -> bool
     ensures { IsTrue result ↔ (text_order first.now.text second.now.text ≡ Ordering.Less) }
 {
     first < second
 }
 
-/// Where a word stands in a sorted row of words. An error is the place where it would stand: the words before it are less,
-/// and those from there on are greater.
+/// Searches a sorted slice for a word. `Err` is where it could be inserted: the words before are less, those from
+/// there on greater.
 #[tactic(auto, using(compact_str::proofs::ForCallers::for_callers))]
 pub fn place_of(words: &[CompactString], word: &CompactString) -> Result<usize, usize>
     requires { IsSorted text_cmp words.now }
@@ -56,7 +56,7 @@ pub fn set_count(
     Ok(())
 }
 
-/// How often a word was counted; 0 of one that was not.
+/// Returns how often a word was counted, or 0.
 pub fn count_of(counts: &HashMap<CompactString, u32>, word: &CompactString) -> u32
     ensures { result ≡ unwrap_or (get same_text counts.now word.now) 0 }
 {

@@ -1,7 +1,7 @@
-//! A guard over a `CompactString`, which comes out of a call that may be refused, and what the lender is afterwards.
+//! A guard over a `CompactString` that a fallible call returns, and the value after the guard is dropped.
 //!
-//! `Emptying` stands for what a library lends out, as a drain does: its drop changes the value. Those below are its
-//! callers, and each is proved from the contracts alone.
+//! `Emptying` plays a library's guard, whose drop changes the value, as a drain's does. The functions below it are its
+//! callers.
 ghost use Rattle.std.specs.Prelude.{◌≡◌, ◌<◌, [], true, false, Ok, IfOk, OnOk, OnErr, IfSome, IfNone};
 ghost use Rattle.std.specs.Borrow.{sem, RestsIfErr};
 ghost use Rattle.compact_str.specs.Text.{text_of, size};
@@ -10,7 +10,7 @@ ghost use Rattle.compact_str.specs.contracts.string.PolicyString.{the_row};
 
 use compact_str::{CompactString, Policy, PolicyString};
 
-/// Shows a text that its drop takes out of the value.
+/// Shows a text, and removes it when dropped.
 pub struct Emptying<'a, P: Policy> {
     value: &'a mut PolicyString<P>,
 }
@@ -24,13 +24,13 @@ impl<P: Policy> Drop for Emptying<'_, P> {
     }
 }
 
-/// More bytes than were allowed.
+/// The error for more bytes than allowed.
 #[derive(Drop)]
 pub struct TooLong {
     len: usize,
 }
 
-/// Lends `value` out to be emptied; one of more than `most` bytes is refused, and stays.
+/// Lends `value` to be emptied. Fails, leaving it unchanged, if it has more than `most` bytes.
 fn lend_to_empty<P: Policy>(
     value: &mut PolicyString<P>,
     most: usize,
@@ -50,7 +50,7 @@ fn lend_to_empty<P: Policy>(
     Ok(Emptying { value })
 }
 
-/// Takes the text out, by `?`, and says how long it was.
+/// Empties a value, by `?`, and returns the length it had.
 pub fn take_out(value: &mut CompactString, most: usize) -> Result<usize, TooLong>
     ensures len { IfOk result (λ len. len ≡ size value.old.text) }
     ensures cleared { OnOk result (value.new ≡ clear value.old) }
@@ -62,7 +62,7 @@ pub fn take_out(value: &mut CompactString, most: usize) -> Result<usize, TooLong
     Ok(len)
 }
 
-/// Empties the value with no name for the guard, and then writes into it.
+/// Empties the value without naming the guard, then writes into it.
 pub fn start_anew(value: &mut CompactString, text: &str) -> Result<bool, TooLong>
     ensures text { OnOk result (result ≡ Ok true → value.new.text ≡ text_of text.now) }
     ensures refused { OnErr result (100 < size value.old.text) }
@@ -71,7 +71,7 @@ pub fn start_anew(value: &mut CompactString, text: &str) -> Result<bool, TooLong
     Ok(value.push_str(text).is_ok())
 }
 
-/// The same of a value of its own, by `match`.
+/// Empties an owned value, by `match`.
 pub fn emptied(mut value: CompactString, most: usize) -> Result<CompactString, TooLong>
     ensures cleared { IfOk result (λ v. v ≡ clear value) }
     ensures refused { OnErr result (most < size value.text) }
@@ -83,7 +83,7 @@ pub fn emptied(mut value: CompactString, most: usize) -> Result<CompactString, T
     Ok(value)
 }
 
-/// The same by `let else`; what is refused stays.
+/// Empties a value, by `let else`. Leaves it unchanged if that fails.
 pub fn try_to_empty(value: &mut CompactString, most: usize) -> bool
     ensures yes { result ≡ true → value.new.text ≡ [] }
     ensures no { result ≡ false → (value.new ≡ value.old) × (most < size value.old.text) }
@@ -95,7 +95,7 @@ pub fn try_to_empty(value: &mut CompactString, most: usize) -> bool
     true
 }
 
-/// Lends `value` out to be emptied, if it has a text.
+/// Lends `value` to be emptied, unless it is empty.
 fn lend_unless_empty<P: Policy>(value: &mut PolicyString<P>) -> Option<Emptying<'_, P>>
     ensures same_reference { IfSome result
         (λ guard. guard.value.ghost_name ≡ value.entry.ghost_name) }
@@ -108,7 +108,7 @@ fn lend_unless_empty<P: Policy>(value: &mut PolicyString<P>) -> Option<Emptying<
     Some(Emptying { value })
 }
 
-/// Empties what has a text, by `if let`, and says whether it did.
+/// Empties a value, by `if let`, and returns `true` if it had a text.
 pub fn was_emptied(value: &mut CompactString) -> bool
     ensures yes { result ≡ true → value.new ≡ clear value.old }
     ensures no { result ≡ false → value.old.text ≡ [] }

@@ -1,5 +1,5 @@
-//! Callers of the library as its users write them, each proved from the contracts of the calls. `compact_callers_tests` calls
-//! them.
+//! Callers of the library, as users write them. Each is proved from the contracts of the calls; only those under
+//! `proofs/` need a proof file. `compact_callers_tests` runs them.
 #![tactic(auto)]
 
 pub mod collect;

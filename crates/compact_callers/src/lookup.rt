@@ -1,4 +1,4 @@
-//! Callers that look a value up by a text: no value is made for it.
+//! Map lookups by `&str`, without making a value.
 #![tactic(auto, using(compact_str::proofs::ForCallers::for_callers))]
 
 ghost use Rattle.std.specs.Prelude.{◌≡◌};
@@ -15,7 +15,7 @@ use compact_str::CompactString;
 use indexmap::IndexMap;
 use std::collections::{BTreeMap, BTreeSet, HashMap, HashSet};
 
-/// How often a word was counted.
+/// Returns how often a word was counted.
 pub fn count_by_text(counts: &HashMap<CompactString, u32>, word: &str) -> u32
     ensures { result ≡ unwrap_or
         (hashed.get_by (λ k. bytes_eq word.now (utf8 k.text)) counts.now) 0 }
@@ -23,17 +23,17 @@ pub fn count_by_text(counts: &HashMap<CompactString, u32>, word: &str) -> u32
     counts.get(word).copied().unwrap_or(0)
 }
 
-/// The count of `"total"`.
+/// Returns the count of `"total"`.
 pub fn total(counts: &HashMap<CompactString, u32>) -> u32 {
     counts.get("total").copied().unwrap_or(0)
 }
 
-/// Takes a word and its count out.
+/// Removes a word and its count.
 pub fn forget(counts: &mut HashMap<CompactString, u32>, word: &str) {
     counts.remove(word);
 }
 
-/// The rank of a word.
+/// Returns the rank of a word.
 pub fn rank_by_text(ranks: &BTreeMap<CompactString, u32>, word: &str) -> u32
     ensures { result ≡ unwrap_or
         (sorted.get_by (λ k. slice_cmp nat_cmp word.now (utf8 k.text)) ranks.now) 0 }
@@ -41,7 +41,7 @@ pub fn rank_by_text(ranks: &BTreeMap<CompactString, u32>, word: &str) -> u32
     ranks.get(word).copied().unwrap_or(0)
 }
 
-/// Whether a word is in both sets.
+/// Returns `true` if a word is in both sets.
 pub fn is_in_both(
     words: &HashSet<CompactString>,
     sorted_words: &BTreeSet<CompactString>,
@@ -50,12 +50,12 @@ pub fn is_in_both(
     words.contains(word) && sorted_words.contains(word)
 }
 
-/// The place of a word in a row with no word twice.
+/// Returns the index of a word.
 pub fn place_by_text(row: &IndexMap<CompactString, u32>, word: &str) -> Option<usize> {
     row.get_index_of(word)
 }
 
-/// What stands in a row for a word.
+/// Returns the number stored for a word.
 pub fn held_by_text(row: &IndexMap<CompactString, u32>, word: &str) -> u32
     ensures { result ≡ unwrap_or (ordered.get_by (λ k. bytes_eq word.now (utf8 k.text)) row.now) 0 }
 {

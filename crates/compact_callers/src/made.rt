@@ -1,4 +1,4 @@
-//! Callers that take values out of their place, keep them in small rows, and make them of bytes and boxes with no copy.
+//! Values moved out with `take`, in small vectors, and made from bytes and boxes without a copy.
 #![tactic(auto, using(compact_str::proofs::ForCallers::for_callers))]
 
 ghost use Rattle.std.specs.Prelude.{◌≡◌, [], ◌∷◌, ◌++◌, IfOk, IfErr, OnOk, OnErr, IsOk, length};
@@ -16,7 +16,7 @@ use std::convert::AsSlice;
 use std::mem;
 use std::string::FromUtf8Error;
 
-/// Takes the line and leaves an empty one.
+/// Takes the line, leaving an empty one.
 pub fn take_line(line: &mut CompactString) -> Result<CompactString, AllocError>
     ensures taken { IfOk result (λ v. v ≡ line.old) }
     ensures left { OnOk result (line.new.text ≡ []) }
@@ -25,7 +25,7 @@ pub fn take_line(line: &mut CompactString) -> Result<CompactString, AllocError>
     mem::try_take(line)
 }
 
-/// A row of two names, of which four would need no memory.
+/// Returns a row of two names; up to four need no allocation.
 pub fn row_of(
     alloc: Global,
     first: CompactString,
@@ -55,7 +55,7 @@ pub fn append_note(
     }
 }
 
-/// The text of bytes, whose buffer is taken over. Bytes that are no text come back.
+/// Converts bytes to a value, reusing the buffer. Returns bytes that are not valid UTF-8.
 pub fn text_in(bytes: Vec<u8>) -> Result<CompactString, FromUtf8Error>
     ensures text { IfOk result (λ v. v.text ≡ text_of bytes.items) }
     ensures valid { OnOk result (IsUtf8 bytes.items) }
@@ -65,35 +65,35 @@ pub fn text_in(bytes: Vec<u8>) -> Result<CompactString, FromUtf8Error>
     CompactString::try_from(bytes)
 }
 
-/// The text of a box, whose buffer is taken over.
+/// Converts a box, reusing the buffer.
 pub fn unboxed(text: BoxedStr) -> CompactString
     ensures { result.text ≡ text_of (boxed_str_bytes text) }
 {
     CompactString::from(text)
 }
 
-/// How many items are lent.
+/// Counts the bytes of a slice.
 fn count_in<T: AsSlice<u8>>(bytes: &T) -> usize
     ensures { result ≡ length (T.items bytes.now) }
 {
     bytes.as_slice().len()
 }
 
-/// How many bytes a value lends.
+/// Calls `count_in` on a value.
 pub fn lent_bytes(value: &CompactString) -> usize
     ensures { result ≡ length (utf8 value.now.text) }
 {
     count_in(value)
 }
 
-/// A value that may be moved to another thread, and read from several.
+/// Requires `Send` and `Sync`.
 fn for_threads<T: Send + Sync>(value: T) -> T
     ensures { result ≡ value }
 {
     value
 }
 
-/// A value for a type that asks for both.
+/// Passes a value to `for_threads`.
 pub fn shared(value: CompactString) -> CompactString
     ensures { result ≡ value }
 {

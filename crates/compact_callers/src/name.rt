@@ -1,4 +1,4 @@
-//! Callers of the interner, each proved from the contracts and the facts for callers.
+//! Callers of the interner.
 #![tactic(auto, using(compact_str::proofs::ForCallers::for_callers))]
 
 ghost use Rattle.std.specs.Prelude.{◌≡◌, ◌≤◌, length, slice_get, Some, IfOk};
@@ -6,7 +6,7 @@ ghost use Rattle.compact_str.specs.Text.{text_of};
 
 use compact_edit::{InternError, Interner};
 
-/// The numbers of a name and of its value, both of which stand at the end.
+/// Interns a name and its value; both are known afterwards.
 pub fn pair(names: &mut Interner, name: &str, value: &str) -> Result<(u32, u32), InternError>
     ensures name { IfOk result
         (λ numbers. slice_get names.new numbers.0 ≡ Some (text_of name.now)) }
@@ -18,7 +18,7 @@ pub fn pair(names: &mut Interner, name: &str, value: &str) -> Result<(u32, u32),
     Ok((first, second))
 }
 
-/// The number of a short text that is known to be a name.
+/// Returns the number of a short text that is a known name.
 pub fn known(names: &mut Interner, number: u32, text: &str) -> u32
     requires short { length text.now ≤ 24 }
     requires known { slice_get names.old number ≡ Some (text_of text.now) }

@@ -1,4 +1,4 @@
-//! Functions that hand values on and take them from JSON, proved with no proof of their own.
+//! Values converted to `String` and bytes, and made from JSON.
 ghost use Rattle.std.specs.Prelude.{◌≡◌, ◌++◌, IfOk, IfErr, IfSome, IsOk, string_bytes};
 ghost use Rattle.serde_json.specs.View.{view as json_view};
 ghost use Rattle.serde_json.specs.Data.{string as json_string};
@@ -9,7 +9,7 @@ use compact_str::{CompactString, FromJsonError, Refused, ReserveError};
 use serde_json::Value;
 use std::alloc::Global;
 
-/// A line of two fields as a `String`.
+/// Joins two fields into a `String`.
 pub fn finished_line(alloc: Global, first: &str, second: &str) -> Result<String, ReserveError>
     ensures { IfOk result
         (λ s. text_of (string_bytes s) ≡ text_of first.now ++ text_of second.now) }
@@ -22,7 +22,7 @@ pub fn finished_line(alloc: Global, first: &str, second: &str) -> Result<String,
     }
 }
 
-/// The bytes of a line, which stays where they are refused. A line on the heap never is.
+/// Converts a line to bytes, or returns it if allocation fails, which it never does for a line on the heap.
 pub fn bytes_of_line(line: CompactString) -> Result<Vec<u8>, Refused<CompactString>>
     ensures text { IfOk result (λ v. text_of v.items ≡ line.text) }
     ensures stays { IfErr result (λ back. back.value ≡ line) }
@@ -31,7 +31,7 @@ pub fn bytes_of_line(line: CompactString) -> Result<Vec<u8>, Refused<CompactStri
     line.into_vec()
 }
 
-/// The name that a JSON value has; `None` of one that is no string.
+/// Returns the name in a JSON value, or `None` if that is not a string.
 pub fn name_of(alloc: Global, value: &Value) -> Result<Option<CompactString>, ReserveError>
     ensures { IfOk result
         (λ name. IfSome name (λ v. json_view value.now ≡ json_string (utf8 v.text))) }

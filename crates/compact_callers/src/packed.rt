@@ -1,5 +1,4 @@
-//! Callers of the packed form as the writers of tables with rows of a fixed width write them. Each is proved from the
-//! contracts of the calls and the facts for callers alone, with no proof of its own.
+//! The packed form in tables of fixed-width rows.
 ghost use Rattle.std.specs.Prelude.{◌≡◌, ◌↔◌, ℕ, List, IfSome, IsSome, IsTrue};
 ghost use Rattle.compact_str.specs.Value.{inline, IsInline};
 ghost use Rattle.compact_str.specs.Capacity.{inline_placement};
@@ -8,7 +7,7 @@ ghost use Rattle.compact_str.specs.Packed.{IsPackedFor};
 use compact_str::CompactString;
 use std::alloc::Global;
 
-/// A key read back from the row of bytes that it was written as; `None` of a key that is not inline, and of no other.
+/// Writes a key as an array and reads it back. Returns `None` only if the key is not inline.
 #[tactic(auto, using(compact_str::proofs::ForCallers::for_callers))]
 pub fn through_a_row(alloc: Global, key: &CompactString) -> Option<CompactString>
     ensures text { IfSome result (λ copy. copy.text ≡ key.now.text) }
@@ -19,7 +18,7 @@ pub fn through_a_row(alloc: Global, key: &CompactString) -> Option<CompactString
     CompactString::from_packed(alloc, &row)
 }
 
-/// Whether two keys are inline and have the same bytes; then they have the same text.
+/// Returns `true` if two keys are inline with the same bytes; then their texts are equal.
 #[tactic(auto, using(compact_str::proofs::ForCallers::for_callers))]
 pub fn have_same_row(first: &CompactString, second: &CompactString) -> bool
     ensures { IsTrue result → (first.now.text ≡ second.now.text) }
@@ -33,7 +32,7 @@ pub fn have_same_row(first: &CompactString, second: &CompactString) -> bool
     row == other
 }
 
-/// The row of a text as a value made of it has it: with zeros behind the text. `None` of bytes that stand for no text.
+/// Normalizes an array, zeroing the padding. Returns `None` if it holds no text.
 #[tactic(auto, using(compact_str::proofs::ForCallers::for_callers))]
 pub fn cleaned(alloc: Global, row: &[u8; 24]) -> Option<[u8; 24]>
     ensures { IfSome result (λ clean. (t : List ℕ) → IsPackedFor row.now t → IsPackedFor clean t) }

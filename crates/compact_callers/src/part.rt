@@ -1,4 +1,4 @@
-//! Callers that cut a text or write one: each says which parts it hands out or appends.
+//! Splitting a text and formatting one. Each contract names the parts.
 #![tactic(auto, using(compact_str::proofs::ForCallers::for_callers, compact_str::proofs::PartFacts::part_facts))]
 
 ghost use Rattle.std.specs.Prelude.{◌≡◌, ◌≢◌, ◌↔◌, ◌++◌, ◌∷◌, IfSome, OnOk, OnErr, IsTrue, Some, true, false, codes, decimal, slice_get};
@@ -8,7 +8,7 @@ ghost use Rattle.compact_str.specs.Trim.{IsBetweenWhitespace};
 
 use compact_str::{CompactString, ReserveError};
 
-/// Appends an address. Its contract joins from the right, as what a formatter writes is joined.
+/// Appends an address. Its contract joins from the right, as a formatter does.
 #[tactic(auto, using(compact_str::proofs::ForCallers::for_callers))]
 pub fn append_address(
     line: &mut CompactString,
@@ -24,7 +24,7 @@ pub fn append_address(
     write!(line, "{scheme}://{host}:{port}/{path}")
 }
 
-/// Appends a request, and says so in bytes, which no proof has to read as characters.
+/// Appends a request. The contract is in bytes, so no proof reads it as characters.
 #[tactic(auto, using(compact_str::proofs::PartFacts::part_facts))]
 pub fn append_request(
     line: &mut CompactString,
@@ -39,7 +39,7 @@ pub fn append_request(
     write!(line, "{method} {host}:{port}/{path}")
 }
 
-/// Appends a line of a list. Where that fails, nothing has changed.
+/// Appends a line of a list, or leaves the text unchanged.
 #[tactic(auto, using(compact_str::proofs::PartFacts::part_facts))]
 pub fn append_line(line: &mut CompactString, name: &str, count: u64) -> Result<(), ReserveError>
     ensures bytes { OnOk result (utf8 line.new.text
@@ -49,7 +49,7 @@ pub fn append_line(line: &mut CompactString, name: &str, count: u64) -> Result<(
     writeln!(line, "{name}: {count}")
 }
 
-/// Appends a text as it is shown.
+/// Appends a text with its `Display`.
 pub fn append_shown(line: &mut CompactString, text: &str) -> Result<(), ReserveError>
     ensures bytes { OnOk result (utf8 line.new.text ≡ utf8 line.old.text ++ text.now) }
     ensures unchanged { OnErr result (line.new ≡ line.old) }
@@ -57,7 +57,7 @@ pub fn append_shown(line: &mut CompactString, text: &str) -> Result<(), ReserveE
     line.write(text)
 }
 
-/// Whether a word is `"abc"`.
+/// Returns `true` if a word is `"abc"`.
 #[tactic(auto, using(compact_str::proofs::PartFacts::words))]
 pub fn is_abc(word: &CompactString) -> bool
     ensures { IsTrue result ↔ (word.now.text ≡ codes "abc") }
@@ -65,7 +65,7 @@ pub fn is_abc(word: &CompactString) -> bool
     word.as_str() == "abc"
 }
 
-/// Whether a word is another one than `"naïve"`.
+/// Returns `true` if a word is not `"naïve"`.
 #[tactic(auto, using(compact_str::proofs::PartFacts::words))]
 pub fn is_not_naive(word: &CompactString) -> bool
     ensures { IsTrue result ↔ (word.now.text ≢ codes "naïve") }
@@ -73,7 +73,7 @@ pub fn is_not_naive(word: &CompactString) -> bool
     word.as_str() != "naïve"
 }
 
-/// Whether a header tells how a body is encoded.
+/// Returns `true` if a header names the encoding of a body.
 #[tactic(auto, using(compact_str::proofs::PartFacts::words))]
 pub fn is_encoding_header(name: &CompactString) -> bool
     ensures { IsTrue result ↔ (name.now.text ≡ codes "content-transfer-encoding") }
@@ -81,7 +81,7 @@ pub fn is_encoding_header(name: &CompactString) -> bool
     name.as_str() == "content-transfer-encoding"
 }
 
-/// Which answer a word is.
+/// Parses a yes or no.
 #[tactic(auto, using(compact_str::proofs::PartFacts::words))]
 pub fn answer_in(word: &CompactString) -> Option<bool>
     ensures yes { result ≡ Some true ↔ (word.now.text ≡ codes "yes") }
@@ -94,14 +94,14 @@ pub fn answer_in(word: &CompactString) -> Option<bool>
     }
 }
 
-/// The first character of a line.
+/// Returns the first character of a line.
 pub fn first_of(line: &CompactString) -> Option<char>
     ensures { result ≡ slice_get line.now.text 0 }
 {
     line.chars().next()
 }
 
-/// The key and the value of a `key=value` field.
+/// Splits a `key=value` field.
 pub fn key_and_value(field: &CompactString) -> Option<(&str, &str)>
     ensures { IfSome result (λ parts.
         field.now.text ≡ text_of parts.0.now ++ codes "=" ++ text_of parts.1.now) }
@@ -109,7 +109,7 @@ pub fn key_and_value(field: &CompactString) -> Option<(&str, &str)>
     field.split_once('=')
 }
 
-/// The number of a section, and its name, between which a sign stands.
+/// Splits a title at its section sign into number and name.
 pub fn number_and_name(title: &CompactString) -> Option<(&str, &str)>
     ensures { IfSome result (λ parts.
         title.now.text ≡ text_of parts.0.now ++ codes "§" ++ text_of parts.1.now) }
@@ -120,7 +120,7 @@ pub fn number_and_name(title: &CompactString) -> Option<(&str, &str)>
     }
 }
 
-/// What stands on both sides of the first arrow, in any text.
+/// Splits a `&str` at the first arrow.
 pub fn sides_of_arrow(line: &str) -> Option<(&str, &str)>
     ensures { IfSome result (λ parts.
         text_of line.now ≡ text_of parts.0.now ++ codes "→" ++ text_of parts.1.now) }
@@ -128,7 +128,7 @@ pub fn sides_of_arrow(line: &str) -> Option<(&str, &str)>
     line.split_once('→')
 }
 
-/// What stands on both sides of the first dash, in any text.
+/// Splits a `&str` at the first dash.
 pub fn sides_of_dash(line: &str) -> Option<(&str, &str)>
     ensures { IfSome result (λ parts.
         text_of line.now ≡ text_of parts.0.now ++ codes "–" ++ text_of parts.1.now) }
@@ -139,14 +139,14 @@ pub fn sides_of_dash(line: &str) -> Option<(&str, &str)>
     }
 }
 
-/// A name without its mark.
+/// Strips the mark from a name.
 pub fn unmarked(name: &CompactString) -> Option<&str>
     ensures { IfSome result (λ rest. name.now.text ≡ codes "x-" ++ text_of rest.now) }
 {
     name.strip_prefix("x-")
 }
 
-/// A line without the white space at its ends.
+/// Trims white space from both ends.
 pub fn trimmed(line: &CompactString) -> &str
     ensures text { IsBetweenWhitespace line.now.text (text_of result.now) }
     ensures bytes { result.now ≡ trim (utf8 line.now.text) }
@@ -154,7 +154,7 @@ pub fn trimmed(line: &CompactString) -> &str
     line.trim()
 }
 
-/// The first two bytes of a line, where they may be cut off.
+/// Returns the first two bytes of a line, if they end at a boundary.
 pub fn first_two_bytes(line: &CompactString) -> &str {
     if line.is_char_boundary(2) {
         &line[..2]
@@ -181,7 +181,7 @@ pub fn append_whole_address(
         ++ (codes ":" ++ (decimal port ++ (codes "/" ++ (text_of path.now ++ (codes "?"
         ++ (text_of query.now ++ (codes "#" ++ text_of fragment.now))))))))))))))) }
 {
-    // Of a hole that is a value itself, up to six prove.
+    // With values as holes, at most six prove.
     let host = host.as_str();
     write!(
         line,

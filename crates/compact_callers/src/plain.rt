@@ -1,12 +1,11 @@
-//! Callers of the edits as the writers of editors, reports and record readers write them. Each is proved from the
-//! contracts of the calls and the facts for callers alone, with no proof of its own.
+//! Edits as in editors, reports and record readers.
 ghost use Rattle.std.specs.Prelude.{◌≡◌, ◌+◌, ◌≤◌, [], ◌∷◌, ◌++◌, length, IfOk, OnOk, OnErr, IsOk, MatchOption, codes, decimal};
 ghost use Rattle.compact_str.specs.Text.{text_of, size};
 ghost use Rattle.compact_str.specs.Cut.{IsBoundary, replaced_text};
 
 use compact_str::{CompactString, ReserveError};
 
-/// Appends a line of a report: a name, an arrow and a value.
+/// Appends a name, an arrow and a value.
 #[tactic(auto, using(compact_str::proofs::ForCallers::for_callers))]
 pub fn append_report(line: &mut CompactString, name: &str, value: &str) -> Result<(), ReserveError>
     ensures { OnOk result
@@ -15,7 +14,7 @@ pub fn append_report(line: &mut CompactString, name: &str, value: &str) -> Resul
     write!(line, "{name} → {value}")
 }
 
-/// Appends a count to a report: a name, a colon and the number.
+/// Appends a name, a colon and a number.
 #[tactic(auto, using(compact_str::proofs::ForCallers::for_callers))]
 pub fn append_count(line: &mut CompactString, name: &str, count: u64) -> Result<(), ReserveError>
     ensures { OnOk result
@@ -24,7 +23,7 @@ pub fn append_count(line: &mut CompactString, name: &str, count: u64) -> Result<
     write!(line, "{name}: {count}")
 }
 
-/// Appends two fields and a comma between them, for which room is made at once: all or, where that is refused, nothing.
+/// Appends two fields with a comma between them. Reserves first, so that it appends all or nothing.
 #[tactic(auto, using(compact_str::proofs::ForCallers::for_callers))]
 pub fn append_record(
     line: &mut CompactString,
@@ -41,7 +40,7 @@ pub fn append_record(
     line.push_str(second)
 }
 
-/// Appends two fields, and takes the first off again where the second is refused.
+/// Appends two fields, and removes the first if the second fails.
 #[tactic(auto, using(compact_str::proofs::ForCallers::for_callers))]
 pub fn append_pair(line: &mut CompactString, first: &str, second: &str) -> Result<(), ReserveError>
     ensures text { OnOk result
@@ -57,7 +56,7 @@ pub fn append_pair(line: &mut CompactString, first: &str, second: &str) -> Resul
     Ok(())
 }
 
-/// Types two characters at a cursor, a boundary, and answers where the cursor then stands, in bytes.
+/// Types two characters at a cursor, which must be a boundary, and returns the new cursor.
 #[tactic(auto, using(compact_str::proofs::ForCallers::for_callers))]
 pub fn type_two(
     line: &mut CompactString,
@@ -76,7 +75,7 @@ pub fn type_two(
     Ok(next + second.len_utf8())
 }
 
-/// Splits a line at a boundary and joins the two parts again.
+/// Splits a line at a boundary and joins the parts again.
 pub fn split_and_join(line: &mut CompactString, index: usize) -> Result<(), ReserveError>
     requires { IsBoundary line.old.text index }
     ensures { OnOk result (line.new.text ≡ line.old.text) }
@@ -85,7 +84,7 @@ pub fn split_and_join(line: &mut CompactString, index: usize) -> Result<(), Rese
     line.push_str(tail.as_str())
 }
 
-/// A copy of a name with a suffix. Where both have at most 24 bytes together it takes no memory.
+/// Copies a name and appends a suffix. Does not allocate if both have at most 24 bytes together.
 pub fn with_suffix(name: &CompactString, suffix: &str) -> Result<CompactString, ReserveError>
     ensures text { IfOk result (λ v. v.text ≡ name.now.text ++ text_of suffix.now) }
     ensures succeeds { size name.now.text + length suffix.now ≤ 24 → IsOk result }
@@ -95,7 +94,8 @@ pub fn with_suffix(name: &CompactString, suffix: &str) -> Result<CompactString, 
     Ok(copy)
 }
 
-/// Leaves the key of a `key=value` field and answers its value; `None`, and the field as it was, where it has no `=`.
+/// Keeps the key of a `key=value` field and returns its value. Returns `None`, with the field unchanged, if it has no
+/// `=`.
 #[tactic(auto, using(compact_str::proofs::ForCallers::for_callers))]
 pub fn split_field(field: &mut CompactString) -> Result<Option<CompactString>, ReserveError>
     ensures parts { IfOk result
@@ -111,7 +111,7 @@ pub fn split_field(field: &mut CompactString) -> Result<Option<CompactString>, R
     Ok(Some(value))
 }
 
-/// Appends a value as it is shown.
+/// Appends a value with its `Display`.
 #[tactic(auto, using(compact_str::proofs::ForCallers::for_callers))]
 pub fn append_value(line: &mut CompactString, value: &CompactString) -> Result<(), ReserveError>
     ensures { OnOk result (line.new.text ≡ line.old.text ++ value.now.text) }

@@ -1,4 +1,4 @@
-//! Texts built by many pushes, and how many bytes that moves at most under a policy.
+//! Texts built by many pushes, and bounds on the bytes moved under a policy.
 ghost use Rattle.std.specs.Prelude.{◌≡◌, ◌*◌, ◌/◌, ◌≤◌, flat_map, max, IfSome};
 ghost use Rattle.compact_str.specs.Text.{size, text_of};
 
@@ -7,8 +7,8 @@ use compact_str::{CompactString, Standard};
 use compact_testing::policies::Double;
 use std::alloc::Global;
 
-/// Joins parts to a line, and answers it with how many bytes were moved: at most five times as many as it has. `None`
-/// where a part was refused.
+/// Joins parts and returns the line with the bytes moved: at most five times its length. Returns `None` if a push
+/// fails.
 pub fn joined(alloc: Global, parts: &[&str]) -> Option<(CompactString, u64)>
     ensures text { IfSome result
         (λ line. line.0.text ≡ flat_map (λ part. text_of part.now) parts.now) }
@@ -23,8 +23,8 @@ pub fn joined(alloc: Global, parts: &[&str]) -> Option<(CompactString, u64)>
     Some((report.value, report.moved))
 }
 
-/// Joins parts in buffers that double: at most three times as many bytes as the line has are moved, and it has no more
-/// room than twice its length, or 32 bytes. It lacks the parts that were refused.
+/// Joins parts in buffers that double. Moves at most three times the line's length; the capacity is at most twice the
+/// length, or 32 bytes. Parts whose push fails are missing.
 pub fn joined_in_doubled_room(alloc: Global, parts: &[&str]) -> PushReport<Double>
     ensures text { result.refused ≡ 0
         → result.value.text ≡ flat_map (λ part. text_of part.now) parts.now }

@@ -1,11 +1,11 @@
-//! Callers that give a part of a text as a range.
+//! Parts of a text as ranges.
 ghost use Rattle.std.specs.Prelude.{◌≡◌, ◌≤◌, ◌-◌, ◌++◌, [], IfSome, OnOk, OnErr, codes, take, drop};
 ghost use Rattle.compact_str.specs.Text.{size, text_of, utf8};
 ghost use Rattle.compact_str.specs.Cut.{IsBoundary, replaced_text, substring};
 
 use compact_str::{CompactString, ReserveError};
 
-/// Takes the first three bytes out of a line, as a mark of the order of bytes.
+/// Removes a byte order mark: the first three bytes.
 pub fn drop_mark(line: &mut CompactString) -> Result<(), ReserveError>
     requires { IsBoundary line.old.text 3 }
     ensures text { OnOk result (line.new.text ≡ replaced_text line.old.text 0 3 []) }
@@ -15,7 +15,7 @@ pub fn drop_mark(line: &mut CompactString) -> Result<(), ReserveError>
     Ok(())
 }
 
-/// Writes `"xy"` over a part of a line.
+/// Overwrites a part of a line with `"xy"`.
 #[tactic(auto, using(compact_str::proofs::ForCallers::for_callers))]
 pub fn cover(line: &mut CompactString, start: usize, end: usize) -> Result<(), ReserveError>
     requires order { start ≤ end }
@@ -28,7 +28,7 @@ pub fn cover(line: &mut CompactString, start: usize, end: usize) -> Result<(), R
     line.replace_within(start..end, "xy")
 }
 
-/// Appends once more what stands in a line from `start` on.
+/// Appends the part of a line from `start` once more.
 #[tactic(auto, using(compact_str::proofs::RangeFacts::range_facts))]
 pub fn repeat_from(line: &mut CompactString, start: usize) -> Result<(), ReserveError>
     requires { IsBoundary line.old.text start }
@@ -39,7 +39,7 @@ pub fn repeat_from(line: &mut CompactString, start: usize) -> Result<(), Reserve
     line.extend_from_within(start..)
 }
 
-/// The part of a line between two positions, in bytes, where characters end at both.
+/// Returns the part between two byte positions, if both are boundaries.
 pub fn part_between(line: &CompactString, first: usize, last: usize) -> Option<&str>
     ensures { IfSome result (λ s. text_of s.now ≡ substring line.now.text first last) }
 {
@@ -50,7 +50,7 @@ pub fn part_between(line: &CompactString, first: usize, last: usize) -> Option<&
     }
 }
 
-/// The same by an index, told in bytes.
+/// The same by index, with the contract in bytes.
 pub fn bytes_between(line: &CompactString, first: usize, last: usize) -> Option<&str>
     ensures { IfSome result (λ s. s.now ≡ take (last - first) (drop first (utf8 line.now.text))) }
 {

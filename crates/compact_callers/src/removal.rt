@@ -1,5 +1,5 @@
-//! Callers that take parts of a text out, as its users write them. `every_second` and `every_second_told`, whose closures
-//! remember what they said, have a proof file; the others have none.
+//! Removing parts of a text. Only `every_second` and `every_second_told`, whose closures have state, need a proof
+//! file.
 ghost use Rattle.std.specs.Prelude.{◌≡◌, ◌++◌, ◌∷◌, [], OnOk, OnErr, IfOk, MatchOption, not, false, filter, ◌==◌};
 ghost use Rattle.compact_str.specs.Text.{text_of, ascii_lowercase};
 ghost use Rattle.compact_str.specs.Cut.{substring, replaced_text};
@@ -9,8 +9,7 @@ ghost use Rattle.compact_str.specs.Ranges.{IsRange, range_start, range_end};
 use compact_str::{CompactString, ReserveError};
 use std::ops::Bound;
 
-/// Moves a range of one text to the end of another, and goes on with the first: where the range was taken out, a mark is
-/// appended.
+/// Moves a range of one text to the end of another, then appends a mark to the first.
 #[tactic(auto, using(compact_str::proofs::ForCallers::for_callers))]
 pub fn move_range(
     from: &mut CompactString,
@@ -32,7 +31,7 @@ pub fn move_range(
     from.push('.')
 }
 
-/// Takes a range out, of which it answers the last character.
+/// Removes a range and returns its last character.
 #[tactic(auto, using(compact_str::proofs::ForCallers::for_callers))]
 pub fn take_range(
     value: &mut CompactString,
@@ -50,14 +49,14 @@ pub fn take_range(
     Ok(drained.next_back())
 }
 
-/// A name in lowercase.
+/// Returns a lowercase copy of a name.
 pub fn folded(name: &CompactString) -> Result<CompactString, ReserveError>
     ensures { IfOk result (λ small. small.text ≡ ascii_lowercase name.now.text) }
 {
     name.to_ascii_lowercase()
 }
 
-/// Takes every space out.
+/// Removes every space.
 pub fn without_spaces(line: &mut CompactString) -> Result<(), ReserveError>
     ensures text { OnOk result (line.new.text ≡ filter (λ c. not (c == 32)) line.old.text) }
     ensures unchanged { OnErr result (line.new ≡ line.old) }
@@ -65,7 +64,7 @@ pub fn without_spaces(line: &mut CompactString) -> Result<(), ReserveError>
     line.retain(|character| character != ' ')
 }
 
-/// Takes every space out, and notes that there was one. Where that is refused nothing is noted.
+/// Removes every space, and sets `seen` if there was one. Sets nothing on `Err`.
 pub fn note_spaces(line: &mut CompactString, seen: &mut bool) -> Result<(), ReserveError>
     ensures text { OnOk result (line.new.text ≡ filter (λ c. not (c == 32)) line.old.text) }
     ensures unchanged { OnErr result ((line.new ≡ line.old) × (seen.new ≡ seen.old)) }
@@ -92,7 +91,7 @@ pub fn every_second(line: &mut CompactString) -> Result<(), ReserveError>
     })
 }
 
-/// The same, and answers whether the last character was kept. Of the empty text it was not.
+/// The same, and returns `true` if the last character was kept; `false` if the text is empty.
 pub fn every_second_told(line: &mut CompactString) -> Result<bool, ReserveError>
     ensures text { OnOk result
         (line.new.text ≡ retained_text (λ kept c. (not kept, not kept)) false line.old.text) }

@@ -1,5 +1,4 @@
-//! The writer of a report. It is proved from the contracts and the facts for callers; the loop of `report` has its invariant
-//! in a proof file.
+//! The writer of a report. The invariant of the loop in `report` is in a proof file.
 #![tactic(auto, using(compact_str::proofs::ForCallers::for_callers, compact_ext::proofs::ForCallers::shown_facts))]
 
 ghost use Rattle.std.specs.Prelude.{◌≡◌, ◌++◌, IfOk, OnOk};
@@ -9,14 +8,14 @@ use compact_ext::{ToCompactStringError, format_compact};
 use compact_str::CompactString;
 use std::alloc::Global;
 
-/// What a line of a report tells.
+/// The name and number of a line.
 #[derive(Drop)]
 pub struct Row {
     pub name: CompactString,
     pub number: u64,
 }
 
-/// A line of a report: a name, a colon and a number.
+/// Formats a line: a name, a colon and a number.
 pub fn line(alloc: Global, row: &Row) -> Result<CompactString, ToCompactStringError>
     ensures { IfOk result (λ v. v.text ≡ row_line row.now) }
 {
@@ -25,7 +24,7 @@ pub fn line(alloc: Global, row: &Row) -> Result<CompactString, ToCompactStringEr
     Ok(line)
 }
 
-/// The lines of a report, one after another.
+/// Concatenates the lines of a report.
 #[tactic(auto)]
 pub fn report(alloc: Global, rows: &[Row]) -> Result<CompactString, ToCompactStringError>
     ensures { IfOk result (λ v. v.text ≡ report_of rows.now) }
@@ -38,7 +37,7 @@ pub fn report(alloc: Global, rows: &[Row]) -> Result<CompactString, ToCompactStr
     Ok(report)
 }
 
-/// Rows in a list, each with those after it.
+/// A linked list of rows.
 #[derive(Drop)]
 pub enum Rows {
     End,

@@ -1,4 +1,4 @@
-//! Callers of `run`, proved from its contract alone, with no proof of their own; and a growth policy as a user writes it.
+//! Callers of `run`, and a growth policy.
 ghost use Rattle.std.specs.Prelude.{◌≡◌, ◌⊎◌, ◌+◌, [], Some, vec_len, IfOk, OnOk, OnErr};
 ghost use Rattle.std.specs.Bool.{OnTrue};
 ghost use Rattle.compact_str.specs.Text.{text_of};
@@ -9,7 +9,7 @@ use compact_edit::{Edit, Reply, run};
 use compact_str::{CompactString, Policy, PolicyString, ReserveError};
 use std::alloc::Global;
 
-/// Puts a text in brackets by two edits, and answers whether both are done.
+/// Puts brackets around a text by two edits, and returns `true` if both succeed.
 pub fn bracket(alloc: Global, value: &mut CompactString) -> Result<bool, ReserveError>
     ensures { OnErr result (value.new ≡ value.old) }
 {
@@ -19,8 +19,8 @@ pub fn bracket(alloc: Global, value: &mut CompactString) -> Result<bool, Reserve
     Ok(matches!(replies[0], Reply::Done) && matches!(replies[1], Reply::Done))
 }
 
-/// Writes `text` over a value by two edits, and puts their replies after those in `replies`. Where the second is refused
-/// the value is left empty.
+/// Overwrites a value with `text` by two edits, appending their replies to `replies`. Leaves it empty if the second
+/// fails.
 pub fn rewrite<'a, P: Policy + 'a>(
     value: &mut PolicyString<P>,
     text: &'a str,
@@ -34,7 +34,7 @@ pub fn rewrite<'a, P: Policy + 'a>(
     run(value, &edits, replies)
 }
 
-/// Doubles a buffer's capacity at each growth, from 64 bytes on.
+/// Doubles the capacity at each growth, from 64 bytes on.
 pub struct Doubling;
 
 impl Policy for Doubling {
@@ -60,7 +60,7 @@ impl Policy for Doubling {
     ghost lawful = { IsLawful-test _ refl };
 }
 
-/// Writes `text` over a value that doubles its capacity, and answers whether there was room for it.
+/// Overwrites a value with `text` under `Doubling`, and returns `true` if there was memory.
 pub fn refill(
     alloc: Global,
     value: &mut PolicyString<Doubling>,

@@ -1,4 +1,4 @@
-//! Texts of numbers and of formats in the functions of a user. Each is proved from the contracts and the facts for callers.
+//! Numbers and formats as texts.
 #![tactic(auto, using(compact_str::proofs::ForCallers::for_callers, compact_ext::proofs::ForCallers::shown_facts))]
 
 ghost use Rattle.std.specs.Prelude.{◌≡◌, ◌++◌, ◌∷◌, IfOk, codes, decimal};
@@ -11,7 +11,7 @@ use compact_ext::{ToCompactString, ToCompactStringError, format_compact};
 use compact_str::CompactString;
 use std::alloc::Global;
 
-/// The key of a record, which takes no memory.
+/// Formats the key of a record; never allocates.
 pub fn key_of(alloc: Global, number: u64) -> CompactString
     ensures { result ≡ placed_text (decimal number) inline_placement }
 {
@@ -21,7 +21,7 @@ pub fn key_of(alloc: Global, number: u64) -> CompactString
     }
 }
 
-/// A temperature with its unit.
+/// Formats a temperature with its unit.
 #[tactic(auto, using(compact_str::proofs::PartFacts::words, compact_ext::proofs::ForCallers::shown_facts))]
 pub fn temperature(alloc: Global, degrees: i32) -> Result<CompactString, ToCompactStringError>
     ensures { IfOk result (λ v. v.text ≡ signed_decimal degrees ++ codes " °C") }
@@ -31,7 +31,7 @@ pub fn temperature(alloc: Global, degrees: i32) -> Result<CompactString, ToCompa
     Ok(text)
 }
 
-/// A field of a line, of any kind of value.
+/// Formats a field of any type.
 pub fn field<T: ToCompactString>(
     alloc: Global,
     name: &str,
@@ -45,7 +45,7 @@ pub fn field<T: ToCompactString>(
     Ok(line)
 }
 
-/// The name of a cell of a sheet: a letter and a number.
+/// Formats the name of a spreadsheet cell: a letter and a number.
 pub fn cell(alloc: Global, column: char, row: u32) -> Result<CompactString, ToCompactStringError>
     ensures { IfOk result (λ v. v.text ≡ column ∷ decimal row) }
 {
@@ -53,7 +53,7 @@ pub fn cell(alloc: Global, column: char, row: u32) -> Result<CompactString, ToCo
     Ok(text)
 }
 
-/// A version of three numbers.
+/// Formats a version of three numbers.
 pub fn version(
     alloc: Global,
     major: u8,
@@ -67,7 +67,7 @@ pub fn version(
     Ok(text)
 }
 
-/// A name and a difference.
+/// Formats a name and a difference.
 pub fn change(
     alloc: Global,
     name: &str,

@@ -1,12 +1,11 @@
-//! Functions as the writers of tokenizers, record readers and reports write them. Each is proved from the contracts of
-//! the calls alone, with no proof of its own.
+//! Functions of tokenizers, record readers and reports.
 ghost use Rattle.std.specs.Prelude.{◌≡◌, ◌+◌, ◌≤◌, [], ◌∷◌, ◌++◌, length, IfOk, OnOk, OnErr, IsOk, codes};
 ghost use Rattle.compact_str.specs.Text.{text_of, size};
 
 use compact_str::{CompactString, ReserveError};
 use std::alloc::Global;
 
-/// A keyword of a grammar, which is short and so takes no memory.
+/// Makes a keyword of a grammar; too short to allocate.
 pub fn keyword(alloc: Global, word: &str) -> Result<CompactString, ReserveError>
     ensures text { IfOk result (λ v. v.text ≡ text_of word.now) }
     ensures succeeds { length word.now ≤ 24 → IsOk result }
@@ -23,7 +22,7 @@ pub fn append_field(line: &mut CompactString, field: &str) -> Result<(), Reserve
     line.push_str(field)
 }
 
-/// A line of a report: a name, a colon, a space and a value.
+/// Builds a line of a report: a name, a colon, a space and a value.
 pub fn label(alloc: Global, name: &str, value: &str) -> Result<CompactString, ReserveError>
     ensures text { IfOk result
         (λ line. line.text ≡ text_of name.now ++ text_of (codes ": ") ++ text_of value.now) }
@@ -34,7 +33,7 @@ pub fn label(alloc: Global, name: &str, value: &str) -> Result<CompactString, Re
     Ok(line)
 }
 
-/// A record of two fields in the buffer of an earlier one.
+/// Writes a record of two fields into the buffer of an earlier one.
 pub fn record_line(line: &mut CompactString, first: &str, second: &str) -> Result<(), ReserveError>
     ensures text { OnOk result (line.new.text ≡ text_of first.now ++ text_of second.now) }
 {

@@ -1,4 +1,4 @@
-//! Callers of the tokenizer, as users write them, each proved with no proof file.
+//! Callers of the tokenizer.
 #![tactic(auto, using(compact_str::proofs::ForCallers::for_callers))]
 
 ghost use Rattle.std.specs.Prelude.{◌≡◌, ◌-◌, ◌≤◌, ℕ, List, [], length, map, flat_map, slice_get, Some, IfOk, IsOk, OnOk, OnErr};
@@ -10,9 +10,9 @@ use compact_str::{CompactString, ReserveError};
 use compact_uses::tokenize;
 use std::alloc::Global;
 
-/// Learns the words and the other tokens of a text, and answers how many new ones there were: at most one a character.
+/// Interns the words and other tokens of a text, and returns how many are new: at most one a character.
 ///
-/// Where memory is refused, those of a front of the text have been learnt, and no others.
+/// If allocation fails, just the tokens of a prefix have been interned.
 pub fn learn(
     alloc: Global,
     names: &mut Interner,
@@ -31,7 +31,7 @@ pub fn learn(
     Ok(names.len().saturating_sub(before))
 }
 
-/// The numbers of the tokens of a text, in order. In any case names that stood keep their numbers.
+/// Returns the numbers of the tokens of a text, in order. Known names keep their numbers, even on `Err`.
 #[tactic(auto)]
 pub fn numbers_of(
     alloc: Global,

@@ -1,5 +1,5 @@
-//! Callers that write texts over a wire and read them, as users write them. `first_record`, `read_texts` and the two that
-//! read back what they sent have a proof file.
+//! Writing texts in the wire form and reading them. `first_record`, `read_texts`, `sent_and_received` and
+//! `pair_sent_and_received` need a proof file.
 ghost use Rattle.std.specs.Prelude.{◌≡◌, ◌⊎◌, ◌++◌, ◌∷◌, [], ℕ, List, Option, map, Some, IfOk, IfSome, OnOk, MatchOption, MatchResult, IsTrue};
 ghost use Rattle.std.specs.List.{All, flat_map};
 ghost use Rattle.std.specs.Io.{StartsWith};
@@ -15,7 +15,7 @@ use compact_str::{CompactString, ReserveError};
 use std::alloc::Global;
 use std::io::{BufRead, Read, Write};
 
-/// Sends a name and a value, one after the other.
+/// Writes a name, then a value.
 #[tactic(auto, using(compact_ext::proofs::WireFacts::wire_facts))]
 pub fn send_field<W: Write>(
     name: &CompactString,
@@ -30,7 +30,7 @@ pub fn send_field<W: Write>(
     write_wire(value, writer)
 }
 
-/// Receives a name and a value.
+/// Reads a name and a value.
 #[tactic(auto, using(compact_ext::proofs::WireFacts::wire_facts))]
 pub fn receive_field<R: Read>(
     alloc: Global,
@@ -45,7 +45,7 @@ pub fn receive_field<R: Read>(
     Ok((name, value))
 }
 
-/// What comes of a text that is written into a vector and read from there.
+/// Writes a text into a vector and reads it back.
 #[tactic(auto, using(compact_ext::proofs::WireFacts::wire_facts))]
 pub fn sent_and_received(alloc: Global, text: &CompactString) -> Result<CompactString, WireError>
     ensures { IfOk result (λ back. back.text ≡ text.now.text) }
@@ -56,7 +56,7 @@ pub fn sent_and_received(alloc: Global, text: &CompactString) -> Result<CompactS
     read_wire(alloc, &mut rest)
 }
 
-/// What comes of a row of two texts that are written into a vector and read from there.
+/// Writes two texts into a vector and reads them back.
 #[tactic(auto, using(compact_ext::proofs::WireFacts::wire_facts))]
 pub fn pair_sent_and_received(
     alloc: Global,
@@ -72,7 +72,7 @@ pub fn pair_sent_and_received(
     Records::new(alloc, bytes.as_slice()).into_vec()
 }
 
-/// The next record of a reader, or `None` at its end.
+/// Reads the next record, or returns `None` at the end.
 #[tactic(auto, using(compact_ext::proofs::WireFacts::wire_facts))]
 pub fn next_record<R: BufRead>(
     alloc: Global,
@@ -89,7 +89,7 @@ pub fn next_record<R: BufRead>(
     Ok(Some(record))
 }
 
-/// Whether a reader has nothing left.
+/// Returns `true` if a reader is at its end.
 #[tactic(auto, using(compact_ext::proofs::WireFacts::wire_facts))]
 fn is_at_end<R: BufRead>(reader: &mut R) -> Result<bool, WireError>
     ensures end { IfOk result (λ b. IsTrue b → IsAtEnd (R.remaining reader.old)) }
@@ -101,7 +101,7 @@ fn is_at_end<R: BufRead>(reader: &mut R) -> Result<bool, WireError>
     }
 }
 
-/// The records of a reader until its end, each in the wire form.
+/// Reads the wire records until the end.
 #[tactic(auto, using(compact_ext::proofs::WireFacts::wire_facts))]
 pub fn read_records<R: BufRead + Drop>(
     alloc: Global,
@@ -115,7 +115,7 @@ pub fn read_records<R: BufRead + Drop>(
     Records::new(alloc, reader).into_vec()
 }
 
-/// The first record of a reader, or `None` where it has none.
+/// Reads the first record, or returns `None` if there is none.
 #[tactic(auto, using(compact_ext::proofs::WireFacts::wire_facts))]
 pub fn first_record<R: BufRead + Drop>(
     alloc: Global,
@@ -133,7 +133,7 @@ pub fn first_record<R: BufRead + Drop>(
     Records::new(alloc, reader).next().transpose()
 }
 
-/// The next text of some records. One record before it that is no text is passed over.
+/// Reads the next text, skipping one record that is not valid UTF-8.
 #[tactic(auto, using(compact_ext::proofs::WireFacts::wire_facts))]
 pub fn next_text<R: BufRead + Drop>(
     records: &mut Records<R>,
@@ -149,7 +149,7 @@ pub fn next_text<R: BufRead + Drop>(
     }
 }
 
-/// The texts of a reader until its end. A record that is no text is passed over.
+/// Reads the texts until the end, skipping records that are not valid UTF-8.
 #[tactic(auto, using(compact_ext::proofs::WireFacts::passed_texts))]
 pub fn read_texts<R: BufRead + Drop>(
     alloc: Global,

@@ -5,7 +5,7 @@ use compact_callers::field::{read_name, read_person, write_person};
 use compact_testing::seen::is_inline;
 use compact_testing::values::short;
 
-/// A person with a name on the heap and with no note.
+/// A person with a name on the heap and no note.
 const WRITTEN: &str = r#"{"firstName":"zoë, of more than 24 bytes, on the heap","note":null}"#;
 
 #[test]

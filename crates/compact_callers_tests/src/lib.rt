@@ -1,4 +1,4 @@
-//! Tests of the callers of `compact_callers`: each is called with ample memory.
+//! Tests of `compact_callers`, with ample memory.
 #![tactic(auto)]
 
 #[cfg(test)]

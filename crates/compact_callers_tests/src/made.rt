@@ -1,9 +1,7 @@
 //! Tests of the callers in `made.rt`.
 
 use crate::asserts::{assert_equal, assert_that};
-use compact_callers::made::{
-    append_note, lent_bytes, row_of, shared, take_line, text_in, unboxed,
-};
+use compact_callers::made::{append_note, lent_bytes, row_of, shared, take_line, text_in, unboxed};
 use compact_testing::seen::{is_heap, is_inline};
 use compact_testing::values::{letters, short, value_of};
 use std::boxed::BoxedStr;

@@ -11,7 +11,7 @@ use compact_testing::seen::{is_fitted, is_inline};
 use compact_testing::values::{letters, short, value_of};
 use std::process::Abort;
 
-/// The forms of `a`, of no text and of `Hi`.
+/// The forms of `a`, of the empty text and of `Hi`.
 const RECORDS: [u8; 15] = [1, 0, 0, 0, 0x61, 0, 0, 0, 0, 2, 0, 0, 0, 0x48, 0x69];
 
 #[test]
@@ -33,7 +33,7 @@ fn records_are_read_to_their_end(rt: HostRuntime) {
     expect_three(&rt, records);
 }
 
-/// The forms of `a` and of two bytes that are no text, of no text, of one byte that is none, and of `Hi`.
+/// The forms of `a`, of two invalid bytes, of the empty text, of one invalid byte, and of `Hi`.
 const MIXED: [u8; 26] = [
     1, 0, 0, 0, 0x61, 2, 0, 0, 0, 0xC3, 0x28, 0, 0, 0, 0, 1, 0, 0, 0, 0xFF, 2, 0, 0, 0, 0x48, 0x69,
 ];
@@ -55,7 +55,7 @@ fn what_is_no_text_is_passed_over(rt: HostRuntime) {
     expect_three(&rt, texts);
 }
 
-/// Fails unless the texts are `a`, no text and `Hi`.
+/// Expects the texts `a`, the empty one and `Hi`.
 fn expect_three(rt: &impl Abort, texts: Vec<CompactString>) {
     assert_equal(rt, texts.len(), 3);
     assert_that(rt, is_inline(texts.get(0).expect(rt, "a text"), "a"));

@@ -1,4 +1,4 @@
--- Bytes that begin a well-formed sequence, by their first, second, third and fourth byte.
+-- Beginnings of well-formed sequences, by their first four bytes.
 use Rattle.std.proofs.Common.{◌≡◌, ℕ, ◌≤◌, ◌⊎◌, Bool, true, List, [], ◌∷◌, ◌++◌, sym, subst, arith, inl, inr, ⊎_elim, append-nil}
 use Rattle.std.proofs.lemmas.Bool.{cases_lt}
 use Rattle.std.proofs.lemmas.Bool.Decides.{nat_tests}
@@ -79,14 +79,14 @@ begins_to bs h =
     ) in
     completed_one sequence_table bs full h
 
--- the first byte may begin a sequence of more than one, and the second may follow it
+-- the byte may begin a sequence of more than one, and the second may follow it
 abbrev pub Leads : ℕ → Type 0
 Leads a = (0xC2 ≤ a) × (a ≤ 0xF4)
 
 abbrev pub follows : ℕ → ℕ → Bool
 follows a b = is_in_range (second_byte_min a) (second_byte_max a) b
 
--- which row a first byte belongs to
+-- the row of a first byte
 row_cases : (a : ℕ) → Leads a
     → ((0xC2 ≤ a) × (a ≤ 0xDF)) ⊎ ((a ≡ 0xE0) ⊎ (((0xE1 ≤ a) × (a ≤ 0xEC)) ⊎ ((a ≡ 0xED) ⊎ (((0xEE ≤ a) × (a ≤ 0xEF)) ⊎ ((a ≡ 0xF0) ⊎ (((0xF1 ≤ a) × (a ≤ 0xF3)) ⊎ (a ≡ 0xF4)))))))
 row_cases a h =
@@ -198,6 +198,5 @@ four_from a b d e rest h =
     ((λ none. absurd none))))))))))
     (begins_from (a ∷ b ∷ d ∷ e ∷ rest) h)
 
--- a well-formed sequence begins one
 pub begins_well_formed : (bs : List ℕ) → IsWellFormedSequence bs → IsPrefixOfSequence bs
 begins_well_formed bs well = ([], subst IsWellFormedSequence (sym (append-nil bs)) well)

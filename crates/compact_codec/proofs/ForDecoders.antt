@@ -1,5 +1,5 @@
--- For crates that decode a text with these steps: where a decoder ends, and what an invalid sequence puts. Name it at the
--- decoder, as `#[tactic(auto, using(compact_codec::proofs::ForDecoders::lossy_decoding))]`.
+-- For crates that decode a text by these steps. Use it at the decoder, as
+-- `#[tactic(auto, using(compact_codec::proofs::ForDecoders::lossy_decoding))]`.
 use Rattle.std.proofs.Common.{◌≡◌, ℕ, List, ◌++◌, length, IsUtf8, sym, ap, subst, ◌∙◌, append-nil}
 use Rattle.compact_codec.specs.declared.utf16_bytes.ByteOrder.{ByteOrder}
 use Rattle.compact_codec.specs.Utf8Text.{BytesEncode, utf8_lossy_text}
@@ -9,7 +9,7 @@ use Rattle.compact_codec.proofs.LossyReading.{utf8_lossy_text-IsUtf8, utf8_lossy
 use Rattle.compact_codec.proofs.UnitsReading.{utf16_lossy_text-empty, utf16_lossy_text_of_text}
 use Rattle.compact_codec.proofs.PairsReading.{utf16_bytes_lossy_text-empty, utf16_bytes_lossy_text_of_text}
 
--- what was made is the whole, where nothing is left to read
+-- the decoded text is the whole if nothing is left to read
 pub made-utf8_lossy_text : (made bytes : List ℕ) → length bytes ≡ 0 → made ++ utf8_lossy_text bytes ≡ made
 made-utf8_lossy_text made bytes none = ap (λ t. made ++ t) (utf8_lossy_text-empty bytes none) ∙ append-nil made
 
@@ -21,7 +21,7 @@ made-utf16_bytes_lossy_text order made bytes none = ap (λ t. made ++ t) (utf16_
 
 pub ruleset lossy_decoding = (made-utf8_lossy_text, made-utf16_lossy_text, made-utf16_bytes_lossy_text, utf8_lossy_text-IsUtf8, replacement_text-none, replacement_text-some)
 
--- for strict decoders: the text that a decoder makes of what was validated is the one that is encoded
+-- for strict decoders: the text of validated bytes is the one they encode
 pub BytesEncode-utf8_lossy_text : (bytes : List ℕ) → IsUtf8 bytes → BytesEncode bytes (utf8_lossy_text bytes)
 BytesEncode-utf8_lossy_text bytes (text, is) = subst (BytesEncode bytes) (sym (utf8_lossy_text_of_text bytes text is)) is
 

@@ -1,4 +1,4 @@
--- The text of bytes with U+FFFD for each invalid sequence.
+-- The lossy text of bytes.
 use Rattle.std.proofs.Common.{◌≡◌, ℕ, zero, suc, ◌+◌, ◌<◌, ◌≤◌, ◌⊎◌, true, List, [], ◌∷◌, ◌++◌, length, take, drop, Option, IsUtf8, encode_utf8_all, refl, sym, ap, subst, ◌∙◌, arith, inl, inr, ⊎_elim, append_assoc, append-nil, length-append, length-drop, take_all, take-append-drop, drop-drop, take_at}
 use Rattle.std.specs.Prelude.{unwrap_or}
 use Rattle.std.specs.Char.{IsScalar, encode_utf8}
@@ -18,14 +18,13 @@ use Rattle.compact_codec.proofs.Parts.{error_by_std, same_part, error_is, error_
 pub encodes_one_text : BytesEncodeOneText
 encodes_one_text bytes text other is is_too = encodes_same text other (is.1 ∙ sym is_too.1)
 
--- text or no text
 pub text_or_not : (bs : List ℕ) → IsUtf8 bs ⊎ (¬ (IsUtf8 bs))
 text_or_not bs = ⊎_elim
     (λ yes. inl (IsUtf8-from_is_utf8 bs yes))
     (λ no. inr (λ u. false≢true (sym no ∙ is_utf8-from_IsUtf8 bs u)))
     (cases_Bool (is_utf8 bs))
 
--- std's lossy text, a valid prefix and a mark at a time
+-- std's lossy text, a valid prefix and a U+FFFD at a time
 
 pub utf8_lossy_text-IsUtf8 : (bs : List ℕ) → IsUtf8 bs → utf8_lossy_text bs ≡ chars bs
 unfolding utf8_lossy_text
@@ -131,13 +130,13 @@ utf8_lossy_text_is bytes text =
     let std = lossy_within (length bytes) bytes (omega arith) in
     (λ is. one_lossy_text bytes bytes text (utf8_lossy_text bytes) refl is std, λ same. subst (IsUtf8LossyText bytes) (sym same) std)
 
--- a chunk's part of it
+-- its part for one chunk
 
 pub replacement_text-some : (bs : List ℕ) → 0 < length bs → replacement_text bs ≡ replacement_character ∷ []
 replacement_text-some [] some = absurd (omega arith)
 replacement_text-some (b ∷ bs) some = refl
 
--- where the bytes are text, they are one chunk
+-- valid bytes are one chunk
 pub whole_chunk : (bytes : List ℕ) → IsUtf8 bytes
     → BeginsWithChunk bytes bytes [] [] × (utf8_lossy_text bytes ≡ chars bytes ++ (replacement_text [] ++ utf8_lossy_text []))
 whole_chunk bytes u = (
@@ -154,7 +153,7 @@ whole_chunk bytes u = (
   utf8_lossy_text-IsUtf8 bytes u ∙ sym (append-nil (chars bytes)) ∙ ap (λ t. chars bytes ++ t) (sym (utf8_lossy_text-IsUtf8 [] ([], (refl, refl)) ∙ chars-encodes [] refl)),
 )
 
--- where they are not, the first chunk is cut at the error
+-- otherwise the first chunk is cut at the error
 pub invalid_chunk : (bytes : List ℕ) (n : ℕ) (part : Option ℕ) → IsUtf8Error bytes n part
     → let k = unwrap_or part (length (drop n bytes)) in
     BeginsWithChunk bytes (take n bytes) (take k (drop n bytes)) (drop k (drop n bytes))
@@ -194,7 +193,7 @@ invalid_chunk bytes n part error =
 pub utf8_lossy_text_of_text : Utf8LossyTextOfText
 utf8_lossy_text_of_text bytes text is = utf8_lossy_text-IsUtf8 bytes (text, is) ∙ ap chars (sym is.1) ∙ chars-encodes text is.0
 
--- where a lossy decoder ends
+-- the end of a lossy decoder
 pub utf8_lossy_text-empty : (bytes : List ℕ) → length bytes ≡ 0 → utf8_lossy_text bytes ≡ []
 utf8_lossy_text-empty [] none = utf8_lossy_text_of_text [] [] (refl, refl)
 utf8_lossy_text-empty (b ∷ bytes) none = absurd (omega arith)

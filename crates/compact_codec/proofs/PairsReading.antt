@@ -1,4 +1,4 @@
--- Bytes that stand for units, two and two.
+-- Bytes as units, two a unit.
 use Rattle.std.proofs.Common.{rules, ◌≡◌, ℕ, zero, suc, ◌+◌, ◌-◌, ◌*◌, ◌/◌, ◌%◌, ◌^◌, ◌<◌, ◌≤◌, true, false, List, [], ◌∷◌, ◌++◌, map, length, take, drop, Option, Some, None, refl, sym, ap, subst, ◌∙◌, arith, inl, inr, ⊎_elim, append-nil, length-drop, take_all, take-append-drop, take-add}
 use Rattle.std.specs.Prelude.{unwrap_or, is_some, IfNone, slice_get}
 use Rattle.std.specs.List.{flat_map}
@@ -74,7 +74,7 @@ utf16_bytes_lossy_text_is order bytes text all =
       λ same. (utf16_lossy_text units, (utf16_lossy_text_is units (utf16_lossy_text units) fits).1 refl, same),
     )
 
--- pairs and units side by side
+-- pairs and units in step
 
 pub take_pairs : (order : ByteOrder) (n m : ℕ) (bytes : List ℕ) → m ≡ 2 * n → n ≤ length (units_of order bytes)
     → (m ≤ length bytes) × ArePairs (take m bytes) × (units_of order (take m bytes) ≡ take n (units_of order bytes))
@@ -113,7 +113,7 @@ units_at_start order [] first is = cc
 units_at_start order (a ∷ []) first is = cc
 units_at_start order (a ∷ b ∷ bytes) first is = let same : unit_of order a b ≡ first = cc in ap (λ u. u ∷ units_of order bytes) same
 
--- all that a step over units says of the bytes
+-- a step over units, for their bytes
 pub record StepsOver (order : ByteOrder) (bytes : List ℕ) (o : Option ℕ) (n : ℕ) : Type 0 where
   pub step : IsUtf16BytesStep order bytes o n
   pub taken : (0 < n) × (n ≤ length bytes)

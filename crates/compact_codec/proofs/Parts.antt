@@ -1,4 +1,4 @@
--- The longest valid prefix, and the invalid sequence after it, beside std's words for both.
+-- The longest valid prefix and the invalid sequence after it, beside std's definitions.
 use Rattle.std.proofs.Common.{◌≡◌, ℕ, zero, suc, ◌+◌, ◌<◌, ◌≤◌, ◌⊎◌, true, false, cond, List, [], ◌∷◌, length, take, drop, Option, Some, None, slice_index, IsUtf8, encode_utf8, refl, sym, ap, subst, ◌∙◌, arith, inl, inr, ⊎_elim, true≢false, append-nil, length-drop, take_all, take-add, min, ◌-◌, take-append-drop, drop-drop, take_at, le_refl}
 use Rattle.std.specs.Prelude.{◌==◌, nat_lt, IsNone}
 use Rattle.std.specs.Int.{is_in_range}
@@ -44,7 +44,6 @@ utf8_valid_len-IsLongestValidPrefix bs =
     let all = longest_prefix_up_to bs (length bs) in
     record { within = all.2; prefix = all.0; longest = all.1 }
 
--- there is one longest prefix
 pub same_valid_prefix : (bs : List ℕ) (n m : ℕ) → IsLongestValidPrefix bs n → IsLongestValidPrefix bs m → n ≡ m
 same_valid_prefix bs n m p q =
     let n_within = p.within in
@@ -63,7 +62,7 @@ IsUtf8-IsWellFormedSequence bs well =
     let one = character-IsWellFormedSequence bs well in
     (one.0 ∷ [], (and_from _ true one.1 refl, append-nil (encode_utf8 one.0) ∙ one.2))
 
--- after it, no well-formed sequence stands
+-- no well-formed sequence follows it
 pub unconvertible_after_prefix : (bs : List ℕ) (n : ℕ) → IsLongestValidPrefix bs n → IsUnconvertible (drop n bs)
 unconvertible_after_prefix bs n f k well =
     let rest = drop n bs in
@@ -106,7 +105,7 @@ closed_part bs n some within un begins longest whole = (
   ),
 )
 
--- one byte, where it leads no sequence, or where the second byte does not follow it
+-- one byte, if it leads no sequence, or the second byte does not follow it
 pub one_byte : (bs : List ℕ) → 1 ≤ length bs → IsUnconvertible bs
     → ¬ (Leads (slice_index bs 0)) ⊎ ((2 ≤ length bs) × (follows (slice_index bs 0) (slice_index bs 1) ≡ false)) → IsErrorLen bs (Some 1)
 one_byte [] some un why = absurd (omega arith)
@@ -127,7 +126,7 @@ one_byte (a ∷ b ∷ rest) some un why =
     longer wrong (suc zero) above within begins = absurd (omega arith)
     longer wrong (suc (suc k)) above within begins = wrong (two_from a b (take k rest) begins)
 
--- two bytes, where the third does not go on
+-- two bytes, if the third does not continue them
 pub two_bytes : (bs : List ℕ) → 3 ≤ length bs → IsUnconvertible bs → Leads (slice_index bs 0) → follows (slice_index bs 0) (slice_index bs 1) ≡ true
     → ¬ (IsInByteRange trailing_bytes (slice_index bs 2)) → IsErrorLen bs (Some 2)
 two_bytes [] long un leads second third = absurd (omega arith)
@@ -152,7 +151,7 @@ wide a b rest un leads second = ⊎_elim
     (λ (from : 0xE0 ≤ a). from)
     (cases_lt a 0xE0)
 
--- three bytes, where a fourth stands
+-- three bytes, if there is a fourth
 pub three_bytes : (bs : List ℕ) → 4 ≤ length bs → IsUnconvertible bs → Leads (slice_index bs 0) → follows (slice_index bs 0) (slice_index bs 1) ≡ true
     → IsInByteRange trailing_bytes (slice_index bs 2) → IsErrorLen bs (Some 3)
 three_bytes [] long un leads second third = absurd (omega arith)
@@ -204,7 +203,7 @@ trailing_from a h = grind (arith, nat_tests)
 not_trailing_from : (a : ℕ) → is_in_range 0x80 0xBF a ≡ false → ¬ (IsInByteRange trailing_bytes a)
 not_trailing_from a h is = grind (arith, nat_tests)
 
--- std's word for the length of the invalid sequence says the Standard's maximal subpart
+-- std's length of the invalid sequence is that of the Standard's maximal subpart
 pub utf8_error_len-IsErrorLen : (bs : List ℕ) → 1 ≤ length bs → IsUnconvertible bs → IsErrorLen bs (utf8_error_len bs)
 unfolding utf8_error_len
 utf8_error_len-IsErrorLen bs some un =
@@ -234,7 +233,7 @@ utf8_error_len-IsErrorLen bs some un =
     (λ first. after_one (leads_from a first))
     (λ no_first. one_byte bs some un (inl (not_leads_from a no_first))))
 
--- there is one maximal subpart, and one length of an invalid sequence
+-- the maximal subpart is unique, and so is the length of an invalid sequence
 pub same_part : (bs : List ℕ) (n m : ℕ) → IsMaximalSubpart bs n → IsMaximalSubpart bs m → n ≡ m
 same_part bs n m p q =
     let n_some = p.some in
@@ -247,7 +246,7 @@ same_part bs n m p q =
     (λ from. ⊎_elim (λ less. absurd (longer m n q p less)) (λ to. omega arith) (cases_lt m n))
     (cases_lt n m)
 
--- an error of bytes that are no text, by std's words
+-- std's error of invalid bytes
 pub error_by_std : (bs : List ℕ) → ¬ (IsUtf8 bs) → IsUtf8Error bs (utf8_valid_len bs) (utf8_error_len (drop (utf8_valid_len bs) bs))
 error_by_std bs bad =
     let n = utf8_valid_len bs in
@@ -259,7 +258,6 @@ error_by_std bs bad =
     (cases_lt n (length bs)) in
     (prefix, utf8_error_len-IsErrorLen (drop n bs) (omega (arith, length-drop n bs)) un)
 
--- bytes with an error are no text
 pub error_is_no_text : (bs : List ℕ) (n : ℕ) (part : Option ℕ) → IsUtf8Error bs n part → ¬ (IsUtf8 bs)
 error_is_no_text bs n part error whole =
     let some = error.1.0.some in
@@ -288,7 +286,7 @@ error_is bs n part bad = (
       (prefix, subst (IsErrorLen (drop n bs)) (sym are.1) (subst (λ k. IsErrorLen (drop k bs) (utf8_error_len (drop k bs))) (sym are.0) std.1)),
 )
 
--- an error after bytes that are known to be text
+-- an error after a valid prefix
 
 IsUtf8-drop_at : (bs : List ℕ) (at : ℕ) → IsUtf8 bs → at ≤ length bs → IsUtf8 (take at bs) → IsUtf8 (drop at bs)
 IsUtf8-drop_at bs at whole within prefix = IsUtf8-drop bs at whole (IsCharBoundary-from_take bs at whole within prefix)
@@ -325,13 +323,13 @@ error_from bs at n part within prefix error =
     let here = subst (λ l. IsUtf8Error l n part) (rest_at bs at) error in
     (prefix_from bs at n within prefix here.0, subst (λ l. IsErrorLen l part) (drop-drop n at bs) here.1)
 
--- a further window of text
+-- one more valid window
 pub longer_window : (bs : List ℕ) (at end : ℕ) → at ≤ end → IsUtf8 (take at bs) → IsUtf8 (take (end - at) (drop at bs)) → IsUtf8 (take end bs)
 longer_window bs at end order prefix window =
     let end_is : at + (end - at) ≡ end = omega arith in
     subst (λ j. IsUtf8 (take j bs)) end_is (subst IsUtf8 (sym (take-add at (end - at) bs)) (IsUtf8-append (take at bs) (take (end - at) (drop at bs)) prefix window))
 
--- a further block of ASCII, also one that begins before the end of what was passed
+-- one more ASCII block, which may overlap the ones before
 pub longer_ascii : (bs : List ℕ) (at n : ℕ) → IsAscii (take at bs) → IsAscii (take n (drop at bs)) → IsAscii (take (at + n) bs)
 longer_ascii bs at n prefix block = subst IsAscii (sym (take-add at n bs)) (IsAscii-append (take at bs) (take n (drop at bs)) prefix block)
 

@@ -1,4 +1,4 @@
--- Table 3-7 beside the bytes of characters.
+-- Table 3-7 and the encodings of characters.
 use Rattle.std.proofs.Common.{◌≡◌, ℕ, ◌+◌, ◌-◌, ◌*◌, ◌/◌, ◌%◌, ◌<◌, ◌≤◌, ◌⊎◌, true, List, [], ◌∷◌, ◌++◌, refl, sym, ap, subst, ◌∙◌, arith, inl, inr, ⊎_elim, drop}
 use Rattle.std.specs.Char.{IsScalar, encode_utf8}
 use Rattle.std.proofs.lemmas.Bool.{cases_lt, cond-true, cond-false, lt-ltb, le-ltb}
@@ -25,7 +25,7 @@ encode_four c l = cond-false _ _ _ (le-ltb c 128 (omega arith)) ∙ cond-false _
 pub high_scalar : (c : ℕ) → 0xE000 ≤ c → c < 0x11_0000 → scalar c ≡ true
 high_scalar c low high = grind (arith, le-ltb, lt-ltb)
 
--- from bytes in the ranges of a row to the character
+-- from bytes in a row to the character
 
 one_of : (a : ℕ) → a ≤ 0x7F → IsOneCharacter (a ∷ [])
 one_of a h = (a, low_scalar a (omega arith), encode_one a (omega arith))
@@ -55,7 +55,7 @@ four_of a b d e c is la ha lb hb ld hd le he low high =
     let t : 128 + c % 64 ≡ e = omega arith in
     (c, high_scalar c (omega arith) high, encode_four c low ∙ (λ i. p i ∷ q i ∷ r i ∷ t i ∷ []))
 
--- bytes that fit a row, one by one
+-- the bytes of a row, one by one
 
 pub fits_one : (r : ByteRange) (bs : List ℕ) → FitsRow (r ∷ []) bs → (a : ℕ) × IsInByteRange r a × (bs ≡ a ∷ [])
 fits_one r [] f = absurd f
@@ -79,7 +79,7 @@ fits_four r s t v (a ∷ bs) f = let u = fits_three s t v bs f.1 in (a, u.0, u.1
 abbrev value_of_three : ℕ → ℕ → ℕ → ℕ
 value_of_three a b d = (a - 0xE0) * 4096 + (b - 0x80) * 64 + (d - 0x80)
 
--- a row of three whose numbers are those of characters, and a row of four
+-- rows of three and four whose numbers are those of characters
 array_of_three : (r s : ByteRange) → ((a b d : ℕ) → IsInByteRange r a → IsInByteRange s b → IsInByteRange trailing_bytes d
     → (0xE0 ≤ a) × (a ≤ 0xEF) × (0x80 ≤ b) × (b ≤ 0xBF) × (0x800 ≤ (a - 0xE0) * 4096 + (b - 0x80) * 64 + (d - 0x80)) × IsScalar ((a - 0xE0) * 4096 + (b - 0x80) * 64 + (d - 0x80)))
     → (bs : List ℕ) → FitsRow (r ∷ s ∷ trailing_bytes ∷ []) bs → IsOneCharacter bs
@@ -112,7 +112,7 @@ character-IsWellFormedSequence bs h =
     (⊎_elim (row_of_four (byte_range 0xF4 0xF4) (byte_range 0x80 0x8F) (λ a b ia ib. (omega arith, omega arith, omega arith, omega arith, omega arith, omega arith)) bs)
     (λ none. absurd none))))))))) h
 
--- from a character to the row of its bytes
+-- from a character to its row
 
 two_bytes : (a b : ℕ) → 0xC2 ≤ a → a ≤ 0xDF → IsInByteRange trailing_bytes b → IsWellFormedSequence (a ∷ b ∷ [])
 two_bytes a b la ha ib = inr (inl (((la, ha), (ib, tt))))
@@ -187,7 +187,7 @@ IsWellFormedSequence-encode c is =
     (cases_lt c 0x800))
     (cases_lt c 0x80)
 
--- rows whose first bytes are above those of a row are apart from it
+-- rows with greater first bytes share no bytes with a row
 abbrev BeginsAbove : ℕ → List TableRow → Type 0
 BeginsAbove k [] = Unit {0}
 BeginsAbove k ([] ∷ rows) = ⊥

@@ -1,4 +1,4 @@
--- Units of UTF-16, and the characters and unpaired surrogates that they fall into.
+-- Units of UTF-16 as characters and unpaired surrogates.
 use Rattle.std.proofs.Common.{rules, ◌≡◌, ℕ, zero, suc, ◌+◌, ◌-◌, ◌*◌, ◌/◌, ◌%◌, ◌^◌, ◌<◌, ◌≤◌, ◌⊎◌, Bool, true, false, not, List, [], ◌∷◌, ◌++◌, map, length, take, drop, get_or, Option, Some, None, refl, sym, ap, subst, ◌∙◌, arith, inl, inr, ⊎_elim, append_assoc, append-nil, length-append, length-drop, take_all, take-append-drop, take-add, drop_at, get_or-drop, Bor}
 use Rattle.std.specs.Prelude.{unwrap_or, is_some, IfNone, slice_get, slice_index}
 use Rattle.std.specs.Char.{IsScalar}
@@ -23,7 +23,7 @@ scalar_top c is = ⊎_elim (λ low. omega arith) (λ high. high.1) (scalar_cases
 pub scalar_apart : (c : ℕ) → IsScalar c → (c < 0xD800) ⊎ (0xE000 ≤ c)
 scalar_apart c is = ⊎_elim (λ low. inl low) (λ high. inr high.0) (scalar_cases c is)
 
--- two characters whose units begin the same units are one
+-- two characters whose units begin the same units are equal
 one_one : (c d : ℕ) (r t : List ℕ) → c ∷ r ≡ d ∷ t → (c ≡ d) × (r ≡ t)
 one_one c d r t e = (ap (λ l. get_or l 0 0) e, ap (drop 1) e)
 
@@ -76,7 +76,6 @@ units_encode_one_text units text other is is_too = one_text text other is.0 is_t
         let both = encode_utf16_same c d (flat_map encode_utf16 cs) (flat_map encode_utf16 ds) c_all.0 d_all.0 same in
         λ i. both.0 i ∷ one_text cs ds c_all.1 d_all.1 both.1 i
 
--- an unpaired surrogate begins no character
 pub unpaired_begins_none : (units : List ℕ) (c : ℕ) (rest : List ℕ) → BeginsWithUnpairedSurrogate units → IsScalar c → units ≡ encode_utf16 c ++ rest → ⊥
 unpaired_begins_none [] c rest unpaired is same = absurd unpaired
 unpaired_begins_none (u ∷ units) c rest unpaired is same =
@@ -94,7 +93,7 @@ unpaired_begins_none (u ∷ units) c rest unpaired is same =
     ⊎_elim (λ low. absurd (omega arith)) (λ high. high.1 (subst BeginsWithLowSurrogate (sym after) (omega arith, omega arith))) unpaired)
     (cases_lt c 0x1_0000)
 
--- what std reads at a step
+-- std's decoding of a step
 pub chars_at_character : (c : ℕ) (rest : List ℕ) → IsScalar c → utf16_chars (encode_utf16 c ++ rest) ≡ Some c ∷ utf16_chars rest
 chars_at_character c rest is =
     let top = scalar_top c is in
@@ -122,7 +121,7 @@ chars_at_unpaired (u ∷ v ∷ rest) unpaired =
     (λ pair. ⊎_elim (λ low. let below = pair.1 in absurd (omega arith)) (λ high. let from = pair.2 in let to = pair.3 in high.1 (omega arith, omega arith)) unpaired)
     ∙ ap (λ o. o ∷ utf16_chars (v ∷ rest)) (lone_unit_char_surrogate u in_range.0 in_range.1)
 
--- one step, and the text that is read
+-- one step, and the lossy text
 pub first_step_within : (units : List ℕ) (o : Option ℕ) (n : ℕ) → IsUtf16Step units o n → (0 < n) × (n ≤ length units)
 first_step_within units (Some c) zero is = absurd (omega (arith, ap length is.2, (length-encode_utf16 c).0))
 first_step_within units (Some c) (suc n) is = (omega arith, is.1)
@@ -237,7 +236,7 @@ utf16_lossy_text_is units text all =
     let std = lossy_within (length units) units (omega arith) all in
     (λ is. one_lossy units units text (utf16_lossy_text units) refl is std, λ same. subst (IsUtf16LossyText units) (sym same) std)
 
--- units that are text
+-- valid units
 
 pub unpaired_is_no_text : (units : List ℕ) → BeginsWithUnpairedSurrogate units → ¬ (IsUtf16 units)
 unpaired_is_no_text units unpaired (text, is) = by_text text is
@@ -295,18 +294,18 @@ pub stopped_step : (units : List ℕ) (at n : ℕ) (o : Option ℕ) → IsUtf16 
 stopped_step units at n None prefix none is = unpaired_after_prefix units at prefix (subst BeginsWithUnpairedSurrogate (from_at units at) is.0)
 stopped_step units at n (Some c) prefix none is = absurd (true≢false none)
 
--- what `get` gives, copied
+-- the result of `get`, copied
 pub copied_item : (units : List ℕ) (i : ℕ) (r : Option (Bor ℕ)) → IsItemAt units i r → option_copied r ≡ slice_get units i
 copied_item units i None is = sym (slice_get_past units i (ltb-false _ _ (sym is.0)))
 copied_item units i (Some x) is = sym (slice_get_read units (length units) i x.now refl (ltb-true _ _ (sym is.0)) is.1)
 
--- the step at the start, from the first unit and what the second may be
+-- the step at the start, from the first unit and the second, if any
 pub step_at_start : (units : List ℕ) (second o : Option ℕ) (n : ℕ) → 0 < length units → second ≡ slice_get units 1
     → ((rest : List ℕ) → slice_get rest 0 ≡ second → IsUtf16Step (slice_index units 0 ∷ rest) o n) → IsUtf16Step units o n
 step_at_start [] second o n some is known = absurd (omega arith)
 step_at_start (u ∷ units) second o n some is known = known units (sym is)
 
--- and std's test for them
+-- std's test for unpaired surrogates
 
 abbrev is_unpaired : Option ℕ → Bool
 is_unpaired o = not (is_some o)

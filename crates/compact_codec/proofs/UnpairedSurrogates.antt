@@ -1,4 +1,4 @@
--- Units that are gone through one by one, with a word on whether the unit before was the first of a pair.
+-- Validation of units one by one, with a flag for a pair that is open.
 use Rattle.std.proofs.Common.{◌≡◌, ℕ, zero, suc, ◌-◌, ◌/◌, ◌%◌, ◌+◌, ◌<◌, ◌≤◌, ◌⊎◌, Bool, true, false, List, [], ◌∷◌, ◌++◌, length, drop, get_or, drop-cons, drop_of_length-le, add-one, ◌↔◌, ◌^◌, refl, sym, ap, ◌∙◌, arith, ⊎_elim, subst, Option}
 use Rattle.std.specs.Prelude.{◌||◌}
 use mathlib.Core.Bool.{xor}
@@ -15,7 +15,7 @@ use Rattle.std.proofs.lemmas.List.{get_or_default}
 use Rattle.compact_codec.specs.Utf16Text.{AreUnits, IsUtf16, BeginsWithLowSurrogate, BeginsWithUnpairedSurrogate}
 use Rattle.compact_codec.proofs.UnitsReading.{begins_or_unpaired, chars_at_character, chars_at_unpaired, shorter_after, rest_is_drop, paired_is, AreUnits-first, AreUnits-drop, scalar_apart, scalar_top}
 
--- a surrogate is in no pair, in units behind one that is open as the first of a pair, or is not
+-- some surrogate is unpaired, if the unit before was, or was not, the first of a pair
 abbrev pub has_unpaired : Bool → List ℕ → Bool
 has_unpaired after_high [] = after_high
 has_unpaired after_high (u ∷ units) = xor after_high (is_low_surrogate u) || has_unpaired (is_high_surrogate u) units
@@ -35,7 +35,7 @@ above_surrogates u from = (rw (le-leb 0xDC00 u (omega arith), le-ltb u 0xE000 fr
 no_surrogate : (u : ℕ) → (u < 0xD800) ⊎ (0xE000 ≤ u) → (is_low_surrogate u ≡ false) × (is_high_surrogate u ≡ false)
 no_surrogate u apart = ⊎_elim (below_surrogates u) (above_surrogates u) apart
 
--- at a character nothing is unpaired
+-- a character passes
 character_passes : (c : ℕ) (rest : List ℕ) → IsScalar c → has_unpaired false (encode_utf16 c ++ rest) ≡ has_unpaired false rest
 unfolding xor
 character_passes c rest is =
@@ -51,7 +51,7 @@ character_passes c rest is =
     ∙ (λ i. xor false (high.0 i) || (xor (high.1 i) (low.0 i) || has_unpaired (low.1 i) rest)))
     (cases_lt c 0x1_0000)
 
--- and at an unpaired surrogate one is
+-- an unpaired surrogate does not
 unpaired_stops : (units : List ℕ) → BeginsWithUnpairedSurrogate units → has_unpaired false units ≡ true
 unfolding xor
 unpaired_stops [] unpaired = absurd unpaired

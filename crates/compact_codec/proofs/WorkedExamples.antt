@@ -1,5 +1,4 @@
--- Worked examples of the definitions, with no code of the crate: values from the Unicode Standard and from another
--- decoder.
+-- Worked examples of the definitions: values from the Unicode Standard and from another decoder.
 use Rattle.std.proofs.Common.{◌≡◌, ℕ, List, [], ◌∷◌, false, Some, None, IsUtf8, refl, sym, ◌∙◌, inl, inr, arith}
 use Rattle.std.specs.Char.{encode_utf8}
 use Rattle.std.specs.Char.Utf16.{utf16_chars}
@@ -47,7 +46,7 @@ four_from_big_endian = refl
 four_from_little_endian : units_of LittleEndian (0x4D ∷ 0x00 ∷ 0x30 ∷ 0x04 ∷ 0x8C ∷ 0x4E ∷ 0x00 ∷ 0xD8 ∷ 0x02 ∷ 0xDF ∷ []) ≡ utf16 four_characters
 four_from_little_endian = refl
 
--- single characters of one to four bytes
+-- characters of one to four bytes
 
 utf8_of_e4 : utf8 (0xE4 ∷ []) ≡ 0xC3 ∷ 0xA4 ∷ []
 unfolding encode_utf8
@@ -98,7 +97,7 @@ euro_is_well_formed = inr (inr (inr (inl ((omega arith, omega arith), ((omega ar
 overlong_is_not : ¬ (IsWellFormedSequence (0xC0 ∷ 0x80 ∷ []))
 overlong_is_not well = let leads = (two_from 0xC0 0x80 [] (begins_well_formed (0xC0 ∷ 0x80 ∷ []) well)).0.0 in omega arith
 
--- where bytes stop being text, and the text that is read from them
+-- errors, and lossy texts
 
 no_text : (bs : List ℕ) → is_utf8 bs ≡ false → ¬ (IsUtf8 bs)
 no_text bs fails text = false≢true (sym fails ∙ is_utf8-from_IsUtf8 bs text)
@@ -188,7 +187,7 @@ table_3_11 : utf8_lossy_text (0xE1 ∷ 0x80 ∷ 0xE2 ∷ 0xF0 ∷ 0x91 ∷ 0x92 
 unfolding utf8_lossy_text is_utf8 chars encode_utf8 utf8_valid_len utf8_error_len utf8_lossy
 table_3_11 = refl
 
--- units and bytes of units
+-- units, and bytes of units
 pair_is_text : IsUtf16 (0xD834 ∷ 0xDD1E ∷ [])
 pair_is_text = (0x1D11E ∷ [], (refl, refl))
 

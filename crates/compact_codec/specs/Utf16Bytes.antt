@@ -1,4 +1,4 @@
--- Bytes that stand for units of UTF-16, two and two (Unicode Standard, 3.10, D96 UTF-16BE and D97 UTF-16LE).
+-- Bytes as units of UTF-16, two a unit (Unicode Standard, 3.10, D96 UTF-16BE and D97 UTF-16LE).
 use Rattle.std.specs.Prelude.{◌≡◌, ◌↔◌, ◌⊎◌, ℕ, ◌+◌, ◌*◌, ◌/◌, ◌%◌, ◌<◌, ◌≤◌, List, [], ◌∷◌, ◌++◌, length, take, Option, Some, None, All}
 use Rattle.std.specs.Char.{IsScalar}
 use Rattle.std.specs.Char.Escape.{encode_utf16}
@@ -8,29 +8,27 @@ use Rattle.compact_codec.specs.declared.utf16_bytes.ByteOrder.TheVariants.{Littl
 use Rattle.compact_text.specs.Text.{replacement_character}
 use Rattle.compact_codec.specs.Utf16Text.{UnitsEncode, IsUtf16, BeginsWithUnpairedSurrogate, IsUtf16LossyText, utf16_lossy_text}
 
--- the unit of two bytes: the low byte comes first in little-endian order, and the high byte in big-endian order
+-- the unit of two bytes: the low byte is first in little-endian order, the high byte in big-endian order
 abbrev pub unit_of : ByteOrder → ℕ → ℕ → ℕ
 unit_of LittleEndian first second = first + second * 256
 unit_of BigEndian first second = first * 256 + second
 
--- the two bytes of a unit
 abbrev pub unit_bytes : ByteOrder → ℕ → List ℕ
 unit_bytes LittleEndian u = u % 256 ∷ u / 256 ∷ []
 unit_bytes BigEndian u = u / 256 ∷ u % 256 ∷ []
 
--- the units of all pairs, where an odd last byte is in none
+-- the units of all pairs, without an odd last byte
 abbrev pub units_of : ByteOrder → List ℕ → List ℕ
 units_of order [] = []
 units_of order (first ∷ []) = []
 units_of order (first ∷ second ∷ bytes) = unit_of order first second ∷ units_of order bytes
 
--- each byte is in a pair
 abbrev pub ArePairs : List ℕ → Type 0
 ArePairs [] = Unit {0}
 ArePairs (first ∷ []) = ⊥
 ArePairs (first ∷ second ∷ bytes) = ArePairs bytes
 
--- what stands in a text for an odd last byte, after all else
+-- U+FFFD for an odd last byte, at the end of a lossy text
 abbrev pub odd_byte_text : List ℕ → List ℕ
 odd_byte_text [] = []
 odd_byte_text (first ∷ []) = replacement_character ∷ []
@@ -40,27 +38,25 @@ odd_byte_text (first ∷ second ∷ bytes) = odd_byte_text bytes
 abbrev pub IsUtf16Bytes : ByteOrder → List ℕ → Type 0
 IsUtf16Bytes order bytes = ArePairs bytes × IsUtf16 (units_of order bytes)
 
--- the text of the bytes with one U+FFFD for each unpaired surrogate, and one at the end for an odd last byte
+-- the lossy text: one U+FFFD for each unpaired surrogate, and one at the end for an odd last byte
 abbrev pub IsUtf16BytesLossyText : ByteOrder → List ℕ → List ℕ → Type 0
 IsUtf16BytesLossyText order bytes text =
     (prefix : List ℕ) × IsUtf16LossyText (units_of order bytes) prefix × (text ≡ prefix ++ odd_byte_text bytes)
 
--- that text
 unfoldable pub utf16_bytes_lossy_text : ByteOrder → List ℕ → List ℕ
 utf16_bytes_lossy_text order bytes = utf16_lossy_text (units_of order bytes) ++ odd_byte_text bytes
 
--- the first n bytes are an unpaired surrogate, or the odd last byte alone
+-- the first n bytes are an unpaired surrogate, or the odd last byte
 abbrev pub BeginsWithInvalidBytes : ByteOrder → List ℕ → ℕ → Type 0
 BeginsWithInvalidBytes order bytes n =
     (BeginsWithUnpairedSurrogate (units_of order bytes) × (n ≡ 2)) ⊎ ((length bytes ≡ 1) × (n ≡ 1))
 
--- at the start of the bytes stands this character in the first n of them, or else n bytes that are invalid
+-- the first n bytes are this character, or invalid
 abbrev pub IsUtf16BytesStep : ByteOrder → List ℕ → Option ℕ → ℕ → Type 0
 IsUtf16BytesStep order bytes (Some c) n =
     IsScalar c × (n ≤ length bytes) × ArePairs (take n bytes) × (units_of order (take n bytes) ≡ encode_utf16 c)
 IsUtf16BytesStep order bytes None n = BeginsWithInvalidBytes order bytes n
 
--- the numbers are bytes
 abbrev pub AreBytes : List ℕ → Type 0
 AreBytes bytes = All (λ b. b < 256) bytes
 
@@ -72,12 +68,12 @@ PairsAreTheUnits =
     × ((order : ByteOrder) (bytes : List ℕ) → AreBytes bytes → ArePairs bytes
     → flat_map (unit_bytes order) (units_of order bytes) ≡ bytes)
 
--- bytes have one lossy text and no other
+-- bytes have exactly one lossy text
 abbrev pub Utf16BytesLossyTextIsUnique : Type 0
 Utf16BytesLossyTextIsUnique = (order : ByteOrder) (bytes text : List ℕ) → AreBytes bytes
     → IsUtf16BytesLossyText order bytes text ↔ (text ≡ utf16_bytes_lossy_text order bytes)
 
--- the bytes of a text's units have that text as their lossy text
+-- the lossy text of the bytes of a text's units is the text
 abbrev pub Utf16BytesLossyTextOfText : Type 0
 Utf16BytesLossyTextOfText = (order : ByteOrder) (bytes text : List ℕ) → ArePairs bytes
     → UnitsEncode (units_of order bytes) text → utf16_bytes_lossy_text order bytes ≡ text

@@ -2,7 +2,7 @@
 use Rattle.std.specs.Prelude.{◌≡◌, ◌↔◌, ◌⊎◌, ℕ, ◌≤◌, List, [], ◌∷◌}
 use Rattle.std.specs.Char.{IsScalar, encode_utf8}
 
--- the bytes from the least to the most, both of them too
+-- the bytes from least to most, inclusive
 pub record ByteRange : Type 0 where
   pub least : ℕ
   pub most : ℕ
@@ -14,7 +14,7 @@ TableRow = List ByteRange
 abbrev pub byte_range : ℕ → ℕ → ByteRange
 byte_range least most = record { least = least; most = most }
 
--- the range of a byte that goes on a sequence, where its row narrows it no further
+-- the range of a continuation byte, unless its row narrows it
 abbrev pub trailing_bytes : ByteRange
 trailing_bytes = byte_range 0x80 0xBF
 
@@ -34,23 +34,21 @@ sequence_table = (byte_range 0x00 0x7F ∷ [])
 abbrev pub IsInByteRange : ByteRange → ℕ → Type 0
 IsInByteRange r byte = (r.least ≤ byte) × (byte ≤ r.most)
 
--- the bytes are as many as the row's ranges, each in its range
+-- one byte in each range of the row
 abbrev pub FitsRow : TableRow → List ℕ → Type 0
 FitsRow [] [] = Unit {0}
 FitsRow [] (b ∷ bs) = ⊥
 FitsRow (r ∷ rs) [] = ⊥
 FitsRow (r ∷ rs) (b ∷ bs) = IsInByteRange r b × FitsRow rs bs
 
--- the bytes fit one of the rows
 abbrev pub FitsSomeRow : List TableRow → List ℕ → Type 0
 FitsSomeRow [] bs = ⊥
 FitsSomeRow (row ∷ rows) bs = FitsRow row bs ⊎ FitsSomeRow rows bs
 
--- the bytes are one well-formed sequence
 abbrev pub IsWellFormedSequence : List ℕ → Type 0
 IsWellFormedSequence bs = FitsSomeRow sequence_table bs
 
--- the bytes are those of one character
+-- the bytes are the encoding of one character
 abbrev pub IsOneCharacter : List ℕ → Type 0
 IsOneCharacter bs = (c : ℕ) × IsScalar c × (encode_utf8 c ≡ bs)
 
@@ -59,8 +57,7 @@ abbrev pub RowsAreApart : List TableRow → Type 0
 RowsAreApart [] = Unit {0}
 RowsAreApart (row ∷ rows) = ((bs : List ℕ) → FitsRow row bs → ¬ (FitsSomeRow rows bs)) × RowsAreApart rows
 
--- the well-formed sequences are the encodings of the characters, and no others: each character's bytes are
--- in one row, and each row's bytes are one character's
+-- the well-formed sequences are exactly the encodings of characters
 pub record TableIsTheEncodings : Type 0 where
   pub encodings : (bs : List ℕ) → IsWellFormedSequence bs ↔ IsOneCharacter bs
   pub one_row : RowsAreApart sequence_table

@@ -1,14 +1,14 @@
-//! Where bytes or units stop being text.
+//! Validation and stepwise decoding of UTF-8 and UTF-16.
 //!
-//! Of any bytes read as UTF-8, and of any 16-bit units read as UTF-16, this crate says whether they encode a
-//! text, and what is invalid where they do not. A strict decoder asks before it makes room for the text; a
-//! lossy one goes on a step at a time, with U+FFFD for each invalid sequence. Nothing takes memory, and each call returns.
+//! For any bytes read as UTF-8, and any 16-bit units read as UTF-16, this crate finds whether they encode a text, and
+//! if not, what is invalid. A strict decoder calls it before it allocates the text; a lossy one goes step by step, with
+//! U+FFFD for each invalid sequence. Nothing allocates, and each call returns.
 //!
 //! - `utf8`: a whole slice of bytes at once, or chunk by chunk.
 //! - `utf16`: a slice of units at once, or character by character.
-//! - `utf16_bytes`: the same over bytes, two a unit, in little- or big-endian order.
+//! - `utf16_bytes`: the same for bytes, two a unit, in little- or big-endian order.
 //!
-//! The definitions in `specs/` are the Unicode Standard's; docs/MODEL.md tells them in plain words.
+//! The definitions in `specs/` are the Unicode Standard's; docs/MODEL.md explains them.
 #![tactic(auto)]
 
 pub mod utf16;

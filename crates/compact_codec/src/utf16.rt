@@ -1,20 +1,20 @@
-//! Units of 16 bits read as UTF-16 (Unicode Standard, 3.9).
+//! 16-bit units read as UTF-16 (Unicode Standard, 3.9).
 ghost use Rattle.std.specs.Prelude.{◌≡◌, ◌↔◌, ◌<◌, ◌≤◌, ◌∷◌, ℕ, List, drop, length, unwrap_or, slice_get, IfNone, IsTrue};
 ghost use Rattle.compact_text.specs.Text.{replacement_character};
 ghost use Rattle.std.specs.Char.Utf16.{is_high_surrogate, is_low_surrogate};
 ghost use Rattle.compact_codec.specs.Utf16Text.{IsUtf16, IsUtf16Step, utf16_lossy_text, UnitsEncodeOneText, Utf16HasNoUnpairedSurrogate, Utf16LossyTextIsUnique, Utf16LossyTextOfText};
 
-/// What a decoder takes from units in one step.
+/// One step of a decoder.
 #[derive(Clone, Copy, Debug, PartialEq, Eq)]
 pub struct Utf16Step {
-    /// The first character, or `None` for an unpaired surrogate or an odd last byte: a lossy decoder puts U+FFFD, by
+    /// The first character, or `None` for an unpaired surrogate or an odd last byte. A lossy decoder writes
     /// `unwrap_or(char::REPLACEMENT_CHARACTER)`.
     pub character: Option<char>,
-    /// How many units it took, 1 or 2; where the decoder goes over bytes, how many bytes, 1, 2 or 4.
+    /// The length of the step: 1 or 2 units, or in bytes 1, 2 or 4.
     pub taken: usize,
 }
 
-/// The step at a first unit, where the unit after it is `second`.
+/// Decodes the step at `first`, which `second` follows.
 #[inline]
 pub(crate) fn step_over(first: u16, second: Option<u16>) -> Utf16Step
     ensures step { (rest : List ℕ) → slice_get rest 0 ≡ second
@@ -43,11 +43,11 @@ pub(crate) fn step_over(first: u16, second: Option<u16>) -> Utf16Step
     }
 }
 
-/// The first character of the units, or `None` for an unpaired surrogate, which takes one unit.
+/// Decodes the first character, or returns `None` for an unpaired surrogate, of one unit.
 ///
 /// # Examples
 ///
-/// `[0xD834, 0xDD1E]` is U+1D11E in two units; `[0xD834, 0x0041]` begins with an unpaired surrogate.
+/// `[0xD834, 0xDD1E]` is U+1D11E, of two units. `[0xD834, 0x0041]` begins with an unpaired surrogate.
 #[inline]
 pub fn first_character(units: &[u16]) -> Utf16Step
     requires { 0 < length units.now }
@@ -62,12 +62,12 @@ pub fn first_character(units: &[u16]) -> Utf16Step
     step_over(units[0], units.get(1).copied())
 }
 
-/// Whether some text gives the units: no surrogate is unpaired. The loop has no way out, so that many units are looked
-/// at in one step.
+/// Returns `true` if the units encode a text, that is, if no surrogate is unpaired. Never exits early, so that the loop
+/// vectorizes.
 ///
 /// # Examples
 ///
-/// `[0xD834, 0xDD1E]` is text, `[0x0061, 0xDC00]` is none.
+/// `[0xD834, 0xDD1E]` is valid, `[0x0061, 0xDC00]` is not.
 pub fn is_utf16(units: &[u16]) -> bool
     ensures { IsTrue result ↔ IsUtf16 units.now }
 {
@@ -80,7 +80,7 @@ pub fn is_utf16(units: &[u16]) -> bool
     !unpaired && !after_high
 }
 
-/// Whether the unit is the first of a pair.
+/// Returns `true` for the first unit of a pair.
 #[inline]
 fn is_high(unit: u16) -> bool
     ensures { result ≡ is_high_surrogate unit }
@@ -88,7 +88,7 @@ fn is_high(unit: u16) -> bool
     0xD800 <= unit && unit < 0xDC00
 }
 
-/// Whether the unit is the second of a pair.
+/// Returns `true` for the second unit of a pair.
 #[inline]
 fn is_low(unit: u16) -> bool
     ensures { result ≡ is_low_surrogate unit }
@@ -96,22 +96,22 @@ fn is_low(unit: u16) -> bool
     0xDC00 <= unit && unit < 0xE000
 }
 
-/// A law: units encode one text at most.
+/// A law: units encode at most one text.
 pub fn units_encode_one_text()
     ensures { UnitsEncodeOneText }
 {}
 
-/// A law: the units that some text gives are those in which no surrogate is unpaired, by std's test.
+/// A law: units encode a text exactly if no surrogate is unpaired, by std's test.
 pub fn utf16_has_no_unpaired_surrogate()
     ensures { Utf16HasNoUnpairedSurrogate }
 {}
 
-/// A law: units have one lossy text, and it is the one that std's word tells.
+/// A law: units have exactly one lossy text, std's.
 pub fn units_have_one_lossy_text()
     ensures { Utf16LossyTextIsUnique }
 {}
 
-/// A law: a text's own units have that text as their lossy text.
+/// A law: the lossy text of a text's units is the text.
 pub fn a_text_is_its_own_lossy_text()
     ensures { Utf16LossyTextOfText }
 {}

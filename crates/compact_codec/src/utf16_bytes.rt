@@ -1,4 +1,4 @@
-//! Bytes read as UTF-16, two bytes a unit, in which a byte order mark is a character (Unicode Standard, 3.10).
+//! Bytes read as UTF-16, two bytes a unit; a byte order mark is a character (Unicode Standard, 3.10).
 ghost use Rattle.std.specs.Prelude.{◌≡◌, ◌↔◌, ◌<◌, ◌≤◌, ◌∷◌, drop, length, unwrap_or, slice_get, IsSome, IfNone, IsTrue};
 ghost use Rattle.compact_text.specs.Text.{replacement_character};
 ghost use Rattle.compact_codec.specs.Utf16Bytes.{unit_of, units_of, IsUtf16Bytes, IsUtf16BytesStep, utf16_bytes_lossy_text, PairsAreTheUnits, Utf16BytesLossyTextIsUnique, Utf16BytesLossyTextOfText};
@@ -15,7 +15,7 @@ pub enum ByteOrder {
 }
 
 impl ByteOrder {
-    /// The unit of two bytes.
+    /// Combines two bytes into a unit.
     ///
     /// # Examples
     ///
@@ -31,7 +31,7 @@ impl ByteOrder {
     }
 }
 
-/// The first unit, if two bytes are left.
+/// Returns the first unit, or `None` if fewer than two bytes are left.
 #[inline]
 fn first_code_unit(order: ByteOrder, bytes: &[u8]) -> Option<u16>
     ensures unit { result ≡ slice_get (units_of order bytes.now) 0 }
@@ -43,8 +43,7 @@ fn first_code_unit(order: ByteOrder, bytes: &[u8]) -> Option<u16>
     Some(order.code_unit(bytes[0], bytes[1]))
 }
 
-/// The first character of the bytes, or `None` for an unpaired surrogate, which takes two bytes, or for an odd last
-/// byte, which takes one.
+/// Decodes the first character, or returns `None` for an unpaired surrogate, of two bytes, or an odd last byte.
 ///
 /// # Examples
 ///
@@ -74,11 +73,11 @@ pub fn first_character(order: ByteOrder, bytes: &[u8]) -> Utf16Step
     }
 }
 
-/// Whether the bytes are those of some text's units: no surrogate is unpaired, and no byte is left over.
+/// Returns `true` if the bytes encode a text: no surrogate is unpaired, and no byte is left over.
 ///
 /// # Examples
 ///
-/// In little-endian order `41 00` is text, `41 00 42` is none.
+/// In little-endian order `41 00` is valid, `41 00 42` is not.
 pub fn is_utf16(order: ByteOrder, bytes: &[u8]) -> bool
     ensures { IsTrue result ↔ IsUtf16Bytes order bytes.now }
 {
@@ -98,12 +97,12 @@ pub fn pairs_are_the_units()
     ensures { PairsAreTheUnits }
 {}
 
-/// A law: bytes have one lossy text, that of their units with U+FFFD at the end for an odd last byte.
+/// A law: bytes have exactly one lossy text: that of their units, with U+FFFD at the end for an odd last byte.
 pub fn bytes_have_one_lossy_text()
     ensures { Utf16BytesLossyTextIsUnique }
 {}
 
-/// A law: the bytes of a text's own units have that text as their lossy text.
+/// A law: the lossy text of the bytes of a text's units is the text.
 pub fn a_text_is_its_own_lossy_text()
     ensures { Utf16BytesLossyTextOfText }
 {}

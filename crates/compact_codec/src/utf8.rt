@@ -8,27 +8,27 @@ ghost use Rattle.compact_codec.specs.Utf8Text.{utf8_lossy_text, replacement_text
 
 use std::simd::prelude::*;
 
-/// Where bytes stop being UTF-8.
+/// The position of an error, and the length of the invalid sequence there.
 #[derive(Clone, Copy, Debug, PartialEq, Eq)]
 pub struct Utf8Error {
-    /// How many bytes the longest prefix has that encodes a text.
+    /// The length in bytes of the longest valid prefix.
     pub valid_up_to: usize,
-    /// How many bytes the invalid sequence after it has, from 1 to 3, or `None` where the input ends inside a sequence that
-    /// more bytes could complete.
+    /// The length in bytes of the invalid sequence after it, from 1 to 3. `None` if the input ends inside a sequence
+    /// that more bytes could complete.
     pub error_len: Option<usize>,
 }
 
-/// The bytes of a block. From so many on, whole blocks are validated faster than bytes in order.
+/// The block size. From this length on, whole blocks are validated faster than bytes in order.
 const BLOCK_LEN: usize = 64;
 
 /// The most bytes that are validated at a time.
 const MAX_WINDOW_LEN: usize = 8192;
 
-/// The text that the bytes encode.
+/// Returns the bytes as a `&str`.
 ///
 /// # Errors
 ///
-/// [`Utf8Error`] if they encode none: where they stop being one.
+/// Returns [`Utf8Error`] if they are not valid UTF-8.
 ///
 /// # Examples
 ///
@@ -48,12 +48,12 @@ pub fn validate(bytes: &[u8]) -> Result<&str, Utf8Error>
     Ok(unsafe { std::str::from_utf8_unchecked(bytes) })
 }
 
-/// Whether the bytes encode a text. Of a short text in ASCII that is known with no call, so a caller that has many of
-/// them asks this in place of `validate`.
+/// Returns `true` if the bytes are valid UTF-8. Faster than `validate` for many short ASCII texts, since it calls
+/// nothing for these.
 ///
 /// # Examples
 ///
-/// It is `true` of `[0xE2, 0x82, 0xAC]`, which encodes `€`, and `false` of `[0xE2, 0x82]`.
+/// `[0xE2, 0x82, 0xAC]`, which encodes `€`, is valid; `[0xE2, 0x82]` is not.
 #[inline]
 pub fn is_utf8(bytes: &[u8]) -> bool
     ensures { IsTrue result ↔ IsUtf8 bytes.now }
@@ -64,7 +64,7 @@ pub fn is_utf8(bytes: &[u8]) -> bool
     validate(bytes).is_ok()
 }
 
-/// The same as `validate`, of fewer bytes. It stands apart, so that what validates many bytes keeps its registers.
+/// `validate` of fewer bytes. Not inlined, so that `validate` of many bytes saves no registers for it.
 #[inline(never)]
 fn validate_short(bytes: &[u8]) -> Result<&str, Utf8Error>
     requires { length bytes.now < 64 }
@@ -76,7 +76,7 @@ fn validate_short(bytes: &[u8]) -> Result<&str, Utf8Error>
     Ok(unsafe { std::str::from_utf8_unchecked(bytes) })
 }
 
-/// Whether the bytes are known to be ASCII characters: of fewer than 4 bytes nothing is known.
+/// Returns `true` if the bytes are found to be ASCII; `false` for fewer than 4 bytes.
 #[inline]
 fn is_short_ascii(bytes: &[u8]) -> bool
     requires { length bytes.now < 64 }
@@ -97,7 +97,7 @@ fn is_short_ascii(bytes: &[u8]) -> bool
     false
 }
 
-/// Whether the first `len` bytes and the last `len` are ASCII characters, which are all of the bytes.
+/// Returns `true` if the first `len` and the last `len` bytes, which cover the slice, are ASCII.
 #[inline(always)]
 fn ends_are_ascii(bytes: &[u8], len: usize) -> bool
     requires within { len ≤ length bytes.now }
@@ -107,8 +107,7 @@ fn ends_are_ascii(bytes: &[u8], len: usize) -> bool
     is_ascii_slice(&bytes[..len]) && is_ascii_slice(&bytes[bytes.len() - len..])
 }
 
-/// Whether each byte of a slice is an ASCII character. There is no way out of the loop, so that many bytes are looked at in
-/// one step.
+/// Returns `true` if all bytes are ASCII. Never exits early, so that the loop vectorizes.
 #[inline(always)]
 fn is_ascii_slice(bytes: &[u8]) -> bool
     ensures { IsTrue result → IsAscii bytes.now }
@@ -120,8 +119,8 @@ fn is_ascii_slice(bytes: &[u8]) -> bool
     most < 0x80
 }
 
-/// How many bytes at the start are ASCII characters, as whole blocks show it. The last block ends with the bytes, so that it
-/// may begin before the one ahead of it has ended.
+/// Returns the length of an ASCII prefix, in whole blocks. The last block ends with the bytes, and may overlap the one
+/// before.
 fn ascii_prefix_len(bytes: &[u8]) -> usize
     requires { 64 ≤ length bytes.now }
     ensures within { result ≤ length bytes.now }
@@ -142,7 +141,7 @@ fn ascii_prefix_len(bytes: &[u8]) -> usize
     }
 }
 
-/// Whether each byte of a block is an ASCII character.
+/// Returns `true` if the block is ASCII.
 #[inline(always)]
 fn is_ascii_block(block: u8x64) -> bool
     ensures { IsTrue result → IsAscii block }
@@ -150,7 +149,7 @@ fn is_ascii_block(block: u8x64) -> bool
     block.simd_ge(u8x64::splat(0x80)).to_bitmask() == 0
 }
 
-/// The same as `validate`, where the bytes before `at` are known to be text. What is a text has one window after the other.
+/// `validate`, given that the bytes before `at` are valid. Validates window by window.
 fn validate_in_windows(bytes: &[u8], at: usize) -> Result<&str, Utf8Error>
     requires within { at ≤ length bytes.now }
     requires text { IsUtf8 (take at bytes.now) }
@@ -163,7 +162,7 @@ fn validate_in_windows(bytes: &[u8], at: usize) -> Result<&str, Utf8Error>
     Ok(unsafe { std::str::from_utf8_unchecked(bytes) })
 }
 
-/// How many bytes at the start are valid, where those before `from` are known to be, as whole windows show it.
+/// Returns the length of a valid prefix, in whole windows, given that the bytes before `from` are valid.
 fn valid_len_in_windows(bytes: &[u8], from: usize) -> usize
     requires within { from ≤ length bytes.now }
     requires text { IsUtf8 (take from bytes.now) }
@@ -181,7 +180,8 @@ fn valid_len_in_windows(bytes: &[u8], from: usize) -> usize
     at
 }
 
-/// Where a window of at most `width` bytes from `at` on ends: with the bytes, or before a byte that can begin a character.
+/// Returns the end of a window of at most `width` bytes from `at` on: the end of the bytes, or before a byte that can
+/// begin a character.
 fn window_end(bytes: &[u8], at: usize, width: usize) -> usize
     requires within { at + 64 ≤ length bytes.now }
     requires wide { (64 ≤ width) × (width ≤ 8192) }
@@ -195,7 +195,7 @@ fn window_end(bytes: &[u8], at: usize, width: usize) -> usize
     back_in_character(bytes, back_in_character(bytes, end))
 }
 
-/// One byte back, where no character can begin at this one.
+/// Steps back one byte if no character can begin at this one.
 fn back_in_character(bytes: &[u8], at: usize) -> usize
     requires { (0 < at) × (at < length bytes.now) }
     ensures { (result ≤ at) × (at ≤ result + 1) }
@@ -203,7 +203,7 @@ fn back_in_character(bytes: &[u8], at: usize) -> usize
     if bytes[at] & 0xC0 == 0x80 { at - 1 } else { at }
 }
 
-/// The same as `validate`, where the bytes before `at` are known to be text, and an error is likely to come soon.
+/// `validate`, given that the bytes before `at` are valid and an error is likely to come soon.
 #[inline]
 fn validate_onward(bytes: &[u8], at: usize) -> Result<&str, Utf8Error>
     requires within { at ≤ length bytes.now }
@@ -213,8 +213,9 @@ fn validate_onward(bytes: &[u8], at: usize) -> Result<&str, Utf8Error>
     validate_from(bytes, valid_len_before_error(bytes, at))
 }
 
-/// How many bytes at the start are valid, where those before `from` are known to be. Where twice the next `BLOCK_LEN` look
-/// whole, windows double while they are text, so that no more is validated than some times what stands before the error.
+/// Returns the length of a valid prefix, given that the bytes before `from` are valid. If twice the next `BLOCK_LEN`
+/// bytes look valid, doubles the windows while they are, so that it validates only a few times the bytes before the
+/// error.
 fn valid_len_before_error(bytes: &[u8], from: usize) -> usize
     requires within { from ≤ length bytes.now }
     requires text { IsUtf8 (take from bytes.now) }
@@ -238,8 +239,8 @@ fn valid_len_before_error(bytes: &[u8], from: usize) -> usize
     valid_len_by_halves(bytes, at, width / 2)
 }
 
-/// The same, where the window from `from` on is no text, and `most` is half its width: each half is validated, or left to the
-/// next.
+/// The same, given that the window from `from` on is invalid and `most` is half its width. Validates each half, or
+/// leaves it to the next.
 fn valid_len_by_halves(bytes: &[u8], from: usize, most: usize) -> usize
     requires within { from ≤ length bytes.now }
     requires text { IsUtf8 (take from bytes.now) }
@@ -260,7 +261,7 @@ fn valid_len_by_halves(bytes: &[u8], from: usize, most: usize) -> usize
     valid_len_by_guess(bytes, at)
 }
 
-/// The same, as far as a guess at the next `BLOCK_LEN` bytes is found right.
+/// The same, for a correct guess at the next `BLOCK_LEN` bytes.
 fn valid_len_by_guess(bytes: &[u8], from: usize) -> usize
     requires within { from ≤ length bytes.now }
     requires text { IsUtf8 (take from bytes.now) }
@@ -280,9 +281,8 @@ fn valid_len_by_guess(bytes: &[u8], from: usize) -> usize
     }
 }
 
-/// How many of the bytes are likely to be text, up to the last character: whether each byte goes on a character is
-/// compared with whether those before it want one that does, for all bytes in one step. It is a guess, and what it is
-/// good for is speed: a wrong one costs time alone.
+/// Guesses the length of a valid prefix, up to the last character: compares continuation bytes with those that the lead
+/// bytes call for, all in one step. A wrong guess costs only time.
 fn likely_valid_len(bytes: &[u8]) -> usize
     requires { length bytes.now ≡ 64 }
     ensures { result ≤ 64 }
@@ -301,7 +301,7 @@ fn likely_valid_len(bytes: &[u8]) -> usize
     lead_at(bytes, lead)
 }
 
-/// One byte back, where there is one and no character can begin at this one.
+/// Steps back one byte if there is one and no character can begin at this one.
 fn lead_at(bytes: &[u8], at: usize) -> usize
     requires { at < length bytes.now }
     ensures { result ≤ at }
@@ -313,7 +313,7 @@ fn lead_at(bytes: &[u8], at: usize) -> usize
     }
 }
 
-/// The same as `validate`, where the bytes before `at` are known to be text.
+/// `validate`, given that the bytes before `at` are valid.
 fn validate_from(bytes: &[u8], at: usize) -> Result<&str, Utf8Error>
     requires within { at ≤ length bytes.now }
     requires text { IsUtf8 (take at bytes.now) }
@@ -341,19 +341,19 @@ fn validate_in_order(bytes: &[u8]) -> Result<&str, Utf8Error>
     }
 }
 
-/// What a lossy decoder takes from bytes in one step, and what is left.
+/// One step of a lossy decoder, and the rest.
 #[derive(Clone, Copy, Debug, PartialEq, Eq)]
 pub struct Utf8Chunk<'a> {
-    /// The longest prefix that encodes a text.
+    /// The longest valid prefix.
     pub valid: &'a str,
-    /// The invalid sequence after it, for which one U+FFFD stands; empty only where nothing follows the prefix.
+    /// The invalid sequence after it, replaced by one U+FFFD; empty only if nothing follows the prefix.
     pub invalid: &'a [u8],
-    /// The bytes after both, which are read next.
+    /// The bytes after both.
     pub rest: &'a [u8],
 }
 
-/// The first chunk of bytes whose error is known. It validates nothing again, so that a decoder can let `validate` find
-/// the error.
+/// Returns the first chunk of bytes whose error is known. Validates nothing again, so that a decoder can find the error
+/// by `validate`.
 ///
 /// # Examples
 ///
@@ -380,15 +380,15 @@ pub fn chunk_at(bytes: &[u8], error: Utf8Error) -> Utf8Chunk<'_>
     }
 }
 
-/// The first chunk of the bytes. No bytes are the chunk of three empty parts.
+/// Returns the first chunk of the bytes, of three empty parts if there are none.
 ///
-/// It validates some times as many bytes as stand before the error, so that a decoder can go on after each invalid
-/// sequence. Of bytes that are likely to be text, `validate` and `chunk_at` are the faster way.
+/// Validates only a few times the bytes before the error, so that a decoder can call it after each invalid sequence.
+/// For mostly valid bytes, `validate` and `chunk_at` are faster.
 ///
 /// # Examples
 ///
-/// `[0x61, 0xC0, 0x80]` is `a`, the invalid byte C0 and the rest 80, whose chunk is no text and the invalid byte 80:
-/// the lossy text is `a` and two U+FFFD.
+/// `[0x61, 0xC0, 0x80]` is `a`, the invalid byte C0 and the rest 80, whose chunk has no valid byte and the invalid byte
+/// 80: the lossy text is `a` and two U+FFFD.
 #[inline]
 pub fn first_chunk(bytes: &[u8]) -> Utf8Chunk<'_>
     ensures chunk { BeginsWithChunk bytes.now result.valid.now result.invalid.now result.rest.now }
@@ -410,28 +410,28 @@ pub fn first_chunk(bytes: &[u8]) -> Utf8Chunk<'_>
     }
 }
 
-/// A law: the rows of the Standard's table hold the bytes of the characters, each of one character and
-/// each in one row, and nothing else.
+/// A law: the rows of the Standard's table are the encodings of the characters, and nothing else. Each encoding is in
+/// one row.
 pub fn well_formed_sequences_are_the_encodings()
     ensures { TableIsTheEncodings }
 {}
 
-/// A law: bytes encode one text at most.
+/// A law: bytes encode at most one text.
 pub fn bytes_encode_one_text()
     ensures { BytesEncodeOneText }
 {}
 
-/// A law: bytes that are no text have one error, and std's words for its place and its length tell it.
+/// A law: invalid bytes have exactly one error, with the position and the length that std specifies.
 pub fn bytes_have_one_error()
     ensures { Utf8ErrorIsUnique }
 {}
 
-/// A law: bytes have one lossy text, and it is the one that std's word tells.
+/// A law: bytes have exactly one lossy text, std's.
 pub fn bytes_have_one_lossy_text()
     ensures { Utf8LossyTextIsUnique }
 {}
 
-/// A law: a text's own bytes have that text as their lossy text.
+/// A law: the lossy text of a text's bytes is the text.
 pub fn a_text_is_its_own_lossy_text()
     ensures { Utf8LossyTextOfText }
 {}

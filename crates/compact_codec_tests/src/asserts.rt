@@ -1,4 +1,4 @@
-//! What the tests of this crate assert, by calls that end the test where it does not hold.
+//! Assertions that end the test on failure.
 
 ghost use Rattle.std.specs.Prelude.{◌<◌, length};
 
@@ -7,18 +7,18 @@ use compact_codec::utf16::Utf16Step;
 use std::fmt::Debug;
 use std::process::Abort;
 
-/// Asserts that something holds.
+/// Asserts a condition.
 pub fn assert_that(rt: &impl Abort, holds: bool) {
     that(holds).expect(rt, "it holds");
 }
 
-/// Asserts that both are equal.
+/// Asserts equality.
 pub fn assert_equal<T: PartialEq + Debug + Drop>(rt: &impl Abort, left: T, right: T) {
     equal(left, right).expect(rt, "equal");
 }
 
-/// Asserts that the input is read in these steps, to its end: a character, or `None` for an invalid sequence, and how many units
-/// or bytes it takes.
+/// Asserts that the input is read to its end in these steps: a character, or `None` for an invalid sequence, and the
+/// units or bytes it takes.
 pub fn assert_steps<T: Debug, F: Fn(&[T]) -> Utf16Step>(
     rt: &impl Abort,
     first_character: F,

@@ -1,4 +1,4 @@
-//! Tests of `compact_codec`: where bytes and units stop being text.
+//! Tests of `compact_codec`: where bytes and units are not valid.
 #![tactic(auto)]
 
 #[cfg(test)]

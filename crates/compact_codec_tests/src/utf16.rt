@@ -1,4 +1,5 @@
-//! Units read step by step and validated as a whole: unpaired surrogates, pairs, and pairs at each edge of the two ranges.
+//! Units read step by step and validated as a whole: unpaired surrogates, pairs, and pairs at each edge of the two
+//! ranges.
 
 use crate::asserts::{assert_equal, assert_steps};
 use compact_asserts::that_for;

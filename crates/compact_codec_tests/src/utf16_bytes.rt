@@ -1,4 +1,4 @@
-//! Bytes read as units, two a unit, in each order: step by step, and validated as a whole.
+//! Bytes read as units in each order: step by step, and validated as a whole.
 
 use crate::asserts::assert_steps;
 use compact_asserts::that_for;

@@ -1,12 +1,12 @@
-//! Bytes validated as a whole and read chunk by chunk: texts, where each error is placed, the Standard's examples, long
-//! input, and every input of two bytes.
+//! Bytes validated as a whole and read chunk by chunk: texts, error positions, the Standard's examples, long input,
+//! and every input of two bytes.
 
 use crate::asserts::{assert_equal, assert_that};
 use compact_asserts::that_for;
 use compact_codec::utf8::{Utf8Error, chunk_at, first_chunk, is_utf8, validate};
 use std::process::Abort;
 
-/// The bytes fall into these chunks: a text, and how many bytes are invalid after it.
+/// Asserts the chunks of some bytes: a text, and how many invalid bytes follow it.
 fn assert_chunks(rt: &impl Abort, bytes: &[u8], chunks: &[(&str, usize)]) {
     let mut rest = bytes;
     for (text, invalid) in chunks {
@@ -18,7 +18,7 @@ fn assert_chunks(rt: &impl Abort, bytes: &[u8], chunks: &[(&str, usize)]) {
     assert_that(rt, rest.is_empty());
 }
 
-/// The bytes are no text: where the error lies, and how long it is, or `None` where they end too soon.
+/// Asserts the position and length of the error in invalid bytes; `None` if they end too soon.
 fn assert_error(rt: &impl Abort, bytes: &[u8], valid_up_to: usize, error_len: Option<usize>) {
     that_for(bytes, !is_utf8(bytes)).expect(rt, "it holds");
     let error = Utf8Error {
@@ -83,7 +83,7 @@ fn errors_are_placed(rt: HostRuntime) {
     }
 }
 
-/// Puts a byte at a place.
+/// Sets a byte.
 fn put(rt: &impl Abort, bytes: &mut [u8], place: usize, byte: u8) {
     *bytes.get_mut(place).expect(rt, "a place") = byte;
 }
@@ -125,8 +125,8 @@ fn each_invalid_sequence_is_one_chunk(rt: HostRuntime) {
     }
 }
 
-/// The Standard's examples (3.9, Tables 3-8 to 3-11): forms that are too long, surrogates, other bytes that begin
-/// no sequence, and sequences cut short.
+/// The Standard's examples (3.9, Tables 3-8 to 3-11): forms that are too long, surrogates, other bytes that begin no
+/// sequence, and sequences cut short.
 #[test]
 fn the_examples_of_the_standard(rt: HostRuntime) {
     let cases: [(&[u8], &[(&str, usize)]); 4] = [
@@ -192,7 +192,7 @@ fn a_chunk_is_made_from_its_error(rt: HostRuntime) {
     assert_that(&rt, chunk.rest == b"\x80".as_slice());
 }
 
-/// How many of all inputs of two bytes are texts, and how many have each error; by another decoder.
+/// How many of all inputs of two bytes are valid, and how many have each error; by another decoder.
 #[test]
 fn all_inputs_of_two_bytes(rt: HostRuntime) {
     let rt = &rt;

@@ -1,4 +1,4 @@
--- What is moved is paid for: by the text that stands, and by the room that its buffer has.
+-- The bytes moved are paid for by the text, and by the room in its buffer.
 use Rattle.std.proofs.Common.{◌≡◌, ◌⊎◌, ⊎_elim, ℕ, ◌+◌, ◌-◌, ◌*◌, ◌/◌, ◌^◌, ◌<◌, ◌≤◌, List, Some, true, false, refl, ap, subst, lit≤, arith, max}
 use Rattle.std.proofs.Math.Nat.{mul-le-mul_left, mul-le-mul_right}
 use Rattle.std.proofs.lemmas.Grind.{common_steps}
@@ -9,7 +9,7 @@ use Rattle.compact_str.specs.Capacity.{Growth, IsLawful, max_capacity, inline_pl
 use Rattle.compact_str.specs.Calls.{push_str}
 use Rattle.compact_edit.specs.Pushes.{same_place, bytes_moved_by_step}
 
--- what holds once m bytes were moved for a text of l bytes
+-- the invariant after m bytes were moved for a text of l bytes
 pub record IsPaid (g : Growth) (p : Placement) (l m : ℕ) : Type 0 where
   pub owned : is_static p.place ≡ false
   pub fits : l ≤ p.capacity
@@ -19,14 +19,14 @@ pub record IsPaid (g : Growth) (p : Placement) (l m : ℕ) : Type 0 where
   pub by_text : (g.numerator - g.denominator) * m ≤ (g.numerator + g.denominator) * l
   pub by_room : (g.numerator - g.denominator) * m ≤ g.denominator * (p.capacity + 1 + l)
 
--- a push leaves the placement, or makes a greater buffer
+-- a push keeps the placement, or makes a larger buffer
 push_str-placement : (g : Growth) (v w : PlacedText) (s : List ℕ) → is_static v.placement.place ≡ false → 24 ≤ v.placement.capacity → size v.text ≤ v.placement.capacity
     → push_str g v s ≡ Some w
     → ((w.placement ≡ v.placement) × (size w.text ≡ size v.text + size s) × (size v.text + size s ≤ v.placement.capacity))
     ⊎ ((w.placement ≡ heap_placement (grown_capacity g v (size s))) × (size w.text ≡ size v.text + size s) × (v.placement.capacity < size v.text + size s) × (grown_capacity g v (size s) ≤ max_capacity))
 push_str-placement g v w s owned above fits e = grind (arith, common_steps, size-append)
 
--- the numbers: d is the numerator less the denominator q, and c the capacity that n more bytes do not fit
+-- the arithmetic: d is the numerator minus the denominator q, and n more bytes do not fit the capacity c
 grown_capacity-text : (d q c l n m : ℕ) → c < l + n → d * m ≤ q * (c + 1 + l) → d * (m + l) ≤ (d + q + q) * (l + n)
 grown_capacity-text d q c l n m more paid =
     let k : q * (c + 1) ≤ q * (l + n) = mul-le-mul_left q (omega (arith, more)) in
@@ -46,7 +46,6 @@ quotient-more p q l n pos = grind arith
 quotient-above : (p q l : ℕ) → 1 ≤ q → q < p → l ≤ p * l / q
 quotient-above p q l pos grows = grind arith
 
--- nothing was moved for the empty text
 pub paid-start : (g : Growth) → IsLawful g → IsPaid g inline_placement 0 0
 paid-start g law = record {
   owned = refl;
@@ -70,7 +69,7 @@ paid-kept g p l n m law paid fits = record {
   by_room = let k = paid.by_room in omega (arith, k);
 }
 
--- n more bytes that do not: the l bytes that stood are moved into a buffer of b bytes
+-- n more bytes that do not fit: l bytes are moved into a buffer of b bytes
 paid-grown_capacity : (g : Growth) (p : Placement) (l n m b : ℕ) → IsLawful g → IsPaid g p l m → p.capacity < l + n → b ≡ max g.least (max (l + n) (g.numerator * l / g.denominator)) → b ≤ max_capacity
     → IsPaid g (heap_placement b) (l + n) (m + l)
 paid-grown_capacity g p l n m b law paid more is below =
@@ -103,7 +102,7 @@ bytes_moved_by_step-kept v w e = grind (arith, common_steps, same_place-refl)
 bytes_moved_by_step-grown_capacity : (v w : PlacedText) → v.placement.capacity < w.placement.capacity → bytes_moved_by_step v w ≡ size v.text
 bytes_moved_by_step-grown_capacity v w h = grind (arith, common_steps)
 
--- a push that leaves the capacity leaves the place
+-- a push that keeps the capacity keeps the place
 pub bytes_moved_by_step-same_capacity : (g : Growth) (v w : PlacedText) (s : List ℕ) → IsSound v → push_str g v s ≡ Some w
     → w.placement.capacity ≡ v.placement.capacity → 0 ≡ bytes_moved_by_step v w
 bytes_moved_by_step-same_capacity g v w s sound e same = grind (arith, common_steps)
@@ -112,7 +111,6 @@ pub bytes_moved_by_step-other_capacity : (v w : PlacedText) (n : ℕ) → n ≡ 
     → ¬ (w.placement.capacity ≡ v.placement.capacity) → n ≡ bytes_moved_by_step v w
 bytes_moved_by_step-other_capacity v w n is other = grind (arith, common_steps)
 
--- a push pays for what it moves
 pub paid-push : (g : Growth) (v w : PlacedText) (s : List ℕ) (b m n : ℕ) → IsLawful g → IsPaid g v.placement (size v.text) m → push_str g v s ≡ Some w → b ≡ bytes_moved_by_step v w → n ≡ m + b
     → IsPaid g w.placement (size w.text) n
 paid-push g v w s b m n law paid e bytes is =
@@ -126,7 +124,7 @@ paid-push g v w s b m n law paid e bytes is =
     rw (k.0, k.1, more) (paid-grown_capacity g v.placement (size v.text) (size s) m (grown_capacity g v (size s)) law paid k.2 refl k.3))
     (push_str-placement g v w s paid.owned paid.above paid.fits e)
 
--- the count of a push that comes fits 64 bits
+-- the count fits 64 bits
 pub paid-fits : (g : Growth) (v w : PlacedText) (m n : ℕ) → IsLawful g → IsPaid g v.placement (size v.text) m → n ≡ bytes_moved_by_step v w → m + n < 2 ^ 64
 paid-fits g v w m n law paid is =
     let one : 1 * m ≤ (g.numerator - g.denominator) * m = mul-le-mul_right m (omega (arith, law.grows)) in

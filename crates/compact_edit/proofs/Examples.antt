@@ -1,5 +1,5 @@
--- Worked examples of a step, one for each edit and more where an edit has cases. The values come from the Rust crate and
--- from the Unicode Standard.
+-- Worked examples of steps, one or more for each edit. The values come from the Rust crate and from the Unicode
+-- Standard.
 use Rattle.std.proofs.Common.{◌≡◌, ◌∙◌, ap, inl, inr, lit≤, ◌-◌, ◌++◌, ℕ, ◌∷◌, [], List, Bool, true, false, Some, None, replicate, refl, arith, lit<}
 use Rattle.std.specs.Borrow.{Bor}
 use Rattle.std.specs.declared.ops.Bound.TheVariants.{Included, Excluded}
@@ -18,11 +18,11 @@ use Rattle.compact_edit.specs.declared.edit.Edit.TheVariants.{Push, PushStr, Pop
 use Rattle.compact_edit.specs.declared.edit.Reply.TheVariants.{Done, Char, Text, BadPosition, Refused}
 use Rattle.compact_edit.specs.Steps.{Step}
 
--- a heap capacity of at least 32 bytes, half as much again at each growth
+-- at least 32 bytes, and a growth factor of 1.5
 abbrev half_more : Growth
 half_more = record { least = 32; numerator = 3; denominator = 2 }
 
--- so many letters `a`
+-- n times `a`
 abbrev letters : ℕ → List ℕ
 letters n = replicate n 97
 
@@ -35,7 +35,7 @@ heap_letters n capacity = placed_text (letters n) (heap_placement capacity)
 abbrev static_letters : ℕ → PlacedText
 static_letters n = placed_text (letters n) (static_placement (letters n))
 
--- an a with two dots, of two bytes, and a musical clef, of four
+-- ä, of two bytes, and a musical clef, of four
 abbrev dotted : ℕ
 dotted = 0xE4
 
@@ -48,11 +48,11 @@ mixed = inline_text (dotted ∷ 0x62 ∷ clef ∷ [])
 abbrev two : PlacedText
 two = inline_text (dotted ∷ clef ∷ [])
 
--- an edit, its reply and what it leaves, by that growth
+-- a step under that policy
 abbrev Steps : PlacedText → Edit Standard → Reply Standard → PlacedText → Type 0
 Steps v edit reply w = Step half_more v edit reply w
 
--- what stands before a boundary takes up all the bytes before it
+-- the text before a boundary has all bytes before it
 size-text_before : (a b : List ℕ) (p : ℕ) → size a ≡ p → size (text_before (a ++ b) p) ≡ p
 size-text_before [] [] p e = e
 size-text_before [] (c ∷ cs) p e = let wide = len_utf8_bounds c in rw (cond-false _ _ _ (lt-leb (len_utf8 c) p (omega (arith, wide.0, e)))) e
@@ -62,8 +62,6 @@ size-text_before (c ∷ cs) b p e =
 
 not_boundary : (t : List ℕ) (p : ℕ) → (size (text_before t p) ≡ p → ⊥) → ¬ (IsBoundary t p)
 not_boundary t p differs h = differs (ap (λ x. size (text_before x p)) h.2.parts ∙ size-text_before h.0 h.1 p h.2.position)
-
--- at the end
 
 a_push_on_24_bytes_takes_36 : Steps (inline_text (letters 24)) (Push 97) Done (heap_letters 25 36)
 a_push_on_24_bytes_takes_36 = (tt, (refl, refl))
@@ -79,8 +77,6 @@ a_pop_answers_the_last_character = (tt, (Some clef, refl, (dotted ∷ [], refl, 
 
 a_pop_of_no_text_answers_none : Steps (inline_text []) Pop (Char None) (inline_text [])
 a_pop_of_no_text_answers_none = (tt, (None, refl, (refl, refl)))
-
--- by position
 
 an_insertion_inside_a_character_is_a_bad_position : Steps mixed (Insert 1 0x78) BadPosition mixed
 an_insertion_inside_a_character_is_a_bad_position = (refl, not_boundary mixed.text 1 (λ e. omega (arith, e)))
@@ -150,8 +146,6 @@ zeroize_keeps_a_heap_capacity = (tt, (refl, refl))
 
 a_range_that_ends_before_its_start_is_a_bad_position : (s : Bor (List ℕ)) → Steps mixed (ReplaceRange (Included 3) (Excluded 2) s) BadPosition mixed
 a_range_that_ends_before_its_start_is_a_bad_position s = (refl, λ range. let order = range.order in omega (arith, order))
-
--- room, and the whole text
 
 a_truncated_static_text_has_its_size_as_capacity : Steps (static_letters 30) (Truncate 20) Done (static_letters 20)
 a_truncated_static_text_has_its_size_as_capacity = ((λ within. (letters 20, letters 10, record { parts = refl; position = refl })), (refl, refl))

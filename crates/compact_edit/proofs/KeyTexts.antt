@@ -1,4 +1,4 @@
--- The keys of a set of values, as texts: those of a set with one more key are the distinct texts, by first occurrence.
+-- The keys of a set of values, as texts: with one more key they are the distinct texts, by first occurrence.
 use Rattle.std.proofs.Common.{◌≡◌, ℕ, ◌<◌, List, [], ◌∷◌, ◌++◌, Bool, true, false, ◌||◌, if◌then◌else◌, IsTrue, nat_eq, map, position, slice_get, get_or, length, Some, refl, ap, ap₂, sym, ◌∙◌, arith}
 use Rattle.std.proofs.lemmas.Grind.{common_steps}
 use Rattle.std.proofs.lemmas.Option.{slice_get-map, slice_get-get_or}
@@ -20,17 +20,17 @@ use Rattle.compact_edit.specs.Names.{contains, texts_without, distinct_texts}
 abbrev pub texts : List PlacedText → List (List ℕ)
 texts keys = map text_in keys
 
--- ts with t at its end, if it is none of them
+-- ts with t appended, unless it is among them
 abbrev pub noted : List (List ℕ) → List ℕ → List (List ℕ)
 noted ts t = if contains ts t then ts else ts ++ t ∷ []
 
--- the distinct texts of a list with one more at its end
+-- the distinct texts with one more text
 
 texts_without-push : (t u : List ℕ) (ts : List (List ℕ)) → texts_without t (ts ++ u ∷ []) ≡ (if pointwise nat_eq t u then texts_without t ts else texts_without t ts ++ u ∷ [])
 texts_without-push t u [] = grind (arith, common_steps)
 texts_without-push t u (x ∷ xs) = grind (arith, common_steps, texts_without-push t u xs)
 
--- a text other than t is among those without t just where it was
+-- removing t keeps every other text
 contains-texts_without : (t u : List ℕ) (ts : List (List ℕ)) → pointwise nat_eq t u ≡ false → contains (texts_without t ts) u ≡ contains ts u
 contains-texts_without t u [] other = refl
 contains-texts_without t u (x ∷ xs) other = by (pointwise nat_eq t x) refl (contains-texts_without t u xs other)
@@ -67,7 +67,7 @@ distinct_texts-texts [] distinct = refl
 distinct_texts-texts (k ∷ keys) distinct =
     ap (λ rest. k.text ∷ texts_without k.text rest) (distinct_texts-texts keys distinct.1) ∙ ap (λ rest. k.text ∷ rest) (texts_without-apart k keys distinct.0)
 
--- the names after a key is inserted, or was there
+-- the names after a key is inserted, or found
 
 list_any-same_text : (v : PlacedText) (keys : List PlacedText) → list_any (same_text v) keys ≡ contains (texts keys) v.text
 list_any-same_text v [] = refl
@@ -83,7 +83,7 @@ new-names keys v distinct =
 pub known-names : (keys : List PlacedText) (v : PlacedText) → IsDistinct same_text keys → list_any (same_text v) keys ≡ true → texts keys ≡ distinct_texts (texts keys ++ v.text ∷ [])
 known-names keys v distinct there = ap (λ (b : Bool). texts (if b then keys else keys ++ v ∷ [])) (sym there) ∙ new-names keys v distinct
 
--- the number of a key is its place
+-- the number of a key is its index
 
 pub number-of-same : (keys : List PlacedText) (v k : PlacedText) (i : ℕ) → slice_get keys i ≡ Some k → same_text v k ≡ true → slice_get (texts keys) i ≡ Some v.text
 number-of-same keys v k i at same = slice_get-map text_in keys i ∙ ap (option_map text_in) at ∙ ap Some (sym (texts-from_same v k same))
@@ -93,7 +93,7 @@ number-of-known keys v i at =
     let found = position-Some (same_text v) keys i v at in
     number-of-same keys v (get_or keys i v) i (slice_get-get_or keys i v found.0) found.1
 
--- a text is looked for by its bytes
+-- a text is found by its bytes
 
 bytes_eq-utf8 : (bytes : List ℕ) (k : PlacedText) → IsUtf8 bytes → bytes_eq bytes (utf8 k.text) ≡ pointwise nat_eq (text_of bytes) k.text
 bytes_eq-utf8 bytes k is_text = ap (λ b. bytes_eq b (utf8 k.text)) (sym (utf8-text_of bytes is_text)) ∙ utf8-same (text_of bytes) k.text
@@ -117,6 +117,6 @@ known-text keys t distinct there =
     ∙ ap (λ names. noted names t) (sym (distinct_texts-texts keys distinct))
     ∙ sym (distinct_texts-push (texts keys) t)
 
--- a text whose copy asked for a heap buffer has more than 24 bytes
+-- a text whose copy allocated has more than 24 bytes
 pub asked-long : (bytes : List ℕ) → IsUtf8 bytes → IsTrue (with_capacity_allocates (length bytes)) → 24 < size (text_of bytes)
 asked-long bytes is_text asked = grind (arith, common_steps, size-text_of)

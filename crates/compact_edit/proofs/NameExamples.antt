@@ -1,4 +1,4 @@
--- Worked examples of names by first occurrence, and of their numbers.
+-- Worked examples of names and their numbers.
 use Rattle.std.proofs.Common.{◌≡◌, ℕ, List, [], ◌∷◌, None, slice_get, refl}
 use Rattle.compact_edit.specs.Names.{distinct_texts, AreNumbersOf, Takes}
 
@@ -8,7 +8,7 @@ a = 97 ∷ []
 abbrev b : List ℕ
 b = 98 ∷ []
 
--- a text is named once, at its first occurrence, and the names are not sorted
+-- each text is a name once, at its first occurrence; names are not sorted
 names-once : distinct_texts (a ∷ b ∷ a ∷ [] ∷ []) ≡ a ∷ b ∷ [] ∷ []
 names-once = refl
 
@@ -18,14 +18,13 @@ names-unsorted = refl
 no-names : distinct_texts [] ≡ []
 no-names = refl
 
--- of a, b, a and the empty text: 0, 1, 0 and 2
+-- a, b, a and the empty text have the numbers 0, 1, 0 and 2
 numbers-by_place : AreNumbersOf (a ∷ b ∷ [] ∷ []) (a ∷ b ∷ a ∷ [] ∷ []) (0 ∷ 1 ∷ 0 ∷ 2 ∷ [])
 numbers-by_place = (refl, (refl, (refl, (refl, tt))))
 
--- past the last name there is none
 past-the-last : slice_get (a ∷ b ∷ [] ∷ []) 3 ≡ None
 past-the-last = refl
 
--- where b stands, and the list of numbers has a 7: of a and b come 1 and 0
+-- with the name b and the number 7 listed, a and b get 1 and 0
 taken-behind : Takes (b ∷ []) (a ∷ b ∷ []) (7 ∷ []) (b ∷ a ∷ []) (7 ∷ 1 ∷ 0 ∷ [])
 taken-behind = record { names = refl; numbers = 1 ∷ 0 ∷ []; behind = refl; places = (refl, (refl, tt)) }

@@ -1,4 +1,4 @@
--- Facts on names that the interner uses.
+-- Facts about names for the interner.
 use Rattle.compact_edit.proofs.KeyTexts.{distinct_texts-texts, new-names, known-names, number-of-same, number-of-known, list_any-bytes_eq, position-bytes_eq, known-text, asked-long}
 use Rattle.compact_edit.proofs.TakenTexts.{takes-none, still-distinct, kept-number, slice_get-contains}
 

@@ -1,5 +1,4 @@
--- Worked examples of what a list of pushes moves, with each value on the way. The capacities are worked by hand from the
--- rule of growth.
+-- Worked examples of pushes and the bytes they move, with each value on the way. The capacities are computed by hand.
 use Rattle.std.proofs.Common.{◌≡◌, ℕ, List, [], ◌∷◌, replicate, refl}
 use Rattle.std.specs.Borrow.{Bor}
 use Rattle.compact_str.specs.Text.{text_of}
@@ -19,11 +18,11 @@ short n = placed_text (letters n) inline_placement
 abbrev long : ℕ → ℕ → PlacedText
 long n capacity = placed_text (letters n) (heap_placement capacity)
 
--- a text of a program that is so many letters
+-- a `str` of n ASCII characters
 abbrev Letters : ℕ → Bor (List ℕ) → Type 0
 Letters n text = text_of text.now ≡ letters n
 
--- growth by a half from 32 bytes on, by the double from there, and by a quarter from 25 on
+-- at least 32 bytes and a factor of 1.5, 32 and 2, and 25 and 1.25
 abbrev half_more : Growth
 half_more = record { least = 32; numerator = 3; denominator = 2 }
 
@@ -32,8 +31,6 @@ double = record { least = 32; numerator = 2; denominator = 1 }
 
 abbrev quarter_more : Growth
 quarter_more = record { least = 25; numerator = 5; denominator = 4 }
-
--- one step
 
 what_fits_moves_nothing : bytes_moved_by_step (long 25 36) (long 36 36) ≡ 0
 what_fits_moves_nothing = refl
@@ -46,8 +43,6 @@ a_text_that_comes_back_from_the_heap_is_moved = refl
 
 a_static_text_that_is_copied_is_moved : bytes_moved_by_step (placed_text (letters 30) (static_placement (letters 30))) (long 30 30) ≡ 30
 a_static_text_that_is_copied_is_moved = refl
-
--- lists of pushes
 
 no_texts_move_nothing : PushesTo Standard half_more [] (short 0) 0 0
 no_texts_move_nothing = ([], refl, refl, refl)

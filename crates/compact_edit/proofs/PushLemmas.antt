@@ -1,4 +1,4 @@
--- A list of pushes that goes on by one text.
+-- Pushes extended by a text.
 use Rattle.std.proofs.Common.{◌≡◌, ◌∙◌, ap, append-nil, append_assoc, flat_map, ℕ, ◌+◌, ◌<◌, ◌≤◌, List, [], ◌∷◌, ◌++◌, Some, refl, sym, subst, map, take, take_all, get_or, length, arith}
 use Rattle.std.proofs.lemmas.List.{take_more, map-append}
 use Rattle.std.specs.Prelude.{IsTrue}
@@ -20,7 +20,7 @@ use Rattle.compact_edit.specs.Runs.{Run}
 use Rattle.compact_edit.proofs.BytesMoved.{IsPaid, bytes_moved_by_step-kept, paid-start, paid-push, paid-same}
 use Rattle.compact_edit.specs.Pushes.{bytes_moved_by_step, bytes_moved, refusal_count, PushesTo}
 
--- a run that goes on by one edit, and what it then moves
+-- the bytes that a run extended by an edit moves
 run-append : {P : Type 0} (g : Growth) (v : PlacedText) (edits : List (Edit P)) (replies : List (Reply P)) (u w : PlacedText) (edit : Edit P) (reply : Reply P) (run : Run g v edits replies u) → Step g u edit reply w
     → (longer : Run g v (edits ++ edit ∷ []) (replies ++ reply ∷ []) w) × (bytes_moved g v (edits ++ edit ∷ []) (replies ++ reply ∷ []) w longer ≡ bytes_moved g v edits replies u run + bytes_moved_by_step u w)
 run-append g v [] [] u w edit reply run step = ((w, subst (λ (x : PlacedText). Step g x edit reply w) run step, refl), rw run (omega arith))
@@ -38,7 +38,7 @@ refusals-append (Text t ∷ rs) ss = omega (arith, refusals-append rs ss)
 refusals-append (BadPosition ∷ rs) ss = omega (arith, refusals-append rs ss)
 refusals-append (Refused e ∷ rs) ss = omega (arith, refusals-append rs ss)
 
--- one text more, with its step
+-- one more text, with its step
 pushes-append : (P : Type 0) (g : Growth) (texts : List (Bor (List ℕ))) (text : Bor (List ℕ)) (v w : PlacedText) (m n k l : ℕ) (reply : Reply P)
     → PushesTo P g texts v m k → Step g v (PushStr text) reply w → n ≡ m + bytes_moved_by_step v w → l ≡ k + refusal_count (reply ∷ []) → PushesTo P g (texts ++ text ∷ []) w n l
 pushes-append P g texts text v w m n k l reply runs step bytes count =
@@ -53,7 +53,7 @@ pushes-append P g texts text v w m n k l reply runs step bytes count =
       omega (arith, refusals-append runs.0 (reply ∷ []), runs.3, count),
     )
 
--- the texts before the place i, and the one there, whose push is done or refused
+-- the first i texts, and the next, whose push succeeds or fails
 pub pushes-done : (P : Type 0) (g : Growth) (texts : List (Bor (List ℕ))) (i : ℕ) (d : Bor (List ℕ)) (v w : PlacedText) (b m n k l : ℕ) → i < length texts
     → PushesTo P g (take i texts) v m k → push_str g v (text_of (get_or texts i d).now) ≡ Some w → b ≡ bytes_moved_by_step v w → n ≡ m + b → l ≡ k → PushesTo P g (take (i + 1) texts) w n l
 pushes-done P g texts i d v w b m n k l within runs step bytes more count =
@@ -69,7 +69,7 @@ pushes-refused P g texts i d v w m n k l e within runs step bytes count =
 pub pushes-all : (P : Type 0) (g : Growth) (texts : List (Bor (List ℕ))) (i : ℕ) (v : PlacedText) (m k : ℕ) → length texts ≤ i → PushesTo P g (take i texts) v m k → PushesTo P g texts v m k
 pushes-all P g texts i v m k end runs = subst (λ (ts : List (Bor (List ℕ))). PushesTo P g ts v m k) (take_all i texts end) runs
 
--- the text of what is pushed
+-- the joined texts
 abbrev pub texts_of : List (Bor (List ℕ)) → List ℕ
 texts_of texts = flat_map (λ (text : Bor (List ℕ)). text_of text.now) texts
 
@@ -90,14 +90,14 @@ run-text g v (t ∷ ts) (Text x ∷ rs) w run none = cc
 run-text g v (t ∷ ts) (BadPosition ∷ rs) w run none = absurd (run.1.1 tt)
 run-text g v (t ∷ ts) (Refused e ∷ rs) w run none = absurd (omega (arith, none))
 
--- where no push is refused, the texts stand one after another
+-- if no push fails, the result is the joined texts
 pub pushes-text : {P : Type 0} (g : Growth) (texts : List (Bor (List ℕ))) (w : PlacedText) (m k : ℕ) → PushesTo P g texts w m k → k ≡ 0 → w.text ≡ texts_of texts
 pushes-text g texts w m k runs none = run-text g (placed_text [] inline_placement) texts runs.0 w runs.1 (sym runs.3 ∙ none)
 
 refused-long : (v : PlacedText) (s : List ℕ) → IsTrue (push_str_allocates v s) → 24 < size v.text + size s
 refused-long v s asks = grind (arith, common_steps)
 
--- texts of at most 24 bytes together stay in the value itself, so that none is refused
+-- texts of at most 24 bytes together stay inline, so no push fails
 run-fits : {P : Type 0} (g : Growth) (v : PlacedText) (texts : List (Bor (List ℕ))) (replies : List (Reply P)) (w : PlacedText) → Run g v (map PushStr texts) replies w → size v.text + size (texts_of texts) ≤ 24 → refusal_count replies ≡ 0
 run-fits g v [] [] w run short = refl
 run-fits g v [] (r ∷ rs) w run short = absurd run
@@ -113,7 +113,7 @@ run-fits g v (t ∷ ts) (Refused e ∷ rs) w run short = absurd (let long = refu
 pub pushes-fit : {P : Type 0} (g : Growth) (texts : List (Bor (List ℕ))) (w : PlacedText) (m k : ℕ) → PushesTo P g texts w m k → size (texts_of texts) ≤ 24 → k ≡ 0
 pushes-fit g texts w m k runs short = runs.3 ∙ run-fits g (placed_text [] inline_placement) texts runs.0 w runs.1 (omega (arith, short))
 
--- a run of pushes pays for what it moves, and so does a list of pushes from the empty value: under every lawful policy
+-- a run of pushes pays for the bytes it moves, and so do pushes onto the empty value, under every lawful policy
 run-paid : {P : Type 0} (g : Growth) → IsLawful g → (v : PlacedText) (texts : List (Bor (List ℕ))) (replies : List (Reply P)) (w : PlacedText) (m : ℕ) → IsPaid g v.placement (size v.text) m → (run : Run g v (map PushStr texts) replies w)
     → IsPaid g w.placement (size w.text) (m + bytes_moved g v (map PushStr texts) replies w run)
 run-paid g law v [] [] w m paid run = paid-same g v w m (m + 0) paid run (omega arith)

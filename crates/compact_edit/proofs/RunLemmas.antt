@@ -1,4 +1,4 @@
--- Runs that go on by one edit.
+-- Runs extended by an edit.
 use Rattle.std.proofs.Common.{◌≡◌, ℕ, ◌+◌, ◌<◌, List, [], ◌∷◌, ◌++◌, Some, IsTrue, Result, Ok, Err, OnErr, Bor}
 use Rattle.std.proofs.Common.{refl, append_assoc, subst, take, get_or, length}
 use Rattle.std.specs.Prelude.{OnOk, MatchResult}
@@ -26,12 +26,11 @@ pub RunsTo-append : {P : Type 0} (g : Growth) (v : PlacedText) (edits : List (Ed
 RunsTo-append g v edits before after u w edit reply runs step =
     (runs.0 ++ reply ∷ [], rw (runs.1, append_assoc) refl, Run-append g v edits runs.0 u w edit reply runs.2 step)
 
--- the run of the edits before the place i, and a step of the edit there
+-- the run of the first i edits, and a step of the next
 pub RunsTo-take_more : {P : Type 0} (g : Growth) (v : PlacedText) (edits : List (Edit P)) (i : ℕ) (edit : Edit P) (before after : List (Reply P)) (u w : PlacedText) (reply : Reply P) → i < length edits → edit ≡ get_or edits i edit → RunsTo g v (take i edits) before after u → Step g u edit reply w → RunsTo g v (take (i + 1) edits) before (after ++ reply ∷ []) w
 RunsTo-take_more g v edits i edit before after u w reply h is runs step =
     rw (take_more edits i edit h) (RunsTo-append g v (take i edits) before after u w (get_or edits i edit) reply runs (subst (λ (e : _). Step g u e reply w) is step))
 
--- an insertion at a boundary is a step
 pub Step-insert_str : {P T : Type 0} (g : Growth) (v w : PlacedText) (p : ℕ) (s : Bor (List ℕ)) (r : Result T ReserveError)
     (reply : Reply P) → IsBoundary v.text p → OnOk r (insert_str g v p (text_of s.now) ≡ Some w)
     → OnErr r ((w ≡ v) × IsTrue (reserve_allocates v (size (text_of s.now))))

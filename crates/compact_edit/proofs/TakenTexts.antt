@@ -1,4 +1,4 @@
--- Texts that are taken in turn.
+-- Texts interned in turn.
 use Rattle.std.proofs.Common.{◌≡◌, ℕ, ◌+◌, ◌<◌, List, [], ◌∷◌, ◌++◌, Bool, true, false, ◌||◌, nat_eq, take, drop, length, get_or, slice_get, Some, zero, suc, refl, ap, sym, ◌∙◌, arith, append_assoc, append-nil}
 use Rattle.std.proofs.lemmas.Grind.{common_steps}
 use Rattle.std.proofs.lemmas.List.{take_more, drop_more, take-append-drop, map-append}
@@ -13,7 +13,7 @@ use Rattle.compact_edit.specs.declared.intern.InternError.{InternError}
 use Rattle.compact_edit.specs.Names.{contains, distinct_texts, texts_of, AreNumbersOf, IsRefusal, Takes, StopsAt}
 use Rattle.compact_edit.proofs.KeyTexts.{texts, noted, distinct_texts-push, distinct_texts-texts, new-names}
 
--- a text that is noted among distinct names leaves them distinct
+-- names stay distinct
 noted-distinct : (names : List (List ℕ)) (t : List ℕ) → distinct_texts names ≡ names → distinct_texts (names ++ t ∷ []) ≡ noted names t
 noted-distinct names t distinct = distinct_texts-push names t ∙ ap (λ others. noted others t) distinct
 
@@ -43,7 +43,6 @@ pub kept-number : (keys : List PlacedText) (v : PlacedText) (i : ℕ) (x : List 
 kept-number keys v i x distinct at =
     rw (new-names keys v distinct, noted-distinct (texts keys) v.text (distinct_texts-texts keys distinct)) (slice_get-noted (texts keys) v.text x i at)
 
--- a text that has a number is among the names
 pub slice_get-contains : (names : List (List ℕ)) (i : ℕ) (x : List ℕ) → slice_get names i ≡ Some x → contains names x ≡ true
 slice_get-contains [] i x at = grind (arith, common_steps)
 slice_get-contains (z ∷ zs) zero x at =
@@ -85,7 +84,7 @@ takes-push before ts names after listed mid now t n takes distinct is at pushed 
       places = numbers-more names after (λ x i h. rw noting (slice_get-noted names t x i h)) ts takes.numbers t n takes.places at;
     }
 
--- the texts before the place i are taken, and then the one there
+-- the first i texts, and then the next
 pub takes-more : (row : List (Bor (List ℕ))) (i : ℕ) (d : Bor (List ℕ)) (before names after : List (List ℕ)) (listed mid now : List ℕ) (n : ℕ)
     → Takes before (texts_of (take i row)) listed names mid → i < length row → distinct_texts names ≡ names
     → after ≡ distinct_texts (names ++ text_of (get_or row i d).now ∷ []) → slice_get after n ≡ Some (text_of (get_or row i d).now) → now ≡ mid ++ n ∷ []
@@ -95,7 +94,7 @@ takes-more row i d before names after listed mid now n takes within distinct is 
     ap texts_of (take_more row i d within) ∙ map-append (λ (t : Bor (List ℕ)). text_of t.now) (take i row) (get_or row i d ∷ []) in
     rw more (takes-push before (texts_of (take i row)) names after listed mid now (text_of (get_or row i d).now) n takes distinct is at pushed)
 
--- the texts before the place i are taken, and the one there is refused
+-- the first i texts, and the next fails
 pub stops-at : (row : List (Bor (List ℕ))) (i : ℕ) (d : Bor (List ℕ)) (before names after : List (List ℕ)) (listed now : List ℕ) (error : InternError)
     → Takes before (texts_of (take i row)) listed names now → i < length row → after ≡ names → IsRefusal names (text_of (get_or row i d).now) error
     → StopsAt before (texts_of row) listed after now error

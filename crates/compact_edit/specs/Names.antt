@@ -8,36 +8,34 @@ use Rattle.compact_str.specs.Text.{text_of}
 use Rattle.compact_edit.specs.declared.intern.InternError.{InternError}
 use Rattle.compact_edit.specs.declared.intern.InternError.TheVariants.{Reserve, Full}
 
--- t is one of ts
 abbrev pub contains : List (List ℕ) → List ℕ → Bool
 contains ts t = list_any (pointwise nat_eq t) ts
 
--- ts without t
 abbrev pub texts_without : List ℕ → List (List ℕ) → List (List ℕ)
 texts_without t ts = filter (λ u. not (pointwise nat_eq t u)) ts
 
--- the distinct texts of a list, by first occurrence
+-- the distinct texts, by first occurrence
 abbrev pub distinct_texts : List (List ℕ) → List (List ℕ)
 distinct_texts [] = []
 distinct_texts (t ∷ ts) = t ∷ texts_without t (distinct_texts ts)
 
--- the number of each text is its place among the names
+-- the number of each text is its index among the names
 abbrev pub AreNumbersOf : List (List ℕ) → List (List ℕ) → List ℕ → Type 0
 AreNumbersOf names texts numbers = AllZip (λ t n. slice_get names n ≡ Some t) texts numbers
 
--- The texts are taken in turn: what the names are then, and the numbers, which stand behind those that were listed.
+-- all texts are interned: the names afterwards, and the numbers, after those that were listed
 pub record Takes (before texts : List (List ℕ)) (listed : List ℕ) (after : List (List ℕ)) (now_listed : List ℕ) : Type 0 where
   pub names : after ≡ distinct_texts (before ++ texts)
   pub numbers : List ℕ
   pub behind : now_listed ≡ listed ++ numbers
   pub places : AreNumbersOf after texts numbers
 
--- Why a text that is no name has no number: for want of memory where a number is left, or no number is left. A name has one.
+-- the error of a new text: allocation failed with a number left, or no number is left
 abbrev pub IsRefusal : List (List ℕ) → List ℕ → InternError → Type 0
 IsRefusal names t (Reserve error) = (contains names t ≡ false) × (length names < 4294967295)
 IsRefusal names t Full = (length names ≡ 4294967295) × (contains names t ≡ false)
 
--- The texts up to one that is refused are taken.
+-- the texts before the first that fails are interned
 pub record StopsAt (before texts : List (List ℕ)) (listed : List ℕ) (after : List (List ℕ)) (now_listed : List ℕ) (error : InternError) : Type 0 where
   pub taken_texts : List (List ℕ)
   pub refused_text : List ℕ
@@ -46,18 +44,17 @@ pub record StopsAt (before texts : List (List ℕ)) (listed : List ℕ) (after :
   pub takes : Takes before taken_texts listed after now_listed
   pub why : IsRefusal after refused_text error
 
--- No text is taken, since the list, which stays as it was, has less room than there are texts, and more is refused.
+-- no text is interned: reserving room for the numbers failed, and the list is unchanged
 pub record FindsNoRoom (before texts : List (List ℕ)) (listed : Vec ℕ) (after : List (List ℕ)) (now_listed : Vec ℕ) (error : InternError) : Type 0 where
   pub refused : error ≡ Reserve (record {})
   pub names : after ≡ before
   pub numbers : now_listed.items ≡ listed.items
   pub room : vec_capacity listed < vec_len listed + length texts
 
--- Not all texts are taken: there is no room for their numbers, or one of them is refused.
+-- not all texts are interned: there is no room for their numbers, or one fails
 abbrev pub StopsEarly : List (List ℕ) → List (List ℕ) → Vec ℕ → List (List ℕ) → Vec ℕ → InternError → Type 0
 StopsEarly before texts listed after now_listed error =
     FindsNoRoom before texts listed after now_listed error ⊎ StopsAt before texts listed.items after now_listed.items error
 
--- the texts of a row
 abbrev pub texts_of : List (Bor (List ℕ)) → List (List ℕ)
 texts_of row = map (λ t. text_of t.now) row

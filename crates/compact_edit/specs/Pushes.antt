@@ -1,4 +1,4 @@
--- What a run moves, and a list of texts that are pushed one after another.
+-- The bytes that a run moves, and repeated pushes.
 use Rattle.std.specs.Prelude.{◌≡◌, ℕ, ◌+◌, List, [], ◌∷◌, Bool, not, ◌&&◌, map, nat_eq, if◌then◌else◌}
 use Rattle.std.specs.Borrow.{Bor}
 use Rattle.compact_str.specs.Text.{size}
@@ -18,18 +18,17 @@ same_place static q = is_static q
 abbrev pub same_placement : Placement → Placement → Bool
 same_placement p q = same_place p.place q.place && nat_eq p.capacity q.capacity
 
--- how many bytes a step from v to w moves: those of v's text, where place or capacity has changed
+-- the bytes moved by a step from v to w: the text of v, if the place or the capacity changes
 abbrev pub bytes_moved_by_step : PlacedText → PlacedText → ℕ
 bytes_moved_by_step v w = if same_placement v.placement w.placement then 0 else size v.text
 
--- how many bytes the steps of a run move together
+-- their sum over a run
 abbrev pub bytes_moved : {P : Type 0} (g : Growth) (v : PlacedText) (edits : List (Edit P)) (replies : List (Reply P)) (w : PlacedText) → Run g v edits replies w → ℕ
 bytes_moved g v [] [] w run = 0
 bytes_moved g v (edit ∷ edits) (reply ∷ replies) w run = bytes_moved_by_step v run.0 + bytes_moved g run.0 edits replies w run.2
 bytes_moved g v [] (reply ∷ replies) w run = 0
 bytes_moved g v (edit ∷ edits) [] w run = 0
 
--- how many of the replies are refusals
 abbrev pub refusal_count : {P : Type 0} → List (Reply P) → ℕ
 refusal_count [] = 0
 refusal_count (Done ∷ replies) = refusal_count replies
@@ -38,7 +37,7 @@ refusal_count (Text t ∷ replies) = refusal_count replies
 refusal_count (BadPosition ∷ replies) = refusal_count replies
 refusal_count (Refused e ∷ replies) = 1 + refusal_count replies
 
--- the texts, pushed in order onto the empty value by a run, leave w; the run moves so many bytes, and so many pushes are refused
+-- the texts, pushed in order onto the empty value, leave w, with that many bytes moved and that many pushes failed
 abbrev pub PushesTo : (P : Type 0) → Growth → List (Bor (List ℕ)) → PlacedText → ℕ → ℕ → Type 0
 PushesTo P g texts w bytes count =
     let edits : List (Edit P) = map PushStr texts in

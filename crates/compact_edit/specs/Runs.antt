@@ -1,4 +1,4 @@
--- What a list of edits does to a value.
+-- Lists of edits.
 use Rattle.std.specs.Prelude.{◌≡◌, List, [], ◌∷◌, ◌++◌}
 use Rattle.compact_str.specs.Value.{PlacedText}
 use Rattle.compact_str.specs.Capacity.{Growth}
@@ -13,6 +13,6 @@ Run g v (edit ∷ edits) (reply ∷ replies) w = (u : PlacedText) × Step g v ed
 Run g v [] (reply ∷ replies) w = ⊥
 Run g v (edit ∷ edits) [] w = ⊥
 
--- the replies after those that stood are a run
+-- the replies after those of the list are a run
 abbrev pub RunsTo : {P : Type 0} → Growth → PlacedText → List (Edit P) → List (Reply P) → List (Reply P) → PlacedText → Type 0
 RunsTo {P} g v edits before after w = (replies : List (Reply P)) × (after ≡ before ++ replies) × Run g v edits replies w

@@ -1,4 +1,4 @@
--- What one edit does to a value, and what it answers.
+-- Single edits: the value afterwards, and the reply.
 use Rattle.std.specs.Prelude.{IsTrue, ◌≡◌, ℕ, ◌<◌, Bool, ◌||◌, false, Option, Some, [], ◌∷◌}
 use Rattle.std.specs.Char.{len_utf8}
 use Rattle.compact_str.specs.Text.{text_of, size}
@@ -15,7 +15,7 @@ use Rattle.compact_edit.specs.declared.edit.Edit.TheVariants.{Push, PushStr, Pop
 use Rattle.compact_edit.specs.declared.edit.Reply.{Reply}
 use Rattle.compact_edit.specs.declared.edit.Reply.TheVariants.{Done, Char, Text, BadPosition, Refused}
 
--- the positions that the edit needs are boundaries of v
+-- the positions of the edit are boundaries of v, as it requires
 abbrev pub IsLegal : {P : Type 0} → PlacedText → Edit P → Type 0
 IsLegal v (Push c) = Unit {0}
 IsLegal v (PushStr s) = Unit {0}
@@ -38,7 +38,7 @@ IsLegal v Zeroize = Unit {0}
 IsLegal v (Repeat n) = Unit {0}
 IsLegal v (CloneFrom source) = Unit {0}
 
--- the edit asks for a heap buffer, so that it may be refused
+-- the edit allocates a heap buffer, and so may fail
 abbrev pub edit_allocates : {P : Type 0} → PlacedText → Edit P → Bool
 edit_allocates v (Push c) = push_str_allocates v (c ∷ [])
 edit_allocates v (PushStr s) = push_str_allocates v (text_of s.now)
@@ -64,7 +64,7 @@ edit_allocates v (CloneFrom source) = clone_from_allocates v source.now
 abbrev pub EditAllocates : {P : Type 0} → PlacedText → Edit P → Type 0
 EditAllocates v edit = IsTrue (edit_allocates v edit)
 
--- what the edit answers and leaves where it is done
+-- the reply and the value of an edit that succeeds
 abbrev pub EditDoes : {P : Type 0} → Growth → PlacedText → Edit P → Reply P → PlacedText → Type 0
 EditDoes g v (Push c) reply w = (reply ≡ Done) × (push_str g v (c ∷ []) ≡ Some w)
 EditDoes g v (PushStr s) reply w = (reply ≡ Done) × (push_str g v (text_of s.now) ≡ Some w)
@@ -90,7 +90,7 @@ EditDoes g v Zeroize reply w = (reply ≡ Done) × (w ≡ zeroize v)
 EditDoes g v (Repeat n) reply w = (all : PlacedText) × (reply ≡ Text all) × (repeat g v n ≡ Some all) × (w ≡ v)
 EditDoes g v (CloneFrom source) reply w = (reply ≡ Done) × (clone_from g v source.now ≡ Some w)
 
--- from v the edit may get this reply and leave w
+-- the edit may turn v into w with this reply
 abbrev pub Step : {P : Type 0} → Growth → PlacedText → Edit P → Reply P → PlacedText → Type 0
 Step g v edit BadPosition w = (w ≡ v) × ¬ (IsLegal v edit)
 Step g v edit (Refused e) w = (w ≡ v) × IsLegal v edit × EditAllocates v edit

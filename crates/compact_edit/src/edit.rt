@@ -1,65 +1,85 @@
-//! An edit, and the answer to it.
+//! The type of an edit, and that of its reply.
 
 use compact_str::{Policy, PolicyString, ReserveError};
 use std::ops::Bound;
 
-/// A change of a value. Positions and lengths are counted in bytes.
+/// A change of a value. Positions and lengths are in bytes.
+///
+/// # Examples
+///
+/// ```
+/// let mut value = CompactString::new(alloc, "naïve")?;
+/// let mut replies = Vec::new(alloc);
+/// let edits = [Edit::Remove(2), Edit::InsertStr(2, "i")];
+/// run(&mut value, &edits, &mut replies)?;
+/// assert_eq!(rt; value.as_str(), "naive");
+/// ```
 #[derive(Drop)]
 pub enum Edit<'a, P: Policy> {
     /// Appends a character.
     Push(char),
     /// Appends a text.
     PushStr(&'a str),
-    /// Takes the last character off.
+    /// Removes the last character.
     Pop,
-    /// Puts a character in.
+    /// Inserts a character at a position.
     Insert(usize, char),
-    /// Puts a text in.
+    /// Inserts a text at a position.
     InsertStr(usize, &'a str),
-    /// Takes the character out that begins at a position.
+    /// Removes the character that begins at a position.
     Remove(usize),
-    /// Keeps the first bytes.
+    /// Shortens the text to a length.
     Truncate(usize),
-    /// Leaves the empty text.
+    /// Removes all characters.
     Clear,
-    /// Keeps what stands before a position, and answers the rest.
+    /// Splits the text at a position: keeps the part before it, and returns the rest.
     SplitOff(usize),
-    /// Replaces a range by a text.
+    /// Replaces a range with a text.
     ReplaceRange(Bound<usize>, Bound<usize>, &'a str),
-    /// Takes a range out, and answers it.
+    /// Removes a range, and returns its text.
     Drain(Bound<usize>, Bound<usize>),
-    /// Keeps the characters whose answer is `true`: the first answer is that of the first character, and a character with
-    /// no answer stays.
+    /// Keeps the characters whose flag is `true`, the first flag being that of the first character. A character with no
+    /// flag is kept.
     Retain(&'a [bool]),
-    /// Makes room for so many more bytes.
+    /// Reserves room for that many more bytes.
     Reserve(usize),
-    /// Gives room back, but for so many bytes.
+    /// Shrinks the capacity to at least the length and a lower limit.
     ShrinkTo(usize),
-    /// Gives room back, but for the text.
+    /// Shrinks the capacity to the length.
     ShrinkToFit,
     /// Makes A to Z lowercase.
     MakeLower,
     /// Makes a to z uppercase.
     MakeUpper,
-    /// Leaves the empty text, and writes zero over every byte of the value's own.
+    /// Removes all characters, and writes zeros over every byte that the value owns.
     Zeroize,
-    /// Answers the text so many times, one after another.
+    /// Returns the text, repeated that often.
     Repeat(usize),
     /// Makes the value a clone of another.
     CloneFrom(&'a PolicyString<P>),
 }
 
-/// What an edit answers.
+/// The reply to an edit.
+///
+/// # Examples
+///
+/// ```
+/// let mut value = CompactString::new(alloc, "clé=été")?;
+/// let mut replies = Vec::new(alloc);
+/// run(&mut value, &[Edit::SplitOff(5)], &mut replies)?;
+/// assert!(rt; matches!(replies.as_slice(), [Reply::Text(rest)] if rest.as_str() == "été"));
+/// assert_eq!(rt; value.as_str(), "clé=");
+/// ```
 #[derive(Drop)]
 pub enum Reply<P: Policy> {
-    /// The edit is done.
+    /// Done.
     Done,
-    /// The edit is done, and this is the character that it took; `None` where the text was empty.
+    /// Done, with the character that was removed; `None` if the text was empty.
     Char(Option<char>),
-    /// The edit is done, and this is the text that it gives.
+    /// Done, with the text that the edit returns.
     Text(PolicyString<P>),
-    /// A position of the edit is no boundary of the text, and the value is as it was before the edit.
+    /// A position is not a character boundary, or out of range. The value is unchanged.
     BadPosition,
-    /// Room was refused, and the value is as it was before the edit.
+    /// Allocation failed. The value is unchanged.
     Refused(ReserveError),
 }

@@ -1,4 +1,4 @@
-//! Names by number.
+//! The interner: a number for each distinct text.
 ghost use Rattle.std.specs.Prelude.{◌≡◌, ◌<◌, ◌≤◌, ◌↔◌, ℕ, List, [], ◌∷◌, ◌++◌, length, Some, IsOk, IsSome, IfOk, IfErr, OnOk, OnErr, option_map, slice_get};
 ghost use Rattle.std.specs.Prelude.{false};
 ghost use Rattle.compact_str.specs.Text.{size, text_of, utf8};
@@ -10,13 +10,13 @@ use std::alloc::Global;
 use std::marker::Model;
 use thiserror::Error;
 
-/// Why a text has no number.
+/// The error of [`Interner::intern`] and [`Interner::intern_all`].
 #[derive(Debug, Drop, Error)]
 pub enum InternError {
-    /// Memory was refused.
+    /// Allocation failed.
     #[error("{0}")]
     Reserve(ReserveError),
-    /// 2^32 - 1 names stand, and the text is none of them.
+    /// All 2^32 - 1 numbers are in use.
     #[error("interner is full")]
     Full,
 }
@@ -26,23 +26,30 @@ impl From<ReserveError> for InternError {
 
     ghost from_gives = { λ e error. error ≡ Reserve e };
 
-    /// The case `Reserve`.
+    /// Wraps the error in `Reserve`.
     fn from(error: ReserveError) -> Self {
         InternError::Reserve(error)
     }
 }
 
-/// How many names an interner has at most: 2^32 - 1, so that each number is a `u32` and so is their count.
+/// The most names of an interner, 2^32 - 1: the count is a `u32` as well.
 const MAX_COUNT: usize = 4294967295;
 
-/// The distinct texts that were taken, by first occurrence. The number of a text is its place, from 0, and stays.
+/// A set of distinct texts, numbered from 0 in the order of their first occurrence. A number never changes.
 ///
-/// After `a`, `b`, `a` and the empty text the names are `a`, `b` and the empty text, with the numbers 0, 1 and 2.
+/// # Examples
+///
+/// ```
+/// let mut names = Interner::new(alloc);
+/// let number = names.intern("café")?;
+/// assert_eq!(rt; names.intern("café")?, number);
+/// assert_eq!(rt; names.name(number), Some("café"));
+/// ```
 pub struct Interner {
     names: IndexSet<CompactString>,
 }
 
-/// It is dropped by one call, so that no function that has one takes the names apart at its ends.
+/// A manual `Drop`: a derived one is expanded in the proof of every function that owns an interner.
 impl Drop for Interner {
     fn drop(self) {
         let Interner { names } = self;
@@ -63,7 +70,15 @@ impl Model for Interner {
 }
 
 impl Interner {
-    /// No names, which takes no memory.
+    /// Creates an empty interner, without allocating.
+    ///
+    /// # Examples
+    ///
+    /// ```
+    /// let names = Interner::new(alloc);
+    /// assert_eq!(rt; names.len(), 0);
+    /// assert_eq!(rt; names.name(0), None);
+    /// ```
     pub fn new(alloc: Global) -> Interner
         ensures { result ≡ [] }
     {
@@ -72,7 +87,11 @@ impl Interner {
         }
     }
 
-    /// How many names stand, at most 2^32 - 1.
+    /// Returns the number of names, at most 2^32 - 1.
+    ///
+    /// # Examples
+    ///
+    /// See [`intern`](Interner::intern).
     #[tactic(auto, using(crate::proofs::NameFacts::name_facts))]
     pub fn len(&self) -> usize
         ensures len { result ≡ length self.now }
@@ -82,11 +101,16 @@ impl Interner {
         self.names.len()
     }
 
-    /// The name with this number, or `None` exactly where fewer stand.
+    /// Returns the name with this number, or `None` if there is none.
     ///
     /// # Examples
     ///
-    /// After `intern("a")` on a new interner, `name(0)` is `Some("a")` and `name(1)` is `None`.
+    /// ```
+    /// let mut names = Interner::new(alloc);
+    /// let number = names.intern("café")?;
+    /// assert_eq!(rt; names.name(number), Some("café"));
+    /// assert_eq!(rt; names.name(1), None);
+    /// ```
     pub fn name(&self, number: u32) -> Option<&str>
         ensures text { option_map (λ name. text_of name.now) result ≡ slice_get self.now number }
         ensures found { IsSome result ↔ (number < length self.now) }
@@ -95,17 +119,23 @@ impl Interner {
         Some(name.as_str())
     }
 
-    /// The number of `text`: its own if it is a name, else the next one, and `text` is the last name then. A name is
-    /// found by its bytes, with no copy, so a known one is never refused.
+    /// Returns the number of `text`. If `text` is new, it is copied and gets the next number. A known text is not
+    /// copied, and never fails.
     ///
     /// # Errors
     ///
-    /// `Reserve` if no memory is found for the copy of a new text, or for the table of the names. `Full` if 2^32 - 1
-    /// names stand. The names are then as they were.
+    /// Returns `Reserve` if the copy or the table of names cannot be allocated, and `Full` if all 2^32 - 1 numbers are
+    /// in use. The names are unchanged then.
     ///
     /// # Examples
     ///
-    /// On a new interner `intern("a")` is 0, `intern("b")` is 1, and `intern("a")` is 0 again.
+    /// ```
+    /// let mut names = Interner::new(alloc);
+    /// assert_eq!(rt; names.intern("é")?, 0);
+    /// assert_eq!(rt; names.intern("")?, 1);
+    /// assert_eq!(rt; names.intern("é")?, 0);
+    /// assert_eq!(rt; names.len(), 2);
+    /// ```
     #[tactic(auto, using(crate::proofs::NameFacts::name_facts))]
     pub fn intern(&mut self, text: &str) -> Result<u32, InternError>
         ensures names { OnOk result
@@ -123,7 +153,7 @@ impl Interner {
         self.add(text)
     }
 
-    /// Puts a text that is no name behind the names. It stands apart, so that the look-up saves no register for it.
+    /// Appends a new text. Not inlined, so that the lookup saves no register for it.
     #[cold]
     #[inline(never)]
     #[tactic(auto, using(crate::proofs::NameFacts::name_facts))]
@@ -150,17 +180,23 @@ impl Interner {
         Ok(place as u32)
     }
 
-    /// Takes each text in turn, as `intern` does, and puts its number behind those in the list. Room for all numbers is
-    /// made first. No texts are never refused.
+    /// Interns each text in order, and appends its number to `numbers`. Reserves room for all numbers first. Never
+    /// fails if `texts` is empty.
     ///
     /// # Errors
     ///
-    /// `Reserve` if there is no room for the numbers; then no text is taken, and the list is as it was. Else the error
-    /// of the first text that `intern` refuses: the texts before it are taken, and their numbers stand in the list.
+    /// Returns `Reserve` if there is no room for the numbers; names and numbers are unchanged then. Otherwise returns
+    /// the error of the first text that fails: the texts before it are interned, and their numbers appended.
     ///
     /// # Examples
     ///
-    /// Of `a`, `b`, `a` and the empty text a new interner gives 0, 1, 0 and 2.
+    /// ```
+    /// let mut names = Interner::new(alloc);
+    /// let mut numbers = Vec::new(alloc);
+    /// names.intern_all(&["né", "e", "né", ""], &mut numbers)?;
+    /// assert_eq!(rt; numbers.as_slice(), [0, 1, 0, 2].as_slice());
+    /// assert_eq!(rt; names.name(2), Some(""));
+    /// ```
     #[tactic(auto, using(crate::proofs::NameFacts::list_facts))]
     pub fn intern_all(&mut self, texts: &[&str], numbers: &mut Vec<u32>) -> Result<(), InternError>
         ensures ok { OnOk result (Takes self.old (texts_of texts.now) numbers.old.items
@@ -171,7 +207,7 @@ impl Interner {
             → slice_get self.old n ≡ Some name → slice_get self.new n ≡ Some name }
         ensures empty { texts.now ≡ [] → IsOk result }
     {
-        // The proof reads from it that the names are distinct, also where no text comes.
+        // For the proof: the names are distinct, even if `texts` is empty.
         let _distinct = self.len();
         if numbers.reserve(texts.len()).is_err() {
             return Err(InternError::Reserve(ReserveError));

@@ -1,12 +1,12 @@
-//! Lists of edits, run on a value.
+//! Lists of edits, bounded growth and an interner.
 //!
-//! `run` is where this library's main promise stands: for every list of edits run on any value, each answer and the
-//! text after it are those of a plain list of characters, place and capacity follow the rules of `specs/`, and an edit
-//! that is refused leaves text, place and capacity as they were.
+//! [`run`] states this library's main promise: for every list of edits on any value, each reply and each resulting text
+//! are those of a plain list of characters, place and capacity follow the rules of `specs/`, and an edit that fails
+//! changes nothing.
 //!
-//! `run_pushes` builds a text by many pushes, and bounds how many bytes that moves, under any growth policy.
+//! [`run_pushes`] builds a text by many pushes, and bounds the bytes that this moves, under any growth policy.
 //!
-//! `Interner` gives each distinct text a number, the place of its first occurrence.
+//! [`Interner`] numbers distinct texts by their first occurrence.
 #![tactic(auto)]
 
 mod edit;

@@ -1,4 +1,4 @@
-//! Texts that are pushed one after another, with a count of the bytes that this moves.
+//! Repeated pushes, with a count of the bytes moved.
 ghost use Rattle.std.specs.Prelude.{◌≡◌, ◌+◌, ◌-◌, ◌*◌, ◌/◌, ◌≤◌, flat_map, Some, max, IfOk, OnErr};
 ghost use Rattle.compact_str.specs.Text.{size, text_of};
 ghost use Rattle.compact_str.specs.Calls.{push_str, PushStrAllocates};
@@ -7,28 +7,34 @@ ghost use Rattle.compact_edit.specs.Pushes.{PushesTo, bytes_moved_by_step};
 use compact_str::{Policy, PolicyString, ReserveError};
 use std::alloc::Global;
 
-/// What a list of texts leaves that are pushed onto the empty value.
+/// The result of [`run_pushes`].
 #[derive(Drop)]
 pub struct PushReport<P: Policy> {
-    /// The value, with the texts of the pushes that were done.
+    /// The value, with the texts of all pushes that succeeded.
     pub value: PolicyString<P>,
-    /// How many bytes were moved: the lengths that the text had before each push that changed its place or capacity,
-    /// added up.
+    /// The number of bytes moved: the sum of the lengths before each push that changed the place or the capacity.
     pub moved: u64,
-    /// How many pushes were refused.
+    /// The number of pushes that failed.
     pub refused: usize,
 }
 
-/// Pushes each text, in order, onto the empty value, and goes on after a push that is refused, which changes nothing. A
-/// push is refused only where it asks for a heap buffer, so none is if the texts have at most 24 bytes together.
+/// Pushes each text onto an empty value, in order. A push that fails changes nothing, and the next one goes on. Only a
+/// push that allocates can fail, so none does if the texts have at most 24 bytes together.
 ///
-/// Take a policy that grows by p/q, with a least heap capacity of h, and N bytes in the end. Then `(p - q) * moved` is
-/// at most `(p + q) * N`, and the capacity at most h or `p * N / q`, whichever is more. Under `Standard`, `moved` is at
-/// most five times N.
+/// For a policy that grows by p/q from at least h bytes, and N bytes in the end, `(p - q) * moved` is at most
+/// `(p + q) * N`, and the capacity at most the greater of h and `p * N / q`. Under `Standard`, `moved` is at most five
+/// times N.
 ///
 /// # Examples
 ///
-/// Texts of 24, 1 and 12 bytes give 37 bytes with a capacity of 37, and `moved` is 24 + 25.
+/// ```
+/// let texts = ["24 bytes, inline storage", "!", "twelve bytes"];
+/// let report = run_pushes::<Standard>(alloc, &texts);
+/// assert_eq!(rt; report.value.as_str(), "24 bytes, inline storage!twelve bytes");
+/// assert_eq!(rt; report.value.capacity(), 37);
+/// assert_eq!(rt; report.moved, 24 + 25);
+/// assert_eq!(rt; report.refused, 0);
+/// ```
 pub fn run_pushes<P: Policy>(alloc: Global, texts: &[&str]) -> PushReport<P>
     ensures run { PushesTo P P.growth texts.now result.value result.moved result.refused }
     ensures text { result.refused ≡ 0
@@ -56,9 +62,9 @@ pub fn run_pushes<P: Policy>(alloc: Global, texts: &[&str]) -> PushReport<P>
     }
 }
 
-/// Pushes a text, and answers how many bytes that moves.
+/// Pushes a text, and returns the number of bytes moved.
 ///
-/// A push that changes the place changes the capacity too, so only that is looked at.
+/// Compares only the capacities: a push that changes the place changes the capacity too.
 fn push_counted<P: Policy>(value: &mut PolicyString<P>, text: &str) -> Result<u64, ReserveError>
     ensures ok { IfOk result
         (λ bytes. push_str P.growth value.old (text_of text.now) ≡ Some value.new) }

@@ -1,4 +1,4 @@
-//! How edits are run.
+//! Running edits.
 ghost use Rattle.std.specs.Prelude.{◌≡◌, ◌+◌, ◌≤◌, [], length, drop, Some, vec_len, vec_capacity, IfOk, OnOk, OnErr, IsOk, MatchResult};
 ghost use Rattle.compact_str.specs.Text.{size};
 ghost use Rattle.compact_str.specs.Cut.{substring};
@@ -13,18 +13,24 @@ use crate::edit::{Edit, Reply};
 use compact_str::{Policy, PolicyString, ReserveError};
 use std::ops::Bound;
 
-/// Runs each edit on `value`, in order, and puts one reply for each after those that stand in `replies`. An edit that
-/// is refused, or whose position is no boundary, leaves the value as it was; its reply says so, and the edits after it
-/// are run.
+/// Runs each edit on `value`, in order, and appends one reply for each to `replies`. An edit that fails, or whose
+/// position is not a boundary, leaves the value unchanged; the next edit goes on.
 ///
 /// # Errors
 ///
-/// [`ReserveError`] if room for all replies, which is made first, is refused; then nothing is run, and value and
-/// replies are as they were. An empty list is never refused.
+/// Returns [`ReserveError`] if there is no room for all replies, which is reserved first. No edit is run then, and
+/// value and replies are unchanged. Never fails if `edits` is empty.
 ///
 /// # Examples
 ///
-/// On `"ab"` the edits `Push('c')` and `Pop` reply `Done` and `Char(Some('c'))`, and leave `"ab"`.
+/// ```
+/// let mut value = CompactString::new(alloc, "café")?;
+/// let mut replies = Vec::new(alloc);
+/// let edits = [Edit::Push('s'), Edit::Insert(4, 'x'), Edit::Pop];
+/// run(&mut value, &edits, &mut replies)?;
+/// assert!(rt; matches!(replies.as_slice(), [Reply::Done, Reply::BadPosition, Reply::Char(Some('s'))]));
+/// assert_eq!(rt; value.as_str(), "café");
+/// ```
 pub fn run<P: Policy>(
     value: &mut PolicyString<P>,
     edits: &[Edit<P>],
@@ -47,7 +53,6 @@ pub fn run<P: Policy>(
     Ok(())
 }
 
-/// Runs one edit.
 fn apply<P: Policy>(value: &mut PolicyString<P>, edit: &Edit<P>) -> Reply<P>
     ensures { Step P.growth value.old edit.now result value.new }
 {
@@ -153,7 +158,7 @@ fn replace_range<P: Policy>(
     }
 }
 
-/// The answer is made before the value is made owned, so that a refusal of either changes nothing.
+/// Copies the range before the value becomes owned, so that nothing is changed if either fails.
 fn drain<P: Policy>(value: &mut PolicyString<P>, start: Bound<usize>, end: Bound<usize>) -> Reply<P>
     ensures { Step P.growth value.old (Edit.Drain start end) result value.new }
 {
@@ -170,7 +175,7 @@ fn drain<P: Policy>(value: &mut PolicyString<P>, start: Bound<usize>, end: Bound
     }
 }
 
-/// A new value of what stands in a range.
+/// Copies a range into a new value.
 #[tactic(auto, using(compact_str::proofs::ForCallers::for_callers))]
 fn copy_of_range<P: Policy>(
     value: &PolicyString<P>,
@@ -188,7 +193,7 @@ fn copy_of_range<P: Policy>(
     PolicyString::new(value.allocator(), value.range(start, end))
 }
 
-/// Takes a range out.
+/// Removes a range.
 fn take_out<P: Policy>(
     value: &mut PolicyString<P>,
     start: Bound<usize>,
@@ -204,7 +209,7 @@ fn take_out<P: Policy>(
     Ok(())
 }
 
-/// Keeps the characters whose answer is `true`, and those that have none.
+/// Keeps the characters whose flag is `true`, and those with no flag.
 fn retain<P: Policy>(value: &mut PolicyString<P>, answers: &[bool]) -> Result<(), ReserveError>
     ensures ok { OnOk result
         (retain P.growth value.old (retained_text answer_rule answers.now value.old.text)
@@ -220,7 +225,7 @@ fn retain<P: Policy>(value: &mut PolicyString<P>, answers: &[bool]) -> Result<()
     Ok(())
 }
 
-/// The next of some answers, which is `true` where they have run out, and the answers after it.
+/// Splits off the first flag; it is `true` if there is none.
 fn next_answer(answers: &[bool]) -> (bool, &[bool])
     ensures { (result.0 ≡ next_answer answers.now) × (result.1.now ≡ drop 1 answers.now) }
 {
@@ -230,7 +235,7 @@ fn next_answer(answers: &[bool]) -> (bool, &[bool])
     }
 }
 
-/// The reply to an edit that answers nothing else.
+/// Converts the result of an edit that returns nothing.
 fn reply_to<P: Policy>(outcome: Result<(), ReserveError>) -> Reply<P>
     ensures { MatchResult outcome (λ _. result ≡ Reply.Done) (λ e. result ≡ Reply.Refused e) }
 {
@@ -240,7 +245,7 @@ fn reply_to<P: Policy>(outcome: Result<(), ReserveError>) -> Reply<P>
     }
 }
 
-/// The reply to an edit that answers a text.
+/// Converts the result of an edit that returns a text.
 fn reply_with<P: Policy>(outcome: Result<PolicyString<P>, ReserveError>) -> Reply<P>
     ensures { MatchResult outcome (λ t. result ≡ Reply.Text t) (λ e. result ≡ Reply.Refused e) }
 {

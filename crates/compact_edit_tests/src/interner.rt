@@ -1,4 +1,4 @@
-//! The interner: numbers and names, refused memory, and many words beside a plain list.
+//! The interner: numbers and names, no memory, and many words compared with a plain list.
 
 use crate::asserts::{assert_equal, assert_that};
 use compact_asserts::that;
@@ -10,10 +10,10 @@ use compact_testing::values::letters;
 use std::alloc::Global;
 use std::process::Abort;
 
-/// Numbers that a list has before.
+/// The numbers already in a list.
 const EIGHT: [u32; 8] = [7, 6, 5, 4, 3, 2, 1, 0];
 
-/// 25 letters. It is a function so that a proof need not carry each letter.
+/// 25 `a`s. A function, so that a proof need not carry each one.
 fn long() -> &'static str {
     "zzzzzzzzzzzzzzzzzzzzzzzzz"
 }
@@ -23,22 +23,22 @@ fn assert_name(rt: &impl Abort, names: &Interner, number: u32, name: Option<&str
     assert_equal(rt, names.name(number), name);
 }
 
-/// Asserts how many names there are.
+/// Asserts the number of names.
 fn assert_count(rt: &impl Abort, names: &Interner, count: usize) {
     assert_equal(rt, names.len(), count);
 }
 
-/// The number of a text for which there is memory.
+/// Interns a text, with ample memory.
 fn number_of(rt: &impl Abort, names: &mut Interner, text: &str) -> u32 {
     names.intern(text).expect(rt, "memory")
 }
 
-/// Asserts the number of a text for which there is memory.
+/// Asserts the number of a text, with ample memory.
 fn is_number(rt: &impl Abort, names: &mut Interner, text: &str, number: u32) {
     assert_equal(rt, number_of(rt, names, text), number);
 }
 
-/// Asserts what `numbers` is after those of `texts` are appended, for which there is memory.
+/// Asserts `numbers` after those of `texts` are appended, with ample memory.
 fn are_numbers(
     rt: &impl Abort,
     names: &mut Interner,
@@ -50,7 +50,7 @@ fn are_numbers(
     assert_equal(rt, numbers.as_slice(), wanted);
 }
 
-/// Returns eight numbers in a list with no room for more.
+/// Returns eight numbers in a list that is full.
 fn eight_numbers(rt: &impl Abort, alloc: Global) -> Vec<u32> {
     let mut numbers = Vec::with_capacity(alloc, 8).expect(rt, "memory");
     for number in EIGHT {
@@ -59,7 +59,7 @@ fn eight_numbers(rt: &impl Abort, alloc: Global) -> Vec<u32> {
     numbers
 }
 
-/// Asserts that a list of texts is refused where no memory is left.
+/// Asserts that a list of texts fails when no memory is left.
 fn is_refused(
     rt: &impl Abort,
     alloc: Global,
@@ -73,7 +73,7 @@ fn is_refused(
     assert_that(rt, matches!(taken, Err(InternError::Reserve(_))));
 }
 
-/// Asserts that a text is refused for want of memory, and that so many names stand.
+/// Asserts that a text fails for lack of memory, leaving `count` names.
 fn assert_refused(rt: &impl Abort, names: &mut Interner, text: &str, count: usize) {
     assert_that(
         rt,
@@ -180,7 +180,7 @@ fn the_texts_before_a_refused_one_are_taken(rt: HostRuntime) {
     assert_count(rt, &names, 2);
 }
 
-/// The word of a number: every third one has more than 24 bytes.
+/// Returns the word of a number: every third one has more than 24 bytes.
 fn word(rt: &impl Abort, alloc: Global, id: u64) -> String {
     let text = if id.is_multiple_of(3) {
         format!(in alloc; "{id} is the number of this word")
@@ -190,7 +190,7 @@ fn word(rt: &impl Abort, alloc: Global, id: u64) -> String {
     text.expect(rt, "memory")
 }
 
-/// The words by first occurrence as a plain list, and beside each possible word its place there.
+/// The words by first occurrence as a plain list, and for each possible word its index there.
 #[derive(Drop)]
 struct PlainList {
     words: Vec<u64>,
@@ -207,7 +207,7 @@ impl PlainList {
         }
     }
 
-    /// The place of a word, which is put last if it is new.
+    /// Returns the index of a word, appending it if it is new.
     fn place_of(&mut self, rt: &impl Abort, id: u64) -> usize {
         if let Some(place) = self.places.get(id as usize).copied().flatten() {
             return place;
@@ -221,7 +221,7 @@ impl PlainList {
     }
 }
 
-/// Asserts that each name is the word of the list at its place.
+/// Asserts that each name is the word at its index in the list.
 fn assert_names(rt: &impl Abort, alloc: Global, names: &Interner, list: &PlainList) {
     that(names.len() == list.words.len()).expect(rt, "as many");
     for (place, id) in list.words.iter().enumerate() {

@@ -10,7 +10,7 @@ use std::alloc::Global;
 use std::ops::Bound::{Excluded, Included, Unbounded};
 use std::process::Abort;
 
-/// Asserts that each edit of `a` is answered by this name, and that the value is as it was.
+/// Asserts the reply to each edit of `a`, by name, and that the value is unchanged.
 fn assert_each(rt: &impl Abort, alloc: Global, edits: &[Edit<Standard>], name: &str) {
     let mut value = short(alloc, "a");
     let mut replies = Vec::new(alloc);

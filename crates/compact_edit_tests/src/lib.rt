@@ -1,5 +1,5 @@
-//! Tests of `compact_edit`: lists of edits that are run, random edits of inline texts, lists of pushes with what they move,
-//! and the interner.
+//! Tests of `compact_edit`: runs of edits, random edits of inline texts, runs of pushes and the bytes they move, and
+//! the interner.
 #![tactic(auto)]
 
 #[cfg(test)]

@@ -1,4 +1,4 @@
-//! Lists of pushes under several growth policies, with what they move; and other calls under those policies.
+//! Runs of pushes under several growth policies, with the bytes they move; and other calls under those policies.
 
 use crate::asserts::{assert_equal, assert_that};
 use compact_asserts::that;
@@ -11,27 +11,26 @@ use compact_testing::values::{append, letters};
 use std::alloc::Global;
 use std::process::Abort;
 
-/// Puts a letter in at a boundary, which is granted.
+/// Inserts `a` at a boundary, with ample memory.
 fn insert<P: Policy>(rt: &impl Abort, value: &mut PolicyString<P>, index: usize) {
     that(value.is_char_boundary(index)).expect(rt, "it holds");
     value.insert(index, 'a').expect(rt, "memory");
 }
 
-/// Takes the first letter out, which is granted.
+/// Removes the first `a`, with ample memory.
 fn remove_first<P: Policy>(rt: &impl Abort, value: &mut PolicyString<P>) {
     that(0 < value.len()).expect(rt, "it holds");
     that(value.is_char_boundary(0)).expect(rt, "it holds");
     assert_equal(rt, value.remove(0).expect(rt, "memory"), 'a');
 }
 
-/// Asserts how many bytes were moved, and how many pushes refused.
+/// Asserts how many bytes were moved, and how many pushes failed.
 fn assert_counts<P: Policy>(rt: &impl Abort, report: &PushReport<P>, moved: u64, refused: usize) {
     assert_equal(rt, report.moved, moved);
     assert_equal(rt, report.refused, refused);
 }
 
-/// Asserts that all of the texts, which are letters, are pushed, what buffer they then have, and how many bytes were
-/// moved.
+/// Asserts that all of the texts, which are `a`s, are pushed, the buffer they end in, and how many bytes were moved.
 fn assert_pushed<P: Policy>(
     rt: &impl Abort,
     alloc: Global,
@@ -77,7 +76,7 @@ fn no_texts_leave_the_empty_value(rt: HostRuntime) {
     assert_pushed_inline::<Standard>(&rt, rt.alloc(), &[], "");
 }
 
-/// Asserts what a thousand pushes of one byte leave.
+/// Asserts the result of a thousand pushes of one byte.
 fn assert_thousand<P: Policy>(rt: &impl Abort, alloc: Global, capacity: usize, moved: u64) {
     let report = run_pushes::<P>(alloc, &["a"; 1000]);
     assert_equal(rt, report.value.len(), 1000);
@@ -131,8 +130,8 @@ fn a_shrink_keeps_the_least_capacity(rt: HostRuntime) {
     assert_that(rt, is_heap(&value, 4096, letters(30)));
 }
 
-/// Asserts that one of some texts is refused, where one block of so many bytes is all memory that is left, how many letters
-/// then stand in that block, and how many bytes were moved.
+/// Asserts that one of some texts fails with only one block of `room` bytes free, how many `a`s that block then has,
+/// and how many bytes were moved.
 fn assert_one_refused(
     rt: &impl Abort,
     alloc: Global,

@@ -11,13 +11,13 @@ use compact_testing::values::letters;
 use std::alloc::Global;
 use std::process::Abort;
 
-/// A text of so many bytes, at most 40: of characters of one to four bytes where they come out even, else of letters.
+/// Returns a text of `size` bytes, at most 40: of characters of one to four bytes if they fit exactly, else of `a`s.
 fn text_of(size: usize) -> &'static str {
     const MIXED: &str = "aé€𝄞aé€𝄞aé€𝄞aé€𝄞";
     MIXED.get(..size).unwrap_or(letters(size))
 }
 
-/// What 200 reports add up to, and a checksum over each.
+/// The sums of 200 reports, and a checksum over each.
 #[derive(Drop)]
 struct Totals {
     bytes: u64,
@@ -27,7 +27,7 @@ struct Totals {
 }
 
 impl Totals {
-    /// The checksum times 31, and a number more.
+    /// Multiplies the checksum by 31 and adds a number.
     fn check(&mut self, number: u64) {
         self.checksum = self.checksum.wrapping_mul(31).wrapping_add(number);
     }
@@ -48,7 +48,7 @@ impl Totals {
     }
 }
 
-/// Pushes 200 lists of up to 299 texts of up to 40 bytes, drawn from 1 on.
+/// Pushes 200 lists of up to 299 texts of up to 40 bytes, drawn from seed 1.
 fn total<P: Policy>(alloc: Global) -> Totals {
     let mut draws = Random::new(1);
     let mut totals = Totals {

@@ -1,11 +1,11 @@
-//! What a list of edits answered.
+//! The replies to a list of edits.
 
 use crate::asserts::assert_equal;
 use compact_edit::Reply;
 use compact_str::Standard;
 use std::process::Abort;
 
-/// The name of a reply.
+/// Returns the name of a reply.
 fn name_of(reply: &Reply<Standard>) -> &'static str {
     match reply {
         Reply::Done => "done",
@@ -16,7 +16,7 @@ fn name_of(reply: &Reply<Standard>) -> &'static str {
     }
 }
 
-/// Asserts that there are so many replies, each of this name.
+/// Asserts `count` replies, each of this name.
 pub fn assert_all(rt: &impl Abort, replies: &[Reply<Standard>], count: usize, name: &str) {
     assert_equal(rt, replies.len(), count);
     for reply in replies {

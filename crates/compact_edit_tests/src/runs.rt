@@ -1,4 +1,4 @@
-//! Lists of edits that are run, with ample memory and with none.
+//! Runs of edits, with ample memory and with none.
 
 use crate::asserts::{assert_equal, assert_that};
 use crate::replies::assert_all;
@@ -11,12 +11,12 @@ use std::alloc::Global;
 use std::ops::Bound::{Excluded, Included};
 use std::process::Abort;
 
-/// Room for so many replies.
+/// Returns room for `count` replies.
 fn room_for(rt: &impl Abort, alloc: Global, count: usize) -> Vec<Reply<Standard>> {
     Vec::with_capacity(alloc, count).expect(rt, "memory")
 }
 
-/// Runs edits, for whose replies there is room.
+/// Runs edits, with room for their replies.
 fn run_all(
     rt: &impl Abort,
     value: &mut CompactString,
@@ -26,7 +26,7 @@ fn run_all(
     run(value, edits, replies).expect(rt, "room for the replies");
 }
 
-/// Runs edits, for whose replies there is memory, and asserts that each reply has this name.
+/// Runs edits, with ample memory, and asserts that each reply has this name.
 fn run_anew(
     rt: &impl Abort,
     alloc: Global,
@@ -74,7 +74,7 @@ fn a_range_is_drained(rt: HostRuntime) {
     assert_that(rt, is_inline(&value, "Hello!"));
 }
 
-/// A list of 40 replies and no room for nine more, even where an allocator rounds a request up.
+/// Returns 40 replies with no room for nine more, even if an allocator rounds up.
 fn forty_replies(rt: &impl Abort, alloc: Global) -> Vec<Reply<Standard>> {
     let mut replies = Vec::with_capacity(alloc, 40).expect(rt, "memory");
     for _ in 0..40 {
@@ -83,7 +83,7 @@ fn forty_replies(rt: &impl Abort, alloc: Global) -> Vec<Reply<Standard>> {
     replies
 }
 
-/// Asserts that a list of nine edits is not begun.
+/// Asserts that no edit of a list of nine is run.
 fn is_not_begun(rt: &impl Abort, value: &mut CompactString, replies: &mut Vec<Reply<Standard>>) {
     let edits: [Edit<Standard>; 9] = [
         Edit::Clear,
@@ -122,7 +122,7 @@ fn an_edit_with_no_room_for_its_reply_is_not_run(rt: HostRuntime) {
     assert_all(rt, &replies, 4, "done");
 }
 
-/// No edits are run even so.
+/// An empty list needs no room.
 #[test]
 fn a_run_with_no_room_for_replies_runs_nothing(rt: HostRuntime) {
     let rt = &rt;
@@ -142,7 +142,7 @@ fn text() -> &'static str {
     "äaaaaaaaaaaaaaaaaaaaaaaaaaaa"
 }
 
-/// Runs edits behind the end of that text and within its first character.
+/// Runs edits past the end of that text and within its first character.
 fn tells_bad_positions(
     rt: &impl Abort,
     value: &mut CompactString,
@@ -175,7 +175,7 @@ fn a_bad_position_is_told_before_a_refusal(rt: HostRuntime) {
     assert_all(rt, &replies, 12, "bad position");
 }
 
-/// Asserts what an edit answered: whether it was refused.
+/// Asserts whether an edit failed.
 fn was_refused(rt: &impl Abort, replies: &[Reply<Standard>], place: usize, refused: bool) {
     let reply = replies.get(place).expect(rt, "a reply");
     assert_equal(rt, matches!(reply, Reply::Refused(_)), refused);

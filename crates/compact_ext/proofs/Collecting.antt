@@ -1,4 +1,4 @@
--- What a formatter writes to a collector is what it writes to the value.
+-- A formatter that writes to a collector writes to its value.
 use Rattle.std.proofs.Common.{◌≡◌, ℕ, List, [], ◌∷◌, ap, IfSome, Option, Some, None, ◌∙◌, ◌++◌}
 use Rattle.std.specs.List.{FoldsTo}
 use Rattle.std.specs.Fmt.{WritesInCalls, WritesText}

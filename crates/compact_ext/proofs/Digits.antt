@@ -19,7 +19,7 @@ use Rattle.compact_ext.specs.declared.to_text.digits.TheConstants.{PAIRS}
 use Rattle.compact_ext.specs.Digits.{two_digits, four_digits, number_behind, number_text}
 use Rattle.compact_ext.proofs.NumberTexts.{IsAscii-number}
 
--- how many digits there are, by the power of ten that is reached
+-- the number of digits, by the power of ten reached
 
 power_of_ten : (k : ℕ) → 1 ≤ 10 ^ k
 power_of_ten zero = omega arith
@@ -60,7 +60,7 @@ pair_number p h = let e = pair-among 100 p tt h in rw (e.0, e.1) (omega arith)
 
 pub ruleset pairs_read = (pair_number)
 
--- the digits so far stand behind those that are still to come
+-- the digits still to come precede those so far
 
 behind-append : (text : ℕ) (top group : List ℕ) → number_behind text (top ++ group) ≡ number_behind (number_behind text group) top
 behind-append text top group =
@@ -95,7 +95,7 @@ one-digit n low = ap length (decimal_digit n low)
 pub two-long : (n : ℕ) → 10 ≤ n → n < 100 → length (decimal n) ≡ 2
 two-long n low high = ap length (decimal_two n low high)
 
--- the pair of a number below 100, without its nought
+-- the pair of a number below 100, without a leading zero
 pub first-pair : (n k : ℕ) → n < 100 → k ≡ length (decimal n) → le_number (two_digits n) / 2 ^ (8 * (2 - k)) ≡ le_number (decimal n)
 first-pair n k h e = rw e (cases n h)
   where
@@ -113,7 +113,7 @@ digits-fit n fits = le_number-lt (decimal n) (bytes-decimal n fits)
 
 pub ruleset first_digits = (one-digit, two-long)
 
--- below 10,000 there are two digits and the last one or two, or these alone
+-- a number below 10,000 is two digits and the last one or two, or these alone
 
 pub last-steps : (n p : ℕ) → n < 10000 → (n < 100 → p ≡ 0) → (100 ≤ n → p ≡ 1) → (p ≤ 1) × ((n - n / 100) * p ≤ n) × (n - (n - n / 100) * p < 100)
 last-steps n p h none one =
@@ -134,7 +134,7 @@ last-fits n h =
 append-two : (n c : ℕ) → n < 10000 → 100 ≤ n → c ≡ length (decimal (n / 100)) → le_number (decimal n) ≡ le_number (two_digits (n % 100)) * 2 ^ (8 * c) + le_number (decimal (n / 100))
 append-two n c h high e = rw e (ap le_number (decimal_pair n high (omega arith)) ∙ le_number-append (decimal (n / 100)) (two_digits (n % 100)))
 
--- a group of a pair and of the last one or two digits, which are `c`
+-- a group of a pair and the last one or two digits, which are `c`
 two-and-last : (n c : ℕ) → n < 10000 → 100 ≤ n → c ≡ length (decimal (n / 100)) → 1 ≤ c → c ≤ 2
     → le_number (two_digits (n % 100)) * 1 * 2 ^ (8 * c) % 2 ^ 64 + le_number (two_digits (n / 100)) / 2 ^ (8 * (2 - c)) ≡ le_number (decimal n)
 two-and-last n zero h high e some most = absurd (omega arith)
@@ -173,7 +173,7 @@ last-group n p c two last h none one many pair first =
 
 pub ruleset last_digits = (last-steps)
 
--- what shifts make of the text and a group: no bit is lost
+-- shifting the text for a group loses no bit
 
 pub moves : (k low high group : ℕ) → 1 ≤ k → k ≤ 4 → low < 2 ^ 128 → group < 2 ^ (8 * k) → high * 2 ^ 128 + low < 2 ^ 160
     → (low * 2 ^ (8 * k) % 2 ^ 128 + group < 2 ^ 128) × (low / 2 ^ 64 < 2 ^ 64)
@@ -186,7 +186,7 @@ moves (suc (suc (suc zero))) low high group some most a b c = (omega arith, omeg
 moves (suc (suc (suc (suc zero)))) low high group some most a b c = (omega arith, omega arith, omega arith, omega arith)
 moves (suc (suc (suc (suc (suc k))))) low high group some most a b c = absurd (omega arith)
 
--- a row is known by its number
+-- 24 bytes are determined by their number
 
 le_number-same : (xs ys : List ℕ) → AllBytes xs → AllBytes ys → length xs ≡ length ys → le_number xs ≡ le_number ys → xs ≡ ys
 le_number-same [] [] all each long e = refl
@@ -224,7 +224,7 @@ pub sign-fits : (s : Bool) (n : ℕ) → n < 2 ^ 64 → number_behind (le_number
 sign-fits true n h = omega (arith, number-fits n h)
 sign-fits false n h = omega (arith, number-fits n h)
 
--- the sign is a byte more
+-- the sign is one more byte
 pub number-row : (s : Bool) (n sign count first text : ℕ) (row : List ℕ) → n < 2 ^ 64 → sign ≡ bool_byte s → count ≡ length (decimal n)
     → first ≡ le_number (decimal n) → text ≡ number_behind first (sign_text s) → length row ≡ 24 → AllBytes row
     → le_number row ≡ (192 + (sign + count)) * 2 ^ 184 + text → row ≡ packed_bytes (number_text s n)

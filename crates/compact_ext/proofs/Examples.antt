@@ -1,4 +1,4 @@
--- Worked examples of the definitions, with no code between.
+-- Worked examples of the definitions.
 use Rattle.std.proofs.Common.{◌≡◌, true, Some, refl, negsuc}
 use Rattle.std.specs.Prelude.{codes}
 use Rattle.std.specs.Fmt.{decimal, signed_decimal, digits}
@@ -12,7 +12,7 @@ use Rattle.compact_ext.specs.Shown.{bool_text}
 abbrev standard : Growth
 standard = record { least = 32; numerator = 3; denominator = 2 }
 
--- `-7` is the integer that `negsuc 6` stands for
+-- `-7` is the integer `negsuc 6`
 
 nought : decimal 0 ≡ codes "0"
 unfolding digits

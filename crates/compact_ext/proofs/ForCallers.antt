@@ -1,5 +1,6 @@
--- For crates that call this one: what is shown, as characters. Name it at the caller beside the facts of `compact_str`, as
--- `#[tactic(auto, using(compact_str::proofs::ForCallers::for_callers, compact_ext::proofs::ForCallers::shown_facts))]`.
+-- For crates that call this one: the text of a value, as characters. Named at the caller beside the facts of
+-- `compact_str`, as `#[tactic(auto, using(compact_str::proofs::ForCallers::for_callers,
+-- compact_ext::proofs::ForCallers::shown_facts))]`.
 use Rattle.std.proofs.Common.{◌≡◌, ℕ, ◌^◌, ◌<◌, List, [], ◌∷◌, ◌++◌, ap, sym, ◌∙◌, append-nil}
 use lib.IntN.{ℤ}
 use lib.Signed.{mag}
@@ -15,7 +16,7 @@ text_of-encoded c h = chars_past_char (encode_utf8 c) [] c (IsUtf8-encode c h) (
 pub text_of-char : (c : ℕ) (bytes : List ℕ) → IsScalar c → text_of (encode_utf8 c ++ bytes) ≡ c ∷ text_of bytes
 text_of-char c bytes h = chars-append (encode_utf8 c) bytes (IsUtf8-encode c h) ∙ ap (λ t. t ++ text_of bytes) (text_of-encoded c h)
 
--- a number that may be negative is its own text
+-- the bytes of a signed number decode to themselves
 
 pub text_of-signed : (z : ℤ) → mag z < 2 ^ 63 → text_of (signed_decimal z) ≡ signed_decimal z
 text_of-signed z h = chars-IsAscii (signed_decimal z) (IsAscii-signed z h)

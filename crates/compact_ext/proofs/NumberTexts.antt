@@ -28,7 +28,7 @@ IsUtf8-number s n h = IsUtf8-from_ascii _ (IsAscii-number s n h)
 pub text_of-number : (s : Bool) (n : ℕ) → n < 2 ^ 64 → text_of (number_text s n) ≡ number_text s n
 text_of-number s n h = chars-IsAscii _ (IsAscii-number s n h)
 
--- the packed bytes of a number stand for its text
+-- the packed bytes of a number are those of its text
 pub number-stands : (s : Bool) (n : ℕ) (row : List ℕ) → n < 2 ^ 64 → row ≡ packed_bytes (number_text s n) → IsPackedFor row (number_text s n)
 number-stands s n row h e =
     let few : length (number_text s n) ≤ 21 = length-number s n h in

@@ -1,4 +1,4 @@
--- A room of 24 bytes that was filled from its front, once its last byte tells how far.
+-- 24 bytes filled from the front, with the length in the last.
 use Rattle.std.proofs.Common.{◌≡◌, ℕ, ◌≤◌, List, length, take, get_or, ap, sym, ◌∙◌, subst, arith}
 use Rattle.std.specs.Str.{IsUtf8}
 use Rattle.std.proofs.lemmas.List.{length-take-le}
@@ -17,7 +17,7 @@ no_text-high bytes n all full high u =
     let told = len-high bytes high in
     omega (arith, len, last, whole, told, full)
 
--- the text that such bytes stand for is that of the front
+-- the packed text is that of the front
 pub text-front : (bytes t front : List ℕ) (n : ℕ) → IsPackedFor bytes t → packed_len bytes ≡ n → take n bytes ≡ front → utf8 t ≡ front
 text-front bytes t front n p len same =
     ap utf8 (sym (packed-text bytes t p))
@@ -25,7 +25,7 @@ text-front bytes t front n p len same =
     ∙ ap (λ (k : ℕ). take k bytes) len
     ∙ same
 
--- and where the front is a text they stand for one
+-- and if the front is valid, there is one
 pub no_text-front : (bytes front : List ℕ) (n : ℕ) → length bytes ≡ 24 → n ≤ 24 → packed_len bytes ≡ n → take n bytes ≡ front
     → ((t : List ℕ) → IsPackedFor bytes t → ⊥) → IsUtf8 front → ⊥
 no_text-front bytes front n all most len same none u =

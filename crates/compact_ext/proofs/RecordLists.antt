@@ -1,4 +1,4 @@
--- The texts that were collected until the end spell the bytes that a reader had.
+-- Reading all forms up to the end of a reader.
 use Rattle.std.proofs.Common.{◌≡◌, ◌⊎◌, ℕ, ◌+◌, ◌<◌, ◌≤◌, ◌^◌, List, [], ◌∷◌, ◌++◌, length, take, drop, map, Option, None, Some, IfSome, Result, Ok, Err, IfOk, IfErr, refl, MatchResult, inl, inr, arith, sym, ap, subst, ◌∙◌, append_assoc, append-nil, length-append}
 use Rattle.std.specs.Prelude.{◌==◌, if◌then◌else◌, Bool, false}
 use Rattle.std.proofs.lemmas.Bool.Decides.{nat_tests}
@@ -23,7 +23,7 @@ use Rattle.compact_ext.specs.Wire.{wire, HasForm, ReadFails, IsOutsideForm}
 use Rattle.compact_ext.proofs.WireForms.{form-whole, form-tells, length-wire, outside-form, told-text}
 use Rattle.compact_ext.specs.WireRecords.{records_left, unread_bytes, GivesRecord, GivesNext, FailsAfterTexts, FindsNoRoom, ShowsNoForm, TakesForms, TakesTexts, HasTexts, FailsWithin, HasBegun, HasMore, IsOutsideForms, IsPlacedAsRead, FitsForm, ReadsAllBack, ReadsNextBack, TakesForm}
 
--- a reader that failed before it gave any byte
+-- a reader that failed before its first byte
 
 pub failed-at_once : (old new : Option (List ℕ)) (error : _) → Keeps old new → FailsWithin old new (Io error)
 failed-at_once None new error same = record { fails = record { taken_bytes = []; bytes = tt; fault = λ long. absurd (omega (arith, long)) }; begun = tt }
@@ -33,7 +33,7 @@ failed-at_once (Some x) (Some y) error same = record { fails = record { taken_by
 pub failed-unread : (old : Option (List ℕ)) (error : _) → FailsWithin old old (Io error)
 failed-unread old error = failed-at_once old old error (Keeps-refl old)
 
--- a form that had begun was not read
+-- an error inside a form
 
 has-begun : (known mid new : Option (List ℕ)) (e : WireError) → HasMore known → ReadFails mid new e → HasBegun known e
 has-begun known mid new TooLong more f = absurd f.fault
@@ -59,14 +59,14 @@ pub record-read : (old mid new : Option (List ℕ)) (r : Result PlacedText WireE
 record-read old mid new (Ok v) same more ok fits placed err = record { form = took-unmoved old mid new (wire v.text) same ok; fits = fits; placed = placed }
 record-read old mid new (Err e) same more ok fits placed err = record { fails = fails-unmoved old mid new e same err; begun = has-begun old mid new e more err }
 
--- known bytes that a reader shows some of are there
+-- if a reader shows bytes, some are left
 pub more-shown : (known : Option (List ℕ)) (shown : List ℕ) → IfSome known (λ xs. StartsWith xs shown) → ¬ (length shown ≡ 0) → HasMore known
 more-shown None shown starts some = tt
 more-shown (Some []) [] starts some = absurd (some refl)
 more-shown (Some []) (x ∷ shown) starts some = absurd (omega (arith, ap length starts))
 more-shown (Some (y ∷ ys)) shown starts some = omega arith
 
--- an iterator that may go on gives what its reader does
+-- an iterator that may continue returns what its reader does
 
 going-on : {A : Type 0} (n : ℕ) (x : Option A) → 0 < n → (if n == 0 then None else x) ≡ x
 going-on n x more =
@@ -88,7 +88,7 @@ gives-record remaining s t r before after gives =
 
 pub ruleset record_steps = (failed-at_once, failed-unread, more-shown, gives-record)
 
--- where no whole form stands at the front
+-- no whole form is at the front
 
 pub cut-shows_none : (shown : List ℕ) (n : ℕ) → n < 2 ^ 32 → to_le_bytes w32 n ≡ take 4 shown → length shown < 4 + n → ShowsNoForm shown
 cut-shows_none shown n small head cut = λ (t : List ℕ) (form : HasForm t) (begins : StartsWith shown (wire t)).
@@ -101,7 +101,7 @@ broken-shows_none shown n small head broken = λ (t : List ℕ) (form : HasForm 
 abbrev spelled : List PlacedText → List ℕ
 spelled = flat_map (λ v. wire v.text)
 
--- texts that were taken one after another
+-- texts consumed one after another
 
 pub takes-none : (known : Option (List ℕ)) → TakesForms known known []
 takes-none known = record { forms = Consumes-nil known; fit = All-nil FitsForm; placed = All-nil IsPlacedAsRead }
@@ -116,7 +116,7 @@ takes-more old mid new texts v took last = record {
   placed = All-append IsPlacedAsRead texts (v ∷ []) took.placed (All-cons IsPlacedAsRead v [] last.placed (All-nil IsPlacedAsRead));
 }
 
--- what was taken up to the end is all
+-- what is consumed up to the end is all
 pub takes-all : (old new : Option (List ℕ)) (texts : List PlacedText) → TakesForms old new texts → IsAtEnd new → IfSome old (λ bytes. bytes ≡ spelled texts)
 takes-all None new texts took end = tt
 takes-all (Some xs) None texts took end = absurd took.forms
@@ -124,7 +124,7 @@ takes-all (Some xs) (Some ys) texts took end = took.forms ∙ ap (λ l. spelled 
 
 -- The texts of forms are those that were written.
 
--- texts whose forms stand at the front of others are the first of these
+-- texts whose forms begin those of others are the first of these
 same-texts : (texts : List (List ℕ)) (found : List PlacedText) (more : List ℕ) → All HasForm texts → All FitsForm found → flat_map wire texts ≡ spelled found ++ more
     → (rest : List (List ℕ)) × (texts ≡ map (λ v. v.text) found ++ rest) × (more ≡ flat_map wire rest) × All HasForm rest
 same-texts texts [] more forms fits is = (texts, refl, sym is, forms)
@@ -140,7 +140,7 @@ no-forms : (rest : List (List ℕ)) → [] ≡ flat_map wire rest → rest ≡ [
 no-forms [] is = refl
 no-forms (t ∷ rest) is = absurd (omega (arith, ap length is, length-append (wire t) (flat_map wire rest), length-wire t))
 
--- a fault that is none of one form is none of all
+-- an error outside one form is outside all
 outside-forms : (n : ℕ) (texts : List (List ℕ)) (e : WireError) → 0 < length texts → IsOutsideForm n e → IsOutsideForms texts e
 outside-forms n texts TooLong some h = absurd h
 outside-forms n texts UnexpectedEnd some h = absurd h
@@ -149,7 +149,7 @@ outside-forms n texts (Io error) some h = tt
 outside-forms n texts WriteZero some h = absurd h
 outside-forms n texts (Reserve error) some h = some
 
--- after the last form there is none to fail
+-- nothing fails after the last form
 none-fails : (texts : List (List ℕ)) (new : Option (List ℕ)) (e : WireError) → FailsWithin (Some []) new e → IsOutsideForms texts e
 none-fails texts None e f = absurd f.fails.bytes
 none-fails texts (Some more) TooLong f = absurd f.fails.fault
@@ -167,7 +167,7 @@ one-fails texts (t ∷ rest) left new e fewer forms is f =
     let taken = subst (λ l. Consumes (Some l) new f.fails.taken_bytes) is f.fails.bytes in
     outside-forms (size t) texts e (omega (arith, fewer)) (outside-form t (flat_map wire rest) f.fails.taken_bytes new e form.0 form.1 taken f.fails.fault)
 
--- texts whose forms were taken are no more than those that stood there
+-- no more texts are consumed than there are
 fewer-left : (texts rest : List (List ℕ)) (found : List PlacedText) → texts ≡ map (λ v. v.text) found ++ rest → length rest ≤ length texts
 fewer-left texts rest found all = omega (arith, ap length all, length-append (map (λ (v : PlacedText). v.text) found) rest)
 
@@ -180,7 +180,7 @@ later-fails texts e forms f = left-fails f.mid f.took.forms f.fails
         let (rest, all, is, last) = same-texts texts f.texts left forms f.took.fit took in
         one-fails texts rest left f.new e (fewer-left texts rest f.texts all) last is fails
 
--- the form of a text was taken, so there is one
+-- a form was consumed, so there is one
 some-taken : (texts : List (List ℕ)) (mid : Option (List ℕ)) (found : List PlacedText) (v : PlacedText) → All HasForm texts → TakesForms (Some (flat_map wire texts)) mid (found ++ v ∷ [])
     → 0 < length texts
 some-taken [] None found v forms took = absurd took.forms
@@ -213,7 +213,7 @@ records-back known (Err e) took fits err = record {
       ];
 }
 
--- the next text is the one whose form stands first
+-- the next text is that of the first form
 pub next-back : {R : Type 0} (remaining : R → Option (List ℕ)) (s t : Records R) (r : Option (Result PlacedText WireError)) → GivesRecord remaining s r t → ReadsNextBack remaining s r t
 next-back remaining s t None gives = λ (text rest : List ℕ) (form : HasForm text) (is : records_left remaining s ≡ Some (wire text ++ rest)).
     absurd (omega (arith, ap length (subst IsAtEnd is gives.end), length-append (wire text) rest, length-wire text))
@@ -223,7 +223,7 @@ next-back remaining s t (Some (Err e)) gives = λ (text rest : List ℕ) (form :
     let fails = gives.fails in
     outside-form text rest fails.taken_bytes _ e form.0 form.1 (subst (λ o. Consumes o (unread_bytes remaining (Some (Err e)) t) fails.taken_bytes) is fails.bytes) fails.fault
 
--- texts that were taken one after another, with forms of no text between them
+-- texts consumed one after another, with invalid forms between them
 
 pub passes-none : (old new : Option (List ℕ)) (texts : List PlacedText) → new ≡ old → texts ≡ [] → TakesTexts old new texts
 passes-none old new texts same empty = record {
@@ -246,7 +246,7 @@ passes-no_text old mid new texts passed fault = record {
   has = no_text fault.fails.taken_bytes fault.fails.fault passed.has;
 }
 
--- what was taken up to the end is all
+-- what is consumed up to the end is all
 pub passes-all : (old new : Option (List ℕ)) (texts : List PlacedText) → TakesTexts old new texts → IsAtEnd new → IfSome old (λ bytes. HasTexts bytes (map (λ v. v.text) texts))
 passes-all None new texts passed end = tt
 passes-all (Some xs) None texts passed end = absurd passed.bytes

@@ -1,4 +1,4 @@
--- The same text, said in other words.
+-- The same text in other words.
 use Rattle.std.proofs.Common.{◌≡◌, ℕ, Bool, true, false, List, Result, refl, subst}
 use Rattle.std.specs.Str.{chars}
 use Rattle.compact_str.specs.Text.{text_of}
@@ -7,7 +7,7 @@ use Rattle.compact_str.specs.Capacity.{Growth}
 use Rattle.compact_ext.specs.declared.format.ToCompactStringError.{ToCompactStringError}
 use Rattle.compact_ext.specs.Shown.{IsTextOf, bool_text}
 
--- where the text is known to be short, a weaker fact than its length says so too
+-- if P implies that the text is short, `IsShort` may be P
 short-as : (g : Growth) (t : List ℕ) (P Q : Type 0) (r : Result PlacedText ToCompactStringError) → IsTextOf g t P r → (Q → P) → IsTextOf g t Q r
 short-as g t P Q r h f =
     record {

@@ -1,10 +1,10 @@
--- Worked examples of the wire form, each by computing.
+-- Worked examples of the wire form.
 use Rattle.std.proofs.Common.{◌≡◌, ◌∷◌, [], take, refl, arith}
 use Rattle.std.specs.Prelude.{flat_map, replicate}
 use lib.Utf8.{encode}
 use Rattle.compact_ext.specs.Wire.{wire, claimed_len, IsUnfinished, next_room}
 
--- `Hi`, nothing, and U+20AC
+-- `"Hi"`, `""` and `"€"`
 example-short : wire (0x48 ∷ 0x69 ∷ []) ≡ 0x02 ∷ 0x00 ∷ 0x00 ∷ 0x00 ∷ 0x48 ∷ 0x69 ∷ []
 unfolding encode
 example-short = refl
@@ -16,12 +16,12 @@ example-three_bytes : wire (0x20AC ∷ []) ≡ 0x03 ∷ 0x00 ∷ 0x00 ∷ 0x00 �
 unfolding encode
 example-three_bytes = refl
 
--- the forms of `a`, nothing and `Hi` in a row
+-- the forms of `"a"`, `""` and `"Hi"` in sequence
 example-row : flat_map wire ((0x61 ∷ []) ∷ [] ∷ (0x48 ∷ 0x69 ∷ []) ∷ []) ≡ 0x01 ∷ 0x00 ∷ 0x00 ∷ 0x00 ∷ 0x61 ∷ 0x00 ∷ 0x00 ∷ 0x00 ∷ 0x00 ∷ 0x02 ∷ 0x00 ∷ 0x00 ∷ 0x00 ∷ 0x48 ∷ 0x69 ∷ []
 unfolding encode
 example-row = refl
 
--- 55 letters, and 20 times U+20AC, which take 60 bytes
+-- 55 times `a`, and 20 times `€`, which are 60 bytes
 example-long : take 5 (wire (replicate 55 0x61)) ≡ 0x37 ∷ 0x00 ∷ 0x00 ∷ 0x00 ∷ 0x61 ∷ []
 unfolding encode
 example-long = refl
@@ -29,14 +29,14 @@ example-long = refl
 example-sixty_bytes : take 4 (wire (replicate 20 0x20AC)) ≡ 0x3C ∷ 0x00 ∷ 0x00 ∷ 0x00 ∷ []
 example-sixty_bytes = refl
 
--- the greatest length that four bytes claim, and one past the first room
+-- the greatest length of four bytes, and one past the first allocation
 example-greatest : claimed_len (0xFF ∷ 0xFF ∷ 0xFF ∷ 0xFF ∷ 0x61 ∷ []) ≡ 4294967295
 example-greatest = refl
 
 example-past_room : claimed_len (0x01 ∷ 0x00 ∷ 0x10 ∷ 0x00 ∷ []) ≡ 1048577
 example-past_room = refl
 
--- two bytes of a length, and one byte of a text of two; the whole form is not unfinished
+-- two bytes of a length, and one byte of a text of two; the whole form is finished
 example-no_length : IsUnfinished (0x02 ∷ 0x00 ∷ [])
 example-no_length long = absurd (omega (arith, long))
 
@@ -46,7 +46,7 @@ example-half long = omega arith
 example-whole : ¬ IsUnfinished (0x02 ∷ 0x00 ∷ 0x00 ∷ 0x00 ∷ 0x48 ∷ 0x69 ∷ [])
 example-whole cut = absurd (omega (arith, cut (omega arith)))
 
--- the room for the greatest length is doubled, and none is above the length
+-- the room for the greatest length doubles, up to the length
 example-first_room : next_room 0 4294967295 ≡ 1048576
 example-first_room = refl
 

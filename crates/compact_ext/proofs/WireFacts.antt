@@ -1,4 +1,4 @@
--- For crates that write and read wire forms: what the clauses of several calls give together. Name it at the caller, as
+-- For crates that read and write wire forms: what the clauses of several calls imply together. Named at the caller, as
 -- `#[tactic(auto, using(compact_ext::proofs::WireFacts::wire_facts))]`.
 use Rattle.std.proofs.Common.{◌≡◌, ℕ, ◌+◌, ◌^◌, ◌<◌, List, [], ◌∷◌, ◌++◌, length, map, Option, None, Some, Result, Ok, Err, IfOk, IfSome, ap, sym, ◌∙◌, append_assoc, append-nil}
 use Rattle.std.specs.Global.{Vec}
@@ -15,7 +15,7 @@ pub use Rattle.std.proofs.KnownBytes.{Appends-trans, Consumes-trans}
 pub use Rattle.compact_ext.proofs.WireForms.{length-wire}
 pub use Rattle.compact_ext.proofs.RecordLists.{next-back, passes-none, passes-text, passes-no_text, passes-all}
 
--- a text that was written into no bytes is what is read from them
+-- a text written to an empty buffer is read back
 pub sent-back : (t none sent bytes : List ℕ) (new : Option (List ℕ)) (r : Result PlacedText WireError) → ReadsBack (Some bytes) new r → bytes ≡ sent → sent ≡ none ++ wire t → none ≡ []
     → IsText t → size t < 2 ^ 32 → IfOk r (λ back. back.text ≡ t)
 sent-back t none sent bytes new (Err e) reads is all empty text fits = tt
@@ -23,18 +23,18 @@ sent-back t none sent bytes new (Ok w) reads is all empty text fits =
     let whole : bytes ≡ wire t ++ [] = is ∙ all ∙ ap (λ l. l ++ wire t) empty ∙ sym (append-nil (wire t)) in
     (reads.back t [] text fits (ap Some whole)).0
 
--- texts whose forms are all that a reader has are what is read from it
+-- texts whose forms are all that a reader has are read back
 pub all-sent-back : (texts : List (List ℕ)) (known : Option (List ℕ)) (bytes : List ℕ) (r : Result (Vec PlacedText) WireError) → ReadsAllBack known r → known ≡ Some bytes → bytes ≡ flat_map wire texts
     → All HasForm texts → IfOk r (λ back. map (λ v. v.text) back.items ≡ texts)
 all-sent-back texts known bytes (Err e) reads is all forms = tt
 all-sent-back texts known bytes (Ok back) reads is all forms = reads.back texts forms (is ∙ ap Some all)
 
--- a reader that `fill_buf` shows no bytes of has none
+-- a reader is at its end if `fill_buf` returns nothing
 pub at-end : (known : Option (List ℕ)) (shown : List ℕ) → IfSome known (λ xs. length shown ≡ 0 → xs ≡ []) → length shown ≡ 0 → IsAtEnd known
 at-end None shown h none = tt
 at-end (Some xs) shown h none = h none
 
 pub ruleset wire_facts = (Appends-trans, Consumes-trans, length-wire, sent-back, all-sent-back, at-end, append-nil, append_assoc, flat_map-append)
 
--- the same of a loop over `Records` that passes over what is no text
+-- the same for a loop over `Records` that skips invalid texts
 pub ruleset passed_texts = (passes-none, passes-text, passes-no_text, passes-all)

@@ -1,4 +1,4 @@
--- What the parts of a wire form that were written, or taken, are together.
+-- Wire forms by their parts.
 use Rattle.std.proofs.Common.{◌≡◌, ℕ, ◌+◌, ◌^◌, ◌<◌, ◌≤◌, List, [], ◌++◌, length, take, drop, sym, ap, subst, ◌∙◌, arith, append_assoc, length-append, length-take-le, length-drop, IfSome, Option, None, Some, refl, Result, Ok, Err, IfOk, IfErr}
 use Rattle.std.proofs.lemmas.Nat.{from_le_bytes-to_le_bytes_4}
 use Rattle.std.proofs.KnownBytes.{Appends-trans, Consumes-trans}
@@ -21,7 +21,7 @@ use Rattle.compact_ext.specs.declared.wire.WireError.{WireError}
 use Rattle.compact_ext.specs.declared.wire.WireError.TheVariants.{TooLong, UnexpectedEnd, Utf8, Io, WriteZero, Reserve}
 use Rattle.compact_ext.specs.Wire.{wire, claimed_len, WritesFront, IsWriterFault, WriteFails, IsUnfinished, IsReadFault, ReadFails, IsStop, StopsBelow, TextFails, IsOutsideForm, ReadsBack, FormTellsText}
 
--- what bytes spell that are a text is one
+-- valid bytes decode to a text
 pub made-text : (bytes t : List ℕ) → IsUtf8 bytes → t ≡ text_of bytes → IsText t
 made-text bytes t is same = subst IsText (sym same) (scalars-chars bytes is)
 
@@ -42,7 +42,7 @@ pub IfErr-join : {A E : Type 0} (P Q S : E → Type 0) (r : Result A E) → ((e 
 IfErr-join P Q S (Ok a) f h k = tt
 IfErr-join P Q S (Err e) f h k = f e h k
 
--- a beginning of the front, or the front and a beginning of the rest, is a beginning of both
+-- a prefix of the front, or the front and a prefix of the rest, is a prefix of both
 pub front-first : (old new : Option (List ℕ)) (head tail : List ℕ) → WritesFront old new head → WritesFront old new (head ++ tail)
 front-first old new head tail w = record {
   written_bytes = w.written_bytes;
@@ -65,7 +65,7 @@ pub write-fails : (old new : Option (List ℕ)) (t : List ℕ) (e : WireError) �
 write-fails old new t TooLong h w f = absurd f
 write-fails old new t e h w f = (h, w, f)
 
--- what stops a read of some bytes stops one of more, of which others came before
+-- an error of reading some bytes is one of reading more, of which some had come
 stop-more : (n len : ℕ) (new : Option (List ℕ)) (e : WireError) → n ≤ len → IsStop n new e → IsStop len new e
 stop-more n len new (Reserve error) h s = omega (arith, h, s)
 stop-more n len new e h s = s
@@ -83,7 +83,7 @@ pub text-fails : (old new : Option (List ℕ)) (n : ℕ) (e : WireError) → Sto
 text-fails old new n Utf8 s = absurd s.cause
 text-fails old new n e s = s
 
--- the four bytes of a length, and then what came of the text
+-- the four bytes of a length, and what came of the text
 claimed : (n : ℕ) (taken : List ℕ) → n < 2 ^ 32 → claimed_len (to_le_bytes w32 n ++ taken) ≡ n
 claimed n taken fits = from_le_bytes-to_le_bytes_4 n fits
 
@@ -125,14 +125,14 @@ takes-wire old mid new t n h c s =
 pub length-wire : (t : List ℕ) → length (wire t) ≡ 4 + size t
 length-wire t = omega (arith, length-utf8 t)
 
--- bytes that show a form's length, and as many more as it tells, begin with the form
+-- bytes that begin with a length and are long enough begin with the form
 pub form-shown : (shown t : List ℕ) (n : ℕ) → to_le_bytes w32 n ≡ take 4 shown → 4 + n ≤ length shown → utf8 t ≡ take n (drop 4 shown) → StartsWith shown (wire t)
 form-shown shown t n head within is =
     let same : size t ≡ n = sym (length-utf8 t) ∙ ap length is ∙ length-take-le n (drop 4 shown) (omega (arith, length-drop 4 shown, within)) in
     let whole : wire t ≡ take (4 + n) shown = ap (λ k. to_le_bytes w32 k ++ utf8 t) same ∙ ap (λ l. l ++ utf8 t) head ∙ ap (λ l. take 4 shown ++ l) is ∙ sym (take-add 4 n shown) in
     ap (λ k. take k shown) (length-wire t ∙ ap (λ k. 4 + k) same) ∙ sym whole
 
--- a form that stands at the front has the length that the first bytes tell, and its bytes behind them
+-- a form at the front has the length of the first bytes, and its text after them
 pub form-whole : (shown t : List ℕ) (n : ℕ) → n < 2 ^ 32 → size t < 2 ^ 32 → StartsWith shown (wire t) → to_le_bytes w32 n ≡ take 4 shown → (n ≡ size t) × (utf8 t ≡ take n (drop 4 shown))
 form-whole shown t n small fits begins head =
     let whole : take (4 + size t) shown ≡ wire t = ap (λ k. take k shown) (sym (length-wire t)) ∙ begins in
@@ -142,11 +142,11 @@ form-whole shown t n small fits begins head =
     let rest : take (size t) (drop 4 shown) ≡ utf8 t = ap (drop 4) (ap (λ l. l ++ take (size t) (drop 4 shown)) (sym first) ∙ parts) in
     (same, sym rest ∙ ap (λ k. take k (drop 4 shown)) (sym same))
 
--- a text that takes as many bytes as four can tell takes no more
+-- a text whose length fits four bytes has a form
 pub form-fits : (n : ℕ) (t rest : List ℕ) → n < 2 ^ 32 → n ≤ length rest → utf8 t ≡ take n rest → size t < 2 ^ 32
 form-fits n t rest fits within made = omega (arith, length-utf8 t, ap length made, length-take-le n rest within, fits)
 
--- a form that a reader shows, and that is then passed over, is what was taken
+-- a form that a reader shows and then consumes
 pub took-shown : (old mid new : Option (List ℕ)) (limit : Option ℕ) (shown t : List ℕ) (n : ℕ) → n ≡ size t → StartsWith shown (wire t) → IfSome old (λ xs. StartsWith xs shown) → IfSome old (λ xs. length shown ≡ 0 → xs ≡ [])
     → Keeps old mid → IfSome old (λ _. IfSome limit (λ k. length shown ≤ k)) → DropsConsumable mid new limit (4 + n) → Consumes old new (wire t)
 took-shown old mid new limit shown t n is begins front end kept fits drops =
@@ -154,7 +154,7 @@ took-shown old mid new limit shown t n is begins front end kept fits drops =
     let within : 4 + n ≤ length shown = omega (arith, long, starts_with_length shown (wire t) begins) in
     subst (Consumes old new) (ap (λ k. take k shown) (sym long) ∙ begins) (Consumes_shown old mid new limit shown (4 + n) within front end kept fits drops).0
 
--- a length of more than 24 that a reader shows, and that alone is passed over, is what was taken before room was refused
+-- a length of more than 24 that a reader shows and then consumes alone, as allocation failed
 pub head-taken : (old mid new : Option (List ℕ)) (limit : Option ℕ) (shown : List ℕ) (error : _) → 4 ≤ length shown → 24 < claimed_len shown → IfSome old (λ xs. StartsWith xs shown)
     → IfSome old (λ xs. length shown ≡ 0 → xs ≡ []) → Keeps old mid → IfSome old (λ _. IfSome limit (λ k. length shown ≤ k)) → DropsConsumable mid new limit 4 → ReadFails old new (Reserve error)
 head-taken old mid new limit shown error four long front end kept fits drops =
@@ -166,12 +166,12 @@ head-taken old mid new limit shown error four long front end kept fits drops =
       fault = (omega (arith, all), omega (arith, claim, long), omega (arith, all, claim, long));
     }
 
--- the bytes at the front of a form tell its length
+-- the front of a form says its length
 claimed-front : (t rest taken more : List ℕ) → size t < 2 ^ 32 → 4 ≤ length taken → wire t ++ rest ≡ taken ++ more → claimed_len taken ≡ size t
 claimed-front t rest taken more fits four e =
     ap (from_le_bytes w32) (sym (take-append-le 4 taken more four) ∙ ap (take 4) (sym e)) ∙ from_le_bytes-to_le_bytes_4 (size t) fits
 
--- as many bytes as the form has are the form
+-- the first bytes, as many as the form has, are the form
 front-same : (t rest taken more : List ℕ) → length taken ≡ 4 + size t → wire t ++ rest ≡ taken ++ more → wire t ≡ taken
 front-same t rest taken more len e =
     let same : length (wire t) ≡ length taken = omega (arith, length-wire t, len) in
@@ -183,7 +183,7 @@ form-tells t s rest more fits small e =
     let same : wire t ≡ wire s = front-same t rest (wire s) more (omega (arith, length-wire s, claim)) e in
     (encodes_same t s (ap (drop 4) same), append_cancel_left (wire s) rest more (ap (λ l. l ++ rest) (sym same) ∙ e))
 
--- a fault of the form would contradict it
+-- an error inside the form would contradict it
 module _ (t rest taken more : List ℕ) (fits : size t < 2 ^ 32) (is : wire t ++ rest ≡ taken ++ more) where
   no-end : IsUnfinished taken → more ≡ [] → ⊥
   no-end cut end =

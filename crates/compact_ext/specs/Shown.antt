@@ -1,4 +1,4 @@
--- What becomes of a value that is shown as a text.
+-- Conversions of values to a text.
 use Rattle.std.specs.Prelude.{◌≡◌, ℕ, List, Bool, Result, IfOk, IfErr, IsOk, Some, if◌then◌else◌, codes, ⊤}
 use Rattle.compact_str.specs.Text.{size}
 use Rattle.compact_str.specs.Value.{PlacedText}
@@ -7,13 +7,12 @@ use Rattle.compact_str.specs.Calls.{new}
 use Rattle.compact_ext.specs.declared.format.ToCompactStringError.{ToCompactStringError}
 use Rattle.compact_ext.specs.declared.format.ToCompactStringError.TheVariants.{Reserve, Fmt}
 
--- room was refused
+-- allocation failed
 abbrev pub IsFormatReserve : ToCompactStringError → Type 0
 IsFormatReserve (Reserve _) = ⊤
 IsFormatReserve (Fmt _) = ⊥
 
--- r is a new value with the text t that something shows: where that is short, inline and never refused, and refused only
--- where it asks for a heap buffer
+-- r is a new value with the text t; if t is short, r is inline and never fails, else it fails only if it allocates
 pub record IsTextOf (g : Growth) (t : List ℕ) (IsShort : Type 0) (r : Result PlacedText ToCompactStringError) : Type 0 where
   pub ok : IfOk r (λ v. new g t ≡ Some v)
   pub text : IfOk r (λ v. v.text ≡ t)

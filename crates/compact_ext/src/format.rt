@@ -1,4 +1,4 @@
-//! Texts made of what a format shows.
+//! Strings from formats.
 ghost use Rattle.std.specs.Prelude.{◌≡◌, IfOk, IfSome, IsTrue, OnOk, OnErr};
 ghost use Rattle.compact_str.specs.Text.{text_of, utf8};
 ghost use Rattle.compact_str.specs.Edits.{Writes};
@@ -11,13 +11,13 @@ use std::fmt;
 use std::fmt::{Display, Write};
 use thiserror::Error;
 
-/// Why no text was made of what was shown.
+/// The error of `format_compact!` and `to_compact_string`.
 #[derive(Clone, Copy, Debug, PartialEq, Error)]
 pub enum ToCompactStringError {
-    /// Room was refused.
+    /// Allocation failed.
     #[error("{0}")]
     Reserve(ReserveError),
-    /// What was shown failed by itself.
+    /// A `Display` returned an error.
     #[error("{0}")]
     Fmt(fmt::Error),
 }
@@ -44,7 +44,7 @@ impl From<fmt::Error> for ToCompactStringError {
     }
 }
 
-/// A value that is written to, and whether it has refused a piece: a `Display` may hide that and go on.
+/// A string being written, and whether a write failed: a `Display` may ignore that and continue.
 #[derive(Drop)]
 struct Collector {
     value: CompactString,
@@ -75,12 +75,21 @@ impl Write for Collector {
     }
 }
 
-/// The text that `shown` prints, which is what `format_compact!` calls: inline up to 24 bytes, else on the heap.
+/// Displays `shown` into a new string, for `format_compact!`. The result is inline up to 24 bytes, else on the heap.
 ///
 /// # Errors
 ///
-/// `Reserve` if room was refused for a piece, also where `shown` hid that and went on. `Fmt` if `shown` failed by
-/// itself. What was written until then is dropped.
+/// - `Reserve` if allocation fails, even if `shown` ignores it.
+/// - `Fmt` if `shown` itself fails.
+///
+/// What was written is dropped.
+///
+/// # Examples
+///
+/// ```
+/// let price = collect_display(alloc, format_args!("{} €", 12))?;
+/// assert_eq!(rt; price.as_str(), "12 €");
+/// ```
 #[inline]
 pub fn collect_display<D: Display + Drop>(
     alloc: Global,
@@ -104,15 +113,18 @@ pub fn collect_display<D: Display + Drop>(
     }
 }
 
-/// The text of a format, as `format!` makes a `String`.
+/// Formats into a new string, like `format!`.
 ///
 /// # Errors
 ///
-/// Those of `collect_display`.
+/// As from `collect_display`.
 ///
 /// # Examples
 ///
-/// `format_compact!(in alloc; "{}-{:04}", 7, 42)?` is `"7-0042"`.
+/// ```
+/// let price = format_compact!(in alloc; "{:04} €", 42)?;
+/// assert_eq!(rt; price.as_str(), "0042 €");
+/// ```
 #[macro_export]
 macro_rules! format_compact {
     (in $alloc:expr; $($arguments:tt)*) => {

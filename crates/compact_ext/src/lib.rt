@@ -1,4 +1,4 @@
-//! Texts made of numbers and formats, and the form in which a text goes over a wire.
+//! Strings from numbers and formats, and a binary wire form for strings.
 #![tactic(auto, using(compact_text::proofs::TextFacts::text_facts))]
 
 mod format;

@@ -1,4 +1,4 @@
-//! Texts made of numbers, and of other values that have a text.
+//! Strings from numbers and other values.
 ghost use Rattle.std.specs.Prelude.{ℕ, List};
 ghost use Rattle.compact_ext.specs.Shown.{IsTextOf};
 
@@ -14,33 +14,40 @@ use compact_str::{CompactString, Policy, Standard};
 pub use laws::{numbers_are_short, numbers_go_digit_by_digit};
 use std::alloc::Global;
 
-/// A value that has a text: the integers, `bool`, `char`, and the kinds of text, which are `&str`, `String`, `BoxedStr`,
-/// `CowStr` and `CompactString`.
+/// A type that converts to a string: the integers, `bool`, `char`, `&str`, `String`, `BoxedStr`, `CowStr` and
+/// `CompactString`.
 ///
-/// A contract sees the text as `shown_text v`. Where `IsShort v` holds it is inline and never refused: of an integer of up to
-/// 64 bits, a `bool` and a `char` always, of every other value where the text has at most 24 bytes.
+/// In a contract `shown_text v` is the text. If `IsShort v` holds, it is inline and the conversion never fails: always
+/// for integers of up to 64 bits, `bool` and `char`, else up to 24 bytes.
 pub trait ToCompactString {
-    /// The text.
+    /// The characters.
     ghost shown_text: { Self → List ℕ };
 
-    /// That it takes no memory.
+    /// Whether the conversion cannot fail.
     ghost IsShort: { Self → Type 0 };
 
-    /// The text of the value, placed as by `CompactString::new`.
+    /// Converts the value to a string, placed as by `CompactString::new`.
     ///
     /// # Errors
     ///
-    /// `Reserve` if a heap buffer is refused. An integer of up to 64 bits, a `bool`, a `char` and a text of at most 24
-    /// bytes need none.
+    /// `Reserve` if allocation fails. Never fails for an integer of up to 64 bits, a `bool`, a `char` or up to 24
+    /// bytes of text.
     ///
     /// # Examples
     ///
-    /// `(-12i8).to_compact_string(alloc)?` is `"-12"`.
+    /// ```
+    /// let number = (-12i8).to_compact_string(alloc)?;
+    /// assert_eq!(rt; number.as_str(), "-12");
+    ///
+    /// let least = i64::MIN.to_compact_string(alloc)?;
+    /// assert_eq!(rt; least.as_str(), "-9223372036854775808");
+    /// assert!(rt; !least.is_heap_allocated());
+    /// ```
     fn to_compact_string(&self, alloc: Global) -> Result<CompactString, ToCompactStringError>
         ensures { IsTextOf ⟦<Standard as Policy>⟧.growth (shown_text self.now)
             (IsShort self.now) result };
 
-    /// `to_compact_string` under its other name.
+    /// Another name of `to_compact_string`. See [`to_compact_string`](Self::to_compact_string).
     ///
     /// # Errors
     ///

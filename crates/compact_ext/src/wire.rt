@@ -1,7 +1,6 @@
-//! The form in which a text goes over a wire: its length in bytes as four bytes, the low one first, and then its bytes.
+//! The wire form of a string: its length in bytes as four bytes, the low one first, and then its bytes.
 //!
-//! Reading and writing take exactly those bytes, so that forms may follow each other, or other bytes. Nothing that was
-//! refused is tried again: an error of the kind `Interrupted` is an error as any other.
+//! Reads and writes exactly those bytes, so that other data may follow. Nothing is retried, not even `Interrupted`.
 
 mod read;
 mod records;
@@ -18,26 +17,26 @@ use std::io;
 use thiserror::Error;
 pub use write::write_wire;
 
-/// Why a text was not written, or not read.
+/// The error of reading or writing a wire form.
 #[derive(Debug, Drop, Error)]
 pub enum WireError {
     /// The text has more than 2^32 - 1 bytes. Nothing was written.
     #[error("text too long for the wire form")]
     TooLong,
-    /// The input ended before the text did. All that it had is taken.
+    /// The input ended inside the form. All of it has been consumed.
     #[error("unexpected end of input")]
     UnexpectedEnd,
-    /// The bytes of the text are no UTF-8. The whole form is taken, and nothing after it.
+    /// The text is not valid UTF-8. Exactly its form has been consumed.
     #[error("invalid utf-8")]
     Utf8,
-    /// The reader or the writer failed. A part of the form is taken, or has gone out.
+    /// The reader or writer failed. Part of the form has been consumed or written.
     #[error("input or output failed")]
     Io(io::Error),
-    /// The writer took none of the bytes that it was given. A part of the form has gone out.
+    /// The writer accepted no bytes. Part of the form has been written.
     #[error("writer took no bytes")]
     WriteZero,
-    /// Room for a text of more than 24 bytes was refused. A part of the form is taken, at least its length. Of `into_vec` it
-    /// may also be the vector's room, and then whole forms are taken.
+    /// Allocation failed, past 24 bytes. Part of the form has been consumed, at least its length; or, if the vector of
+    /// `into_vec` cannot grow, whole forms.
     #[error("{0}")]
     Reserve(ReserveError),
 }
@@ -58,13 +57,13 @@ impl From<AllocError> for WireError {
 
     ghost from_gives = { λ _ error. error ≡ Reserve (record {}) };
 
-    /// The case `Reserve`, for a collection of texts that has no room for one more.
+    /// The case `Reserve`, for `push` of a `Vec` of strings.
     fn from(error: AllocError) -> Self {
         WireError::Reserve(ReserveError::from(error))
     }
 }
 
-/// A law: where a wire form begins, it tells its text and what comes after it. So forms in a row are read in one way.
+/// A law: a wire form determines its text and where it ends. So a sequence of forms is read in one way.
 pub fn a_form_tells_its_text()
     ensures { FormTellsText }
 {}

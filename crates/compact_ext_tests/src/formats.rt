@@ -11,7 +11,7 @@ use std::fmt;
 use std::fmt::Display;
 use std::process::Abort;
 
-/// It writes `a`, and then fails by itself.
+/// Writes `a`, then fails without an allocation failing.
 #[derive(Drop)]
 struct Failing;
 
@@ -22,14 +22,14 @@ impl Display for Failing {
     }
 }
 
-/// What a format made.
+/// The result of a format.
 type Made = Result<CompactString, ToCompactStringError>;
 
 fn text_of(rt: &impl Abort, made: Made) -> CompactString {
     made.expect(rt, "memory")
 }
 
-/// Asserts that a format made this text, which stands inline. It takes over what it asks of.
+/// Asserts that a format made this text, inline. Takes ownership of the result.
 pub fn is(rt: &impl Abort, made: Made, text: &str) {
     that_for(text, is_inline(&text_of(rt, made), text)).expect(rt, "it holds");
 }
@@ -98,7 +98,7 @@ fn errors_are_made_so(rt: HostRuntime) {
     assert_that(&rt, refused != failed);
 }
 
-/// Asserts how an error is shown.
+/// Asserts the `Display` of an error.
 fn is_shown(rt: &impl Abort, alloc: Global, error: ToCompactStringError, text: &str) {
     let made = text_of(rt, format_compact!(in alloc; "{error}"));
     assert_equal(rt, made.as_str(), text);

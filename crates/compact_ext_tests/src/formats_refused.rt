@@ -1,4 +1,4 @@
-//! Texts of formats while requests for memory are refused, beside what `compact_table_tests` tries of each call.
+//! Texts of formats when allocations fail, beyond what `compact_table_tests` tries of each call.
 
 use crate::asserts::{assert_equal, assert_that};
 use crate::formats::is;
@@ -13,7 +13,7 @@ use std::fmt;
 use std::fmt::Display;
 use std::process::Abort;
 
-/// It writes 30 letters so often, and answers `Ok` in spite of a refusal.
+/// Writes 30 `a`s this many times, and returns `Ok` even if that fails.
 #[derive(Drop)]
 struct Hiding(usize);
 
@@ -45,7 +45,7 @@ fn formats_and_strings_of_24_bytes_need_no_memory(rt: HostRuntime) {
     drop(hog);
 }
 
-/// Asserts that both calls on a value are refused.
+/// Asserts that both calls on a value fail.
 fn assert_refused<T: ToCompactString>(rt: &impl Abort, alloc: Global, value: &T) {
     assert_that(rt, is_refused(value.to_compact_string(alloc)));
     assert_that(rt, is_refused(value.try_to_compact_string(alloc)));

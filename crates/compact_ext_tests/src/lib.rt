@@ -1,4 +1,4 @@
-//! Tests of `compact_ext`: texts of numbers and of formats, and texts that go over a wire.
+//! Tests of `compact_ext`: texts of numbers and of formats, and the wire form.
 #![tactic(auto)]
 
 #[cfg(test)]

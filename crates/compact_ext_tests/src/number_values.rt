@@ -1,12 +1,12 @@
-//! Texts of integers beside repeated division by ten: every value of the types of 8 and 16 bits, and of each wider type
-//! more than 10,000 at the powers of ten and of two and their neighbours.
+//! Texts of integers, checked by repeated division by ten: every value of the types of 8 and 16 bits, and of each
+//! wider type more than 10,000 around the powers of ten and of two.
 
 use crate::asserts::assert_that;
 use compact_ext::ToCompactString;
 use std::alloc::Global;
 use std::process::Abort;
 
-/// The powers of ten and of two that have 128 bits, by their place among these.
+/// The number of powers of ten and of two that fit 128 bits.
 const POWERS: u32 = 39 + 128;
 
 fn power(place: u32) -> u128 {
@@ -17,7 +17,7 @@ fn power(place: u32) -> u128 {
     }
 }
 
-/// Whether the text has the digits that repeated division by ten gives.
+/// Returns `true` if the text has the digits of repeated division by ten.
 fn is_decimal(text: &str, magnitude: u128) -> bool {
     let mut row = [0; 40];
     let mut left = magnitude;
@@ -33,7 +33,7 @@ fn is_decimal(text: &str, magnitude: u128) -> bool {
     row.get(start..) == Some(text.as_bytes())
 }
 
-/// Asserts the text of a number by its magnitude, and that up to 24 characters stand inline.
+/// Asserts the text of a number by its magnitude, and that up to 24 characters are inline.
 fn assert_shows<T: ToCompactString>(
     rt: &impl Abort,
     alloc: Global,
@@ -52,7 +52,7 @@ fn assert_shows<T: ToCompactString>(
     assert_that(rt, value.is_heap_allocated() == (text.len() > 24));
 }
 
-/// How far from a power the numbers go.
+/// The greatest distance from a power.
 const DISTANCE: u32 = 200;
 
 /// Asserts the text of a number in each unsigned type that holds it.

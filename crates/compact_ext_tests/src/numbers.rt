@@ -1,4 +1,4 @@
-//! Texts of numbers and of other values, with ample memory.
+//! Texts of numbers and other values, with ample memory.
 
 use crate::asserts::{assert_equal, assert_that};
 use compact_ext::ToCompactString;
@@ -11,7 +11,7 @@ use std::boxed::BoxedStr;
 use std::num::{NonZeroI128, NonZeroU8, NonZeroU128};
 use std::process::Abort;
 
-/// The text of a value by both names of the call, which agree.
+/// Returns the text of a value, asserting that both calls agree.
 fn shown<T: ToCompactString>(rt: &impl Abort, alloc: Global, value: T) -> CompactString
 where
     T: Drop,
@@ -23,12 +23,12 @@ where
     first
 }
 
-/// Asserts the text of a value, and that it stands inline.
+/// Asserts the text of a value, inline.
 fn assert_shown<T: ToCompactString + Drop>(rt: &impl Abort, alloc: Global, value: T, text: &str) {
     assert_that(rt, is_inline(&shown(rt, alloc, value), text));
 }
 
-/// Asserts the text of a value, and that it stands on the heap with just the room that it needs.
+/// Asserts the text of a value, on the heap with just the capacity that it needs.
 fn assert_long<T: ToCompactString + Drop>(rt: &impl Abort, alloc: Global, value: T, text: &str) {
     assert_that(
         rt,
@@ -58,7 +58,7 @@ fn numbers_have_these_texts(rt: HostRuntime) {
     assert_shown(rt, alloc, 127i8, "127");
 }
 
-/// Asserts the texts of numbers of 64 bits.
+/// Asserts the texts of 64-bit numbers.
 fn numbers_of_64_bits_have_these_texts(rt: &impl Abort, alloc: Global) {
     assert_shown(rt, alloc, 0u64, "0");
     assert_shown(rt, alloc, 99999999u64, "99999999");
@@ -115,7 +115,7 @@ fn other_values_have_these_texts(rt: HostRuntime) {
     );
 }
 
-/// Asserts the text of a value of 30 letters, on the heap in the least buffer.
+/// Asserts the text of a value of 30 characters, on the heap with the minimum capacity.
 fn assert_thirty<T: ToCompactString + Drop>(rt: &impl Abort, alloc: Global, value: T) {
     assert_that(rt, is_heap(&shown(rt, alloc, value), 32, letters(30)));
 }
@@ -134,7 +134,7 @@ fn boxes_and_cows_have_these_texts(rt: HostRuntime) {
     assert_thirty(rt, alloc, CowStr::Borrowed(letters(30)));
 }
 
-/// Asserts the bytes of a value that stands inline.
+/// Asserts the bytes of an inline value.
 fn assert_packed(rt: &impl Abort, value: &CompactString, bytes: &[u8; 24]) {
     assert_equal(rt, &value.packed().expect(rt, "inline"), bytes);
 }

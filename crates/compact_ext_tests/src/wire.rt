@@ -1,5 +1,5 @@
-//! Texts that are written over a wire and read: the bytes, and what each fault has taken or put out. The bytes were written
-//! by hand from the definition of the form.
+//! Writing and reading the wire form: the bytes, and what each fault has read or written. The bytes were written by
+//! hand from the definition of the form.
 
 use crate::asserts::{assert_equal, assert_that};
 use crate::wire_forms::{assert_writes, end_of, form_of, form_of_letters};
@@ -14,7 +14,7 @@ use std::io;
 use std::io::ErrorKind;
 use std::process::Abort;
 
-/// Asserts that a text is written as these bytes.
+/// Asserts the bytes that a text is written as.
 fn assert_written(rt: &impl Abort, alloc: Global, text: &str, bytes: &[u8]) {
     let mut written = Vec::new(alloc);
     let sent = write_wire(&value_of(alloc, text).expect(rt, "memory"), &mut written);
@@ -54,7 +54,7 @@ fn what_follows_a_form_stays_unread(rt: HostRuntime) {
     assert_that(rt, rest.first() == Some(&0x4A));
 }
 
-/// Asserts how an input ends that is no form, and that it is taken whole.
+/// Asserts the fault of an input that is no form, and that all of it is read.
 fn assert_no_form(rt: &impl Abort, alloc: Global, bytes: &[u8], fault: &str) {
     let mut rest = bytes;
     assert_equal(rt, end_of(&read_wire(alloc, &mut rest)), fault);
@@ -71,7 +71,7 @@ fn an_input_that_is_no_form_has_a_fault(rt: HostRuntime) {
         (b"\x01\0\0\0\xFF".as_slice(), "utf8"),
         (b"\xFF\xFF\xFF\xFFabc".as_slice(), "end"),
         (b"\x18\0\0\0aaaaaaaaaaaaaaaaaaaaaaa".as_slice(), "end"),
-        // As packed bytes these 24 would be the text "a".
+        // Packed, these 24 bytes would be the text "a".
         (b"\x18\0\0\0aaaaaaaaaaaaaaaaaaaaaaa\xC1".as_slice(), "utf8"),
         (b"\x17\0\0\0aaaaaaaaaaaaaaaaaaaaaa\xC1".as_slice(), "utf8"),
     ] {
@@ -97,7 +97,7 @@ fn a_text_is_read_in_pieces(rt: HostRuntime) {
     }
 }
 
-/// Asserts that a reader that gives one byte a call, and stops at one, is not called again, and has given the bytes before.
+/// Asserts that a reader of one byte a call is not called again after it stops, and that the bytes before are read.
 fn assert_stops(rt: &impl Abort, alloc: Global, form: &[u8], call: usize, stop: Stop, fault: &str) {
     let mut reader = Pieces::new(form, 1, stop);
     assert_equal(rt, end_of(&read_wire(alloc, &mut reader)), fault);
@@ -105,7 +105,7 @@ fn assert_stops(rt: &impl Abort, alloc: Global, form: &[u8], call: usize, stop: 
     assert_equal(rt, reader.rest.len().saturating_add(call), form.len() + 1);
 }
 
-/// Asserts that, at each call of a form, for each way to stop.
+/// Asserts that at each call of a form, for each way to stop.
 fn assert_each_stop(rt: &impl Abort, alloc: Global, form: &[u8]) {
     for call in 1..form.len() + 1 {
         assert_stops(
@@ -209,7 +209,7 @@ fn texts_of_each_length_come_back(rt: HostRuntime) {
     assert_equal(rt, rest.len(), 0);
 }
 
-/// Asserts how a fault is shown.
+/// Asserts the `Display` of a fault.
 fn assert_shown(rt: &impl Abort, alloc: Global, fault: WireError, text: &str) {
     let mut shown = CompactString::default(alloc);
     write!(shown, "{fault}").expect(rt, "memory");

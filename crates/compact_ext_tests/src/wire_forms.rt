@@ -1,4 +1,4 @@
-//! Forms of texts on a wire, the names of what comes of a call, and what a writer is given.
+//! Wire forms, the names of outcomes, and the output of a writer.
 
 use crate::asserts::assert_equal;
 use compact_ext::wire::{WireError, write_wire};
@@ -7,7 +7,7 @@ use compact_testing::pieces::Narrow;
 use std::alloc::Global;
 use std::process::Abort;
 
-/// The name of a fault.
+/// Returns the name of a fault.
 fn name_of(fault: &WireError) -> &'static str {
     match fault {
         WireError::TooLong => "too long",
@@ -19,7 +19,7 @@ fn name_of(fault: &WireError) -> &'static str {
     }
 }
 
-/// The name of the fault that a call ended with, or `done`.
+/// Returns the name of a call's fault, or `done`.
 pub fn end_of<T>(ended: &Result<T, WireError>) -> &'static str {
     match ended {
         Ok(_) => "done",
@@ -27,7 +27,7 @@ pub fn end_of<T>(ended: &Result<T, WireError>) -> &'static str {
     }
 }
 
-/// Asserts how a write to a writer ends, and what has gone out.
+/// Asserts the outcome of a write, and the output.
 pub fn assert_writes(
     rt: &impl Abort,
     text: &CompactString,
@@ -39,7 +39,7 @@ pub fn assert_writes(
     assert_equal(rt, writer.bytes(), out);
 }
 
-/// A form of so many letters: the length, and each letter.
+/// Builds a form: the length, then `count` times `letter`.
 pub fn form_of(rt: &impl Abort, alloc: Global, len: u8, letter: &[u8], count: usize) -> Vec<u8> {
     let mut form = Vec::new(alloc);
     form.extend_from_slice(&[len, 0, 0, 0]).expect(rt, "memory");
@@ -49,7 +49,7 @@ pub fn form_of(rt: &impl Abort, alloc: Global, len: u8, letter: &[u8], count: us
     form
 }
 
-/// The form of so many letters `a`, at most 255.
+/// Builds the form of `count` times `a`, at most 255.
 pub fn form_of_letters(rt: &impl Abort, alloc: Global, count: u8) -> Vec<u8> {
     form_of(rt, alloc, count, b"a", count as usize)
 }

@@ -1,9 +1,9 @@
-//! A reader of as many letters as it is asked for, which takes no memory.
+//! A reader of any number of `a`s that does not allocate.
 
 use std::io;
 use std::io::Read;
 
-/// Gives the four bytes of a length, and then so many letters `a`, with no memory of its own.
+/// Yields the four bytes of a length, then `a`s, without allocating.
 #[derive(Drop)]
 pub struct Letters {
     pub head: [u8; 4],
@@ -12,7 +12,7 @@ pub struct Letters {
 }
 
 impl Letters {
-    /// A reader that claims `len` bytes and has `letters`.
+    /// Creates a reader that claims `len` bytes and has `letters`.
     pub fn new(len: u32, letters: usize) -> Self {
         Letters {
             head: len.to_le_bytes(),

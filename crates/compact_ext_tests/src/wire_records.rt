@@ -1,5 +1,4 @@
-//! Texts of a reader that are read one after another until its end. The bytes were written by hand from the definition of
-//! the form.
+//! Records of a reader, to its end. The bytes were written by hand from the definition of the form.
 
 use crate::asserts::{assert_equal, assert_that};
 use crate::wire_forms::end_of;
@@ -13,10 +12,10 @@ use std::alloc::Global;
 use std::io::{BufRead, BufReader, ErrorKind};
 use std::process::Abort;
 
-/// The forms of `a`, of no text and of `Hi`.
+/// The forms of `a`, of the empty text and of `Hi`.
 const RECORDS: [u8; 15] = [1, 0, 0, 0, 0x61, 0, 0, 0, 0, 2, 0, 0, 0, 0x48, 0x69];
 
-/// All records of a reader.
+/// Reads all records.
 fn read_records<R: BufRead + Drop>(
     alloc: Global,
     reader: R,
@@ -43,13 +42,13 @@ fn assert_next_fault<R: BufRead + Drop>(rt: &impl Abort, records: &mut Records<R
     assert_equal(rt, end_of(&item), fault);
 }
 
-/// Asserts that there is no other record, however often it is asked for.
+/// Asserts that there are no more records, however often `next` is called.
 fn assert_end<R: BufRead + Drop>(rt: &impl Abort, records: &mut Records<R>) {
     assert_that(rt, records.next().is_none());
     assert_that(rt, records.next().is_none());
 }
 
-/// Asserts that the records of some bytes are not collected, with this fault.
+/// Asserts that collecting records fails, with this fault.
 fn assert_not_collected<R: BufRead + Drop>(rt: &impl Abort, alloc: Global, reader: R, fault: &str) {
     assert_equal(rt, end_of(&read_records(alloc, reader)), fault);
 }
@@ -61,7 +60,7 @@ fn each_record_comes_in_its_turn(rt: HostRuntime) {
     assert_end(&rt, &mut records);
 }
 
-/// Asserts that the record at a place is this text, inline.
+/// Asserts that the record at an index is this text, inline.
 fn is_record(rt: &impl Abort, records: &[CompactString], place: usize, text: &str) {
     assert_that(
         rt,
@@ -77,7 +76,7 @@ fn assert_records(rt: &impl Abort, records: &[CompactString]) {
     is_record(rt, records, 2, "Hi");
 }
 
-/// Asserts the records of a reader that gives so many bytes at once.
+/// Asserts the records of a reader of `step` bytes a call.
 fn assert_in_pieces(rt: &impl Abort, alloc: Global, step: usize) {
     let pieces = Pieces::new(&RECORDS, step, Stop::Never);
     let reader = BufReader::with_capacity(alloc, 3, pieces).expect(rt, "a buffer");
@@ -102,7 +101,7 @@ fn no_bytes_are_no_records(rt: HostRuntime) {
     assert_that(&rt, first.is_none());
 }
 
-/// Asserts what comes of the first bytes of the three records, which end within the third.
+/// Asserts the records of the first bytes, which end within the third.
 fn assert_cut(rt: &impl Abort, alloc: Global, len: usize) {
     let bytes = RECORDS.get(..len).unwrap_or(&[]);
     let mut records = Records::new(alloc, bytes);
@@ -120,7 +119,7 @@ fn an_end_within_a_record_is_a_fault(rt: HostRuntime) {
     }
 }
 
-/// Asserts that the first record is no text, and that `a` comes after it.
+/// Asserts that the first record is not valid UTF-8, and that `a` comes after it.
 fn assert_broken_and_a(rt: &impl Abort, alloc: Global, bytes: &[u8]) {
     let mut records = Records::new(alloc, bytes);
     assert_next_fault(rt, &mut records, "utf8");
@@ -135,13 +134,13 @@ fn after_a_text_that_is_none_the_next_comes(rt: HostRuntime) {
     assert_not_collected(&rt, rt.alloc(), bytes.as_slice(), "utf8");
 }
 
-/// A reader of the three records that gives five bytes at its first call, and fails from its second on.
+/// A reader of the three records that returns five bytes at its first call, and fails from its second on.
 fn failing(rt: &impl Abort, alloc: Global, kind: ErrorKind) -> BufReader<Pieces<'static>> {
     let pieces = Pieces::new(&RECORDS, 5, Stop::Breaks(2, kind));
     BufReader::with_capacity(alloc, 8, pieces).expect(rt, "a buffer")
 }
 
-/// Asserts that a failure behind the first record is told, and not tried again.
+/// Asserts that a failure after the first record is reported, and not retried.
 fn assert_failure(rt: &impl Abort, alloc: Global, kind: ErrorKind) {
     let mut records = Records::new(alloc, failing(rt, alloc, kind));
     assert_next(rt, &mut records, "a");
@@ -150,7 +149,7 @@ fn assert_failure(rt: &impl Abort, alloc: Global, kind: ErrorKind) {
     assert_not_collected(rt, alloc, failing(rt, alloc, kind), "io");
 }
 
-/// The form of `text`, which has at most 255 bytes, and after it that of `a`.
+/// Builds the form of `text`, of at most 255 bytes, followed by that of `a`.
 fn with_another(rt: &impl Abort, alloc: Global, text: &[u8]) -> Vec<u8> {
     let mut bytes = Vec::new(alloc);
     let len = u8::try_from(text.len()).expect(rt, "a short text");
@@ -161,7 +160,7 @@ fn with_another(rt: &impl Abort, alloc: Global, text: &[u8]) -> Vec<u8> {
     bytes
 }
 
-/// Asserts that a reader has this text, on the heap with just the room that it needs, and then `a`.
+/// Asserts this text, on the heap with just the capacity that it needs, and then `a`.
 fn assert_long_and_another<R: BufRead + Drop>(
     rt: &impl Abort,
     alloc: Global,
@@ -178,7 +177,7 @@ fn assert_long_and_another<R: BufRead + Drop>(
     assert_end(rt, &mut records);
 }
 
-// A slice shows the whole form, and a buffer of eight bytes a part of it.
+// A slice shows the whole form, a buffer of eight bytes a part of it.
 #[test]
 fn long_records_have_just_their_room(rt: HostRuntime) {
     let rt = &rt;
@@ -191,7 +190,7 @@ fn long_records_have_just_their_room(rt: HostRuntime) {
     }
 }
 
-/// Asserts that so many letters, of which one is replaced by a byte that no text has, are a fault, and that `a` comes after it.
+/// Asserts that ASCII characters with one invalid byte among them are a fault, and that `a` comes after it.
 fn assert_broken_and_another(rt: &impl Abort, alloc: Global, len: usize, at: usize) {
     let mut text = [0x61; 80];
     if let Some(byte) = text.get_mut(at) {
@@ -210,7 +209,7 @@ fn after_bytes_that_are_no_text_the_next_comes(rt: HostRuntime) {
     }
 }
 
-/// Asserts that the first record is refused, and that five of `b` and one of `a` come after its length.
+/// Asserts that the first record fails, and that five of `b` and one of `a` come after its length.
 fn assert_unread(rt: &impl Abort, alloc: Global, bytes: &[u8]) {
     let mut records = Records::new(alloc, bytes);
     assert_next_fault(rt, &mut records, "reserve");
@@ -218,7 +217,7 @@ fn assert_unread(rt: &impl Abort, alloc: Global, bytes: &[u8]) {
     assert_end(rt, &mut records);
 }
 
-// The text has five forms of `b` in it. Refused, only its length is taken, so they are read as records.
+// The text contains five forms of `b`. When it fails, only its length is consumed, so they are read as records.
 #[test]
 fn where_room_is_refused_the_text_stays_unread(rt: HostRuntime) {
     let alloc = rt.alloc();

@@ -1,5 +1,5 @@
-//! Texts that are written over a wire and read while requests for memory are refused. How much room was asked for shows in
-//! how many bytes the reader had given when it was.
+//! Writing and reading the wire form when allocations fail. The bytes read until then show how much was being
+//! allocated.
 
 use crate::asserts::{assert_equal, assert_that};
 use crate::wire_forms::end_of;
@@ -12,7 +12,8 @@ use std::process::Abort;
 
 const MEGABYTE: usize = 1 << 20;
 
-/// Asserts that room for a text of so many bytes is refused once the reader has given `given`, the length among them.
+/// Asserts that the allocation for a text of `len` bytes fails after the reader has given `given`, including the
+/// length.
 fn assert_refused(rt: &impl Abort, alloc: Global, len: u32, given: usize) {
     let mut reader = Letters::new(len, 16 * MEGABYTE);
     assert_equal(rt, end_of(&read_wire(alloc, &mut reader)), "reserve");
@@ -29,7 +30,7 @@ fn a_longer_text_is_refused_after_its_length(rt: HostRuntime) {
     drop(hog);
 }
 
-/// Asserts what a reader of the greatest length has given, where so much memory in one piece is all that is left.
+/// Asserts how much of a text of the greatest length is read, with only one block of `left` bytes free.
 fn assert_refused_within(rt: &impl Abort, alloc: Global, left: usize, given: usize) {
     let block = Vec::<u8>::with_capacity(alloc, left).expect(rt, "a spare block");
     let hog = take_all(alloc).expect(rt, "room for the list of blocks");
@@ -38,8 +39,8 @@ fn assert_refused_within(rt: &impl Abort, alloc: Global, left: usize, given: usi
     drop(hog);
 }
 
-// What is left is found by trial with the C library's allocator: it grants one room from 2 megabytes on, two from 6 and
-// three from 10, since it takes more than it is asked for and keeps a room until its bytes are moved.
+// The sizes were found by trial with the C library's allocator: one buffer succeeds from 2 megabytes on, two from 6
+// and three from 10, since it takes more than requested and keeps a buffer until its bytes are moved.
 
 #[test]
 fn the_second_room_is_refused(rt: HostRuntime) {

@@ -1,4 +1,4 @@
-//! Wire forms that come and go in pieces: a reader that ends at each of its bytes, and a writer that stops at each.
+//! Wire forms in pieces: a reader that ends at each of its bytes, and a writer that stops at each.
 
 use crate::asserts::{assert_equal, assert_that};
 use crate::wire_forms::{assert_writes, end_of, form_of_letters};
@@ -11,7 +11,7 @@ use std::alloc::Global;
 use std::io::ErrorKind;
 use std::process::Abort;
 
-/// Asserts that each beginning of a form is an input that ends too early, and is taken whole.
+/// Asserts that each prefix of a form ends too early, and is read whole.
 fn assert_beginnings(rt: &impl Abort, alloc: Global, form: &[u8], step: usize) {
     for count in 0..form.len() {
         let mut reader = Pieces::new(form.get(..count).unwrap_or(&[]), step, Stop::Never);
@@ -33,7 +33,7 @@ fn each_beginning_of_a_form_ends_too_early(rt: HostRuntime) {
     assert_beginnings(rt, alloc, &long, 5);
 }
 
-/// Asserts where a text of so many letters stands, which comes byte by byte.
+/// Asserts the place of a text of `count` bytes that is read byte by byte.
 fn assert_byte_by_byte(rt: &impl Abort, alloc: Global, count: u8, place: &str, capacity: usize) {
     let form = form_of_letters(rt, alloc, count);
     let text = read_wire(alloc, &mut Pieces::new(&form, 1, Stop::Never)).expect(rt, "a text");
@@ -46,7 +46,7 @@ fn a_text_comes_byte_by_byte(rt: HostRuntime) {
     assert_byte_by_byte(&rt, rt.alloc(), 25, "heap", 25);
 }
 
-/// Asserts that bytes that are no text are told so once they have come, with what follows unread.
+/// Asserts that invalid bytes are reported once they are read, and what follows is not.
 fn assert_broken(rt: &impl Abort, alloc: Global, bytes: &[u8], left: usize) {
     let mut reader = Pieces::new(bytes, 1, Stop::Never);
     assert_equal(rt, end_of(&read_wire(alloc, &mut reader)), "utf8");
@@ -69,7 +69,7 @@ fn broken_bytes_come_one_by_one(rt: HostRuntime) {
     );
 }
 
-/// Asserts how a text is written by a writer that takes one byte a call, and what has gone out.
+/// Asserts the outcome and output of a writer of one byte a call.
 fn assert_sent(rt: &impl Abort, text: &CompactString, stop: Stop, end: &str, out: &[u8]) {
     assert_writes(rt, text, Narrow::new(256, 1, stop), end, out);
 }
@@ -95,14 +95,14 @@ fn a_long_text_stops_at_each_byte(rt: HostRuntime) {
     }
 }
 
-/// Asserts how a claim of the greatest length ends, whose reader has given `count` bytes of the text when it stops.
+/// Asserts the outcome of a claim of the greatest length, when the reader stops after `count` bytes of the text.
 fn assert_claim_ends(rt: &impl Abort, alloc: Global, count: usize, stop: Stop, end: &str) {
     let mut reader = Pieces::new(b"\xFF\xFF\xFF\xFFabc", 1, stop);
     assert_equal(rt, end_of(&read_wire(alloc, &mut reader)), end);
     assert_equal(rt, reader.rest.len().saturating_add(count), 3);
 }
 
-/// Asserts that such a claim is told by how its reader ends.
+/// Asserts that the outcome of such a claim is that of its reader.
 fn assert_claimed(rt: &impl Abort, alloc: Global, count: usize) {
     let call = count.saturating_add(5);
     let failing = Stop::Fails(call, ErrorKind::Other);

@@ -1,5 +1,5 @@
--- Worked examples of what a line is: one of each command and more where a command has cases, and lines that are none. The
--- values were worked out by hand from the table of CALLING.md.
+-- Worked examples of `line_command`: each command, more where a command has cases, and lines that are no command.
+-- Worked out by hand from the table of CALLING.md.
 use Rattle.std.proofs.Common.{◌≡◌, [], ◌∷◌, ◌++◌, Some, None, true, false, codes, refl}
 use Rattle.std.specs.declared.ops.Bound.TheVariants.{Included, Excluded, Unbounded}
 use Rattle.std.specs.Str.{chars, is_utf8}
@@ -168,7 +168,7 @@ pub none-empty-line : line_command (codes "") ≡ None
 unfolding is_utf8 chars lib.Utf8.encode
 none-empty-line = refl
 
--- 255 stands nowhere in UTF-8
+-- 255 never occurs in UTF-8
 pub none-broken : line_command (codes "pushstr " ++ 255 ∷ []) ≡ None
 unfolding is_utf8 chars lib.Utf8.encode
 none-broken = refl

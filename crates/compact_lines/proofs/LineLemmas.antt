@@ -1,4 +1,4 @@
--- Lines that are answered one by one.
+-- Lines answered one by one.
 use Rattle.std.proofs.Common.{rules, codes, ◌≡◌, ℕ, ◌<◌, List, [], ◌∷◌, ◌++◌, ◌+◌, ◌-◌, length, take, drop, get_or, Option, Some, None, IfSome, sym, refl, ap, ◌∙◌, append_assoc, append-nil, take-append-drop, subst, IsTrue, Result, Ok, Err, OnOk, OnErr, Bool, true, inl, inr}
 use Rattle.std.specs.Option.{option_map}
 use Rattle.std.specs.List.{concat}
@@ -26,18 +26,17 @@ use Rattle.compact_lines.specs.Sessions.{State, Executes, DoesOrRefuses, runs_ed
 use Rattle.compact_lines.specs.Commands.{reference_to, line_command, command_itself, edit_itself, command_of, answers_of}
 use Rattle.compact_lines.specs.Lines.{AnswersCommand, outcome_line, value_line, AnswersLine, AnswersLines, IsFirstLine, bytes_of, AppendsFront, AppendsPart, AppendsAnswers, AppendsSomeAnswers}
 
--- the growth of the program's value
 abbrev pub standard : Growth
 standard = record { least = 32; numerator = 3; denominator = 2 }
 
--- what is appended in two steps is appended together
+-- two appends compose
 pub appends-both : (a b c : Option (List ℕ)) (xs ys : List ℕ) → Appends a b xs → Appends b c ys → Appends a c (xs ++ ys)
 appends-both None b c xs ys first then = tt
 appends-both (Some known) None c xs ys first then = elim first [ ]
 appends-both (Some known) (Some bs) None xs ys first then = elim then [ ]
 appends-both (Some known) (Some bs) (Some cs) xs ys first then = then ∙ ap (λ z. z ++ ys) first ∙ append_assoc known xs ys
 
--- what is known stays behind what was appended
+-- an append followed by no change
 pub appends-kept : (a b c : Option (List ℕ)) (xs : List ℕ) → Appends a b xs → Keeps b c → Appends a c xs
 appends-kept None b c xs first kept = tt
 appends-kept (Some known) None c xs first kept = elim first [ ]
@@ -48,7 +47,7 @@ pub appends-nothing : (a : Option (List ℕ)) → Appends a a []
 appends-nothing None = tt
 appends-nothing (Some known) = sym (append-nil known)
 
--- what was written of some bytes
+-- prefixes of some bytes, as written
 
 pub front-none : (old new : Option (List ℕ)) (bytes : List ℕ) → Keeps old new → AppendsFront old new bytes
 front-none old new bytes kept =
@@ -73,7 +72,7 @@ front-second old mid new head tail first front = record {
   appended = appends-both old mid new head front.written_bytes first front.appended;
 }
 
--- n bytes go from what is left to what was written
+-- the next n bytes are written
 pub written-more : (all done rest now : List ℕ) (n : ℕ) (old mid new : Option (List ℕ)) → all ≡ done ++ rest → now ≡ take (length rest - n) (drop n rest)
     → Appends old mid done → Appends mid new (take n rest) → (x : List ℕ) × (all ≡ x ++ now) × Appends old new x
 written-more all done rest now n old mid new split is first more = (
@@ -90,7 +89,7 @@ pub written-same : (all done rest now : List ℕ) (old mid new : Option (List �
 written-same all done rest now old mid new split is first kept =
     (done, split ∙ ap (λ l. done ++ l) (sym is), appends-kept old mid new done first kept)
 
--- some texts are written, and the next in part
+-- writing stops within the next text
 pub texts-stopped : {X E : Type 0} (r : Result X E) (texts : List (Bor (List ℕ))) (i : ℕ) (d : Bor (List ℕ)) (old mid new : Option (List ℕ)) → i < length texts
     → Appends old mid (bytes_of (take i texts)) → AppendsFront mid new (get_or texts i d).now → OnErr r (AppendsFront old new (bytes_of texts))
 texts-stopped (Ok x) texts i d old mid new within first front = tt
@@ -102,7 +101,7 @@ texts-stopped (Err e) texts i d old mid new within first front =
     ∙ ap bytes_of (ap (λ x. take i texts ++ x) (sym (drop_more texts i d within)) ∙ take-append-drop i texts) in
     subst (λ l. AppendsFront old new l) parts (front-second old mid new (bytes_of (take i texts)) (text ++ others) first (front-first mid new text others front))
 
--- after the first lines comes one more
+-- one more line is answered
 pub answers-more : (g : Growth) (v w u : State) (known left : Option (List ℕ)) (answers : List (List ℕ)) (line answer : List ℕ)
     → AnswersLines g v known answers left w → IsFirstLine left line → AnswersLine g w line answer u
     → AnswersLines g v known (answers ++ answer ∷ []) (option_map (λ bytes. drop_through 10 bytes) left) u
@@ -111,13 +110,13 @@ answers-more g v w u known left [] line answer so_far first is =
 answers-more g v w u known left (a ∷ others) line answer so_far first is =
     (so_far.0, so_far.1, so_far.2, so_far.3, answers-more g so_far.1 w u _ left others line answer so_far.4 first is)
 
--- the lines so far of the known bytes are answered so, and what is left of these is known
+-- the first lines of the known bytes have these answers, and the remaining bytes are known
 abbrev pub AnswersSoFar : Growth → State → Option (List ℕ) → Option (List ℕ) → Option (List ℕ) → Option (List ℕ) → State → Type 0
 AnswersSoFar g v known now old new w =
     (answers : List (List ℕ)) × (left : Option (List ℕ)) × AnswersLines g v known answers left w
     × IfSome left (λ _. now ≡ left) × Appends old new (concat answers)
 
--- a command that is executed, and whose two lines are written, is answered
+-- an executed command, both its lines written
 pub command-answered : {X E : Type 0} (r : Result X E) (g : Growth) (v w : State) (u : PlacedText) (command : Command) (outcome : Result (Reply Standard) ReserveError)
     (old mid new : Option (List ℕ)) → DoesOrRefuses g v command outcome w
     → Appends old mid (outcome_line outcome) → u ≡ w.value → OnOk r (Appends mid new (value_line u))
@@ -130,7 +129,7 @@ command-answered (Ok x) g v w u command outcome old mid new does first same seco
       appends-both old mid new (outcome_line outcome) (value_line w.value) first line,
     )
 
--- a command that is executed, and whose lines are written in part, is answered in part
+-- an executed command, its lines written in part
 
 pub outcome-stopped : {X E : Type 0} (r : Result X E) (g : Growth) (v w : State) (command : Command) (outcome : Result (Reply Standard) ReserveError) (old new : Option (List ℕ))
     → DoesOrRefuses g v command outcome w
@@ -164,7 +163,7 @@ step-same g v w a b legal back asks does Done step = (legal step.0, does Done st
 step-same g v w a b legal back asks does (Char c) step = (legal step.0, does (Char c) step.1)
 step-same g v w a b legal back asks does (Text t) step = (legal step.0, does (Text t) step.1)
 
--- what a step does hangs on no place of memory
+-- a step does not depend on where references are stored
 step-itself : (g : Growth) (v w : PlacedText) (edit : Edit Standard) (reply : Reply Standard) → Step g v edit reply w → Step g v (edit_itself edit) reply w
 step-itself g v w (edits.PushStr s) reply step =
     step-same g v w (edits.PushStr s) (edits.PushStr (reference_to s.now)) (λ l. l) (λ l. l) (λ t. t) (λ _ d. d) reply step
@@ -214,7 +213,7 @@ answered-itself g v w (Some command) answer is = (is.0, is.1, does-itself g v w 
 pub broken-line : (line : List ℕ) → ¬ (IsUtf8 line) → line_command line ≡ None
 broken-line line broken = rw (invalid-is_utf8 line broken) refl
 
--- the command that is read from the text of a line is that of the line
+-- reading the text of a line reads the line
 pub text-line : (line text : List ℕ) (bits items : List Bool) (command : Option Command) → (text ≡ line) × IsUtf8 line → bits ≡ items
     → items ≡ answers_of text → option_map command_itself command ≡ command_of text bits → line_command line ≡ option_map command_itself command
 text-line line text bits items command is same spelt read =
@@ -222,7 +221,7 @@ text-line line text bits items command is same spelt read =
     let of_text : command_of line (answers_of line) ≡ option_map command_itself command = rw (← is.0, ← spelt, ← same) (sym read) in
     rw told of_text
 
--- what a command is answered is the answer of its line
+-- the answer to a command answers its line
 pub command-of-line : {X E : Type 0} (r : Result X E) (g : Growth) (v w : State) (command : Option Command) (line : List ℕ) (old new : Option (List ℕ))
     → line_command line ≡ option_map command_itself command
     → OnOk r ((answer : List ℕ) × AnswersCommand g v command answer w × Appends old new answer)
@@ -236,7 +235,7 @@ pub no-command : {X E : Type 0} (r : Result X E) (g : Growth) (v : State) (old n
 no-command (Err e) g v old new wrote = tt
 no-command (Ok x) g v old new wrote = (codes "?\n", (refl, refl), wrote)
 
--- and what is written of it is a part of the answer of its line
+-- likewise a part of it
 pub part-of-line : {X E : Type 0} (r : Result X E) (g : Growth) (v w : State) (command : Option Command) (line : List ℕ) (old new : Option (List ℕ))
     → line_command line ≡ option_map command_itself command
     → OnErr r ((answer : List ℕ) × AnswersCommand g v command answer w × AppendsFront old new answer)
@@ -295,13 +294,13 @@ at-end now (Some bytes) same end = let here = rw same at end in here
 pub so-far-none : (g : Growth) (v : State) (known old : Option (List ℕ)) → AnswersSoFar g v known known old old v
 so-far-none g v known old = ([], known, (refl, refl), at-itself known, appends-nothing old)
 
--- all lines are answered where what is left of the known bytes is at its end
+-- at the end of the known bytes, all lines are answered
 pub all-answered : (g : Growth) (v w : State) (known now old new : Option (List ℕ))
     → AnswersSoFar g v known now old new w → IsAtEnd now
     → AppendsAnswers g v known old new w
 all-answered g v w known now old new so_far end = (so_far.0, (so_far.1, at-end now so_far.1 so_far.3 end, so_far.2), so_far.4)
 
--- the session may stop before any line is read, after some lines, or within an answer
+-- the session may stop before the first line, after some lines, or within an answer
 
 pub stopped-at-first : {X E : Type 0} (r : Result X E) (g : Growth) (v : State) (known old : Option (List ℕ)) → OnErr r (AppendsSomeAnswers g v known old old)
 stopped-at-first (Ok x) g v known old = tt

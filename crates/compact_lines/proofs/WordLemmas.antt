@@ -1,4 +1,4 @@
--- What std's `parse` reads, in the words of a line.
+-- What std's `parse` reads of a line's words.
 use Rattle.std.proofs.Common.{rules, ◌≡◌, ◌∙◌, sym, ap, ℕ, ◌<◌, ◌^◌, List, [], ◌∷◌, length, Bool, true, false, ◌&&◌, nat_lt, Some, None, Result, Ok, Err, IfOk, refl, arith, append-nil, if◌then◌else◌}
 use Rattle.std.specs.Result.{result_ok}
 use Rattle.std.specs.List.{list_all}
@@ -24,7 +24,7 @@ number-no-digits len v most all none = grind (arith, nat_tests)
 own : IsNumeralModel (λ ds. list_all is_ascii_digit ds ≡ true) (digits_value 10)
 own = numerals_by_value _ (search rules)
 
--- digits that are parsed are a number, and no others are
+-- digits are a number just if they parse
 pub number-parsed : {E : Type 0} (word : List ℕ) (r : Result ℕ E) → ParsesUnsigned 64 10 word r → list_all is_ascii_digit word ≡ true
     → result_ok r ≡ number_of word
 number-parsed {E} word (Ok n) h are =
@@ -33,7 +33,7 @@ number-parsed {E} word (Ok n) h are =
 number-parsed {E} word (Err e) h are =
     number-none (length word) (digits_value 10 word) (2 ^ 64) (list_all is_ascii_digit word) (parse_digits own {E = E} 64 word (Err e) h are)
 
--- and what has another byte is none
+-- a word with another byte is no number
 pub no-digits : (word : List ℕ) → list_all is_ascii_digit word ≡ false → None ≡ number_of word
 no-digits word none = number-no-digits (length word) (digits_value 10 word) (2 ^ 64) (list_all is_ascii_digit word) none
 
@@ -51,7 +51,7 @@ none-of-one bytes (c ∷ []) text same never =
     absurd (never c (one-scalar c scalar) (sym spelt ∙ append-nil (encode_utf8 c)))
 none-of-one bytes (c ∷ d ∷ more) text same never = refl
 
--- a text that is parsed as a character is that one, and no other is
+-- a text that parses as a character is that one, and any other is no character
 pub character-parsed : {E : Type 0} (bytes : List ℕ) (r : Result ℕ E) → IsUtf8 bytes → IfOk r IsScalar → ParsesChar bytes r
     → result_ok r ≡ character_of bytes
 character-parsed bytes (Ok c) text is h =

@@ -1,4 +1,4 @@
--- Which command a line is, if it is one.
+-- The command of a line, if it is one.
 use Rattle.std.specs.Prelude.{ℕ, ◌+◌, ◌^◌, Bool, ◌&&◌, ◌||◌, List, [], ◌∷◌, ◌==◌, nat_lt, map, length, drop, codes, Option, Some, None, if◌then◌else◌}
 use Rattle.std.specs.Option.{option_map, unwrap_or}
 use Rattle.std.specs.Borrow.{Bor}
@@ -15,11 +15,11 @@ use Rattle.compact_edit.specs.declared.edit.Edit.TheVariants as edits
 use Rattle.compact_lines.specs.declared.command.Command.{Command}
 use Rattle.compact_lines.specs.declared.command.Command.TheVariants as commands
 
--- a reference to a value, which says nothing of where it stands
+-- a reference that does not fix where its value is stored
 abbrev pub reference_to : {X : Type 0} → X → Bor X
 reference_to x = record { ref_ptr = (0, 0); now = x }
 
--- an edit, with references that say nothing of where their values stand
+-- the same for the references of an edit
 abbrev pub edit_itself : Edit Standard → Edit Standard
 edit_itself (edits.PushStr s) = edits.PushStr (reference_to s.now)
 edit_itself (edits.InsertStr p s) = edits.InsertStr p (reference_to s.now)
@@ -28,39 +28,39 @@ edit_itself (edits.Retain answers) = edits.Retain (reference_to answers.now)
 edit_itself (edits.CloneFrom source) = edits.CloneFrom (reference_to source.now)
 edit_itself edit = edit
 
--- and a command
+-- the same for a command
 abbrev pub command_itself : Command → Command
 command_itself (commands.New s) = commands.New (reference_to s.now)
 command_itself (commands.CloneFrom s) = commands.CloneFrom (reference_to s.now)
 command_itself (commands.Edit edit) = commands.Edit (edit_itself edit)
 command_itself command = command
 
--- what stands before the first space, or all where there is none
+-- up to the first space, or all
 abbrev pub word_of : List ℕ → List ℕ
 word_of text = before_first (λ b. b == 32) text
 
--- what stands behind the first space, if there is one
+-- after the first space, if there is one
 abbrev pub rest_of : List ℕ → Option (List ℕ)
 rest_of text = option_map (λ at. drop (at + 1) text) (position (λ b. b == 32) text)
 
--- what f gives of a value that is there
+-- f of the value, if there is one
 abbrev pub and_then : {X Y : Type 0} → Option X → (X → Option Y) → Option Y
 and_then None f = None
 and_then (Some x) f = f x
 
--- N: one or more ASCII digits, with a value that fits a `usize`
+-- N: one or more ASCII digits whose value fits a `usize`
 abbrev pub number_of : List ℕ → Option ℕ
 number_of digits =
     if nat_lt 0 (length digits) && list_all is_ascii_digit digits && nat_lt (digits_value 10 digits) (2 ^ 64)
     then Some (digits_value 10 digits) else None
 
--- the one of a list of just one
+-- the item of a list of one
 abbrev pub single_item : List ℕ → Option ℕ
 single_item [] = None
 single_item (c ∷ []) = Some c
 single_item (c ∷ d ∷ more) = None
 
--- C: a text of just one character
+-- C: a text of one character
 abbrev pub character_of : List ℕ → Option ℕ
 character_of text = single_item (text_of text)
 
@@ -71,19 +71,19 @@ start_of word = if bytes_eq word (codes "-") then Some Unbounded else option_map
 abbrev pub end_of : List ℕ → Option (Bound ℕ)
 end_of word = if bytes_eq word (codes "-") then Some Unbounded else option_map Excluded (number_of word)
 
--- BITS: 0 and 1, of which 1 is true
+-- BITS: 0 and 1, where 1 is true
 abbrev pub are_bits : List ℕ → Bool
 are_bits text = list_all (λ b. b == 48 || b == 49) text
 
 abbrev pub bits_of : List ℕ → List Bool
 bits_of text = map (λ b. b == 49) text
 
--- what stands in a table beside a word, if it is in there; a last row with the word itself is that of every other word
+-- looks a word up in a table; a last row for the word itself is the default
 abbrev pub row_of_word : {X : Type 0} → List ℕ → List (List ℕ × Option X) → Option X
 row_of_word word [] = None
 row_of_word word (row ∷ rows) = if bytes_eq word row.0 then row.1 else row_of_word word rows
 
--- the edit that a word stands for by itself
+-- the edit of a single word
 abbrev pub bare_edit : List ℕ → Option (Edit Standard)
 bare_edit word = row_of_word word (
     (codes "pop", Some edits.Pop)
@@ -124,7 +124,7 @@ abbrev pub drain_edit : List ℕ → Option (Edit Standard)
 drain_edit rest = and_then (rest_of rest) (λ end. and_then (start_of (word_of rest)) (λ start.
     option_map (λ end. edits.Drain start end) (end_of end)))
 
--- the edit of a word and of what stands behind its space, which the answers belong to where they are BITS
+-- the edit of a word and the text after its space, with these answers if that is BITS
 abbrev pub field_edit : List ℕ → List ℕ → List Bool → Option (Edit Standard)
 field_edit word rest answers = row_of_word word (
     (codes "push", option_map (λ c. edits.Push c) (character_of rest))
@@ -137,7 +137,7 @@ field_edit word rest answers = row_of_word word (
     ∷ (word, and_then (number_of rest) (number_edit word))
     ∷ [])
 
--- the command of a line with no space: what takes a TEXT or BITS has none
+-- the command of a line with no space: its TEXT or BITS is empty
 abbrev pub bare_command : List ℕ → List Bool → Option Command
 bare_command word answers = row_of_word word (
     (codes "new", Some (commands.New (reference_to [])))
@@ -148,7 +148,7 @@ bare_command word answers = row_of_word word (
     ∷ (word, option_map commands.Edit (bare_edit word))
     ∷ [])
 
--- the command of a word and of what stands behind its space
+-- the command of a word and the text after its space
 abbrev pub field_command : List ℕ → List ℕ → List Bool → Option Command
 field_command word rest answers = row_of_word word (
     (codes "new", Some (commands.New (reference_to rest)))
@@ -157,19 +157,19 @@ field_command word rest answers = row_of_word word (
     ∷ (word, option_map commands.Edit (field_edit word rest answers))
     ∷ [])
 
--- the command of a word and of what stands behind its space, if there is one
+-- the command of a word and the text after its space, if any
 abbrev pub command_with : List ℕ → Option (List ℕ) → List Bool → Option Command
 command_with word None answers = bare_command word answers
 command_with word (Some rest) answers = field_command word rest answers
 
--- the command that a text is, with these answers if it is a `retain`
+-- the command of a text, with these answers if it is a `retain`
 abbrev pub command_of : List ℕ → List Bool → Option Command
 command_of text answers = command_with (word_of text) (rest_of text) answers
 
--- the answers that a text spells: the BITS of `retain`
+-- the BITS of `retain`, or no answers
 abbrev pub answers_of : List ℕ → List Bool
 answers_of text = if bytes_eq (word_of text) (codes "retain") then bits_of (unwrap_or (rest_of text) []) else []
 
--- the command that a line is
+-- the command of a line
 abbrev pub line_command : List ℕ → Option Command
 line_command line = if is_utf8 line then command_of line (answers_of line) else None

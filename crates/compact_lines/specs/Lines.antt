@@ -1,4 +1,4 @@
--- What the lines of the input are answered. A line ends with the byte 10, which the last may lack.
+-- The answers to the lines of the input. A line ends with the byte 10, which the last may lack.
 use Rattle.std.specs.Prelude.{◌≡◌, ◌<◌, ℕ, List, [], ◌∷◌, ◌++◌, ◌⊎◌, length, flat_map, codes, Option, None, Some, IfSome, Result, Ok, Err}
 use Rattle.std.specs.Borrow.{Bor}
 use Rattle.std.specs.Option.{option_map}
@@ -18,18 +18,17 @@ use Rattle.compact_lines.specs.declared.command.Command.{Command}
 use Rattle.compact_lines.specs.Sessions.{State, DoesOrRefuses}
 use Rattle.compact_lines.specs.Commands.{line_command}
 
--- the bytes of some texts, one after another
+-- the concatenated bytes of some texts
 abbrev pub bytes_of : List (Bor (List ℕ)) → List ℕ
 bytes_of texts = flat_map (λ t. t.now) texts
 
--- what a writer has taken grew by a front of the bytes, which may be none of them or all
+-- the writer's bytes grew by a prefix of these: perhaps none, perhaps all
 pub record AppendsFront (old new : Option (List ℕ)) (bytes : List ℕ) : Type 0 where
   pub written_bytes : List ℕ
   pub rest : List ℕ
   pub parts : bytes ≡ written_bytes ++ rest
   pub appended : Appends old new written_bytes
 
--- the line that a reply is written as
 abbrev pub reply_line : Reply Standard → List ℕ
 reply_line Done = codes "done\n"
 reply_line (Char (Some c)) = codes "char " ++ encode_utf8 c ++ codes "\n"
@@ -38,60 +37,58 @@ reply_line (Text v) = codes "text " ++ utf8 v.text ++ codes "\n"
 reply_line BadPosition = codes "bad position\n"
 reply_line (Refused e) = codes "refused\n"
 
--- the word for a place
 abbrev pub place_word : Place → List ℕ
 place_word inline = codes "inline"
 place_word heap = codes "heap"
 place_word static = codes "static"
 
--- the line that a value is written as
 abbrev pub value_line : PlacedText → List ℕ
 value_line v =
     place_word v.placement.place ++ codes " " ++ decimal (size v.text) ++ codes " " ++ decimal v.placement.capacity
     ++ codes " " ++ utf8 v.text ++ codes "\n"
 
--- the line that says how a command ended
+-- the line for a command's outcome
 abbrev pub outcome_line : Result (Reply Standard) ReserveError → List ℕ
 outcome_line (Ok reply) = reply_line reply
 outcome_line (Err e) = codes "refused\n"
 
--- from s a command may be answered by these bytes and leave t; what is no command is marked, and leaves s
+-- from s, the command may give this answer and state t; no command gives a mark and s
 abbrev pub AnswersCommand : Growth → State → Option Command → List ℕ → State → Type 0
 AnswersCommand g s None answer t = (answer ≡ codes "?\n") × (t ≡ s)
 AnswersCommand g s (Some command) answer t =
     (outcome : Result (Reply Standard) ReserveError) × (answer ≡ outcome_line outcome ++ value_line t.value)
     × DoesOrRefuses g s command outcome t
 
--- from s a line may be answered by these bytes and leave t
+-- the same for a line
 abbrev pub AnswersLine : Growth → State → List ℕ → List ℕ → State → Type 0
 AnswersLine g s line answer t = AnswersCommand g s (line_command line) answer t
 
--- what a writer has taken stayed, or grew by a front of what the line may be answered from s on
+-- the writer's bytes are unchanged, or grew by a prefix of an answer to the line from s
 abbrev pub AppendsPart : Growth → State → List ℕ → Option (List ℕ) → Option (List ℕ) → Type 0
 AppendsPart g s line old new =
     Keeps old new ⊎ ((answer : List ℕ) × (t : State) × AnswersLine g s line answer t × AppendsFront old new answer)
 
--- the line is the first one of the known bytes
+-- the line is the first of the known bytes
 abbrev pub IsFirstLine : Option (List ℕ) → List ℕ → Type 0
 IsFirstLine known line = IfSome known (λ bytes. (0 < length bytes) × (line ≡ first_piece 10 bytes))
 
--- from s the first lines of the known bytes are answered so, one by one, and t and the left bytes are there after them
+-- from s, the first lines of the known bytes may give these answers, one by one, and end with t and these bytes left
 abbrev pub AnswersLines : Growth → State → Option (List ℕ) → List (List ℕ) → Option (List ℕ) → State → Type 0
 AnswersLines g s known [] left t = (left ≡ known) × (t ≡ s)
 AnswersLines g s known (answer ∷ answers) left t =
     (line : List ℕ) × (u : State) × IsFirstLine known line × AnswersLine g s line answer u
     × AnswersLines g u (option_map (λ bytes. drop_through 10 bytes) known) answers left t
 
--- from s all lines of the known bytes are answered so, and leave t
+-- the same for all lines of the known bytes
 abbrev pub AnswersAll : Growth → State → Option (List ℕ) → List (List ℕ) → State → Type 0
 AnswersAll g s known answers t = (left : Option (List ℕ)) × IsAtEnd left × AnswersLines g s known answers left t
 
--- what a writer has taken grew by all answers
+-- the writer's bytes grew by all answers
 abbrev pub AppendsAnswers : Growth → State → Option (List ℕ) → Option (List ℕ) → Option (List ℕ) → State → Type 0
 AppendsAnswers g s known old new t =
     (answers : List (List ℕ)) × AnswersAll g s known answers t × Appends old new (concat answers)
 
--- from s some first lines of the known bytes, or none, are answered so, and what a writer has taken grew by a front of that
+-- the writer's bytes grew by a prefix of the answers to some first lines, or none, from s
 abbrev pub AppendsSomeAnswers : Growth → State → Option (List ℕ) → Option (List ℕ) → Option (List ℕ) → Type 0
 AppendsSomeAnswers g s known old new =
     (answers : List (List ℕ)) × (left : Option (List ℕ)) × (t : State) × AnswersLines g s known answers left t

@@ -1,4 +1,4 @@
--- What a command does to the program's value.
+-- The effect of a command on the program's value.
 use Rattle.std.specs.Prelude.{◌≡◌, Bool, true, false, not, [], ◌||◌, replicate, length, Some, IsTrue, Result, Ok, Err}
 use Rattle.std.specs.Borrow.{Bor}
 use Rattle.compact_str.specs.Text.{text_of}
@@ -19,11 +19,11 @@ pub record State : Type 0 where
   pub value : PlacedText
   pub has_room : Bool
 
--- the empty value, inline, and no room yet
+-- the empty value, inline, and no room
 abbrev pub first_state : State
 first_state = record { value = placed_text [] inline_placement; has_room = false }
 
--- from v the command may be answered so and leave w
+-- from v, the command may give this reply and the value w
 abbrev pub Executes : Growth → PlacedText → Command → Reply Standard → PlacedText → Type 0
 Executes g v (New s) reply w = (reply ≡ Done) × (new g (text_of s.now) ≡ Some w)
 Executes g v Static reply w = (reply ≡ Done) × (w.placement ≡ static_placement w.text) × (w.text ≡ replicate 30 97)
@@ -32,13 +32,13 @@ Executes g v (CloneFrom s) reply w =
     (source : Bor PlacedText) × (new g (text_of s.now) ≡ Some source.now) × Step g v (edits.CloneFrom source) reply w
 Executes g v (Edit edit) reply w = Step g v edit reply w
 
--- the command runs an edit, whose reply needs room; once there was some, it stays
+-- the command runs an edit, whose reply needs room; that room is kept
 abbrev pub runs_edit : Command → Bool
 runs_edit (CloneFrom s) = true
 runs_edit (Edit edit) = true
 runs_edit command = false
 
--- the command asks for memory, so that it may be refused: for a new value of more than 24 bytes, or for room for a reply
+-- the command allocates, and so can fail: for a new value of more than 24 bytes, or room for a reply
 abbrev pub command_allocates : Bool → Command → Bool
 command_allocates has_room (New s) = with_capacity_allocates (length s.now)
 command_allocates has_room Static = false
@@ -46,7 +46,7 @@ command_allocates has_room (WithCapacity n) = with_capacity_allocates n
 command_allocates has_room (CloneFrom s) = with_capacity_allocates (length s.now) || not has_room
 command_allocates has_room (Edit edit) = not has_room
 
--- from s a command is done with a reply and leaves t, or was refused the memory that it asks for
+-- from s, the command succeeds with a reply and leaves t, or an allocation fails and s is unchanged
 abbrev pub DoesOrRefuses : Growth → State → Command → Result (Reply Standard) ReserveError → State → Type 0
 DoesOrRefuses g s command (Ok reply) t =
     Executes g s.value command reply t.value × (t.has_room ≡ (runs_edit command || s.has_room))

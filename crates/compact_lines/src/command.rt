@@ -1,4 +1,4 @@
-//! How a line is read.
+//! Reading commands.
 ghost use Rattle.std.specs.Prelude.{◌≡◌, IfOk};
 ghost use Rattle.std.specs.Option.{option_map, option_copied};
 ghost use Rattle.std.specs.List.{list_all};
@@ -10,26 +10,25 @@ use compact_str::Standard;
 use std::alloc::{AllocError, Global};
 use std::ops::Bound;
 
-/// What a line asks for.
+/// The command of a line.
 pub enum Command<'a> {
-    /// The value becomes a new one with this text.
+    /// Replaces the value by a new one with this text.
     New(&'a str),
-    /// The value becomes a static one of 30 letters.
+    /// Replaces the value by a static one of 30 `a`s.
     Static,
-    /// The value becomes an empty one with room for so many bytes.
+    /// Replaces the value by an empty one with this capacity, in bytes.
     WithCapacity(usize),
-    /// The value becomes a clone of a new one with this text.
+    /// Replaces the value by a clone of a new one with this text.
     CloneFrom(&'a str),
-    /// The value is edited.
+    /// Edits the value.
     Edit(Edit<'a, Standard>),
 }
 
-/// The answers that a line of `retain` spells, one for each byte behind its space: 1 is `true`. Any other line spells
-/// none.
+/// Returns the answers of a `retain` line: one for each byte after its space, `true` for 1. Any other line has none.
 ///
 /// # Errors
 ///
-/// `AllocError` if no memory is found.
+/// `AllocError` if allocation fails.
 pub fn answers(alloc: Global, line: &str) -> Result<Vec<bool>, AllocError>
     ensures { IfOk result (λ answers. answers.items ≡ answers_of line.now) }
 {
@@ -39,12 +38,12 @@ pub fn answers(alloc: Global, line: &str) -> Result<Vec<bool>, AllocError>
     }
 }
 
-/// Reads a line: a word, and after one space what belongs to it. `None` is a line that fits no command. `answers` are
-/// those that the line spells.
+/// Parses a line: a word and, after one space, its arguments. Returns `None` if the line is no command. `answers` must
+/// be those of the line.
 ///
 /// # Examples
 ///
-/// `pushstr abc` appends `abc`, and `foo` is no command.
+/// `pushstr abc` appends `abc`; `foo` is no command.
 pub fn parse<'a>(line: &'a str, answers: &'a [bool]) -> Option<Command<'a>>
     ensures { option_map command_itself result ≡ command_of line.now answers.now }
 {
@@ -55,7 +54,7 @@ pub fn parse<'a>(line: &'a str, answers: &'a [bool]) -> Option<Command<'a>>
     }
 }
 
-/// Reads a line of one word.
+/// Parses a line of one word.
 fn parse_bare<'a>(word: &str, answers: &'a [bool]) -> Option<Command<'a>>
     ensures { option_map command_itself result ≡ bare_command word.now answers.now }
 {
@@ -69,7 +68,7 @@ fn parse_bare<'a>(word: &str, answers: &'a [bool]) -> Option<Command<'a>>
     }
 }
 
-/// Reads an edit of one word and nothing else.
+/// Parses an edit without arguments.
 fn parse_bare_edit<'a>(word: &str) -> Option<Edit<'a, Standard>>
     ensures { option_map edit_itself result ≡ bare_edit word.now }
 {
@@ -84,7 +83,7 @@ fn parse_bare_edit<'a>(word: &str) -> Option<Edit<'a, Standard>>
     }
 }
 
-/// Reads a word and what stands behind its space.
+/// Parses a word and the text after its space.
 fn parse_fields<'a>(word: &str, rest: &'a str, answers: &'a [bool]) -> Option<Command<'a>>
     ensures { option_map command_itself result ≡ field_command word.now rest.now answers.now }
 {
@@ -96,7 +95,7 @@ fn parse_fields<'a>(word: &str, rest: &'a str, answers: &'a [bool]) -> Option<Co
     }
 }
 
-/// Reads an edit of a word and of what stands behind its space.
+/// Parses an edit from a word and the text after its space.
 fn parse_field_edit<'a>(
     word: &str,
     rest: &'a str,
@@ -122,7 +121,7 @@ fn parse_field_edit<'a>(
     }
 }
 
-/// Reads an edit of a word and a number.
+/// Parses an edit from a word and a number.
 fn parse_number_edit<'a>(word: &str, number: usize) -> Option<Edit<'a, Standard>>
     ensures { option_map edit_itself result ≡ number_edit word.now number }
 {
@@ -137,7 +136,7 @@ fn parse_number_edit<'a>(word: &str, number: usize) -> Option<Edit<'a, Standard>
     }
 }
 
-/// Reads where a character is put in, and which.
+/// Parses a position and a character.
 fn parse_insert<'a>(rest: &str) -> Option<Edit<'a, Standard>>
     ensures { option_map edit_itself result ≡ insert_edit rest.now }
 {
@@ -145,7 +144,7 @@ fn parse_insert<'a>(rest: &str) -> Option<Edit<'a, Standard>>
     Some(Edit::Insert(number(index)?, character(text?)?))
 }
 
-/// Reads where a text is put in, and which: the empty one where nothing stands in its place.
+/// Parses a position and a text, empty if missing.
 fn parse_insert_str(rest: &str) -> Option<Edit<'_, Standard>>
     ensures { option_map edit_itself result ≡ insert_str_edit rest.now }
 {
@@ -153,7 +152,7 @@ fn parse_insert_str(rest: &str) -> Option<Edit<'_, Standard>>
     Some(Edit::InsertStr(number(index)?, text.unwrap_or("")))
 }
 
-/// Reads a range and the text in its place, which is empty where none stands there.
+/// Parses a range and its replacement, empty if missing.
 fn parse_replace(rest: &str) -> Option<Edit<'_, Standard>>
     ensures { option_map edit_itself result ≡ replace_edit rest.now }
 {
@@ -162,7 +161,7 @@ fn parse_replace(rest: &str) -> Option<Edit<'_, Standard>>
     Some(Edit::ReplaceRange(range_start(start)?, range_end(end)?, text.unwrap_or("")))
 }
 
-/// Reads where a range that is taken out starts and ends.
+/// Parses the two ends of a range.
 fn parse_drain<'a>(rest: &str) -> Option<Edit<'a, Standard>>
     ensures { option_map edit_itself result ≡ drain_edit rest.now }
 {
@@ -171,14 +170,14 @@ fn parse_drain<'a>(rest: &str) -> Option<Edit<'a, Standard>>
     Some(Edit::Drain(range_start(start)?, range_end(end)?))
 }
 
-/// Whether `text` has no characters but 0 and 1.
+/// Returns `true` if `text` has only 0 and 1.
 fn are_bits(text: &str) -> bool
     ensures { result ≡ are_bits text.now }
 {
     text.bytes().all(|byte| byte == b'0' || byte == b'1')
 }
 
-/// The text before the first space, and what follows that space.
+/// Splits at the first space.
 fn first_word(text: &str) -> (&str, Option<&str>)
     ensures word { result.0.now ≡ word_of text.now }
     ensures rest { option_copied result.1 ≡ rest_of text.now }
@@ -189,18 +188,18 @@ fn first_word(text: &str) -> (&str, Option<&str>)
     }
 }
 
-/// Whether `text` has no characters but ASCII digits.
+/// Returns `true` if `text` has only ASCII digits.
 fn are_digits(text: &str) -> bool
     ensures { result ≡ list_all is_ascii_digit text.now }
 {
     text.bytes().all(|byte| byte.is_ascii_digit())
 }
 
-/// Reads a number: one or more ASCII digits whose value fits a `usize`.
+/// Parses a number: one or more ASCII digits whose value fits a `usize`.
 fn number(word: &str) -> Option<usize>
     ensures { result ≡ number_of word.now }
 {
-    // `parse` alone would take a sign too.
+    // `parse` alone accepts a sign.
     if are_digits(word) {
         word.parse().ok()
     } else {
@@ -208,7 +207,7 @@ fn number(word: &str) -> Option<usize>
     }
 }
 
-/// Reads where a range starts: at a number, or at the start of the text for `-`.
+/// Parses the start of a range: a number, or `-` for the start of the text.
 fn range_start(word: &str) -> Option<Bound<usize>>
     ensures { result ≡ start_of word.now }
 {
@@ -218,7 +217,7 @@ fn range_start(word: &str) -> Option<Bound<usize>>
     number(word).map(Bound::Included)
 }
 
-/// Reads where a range ends: before a number, or at the end of the text for `-`.
+/// Parses the exclusive end of a range: a number, or `-` for the end of the text.
 fn range_end(word: &str) -> Option<Bound<usize>>
     ensures { result ≡ end_of word.now }
 {
@@ -228,7 +227,7 @@ fn range_end(word: &str) -> Option<Bound<usize>>
     number(word).map(Bound::Excluded)
 }
 
-/// Reads a text of just one character.
+/// Parses a text of one character.
 fn character(text: &str) -> Option<char>
     ensures { result ≡ character_of text.now }
 {

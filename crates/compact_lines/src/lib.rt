@@ -1,4 +1,4 @@
-//! Edits as lines of text: reads commands, runs them on one value, and prints what they answer and what the value is.
+//! Edits as lines of text: reads commands, runs them on one value, and prints the outcomes and the value.
 #![tactic(auto)]
 
 mod command;

@@ -1,4 +1,4 @@
-//! How the lines of a reader are answered on a writer.
+//! Answering the lines of a reader on a writer.
 ghost use Rattle.std.specs.Prelude.{◌≡◌, ◌≤◌, List, ℕ, OnErr, OnOk, Some};
 ghost use Rattle.std.specs.Fmt.{decimal};
 ghost use Rattle.std.specs.Io.BufRead.{strip_last};
@@ -18,15 +18,16 @@ use std::io;
 use std::io::{BufRead, BufReader, Read, Write};
 
 /// Reads commands from `reader`, one a line, and writes their outcomes to `writer`. Returns 0 at the end of the input,
-/// and 1 if reading or writing fails, or if there is no memory for the reader's buffer or to read a line.
+/// and 1 if a read or write fails, or if there is no memory for the reader's buffer or for a line.
 ///
-/// A command writes two lines: its outcome, and the value as `PLACE LENGTH CAPACITY TEXT`. The outcome is `refused` if a
-/// value cannot be allocated, or room for the reply to an edit; that room is made by the first edit, and kept. A line
-/// that is no command writes the one line `?` and changes nothing. Each answer is written in pieces, and then flushed.
+/// A command writes two lines: its outcome, and the value as `PLACE LENGTH CAPACITY TEXT`. The outcome is `refused` if
+/// allocation fails, for a value or for room for the reply to an edit; the first edit makes that room, and it is kept.
+/// A line that is no command writes the one line `?` and changes nothing. Each answer is written in pieces, then
+/// flushed.
 ///
-/// If the bytes of the reader are known, 0 says that all their lines were answered, one by one from the empty value on;
-/// and if those of the writer are known, that it has just these answers after what it had. 1 says that it has a beginning
-/// of the answers to some first lines.
+/// If the reader's bytes are known, 0 means that all their lines were answered, one by one from the empty value on; if
+/// the writer's are known too, that it has appended just these answers. 1 means that it has appended a prefix of the
+/// answers to some first lines.
 pub fn run_lines<R: Read, W: Write>(alloc: Global, reader: &mut R, writer: &mut W) -> u8
     ensures status { result ≤ 1 }
     ensures answers { result ≡ 0 → (t : State) × AppendsAnswers ⟦<Standard as Policy>⟧.growth
@@ -40,7 +41,7 @@ pub fn run_lines<R: Read, W: Write>(alloc: Global, reader: &mut R, writer: &mut 
     }
 }
 
-/// Answers each line of a reader, from the empty value on.
+/// Answers each line of a reader, starting from the empty value.
 fn answer_input<R: Read, W: Write>(alloc: Global, reader: &mut R, writer: &mut W) -> io::Result<()>
     ensures ok { OnOk result ((t : State) × AppendsAnswers ⟦<Standard as Policy>⟧.growth
         first_state (R.remaining reader.old) (W.contents writer.old) (W.contents writer.new) t) }
@@ -52,7 +53,7 @@ fn answer_input<R: Read, W: Write>(alloc: Global, reader: &mut R, writer: &mut W
     answer_lines(alloc, &mut session, &mut reader, writer)
 }
 
-/// Answers each line, and has the writer flushed before the next is read.
+/// Answers each line, flushing before the next is read.
 fn answer_lines<B: BufRead, W: Write>(
     alloc: Global,
     session: &mut Session,
@@ -74,11 +75,11 @@ fn answer_lines<B: BufRead, W: Write>(
         answer_line(alloc, session, without_end(line.as_slice()), writer)?;
         writer.flush()?;
     }
-    // So many lines take longer than any program runs.
+    // Unreachable in practice: no program runs for that many lines.
     Err(io::Error::from(io::ErrorKind::Other))
 }
 
-/// A line without the byte that ends it.
+/// A line without its newline.
 fn without_end(line: &[u8]) -> &[u8]
     ensures { result.now ≡ strip_last 10 line.now }
 {
@@ -89,7 +90,6 @@ fn without_end(line: &[u8]) -> &[u8]
     }
 }
 
-/// Answers one line.
 fn answer_line<W: Write>(
     alloc: Global,
     session: &mut Session,
@@ -112,7 +112,7 @@ fn answer_line<W: Write>(
     answer_command(session, command, writer)
 }
 
-/// Does a command and writes its two lines.
+/// Runs a command and writes its two lines.
 fn answer_command<W: Write>(
     session: &mut Session,
     command: Command,
@@ -132,7 +132,7 @@ fn answer_command<W: Write>(
     write_value(session.value(), writer)
 }
 
-/// Writes the line that says how a command ended.
+/// Writes the line for a command's outcome.
 fn write_outcome<W: Write>(
     outcome: &Result<Reply<Standard>, ReserveError>,
     writer: &mut W,
@@ -148,7 +148,7 @@ fn write_outcome<W: Write>(
     }
 }
 
-/// Writes the line of a reply.
+/// Writes the line for a reply.
 fn write_reply<W: Write>(reply: &Reply<Standard>, writer: &mut W) -> io::Result<()>
     ensures ok { OnOk result (Appends (W.contents writer.old) (W.contents writer.new)
         (reply_line reply.now)) }
@@ -167,7 +167,7 @@ fn write_reply<W: Write>(reply: &Reply<Standard>, writer: &mut W) -> io::Result<
     }
 }
 
-/// Writes the line of a value.
+/// Writes the line for a value.
 fn write_value<W: Write>(value: &CompactString, writer: &mut W) -> io::Result<()>
     ensures ok { OnOk result (Appends (W.contents writer.old) (W.contents writer.new)
         (value_line value.now)) }
@@ -191,7 +191,7 @@ fn write_value<W: Write>(value: &CompactString, writer: &mut W) -> io::Result<()
     )
 }
 
-/// The word for the place of a value.
+/// Returns the word for a value's place.
 fn place_word(value: &CompactString) -> &str
     ensures { result.now ≡ place_word value.now.placement.place }
 {
@@ -204,7 +204,7 @@ fn place_word(value: &CompactString) -> &str
     }
 }
 
-/// The digits of a number, which are inline.
+/// Formats a number, which is always inline.
 fn decimal(alloc: Global, n: usize) -> CompactString
     ensures { utf8 result.text ≡ decimal n }
 {

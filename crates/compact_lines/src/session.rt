@@ -1,4 +1,4 @@
-//! The one value that the commands work on.
+//! The value that the commands edit.
 ghost use Rattle.std.specs.Prelude.{◌≡◌, IfOk, OnOk, OnErr, IsTrue, IsFalse};
 ghost use Rattle.compact_edit.specs.Steps.{Step};
 ghost use Rattle.compact_lines.specs.Sessions.{DoesOrRefuses, first_state};
@@ -9,7 +9,7 @@ use compact_str::{CompactString, Policy, ReserveError, Standard};
 use std::alloc::Global;
 use std::marker::Model;
 
-/// What the command `static` makes a value of.
+/// The text of the command `static`.
 const LETTERS: &str = "aaaaaaaaaaaaaaaaaaaaaaaaaaaaaa";
 
 /// A value, and room for the reply to an edit. A contract sees the value, and whether there is such room.
@@ -30,7 +30,7 @@ impl Model for Session {
 }
 
 impl Session {
-    /// Begins with the empty value, inline.
+    /// Creates a session with the empty value, inline.
     pub fn new(alloc: Global) -> Self
         ensures { result ≡ first_state }
     {
@@ -41,19 +41,19 @@ impl Session {
         }
     }
 
-    /// The value as it is now.
+    /// Returns the current value.
     pub fn value(&self) -> &CompactString
         ensures { result.now ≡ self.now.value }
     {
         &self.value
     }
 
-    /// Runs a command and returns its reply. Room for the reply to an edit is made before the first one, and kept.
+    /// Runs a command and returns its reply. The first edit makes room for its reply, which is kept.
     ///
     /// # Errors
     ///
-    /// [`ReserveError`] if the value that `new`, `cap` or `clonefrom` makes cannot be allocated, or room for the reply to
-    /// an edit, which comes before a bad position. The session is then unchanged.
+    /// [`ReserveError`] if allocation fails: for the value of `new`, `cap` or `clonefrom`, or for room for the reply
+    /// to an edit, even one with a bad position. The session is then unchanged.
     pub fn execute(&mut self, command: Command) -> Result<Reply<Standard>, ReserveError>
         ensures { DoesOrRefuses ⟦<Standard as Policy>⟧.growth self.old command.entry result self.new }
     {

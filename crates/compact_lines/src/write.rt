@@ -1,4 +1,4 @@
-//! How bytes are written, so that it is known what was written before an error.
+//! Writing bytes, so that what was written before an error is known.
 ghost use Rattle.std.specs.Prelude.{OnErr, OnOk};
 ghost use Rattle.std.specs.Io.KnownBytes.{Appends};
 ghost use Rattle.compact_lines.specs.Lines.{AppendsFront, bytes_of};
@@ -10,7 +10,7 @@ use std::io::{ErrorKind, Write};
 ///
 /// # Errors
 ///
-/// That of the writer; then a front of their bytes is written.
+/// The writer's error, after writing a prefix of the bytes.
 pub fn write_texts<W: Write>(texts: &[&str], writer: &mut W) -> io::Result<()>
     ensures ok { OnOk result (Appends (W.contents writer.old) (W.contents writer.new)
         (bytes_of texts.now)) }
@@ -23,11 +23,11 @@ pub fn write_texts<W: Write>(texts: &[&str], writer: &mut W) -> io::Result<()>
     Ok(())
 }
 
-/// Writes all of the bytes. An interrupted call is made again.
+/// Writes all of the bytes, retrying interrupted calls.
 ///
 /// # Errors
 ///
-/// That of the writer; then a front of the bytes is written.
+/// The writer's error, after writing a prefix of the bytes.
 fn write_whole<W: Write>(bytes: &[u8], writer: &mut W) -> io::Result<()>
     ensures ok { OnOk result (Appends (W.contents writer.old) (W.contents writer.new) bytes.now) }
     ensures err { OnErr result (AppendsFront (W.contents writer.old) (W.contents writer.new)
@@ -48,6 +48,6 @@ fn write_whole<W: Write>(bytes: &[u8], writer: &mut W) -> io::Result<()>
             }
         }
     }
-    // So many calls take longer than any program runs.
+    // Unreachable in practice: no program runs for that many calls.
     Err(io::Error::from(ErrorKind::Other))
 }

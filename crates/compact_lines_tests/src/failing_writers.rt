@@ -1,4 +1,4 @@
-//! The program over a reader and a writer that stop at each of their calls in turn: what had been written stands.
+//! The program over a reader and a writer that stop at each of their calls in turn: what was written is kept.
 
 use crate::asserts::assert_equal;
 use compact_lines::run_lines;
@@ -7,10 +7,10 @@ use std::alloc::Global;
 use std::io::ErrorKind;
 use std::process::Abort;
 
-/// Three commands and a line that is none: lines of 8, 8, 1 and 7 bytes.
+/// Three commands and a line that is no command: lines of 8, 8, 1 and 7 bytes.
 const INPUT: &[u8] = b"new abc\npush \xC3\xA4\n\nrepeat\n";
 
-/// How many bytes are read before the answers of one more line are written, and all that is written then.
+/// The bytes read before one more line is answered, and the output then.
 const ANSWERS: [(usize, &str); 5] = [
     (0, ""),
     (8, "done\ninline 3 24 abc\n"),
@@ -19,10 +19,10 @@ const ANSWERS: [(usize, &str); 5] = [
     (24, "done\ninline 3 24 abc\ndone\ninline 5 24 abcä\n?\n?\n"),
 ];
 
-/// All that is written.
+/// The whole output.
 const WHOLE: &[u8] = b"done\ninline 3 24 abc\ndone\ninline 5 24 abc\xC3\xA4\n?\n?\n";
 
-/// What is written once so many bytes are read.
+/// Returns the output once `count` bytes are read.
 fn written_after(count: usize) -> &'static str {
     let mut written = "";
     for (read, text) in ANSWERS {
@@ -33,7 +33,7 @@ fn written_after(count: usize) -> &'static str {
     written
 }
 
-/// Asserts the status of a session whose reader gives one byte a call, and what is written.
+/// Asserts the status and output of a session that reads one byte a call.
 fn assert_read(rt: &impl Abort, alloc: Global, stop: Stop, status: u8, written: &[u8]) {
     let mut reader = Pieces::new(INPUT, 1, stop);
     let mut writer = Narrow::new(256, 256, Stop::Never);
@@ -59,7 +59,7 @@ fn a_reader_that_is_interrupted_is_asked_again(rt: HostRuntime) {
     }
 }
 
-/// Asserts the status of a session whose writer takes one byte a call, and what it has taken.
+/// Asserts the status and output of a session that writes one byte a call.
 fn assert_written(rt: &impl Abort, alloc: Global, mut writer: Narrow, status: u8, taken: &[u8]) {
     let mut input = INPUT;
     assert_equal(rt, run_lines(alloc, &mut input, &mut writer), status);

@@ -1,4 +1,4 @@
-//! Sessions that make the value grow, shrink and be copied, with each capacity on the way.
+//! Sessions that make the value grow, shrink and be copied.
 
 use crate::transcript::assert_sessions;
 

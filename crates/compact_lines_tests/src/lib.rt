@@ -1,5 +1,5 @@
-//! Tests of `compact_lines`: sessions of lines, lines that are no commands, readers and writers that stop, and
-//! no memory.
+//! Tests of `compact_lines`: sessions of lines, lines that are no commands, readers and writers that stop, and no
+//! memory.
 #![tactic(auto)]
 
 #[cfg(test)]

@@ -8,7 +8,7 @@ use std::io;
 use std::io::{Read, Write};
 use std::process::Abort;
 
-/// A reader and a writer that fail at once.
+/// A reader and writer that always fails.
 #[derive(Drop)]
 struct Broken;
 
@@ -28,7 +28,7 @@ impl Write for Broken {
     }
 }
 
-/// Commands of each kind, and lines that are none.
+/// Commands of each kind, and other lines.
 const COMMANDS: &str = "\
 # three edits are answered\n\
 > new i am 24 characters long!\n\
@@ -147,7 +147,7 @@ fn the_last_line_may_lack_its_end(rt: HostRuntime) {
     assert_prints(&rt, alloc, b"", b"");
 }
 
-/// The line `pushstr` with a million letters.
+/// The line `pushstr` with a million `a`s.
 fn a_million_letters(rt: &impl Abort, alloc: Global) -> Vec<u8> {
     let mut line = Vec::with_capacity(alloc, 1_000_009).expect(rt, "memory");
     line.extend_from_slice(b"pushstr ").expect(rt, "memory");
@@ -165,7 +165,7 @@ fn a_line_of_a_million_bytes_is_read(rt: HostRuntime) {
     let input = a_million_letters(rt, alloc);
     let mut output = Vec::new(alloc);
     assert_equal(rt, run_lines(alloc, &mut input.as_slice(), &mut output), 0);
-    // `done`, then place, length and capacity are 26 bytes; the letters and the end of the line follow.
+    // `done`, then place, length and capacity are 26 bytes; the text and its newline follow.
     assert_equal(rt, output.len(), 26 + 1_000_000 + 1);
     assert_that(
         rt,
@@ -183,7 +183,7 @@ fn a_failing_reader_is_told(rt: HostRuntime) {
     assert_equal(&rt, output.len(), 0);
 }
 
-/// What is answered for an input where nothing can be written.
+/// Returns the status for an input when nothing can be written.
 fn status_of_unwritten(alloc: Global, mut input: &[u8]) -> u8 {
     run_lines(alloc, &mut input, &mut Broken)
 }

@@ -1,4 +1,4 @@
-//! Lines that are no commands, and lines at the bounds of what a command may hold.
+//! Lines that are no commands, and commands at their bounds.
 
 use crate::transcript::{assert_prints, assert_sessions};
 

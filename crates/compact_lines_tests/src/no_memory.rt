@@ -8,7 +8,7 @@ use std::io;
 use std::io::Read;
 use std::process::Abort;
 
-/// A reader of two lines. Its first call takes all memory but a block for a line, and its second one gives it back.
+/// A reader of two lines. Its first call takes all memory but a block for a line; its second frees it.
 #[derive(Drop)]
 struct Scarce {
     alloc: Global,
@@ -39,7 +39,7 @@ impl Read for Scarce {
     }
 }
 
-/// Asserts that an edit with no room for its reply is refused, and that the line after it is answered.
+/// Asserts that an edit with no room for its reply fails, and that the next line is answered.
 fn assert_refused(rt: &impl Abort, alloc: Global, first: &'static [u8]) {
     let mut reader = Scarce {
         alloc,

@@ -1,8 +1,8 @@
-//! Sessions that take parts out of a text, change its letters and wipe it.
+//! Sessions that remove parts of a text, change its case and wipe it.
 
 use crate::transcript::assert_sessions;
 
-/// Ranges, characters and letters that are taken out or changed.
+/// Removing ranges and characters, and changing case.
 const REMOVALS: &str = "\
 # a range is drained and answered\n\
 > new Hello, world!\n\

@@ -1,8 +1,8 @@
-//! Sessions that edit by byte position, with what each edit answers.
+//! Sessions that edit by byte position.
 
 use crate::transcript::assert_sessions;
 
-/// Edits by byte position, each with what it answers.
+/// Edits by byte position, each with its reply.
 const EDITS: &str = "\
 # all edits of one text follow one another\n\
 > new äb𝄞\n\

@@ -6,15 +6,15 @@ use compact_lines::run_lines;
 use std::alloc::Global;
 use std::process::Abort;
 
-/// Asserts what the program prints for an input, and that it ends well.
+/// Asserts what the program prints for an input, and that it succeeds.
 pub fn assert_prints(rt: &impl Abort, alloc: Global, mut input: &[u8], printed: &[u8]) {
     let mut output = Vec::new(alloc);
     assert_equal(rt, run_lines(alloc, &mut input, &mut output), 0);
     assert_equal(rt, output.as_slice(), printed);
 }
 
-/// Asserts each session of a transcript, in which a line with `#` says what the session behind it shows, a line with `>` is
-/// what the program reads, and each other line is what it prints.
+/// Asserts each session of a transcript. A line with `#` says what the session after it shows, one with `>` is read by
+/// the program, and any other is printed.
 pub fn assert_sessions(rt: &impl Abort, alloc: Global, transcript: &str) {
     for session in transcript.split("# ").skip(1) {
         assert_session(rt, alloc, session);

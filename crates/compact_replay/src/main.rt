@@ -1,4 +1,4 @@
-//! Replays 20,000 stored lines, whose answers are those of the Rust crate.
+//! Replays 20,000 stored lines, whose expected output is the Rust crate's.
 #![tactic(auto)]
 
 use compact_lines::run_lines;

@@ -1,5 +1,4 @@
--- UTF-8 keeps the order of characters: the bytes of two texts compare as their characters do. Nothing is asked of the
--- numbers, so it holds of any two lists.
+-- UTF-8 preserves order: the bytes of two texts compare as their characters do. Holds of any two lists of numbers.
 use Rattle.std.proofs.Common.{◌≡◌, ℕ, zero, suc, ◌+◌, ◌/◌, ◌<◌, ◌≤◌, List, [], ◌∷◌, ◌++◌, refl, sym, ap, ap₂, ◌∙◌, arith, Ordering, inl, inr, length, slice_index_or}
 use Rattle.std.specs.Prelude.{nat_eq, ◌≢◌}
 use Rattle.std.specs.declared.cmp.Ordering.TheVariants.{Less, Equal, Greater}
@@ -13,7 +12,7 @@ use lib.Utf8.{encode, next}
 abbrev list_cmp : List ℕ → List ℕ → Ordering
 list_cmp = slice_cmp nat_cmp
 
--- two lists compare as their first numbers, and where these are the same as the rests
+-- the first numbers decide, or else the rests
 
 then_rest : (x y : ℕ) (xs ys : List ℕ) {o : Ordering} → nat_cmp x y ≡ o → list_cmp (x ∷ xs) (y ∷ ys) ≡ ordering_then o (list_cmp xs ys)
 then_rest x y xs ys e = ap (λ (o : Ordering). ordering_then o (list_cmp xs ys)) e
@@ -38,7 +37,7 @@ abbrev spread : ℕ → ℕ → ℕ → List ℕ → List ℕ
 spread zero lead c rest = (lead + c) ∷ rest
 spread (suc count) lead c rest = spread count lead (c / 64) (next c ∷ rest)
 
--- that first byte
+-- the first byte
 abbrev head : ℕ → ℕ → ℕ → ℕ
 head zero lead c = lead + c
 head (suc count) lead c = head count lead (c / 64)
@@ -48,7 +47,7 @@ heads_less zero zero lead mark c d xs ys h = first_less (lead + c) (mark + d) xs
 heads_less zero (suc n) lead mark c d xs ys h = heads_less zero n lead mark c (d / 64) xs (next d ∷ ys) h
 heads_less (suc m) n lead mark c d xs ys h = heads_less m n lead mark (c / 64) d (next c ∷ xs) ys h
 
--- with as many bytes, and the same mark, the characters decide, and then the rests
+-- with the same count and mark, the characters decide, or else the rests
 spread_same : (count lead c d : ℕ) (xs ys : List ℕ) → c ≡ d → list_cmp (spread count lead c xs) (spread count lead d ys) ≡ list_cmp xs ys
 spread_same zero lead c d xs ys e = first_same (lead + c) (lead + d) xs ys (omega (arith, e))
 spread_same (suc count) lead c d xs ys e =
@@ -63,7 +62,7 @@ spread_less (suc count) lead c d xs ys h = elim (cases_lt (c / 64) (d / 64)) [
       ∙ first_less (next c) (next d) xs ys (omega (arith, h, same))
 ]
 
--- How many bytes follow the first, and how it is marked (Unicode Standard, 3.9, table 3-6).
+-- The number of bytes after the first, and its mark (Unicode Standard, 3.9, table 3-6).
 
 data Width (c : ℕ) : Type 0 where
   one : c < 128 → Width c
@@ -103,7 +102,7 @@ encode-spread c (four l) rest =
     ap (λ l. l ++ rest) (cond-false _ _ _ (le-ltb c 128 (omega arith)) ∙ cond-false _ _ _ (le-ltb c 2048 (omega arith)) ∙ cond-false _ _ _ (le-ltb c 65536 l))
     ∙ ap₂ (λ (x y : ℕ). x ∷ y ∷ next (c / 64) ∷ next c ∷ rest) (omega arith) (omega arith)
 
--- of two characters the less has fewer bytes and the less first byte, or as many
+-- the lesser of two characters has fewer bytes and a lesser first byte, or as many bytes
 spreads_less : (c d : ℕ) (v : Width c) (w : Width d) (xs ys : List ℕ) → c < d
     → list_cmp (spread (count_of v) (lead_of v) c xs) (spread (count_of w) (lead_of w) d ys) ≡ Less
 unfolding count_of lead_of
@@ -127,7 +126,7 @@ spreads_less c d (four a) (three _ b) xs ys h = absurd (omega arith)
 encode-less : (c d : ℕ) (xs ys : List ℕ) → c < d → list_cmp (encode c ++ xs) (encode d ++ ys) ≡ Less
 encode-less c d xs ys h = rw (encode-spread c (width c) xs, encode-spread d (width d) ys) (spreads_less c d (width c) (width d) xs ys h)
 
--- no character is without a byte
+-- each character has a byte
 nil-spread : (count lead c : ℕ) (xs : List ℕ) → list_cmp [] (spread count lead c xs) ≡ Less
 nil-spread zero lead c xs = refl
 nil-spread (suc count) lead c xs = nil-spread count lead (c / 64) (next c ∷ xs)
@@ -148,11 +147,10 @@ utf8-order (c ∷ s) (d ∷ t) = elim (cases_order c d) [
   ]
 ]
 
--- and so the bytes are the same where the characters are
 pub utf8-same : (s t : List ℕ) → pointwise nat_eq (utf8 s) (utf8 t) ≡ pointwise nat_eq s t
 utf8-same s t = texts_ties (utf8 s) (utf8 t) ∙ ap is_eq (utf8-order s t) ∙ sym (texts_ties s t)
 
--- where the first numbers differ they decide
+-- first numbers that differ decide
 pub first-decides : (xs ys : List ℕ) → 0 < length xs → 0 < length ys → slice_index_or xs 0 0 ≢ slice_index_or ys 0 0
     → slice_cmp nat_cmp xs ys ≡ nat_cmp (slice_index_or xs 0 0) (slice_index_or ys 0 0)
 first-decides [] ys some also apart = absurd (omega (arith, some))

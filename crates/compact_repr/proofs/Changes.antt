@@ -1,4 +1,4 @@
--- What a change gives, in plain facts.
+-- The results of changes, as plain facts.
 use Rattle.std.proofs.Common.{◌≡◌, ℕ, ◌+◌, ◌-◌, ◌≤◌, List, [], ◌++◌, Some, true, false, arith, append-nil}
 use Rattle.std.proofs.lemmas.Grind.{common_steps}
 use Rattle.compact_text.proofs.TextFacts.{text_facts}
@@ -12,12 +12,12 @@ use Rattle.compact_text.proofs.Texts.{empty_text}
 pub push_str-text : (g : Growth) (v w : PlacedText) (s : List ℕ) → push_str g v s ≡ Some w → w.text ≡ v.text ++ s
 push_str-text g v w s e = grind (arith, common_steps, empty_text, append-nil)
 
--- an append that has room in place keeps the placement, also one of nothing
+-- an append that fits in place keeps the placement
 pub push_str-in_place : (g : Growth) (v w : PlacedText) (s : List ℕ) (n : ℕ) → n ≡ size s → fits_in_place v n ≡ true → w ≡ placed_text (v.text ++ s) v.placement
     → push_str g v s ≡ Some w
 push_str-in_place g v w s n k fits e = grind (arith, common_steps, empty_text, append-nil)
 
--- so does an insertion, and what replaces a part
+-- so does an insertion, and a replacement
 pub insert_str-in_place : (g : Growth) (v w : PlacedText) (p n : ℕ) (s : List ℕ) → n ≡ size s → fits_in_place v (n - (p - p)) ≡ true
     → w ≡ placed_text (replaced_text v.text p p s) v.placement → insert_str g v p s ≡ Some w
 insert_str-in_place g v w p n s k fits e = grind (arith, common_steps)
@@ -30,8 +30,6 @@ pub cut_out-in_place : (g : Growth) (v w : PlacedText) (i j : ℕ) → is_static
     → replace_range g v i j [] ≡ Some w
 cut_out-in_place g v w i j o e = grind (arith, common_steps)
 
--- of an append
 pub ruleset append_in_place_facts = (text_facts, empty_text, push_str-in_place)
 
--- of a removal
 pub ruleset removal_facts = (text_facts, cut_out-in_place)

@@ -13,19 +13,18 @@ use Rattle.compact_repr.specs.Calls.{new, push_str, push_str_allocates, clear, r
 abbrev standard : Growth
 standard = record { least = 32; numerator = 3; denominator = 2 }
 
--- so many letters `a`
+-- n times `a`
 abbrev letters : ℕ → List ℕ
 letters n = replicate n 97
 
--- so many of them in the program, as `const_new` makes a value of 25 or more
+-- such a static value, as `const_new` makes one of 25 bytes or more
 abbrev static : ℕ → PlacedText
 static n = placed_text (letters n) (static_placement (letters n))
 
--- so many of them in a heap buffer
 abbrev heap : ℕ → ℕ → PlacedText
 heap n capacity = placed_text (letters n) (heap_placement capacity)
 
--- an a with two dots, b, and a musical clef of four bytes
+-- ä, b, and a musical clef of four bytes
 abbrev mixed : List ℕ
 mixed = 0xE4 ∷ 0x62 ∷ 0x1D11E ∷ []
 
@@ -197,7 +196,7 @@ an_empty_value_with_room_for_25_has_32 = refl
 a_shortened_heap_text_has_its_old_capacity : shortened_placement (heap 30 45) [] ≡ heap_placement 45
 a_shortened_heap_text_has_its_old_capacity = refl
 
--- packed into 24 bytes
+-- packed bytes
 
 a_low_last_byte_means_24 : packed_len (replicate 23 0 ++ 0xBF ∷ []) ≡ 24
 a_low_last_byte_means_24 = refl
@@ -205,7 +204,7 @@ a_low_last_byte_means_24 = refl
 the_lowest_length_is_0 : packed_len (replicate 23 0 ++ 0xC0 ∷ []) ≡ 0
 the_lowest_length_is_0 = refl
 
--- what stands behind the text may be anything
+-- bytes after the text are arbitrary
 one_letter_before_rubbish : IsPackedFor (0x61 ∷ replicate 22 0xFF ++ 0xC1 ∷ []) (0x61 ∷ [])
 unfolding encode
 one_letter_before_rubbish = record { text = refl; stands = inr (omega arith, refl, refl) }
@@ -217,7 +216,6 @@ twenty_four_letters : IsPackedFor (replicate 24 0x61) (letters 24)
 unfolding encode
 twenty_four_letters = record { text = refl; stands = inl (refl, refl) }
 
--- eight euro signs of three bytes each
 abbrev euro_signs : List ℕ
 euro_signs = 0xE2 ∷ 0x82 ∷ 0xAC ∷ 0xE2 ∷ 0x82 ∷ 0xAC ∷ 0xE2 ∷ 0x82 ∷ 0xAC ∷ 0xE2 ∷ 0x82 ∷ 0xAC ∷ 0xE2 ∷ 0x82 ∷ 0xAC ∷ 0xE2 ∷ 0x82 ∷ 0xAC ∷ 0xE2 ∷ 0x82 ∷ 0xAC ∷ 0xE2 ∷ 0x82 ∷ 0xAC ∷ []
 
@@ -228,7 +226,7 @@ eight_euro_signs = record { text = refl; stands = inl (refl, refl) }
 a_last_byte_of_216_stands_for_no_text : (t : List ℕ) → ¬ (IsPackedFor (replicate 23 0 ++ 0xD8 ∷ []) t)
 a_last_byte_of_216_stands_for_no_text t p = let last = packed-last _ t p in omega (arith, last)
 
--- letters, what is kept, and what is wiped
+-- case, `retain` and `zeroize`
 
 only_a_to_z_are_made_lowercase : ascii_lowercase (0x41 ∷ 0x5A ∷ 0x5B ∷ 0xC4 ∷ []) ≡ 0x61 ∷ 0x7A ∷ 0x5B ∷ 0xC4 ∷ []
 only_a_to_z_are_made_lowercase = refl

@@ -1,4 +1,4 @@
--- What a heap buffer shows: the text that the bytes of its vector spell, and its capacity.
+-- The view of a heap buffer: the text of its vector's bytes, and its capacity.
 use Rattle.std.proofs.Common.{◌≡◌, ℕ, List, ◌++◌, length, take, drop, ap, sym, ◌∙◌, arith}
 use Rattle.std.proofs.lemmas.List.{take_all, take_at}
 use Rattle.std.specs.Str.{IsUtf8}
@@ -15,10 +15,9 @@ shown-capacity t e = ap (λ (h : HeapText). h.capacity) e
 pub shown-size : {h : HeapText} {capacity : ℕ} (bytes : List ℕ) → record { text = text_of bytes; capacity = capacity } ≡ h → IsUtf8 bytes → size h.text ≡ length bytes
 shown-size bytes e u = ap size (sym (shown-text bytes e)) ∙ size-text_of bytes u
 
--- all the items of a vector
 pub whole : (items : List ℕ) (len : ℕ) → len ≡ length items → take len items ≡ items
 whole items len e = take_all len items (omega arith)
 
--- what a slice of all the items of a vector leaves there
+-- a slice of all items was written
 pub written : (items slice : List ℕ) (len : ℕ) → length slice ≡ length items → len ≡ length items → take len (slice ++ drop (length slice) items) ≡ slice
 written items slice len same e = take_at slice (drop (length slice) items) len (omega arith)

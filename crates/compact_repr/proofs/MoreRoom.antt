@@ -1,4 +1,4 @@
--- An edit in place of a value that has room by now, seen from the value as it was.
+-- Edits in place once there is room, in terms of the value before.
 use Rattle.std.proofs.Common.{◌≡◌, ℕ, ◌+◌, ◌-◌, ◌<◌, ◌≤◌, List, ◌++◌, Option, Some, None, false, IsTrue}
 use Rattle.std.proofs.Common.{refl, ap, sym, ◌∙◌, arith}
 use Rattle.std.proofs.lemmas.Bool.{and_parts, not-true, leb-true, le-leb, lt-leb}
@@ -10,7 +10,7 @@ use Rattle.compact_repr.specs.Value.{Placement, PlacedText, placed_text, is_stat
 use Rattle.compact_repr.specs.Capacity.{Growth, fits_in_place, reserve_placement, reserve_allocates, owned_placement, make_owned_allocates}
 use Rattle.compact_repr.specs.Calls.{reserve, make_owned, push_str, push_str_allocates, insert_str, replace_range, replace_range_allocates}
 
--- the parts of a value that was put together
+-- the fields of a placed text
 placed : (t : List ℕ) (o : Option Placement) (u : PlacedText) → option_map (placed_text t) o ≡ Some u
     → (u.text ≡ t) × (o ≡ Some u.placement)
 placed t None u e = cc
@@ -22,7 +22,7 @@ reserved-text g v u n made = (placed v.text (reserve_placement g v n) u made).0
 pub owned-text : (g : Growth) (v u : PlacedText) → make_owned g v ≡ Some u → u.text ≡ v.text
 owned-text g v u made = (placed v.text (owned_placement g v) u made).0
 
--- n bytes fit in place where k are taken out
+-- n bytes fit in place of k
 abbrev pub FitsFor : PlacedText → ℕ → ℕ → Type 0
 FitsFor u n k = (is_static u.placement.place ≡ false) × (size u.text + n ≤ u.placement.capacity + k)
 
@@ -38,7 +38,6 @@ fits-within u n k fits short = let h = fits-now u 0 fits in (h.0, omega (arith, 
 pub fits-beyond : (u : PlacedText) (n k : ℕ) → IsTrue (fits_in_place u (n - k)) → FitsFor u n k
 fits-beyond u n k fits = let h = fits-now u (n - k) fits in (h.0, omega (arith, h.1))
 
--- an append
 pub push-nothing : (g : Growth) (v : PlacedText) (s : List ℕ) → size s ≡ 0 → push_str g v s ≡ Some v
 push-nothing g v s none = rw none refl
 
@@ -55,7 +54,6 @@ push-reserved g v u w s n long some made is =
     ∙ ap Some (ap (λ t. placed_text (t ++ s) u.placement) (sym parts.0) ∙ sym is)
     )
 
--- an insertion
 pub insert-reserved : (g : Growth) (v u w : PlacedText) (p n : ℕ) (s : List ℕ) → size s ≡ n → reserve g v n ≡ Some u
     → w ≡ placed_text (replaced_text u.text p p s) u.placement → insert_str g v p s ≡ Some w
 insert-reserved g v u w p n s long made is =
@@ -65,7 +63,7 @@ insert-reserved g v u w p n s long made is =
     ∙ ap Some (ap (λ t. placed_text (replaced_text t p p s) u.placement) (sym parts.0) ∙ sym is)
     )
 
--- a replacement, by no more bytes than are taken out, or by more
+-- a replacement with at most as many bytes as it removes, or with more
 pub replace-asks-within : (v : PlacedText) (i j n : ℕ) (s : List ℕ) → size s ≡ n → n ≤ j - i → IsTrue (make_owned_allocates v)
     → IsTrue (replace_range_allocates v i j s)
 replace-asks-within v i j n s long short asks = rw (long, le-leb n (j - i) short) asks
@@ -93,6 +91,6 @@ replace-reserved g v u w i j n s long more made is =
     ∙ ap Some (ap (λ t. placed_text (replaced_text t i j s) u.placement) (sym parts.0) ∙ sym is)
     )
 
--- of an edit that makes room first
+-- facts for edits that reserve first
 pub ruleset slow_facts =
     (text_facts, reserved-text, owned-text, fits-now, push-nothing, push-asks, push-reserved, insert-reserved, replace-asks-within, replace-asks-beyond, replace-owned, replace-reserved)

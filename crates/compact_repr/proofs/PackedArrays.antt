@@ -1,4 +1,4 @@
--- An array of three words whose last byte is the length of what it holds.
+-- Arrays of three words whose last byte is the length.
 use Rattle.std.proofs.Common.{◌≡◌, ℕ, ◌+◌, ◌-◌, ◌*◌, ◌^◌, ◌<◌, ◌≤◌, List, [], ◌∷◌, ◌++◌, length, take, drop, ap, sym, ◌∙◌, arith, length-append, append_assoc, ⊎_elim}
 use Rattle.std.specs.Prelude.{replicate, bit_or, nat_lt, if◌then◌else◌}
 use Rattle.std.proofs.lemmas.Bool.{lt-ltb, le-ltb, cond-true, cond-false, cases_lt}
@@ -10,11 +10,11 @@ use Rattle.compact_repr.specs.Packed.{packed_bytes}
 use Rattle.compact_text.proofs.Numbers.{AllBytes, AllBytes-take, AllBytes-drop, word_bytes-le_number, length-word_bytes, le_number-lt, word_bytes-with_last}
 use Rattle.compact_text.proofs.WordArrays.{array_of_three, array_of_two, array_of_one}
 
--- the third word of such an array
+-- the third word
 abbrev with_length : ℕ → ℕ → ℕ
 with_length word len = if nat_lt len 24 then bit_or word ((192 + len) * 2 ^ 56) else word
 
--- fewer than 24 bytes, with zeros behind them: the last zero becomes the length
+-- fewer than 24 bytes and zeros: the last zero becomes the length
 ended : (xs x y : List ℕ) (word : ℕ) → length x ≡ 8 → length y ≡ 8 → word < 2 ^ 56 → length xs < 24
     → x ++ y ++ word_bytes word ≡ xs ++ replicate (24 - length xs) 0
     → x ++ y ++ word_bytes (with_length word (length xs)) ≡ packed_bytes xs
@@ -38,7 +38,7 @@ ended xs x y word length_x length_y seven short array =
     ∙ ap (λ (ys : List ℕ). ys ++ last ∷ []) front
     ∙ sym (cond-true _ _ _ (lt-ltb (length xs) 24 short))
 
--- 24 bytes leave no place for a length
+-- 24 bytes leave no room for a length
 full : (xs x y : List ℕ) (word : ℕ) → length xs ≡ 24 → x ++ y ++ word_bytes word ≡ xs ++ replicate (24 - length xs) 0
     → x ++ y ++ word_bytes (with_length word (length xs)) ≡ packed_bytes xs
 full xs x y word all array =
@@ -48,7 +48,7 @@ full xs x y word all array =
     ∙ append-nil xs
     ∙ sym (cond-false _ _ _ (le-ltb (length xs) 24 (omega arith)))
 
--- at most seven bytes leave the last byte of a word free
+-- seven bytes leave the last byte of a word free
 seven_bytes : (xs : List ℕ) → AllBytes xs → length xs ≤ 7 → le_number xs < 2 ^ 56
 seven_bytes xs all most =
     let below = le_number-lt xs all in
@@ -73,7 +73,7 @@ packed_two : (xs : List ℕ) → AllBytes xs → 8 ≤ length xs → length xs �
 packed_two xs all held most =
     ended xs (take 8 xs) (word_bytes (le_number (drop 8 xs))) 0 (length-take-le 8 xs held) (length-word_bytes (le_number (drop 8 xs))) (omega arith) (omega arith) (array_of_two xs all held most)
 
--- from eight bytes on the three words are told without a look at how many there are
+-- from eight bytes on, without a test of the length
 pub packed_long : (xs : List ℕ) → AllBytes xs → 8 ≤ length xs → length xs ≤ 24
     → take 8 xs ++ word_bytes (le_number (take 8 (drop 8 xs))) ++ word_bytes (with_length (le_number (drop 16 xs)) (length xs)) ≡ packed_bytes xs
 packed_long xs all held most =

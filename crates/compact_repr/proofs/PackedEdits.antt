@@ -1,5 +1,4 @@
--- Packed bytes once their text is changed. What the edits of `Cuts` and `Ascii` say of bytes that spell a text, said of the
--- first bytes of a packed array.
+-- Edits of packed texts: the facts of `Cuts` and `Ascii`, for the first bytes of a packed array.
 use Rattle.std.proofs.Common.{◌≡◌, ℕ, ◌≤◌, List, take, ap, sym, ◌∙◌, subst, arith}
 use Rattle.std.specs.Str.{IsUtf8}
 use Rattle.std.proofs.lemmas.List.{take-take}
@@ -9,14 +8,13 @@ use Rattle.compact_repr.specs.Packed.{IsPackedFor, packed_len, packed_text}
 use Rattle.compact_text.proofs.Cuts.{boundary-within, text_of-take, utf8-take}
 use Rattle.compact_repr.proofs.PackedTexts.{packed-len, packed-most, packed-utf8, packed-seen}
 
--- the length that is read is the size of the text
+-- the encoded length is the size of the text
 pub len-seen : {t : List ℕ} (bytes : List ℕ) → packed_text bytes ≡ t → IsPackedFor bytes (packed_text bytes) → packed_len bytes ≡ size t
 len-seen {t} bytes e p = packed-len bytes t (packed-seen bytes e p)
 
 pub len-fits : {t : List ℕ} (bytes : List ℕ) → packed_text bytes ≡ t → IsPackedFor bytes (packed_text bytes) → packed_len bytes ≤ 24
 len-fits {t} bytes e p = let stands = len-seen bytes e p in let most = packed-most bytes t (packed-seen bytes e p) in omega (arith, stands, most)
 
--- and the first bytes are UTF-8
 pub utf8-seen : (bytes : List ℕ) → IsPackedFor bytes (packed_text bytes) → IsUtf8 (take (packed_len bytes) bytes)
 utf8-seen bytes p = packed-utf8 bytes (packed_text bytes) p
 

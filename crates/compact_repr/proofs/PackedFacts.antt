@@ -1,4 +1,4 @@
--- The facts on texts and on packed bytes that the goals of the inline buffer use.
+-- Facts about texts and packed bytes for the inline buffer.
 use Rattle.std.proofs.lemmas.Str.{IsUtf8-nil}
 use Rattle.compact_text.proofs.TextFacts.{text_facts}
 use Rattle.compact_repr.proofs.PackedTexts.{packed-len, packed-most, packed-utf8, packed-text, packed-again, stands-packed}

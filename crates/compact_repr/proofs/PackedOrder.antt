@@ -12,7 +12,7 @@ use Rattle.compact_repr.proofs.ByteOrder.{utf8-order, first-decides}
 use Rattle.compact_repr.proofs.PackedTexts.{len-full, len-high, packed-utf8}
 use Rattle.compact_repr.proofs.PackedEdits.{len-fits}
 
--- a text that is not empty begins where its packed bytes do
+-- a text that is not empty begins with the first packed byte
 first_packed : {t : List ℕ} (bytes : List ℕ) → length bytes ≡ 24 → packed_text bytes ≡ t → IsPackedFor bytes (packed_text bytes) → get_or bytes 23 0 ≢ 192
     → (0 < length (utf8 t)) × (slice_index_or (utf8 t) 0 0 ≡ get_or bytes 0 0)
 first_packed {t} bytes all e p some =
@@ -28,7 +28,7 @@ first_packed {t} bytes all e p some =
     let size : length (utf8 t) ≡ n = ap length front ∙ long in
     (omega (arith, size, has), ap (λ (ys : List ℕ). get_or ys 0 0) front ∙ get_or-take n bytes 0 0 has)
 
--- so where the first bytes of two differ they decide
+-- first bytes that differ decide
 pub order_packed : {s t : List ℕ} (a b : List ℕ) → length a ≡ 24 → length b ≡ 24 → packed_text a ≡ s → packed_text b ≡ t
     → IsPackedFor a (packed_text a) → IsPackedFor b (packed_text b) → get_or a 23 0 ≢ 192 → get_or b 23 0 ≢ 192 → get_or a 0 0 ≢ get_or b 0 0
     → slice_cmp nat_cmp s t ≡ nat_cmp (get_or a 0 0) (get_or b 0 0)

@@ -1,4 +1,4 @@
--- What 24 bytes stand for.
+-- The text of 24 packed bytes.
 use Rattle.std.proofs.Common.{◌≡◌, ℕ, ◌+◌, ◌-◌, ◌/◌, ◌<◌, ◌≤◌, List, [], ◌∷◌, ◌++◌, length, take, get_or, refl, ap, sym, ◌∙◌, subst, arith, length-append, append_assoc, inl, inr, ⊎_elim}
 use Prim.Native.Nat.{suc}
 use Rattle.std.specs.Prelude.{replicate, ◌⊎◌}
@@ -14,7 +14,7 @@ use Rattle.compact_text.specs.Text.{size, utf8, text_of}
 use Rattle.compact_repr.specs.Packed.{IsPackedFor, packed_len, packed_text, packed_bytes}
 use Rattle.compact_text.proofs.Texts.{length-utf8, size-text_of}
 
--- the last byte, if there is one, is at most 191
+-- the last byte, if any, is at most 191
 abbrev EndsLow : List ℕ → Type 0
 EndsLow bytes = (n : ℕ) → length bytes ≡ suc n → get_or bytes n 0 < 192
 
@@ -23,7 +23,7 @@ low-push bytes last low n e =
     let place : length bytes ≡ n = omega (arith, e, length-append bytes (last ∷ [])) in
     subst (λ (byte : ℕ). byte < 192) (sym (get_or_push bytes last 0 n place)) low
 
--- a character in UTF-8 is one byte below 128, or ends in a byte from 128 to 191
+-- the last byte of a character is below 128, or from 128 to 191
 low-encode : (c : ℕ) → EndsLow (encode c)
 unfolding encode
 low-encode c =
@@ -54,7 +54,7 @@ low-utf8 (c ∷ d ∷ ds) n e =
 low-last : (bytes : List ℕ) (n : ℕ) → IsUtf8 bytes → length bytes ≡ suc n → get_or bytes n 0 < 192
 low-last bytes n u e = subst (λ (ys : List ℕ). get_or ys n 0 < 192) u.1.1 (low-utf8 u.0 n (ap length u.1.1 ∙ e))
 
--- the length is 24 where the last byte is low, and what the last byte says where it is not
+-- the length is 24 if the last byte is low, and otherwise encoded in it
 pub len-full : (bytes : List ℕ) → get_or bytes 23 0 < 192 → packed_len bytes ≡ 24
 len-full bytes low = cond-true _ _ _ (lt-ltb (get_or bytes 23 0) 192 low)
 
@@ -72,7 +72,7 @@ len-most bytes within =
     (λ (high : 192 ≤ get_or bytes 23 0). let e : packed_len bytes ≡ get_or bytes 23 0 - 192 = cond-false _ _ _ (le-ltb (get_or bytes 23 0) 192 high) in omega (arith, e, within))
     (cases_lt (get_or bytes 23 0) 192)
 
--- of bytes that stand for a text, the length is its size, and the first bytes are its own
+-- the encoded length is the size of the text, and the first bytes are the text's
 
 pub packed-len : (bytes t : List ℕ) → IsPackedFor bytes t → packed_len bytes ≡ size t
 packed-len bytes t p =
@@ -111,18 +111,17 @@ packed-utf8 bytes t p = (t, (p.text, sym (packed-front bytes t p)))
 pub packed-text : (bytes t : List ℕ) → IsPackedFor bytes t → packed_text bytes ≡ t
 packed-text bytes t p = ap text_of (packed-front bytes t p) ∙ chars-encodes t p.text
 
--- no bytes stand for two texts
 pub one_text : (bytes t s : List ℕ) → IsPackedFor bytes t → IsPackedFor bytes s → t ≡ s
 one_text bytes t s p q = sym (packed-text bytes t p) ∙ packed-text bytes s q
 
--- so they stand for the text that is read from them
+-- bytes that pack a text pack the one that is read from them
 pub packed-again : (bytes t : List ℕ) → IsPackedFor bytes t → IsPackedFor bytes (packed_text bytes)
 packed-again bytes t p = subst (λ (s : List ℕ). IsPackedFor bytes s) (sym (packed-text bytes t p)) p
 
 pub packed-seen : {t : List ℕ} (bytes : List ℕ) → packed_text bytes ≡ t → IsPackedFor bytes (packed_text bytes) → IsPackedFor bytes t
 packed-seen bytes e p = subst (λ (s : List ℕ). IsPackedFor bytes s) e p
 
--- what is written so that bytes stand for a text
+-- bytes that pack a text
 
 stands-short : (bytes : List ℕ) (n : ℕ) → length bytes ≡ 24 → n < 24 → IsUtf8 (take n bytes) → get_or bytes 23 0 ≡ 192 + n
     → IsPackedFor bytes (text_of (take n bytes))
@@ -141,7 +140,7 @@ stands-full bytes n all full u =
       stands = inl (e ∙ full, sym (encodes-chars (take n bytes) u ∙ take_all n bytes (omega arith)));
     }
 
--- the last byte is overwritten by the length of the n bytes before it
+-- the last byte is overwritten with the length n
 pub stands-marked : (bytes : List ℕ) (n : ℕ) → length bytes ≡ 24 → n < 24 → IsUtf8 (take n bytes)
     → IsPackedFor (set bytes 23 (192 + n)) (text_of (take n bytes))
 stands-marked bytes n all short u =
@@ -151,7 +150,7 @@ stands-marked bytes n all short u =
     subst (λ (ys : List ℕ). IsPackedFor now (text_of ys)) front
     (stands-short now n same short (subst IsUtf8 (sym front) u) (get_or-set_same bytes 23 (192 + n) 0 (omega arith)))
 
--- the same where the array is written anew
+-- the same for a new array
 pub stands-ended : (bytes : List ℕ) (n : ℕ) → length bytes ≡ 24 → n < 24 → IsUtf8 (take n bytes)
     → IsPackedFor (take 23 bytes ++ (192 + n) ∷ []) (text_of (take n bytes))
 stands-ended bytes n all short u =
@@ -163,7 +162,7 @@ stands-ended bytes n all short u =
     subst (λ (ys : List ℕ). IsPackedFor now (text_of ys)) front
     (stands-short now n same short (subst IsUtf8 (sym front) u) (get_or_push before (192 + n) 0 23 begun))
 
--- bytes whose length is at most 24, and whose first bytes are a text
+-- the encoded length is at most 24, and the first bytes are UTF-8
 pub stands-read : (bytes : List ℕ) → length bytes ≡ 24 → packed_len bytes ≤ 24 → IsUtf8 (take (packed_len bytes) bytes)
     → IsPackedFor bytes (packed_text bytes)
 stands-read bytes all most u =
@@ -183,7 +182,6 @@ stands-read bytes all most u =
     (cases_lt n 24))
     (cases_lt last 192)
 
--- the packed bytes of a text
 pub stands-packed : (bytes : List ℕ) → IsUtf8 bytes → length bytes ≤ 24 → IsPackedFor (packed_bytes bytes) (text_of bytes)
 stands-packed bytes u most =
     let n : ℕ = length bytes in
@@ -206,7 +204,7 @@ stands-packed bytes u most =
     subst (λ (ys : List ℕ). IsPackedFor ys (text_of bytes)) (sym is) stands)
     (cases_lt n 24)
 
--- an array whose first 23 bytes are ASCII holds a text, unless its last byte belongs to no ASCII text
+-- 23 ASCII bytes and a last byte that a packed ASCII text can have
 pub ascii_packed : (array : List ℕ) → length array ≡ 24 → IsAscii (take 23 array) → (get_or array 23 0 < 128) ⊎ (192 ≤ get_or array 23 0) → get_or array 23 0 ≤ 215
     → IsUtf8 (take (packed_len array) array)
 ascii_packed array long all end most =

@@ -1,4 +1,4 @@
--- Strings that are taken over.
+-- Strings whose buffer is reused.
 use Rattle.std.proofs.Common.{◌≡◌, ◌≤◌, ℕ, List, [], ◌∷◌, length, arith, refl}
 use Rattle.std.specs.Prelude.{string_bytes}
 use Rattle.std.specs.String.{string_capacity}
@@ -17,6 +17,5 @@ no_bytes : (bytes : List ℕ) → length bytes ≤ 0 → bytes ≡ []
 no_bytes [] h = refl
 no_bytes (b ∷ bs) h = absurd (omega arith)
 
--- a string with no buffer is empty
 pub no_buffer : {Z : Type 0} (s : String Z) → string_capacity s ≡ 0 → string_bytes s ≡ []
 no_buffer s e = let k = s.bytes.ok in no_bytes (string_bytes s) (omega (arith, e, k.0, k.1))

@@ -1,4 +1,4 @@
--- The value that each kind of buffer stands for.
+-- The value of each kind of buffer.
 use Rattle.std.specs.Prelude.{◌≤◌}
 use Rattle.compact_repr.specs.declared.repr.Buffer.{Buffer}
 use Rattle.compact_repr.specs.declared.repr.Buffer.TheVariants.{Inline, Heap, Static}
@@ -11,7 +11,7 @@ buffer_value (Inline _ t) = placed_text t inline_placement
 buffer_value (Heap h) = placed_text h.text (heap_placement h.capacity)
 buffer_value (Static t) = placed_text t (static_placement t)
 
--- what each buffer keeps besides
+-- the invariant of each kind of buffer
 abbrev pub IsSoundBuffer : Buffer → Type 0
 IsSoundBuffer (Inline _ t) = size t ≤ 24
 IsSoundBuffer (Heap h) = size h.text ≤ h.capacity

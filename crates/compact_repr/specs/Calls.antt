@@ -1,28 +1,27 @@
--- What making and changing a value gives: none where that must be refused.
+-- The results of calls as functions of text and placement: None if the call must fail.
 use Rattle.std.specs.Prelude.{◌≡◌, ◌⊎◌, ℕ, ◌-◌, Bool, not, ◌&&◌, IsTrue, List, [], ◌∷◌, ◌++◌, Option, Some, None, option_map, nat_eq, nat_le, if◌then◌else◌}
 use Rattle.compact_text.specs.Text.{size, ascii_lowercase, ascii_uppercase}
 use Rattle.compact_text.specs.Cut.{text_before, replaced_text}
 use Rattle.compact_repr.specs.Value.{PlacedText, placed_text, is_static}
 use Rattle.compact_repr.specs.Capacity.{Growth, inline_placement, new_placement, with_capacity_placement, owned_placement, make_owned_allocates, shortened_placement, reserve_placement, reserve_allocates, clone_placement, shrink_to_placement, shrink_to_allocates}
 
--- a new value with the text t
 abbrev pub new : Growth → List ℕ → Option PlacedText
 new g t = option_map (placed_text t) (new_placement g t)
 
--- v with s joined at its end; an empty s changes nothing, even the place of a static value
+-- v with s appended; an empty s changes nothing, not even a static place
 abbrev pub push_str : Growth → PlacedText → List ℕ → Option PlacedText
 push_str g v s =
     if nat_eq (size s) 0 then Some v
     else option_map (placed_text (v.text ++ s)) (reserve_placement g v (size s))
 
--- `push_str` asks for a heap buffer
+-- `push_str` allocates a heap buffer
 abbrev pub push_str_allocates : PlacedText → List ℕ → Bool
 push_str_allocates v s = not (nat_eq (size s) 0) && reserve_allocates v (size s)
 
 abbrev pub PushStrAllocates : PlacedText → List ℕ → Type 0
 PushStrAllocates v s = IsTrue (push_str_allocates v s)
 
--- v with no text, in its place
+-- v without text, in its place
 abbrev pub clear : PlacedText → PlacedText
 clear v = placed_text [] (shortened_placement v [])
 
@@ -30,33 +29,30 @@ clear v = placed_text [] (shortened_placement v [])
 abbrev pub reserve : Growth → PlacedText → ℕ → Option PlacedText
 reserve g v n = option_map (placed_text v.text) (reserve_placement g v n)
 
--- an empty value with room for c bytes
 abbrev pub with_capacity : Growth → ℕ → Option PlacedText
 with_capacity g c = option_map (placed_text []) (with_capacity_placement g c)
 
--- v with a text of its own
 abbrev pub make_owned : Growth → PlacedText → Option PlacedText
 make_owned g v = option_map (placed_text v.text) (owned_placement g v)
 
--- a copy of v
 abbrev pub clone : Growth → PlacedText → Option PlacedText
 clone g v = option_map (placed_text v.text) (clone_placement g v)
 
--- v after a shrink to n: shrunk, or as it was where the new buffer that this takes was refused
+-- v shrunk to n, or unchanged if the new buffer cannot be allocated
 abbrev pub Shrinks : Growth → PlacedText → ℕ → PlacedText → Type 0
 Shrinks g v n w = (w ≡ placed_text v.text (shrink_to_placement g v n)) ⊎ ((w ≡ v) × IsTrue (shrink_to_allocates g v n))
 
--- v with its text cut at a position, in its place; one past the end changes nothing
+-- v truncated to p bytes, in its place; unchanged if it has no more
 abbrev pub truncate : PlacedText → ℕ → PlacedText
 truncate v p =
     let t = if nat_le (size v.text) p then v.text else text_before v.text p in
     placed_text t (shortened_placement v t)
 
--- v with s put in at a position, once there is room for s; for an empty s too
+-- v with s inserted, once there is room for s, even if s is empty
 abbrev pub insert_str : Growth → PlacedText → ℕ → List ℕ → Option PlacedText
 insert_str g v index s = option_map (placed_text (replaced_text v.text index index s)) (reserve_placement g v (size s))
 
--- v with what stands from one position to another replaced by s: owned where s is no longer than that, else with room for the difference
+-- v with a range replaced with s: owned if s is no longer than the range, else with room for the difference
 abbrev pub replace_range : Growth → PlacedText → ℕ → ℕ → List ℕ → Option PlacedText
 replace_range g v start end s =
     option_map (placed_text (replaced_text v.text start end s)) (if nat_le (size s) (end - start) then owned_placement g v else reserve_placement g v (size s - (end - start)))
@@ -67,7 +63,7 @@ replace_range_allocates v start end s = if nat_le (size s) (end - start) then ma
 abbrev pub ReplaceRangeAllocates : PlacedText → ℕ → ℕ → List ℕ → Type 0
 ReplaceRangeAllocates v start end s = IsTrue (replace_range_allocates v start end s)
 
--- v made owned, with A to Z made lowercase, or a to z made uppercase
+-- v made owned, with A to Z made lowercase, or a to z uppercase
 abbrev pub make_ascii_lowercase : Growth → PlacedText → Option PlacedText
 make_ascii_lowercase g v = option_map (placed_text (ascii_lowercase v.text)) (owned_placement g v)
 
@@ -78,11 +74,11 @@ make_ascii_uppercase g v = option_map (placed_text (ascii_uppercase v.text)) (ow
 abbrev pub retain : Growth → PlacedText → List ℕ → Option PlacedText
 retain g v t = option_map (placed_text t) (owned_placement g v)
 
--- v with no text: a static one inline, every other in its place
+-- v without text: inline if static, else in its place
 abbrev pub zeroize : PlacedText → PlacedText
 zeroize v = placed_text [] (if is_static v.placement.place then inline_placement else v.placement)
 
--- v without its last character, in its place; an empty v has none
+-- v without its last character, in its place
 abbrev pub PopsChar : PlacedText → Option ℕ → PlacedText → Type 0
 PopsChar v None w = (v.text ≡ []) × (w ≡ v)
 PopsChar v (Some c) w = (front : List ℕ) × (v.text ≡ front ++ c ∷ []) × (w ≡ placed_text front (shortened_placement v front))

@@ -1,4 +1,4 @@
--- A loan that never ends: a `&'static [u8]` of which only the right to read is kept.
+-- A `&'static [u8]` of which only the right to read is kept.
 use Rattle.std.specs.Prelude.{ℕ, List, []}
 use mir.Syntax.{named}
 use base.Fml.{Fml}
@@ -16,6 +16,6 @@ StaticSlice = ShrSlice (named 0) [] u8
 abbrev pub static_loan : Bor (List ℕ) → Fml
 static_loan bytes = StaticSlice.own_val bytes (shr_slice_vals bytes)
 
--- where the bytes lie
+-- the address of the bytes
 abbrev pub address : Bor (List ℕ) → Ptr
 address bytes = block_ptr bytes.ref_ptr.0 bytes.ref_ptr.1

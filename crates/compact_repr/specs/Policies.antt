@@ -1,4 +1,4 @@
--- For whoever writes a growth policy: its numbers keep the law where a test says so.
+-- A test for the law of growth policies, for those who write one.
 use Rattle.std.proofs.Common.{◌≡◌, ◌+◌, Bool, true, ◌&&◌}
 use Rattle.std.specs.Prelude.{nat_le, nat_lt}
 use Rattle.std.proofs.lemmas.Bool.{and_parts, leb-true, ltb-true}

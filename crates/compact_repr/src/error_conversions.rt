@@ -1,7 +1,7 @@
-//! What `ReserveError` converts to, and from, beside `AllocError`.
+//! Conversions of `ReserveError`, other than that from `AllocError`.
 //!
-//! A contract imports all that its file imports. So these stand apart, and a program that needs none of them loads none of the
-//! types.
+//! A separate file, since a contract imports all that its file imports: a program that needs no conversion loads
+//! none of these types.
 ghost use Rattle.std.specs.Prelude.{◌≡◌, alloc_error};
 ghost use Rattle.std.specs.IoError.{error_kind};
 ghost use Rattle.std.specs.declared.io.ErrorKind.TheVariants.{OutOfMemory};
@@ -10,7 +10,7 @@ use crate::error::ReserveError;
 use std::alloc::{AllocError, AllocFailed};
 use std::{fmt, io};
 
-/// The value that was not stored is dropped.
+/// Drops the value that was not stored.
 impl<T: Drop> From<AllocFailed<T>> for ReserveError {
     ghost from_gives = { λ _ error. error ≡ record {} };
 

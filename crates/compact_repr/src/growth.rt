@@ -1,19 +1,19 @@
-//! How the capacity of a heap buffer grows.
+//! Growth policies, and the capacity that a heap buffer grows to.
 ghost use Rattle.std.specs.Prelude.{◌≡◌, ℕ, ◌*◌, ◌/◌, ◌<◌, ◌^◌, max, nat_le, if◌then◌else◌, Some, None};
 ghost use Rattle.compact_repr.specs.Capacity.{Growth, IsLawful, standard_growth, max_capacity};
 
-/// The least capacity of a heap buffer, and the ratio of a growth, `NUM / DEN`.
+/// The least capacity of a heap buffer, and its growth factor, `NUM / DEN`.
 ///
-/// Each implementation proves the law: `MIN_HEAP` is from 25 to 2^56 - 2, `DEN` is at least 1 and below `NUM`, and
+/// Each implementation proves that `MIN_HEAP` is from 25 to 2^56 - 2, `DEN` is at least 1 and below `NUM`, and
 /// `NUM + DEN` is at most 255.
 pub trait Policy {
     /// The least capacity of a heap buffer, in bytes.
     const MIN_HEAP: usize;
 
-    /// The numerator of the growth.
+    /// The numerator of the growth factor.
     const NUM: usize;
 
-    /// The denominator of the growth.
+    /// The denominator of the growth factor.
     const DEN: usize;
 
     ghost MIN_HEAP: { ℕ };
@@ -29,7 +29,7 @@ pub trait Policy {
     ghost lawful: { IsLawful growth };
 }
 
-/// The policy of `CompactString`: at least 32 bytes, and half as much again at each growth.
+/// The policy of `CompactString`: at least 32 bytes, and a growth factor of 1.5.
 pub struct Standard;
 
 impl Policy for Standard {
@@ -55,15 +55,15 @@ impl Policy for Standard {
     ghost lawful = { IsLawful-test _ refl };
 }
 
-/// A law, and the function does nothing: a heap buffer of `Standard` has at least 32 bytes, and grows by half.
+/// A law; the function does nothing. `Standard` allocates at least 32 bytes, and grows by half.
 pub fn standard_grows_by_half()
     ensures { ⟦<Standard as Policy>⟧.growth ≡ standard_growth }
 {}
 
-/// The largest capacity that may be asked for, 2^56 - 2 bytes.
+/// The largest capacity that can be allocated, 2^56 - 2 bytes.
 pub const MAX_CAPACITY: usize = 72057594037927934;
 
-/// The capacity of a heap buffer for `needed` bytes where `len` stand; `None` is past `MAX_CAPACITY`.
+/// Returns the capacity to which a text of `len` bytes grows for `needed` bytes, or `None` if it exceeds `MAX_CAPACITY`.
 pub fn grown_capacity<P: Policy>(len: usize, needed: usize) -> Option<usize>
     requires { len < 2 ^ 63 }
     ensures { let c = max P.growth.least
@@ -76,7 +76,7 @@ pub fn grown_capacity<P: Policy>(len: usize, needed: usize) -> Option<usize>
     checked_capacity::<P>(needed.max(product / P::DEN))
 }
 
-/// The capacity of a heap buffer for `wanted` bytes, at least that of the policy; `None` is past `MAX_CAPACITY`.
+/// Returns the heap capacity for `wanted` bytes, at least the policy's least, or `None` if it exceeds `MAX_CAPACITY`.
 pub fn checked_capacity<P: Policy>(wanted: usize) -> Option<usize>
     ensures { let c = max P.growth.least wanted
         in result ≡ (if nat_le c max_capacity then Some c else None) }

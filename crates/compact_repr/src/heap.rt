@@ -1,4 +1,4 @@
-//! A text in a vector of bytes on the heap, whose capacity is the vector's.
+//! A heap buffer: a text in a vector of bytes, whose capacity is the vector's.
 ghost use Rattle.std.specs.Prelude.{◌≡◌, ◌+◌, ◌-◌, ◌≤◌, ◌<◌, ◌^◌, [], ◌∷◌, ◌++◌, length, false, IfOk, OnOk, OnErr, IsSome, IsTrue, ◌↔◌, MatchOption};
 ghost use Rattle.std.specs.String.{string_bytes, string_capacity};
 ghost use Rattle.compact_text.specs.Text.{size, utf8, text_of, IsText, ascii_lowercase, ascii_uppercase};
@@ -10,9 +10,9 @@ use compact_text::{slices, vec};
 use std::alloc::{AllocError, Global};
 use std::marker::Model;
 
-/// The bytes of the vector are the text, and no more. What the vector has reserved behind them may hold old bytes.
+/// The bytes of the vector are the text. Its spare capacity may hold old bytes.
 ///
-/// The vector changes by calls that say exactly what it has reserved afterwards, and so the capacity needs no field.
+/// Uses only calls that specify the vector's capacity exactly, so no field is needed for it.
 #[derive(Drop)]
 pub struct HeapBuffer {
     bytes: Vec<u8>,
@@ -32,11 +32,11 @@ impl Model for HeapBuffer {
 }
 
 impl HeapBuffer {
-    /// The empty text with room for `capacity` bytes, of which none is touched.
+    /// Creates an empty text with room for `capacity` bytes, none of which is touched.
     ///
     /// # Errors
     ///
-    /// `AllocError` if no memory is found.
+    /// Returns `AllocError` if no memory is found.
     #[inline]
     pub fn with_capacity(alloc: Global, capacity: usize) -> Result<Self, AllocError>
         ensures { IfOk result (λ b. b ≡ record { text = []; capacity = capacity }) }
@@ -45,11 +45,11 @@ impl HeapBuffer {
         Ok(HeapBuffer { bytes })
     }
 
-    /// A copy of `text` in a new buffer with room for `capacity` bytes, at least as many as the text has.
+    /// Copies `text` into a new buffer of `capacity` bytes, at least its length.
     ///
     /// # Errors
     ///
-    /// `AllocError` if no memory is found.
+    /// Returns `AllocError` if no memory is found.
     #[inline(always)]
     pub fn copy_of(alloc: Global, text: &str, capacity: usize) -> Result<Self, AllocError>
         requires { length text.now ≤ capacity }
@@ -60,7 +60,7 @@ impl HeapBuffer {
         Ok(HeapBuffer { bytes })
     }
 
-    /// Takes `text` over, with its capacity.
+    /// Reuses the buffer of `text`, with its capacity.
     pub fn from_string(text: String) -> Self
         ensures value { result
             ≡ record { text = text_of (string_bytes text); capacity = string_capacity text } }
@@ -81,7 +81,7 @@ impl HeapBuffer {
         self.bytes.len()
     }
 
-    /// How many bytes have room.
+    /// The capacity in bytes.
     #[inline]
     pub fn capacity(&self) -> usize
         ensures { result ≡ self.now.capacity }
@@ -89,7 +89,7 @@ impl HeapBuffer {
         self.bytes.capacity()
     }
 
-    /// Whether `additional` bytes fit after the text.
+    /// Returns `true` if `additional` more bytes fit.
     #[inline]
     pub fn has_room(&self, additional: usize) -> bool
         ensures { IsTrue result ↔ (size self.now.text + additional ≤ self.now.capacity) }
@@ -97,7 +97,7 @@ impl HeapBuffer {
         additional <= self.bytes.capacity() - self.bytes.len()
     }
 
-    /// The text.
+    /// Returns the text.
     #[inline]
     pub fn as_str(&self) -> &str
         ensures bytes { result.now ≡ utf8 self.now.text }
@@ -106,11 +106,11 @@ impl HeapBuffer {
         unsafe { std::str::from_utf8_unchecked(self.bytes.as_slice()) }
     }
 
-    /// Makes room for `capacity` bytes in all.
+    /// Reserves room for `capacity` bytes in all.
     ///
     /// # Errors
     ///
-    /// `AllocError` if no memory is found; then nothing has changed.
+    /// Returns `AllocError` if no memory is found. Nothing is changed then.
     pub fn grow(&mut self, capacity: usize) -> Result<(), AllocError>
         requires { self.old.capacity ≤ capacity }
         ensures ok { OnOk result (self.new ≡ record { text = self.old.text; capacity = capacity }) }
@@ -119,9 +119,9 @@ impl HeapBuffer {
         self.bytes.reserve_exact(capacity - self.bytes.len())
     }
 
-    /// Appends `text` where it fits, and takes no memory. Answers whether it fitted; if not, nothing has changed.
+    /// Appends `text` if it fits, without allocating. Returns whether it did; otherwise changes nothing.
     ///
-    /// It stands where it is called, so that where the text is known to be short nothing is called.
+    /// Always inlined, so that a text known to be short calls nothing.
     #[inline(always)]
     pub fn try_push_str(&mut self, text: &str) -> bool
         ensures fits { IsTrue result ↔ (size self.old.text + length text.now ≤ self.old.capacity) }
@@ -139,7 +139,7 @@ impl HeapBuffer {
         true
     }
 
-    /// Appends the part between two boundaries, in bytes, for which there must be room.
+    /// Appends the bytes from one boundary to another, for which there must be room.
     pub fn push_within(&mut self, start: usize, end: usize)
         requires order { start ≤ end }
         requires first { IsBoundary self.old.text start }
@@ -155,8 +155,8 @@ impl HeapBuffer {
         vec::append_within(&mut self.bytes, start, end);
     }
 
-    /// Replaces what stands from one boundary to another by `text` where the outcome fits, and takes no memory. Answers
-    /// whether it fitted; if not, nothing has changed. Positions are in bytes.
+    /// Replaces the bytes from one boundary to another with `text` if the result fits, without allocating. Returns
+    /// whether it did; otherwise changes nothing.
     #[inline(always)]
     pub fn try_replace_range(&mut self, start: usize, end: usize, text: &str) -> bool
         requires order { start ≤ end }
@@ -189,8 +189,8 @@ impl HeapBuffer {
         true
     }
 
-    /// Puts an ASCII character in at a boundary where it fits, and takes no memory. Answers whether it fitted; if not,
-    /// nothing has changed.
+    /// Inserts an ASCII character at byte `index`, a boundary, if it fits, without allocating. Returns whether it did;
+    /// otherwise changes nothing.
     #[inline]
     pub fn try_insert_ascii(&mut self, index: usize, byte: u8) -> bool
         requires ascii { byte < 128 }
@@ -210,14 +210,14 @@ impl HeapBuffer {
         if len >= self.bytes.capacity() {
             return false;
         }
-        // The vector is one byte longer then, whichever byte it is.
+        // Only lengthens the vector; the value is overwritten.
         self.bytes.push_reserved(byte);
         slices::insert_byte(self.bytes.as_mut_slice(), len, index, byte);
         true
     }
 
-    /// Removes and returns the character at a boundary if it is ASCII. Returns `None`, with nothing changed, if it is not, or
-    /// at the end.
+    /// Removes and returns the character at byte `index`, a boundary, if it is ASCII. Otherwise, and at the end,
+    /// returns `None` and changes nothing.
     #[inline]
     pub fn try_remove_ascii(&mut self, index: usize) -> Option<char>
         requires { IsBoundary self.old.text index }
@@ -235,7 +235,7 @@ impl HeapBuffer {
         Some(character)
     }
 
-    /// Takes the ASCII character out that begins at a boundary.
+    /// Removes the ASCII character at byte `index`, a boundary.
     #[inline]
     fn remove_ascii(&mut self, index: usize)
         requires boundary { IsBoundary self.old.text index }
@@ -252,7 +252,7 @@ impl HeapBuffer {
         let _last = self.bytes.take_last();
     }
 
-    /// Takes out what stands from one boundary to another, in bytes.
+    /// Removes the bytes from one boundary to another.
     #[inline(always)]
     pub fn cut_out(&mut self, start: usize, end: usize)
         requires order { start ≤ end }
@@ -283,7 +283,8 @@ impl HeapBuffer {
         Some(character)
     }
 
-    /// Replaces the whole text by `text` if it fits. Returns whether it did; if not, nothing has changed. Keeps the capacity.
+    /// Replaces the whole text with `text` if it fits. Returns whether it did; otherwise changes nothing. Keeps the
+    /// capacity.
     #[inline]
     pub fn try_assign(&mut self, text: &str) -> bool
         ensures fits { IsTrue result ↔ (length text.now ≤ self.old.capacity) }
@@ -299,7 +300,7 @@ impl HeapBuffer {
         true
     }
 
-    /// Keeps the first `len` bytes, which end at a boundary, and the capacity.
+    /// Truncates the text to its first `len` bytes, which end at a boundary. Keeps the capacity.
     #[inline]
     pub fn truncate(&mut self, len: usize)
         requires { IsBoundary self.old.text len }
@@ -310,7 +311,7 @@ impl HeapBuffer {
         self.bytes.truncate(len);
     }
 
-    /// Leaves the empty text, with the same capacity.
+    /// Removes all characters. Keeps the capacity.
     #[inline]
     pub fn clear(&mut self)
         ensures { self.new ≡ record { text = []; capacity = self.old.capacity } }
@@ -318,8 +319,8 @@ impl HeapBuffer {
         self.bytes.clear();
     }
 
-    /// Leaves the empty text, with the same capacity, and writes every byte of the buffer with zero: those of the text, and
-    /// behind them all that is reserved, where old bytes stay when a text gets shorter.
+    /// Removes all characters, and writes zeros over the whole buffer: the text, and the spare capacity, where old
+    /// bytes remain when a text gets shorter. Keeps the capacity.
     pub fn zeroize(&mut self)
         ensures { self.new ≡ record { text = []; capacity = self.old.capacity } }
     {
@@ -329,7 +330,7 @@ impl HeapBuffer {
         self.bytes.clear();
     }
 
-    /// Makes A to Z lowercase, and keeps the capacity.
+    /// Makes A to Z lowercase. Keeps the capacity.
     pub fn make_ascii_lowercase(&mut self)
         ensures value { self.new
             ≡ record { text = ascii_lowercase self.old.text; capacity = self.old.capacity } }
@@ -339,7 +340,7 @@ impl HeapBuffer {
         slices::make_lowercase(self.bytes.as_mut_slice(), len);
     }
 
-    /// Makes a to z uppercase, and keeps the capacity.
+    /// Makes a to z uppercase. Keeps the capacity.
     pub fn make_ascii_uppercase(&mut self)
         ensures value { self.new
             ≡ record { text = ascii_uppercase self.old.text; capacity = self.old.capacity } }
@@ -349,7 +350,7 @@ impl HeapBuffer {
         slices::make_uppercase(self.bytes.as_mut_slice(), len);
     }
 
-    /// Keeps the characters for which `keep`, asked once of each in order, answers true, and the capacity.
+    /// Keeps the characters for which `keep` returns `true`; calls it once for each, in order. Keeps the capacity.
     #[inline]
     pub fn retain<F: FnMut(char) -> bool>(&mut self, keep: &mut F)
         requires { F.IsAlwaysCallable keep.old }
@@ -363,7 +364,7 @@ impl HeapBuffer {
         self.bytes.truncate(kept);
     }
 
-    /// The text with its buffer, of which nothing is copied.
+    /// Converts into a `String`, without copying.
     pub fn into_string(self) -> String
         ensures bytes { string_bytes result ≡ utf8 self.text }
         ensures text { text_of (string_bytes result) ≡ self.text }

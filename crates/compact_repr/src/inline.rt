@@ -1,4 +1,4 @@
-//! A text of at most 24 bytes that stands in the value itself, packed.
+//! An inline buffer: a text of at most 24 bytes, packed into the value itself.
 #![tactic(auto, using(crate::proofs::PackedFacts::packed_facts))]
 
 ghost use Rattle.std.specs.Prelude.{◌≡◌, ◌+◌, ◌-◌, ◌≤◌, ◌<◌, ℕ, List, [], ◌∷◌, ◌++◌, length, false, IsSome, IsTrue, ◌↔◌, MatchOption};
@@ -16,11 +16,11 @@ use compact_text::words::{insert_byte, remove_byte};
 use length::{is_packed, length_of, pack, with_len, with_len_below_24, write_len};
 use std::marker::Model;
 
-/// The most bytes that stand inline.
+/// The most bytes of an inline text.
 pub const INLINE_CAPACITY: usize = 24;
 
-/// A contract sees the text. The bytes hold its length too: the last of them is 192 and the length, unless the text has 24
-/// bytes and so ends there, in a byte of at most 191. What stands between the text and the last byte is open.
+/// A contract sees the text. The last byte is 192 and the length, unless the text has 24 bytes: then it is the text's
+/// own, at most 191. The bytes between the text and the last byte are unspecified.
 #[derive(Drop)]
 pub struct InlineBuffer {
     bytes: [u8; 24],
@@ -38,7 +38,7 @@ impl Model for InlineBuffer {
 }
 
 impl InlineBuffer {
-    /// The empty text.
+    /// Creates an empty text.
     #[inline]
     pub fn empty() -> Self
         ensures { result ≡ [] }
@@ -48,7 +48,7 @@ impl InlineBuffer {
         InlineBuffer { bytes }
     }
 
-    /// A copy of `text`.
+    /// Copies `text`.
     #[inline]
     pub fn new(text: &str) -> Self
         requires { length text.now ≤ 24 }
@@ -59,7 +59,7 @@ impl InlineBuffer {
         }
     }
 
-    /// The same text.
+    /// Returns a copy.
     #[inline]
     pub fn clone(&self) -> Self
         ensures { result ≡ self.now }
@@ -77,7 +77,7 @@ impl InlineBuffer {
         length_of(&self.bytes)
     }
 
-    /// The text.
+    /// Returns the text.
     #[inline]
     pub fn as_str(&self) -> &str
         ensures bytes { result.now ≡ utf8 self.now }
@@ -86,7 +86,7 @@ impl InlineBuffer {
         unsafe { std::str::from_utf8_unchecked(&self.bytes[..length_of(&self.bytes)]) }
     }
 
-    /// Appends `text` where it fits. Answers whether it fitted; if not, nothing has changed.
+    /// Appends `text` if it fits. Returns whether it did; otherwise changes nothing.
     #[inline]
     pub fn try_push_str(&mut self, text: &str) -> bool
         ensures fits { IsTrue result ↔ (size self.old + length text.now ≤ 24) }
@@ -102,8 +102,8 @@ impl InlineBuffer {
         true
     }
 
-    /// Replaces what stands from one boundary to another by `text` where the outcome fits. Answers whether it fitted; if
-    /// not, nothing has changed. Positions are in bytes.
+    /// Replaces the bytes from one boundary to another with `text` if the result fits. Returns whether it did;
+    /// otherwise changes nothing.
     #[inline(always)]
     pub fn try_replace_range(&mut self, start: usize, end: usize, text: &str) -> bool
         requires order { start ≤ end }
@@ -126,8 +126,8 @@ impl InlineBuffer {
         true
     }
 
-    /// Puts an ASCII character in at a boundary where it fits: the bytes shift by words. Answers whether it fitted; if not,
-    /// nothing has changed.
+    /// Inserts an ASCII character at byte `index`, a boundary, if it fits. Shifts by words. Returns whether it did;
+    /// otherwise changes nothing.
     #[inline]
     pub fn try_insert_ascii(&mut self, index: usize, byte: u8) -> bool
         requires ascii { byte < 128 }
@@ -148,8 +148,8 @@ impl InlineBuffer {
         true
     }
 
-    /// Removes and returns the character at a boundary if it is ASCII. Returns `None`, with nothing changed, if it is not, or
-    /// at the end.
+    /// Removes and returns the character at byte `index`, a boundary, if it is ASCII. Otherwise, and at the end,
+    /// returns `None` and changes nothing.
     #[inline]
     pub fn try_remove_ascii(&mut self, index: usize) -> Option<char>
         requires { IsBoundary self.old index }
@@ -162,7 +162,7 @@ impl InlineBuffer {
         Some(character)
     }
 
-    /// Takes the ASCII character out that begins at a boundary: the bytes shift by words.
+    /// Removes the ASCII character at byte `index`, a boundary. Shifts by words.
     #[inline]
     fn remove_ascii(&mut self, index: usize)
         requires boundary { IsBoundary self.old index }
@@ -175,7 +175,7 @@ impl InlineBuffer {
         self.bytes = with_len_below_24(&array, len - 1);
     }
 
-    /// Takes out what stands from one boundary to another, in bytes.
+    /// Removes the bytes from one boundary to another.
     #[inline(always)]
     pub fn cut_out(&mut self, start: usize, end: usize)
         requires order { start ≤ end }
@@ -202,7 +202,7 @@ impl InlineBuffer {
         Some(character)
     }
 
-    /// Replaces the whole text by `text` if it fits. Returns whether it did; if not, nothing has changed.
+    /// Replaces the whole text with `text` if it fits. Returns whether it did; otherwise changes nothing.
     #[inline]
     pub fn try_assign(&mut self, text: &str) -> bool
         ensures fits { IsTrue result ↔ (length text.now ≤ 24) }
@@ -217,7 +217,7 @@ impl InlineBuffer {
         true
     }
 
-    /// Keeps the first `len` bytes, which end at a boundary.
+    /// Truncates the text to its first `len` bytes, which end at a boundary.
     #[inline]
     pub fn truncate(&mut self, len: usize)
         requires { IsBoundary self.old len }
@@ -227,7 +227,7 @@ impl InlineBuffer {
         write_len(&mut self.bytes, len);
     }
 
-    /// Leaves the empty text.
+    /// Removes all characters.
     #[inline]
     pub fn clear(&mut self)
         ensures { self.new ≡ [] }
@@ -235,7 +235,7 @@ impl InlineBuffer {
         write_len(&mut self.bytes, 0);
     }
 
-    /// Leaves the empty text, and writes every byte with zero but the last, which says that there is no text.
+    /// Removes all characters, and writes zeros over all bytes but the last, which holds the length 0.
     pub fn zeroize(&mut self)
         ensures { self.new ≡ [] }
     {
@@ -263,7 +263,7 @@ impl InlineBuffer {
         write_len(&mut self.bytes, len);
     }
 
-    /// Keeps the characters for which `keep`, asked once of each in order, answers true.
+    /// Keeps the characters for which `keep` returns `true`; calls it once for each, in order.
     #[inline]
     pub fn retain<F: FnMut(char) -> bool>(&mut self, keep: &mut F)
         requires { F.IsAlwaysCallable keep.old }
@@ -276,7 +276,7 @@ impl InlineBuffer {
         write_len(&mut self.bytes, kept);
     }
 
-    /// The 24 bytes, which stand for the text.
+    /// Returns the 24 bytes.
     #[inline]
     pub fn packed(&self) -> [u8; 24]
         ensures { IsPackedFor result self.now }
@@ -284,7 +284,7 @@ impl InlineBuffer {
         self.bytes
     }
 
-    /// The text that `bytes` stand for, or `None` where they stand for none. ASCII is known by its words.
+    /// Unpacks 24 bytes, or returns `None` if they do not pack a text.
     #[inline]
     pub fn from_packed(bytes: &[u8; 24]) -> Option<Self>
         ensures { MatchOption result ((t : List ℕ) → ¬ (IsPackedFor bytes.now t))

@@ -1,8 +1,8 @@
 //! The representation of a compact string: a text with a place and a capacity.
 //!
-//! A text of at most 24 bytes is stored in the value itself, a longer one in a buffer on the heap, and a string literal by
-//! reference. This crate makes such a representation, reads it, makes room in it and edits its text. Contracts see the
-//! `PlacedText` of `specs/Value.antt`.
+//! Up to 24 bytes are stored in the value itself, a longer text in a buffer on the heap, and a string literal by
+//! reference. This crate creates, reads, grows and edits such a representation. Contracts see the `PlacedText` of
+//! `specs/Value.antt`.
 #![tactic(auto, using(compact_text::proofs::TextFacts::text_facts))]
 
 mod error;

@@ -1,4 +1,4 @@
-//! The representation: a buffer of one of three kinds, with the allocator that its growth asks.
+//! The representation: a buffer of one of three kinds, and the allocator it grows with.
 ghost use Rattle.std.specs.Prelude.{◌≡◌, ◌<◌, ◌≤◌, ◌^◌, ◌↔◌, IsSome, IfSome, false, IfOk, IfErr, string_bytes};
 ghost use Rattle.std.specs.String.{string_capacity};
 ghost use Rattle.compact_text.specs.Text.{size, utf8, text_of};
@@ -20,7 +20,7 @@ use crate::static_str::StaticStr;
 use std::alloc::Global;
 use std::marker::{Model, PhantomData};
 
-/// Where a text stands: in the value itself, on the heap, or in the program.
+/// The storage of a text: in the value itself, on the heap, or static.
 #[derive(Drop)]
 pub enum Buffer {
     Inline([u64; 0], InlineBuffer),
@@ -61,7 +61,7 @@ impl<P: Policy> Repr<P> {
         }
     }
 
-    /// The allocator that gives a heap buffer.
+    /// Returns the allocator.
     #[inline]
     pub fn allocator(&self) -> Global {
         self.alloc
@@ -81,7 +81,7 @@ impl<P: Policy> Repr<P> {
         }
     }
 
-    /// The text.
+    /// Returns the text.
     #[inline]
     pub fn as_str(&self) -> &str
         ensures bytes { result.now ≡ utf8 self.now.text }
@@ -94,7 +94,7 @@ impl<P: Policy> Repr<P> {
         }
     }
 
-    /// The text of a static value, which outlives the value; `None` of every other.
+    /// Returns the text of a static value, which outlives the value, or `None` if it is not static.
     #[inline]
     pub fn as_static_str(&self) -> Option<&'static str>
         ensures place { IsSome result ↔ IsStatic self.now }
@@ -107,7 +107,7 @@ impl<P: Policy> Repr<P> {
         }
     }
 
-    /// How many bytes have room.
+    /// The capacity in bytes.
     #[inline]
     pub fn capacity(&self) -> usize
         ensures { result ≡ self.now.placement.capacity }
@@ -119,7 +119,7 @@ impl<P: Policy> Repr<P> {
         }
     }
 
-    /// Whether the text stands in a heap buffer.
+    /// Returns `true` if the text is in a heap buffer.
     #[inline]
     pub fn is_heap_allocated(&self) -> bool
         ensures { result ≡ is_heap self.now.placement.place }
@@ -127,7 +127,7 @@ impl<P: Policy> Repr<P> {
         matches!(&self.buffer, Buffer::Heap(_))
     }
 
-    /// An inline text packed into 24 bytes; `None` of every other.
+    /// Returns an inline text packed into 24 bytes, or `None` if it is not inline.
     #[inline]
     pub fn packed(&self) -> Option<[u8; 24]>
         ensures place { IsSome result ↔ (IsInline self.now) }
@@ -139,11 +139,11 @@ impl<P: Policy> Repr<P> {
         }
     }
 
-    /// The text of a heap value with its buffer, of which nothing is copied.
+    /// Converts a heap value into a `String`, reusing its buffer.
     ///
     /// # Errors
     ///
-    /// The value as it was, if it is not on the heap.
+    /// Returns the value, unchanged, if it is not on the heap.
     #[inline]
     pub fn into_heap_string(self) -> Result<String, Self>
         ensures bytes { IfOk result (λ s. string_bytes s ≡ utf8 self.text) }

@@ -1,7 +1,7 @@
-//! A text of the program, held by a pointer, so that the type names no lifetime.
+//! A `&'static str`, stored as a raw pointer.
 //!
-//! A type that names one, `'static` too, costs whoever holds it: a call that is generic over iterators takes no
-//! iterator of references beside it, and a guard in a `Result` hides from its caller what the value becomes.
+//! A lifetime parameter, `'static` too, restricts users: a call that is generic over iterators takes no iterator of
+//! references beside it, and a guard in a `Result` hides from its caller what the value becomes.
 ghost use Rattle.std.specs.Prelude.{◌≡◌, ◌<◌, ◌^◌, ℕ, List, [], ◌∷◌, ◌++◌, length, MatchOption};
 ghost use denote.Ref.{Bor};
 ghost use Rattle.compact_repr.specs.Loan.{static_loan, address};
@@ -12,7 +12,7 @@ use compact_text::str_parts;
 use std::marker::Model;
 use std::{slice, str};
 
-/// The right to read bytes of the program for ever. It takes no memory.
+/// The right to read `'static` bytes. Takes no memory.
 #[derive(Drop)]
 struct StaticLoan {
     ghost bytes: { Bor (List ℕ) },
@@ -25,7 +25,7 @@ impl Model for StaticLoan {
 }
 
 impl StaticLoan {
-    /// Where `bytes` lie, and the right to read them there.
+    /// Returns the address of `bytes`, and the right to read them there.
     #[inline]
     fn of(bytes: &'static [u8]) -> (*const u8, StaticLoan)
         ensures { (result.0 ≡ address result.1.bytes) × (result.1.bytes.now ≡ bytes.now) }
@@ -33,7 +33,7 @@ impl StaticLoan {
         (bytes.as_ptr(), StaticLoan {})
     }
 
-    /// The bytes, which lie at `at` and are `len`.
+    /// Returns the `len` bytes at `at`.
     #[inline]
     fn read(&self, at: *const u8, len: usize) -> &'static [u8]
         requires { (at ≡ address self.now.bytes) × (len ≡ length self.now.bytes.now) }
@@ -43,7 +43,7 @@ impl StaticLoan {
     }
 }
 
-/// A text that stands in the program and outlives every value. A contract sees the text.
+/// A text that outlives every value. A contract sees the text.
 #[derive(Drop)]
 pub struct StaticStr {
     at: *const u8,
@@ -64,13 +64,13 @@ impl Model for StaticStr {
         × (t.len < 2 ^ 63) × IsUtf8 t.loan.bytes.now };
 }
 
-// Nothing writes to what the pointer points to, so every thread may read it.
+// Nothing writes through the pointer, so every thread may read.
 unsafe impl Send for StaticStr {}
 
 unsafe impl Sync for StaticStr {}
 
 impl StaticStr {
-    /// The whole of `text`, of which nothing is copied.
+    /// Wraps `text`, without copying.
     #[inline]
     pub fn new(text: &'static str) -> Self
         ensures { result ≡ text_of text.now }
@@ -91,7 +91,7 @@ impl StaticStr {
         self.len
     }
 
-    /// The text, which outlives the value.
+    /// Returns the text, which outlives the value.
     #[inline]
     pub fn as_static_str(&self) -> &'static str
         ensures bytes { result.now ≡ utf8 self.now }
@@ -101,7 +101,7 @@ impl StaticStr {
         unsafe { str::from_utf8_unchecked(bytes) }
     }
 
-    /// The same text again, of which nothing is copied.
+    /// Returns the same text, without copying.
     #[inline]
     pub fn clone(&self) -> Self
         ensures { result ≡ self.now }
@@ -109,7 +109,7 @@ impl StaticStr {
         Self::new(self.as_static_str())
     }
 
-    /// The first `len` bytes, which end at a boundary.
+    /// Returns the first `len` bytes, which end at a boundary.
     #[inline]
     pub fn slice_to(&self, len: usize) -> Self
         requires { IsBoundary self.now len }
@@ -130,7 +130,7 @@ impl StaticStr {
         Some(character)
     }
 
-    /// What stands behind the first `index` bytes, which end at a boundary.
+    /// Returns the bytes from `index` on, a boundary.
     #[inline]
     pub fn slice_from(&self, index: usize) -> Self
         requires { IsBoundary self.now index }

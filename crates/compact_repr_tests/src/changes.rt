@@ -1,4 +1,5 @@
-//! Each call once in each place. The texts and positions are written by hand: `ä`, `b` and the clef take 2, 1 and 4 bytes.
+//! Each call once in each place. The texts and positions are written by hand: `ä`, `b` and the clef take 2, 1 and 4
+//! bytes.
 
 use crate::asserts::{assert_equal, assert_that};
 use crate::values::{borrowed, copied, empty, reserve};
@@ -6,7 +7,7 @@ use compact_asserts::{that, that_for};
 use compact_repr::{Repr, Standard};
 use std::process::Abort;
 
-/// Replaces one range after another, once all that the call asks for is seen to hold, and asserts each outcome.
+/// Replaces ranges in turn, after checking the preconditions, and asserts each result.
 fn assert_replaced(
     rt: &impl Abort,
     text: &mut Repr<Standard>,
@@ -21,7 +22,7 @@ fn assert_replaced(
     }
 }
 
-/// Cuts the text to one length after another, and asserts each outcome.
+/// Truncates in turn, and asserts each result.
 fn assert_truncated(rt: &impl Abort, text: &mut Repr<Standard>, steps: &[(usize, &str)]) {
     for (len, outcome) in steps {
         that(*len >= text.len() || text.is_char_boundary(*len)).expect(rt, "it holds");
@@ -30,7 +31,7 @@ fn assert_truncated(rt: &impl Abort, text: &mut Repr<Standard>, steps: &[(usize,
     }
 }
 
-/// Asserts which characters begin at some places.
+/// Asserts which characters begin at some positions.
 fn assert_chars(rt: &impl Abort, text: &Repr<Standard>, places: &[(usize, char)]) {
     for (index, character) in places {
         that(text.is_char_boundary(*index)).expect(rt, "it holds");
@@ -39,7 +40,7 @@ fn assert_chars(rt: &impl Abort, text: &Repr<Standard>, places: &[(usize, char)]
     }
 }
 
-/// Puts one dash in after another, and asserts whether it fits, and the outcome.
+/// Inserts dashes in turn, and asserts whether each fits, and the result.
 fn assert_dashes(rt: &impl Abort, text: &mut Repr<Standard>, steps: &[(usize, bool, &str)]) {
     for (index, fits, outcome) in steps {
         that(text.is_char_boundary(*index)).expect(rt, "it holds");
@@ -48,7 +49,7 @@ fn assert_dashes(rt: &impl Abort, text: &mut Repr<Standard>, steps: &[(usize, bo
     }
 }
 
-/// Takes one character of one byte out after another, and asserts whether the text is its own, and the outcome.
+/// Removes one-byte characters in turn, and asserts whether the text is owned, and the result.
 fn assert_removed(rt: &impl Abort, text: &mut Repr<Standard>, steps: &[(usize, bool, &str)]) {
     for (index, owned, outcome) in steps {
         that(*index < text.len()).expect(rt, "it holds");
@@ -59,8 +60,7 @@ fn assert_removed(rt: &impl Abort, text: &mut Repr<Standard>, steps: &[(usize, b
     }
 }
 
-/// Takes one range out after another, once all that the call asks for is seen to hold, and asserts whether the text is its
-/// own, and the outcome.
+/// Removes ranges in turn, after checking the preconditions, and asserts whether the text is owned, and the result.
 fn assert_cut(rt: &impl Abort, text: &mut Repr<Standard>, steps: &[(usize, usize, bool, &str)]) {
     for (start, end, owned, outcome) in steps {
         that(*start <= *end).expect(rt, "it holds");
@@ -123,12 +123,12 @@ fn heap(rt: HostRuntime) {
     assert_equal(rt, text.capacity(), 32);
 }
 
-/// A text of 150 bytes that begins anew at each tenth. It is a function so that a proof need not carry each digit.
+/// 150 digits, in tens. A function, so that a proof need not carry each one.
 fn digits() -> &'static str {
     "012345678901234567890123456789012345678901234567890123456789012345678901234567890123456789012345678901234567890123456789012345678901234567890123456789"
 }
 
-/// Replaces a part at the front, and asserts what stands before the digits.
+/// Replaces a part at the front, and asserts the text before the digits.
 fn assert_front(
     rt: &impl Abort,
     text: &mut Repr<Standard>,
@@ -144,7 +144,7 @@ fn assert_front(
     assert_equal(rt, text.as_str().strip_prefix(front), Some(digits()));
 }
 
-/// Takes a part of the digits out, and asserts how they begin then, and how many there are.
+/// Removes a part of the digits, and asserts how they begin, and how many are left.
 fn assert_digits(
     rt: &impl Abort,
     text: &mut Repr<Standard>,
@@ -248,12 +248,12 @@ fn one_character_on_the_heap(rt: HostRuntime) {
     assert_equal(rt, text.capacity(), 32);
 }
 
-/// A text of the program, of 36 bytes.
+/// A literal of 36 bytes.
 fn line() -> &'static str {
     "a text of the program, past 24 bytes"
 }
 
-/// A static text is not its own, so nothing is changed in place.
+/// A static text is not owned, so nothing changes in place.
 #[test]
 fn nothing_in_place_of_the_program(rt: HostRuntime) {
     let rt = &rt;
@@ -271,7 +271,7 @@ fn nothing_in_place_of_the_program(rt: HostRuntime) {
     assert_equal(rt, text.as_static_str(), Some(line()));
 }
 
-/// A part is taken out in each place that is the value's own.
+/// A part is removed in each owned place.
 #[test]
 fn a_part_is_cut_out(rt: HostRuntime) {
     let rt = &rt;
@@ -294,7 +294,7 @@ fn a_part_is_cut_out(rt: HostRuntime) {
     assert_equal(rt, text.capacity(), 32);
 }
 
-/// Asserts that a text is `ab` so many times.
+/// Asserts that a text is `ab` repeated `count` times.
 fn assert_pairs(rt: &impl Abort, text: &str, count: usize) {
     let mut rest = text;
     for _pair in 0..count {
@@ -303,7 +303,7 @@ fn assert_pairs(rt: &impl Abort, text: &str, count: usize) {
     assert_that(rt, rest.is_empty());
 }
 
-/// A large room is filled byte by byte, up to its last one.
+/// A large capacity is filled byte by byte, to its last.
 #[test]
 fn a_room_is_filled(rt: HostRuntime) {
     let rt = &rt;

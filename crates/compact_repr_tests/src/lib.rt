@@ -1,4 +1,4 @@
-//! Tests of `compact_repr`, of what a caller sees of it: representations of texts in each of the three places.
+//! Tests of `compact_repr` as a caller sees it: representations of texts in each of the three places.
 #![tactic(auto)]
 
 #[cfg(test)]

@@ -1,7 +1,7 @@
-//! Texts of which a part is replaced, byte by byte beside what a reader would write down: the bytes before the part, the
-//! new ones, and the bytes after it. The lengths lie on both sides of each bound at which the moves take another way. Each
-//! text stands on the heap, in a buffer with room for the longer of the two texts, and once as it is made, so that what has
-//! at most 24 bytes before and afterwards stands inline.
+//! Replacing a part of a text, checked byte by byte against the expected result: the bytes before the part, the new
+//! ones, and the bytes after it. The lengths lie on both sides of each bound at which the moves take another way. Each
+//! text is tried on the heap, with capacity for the longer of the two, and as it is made, so that what has at most 24
+//! bytes before and after is inline.
 
 use crate::asserts::{assert_equal, assert_that};
 use crate::values::{copied, empty, reserve};
@@ -10,22 +10,22 @@ use compact_repr::{Repr, Standard};
 use std::alloc::Global;
 use std::process::Abort;
 
-/// How many bytes stand behind the part.
+/// The lengths of the tail after the part.
 const TAILS: [usize; 24] = [
     0, 1, 2, 3, 4, 7, 8, 9, 15, 16, 17, 31, 32, 33, 63, 64, 65, 127, 128, 129, 191, 192, 193, 400,
 ];
 
-/// The byte that stands at a place at first.
+/// The byte at a position at first.
 fn old(place: usize) -> u8 {
     (place % 97) as u8
 }
 
-/// The byte at a place of what is put in.
+/// The byte at a position of the replacement.
 fn new(place: usize) -> u8 {
     (97 + place % 31) as u8
 }
 
-/// So many bytes of `old`.
+/// `len` bytes of `old`.
 fn row(rt: &impl Abort, alloc: Global, len: usize) -> String {
     let mut row = String::new(alloc);
     for place in 0..len {
@@ -34,7 +34,7 @@ fn row(rt: &impl Abort, alloc: Global, len: usize) -> String {
     row
 }
 
-/// So many bytes of `new`.
+/// `len` bytes of `new`.
 fn source(rt: &impl Abort, alloc: Global, len: usize) -> String {
     let mut source = String::new(alloc);
     for place in 0..len {
@@ -43,7 +43,7 @@ fn source(rt: &impl Abort, alloc: Global, len: usize) -> String {
     source
 }
 
-/// Asserts the ten bytes before a part, `come` new ones, and the `tail` bytes that first stood from `end` on.
+/// Asserts the ten bytes before a part, `come` new ones, and the `tail` bytes that were first at `end`.
 fn assert_bytes(rt: &impl Abort, bytes: &[u8], come: usize, end: usize, tail: usize) {
     assert_equal(
         rt,
@@ -62,7 +62,7 @@ fn assert_bytes(rt: &impl Abort, bytes: &[u8], come: usize, end: usize, tail: us
     }
 }
 
-/// Replaces what stands from the tenth byte to `end`, before `tail` bytes.
+/// Replaces the bytes from the tenth to `end`, before `tail` bytes.
 fn assert_replaced(
     rt: &impl Abort,
     text: &mut Repr<Standard>,
@@ -77,7 +77,7 @@ fn assert_replaced(
     assert_bytes(rt, text.as_str().as_bytes(), come.len(), end, tail);
 }
 
-/// The text as it is made, with room for `additional` more bytes.
+/// The text as made, with capacity for `additional` more bytes.
 fn with_room(rt: &impl Abort, alloc: Global, text: &str, additional: usize) -> Repr<Standard> {
     let mut made = copied(rt, alloc, text);
     reserve(rt, &mut made, additional);
@@ -89,7 +89,7 @@ fn with_room(rt: &impl Abort, alloc: Global, text: &str, additional: usize) -> R
     made
 }
 
-/// The text on the heap, in a buffer with room for `additional` more bytes.
+/// The text on the heap, with capacity for `additional` more bytes.
 fn on_the_heap(rt: &impl Abort, alloc: Global, text: &str, additional: usize) -> Repr<Standard> {
     let mut made = empty(rt, alloc, text.len().saturating_add(additional).max(25));
     assert_that(rt, made.try_push_str(text));
@@ -97,7 +97,7 @@ fn on_the_heap(rt: &impl Abort, alloc: Global, text: &str, additional: usize) ->
     made
 }
 
-/// Replaces `gone` bytes from the tenth on by `come`, where `tail` bytes stand behind them.
+/// Replaces `gone` bytes from the tenth on by `come`, before `tail` bytes.
 fn replaced(rt: &impl Abort, alloc: Global, gone: usize, come: usize, tail: usize) {
     let end = 10usize.saturating_add(gone);
     let row = row(rt, alloc, end.saturating_add(tail));
@@ -109,7 +109,7 @@ fn replaced(rt: &impl Abort, alloc: Global, gone: usize, come: usize, tail: usiz
     assert_replaced(rt, &mut text, end, source.as_str(), tail);
 }
 
-/// The same before each of the tails.
+/// The same before each tail.
 fn before_each_tail(rt: &impl Abort, alloc: Global, gone: usize, come: usize) {
     for tail in TAILS {
         replaced(rt, alloc, gone, come, tail);
@@ -146,7 +146,7 @@ fn bytes_are_exchanged(rt: HostRuntime) {
     }
 }
 
-/// Puts a byte in behind the tenth, and takes it out again.
+/// Inserts a byte after the tenth, and removes it.
 fn assert_one_byte(rt: &impl Abort, text: &mut Repr<Standard>, tail: usize) {
     that(text.is_char_boundary(10)).expect(rt, "it holds");
     assert_that(rt, text.try_insert_ascii(10, b'a'));
@@ -168,7 +168,7 @@ fn one_byte_comes_and_goes(rt: HostRuntime) {
     }
 }
 
-/// Takes the bytes from the tenth to `end` out, before `tail` bytes.
+/// Removes the bytes from the tenth to `end`, before `tail` bytes.
 fn assert_cut(rt: &impl Abort, text: &mut Repr<Standard>, end: usize, tail: usize) {
     that(10 <= end).expect(rt, "it holds");
     that(text.is_char_boundary(10)).expect(rt, "it holds");

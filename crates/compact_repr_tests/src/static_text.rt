@@ -1,4 +1,4 @@
-//! A text of the program, of 29 bytes with one character of two bytes, at 4 and 5.
+//! A literal of 29 bytes, with a character of two bytes at 4 and 5.
 
 use crate::asserts::assert_equal;
 use crate::values::borrowed;
@@ -7,7 +7,7 @@ use std::alloc::Global;
 
 const LINE: &str = "a naïve reader of long lines";
 
-/// What is handed out outlives the value.
+/// The returned text outlives the value.
 fn outlived(alloc: Global) -> Option<&'static str> {
     borrowed(alloc, LINE).as_static_str()
 }
@@ -35,7 +35,7 @@ fn a_text_is_had_twice(rt: HostRuntime) {
     assert_equal(&rt, shown, Some("a naïve reader of long lines"));
 }
 
-/// What stands before and behind a boundary; `None` where no character begins there, or where a part is not static.
+/// Splits at a boundary; `None` if no character begins there, or if a part is not static.
 fn cut(alloc: Global, index: usize) -> Option<(&'static str, &'static str)> {
     let mut text = borrowed(alloc, LINE);
     if !text.is_char_boundary(index) {

@@ -1,5 +1,5 @@
-//! Inline texts as their 24 bytes, at each length where another read begins or ends, and at each end of each word of eight
-//! bytes. Behind the text stand zeros, and last, where the text leaves it free, 192 and the length.
+//! Inline texts as their 24 bytes, at each length where another read begins or ends, and at each end of each word of
+//! eight bytes. Zeros follow the text; the last byte, if free, is 192 plus the length.
 
 use crate::asserts::{assert_equal, assert_that};
 use crate::values::copied;
@@ -9,10 +9,10 @@ use std::alloc::Global;
 use std::ops::Range;
 use std::process::Abort;
 
-/// Texts of which the beginnings are taken: letters, and characters of two and three bytes, all of 128 and above.
+/// Texts whose prefixes are taken: ASCII, and characters of two and three bytes, all of 128 and above.
 const TEXTS: [&str; 3] = ["abcdefghijklmnopqrstuvwx", "äöüßäöüßäöüß", "€äöüßäöüßäöüß"];
 
-/// The row is the text, then zeros, and the mark of its length.
+/// Asserts that the 24 bytes are the text, then zeros, and the mark of its length.
 fn begins(rt: &impl Abort, alloc: Global, text: &str) {
     that(text.len() <= 24).expect(rt, "it holds");
     let mark = (192 + text.len()) as u8;
@@ -26,7 +26,7 @@ fn begins(rt: &impl Abort, alloc: Global, text: &str) {
     assert_equal(rt, made.as_str(), text);
 }
 
-/// The same of each beginning whose length is in the range.
+/// The same for each prefix whose length is in the range.
 fn each_begins(rt: &impl Abort, alloc: Global, lens: Range<usize>) -> usize {
     let mut count = 0usize;
     for text in TEXTS {
@@ -40,19 +40,19 @@ fn each_begins(rt: &impl Abort, alloc: Global, lens: Range<usize>) -> usize {
     count
 }
 
-/// Of the letters there are 9 beginnings, of the others 5 and 4.
+/// The ASCII text has 9 prefixes, the others 5 and 4.
 #[test]
 fn rows_of_one_word(rt: HostRuntime) {
     assert_equal(&rt, each_begins(&rt, rt.alloc(), 0..9), 18);
 }
 
-/// Of the letters there are 16 beginnings, of the others 8 each.
+/// The ASCII text has 16 prefixes, the others 8 each.
 #[test]
 fn rows_of_more_words(rt: HostRuntime) {
     assert_equal(&rt, each_begins(&rt, rt.alloc(), 9..25), 32);
 }
 
-/// The last byte of the row is the text's own.
+/// The last byte is the text's own.
 #[test]
 fn a_byte_is_put_in(rt: HostRuntime) {
     let rt = &rt;
@@ -71,7 +71,7 @@ fn a_byte_is_put_in(rt: HostRuntime) {
     }
 }
 
-/// Takes the byte at a place out.
+/// Removes the byte at a position.
 fn remove(rt: &impl Abort, text: &mut Repr<Standard>, at: usize) {
     that(at < 24).expect(rt, "it holds");
     that(text.is_char_boundary(at)).expect(rt, "it holds");
@@ -79,7 +79,8 @@ fn remove(rt: &impl Abort, text: &mut Repr<Standard>, at: usize) {
     assert_that(rt, text.try_remove_ascii(at));
 }
 
-/// A second byte is taken out, so that a mark is seen in the place of another. What stands before it, behind the text, is open.
+/// Removes a second byte, so that a mark takes the place of another. What is before the mark, after the text, is
+/// unspecified.
 #[test]
 fn a_byte_is_taken_out(rt: HostRuntime) {
     let rt = &rt;

@@ -1,4 +1,4 @@
--- Facts on a value that is collected.
+-- Facts for collecting.
 use Rattle.std.proofs.Common.{append_assoc, append-nil}
 use Rattle.compact_text.proofs.TextFacts.{text_facts}
 use Rattle.compact_str.proofs.Collecting.{each-alone, each-referred}
@@ -6,5 +6,5 @@ use Rattle.compact_str.proofs.Fitted.{fitted-push_str, fitted-empty, asks-over}
 
 pub ruleset builder_facts = (text_facts, fitted-push_str, fitted-empty, asks-over, append_assoc, append-nil)
 
--- of characters that are collected
+-- characters
 pub ruleset collect_facts = (each-alone, each-referred)

@@ -1,4 +1,4 @@
--- Texts that are appended in turn, and joined.
+-- Appending in turn, collecting and joining.
 use Rattle.std.proofs.Common.{◌≡◌, ℕ, ◌+◌, ◌<◌, ◌≤◌, List, [], ◌∷◌, ◌++◌, length, drop, fold, Some, map, flat_map, refl, ap, sym, subst, ◌∙◌, arith, append_assoc, append-nil, true}
 use Rattle.std.proofs.lemmas.Grind.{flat_map-append}
 use Rattle.std.proofs.lemmas.List.Folds.{flat_map-map}
@@ -46,12 +46,12 @@ pub room-left : {T : Type 0} (g : Growth) (f : T → List ℕ) (v u : PlacedText
 room-left g f v u xs x a h =
     omega (arith, h, size-next f xs x, ap size (Appends-text g f v u xs a), size-append v.text (flat_map f xs), Appends-sure g f v u xs a)
 
--- an item that was given next
+-- the next item
 pub yields-next : {S T : Type 0} (steps : S → Option T → S → Type 0) (s t u : S) (xs : List T) (x : T) → Yields steps s xs t → steps t (Some x) u → Yields steps s (xs ++ x ∷ []) u
 yields-next steps s t u [] x y n = (u, subst (λ q. steps q (Some x) u) (sym y) n, refl)
 yields-next steps s t u (z ∷ zs) x y n = (y.0, y.1, yields-next steps y.0 t u zs x y.2 n)
 
--- characters one by one are their text
+-- a text is its characters, one by one
 pub each-alone : (cs : List ℕ) → flat_map char_text cs ≡ cs
 each-alone [] = refl
 each-alone (c ∷ cs) = ap (λ l. c ∷ l) (each-alone cs)
@@ -60,7 +60,7 @@ each-alone (c ∷ cs) = ap (λ l. c ∷ l) (each-alone cs)
 pub whole-run : {S T : Type 0} (steps : S → Option T → S → Type 0) (s : S) (xs : List T) (P : List T → Type 0) → Drains steps s xs → P xs → WholeRun steps s (λ p. P p.items)
 whole-run steps s xs P all holds = (run steps s xs true (to_end steps s xs all), refl, refl, holds)
 
--- what the clauses say of the outcome r of an extension: `read` is what the items spell together
+-- the clauses of an extension with the result r, where `read` concatenates the items
 module _ {U S T E : Type 0} (becomes : U → S → Type 0) (steps : S → Option T → S → Type 0) (g : Growth) (f : T → List ℕ) (iter : U) (v w : PlacedText) where
   abbrev pub Extended : Result (Unit {0}) E → Type 0
   Extended r = OnOk r ((it : S) × becomes iter it × AppendsAll steps g f it v w)
@@ -68,19 +68,19 @@ module _ {U S T E : Type 0} (becomes : U → S → Type 0) (steps : S → Option
   abbrev pub Stopped : Result (Unit {0}) E → Type 0
   Stopped r = OnErr r ((it : S) × becomes iter it × AppendsUpToRefused steps g f it v w)
 
-  -- the text has gained what the items spell
+  -- the items are appended
   pub extended-ran : (read : List T → List ℕ) → ((xs : List T) → flat_map f xs ≡ read xs) → (r : Result (Unit {0}) E) → Extended r
       → OnOk r ((it : S) × becomes iter it × WholeRun steps it (λ p. w.text ≡ v.text ++ read p.items))
   extended-ran read same (Ok _) (it, b, (xs, d, a)) =
       (it, b, whole-run steps it xs (λ ys. w.text ≡ v.text ++ read ys) d (Appends-text g f v w xs a ∙ ap (λ l. v.text ++ l) (same xs)))
   extended-ran read same (Err _) e = tt
 
-  -- no room is given back
+  -- the capacity never shrinks
   pub extended-room : (r : Result (Unit {0}) E) → Extended r → Stopped r → infallible_capacity v ≤ infallible_capacity w
   extended-room (Ok _) (it, b, (xs, d, a)) e = Appends-sure g f v w xs a
   extended-room (Err _) e (it, b, s) = Appends-sure g f v w s.0 s.4
 
-  -- the old text stands in front
+  -- the old text is a prefix
   pub extended-boundary : (r : Result (Unit {0}) E) → Extended r → Stopped r → IsBoundary w.text (size v.text)
   extended-boundary (Ok _) (it, b, (xs, d, a)) e = (v.text, flat_map f xs, record { parts = Appends-text g f v w xs a; position = refl })
   extended-boundary (Err _) e (it, b, s) = (v.text, flat_map f s.0, record { parts = Appends-text g f v w s.0 s.4; position = refl })
@@ -89,18 +89,18 @@ module _ {U S T E : Type 0} (becomes : U → S → Type 0) (steps : S → Option
   extended-front (Ok _) (it, b, (xs, d, a)) e = ap (λ t. text_before t (size v.text)) (Appends-text g f v w xs a) ∙ text_before-append v.text (flat_map f xs) (size v.text) refl
   extended-front (Err _) e (it, b, s) = ap (λ t. text_before t (size v.text)) (Appends-text g f v w s.0 s.4) ∙ text_before-append v.text (flat_map f s.0) (size v.text) refl
 
-  -- the same, as the library's trait says it
+  -- the same for the trait `Extend`
   pub extended-for_trait : (r : Result (Unit {0}) E) → Extended r → Stopped r
       → (it : S) × (xs : List T) × becomes iter it × Appends g f v xs w × MatchResult r (λ _. Drains steps it xs) (λ _. (t : S) × Yields steps it xs t)
   extended-for_trait (Ok _) (it, b, (xs, d, a)) e = (it, xs, b, a, d)
   extended-for_trait (Err _) e (it, b, s) = (it, s.0, b, s.4, (s.3.0, s.3.1))
 
--- how many bytes the items take, one after another
+-- the length of the items together
 pub size-each : {T : Type 0} (f : T → List ℕ) (xs : List T) (n : ℕ) → fold (λ (m : ℕ) x. m + size (f x)) n xs ≡ n + size (flat_map f xs)
 size-each f [] n = omega (arith)
 size-each f (x ∷ xs) n = size-each f xs (n + size (f x)) ∙ omega (arith, size-append (f x) (flat_map f xs))
 
--- of the outcome r of a collection
+-- the clauses of a collection with the result r
 module _ {U S T E : Type 0} (becomes : U → S → Type 0) (steps : S → Option T → S → Type 0) (f : T → List ℕ) (iter : U) (read : List T → List ℕ) (same : (xs : List T) → flat_map f xs ≡ read xs) where
   abbrev pub Collected : Result PlacedText E → Type 0
   Collected r = IfOk r (λ v. (it : S) × (xs : List T) × becomes iter it × Drains steps it xs × (v.text ≡ flat_map f xs))
@@ -121,26 +121,26 @@ module _ {U S T E : Type 0} (becomes : U → S → Type 0) (steps : S → Option
   collected-err (Ok v) e = tt
   collected-err (Err _) (it, b, o) = (it, b, (o.0, o.1, o.2, subst (λ l. 24 < size l) (same o.0) o.3))
 
-  -- where all that may come has at most 24 bytes nothing is refused
+  -- never fails up to 24 bytes
   pub collected-succeeds : (r : Result PlacedText E) → Overflowed read r → ((it : S) → becomes iter it → HoldsAlong steps it (λ xs. size (read xs) ≤ 24)) → IsOk r
   collected-succeeds (Ok v) e h = refl
   collected-succeeds (Err _) (it, b, o) h = absurd (omega (arith, h it b o.0 o.1 o.2, o.3))
 
--- a collection, as the library's trait says it: of the value G holds with the items, and F
+-- the same for the trait `FromIterator`: G holds of the value and the items, and F
 pub collected-for_trait : {S T V E : Type 0} (from : S → Type 0) (steps : S → Option T → S → Type 0) (W F : V → Type 0) (G : List T → V → Type 0) (r : Result V E)
     → IfOk r (λ v. (it : S) × (xs : List T) × from it × Drains steps it xs × G xs v) → IfOk r F
     → IfOk r (λ v. (it : S) × (xs : List T) × from it × DrainsIf steps (W v) it xs × (G xs v × F v))
 collected-for_trait from steps W F G (Ok v) (it, xs, b, d, g) f = (it, xs, b, (d.1.0, d.1.1, λ w. (d.0, d.1.2)), (g, f))
 collected-for_trait from steps W F G (Err _) c f = tt
 
--- one more item makes more than 24 bytes
+-- one more item passes 24 bytes
 pub passes : {S T : Type 0} (steps : S → Option T → S → Type 0) (f : T → List ℕ) (s t u : S) (xs : List T) (x : T) (z : List ℕ) → Yields steps s xs t → steps t (Some x) u
     → z ≡ flat_map f xs → 24 < size z + size (f x) → PassesInline steps (flat_map f) s
 passes steps f s t u xs x z y n e h =
     let all : size (flat_map f (xs ++ x ∷ [])) ≡ size (flat_map f xs) + size (f x) = size-next f xs x in
     (xs ++ x ∷ [], u, yields-next steps s t u xs x y n, omega (arith, h, ap size e, all))
 
--- referred to
+-- references to characters
 pub each-referred : (cs : List (Bor ℕ)) → flat_map (λ (c : Bor ℕ). char_text c.now) cs ≡ map (λ (c : Bor ℕ). c.now) cs
 each-referred [] = refl
 each-referred (c ∷ cs) = ap (λ l. c.now ∷ l) (each-referred cs)
@@ -149,13 +149,13 @@ pub on_err : {T E Q : Type 0} (r : Result T E) → Q → OnErr r Q
 on_err (Ok _) q = tt
 on_err (Err _) q = q
 
--- what is collected from an iterator as it stands
+-- collecting from an iterator
 pub ran-here : {S T E : Type 0} (steps : S → Option T → S → Type 0) (s : S) (read : List T → List ℕ) (r : Result PlacedText E)
     → IfOk r (λ v. (it : S) × (it ≡ s) × WholeRun steps it (λ p. v.text ≡ read p.items)) → IfOk r (λ v. WholeRun steps s (λ p. v.text ≡ read p.items))
 ran-here steps s read (Ok v) (it, e, w) = subst (λ t. WholeRun steps t (λ p. v.text ≡ read p.items)) e w
 ran-here steps s read (Err _) h = tt
 
--- what is joined from it
+-- joining from one
 module _ {S T E : Type 0} (steps : S → Option T → S → Type 0) (s : S) (read : List T → List ℕ) where
   pub joined-ran : (r : Result PlacedText E) → IfOk r (λ v. (xs : List T) × Drains steps s xs × (v.text ≡ read xs)) → IfOk r (λ v. WholeRun steps s (λ p. v.text ≡ read p.items))
   joined-ran (Ok v) (xs, d, e) = whole-run steps s xs (λ ys. v.text ≡ read ys) d e
@@ -165,7 +165,7 @@ module _ {S T E : Type 0} (steps : S → Option T → S → Type 0) (s : S) (rea
   joined-succeeds (Ok v) e h = refl
   joined-succeeds (Err _) o h = absurd (omega (arith, h o.0 o.1 o.2, o.3))
 
--- the first item stands alone, and each other behind a separator
+-- a separator precedes each item but the first
 pub join-cons : {T : Type 0} (f : T → List ℕ) (separator : List ℕ) (x : T) (xs : List T) → join separator f (x ∷ xs) ≡ f x ++ flat_map (λ y. separator ++ f y) xs
 join-cons f separator x xs =
     ap (λ l. drop (length separator) l) (append_assoc separator (f x) (flat_map (λ y. separator ++ f y) xs)) ∙ drop-append_seam separator (f x ++ flat_map (λ y. separator ++ f y) xs)
@@ -176,7 +176,7 @@ join-one f separator x = join-cons f separator x [] ∙ append-nil (f x)
 pub join-start : {T : Type 0} (f : T → List ℕ) (separator : List ℕ) (x : T) (z p w : List ℕ) → z ≡ [] → p ≡ f x → w ≡ z ++ p → w ≡ join separator f (x ∷ [])
 join-start f separator x z p w e k h = h ∙ ap (λ l. l ++ p) e ∙ k ∙ sym (join-one f separator x)
 
--- the bytes of texts end to end, and joined
+-- the bytes of texts concatenated and joined
 
 pub utf8-flat_map : {T : Type 0} (f : T → List ℕ) (xs : List T) → utf8 (flat_map f xs) ≡ flat_map (λ x. utf8 (f x)) xs
 utf8-flat_map f [] = refl
@@ -195,7 +195,7 @@ pub ran-bytes : {S T E : Type 0} (steps : S → Option T → S → Type 0) (s : 
 ran-bytes steps s read write same (Ok v) (p, start, whole, e) = (p, start, whole, ap utf8 e ∙ same p.items)
 ran-bytes steps s read write same (Err _) h = tt
 
--- one more item behind the first
+-- one more item after the first
 pub join-next : {T : Type 0} (f : T → List ℕ) (separator : List ℕ) (z : T) (xs : List T) (x : T) → join separator f (z ∷ (xs ++ x ∷ [])) ≡ (join separator f (z ∷ xs) ++ separator) ++ f x
 join-next f separator z xs x =
     let others = flat_map (λ y. separator ++ f y) xs in
@@ -206,12 +206,12 @@ join-next f separator z xs x =
     ∙ sym (append_assoc (f z ++ others) separator (f x))
     ∙ ap (λ l. (l ++ separator) ++ f x) (sym (join-cons f separator z xs))
 
--- one turn of the loop that joins
+-- one turn of the joining loop
 pub join-turn : {T : Type 0} (f : T → List ℕ) (separator : List ℕ) (z : T) (xs : List T) (x : T) {a w p : List ℕ} → a ≡ join separator f (z ∷ xs)
     → p ≡ f x → w ≡ (a ++ separator) ++ p → w ≡ join separator f (z ∷ (xs ++ x ∷ []))
 join-turn f separator z xs x a p w = rw (w, p, a) (sym (join-next f separator z xs x))
 
--- an item taken ahead of a loop, and those of the loop
+-- an item before a loop, and those of the loop
 pub first-drained : {S T : Type 0} (steps : S → Option T → S → Type 0) {s j k t u : S} {x : T} (xs : List T) → steps s (Some x) j → k ≡ j → Yields steps k xs t → steps t None u → Drains steps s (x ∷ xs)
 first-drained steps {s} {j} {k} {t} {u} {x} xs first same rest end = (u, (t, (j, first, subst (λ q. Yields steps q xs t) same rest), end))
 
@@ -223,7 +223,7 @@ size-join f separator z xs x =
     let so_far = join separator f (z ∷ xs) in
     ap size (join-next f separator z xs x) ∙ size-append (so_far ++ separator) (f x) ∙ ap (λ (n : ℕ). n + size (f x)) (size-append so_far separator)
 
--- where a join stops, what came makes more than 24 bytes
+-- a join that fails has passed 24 bytes
 module _ {S T : Type 0} (steps : S → Option T → S → Type 0) (f : T → List ℕ) (s : S) (separator : List ℕ) where
   abbrev pub join_of : List T → List ℕ
   join_of xs = join (text_of separator) f xs
@@ -240,7 +240,7 @@ module _ {S T : Type 0} (steps : S → Option T → S → Type 0) (f : T → Lis
     omega (arith, h, ap size e, size-text_of separator a, ap size b, size-text_of p v, size-join f (text_of separator) z xs x),
   )
 
--- what is finished has the text that came
+-- `finish` returns the text of the items
 module _ {S T E : Type 0} (steps : S → Option T → S → Type 0) (s : S) (read : List T → List ℕ) (z : List ℕ) (xs : List T) where
   pub finished-ok : (r : Result PlacedText E) → IfOk r (λ v. v.text ≡ z) → z ≡ read xs → Drains steps s xs → IfOk r (λ v. (ys : List T) × Drains steps s ys × (v.text ≡ read ys))
   finished-ok (Ok v) h e d = (xs, d, h ∙ e)
@@ -250,14 +250,14 @@ module _ {S T E : Type 0} (steps : S → Option T → S → Type 0) (s : S) (rea
   finished-err t (Ok v) h e y = tt
   finished-err t (Err _) h e y = (xs, t, y, subst (λ l. 24 < size l) e h)
 
--- of texts that are appended to a `String` with the text t, which leaves the text u and a capacity
+-- texts are appended to a `String` with the text t, which gives the text u and a capacity
 module _ {U S T : Type 0} (becomes : U → S → Type 0) (steps : S → Option T → S → Type 0) (f : T → List ℕ) (iter : U) (capacity : ℕ) (t u : List ℕ) where
   pub strings-ran : {E : Type 0} (r : Result (Unit {0}) E) → OnOk r ((it : S) × (xs : List T) × becomes iter it × Drains steps it xs × (u ≡ t ++ flat_map f xs))
       → OnOk r ((it : S) × becomes iter it × WholeRun steps it (λ p. u ≡ t ++ flat_map f p.items))
   strings-ran (Ok _) (it, xs, b, d, e) = (it, b, whole-run steps it xs (λ ys. u ≡ t ++ flat_map f ys) d e)
   strings-ran (Err _) h = tt
 
-  -- where all fit the capacity `first` that it has at the call, and the one that it has by then is no less
+  -- never fails if all fit the capacity `first` at the call
   pub strings-succeed : {E : Type 0} (first n : ℕ) (r : Result (Unit {0}) E) → size t ≡ n → first ≤ capacity → OnErr r ((it : S) × becomes iter it × StopsWithout steps f it capacity t u)
       → ((it : S) → becomes iter it → HoldsAlong steps it (λ xs. n + size (flat_map f xs) ≤ first)) → IsOk r
   strings-succeed first n (Ok _) e grows o h = refl
@@ -265,12 +265,12 @@ module _ {U S T : Type 0} (becomes : U → S → Type 0) (steps : S → Option T
       let more = h it b (o.0 ++ o.1 ∷ []) o.2 (yields-next steps it o.3.0 o.2 o.0 o.1 o.3.1 o.3.2) in
       absurd (omega (arith, more, grows, size-next f o.0 o.1, o.5, ap size o.4, size-append t (flat_map f o.0), e))
 
-  -- where no text stood before, those that came up to the refused one make some
+  -- a `String` that was empty gets some text before the item that fails
   pub stopped-gives : t ≡ [] → (it : S) × becomes iter it × StopsWithout steps f it capacity t u → (it : S) × becomes iter it × GivesText steps (flat_map f) it
   stopped-gives empty (it, b, o) =
       let so_far : u ≡ flat_map f o.0 = o.4 ∙ ap (λ l. l ++ flat_map f o.0) empty in
       (it, b, (o.0 ++ o.1 ∷ [], o.2, yields-next steps it o.3.0 o.2 o.0 o.1 o.3.1 o.3.2, omega (arith, size-next f o.0 o.1, o.5, ap size so_far)))
 
--- items that are read through v
+-- items read by way of v
 pub join-map : {A B : Type 0} (separator : List ℕ) (h : B → List ℕ) (v : A → B) (xs : List A) → join separator h (map v xs) ≡ join separator (λ x. h (v x)) xs
 join-map separator h v xs = ap (λ l. drop (length separator) l) (flat_map-map (λ y. separator ++ h y) v xs)

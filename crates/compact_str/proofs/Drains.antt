@@ -1,4 +1,4 @@
--- Parts of a text, and how they are taken out.
+-- Parts of a text, and their removal.
 use Rattle.std.proofs.Common.{◌≡◌, Some, ℕ, ◌+◌, ◌-◌, ◌*◌, ◌%◌, ◌^◌, ◌<◌, ◌≤◌, List, [], ◌∷◌, ◌++◌, Bool, true, false, not, IsTrue, ◌↔◌, ◌&&◌, length, refl, ap, sym, ◌∙◌, subst, rules, arith, append_assoc, append-nil, length-append, inl, inr, ⊎_elim}
 use lib.ListN.{get_or}
 use Rattle.std.proofs.lemmas.Grind.{common_steps}
@@ -35,7 +35,7 @@ capacity-owned_placement static capacity bytes h own = absurd (true≢false own)
 pub room-owned_placement : (v : PlacedText) → IsSound v → is_static v.placement.place ≡ false → size v.text ≤ v.placement.capacity
 room-owned_placement v sound own = capacity-owned_placement v.placement.place v.placement.capacity (size v.text) sound.fits own
 
--- `is_boundary` tells the boundaries
+-- `is_boundary` decides the boundaries
 is_boundary-boundary : (t : List ℕ) (p : ℕ) → IsBoundary t p → is_boundary t p ≡ true
 is_boundary-boundary t p h = eq-eqb _ _ (size-text_before t p h)
 
@@ -60,7 +60,7 @@ of-range t a m b i j e first last =
     let three = parts-substring t a m b i j e first last in
     is_range-range t i j (omega (arith, first, last)) three.0 three.1
 
--- the second of three parts, and a part that is not empty, are each the other
+-- the middle of three parts is a range, and a range that is not empty is such a part
 part-of : (t a m b : List ℕ) (i j : ℕ) → t ≡ a ++ m ++ b → size a ≡ i → size a + size m ≡ j → range_text t i j ≡ m
 part-of t a m b i j e first last =
     let three = parts-substring t a m b i j e first last in
@@ -90,7 +90,7 @@ some-back r c e =
     let none : length (r ++ c ∷ []) ≡ length {A = ℕ} [] = ap length e in
     omega (arith, none, length-append r (c ∷ []))
 
--- the first character of a part is taken
+-- a part without its first character
 part-front : (t r : List ℕ) (front back c : ℕ) → range_text t front back ≡ c ∷ r → (range_text t (front + len_utf8 c) back ≡ r) × (front + len_utf8 c ≤ back)
 part-front t r front back c e =
     let three = of-part t (c ∷ r) front back e (some-front r c) in
@@ -99,7 +99,7 @@ part-front t r front back c e =
     let first : size (text_before t front ++ c ∷ []) ≡ front + len_utf8 c = size-append (text_before t front) (c ∷ []) ∙ omega (arith, three.1) in
     (part-of t (text_before t front ++ c ∷ []) r (text_after t back) (front + len_utf8 c) back parts first (omega (arith, first, three.1, three.2)), omega (arith, three.1, three.2))
 
--- or the last
+-- or its last
 part-back : (t r : List ℕ) (front back c : ℕ) → range_text t front back ≡ r ++ c ∷ [] → (range_text t front (back - len_utf8 c) ≡ r) × (front + len_utf8 c ≤ back)
 part-back t r front back c e =
     let three = of-part t (r ++ c ∷ []) front back e (some-back r c) in
@@ -108,7 +108,7 @@ part-back t r front back c e =
     three.0 ∙ ap (λ (l : List ℕ). l ++ text_after t back) (sym (append_assoc (text_before t front) r (c ∷ []))) ∙ append_assoc (text_before t front ++ r) (c ∷ []) (text_after t back) in
     (part-of t (text_before t front) r (c ∷ [] ++ text_after t back) front (back - len_utf8 c) parts three.1 (omega (arith, whole, three.1, three.2)), omega (arith, whole, three.1, three.2))
 
--- what is left is a range
+-- the rest is a range
 front-range : (t r : List ℕ) (front back c : ℕ) → range_text t front back ≡ c ∷ r → is_range t (front + len_utf8 c) back ≡ true
 front-range t r front back c e =
     let three = of-part t (c ∷ r) front back e (some-front r c) in
@@ -117,14 +117,14 @@ front-range t r front back c e =
     let first : size (text_before t front ++ c ∷ []) ≡ front + len_utf8 c = size-append (text_before t front) (c ∷ []) ∙ omega (arith, three.1) in
     of-range t (text_before t front ++ c ∷ []) r (text_after t back) (front + len_utf8 c) back parts first (omega (arith, first, three.1, three.2))
 
--- both, by where the first character ends
+-- both, by the end of the first character
 front-taken : (t r : List ℕ) (front back c behind : ℕ) → range_text t front back ≡ c ∷ r → behind ≡ front + len_utf8 c
     → (range_text t behind back ≡ r) × (behind ≤ back) × (is_range t behind back ≡ true)
 front-taken t r front back c behind e is =
     let taken = part-front t r front back c e in
     rw is (taken.0, taken.1, front-range t r front back c e)
 
--- where that character is one byte
+-- that character is one byte
 pub byte-taken : (t s : List ℕ) (front back c : ℕ) → s ≡ range_text t front back → (first : (len_utf8 c ≡ 1) × ((r : List ℕ) × (s ≡ c ∷ r)))
     → (range_text t front back ≡ c ∷ first.1.0) × (range_text t (front + 1) back ≡ first.1.0) × (front + 1 ≤ back) × (is_range t (front + 1) back ≡ true)
 byte-taken t s front back c is first =
@@ -132,11 +132,11 @@ byte-taken t s front back c is first =
     let taken = front-taken t first.1.0 front back c (front + 1) split (ap (λ (n : ℕ). front + n) (sym first.0)) in
     (split, taken.0, taken.1, taken.2)
 
--- the lower half of a word is how many bytes the character takes whose code is the upper half
+-- a word whose upper half is a character's code and whose lower half is its length
 pub width-of_word : (word c : ℕ) → word ≡ c * 2 ^ 32 + len_utf8 c → word % 2 ^ 32 ≡ len_utf8 c
 width-of_word word c is = let bounds = len_utf8_bounds c in search rules
 
--- where it is told by such a word
+-- a character decoded to such a word
 pub word-taken : (t : List ℕ) (front back word behind : ℕ) → behind ≡ front + word % 2 ^ 32
     → (first : (c : ℕ) × (r : List ℕ) × (word ≡ c * 2 ^ 32 + len_utf8 c) × InScalarRange c × (range_text t front back ≡ c ∷ r))
     → (range_text t behind back ≡ first.1) × (behind ≤ back) × (is_range t behind back ≡ true)
@@ -151,7 +151,7 @@ back-range t r front back c e =
     three.0 ∙ ap (λ (l : List ℕ). l ++ text_after t back) (sym (append_assoc (text_before t front) r (c ∷ []))) ∙ append_assoc (text_before t front ++ r) (c ∷ []) (text_after t back) in
     of-range t (text_before t front) r (c ∷ [] ++ text_after t back) front (back - len_utf8 c) parts three.1 (omega (arith, whole, three.1, three.2))
 
--- both, by the width of the last character
+-- both, by the length of the last character
 pub back-taken : (t s : List ℕ) (front back c width : ℕ) → s ≡ range_text t front back → width ≡ len_utf8 c → (last : (r : List ℕ) × (s ≡ r ++ c ∷ []))
     → (range_text t front back ≡ last.0 ++ c ∷ []) × (range_text t front (back - width) ≡ last.0) × (front + width ≤ back) × (is_range t front (back - width) ≡ true)
 back-taken t s front back c width is wide last =
@@ -159,12 +159,12 @@ back-taken t s front back c width is wide last =
     let taken = part-back t last.0 front back c split in
     rw wide (split, taken.0, taken.1, back-range t last.0 front back c split)
 
--- a range is one still in the value that is made owned
+-- a range stays one when the value is made owned
 pub owned_placement-range : (g : Growth) (v u : PlacedText) (i j : ℕ) → make_owned g v ≡ Some u → i ≤ j → IsBoundary v.text i → IsBoundary v.text j → is_range u.text i j ≡ true
 owned_placement-range g v u i j o order h k =
     ap (λ (t : List ℕ). is_range t i j) (make_owned-text g v u o) ∙ is_range-range v.text i j order h k
 
--- a value that is made owned and then loses a range
+-- a value made owned, and then without a range
 pub owned_placement-without_range : (g : Growth) (v u : PlacedText) (i j : ℕ) → make_owned g v ≡ Some u → is_static u.placement.place ≡ false → i ≤ j → IsBoundary v.text i → IsBoundary v.text j
     → without_range u i j ≡ placed_text (replaced_text v.text i j []) u.placement
 owned_placement-without_range g v u i j o own order h k =
@@ -172,7 +172,7 @@ owned_placement-without_range g v u i j o own order h k =
     let range : is_range u.text i j ≡ true = ap (λ (t : List ℕ). is_range t i j) text ∙ is_range-range v.text i j order h k in
     cond-true _ _ _ (and_from _ _ (ap not own) range) ∙ ap (λ (t : List ℕ). placed_text (replaced_text t i j []) u.placement) text
 
--- a value that is not static is none without a range
+-- a value that is not static
 pub without_range-owned_placement : (v : PlacedText) (i j : ℕ) → is_static v.placement.place ≡ false → is_static (without_range v i j).placement.place ≡ false
 without_range-owned_placement v i j own =
     ⊎_elim
@@ -180,7 +180,7 @@ without_range-owned_placement v i j own =
     (λ no. ap (λ (w : PlacedText). is_static w.placement.place) (cond-false _ _ _ no) ∙ own)
     (cases_Bool (not (is_static v.placement.place) && is_range v.text i j))
 
--- what is left once a range is taken out has no more bytes, and where it has as many it is the same
+-- removing a range never lengthens the text, and leaves it unchanged if the length stays
 without_range-text : (t : List ℕ) (i j : ℕ) → is_range t i j ≡ true → size t ≤ size (replaced_text t i j []) → replaced_text t i j [] ≡ t
 without_range-text t i j can same =
     let range = range-is_range t i j can in
@@ -207,7 +207,7 @@ size-without_range v i j =
     (λ no. subst (λ (w : PlacedText). size w.text ≤ size v.text) (sym (cond-false _ _ _ no)) (omega arith))
     (cases_Bool (not (is_static v.placement.place) && is_range v.text i j))
 
--- where it has as many, a range is one still
+-- then a range stays one
 pub without_range-is_range : (v : PlacedText) (i j front back whole : ℕ) → size v.text ≤ whole
     → (size v.text ≡ whole → is_range v.text front back ≡ true)
     → size (without_range v i j).text ≡ whole → is_range (without_range v i j).text front back ≡ true
@@ -225,7 +225,7 @@ without_range-ascii v i j front back whole within ascii is =
 pub drained : (g : Growth) (v u : PlacedText) (i j : ℕ) → make_owned g v ≡ Some u → is_static u.placement.place ≡ false → i ≤ j → IsBoundary v.text i → IsBoundary v.text j → replace_range g v i j [] ≡ Some (without_range u i j)
 drained g v u i j o own order h k = rw (make_owned-placement g v u o, le-leb 0 (j - i) (omega arith), owned_placement-without_range g v u i j o own order h k) refl
 
--- a character has one to four bytes
+-- a character has at least one byte
 pub length-least : (t : List ℕ) → length t ≤ size t
 length-least [] = omega arith
 length-least (c ∷ cs) = omega (arith, len_utf8_bounds c, length-least cs)
@@ -234,7 +234,7 @@ pub length-most : (t : List ℕ) → size t ≤ 4 * length t
 length-most [] = omega arith
 length-most (c ∷ cs) = omega (arith, len_utf8_bounds c, length-most cs)
 
--- where each of some characters takes one byte, the first does, and so do the others
+-- in a text of one-byte characters the first is one byte, and so are the others
 one-byte : (c : ℕ) (r : List ℕ) → length (c ∷ r) ≡ size (c ∷ r) → (len_utf8 c ≡ 1) × (length r ≡ size r)
 one-byte c r all =
     let wide = len_utf8_bounds c in
@@ -267,13 +267,13 @@ ascii-of_bytes t s i j true range is u ascii holds =
     rw whole (ap length (chars-IsAscii s ascii) ∙ sym (size-text_of s u))
 ascii-of_bytes t s i j false range is u ascii holds = absurd (true≢false (sym holds))
 
--- an ASCII range is one still where a character is taken from the front
+-- an ASCII range stays one without its first character
 pub ascii-front : (t r : List ℕ) (front back c behind : ℕ) → range_text t front back ≡ c ∷ r → range_text t behind back ≡ r
     → IsAsciiRange t front back → IsAsciiRange t behind back
 ascii-front t r front back c behind old new all =
     rw new (one-byte c r (subst (λ (l : List ℕ). length l ≡ size l) old all)).1
 
--- or from the back
+-- or its last
 pub ascii-back : (t r : List ℕ) (front back c width : ℕ) → range_text t front back ≡ r ++ c ∷ [] → range_text t front (back - width) ≡ r
     → IsAsciiRange t front back → IsAsciiRange t front (back - width)
 ascii-back t r front back c width old new all =

@@ -1,4 +1,4 @@
--- The facts that the edits of this crate name where they are proved, in sets by what an edit does.
+-- Sets of facts for the proofs of this crate, by kind of edit.
 use Rattle.std.proofs.lemmas.Str.{IsUtf8-string_bytes}
 use Rattle.compact_text.proofs.TextFacts.{text_facts}
 use Rattle.compact_text.proofs.Texts.{empty_text}
@@ -10,28 +10,28 @@ use Rattle.compact_text.proofs.Letters.{boundary-lowercase, boundary-uppercase}
 use Rattle.compact_str.proofs.Letters.{make_ascii_lowercase-owned, make_ascii_uppercase-owned, make_owned-text, new-lowercase, new-uppercase}
 use Rattle.compact_str.proofs.Repeats.{repeated_text-none, repeated_text-one}
 
--- of an append
+-- append
 pub ruleset append_facts = (text_facts, empty_text, push_str-text, push_str-in_place, push_str-sure, push_str-bytes)
 
--- of an append of a character
+-- append of a character
 pub ruleset character_facts = (text_facts, pushed-bytes)
 
--- of an edit at a position
+-- edits at a position
 pub ruleset position_facts =
     (text_facts, boundary-within, size-text_after, removed-in_place, truncate-last, boundary-next, text_after-next, truncate-boundary, truncate-text, boundary-cut, asks-by_nothing)
 
--- of an insertion
+-- insertion
 pub ruleset insertion_facts =
     (text_facts, insert_str-text, insert_str-place, insert_str-behind, insert_str-bytes, insert-bytes, insert_str-sure, insert_str-in_place)
 
--- of a replacement
+-- replacement
 pub ruleset replacement_facts = (text_facts, replace_range-in_place, range_replaced-text)
 
--- of a repetition
+-- repetition
 pub ruleset repeat_facts = (text_facts, repeated_text-none, repeated_text-one)
 
--- of a change of the letters
+-- change of ASCII case
 pub ruleset letter_facts = (text_facts, make_ascii_lowercase-owned, make_ascii_uppercase-owned, make_owned-text, new-lowercase, new-uppercase, boundary-lowercase, boundary-uppercase)
 
--- of a `String` that is taken over
+-- conversion from `String`
 pub ruleset string_facts = (text_facts, IsUtf8-string_bytes)

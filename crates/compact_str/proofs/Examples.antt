@@ -1,4 +1,4 @@
--- Worked examples of the definitions, each computed. The numbers come from the Rust crate and from the Unicode Standard.
+-- Worked examples of the definitions. The numbers come from the Rust crate and the Unicode Standard.
 use Rattle.std.specs.Prelude.{◌≡◌, ℕ, ◌*◌, List, [], ◌∷◌, ◌++◌, replicate, Some, None, refl}
 use Rattle.std.proofs.Common.{arith}
 use Rattle.std.specs.declared.ops.Bound.TheVariants.{Included, Excluded, Unbounded}
@@ -22,18 +22,18 @@ use Rattle.compact_str.specs.RetainRules.{retained_text, answer_rule}
 abbrev standard : Growth
 standard = record { least = 32; numerator = 3; denominator = 2 }
 
--- so many letters `a`
+-- n times `a`
 abbrev letters : ℕ → List ℕ
 letters n = replicate n 97
 
--- 30 letters of the program
+-- a static string of 30 bytes
 abbrev lasting_30 : PlacedText
 lasting_30 = placed_text (letters 30) (static_placement (letters 30))
 
 abbrev abc : List ℕ
 abc = 97 ∷ 98 ∷ 99 ∷ []
 
--- an a with two dots, and b
+-- `"äb"`
 abbrev mixed : List ℕ
 mixed = 0xE4 ∷ 98 ∷ []
 
@@ -185,7 +185,7 @@ the_last_of_three_bytes_is_before_the_first_of_four = refl
 the_first_place_that_differs_decides : text_order (0x20AC ∷ 122 ∷ []) (0x20AC ∷ 97 ∷ 98 ∷ []) ≡ Greater
 the_first_place_that_differs_decides = refl
 
--- what is taken out
+-- removal of ranges
 
 b_is_a_part : range_text mixed 2 3 ≡ 98 ∷ []
 b_is_a_part = refl
@@ -199,7 +199,7 @@ b_is_taken_out_in_place = refl
 nothing_is_taken_out_of_a_static_text : without_range lasting_30 0 3 ≡ lasting_30
 nothing_is_taken_out_of_a_static_text = refl
 
--- what comes one after another
+-- collecting and joining
 
 a_separator_stands_between_each_two : join (44 ∷ 32 ∷ []) char_text abc ≡ 97 ∷ 44 ∷ 32 ∷ 98 ∷ 44 ∷ 32 ∷ 99 ∷ []
 a_separator_stands_between_each_two = refl

@@ -1,4 +1,4 @@
--- A row of bytes into which characters are written.
+-- An array into which characters are written.
 use Rattle.std.proofs.Common.{◌≡◌, ◌⊎◌, ⊎_elim, inl, inr, true, false, cond, ltb, get_or, Some, drop-cons, add-one, ◌/◌, ◌%◌, ℕ, ◌+◌, ◌-◌, ◌<◌, ◌≤◌, List, [], ◌∷◌, ◌++◌, length, take, drop, set, length-set, refl, sym, ap, subst, ◌∙◌, arith, append-nil, append_assoc, drop-drop, length-drop}
 use Rattle.std.specs.Char.{IsScalar, encode_utf8}
 use Rattle.std.specs.Str.{IsUtf8}
@@ -14,15 +14,15 @@ use Rattle.std.proofs.lemmas.Bool.{cases_lt, and_from, cond-true, cond-false, lt
 use Rattle.std.proofs.lemmas.List.{take-set-le}
 use lib.Utf8.{low_scalar}
 
--- a character's own bytes spell it
+-- a character's bytes decode to it
 text_of-encode_utf8 : (c : ℕ) → IsScalar c → text_of (encode_utf8 c) ≡ c ∷ []
 text_of-encode_utf8 c is = ap text_of (sym (append-nil (encode_utf8 c))) ∙ chars-encodes (c ∷ []) (and_from _ true is refl)
 
--- a byte is put behind those that stand at the front
+-- one more byte
 pub byte_behind : (row front : List ℕ) (i n y : ℕ) → take i row ≡ front → n ≡ i + 1 → i < length row → take n (set row i y) ≡ front ++ y ∷ []
 byte_behind row front i n y is next within = take-set_at row i n y next within ∙ ap (λ l. l ++ y ∷ []) is
 
--- the text of bytes behind which a character is written
+-- one more character
 pub character_behind : (whole left more bytes next : List ℕ) (c : ℕ) → text_of bytes ++ left ≡ whole → left ≡ c ∷ more → next ≡ bytes ++ encode_utf8 c
     → IsUtf8 bytes → IsScalar c → (text_of next ++ more ≡ whole) × IsUtf8 next
 character_behind whole left more bytes next c so_far begins is utf8 scalar =
@@ -32,7 +32,7 @@ character_behind whole left more bytes next c so_far begins is utf8 scalar =
       subst IsUtf8 (sym is) (IsUtf8-append bytes (encode_utf8 c) utf8 (IsUtf8-encode c scalar)),
     )
 
--- two, three and four bytes are put in a row
+-- two, three and four more bytes
 pub two_behind : (row : List ℕ) (i a b : ℕ) → i + 2 ≤ length row → take (i + 2) (set (set row i a) (i + 1) b) ≡ take i row ++ (a ∷ b ∷ [])
 two_behind row i a b within =
     let one = byte_behind row (take i row) i (i + 1) a refl refl (omega (arith, within)) in
@@ -54,7 +54,7 @@ four_behind row i a b d e within =
     (omega (arith, within, length-set row i a, length-set (set row i a) (i + 1) b, length-set (set (set row i a) (i + 1) b) (i + 2) d))
     ∙ append_assoc (take i row) (a ∷ b ∷ d ∷ []) (e ∷ [])
 
--- the character at the front of the units from `at` on, and how far it reaches
+-- the first character of the units from `at` on, and its length
 pub front_at : (units : List ℕ) (at n c d : ℕ)
     → utf16_lossy_text (take (length units - at) (drop at units)) ≡ d ∷ utf16_lossy_text (drop n (take (length units - at) (drop at units)))
     → c ≡ d → utf16_lossy_text (drop at units) ≡ c ∷ utf16_lossy_text (drop (at + n) units)
@@ -66,7 +66,7 @@ front_at units at n c d begins same =
 pub reach_at : (units : List ℕ) (at n : ℕ) → at ≤ length units → n ≤ length (take (length units - at) (drop at units)) → at + n ≤ length units
 reach_at units at n from within = omega (arith, from, within, ap length (from_at units at), length-drop at units)
 
--- a unit that is a character by itself stands at the front, and what it takes
+-- a unit that is no surrogate is a character
 own_step : (u : ℕ) (units : List ℕ) → IsScalar u → u < 0x1_0000 → utf16_lossy_text (u ∷ units) ≡ u ∷ utf16_lossy_text units
 own_step u units is one = utf16_lossy_text-step (u ∷ units) (Some u) 1 (is, omega arith, sym (one_unit u one))
 
@@ -78,7 +78,7 @@ unit_at units at u within is one alone =
     let parts : drop at units ≡ u ∷ drop (at + 1) units = rw add-one (drop-cons units at 0 within) ∙ ap (λ v. v ∷ drop (at + 1) units) (sym is) in
     (ap utf16_lossy_text parts ∙ own_step u (drop (at + 1) units) scalar one, scalar)
 
--- three bytes are put, of which one, two or three are the character's
+-- three bytes are written, of which one, two or three are the character
 pub unit_behind : (row : List ℕ) (i u first second last n : ℕ) → i + 4 ≤ length row → u < 0x1_0000 → last ≡ 128 + u % 64
     → first ≡ cond (ltb u 0x80) u (cond (ltb u 0x800) (192 + u / 64) (224 + u / 4096)) → second ≡ cond (ltb u 0x800) last (128 + (u / 64) % 64)
     → n ≡ i + cond (ltb u 0x80) 1 (cond (ltb u 0x800) 2 3) → take n (set (set (set row i first) (i + 1) second) (i + 2) last) ≡ take i row ++ encode_utf8 u

@@ -22,7 +22,7 @@ heap-push_str : (g : Growth) (v w : PlacedText) (s : List ℕ) → v.placement.p
     → (w.placement.place ≡ heap) × (size v.text + size s ≤ w.placement.capacity)
 heap-push_str g v w s p c e k = grind (arith, common_steps)
 
--- an append keeps a value fitted
+-- an append keeps a value placed by its size
 pub fitted-push_str : (g : Growth) (v w : PlacedText) (s : List ℕ) → IsPlacedBySize v → push_str g v s ≡ Some w → IsPlacedBySize w
 fitted-push_str g v w s f e =
     let long : size w.text ≡ size v.text + size s = ap size (push_str-text g v w s e) ∙ size-append v.text s in
@@ -37,11 +37,11 @@ fitted-push_str g v w s f e =
 pub fitted-empty : IsPlacedBySize (placed_text [] inline_placement)
 fitted-empty = record { short = λ _. refl; long = λ h. absurd (omega (arith, h)) }
 
--- an append that asks for a heap buffer makes a text of more than 24 bytes
+-- an append that allocates passes 24 bytes
 pub asks-over : (v : PlacedText) (t : List ℕ) → IsTrue (push_str_allocates v t) → 24 < size v.text + size t
 asks-over v t h = grind (arith, common_steps)
 
--- also one that was refused
+-- and so does one that fails
 pub fitted-tried : {E : Type 0} (g : Growth) (v w : PlacedText) (s : List ℕ) (r : Result (Unit {0}) E) → IsPlacedBySize v → OnOk r (push_str g v s ≡ Some w) → OnErr r ((w ≡ v) × IsTrue (push_str_allocates v s)) → IsPlacedBySize w
 fitted-tried g v w s (Ok _) f e n = fitted-push_str g v w s f e
 fitted-tried g v w s (Err _) f e n = subst IsPlacedBySize (sym n.0) f

@@ -1,4 +1,4 @@
--- A fitted value stays fitted as parts are appended.
+-- A value that is collected stays placed by its size.
 use Rattle.std.proofs.Common.{◌≡◌, Some, ℕ, ◌+◌, ◌<◌, ◌≤◌, List, [], ◌∷◌, ◌++◌, length, false, IsTrue, refl, subst, sym, ap, ◌∙◌, arith, append_assoc, inl, inr}
 use Rattle.std.proofs.lemmas.Grind.{common_steps}
 use Rattle.std.proofs.lemmas.Bool.{cases_lt, true≢false}
@@ -18,11 +18,11 @@ use Rattle.compact_codec.proofs.LossyReading.{replacement_text-some}
 use Rattle.compact_str.specs.FittedValues.{IsPlacedBySize, MakesText}
 use Rattle.compact_str.proofs.Fitted.{fitted-push_str}
 
--- a text of more than 24 bytes on the heap is fitted
+-- a text of more than 24 bytes on the heap
 heap-fitted : (v : PlacedText) → 24 < size v.text → v.placement.place ≡ heap → size v.text ≤ v.placement.capacity → IsPlacedBySize v
 heap-fitted v more place room = record { short = λ h. absurd (omega (arith, more, h)); long = λ _. (place, room) }
 
--- room that was made for a part that leaves the value itself is on the heap
+-- reserving past 24 bytes moves to the heap
 reserve-heap : (g : Growth) (v u : PlacedText) (n : ℕ) → v.placement ≡ inline_placement → 24 < size v.text + n → reserve g v n ≡ Some u
     → (u.placement.place ≡ heap) × (u.text ≡ v.text)
 reserve-heap g v u n p more e = grind (arith, common_steps)
@@ -50,7 +50,7 @@ reserve-fitted g v u w s n f h more room e k =
 
 pub ruleset fitted_facts = (text_facts, fitted-push_str, reserve-fitted)
 
--- a new value is fitted
+-- a new value
 new-short : (g : Growth) (v : PlacedText) (t : List ℕ) → new g t ≡ Some v → size v.text ≤ 24 → v.placement ≡ inline_placement
 new-short g v t e h = grind (arith, common_steps)
 
@@ -62,24 +62,24 @@ new-fitted g v t e = record { short = new-short g v t e; long = new-long g v t e
 
 pub ruleset new_facts = (text_facts, new-fitted)
 
--- bytes that encode a text encode the one that they spell
+-- valid bytes encode what they decode to
 pub spelled-encoded : (bytes t : List ℕ) → IsUtf8 bytes → t ≡ text_of bytes → BytesEncode bytes t
 spelled-encoded bytes t is e = subst (BytesEncode bytes) (sym e) (scalars-chars bytes is, encodes-chars bytes is)
 
 pub ruleset strict_facts = (text_facts, spelled-encoded)
 
--- where a part is refused for its length, so is the text that it is a part of
+-- if a part allocates, so does the whole text
 pub part-asks : (t a p rest : List ℕ) (n : ℕ) → a ++ (p ++ rest) ≡ t → n ≡ size p → 24 < size a + n → IsTrue (with_capacity_allocates (size t))
 part-asks t a p rest n e k more =
     let long : size t ≡ size a + (size p + size rest) = ap size (sym e) ∙ size-append a (p ++ rest) ∙ ap (λ (n : ℕ). size a + n) (size-append p rest) in
     grind (arith, common_steps)
 
--- the same where the part is the first character of what is left
+-- the same of the first character of the rest
 pub first-asks : (t a left rest p : List ℕ) (c n : ℕ) → a ++ left ≡ t → left ≡ c ∷ rest → p ≡ c ∷ [] → n ≡ size p → 24 < size a + n
     → IsTrue (with_capacity_allocates (size t))
 first-asks t a left rest p c n e l q k more = part-asks t a p rest n (rw q (ap (λ (x : List ℕ). a ++ x) (sym l)) ∙ e) k more
 
--- a text of at most 24 bytes is not refused, and one that is refused is longer
+-- up to 24 bytes nothing fails
 short-asks : (n : ℕ) → n ≤ 24 → IsTrue (with_capacity_allocates n) → ⊥
 short-asks n h asks = grind (arith, common_steps)
 
@@ -102,7 +102,7 @@ mark-text : text_of (0xEF ∷ 0xBF ∷ 0xBD ∷ []) ≡ replacement_character �
 unfolding chars
 mark-text = refl
 
--- a prefix and U+FFFD for the invalid sequence behind it were appended, and the rest is cut once more
+-- a valid prefix and U+FFFD for the invalid sequence after it were appended
 pub chunk-read : (whole old half new front invalid rest more : List ℕ) → old ++ (front ++ (replacement_text invalid ++ rest)) ≡ whole → 0 < length invalid
     → rest ≡ more → half ≡ old ++ front → new ≡ half ++ text_of (0xEF ∷ 0xBF ∷ 0xBD ∷ []) → new ++ more ≡ whole
 chunk-read whole old half new front invalid rest more e some r h n =
@@ -111,7 +111,7 @@ chunk-read whole old half new front invalid rest more e some r h n =
     rw (read, sym r) (append_assoc (old ++ front) (replacement_character ∷ []) rest ∙ append_assoc old front (replacement_character ∷ rest))
     ∙ ap (λ (t : List ℕ). old ++ (front ++ (t ++ rest))) (sym marked) ∙ e
 
--- what a string is taken over for is fitted
+-- a value from a `String`
 from_string_placement-short : (t : List ℕ) (c : ℕ) → size t ≤ 24 → from_string_placement t c ≡ inline_placement
 from_string_placement-short t c h = grind (arith, common_steps)
 

@@ -1,4 +1,4 @@
--- For crates that call this one: what the clauses of several calls give together. Name it at the caller, as
+-- For crates that call this one: what the clauses of several calls imply together. Named at the caller, as
 -- `#[tactic(auto, using(compact_str::proofs::ForCallers::for_callers))]`.
 use Rattle.std.proofs.Common.{◌≡◌, ℕ, Bool, IsTrue, false, nat_eq, ◌+◌, ◌-◌, ◌*◌, ◌^◌, ◌<◌, ◌≤◌, List, [], ◌∷◌, ◌++◌, length, drop, take, refl, ap, sym, subst, ◌∙◌, arith, append_assoc, append-nil}
 pub use Rattle.std.proofs.lemmas.Str.{chars_from_encodes}
@@ -32,7 +32,7 @@ pub use Rattle.compact_str.proofs.Positions.{text_before-text_before, boundary-s
 pub use Rattle.compact_str.proofs.Collecting.{join-map}
 pub use Rattle.compact_str.proofs.KeyFacts.{texts-from_same, same-from_texts, texts-from_equal}
 
--- the parts that a formatter wrote are a text together, which is joined
+-- the parts that a formatter wrote are one text, which is appended
 written-parts : (g : Growth) (v w : PlacedText) (parts : List (List ℕ)) → FoldsTo (Writes g) v parts w → IsUtf8 (concat parts) × (w.text ≡ v.text ++ text_of (concat parts))
 written-parts g v w [] same = (IsUtf8-nil, rw (chars-nil, append-nil) (ap (λ (x : PlacedText). x.text) (sym same)))
 written-parts g v w (part ∷ parts) (x, first, rest) =
@@ -47,7 +47,7 @@ written-parts g v w (part ∷ parts) (x, first, rest) =
 pub written-text : (g : Growth) (v w : PlacedText) (bytes : List ℕ) → WritesInCalls (Writes g) v bytes w → w.text ≡ v.text ++ text_of bytes
 written-text g v w bytes writes = (written-parts g v w writes.parts writes.calls).1 ∙ ap (λ x. v.text ++ text_of x) writes.whole
 
--- the characters of bytes that are written out: of one to four bytes
+-- the characters of literal bytes, of one to four bytes each
 
 last-byte : (c : ℕ) (bytes : List ℕ) → chars_after 0 c bytes ≡ c ∷ chars bytes
 unfolding chars
@@ -71,8 +71,8 @@ pub text_of-four : (a b c d : ℕ) (bytes : List ℕ) → 240 ≤ a
 unfolding chars
 text_of-four a b c d bytes h = grind (arith, nat_tests, last-byte)
 
--- where `find` found a character, what stands from there on is the character and the rest; that there are boundaries
--- before and behind it, `as_str` says
+-- the text from the place that `find` returned is the character and the rest. `as_str` says that boundaries are before
+-- and after it
 found-behind : (t s : List ℕ) (c i j k : ℕ) → HasCharAt c s i j → text_of s ≡ t → IsUtf8 s → k ≡ i + len_utf8 c → IsBoundary t k
 found-behind t s c i j k h e u is = boundary-text s k e u (subst (λ (n : ℕ). IsCharBoundary s n) (sym is) h.after)
 
@@ -87,7 +87,7 @@ found-text t s c i j k h e u b is =
     ∙ ap (λ x. c ∷ x) (text_of-drop s k e u (found-behind t s c i j k h e u is)) in
     text_before-text_after t i ∙ ap (λ x. text_before t i ++ x) rest
 
--- a number that is shown is its own text
+-- the bytes of a number decode to themselves
 pub text_of-decimal : (n : ℕ) → n < 2 ^ 64 → text_of (decimal n) ≡ decimal n
 text_of-decimal n h = chars-IsAscii (decimal n) (IsAscii-decimal n h)
 
@@ -95,7 +95,7 @@ pub text_of-decimal_append : (n : ℕ) (bytes : List ℕ) → n < 2 ^ 64 → tex
 text_of-decimal_append n bytes h =
     chars-append (decimal n) bytes (IsUtf8-from_ascii (decimal n) (IsAscii-decimal n h)) ∙ ap (λ t. t ++ text_of bytes) (text_of-decimal n h)
 
--- two values whose packed bytes a test found to be the same have the same text
+-- values with equal packed bytes have equal texts
 pub same-packed : (b c t s : List ℕ) (same : Bool) → IsPackedFor b t → IsPackedFor c s → same ≡ pointwise nat_eq b c → IsTrue same → t ≡ s
 same-packed b c t s same p q test answer = one_text b t s p (subst (λ (x : List ℕ). IsPackedFor x s) (sym (same_text b c (sym answer ∙ test))) q)
 
@@ -129,7 +129,7 @@ pub ruleset for_callers = (
   join-map,
 )
 
--- the bytes of a text made of bytes, of one to which others are appended, and of a number
+-- the bytes of a text decoded from bytes, of an append, and of a number
 
 pub made-bytes : (t bytes : List ℕ) → t ≡ text_of bytes → IsUtf8 bytes → utf8 t ≡ bytes
 made-bytes t bytes e u = ap utf8 e ∙ encodes-chars bytes u
@@ -143,11 +143,11 @@ utf8-decimal n h = encodes-IsAscii (decimal n) (IsAscii-decimal n h)
 pub utf8-signed : (z : ℤ) → mag z < 2 ^ 63 → utf8 (signed_decimal z) ≡ signed_decimal z
 utf8-signed z h = encodes-IsAscii (signed_decimal z) (IsAscii-signed z h)
 
--- for callers whose clauses are on bytes, as `utf8 v.text ≡ string_bytes s`: what becomes of the bytes of a value where its
--- clauses are on characters, and that equal bytes are equal texts. Name it beside `for_callers` or alone.
+-- for callers with clauses on bytes, as `utf8 v.text ≡ string_bytes s`: the bytes after calls whose clauses are on
+-- characters, and that equal bytes are equal texts. Named beside `for_callers` or alone.
 pub ruleset in_bytes = (made-bytes, appended-bytes, pushed-bytes, utf8-decimal, utf8-signed, IsUtf8-string_bytes, IsUtf8-from_is_utf8, utf8-same, append_assoc)
 
--- for callers that decode bytes: the lossy text of bytes that encode one, and the test of std's that says whether they do
+-- for callers that decode bytes: valid bytes are their own lossy text, and std's test of validity
 pub invalid-is_utf8 : (bytes : List ℕ) → ¬ (IsUtf8 bytes) → is_utf8 bytes ≡ false
 invalid-is_utf8 bytes none = false_from_ne_true (is_utf8 bytes) (λ t. none (IsUtf8-from_is_utf8 bytes t))
 

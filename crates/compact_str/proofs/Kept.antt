@@ -1,4 +1,4 @@
--- What a test with a state keeps.
+-- Retaining by a test with a state.
 use Rattle.std.proofs.Common.{◌≡◌, ℕ, List, [], ◌∷◌, Bool, true, false, length, refl, ap, sym, ◌∙◌, arith}
 use Rattle.std.proofs.lemmas.Bool.{cond-true, cond-false}
 use Rattle.std.specs.List.{items_where_true, filter}
@@ -6,7 +6,7 @@ use Rattle.std.specs.List.Retain.{IsFiltered, ReturnsInTurn}
 use Rattle.compact_repr.specs.Retain.{IsFilteredTo}
 use Rattle.compact_str.specs.RetainRules.{retained_text, retain_state}
 
--- what the test is then may be forgotten
+-- forgets the final state of the test
 pub filtered : {F X : Type 0} (calls : F → X → Bool → F → Type 0) (f g : F) (xs ys : List X) → IsFilteredTo calls f xs ys g → IsFiltered calls f xs ys
 filtered calls f g xs ys h = (h.0, g, h.1, h.2, h.3)
 
@@ -33,15 +33,15 @@ module _ {F S : Type 0} (calls : F → ℕ → Bool → F → Type 0) (state : F
       let one = obeys p c b said.0 said.1 in
       moves cs bs said.0 q (omega (arith, e)) said.2 ∙ ap (λ (s : S). retain_state rule s cs) one.1
 
-  -- a test that answers by a rule keeps what the rule keeps
+  -- a test that follows a rule keeps what the rule does
   pub kept-by_rule : (p : F) (t u : List ℕ) → IsFiltered calls p t u → u ≡ retained_text rule (state p) t
   kept-by_rule p t u h = h.4 ∙ in_turn t h.0 p h.1 h.2 h.3
 
-  -- and has then the state that the rule goes to
+  -- and ends in the rule's state
   pub left-by_rule : (p q : F) (t u : List ℕ) → IsFilteredTo calls p t u q → state q ≡ retain_state rule (state p) t
   left-by_rule p q t u h = moves t h.0 p q h.1 h.2
 
--- a test that always says the same of a character filters the text
+-- a test that never changes its mind on a character filters the text
 module _ {F : Type 0} (calls : F → ℕ → Bool → F → Type 0) (says : ℕ → Bool) (obeys : (p : F) (c : ℕ) (b : Bool) (q : F) → calls p c b q → b ≡ says c) where
   chosen : (t : List ℕ) (answers : List Bool) (p q : F) → length answers ≡ length t → ReturnsInTurn calls p answers t q → items_where_true answers t ≡ filter says t
   chosen [] [] p q e said = refl
@@ -57,7 +57,7 @@ module _ {F : Type 0} (calls : F → ℕ → Bool → F → Type 0) (says : ℕ 
   pub filters : (p q : F) (t u : List ℕ) → IsFilteredTo calls p t u q → u ≡ filter says t
   filters p q t u h = h.3 ∙ chosen t h.0 p q h.1 h.2
 
--- what no call changes is as it was, such as which place a test notes its answers in
+-- a part of the state that no call changes, such as a reference to which the test writes
 module _ {F X S : Type 0} (calls : F → X → Bool → F → Type 0) (state : F → S) (same : (p : F) (x : X) (b : Bool) (q : F) → calls p x b q → state q ≡ state p) where
   stays : (xs : List X) (answers : List Bool) (p q : F) → ReturnsInTurn calls p answers xs q → state q ≡ state p
   stays xs [] p q said = ap state (sym said)

@@ -1,4 +1,4 @@
--- What callers read from the comparisons of values: when two texts are the same, and that a sorted row may be searched.
+-- For callers that compare values: equality of texts, and search in a sorted slice.
 use Rattle.std.proofs.Common.{◌≡◌, List, true}
 use Rattle.std.specs.declared.cmp.Ordering.TheVariants.{Equal}
 use Rattle.std.specs.Ordering.{ordering_index}
@@ -19,7 +19,7 @@ same-from_texts v w e = (bytes_decides v.text w.text).1 e
 pub texts-from_equal : (v w : PlacedText) → text_cmp v w ≡ Equal → v.text ≡ w.text
 texts-from_equal v w e = exact_bytes v.text w.text e
 
--- a sorted row of values may be searched for any of them
+-- a sorted slice can be searched for any of its values
 pub searchable-texts : (row : List PlacedText) (x : PlacedText) → IsSorted text_cmp row → IsNonDecreasingBy (λ y. ordering_index (text_cmp y x)) row
 searchable-texts row x sorted = searchable_from_sorted nat_list_cmp_total text_in row x.text sorted
 

@@ -1,9 +1,9 @@
--- For crates that call this one: three rulesets, each for callers of one kind.
--- `part_facts`, beside `ForCallers::for_callers`: what stands on both sides of a character that was found, or of what `trim`
--- leaves, and what a formatter wrote, in bytes.
--- `many_parts`, alone: the text or bytes that a `write!` of up to twelve values wrote. With all of `for_callers` a proof stops
--- at its limit of instances. Past twelve pieces, values and literals together, `format_args!` nests, hence `append_assoc`.
--- `words`, without the two: which characters a literal spells, however long, and what `==` with it says.
+-- For crates that call this one: three rulesets.
+-- `part_facts`, beside `ForCallers::for_callers`: the text on both sides of a character that was found, or of what
+-- `trim` returns, and what a formatter wrote, in bytes.
+-- `many_parts`, alone, for a `write!` of up to twelve values: with all of `for_callers` a proof reaches its limit of
+-- instances. Past twelve pieces, values and literals together, `format_args!` nests, hence `append_assoc`.
+-- `words`, without the two: the characters of a literal of any length, and `==` with one.
 use Rattle.std.proofs.Common.{◌≡◌, ◌≢◌, ◌⊎◌, inl, inr, ℕ, List, Bool, true, false, ◌&&◌, [], ◌++◌, ◌∷◌, nat_eq, nat_lt, drop, take, refl, ap, sym, subst, ◌∙◌, ◌<◌, arith, append_assoc, append-nil}
 use Rattle.std.proofs.lemmas.Bool.{false≢true, ltb-true, not-false}
 use Rattle.std.proofs.lemmas.Bool.Decides.{nat_tests}
@@ -25,7 +25,7 @@ use Rattle.compact_str.specs.Edits.{Writes}
 use Rattle.compact_str.specs.Trim.{IsBetweenWhitespace}
 use Rattle.compact_str.proofs.ForCallers.{written-text, text_of-one, text_of-two, text_of-three, text_of-four, text_of-decimal, text_of-decimal_append}
 
--- the text before a character that was found, the character, and the text behind it
+-- the text before a character that was found, the character, and the text after it
 pub cut-text : (t s : List ℕ) (c i j : ℕ) → HasCharAt c s i j → text_of s ≡ t → IsUtf8 s → IsCharBoundary s i
     → t ≡ text_of (take i s) ++ c ∷ text_of (drop j s)
 cut-text t s c i j h e u b =
@@ -35,7 +35,7 @@ cut-text t s c i j h e u b =
     ∙ chars-append (take i s) (drop i s) (IsUtf8-take s i u b)
     ∙ ap (λ x. text_of (take i s) ++ x) (chars_past_char (drop i s) (drop j s) c behind h.split)
 
--- the same where no boundary is known before a character that computes to be one, as behind `split_once`
+-- the same if the boundary before the character is computed, as after `split_once`
 pub cut-at : (t s : List ℕ) (c i j : ℕ) → HasCharAt c s i j → text_of s ≡ t → IsUtf8 s → scalar c ≡ true
     → t ≡ text_of (take i s) ++ c ∷ text_of (drop j s)
 cut-at t s c i j h e u is_scalar =
@@ -43,7 +43,7 @@ cut-at t s c i j h e u is_scalar =
     let rest : IsUtf8 (drop i s) = subst IsUtf8 (sym h.split) (IsUtf8-append (encode_utf8 c) (drop j s) (IsUtf8-encode c is_scalar) behind) in
     cut-text t s c i j h e u (IsCharBoundary-from_drop s i (omega (arith, h.after.0)) rest)
 
--- what a formatter wrote, in bytes, of however many parts it is
+-- what a formatter wrote, in bytes, in any number of parts
 written-parts : (g : Growth) (v w : PlacedText) (parts : List (List ℕ)) → FoldsTo (Writes g) v parts w → utf8 w.text ≡ utf8 v.text ++ concat parts
 written-parts g v w [] same = ap (λ (x : PlacedText). utf8 x.text) (sym same) ∙ sym (append-nil (utf8 v.text))
 written-parts g v w (part ∷ parts) (x, first, rest) =
@@ -52,7 +52,7 @@ written-parts g v w (part ∷ parts) (x, first, rest) =
 pub written-bytes : (g : Growth) (v w : PlacedText) (bytes : List ℕ) → WritesInCalls (Writes g) v bytes w → utf8 w.text ≡ utf8 v.text ++ bytes
 written-bytes g v w bytes writes = written-parts g v w writes.parts writes.calls ∙ ap (λ x. utf8 v.text ++ x) writes.whole
 
--- a test of two texts finds the bytes the same just where the characters are
+-- two texts have the same bytes just if they have the same characters
 told : (s literal : List ℕ) (same : Bool) → same ≡ pointwise nat_eq s literal → IsUtf8 s → IsUtf8 literal
     → ((pointwise nat_eq s literal ≡ true) × (text_of s ≡ text_of literal)) ⊎ ((pointwise nat_eq s literal ≡ false) × (text_of s ≢ text_of literal))
 told s literal true test u v = inl (sym test, ap text_of (same_text s literal test))
@@ -63,7 +63,7 @@ pub word-told : (s literal : List ℕ) → IsUtf8 s → IsUtf8 literal
     → ((pointwise nat_eq s literal ≡ true) × (text_of s ≡ text_of literal)) ⊎ ((pointwise nat_eq s literal ≡ false) × (text_of s ≢ text_of literal))
 word-told s literal u v = told s literal (pointwise nat_eq s literal) refl u v
 
--- a literal of ASCII alone is its own text, however long; the test computes
+-- an ASCII literal of any length is its own text; the test computes
 abbrev pub is_plain : List ℕ → Bool
 is_plain [] = true
 is_plain (b ∷ bytes) = nat_lt b 128 && is_plain bytes
@@ -78,7 +78,7 @@ text_of-plain (b ∷ bytes) e =
     let parts = both (nat_lt b 128) (is_plain bytes) e in
     text_of-one b bytes (ltb-true b 128 parts.0) ∙ ap (λ t. b ∷ t) (text_of-plain bytes parts.1)
 
--- what `trim` leaves out of a text is white space on both sides
+-- `trim` removes white space on both sides
 white-below : (c : ℕ) → is_whitespace c ≡ true → c < 55296
 white-below c white = grind (arith, nat_tests)
 

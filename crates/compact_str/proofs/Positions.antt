@@ -1,4 +1,4 @@
--- What stands round a position of a text.
+-- Texts and values cut at a position.
 use Rattle.std.proofs.Common.{◌≡◌, Some, Result, Ok, Err, true, false, ℕ, ◌+◌, ◌-◌, ◌<◌, ◌≤◌, List, [], ◌∷◌, ◌++◌, take, drop, refl, ap, sym, subst, ◌∙◌, arith, append_assoc, append-nil, take_at, drop_at}
 use Rattle.std.proofs.lemmas.Grind.{common_steps}
 use Rattle.std.proofs.lemmas.Bool.{cond-true, cond-false, lt-leb, le-leb}
@@ -16,7 +16,7 @@ use Rattle.compact_str.specs.Edits.{RemovesChar}
 use Rattle.compact_text.proofs.Texts.{length-utf8, size-append, empty_text}
 use Rattle.compact_text.proofs.Cuts.{boundary-from_size, boundary-next, text_after-next, text_before-text_after, text_before-append, text_after-append, size-text_before, size-text_after}
 
--- a text that is cut before its last character
+-- a text without its last character
 pub truncate-last : (v : PlacedText) (front : List ℕ) (c : ℕ) → v.text ≡ front ++ c ∷ [] → truncate v (size v.text - len_utf8 c) ≡ placed_text front (shortened_placement v front)
 truncate-last v front c e =
     let whole : size v.text ≡ size front + (len_utf8 c + 0) = ap size e ∙ size-append front (c ∷ []) in
@@ -25,14 +25,14 @@ truncate-last v front c e =
     let cut : text_before v.text (size v.text - len_utf8 c) ≡ front = ap (λ t. text_before t (size v.text - len_utf8 c)) e ∙ text_before-append front (c ∷ []) _ (omega (arith, whole)) in
     rw (cond-false _ _ _ (lt-leb _ _ shorter), cut) refl
 
--- a text that is cut at its end
+-- the prefix up to the end is the whole
 pub text_before-end : (t : List ℕ) (p : ℕ) → IsBoundary t p → size t ≤ p → text_before t p ≡ t
 text_before-end t p h k =
     let rest = size-text_after t p h in
     let none : size (text_after t p) ≡ 0 = omega (arith, rest) in
     sym (text_before-text_after t p ∙ ap (λ x. text_before t p ++ x) (empty_text (text_after t p) none) ∙ append-nil (text_before t p))
 
--- a position past the end cuts nothing off
+-- and up to a position past the end
 pub text_before-all : (t : List ℕ) (p : ℕ) → size t ≤ p → text_before t p ≡ t
 text_before-all [] p h = refl
 text_before-all (c ∷ cs) p h =
@@ -41,7 +41,7 @@ text_before-all (c ∷ cs) p h =
 pub truncate-text : (v : PlacedText) (p : ℕ) → (truncate v p).text ≡ text_before v.text p
 truncate-text v p = grind (arith, common_steps, text_before-all)
 
--- a boundary of a text is one of its front, and the front up to it is the same
+-- a boundary of a text is one of a prefix, with the same prefix up to it
 text_before-step : (cs : List ℕ) (c p q : ℕ) → p ≤ q → text_before (text_before cs (q - len_utf8 c)) (p - len_utf8 c) ≡ text_before cs (p - len_utf8 c)
     → text_before (text_before (c ∷ cs) q) p ≡ text_before (c ∷ cs) p
 text_before-step cs c p q h same = grind (arith, nat_tests)
@@ -53,15 +53,15 @@ text_before-text_before (c ∷ cs) p q h = text_before-step cs c p q h (text_bef
 pub text_before-boundary : (t : List ℕ) (p q : ℕ) → p ≤ q → IsBoundary t p → IsBoundary (text_before t q) p
 text_before-boundary t p q h k = boundary-from_size (text_before t q) p (ap size (text_before-text_before t p q h) ∙ size-text_before t p k)
 
--- where a text was put together it may be cut
+-- the seam of two texts is a boundary
 pub boundary-seam : (a b : List ℕ) (p : ℕ) → size a ≡ p → IsBoundary (a ++ b) p
 boundary-seam a b p e = (a, b, record { parts = refl; position = e })
 
--- the two parts of a text at a boundary are the cut
+-- the two parts of a text at a boundary
 pub boundary-cut : (t a b : List ℕ) (p : ℕ) → IsBoundary t p → a ≡ text_before t p → b ≡ text_after t p → IsCut t p a b
 boundary-cut t a b p h e k = record { parts = text_before-text_after t p ∙ rw (e, k) refl; position = ap size e ∙ size-text_before t p h }
 
--- what was put in stands between two boundaries, and what stands round it is as before
+-- inserted text is between two boundaries, and the text around it is unchanged
 pub replace_range-start : (t s : List ℕ) (start end : ℕ) → IsBoundary t start → IsBoundary (replaced_text t start end s) start
 replace_range-start t s start end h =
     (text_before t start, s ++ text_after t end, record { parts = append_assoc (text_before t start) s (text_after t end); position = size-text_before t start h })
@@ -77,11 +77,11 @@ text_after-replaced_text t start end h =
 pub truncate-boundary : (v : PlacedText) (p : ℕ) → IsBoundary v.text p → truncate v p ≡ placed_text (text_before v.text p) (shortened_placement v (text_before v.text p))
 truncate-boundary v p h = grind (arith, common_steps, text_before-end)
 
--- an ASCII character takes one byte
+-- an ASCII character is one byte
 ascii-width : (c : ℕ) → is_ascii c ≡ true → len_utf8 c ≡ 1
 ascii-width c e = grind (arith, common_steps)
 
--- an owned value that is cut round an ASCII character, in place
+-- an owned value without an ASCII character, in place
 pub removed-in_place : {E : Type 0} (g : Growth) (v w : PlacedText) (p c : ℕ) → IsBoundary v.text p → IsAsciiAt v.text p c
     → is_static v.placement.place ≡ false → w ≡ placed_text (replaced_text v.text p (p + 1) []) v.placement → RemovesChar {E = E} g v p (Ok c) w
 removed-in_place g v w p c h a o s =
@@ -101,7 +101,7 @@ removed-in_place g v w p c h a o s =
       err = tt;
     }
 
--- a value into which a text is put
+-- a value with an insertion
 pub insert_str-text : (g : Growth) (v w : PlacedText) (p : ℕ) (s : List ℕ) → insert_str g v p s ≡ Some w → w.text ≡ replaced_text v.text p p s
 insert_str-text g v w p s e = grind (arith, common_steps)
 
@@ -111,7 +111,7 @@ insert_str-place g v w p s e h = subst (λ (t : List ℕ). IsBoundary t p) (sym 
 pub insert_str-behind : (g : Growth) (v w : PlacedText) (p n : ℕ) (s : List ℕ) → insert_str g v p s ≡ Some w → IsBoundary v.text p → size s ≡ n → IsBoundary w.text (p + n)
 insert_str-behind g v w p n s e h k = subst (λ (t : List ℕ). IsBoundary t (p + n)) (sym (insert_str-text g v w p s e)) (replace_range-end v.text s p p (p + n) n h k refl)
 
--- and its bytes
+-- its bytes
 
 inserted-bytes : (t s : List ℕ) (p : ℕ) → IsBoundary t p → utf8 (replaced_text t p p s) ≡ take p (utf8 t) ++ utf8 s ++ drop p (utf8 t)
 inserted-bytes t s p h =
@@ -138,22 +138,22 @@ insert-bytes g v w p c e h =
     ∙ inserted-bytes v.text (c ∷ []) p h
     ∙ ap (λ x. take p (utf8 v.text) ++ x ++ drop p (utf8 v.text)) (append-nil (encode_utf8 c))
 
--- a value of which a part is replaced
+-- a value with a replacement
 pub range_replaced-text : (g : Growth) (v w : PlacedText) (i j : ℕ) (s : List ℕ) → replace_range g v i j s ≡ Some w → w.text ≡ replaced_text v.text i j s
 range_replaced-text g v w i j s e = grind (arith, common_steps)
 
 replace_range-by_nothing : (g : Growth) (v w : PlacedText) (i j : ℕ) → replace_range g v i j [] ≡ Some w → option_map (placed_text (replaced_text v.text i j [])) (owned_placement g v) ≡ Some w
 replace_range-by_nothing g v w i j e = grind (arith, common_steps)
 
--- that asks where owning does
+-- a removal allocates only to make the value owned
 pub asks-by_nothing : (v : PlacedText) (i j : ℕ) → IsTrue (replace_range_allocates v i j []) → IsTrue (make_owned_allocates v)
 asks-by_nothing v i j h = grind (arith, common_steps)
 
--- and owning asks of a long text alone
+-- which needs more than 24 bytes
 pub owning-long : (v : PlacedText) → IsTrue (make_owned_allocates v) → 24 < size v.text
 owning-long v h = grind (arith, common_steps)
 
--- a value of which the character at a boundary is replaced by nothing
+-- a removal of the character at a boundary
 pub replace_range-removes : {E : Type 0} (g : Growth) (v w : PlacedText) (rest : List ℕ) (p c n : ℕ) → IsBoundary v.text p → text_after v.text p ≡ c ∷ rest → n ≡ len_utf8 c
     → replace_range g v p (p + n) [] ≡ Some w → RemovesChar {E = E} g v p (Ok c) w
 replace_range-removes g v w rest p c n h e k o =
@@ -170,7 +170,7 @@ replace_range-removes g v w rest p c n h e k o =
       err = tt;
     }
 
--- one that was to be owned first, which failed
+-- a removal that fails to make the value owned
 pub shortened_placement-character : {E : Type 0} (g : Growth) (v w : PlacedText) (p : ℕ) (r : Result ℕ E) → IsErr r → w ≡ v → IsTrue (make_owned_allocates v) → RemovesChar g v p r w
 shortened_placement-character g v w p (Ok c) fails same asks = absurd (grind (arith, fails))
 shortened_placement-character g v w p (Err e) fails same asks =

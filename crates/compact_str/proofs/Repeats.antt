@@ -1,4 +1,4 @@
--- Texts that are repeated.
+-- Repetition.
 use Rattle.std.proofs.Common.{◌≡◌, Some, ℕ, ◌+◌, ◌*◌, ◌<◌, ◌≤◌, List, [], ◌++◌, zero, suc, ap, sym, ◌∙◌, arith, append_assoc, append-nil, add-one}
 use Rattle.std.proofs.Math.Nat.{mul-le-mul_left, mul-suc}
 use Rattle.std.proofs.lemmas.Grind.{common_steps}
@@ -21,22 +21,22 @@ pub size-repeated_text : (n : ℕ) (t : List ℕ) → size (repeated_text n t) �
 size-repeated_text zero t = omega arith
 size-repeated_text (suc n) t = size-append t (repeated_text n t) ∙ ap (λ (k : ℕ). size t + k) (size-repeated_text n t) ∙ omega arith
 
--- what is held for so many bytes has room for as many
+-- a capacity of n bytes has room for n bytes
 pub with_capacity_placement-room : (g : Growth) (p : Placement) (m k : ℕ) → with_capacity_placement g m ≡ Some p → k ≤ m → IsTrue (not (is_static p.place) && nat_le k p.capacity)
 with_capacity_placement-room g p m k e h = grind (arith, common_steps)
 
--- a value that is filled so far has room for one more piece
+-- a value filled so far has room for one more copy
 pub room_to_fill : (g : Growth) (v : PlacedText) (t : List ℕ) (i n : ℕ) → with_capacity_placement g (size t * n) ≡ Some v.placement → v.text ≡ repeated_text i t → i < n → IsTrue (fits_in_place v (size t))
 room_to_fill g v t i n e is h =
     let more : size t * suc i ≤ size t * n = mul-le-mul_left (size t) (omega arith) in
     let filled : size v.text ≡ size t * i = ap size is ∙ size-repeated_text i t in
     with_capacity_placement-room g v.placement (size t * n) (size v.text + size t) e (omega (arith, more, filled, mul-suc (size t) i))
 
--- an append that has room stays in place
+-- an append that fits stays in place
 pub push_str-in_place : (g : Growth) (v w : PlacedText) (s : List ℕ) → push_str g v s ≡ Some w → IsTrue (fits_in_place v (size s)) → w ≡ placed_text (v.text ++ s) v.placement
 push_str-in_place g v w s e k = grind (arith, common_steps, empty_text, append-nil)
 
--- and is never refused
+-- and never fails
 pub push-never_asks : (v : PlacedText) (s : List ℕ) → IsTrue (fits_in_place v (size s)) → IsTrue (push_str_allocates v s) → ⊥
 push-never_asks v s h k = grind (arith, common_steps)
 

@@ -1,4 +1,4 @@
--- What an append gives besides the text: the room that is left, and the bytes.
+-- Room and bytes after an append.
 use Rattle.std.proofs.Common.{◌≡◌, Some, ℕ, ◌≤◌, List, [], ◌∷◌, ◌++◌, refl, ap, subst, ◌∙◌, arith, append-nil}
 use Rattle.std.proofs.lemmas.Bool.{and_parts}
 use Rattle.std.proofs.lemmas.Grind.{common_steps}
@@ -16,14 +16,14 @@ use Rattle.compact_str.specs.Room.{infallible_capacity, HasRoomFor}
 reserve_placement-sure : (g : Growth) (v : PlacedText) (p : Placement) (n : ℕ) → reserve_placement g v n ≡ Some p → infallible_capacity v ≤ max 24 (if is_static p.place then 0 else p.capacity)
 reserve_placement-sure g v p n e = grind (arith, common_steps)
 
--- an append never lessens the room that is sure, nor does an insertion
+-- an append or insertion never lowers the infallible capacity
 pub push_str-sure : (g : Growth) (v w : PlacedText) (s : List ℕ) → push_str g v s ≡ Some w → infallible_capacity v ≤ infallible_capacity w
 push_str-sure g v w s e = grind (arith, common_steps, reserve_placement-sure)
 
 pub insert_str-sure : (g : Growth) (v w : PlacedText) (p : ℕ) (s : List ℕ) → insert_str g v p s ≡ Some w → infallible_capacity v ≤ infallible_capacity w
 insert_str-sure g v w p s e = grind (arith, common_steps, reserve_placement-sure)
 
--- the bytes of what is appended stand behind those that stood
+-- the bytes appended follow the others
 pub push_str-bytes : (g : Growth) (v w : PlacedText) (bytes : List ℕ) → push_str g v (text_of bytes) ≡ Some w → IsUtf8 bytes → utf8 w.text ≡ utf8 v.text ++ bytes
 push_str-bytes g v w bytes e u =
     ap utf8 (push_str-text g v w (text_of bytes) e) ∙ encodes-append v.text (text_of bytes) ∙ ap (λ (x : List ℕ). utf8 v.text ++ x) (encodes-chars bytes u)
@@ -31,7 +31,7 @@ push_str-bytes g v w bytes e u =
 pub pushed-bytes : (t old : List ℕ) (c : ℕ) → t ≡ old ++ c ∷ [] → utf8 t ≡ utf8 old ++ encode_utf8 c
 pushed-bytes t old c e = ap utf8 e ∙ encodes-append old (c ∷ []) ∙ ap (λ x. utf8 old ++ x) (append-nil (encode_utf8 c))
 
--- what is sure to fit asks for no memory, and so is not refused
+-- what fits never allocates, and so never fails
 asks-with_room : (v : PlacedText) (n : ℕ) → HasRoomFor v n → IsTrue (reserve_allocates v n) → ⊥
 asks-with_room v n h asks = grind (arith, common_steps)
 

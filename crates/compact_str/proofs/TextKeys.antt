@@ -1,6 +1,6 @@
--- For callers: what a map or a set of values has at any bytes, before and after a call that changes one key. A call by a
--- value compares characters, and one by a `&str` bytes. Name `text_keys` at the caller, as
--- `#[tactic(auto, using(compact_str::proofs::TextKeys::text_keys))]`. After std's `Map.Text`.
+-- For callers: what a map or set of values has at any bytes, before and after a call that changes one key. A call by a
+-- value compares characters, and one by a `&str` bytes. Named at the caller, as `#[tactic(auto,
+-- using(compact_str::proofs::TextKeys::text_keys))]`. After std's `Map.Text`.
 use Rattle.std.proofs.Common.{◌≡◌, ℕ, Bool, true, false, cond, List, ◌∷◌, Option, Bor, BTreeMap, BTreeSet, HashMap, HashSet, refl, sym, ap, subst₂, ◌∙◌, ◌⊎◌, ◌≢◌, inl, inr, ⊎_elim, bytes_eq}
 use Rattle.std.specs.Map.{lookup, update, IsKeyTest, AreApart, KeepsOthers}
 use Rattle.std.specs.Set.{KeepsOthers as KeepsOtherKeys}
@@ -24,7 +24,7 @@ use Rattle.compact_str.specs.HashedKeys.{has_bytes}
 use Rattle.compact_str.specs.SortedKeys as sorted
 use Rattle.compact_str.specs.SortedKeys.{bytes_cmp}
 
--- each test of a key is one of its bytes
+-- each test of a key tests its bytes
 
 same_text-is : (k : PlacedText) → same_text k ≡ has_bytes (utf8 k.text)
 same_text-is k = λ i x. sym (utf8-same k.text x.text) i
@@ -47,7 +47,7 @@ one_sorted_key cs = subst₂ IsKeyTest (sym tied-is) (sym (bytes_cmp-is cs)) (on
 other_key : (bs cs : List ℕ) → bytes_eq bs cs ≡ false → AreApart (has_bytes bs) (has_bytes cs)
 other_key bs cs n k y = nat_list_eq_equiv.symm cs (utf8 k.text) ∙ sym (nat_list_eq_equiv.congr bs (utf8 k.text) cs y) ∙ n
 
--- what is kept of the other keys
+-- the other keys are unchanged
 
 kept_entries : {X : Type 0} (eq : PlacedText → PlacedText → Bool) (test query : PlacedText → Bool) (old new : List (PlacedText × X))
     → KeepsOthers eq test old new → IsKeyTest eq query → AreApart test query → lookup query new ≡ lookup query old
@@ -60,12 +60,12 @@ unfolding KeepsOtherKeys
 kept_keys eq test query old new h one other = h query one other
 
 module _ {A W : Type 0} (find : (PlacedText → Bool) → List A → W) (test query : PlacedText → Bool) where
-  -- `test` and `query` find the same, where `query` is for the bytes bs
+  -- `test` and `query` find the same, if `query` is for the bytes bs
   abbrev pub FindsSame : List ℕ → List A → Type 0
   FindsSame bs xs = (find test xs ≡ find query xs) × (bytes_eq bs bs ≡ true)
 
-  -- after a change at the bytes bs, which `test` finds, `query` for the bytes cs finds that key, or what it found before. The
-  -- first two parts show `grind` the calls to match
+  -- after a change at the bytes bs, found by `test`, `query` for the bytes cs finds that key or what it found before.
+  -- The first two parts show `grind` the calls to match
   abbrev pub FindsAfter : Type 0 → List ℕ → List ℕ → List A → List A → Type 0
   FindsAfter Kept bs cs old new = Kept × (find query new ≡ find query new)
       × (((bytes_eq cs bs ≡ true) × (bytes_eq bs cs ≡ true) × (cs ≡ bs) × (find query new ≡ find test new) × (find query old ≡ find test old))
@@ -90,7 +90,7 @@ module _ {A W : Type 0} (find : (PlacedText → Bool) → List A → W) (test qu
 
 module _ {A W : Type 0} (find : (PlacedText → Bool) → List A → W) (query : List ℕ → PlacedText → Bool) (for : (cs : List ℕ) → query cs ≡ has_bytes cs)
     (test : PlacedText → Bool) (bs : List ℕ) (by : test ≡ has_bytes bs) where
-  -- w is found at the bytes bs, and at others what was
+  -- w is found at the bytes bs, and the old values at others
   updated : (old new : List A) (w : W) → find test new ≡ w → ((cs : List ℕ) → AreApart test (query cs) → find (query cs) new ≡ find (query cs) old)
       → (cs : List ℕ) → find (query cs) new ≡ cond (bytes_eq bs cs) w (find (query cs) old)
   updated old new w here others cs =
@@ -99,8 +99,8 @@ module _ {A W : Type 0} (find : (PlacedText → Bool) → List A → W) (query :
       (λ n. others cs (subst₂ AreApart (sym by) (sym (for cs)) (other_key bs cs n)) ∙ sym (cond-false (bytes_eq bs cs) w (find (query cs) old) n))
       (cases_Bool (bytes_eq bs cs))
 
--- For a proof by hand: what a call's clause `updates` leaves, at a key k and at bytes bs. Those of a `HashMap` and a
--- `HashSet` serve for an `IndexMap` and an `IndexSet`.
+-- For a proof by hand: the clause `updates` of a call at a key k, and at bytes bs. Those of `HashMap` and `HashSet`
+-- serve for `IndexMap` and `IndexSet`.
 
 module _ (k : PlacedText) where
   pub hash_map_updates_key : {X S : Type 0} (m n : HashMap PlacedText X S) (w : Option X) → hash_map.UpdatesBy same_text (same_text k) m n w
@@ -136,7 +136,7 @@ module _ (bs : List ℕ) where
       → (cs : List ℕ) → sorted.contains_text n cs ≡ cond (bytes_eq bs cs) w (sorted.contains_text m cs)
   btree_set_updates_text m n w h = updated list_any (λ cs. is_at (bytes_cmp cs)) bytes_cmp-is _ bs (bytes_cmp-is bs) m.keys n.keys w h.1 (λ cs. kept_keys (eq_by_cmp text_cmp) _ _ m.keys n.keys h.3 (one_sorted_key cs))
 
--- for `grind`: at a key k, as `insert` and `entry` take
+-- for `grind`: at a key k, as for `insert` and `entry`
 
 module _ {X : Type 0} (k : PlacedText) (cs : List ℕ) where
   pub hash_map_key_same : (xs : List (PlacedText × X)) → cs ≡ utf8 k.text → FindsSame lookup (same_text k) (has_bytes cs) cs xs
@@ -168,7 +168,7 @@ module _ (k : PlacedText) (cs : List ℕ) where
       → FindsAfter list_any (is_at (text_cmp k)) (is_at (bytes_cmp cs)) (KeepsOtherKeys (eq_by_cmp text_cmp) (is_at (text_cmp k)) old new) (utf8 k.text) cs old new
   btree_set_key_after old new h = finds_after list_any _ _ (utf8 k.text) cs (text_cmp-is k) (bytes_cmp-is cs) _ old new (kept_keys (eq_by_cmp text_cmp) _ _ old new h (one_sorted_key cs)) h
 
--- at a `&str` q, as `get`, `get_mut` and `remove` take
+-- at a `&str` q, as for `get`, `get_mut` and `remove`
 
 module _ {X : Type 0} (q : Bor (List ℕ)) (cs : List ℕ) where
   pub hash_map_text_same : (xs : List (PlacedText × X)) → cs ≡ q.now → FindsSame lookup (λ k. bytes_eq q.now (utf8 k.text)) (has_bytes cs) cs xs
@@ -200,7 +200,7 @@ module _ (q : Bor (List ℕ)) (cs : List ℕ) where
       → FindsAfter list_any (is_at (λ k. slice_cmp nat_cmp q.now (utf8 k.text))) (is_at (bytes_cmp cs)) (KeepsOtherKeys (eq_by_cmp text_cmp) (is_at (λ k. slice_cmp nat_cmp q.now (utf8 k.text))) old new) q.now cs old new
   btree_set_text_after old new h = finds_after list_any _ _ q.now cs (bytes_cmp-is q.now) (bytes_cmp-is cs) _ old new (kept_keys (eq_by_cmp text_cmp) _ _ old new h (one_sorted_key cs)) h
 
--- `grind` computes a test of a literal, as of `get("abc")`. These give it the test's name back
+-- `grind` computes the test of a literal, as in `get("abc")`; these restore the name of the test
 
 module _ {X : Type 0} (c : ℕ) (cs : List ℕ) (xs : List (PlacedText × X)) where
   pub hash_map_literal : lookup (λ k. bytes_eq (c ∷ cs) (utf8 k.text)) xs ≡ lookup (has_bytes (c ∷ cs)) xs
@@ -216,7 +216,7 @@ module _ (c : ℕ) (cs : List ℕ) (xs : List PlacedText) where
   pub btree_set_literal : list_any (is_at (λ k. slice_cmp nat_cmp (c ∷ cs) (utf8 k.text))) xs ≡ list_any (is_at (bytes_cmp (c ∷ cs))) xs
   btree_set_literal = refl
 
--- the last five are of a count or a total for each key, in a loop
+-- the last five are for a count or total of each key, in a loop
 pub ruleset text_keys = (
   hash_map_key_same,
   hash_map_key_after,

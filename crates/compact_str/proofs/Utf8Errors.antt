@@ -1,4 +1,4 @@
--- What std tells of bytes that are no text is their error.
+-- std's error of invalid bytes is theirs.
 use Rattle.std.proofs.Common.{◌≡◌, ℕ, List, drop, sym, ap, ◌∙◌}
 use Rattle.std.specs.Str.{IsUtf8, valid_up_to, error_len}
 use Rattle.std.specs.Str.Lossy.{utf8_valid_len, utf8_error_len}

@@ -1,4 +1,4 @@
--- What stands in a range, when it is appended.
+-- Appending a range of the value itself.
 use Rattle.std.proofs.Common.{◌≡◌, ℕ, ◌-◌, ◌≤◌, Result, OnErr, IsOk, IsTrue, sym}
 pub use Rattle.std.proofs.lemmas.Str.{encodes-append}
 pub use Rattle.compact_text.proofs.Middles.{substring-parts}
@@ -10,7 +10,7 @@ use Rattle.compact_repr.proofs.Changes.{push_str-text}
 use Rattle.compact_str.specs.Room.{HasRoomFor}
 use Rattle.compact_str.proofs.Rooms.{push_str-sure, push_str-bytes, push_str_allocates-succeeds}
 
--- what is sure to fit is not refused
+-- what fits never fails
 pub within-succeeds : {E : Type 0} (v w : PlacedText) (i j : ℕ) (r : Result (Unit {0}) E) → OnErr r ((w ≡ v) × IsTrue (push_str_allocates v (substring v.text i j)))
     → IsBoundary v.text i → IsBoundary v.text j → i ≤ j → HasRoomFor v (j - i) → IsOk r
 within-succeeds v w i j r err first last order room =

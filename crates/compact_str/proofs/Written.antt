@@ -1,4 +1,4 @@
--- What a `Display` shows to a gathered text, which begins empty, is what is then appended.
+-- What a `Display` writes to an empty builder is then appended.
 use Rattle.std.proofs.Common.{◌≡◌, ℕ, List, [], ◌∷◌, ◌++◌, Option, Some, None, Result, Ok, Err, IfSome, OnOk, ap, sym, subst, ◌∙◌, append_assoc, append-nil}
 use Rattle.std.proofs.lemmas.Str.{chars-nil, chars-append, encodes-append, encodes-chars, IsUtf8-nil, IsUtf8-append}
 use Rattle.std.specs.Fmt.{AppendsText, WritesInCalls, WritesText}
@@ -11,7 +11,7 @@ use Rattle.compact_repr.specs.Calls.{push_str}
 use Rattle.compact_repr.proofs.Changes.{push_str-text}
 use Rattle.compact_str.specs.Shown.{Shows}
 
--- the parts together are those of a text, which is joined to what came before
+-- the parts together are one text, appended to the text before
 shown-parts : (t u : List ℕ) (parts : List (List ℕ)) → FoldsTo Shows t parts u → Shows t (concat parts) u
 shown-parts t u [] same = (IsUtf8-nil, rw (chars-nil, append-nil) (sym same))
 shown-parts t u (part ∷ parts) (x, first, rest) =
@@ -23,13 +23,13 @@ shown-parts t u (part ∷ parts) (x, first, rest) =
           ∙ ap (λ s. t ++ s) (sym (chars-append part (concat parts) first.0)),
     )
 
--- a text that began empty is just what was shown
+-- from an empty text, it is just what was written
 shown-whole : (t u bytes : List ℕ) → t ≡ [] → WritesInCalls Shows t bytes u → IsUtf8 bytes × (u ≡ text_of bytes)
 shown-whole t u bytes empty writes =
     let all = subst (λ b. Shows t b u) writes.whole (shown-parts t u writes.parts writes.calls) in
     (all.0, all.1 ∙ ap (λ s. s ++ text_of bytes) empty)
 
--- so it is what is appended, in each of the three ways of saying so
+-- so that is appended, as each of the three clauses says
 pub shown-ok : {E : Type 0} (g : Growth) (v w : PlacedText) (t u : List ℕ) (o : Option (List ℕ)) (r : Result (Unit {0}) E)
     → t ≡ [] → WritesText Shows t o u → OnOk r (push_str g v u ≡ Some w)
     → OnOk r (IfSome o (λ shown. push_str g v (text_of shown) ≡ Some w))

@@ -1,4 +1,4 @@
--- Texts that come one after another: collected, joined with a separator, and appended.
+-- Texts that are collected, joined and appended.
 use Rattle.std.specs.Prelude.{◌≡◌, ℕ, ◌+◌, ◌<◌, List, [], ◌∷◌, ◌++◌, Option, Some, length, drop, flat_map}
 use Rattle.std.specs.Iterator.{Drains, HoldsAlong, Yields, YieldsThen}
 use Rattle.std.specs.Iterator.Runs.{WholeRun}
@@ -7,12 +7,12 @@ use Rattle.compact_repr.specs.Value.{PlacedText}
 use Rattle.compact_repr.specs.Capacity.{Growth}
 use Rattle.compact_repr.specs.Calls.{push_str, PushStrAllocates}
 
--- the text of each item, as `text` reads it, is joined to v's end in turn, which leaves w
+-- w is v after `push_str` of the text of each item in turn
 abbrev pub Appends : {A : Type 0} → Growth → (A → List ℕ) → PlacedText → List A → PlacedText → Type 0
 Appends g text v [] w = w ≡ v
 Appends g text v (x ∷ xs) w = (u : PlacedText) × (push_str g v (text x) ≡ Some u) × Appends g text u xs w
 
--- the texts of the items with a separator between each two: each stands behind a separator, but for the first separator
+-- the texts of the items with a separator between each two: before each but the first
 abbrev pub join : {A : Type 0} → List ℕ → (A → List ℕ) → List A → List ℕ
 join separator text xs = drop (length separator) (flat_map (λ x. separator ++ text x) xs)
 
@@ -24,33 +24,33 @@ char_text c = c ∷ []
 abbrev pub OfIterator : {U S : Type 0} → (U → S → Type 0) → U → (S → Type 0) → Type 0
 OfIterator {S = S} becomes iterable P = (it : S) × becomes iterable it × P it
 
--- P holds of the items that an iterable gives in one whole run
+-- P holds of the items of one whole run
 abbrev pub OfItems : {U S A : Type 0} → (U → S → Type 0) → (S → Option A → S → Type 0) → U → (List A → Type 0) → Type 0
 OfItems becomes steps iterable P = OfIterator becomes iterable (λ it. WholeRun steps it (λ run. P run.items))
 
--- P holds of whatever items an iterable may have given at any time
+-- P holds of all items that may have come at any time
 abbrev pub OfAllItems : {U S A : Type 0} → (U → S → Type 0) → (S → Option A → S → Type 0) → U → (List A → Type 0) → Type 0
 OfAllItems {S = S} becomes steps iterable P = (it : S) → becomes iterable it → HoldsAlong steps it P
 
 module _ {S A : Type 0} (steps : S → Option A → S → Type 0) where
-  -- all items of an iterator are appended in turn
+  -- all items are appended in turn
   abbrev pub AppendsAll : Growth → (A → List ℕ) → S → PlacedText → PlacedText → Type 0
   AppendsAll g text s v w = (xs : List A) × Drains steps s xs × Appends g text v xs w
 
-  -- the items before one that is refused are appended, and that one asks for a heap buffer
+  -- the items before the one that fails are appended, and appending that one allocates
   abbrev pub AppendsUpToRefused : Growth → (A → List ℕ) → S → PlacedText → PlacedText → Type 0
   AppendsUpToRefused g text s v w =
       (xs : List A) × (x : A) × (t : S) × YieldsThen steps s xs (Some x) t × Appends g text v xs w × PushStrAllocates w (text x)
 
-  -- items that an iterator gave make a text of more than 24 bytes
+  -- some items that came make a text of more than 24 bytes
   abbrev pub PassesInline : (List A → List ℕ) → S → Type 0
   PassesInline text s = (xs : List A) × (t : S) × Yields steps s xs t × (24 < size (text xs))
 
-  -- items that an iterator gave make a text that is not empty
+  -- some items that came make a text that is not empty
   abbrev pub GivesText : (List A → List ℕ) → S → Type 0
   GivesText text s = (xs : List A) × (t : S) × Yields steps s xs t × (0 < size (text xs))
 
-  -- the items before one that is refused are joined to a text t, which leaves u, and there that one is past a capacity
+  -- the items before the one that fails are appended to a text t, which gives u, and that one exceeds the capacity
   abbrev pub StopsWithout : (A → List ℕ) → S → ℕ → List ℕ → List ℕ → Type 0
   StopsWithout text s capacity t u =
       (xs : List A) × (x : A) × (r : S) × YieldsThen steps s xs (Some x) r × (u ≡ t ++ flat_map text xs) × (capacity < size u + size (text x))

@@ -1,4 +1,4 @@
--- What a new value is made of.
+-- Conversions to a value.
 use Rattle.std.specs.Prelude.{◌≡◌, ◌≤◌, ℕ, List, length, Result, IfOk, OnErr, IsOk, MatchResult, IsOkAnd, Some, string_bytes, ⊤}
 use Rattle.std.specs.String.{string_capacity}
 use Rattle.std.specs.declared.borrow.CowStr.{CowStr}
@@ -8,7 +8,7 @@ use Rattle.compact_repr.specs.Value.{PlacedText, placed_text}
 use Rattle.compact_repr.specs.Capacity.{Growth, from_string_placement, WithCapacityAllocates}
 use Rattle.compact_repr.specs.Calls.{new}
 
--- r is a new value with the text that the bytes s encode; up to 24 of them never fail
+-- r is a new value with the text of the bytes s; never fails up to 24 bytes
 pub record CopiesText {E : Type 0} (g : Growth) (s : List ℕ) (r : Result PlacedText E) : Type 0 where
   pub ok : IfOk r (λ v. new g (text_of s) ≡ Some v)
   pub text : IfOk r (λ v. v.text ≡ text_of s)
@@ -16,12 +16,12 @@ pub record CopiesText {E : Type 0} (g : Growth) (s : List ℕ) (r : Result Place
   pub succeeds : length s ≤ 24 → IsOk r
   pub err : OnErr r (WithCapacityAllocates (length s))
 
--- a borrowed text is copied, and refused only where that asks for a heap buffer; an owned one is taken over
+-- a borrowed text is copied, which fails only if it allocates; the buffer of an owned one is reused
 abbrev pub TakesCow : {Z E : Type 0} → Growth → CowStr Z → Result PlacedText E → Type 0
 TakesCow g (Borrowed s) r = MatchResult r (λ v. new g (text_of s.now) ≡ Some v) (λ _. WithCapacityAllocates (length s.now))
 TakesCow g (Owned s) r = IsOkAnd r (λ v. let t = text_of (string_bytes s) in v ≡ placed_text t (from_string_placement t (string_capacity s)))
 
--- taking the text is never refused: it is owned, or has at most 24 bytes
+-- the conversion never fails: the text is owned, or has at most 24 bytes
 abbrev pub IsFreeCow : {Z : Type 0} → CowStr Z → Type 0
 IsFreeCow (Borrowed s) = length s.now ≤ 24
 IsFreeCow (Owned s) = ⊤

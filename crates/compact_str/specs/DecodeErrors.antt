@@ -1,4 +1,4 @@
--- Why bytes or units were not decoded.
+-- Errors of the decoders.
 use Rattle.std.specs.Prelude.{◌≡◌, ℕ, List, [], length, drop}
 use Rattle.std.specs.Str.{IsUtf8, valid_up_to, error_len}
 use Rattle.std.specs.declared.str.Utf8Error.{Utf8Error}
@@ -13,35 +13,34 @@ use Rattle.compact_str.specs.declared.decode.error.FromUtf16Error.{FromUtf16Erro
 use Rattle.compact_str.specs.declared.decode.error.FromUtf16Error.TheVariants.{Utf16, Reserve as NoRoom}
 use Rattle.compact_repr.specs.Capacity.{WithCapacityAllocates}
 
--- the bytes that are left of these, once a beginning of them is taken
+-- the bytes left once some are consumed
 abbrev pub IsSuffixOf : List ℕ → List ℕ → Type 0
 IsSuffixOf left bytes = (n : ℕ) × (left ≡ drop n bytes)
 
--- std's error tells of bytes that are no text where they stop being one, and how long the invalid sequence is
+-- std's error says where invalid bytes stop being valid, and how long the invalid sequence is
 pub record IsErrorOf (bytes : List ℕ) (e : Utf8Error) : Type 0 where
   pub error : IsUtf8Error bytes (valid_up_to e) (error_len e)
 
--- a slice of bytes encodes no text, and the error tells where; or it encodes one, for which memory was refused
+-- the bytes are invalid, and the error says where; or they are valid, and allocation failed
 abbrev pub IsUtf8Refusal : List ℕ → FromUtf8Error → Type 0
 IsUtf8Refusal bytes (Utf8 valid_up_to error_len) = ¬ (IsUtf8 bytes) × IsUtf8Error bytes valid_up_to error_len
 IsUtf8Refusal bytes (Reserve _) = IsUtf8 bytes × WithCapacityAllocates (length bytes)
 
--- a reader of these bytes that leaves those took them all, and they encode no text; or it took a beginning of them, and was
--- refused memory before it validated them
+-- all bytes of a reader were consumed and are invalid; or some were consumed, and allocation failed before validation
 abbrev pub IsUtf8BufRefusal : List ℕ → List ℕ → FromUtf8Error → Type 0
 IsUtf8BufRefusal bytes left (Utf8 valid_up_to error_len) = ¬ (IsUtf8 bytes) × IsUtf8Error bytes valid_up_to error_len × (left ≡ [])
 IsUtf8BufRefusal bytes left (Reserve _) = WithCapacityAllocates (length bytes) × IsSuffixOf left bytes
 
--- units encode no text; or they encode one, for which memory was refused
+-- the units are invalid; or they are valid, and allocation failed
 abbrev pub IsUtf16Refusal : List ℕ → FromUtf16Error → Type 0
 IsUtf16Refusal units (Utf16 _) = ¬ (IsUtf16 units)
 IsUtf16Refusal units (NoRoom _) = (text : List ℕ) × UnitsEncode units text × WithCapacityAllocates (size text)
 
--- the bytes are those of this text's units, two and two
+-- the bytes are this text's units, in pairs
 abbrev pub PairsEncode : ByteOrder → List ℕ → List ℕ → Type 0
 PairsEncode order bytes text = ArePairs bytes × UnitsEncode (units_of order bytes) text
 
--- the same of bytes that stand for units
+-- the same of pairs of bytes
 abbrev pub IsUtf16BytesRefusal : ByteOrder → List ℕ → FromUtf16Error → Type 0
 IsUtf16BytesRefusal order bytes (Utf16 _) = ¬ (IsUtf16Bytes order bytes)
 IsUtf16BytesRefusal order bytes (NoRoom _) = (text : List ℕ) × PairsEncode order bytes text × WithCapacityAllocates (size text)

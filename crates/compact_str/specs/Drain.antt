@@ -1,4 +1,4 @@
--- What a drain holds, and what a step of it does.
+-- The state of a drain, and its steps.
 use Rattle.std.specs.Prelude.{◌≡◌, ℕ, List, [], ◌∷◌, ◌++◌, Option, MatchOption}
 use Rattle.std.specs.Borrow.{GName}
 use Rattle.compact_repr.specs.Value.{PlacedText}
@@ -7,25 +7,25 @@ use Rattle.compact_str.specs.TotalRanges.{range_text, without_range}
 use Rattle.compact_str.specs.declared.string.drain.Drain.{Drain}
 
 module _ {P : Type 0} {G : Ghosts P} where
-  -- the characters that are not yet taken
+  -- the characters still to come
   abbrev pub drain_rest : Drain P G → List ℕ
   drain_rest d = range_text d.value.now.text d.rest_start d.rest_end
 
-  -- what the lender is once the drain is dropped
+  -- the lender once the drain is dropped
   abbrev pub value_after_drain : Drain P G → PlacedText
   value_after_drain d = without_range d.value.now d.start d.end
 
-  -- who the lender is
+  -- the lender
   abbrev pub drain_lender : Drain P G → GName
   drain_lender d = d.value.ghost_name
 
-  -- a step from the front takes the first character; at the end there is none, and none is left
+  -- `next` returns the first character, or `None` if none is left
   pub record DrainsFront (old : Drain P G) (item : Option ℕ) (new : Drain P G) : Type 0 where
     pub lender : drain_lender new ≡ drain_lender old
     pub leaves : value_after_drain new ≡ value_after_drain old
     pub step : MatchOption item ((drain_rest old ≡ []) × (drain_rest new ≡ [])) (λ c. drain_rest old ≡ c ∷ drain_rest new)
 
-  -- and a step from the back the last
+  -- `next_back` returns the last
   pub record DrainsBack (old : Drain P G) (item : Option ℕ) (new : Drain P G) : Type 0 where
     pub lender : drain_lender new ≡ drain_lender old
     pub leaves : value_after_drain new ≡ value_after_drain old

@@ -1,4 +1,4 @@
--- What an edit by byte position gives: none where it must be refused.
+-- Results of edits by byte position, `None` if they fail.
 use Rattle.std.specs.Prelude.{IsTrue, ◌≡◌, ◌≤◌, ℕ, ◌+◌, ◌*◌, Bool, not, ◌&&◌, List, [], ◌∷◌, ◌++◌, Option, Some, None, option_map, nat_eq, zero, suc, if◌then◌else◌, Result, IfOk, IsOk, OnErr}
 use Rattle.std.specs.Char.{len_utf8}
 use Rattle.std.specs.Str.{IsUtf8}
@@ -8,18 +8,18 @@ use Rattle.compact_repr.specs.Value.{Placement, PlacedText, placed_text, is_stat
 use Rattle.compact_repr.specs.Calls.{push_str}
 use Rattle.compact_repr.specs.Capacity.{Growth, new_placement, with_capacity_placement, with_capacity_allocates, shortened_placement, owned_placement, const_new_placement, clone_placement, clone_allocates, MakeOwnedAllocates}
 
--- a formatter's write of some bytes takes v to w: they are those of a text, which is joined to v
+-- a formatter writes valid bytes, which are appended to v and give w
 pub record Writes (g : Growth) (v : PlacedText) (bytes : List ℕ) (w : PlacedText) : Type 0 where
   pub is_text : IsUtf8 bytes
   pub value : push_str g v (text_of bytes) ≡ Some w
   pub written : utf8 w.text ≡ utf8 v.text ++ bytes
 
--- v made owned, without the character at a position, which is c
+-- w is v made owned, without the character c at a position
 abbrev pub Removes : Growth → PlacedText → ℕ → ℕ → PlacedText → Type 0
 Removes g v index c w =
     (rest : List ℕ) × (text_after v.text index ≡ c ∷ rest) × (option_map (placed_text (text_before v.text index ++ rest)) (owned_placement g v) ≡ Some w)
 
--- v has lost the character at a position, which was returned, and w is left; or w is v, where that fails
+-- w is v without the character at a position, which was returned; on failure w is v
 pub record RemovesChar {E : Type 0} (g : Growth) (v : PlacedText) (index : ℕ) (r : Result ℕ E) (w : PlacedText) : Type 0 where
   pub ok : IfOk r (λ c. Removes g v index c w)
   pub text : IfOk r (λ c. w.text ≡ replaced_text v.text index (index + len_utf8 c) [])
@@ -28,7 +28,7 @@ pub record RemovesChar {E : Type 0} (g : Growth) (v : PlacedText) (index : ℕ) 
   pub succeeds_short : size v.text ≤ 24 → IsOk r
   pub err : OnErr r ((w ≡ v) × MakeOwnedAllocates v)
 
--- the placement of a tail that is split off: of a static text it is borrowed too
+-- the placement of a tail that is split off: static if v is
 abbrev pub tail_placement : Growth → PlacedText → List ℕ → Option Placement
 tail_placement g v tail = if is_static v.placement.place then Some (const_new_placement tail) else new_placement g tail
 
@@ -36,7 +36,7 @@ tail_placement g v tail = if is_static v.placement.place then Some (const_new_pl
 abbrev pub split_tail : Growth → PlacedText → ℕ → Option PlacedText
 split_tail g v index = let tail = text_after v.text index in option_map (placed_text tail) (tail_placement g v tail)
 
--- v is split at a position: the tail leaves, and what stands before it stays in its place
+-- v is split at a position: the tail is returned, and w is the part before it, in the place of v
 pub record SplitsOff (g : Growth) (v : PlacedText) (index : ℕ) (tail w : PlacedText) : Type 0 where
   pub leaves : split_tail g v index ≡ Some tail
   pub stays : let front = text_before v.text index in w ≡ placed_text front (shortened_placement v front)
@@ -47,16 +47,16 @@ split_allocates v index = not (is_static v.placement.place) && with_capacity_all
 abbrev pub SplitAllocates : PlacedText → ℕ → Type 0
 SplitAllocates v index = IsTrue (split_allocates v index)
 
--- t so many times
+-- t, n times
 abbrev pub repeated_text : ℕ → List ℕ → List ℕ
 repeated_text zero t = []
 repeated_text (suc n) t = t ++ repeated_text n t
 
--- v is copied when it is repeated n times: once, and not empty
+-- repeating v n times clones it: once, and not empty
 abbrev pub repeats_by_copy : PlacedText → ℕ → Bool
 repeats_by_copy v n = nat_eq n 1 && not (nat_eq (size v.text) 0)
 
--- v's text n times: a copy, or with room made anew, which is inline where the outcome is empty
+-- v's text n times: a clone, or with new capacity, which is inline if the result is empty
 abbrev pub repeat : Growth → PlacedText → ℕ → Option PlacedText
 repeat g v n =
     option_map (placed_text (repeated_text n v.text)) (if repeats_by_copy v n then clone_placement g v else with_capacity_placement g (size v.text * n))

@@ -1,16 +1,15 @@
--- A value whose text came in parts: where it stands, and how it is made.
+-- Values whose text came in parts.
 use Rattle.std.specs.Prelude.{◌≡◌, ◌<◌, ◌≤◌, ℕ, List, Result, IfOk, OnErr, IsOk}
 use Rattle.compact_repr.specs.Text.{size}
 use Rattle.compact_repr.specs.Value.{heap, PlacedText}
 use Rattle.compact_repr.specs.Capacity.{inline_placement, WithCapacityAllocates}
 
--- v stands as a text that came in parts: in the value itself up to 24 bytes, else on the heap, in a buffer of any
--- capacity that holds the text
+-- v is inline up to 24 bytes, else on the heap with any capacity that holds the text
 pub record IsPlacedBySize (v : PlacedText) : Type 0 where
   pub short : size v.text ≤ 24 → v.placement ≡ inline_placement
   pub long : 24 < size v.text → (v.placement.place ≡ heap) × (size v.text ≤ v.placement.capacity)
 
--- r is a fitted value with this text; up to 24 bytes it is never refused
+-- r is such a value with the text t; never fails up to 24 bytes
 pub record MakesText {E : Type 0} (t : List ℕ) (r : Result PlacedText E) : Type 0 where
   pub text : IfOk r (λ v. v.text ≡ t)
   pub fitted : IfOk r IsPlacedBySize

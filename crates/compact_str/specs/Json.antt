@@ -1,4 +1,4 @@
--- What becomes of a JSON value.
+-- Conversion from a JSON value.
 use Rattle.std.specs.Prelude.{◌≡◌, ◌≤◌, ℕ, List, length, Result, IsOk, MatchResult, Some, Err, ⊤}
 use Rattle.serde_json.specs.Data.{Data, null, boolean, number, string, array, object}
 use Rattle.compact_repr.specs.Text.{text_of}
@@ -8,17 +8,17 @@ use Rattle.compact_repr.specs.Calls.{new}
 use Rattle.compact_str.specs.declared.string.json.FromJsonError.{FromJsonError}
 use Rattle.compact_str.specs.declared.string.json.FromJsonError.TheVariants.{NotAString, Reserve}
 
--- room for a copy was refused
+-- allocation failed
 abbrev pub IsJsonReserve : FromJsonError → Type 0
 IsJsonReserve NotAString = ⊥
 IsJsonReserve (Reserve _) = ⊤
 
--- r is what a JSON string with some bytes gives: a new value with their text, which up to 24 of them is never refused
+-- r is a new value with the text of a JSON string; never fails up to 24 bytes
 pub record ReadsString (g : Growth) (bytes : List ℕ) (r : Result PlacedText FromJsonError) : Type 0 where
   pub outcome : MatchResult r (λ v. new g (text_of bytes) ≡ Some v) (λ e. IsJsonReserve e × WithCapacityAllocates (length bytes))
   pub succeeds : length bytes ≤ 24 → IsOk r
 
--- a string is copied, and every other JSON value is no string
+-- a string is copied, and every other JSON value gives `NotAString`
 abbrev pub ReadsJson : Growth → Data → Result PlacedText FromJsonError → Type 0
 ReadsJson g (string bytes) r = ReadsString g bytes r
 ReadsJson g null r = r ≡ Err NotAString

@@ -1,4 +1,4 @@
--- Laws of the edits and of packed bytes, over their definitions alone.
+-- Laws of edits, decoding and packed bytes.
 use Rattle.std.specs.Prelude.{◌≡◌, ℕ, ◌<◌, List, false, [], ◌∷◌, Some}
 use Rattle.std.specs.Str.{IsUtf8}
 use Rattle.compact_codec.specs.Utf8Text.{BytesEncode, utf8_lossy_text}
@@ -10,8 +10,7 @@ use Rattle.compact_repr.specs.Capacity.{Growth, shortened_placement, make_owned_
 use Rattle.compact_repr.specs.Calls.{push_str, clone, truncate, insert_str}
 use Rattle.compact_str.specs.Edits.{Removes, split_tail}
 
--- where a character was put in one may be taken out, which asks for no memory: it is that character, and the text is as
--- before
+-- a character that was inserted can be removed without allocating, which restores the text
 pub record RemovalUndoes (g : Growth) (v w : PlacedText) (index c : ℕ) : Type 0 where
   pub boundary : IsBoundary w.text index
   pub within : index < size w.text
@@ -23,13 +22,13 @@ RemovalUndoesInsertion =
     (g : Growth) (v w : PlacedText) (index c : ℕ) → IsBoundary v.text index → insert_str g v index (c ∷ []) ≡ Some w
     → RemovalUndoes g v w index c
 
--- a value to which a text was joined may be cut at its old length, and then has its old text
+-- after an append, truncating at the old length restores the text
 abbrev pub TruncationUndoesAppend : Type 0
 TruncationUndoesAppend =
     (g : Growth) (v w : PlacedText) (s : List ℕ) → push_str g v s ≡ Some w
     → IsBoundary w.text (size v.text) × ((truncate w (size v.text)).text ≡ v.text)
 
--- a tail that was split off and is appended again gives the text as before
+-- appending a tail that was split off restores the text
 abbrev pub AppendUndoesSplit : Type 0
 AppendUndoesSplit =
     (g : Growth) (v tail w : PlacedText) (index : ℕ) → split_tail g v index ≡ Some tail
@@ -39,11 +38,11 @@ AppendUndoesSplit =
 abbrev pub CloneIsEqual : Type 0
 CloneIsEqual = (g : Growth) (v w : PlacedText) → clone g v ≡ Some w → w.text ≡ v.text
 
--- 24 bytes stand for one text at most
+-- 24 bytes encode at most one text
 abbrev pub PackedBytesStandForOneText : Type 0
 PackedBytesStandForOneText = (bytes t s : List ℕ) → IsPackedFor bytes t → IsPackedFor bytes s → t ≡ s
 
--- the bytes of a text encode it, and are read back as that text, strictly and lossily; so is every text read lossily
+-- a text's bytes encode it and decode to it, strictly; and valid bytes decode to the same text lossily
 abbrev pub DecodingUndoesEncoding : Type 0
 DecodingUndoesEncoding =
     ((v : PlacedText) → IsSound v → BytesEncode (utf8 v.text) v.text × (text_of (utf8 v.text) ≡ v.text))

@@ -1,4 +1,4 @@
--- When two values are the same, and which comes first: by their texts alone, wherever they stand.
+-- Equality and order of values, by their texts alone.
 use Rattle.std.specs.Prelude.{◌≡◌, ℕ, List, Bool, nat_eq}
 use Rattle.std.specs.Ordering.{nat_cmp}
 use Rattle.std.specs.declared.cmp.Ordering.{Ordering}
@@ -13,13 +13,13 @@ text_in v = v.text
 abbrev pub same_text : PlacedText → PlacedText → Bool
 same_text v w = pointwise nat_eq v.text w.text
 
--- At the first place where two texts differ the smaller character decides, and a proper front comes first.
+-- lexicographic, by character
 abbrev pub text_order : List ℕ → List ℕ → Ordering
 text_order s t = slice_cmp nat_cmp s t
 
 abbrev pub text_cmp : PlacedText → PlacedText → Ordering
 text_cmp v w = text_order v.text w.text
 
--- the bytes of two texts are in the order of their characters
+-- texts are ordered by byte as by character
 abbrev pub ByteOrderIsTextOrder : Type 0
 ByteOrderIsTextOrder = (s t : List ℕ) → slice_cmp nat_cmp (utf8 s) (utf8 t) ≡ text_order s t

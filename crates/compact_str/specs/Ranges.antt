@@ -5,15 +5,15 @@ use Rattle.std.specs.Range.Bound.{start_index, end_index}
 use Rattle.compact_repr.specs.Text.{size}
 use Rattle.compact_repr.specs.Cut.{IsBoundary}
 
--- where a range of t begins and ends, in bytes: an included start is there and an excluded one a byte after, an
--- excluded end is there and an included one a byte after, and an open end is that of t
+-- The byte positions of a range's ends. An excluded start and an included end are one past the bound; an open end is
+-- the end of t.
 abbrev pub range_start : Bound ℕ → ℕ
 range_start start = start_index start
 
 abbrev pub range_end : List ℕ → Bound ℕ → ℕ
 range_end t end = end_index end (size t)
 
--- the range does not end before it starts, and both of its ends are boundaries of t
+-- the start is not past the end, and both are boundaries of t
 pub record IsRange (t : List ℕ) (start end : Bound ℕ) : Type 0 where
   pub order : range_start start ≤ range_end t end
   pub first : IsBoundary t (range_start start)

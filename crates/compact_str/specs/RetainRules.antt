@@ -1,32 +1,31 @@
--- What of a text is retained, by a test or by a rule.
+-- Retaining by a test or by a rule.
 use Rattle.std.specs.Prelude.{◌≡◌, ℕ, List, [], ◌∷◌, Bool, true, drop, if◌then◌else◌}
 use Rattle.std.specs.List.Retain.{IsFiltered}
 use Rattle.std.specs.Fn.{Called, Mut}
 
--- `RetainsCharsTo`, whatever the test is then
+-- `RetainsCharsTo`, for any final state of the test
 abbrev pub RetainsChars : {F : Type 0} → Mut F (ℕ × Unit {0}) Bool → F → List ℕ → List ℕ → Type 0
 RetainsChars test f t u = IsFiltered (λ p c b q. Called test p (c, tt) b q) f t u
 
--- the test says of each character what `says` does, whatever it noted before
+-- the test returns what `says` does, whatever its state
 abbrev pub AgreesWith : {F : Type 0} → Mut F (ℕ × Unit {0}) Bool → (ℕ → Bool) → Type 0
 AgreesWith {F} test says = (p : F) (c : ℕ) (b : Bool) (q : F) → Called test p (c, tt) b q → b ≡ says c
 
--- the characters of a text that a rule keeps: it goes from a state on, and says of a state and a character whether that
--- stays, and the next state
+-- the characters that a rule keeps: from a state and a character it decides whether to keep that, and the next state
 abbrev pub retained_text : {S : Type 0} → (S → ℕ → Bool × S) → S → List ℕ → List ℕ
 retained_text rule s [] = []
 retained_text rule s (c ∷ cs) = if (rule s c).0 then c ∷ retained_text rule (rule s c).1 cs else retained_text rule (rule s c).1 cs
 
--- the state that it has then
+-- its final state
 abbrev pub retain_state : {S : Type 0} → (S → ℕ → Bool × S) → S → List ℕ → S
 retain_state rule s [] = s
 retain_state rule s (c ∷ cs) = retain_state rule (rule s c).1 cs
 
--- the next of some answers; where they have run out it is `true`
+-- the first answer, or `true` if none is left
 abbrev pub next_answer : List Bool → Bool
 next_answer [] = true
 next_answer (answer ∷ answers) = answer
 
--- the rule of a list of answers, the first for the first character: one with no answer stays
+-- the rule that follows a list of answers; a character past its end is kept
 abbrev pub answer_rule : List Bool → ℕ → Bool × List Bool
 answer_rule answers c = (next_answer answers, drop 1 answers)

@@ -1,4 +1,4 @@
--- When a text is sure to fit.
+-- Room for a text.
 use Rattle.std.specs.Prelude.{◌≡◌, ℕ, ◌+◌, ◌≤◌, [], false, max, if◌then◌else◌, Result, IfOk, OnOk, OnErr, IsOk, Some}
 use Rattle.compact_repr.specs.Text.{size}
 use Rattle.compact_repr.specs.Value.{PlacedText, is_static, IsOwned}
@@ -9,15 +9,15 @@ use Rattle.compact_repr.specs.Calls.{with_capacity, reserve}
 abbrev pub own_capacity : PlacedText → ℕ
 own_capacity v = if is_static v.placement.place then 0 else v.placement.capacity
 
--- how many bytes v is sure to have room for with no memory: 24 in the value itself, or what it owns where that is more
+-- the bytes that fit v without allocating: 24, or its own capacity if that is more
 abbrev pub infallible_capacity : PlacedText → ℕ
 infallible_capacity v = max 24 (own_capacity v)
 
--- n more bytes fit v with no memory
+-- n more bytes fit v without allocating
 abbrev pub HasRoomFor : PlacedText → ℕ → Type 0
 HasRoomFor v n = size v.text + n ≤ infallible_capacity v
 
--- r is the empty text with room for n bytes; up to 24 are never refused
+-- r is empty with room for n bytes; never fails up to 24
 pub record MakesEmpty {E : Type 0} (g : Growth) (n : ℕ) (r : Result PlacedText E) : Type 0 where
   pub ok : IfOk r (λ v. with_capacity g n ≡ Some v)
   pub text : IfOk r (λ v. v.text ≡ [])
@@ -25,7 +25,7 @@ pub record MakesEmpty {E : Type 0} (g : Growth) (n : ℕ) (r : Result PlacedText
   pub succeeds : n ≤ 24 → IsOk r
   pub err : OnErr r (WithCapacityAllocates n)
 
--- v has made room for n more bytes, which leaves w, or is as it was where that is refused
+-- w is v with room for n more bytes; on failure w is v
 pub record Reserves {E : Type 0} (g : Growth) (v : PlacedText) (n : ℕ) (r : Result (Unit {0}) E) (w : PlacedText) : Type 0 where
   pub ok : OnOk r (reserve g v n ≡ Some w)
   pub text : w.text ≡ v.text

@@ -1,5 +1,4 @@
--- Maps and sets whose keys are values, read by the bytes of a key's text: `BTreeMap` and `BTreeSet`. After std's words for
--- `String` keys.
+-- `BTreeMap` and `BTreeSet` with values as keys, read by a key's bytes, as std's with `String` keys.
 use Rattle.std.specs.Prelude.{ℕ, List, Bool, Option}
 use Rattle.std.specs.declared.cmp.Ordering.{Ordering}
 use Rattle.std.specs.BTreeMap.{BTreeMap, get_by}
@@ -9,14 +8,14 @@ use Rattle.std.specs.Cmp.Lexicographic.{slice_cmp}
 use Rattle.compact_repr.specs.Text.{utf8}
 use Rattle.compact_repr.specs.Value.{PlacedText}
 
--- the order of the bytes bs and those of the key k
+-- the order of the bytes bs and the key k
 abbrev pub bytes_cmp : List ℕ → PlacedText → Ordering
 bytes_cmp bs k = slice_cmp nat_cmp bs (utf8 k.text)
 
--- the value at the key whose bytes are bs, as `get` finds it
+-- the value at the key with the bytes bs
 abbrev pub get_by_text : {X : Type 0} → BTreeMap PlacedText X → List ℕ → Option X
 get_by_text m bs = get_by (bytes_cmp bs) m
 
--- whether the set has the key whose bytes are bs
+-- the set has the key with the bytes bs
 abbrev pub contains_text : BTreeSet PlacedText → List ℕ → Bool
 contains_text s bs = contains_by (bytes_cmp bs) s

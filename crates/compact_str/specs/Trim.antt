@@ -1,9 +1,9 @@
--- What `trim` leaves.
+-- The result of `trim`.
 use Rattle.std.specs.Prelude.{◌≡◌, ℕ, List, ◌++◌}
 use Rattle.std.specs.List.{AllPass}
 use Rattle.std.specs.Char.{is_whitespace}
 
--- t is white space, then r, and then white space
+-- t is r between white space
 pub record IsBetweenWhitespace (t r : List ℕ) : Type 0 where
   pub head : List ℕ
   pub tail : List ℕ

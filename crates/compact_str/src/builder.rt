@@ -1,4 +1,4 @@
-//! A value while it is collected, with the short pieces that are not yet appended to it.
+//! A builder that collects short pieces on the stack before it appends them.
 ghost use Rattle.std.specs.Prelude.{◌≡◌, ◌+◌, ◌<◌, [], ◌∷◌, ◌++◌, length, Some, OnOk, OnErr, IfOk, IfSome};
 ghost use Rattle.std.specs.Char.{len_utf8};
 ghost use Rattle.compact_repr.specs.Text.{size, text_of};
@@ -14,12 +14,12 @@ use std::alloc::Global;
 use std::marker::Model;
 use std::{fmt, mem};
 
-/// What has come so far: a value, and behind it a block of short pieces that are appended to it at once. A contract sees
-/// the text of both. So a text of at most 1024 bytes asks for memory once, and for just what it takes.
+/// A value, and a block of short pieces still to be appended to it. A contract sees the text of both. A text of at
+/// most 1024 bytes is allocated once, with the exact capacity.
 pub struct Builder<P: Policy> {
     value: PolicyString<P>,
     block: StackBuffer,
-    // Whether a piece of what is shown was refused: a `Display` may hide that and go on.
+    // Whether a piece failed in `write_str`: a `Display` may ignore that and continue.
     is_refused: bool,
 }
 
@@ -34,7 +34,7 @@ impl<P: Policy> Model for Builder<P> {
     ghost invariant = { λ g. IsPlacedBySize g.value };
 }
 
-/// It is dropped by one call, so that no function that gathers takes the value apart at its ends.
+/// A manual `Drop`: a derived one is expanded in the proof of every function that owns a builder.
 impl<P: Policy> Drop for Builder<P> {
     #[inline]
     fn drop(self) {
@@ -49,7 +49,7 @@ impl<P: Policy> Drop for Builder<P> {
 
 #[tactic(auto, using(crate::proofs::CollectFacts::builder_facts))]
 impl<P: Policy> Builder<P> {
-    /// Nothing yet.
+    /// Returns an empty builder.
     #[inline]
     pub fn new(alloc: Global) -> Self
         ensures { result ≡ [] }
@@ -61,11 +61,11 @@ impl<P: Policy> Builder<P> {
         }
     }
 
-    /// Takes `text` behind what has come.
+    /// Appends `text`.
     ///
     /// # Errors
     ///
-    /// [`ReserveError`] if a buffer is refused, for more than 24 bytes.
+    /// [`ReserveError`] if allocation fails. Never fails up to 24 bytes.
     #[inline]
     pub fn push_str(&mut self, text: &str) -> Result<(), ReserveError>
         ensures ok { OnOk result (self.new ≡ self.old ++ text_of text.now) }
@@ -77,11 +77,11 @@ impl<P: Policy> Builder<P> {
         self.flush_and_push(text)
     }
 
-    /// Takes `separator` and then `text` behind what has come; `padded` is the separator too, where it is a short one.
+    /// Appends `separator` and then `text`. `padded` is the same separator, if it is short.
     ///
     /// # Errors
     ///
-    /// [`ReserveError`] if a buffer is refused, for more than 24 bytes.
+    /// [`ReserveError`] if allocation fails. Never fails up to 24 bytes.
     #[inline]
     pub fn push_separated(
         &mut self,
@@ -102,7 +102,7 @@ impl<P: Policy> Builder<P> {
         self.push_separately(separator, text)
     }
 
-    /// The same where the two do not go together.
+    /// The slow path of `push_separated`.
     #[inline(never)]
     fn push_separately(&mut self, separator: &str, text: &str) -> Result<(), ReserveError>
         ensures ok { OnOk result
@@ -113,11 +113,11 @@ impl<P: Policy> Builder<P> {
         self.push_str(text)
     }
 
-    /// Takes a character behind what has come.
+    /// Appends `character`.
     ///
     /// # Errors
     ///
-    /// [`ReserveError`] if a buffer is refused, for more than 24 bytes.
+    /// [`ReserveError`] if allocation fails. Never fails up to 24 bytes.
     #[inline]
     pub fn push(&mut self, character: char) -> Result<(), ReserveError>
         ensures ok { OnOk result (self.new ≡ self.old ++ character ∷ []) }
@@ -130,7 +130,7 @@ impl<P: Policy> Builder<P> {
         self.push_str(encode_char(character, &mut bytes))
     }
 
-    /// Appends the block to the value, and then takes `text`.
+    /// Appends the block to the value, and then pushes `text`.
     #[cold]
     #[inline(never)]
     fn flush_and_push(&mut self, text: &str) -> Result<(), ReserveError>
@@ -145,11 +145,11 @@ impl<P: Policy> Builder<P> {
         self.value.push_str(text)
     }
 
-    /// The value; of what is left nothing is said. It takes a reference, for a move would copy the block.
+    /// Returns the value, and leaves an unspecified one. Takes a reference, since a move would copy the block.
     ///
     /// # Errors
     ///
-    /// [`ReserveError`] if a buffer is refused, for more than 24 bytes.
+    /// [`ReserveError`] if allocation fails. Never fails up to 24 bytes.
     #[inline]
     pub fn finish(&mut self) -> Result<PolicyString<P>, ReserveError>
         ensures text { IfOk result (λ v. v.text ≡ self.old) }
@@ -161,11 +161,11 @@ impl<P: Policy> Builder<P> {
         Ok(mem::replace(&mut self.value, nothing))
     }
 
-    /// Appends what has come to `target`, all of it at once.
+    /// Appends the text to `target`, all at once.
     ///
     /// # Errors
     ///
-    /// [`ReserveError`] if a buffer is refused, or was for a piece that was shown; then `target` is as it was.
+    /// [`ReserveError`] if allocation fails, or failed in `write_str`. `target` is then unchanged.
     pub fn push_onto(&mut self, target: &mut PolicyString<P>) -> Result<(), ReserveError>
         ensures ok { OnOk result (push_str P.growth target.old self.old ≡ Some target.new) }
         ensures err { OnErr result (target.new ≡ target.old) }
@@ -184,11 +184,11 @@ impl<P: Policy> Builder<P> {
 impl<P: Policy> fmt::Write for Builder<P> {
     ghost write_str_gives = { Shows };
 
-    /// Takes `text` behind what has come.
+    /// Appends `text`.
     ///
     /// # Errors
     ///
-    /// `fmt::Error` if a buffer is refused.
+    /// `fmt::Error` if allocation fails.
     #[inline]
     fn write_str(&mut self, text: &str) -> fmt::Result {
         match self.push_str(text) {

@@ -1,4 +1,4 @@
-//! How bytes and units from outside become texts.
+//! Decoding UTF-8 and UTF-16.
 ghost use Rattle.std.specs.Prelude.{◌≡◌, ◌+◌, ◌<◌, ◌++◌, length, OnOk, OnErr};
 ghost use Rattle.compact_repr.specs.Text.{size, text_of};
 ghost use Rattle.compact_str.specs.FittedValues.{IsPlacedBySize};
@@ -12,11 +12,11 @@ pub mod utf8;
 use crate::string::CompactString;
 use compact_repr::{INLINE_CAPACITY, ReserveError};
 
-/// What stands in a text for an invalid sequence.
+/// Replaces an invalid sequence.
 const REPLACEMENT: &str = "\u{FFFD}";
 
-/// Appends `text` to a fitted value, which stays so. Where it leaves the value itself, room is also made for `more` bytes
-/// behind it, which the caller knows to come.
+/// Appends `text` to a value placed by its size, which stays so. A value that moves to the heap also reserves `more`
+/// bytes, for what the caller knows to follow.
 #[inline]
 #[tactic(auto, using(crate::proofs::FittedTexts::fitted_facts))]
 fn push_fitted(made: &mut CompactString, text: &str, more: usize) -> Result<(), ReserveError>

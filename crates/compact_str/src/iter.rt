@@ -1,4 +1,4 @@
-//! Texts that come one after another: collected into a value, joined, and appended to one.
+//! Collecting, joining and extending.
 
 mod append;
 mod as_text;

@@ -1,9 +1,9 @@
-//! A small-string type: texts of at most 24 bytes in the value itself, longer ones on the heap, and texts of the
-//! program borrowed for ever.
+//! A drop-in replacement for `String`. Up to 24 bytes are stored inline, longer text on the heap, and a `&'static str`
+//! by reference.
 //!
-//! `CompactString` stands where a `String` would. It takes no memory for short texts, answers a `Result` where memory
-//! may be refused, and leaves text, place and capacity as they were where it is. A contract sees a value as a text, a
-//! list of characters, with a place and a capacity: the `PlacedText` of `specs/`.
+//! Short strings never allocate. Methods that may allocate return a `Result`. On `Err` text, place and capacity are
+//! unchanged, but extending keeps the items before the one that failed. A contract sees a string as its characters,
+//! place and capacity: the `PlacedText` of `specs/`.
 #![tactic(auto, using(compact_text::proofs::TextFacts::text_facts))]
 
 mod builder;

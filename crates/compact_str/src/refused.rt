@@ -1,4 +1,4 @@
-//! An error that returns a value.
+//! The error that returns a value.
 ghost use Rattle.std.specs.Prelude.{◌≡◌, alloc_error};
 ghost use Rattle.std.specs.IoError.{error_kind};
 ghost use Rattle.std.specs.declared.io.ErrorKind.TheVariants.{OutOfMemory};
@@ -7,14 +7,24 @@ use compact_repr::ReserveError;
 use std::alloc::AllocError;
 use std::{fmt, io};
 
-/// An allocation failed, and here is the value that was passed, unchanged.
+/// Allocation failed; holds the value that was passed, unchanged.
 ///
-/// By `?` it converts to `ReserveError`, `AllocError`, `fmt::Error` and `io::Error`, and the value is dropped.
+/// `?` drops the value and converts to `ReserveError`, `AllocError`, `fmt::Error` or `io::Error`.
+///
+/// # Examples
+///
+/// ```
+/// let name = CompactString::new(alloc, "é")?;
+/// match name.into_string() {
+///     Ok(line) => assert_eq!(rt; line.as_str(), "é"),
+///     Err(refused) => assert_eq!(rt; refused.value.as_str(), "é"),
+/// }
+/// ```
 #[derive(Debug, Drop)]
 pub struct Refused<T> {
-    /// Why.
+    /// The error.
     pub error: ReserveError,
-    /// What was passed.
+    /// The value that was passed.
     pub value: T,
 }
 

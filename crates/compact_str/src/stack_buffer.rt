@@ -1,21 +1,20 @@
-//! A text that is gathered on the stack, ahead of the value that takes it.
+//! Text on the stack, which is collected before it is appended to a value.
 ghost use Rattle.std.specs.Prelude.{◌≡◌, ◌+◌, ◌≤◌, ◌<◌, [], ◌∷◌, ◌++◌, length, false, IfSome, IsSome, IsTrue, ◌↔◌};
 ghost use Rattle.compact_text.specs.Text.{size, utf8, text_of};
 
 use compact_text::slices;
 use std::marker::Model;
 
-/// The most bytes of a block.
+/// The capacity of a [`StackBuffer`].
 const BLOCK_CAPACITY: usize = 1024;
 
-/// The most bytes of a padded text.
+/// The capacity of a [`PaddedStr`].
 const PADDED_CAPACITY: usize = 16;
 
-/// The most bytes that `try_push_separated` writes: a padded text, and a short one.
+/// The most bytes that `try_push_separated` writes.
 const MAX_SEPARATED_LEN: usize = PADDED_CAPACITY + slices::MAX_SHORT_LEN;
 
-/// A text of at most 16 bytes, with zeros behind it: where 16 bytes have room it is written at once, with no look at how
-/// long it is.
+/// A text of at most 16 bytes, padded with zeros so that all 16 are written whatever its length.
 #[derive(Drop)]
 pub struct PaddedStr {
     bytes: [u8; 16],
@@ -35,7 +34,7 @@ impl Model for PaddedStr {
 }
 
 impl PaddedStr {
-    /// The text of `text`, if it has at most 16 bytes.
+    /// Copies `text`, or returns `None` if it is longer than 16 bytes.
     #[inline]
     pub fn new(text: &str) -> Option<Self>
         ensures fits { IsSome result ↔ (length text.now ≤ 16) }
@@ -53,7 +52,7 @@ impl PaddedStr {
     }
 }
 
-/// A text of at most 1024 bytes, which takes no memory: many short pieces are gathered in it, and then appended at once.
+/// A text of at most 1024 bytes, in which short pieces are collected.
 #[derive(Drop)]
 pub struct StackBuffer {
     bytes: [u8; 1024],
@@ -73,7 +72,7 @@ impl Model for StackBuffer {
 }
 
 impl StackBuffer {
-    /// The empty text.
+    /// Returns an empty buffer.
     #[inline]
     pub fn empty() -> Self
         ensures { result ≡ [] }
@@ -84,7 +83,7 @@ impl StackBuffer {
         }
     }
 
-    /// The text.
+    /// Returns the text.
     #[inline]
     pub fn as_str(&self) -> &str
         ensures bytes { result.now ≡ utf8 self.now }
@@ -93,7 +92,7 @@ impl StackBuffer {
         unsafe { std::str::from_utf8_unchecked(&self.bytes[..self.len]) }
     }
 
-    /// Appends `text` where it fits. Answers whether it fitted; if not, nothing has changed.
+    /// Appends `text`, or returns `false` if it does not fit.
     #[inline]
     pub fn try_push_str(&mut self, text: &str) -> bool
         ensures fits { IsTrue result ↔ (size self.old + length text.now ≤ 1024) }
@@ -109,8 +108,8 @@ impl StackBuffer {
         true
     }
 
-    /// Appends `separator` and behind it `text`, where `text` has at most 32 bytes and the block has room for 48. Answers
-    /// whether it has; if not, nothing has changed.
+    /// Appends `separator` and then `text`, or returns `false` if `text` is longer than 32 bytes or fewer than 48 are
+    /// free.
     #[inline(always)]
     pub fn try_push_separated(&mut self, separator: &PaddedStr, text: &str) -> bool
         ensures fits { IsTrue result ↔ ((length text.now ≤ 32) × (size self.old + 48 ≤ 1024)) }
@@ -131,7 +130,7 @@ impl StackBuffer {
         true
     }
 
-    /// Appends an ASCII character where it fits, as one byte. Answers whether it fitted; if not, nothing has changed.
+    /// Appends an ASCII character, or returns `false` if the buffer is full.
     #[inline]
     pub fn try_push_ascii(&mut self, byte: u8) -> bool
         requires ascii { byte < 128 }
@@ -147,7 +146,7 @@ impl StackBuffer {
         true
     }
 
-    /// Leaves the empty text.
+    /// Removes the text.
     #[inline]
     pub fn clear(&mut self)
         ensures { self.new ≡ [] }

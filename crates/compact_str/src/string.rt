@@ -27,19 +27,28 @@ mod zeroize;
 use compact_repr::{Policy, Repr, Standard};
 use std::marker::Model;
 
-/// A text with a place and a capacity, whose heap buffers grow by the policy `P`.
+/// A string of at most 24 bytes inline, a longer one on the heap, or a string literal by reference. Heap buffers grow
+/// by the policy `P`.
 ///
-/// A contract sees the text, as a list of characters, the place (inline, heap or static) and the capacity in bytes.
-/// An inline value has capacity 24 and at most 24 bytes, a static value has just the capacity of its text, and a heap
-/// value has at most its capacity. Inline and heap values are owned: they are changed in bytes of their own.
+/// Contracts see a list of characters, a place (inline, heap or static) and a capacity in bytes: 24 if inline, the
+/// length if static, and at least the length on the heap. Inline and heap strings are owned: edits change them in
+/// place.
 ///
-/// Where the comment of a call tells of heap buffers of at least 32 bytes, or of growth by half, these are the numbers of
-/// `CompactString`; a policy of one's own has others.
+/// Method docs give the numbers of [`CompactString`]: a minimum of 32 bytes and growth by half. Other policies differ.
 pub struct PolicyString<P: Policy> {
     repr: Repr<P>,
 }
 
 /// The string type: heap buffers of at least 32 bytes that grow by half.
+///
+/// # Examples
+///
+/// ```
+/// let mut name = CompactString::new(alloc, "naïve")?;
+/// name.push_str(" café")?;
+/// assert_eq!(rt; name.as_str(), "naïve café");
+/// assert!(rt; !name.is_heap_allocated());
+/// ```
 pub type CompactString = PolicyString<Standard>;
 
 impl<P: Policy> Model for PolicyString<P> {
@@ -50,8 +59,7 @@ impl<P: Policy> Model for PolicyString<P> {
     ghost view = { λ s. s.repr };
 }
 
-/// A value is dropped by one call, which frees the buffer of a heap text. So a function that has values takes the three
-/// places apart at none of its ends.
+/// A manual `Drop`: a derived one is expanded in the proof of every function that owns a value.
 impl<P: Policy> Drop for PolicyString<P> {
     fn drop(self) {
         let PolicyString { repr } = self;

@@ -1,4 +1,4 @@
--- For one who counts the characters of a text whose length in bytes is known.
+-- For counting characters of a text with known byte length.
 use Rattle.compact_str.proofs.Drains.{length-least}
 
 pub ruleset counting = (length-least)

@@ -1,4 +1,4 @@
-//! Buffers whose bytes lie in pieces, parted at each place.
+//! Buffers in pieces, split at every place.
 
 use crate::asserts::{assert_equal, assert_fitted, assert_that};
 use crate::drips::Drips;
@@ -9,7 +9,7 @@ use compact_testing::values::letters;
 use std::alloc::Global;
 use std::process::Abort;
 
-/// What a buffer gives, of which nothing remains.
+/// Reads a buffer, and asserts that nothing remains.
 fn read_whole<B: Buf>(
     rt: &impl Abort,
     alloc: Global,
@@ -20,7 +20,7 @@ fn read_whole<B: Buf>(
     made
 }
 
-/// What two pieces give.
+/// Reads bytes as two pieces.
 fn of_two(
     rt: &impl Abort,
     alloc: Global,
@@ -32,12 +32,12 @@ fn of_two(
     read_whole(rt, alloc, &mut Buf::chain(first, second))
 }
 
-/// What bytes give of which no two lie together.
+/// Reads bytes one at a time.
 fn of_drips(rt: &impl Abort, alloc: Global, bytes: &[u8]) -> Result<CompactString, FromUtf8Error> {
     read_whole(rt, alloc, &mut Drips { rest: bytes })
 }
 
-/// Asserts that a text is read wherever it is parted.
+/// Asserts that a text is read wherever it is split.
 fn assert_read(rt: &impl Abort, alloc: Global, text: &str) {
     let bytes = text.as_bytes();
     for place in 0..bytes.len() + 1 {
@@ -60,7 +60,7 @@ fn a_text_is_read_wherever_it_is_parted(rt: HostRuntime) {
     assert_read(rt, alloc, "aä€𝄞aä€𝄞aä€𝄞aä€𝄞");
 }
 
-/// Asserts that invalid bytes have one error wherever they are parted.
+/// Asserts that invalid bytes give one error wherever they are split.
 fn assert_invalid(rt: &impl Abort, alloc: Global, bytes: &[u8], error: FromUtf8Error) {
     for place in 0..bytes.len() + 1 {
         assert_that(rt, of_two(rt, alloc, bytes, place).err() == Some(error));
@@ -68,7 +68,7 @@ fn assert_invalid(rt: &impl Abort, alloc: Global, bytes: &[u8], error: FromUtf8E
     assert_that(rt, of_drips(rt, alloc, bytes).err() == Some(error));
 }
 
-/// An error at a place, of an invalid sequence of so many bytes, or open at the end.
+/// Returns an error at a byte, with the length of the invalid sequence, or `None` for an unexpected end.
 fn error_at(valid_up_to: usize, error_len: Option<usize>) -> FromUtf8Error {
     FromUtf8Error::Utf8 {
         valid_up_to,
@@ -104,8 +104,8 @@ fn drips_of_24_bytes_need_no_memory(rt: HostRuntime) {
     drop(hog);
 }
 
-/// Asserts that a buffer with this ASCII text cannot be read with no memory left, and that then an end of the text remains, which
-/// is read once there is memory.
+/// Asserts that reading this ASCII text fails with no memory, leaving a suffix, which can be read once there is
+/// memory.
 fn assert_end_remains<B: Buf>(rt: &impl Abort, alloc: Global, buf: &mut B, text: &str) {
     let hog = take_all(alloc).expect(rt, "room for the list of blocks");
     let made = CompactString::from_utf8_buf(alloc, buf);

@@ -1,5 +1,5 @@
-//! A value that grows and gives room back, where a mistake is to be found with no table. What each edit leaves is told by the
-//! table of `compact_table_tests`.
+//! Growing and shrinking, so that a mistake shows without the table. The table of `compact_table_tests` covers each
+//! edit.
 
 use crate::asserts::{assert_heap, assert_inline, assert_that};
 use compact_str::CompactString;
@@ -24,7 +24,7 @@ fn room_is_given_back(rt: HostRuntime) {
     assert_heap(rt, &value, 40, letters(40));
 }
 
-/// Whether an empty value with this capacity is made.
+/// Returns `true` if an empty value can have this capacity.
 fn has_room(alloc: Global, capacity: usize) -> bool {
     CompactString::with_capacity(alloc, capacity).is_ok()
 }

@@ -1,4 +1,4 @@
-//! What is collected, joined and extended, with values worked out by hand from the rules.
+//! Collecting, joining and extending. Values were worked out by hand from the rules.
 
 use crate::asserts::{assert_equal, assert_inline};
 use crate::made::{assert_made_inline, values_of};
@@ -10,7 +10,7 @@ use std::boxed::BoxedStr;
 use std::iter::once;
 use std::process::Abort;
 
-/// Asserts what texts are with a separator between each two.
+/// Asserts the result of joining texts.
 fn is_joined(rt: &impl Abort, alloc: Global, texts: &[&str], separator: &str, text: &str) {
     assert_made_inline(
         rt,
@@ -19,7 +19,7 @@ fn is_joined(rt: &impl Abort, alloc: Global, texts: &[&str], separator: &str, te
     );
 }
 
-/// Asserts what four texts are behind each other.
+/// Asserts the result of concatenating four texts.
 fn is_concatenated(rt: &impl Abort, alloc: Global, texts: [&str; 4], text: &str) {
     assert_made_inline(rt, texts.into_iter().concat_compact(alloc), text);
 }
@@ -42,12 +42,12 @@ fn items_are_joined_and_concatenated(rt: HostRuntime) {
     is_concatenated(rt, alloc, ["hello", " ", "world", "!"], "hello world!");
 }
 
-/// Puts one item behind a value.
+/// Extends a value by one item.
 fn extend_by<T: AsText + Drop>(rt: &impl Abort, value: &mut CompactString, item: T) {
     value.extend_texts(once(item)).expect(rt, "memory");
 }
 
-/// The five kinds of text, each collected alone.
+/// Collects each of the five kinds of text alone.
 fn each_kind(rt: &impl Abort, alloc: Global) -> CompactString {
     let mut value = CompactString::default(alloc);
     let string = String::from_str(alloc, "b").expect(rt, "memory");

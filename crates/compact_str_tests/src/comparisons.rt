@@ -1,5 +1,5 @@
-//! Values as they are compared and hashed. The order of the many texts was worked out by a program in Python, which sorts
-//! by code points.
+//! Comparing and hashing. The order of the many texts was worked out by a program in Python, which sorts by code
+//! points.
 
 use crate::asserts::{assert_equal, assert_heap, assert_that};
 use compact_asserts::that;
@@ -13,7 +13,7 @@ use std::cmp::Ordering;
 use std::hash::{DefaultHasher, Hash, Hasher};
 use std::process::Abort;
 
-/// What `DefaultHasher` makes of a `str`.
+/// Returns the `DefaultHasher` hash of a `str`.
 fn hash_of_str(text: &str) -> u64 {
     let mut hasher = DefaultHasher::new();
     text.hash(&mut hasher);
@@ -30,7 +30,7 @@ fn assert_same(rt: &impl Abort, value: &CompactString, other: &CompactString) {
     assert_equal(rt, hash_of(value), hash_of_str(other.as_str()));
 }
 
-/// Asserts that a value comes before another.
+/// Asserts that one value is less than another.
 fn assert_less(rt: &impl Abort, value: &CompactString, other: &CompactString) {
     assert_that(rt, value != other);
     assert_equal(rt, value.cmp(other), Ordering::Less);
@@ -117,7 +117,7 @@ fn a_value_hashes_as_its_str(rt: HostRuntime) {
     }
 }
 
-/// A generator of numbers.
+/// Draws the next number.
 fn next(state: &mut u64) -> u64 {
     *state = state
         .wrapping_mul(6_364_136_223_846_793_005)
@@ -145,7 +145,7 @@ const CHARACTERS: [char; 16] = [
     '\u{10ffff}',
 ];
 
-/// The next text: of up to 8 characters, after 26 letters in every fourth.
+/// Draws a text of up to 8 characters, after 26 letters in every fourth.
 fn next_text(rt: &impl Abort, alloc: Global, state: &mut u64) -> CompactString {
     let mut text = CompactString::default(alloc);
     if next(state) % 4 == 0 {
@@ -158,7 +158,7 @@ fn next_text(rt: &impl Abort, alloc: Global, state: &mut u64) -> CompactString {
     text
 }
 
-/// 2000 texts.
+/// Draws 2000 texts.
 fn texts(rt: &impl Abort, alloc: Global) -> Result<Vec<CompactString>, AllocError> {
     let mut state = 0x1234_5678_9abc_def1;
     let mut texts = Vec::with_capacity(alloc, 2000)?;
@@ -168,7 +168,7 @@ fn texts(rt: &impl Abort, alloc: Global) -> Result<Vec<CompactString>, AllocErro
     Ok(texts)
 }
 
-/// A checksum of texts in their order, by FNV-1a over each text and a byte FF.
+/// Hashes texts in order: FNV-1a over each text and a byte FF.
 fn checksum(texts: &[CompactString]) -> u64 {
     let mut sum: u64 = 0xcbf2_9ce4_8422_2325;
     for text in texts {

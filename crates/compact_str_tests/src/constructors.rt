@@ -1,4 +1,4 @@
-//! Values as they are made, with ample memory.
+//! Constructors, with ample memory.
 
 use crate::asserts::{assert_equal, assert_heap, assert_inline, assert_that};
 use compact_str::CompactString;
@@ -19,10 +19,10 @@ fn texts_of_the_program_are_static_if_they_are_long(rt: HostRuntime) {
     assert_inline(&rt, &short, "abc");
 }
 
-/// Where a value is to stand, with which capacity.
+/// A place and a capacity.
 type Placement = (&'static str, usize);
 
-/// Asserts where a string with so much room stands as a value, taken over by each way in.
+/// Asserts the placement of a string with this capacity after each conversion from it.
 fn assert_taken_over(
     rt: &impl Abort,
     alloc: Global,
@@ -50,7 +50,7 @@ fn strings_are_taken_over_or_move_inline(rt: HostRuntime) {
     assert_taken_over(rt, alloc, 100, letters(30), ("heap", 100));
 }
 
-/// The same of a vector of bytes, and of a box.
+/// The same for a vector of bytes and a box.
 fn assert_bytes_and_box(
     rt: &impl Abort,
     alloc: Global,
@@ -77,7 +77,7 @@ fn bytes_and_boxes_are_taken_over_or_move_inline(rt: HostRuntime) {
     assert_bytes_and_box(rt, alloc, 100, letters(40), ("heap", 100));
 }
 
-/// Asserts that bytes are no text, and that they come back as they were.
+/// Asserts that bytes are not valid UTF-8 and are returned unchanged.
 fn are_no_text(rt: &impl Abort, alloc: Global, bytes: &[u8]) {
     let vector = Vec::from_slice(alloc, bytes).expect(rt, "memory");
     match CompactString::try_from(vector) {

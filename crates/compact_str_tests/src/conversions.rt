@@ -1,4 +1,4 @@
-//! Values as they are handed on, with ample memory.
+//! Conversions from a value, with ample memory.
 
 use crate::asserts::{assert_equal, assert_heap, assert_inline, assert_that};
 use compact_asserts::{that, that_for};
@@ -9,7 +9,7 @@ use std::alloc::Global;
 use std::borrow::CowStr;
 use std::process::Abort;
 
-/// A value of 60 bytes of room, in which a text of 40 was cut to `"äb"`.
+/// Creates a value of capacity 60, whose text of 40 bytes was cut to `"äb"`.
 fn shortened(rt: &impl Abort, alloc: Global) -> CompactString {
     let mut value = with_room(alloc, 60).expect(rt, "memory");
     value
@@ -51,7 +51,7 @@ fn boxes_and_shared_texts_have_the_text(rt: HostRuntime) {
     assert_equal(rt, shared.as_str(), letters(30));
 }
 
-/// Asserts that a text is borrowed, or that it is owned.
+/// Asserts a text, and whether it is borrowed.
 fn is_lent(rt: &impl Abort, cow: CowStr<'_>, text: &str, is_borrowed: bool) {
     assert_that(rt, matches!(cow, CowStr::Borrowed(_)) == is_borrowed);
     assert_equal(rt, cow.as_str(), text);
@@ -70,12 +70,12 @@ fn a_static_text_is_borrowed_and_others_are_owned(rt: HostRuntime) {
     is_lent(rt, value.into_cow().expect(rt, "memory"), "äb", false);
 }
 
-/// The JSON value of a text.
+/// Converts a text to a JSON value.
 fn json_of(rt: &impl Abort, value: &CompactString) -> Value {
     value.to_json().expect(rt, "memory")
 }
 
-/// Asserts how the JSON value of a text is printed.
+/// Asserts the JSON of a text, as printed.
 fn is_printed(rt: &impl Abort, alloc: Global, value: CompactString, text: &str) {
     let json = json_of(rt, &value);
     assert_equal(
@@ -85,7 +85,7 @@ fn is_printed(rt: &impl Abort, alloc: Global, value: CompactString, text: &str) 
     );
 }
 
-/// The value of a JSON string.
+/// Reads a value from a JSON string.
 fn value_in(rt: &impl Abort, alloc: Global, json: &Value) -> CompactString {
     CompactString::from_json(alloc, json).expect(rt, "a string")
 }
@@ -100,12 +100,12 @@ fn a_value_is_a_json_string(rt: HostRuntime) {
     assert_heap(rt, &value_in(rt, alloc, &json), 32, letters(30));
 }
 
-/// The JSON value that a text stands for.
+/// Parses a JSON value.
 fn json_in(rt: &impl Abort, alloc: Global, text: &str) -> Value {
     serde_json::from_str(alloc, text).expect(rt, "a JSON value")
 }
 
-/// Asserts that a JSON value is no string.
+/// Asserts that a JSON value is not a string.
 fn is_no_string(rt: &impl Abort, alloc: Global, text: &str) {
     let json = json_in(rt, alloc, text);
     let error = CompactString::from_json(alloc, &json).err();

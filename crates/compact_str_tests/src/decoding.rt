@@ -1,4 +1,4 @@
-//! Bytes and units that are decoded. Texts and errors are those of the Unicode Standard, worked by hand.
+//! Decoding bytes and UTF-16 units. Texts and errors are those of the Unicode Standard, worked out by hand.
 
 use crate::asserts::{assert_equal, assert_that};
 use crate::made::{assert_made_inline, assert_shown};
@@ -10,7 +10,7 @@ use compact_testing::values::letters;
 use std::alloc::Global;
 use std::process::Abort;
 
-/// Asserts that the bytes are no text, with the error at that place, and which text they give lossily.
+/// Asserts the position of the error in invalid bytes, and their lossy text.
 fn assert_invalid(
     rt: &impl Abort,
     alloc: Global,
@@ -66,14 +66,14 @@ fn invalid_bytes_are_told_and_replaced(rt: HostRuntime) {
     }
 }
 
-/// Asserts that 30 letters were made, on the heap.
+/// Asserts a heap text of 30 `a`s.
 fn assert_letters<E: Drop>(rt: &impl Abort, made: Result<CompactString, E>) {
     let made = made.ok().expect(rt, "a text");
     assert_equal(rt, made.as_str(), letters(30));
     assert_that(rt, made.is_heap_allocated());
 }
 
-/// Asserts that each decoder makes this short text of its form.
+/// Asserts that each decoder reads its form of this short text.
 fn assert_forms(
     rt: &impl Abort,
     alloc: Global,
@@ -120,7 +120,7 @@ fn each_form_of_a_text_is_taken(rt: HostRuntime) {
     }
 }
 
-/// Asserts that the units are no text, and which text they give lossily.
+/// Asserts that units are invalid, and their lossy text.
 fn assert_unpaired(rt: &impl Abort, alloc: Global, units: &[u16], text: &str) {
     let strict = CompactString::from_utf16(alloc, units);
     assert_that(rt, matches!(strict, Err(FromUtf16Error::Utf16(_))));
@@ -158,7 +158,7 @@ fn units_of_a_text_are_taken(rt: HostRuntime) {
     assert_letters(&rt, CompactString::from_utf16(alloc, &[0x61; 30]));
 }
 
-/// Asserts that units are no text.
+/// Asserts that units are invalid.
 fn assert_no_text(rt: &impl Abort, made: Result<CompactString, FromUtf16Error>) {
     assert_that(rt, matches!(made, Err(FromUtf16Error::Utf16(_))));
 }
@@ -188,7 +188,7 @@ fn a_buffer_that_is_known_to_be_a_text_is_read_to_its_end(rt: HostRuntime) {
     assert_equal(&rt, known.remaining(), 0);
 }
 
-/// Bytes and units that are here already are validated first, and a buffer is read first.
+/// Slices are validated before allocating; a buffer is read first.
 #[test]
 fn errors_are_told_before_memory_is_asked_for(rt: HostRuntime) {
     let rt = &rt;

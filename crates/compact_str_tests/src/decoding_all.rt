@@ -1,5 +1,5 @@
-//! All inputs of a kind, decoded. The counts and checksums were computed by Python's decoder, which puts one U+FFFD for each
-//! maximal subpart as well, and once more by that of Rust.
+//! Decoding all inputs of a kind. The counts and checksums were computed by Python's decoder, which also writes one
+//! U+FFFD for each maximal subpart, and again by Rust's.
 
 use crate::asserts::{assert_equal, assert_that};
 use compact_str::{CompactString, FromUtf8Error};
@@ -12,13 +12,13 @@ const BOUNDS: [u8; 30] = [
     0xED, 0xEE, 0xEF, 0xF0, 0xF1, 0xF3, 0xF4, 0xF5, 0xF7, 0xF8, 0xFB, 0xFC, 0xFE, 0xFF,
 ];
 
-/// The checksum `sum` with a further number.
+/// Mixes a number into a checksum.
 fn mix(sum: u64, number: u64) -> u64 {
     sum.wrapping_mul(31).wrapping_add(number)
 }
 
-/// 255 of bytes that are a text, else eight times the place of the error and the length of the invalid sequence, 0 where the
-/// end is open.
+/// Returns 255 if the bytes are valid; else eight times the position of the error plus the length of the invalid
+/// sequence, 0 for an unexpected end.
 fn error_of(rt: &impl Abort, alloc: Global, bytes: &[u8]) -> u64 {
     match CompactString::from_utf8(alloc, bytes) {
         Ok(_) => 255,
@@ -37,7 +37,7 @@ fn error_of(rt: &impl Abort, alloc: Global, bytes: &[u8]) -> u64 {
     }
 }
 
-/// The checksum with the bytes of the lossy text and their number. A text stands inline just up to 24 bytes.
+/// Mixes the bytes and length of the lossy text into a checksum. Asserts that a text is inline just up to 24 bytes.
 fn mix_lossy(rt: &impl Abort, alloc: Global, sum: u64, bytes: &[u8]) -> u64 {
     let text = CompactString::from_utf8_lossy(alloc, bytes).expect(rt, "memory");
     assert_that(rt, text.is_heap_allocated() == (text.len() > 24));
@@ -102,14 +102,14 @@ fn all_pairs_of_units_at_the_bounds(rt: HostRuntime) {
     assert_equal(&rt, texts, 8);
 }
 
-/// A generator of numbers by xorshift.
+/// An xorshift generator.
 #[derive(Drop)]
 struct Generator {
     state: u64,
 }
 
 impl Generator {
-    /// A number below `limit`.
+    /// Draws a number below `limit`.
     fn below(&mut self, limit: u64) -> u64 {
         self.state ^= self.state << 13;
         self.state ^= self.state >> 7;
@@ -117,7 +117,7 @@ impl Generator {
         (self.state >> 32).wrapping_mul(limit) >> 32
     }
 
-    /// A byte at the bounds, or in one of four cases a letter.
+    /// Draws a byte at the bounds, or one time in four an ASCII letter.
     fn byte(&mut self) -> u8 {
         if self.below(4) == 0 {
             ((self.below(26) % 26) as u8).wrapping_add(b'A')
@@ -127,7 +127,7 @@ impl Generator {
     }
 }
 
-/// The checksum of the lossy texts of the next hundred invalid inputs, of 1 to 40 bytes.
+/// Returns the checksum of the lossy texts of the next hundred invalid inputs, of 1 to 40 bytes.
 fn hundred(rt: &impl Abort, alloc: Global, generator: &mut Generator) -> u64 {
     let mut sum = 0;
     let mut invalid = 0u32;

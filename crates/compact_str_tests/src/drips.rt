@@ -2,7 +2,7 @@
 
 use bytes::Buf;
 
-/// Bytes of which no two lie together.
+/// Bytes in chunks of one.
 #[derive(Drop)]
 pub struct Drips<'a> {
     pub rest: &'a [u8],

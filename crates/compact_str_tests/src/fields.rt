@@ -1,4 +1,4 @@
-//! Values as they are written and read by serde, as JSON.
+//! Values in serde, as JSON.
 
 use crate::asserts::{assert_equal, assert_fitted, assert_that};
 use compact_str::CompactString;
@@ -7,7 +7,7 @@ use compact_testing::values::{append, lasting, value_of};
 use std::alloc::Global;
 use std::process::Abort;
 
-/// A text of `count` bytes: as many of the characters as go into it, and letters before them.
+/// Returns a text of `count` bytes: `x`s, then as many characters as fit.
 fn filled(rt: &impl Abort, alloc: Global, character: &str, count: usize) -> CompactString {
     let mut text = value_of(alloc, "").expect(rt, "memory");
     let width = character.len().max(1);
@@ -20,17 +20,17 @@ fn filled(rt: &impl Abort, alloc: Global, character: &str, count: usize) -> Comp
     text
 }
 
-/// What is written of a value.
+/// Writes a value.
 fn written(rt: &impl Abort, alloc: Global, value: &CompactString) -> String {
     serde_json::to_string(alloc, value).expect(rt, "memory")
 }
 
-/// The value that a JSON text is.
+/// Reads a value.
 fn read(rt: &impl Abort, alloc: Global, text: &str) -> CompactString {
     serde_json::from_str(alloc, text).expect(rt, "a JSON string")
 }
 
-/// Asserts that a value is written as its text between quotes, and is read back with its text, in the value up to 24 bytes.
+/// Asserts that a value is written as its text in quotes, and is read back with its text, inline up to 24 bytes.
 fn goes_round(rt: &impl Abort, alloc: Global, value: &CompactString) {
     let json = written(rt, alloc, value);
     let inner = json.strip_prefix('"').expect(rt, "a quote");
@@ -38,7 +38,7 @@ fn goes_round(rt: &impl Abort, alloc: Global, value: &CompactString) {
     assert_fitted(rt, &read(rt, alloc, json.as_str()), value.as_str());
 }
 
-/// Asserts this of texts of each length up to 60 bytes.
+/// Asserts this for each length up to 60 bytes.
 fn all_go_round(rt: &impl Abort, alloc: Global, character: &str) {
     for count in 0..=60 {
         let text = filled(rt, alloc, character, count);
@@ -60,7 +60,7 @@ fn a_static_value_is_written_too(rt: HostRuntime) {
     goes_round(&rt, rt.alloc(), &lasting(rt.alloc(), 3));
 }
 
-/// Asserts how a value is written, and that it is read back.
+/// Asserts the JSON of a value, and that it is read back.
 fn is_written(rt: &impl Abort, alloc: Global, value: &CompactString, json: &str) {
     assert_equal(rt, written(rt, alloc, value).as_str(), json);
     assert_fitted(rt, &read(rt, alloc, json), value.as_str());
@@ -107,7 +107,7 @@ fn texts_in_a_row_are_read_in_order(rt: HostRuntime) {
     assert_that(&rt, are_texts(row.as_slice(), &texts));
 }
 
-/// Asserts that a JSON text is no text.
+/// Asserts that a JSON text is not a valid string.
 fn is_no_text(rt: &impl Abort, alloc: Global, json: &str) {
     let read: Result<CompactString, serde_json::Error> = serde_json::from_str(alloc, json);
     assert_that(rt, read.is_err());

@@ -1,4 +1,4 @@
-//! Values as they are shown. What is expected is what Rust shows of a `str`.
+//! `Debug` and `Display`. Expected is what Rust prints for a `str`.
 
 use crate::asserts::assert_that;
 use crate::made::assert_shown;

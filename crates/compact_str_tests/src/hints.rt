@@ -1,13 +1,13 @@
-//! An iterator whose size hint says nothing, or far too much.
+//! An iterator whose size hint is useless or far too large.
 
-/// Gives references to some items, in order. Its hint is `(0, Some(usize::MAX))` or `(0, None)`, whatever they are.
+/// Yields references to items, in order. Its hint is always `(0, Some(usize::MAX))` or `(0, None)`.
 #[derive(Drop)]
 pub struct Hinting<'a, T> {
     rest: &'a [T],
     hints_too_much: bool,
 }
 
-/// An iterator over these items.
+/// Creates an iterator over these items.
 pub fn with_hint<T>(items: &[T], hints_too_much: bool) -> Hinting<'_, T> {
     Hinting {
         rest: items,
@@ -33,7 +33,7 @@ impl<'a, T> Iterator for Hinting<'a, T> {
     }
 
     fn size_hint(&self) -> (usize, Option<usize>) {
-        // The proof reads from it that so many items are no more than the hint says.
+        // Lets the proof see that the number of items is within the hint.
         let _left = self.rest.len();
         if self.hints_too_much {
             (0, Some(usize::MAX))

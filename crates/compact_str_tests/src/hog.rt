@@ -1,10 +1,10 @@
-//! That a test can take all memory, and give it back.
+//! Taking all memory and freeing it.
 
 use crate::asserts::assert_that;
 use compact_testing::memory::take_all;
 use std::alloc::{AllocError, Global};
 
-/// Whether one byte can be had.
+/// Returns `true` if one byte can be allocated.
 fn has_memory(alloc: Global) -> bool {
     let byte: Result<Vec<u8>, AllocError> = Vec::with_capacity(alloc, 1);
     byte.is_ok()

@@ -1,5 +1,5 @@
-//! Tests of `compact_str`: how values are made, decoded, collected, edited, taken apart, compared, shown and handed on, and what
-//! they do where no memory is left, where a hint lies and where bytes come in pieces.
+//! Tests of `compact_str`: making, decoding, collecting, editing, splitting, comparing, formatting and converting
+//! values; also with no memory left, wrong size hints, and bytes in pieces.
 #![tactic(auto)]
 
 #[cfg(test)]

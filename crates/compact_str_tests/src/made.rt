@@ -1,4 +1,4 @@
-//! What a call made, by functions that take it over: a test that owned what it asks of would be dear to prove.
+//! Checks that take ownership of a result: a test that owned it would be costly to prove.
 
 use crate::asserts::assert_equal;
 use compact_asserts::that_for;
@@ -7,23 +7,22 @@ use compact_testing::seen::{is_fitted, is_inline};
 use std::alloc::{AllocError, Global};
 use std::process::Abort;
 
-/// Asserts that this short text was made, which stands inline.
+/// Asserts that this short text was made, inline.
 pub fn assert_made_inline<E: Drop>(rt: &impl Abort, made: Result<CompactString, E>, text: &str) {
     that_for(text, is_inline(&made.ok().expect(rt, "a text"), text)).expect(rt, "it holds");
 }
 
-/// Asserts what a format made.
+/// Asserts the result of a format.
 pub fn assert_shown(rt: &impl Abort, made: Result<String, AllocError>, text: &str) {
     assert_equal(rt, made.expect(rt, "memory").as_str(), text);
 }
 
-/// Asserts that the call of this name was refused.
+/// Asserts that the named call failed.
 pub fn assert_refused<T: Drop, E: Drop>(rt: &impl Abort, call: &str, made: Result<T, E>) {
     that_for(call, made.is_err()).expect(rt, "it holds");
 }
 
-/// Asserts that the call of this name made a text, inline where it has at most 24 bytes and else on the heap; or, where there
-/// is none, that it was refused.
+/// Asserts that the named call made a text, inline up to 24 bytes and else on the heap; or, if `None`, that it failed.
 pub fn assert_made<E: Drop>(
     rt: &impl Abort,
     call: &str,
@@ -33,7 +32,7 @@ pub fn assert_made<E: Drop>(
     that_for(call, is_wanted(made, wanted)).expect(rt, "it holds");
 }
 
-/// Whether that is what was made.
+/// Returns `true` if the result is the expected one.
 fn is_wanted<E: Drop>(made: Result<CompactString, E>, wanted: Option<&str>) -> bool {
     match made {
         Ok(value) => match wanted {
@@ -44,7 +43,7 @@ fn is_wanted<E: Drop>(made: Result<CompactString, E>, wanted: Option<&str>) -> b
     }
 }
 
-/// Whether a value has this text of its own, where that stands.
+/// Returns `true` if a value owns this text, in the place for its length.
 fn is_placed(value: &CompactString, text: &str) -> bool {
     if text.len() <= 24 {
         is_inline(value, text)
@@ -53,7 +52,7 @@ fn is_placed(value: &CompactString, text: &str) -> bool {
     }
 }
 
-/// Values with these texts of the program.
+/// Creates values from literals.
 pub fn values_of(rt: &impl Abort, alloc: Global, texts: &[&'static str]) -> Vec<CompactString> {
     let mut values = Vec::new(alloc);
     for text in texts {

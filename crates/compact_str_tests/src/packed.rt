@@ -1,4 +1,4 @@
-//! Inline values as their 24 bytes, by rows that are written out.
+//! The 24 bytes of inline values, written out.
 
 use crate::asserts::{assert_equal, assert_inline, assert_that};
 use compact_asserts::that;
@@ -7,23 +7,23 @@ use compact_testing::values::{append, lasting, letters, value_of, with_room};
 use std::alloc::Global;
 use std::process::Abort;
 
-/// Keeps the first bytes, up to a position that is tested first.
+/// Keeps the first bytes, up to a position that is checked first.
 fn truncate(rt: &impl Abort, value: &mut CompactString, len: usize) {
     that(len >= value.len() || value.is_char_boundary(len)).expect(rt, "it holds");
     value.truncate(len);
 }
 
-/// The 24 bytes of a value that is inline.
+/// Returns the 24 bytes of an inline value.
 fn bytes_of(rt: &impl Abort, value: &CompactString) -> [u8; 24] {
     value.packed().expect(rt, "an inline value")
 }
 
-/// The text that 24 bytes stand for.
+/// Reads a text from its 24 bytes.
 fn read(rt: &impl Abort, alloc: Global, bytes: &[u8; 24]) -> CompactString {
     CompactString::from_packed(alloc, bytes).expect(rt, "bytes of a text")
 }
 
-/// Asserts that a value is inline, that its bytes are its text and its length, and that they are read as the same text.
+/// Asserts that a value is inline, that its bytes are its text and length, and that they are read as that text.
 fn is_packed(rt: &impl Abort, alloc: Global, value: &CompactString) {
     let bytes = bytes_of(rt, value);
     let text = value.as_str();
@@ -34,7 +34,7 @@ fn is_packed(rt: &impl Abort, alloc: Global, value: &CompactString) {
     assert_inline(rt, &read(rt, alloc, &bytes), text);
 }
 
-/// The same of a value that is made of the text at once, where zeros stand between the text and its length.
+/// The same for a value just made from the text, with zeros between text and length.
 fn is_packed_anew(rt: &impl Abort, alloc: Global, value: &CompactString) {
     is_packed(rt, alloc, value);
     let made = value_of(alloc, value.as_str()).expect(rt, "memory");
@@ -172,7 +172,7 @@ fn what_stands_behind_a_text_is_not_read(rt: HostRuntime) {
     }
 }
 
-/// Wipes a value, and asserts that its bytes are those of the empty text.
+/// Wipes a value, and asserts the bytes of the empty text.
 fn is_wiped(rt: &impl Abort, alloc: Global, mut value: CompactString) {
     value.zeroize();
     assert_inline(rt, &value, "");

@@ -1,5 +1,4 @@
-//! Positions that a value has, and texts of the program that are split at one. Edits at positions are lines of the table of
-//! `compact_table_tests`.
+//! Positions in a value, and splits of static strings. Edits at positions are in the table of `compact_table_tests`.
 
 use crate::asserts::{assert_equal, assert_inline, assert_that};
 use compact_asserts::{that, that_for};
@@ -9,7 +8,7 @@ use compact_testing::values::{lasting, letters, short};
 use std::ops::Bound::{Excluded, Included, Unbounded};
 use std::process::Abort;
 
-/// Splits at a position that is tested first.
+/// Splits at a position that is checked first.
 fn split(rt: &impl Abort, value: &mut CompactString, index: usize) -> CompactString {
     that(value.is_char_boundary(index)).expect(rt, "it holds");
     value.split_off(index).expect(rt, "memory")

@@ -1,5 +1,5 @@
-//! How much memory serde takes to read a record of short texts: no more than the reader takes for itself, since a record that
-//! borrows its texts of the input is read with as much.
+//! The memory that serde takes to read a record of short texts: only the reader's, since a record that borrows its
+//! texts takes as much.
 
 use crate::asserts::assert_equal;
 use compact_str::CompactString;
@@ -9,11 +9,11 @@ use std::alloc::{AllocError, Global};
 use std::marker::PhantomData;
 use std::process::Abort;
 
-/// What is read: two texts, of which each would be a buffer of a `String`, of one size.
+/// Two texts, each of which would be a `String` buffer, both of one size.
 const RECORD: &str = r#"{"a":"zoë","b":"of 24 bytes and no more."}"#;
 
-/// A record of two texts of one type. It names the lifetime of the input, so that `Deserialize` alone is derived: `from_str`
-/// asks for no `DeserializeOwned`.
+/// A record of two texts of one type. It names the input's lifetime so that only `Deserialize` is derived; `from_str`
+/// does not need `DeserializeOwned`.
 #[derive(Drop, Deserialize)]
 struct Record<'de, T> {
     #[serde(skip)]
@@ -22,7 +22,7 @@ struct Record<'de, T> {
     b: T,
 }
 
-/// So many blocks of each size that a small request takes. The list of them stays, so that it leaves no room.
+/// Allocates `count` blocks of each size of small allocations. Callers keep the list, so that it frees no room.
 fn blocks_of_each_size(alloc: Global, count: usize) -> Result<Vec<Vec<u8>>, AllocError> {
     let mut blocks = Vec::with_capacity(alloc, 1000)?;
     for step in 1..60usize {
@@ -33,7 +33,7 @@ fn blocks_of_each_size(alloc: Global, count: usize) -> Result<Vec<Vec<u8>>, Allo
     Ok(blocks)
 }
 
-/// Whether the record that borrows is read.
+/// Returns `true` if the borrowing record is read.
 fn reads_borrowed(alloc: Global) -> bool {
     let read: Result<Record<'_, &str>, serde_json::Error> = serde_json::from_str(alloc, RECORD);
     match read {
@@ -42,7 +42,7 @@ fn reads_borrowed(alloc: Global) -> bool {
     }
 }
 
-/// Whether the record of values is.
+/// Returns `true` if the record of values is read.
 fn reads_values(alloc: Global) -> bool {
     let read: Result<Record<'_, CompactString>, serde_json::Error> = serde_json::from_str(
         alloc, RECORD,
@@ -53,7 +53,7 @@ fn reads_values(alloc: Global) -> bool {
     }
 }
 
-/// Whether the record of strings is.
+/// Returns `true` if the record of strings is read.
 fn reads_strings(alloc: Global) -> bool {
     let read: Result<Record<'_, String>, serde_json::Error> = serde_json::from_str(alloc, RECORD);
     match read {
@@ -62,7 +62,7 @@ fn reads_strings(alloc: Global) -> bool {
     }
 }
 
-/// Which of the three are read where so many blocks of each size are all memory that is left.
+/// Returns which of the three are read when only `count` blocks of each size are free.
 fn are_read(rt: &impl Abort, alloc: Global, count: usize) -> [bool; 3] {
     let mut blocks = blocks_of_each_size(alloc, count).expect(rt, "memory");
     let hog = take_all(alloc).expect(rt, "room for the list of blocks");

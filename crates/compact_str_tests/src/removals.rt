@@ -1,4 +1,4 @@
-//! What is taken out of a text, and what of it is changed.
+//! Removing and changing parts of a text.
 
 use crate::asserts::{assert_equal, assert_inline, assert_that};
 use compact_asserts::{that, that_for};
@@ -10,7 +10,7 @@ use std::ops::Bound;
 use std::ops::Bound::{Excluded, Included, Unbounded};
 use std::process::Abort;
 
-/// A drain of a range, which is granted.
+/// Drains a valid range.
 fn drain<'a>(
     rt: &impl Abort,
     value: &'a mut CompactString,
@@ -21,13 +21,13 @@ fn drain<'a>(
     value.drain(start, end).expect(rt, "memory")
 }
 
-/// The middle of a greeting, of which nothing is taken yet.
+/// Drains the middle of a greeting.
 fn greeted<'a>(rt: &impl Abort, value: &'a mut CompactString) -> Drain<'a, Standard> {
     drain(rt, value, Included(5), Excluded(12))
 }
 
-/// Asserts what a drain of a text gives from its front, from its back and in between, and what it leaves in the place and with
-/// the capacity that it had. A hint tells of at most so many characters as bytes, and at least of a quarter, rounded up.
+/// Asserts what a drain yields from its front, back and middle, and the value it leaves, with place and capacity
+/// unchanged. Its hint is at most the bytes, and at least a quarter of them, rounded up.
 fn assert_drained(
     rt: &impl Abort,
     value: &mut CompactString,
@@ -60,7 +60,7 @@ fn a_drain_is_counted(rt: HostRuntime) {
     assert_inline(&rt, &value, "Hello!");
 }
 
-/// How many characters are drained. That a number holds it, the length of what is left tells the proof.
+/// Counts the drained characters. The length of what is left shows the proof that the count fits.
 #[tactic(auto, using(crate::proofs::Counts::counting))]
 fn drained_count(rt: &impl Abort, value: &mut CompactString) -> usize {
     let drained = greeted(rt, value);

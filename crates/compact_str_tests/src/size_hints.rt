@@ -1,4 +1,4 @@
-//! Items whose hint tells nothing or too much, where there is memory: each call gives what the items give.
+//! Items with a useless or too large hint, with ample memory: each call depends only on the items.
 
 use crate::asserts::{assert_equal, assert_inline, assert_that};
 use crate::hints::with_hint;
@@ -9,7 +9,7 @@ use compact_testing::values::{letters, short};
 use std::alloc::Global;
 use std::process::Abort;
 
-/// Asserts what each call makes of texts behind each other; `None` where it is refused.
+/// Asserts the result of each call that concatenates texts; `None` if it fails.
 pub fn assert_texts(
     rt: &impl Abort,
     alloc: Global,
@@ -37,7 +37,7 @@ pub fn assert_texts(
     );
 }
 
-/// Asserts what texts are with a separator between each two; `None` where they are refused.
+/// Asserts the result of joining texts; `None` if it fails.
 pub fn assert_joined(
     rt: &impl Abort,
     alloc: Global,
@@ -54,7 +54,7 @@ pub fn assert_joined(
     );
 }
 
-/// Asserts what each call makes of characters; `None` where it is refused.
+/// Asserts the result of each call on characters; `None` if it fails.
 pub fn assert_characters(
     rt: &impl Abort,
     alloc: Global,
@@ -82,7 +82,7 @@ pub fn assert_characters(
     );
 }
 
-/// Asserts what is collected of a few items, which needs no memory.
+/// Asserts the result of collecting a few items, without memory.
 pub fn assert_collected(rt: &impl Abort, alloc: Global, too_much: bool) {
     let texts = ["a", "", "bc"];
     assert_texts(rt, alloc, &texts, Some("abc"), too_much);
@@ -90,7 +90,7 @@ pub fn assert_collected(rt: &impl Abort, alloc: Global, too_much: bool) {
     assert_characters(rt, alloc, &['a', 'b', 'c'], Some("abc"), too_much);
 }
 
-/// Asserts that a value is extended up to 24 bytes, which needs no memory.
+/// Asserts that a value is extended up to 24 bytes, without memory.
 pub fn assert_extended(rt: &impl Abort, alloc: Global, too_much: bool) {
     let mut value = CompactString::default(alloc);
     let characters = ['ä', '€'];
@@ -114,7 +114,7 @@ pub fn assert_extended(rt: &impl Abort, alloc: Global, too_much: bool) {
     assert_inline(rt, &value, "ä€aaaaaaaaaaä€xyz");
 }
 
-/// Asserts that values are put behind a `String` that has room for them.
+/// Asserts that values are appended to a `String` with room for them.
 pub fn assert_appended(
     rt: &impl Abort,
     line: &mut String,
@@ -145,7 +145,7 @@ fn a_string_is_given_what_the_items_give(rt: HostRuntime) {
     assert_equal(&rt, line.len(), 0);
 }
 
-/// Asserts what is made of more than 24 bytes, on the heap.
+/// Asserts results of more than 24 bytes, on the heap.
 fn assert_long(rt: &impl Abort, alloc: Global, too_much: bool) {
     let texts = [letters(20), "", letters(5)];
     assert_texts(rt, alloc, &texts, Some(letters(25)), too_much);
@@ -161,8 +161,8 @@ fn long_texts_are_what_the_items_give(rt: HostRuntime) {
     assert_long(&rt, alloc, true);
 }
 
-/// Extends a static text of 30 bytes by nothing and by a letter, and 24 bytes by a letter: room is made item by item, by the
-/// half of what stands.
+/// Extends a static string of 30 bytes by nothing and by one character, and 24 bytes by one character: room is made
+/// item by item, growing by half.
 fn assert_room(rt: &impl Abort, alloc: Global, too_much: bool) {
     let mut value = CompactString::const_new(alloc, letters(30));
     value

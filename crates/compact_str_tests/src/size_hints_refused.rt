@@ -1,4 +1,4 @@
-//! The same where no memory is left: up to 24 bytes nothing is refused, and more is, whatever the hint.
+//! The same with no memory: up to 24 bytes succeed and more fail, whatever the hint.
 
 use crate::asserts::{assert_equal, assert_inline};
 use crate::hints::with_hint;
@@ -38,7 +38,7 @@ fn a_string_with_room_is_given_the_texts(rt: HostRuntime) {
     assert_equal(rt, line.capacity(), 32);
 }
 
-/// Asserts that more than 24 bytes of texts are refused, and of characters.
+/// Asserts that more than 24 bytes of texts or characters fail.
 fn assert_long_refused(rt: &impl Abort, alloc: Global, too_much: bool) {
     assert_texts(rt, alloc, &[letters(20), letters(5)], None, too_much);
     assert_joined(rt, alloc, &["a", "b"], letters(23), None, too_much);
@@ -55,7 +55,7 @@ fn more_than_24_bytes_are_refused(rt: HostRuntime) {
     drop(hog);
 }
 
-/// Asserts that an extension stops at the first item that is refused, with those before it in the value.
+/// Asserts that an extension stops at the first item that fails, keeping those before it.
 fn assert_stops(rt: &impl Abort, alloc: Global, too_much: bool) {
     let mut value = CompactString::default(alloc);
     let texts = [letters(20), letters(4), "b", ""];
@@ -94,7 +94,7 @@ fn an_extension_stops_at_what_is_refused(rt: HostRuntime) {
     drop(hog);
 }
 
-/// Asserts that a string, which is empty, is given the first of these values alone, and empties it.
+/// Asserts that only the first of these values is appended to an empty string, then clears it.
 fn assert_append_stops(
     rt: &impl Abort,
     line: &mut String,

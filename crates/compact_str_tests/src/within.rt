@@ -1,4 +1,4 @@
-//! Calls on a range as Rust writes it.
+//! Calls on a Rust range.
 
 use crate::asserts::{assert_equal, assert_heap, assert_inline, assert_that};
 use compact_asserts::that;

@@ -1,4 +1,4 @@
-//! What `write!`, `writeln` and `write` append, and what they leave where they fail.
+//! `write!`, `writeln!`, `write` and `writeln`: the text appended, and the value on `Err`.
 
 use crate::asserts::{assert_equal, assert_heap, assert_inline, assert_that};
 use compact_str::{CompactString, ReserveError};
@@ -8,7 +8,7 @@ use compact_testing::values::{lasting, letters, short, value_of, with_room};
 use std::fmt;
 use std::fmt::Display;
 
-/// It writes a letter, and then fails by itself.
+/// Writes one character, then fails without an allocation failing.
 #[derive(Drop)]
 struct Half;
 
@@ -19,7 +19,7 @@ impl Display for Half {
     }
 }
 
-/// It writes 80 letters twenty times, and answers `Ok` in spite of a refusal.
+/// Writes 80 characters twenty times, and returns `Ok` even if that fails.
 #[derive(Drop)]
 struct Hiding;
 
@@ -32,7 +32,7 @@ impl Display for Hiding {
     }
 }
 
-/// With no import, the error of a write is that of an append.
+/// Without an import, a write has the error of an append.
 fn write_count(line: &mut CompactString, name: &str, count: u32) -> Result<(), ReserveError> {
     write!(line, "{name}: {count}")
 }

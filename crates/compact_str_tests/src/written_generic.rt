@@ -1,4 +1,4 @@
-//! Writes where `fmt::Write` is imported: generic code uses it, and a value's own calls go before it.
+//! `fmt::Write`, when imported, serves generic code; a value's own methods take precedence.
 
 use crate::asserts::assert_inline;
 use compact_str::{CompactString, ReserveError};
@@ -6,12 +6,12 @@ use compact_testing::values::short;
 use std::fmt;
 use std::fmt::Write;
 
-/// A `fmt::Write` of any type writes by its own `write_str`.
+/// Writes by the trait's `write_str`.
 fn write_mark<W: Write>(out: &mut W) -> fmt::Result {
     write!(out, "{}!", 12)
 }
 
-/// Of a value it is the call of the type, whose error is `ReserveError`.
+/// Writes by the type's own method, whose error is `ReserveError`.
 fn write_own_mark(line: &mut CompactString) -> Result<(), ReserveError> {
     write!(line, "{}?", 12)
 }

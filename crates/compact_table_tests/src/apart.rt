@@ -1,4 +1,4 @@
-//! Cases that no line of the table can tell, with requests.
+//! Cases with allocations that the table cannot express.
 
 use crate::faults::Faults;
 use crate::making::read_json;
@@ -12,11 +12,11 @@ use serde_json::{Value, json};
 use std::alloc::Global;
 use std::boxed::BoxedStr;
 
-/// 30 letters, 40 digits and 40 digits.
+/// 30 ASCII letters, then 40 digits twice.
 const PUSHED: &str =
     "abcdefghijklmnopqrstuvwxyzABCD01234567890123456789012345678901234567890123456789012345678901234567890123456789";
 
-/// Each of these cases.
+/// Runs these cases.
 pub fn cases(alloc: Global, ration: &mut Ration, faults: &mut Faults) {
     tell(
         copies_box(alloc, ration),
@@ -44,13 +44,13 @@ pub fn cases(alloc: Global, ration: &mut Ration, faults: &mut Faults) {
     );
 }
 
-/// Tells a case, and takes what was granted for it and is not used.
+/// Reports a case, and takes back unused grants.
 pub fn tell(holds: bool, ration: &mut Ration, faults: &mut Faults, name: &str) {
     faults.apart(name, holds);
     ration.take_rest();
 }
 
-/// A value of a box, or the box where that was refused.
+/// Converts a box, or returns it if allocation fails.
 pub fn unboxed(alloc: Global, text: BoxedStr) -> Result<CompactString, BoxedStr> {
     match CompactString::from_boxed_str(alloc, text) {
         Ok(value) => Ok(value),
@@ -58,7 +58,7 @@ pub fn unboxed(alloc: Global, text: BoxedStr) -> Result<CompactString, BoxedStr>
     }
 }
 
-/// Whether a box is handed back at a refusal, and copied with its request granted.
+/// Returns `true` if a box is returned when allocation fails, and copied when it is granted.
 fn copies_box(alloc: Global, ration: &mut Ration) -> bool {
     ration.grant(New(30));
     let boxed = BoxedStr::from_str(alloc, letters(0, 30));
@@ -87,7 +87,7 @@ fn is_copied(alloc: Global, ration: &mut Ration, boxed: BoxedStr) -> bool {
     holds && is_same
 }
 
-/// Whether a number is told from a refusal, with no memory.
+/// Returns `true` if a number is distinguished from a failed allocation, without memory.
 fn is_no_string(alloc: Global) -> bool {
     match json!(in alloc; 1) {
         Ok(number) => is_fault(alloc, &number),
@@ -99,7 +99,7 @@ fn is_fault(alloc: Global, json: &Value) -> bool {
     matches!(read_json(json, alloc), Made::Fault)
 }
 
-/// Whether a line to which values are appended has so many bytes after so many grants.
+/// Returns `true` if a line to which values are appended has the right length after each number of grants.
 fn are_appended(alloc: Global, ration: &mut Ration) -> bool {
     let mut holds = true;
     for (granted, len) in [0, 30, 70, 110].iter().enumerate() {
@@ -122,12 +122,12 @@ fn append(alloc: Global, line: &mut String) -> bool {
     append_all(line, [&first, &other, &other]).is_ok()
 }
 
-/// The first so many bytes of what is appended or pushed.
+/// Returns the first `len` bytes of what is appended or pushed.
 fn front(len: usize) -> &'static str {
     PUSHED.get(..len).unwrap_or("")
 }
 
-/// Whether pushes of 30, 40 and 40 bytes leave these values after so many grants.
+/// Returns `true` if pushes of 30, 40 and 40 bytes leave the right value after each number of grants.
 fn are_pushed(alloc: Global, ration: &mut Ration) -> bool {
     let asks = [New(32), More(70), More(110)];
     let mut holds = is_pushed(alloc, 3, 0, inline(""));

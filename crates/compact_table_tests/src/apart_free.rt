@@ -1,4 +1,4 @@
-//! Cases that no line of the table can tell, of calls that need no memory: each is made with every request refused.
+//! Cases without allocations that the table cannot express; every allocation fails.
 
 use crate::apart::{tell, unboxed};
 use crate::faults::Faults;
@@ -17,10 +17,10 @@ use std::boxed::BoxedStr;
 use std::cmp::Ordering;
 use std::ops::Bound::{Excluded, Included};
 
-/// A value of each place, and one on the heap that was longer.
+/// One value for each place, and one on the heap that was longer.
 const PLACES: [Start<'static>; 4] = [Start::Inline, Start::Static, Start::Heap, Start::Shortened];
 
-/// Each of these cases, in the order of the table's list.
+/// Runs these cases in the order of the table's list.
 pub fn cases(alloc: Global, ration: &mut Ration, faults: &mut Faults) {
     tell(
         copies_box(alloc, ration),
@@ -98,7 +98,7 @@ fn copies_box(alloc: Global, ration: &mut Ration) -> bool {
     }
 }
 
-/// Whether a value is made, and looks so.
+/// Returns `true` if a value is made and looks so.
 fn is_made(value: Option<CompactString>, seen: Seen<'_>) -> bool {
     match value {
         Some(value) => is_seen(&value, seen),
@@ -106,7 +106,7 @@ fn is_made(value: Option<CompactString>, seen: Seen<'_>) -> bool {
     }
 }
 
-/// 2: texts of the program, and nothing.
+/// 2: literals, and the empty text.
 fn takes_texts(alloc: Global) -> bool {
     let (first, second) = (letters(0, 24), letters(0, 30));
     let mut holds = is_seen(&CompactString::const_new(alloc, first), inline(first));
@@ -124,7 +124,7 @@ fn takes_strings(alloc: Global, ration: &mut Ration) -> bool {
     holds && takes_cow(alloc, string(alloc, ration, 30, text), seen)
 }
 
-/// A string with just that room, for which its request is granted.
+/// Creates a string of just this capacity, granting its allocation.
 fn string(
     alloc: Global,
     ration: &mut Ration,
@@ -162,10 +162,10 @@ fn takes_cow(alloc: Global, string: Result<String, AllocError>, seen: Seen<'_>) 
     }
 }
 
-/// What is done with a value of each place.
+/// Uses of a value of each place.
 #[derive(Clone, Copy)]
 enum Use {
-    /// 3: a look.
+    /// 3: its accessors.
     Look,
     /// 13: `as_cow`.
     Borrow,
@@ -193,7 +193,7 @@ fn uses(value: &mut CompactString, what: Use, seen: Seen<'_>) -> bool {
     }
 }
 
-/// Looks at a value of 3 letters or more, none of more than one byte.
+/// Checks the accessors of an ASCII value of 3 bytes or more.
 fn is_looked_at(value: &CompactString, seen: Seen<'_>) -> bool {
     let mut holds = is_seen(value, seen);
     holds &= value.as_bytes() == seen.text.as_bytes();
@@ -213,7 +213,7 @@ fn compares(alloc: Global, ration: &mut Ration) -> bool {
     is_less && is_copy_same(alloc, ration, &first)
 }
 
-/// Whether a value on the heap is equal to another.
+/// Returns `true` if a value on the heap equals another.
 fn is_copy_same(alloc: Global, ration: &mut Ration, first: &CompactString) -> bool {
     match Start::Heap.make(ration, alloc) {
         Some(second) => is_same(first, &second),
@@ -221,13 +221,13 @@ fn is_copy_same(alloc: Global, ration: &mut Ration, first: &CompactString) -> bo
     }
 }
 
-/// Whether two values are equal.
+/// Returns `true` if two values are equal.
 fn is_same(first: &CompactString, second: &CompactString) -> bool {
     let is_equal = first == second && first.cmp(second) == Ordering::Equal;
     is_equal && hash_of(first) == hash_of(second)
 }
 
-/// 8: the walk of a `Drain`, and its drop.
+/// 8: iterating a `Drain`, and its drop.
 fn walks_drain(alloc: Global, ration: &mut Ration) -> bool {
     match Start::Heap.make(ration, alloc) {
         Some(mut value) => is_walked(&mut value) && is_seen(&value, heap(32, "aD")),
@@ -247,7 +247,7 @@ fn is_walked(value: &mut CompactString) -> bool {
     is_first && is_last && drain.as_str() == letters(2, 28)
 }
 
-/// 13: `write_wire`, into a list that has room.
+/// 13: `write_wire`, into a list with room.
 fn writes(alloc: Global, ration: &mut Ration) -> bool {
     let mut holds = true;
     for start in &PLACES {
@@ -267,7 +267,7 @@ fn writes_value(alloc: Global, ration: &mut Ration, start: Start<'_>) -> bool {
     }
 }
 
-/// Whether four bytes are written for the length of a text, and then the text.
+/// Returns `true` if the four bytes of the length are written, then the text.
 fn is_written(value: &CompactString, room: Vec<u8>, text: &str) -> bool {
     let mut room = room;
     write_wire(value, &mut room).is_ok() && room.get(4..) == Some(text.as_bytes())

@@ -15,13 +15,13 @@ use std::mem;
 pub enum By<'a, 'b> {
     /// One edit by `run`.
     Run(&'b [Edit<'a, Standard>]),
-    /// An edit by the call of its name.
+    /// An edit by its method.
     Edit(&'b Edit<'a, Standard>),
-    /// The call of the case's name, which is no edit.
+    /// The method of the case's name, which is no edit.
     Name,
 }
 
-/// The reply to a call, answered as `run` answers an edit. There is room in `replies`.
+/// Makes a call and returns the reply that `run` gives for an edit. Needs room in `replies`.
 pub fn reply(
     case: &Case<'_>,
     by: By<'_, '_>,
@@ -35,7 +35,7 @@ pub fn reply(
     }
 }
 
-/// The reply to one edit. None for want of room is told as a bad position, which no case expects.
+/// Runs one edit. Returns a bad position, which no case expects, if there is no room for its reply.
 fn reply_of_run(
     edits: &[Edit<'_, Standard>],
     value: &mut CompactString,
@@ -47,7 +47,7 @@ fn reply_of_run(
     replies.pop().unwrap_or(Reply::BadPosition)
 }
 
-/// The reply to a call that is no edit. No call of that name is told as a bad position.
+/// Makes a call that is no edit. Returns a bad position if there is no call of that name.
 fn named(case: &Case<'_>, value: &mut CompactString) -> Reply<Standard> {
     let (first, last) = (case.word(0), case.word(1));
     match case.name {
@@ -71,8 +71,7 @@ fn write_both(value: &mut CompactString, first: &str, last: &str) -> Reply<Stand
     written(write!(value, "{first}{last}").is_ok())
 }
 
-/// Writes a line. The line feed at its end is taken off again, and where none is there, it is told as a bad position, which no
-/// case expects.
+/// Writes a line and removes its line feed. Returns a bad position, which no case expects, if there is none.
 fn write_line(value: &mut CompactString, text: &str) -> Reply<Standard> {
     let outcome = value.writeln(text);
     if outcome.is_ok() && value.pop() != Some('\n') {
@@ -95,8 +94,8 @@ fn shown(outcome: Result<CompactString, ToCompactStringError>) -> Reply<Standard
     }
 }
 
-/// Retains by a borrowed closure. If that fails after a first call of the closure, it is told as a bad position, which no case
-/// expects.
+/// Retains by a borrowed closure. Returns a bad position, which no case expects, if it fails after calling the
+/// closure.
 fn retain_by(value: &mut CompactString, answers: &[bool]) -> Reply<Standard> {
     let mut next = 0;
     let mut keep = |_| {
@@ -126,7 +125,7 @@ fn written(is_done: bool) -> Reply<Standard> {
     }
 }
 
-/// Adds to the value, which a refusal hands back.
+/// Adds to the value, which is returned on failure.
 fn add_str(value: &mut CompactString, text: &str) -> Reply<Standard> {
     let empty = CompactString::default(value.allocator());
     match mem::replace(value, empty).add_str(text) {
@@ -141,7 +140,7 @@ fn add_str(value: &mut CompactString, text: &str) -> Reply<Standard> {
     }
 }
 
-/// The answer of a call that answers nothing else.
+/// The reply to a call with no other result.
 pub fn done(outcome: Result<(), ReserveError>) -> Reply<Standard> {
     match outcome {
         Ok(()) => Reply::Done,
@@ -149,7 +148,7 @@ pub fn done(outcome: Result<(), ReserveError>) -> Reply<Standard> {
     }
 }
 
-/// The answer of a call that answers a text.
+/// The reply to a call that returns a text.
 pub fn given(outcome: Result<CompactString, ReserveError>) -> Reply<Standard> {
     match outcome {
         Ok(text) => Reply::Text(text),

@@ -1,4 +1,4 @@
-//! Calls that make a value of bytes or of units.
+//! Making values from bytes or UTF-16 units.
 
 use crate::making::value_or_refused;
 use crate::showing::show;
@@ -8,7 +8,7 @@ use bytes::Buf;
 use compact_str::{CompactString, FromUtf8Error, FromUtf16Error};
 use std::alloc::Global;
 
-/// Makes the value of a case whose call decodes, or else that of another call.
+/// Makes the value of a case that decodes, or else by another call.
 pub fn decode(case: &Case<'_>, alloc: Global) -> Made {
     let (bytes, units) = (case.listed.bytes(), case.listed.units());
     match case.name {
@@ -26,7 +26,7 @@ pub fn decode(case: &Case<'_>, alloc: Global) -> Made {
     }
 }
 
-/// The same of units that come in bytes.
+/// The same from units in bytes.
 fn decode_ordered(case: &Case<'_>, bytes: &[u8], alloc: Global) -> Made {
     match case.name {
         "from_utf16le" => of_utf16(CompactString::from_utf16le(alloc, bytes)),
@@ -37,7 +37,7 @@ fn decode_ordered(case: &Case<'_>, bytes: &[u8], alloc: Global) -> Made {
     }
 }
 
-/// A buffer in two pieces.
+/// Makes a value from a buffer in two pieces.
 fn of_pieces(first: &str, last: &str, alloc: Global) -> Made {
     let mut pieces = Buf::chain(first.as_bytes(), last.as_bytes());
     of_utf8(CompactString::from_utf8_buf(alloc, &mut pieces))

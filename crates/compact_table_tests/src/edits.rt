@@ -1,4 +1,4 @@
-//! Edits: each of a line's words, and by the call of its name.
+//! Edits: parsed from a line, and made by their methods.
 
 use crate::calls::{done, given};
 use crate::listed::Listed;
@@ -8,7 +8,7 @@ use compact_edit::{Edit, Reply};
 use compact_str::{CompactString, Standard};
 use std::ops::Bound;
 
-/// The edit that is written so. `None` is no edit, or has another operand.
+/// Parses an edit. Returns `None` if it is no edit, or has another operand.
 pub fn edit_of<'a>(call: &'a str, listed: &'a Listed) -> Option<Edit<'a, Standard>> {
     let (name, rest) = first_word(call);
     match name {
@@ -30,7 +30,7 @@ fn retain_of<'a>(word: &str) -> Option<Edit<'a, Standard>> {
     Some(Edit::Retain(answers_of(text_of(word))?))
 }
 
-/// For each of the first characters whether it stays: 1 is one that does.
+/// Returns whether each of the first characters is kept, from a word of 1s and 0s.
 pub fn answers_of(word: &str) -> Option<&'static [bool]> {
     match word {
         "" => Some(&[]),
@@ -42,7 +42,7 @@ pub fn answers_of(word: &str) -> Option<&'static [bool]> {
     }
 }
 
-/// The edit of a name, of a position or a range, and of what is put in there.
+/// Returns the edit of a name, a position or range, and what is inserted.
 fn edit_at<'a>(name: &str, operands: &'a str) -> Option<Edit<'a, Standard>> {
     let (place, operand) = first_word(operands);
     match name {
@@ -60,7 +60,7 @@ fn edit_at<'a>(name: &str, operands: &'a str) -> Option<Edit<'a, Standard>> {
     }
 }
 
-/// The edit of a name and a number.
+/// Returns the edit of a name and a number.
 fn edit_of_number<'a>(name: &str, number: usize) -> Option<Edit<'a, Standard>> {
     match name {
         "remove" => Some(Edit::Remove(number)),
@@ -73,8 +73,8 @@ fn edit_of_number<'a>(name: &str, number: usize) -> Option<Edit<'a, Standard>> {
     }
 }
 
-/// A range of two positions with `..` between them, of which each may be missing. With `>` before the first it is excluded,
-/// and with `=` before the last it is included.
+/// Parses two positions with `..` between them, of which each may be missing. `>` before the first excludes it; `=`
+/// before the last includes it.
 fn range(word: &str) -> Option<(Bound<usize>, Bound<usize>)> {
     let (start, end) = word.split_once("..")?;
     let start = match start.strip_prefix('>') {
@@ -90,7 +90,7 @@ fn range(word: &str) -> Option<(Bound<usize>, Bound<usize>)> {
     Some((start, end))
 }
 
-/// An edit by the call of its name, answered as `run` answers it.
+/// Makes an edit by its method, and returns the reply that `run` gives.
 pub fn call(edit: &Edit<'_, Standard>, value: &mut CompactString) -> Reply<Standard> {
     match edit {
         Edit::Push(character) => done(value.push(*character)),
@@ -110,7 +110,7 @@ pub fn call(edit: &Edit<'_, Standard>, value: &mut CompactString) -> Reply<Stand
     }
 }
 
-/// An edit at a position or a range, which may be none.
+/// Makes an edit at a position or range, which may be invalid.
 fn call_at(edit: &Edit<'_, Standard>, value: &mut CompactString) -> Reply<Standard> {
     match edit {
         Edit::Insert(index, character) if value.is_char_boundary(*index) => {
@@ -127,7 +127,7 @@ fn call_at(edit: &Edit<'_, Standard>, value: &mut CompactString) -> Reply<Standa
     }
 }
 
-/// An edit that answers nothing and cannot be refused.
+/// Makes an edit that returns nothing and cannot fail.
 fn shorten(edit: &Edit<'_, Standard>, value: &mut CompactString) -> Reply<Standard> {
     match edit {
         Edit::Clear => value.clear(),
@@ -152,7 +152,7 @@ fn remove(value: &mut CompactString, index: usize) -> Reply<Standard> {
     }
 }
 
-/// It answers no text, so that it asks for the value alone.
+/// Returns no text, so that it allocates for the value only.
 fn drain(value: &mut CompactString, start: Bound<usize>, end: Bound<usize>) -> Reply<Standard> {
     if value.check_range(start, end).is_none() {
         return Reply::BadPosition;

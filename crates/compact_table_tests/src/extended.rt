@@ -1,10 +1,10 @@
-//! Calls that put one item after another into a value: after a refusal the items before it stand.
+//! Calls that append items one by one: on failure the earlier items are kept.
 
 use crate::table::Case;
 use compact_str::CompactString;
 use std::borrow::CowStr;
 
-/// Extends a value, and answers whether all was appended.
+/// Extends a value, and returns `true` if all was appended.
 pub fn extend(case: &Case<'_>, value: &mut CompactString) -> bool {
     match case.name {
         "extend_texts" => value.extend_texts(case.operands.iter()).is_ok(),

@@ -1,25 +1,25 @@
-//! The cases that do not hold, told in a text for which room is made before memory is taken.
+//! The report of failing cases, in a text allocated before memory is taken.
 
 use compact_str::CompactString;
 use compact_testing::values::place_of;
 use std::alloc::{AllocError, Global};
 use std::fmt::Write;
 
-/// The room of the text.
+/// The capacity of the text.
 const ROOM: usize = 1 << 16;
 
-/// The room that one case may take, which is more than any case takes. Where less is left, a case is counted and not told.
+/// The room for one case, more than any needs. If less is left, a case is counted and not reported.
 const MOST: usize = 8192;
 
-/// How many cases there were, and the text of those that do not hold.
+/// The number of cases, and the report of those that fail.
 #[derive(Drop)]
 pub struct Faults {
     text: String,
-    /// How long the text was before the present case.
+    /// The length of the text before this case.
     before: usize,
-    /// Whether the present case has been seen to fail: what follows in it is no news.
+    /// Whether this case has failed; what follows in it is not reported.
     is_told: bool,
-    /// How many requests of the present case are granted.
+    /// The number of allocations granted in this case.
     pub granted: usize,
     pub cases: u32,
     pub count: u32,
@@ -37,12 +37,12 @@ impl Faults {
         })
     }
 
-    /// The text of the cases that do not hold.
+    /// Returns the report.
     pub fn text(&self) -> &str {
         self.text.as_str()
     }
 
-    /// A case begins. Its line stands in the text until it is seen to hold.
+    /// Begins a case, writing its line in case it fails.
     pub fn begin(&mut self, line: &str) {
         self.before = self.text.len();
         self.is_told = false;
@@ -53,7 +53,7 @@ impl Faults {
         }
     }
 
-    /// The case ends. Its line goes if it holds.
+    /// Ends the case, removing its line if it passed.
     pub fn end(&mut self) {
         if self.is_told {
             self.count = self.count.saturating_add(1);
@@ -62,28 +62,28 @@ impl Faults {
         }
     }
 
-    /// A case that has no line.
+    /// Reports a case that has no line.
     pub fn apart(&mut self, name: &str, holds: bool) {
         self.begin(name);
         self.expect(holds, "it does not hold");
         self.end();
     }
 
-    /// A line that cannot be read.
+    /// Reports a line that cannot be parsed.
     pub fn unread(&mut self, line: &str) {
         self.begin(line);
         self.expect(false, "the line cannot be read");
         self.end();
     }
 
-    /// Notes what is seen instead of what was to hold.
+    /// Reports what is seen, unless the case holds.
     pub fn expect(&mut self, holds: bool, instead: &str) {
         if !holds && self.is_news() {
             let _ = writeln!(self.text, "    {} granted: {instead}", self.granted);
         }
     }
 
-    /// Notes the value that is seen instead of what was to hold.
+    /// Reports the value that is seen, unless the case holds.
     pub fn expect_value(&mut self, holds: bool, value: &CompactString) {
         if !holds && self.is_news() {
             let (place, capacity) = (place_of(value), value.capacity());
@@ -96,7 +96,7 @@ impl Faults {
         }
     }
 
-    /// Whether the present case is seen to fail for the first time, and can be told.
+    /// Returns `true` on the first failure of this case, if it can be reported.
     fn is_news(&mut self) -> bool {
         let is_news = !self.is_told && self.has_room();
         self.is_told = true;

@@ -1,4 +1,4 @@
-//! The interner: at a refusal what is taken stands, and nothing else.
+//! The interner: on failure it keeps what was taken, and nothing else.
 
 use crate::apart::tell;
 use crate::faults::Faults;
@@ -8,10 +8,10 @@ use crate::values::letters;
 use compact_edit::{InternError, Interner};
 use std::alloc::Global;
 
-/// What the first name of an interner asks for beside its copy.
+/// The allocations of an interner's first name, beside its copy.
 pub const TABLE: [Ask; 4] = [New(72), New(64), New(288), New(1)];
 
-/// Each case of the interner.
+/// Runs the cases of the interner.
 pub fn cases(alloc: Global, ration: &mut Ration, faults: &mut Faults) {
     tell(
         takes_first(alloc, ration),
@@ -39,8 +39,8 @@ pub fn cases(alloc: Global, ration: &mut Ration, faults: &mut Faults) {
     );
 }
 
-/// Whether a new text is refused at each of its requests, which leaves the names as they were, and with them granted has
-/// the next number.
+/// Returns `true` if interning a new text fails at each of its allocations, leaving the names unchanged, and then
+/// returns the next number.
 fn takes(ration: &mut Ration, names: &mut Interner, text: &str, asks: &[Ask]) -> bool {
     let count = names.len();
     let mut holds = true;
@@ -55,7 +55,7 @@ fn takes(ration: &mut Ration, names: &mut Interner, text: &str, asks: &[Ask]) ->
     holds
 }
 
-/// Whether a name has this number, with no request that is not granted.
+/// Returns `true` if a name has this number, with no further grant.
 pub fn finds(names: &mut Interner, text: &str, number: u32) -> bool {
     match names.intern(text) {
         Ok(found) => found == number && names.name(number) == Some(text),
@@ -95,7 +95,7 @@ fn grows(alloc: Global, ration: &mut Ration) -> bool {
     holds
 }
 
-/// After so many grants: how many names stand, and how many numbers.
+/// Checks how many names and numbers there are after each number of grants.
 fn takes_lists(alloc: Global, ration: &mut Ration) -> bool {
     let asks = [New(16), TABLE[0], TABLE[1], TABLE[2], TABLE[3], New(32)];
     let states = [(0, 0), (0, 0), (0, 0), (0, 0), (0, 0), (1, 1), (3, 4)];
@@ -108,7 +108,8 @@ fn takes_lists(alloc: Global, ration: &mut Ration) -> bool {
     holds
 }
 
-/// Whether a new interner takes a list as a whole or not, and has so many names and the first so many numbers then.
+/// Returns `true` if a new interner takes a list as a whole or not, and then has `count` names and the first `listed`
+/// numbers.
 fn takes_list(alloc: Global, is_whole: bool, count: usize, listed: usize) -> bool {
     let mut names = Interner::new(alloc);
     let mut numbers = Vec::new(alloc);

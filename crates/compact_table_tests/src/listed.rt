@@ -1,4 +1,4 @@
-//! Operands that a call is lent as a list of something else than texts, or as an owned value.
+//! Operands that are owned, or a slice of something other than texts.
 
 use crate::notation::{halves_at, number};
 use crate::table::text_of;
@@ -65,7 +65,7 @@ impl Listed {
         }
     }
 
-    /// The first value.
+    /// Returns the first value.
     pub fn value(&self) -> Option<&CompactString> {
         self.values().first()
     }
@@ -78,7 +78,7 @@ impl Listed {
     }
 }
 
-/// Makes the operand of a call from the words behind its name. `None` is a word that cannot be read.
+/// Makes the operand of a call from the words after its name. Returns `None` if a word cannot be parsed.
 pub fn make_listed(alloc: Global, name: &str, operands: &str) -> Option<Listed> {
     let word = text_of(operands.split_whitespace().next().unwrap_or(""));
     match name {
@@ -97,7 +97,7 @@ pub fn make_listed(alloc: Global, name: &str, operands: &str) -> Option<Listed> 
     }
 }
 
-/// The same of the calls that take texts of one type or another.
+/// The same for calls that take texts of one type or another.
 fn make_typed(alloc: Global, name: &str, operands: &str) -> Option<Listed> {
     match halves_at(name, ':') {
         Some((_, "String")) => strings_of(alloc, operands),
@@ -135,7 +135,7 @@ fn values_of(alloc: Global, operands: &str) -> Option<Listed> {
     Some(Listed::Values(values))
 }
 
-/// The bytes of a text, or one byte so many times.
+/// Returns the bytes of a text, or one byte repeated.
 fn bytes_of(alloc: Global, word: &str) -> Option<Listed> {
     let bytes = match repeated(word) {
         Some((number, count)) => Vec::from_elem(alloc, u8::try_from(number).ok()?, count),
@@ -144,13 +144,13 @@ fn bytes_of(alloc: Global, word: &str) -> Option<Listed> {
     Some(Listed::Bytes(bytes.ok()?))
 }
 
-/// One unit so many times.
+/// Returns one unit repeated.
 fn units_of(alloc: Global, word: &str) -> Option<Listed> {
     let (unit, count) = repeated(word)?;
     Some(Listed::Units(Vec::from_elem(alloc, unit, count).ok()?))
 }
 
-/// The number and the count of a word such as `[0xFF;9]`.
+/// Parses number and count from a word such as `[0xFF;9]`.
 fn repeated(word: &str) -> Option<(u16, usize)> {
     let inner = word.strip_prefix("[0x")?.strip_suffix("]")?;
     let (digits, count) = halves_at(inner, ';')?;
@@ -158,7 +158,7 @@ fn repeated(word: &str) -> Option<(u16, usize)> {
     Some((unit, number(count)?))
 }
 
-/// The form of a text on a wire.
+/// Returns the wire form of a text.
 fn form_of(alloc: Global, word: &str) -> Option<Listed> {
     let mut bytes = Vec::new(alloc);
     if is_written(&copied(alloc, word)?, &mut bytes) {

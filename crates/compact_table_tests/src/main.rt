@@ -1,20 +1,20 @@
-//! Calls of the library while memory is refused: each at its first request, then at its second, and so on until it is done.
+//! Calls of the library while allocations fail: at the first, at the second, and so on until the call succeeds.
 //!
-//! The program reads a table on standard input, takes all memory that the process can get, tries each line with no more than
-//! the requests that the line names, and writes the lines that do not hold, with what is seen instead, and how many cases
-//! there were. Its status is 1 where one does not hold. A line reads
+//! The program reads a table on standard input, takes all memory that the process can get, and tries each line,
+//! granting no more than the allocations that it names. It writes the lines that do not hold, with what is seen
+//! instead, and the number of cases. Its status is 1 if one does not hold. A line reads
 //!
 //! ```text
 //! START | CALL OPERANDS | ASKS | ANSWER | AFTER
 //! heap | push_str 0123456789*4 | more 70 | done | heap 70 a..D+0123456789*4
 //! ```
 //!
-//! The value that the call is tried on; the call; its requests, in order; what it answers; place, capacity and text of what
-//! stands then. With each request refused in turn the value is to be as it was before the call. The head of the table says
-//! what each field may hold. A blank line, and one that begins with `#`, is no case.
+//! The fields are the value that the call is tried on; the call; its allocations, in order; its result; and the place,
+//! capacity and text afterwards. Each time an allocation fails the value must be unchanged. The head of the table says
+//! what each field may hold. Blank lines, and those that begin with `#`, are no cases.
 //!
-//! What no line can tell stands in functions, each of which is a case: those of the modules `apart`, `apart_free`, `numbers`,
-//! `interned`, `strings` and `records`.
+//! Cases that no line can express are functions of the modules `apart`, `apart_free`, `numbers`, `interned`, `strings`
+//! and `records`.
 #![tactic(auto)]
 
 mod apart;
@@ -57,7 +57,7 @@ fn main(rt: HostRuntime) -> ExitCode {
     }
 }
 
-/// Reads the table to its end, tries each of its lines, and writes those that do not hold. Answers whether all do.
+/// Reads the table to its end, tries each line, and writes those that do not hold. Returns `true` if all hold.
 fn print_faults<R: Read, W: Write>(
     alloc: Global,
     reader: &mut R,
@@ -70,7 +70,7 @@ fn print_faults<R: Read, W: Write>(
     Ok(faults.count == 0)
 }
 
-/// Writes what does not hold, and how many cases there were.
+/// Writes the cases that do not hold, and the number of cases.
 fn write_faults<W: Write>(faults: &Faults, writer: &mut W) -> io::Result<()> {
     writer.write_all(faults.text().as_bytes())?;
     let (cases, count) = (faults.cases, faults.count);
@@ -78,20 +78,20 @@ fn write_faults<W: Write>(faults: &Faults, writer: &mut W) -> io::Result<()> {
     writer.flush()
 }
 
-/// Tries each line of a table, and before them what stands in functions.
+/// Tries the cases in functions, then each line of a table.
 fn tried(alloc: Global, table: &str) -> io::Result<Faults> {
     let text = expanded(alloc, table)?;
     try_table(alloc, table, text.as_str())
 }
 
-/// The same, where `text` is the table with each text written out.
+/// The same, where `text` is the table expanded.
 fn try_table(alloc: Global, table: &str, text: &str) -> io::Result<Faults> {
     let mut faults = Faults::new(alloc)?;
     let cases = read_cases(alloc, table, text, &mut faults)?;
     try_cases(alloc, faults, &cases)
 }
 
-/// Takes all memory, and gives it back in the end.
+/// Takes all memory, tries the cases, and frees it.
 fn try_cases(alloc: Global, faults: Faults, cases: &[Case<'_>]) -> io::Result<Faults> {
     let mut trial = Trial::new(alloc, faults)?;
     trial.apart();
@@ -99,7 +99,7 @@ fn try_cases(alloc: Global, faults: Faults, cases: &[Case<'_>]) -> io::Result<Fa
     Ok(trial.finish())
 }
 
-/// Reads each line of a table that is no comment and not blank.
+/// Reads each line of a table, except comments and blank lines.
 fn read_cases<'a>(
     alloc: Global,
     table: &'a str,

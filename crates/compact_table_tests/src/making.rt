@@ -1,4 +1,4 @@
-//! Calls that make a value of a text, of bytes, of items or of what is shown.
+//! Making values from texts, bytes, items, or by formatting.
 
 use crate::decoding::decode;
 use crate::notation::number;
@@ -10,7 +10,7 @@ use serde_json::Value;
 use std::alloc::{AllocError, Global};
 use std::borrow::CowStr;
 
-/// Makes the value of a case, anew each time: one that is copied, or else one of another call.
+/// Makes the value of a case, anew each time: a copy, or else by another call.
 pub fn make(case: &Case<'_>, alloc: Global) -> Made {
     let (name, word) = (case.name, case.word(0));
     match name {
@@ -34,7 +34,7 @@ fn make_room(name: &str, capacity: Option<usize>, alloc: Global) -> Made {
     }
 }
 
-/// A value of items that are collected, concatenated or joined, or else one of another call.
+/// Makes a value by collecting, concatenating or joining, or else by another call.
 fn gather(case: &Case<'_>, alloc: Global) -> Made {
     let (word, texts) = (case.word(0), case.operands.as_slice());
     match case.name {
@@ -57,7 +57,7 @@ fn gather(case: &Case<'_>, alloc: Global) -> Made {
     }
 }
 
-/// A value of texts, with the first between each of the others.
+/// Joins texts; the first is the separator.
 fn join(texts: &[&str], alloc: Global) -> Made {
     match texts.split_first() {
         Some((separator, texts)) => {
@@ -67,7 +67,7 @@ fn join(texts: &[&str], alloc: Global) -> Made {
     }
 }
 
-/// A value of an operand that was made before.
+/// Makes a value from an operand made before.
 pub fn make_of_listed(case: &Case<'_>, alloc: Global) -> Made {
     let listed = &case.listed;
     match case.name {
@@ -90,7 +90,7 @@ fn make_of_json(case: &Case<'_>, alloc: Global) -> Made {
     }
 }
 
-/// A value of texts, one after another.
+/// Concatenates texts.
 fn of_texts<T: AsText>(texts: &[T], alloc: Global) -> Made {
     value_or_refused(CompactString::from_texts(alloc, texts.iter()))
 }
@@ -112,7 +112,7 @@ fn read_form(bytes: &[u8], alloc: Global) -> Made {
     }
 }
 
-/// What a call came to that fails for want of memory alone.
+/// Wraps the result of a call that fails only if allocation does.
 pub fn value_or_refused(outcome: Result<CompactString, ReserveError>) -> Made {
     match outcome {
         Ok(value) => Made::Value(value),
@@ -120,7 +120,7 @@ pub fn value_or_refused(outcome: Result<CompactString, ReserveError>) -> Made {
     }
 }
 
-/// The same of `FromIterator`.
+/// The same for `FromIterator`.
 fn of_trait(outcome: Result<CompactString, AllocError>) -> Made {
     match outcome {
         Ok(value) => Made::Value(value),

@@ -1,27 +1,27 @@
-//! A process with no memory left but what is granted, request by request.
+//! A process without memory, where allocations are granted one by one.
 
 use std::alloc::{AllocError, Global};
 
-/// A request of a call, in bytes.
+/// An allocation of a call, in bytes.
 #[derive(Clone, Copy)]
 pub enum Ask {
-    /// For a new buffer.
+    /// A new buffer.
     New(usize),
-    /// For more room in a buffer that stands, which moves.
+    /// More room in an existing buffer, which moves.
     More(usize),
 }
 
-/// How many bytes of a block the C library keeps beside those that were asked for, and by which step its blocks grow: a
-/// free block serves the requests of one step.
+/// The bytes that the C library adds to a block, and the step of its block sizes: a free block serves the allocations
+/// of one step.
 const BESIDE: usize = 8;
 
 const STEP: usize = 16;
 
-/// The most bytes that are granted at once.
+/// The largest grant.
 const MAX_SIZE: usize = 1600;
 
-/// How many blocks of a step are kept for grants, for all cases of the table: a block that is granted does not come back.
-/// Most requests are small.
+/// The blocks of a step kept for grants, for the whole table: a granted block does not come back. Most allocations are
+/// small.
 const STOCK: usize = 200;
 
 const STOCK_OF_SMALL: usize = 2000;
@@ -29,25 +29,24 @@ const STOCK_OF_SMALL: usize = 2000;
 /// The greatest step of small blocks.
 const SMALL: usize = 8;
 
-/// How many blocks of a step must be left for one more case: no case needs as many.
+/// The blocks of a step that must be left for one more case; none needs as many.
 const LEAST: usize = 40;
 
-/// Of free blocks of a step the C library sets the first seven aside for new buffers, and a buffer that stands grows into
-/// the next one.
+/// The C library sets the first seven free blocks of a step aside for new buffers; a growing buffer takes the next.
 const FOR_MORE: usize = 8;
 
-/// All memory that this process can get, taken, but for what is granted. It is given back when this is dropped.
+/// All memory that this process can get, except what is granted. Dropping it frees the memory.
 #[derive(Drop)]
 pub struct Ration {
     alloc: Global,
-    /// For each step the blocks that a grant gives back.
+    /// For each step, the blocks that a grant frees.
     stock: Vec<Vec<Vec<u8>>>,
-    /// What is never granted.
+    /// The blocks that are never granted.
     taken: Vec<Vec<u8>>,
 }
 
 impl Ration {
-    /// Takes all memory: from now on each request is refused that was not granted.
+    /// Takes all memory: from now on, allocations fail unless granted.
     pub fn new(alloc: Global) -> Result<Ration, AllocError> {
         let taken = Vec::with_capacity(alloc, 80_000)?;
         let mut ration = Ration {
@@ -60,7 +59,7 @@ impl Ration {
         Ok(ration)
     }
 
-    /// Whether there may be too few blocks left for one more case.
+    /// Returns `true` if there may be too few blocks for one more case.
     pub fn is_low(&self) -> bool {
         for blocks in &self.stock {
             if blocks.len() < LEAST {
@@ -70,7 +69,7 @@ impl Ration {
         false
     }
 
-    /// Grants one request. With no block left nothing is granted, and the call that asks is refused again.
+    /// Grants one allocation. If no block is left, grants nothing, and the call fails again.
     pub fn grant(&mut self, ask: Ask) {
         match ask {
             Ask::New(size) => self.give_back(size),
@@ -82,7 +81,7 @@ impl Ration {
         }
     }
 
-    /// Grants the first so many requests.
+    /// Grants the first `count` allocations.
     pub fn grant_first(&mut self, asks: &[Ask], count: usize) {
         for ask in asks.get(..count).unwrap_or(asks) {
             self.grant(*ask);
@@ -95,7 +94,7 @@ impl Ration {
         }
     }
 
-    /// Takes what was granted and is not used.
+    /// Takes back unused grants.
     pub fn take_rest(&mut self) {
         let mut size = MAX_SIZE;
         for _ in 0..MAX_SIZE / STEP {
@@ -104,7 +103,7 @@ impl Ration {
         }
     }
 
-    /// Takes all that is left in blocks that are larger than any grant.
+    /// Takes all memory in blocks larger than any grant.
     fn take_large(&mut self) {
         let mut size = 1usize << 46;
         for _ in 0..46 {
@@ -116,7 +115,7 @@ impl Ration {
         }
     }
 
-    /// Takes all blocks of a size, to which nothing is written.
+    /// Takes all blocks of a size, without writing to them.
     fn take_all(&mut self, size: usize) {
         for _ in 0..80_000 {
             if !self.take(size) {
@@ -125,7 +124,7 @@ impl Ration {
         }
     }
 
-    /// Takes one block. Answers whether it was granted.
+    /// Takes one block. Returns `true` on success.
     fn take(&mut self, size: usize) -> bool {
         let block: Result<Vec<u8>, AllocError> = Vec::with_capacity(self.alloc, size);
         match block {
@@ -135,12 +134,12 @@ impl Ration {
     }
 }
 
-/// The place of the blocks in the stock that serve a request.
+/// Returns the step that serves an allocation.
 fn step_of(size: usize) -> usize {
     size.saturating_add(BESIDE + STEP - 1) / STEP
 }
 
-/// Blocks of each step.
+/// Allocates the blocks of each step.
 fn stock(alloc: Global) -> Result<Vec<Vec<Vec<u8>>>, AllocError> {
     let mut stock = Vec::new(alloc);
     for step in 0..=step_of(MAX_SIZE) {
@@ -151,7 +150,7 @@ fn stock(alloc: Global) -> Result<Vec<Vec<Vec<u8>>>, AllocError> {
     Ok(stock)
 }
 
-/// So many blocks of a size.
+/// Allocates `count` blocks of a size.
 fn blocks(alloc: Global, size: usize, count: usize) -> Result<Vec<Vec<u8>>, AllocError> {
     let mut blocks = Vec::with_capacity(alloc, count)?;
     for _ in 0..count {

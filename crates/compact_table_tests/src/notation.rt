@@ -1,5 +1,4 @@
-//! The notation of long texts: `UNIT*COUNT` is a unit so many times, `a..D` the letters from one to another, and `+` joins
-//! parts.
+//! The notation of long texts: `UNIT*COUNT` repeats a unit, `a..D` is a range of ASCII letters, and `+` joins parts.
 
 use crate::table::character;
 use std::alloc::{AllocError, Global};
@@ -7,10 +6,10 @@ use std::alloc::{AllocError, Global};
 /// The greatest count of a unit.
 const MAX_COUNT: usize = 2000;
 
-/// The 26 small letters and the 26 great ones.
+/// The ASCII letters, lowercase first.
 const LETTERS: &str = "abcdefghijklmnopqrstuvwxyzABCDEFGHIJKLMNOPQRSTUVWXYZ";
 
-/// The table with each text written out, line by line.
+/// Expands the texts of a table, line by line.
 pub fn expanded(alloc: Global, table: &str) -> Result<String, AllocError> {
     let mut text = String::new(alloc);
     for line in table.lines() {
@@ -20,7 +19,7 @@ pub fn expanded(alloc: Global, table: &str) -> Result<String, AllocError> {
     Ok(text)
 }
 
-/// Appends a line with each of its words written out. A comment is left out.
+/// Appends a line with its words expanded. Skips comments.
 fn expand_line(text: &mut String, line: &str) -> Result<(), AllocError> {
     if line.starts_with('#') {
         return Ok(());
@@ -32,7 +31,7 @@ fn expand_line(text: &mut String, line: &str) -> Result<(), AllocError> {
     Ok(())
 }
 
-/// Appends a word with each of its parts written out.
+/// Appends a word with its parts expanded.
 fn expand_word(text: &mut String, word: &str) -> Result<(), AllocError> {
     for part in word.split('+') {
         let (unit, count) = unit_and_count(part);
@@ -43,17 +42,17 @@ fn expand_word(text: &mut String, word: &str) -> Result<(), AllocError> {
     Ok(())
 }
 
-/// What stands before the first sign, and behind it. As `number` it has no clause, so that a proof carries nothing of a text.
+/// Splits at the first sign. Like `number`, it has no clause, so a proof knows nothing of the text.
 pub fn halves_at(text: &str, sign: char) -> Option<(&str, &str)> {
     text.split_once(sign)
 }
 
-/// The number that a word writes.
+/// Parses a number.
 pub fn number(word: &str) -> Option<usize> {
     word.parse::<usize>().ok()
 }
 
-/// The unit of a part, and how often it stands there. A part with no count stands there once.
+/// Returns the unit of a part and its count, 1 if it has none.
 fn unit_and_count(part: &str) -> (&str, usize) {
     match counted(part) {
         Some((unit, count)) => (unit, count.min(MAX_COUNT)),
@@ -61,21 +60,20 @@ fn unit_and_count(part: &str) -> (&str, usize) {
     }
 }
 
-/// The unit of a part that has a count.
+/// Splits a part that has a count.
 fn counted(part: &str) -> Option<(&str, usize)> {
     let (unit, count) = halves_at(part, '*')?;
     Some((unit, number(count)?))
 }
 
-/// Of the 26 small letters and the 26 great ones those from one to another, if `unit` is two letters with `..` between
-/// them.
+/// Returns the range of `LETTERS` that `unit` names, if it is two of them with `..` between.
 fn letters_of(unit: &str) -> Option<&'static str> {
     let (first, last) = unit.split_once("..")?;
     let (from, to) = (place_of(first)?, place_of(last)?);
     LETTERS.get(from..to.saturating_add(1))
 }
 
-/// The place of a letter in the row of these letters.
+/// Returns the index of a letter in `LETTERS`.
 fn place_of(letter: &str) -> Option<usize> {
     LETTERS.find(character(letter)?)
 }

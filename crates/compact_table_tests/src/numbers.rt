@@ -1,4 +1,4 @@
-//! The texts of numbers of up to 64 bits, of a `bool` and of a `char`, each made with every request refused.
+//! Texts of numbers of up to 64 bits, of a `bool` and of a `char`; every allocation fails.
 
 use crate::faults::Faults;
 use crate::values::{inline, is_seen};
@@ -10,7 +10,7 @@ use std::num::{
     NonZeroU64, NonZeroUsize,
 };
 
-/// Each of these cases.
+/// Runs these cases.
 pub fn cases(alloc: Global, faults: &mut Faults) {
     faults.apart("numbers: some are shown", shows_numbers(alloc));
     faults.apart("numbers: negative ones are shown", shows_negative(alloc));
@@ -26,7 +26,7 @@ pub fn cases(alloc: Global, faults: &mut Faults) {
     faults.apart("numbers: negative ones that are not 0 are shown", negative);
 }
 
-/// Whether a value has this text by both calls.
+/// Returns `true` if a value has this text by both calls.
 fn shows<T: ToCompactString>(alloc: Global, value: &T, text: &str) -> bool {
     is_shown(value.to_compact_string(alloc), text)
         && is_shown(value.try_to_compact_string(alloc), text)

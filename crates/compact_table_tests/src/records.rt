@@ -1,4 +1,4 @@
-//! Texts of a reader that are collected into a vector. If an allocation fails, a beginning of the bytes is taken.
+//! Texts of a reader collected into a vector. If an allocation fails, a prefix of the bytes is consumed.
 
 use crate::apart::tell;
 use crate::faults::Faults;
@@ -9,14 +9,14 @@ use compact_ext::wire::{Records, WireError};
 use compact_str::CompactString;
 use std::alloc::Global;
 
-/// The forms of `abc`, of 30 letters, of 40 digits, of no text and of `b`.
+/// The forms of `abc`, of 30 letters, of 40 digits, of the empty text and of `b`.
 const FORMS: &[u8] =
     b"\x03\0\0\0abc\x1E\0\0\0abcdefghijklmnopqrstuvwxyzABCD\x28\0\0\x000123456789012345678901234567890123456789\0\0\0\0\x01\0\0\0b";
 
 /// The allocations: a vector of four values, the two long texts, and a vector of eight.
 const ASKS: [Ask; 4] = [New(128), New(30), New(40), More(256)];
 
-/// Each of these cases.
+/// Runs these cases.
 pub fn cases(alloc: Global, ration: &mut Ration, faults: &mut Faults) {
     tell(
         fail_in_turn(alloc, ration),
@@ -26,8 +26,8 @@ pub fn cases(alloc: Global, ration: &mut Ration, faults: &mut Faults) {
     );
 }
 
-/// Returns whether the right bytes are taken: a whole form if the vector has no room for its text, and the length alone if
-/// there is no room for the text itself.
+/// Returns `true` if the right bytes are consumed: a whole form if the vector has no room for its text, and only the
+/// length if there is no room for the text itself.
 fn fail_in_turn(alloc: Global, ration: &mut Ration) -> bool {
     let mut holds = true;
     for (granted, taken) in [7, 11, 45, 94, 94].iter().enumerate() {
@@ -38,7 +38,7 @@ fn fail_in_turn(alloc: Global, ration: &mut Ration) -> bool {
     holds
 }
 
-/// Returns whether the five texts are read where they must be, and `taken` bytes of their forms are taken.
+/// Returns `true` if the five texts are read when they must be, and `taken` bytes of their forms are consumed.
 fn are_read(alloc: Global, is_whole: bool, taken: usize) -> bool {
     let mut rest = FORMS;
     let outcome = Records::new(alloc, &mut rest).into_vec();
@@ -53,7 +53,7 @@ fn are_texts_or_refused(outcome: Result<Vec<CompactString>, WireError>, is_whole
     }
 }
 
-/// Returns whether these are the five texts, each long one in a buffer that just fits it.
+/// Returns `true` if these are the five texts, each long one in a buffer that just fits.
 fn are_texts(texts: &[CompactString]) -> bool {
     let wanted = [
         inline("abc"),

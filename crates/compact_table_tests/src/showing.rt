@@ -1,4 +1,4 @@
-//! Calls that make a value of what is shown: numbers, texts and formats.
+//! Making values by formatting numbers, texts and formats.
 
 use crate::listed::Listed;
 use crate::making::make_of_listed;
@@ -12,7 +12,7 @@ use std::fmt;
 use std::fmt::Display;
 use std::num::{NonZeroI128, NonZeroU128};
 
-/// It writes two texts, and answers `Ok` in spite of a refusal.
+/// Writes two texts, and returns `Ok` even if that fails.
 #[derive(Drop)]
 struct Hiding<'a>(&'a str, &'a str);
 
@@ -24,7 +24,7 @@ impl Display for Hiding<'_> {
     }
 }
 
-/// Makes the value of a case whose call shows something, or of a case with an operand that was made before.
+/// Makes the value of a case that formats, or that has an operand made before.
 pub fn show(case: &Case<'_>, alloc: Global) -> Made {
     let (first, last) = (case.word(0), case.word(1));
     match case.name {
@@ -38,7 +38,7 @@ pub fn show(case: &Case<'_>, alloc: Global) -> Made {
     }
 }
 
-/// Makes the text of an operand of this type, by `try_to_compact_string` if `is_tried`.
+/// Formats an operand of this type, by `try_to_compact_string` if `is_tried`.
 fn show_as(case: &Case<'_>, kind: &str, is_tried: bool, alloc: Global) -> Made {
     let word = case.word(0);
     match kind {

@@ -1,4 +1,4 @@
-//! Values that are appended to a `String` or collected into one. If an allocation fails, it has the texts before.
+//! Values appended to a `String` or collected into one. If an allocation fails, it has the earlier texts.
 
 use crate::apart::tell;
 use crate::faults::Faults;
@@ -22,7 +22,7 @@ const TEXT: &str = "abcabcdefghijklmnopqrstuvwxyzABCDabcdefghijklmnopqrstuvwxyzA
 /// The allocations of an empty `String` to which these three texts are appended.
 const ASKS: [Ask; 3] = [New(8), More(33), More(66)];
 
-/// Each of these cases.
+/// Runs these cases.
 pub fn cases(alloc: Global, ration: &mut Ration, faults: &mut Faults) {
     for (way, name) in [
         (Way::AppendAll, "values are appended to a string"),
@@ -33,7 +33,8 @@ pub fn cases(alloc: Global, ration: &mut Ration, faults: &mut Faults) {
     }
 }
 
-/// Returns whether none, one, two and all of the allocations leave the right part of the text. `collect` leaves all or none.
+/// Returns `true` if none, one, two and all of the allocations leave the right part of the text. `collect` leaves all
+/// or none.
 fn fails_in_turn(alloc: Global, ration: &mut Ration, way: Way) -> bool {
     let mut holds = true;
     for (granted, len) in [0, 3, 33, 63].iter().enumerate() {
@@ -49,7 +50,7 @@ fn fails_in_turn(alloc: Global, ration: &mut Ration, way: Way) -> bool {
     holds
 }
 
-/// Returns `abc` inline, 30 letters of the program, and 30 letters on the heap.
+/// Returns `abc` inline, 30 letters static, and 30 letters on the heap.
 fn values(alloc: Global, ration: &mut Ration) -> Result<Vec<CompactString>, AllocError> {
     ration.grant(New(96));
     let mut values = Vec::with_capacity(alloc, 3)?;
@@ -61,7 +62,7 @@ fn values(alloc: Global, ration: &mut Ration) -> Result<Vec<CompactString>, Allo
     Ok(values)
 }
 
-/// Returns whether the call succeeds where it must, and leaves the first `len` bytes of the text.
+/// Returns `true` if the call succeeds when it must, and leaves the first `len` bytes of the text.
 fn is_given(
     alloc: Global,
     way: Way,

@@ -1,4 +1,4 @@
-//! A line of the table, read.
+//! Parsing a line of the table.
 
 use crate::listed::{Listed, make_listed};
 use crate::memory::Ask;
@@ -9,28 +9,28 @@ use compact_str::Standard;
 use std::alloc::Global;
 use std::mem::size_of;
 
-/// What a call answers where it is done, by which a line says how the call is tried.
+/// The result of a successful call, which also determines how it is tried.
 #[derive(Clone, Copy)]
 pub enum Answer<'a> {
-    /// A call on a value, that answers nothing.
+    /// A call on a value that returns nothing.
     Done,
-    /// A call on a value, that answers a character.
+    /// A call on a value that returns a character.
     Char(Option<char>),
-    /// A call on a value, that answers a text.
+    /// A call on a value that returns a text.
     Text(Seen<'a>),
     /// A call that makes a value.
     Made,
-    /// A call that a value leaves by, with this text.
+    /// A call that converts a value, whose result has this text.
     Left(&'a str),
-    /// A call that puts items in, of which those before a refusal are kept.
+    /// A call that appends items; those before a failure are kept.
     Kept,
-    /// A list of edits, so many of which are refused.
+    /// A list of edits, of which this many fail.
     Refused(usize),
-    /// A list of edits that is refused as a whole.
+    /// A list of edits that fails as a whole.
     Unrun,
-    /// A call on a value at a position that is none.
+    /// A call on a value at an invalid position.
     BadPosition,
-    /// A call that is refused whatever is granted.
+    /// A call that fails whatever is granted.
     TooLarge,
 }
 
@@ -39,21 +39,20 @@ pub enum Answer<'a> {
 pub struct Case<'a> {
     pub line: &'a str,
     pub start: Option<Start<'a>>,
-    /// The call as it is written.
+    /// The call as written.
     pub call: &'a str,
-    /// Its name.
     pub name: &'a str,
-    /// The words behind the name.
+    /// The words after the name.
     pub operands: Vec<&'a str>,
     pub listed: Listed,
     pub asks: Vec<Ask>,
     pub answer: Answer<'a>,
-    /// What stands after the call; of `Kept` what stands after none of the requests is granted, after one, and so on.
+    /// The value after the call; for `Kept`, after none of the allocations is granted, after one, and so on.
     pub states: Vec<Seen<'a>>,
 }
 
 impl<'a> Case<'a> {
-    /// Reads its lists.
+    /// Parses the lists.
     fn read(&mut self, fields: Fields<'a>) -> bool {
         let (_, operands) = first_word(fields.call);
         read_operands(&mut self.operands, operands)
@@ -61,7 +60,7 @@ impl<'a> Case<'a> {
             && read_states(&mut self.states, fields.after)
     }
 
-    /// A word behind the name, which is empty where there are not as many.
+    /// Returns a word after the name, or the empty text if there are fewer.
     pub fn word(&self, index: usize) -> &'a str {
         self.operands.get(index).copied().unwrap_or("")
     }
@@ -77,7 +76,7 @@ struct Fields<'a> {
     after: &'a str,
 }
 
-/// Reads a line, of which `text` has each text written out. `None` is a line that cannot be read.
+/// Parses a line, of which `text` is the expansion. Returns `None` if it cannot be parsed.
 pub fn read_case<'a>(alloc: Global, line: &'a str, text: &'a str) -> Option<Case<'a>> {
     let fields = fields_of(text)?;
     let mut case = begin_case(alloc, line, fields)?;
@@ -98,7 +97,7 @@ fn fields_of(text: &str) -> Option<Fields<'_>> {
     })
 }
 
-/// A case with none of its lists of words read.
+/// Makes a case whose lists are not parsed yet.
 fn begin_case<'a>(alloc: Global, line: &'a str, fields: Fields<'a>) -> Option<Case<'a>> {
     let start = start_of(fields.start)?;
     let answer = answer_of(fields.answer)?;
@@ -117,7 +116,7 @@ fn begin_case<'a>(alloc: Global, line: &'a str, fields: Fields<'a>) -> Option<Ca
     })
 }
 
-/// Reads what a call starts from: `-` is nothing.
+/// Parses the value to start from; `-` is none.
 fn start_of(field: &str) -> Option<Option<Start<'_>>> {
     if field == "-" {
         return Some(None);
@@ -128,7 +127,7 @@ fn start_of(field: &str) -> Option<Option<Start<'_>>> {
     }
 }
 
-/// The first word, and what follows it.
+/// Splits after the first word.
 pub fn first_word(text: &str) -> (&str, &str) {
     match halves_at(text, ' ') {
         Some((word, rest)) => (word, rest),
@@ -136,7 +135,7 @@ pub fn first_word(text: &str) -> (&str, &str) {
     }
 }
 
-/// Reads operands.
+/// Parses operands.
 fn read_operands<'a>(operands: &mut Vec<&'a str>, field: &'a str) -> bool {
     let mut is_read = true;
     for word in field.split_whitespace() {
@@ -145,12 +144,12 @@ fn read_operands<'a>(operands: &mut Vec<&'a str>, field: &'a str) -> bool {
     is_read
 }
 
-/// The text of a word: `_` is the empty one.
+/// Returns the text of a word; `_` is the empty one.
 pub fn text_of(word: &str) -> &str {
     if word == "_" { "" } else { word }
 }
 
-/// Reads the requests.
+/// Parses the allocations.
 fn read_asks(asks: &mut Vec<Ask>, field: &str) -> bool {
     if field.is_empty() {
         return true;
@@ -166,7 +165,7 @@ fn read_asks(asks: &mut Vec<Ask>, field: &str) -> bool {
     true
 }
 
-/// Reads a request. `replies` is the room that a list of no replies makes for two, which is room for four.
+/// Parses an allocation. `replies` is what an empty list of replies allocates for two: room for four.
 fn ask_of(part: &str) -> Option<Ask> {
     if part == "replies" {
         return Some(Ask::New(size_of::<Reply<Standard>>().saturating_mul(4)));
@@ -180,7 +179,7 @@ fn ask_of(part: &str) -> Option<Ask> {
     }
 }
 
-/// Reads an answer.
+/// Parses a result.
 fn answer_of(field: &str) -> Option<Answer<'_>> {
     match field {
         "done" => Some(Answer::Done),
@@ -194,7 +193,7 @@ fn answer_of(field: &str) -> Option<Answer<'_>> {
     }
 }
 
-/// Reads an answer that says what is answered.
+/// Parses a result with a value.
 fn long_answer_of(field: &str) -> Option<Answer<'_>> {
     let (kind, rest) = halves_at(field, ' ')?;
     match kind {
@@ -206,7 +205,7 @@ fn long_answer_of(field: &str) -> Option<Answer<'_>> {
     }
 }
 
-/// Reads what stands after a call, with one request more granted behind each `/`. `-` is nothing.
+/// Parses the values after a call, one more allocation granted after each `/`. `-` is none.
 fn read_states<'a>(states: &mut Vec<Seen<'a>>, field: &'a str) -> bool {
     if field == "-" {
         return true;
@@ -222,7 +221,7 @@ fn read_states<'a>(states: &mut Vec<Seen<'a>>, field: &'a str) -> bool {
     true
 }
 
-/// Reads place, capacity and text of a value.
+/// Parses place, capacity and text of a value.
 fn seen_of(field: &str) -> Option<Seen<'_>> {
     let (place, rest) = halves_at(field, ' ')?;
     match place {
@@ -240,7 +239,7 @@ fn seen_of(field: &str) -> Option<Seen<'_>> {
     }
 }
 
-/// The only character of a word.
+/// Returns the only character of a word.
 pub fn character(word: &str) -> Option<char> {
     let mut characters = word.chars();
     let first = characters.next()?;

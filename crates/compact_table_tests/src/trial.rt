@@ -1,5 +1,5 @@
-//! How a line is tried: with no memory, with its first request granted, with its first two, and so on until its call is
-//! done.
+//! Trying a line: with no memory, with its first allocation granted, with its first two, and so on until its call
+//! succeeds.
 
 use crate::calls::{By, reply};
 use crate::edits::edit_of;
@@ -15,7 +15,7 @@ use compact_edit::{Edit, Reply, run};
 use compact_str::{CompactString, Standard};
 use std::alloc::{AllocError, Global};
 
-/// What a call that makes a value came to.
+/// The outcome of a call that makes a value.
 #[derive(Drop)]
 pub enum Made {
     Value(CompactString),
@@ -26,7 +26,7 @@ pub enum Made {
     Unknown,
 }
 
-/// A process with no memory but what is granted, in which lines are tried one after another.
+/// A process where lines are tried one by one, with no memory but what is granted.
 #[derive(Drop)]
 pub struct Trial {
     alloc: Global,
@@ -47,12 +47,12 @@ impl Trial {
         })
     }
 
-    /// Gives all memory back.
+    /// Frees all memory.
     pub fn finish(self) -> Faults {
         self.faults
     }
 
-    /// Tries what stands in functions.
+    /// Tries the cases in functions.
     pub fn apart(&mut self) {
         apart::cases(self.alloc, &mut self.ration, &mut self.faults);
         apart_free::cases(self.alloc, &mut self.ration, &mut self.faults);
@@ -69,7 +69,6 @@ impl Trial {
         }
     }
 
-    /// Tries a line.
     fn case(&mut self, case: &Case<'_>) {
         self.faults.begin(case.line);
         let is_low = self.ration.is_low();
@@ -85,7 +84,7 @@ impl Trial {
         self.ration.take_rest();
     }
 
-    /// A line that starts from a value.
+    /// Tries a line that starts from a value.
     fn starts(&mut self, case: &Case<'_>, start: Start<'_>) {
         match case.answer {
             Answer::Left(text) => self.leaves(case, start, text),
@@ -96,7 +95,7 @@ impl Trial {
         }
     }
 
-    /// A call on a value.
+    /// Tries a call on a value.
     fn answers(&mut self, case: &Case<'_>, start: Start<'_>) {
         if let Some(edit) = edit_of(case.call, &case.listed) {
             self.edits(case, start, &[edit]);
@@ -107,7 +106,7 @@ impl Trial {
         }
     }
 
-    /// An edit by `run` alone.
+    /// Tries an edit by `run` alone.
     fn edits_by_run(&mut self, case: &Case<'_>, start: Start<'_>) {
         let (_, call) = first_word(case.call);
         match edit_of(call, &case.listed) {
@@ -116,7 +115,7 @@ impl Trial {
         }
     }
 
-    /// An edit. A shrink that asks for memory is tried as a shrink.
+    /// Tries an edit. A shrink that allocates is tried as a shrink.
     fn edits(&mut self, case: &Case<'_>, start: Start<'_>, edits: &[Edit<'_, Standard>; 1]) {
         match case.name {
             "shrink_to" | "shrink_to_fit" if !case.asks.is_empty() => {
@@ -132,7 +131,7 @@ impl Trial {
         }
     }
 
-    /// The value that another was cloned from is as it was.
+    /// Expects the source of a clone unchanged.
     fn sees_source(&mut self, case: &Case<'_>) {
         if let Some(value) = case.listed.value() {
             self.faults
@@ -140,7 +139,7 @@ impl Trial {
         }
     }
 
-    /// The call is refused at each of its requests, which leaves the value as it was, and with them granted it is done.
+    /// Expects the call to fail at each allocation, leaving the value unchanged, and then to succeed.
     fn tries(&mut self, case: &Case<'_>, start: Start<'_>, by: By<'_, '_>) {
         if let Some(mut value) = self.start(start) {
             self.refuses(case, start, by, &mut value);
@@ -151,7 +150,7 @@ impl Trial {
         self.ration.take_rest();
     }
 
-    /// The call is refused at each of its requests, and then that one is granted.
+    /// Expects the call to fail at each allocation, then grants that one.
     fn refuses(
         &mut self,
         case: &Case<'_>,
@@ -168,13 +167,13 @@ impl Trial {
         }
     }
 
-    /// The call answers as its line says.
+    /// Expects the reply of the line.
     fn replies(&mut self, case: &Case<'_>, by: By<'_, '_>, value: &mut CompactString) {
         let answer = reply(case, by, value, &mut self.replies);
         self.is_answered(&answer, case.answer);
     }
 
-    /// A shrink with no memory is done and leaves the value as it was, and gives room back once its request is granted.
+    /// Expects a shrink to succeed without memory, changing nothing, and to shrink once its allocation is granted.
     fn shrinks(&mut self, case: &Case<'_>, start: Start<'_>, by: By<'_, '_>) {
         if let Some(mut value) = self.start(start) {
             self.replies(case, by, &mut value);
@@ -186,7 +185,7 @@ impl Trial {
         self.ration.take_rest();
     }
 
-    /// The call is refused at each of its requests, and with them granted it makes the value.
+    /// Expects the call to fail at each allocation, and then to make the value.
     fn makes(&mut self, case: &Case<'_>) {
         self.faults.expect(
             matches!(case.answer, Answer::Made | Answer::TooLarge),
@@ -209,7 +208,7 @@ impl Trial {
         }
     }
 
-    /// The value is handed back at each request, and with them granted its text leaves.
+    /// Expects the value back at each allocation, and then its text.
     fn leaves(&mut self, case: &Case<'_>, start: Start<'_>, text: &str) {
         let Some(mut value) = self.start(start) else {
             return;
@@ -233,7 +232,7 @@ impl Trial {
         }
     }
 
-    /// With none of the requests granted, with one, and so on: what stands after the items that were put in.
+    /// Expects each value of the line, with none of the allocations granted, with one, and so on.
     fn keeps(&mut self, case: &Case<'_>, start: Start<'_>) {
         let is_whole = case.states.len() == case.asks.len().saturating_add(1);
         self.faults.expect(
@@ -252,7 +251,7 @@ impl Trial {
         }
     }
 
-    /// A list of two edits, with all requests granted: so many are refused, or `None` where the list is.
+    /// Runs a list of two edits with all allocations granted, of which `refused` fail; `None` if the list does.
     fn runs(&mut self, case: &Case<'_>, start: Start<'_>, refused: Option<usize>) {
         let (_, calls) = first_word(case.call);
         let (first, last) = calls.split_once(" ; ").unwrap_or((calls, ""));
@@ -291,7 +290,7 @@ impl Trial {
         drop(replies);
     }
 
-    /// A value to start from.
+    /// Makes the value to start from.
     fn start(&mut self, start: Start<'_>) -> Option<CompactString> {
         self.faults.granted = 0;
         let value = start.make(&mut self.ration, self.alloc);
@@ -304,13 +303,13 @@ impl Trial {
         value
     }
 
-    /// The value is as it was.
+    /// Expects the value unchanged.
     fn is_same(&mut self, value: &CompactString, start: Start<'_>) {
         self.faults
             .expect_value(is_seen(value, start.seen()), value);
     }
 
-    /// What the call answered.
+    /// Expects the result of the line.
     fn is_answered(&mut self, reply: &Reply<Standard>, answer: Answer<'_>) {
         let (holds, instead) = match reply {
             Reply::Done => (matches!(answer, Answer::Done), "it is done"),
@@ -331,7 +330,7 @@ impl Trial {
         self.faults.expect(holds, instead);
     }
 
-    /// What the call has left.
+    /// Expects the value after the call.
     fn is_left(&mut self, value: &CompactString, case: &Case<'_>) {
         match case.states.first() {
             Some(seen) => self.faults.expect_value(is_seen(value, *seen), value),
@@ -340,7 +339,7 @@ impl Trial {
     }
 }
 
-/// Whether a line's answer is that text, where it is to stand.
+/// Returns `true` if the line's result is that text, in its place.
 fn is_text(answer: Answer<'_>, text: &CompactString) -> bool {
     match answer {
         Answer::Text(wanted) => is_seen(text, wanted),
@@ -348,7 +347,7 @@ fn is_text(answer: Answer<'_>, text: &CompactString) -> bool {
     }
 }
 
-/// How many edits are refused.
+/// Counts the edits that failed.
 fn count_refused(replies: &[Reply<Standard>]) -> usize {
     let mut count = 0usize;
     for reply in replies {

@@ -1,19 +1,19 @@
 //! Values that calls are tried on, and what is seen of a value.
 //!
-//! No function here has a clause, so that the proofs of others carry nothing of the values that they look at.
+//! No function here has a clause, so other proofs know nothing of the values they look at.
 
 use crate::memory::{Ask, Ration};
 use compact_str::CompactString;
 use compact_testing::values::{append, place_of, string_with_room, with_room};
 use std::alloc::Global;
 
-/// Of the 26 small letters, the 26 great ones and the ten digits those from one place to another.
+/// Returns a range of the ASCII letters, lowercase first, followed by the ten digits.
 pub fn letters(from: usize, to: usize) -> &'static str {
     const LETTERS: &str = "abcdefghijklmnopqrstuvwxyzABCDEFGHIJKLMNOPQRSTUVWXYZ0123456789";
     LETTERS.get(from..to).unwrap_or("")
 }
 
-/// 40 digits, from 0 to 9 four times.
+/// Returns 40 digits, from 0 to 9 four times.
 pub fn digits() -> &'static str {
     "0123456789012345678901234567890123456789"
 }
@@ -21,30 +21,30 @@ pub fn digits() -> &'static str {
 /// A value that a call is tried on.
 #[derive(Clone, Copy)]
 pub enum Start<'a> {
-    /// A value of which all is told that is seen of it.
+    /// A value given in full.
     Seen(Seen<'a>),
     /// `abc`.
     Inline,
     /// 24 letters, inline.
     FullInline,
-    /// 30 letters of the program.
+    /// 30 letters, static.
     Static,
-    /// 30 letters on the heap, with room for 32.
+    /// 30 letters on the heap, with capacity 32.
     Heap,
-    /// 32 letters on the heap, with no room for more.
+    /// 32 letters on the heap, with capacity 32.
     FullHeap,
-    /// 30 letters on the heap, which were 48.
+    /// 30 letters on the heap, cut from 48.
     Shortened,
-    /// `abc` on the heap, with room for 32.
+    /// `abc` on the heap, with capacity 32.
     ShortHeap,
-    /// `abc` of the program, which were 30 letters.
+    /// `abc` static, cut from 30 letters.
     ShortStatic,
-    /// No text on the heap, with room for 100.
+    /// The empty text on the heap, with capacity 100.
     EmptyHeap,
 }
 
 impl<'a> Start<'a> {
-    /// The value of a name.
+    /// Returns the value of a name.
     pub fn named(name: &str) -> Option<Start<'a>> {
         match name {
             "inline" => Some(Start::Inline),
@@ -60,7 +60,7 @@ impl<'a> Start<'a> {
         }
     }
 
-    /// The value, made of memory that is granted.
+    /// Makes the value, granting its allocation.
     pub fn make(self, ration: &mut Ration, alloc: Global) -> Option<CompactString> {
         match self {
             Start::Seen(seen) => made(seen, ration, alloc),
@@ -76,7 +76,7 @@ impl<'a> Start<'a> {
         }
     }
 
-    /// What is seen of it.
+    /// Returns what is seen of it.
     pub fn seen(self) -> Seen<'a> {
         match self {
             Start::Seen(seen) => seen,
@@ -93,7 +93,7 @@ impl<'a> Start<'a> {
     }
 }
 
-/// A value that looks so. A static one has the first of the 62 letters and digits.
+/// Makes a value that looks so. A static one is a prefix of the 62 letters and digits.
 fn made(seen: Seen<'_>, ration: &mut Ration, alloc: Global) -> Option<CompactString> {
     match seen.place {
         "heap" => in_buffer(ration, alloc, seen.capacity?, seen.text),
@@ -105,7 +105,7 @@ fn made(seen: Seen<'_>, ration: &mut Ration, alloc: Global) -> Option<CompactStr
     }
 }
 
-/// A text in a buffer of just that capacity, which the text filled before, with the letter z behind it.
+/// Makes a text in a buffer of just that capacity, after filling the rest with `z` and cutting it.
 fn in_buffer(
     ration: &mut Ration,
     alloc: Global,
@@ -120,7 +120,7 @@ fn in_buffer(
     Some(cut(CompactString::from_string_buffer(buffer), text.len()))
 }
 
-/// Pushes the letter z until a buffer has so many bytes.
+/// Pushes `z` until a buffer has `len` bytes.
 fn fill(buffer: &mut String, len: usize) -> bool {
     let mut is_filled = true;
     for _ in buffer.len()..len {
@@ -129,13 +129,13 @@ fn fill(buffer: &mut String, len: usize) -> bool {
     is_filled
 }
 
-/// So many letters on the heap, with a request that is granted.
+/// Makes `len` letters on the heap, granting the allocation.
 fn granted(ration: &mut Ration, alloc: Global, ask: usize, len: usize) -> Option<CompactString> {
     ration.grant(Ask::New(ask));
     copied(alloc, letters(0, len))
 }
 
-/// The same, of which the first `kept` bytes are kept.
+/// The same, keeping the first `kept` bytes.
 fn granted_and_cut(
     ration: &mut Ration,
     alloc: Global,
@@ -149,18 +149,18 @@ fn granted_and_cut(
     }
 }
 
-/// An empty value with this capacity, for which its request is granted.
+/// Makes an empty value with this capacity, granting its allocation.
 fn room(ration: &mut Ration, alloc: Global, capacity: usize) -> Option<CompactString> {
     ration.grant(Ask::New(capacity));
     with_room(alloc, capacity).ok()
 }
 
-/// 30 letters of the program.
+/// Makes a static value of 30 letters.
 fn lasting(alloc: Global) -> CompactString {
     CompactString::const_new(alloc, letters(0, 30))
 }
 
-/// A value of which the first `len` bytes are kept.
+/// Keeps the first `len` bytes of a value.
 fn cut(value: CompactString, len: usize) -> CompactString {
     let mut value = value;
     if value.is_char_boundary(len) {
@@ -169,14 +169,14 @@ fn cut(value: CompactString, len: usize) -> CompactString {
     value
 }
 
-/// A copy of `text`.
+/// Copies `text`.
 pub fn copied(alloc: Global, text: &str) -> Option<CompactString> {
     CompactString::new(alloc, text).ok()
 }
 
-/// A value of a name that others are made from: `lasting` is 30 letters of the program, `digits` 40 digits of the program,
-/// `long` the same on the heap, `fresh` 30 letters on the heap, `shortened` the same where 40 digits stood, and `emptied` no
-/// text where they stood. Any other word is a text that is copied.
+/// Makes a named source for other values: `lasting` is 30 letters, static; `digits` 40 digits, static; `long` the same
+/// on the heap; `fresh` 30 letters on the heap; `shortened` the same, where 40 digits were; and `emptied` the empty
+/// text there. Any other word is copied.
 pub fn source(alloc: Global, name: &str) -> Option<CompactString> {
     match name {
         "lasting" => Some(CompactString::const_new(alloc, letters(20, 50))),
@@ -198,7 +198,7 @@ fn shortened(alloc: Global, text: &str) -> Option<CompactString> {
     Some(value)
 }
 
-/// What is seen of a value that others are made from.
+/// Returns what is seen of a source.
 pub fn seen_of_source(name: &str) -> Seen<'_> {
     match seen_of_name(name) {
         Some(seen) => seen,
@@ -218,7 +218,7 @@ fn seen_of_name(name: &str) -> Option<Seen<'static>> {
     }
 }
 
-/// What is seen of a text that is copied.
+/// Returns what is seen of a copied text.
 fn seen_of_copy(text: &str) -> Seen<'_> {
     if text.len() > 24 {
         heap(text.len().max(32), text)
@@ -231,12 +231,12 @@ fn seen_of_copy(text: &str) -> Seen<'_> {
 #[derive(Clone, Copy)]
 pub struct Seen<'a> {
     pub place: &'a str,
-    /// `None` of a value that may have any room for its text.
+    /// `None` allows any capacity.
     pub capacity: Option<usize>,
     pub text: &'a str,
 }
 
-/// A text that stands inline.
+/// A text inline.
 pub fn inline(text: &str) -> Seen<'_> {
     Seen {
         place: "inline",
@@ -245,7 +245,7 @@ pub fn inline(text: &str) -> Seen<'_> {
     }
 }
 
-/// A text of the program.
+/// A static text.
 pub fn fixed(text: &str) -> Seen<'_> {
     Seen {
         place: "static",
@@ -263,7 +263,7 @@ pub fn heap(capacity: usize, text: &str) -> Seen<'_> {
     }
 }
 
-/// A text on the heap, with any capacity that holds it.
+/// A text on the heap, with any sufficient capacity.
 pub fn fitted(text: &str) -> Seen<'_> {
     Seen {
         place: "heap",
@@ -272,7 +272,7 @@ pub fn fitted(text: &str) -> Seen<'_> {
     }
 }
 
-/// Whether place, capacity and text of a value are these, and its packed bytes, if it stands inline.
+/// Returns `true` if a value has this place, capacity and text, and, if inline, the right packed bytes.
 pub fn is_seen(value: &CompactString, seen: Seen<'_>) -> bool {
     let has_room = match seen.capacity {
         Some(capacity) => value.capacity() == capacity,
@@ -281,8 +281,8 @@ pub fn is_seen(value: &CompactString, seen: Seen<'_>) -> bool {
     has_room && place_of(value) == seen.place && value.as_str() == seen.text && is_packed(value)
 }
 
-/// Whether the 24 packed bytes of an inline value are its text and its length, and are read as that text. Another value
-/// has none.
+/// Returns `true` if an inline value's 24 packed bytes are its text and length and are read as that text, or if
+/// another value has none.
 fn is_packed(value: &CompactString) -> bool {
     match value.packed() {
         Some(bytes) => stands_for(value.allocator(), &bytes, value.as_str()),
@@ -290,7 +290,7 @@ fn is_packed(value: &CompactString) -> bool {
     }
 }
 
-/// Whether 24 bytes begin with a text, end with its length, and are read as that text.
+/// Returns `true` if 24 bytes begin with a text, end with its length, and are read as that text.
 fn stands_for(alloc: Global, bytes: &[u8; 24], text: &str) -> bool {
     let ends_so = text.len() == 24 || usize::from(bytes[23]) == text.len().saturating_add(192);
     let is_read = match CompactString::from_packed(alloc, bytes) {

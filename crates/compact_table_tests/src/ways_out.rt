@@ -1,8 +1,9 @@
-//! Calls that a value leaves by: where one is refused the value is handed back as it was.
+//! Calls that convert a value: on failure they return it unchanged.
 
 use compact_str::{AsText, CompactString, Refused};
 
-/// Whether a value has left with this text; the value where it was refused, or where there is no call of this name.
+/// Converts a value, and returns whether the result has this text. Returns the value if that fails, or if there is no
+/// call of this name.
 pub fn leave(value: CompactString, name: &str, text: &str) -> Result<bool, CompactString> {
     match name {
         "into_string" => is_text(value.into_string(), text),
@@ -16,7 +17,7 @@ pub fn leave(value: CompactString, name: &str, text: &str) -> Result<bool, Compa
     }
 }
 
-/// Whether what leaves is this text.
+/// Returns whether the result is this text.
 fn is_text<T: AsText>(
     outcome: Result<T, Refused<CompactString>>,
     text: &str,

@@ -1,4 +1,4 @@
-//! Calls on a part of a value, which they take as a range of Rust's.
+//! Calls on a part of a value, as a Rust range.
 ghost use Rattle.std.specs.Prelude.{IfSome};
 ghost use Rattle.std.specs.declared.ops.Bound.TheVariants.{Included, Excluded};
 ghost use Rattle.compact_str.specs.Ranges.{IsRange};
@@ -9,8 +9,8 @@ use compact_edit::Reply;
 use compact_str::{CompactString, Standard};
 use std::ops::Bound;
 
-/// The reply to such a call, whose range is written as `1..2`. No range of the text, and no such call, is told as a bad
-/// position.
+/// Returns the reply to such a call, with a range such as `1..2`. Returns a bad position if the range is invalid or
+/// there is no such call.
 pub fn reply_within(
     name: &str,
     value: &mut CompactString,
@@ -34,7 +34,7 @@ pub fn reply_within(
     }
 }
 
-/// The start and the end of a range that is written so, if it is one of the text.
+/// Parses the start and end of a range, if it is one of the text.
 fn range_of(value: &CompactString, range: &str) -> Option<(usize, usize)>
     ensures { IfSome result
         (λ range. IsRange value.now.text (Included range.0) (Excluded range.1)) }

@@ -1,5 +1,5 @@
-//! What several crates of tests share: a process with no memory left, values that tests start from and what they see of one,
-//! readers and writers that stop, random numbers, and growth policies.
+//! Shared by several crates of tests: exhausted memory, sample values and checks of a value, readers and writers that
+//! stop, random numbers, and growth policies.
 #![tactic(auto)]
 
 pub mod memory;

@@ -2,12 +2,12 @@
 
 use std::alloc::{AllocError, Global};
 
-/// All memory that this process can get, so that each request is refused until this is dropped.
+/// Holds all memory that this process can allocate: until it is dropped, every allocation fails.
 pub struct Hog {
     blocks: Vec<Vec<u8>>,
 }
 
-/// It is dropped by one call, so that no test takes the blocks apart at its ends.
+/// A manual `Drop`, so that no test's proof expands the blocks.
 impl Drop for Hog {
     fn drop(self) {
         let Hog { blocks } = self;
@@ -16,17 +16,17 @@ impl Drop for Hog {
 }
 
 impl Hog {
-    /// How many blocks it holds.
+    /// Returns the number of blocks.
     pub fn block_count(&self) -> usize {
         self.blocks.len()
     }
 }
 
-/// Takes the whole address space, in ever smaller blocks that nothing writes to.
+/// Allocates the whole address space, in ever smaller blocks that are never written.
 ///
 /// # Errors
 ///
-/// `AllocError` if there is no memory for the list of the blocks.
+/// `AllocError` if the list of the blocks cannot be allocated.
 pub fn take_all(alloc: Global) -> Result<Hog, AllocError> {
     let mut blocks = Vec::with_capacity(alloc, 60_000)?;
     let mut size = 1usize << 46;

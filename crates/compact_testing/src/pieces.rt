@@ -1,24 +1,24 @@
-//! A reader and a writer that go in small steps, stop at a call that is named, and count their calls.
+//! A reader and a writer that take small steps, stop at a given call, and count their calls.
 
 use std::io;
 use std::io::{ErrorKind, Read, Write};
 
-/// What a reader or a writer does at one of its calls, counted from 1. At each other call it goes on.
+/// Where a reader or writer stops. Calls count from 1; every other call goes on.
 #[derive(Clone, Copy)]
 pub enum Stop {
-    /// It never stops.
+    /// Never stops.
     Never,
-    /// It fails at that call, with this kind, and goes on after it.
+    /// Fails at that call only, with this kind.
     Fails(usize, ErrorKind),
-    /// It fails at that call and at each later one, with this kind.
+    /// Fails at that call and every later one, with this kind.
     Breaks(usize, ErrorKind),
-    /// It answers 0 at that call, and goes on after it.
+    /// Returns 0 at that call only.
     Pauses(usize),
-    /// It answers 0 at that call and at each later one.
+    /// Returns 0 at that call and every later one.
     Ends(usize),
 }
 
-/// Answers whether a call stops, and with what.
+/// Returns the result of a call if it stops.
 fn stopped(stop: Stop, call: usize) -> Option<io::Result<usize>> {
     match stop {
         Stop::Fails(at, kind) if at == call => Some(Err(io::Error::from(kind))),
@@ -29,7 +29,7 @@ fn stopped(stop: Stop, call: usize) -> Option<io::Result<usize>> {
     }
 }
 
-/// Gives some bytes, at most `step` at each call, and 0 at the end.
+/// Reads bytes, at most `step` a call, and 0 at the end.
 #[derive(Drop)]
 pub struct Pieces<'a> {
     pub rest: &'a [u8],
@@ -39,7 +39,7 @@ pub struct Pieces<'a> {
 }
 
 impl<'a> Pieces<'a> {
-    /// A reader of `bytes` that was not called yet.
+    /// Creates a reader of `bytes`.
     pub fn new(bytes: &'a [u8], step: usize, stop: Stop) -> Self {
         Pieces {
             rest: bytes,
@@ -64,7 +64,7 @@ impl Read for Pieces<'_> {
     }
 }
 
-/// Takes bytes into a fixed buffer, at most `step` at each call, and 0 once it has no room.
+/// Writes bytes into a fixed buffer, at most `step` a call, and 0 once it is full.
 #[derive(Drop)]
 pub struct Narrow {
     taken: [u8; 256],
@@ -74,12 +74,12 @@ pub struct Narrow {
     calls: usize,
     stop: Stop,
     flushes: usize,
-    /// The flush that fails, counted from 1; none where it is 0.
+    /// The flush that fails, counted from 1; 0 for none.
     pub broken_flush: usize,
 }
 
 impl Narrow {
-    /// A writer with room for so many bytes, at most 256, that was not called yet.
+    /// Creates a writer with room for `room` bytes, at most 256.
     pub fn new(room: usize, step: usize, stop: Stop) -> Self {
         Narrow {
             taken: [0; 256],
@@ -93,7 +93,7 @@ impl Narrow {
         }
     }
 
-    /// What it has taken.
+    /// Returns the bytes written.
     pub fn bytes(&self) -> &[u8] {
         self.taken.get(..self.len).unwrap_or(&[])
     }

@@ -1,8 +1,8 @@
-//! Growth policies as users write them: one that doubles, one that grows slowly, and one with a large least buffer.
+//! Growth policies of users: one that doubles, one that grows slowly, and one with a large minimum.
 
 use compact_str::Policy;
 
-/// Doubles a buffer's capacity at each growth, from 32 bytes on.
+/// Doubles the capacity at each growth, from 32 bytes on.
 pub struct Double;
 
 impl Policy for Double {
@@ -28,7 +28,7 @@ impl Policy for Double {
     ghost lawful = { IsLawful-test _ refl };
 }
 
-/// Grows a buffer by a quarter, from the least that a policy may have.
+/// Grows by a quarter, from the least minimum that a policy may have.
 pub struct Slow;
 
 impl Policy for Slow {
@@ -54,7 +54,7 @@ impl Policy for Slow {
     ghost lawful = { IsLawful-test _ refl };
 }
 
-/// Takes 4096 bytes at the first growth, and grows by half.
+/// Allocates 4096 bytes at the first growth, then grows by half.
 pub struct Large;
 
 impl Policy for Large {

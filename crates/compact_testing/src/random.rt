@@ -1,19 +1,19 @@
 //! Random numbers.
 
-/// A linear congruential generator: the state times 6364136223846793005, and 1442695040888963407 more, modulo 2^64. A
-/// draw is its high 31 bits.
+/// A linear congruential generator: multiplies its state by 6364136223846793005 and adds 1442695040888963407, modulo
+/// 2^64. A draw is the high 31 bits.
 #[derive(Drop)]
 pub struct Random {
     state: u64,
 }
 
 impl Random {
-    /// A generator that begins with this state.
+    /// Creates a generator with this state.
     pub fn new(state: u64) -> Self {
         Random { state }
     }
 
-    /// The next draw, modulo `bound`.
+    /// Returns the next draw, modulo `bound`.
     pub fn below(&mut self, bound: u64) -> u64 {
         let product = self.state.wrapping_mul(6364136223846793005);
         self.state = product.wrapping_add(1442695040888963407);

@@ -1,9 +1,9 @@
--- Bytes that are put behind a row.
+-- Appended bytes.
 use Rattle.std.proofs.Common.{◌≡◌, ℕ, ◌+◌, ◌-◌, ◌≤◌, List, [], ◌∷◌, ◌++◌, length, take, drop, replicate, refl, ap, sym, ◌∙◌, arith, append_assoc}
 use Rattle.std.proofs.lemmas.List.{take-take, take_all, take-replicate, replicate-append-replicate}
 use Rattle.std.proofs.Math.Seq.{take-append-add, take-add}
 
--- the first bytes of a source are put, of which the first k stay, and then the n bytes from there on, which are its last
+-- the first m bytes of the source are appended, truncated to k, and then its last n
 pub joined_ends : (slice source : List ℕ) (len m k n : ℕ) → len ≡ length slice → k ≤ m → k + n ≡ length source
     → take (len + k) (slice ++ take m source) ++ take n (drop k source) ≡ slice ++ source
 joined_ends slice source len m k n e near all =
@@ -12,18 +12,17 @@ joined_ends slice source len m k n e near all =
     ∙ append_assoc slice (take k source) (take n (drop k source))
     ∙ ap (λ x. slice ++ x) (sym (take-add k n source) ∙ take_all (k + n) source (omega (arith, all)))
 
--- one more block of the source is put
+-- one more block
 pub one_more : (slice source : List ℕ) (k n m : ℕ) → k + n ≡ m → (slice ++ take k source) ++ take n (drop k source) ≡ slice ++ take m source
 one_more slice source k n m e =
     append_assoc slice (take k source) (take n (drop k source)) ∙ ap (λ x. slice ++ x) (sym (take-add k n source) ∙ ap (λ (j : ℕ). take j source) e)
 
--- two blocks of n bytes of the source are put, and then its last n
+-- two blocks of n bytes, and then the last n
 pub three_blocks : (slice source : List ℕ) (len k n : ℕ) → len ≡ length slice → k ≤ n + n → k + n ≡ length source
     → take (len + k) ((slice ++ take n source) ++ take n (drop n source)) ++ take n (drop k source) ≡ slice ++ source
 three_blocks slice source len k n e near all =
     ap (λ x. take (len + k) x ++ take n (drop k source)) (one_more slice source n n (n + n) refl) ∙ joined_ends slice source len (n + n) k n e near all
 
--- one more zero is put
 pub one_more_zero : (slice : List ℕ) (first counter : ℕ) → first ≤ counter
     → (slice ++ replicate (counter - first) 0) ++ 0 ∷ [] ≡ slice ++ replicate (counter + 1 - first) 0
 one_more_zero slice first counter le =
@@ -31,7 +30,7 @@ one_more_zero slice first counter le =
     append_assoc slice (replicate (counter - first) 0) (0 ∷ [])
     ∙ ap (λ x. slice ++ x) (replicate-append-replicate (counter - first) 1 0 ∙ ap (λ (n : ℕ). replicate n 0) more)
 
--- of n zeros that were put those within a length stay
+-- of n appended zeros, those within a length are kept
 pub zeros_within : (slice : List ℕ) (old len n : ℕ) → old ≡ length slice → old ≤ len → len ≤ old + n
     → take len (slice ++ replicate n 0) ≡ slice ++ replicate (len - old) 0
 zeros_within slice old len n e le within =

@@ -1,4 +1,4 @@
--- An ASCII character that comes into a text or goes from it: one byte that is its own character.
+-- Inserting and removing an ASCII character, a byte that is its own character.
 use Rattle.std.proofs.Common.{◌≡◌, ℕ, ◌+◌, ◌<◌, List, [], ◌∷◌, ◌++◌, length, take, slice_set, zero, suc, ap, sym, ◌∙◌, arith}
 use Rattle.std.proofs.lemmas.List.{take_more_set}
 use Rattle.std.proofs.lemmas.Str.{IsUtf8-append, IsUtf8-from_ascii, chars-append, chars-IsAscii}
@@ -37,7 +37,7 @@ pub utf8-ascii-removed : {t : List ℕ} (bytes : List ℕ) (index : ℕ) → tex
     → IsUtf8 (replace_range bytes index (index + 1) [])
 utf8-ascii-removed bytes index e u b n = utf8-cut_out bytes index (index + 1) e u b n
 
--- one that is written behind the first bytes of a row
+-- one written after the first n bytes
 pub ascii-behind : (slice : List ℕ) (n byte : ℕ) → n < length slice → IsUtf8 (take n slice) → byte < 128 → IsUtf8 (take (n + 1) (slice_set slice n byte))
 ascii-behind slice n byte l u h = rw (take_more_set slice n byte l) (IsUtf8-append _ _ u (IsUtf8-from_ascii _ (is_ascii byte h)))
 

@@ -1,4 +1,4 @@
--- An array whose words have no high bit is ASCII.
+-- Arrays whose words have no high bit are ASCII.
 use Rattle.std.proofs.Common.{◌≡◌, ℕ, ◌+◌, ◌-◌, ◌/◌, ◌%◌, ◌^◌, ◌<◌, ◌≤◌, List, ◌++◌, length, take, drop, get_or, zero, suc, refl, ap, sym, ◌∙◌, subst, arith, length-append, ⊎_elim}
 use Rattle.std.specs.Prelude.{bit_and, ◌⊎◌}
 use Rattle.std.specs.Int.{bit_at}
@@ -11,7 +11,7 @@ use Rattle.std.proofs.Math.Seq.{take-append-add}
 use Rattle.compact_text.specs.WordBytes.{word_bytes}
 use Rattle.compact_text.proofs.ChangedArrays.{array_is_three}
 
--- the mask has a one at the top of each byte, and so the word has none there
+-- the mask has the top bit of each byte, so the word has none
 no_bit : (word mask k : ℕ) → bit_and word mask ≡ 0 → bit_at mask k ≡ 1 → word / 2 ^ k % 2 ≡ 0
 no_bit word mask k none one =
     let both = bit_at_and word mask k in
@@ -31,7 +31,7 @@ ascii_word word none (suc (suc (suc (suc (suc (suc zero)))))) = let top = no_bit
 ascii_word word none (suc (suc (suc (suc (suc (suc (suc zero))))))) = let top = no_bit word 9259542123273814144 63 none refl in omega (arith, top)
 ascii_word word none (suc (suc (suc (suc (suc (suc (suc (suc i)))))))) = omega arith
 
--- of a word whose last byte is left out, the others
+-- the first seven bytes of a word
 ascii_seven : (word : ℕ) → bit_and (word % 72057594037927936) 9259542123273814144 ≡ 0 → IsAscii (take 7 (word_bytes word))
 unfolding word_bytes
 ascii_seven word none zero = let top = no_bit (word % 72057594037927936) 9259542123273814144 7 none refl in omega (arith, top)

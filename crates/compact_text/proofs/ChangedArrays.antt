@@ -1,4 +1,4 @@
--- An array of three words of eight bytes with a byte put in, or taken out.
+-- Arrays of three words with a byte inserted or removed.
 use Rattle.std.proofs.Common.{◌≡◌, ℕ, ◌+◌, ◌-◌, ◌<◌, ◌≤◌, List, [], ◌∷◌, ◌++◌, length, take, drop, refl, ap, sym, ◌∙◌, arith, length-append, append_assoc}
 use Rattle.std.proofs.Math.Seq.{take-append-add, drop-append-add}
 use Rattle.std.proofs.lemmas.List.{length-drop, length-take-le, take-append-drop, take-append-le, drop-append-le, take_all, drop-drop}
@@ -19,7 +19,7 @@ take_past xs ys at n place = ap (λ (m : ℕ). take m (xs ++ ys)) place ∙ take
 drop_past : (xs ys : List ℕ) (at n : ℕ) → at ≡ length xs + n → drop at (xs ++ ys) ≡ drop n ys
 drop_past xs ys at n place = ap (λ (m : ℕ). drop m (xs ++ ys)) place ∙ drop-append-add xs ys n
 
--- a byte is put into the first part of an array: of the whole, the last n bytes of the rest stay behind
+-- a byte is inserted into the first part; of the rest the last n bytes are unchanged
 put_in : (xs ys : List ℕ) (at byte all n : ℕ) → at ≤ length xs → all ≡ length xs + n
     → take at (xs ++ ys) ++ byte ∷ take (all - at) (drop at (xs ++ ys)) ≡ take at xs ++ byte ∷ (drop at xs ++ take n ys)
 put_in xs ys at byte all n within size =
@@ -34,7 +34,7 @@ taken_out xs ys at within =
     ap (λ (zs : List ℕ). zs ++ drop (at + 1) (xs ++ ys)) (take-append-le at xs ys (omega arith))
     ∙ ap (λ (zs : List ℕ). take at xs ++ zs) (drop-append-le (at + 1) xs ys (omega arith))
 
--- the byte that left a word is its last
+-- the byte dropped from a word is its last
 with_last : (xs : List ℕ) (at last : ℕ) → at ≤ 7 → drop 7 xs ≡ last ∷ [] → take (7 - at) (drop at xs) ++ last ∷ [] ≡ drop at xs
 with_last xs at last within is =
     let place : at + (7 - at) ≡ 7 = omega arith in
@@ -88,7 +88,7 @@ inserted_third x y z w at from byte length_x length_y place third =
     ∙ ap (λ (ys : List ℕ). take at (x ++ y ++ z) ++ byte ∷ take (7 - from) ys) (sym (drop_past (x ++ y) z at from (omega arith)))
     ∙ ap (λ (n : ℕ). take at (x ++ y ++ z) ++ byte ∷ take n (drop at (x ++ y ++ z))) left
 
--- the word that stands behind the last one
+-- the word after the last one
 pub zero_follows : take 1 (word_bytes 0) ≡ 0 ∷ []
 unfolding word_bytes
 zero_follows = refl
@@ -135,7 +135,7 @@ removed_third x y z w at from length_x length_y place third =
     ∙ ap (λ (ys : List ℕ). ys ++ drop (from + 1) z ++ 0 ∷ []) (sym (take_past (x ++ y) z at from (omega arith)))
     ∙ ap (λ (ys : List ℕ). take at (x ++ y ++ z) ++ ys ++ 0 ∷ []) (sym (drop_past (x ++ y) z (at + 1) (from + 1) (omega arith)))
 
--- an array with another last byte is its first two words and the third with that byte
+-- with another last byte only the third word differs
 pub other_last : (xs x y z : List ℕ) (last : ℕ) → length xs ≡ 24 → x ≡ take 8 xs → y ≡ take 8 (drop 8 xs) → z ≡ take 8 (drop 16 xs)
     → x ++ y ++ (take 7 z ++ last ∷ []) ≡ take 23 xs ++ last ∷ []
 other_last xs x y z last long first second third =

@@ -1,4 +1,4 @@
--- A word with a byte put in, or taken out.
+-- Words with a byte inserted or removed.
 use Rattle.std.proofs.Common.{◌≡◌, ℕ, ◌+◌, ◌-◌, ◌*◌, ◌/◌, ◌%◌, ◌^◌, ◌<◌, ◌≤◌, List, [], ◌∷◌, ◌++◌, length, take, drop, ap, sym, ◌∙◌, arith, length-append}
 use Prim.Native.Nat.{suc}
 use Rattle.std.proofs.Math.Nat.{add-mod-mod, mod-add-mod}
@@ -77,7 +77,7 @@ removed_word word at next fits within next_fits =
     ∙ kept (front ++ back) (word_bytes next) each (omega arith) (omega arith)
     ∙ ap (λ (n : ℕ). front ++ back ++ take n (word_bytes next)) left
 
--- the sums are taken in a word
+-- the sums wrap at a word
 wrapped : (a b c : ℕ) → ((a + b) % 2 ^ 64 + c % 2 ^ 64) % 2 ^ 64 ≡ (a + b + c) % 2 ^ 64
 wrapped a b c = add-mod-mod ((a + b) % 2 ^ 64) c (2 ^ 64) ∙ mod-add-mod (a + b) (2 ^ 64) c
 

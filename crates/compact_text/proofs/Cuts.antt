@@ -1,4 +1,4 @@
--- Where a text is cut, and where its bytes are.
+-- Boundaries of a text, and those of its bytes.
 use Rattle.std.proofs.Common.{◌≡◌, ℕ, ◌+◌, ◌-◌, ◌<◌, ◌≤◌, List, [], ◌∷◌, ◌++◌, take, drop, refl, ap, sym, ◌∙◌, subst, arith, true, ⊎_elim, append_assoc, Bool, false, IsTrue, ◌↔◌}
 use Rattle.std.proofs.lemmas.List.{append-nil, length-take-le, take-append-drop}
 use Rattle.std.proofs.lemmas.Bool.{eq-eqb, ne_eqb, true≢false, cases_Bool, cond-true, cond-false, le-leb, lt-leb, and_parts}
@@ -13,7 +13,6 @@ use Rattle.compact_text.specs.Cut.{IsCut, IsBoundary, IsAsciiAt, is_boundary, te
 use Rattle.compact_text.proofs.TextFacts.{text_facts}
 use Rattle.compact_text.proofs.Texts.{length-utf8, size-text_of, size-append}
 
--- a text is what stands before a position and what stands after it
 pub text_before-text_after : (t : List ℕ) (p : ℕ) → t ≡ text_before t p ++ text_after t p
 text_before-text_after [] p = refl
 text_before-text_after (c ∷ cs) p =
@@ -22,7 +21,6 @@ text_before-text_after (c ∷ cs) p =
     (λ e. rw e refl)
     (cases_Bool (leb (len_utf8 c) p))
 
--- each character has a byte
 past-start : (c p : ℕ) → 0 ≡ p → p < len_utf8 c
 past-start c p e = let w = len_utf8_bounds c in omega (arith, w.0, e)
 
@@ -77,7 +75,7 @@ size-replaced t s start end h k order =
     let back = size-text_after t end k in
     omega (arith, whole, front, back)
 
--- the bytes may be cut where the text may
+-- the text and its bytes have the same boundaries
 
 text_of-parts : (bytes : List ℕ) (p : ℕ) → IsUtf8 bytes → IsCharBoundary bytes p → IsCut (text_of bytes) p (text_of (take p bytes)) (text_of (drop p bytes))
 text_of-parts bytes p u h =
@@ -103,7 +101,7 @@ boundary-encoded bytes p u h =
 pub boundary-bytes : {t : List ℕ} (bytes : List ℕ) (p : ℕ) → text_of bytes ≡ t → IsUtf8 bytes → IsBoundary t p → IsCharBoundary bytes p
 boundary-bytes bytes p e u h = boundary-encoded bytes p u (subst (λ (t : List ℕ). IsBoundary t p) (sym e) h)
 
--- what the parts of the bytes spell
+-- the texts of the parts of the bytes
 
 pub text_of-take : {t : List ℕ} (bytes : List ℕ) (p : ℕ) → text_of bytes ≡ t → IsUtf8 bytes → IsBoundary t p → text_of (take p bytes) ≡ text_before t p
 text_of-take bytes p e u h =
@@ -129,19 +127,19 @@ text_of-replaced bytes s start end e u v h k =
     ∙ ap (λ x. x ++ text_of (drop end bytes)) (chars-append (take start bytes) s front)
     ∙ rw (text_of-take bytes start e u h, text_of-drop bytes end e u k) refl
 
--- the character that the last bytes encode is the last one of the text
+-- the last bytes encode the last character
 pub text_of-last : (bytes front : List ℕ) (c : ℕ) → IsUtf8 bytes → IsUtf8 front → bytes ≡ front ++ encode c → text_of bytes ≡ text_of front ++ c ∷ []
 text_of-last bytes front c u v e =
     let spelled : encodes (text_of front ++ c ∷ []) ≡ front ++ encode c =
     encodes-append (text_of front) (c ∷ []) ∙ ap (λ x. x ++ encodes (c ∷ [])) (encodes-chars front v) ∙ ap (λ x. front ++ x) (append-nil (encode c)) in
     encodes_same _ _ (encodes-chars bytes u ∙ e ∙ sym spelled)
 
--- the character that the first bytes after a boundary encode is the first one after it
+-- the first bytes after a boundary encode the next character
 pub text_of-next : (bytes rest : List ℕ) (p c : ℕ) → IsUtf8 bytes → IsBoundary (text_of bytes) p → drop p bytes ≡ encode c ++ rest → text_after (text_of bytes) p ≡ c ∷ text_of rest
 text_of-next bytes rest p c u h e =
     sym (text_of-drop bytes p refl u h) ∙ chars_past_char (drop p bytes) rest c (IsUtf8-drop bytes p u (boundary-bytes bytes p refl u h)) e
 
--- where a part goes and nothing comes for it
+-- a part is removed
 pub utf8-cut_out : {t : List ℕ} (bytes : List ℕ) (start end : ℕ) → text_of bytes ≡ t → IsUtf8 bytes → IsBoundary t start → IsBoundary t end → IsUtf8 (replace_range bytes start end [])
 utf8-cut_out bytes start end e u h k = utf8-replaced bytes [] start end e u IsUtf8-nil h k
 
@@ -149,7 +147,6 @@ pub text_of-cut_out : {t : List ℕ} (bytes : List ℕ) (start end : ℕ) → te
     → text_of (replace_range bytes start end []) ≡ replaced_text t start end []
 text_of-cut_out {t} bytes start end e u h k = text_of-replaced bytes [] start end e u IsUtf8-nil h k ∙ ap (λ (s : List ℕ). replaced_text t start end s) chars-nil
 
--- a text has the width of its last character, and may be cut before it
 pub size-last : (t front : List ℕ) (c : ℕ) → t ≡ front ++ c ∷ [] → len_utf8 c ≤ size t
 size-last t front c e =
     let whole : size t ≡ size front + (len_utf8 c + 0) = ap size e ∙ size-append front (c ∷ []) in
@@ -160,7 +157,7 @@ boundary-last t front c e =
     let whole : size t ≡ size front + (len_utf8 c + 0) = ap size e ∙ size-append front (c ∷ []) in
     (front, c ∷ [], record { parts = e; position = omega (arith, whole) })
 
--- past the character at a boundary there is a boundary
+-- the end of the character at a boundary is a boundary
 pub boundary-next : (t rest : List ℕ) (p c : ℕ) → IsBoundary t p → text_after t p ≡ c ∷ rest → IsBoundary t (p + len_utf8 c)
 boundary-next t rest p c h e =
     let parts : t ≡ (text_before t p ++ c ∷ []) ++ rest = text_before-text_after t p ∙ ap (λ x. text_before t p ++ x) e ∙ sym (append_assoc (text_before t p) (c ∷ []) rest) in
@@ -179,7 +176,6 @@ text_before-last t front c e =
     let whole : size t ≡ size front + (len_utf8 c + 0) = ap size e ∙ size-append front (c ∷ []) in
     ap (λ x. text_before x (size t - len_utf8 c)) e ∙ text_before-append front (c ∷ []) _ (omega (arith, whole))
 
--- so it may after an ASCII character
 pub boundary-ascii : (t : List ℕ) (p c : ℕ) → IsBoundary t p → IsAsciiAt t p c → IsBoundary t (p + 1)
 boundary-ascii t p c h a = subst (λ (n : ℕ). IsBoundary t (p + n)) a.width (boundary-next t a.rest p c h a.text)
 
@@ -188,5 +184,4 @@ pub is_boundary-test : (b : Bool) (t : List ℕ) (p : ℕ) → (IsTrue b ↔ IsB
 is_boundary-test true t p h = sym (eq-eqb _ _ (size-text_before t p (h.0 refl)))
 is_boundary-test false t p h = sym (ne_eqb _ _ (λ e. true≢false (sym (h.1 (boundary-from_size t p e)))))
 
--- of the last character
 pub ruleset last_facts = (text_facts, size-last, boundary-last, text_before-last)

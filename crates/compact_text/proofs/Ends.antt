@@ -1,10 +1,10 @@
--- A slice of bytes in which a part is written by its two ends.
+-- Slices with a part written by its two ends.
 use Rattle.std.proofs.Common.{◌≡◌, ℕ, ◌+◌, ◌≤◌, List, ◌++◌, length, take, drop, refl, ap, sym, ◌∙◌, arith, length-append, append_assoc}
 use Rattle.std.proofs.lemmas.List.{length-take-le, take-append-le, take-take, take_at, drop_at, drop-drop}
 use lib.Seq.{paste}
 use Rattle.compact_text.proofs.Shifts.{take-add}
 
--- the first n bytes of the source are written, and then n bytes from the one at k on, which is among them or right behind them
+-- the first n bytes of the source are written, and then the n bytes from k on, which overlap or follow them
 pub ends : (slice source first last : List ℕ) (at n k count : ℕ) → k ≤ n → k + n ≡ count → count ≤ length source → at + count ≤ length slice
     → first ≡ take n source → last ≡ take n (drop k source) → paste (paste slice at first n) (at + k) last n ≡ paste slice at source count
 ends slice source first last at n k count near all held within e f =

@@ -1,4 +1,4 @@
--- Characters that are kept, one after another, in a slice of bytes.
+-- Retaining characters in a slice of bytes.
 use Rattle.std.proofs.Common.{◌≡◌, ◌∙◌, refl, ap, sym, subst, arith, ℕ, ◌+◌, ◌-◌, ◌<◌, ◌≤◌, List, [], ◌∷◌, ◌++◌, length, take, drop, Bool, true, false, cond, inl, inr, append_assoc, append-nil, length-append}
 use Rattle.std.proofs.lemmas.List.{length-drop, drop-drop, drop_all}
 use Rattle.std.proofs.lemmas.Bool.{cases_lt}
@@ -13,7 +13,6 @@ use Rattle.compact_text.specs.Text.{text_of}
 use Rattle.compact_text.specs.Retain.{RetainsCharsTo}
 use Rattle.compact_text.proofs.Cuts.{text_of-last}
 
--- what stands behind the character that begins at a place
 pub behind_char : (slice rest : List ℕ) (at c : ℕ) → drop at slice ≡ encode c ++ rest → drop at slice ≡ encode c ++ drop (at + len_utf8 c) slice
 behind_char slice rest at c e = e ∙ ap (λ (l : List ℕ). encode c ++ l) (sym (drop_past_char slice rest at c e))
 
@@ -23,7 +22,6 @@ within_char slice rest at c h e = omega (arith, h, ap length e, length-drop at s
 pub utf8-behind_char : (slice rest : List ℕ) (at c : ℕ) → IsUtf8 (drop at slice) → drop at slice ≡ encode c ++ rest → IsUtf8 (drop (at + len_utf8 c) slice)
 utf8-behind_char slice rest at c u e = subst IsUtf8 (sym (drop_past_char slice rest at c e)) (IsUtf8-past_char (drop at slice) rest c u e)
 
--- one more character in front
 keeps-step : {F : Type 0} (g : Mut F (ℕ × Unit {0}) Bool) (f h last : F) (c : ℕ) (b : Bool) (t u : List ℕ) → Called g f (c, tt) b h → RetainsCharsTo g h t u last → RetainsCharsTo g f (c ∷ t) (cond b (c ∷ u) u) last
 keeps-step g f h last c true t u s k = (true ∷ k.0, omega (arith, k.1), (h, s, k.2), ap (λ l. c ∷ l) k.3)
 keeps-step g f h last c false t u s k = (false ∷ k.0, omega (arith, k.1), (h, s, k.2), k.3)
@@ -31,7 +29,7 @@ keeps-step g f h last c false t u s k = (false ∷ k.0, omega (arith, k.1), (h, 
 pub keeps-nil : {F : Type 0} (g : Mut F (ℕ × Unit {0}) Bool) (f : F) → RetainsCharsTo g f [] [] f
 keeps-nil g f = ([], refl, refl, refl)
 
--- what is kept of the rest goes on what is kept so far
+-- the retained rest is appended to what is retained so far
 abbrev pub GoesOn : {F : Type 0} → Mut F (ℕ × Unit {0}) Bool → F → List ℕ → F → List ℕ → List ℕ → Type 0
 GoesOn {F} g first whole f done rest = (u : List ℕ) (last : F) → RetainsCharsTo g f rest u last → RetainsCharsTo g first whole (done ++ u) last
 
@@ -47,20 +45,19 @@ goes_on-dropped g first f h whole t r done c e called so u last k =
 pub goes_on-end : {F : Type 0} (g : Mut F (ℕ × Unit {0}) Bool) (first f : F) (whole done : List ℕ) → GoesOn g first whole f done [] → RetainsCharsTo g first whole done f
 goes_on-end g first f whole done so = subst (λ (l : List ℕ). RetainsCharsTo g first whole l f) (append-nil done) (so [] f (keeps-nil g f))
 
--- the bytes of a text with a character written behind them
 pub utf8-put : (bytes : List ℕ) (c : ℕ) → IsScalar c → IsUtf8 bytes → IsUtf8 (bytes ++ encode c)
 utf8-put bytes c s u = IsUtf8-append bytes (encode c) u (IsUtf8-encode c s)
 
 pub text_of-put : (bytes : List ℕ) (c : ℕ) → IsScalar c → IsUtf8 bytes → text_of (bytes ++ encode c) ≡ text_of bytes ++ c ∷ []
 text_of-put bytes c s u = text_of-last (bytes ++ encode c) bytes c (utf8-put bytes c s u) u refl
 
--- slices that agree from one place on agree from a later one on
+-- slices that agree from one position on agree from a later one on
 pub drop-later : (xs ys : List ℕ) (i j : ℕ) → i ≤ j → drop i xs ≡ drop i ys → drop j xs ≡ drop j ys
 drop-later xs ys i j h e =
     let later : i + (j - i) ≡ j = omega arith in
     ap (λ (n : ℕ). drop n xs) (sym later) ∙ sym (drop-drop (j - i) i xs) ∙ ap (λ (l : List ℕ). drop (j - i) l) e ∙ drop-drop (j - i) i ys ∙ ap (λ (n : ℕ). drop n ys) later
 
--- a loop over a slice: what is kept stands at its front, and what is not yet asked from `read` on
+-- the loop's state: the retained part is at the front, and the part not yet tested from `read` on
 abbrev pub Stands : {F : Type 0} → Mut F (ℕ × Unit {0}) Bool → F → List ℕ → F → List ℕ → ℕ → ℕ → Type 0
 Stands g first whole f slice kept read =
     IsUtf8 (drop read slice) × IsUtf8 (take kept slice) × GoesOn g first whole f (text_of (take kept slice)) (text_of (drop read slice))
@@ -80,7 +77,7 @@ stands-kept g first f h whole slice now kept read n c said says called s order e
           (subst (λ (l : List ℕ). GoesOn g first whole h l (text_of (drop (read + n) slice))) (sym text) on),
     )
 
--- where the answer is false the slice stays
+-- the test is false, and the slice unchanged
 pub stands-dropped : {F : Type 0} (g : Mut F (ℕ × Unit {0}) Bool) (first f h : F) (whole slice : List ℕ) (kept read n c : ℕ) (said : Bool)
     → said ≡ false → Called g f (c, tt) said h → drop read slice ≡ encode c ++ drop (read + n) slice → IsUtf8 (drop (read + n) slice)
     → Stands g first whole f slice kept read → Stands g first whole h slice kept (read + n)
@@ -96,7 +93,6 @@ stands-last g first f whole slice kept read h stands =
     let none : text_of (drop read slice) ≡ [] = ap (λ (l : List ℕ). text_of l) (drop_all read slice h) ∙ chars-nil in
     goes_on-end g first f whole (text_of (take kept slice)) (subst (λ (l : List ℕ). GoesOn g first whole f (text_of (take kept slice)) l) none stands.2)
 
--- a text whose first byte is ASCII begins with that character
 pub first_ascii : {text : List ℕ} (bytes : List ℕ) (b c : ℕ) → bytes ≡ text → IsUtf8 text → 0 < length bytes → b ≡ get_or bytes 0 0 → b < 128 → c ≡ b
     → (len_utf8 c ≡ 1) × ((rest : List ℕ) × (text_of text ≡ c ∷ rest))
 first_ascii {text} bytes b c e u some is low same =
@@ -105,7 +101,6 @@ first_ascii {text} bytes b c e u some is low same =
     sym e ∙ head ∙ ap (λ (l : List ℕ). l ++ drop 1 bytes) (sym (encode_ascii b low)) ∙ ap (λ (x : ℕ). encode x ++ drop 1 bytes) (sym same) in
     (len_utf8_ascii c (omega (arith, same, low)), (text_of (drop 1 bytes), chars_past_char text (drop 1 bytes) c u split))
 
--- a text whose first byte is past ASCII begins with no character of ASCII
 pub first_past_ascii : {text : List ℕ} (bytes : List ℕ) (b : ℕ) → bytes ≡ text → IsUtf8 text → b ≡ get_or bytes 0 0 → 128 ≤ b
     → (c : ℕ) (rest : List ℕ) → text_of text ≡ c ∷ rest → 128 ≤ c
 first_past_ascii {text} bytes b e u is high c rest split =

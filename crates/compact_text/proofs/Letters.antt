@@ -1,4 +1,4 @@
--- Texts of which the ASCII letters are changed: their bytes, and where they may be cut.
+-- Texts with changed ASCII characters: their bytes and boundaries.
 use Rattle.std.proofs.Common.{◌≡◌, ℕ, ◌+◌, ◌-◌, ◌/◌, ◌<◌, ◌≤◌, List, [], ◌∷◌, ◌++◌, length, Bool, true, false, cond, refl, ap, sym, ◌∙◌, map, arith, ⊎_elim}
 use Rattle.std.proofs.lemmas.Bool.{cases_lt, le-ltb, and_parts, and_from}
 use Rattle.std.proofs.lemmas.List.{map-append, length-map}
@@ -12,7 +12,7 @@ use Rattle.compact_text.specs.Text.{size, text_of, ascii_lowercase, ascii_upperc
 use Rattle.compact_text.specs.Cut.{IsBoundary, text_before}
 use Rattle.compact_text.proofs.Cuts.{size-text_before, boundary-from_size}
 
--- f keeps ASCII within ASCII, and changes nothing else
+-- f maps ASCII to ASCII, and changes nothing else
 module _ (f : ℕ → ℕ) (low : (b : ℕ) → b < 128 → f b < 128) (high : (b : ℕ) → 128 ≤ b → f b ≡ b) where
   same_of_three : (x y : Bool) (p q r : List ℕ) → map f p ≡ p → map f q ≡ q → map f r ≡ r → map f (cond x p (cond y q r)) ≡ cond x p (cond y q r)
   same_of_three true y p q r h k l = h

@@ -1,4 +1,4 @@
--- What stands between two boundaries of a text.
+-- The part of a text between two boundaries.
 use Rattle.std.proofs.Common.{◌≡◌, ℕ, ◌+◌, ◌-◌, ◌≤◌, List, [], ◌∷◌, ◌++◌, take, drop, refl, ap, sym, ◌∙◌, arith, append_assoc}
 use Rattle.std.proofs.lemmas.Str.{len_utf8_bounds, IsUtf8-drop}
 use Rattle.std.specs.Str.{IsUtf8}
@@ -16,7 +16,7 @@ abbrev tail_of : List ℕ → List ℕ
 tail_of [] = []
 tail_of (x ∷ xs) = xs
 
--- where a text is cut twice, the front of the later cut goes on from that of the earlier one
+-- of two cuts, the front of the later one extends that of the earlier one
 two_cuts : (a b c d : List ℕ) → a ++ b ≡ c ++ d → size a ≤ size c → (m : List ℕ) × (c ≡ a ++ m) × (b ≡ m ++ d)
 two_cuts [] b c d e h = (c, refl, e)
 two_cuts (x ∷ xs) b [] d e h = absurd (let wide = len_utf8_bounds x in omega (arith, wide.0, h))
@@ -26,7 +26,7 @@ two_cuts (x ∷ xs) b (y ∷ ys) d e h =
     let rest = two_cuts xs b ys d (ap tail_of e) shorter in
     (rest.0, ap (λ (c : ℕ). c ∷ ys) (sym first) ∙ ap (λ (l : List ℕ). x ∷ l) rest.1, rest.2)
 
--- a text with two boundaries is what stands before, between and after them
+-- the text is the parts before, between and after the boundaries
 pub substring-parts : (t : List ℕ) (i j : ℕ) → IsBoundary t i → IsBoundary t j → i ≤ j → (text_after t i ≡ substring t i j ++ text_after t j) × (size (substring t i j) ≡ j - i)
 substring-parts t i j h k order =
     let first = size-text_before t i h in
@@ -36,7 +36,7 @@ substring-parts t i j h k order =
     let is : substring t i j ≡ cuts.0 = ap (λ (l : List ℕ). text_before l (j - i)) cuts.2 ∙ text_before-append cuts.0 (text_after t j) (j - i) wide in
     (rw is cuts.2, rw is wide)
 
--- and of every three parts the second stands between two boundaries
+-- the second of any three parts is between two boundaries
 pub parts-substring : (t a m b : List ℕ) (i j : ℕ) → t ≡ a ++ m ++ b → size a ≡ i → size a + size m ≡ j → IsBoundary t i × IsBoundary t j × (substring t i j ≡ m)
 parts-substring t a m b i j e first last =
     let grouped : t ≡ a ++ (m ++ b) = e ∙ append_assoc a m b in
@@ -53,7 +53,7 @@ boundary-substring t i j h k order =
     let parts = substring-parts t i j h k order in
     (substring t i j, text_after t j, record { parts = parts.0; position = parts.1 })
 
--- the bytes between two boundaries are UTF-8, and spell what stands there
+-- the bytes between two boundaries are UTF-8, and encode the part between them
 pub part-text : {t : List ℕ} (bytes : List ℕ) (i j : ℕ) → text_of bytes ≡ t → IsUtf8 bytes → IsBoundary t i → IsBoundary t j → i ≤ j
     → IsUtf8 (take (j - i) (drop i bytes)) × (text_of (take (j - i) (drop i bytes)) ≡ substring t i j)
 part-text {t = t} bytes i j e u first last order =

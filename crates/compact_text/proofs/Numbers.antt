@@ -1,4 +1,4 @@
--- Lists of bytes as numbers, and as words of eight bytes.
+-- Lists of bytes as numbers and as words.
 use Rattle.std.proofs.Common.{◌≡◌, ℕ, ◌+◌, ◌-◌, ◌*◌, ◌/◌, ◌%◌, ◌^◌, ◌<◌, ◌≤◌, List, [], ◌∷◌, ◌++◌, length, take, drop, get_or, refl, ap, sym, ◌∙◌, subst, arith, length-append, ⊎_elim}
 use Prim.Native.Nat.{zero, suc}
 use Rattle.std.specs.Prelude.{replicate, bit_or, min}
@@ -10,7 +10,7 @@ use Rattle.std.proofs.lemmas.Nat.{pow-add, pow_pos, shr_high, mod_low, or_block,
 use Rattle.std.proofs.lemmas.List.{length-take-le, length-drop, length-replicate, take-append-drop, take-take, drop-take, take_all, drop_all, take_at, drop-drop, get_or-drop}
 use Rattle.compact_text.specs.WordBytes.{le_number, word_bytes}
 
--- what the type of an array of bytes says of its items
+-- the items of an array of bytes
 abbrev pub AllBytes : List ℕ → Type 0
 AllBytes bytes = (i : ℕ) → get_or bytes i 0 < 256
 
@@ -37,7 +37,6 @@ AllBytes-take (suc n) (x ∷ xs) all (suc i) = AllBytes-take n xs (λ j. all (su
 pub AllBytes-drop : (n : ℕ) (xs : List ℕ) → AllBytes xs → AllBytes (drop n xs)
 AllBytes-drop n xs all i = rw get_or-drop (all (n + i))
 
--- one byte more is a factor of 256
 one_byte_more : (n : ℕ) → 2 ^ (8 * suc n) ≡ 2 ^ (8 * n) * 256
 one_byte_more n =
     let at : 8 * suc n ≡ 8 * n + 8 = omega arith in
@@ -59,7 +58,7 @@ le_number-lt (x ∷ xs) all =
     let factor = one_byte_more (length xs) in
     omega (arith, rest, first, factor)
 
--- the first n bytes are below what the others are a multiple of
+-- the first n bytes are a number below the factor of the others
 number_front : (n : ℕ) (xs : List ℕ) → AllBytes xs → n ≤ length xs → le_number (take n xs) < 2 ^ (8 * n)
 number_front n xs all within =
     subst (λ (m : ℕ). le_number (take n xs) < 2 ^ (8 * m)) (length-take-le n xs within) (le_number-lt (take n xs) (AllBytes-take n xs all))
@@ -85,7 +84,6 @@ le_number-append-zeros : (xs : List ℕ) (n : ℕ) → le_number (xs ++ replicat
 le_number-append-zeros xs n =
     le_number-append xs (replicate n 0) ∙ (let none = number_zeros n in rw none (omega arith))
 
--- the number of eight bytes is the word that they are read as
 number_is_read : (xs : List ℕ) → length xs ≡ 8 → le_number xs ≡ from_le_bytes w64 xs
 number_is_read [] eight = absurd (omega arith)
 number_is_read (a ∷ []) eight = absurd (omega arith)
@@ -102,7 +100,7 @@ pub word_bytes-le_number : (xs : List ℕ) → AllBytes xs → length xs ≡ 8 �
 unfolding word_bytes
 word_bytes-le_number xs all eight = le_bytes_8 xs (le_number xs) eight all (number_is_read xs eight)
 
--- fewer than eight bytes make a word with zeros behind them
+-- fewer than eight bytes make a word padded with zeros
 pub word_bytes-number_short : (xs : List ℕ) → AllBytes xs → length xs ≤ 8 → word_bytes (le_number xs) ≡ xs ++ replicate (8 - length xs) 0
 word_bytes-number_short xs all most =
     let gap : List ℕ = replicate (8 - length xs) 0 in
@@ -130,7 +128,7 @@ pub le_number-word_bytes : (word : ℕ) → word < 2 ^ 64 → le_number (word_by
 unfolding word_bytes
 le_number-word_bytes word fits = number_is_read (to_le_bytes w64 word) refl ∙ from_le_bytes-to_le_bytes_8 word fits
 
--- the last k bytes of an array, of which only those from a place on are kept
+-- the last k bytes of an array, without those before a position
 pub number_last : (xs : List ℕ) (k from : ℕ) → AllBytes xs → k ≤ length xs → from ≤ length xs → length xs ≤ from + k
     → le_number (take k (drop (length xs - k) xs)) / 2 ^ (8 * (from + k - length xs)) ≡ le_number (drop from xs)
 number_last xs k from all held start end =
@@ -142,7 +140,7 @@ number_last xs k from all held start end =
     ∙ le_number-drop past (drop at xs) (AllBytes-drop at xs all) (omega arith)
     ∙ ap le_number (drop-drop past at xs ∙ ap (λ (m : ℕ). drop m xs) place)
 
--- the second eight bytes of an array, or as many as there are: the last eight of it, without those that stand before
+-- the second eight bytes, or the fewer there are: the last eight, without those before
 pub number_second : (xs : List ℕ) (at : ℕ) → AllBytes xs → 8 ≤ length xs → at ≡ min (length xs - 8) 8
     → le_number (take 8 (drop at xs)) / 2 ^ (8 * (8 - at)) ≡ le_number (take 8 (drop 8 xs))
 number_second xs at all held is =
@@ -162,7 +160,7 @@ number_second xs at all held is =
     ∙ omega arith)
     (cases_lt (length xs) 16)
 
--- the bytes that follow the first sixteen, by the last eight of the array
+-- the bytes after the first sixteen, from the last eight
 pub number_third : (xs : List ℕ) (count : ℕ) → AllBytes xs → 8 ≤ length xs → length xs ≤ 24 → count ≡ length xs - 16
     → le_number (take 8 (drop (length xs - 8) xs)) / 2 ^ (8 * (8 - count)) ≡ le_number (drop 16 xs)
 number_third xs count all held most is =
@@ -181,7 +179,7 @@ number_third xs count all held most is =
     ∙ number_last xs 8 16 all held long (omega arith))
     (cases_lt (length xs) 16)
 
--- a number, and one that has the same below 2 ^ k, are together the second
+-- a number or-ed with its bits below 2 ^ k is itself
 or_same : (k high low : ℕ) → low < 2 ^ k → bit_or low (high * 2 ^ k + low) ≡ high * 2 ^ k + low
 or_same k high low below =
     let alone : low ≡ 0 * 2 ^ k + low = omega arith in
@@ -190,7 +188,6 @@ or_same k high low below =
     ∙ ap (λ (n : ℕ). n * 2 ^ k + bit_or low low) (or_zero_l high)
     ∙ ap (λ (n : ℕ). high * 2 ^ k + n) (or_self low)
 
--- at most eight bytes make a number that a word holds
 pub le_number-below_word : (xs : List ℕ) → AllBytes xs → length xs ≤ 8 → le_number xs < 2 ^ 64
 le_number-below_word xs all most =
     let gap : List ℕ = replicate (8 - length xs) 0 in
@@ -198,7 +195,7 @@ le_number-below_word xs all most =
     let below : le_number (xs ++ gap) < 2 ^ 64 = subst (λ (m : ℕ). le_number (xs ++ gap) < 2 ^ (8 * m)) eight (le_number-lt (xs ++ gap) (AllBytes-append xs gap all (AllBytes-zeros (8 - length xs)))) in
     subst (λ (n : ℕ). n < 2 ^ 64) (le_number-append-zeros xs (8 - length xs)) below
 
--- two reads of k bytes, one from the start and one that ends at the end: what both read is the same in both
+-- two reads of k bytes, from the start and up to the end, agree where they overlap
 pub two_reads : (xs : List ℕ) (k first last : ℕ) → AllBytes xs → k ≤ length xs → length xs ≤ k + k → length xs ≤ 8
     → first ≡ le_number (take k xs) → last ≡ le_number (take k (drop (length xs - k) xs))
     → bit_or first (last * 2 ^ (8 * (length xs - k)) % 2 ^ 64) ≡ le_number xs
@@ -231,7 +228,6 @@ two_reads xs k first last all held most word front back =
     ∙ ap (λ (n : ℕ). le_number rest * 2 ^ (8 * at) + n) (or_zero_r before)
     ∙ sym whole
 
--- a word of seven bytes, and one byte more as the eighth
 pub word_bytes-with_last : (word byte : ℕ) → word < 2 ^ 56 → byte < 256 → word_bytes (bit_or word (byte * 2 ^ 56)) ≡ take 7 (word_bytes word) ++ byte ∷ []
 word_bytes-with_last word byte seven small =
     let bytes : List ℕ = word_bytes word in
@@ -251,7 +247,6 @@ word_bytes-with_last word byte seven small =
     let eight : length (front ++ byte ∷ []) ≡ 8 = length-append front (byte ∷ []) ∙ omega (arith, length_front) in
     ap word_bytes (or_shifted_r byte 56 word seven ∙ sym both) ∙ word_bytes-le_number (front ++ byte ∷ []) each eight
 
--- a word with another byte as the eighth
 pub word_bytes-other_last : (word byte given : ℕ) → word < 2 ^ 64 → byte < 256 → given ≡ byte
     → word_bytes (bit_or (word % 2 ^ 56) (given * 2 ^ 56 % 2 ^ 64)) ≡ take 7 (word_bytes word) ++ byte ∷ []
 word_bytes-other_last word byte given fits small is =

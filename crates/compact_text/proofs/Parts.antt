@@ -1,4 +1,4 @@
--- A part of a slice of bytes whose bytes move by a known distance.
+-- Slices of which a part moves by a known distance.
 use Rattle.std.proofs.Common.{◌≡◌, ℕ, ◌+◌, ◌-◌, ◌≤◌, List, [], ◌++◌, length, take, drop, refl, ap, sym, ◌∙◌, arith, append_assoc}
 use Rattle.std.proofs.lemmas.List.{length-drop, length-take-le, take-append-drop, take-take, drop-drop, drop-take, append-nil, drop_all}
 use borrow.Rule.Slice.PartMut.{put_mid}

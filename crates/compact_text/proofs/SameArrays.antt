@@ -1,4 +1,4 @@
--- Arrays of 24 bytes that have the same three words.
+-- Arrays of 24 bytes with the same three words.
 use Rattle.std.proofs.Common.{◌≡◌, ℕ, List, length, take, drop, sym, ap, ◌∙◌}
 use Rattle.compact_text.specs.WordBytes.{word_bytes}
 use Rattle.compact_text.proofs.ChangedArrays.{array_is_three}

@@ -1,19 +1,17 @@
--- A slice of bytes of which a part is moved to another place, block by block.
+-- Slices of which a part moves block by block.
 use Rattle.std.proofs.Common.{◌≡◌, ℕ, ◌+◌, ◌-◌, ◌<◌, ◌≤◌, List, ◌++◌, length, take, drop, refl, ap, sym, ◌∙◌, subst, arith, length-append, append_assoc, add_assoc}
 use Rattle.std.proofs.lemmas.List.{length-drop, length-take-le, take-append-drop, take-append-le, take-take, take_at, drop_at, drop-drop, drop-take}
 use lib.Seq.{paste}
 
--- the first m + n are the first m and then the first n of the others
 pub take-add : (xs : List ℕ) (m n : ℕ) → take (m + n) xs ≡ take m xs ++ take n (drop m xs)
 take-add xs m n =
     let front : take m (take (m + n) xs) ≡ take m xs = take-take m (m + n) xs (omega arith) in
     sym (take-append-drop m (take (m + n) xs)) ∙ rw (front, drop-take m n xs) refl
 
--- what stands at n + k places from the start of the source is what stands at k places past the first n
 take-source : (slice : List ℕ) (from k n : ℕ) → take (k + n) (drop from slice) ≡ take k (drop from slice) ++ take n (drop (from + k) slice)
 take-source slice from k n = take-add (drop from slice) k n ∙ ap (λ x. take k (drop from slice) ++ take n x) (drop-drop k from slice)
 
--- the last n bytes have moved up, and now the k before them move
+-- the last n bytes have moved up, and now the k before them
 up-one : (slice : List ℕ) (from to k n : ℕ) → from ≤ to → to + k + n ≤ length slice
     → paste (paste slice (to + k) (drop (from + k) slice) n) to (drop from (paste slice (to + k) (drop (from + k) slice) n)) k ≡ paste slice to (drop from slice) (k + n)
 up-one slice from to k n upward within =
@@ -31,7 +29,7 @@ up-one slice from to k n upward within =
     let whole : take to now ++ take k (drop from now) ++ drop (to + k) now ≡ take to slice ++ (take k (drop from slice) ++ b) ++ c = rw (front, source, back) (simp append_assoc) in
     whole ∙ rw (← take-source slice from k n, add_assoc to k n) refl
 
--- the first n bytes have moved down, and now the k behind them move
+-- the first n bytes have moved down, and now the k after them
 down-one : (slice : List ℕ) (from to n k : ℕ) → to ≤ from → from + n + k ≤ length slice
     → paste (paste slice to (drop from slice) n) (to + n) (drop (from + n) (paste slice to (drop from slice) n)) k ≡ paste slice to (drop from slice) (n + k)
 down-one slice from to n k downward within =

@@ -1,4 +1,4 @@
--- A slice of bytes, of which the first hold a text, once a part of them is replaced.
+-- Slices that begin with a text, a part of which is replaced.
 use Rattle.std.proofs.Common.{◌≡◌, ℕ, ◌+◌, ◌-◌, ◌<◌, ◌≤◌, List, [], ◌∷◌, ◌++◌, length, take, drop, refl, ap, sym, ◌∙◌, arith, length-append, append_assoc}
 use Rattle.std.proofs.lemmas.List.{append-nil, length-drop, length-take-le, take-append-drop, drop-take, take-append-le, take-take, take_all, take_at, drop_at}
 use Rattle.std.proofs.lemmas.List.Edits.{length-between, paste_none, take-paste}
@@ -7,7 +7,7 @@ use Rattle.std.specs.List.{between, replace_range}
 use lib.Seq.{paste}
 use Rattle.compact_text.proofs.Shifts.{take-add}
 
--- the tail stands behind a gap as wide as s, and s is written in the gap
+-- the tail is after a gap as wide as s, and s is written in the gap
 pub replace_range-paste : (slice s : List ℕ) (len start end : ℕ) → start ≤ end → end ≤ len → len ≤ length slice → len + length s ≤ length slice + (end - start)
     → take (len - (end - start) + length s) (paste (paste slice (start + length s) (drop end slice) (len - end)) start s (length s))
     ≡ replace_range (take len slice) start end s
@@ -31,7 +31,7 @@ replace_range-paste slice s len start end order within held room =
     ∙ ap (λ x. take start slice ++ s ++ x) (between_is slice end len)
     ∙ ap (λ x. x ++ s ++ drop end (take len slice)) (sym (take-take start len slice (omega arith)))
 
--- one byte comes: the tail moves one place up, and the byte is written in the gap
+-- a byte is inserted: the tail moves up by one
 pub byte-in : (slice moved : List ℕ) (byte len at : ℕ) → at ≤ len → len < length slice → moved ≡ paste slice (at + 1) (drop at slice) (len - at)
     → take (len + 1) (paste moved at (byte ∷ []) 1) ≡ replace_range (take len slice) at at (byte ∷ [])
 byte-in slice moved byte len at within room e =
@@ -40,7 +40,7 @@ byte-in slice moved byte len at within room e =
     ∙ ap (λ x. take (len - (at - at) + 1) (paste x at (byte ∷ []) 1)) e
     ∙ replace_range-paste slice (byte ∷ []) len at at (omega arith) within (omega arith) (omega arith)
 
--- a part goes: the tail moves to where the part began
+-- a part is removed: the tail moves to its start
 pub part-out : (slice moved : List ℕ) (len start end : ℕ) → start ≤ end → end ≤ len → len ≤ length slice → moved ≡ paste slice start (drop end slice) (len - end)
     → take (len - (end - start)) moved ≡ replace_range (take len slice) start end []
 part-out slice moved len start end order within held e =
@@ -51,7 +51,7 @@ part-out slice moved len start end order within held e =
     ∙ ap (take (len - (end - start) + 0)) (paste_none moved start [] ∙ ap (λ x. paste x start [] 0) whole)
     ∙ replace_range-paste slice [] len start end order within held (omega arith)
 
--- one byte goes: the tail moves one place down
+-- a byte is removed: the tail moves down by one
 pub byte-out : (slice moved : List ℕ) (len at : ℕ) → at < len → len ≤ length slice → moved ≡ paste slice at (drop (at + 1) slice) (len - at - 1)
     → take (len - 1) moved ≡ replace_range (take len slice) at (at + 1) []
 byte-out slice moved len at within held e =
@@ -64,7 +64,6 @@ byte-out slice moved len at within held e =
     ∙ ap (take (len - (at + 1 - at) + 0)) (paste_none moved at [] ∙ ap (λ x. paste x at [] 0) whole)
     ∙ replace_range-paste slice [] len at (at + 1) (omega arith) (omega arith) held (omega arith)
 
--- what is written behind the first bytes stands there
 pub appended : (slice s : List ℕ) (len : ℕ) → len ≤ length slice → take (len + length s) (paste slice len s (length s)) ≡ take len slice ++ s
 appended slice s len held =
     let written : take (length s) s ≡ s = take_all (length s) s (omega arith) in
@@ -72,7 +71,7 @@ appended slice s len held =
     ap (λ x. take (len + length s) ((take len slice ++ x) ++ drop (len + length s) slice)) written
     ∙ take_at (take len slice ++ s) (drop (len + length s) slice) (len + length s) (length-append (take len slice) s ∙ omega (arith, length_front))
 
--- of 16 bytes that are written at a place the first stand there
+-- of 16 bytes that are written, the first count
 pub padded : (slice source chunk : List ℕ) (at count : ℕ) → count ≤ 16 → at + 16 ≤ length slice → chunk ≡ take 16 (drop 0 source) → length chunk ≡ 16
     → take (at + count) (paste slice at chunk 16) ≡ take at slice ++ take count source
 padded slice source chunk at count most room e lanes =
@@ -87,13 +86,13 @@ padded slice source chunk at count most room e lanes =
     ∙ take-add (front ++ piece) at count
     ∙ rw (take_at front piece at length_front, drop_at front piece at length_front) (ap (λ x. front ++ x) wanted)
 
--- what stands from the end of the replaced part on
+-- the tail
 tail-is : (slice : List ℕ) (len end : ℕ) → end ≤ len → take (len - end) (drop end slice) ≡ drop end (take len slice)
 tail-is slice len end within =
     let all : end + (len - end) ≡ len = omega arith in
     sym (drop-take end (len - end) slice) ∙ ap (λ (n : ℕ). drop end (take n slice)) all
 
--- one byte comes into a slice of 24: what stands from its place on has moved one place up
+-- a byte is inserted into 24 bytes: the later ones have moved up by one
 replaced-word-in : (slice s now : List ℕ) (byte len start end : ℕ) → start ≡ end → s ≡ byte ∷ [] → end ≤ len → len < 24 → length slice ≡ 24
     → now ≡ take start slice ++ byte ∷ take (23 - start) (drop start slice) → take (len - (end - start) + length s) now ≡ replace_range (take len slice) start end s
 replaced-word-in slice s now byte len start end same one within room full e =
@@ -114,7 +113,7 @@ replaced-word-in slice s now byte len start end same one within room full e =
     ∙ ap (λ x. front ++ s ++ x) tail
     ∙ ap (λ x. x ++ s ++ drop end (take len slice)) (sym (take-take start len slice (omega arith)))
 
--- one byte goes from a slice of 24: what stands behind it has moved one place down
+-- a byte is removed from 24 bytes: the later ones have moved down by one
 replaced-word-out : (slice s now : List ℕ) (len start end : ℕ) → end - start ≡ 1 → s ≡ [] → end ≤ len → len ≤ 24 → length slice ≡ 24
     → now ≡ take start slice ++ drop (start + 1) slice ++ 0 ∷ [] → take (len - (end - start) + length s) now ≡ replace_range (take len slice) start end s
 replaced-word-out slice s now len start end one none within room full e =
@@ -136,7 +135,7 @@ replaced-word-out slice s now len start end one none within room full e =
     ∙ ap (λ x. front ++ s ++ x) (tail-is slice len end within)
     ∙ ap (λ x. x ++ s ++ drop end (take len slice)) (sym (take-take start len slice (omega arith)))
 
--- the same, of one byte at a place
+-- the same, at one position
 pub word-byte-in : (slice now : List ℕ) (byte len at : ℕ) → at ≤ len → len < 24 → length slice ≡ 24 → now ≡ take at slice ++ byte ∷ take (23 - at) (drop at slice)
     → take (len + 1) now ≡ replace_range (take len slice) at at (byte ∷ [])
 word-byte-in slice now byte len at within room full e =

@@ -20,11 +20,9 @@ pub size-append : (a b : List ℕ) → size (a ++ b) ≡ size a + size b
 size-append [] b = sym (zero-add (size b))
 size-append (c ∷ cs) b = omega (arith, size-append cs b)
 
--- the size of the text that the front of a row of bytes spells
 pub size-front : {t : List ℕ} (bytes : List ℕ) (n : ℕ) → text_of (take n bytes) ≡ t → IsUtf8 (take n bytes) → n ≤ length bytes → size t ≡ n
 size-front bytes n e u h = ap size (sym e) ∙ size-text_of (take n bytes) u ∙ length-take-le n bytes h
 
--- a text of no bytes is empty
 pub empty_text : (t : List ℕ) → size t ≡ 0 → t ≡ []
 empty_text [] e = refl
 empty_text (c ∷ cs) e = absurd (let w = len_utf8_bounds c in omega (arith, w.0, e))

@@ -1,4 +1,4 @@
--- An array of 24 bytes as three words of eight.
+-- Arrays of 24 bytes as three words.
 use Rattle.std.proofs.Common.{◌≡◌, ℕ, ◌+◌, ◌-◌, ◌≤◌, List, ◌++◌, length, take, drop, refl, ap, sym, ◌∙◌, arith, append_assoc}
 use Rattle.std.specs.Prelude.{replicate}
 use Rattle.std.proofs.lemmas.List.{length-drop, take-append-drop, drop-drop, replicate-append-replicate}
@@ -12,7 +12,7 @@ zero_word : word_bytes 0 ≡ zeros 8
 unfolding word_bytes
 zero_word = refl
 
--- n bytes of an array, and then what stands behind them
+-- n bytes of an array, and those after them
 joined : (xs rest : List ℕ) (at n : ℕ) → take n (drop at xs) ++ (drop (at + n) xs ++ rest) ≡ drop at xs ++ rest
 joined xs rest at n =
     sym (append_assoc (take n (drop at xs)) (drop (at + n) xs) rest)

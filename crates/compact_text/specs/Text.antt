@@ -4,30 +4,28 @@ use Rattle.std.specs.Prelude.{◌≡◌, ℕ, ◌+◌, List, [], ◌∷◌, true
 use Rattle.std.specs.Char.{len_utf8, to_ascii_lowercase, to_ascii_uppercase}
 use Rattle.std.specs.Str.{encode_utf8_all, all_scalars, chars}
 
--- each number of t is a character
 abbrev pub IsText : List ℕ → Type 0
 IsText t = all_scalars t ≡ true
 
--- how many bytes t takes in UTF-8 (Unicode Standard, 3.9, D92, table 3-6): 1 to 4 for each character
+-- the length of t in bytes of UTF-8 (Unicode Standard, 3.9, D92, table 3-6): 1 to 4 for each character
 abbrev pub size : List ℕ → ℕ
 size [] = 0
 size (c ∷ cs) = len_utf8 c + size cs
 
--- the bytes of t in UTF-8
 abbrev pub utf8 : List ℕ → List ℕ
 utf8 t = encode_utf8_all t
 
--- the text that the bytes of a program's `str` spell
+-- the text of the bytes of a `str`
 abbrev pub text_of : List ℕ → List ℕ
 text_of bytes = chars bytes
 
--- t with A to Z made lowercase, or a to z made uppercase; every other character stays
+-- t with A to Z made lowercase, or a to z uppercase
 abbrev pub ascii_lowercase : List ℕ → List ℕ
 ascii_lowercase t = map to_ascii_lowercase t
 
 abbrev pub ascii_uppercase : List ℕ → List ℕ
 ascii_uppercase t = map to_ascii_uppercase t
 
--- U+FFFD, which stands in a text for an invalid sequence
+-- U+FFFD, for an invalid sequence
 abbrev pub replacement_character : ℕ
 replacement_character = 0xFFFD

@@ -1,7 +1,7 @@
-//! Texts and the bytes that they are made of: parts of a `&str`, moves and edits of byte slices, appends to a `Vec<u8>` within
-//! its capacity, and arrays of 24 bytes as three words.
+//! Texts and their bytes: parts of a `&str`, moves and edits of byte slices, appends to a `Vec<u8>` within its
+//! capacity, and arrays of 24 bytes as three words.
 //!
-//! This crate knows no string type and no buffer. `compact_repr` builds its buffers on it.
+//! This crate knows no string type; `compact_repr` builds its buffers on it.
 #![tactic(auto, using(crate::proofs::TextFacts::text_facts))]
 
 pub mod slices;

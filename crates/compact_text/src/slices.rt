@@ -1,4 +1,4 @@
-//! Work on slices of bytes, in few wide reads and writes.
+//! Edits of byte slices, in few wide reads and writes.
 ghost use Rattle.std.specs.Prelude.{◌≡◌, ◌+◌, ◌-◌, ◌≤◌, ◌<◌, [], ◌∷◌, ◌++◌, length, take, drop};
 ghost use Rattle.std.specs.List.{replace_range};
 ghost use lib.Seq.{paste};
@@ -13,7 +13,7 @@ use chunks::{chunk, set_chunk};
 pub use filter::retain;
 use moves::{move_down, move_up, shift};
 
-/// Of the first `len` bytes of `slice` replaces those from `start` to `end` by `source`. The tail moves once.
+/// Replaces the bytes from `start` to `end` of the first `len` bytes with `source`. Moves the tail once.
 #[inline]
 pub fn splice(slice: &mut [u8], len: usize, start: usize, end: usize, source: &[u8])
     requires order { start ≤ end }
@@ -27,7 +27,7 @@ pub fn splice(slice: &mut [u8], len: usize, start: usize, end: usize, source: &[
     write(slice, start, source);
 }
 
-/// Puts `byte` in at a place of the first `len` bytes of `slice`; what stands from there on moves one place up.
+/// Inserts `byte` at `index` into the first `len` bytes; later ones move up by one.
 #[inline(always)]
 pub fn insert_byte(slice: &mut [u8], len: usize, index: usize, byte: u8)
     requires within { index ≤ len }
@@ -39,7 +39,7 @@ pub fn insert_byte(slice: &mut [u8], len: usize, index: usize, byte: u8)
     write(slice, index, &[byte]);
 }
 
-/// Takes the byte at a place of the first `len` bytes of `slice` out; what stands behind it moves one place down.
+/// Removes the byte at `index` from the first `len` bytes; later ones move down by one.
 #[inline(always)]
 pub fn remove_byte(slice: &mut [u8], len: usize, index: usize)
     requires within { index < len }
@@ -49,7 +49,7 @@ pub fn remove_byte(slice: &mut [u8], len: usize, index: usize)
     move_down::<1>(slice, index, len - index - 1);
 }
 
-/// Takes the bytes from `start` to `end` out of the first `len` bytes of `slice`. The tail moves once.
+/// Removes the bytes from `start` to `end` from the first `len` bytes. Moves the tail once.
 #[inline(always)]
 pub fn cut_out(slice: &mut [u8], len: usize, start: usize, end: usize)
     requires order { start ≤ end }
@@ -61,7 +61,7 @@ pub fn cut_out(slice: &mut [u8], len: usize, start: usize, end: usize)
     shift(slice, end, start, len - end);
 }
 
-/// Writes `source` at a place of `slice`.
+/// Writes `source` at `at`.
 #[inline(always)]
 #[tactic(auto, using(crate::proofs::SplicedSlices::appended))]
 pub fn write(slice: &mut [u8], at: usize, source: &[u8])
@@ -76,10 +76,10 @@ pub fn write(slice: &mut [u8], at: usize, source: &[u8])
     }
 }
 
-/// The most bytes that `write_short` takes.
+/// The most bytes that `write_short` writes.
 pub const MAX_SHORT_LEN: usize = 32;
 
-/// Writes `source`, of at most 32 bytes, at a place of `slice`: its first and its last 16, 8, 4, 2 or 1, and no loop.
+/// Writes `source`, of at most 32 bytes, at `at`: its first and its last 16, 8, 4, 2 or 1 bytes, without a loop.
 #[inline(always)]
 #[tactic(auto, using(crate::proofs::SplicedSlices::appended))]
 pub fn write_short(slice: &mut [u8], at: usize, source: &[u8])
@@ -102,8 +102,7 @@ pub fn write_short(slice: &mut [u8], at: usize, source: &[u8])
     }
 }
 
-/// Writes the first `count` bytes of `source` at a place of `slice`, and the others behind them, with no look at how many
-/// are wanted.
+/// Writes the 16 bytes of `source` at `at`, of which only the first `count` are specified. Branch-free.
 #[inline(always)]
 pub fn write_padded(slice: &mut [u8], at: usize, source: &[u8; 16], count: usize)
     requires most { count ≤ 16 }
@@ -113,7 +112,7 @@ pub fn write_padded(slice: &mut [u8], at: usize, source: &[u8; 16], count: usize
     set_chunk(slice, at, chunk::<16>(source, 0));
 }
 
-/// `write` by one copy, apart: so few steps are left of a short write that they stand where it is called.
+/// `write` by one copy. Not inlined, so that a short write can be.
 #[inline(never)]
 fn write_long(slice: &mut [u8], at: usize, source: &[u8])
     requires { at + length source.now ≤ length slice.old }
@@ -122,7 +121,7 @@ fn write_long(slice: &mut [u8], at: usize, source: &[u8])
     slice[at..at + source.len()].copy_from_slice(source);
 }
 
-/// Writes the bytes of `source`, which are at least `N` and at most twice as many, as the first `N` and the last `N` of them.
+/// Writes `source`, which has `N` to `2 * N` bytes, as its first `N` and its last `N`.
 #[inline(always)]
 fn write_ends<const N: usize>(slice: &mut [u8], at: usize, source: &[u8])
     requires least { N ≤ length source.now }

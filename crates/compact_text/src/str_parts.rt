@@ -1,10 +1,10 @@
-//! Parts and characters of a borrowed text, by byte position.
+//! Characters and parts of a `&str`, by byte position.
 ghost use Rattle.std.specs.Prelude.{◌≡◌, ◌-◌, ◌<◌, ◌≤◌, List, ℕ, [], ◌∷◌, ◌++◌, length, MatchOption, IsTrue, ◌↔◌};
 ghost use Rattle.std.specs.Char.{len_utf8};
 ghost use Rattle.compact_text.specs.Text.{text_of};
 ghost use Rattle.compact_text.specs.Cut.{IsBoundary, is_boundary, text_before, text_after, substring, CutIsBeforeAndAfter};
 
-/// What stands before a boundary.
+/// Returns the part before a boundary.
 #[inline]
 pub fn prefix(text: &str, index: usize) -> &str
     requires { IsBoundary (text_of text.now) index }
@@ -14,7 +14,7 @@ pub fn prefix(text: &str, index: usize) -> &str
     &text[..index]
 }
 
-/// What stands after a boundary.
+/// Returns the part from a boundary on.
 #[inline]
 pub fn suffix(text: &str, index: usize) -> &str
     requires { IsBoundary (text_of text.now) index }
@@ -23,7 +23,7 @@ pub fn suffix(text: &str, index: usize) -> &str
     &text[index..]
 }
 
-/// What stands from one boundary to another.
+/// Returns the part between two boundaries.
 #[inline(always)]
 pub fn substring(text: &str, start: usize, end: usize) -> &str
     requires order { start ≤ end }
@@ -35,7 +35,7 @@ pub fn substring(text: &str, start: usize, end: usize) -> &str
     prefix(suffix(text, start), end - start)
 }
 
-/// Whether `index`, in bytes, is a boundary of `text`.
+/// Returns `true` if `index`, in bytes, is a boundary of `text`.
 #[inline]
 pub fn is_boundary(text: &str, index: usize) -> bool
     ensures boundary { IsTrue result ↔ IsBoundary (text_of text.now) index }
@@ -44,7 +44,7 @@ pub fn is_boundary(text: &str, index: usize) -> bool
     text.is_char_boundary(index)
 }
 
-/// The character that begins at a boundary before the end.
+/// Returns the character that begins at a boundary before the end.
 #[inline]
 pub fn char_at(text: &str, index: usize) -> char
     requires boundary { IsBoundary (text_of text.now) index }
@@ -57,7 +57,7 @@ pub fn char_at(text: &str, index: usize) -> char
     }
 }
 
-/// The first character if it is one of ASCII, or `None` if it is not or the text is empty.
+/// Returns the first character if it is ASCII. Returns `None` if it is not, or if the text is empty.
 #[inline(always)]
 pub fn first_ascii(text: &str) -> Option<char>
     ensures { MatchOption result ((c : ℕ) (rest : List ℕ) → text_of text.now ≡ c ∷ rest → 128 ≤ c)
@@ -74,7 +74,7 @@ pub fn first_ascii(text: &str) -> Option<char>
     }
 }
 
-/// The first character, or `None` of the empty text.
+/// Returns the first character, or `None` if the text is empty.
 #[inline]
 pub fn first_char(text: &str) -> Option<char>
     ensures { MatchOption result (text_of text.now ≡ [])
@@ -86,7 +86,7 @@ pub fn first_char(text: &str) -> Option<char>
     }
 }
 
-/// The last character, found from the end, or `None` of the empty text.
+/// Returns the last character, or `None` if the text is empty.
 #[inline]
 pub fn last_char(text: &str) -> Option<char>
     ensures { MatchOption result (text_of text.now ≡ [])
@@ -95,7 +95,7 @@ pub fn last_char(text: &str) -> Option<char>
     let mut chars = text.chars();
     match chars.next_back() {
         Some(character) => {
-            // It tells the proof that what is left is a text.
+            // For the proof: the rest is a text.
             let _front = chars.as_str();
             Some(character)
         }
@@ -103,7 +103,7 @@ pub fn last_char(text: &str) -> Option<char>
     }
 }
 
-/// The text of one character, in the 1 to 4 bytes at the front of `bytes`.
+/// Encodes a character into the front of `bytes`, 1 to 4 bytes, and returns them as a text.
 #[inline]
 pub fn encode_char(character: char, bytes: &mut [u8; 4]) -> &str
     ensures text { text_of result.now ≡ character ∷ [] }
@@ -112,8 +112,8 @@ pub fn encode_char(character: char, bytes: &mut [u8; 4]) -> &str
     character.encode_utf8(bytes)
 }
 
-/// A law, and the function does nothing. Where a text can be cut, the two parts are what stands before and what stands
-/// after the position. It can be cut just where the characters within the first bytes take up all of them.
+/// A law; the function does nothing. The two parts of a cut text are the text before and the text after the position. A
+/// position is a boundary exactly if the characters within the first bytes fill them.
 pub fn cut_is_before_and_after()
     ensures { CutIsBeforeAndAfter }
 {}

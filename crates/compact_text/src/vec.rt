@@ -1,18 +1,18 @@
-//! Bytes that are put behind those of a vector, where it has reserved room for them.
+//! Appends within a vector's reserved capacity.
 //!
-//! A vector that is behind a reference would be looked at again for each byte, so it is taken out of its place meanwhile.
+//! A loop through a reference would reload the vector for each byte, so the vector is moved out first.
 ghost use Rattle.std.specs.Prelude.{◌≡◌, ◌+◌, ◌-◌, ◌<◌, ◌≤◌, ◌++◌, length, take, drop, replicate};
 ghost use Rattle.std.specs.Vec.{vec_len, vec_capacity};
 
 use std::mem;
 
-/// As many bytes are appended at once.
+/// The block size.
 const BLOCK: usize = 32;
 
-/// And as many of a long text.
+/// The block size for long input.
 const LONG_BLOCK: usize = 128;
 
-/// Appends any bytes to a vector. A few are appended where it is called: there is no loop, and nothing to call.
+/// Appends `source`. A short one is appended inline, without a loop or a call.
 #[inline(always)]
 pub fn append_all(bytes: &mut Vec<u8>, source: &[u8])
     requires { vec_len bytes.old + length source.now ≤ vec_capacity bytes.old }
@@ -26,7 +26,7 @@ pub fn append_all(bytes: &mut Vec<u8>, source: &[u8])
     }
 }
 
-/// Appends at most 32 bytes to a vector.
+/// Appends at most 32 bytes.
 #[inline(always)]
 fn append_short(bytes: &mut Vec<u8>, source: &[u8])
     requires short { length source.now ≤ 32 }
@@ -48,7 +48,7 @@ fn append_short(bytes: &mut Vec<u8>, source: &[u8])
     }
 }
 
-/// Appends any bytes to a vector that is not behind a reference.
+/// Appends `source` to a vector that is local to the caller.
 #[inline(always)]
 pub fn append_first(vec: &mut Vec<u8>, source: &[u8])
     requires { vec_len vec.old + length source.now ≤ vec_capacity vec.old }
@@ -62,7 +62,7 @@ pub fn append_first(vec: &mut Vec<u8>, source: &[u8])
     }
 }
 
-/// Appends more than 32 bytes to a vector that is behind a reference.
+/// Appends more than 32 bytes through a reference.
 #[inline(never)]
 fn append_long(bytes: &mut Vec<u8>, source: &[u8])
     requires long { 32 < length source.now }
@@ -75,8 +75,8 @@ fn append_long(bytes: &mut Vec<u8>, source: &[u8])
     put_back(bytes, vec);
 }
 
-/// Appends more than 32 bytes to a vector: up to 256 as their two ends, or as these and what stands between, so that no loop
-/// ends at a length that is hard to foresee, and more by long blocks, of which the last brings some bytes again.
+/// Appends more than 32 bytes: up to 256 as both ends, with the middle if they leave one, so that no loop has an
+/// unpredictable end; more in long blocks, of which the last overlaps the one before.
 #[inline(always)]
 fn append_many(vec: &mut Vec<u8>, source: &[u8])
     requires long { 32 < length source.now }
@@ -103,8 +103,7 @@ fn append_many(vec: &mut Vec<u8>, source: &[u8])
     }
 }
 
-/// Appends zeros to a vector until it is `len` bytes long: a block of them at once, where it has the room and
-/// no more are wanted.
+/// Appends zeros up to a length of `len` bytes: one block if that is enough and has room, otherwise one by one.
 #[inline(always)]
 pub fn append_zeros(bytes: &mut Vec<u8>, len: usize)
     requires longer { vec_len bytes.old ≤ len }
@@ -124,7 +123,7 @@ pub fn append_zeros(bytes: &mut Vec<u8>, len: usize)
     }
 }
 
-/// Appends zeros to a vector, one by one, until it is `len` bytes long.
+/// Appends zeros, one by one, up to a length of `len` bytes.
 #[inline(never)]
 #[tactic(auto, using(crate::proofs::Appends::one_more_zero))]
 pub fn append_zeros_each(bytes: &mut Vec<u8>, len: usize)
@@ -155,8 +154,8 @@ pub fn append_within(bytes: &mut Vec<u8>, start: usize, end: usize)
     bytes.as_mut_slice().copy_within(start..end, len);
 }
 
-/// Appends bytes, at least `N` and at most twice as many, as the first `N` and the last `N` of them. Of the first it keeps
-/// those that do not come again. Each is read right before it is appended, so that it needs no place on the stack.
+/// Appends `source`, which has `N` to `2 * N` bytes, as its first `N` and its last `N`, cutting off what both have.
+/// Reads each right before appending it, so that it needs no stack slot.
 #[inline(always)]
 #[tactic(auto, using(crate::proofs::Appends::joined_ends))]
 fn append_ends<const N: usize>(bytes: &mut Vec<u8>, source: &[u8])
@@ -175,7 +174,7 @@ fn append_ends<const N: usize>(bytes: &mut Vec<u8>, source: &[u8])
     put_back(bytes, vec);
 }
 
-/// Appends 128 to 192 bytes to a vector as the first 64, the next 64, and the last 64.
+/// Appends 128 to 192 bytes as the first 64, the next 64 and the last 64.
 #[inline(always)]
 fn append_up_to_192(vec: &mut Vec<u8>, source: &[u8])
     requires least { 128 ≤ length source.now }
@@ -192,7 +191,7 @@ fn append_up_to_192(vec: &mut Vec<u8>, source: &[u8])
     append_array::<64>(vec, array_at::<64>(source, last));
 }
 
-/// Appends the bytes of `piece` to a vector. The compiler makes one write of it.
+/// Appends `piece`. The compiler makes one write of it.
 #[inline(always)]
 fn append_array<const N: usize>(vec: &mut Vec<u8>, piece: [u8; N])
     requires { vec_len vec.old + N ≤ vec_capacity vec.old }
@@ -205,7 +204,7 @@ fn append_array<const N: usize>(vec: &mut Vec<u8>, piece: [u8; N])
     }
 }
 
-/// The `N` bytes of `source` from a place on.
+/// Returns the `N` bytes of `source` at `at`.
 #[inline(always)]
 fn array_at<const N: usize>(source: &[u8], at: usize) -> [u8; N]
     requires { at + N ≤ length source.now }
@@ -217,7 +216,7 @@ fn array_at<const N: usize>(source: &[u8], at: usize) -> [u8; N]
     }
 }
 
-/// The vector, in whose place an empty one stays until it is given back.
+/// Moves the vector out; `put_back` returns it.
 #[inline(always)]
 fn take_vec(bytes: &mut Vec<u8>) -> Vec<u8>
     ensures value { result ≡ bytes.old }
@@ -227,7 +226,7 @@ fn take_vec(bytes: &mut Vec<u8>) -> Vec<u8>
     mem::replace(bytes, Vec::new(alloc))
 }
 
-/// Puts a vector back in the place from which it was taken. What stands there has no memory, so nothing frees it.
+/// Moves the vector back. The one it replaces has no buffer to free.
 #[inline(always)]
 fn put_back(bytes: &mut Vec<u8>, vec: Vec<u8>)
     requires { vec_capacity bytes.old ≡ 0 }

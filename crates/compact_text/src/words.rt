@@ -1,11 +1,11 @@
-//! Arrays of 24 bytes as three words: each read and each write is of a whole word, and no loop goes over bytes.
+//! Arrays of 24 bytes as three words, read and written whole, without loops over bytes.
 #![tactic(auto)]
 
 ghost use Rattle.std.specs.Prelude.{◌≡◌, ◌+◌, ◌-◌, ◌*◌, ◌/◌, ◌^◌, ◌≤◌, ◌<◌, ◌∷◌, [], ◌++◌, length, take, drop, slice_index, nat_lt, if◌then◌else◌, bit_or, IsTrue};
 ghost use Rattle.std.specs.Str.{IsAscii};
 ghost use Rattle.compact_text.specs.WordBytes.{le_number, word_bytes};
 
-/// The eight bytes from a place on, as a word.
+/// Loads the eight bytes at `at`.
 #[inline(always)]
 pub fn load8(bytes: &[u8], at: usize) -> u64
     requires { at + 8 ≤ length bytes.now }
@@ -18,7 +18,7 @@ pub fn load8(bytes: &[u8], at: usize) -> u64
     }
 }
 
-/// Whether two arrays are the same: three words are compared, with no branch between.
+/// Returns `true` if two arrays are equal: compares three words, branch-free.
 #[inline(always)]
 pub fn same_array(array: &[u8; 24], other: &[u8; 24]) -> bool
     ensures same { IsTrue result → array.now ≡ other.now }
@@ -29,7 +29,7 @@ pub fn same_array(array: &[u8; 24], other: &[u8; 24]) -> bool
         & (load8(array, 16) == load8(other, 16))
 }
 
-/// The four bytes from a place on, as a number.
+/// Loads the four bytes at `at`.
 #[inline(always)]
 fn load4(bytes: &[u8], at: usize) -> u64
     requires { at + 4 ≤ length bytes.now }
@@ -41,7 +41,7 @@ fn load4(bytes: &[u8], at: usize) -> u64
     }
 }
 
-/// The two bytes from a place on, as a number.
+/// Loads the two bytes at `at`.
 #[inline(always)]
 fn load2(bytes: &[u8], at: usize) -> u64
     requires { at + 2 ≤ length bytes.now }
@@ -53,7 +53,7 @@ fn load2(bytes: &[u8], at: usize) -> u64
     }
 }
 
-/// Three words as an array.
+/// Stores three words as an array.
 #[inline(always)]
 #[tactic(auto, unfolding(crate::specs::WordBytes::word_bytes))]
 pub fn array_of_words(first: u64, second: u64, third: u64) -> [u8; 24]
@@ -66,7 +66,7 @@ pub fn array_of_words(first: u64, second: u64, third: u64) -> [u8; 24]
     array
 }
 
-/// Writes a word over eight bytes.
+/// Stores a word over eight bytes.
 #[inline(always)]
 #[tactic(auto, unfolding(crate::specs::WordBytes::word_bytes))]
 fn store8(bytes: &mut [u8], word: u64)
@@ -79,7 +79,8 @@ fn store8(bytes: &mut [u8], word: u64)
     }
 }
 
-/// A word without its first `count` bytes. It shifts by half of them twice, since one shift may not be of all eight.
+/// Returns the word without its first `count` bytes. Shifts by half of them twice, since no shift may be by all 64
+/// bits.
 #[inline(always)]
 fn without_bytes(word: u64, count: usize) -> u64
     requires { count ≤ 8 }
@@ -88,8 +89,8 @@ fn without_bytes(word: u64, count: usize) -> u64
     (word >> (4 * count)) >> (4 * count)
 }
 
-/// The second eight bytes of a text, or as many as follow the first eight. Of fewer the last eight bytes of the text are
-/// read, and those before the eighth are shifted out.
+/// Returns the second eight bytes of a text, or the fewer that follow the first eight. Reads the last eight of at most
+/// 16 bytes, and shifts out those before the eighth.
 #[inline(always)]
 pub fn second_word(text: &[u8]) -> u64
     requires { 8 ≤ length text.now }
@@ -99,7 +100,8 @@ pub fn second_word(text: &[u8]) -> u64
     without_bytes(load8(text, at), 8 - at)
 }
 
-/// The bytes that follow the first sixteen, at most eight: the last eight of the text, without those before the sixteenth.
+/// Returns the bytes after the first sixteen, at most eight: the last eight of the text, without those before the
+/// sixteenth.
 #[inline(always)]
 pub fn third_word(text: &[u8]) -> u64
     requires long_enough { 8 ≤ length text.now }
@@ -111,8 +113,7 @@ pub fn third_word(text: &[u8]) -> u64
     without_bytes(load8(text, len - 8), 8 - count)
 }
 
-/// At most eight bytes as a number. Of two reads the first begins at the start and the second ends at the end; a byte that
-/// both read is the same in both.
+/// Loads at most eight bytes, by a read from the start and one that ends at the end; both agree where they overlap.
 #[inline(always)]
 pub fn load_up_to_8(text: &[u8]) -> u64
     requires { length text.now ≤ 8 }
@@ -130,7 +131,7 @@ pub fn load_up_to_8(text: &[u8]) -> u64
     }
 }
 
-/// The last byte of an array, read with its whole word: so it is there as soon as the word is.
+/// Returns the last byte. Reads its whole word, so that it is available as soon as the word is.
 #[inline(always)]
 pub fn last_byte(array: &[u8; 24]) -> usize
     ensures { result ≡ slice_index array.now 23 }
@@ -138,8 +139,7 @@ pub fn last_byte(array: &[u8; 24]) -> usize
     usize::from(high_byte(load8(array, 16)))
 }
 
-/// The array with another last byte. It is written in whole words: a word that is read after one of its bytes was written
-/// alone waits for that byte.
+/// Replaces the last byte. Writes whole words: a word read after a write of one of its bytes stalls.
 #[inline(always)]
 pub fn with_last_byte(array: &[u8; 24], last: u8) -> [u8; 24]
     ensures { result ≡ take 23 array.now ++ last ∷ [] }
@@ -155,7 +155,7 @@ pub fn with_last_byte(array: &[u8; 24], last: u8) -> [u8; 24]
 /// The highest bit of each byte of a word.
 const HIGH_BITS: u64 = 0x8080_8080_8080_8080;
 
-/// Whether the first 23 bytes of an array are ASCII: three words and a mask.
+/// Returns `true` if the first 23 bytes are ASCII, by three words and a mask.
 #[inline(always)]
 pub fn first_23_are_ascii(array: &[u8; 24]) -> bool
     ensures { IsTrue result → IsAscii (take 23 array.now) }
@@ -165,7 +165,7 @@ pub fn first_23_are_ascii(array: &[u8; 24]) -> bool
         & (load8(array, 16) % 0x100_0000_0000_0000 & HIGH_BITS == 0)
 }
 
-/// What a byte at a place of a word is multiplied by.
+/// Returns the factor of the byte at `at` in a word.
 #[inline(always)]
 fn place_value(at: usize) -> u64
     requires { at < 8 }
@@ -174,7 +174,7 @@ fn place_value(at: usize) -> u64
     1 << (8 * at)
 }
 
-/// The last byte of a word.
+/// Returns the last byte of a word.
 #[inline(always)]
 pub fn high_byte(word: u64) -> u8
     ensures { drop 7 (word_bytes word) ≡ result ∷ [] }
@@ -182,8 +182,8 @@ pub fn high_byte(word: u64) -> u8
     (word >> 56) as u8
 }
 
-/// The word with `byte` put in at a place; what stands from there on moves one place up, and the last byte goes.
-/// The three parts share no byte, so no sum wraps.
+/// Inserts `byte` at `at`, shifting later bytes up and dropping the last. The three parts share no byte, so no sum
+/// wraps.
 #[inline(always)]
 fn word_insert_byte(word: u64, at: usize, byte: u8) -> u64
     requires { at < 8 }
@@ -196,8 +196,8 @@ fn word_insert_byte(word: u64, at: usize, byte: u8) -> u64
         .wrapping_add((word - before) << 8)
 }
 
-/// The word without the byte at a place; what stands after it moves one place down, and the first byte of the next word
-/// comes last. The three parts share no byte, so no sum wraps.
+/// Removes the byte at `at`, shifting later bytes down and appending the first of `next`. The three parts share no
+/// byte, so no sum wraps.
 #[inline(always)]
 fn word_remove_byte(word: u64, at: usize, next: u64) -> u64
     requires { at < 8 }
@@ -211,7 +211,7 @@ fn word_remove_byte(word: u64, at: usize, next: u64) -> u64
         .wrapping_add(next << 56)
 }
 
-/// The array with `byte` put in at a place; what stands from there on moves one place up, and the last byte goes.
+/// Inserts `byte` at `at`, shifting later bytes up and dropping the last.
 #[inline]
 pub fn insert_byte(array: &[u8; 24], at: usize, byte: u8) -> [u8; 24]
     requires { at < 24 }
@@ -235,7 +235,7 @@ pub fn insert_byte(array: &[u8; 24], at: usize, byte: u8) -> [u8; 24]
     }
 }
 
-/// The array without the byte at a place; what stands after it moves one place down, and a zero comes last.
+/// Removes the byte at `at`, shifting later bytes down and appending a zero.
 #[inline]
 pub fn remove_byte(array: &[u8; 24], at: usize) -> [u8; 24]
     requires { at < 24 }

@@ -1,4 +1,4 @@
--- What one token more changes in the counts.
+-- Counts with one more token.
 use Rattle.std.proofs.Common.{◌≡◌, ◌≢◌, ℕ, ◌+◌, ◌<◌, ◌≤◌, List, Bool, true, false, if◌then◌else◌, length, nat_eq, refl, slice_index, slice_index_or, slice_set, take, sym, ◌∙◌, arith, rules}
 use Rattle.std.proofs.lemmas.Grind.{common_steps}
 use Rattle.std.proofs.lemmas.List.{length-take}

@@ -1,4 +1,4 @@
--- How the field that is being read goes on with a character, or ends.
+-- The field being read: its continuation by a character, and its end.
 use Rattle.std.proofs.Common.{◌≡◌, ◌≢◌, ℕ, ◌<◌, List, [], ◌∷◌, ◌++◌, Bool, true, false, Some, nat_eq, if◌then◌else◌, length, slice_get, refl, ap, sym, ◌∙◌, inl, inr, arith, append_assoc, length-append}
 use Rattle.std.proofs.lemmas.Bool.{eqb-true, eqb-false}
 use Rattle.std.proofs.lemmas.List.Elements.{All-push, All-nil, All-cons}
@@ -34,7 +34,7 @@ escaped-other (x ∷ front) c apart = by (nat_eq x quote) (escaped-other front c
     by true rest = ap (λ l. quote ∷ quote ∷ l) rest
     by false rest = ap (λ l. x ∷ l) rest
 
--- the first character of a text stays
+-- the first character stays
 first-stays : (field : List ℕ) (c x : ℕ) → 0 < length field → slice_get field 0 ≢ Some x → slice_get (field ++ c ∷ []) 0 ≢ Some x
 first-stays [] c x some front = absurd (omega (arith, some))
 first-stays (y ∷ ys) c x some front = front
@@ -60,7 +60,7 @@ plain-none separator = record { inside = All-nil (λ x. x ≢ separator); front 
 more-length : (field : List ℕ) (c : ℕ) → 0 < length (field ++ c ∷ [])
 more-length field c = omega (arith, length-append field (c ∷ []))
 
--- what a character does at each place
+-- the effect in each state
 
 pub ends-start : (separator c : ℕ) → c ≡ separator → HasEffect separator Start c End
 ends-start separator c same = (same, λ field part at. inl (rw at.0 (plain-none separator), at.1 ∙ sym at.0))
@@ -100,7 +100,7 @@ ends-behind separator c same = (same, λ field part at. inr (at.0, at.1))
 pub breaks : (separator c : ℕ) → c ≢ quote → c ≢ separator → HasEffect separator Behind c Broken
 breaks separator c other apart = (refl, other, apart)
 
--- the table of what a character does
+-- the table of effects
 abbrev pub effect : ℕ → Place → ℕ → Effect
 effect separator Start c = if nat_eq c separator then End else if nat_eq c quote then Skip Quoted else Keep Plain
 effect separator Plain c = if nat_eq c separator then End else Keep Plain

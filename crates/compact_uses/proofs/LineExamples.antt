@@ -1,4 +1,4 @@
--- Lines and their fields: those that RFC 4180 shows, in section 2, and others.
+-- Examples of lines and their fields, from RFC 4180, section 2, and others.
 use Rattle.std.proofs.Common.{ℕ, [], ◌∷◌, refl}
 use Rattle.std.specs.Prelude.{codes}
 use Rattle.compact_uses.specs.declared.records.read.Fault.TheVariants.{OpenQuote, TextBehindQuote}
@@ -22,19 +22,17 @@ quotes_stand_round = reads-as _ _ _ refl
 a_quote_is_doubled : ReadsAs comma (codes "\"aaa\",\"b\"\"bb\",\"ccc\"") (codes "aaa" ∷ codes "b\"bb" ∷ codes "ccc" ∷ [])
 a_quote_is_doubled = reads-as _ _ _ refl
 
--- a quoted field has the end of a line, where the bytes were not cut there (rule 6)
+-- a quoted field with a line end, if the bytes were not cut there (rule 6)
 a_field_has_a_line_end : ReadsAs comma (codes "\"aaa\",\"b\nbb\",\"ccc\"") (codes "aaa" ∷ codes "b\nbb" ∷ codes "ccc" ∷ [])
 a_field_has_a_line_end = reads-as _ _ _ refl
 
--- in any mix
+-- plain and quoted fields in a mix
 
 some_in_quotes : ReadsAs comma (codes "a,\"b,\"\"c\",d") (codes "a" ∷ codes "b,\"c" ∷ codes "d" ∷ [])
 some_in_quotes = reads-as _ _ _ refl
 
 a_quote_within : ReadsAs comma (codes "\"a\",b\"c,\"\"\"\"") (codes "a" ∷ codes "b\"c" ∷ codes "\"" ∷ [])
 a_quote_within = reads-as _ _ _ refl
-
--- empty fields
 
 no_character : ReadsAs comma [] ([] ∷ [])
 no_character = reads-as _ _ _ refl
@@ -45,15 +43,13 @@ two_quotes_alone = reads-as _ _ _ refl
 commas_alone : ReadsAs comma (codes ",,") ([] ∷ [] ∷ [] ∷ [])
 commas_alone = reads-as _ _ _ refl
 
--- other separators, of which the quote is one
+-- other separators, also a quote
 
 a_tab : ReadsAs 9 (codes "a,b\t\"\t\"") (codes "a,b" ∷ codes "\t" ∷ [])
 a_tab = reads-as _ _ _ refl
 
 the_quote : ReadsAs 34 (codes "a\"\"b") (codes "a" ∷ [] ∷ codes "b" ∷ [])
 the_quote = reads-as _ _ _ refl
-
--- broken lines
 
 none_closes : BreaksFor comma (codes "a,\"b") OpenQuote
 none_closes = breaks _ _ _ refl

@@ -1,4 +1,4 @@
--- That a line reads as the fields that are written in it, by a reader that is a function.
+-- A line reads as the fields written in it, by a reader that is a function.
 use Rattle.std.proofs.Common.{◌≡◌, ◌≢◌, ◌⊎◌, ℕ, List, [], ◌∷◌, ◌++◌, Bool, true, false, Result, Ok, Err, Some, nat_eq, if◌then◌else◌, flat_map, refl, ap, sym, ◌∙◌, inl, inr, append_assoc, append-nil}
 use Rattle.std.proofs.lemmas.Bool.{eqb-true, eq-eqb}
 use Rattle.std.specs.List.{AllByRecursion}
@@ -13,21 +13,21 @@ use Rattle.compact_uses.specs.Lines.{quote, escaped_text, quoted_field, IsPlain,
 use Rattle.compact_uses.proofs.FieldParts.{not-same, effect}
 use Rattle.compact_uses.proofs.LineReading.{some-outcome}
 
--- what was read at the end of a line, of whole fields and the last one
+-- the result at the end of a line, from the whole fields and the last one
 abbrev at_end : Place → List (List ℕ) → List ℕ → Result (List (List ℕ)) Fault
 at_end Start done field = Ok (done ++ field ∷ [])
 at_end Plain done field = Ok (done ++ field ∷ [])
 at_end Quoted done field = Err OpenQuote
 at_end Behind done field = Ok (done ++ field ∷ [])
 
--- what is read behind a character with some effect, where what comes behind it is read so
+-- the result after an effect, from that of the rest
 abbrev behind_effect : (Place → List (List ℕ) → List ℕ → Result (List (List ℕ)) Fault) → List (List ℕ) → List ℕ → ℕ → Effect → Result (List (List ℕ)) Fault
 behind_effect reads done field c (Keep next) = reads next done (field ++ c ∷ [])
 behind_effect reads done field c (Skip next) = reads next done field
 behind_effect reads done field c End = reads Start (done ++ field ∷ []) []
 behind_effect reads done field c Broken = Err TextBehindQuote
 
--- what is read of some characters, behind whole fields and the part of one
+-- the result of some characters after whole fields and a part of one
 abbrev read : ℕ → Place → List (List ℕ) → List ℕ → List ℕ → Result (List (List ℕ)) Fault
 read separator place done field [] = at_end place done field
 read separator place done field (c ∷ cs) = behind_effect (λ next now so_far. read separator next now so_far cs) done field c (effect separator place c)
@@ -181,7 +181,7 @@ reads-or_breaks separator line = by (some-outcome separator line)
     by (inl fields) = inl (fields.0, reads-as_written separator line fields.0 fields.1)
     by (inr fault) = inr (fault.0, breaks-for separator line fault.0 fault.1)
 
--- what the reader reads, the line reads as
+-- a line reads as the reader's result
 
 pub reads-as : (separator : ℕ) (line : List ℕ) (fields : List (List ℕ)) → read separator Start [] [] line ≡ Ok fields → ReadsAs separator line fields
 reads-as separator line fields reads = by (reads-or_breaks separator line)
@@ -207,7 +207,7 @@ breaks separator line fault reads = by (reads-or_breaks separator line)
         let same : other.0 ≡ fault = cc in
         rw (sym same) other.1
 
--- lines that are written in one way
+-- lines with fields written in one way
 
 prepended : (separator : ℕ) (field form behind : List ℕ) (fields : List (List ℕ)) → IsWritten separator field form → IsLineOf separator behind fields
     → IsLineOf separator (form ++ separator ∷ behind) (field ∷ fields)

@@ -1,11 +1,11 @@
--- The text of a line as its reader goes over it, and the texts of fields.
+-- The text of a line while it is read, and the texts of fields.
 use Rattle.std.proofs.Common.{◌≡◌, ◌≢◌, ℕ, suc, ◌<◌, List, [], ◌∷◌, ◌++◌, get_or, length, take, drop, map, ap, sym, ◌∙◌}
 use Rattle.std.proofs.Math.Seq.{split_at}
 use Rattle.std.proofs.lemmas.List.{map-append, map-id, length-map, nil_from_length}
 use Rattle.compact_str.specs.Value.{PlacedText}
 use Rattle.compact_str.specs.Order.{text_in}
 
--- a line is what was read of it, the next character and what comes behind that
+-- a line is the characters read, the next one and the rest
 pub line-parts : (line all done : List ℕ) (c : ℕ) → all ≡ line → map (λ x. x) done ≡ take (length done) all → (length done < length all) × (c ≡ get_or all (length done) c)
     → line ≡ done ++ c ∷ drop (suc (length done)) line
 line-parts line all done c is so_far turn =

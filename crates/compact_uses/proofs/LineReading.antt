@@ -1,4 +1,4 @@
--- What a line begins with as it is read character by character, and that each line is some fields or broken.
+-- Lines as read character by character; each is some fields or broken.
 use Rattle.std.proofs.Common.{◌≡◌, ◌≢◌, ◌⊎◌, ℕ, List, [], ◌∷◌, ◌++◌, refl, ap, sym, ◌∙◌, inl, inr, append_assoc, append-nil}
 use Rattle.compact_uses.specs.declared.records.read.Fault.{Fault}
 use Rattle.compact_uses.specs.declared.records.read.Fault.TheVariants.{OpenQuote, TextBehindQuote}
@@ -10,7 +10,7 @@ use Rattle.compact_uses.specs.Lines.{quote, IsWritten, BeginsWith, IsLineOf, IsB
 use Rattle.compact_uses.specs.Reading.{IsPartOf, HasEffect}
 use Rattle.compact_uses.proofs.FieldParts.{plain-none, effect, effect-is}
 
--- these characters of a line were read, of which these are whole fields
+-- these characters of a line were read, with these whole fields
 abbrev pub Stands : ℕ → List ℕ → List (List ℕ) → Place → List ℕ → Type 0
 Stands separator front done place field = (part : List ℕ) × BeginsWith separator front done part × IsPartOf separator place field part
 
@@ -37,7 +37,7 @@ module _ (separator : ℕ) where
     begins-end begins.1 fields field form begins.4 written,
   )
 
-  -- one more character, by what it does
+  -- one more character, by its effect
 
   pub kept-on : (front : List ℕ) (done : List (List ℕ)) (place next : Place) (field : List ℕ) (c : ℕ) → HasEffect separator place c (Keep next)
       → Stands separator front done place field → Stands separator (front ++ c ∷ []) done next (field ++ c ∷ [])
@@ -84,7 +84,6 @@ module _ (separator : ℕ) where
       let at = rw is at stands.2 in
       (at.0, done, stands.0, stands.1, (field, at.1))
 
--- a line is some fields, or broken
 abbrev Outcome : ℕ → List ℕ → Type 0
 Outcome separator line = ((fields : List (List ℕ)) × IsLineOf separator line fields) ⊎ ((fault : Fault) × IsBroken separator line fault)
 
@@ -108,7 +107,6 @@ outcome-from separator (c ∷ cs) front done place field stands =
     by End does again = rw append_assoc at (again (done ++ field ∷ []) Start [] (ended separator front done place field c does stands))
     by Broken does again = inr (TextBehindQuote, broken-behind separator front done place field c cs does.0 does.1 does.2 stands)
 
--- nothing was read
 pub nothing-read : (separator : ℕ) → Stands separator [] [] Start []
 nothing-read separator = ([], refl, (refl, refl))
 

@@ -1,4 +1,4 @@
--- A piece of a text, from where the rest begins up to a place in it: the character that comes next, and what is left.
+-- A piece of a text, from the start of the rest to a position in it: the next character, and the bytes left.
 use Rattle.std.proofs.Common.{◌≡◌, ℕ, zero, suc, ◌+◌, ◌<◌, ◌==◌, Bool, true, false, List, [], ◌∷◌, ◌++◌, length, drop, take, refl, ap, sym, subst, ◌∙◌, arith, append_assoc, append-nil, length-append, length-drop}
 use Rattle.std.proofs.lemmas.Grind.{common_steps}
 use Rattle.std.proofs.Math.Seq.{drop-nil, drop-append_seam}
@@ -19,7 +19,7 @@ drop-later (b ∷ bytes) (suc n) m =
     let more : suc n + m ≡ suc (n + m) = omega arith in
     ap (λ k. drop k (b ∷ bytes)) more ∙ drop-later bytes n m
 
--- what stands behind the next character
+-- the bytes after the next character
 pub record Next (bytes later : List ℕ) (len c : ℕ) : Type 0 where
   pub boundary : IsBoundary (text_of bytes) (len + len_utf8 c)
   pub piece : text_before (text_of bytes) (len + len_utf8 c) ≡ text_before (text_of bytes) len ++ c ∷ []
@@ -46,7 +46,7 @@ first-piece t = text_before-append [] t 0 refl
 pub start-boundary : (t : List ℕ) → IsBoundary t 0
 start-boundary t = ([], t, record { parts = refl; position = refl })
 
--- a piece of one character, from where the rest begins
+-- a piece of one character, at the start of the rest
 pub record First (bytes later : List ℕ) (c : ℕ) : Type 0 where
   pub boundary : IsBoundary (text_of bytes) (len_utf8 c)
   pub piece : text_before (text_of bytes) (len_utf8 c) ≡ c ∷ []
@@ -62,7 +62,7 @@ first-character bytes later c u e =
       here = ap (λ n. drop n bytes) (sym width) ∙ next.here;
     }
 
--- where nothing comes any more the piece is the whole rest
+-- if no character is left, the piece is the whole rest
 pub whole-piece : (bytes : List ℕ) (len : ℕ) → IsUtf8 bytes → IsBoundary (text_of bytes) len → length (drop len bytes) ≡ 0 → text_before (text_of bytes) len ≡ text_of bytes
 whole-piece bytes len u h e =
     let none : text_after (text_of bytes) len ≡ [] = sym (text_of-drop bytes len refl u h) ∙ ap text_of (by (drop len bytes) e) ∙ chars-nil in
@@ -72,7 +72,7 @@ whole-piece bytes len u h e =
     by [] none = refl
     by (b ∷ bs) none = absurd (omega (arith, none))
 
--- the tokens, the piece and what stands behind it are the text
+-- the tokens, the piece and the bytes after it are the text
 pub cut-joined : (front now full : List ℕ) (bytes : List ℕ) (len : ℕ) → IsUtf8 bytes → IsBoundary (text_of bytes) len → front ++ text_of bytes ≡ full
     → now ≡ front ++ text_of (take len bytes) → now ++ text_of (drop len bytes) ≡ full
 cut-joined front now full bytes len u h joined is =
@@ -85,8 +85,6 @@ pub next-text : (bytes later : List ℕ) (len c : ℕ) → IsUtf8 bytes → IsBo
     → text_of (drop len bytes) ≡ c ∷ text_of later
 next-text bytes later len c u h e = text_of-drop bytes len refl u h ∙ text_of-next bytes later len c u h e
 
--- a piece has a character just where it has a byte
-
 pub no-text : (bytes : List ℕ) (is_empty : Bool) → is_empty ≡ (length bytes == 0) → is_empty ≡ true → text_of bytes ≡ []
 no-text [] is_empty test is = chars-nil
 no-text (b ∷ bytes) is_empty test is = grind (arith, common_steps)
@@ -98,7 +96,6 @@ filled-text bytes is_empty u test is_no = by (text_of bytes) (size-text_of bytes
     by [] none = grind (arith, common_steps)
     by (c ∷ t) some = grind (arith, common_steps)
 
--- of no text there is no character to come
 pub none-next : (front bytes later : List ℕ) (len c : ℕ) → IsUtf8 bytes → front ++ text_of bytes ≡ [] → drop len bytes ≡ encode_utf8 c ++ later → ⊥
 none-next [] bytes later len c u none e =
     let empty : length bytes ≡ 0 = sym (size-text_of bytes u) ∙ ap size none in

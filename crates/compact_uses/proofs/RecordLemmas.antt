@@ -1,4 +1,4 @@
--- Records that are read line by line.
+-- Records read line by line.
 use Rattle.std.proofs.Common.{◌≡◌, ℕ, ◌<◌, List, [], ◌∷◌, ◌++◌, length, Option, Some, None, IfSome, sym, refl, ap, ◌∙◌, append_assoc, append-nil, subst}
 use Rattle.std.specs.Global.{Vec}
 use Rattle.std.specs.Io.KnownBytes.{IsAtEnd}
@@ -7,14 +7,14 @@ use Rattle.compact_str.specs.Value.{PlacedText}
 use Rattle.compact_uses.specs.RecordLines.{IsRecordOf, IsCauseAt, ReadsRecords, ReadsAll, ReadsUpTo}
 use Rattle.compact_uses.specs.declared.records.RecordsCause.{RecordsCause}
 
--- after the first lines comes one more
+-- one more line
 pub reads-more : (separator : ℕ) (bytes : List ℕ) (records : List (Vec PlacedText)) (rest : List ℕ) (fields : Vec PlacedText) → ReadsRecords separator bytes records rest
     → 0 < length rest → IsRecordOf separator (first_piece 10 rest) fields → ReadsRecords separator bytes (records ++ fields ∷ []) (drop_through 10 rest)
 reads-more separator bytes [] rest fields reads some is = rw (sym reads) (some, is, refl)
 reads-more separator bytes (r ∷ rs) rest fields reads some is =
     (reads.0, reads.1, reads-more separator (drop_through 10 bytes) rs rest fields reads.2 some is)
 
--- the records so far are those of the first lines of the known bytes, and what is left of these is known
+-- the records so far are those of the first lines of the known bytes, and the bytes left are known
 abbrev pub ReadsSoFar : ℕ → Option (List ℕ) → List (Vec PlacedText) → List (Vec PlacedText) → Option (List ℕ) → Type 0
 ReadsSoFar separator known before now left = IfSome known (λ bytes. (records : List (Vec PlacedText)) × (rest : List ℕ)
     × (now ≡ before ++ records) × ReadsRecords separator bytes records rest × (left ≡ Some rest))
@@ -24,7 +24,7 @@ pub none-read : (separator : ℕ) (known : Option (List ℕ)) (before : List (Ve
 none-read separator None before = tt
 none-read separator (Some bytes) before = ([], bytes, sym (append-nil before), refl, refl)
 
--- all lines are read where what is left of the known bytes is at its end
+-- all lines are read if none of the known bytes are left
 pub all-read : (separator : ℕ) (known left : Option (List ℕ)) (before now : List (Vec PlacedText))
     → ReadsSoFar separator known before now left → IsAtEnd left
     → IfSome known (λ bytes. ReadsAll separator bytes before now)
@@ -61,7 +61,7 @@ cause-of separator left piece why first is rest known =
     let first_of = rw known at first in
     rw (sym first_of.1) is
 
--- one more record stands behind those that stood
+-- one more record is appended
 pub one-more-behind : (before now after : List (Vec PlacedText)) (fields : Vec PlacedText) → ((read : List (Vec PlacedText)) × (now ≡ before ++ read))
     → after ≡ now ++ fields ∷ [] → (read : List (Vec PlacedText)) × (after ≡ before ++ read)
 one-more-behind before now after fields behind pushed =

@@ -1,4 +1,4 @@
--- The cells of a row, and how many characters it has.
+-- The cells of a row, and its number of characters.
 use Rattle.std.proofs.Common.{◌≡◌, ℕ, ◌+◌, ◌-◌, ◌<◌, ◌≤◌, zero, suc, List, [], ◌∷◌, ◌++◌, Option, None, Some, fold, get_or, length, map, max, replicate, slice_get, slice_index_or, take, refl, ap, sym, ◌∙◌, arith, append_assoc, append-nil, length-append}
 use Rattle.std.proofs.lemmas.Grind.{common_steps}
 use Rattle.std.proofs.lemmas.List.{take_more, length-replicate, length-take}
@@ -26,7 +26,7 @@ cells-push (w ∷ widths) width from column fields is =
     ap (λ rest. cell w (field_at fields from) ++ rest) (cells-push widths width (from + 1) column fields (omega arith))
     ∙ sym (append_assoc (cell w (field_at fields from)) (cells widths (from + 1) fields) (cell width (field_at fields column)))
 
--- one cell more
+-- one more cell
 pub row-more : (widths : List ℕ) (fields : List PlacedText) (column d : ℕ) → column < length widths
     → row_text (take (column + 1) widths) fields ≡ row_text (take column widths) fields ++ cell (get_or widths column d) (field_at fields column)
 row-more widths fields column d within =
@@ -34,7 +34,7 @@ row-more widths fields column d within =
     ap (λ front. row_text front fields) (take_more widths column d within)
     ∙ ap (λ rest. 124 ∷ rest) (cells-push (take column widths) (get_or widths column d) 0 column fields place)
 
--- each field of some columns has at most the width's characters
+-- no field is wider than its column
 abbrev Fits : List ℕ → ℕ → List PlacedText → Type 0
 Fits [] from fields = Unit
 Fits (width ∷ widths) from fields = (length (field_at fields from) ≤ width) × Fits widths (from + 1) fields
@@ -70,7 +70,7 @@ fits-before table fields within zero = tt
 fits-before table fields within (suc n) =
     fits-push (widths_before table n) (column_width table n) 0 n fields (fits-before table fields within n) (omega (arith, length-widths_before table n)) (within n)
 
--- a column is as wide as each of its fields
+-- a column is at least as wide as each of its fields
 bounded : (table : List (Vec PlacedText)) (column a : ℕ)
     → (a ≤ fold (λ width fields. max width (length (field_at fields.items column))) a table)
     × AllByRecursion (λ fields. length (field_at fields.items column) ≤ fold (λ width fields. max width (length (field_at fields.items column))) a table) table

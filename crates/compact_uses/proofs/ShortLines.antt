@@ -1,4 +1,4 @@
--- Where a line that has few bytes in the end has room on the way.
+-- Short lines have room for each append on the way.
 use Rattle.std.proofs.Common.{◌≡◌, ◌≢◌, ℕ, ◌+◌, ◌<◌, ◌≤◌, List, [], ◌∷◌, ◌++◌, Bool, true, false, nat_eq, if◌then◌else◌, flat_map, get_or, length, drop, take, suc, map, refl, ap, sym, true≢false, ◌∙◌, arith}
 use Rattle.std.proofs.Math.Seq.{split_at}
 use Rattle.std.proofs.lemmas.List.{map-append, map-id}
@@ -29,7 +29,7 @@ size-quoted text =
     let end = size-append (escaped_text text) (quote ∷ []) in
     omega (arith, end)
 
--- what stands before a character and the character itself, both escaped, are within the whole
+-- the text before a character and the character, both escaped, are within the whole
 next-within : (text : List ℕ) (n c : ℕ) → n < length text → c ≡ get_or text n c
     → size (escaped_text (take n text)) + size (escaped_text (c ∷ [])) ≤ size (escaped_text text)
 next-within text n c within at =
@@ -40,7 +40,7 @@ next-within text n c within at =
     let rest : size (escaped_text (c ∷ drop (suc n) text)) ≡ size (escaped_text (c ∷ [])) + size (escaped_text (drop (suc n) text)) = size-escaped (c ∷ []) (drop (suc n) text) in
     omega (arith, parts, rest)
 
--- a field is being written behind a text, and so many of its characters are done; the next one has room
+-- the next character of a field has room
 pub room-at : (v : PlacedText) (before front all text done : List ℕ) (c : ℕ) → front ≡ before ++ quote ∷ [] → v.text ≡ front ++ escaped_text done → all ≡ text
     → map (λ x. x) done ≡ take (length done) all → (length done < length all) × (c ≡ get_or all (length done) c)
     → size before + size (quoted_field text) ≤ 24 → size v.text + size (escaped_text (c ∷ [])) ≤ 24
@@ -62,7 +62,7 @@ size-other c apart = rw (not-same c quote apart) refl
 pub not-refused : (v : PlacedText) (n : ℕ) → size v.text + n ≤ 24 → (HasRoomFor v n → false ≡ true) → ⊥
 not-refused v n small succeeds = true≢false (sym (succeeds (omega arith)))
 
--- fields, each behind a separator
+-- fields, each after a separator
 abbrev rows : ℕ → List PlacedText → List ℕ
 rows separator fields = flat_map (λ other. separator ∷ quoted_field other) (map text_in fields)
 
@@ -72,7 +72,7 @@ rows-append separator a b =
     ∙ ap size (flat_map-append (λ other. separator ∷ quoted_field other) (map text_in a) (map text_in b))
     ∙ size-append (rows separator a) (rows separator b)
 
--- the first field and so many others are written; the next one has room behind a separator
+-- the next field has room after a separator
 pub field-room : (separator : ℕ) (v first field : PlacedText) (fields others : List PlacedText) (n : ℕ) → fields ≡ first ∷ others → n < length others → field ≡ get_or others n field
     → v.text ≡ quoted_field first.text ++ flat_map (λ other. separator ∷ quoted_field other) (map text_in (take n others)) → size (quoted_line separator (map text_in fields)) ≤ 24
     → size v.text + (len_utf8 separator + size (quoted_field field.text)) ≤ 24

@@ -1,4 +1,4 @@
--- What stays of tokens while names come in.
+-- Tokens while names are added.
 use Rattle.std.proofs.Common.{◌≡◌, ℕ, ◌+◌, ◌<◌, ◌≤◌, List, [], ◌∷◌, ◌++◌, true, false, not, Option, Some, None, Result, Ok, Err, OnErr, length, slice_get, slice_index_or, flat_map, map, refl, ap, ap₂, sym, subst, ◌∙◌, arith, append-nil, append_assoc, length-append}
 use Rattle.std.proofs.lemmas.Grind.{common_steps, flat_map-append}
 use Rattle.std.proofs.lemmas.List.{map-append, length-map}
@@ -17,7 +17,6 @@ use Rattle.compact_uses.specs.declared.tokenizer.Kind.TheVariants.{Word, Number,
 use Rattle.compact_uses.specs.declared.tokenizer.Token.{Token}
 use Rattle.compact_uses.specs.Tokens.{kind_of, goes_on, token_text, last_kind, IsToken, AreNamesOf, AreNamesOfFront, AreParted, ArePartedBehind, BeginsApart}
 
--- each name keeps its number
 abbrev KeepsNumbers : List (List ℕ) → List (List ℕ) → Type 0
 KeepsNumbers names after = (n : ℕ) (name : List ℕ) → slice_get names n ≡ Some name → slice_get after n ≡ Some name
 
@@ -48,7 +47,7 @@ texts-kept names after [] keep all = refl
 texts-kept names after (token ∷ tokens) keep all =
     ap₂ (λ (t : List ℕ) (rest : List (List ℕ)). t ∷ rest) (token_text-kept names after token keep all.0.filled) (texts-kept names after tokens keep all.1)
 
--- a piece that has a number among the names is put behind the tokens
+-- a piece with a number is appended to the tokens
 
 pub put-names : (before names after : List (List ℕ)) (tokens : List Token) (token : Token) (piece : List ℕ) → KeepsNumbers names after → All (IsToken names) tokens
     → slice_get after token.name ≡ Some piece → after ≡ distinct_texts (names ++ piece ∷ []) → AreNamesOf before names tokens → AreNamesOf before after (tokens ++ token ∷ [])
@@ -83,7 +82,7 @@ put-tokens names after tokens token piece keep all at filled alike single =
     All-push (IsToken after) tokens token (λ k d lt. token-kept names after (slice_index_or tokens k d) keep (all k d lt))
     (record { filled = rw is filled; alike = rw is alike; single = λ mark. rw is (one mark) })
 
--- a character more in a piece of its kind
+-- one more character in a piece of its kind
 
 pub alike-push : (k : Kind) (piece : List ℕ) (c : ℕ) → All (λ x. kind_of x ≡ k) piece → kind_of c ≡ k → All (λ x. kind_of x ≡ k) (piece ++ c ∷ [])
 alike-push k piece c alike is = All-push (λ x. kind_of x ≡ k) piece c alike is
@@ -91,7 +90,7 @@ alike-push k piece c alike is = All-push (λ x. kind_of x ≡ k) piece c alike i
 pub alike-one : (c : ℕ) → All (λ x. kind_of x ≡ kind_of c) (c ∷ [])
 alike-one c = All-push (λ x. kind_of x ≡ kind_of c) [] c (All-nil (λ x. kind_of x ≡ kind_of c)) refl
 
--- tokens that are parted, and one more
+-- one more token
 
 pub parted-push : (kind : Kind) (tokens : List Token) (token : Token) → ArePartedBehind kind tokens → goes_on (last_kind kind tokens) token.kind ≡ false
     → ArePartedBehind kind (tokens ++ token ∷ [])
@@ -108,7 +107,7 @@ last-apart tokens token next apart = ap (λ k. goes_on k next) (last-push Mark t
 pub none-apart : (tokens : List Token) (next : Kind) → tokens ≡ [] → goes_on (last_kind Mark tokens) next ≡ false
 none-apart tokens next none = ap (λ ts. goes_on (last_kind Mark ts) next) none
 
--- what goes on is of the same kind, which is no mark
+-- a token continues with its own kind, which is not a mark
 
 pub goes_on-same : (kind next : Kind) → goes_on kind next ≡ true → next ≡ kind
 goes_on-same Word Word on = refl
@@ -137,12 +136,10 @@ push-some (d ∷ piece) c tokens none = grind (arith, common_steps, none)
 pub one-character : (c : ℕ) → length (c ∷ []) ≤ 1
 one-character c = grind (arith, common_steps)
 
--- of no characters all are of a kind
-
 pub none-alike : {A : Type 0} (P : A → Type 0) → All P []
 none-alike P = All-nil P
 
--- no more names come in than there are characters
+-- at most as many names are added as there are characters
 
 length-distinct_texts : (ts : List (List ℕ)) → length (distinct_texts ts) ≤ length ts
 length-distinct_texts [] = omega arith
@@ -173,7 +170,7 @@ few-names before names tokens rest text are all joined =
       ap length joined,
     )
 
--- the names where a piece is refused: its text is no name, or it is and there is no room for the token
+-- the names if a piece fails: its text is new, or known with no room for the token
 
 front-without : (before names : List (List ℕ)) (tokens : List Token) (kind : Kind) (piece others : List ℕ) → All (IsToken names) tokens → AreParted tokens
     → goes_on (last_kind Mark tokens) kind ≡ false → 0 < length piece → All (λ c. kind_of c ≡ kind) piece → AreNamesOf before names tokens
@@ -212,7 +209,7 @@ front-left (Ok x) names now tokens kind piece same all parted follows filled ali
 front-left (Err e) names now tokens kind piece same all parted follows filled alike =
     λ before others are apart. rw same (front-without before names tokens kind piece others all parted follows filled alike are)
 
--- the tokens, the piece and what stands behind it are the text
+-- the tokens, the piece and the bytes after it are the text
 pub front-of : {X E : Type 0} (r : Result X E) (before names : List (List ℕ)) (text full : List ℕ) → text ≡ full → AreNamesOfFront before names text
     → OnErr r (AreNamesOfFront before names full)
 front-of (Ok x) before names text full same front = tt

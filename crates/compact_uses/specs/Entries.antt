@@ -1,4 +1,4 @@
--- Words with their counts, and their order.
+-- Words with their counts, and their ranking.
 use Rattle.std.specs.Prelude.{ℕ, List, [], ◌∷◌, ◌++◌, Bool, true, false, nat_eq, if◌then◌else◌}
 use Rattle.std.specs.List.{count_by}
 use Rattle.std.specs.List.Sorted.{IsPermutation, IsSortedByKey, IsStableByKey}
@@ -19,20 +19,20 @@ is_word_kind Mark = false
 abbrev pub is_word : ℕ → Token → Bool
 is_word n token = if nat_eq token.name n then is_word_kind token.kind else false
 
--- how often the word with this number stands among some tokens
+-- the number of tokens that are this word
 abbrev pub word_count : List Token → ℕ → ℕ
 word_count tokens n = count_by (is_word n) tokens
 
--- a word that stands there, with its count
+-- the word's entry, if it occurs
 abbrev pub entry_of : ℕ → ℕ → List Entry
 entry_of n count = if nat_eq count 0 then [] else record { count = count; name = n } ∷ []
 
--- the words that stand there, of those with the first so many numbers
+-- the entries of the first numbers
 abbrev pub entries_before : List Token → ℕ → List Entry
 entries_before tokens zero = []
 entries_before tokens (suc n) = entries_before tokens n ++ entry_of n (word_count tokens n)
 
--- The same entries, the highest count first, and those with one count in the order in which they stood.
+-- The same entries, stably sorted by count, the highest first.
 pub record IsRanking (entries ranks : List Entry) : Type 0 where
   pub same : IsPermutation entries ranks
   pub falling : IsSortedByKey (λ e. e.count) (λ x y. nat_cmp y x) ranks

@@ -1,4 +1,4 @@
--- Tokens: what each is made of, and its text among the names of an interner.
+-- Tokens: their kinds, and their texts among the names of an interner.
 use Rattle.std.specs.Prelude.{◌≡◌, ◌<◌, ◌++◌, ℕ, List, [], flat_map, length, map, slice_get, if◌then◌else◌, ⊤}
 use Rattle.std.specs.Option.{unwrap_or}
 use Rattle.std.specs.List.{All}
@@ -13,7 +13,7 @@ use Rattle.compact_uses.specs.declared.tokenizer.Kind.TheVariants.{Word, Number,
 use Rattle.compact_uses.specs.declared.tokenizer.Token.{Token}
 use Rattle.std.specs.Prelude.{◌∷◌, Bool, true, false}
 
--- what a character makes a token of
+-- the kind of token that a character belongs to
 abbrev pub kind_of : ℕ → Kind
 kind_of c = if is_alphabetic c then Word else if is_numeric c then Number else if is_whitespace c then Space else Mark
 
@@ -21,7 +21,7 @@ kind_of c = if is_alphabetic c then Word else if is_numeric c then Number else i
 abbrev pub token_text : List (List ℕ) → Token → List ℕ
 token_text names token = unwrap_or (slice_get names token.name) []
 
--- a character of the second kind goes on with a token of the first
+-- a character of the second kind continues a token of the first
 abbrev pub goes_on : Kind → Kind → Bool
 goes_on Mark next = false
 goes_on Word Word = true
@@ -37,42 +37,42 @@ goes_on Space Number = false
 goes_on Space Space = true
 goes_on Space Mark = false
 
--- behind a token of some kind, no token goes on with the one before it
+-- after a token of this kind, no token continues the one before it
 abbrev pub ArePartedBehind : Kind → List Token → Type 0
 ArePartedBehind kind [] = Unit
 ArePartedBehind kind (token ∷ tokens) = (goes_on kind token.kind ≡ false) × ArePartedBehind token.kind tokens
 
--- no token goes on with the one before it; with a mark none does
+-- no token continues the one before it, and none continues a mark
 abbrev pub AreParted : List Token → Type 0
 AreParted tokens = ArePartedBehind Mark tokens
 
--- the kind of the last token, or this one where there is none
+-- the kind of the last token, or this one if there is none
 abbrev pub last_kind : Kind → List Token → Kind
 last_kind kind [] = kind
 last_kind kind (token ∷ tokens) = last_kind token.kind tokens
 
--- the token has a text, of characters of its kind alone; a mark is one character
+-- the token has a text, of characters of its kind only; a mark is one character
 pub record IsToken (names : List (List ℕ)) (token : Token) : Type 0 where
   pub filled : 0 < length (token_text names token)
   pub single : token.kind ≡ Mark → length (token_text names token) ≡ 1
   pub alike : All (λ c. kind_of c ≡ token.kind) (token_text names token)
 
--- why a text was not cut into tokens: for want of memory, or no number is left for a name
+-- the error of a failed tokenization: allocation failed, or no number is left
 abbrev pub IsTokenRefusal : List (List ℕ) → InternError → Type 0
 IsTokenRefusal names (Reserve error) = ⊤
 IsTokenRefusal names Full = length names ≡ 4294967295
 
--- the names are distinct: those that stood at first, and the texts of the tokens, by first occurrence
+-- the names are distinct: those before, and the texts of the tokens, by first occurrence
 abbrev pub AreNamesOf : List (List ℕ) → List (List ℕ) → List Token → Type 0
 AreNamesOf before names tokens = (distinct_texts names ≡ names) × (names ≡ distinct_texts (before ++ map (token_text names) tokens))
 
--- the text does not begin with a character that goes on with a token of this kind
+-- the text does not begin with a character that continues a token of this kind
 abbrev pub BeginsApart : Kind → List ℕ → Type 0
 BeginsApart kind [] = Unit
 BeginsApart kind (c ∷ cs) = goes_on kind (kind_of c) ≡ false
 
--- The names are distinct: those that stood at first, and the texts of the first tokens of the text, by first occurrence. With
--- the last of these tokens the rest of the text does not go on.
+-- The names are distinct: those before, and the texts of the first tokens of the text, by first occurrence. The rest of
+-- the text does not continue the last of these tokens.
 pub record AreNamesOfFront (before names : List (List ℕ)) (text : List ℕ) : Type 0 where
   pub tokens : List Token
   pub rest : List ℕ

@@ -1,4 +1,4 @@
-//! How often each word of a text stands there, and which are the most frequent.
+//! Word counts of a text, and the most frequent words.
 ghost use Rattle.std.specs.Prelude.{◌≡◌, ◌<◌, ℕ, length, slice_index, IfOk, IsOk};
 ghost use Rattle.compact_uses.specs.Entries.{word_count, entries_before, IsRanking};
 
@@ -6,21 +6,21 @@ use crate::tokenizer::{Kind, Token};
 use std::alloc::{AllocError, Global};
 use std::cmp::Reverse;
 
-/// A word that stands in a text.
+/// A word, with its count.
 #[derive(Clone, Copy)]
 pub struct Entry {
-    /// How many tokens are this word, at least one.
+    /// The number of tokens that are this word, at least 1.
     pub count: usize,
-    /// Its number among the names.
+    /// The number of the name.
     pub name: u32,
 }
 
-/// The words among some tokens, the most frequent first, and of those that are as frequent the one with the lower
-/// number. A token whose number is `names` or more is left out.
+/// Counts the words among `tokens`, and sorts them by count, the highest first, and then by number. Ignores a token
+/// whose number is `names` or more.
 ///
 /// # Errors
 ///
-/// `AllocError` if no memory is found. Of no names it never comes.
+/// Returns `AllocError` if no memory is found. Never fails if `names` is 0.
 ///
 /// # Examples
 ///
@@ -34,7 +34,7 @@ pub fn ranking(alloc: Global, tokens: &[Token], names: u32) -> Result<Vec<Entry>
     Ok(ranks)
 }
 
-/// The words among some tokens, in the order of their numbers. Of no names it is never refused.
+/// Counts the words, in the order of their numbers. Never fails if `names` is 0.
 fn entries(alloc: Global, tokens: &[Token], names: u32) -> Result<Vec<Entry>, AllocError>
     ensures entries { IfOk result (λ entries. entries.items ≡ entries_before tokens.now names) }
     ensures empty { names ≡ 0 → IsOk result }
@@ -53,7 +53,7 @@ fn entries(alloc: Global, tokens: &[Token], names: u32) -> Result<Vec<Entry>, Al
     Ok(entries)
 }
 
-/// How many tokens are the word with each number.
+/// Returns the count of each number as a word.
 fn word_counts(alloc: Global, tokens: &[Token], names: u32) -> Result<Vec<usize>, AllocError>
     ensures len { IfOk result (λ counts. length counts.items ≡ names) }
     ensures counts { IfOk result (λ counts. (n : ℕ) → n < names

@@ -1,4 +1,4 @@
-//! Programs that stand on the library, to copy: each is small and states what it does as a theorem of its own.
+//! Small programs to copy, each with what it does as a theorem.
 #![tactic(auto, using(compact_str::proofs::ForCallers::for_callers))]
 
 mod entries;

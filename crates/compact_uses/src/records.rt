@@ -1,4 +1,4 @@
-//! Records: lines of fields, parted by a character, with quotes.
+//! Records: lines of fields with a separator and quotes.
 ghost use Rattle.std.specs.Prelude.{◌≡◌, ◌≢◌, ◌∷◌, ◌++◌, ℕ, List, [], length, take, IfErr, IfSome, OnErr, OnOk};
 ghost use Rattle.std.specs.IoError.{error_kind};
 ghost use Rattle.std.specs.declared.io.ErrorKind.TheVariants.{OutOfMemory};
@@ -20,38 +20,38 @@ use std::io;
 use std::io::{BufRead, BufReader, ErrorKind, Read};
 pub use write::quoted_line;
 
-/// Why records were not read to the end.
+/// The cause of a [`RecordsError`].
 #[derive(Clone, Copy, Debug, PartialEq, Eq)]
 pub enum RecordsCause {
     /// The reader failed.
     Read,
-    /// Memory was refused.
+    /// Allocation failed.
     Reserve,
-    /// The line is no text.
+    /// The line is not valid UTF-8.
     Utf8,
-    /// The line is no record.
+    /// The line is not a record.
     Fault(Fault),
 }
 
-/// At which line, from 1 on, records were not read further, and why.
+/// The error of [`read_records`]: the line, from 1 on, and the cause.
 #[derive(Clone, Copy, Debug, PartialEq, Eq)]
 pub struct RecordsError {
     pub line: usize,
     pub cause: RecordsCause,
 }
 
-/// Reads the records of all lines, each as `fields_of` does, behind those that stand in the list, which stay. A line
-/// ends with the byte 0A, which the last may lack.
+/// Reads the records of all lines, each as `fields_of` does, and appends them to the list. A line ends with the byte
+/// 0A, which the last may lack.
 ///
 /// # Errors
 ///
-/// [`RecordsError`] says at which line, from 1 on, and why: the reader fails, memory is refused, or the line is no text
-/// or no record. The records of the lines before it are in the list. The contract says the line for any reader, and
-/// which records are read, and why no more, for one whose bytes are known.
+/// Returns [`RecordsError`] if the reader fails, if allocation fails, or if a line is not valid UTF-8 or not a record.
+/// The records of the lines before it are in the list. The contract specifies the line for any reader, and the records
+/// and the cause for one whose bytes are known.
 ///
 /// # Examples
 ///
-/// With the separator `,` the bytes `a,b`, 0A and `c` give a record of two fields and one of one.
+/// With the separator `,` the bytes `a,b`, 0A and `c` are a record of two fields and one of one.
 pub fn read_records<R: Read>(
     alloc: Global,
     separator: char,
@@ -76,7 +76,7 @@ pub fn read_records<R: Read>(
     }
 }
 
-/// Reads the records of all lines, up to the first that has none.
+/// Reads the records of all lines, up to the first that fails.
 fn read_lines<R: Read>(
     alloc: Global,
     separator: char,
@@ -105,7 +105,7 @@ fn read_lines<R: Read>(
     Ok(())
 }
 
-/// Why a line was not read: its bytes take memory, which may be refused as the reader may fail.
+/// Maps the error of a read: its bytes are allocated, so either may have failed.
 fn reading_cause(error: &io::Error) -> RecordsCause
     ensures memory { error_kind error.now ≡ OutOfMemory → result ≡ cause.Reserve }
     ensures reader { error_kind error.now ≢ OutOfMemory → result ≡ cause.Read }
@@ -117,7 +117,7 @@ fn reading_cause(error: &io::Error) -> RecordsCause
     }
 }
 
-/// Puts the record of a line behind the others.
+/// Appends the record of a line.
 fn take_line(
     alloc: Global,
     separator: char,

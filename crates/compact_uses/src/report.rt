@@ -9,16 +9,16 @@ ghost use Rattle.compact_uses.specs.Columns.{field_at, column_width, column_coun
 use compact_str::{CompactString, ReserveError};
 use std::alloc::Global;
 
-/// Each record as a line: the fields stand in columns as wide as their longest field, in characters. A record that has
-/// too few fields has empty cells.
+/// Formats each record as a line, in columns as wide as their longest field, in characters. Missing fields are empty
+/// cells.
 ///
 /// # Errors
 ///
-/// [`ReserveError`] if no memory is found. Of no records it never comes.
+/// Returns [`ReserveError`] if no memory is found. Never fails if there are no records.
 ///
 /// # Examples
 ///
-/// The fields `ab` and `1` give `| ab | 1 |`.
+/// The fields `ab` and `1` are formatted as `| ab | 1 |`.
 pub fn aligned_rows(
     alloc: Global,
     table: &[Vec<CompactString>],
@@ -41,7 +41,7 @@ pub fn aligned_rows(
     Ok(lines)
 }
 
-/// The width of each column, in characters.
+/// Returns the width of each column, in characters.
 fn widths_of(alloc: Global, table: &[Vec<CompactString>]) -> Result<Vec<usize>, ReserveError>
     ensures widths { IfOk result (λ widths. widths.items ≡ widths_of table.now) }
     ensures empty { table.now ≡ [] → IsOk result }
@@ -55,7 +55,7 @@ fn widths_of(alloc: Global, table: &[Vec<CompactString>]) -> Result<Vec<usize>, 
     Ok(widths)
 }
 
-/// How many fields the longest record has.
+/// Returns the number of fields of the longest record.
 fn column_count(table: &[Vec<CompactString>]) -> usize
     ensures { result ≡ column_count table.now }
 {
@@ -66,7 +66,7 @@ fn column_count(table: &[Vec<CompactString>]) -> usize
     count
 }
 
-/// How many characters the longest field of a column has.
+/// Returns the number of characters of a column's longest field.
 fn column_width(table: &[Vec<CompactString>], column: usize) -> usize
     ensures { result ≡ column_width table.now column }
 {
@@ -77,7 +77,7 @@ fn column_width(table: &[Vec<CompactString>], column: usize) -> usize
     width
 }
 
-/// The field of a column, and the empty text where the record has too few.
+/// Returns the field of a column, or the empty text if the record is too short.
 #[tactic(auto, using(crate::proofs::RowLemmas::row_facts))]
 fn field_at<'a>(fields: &'a Vec<CompactString>, column: usize) -> &'a str
     ensures { text_of result.now ≡ field_at fields.now.items column }
@@ -88,14 +88,14 @@ fn field_at<'a>(fields: &'a Vec<CompactString>, column: usize) -> &'a str
     }
 }
 
-/// How many characters a text has.
+/// Counts the characters.
 fn char_count(text: &str) -> usize
     ensures { result ≡ length (text_of text.now) }
 {
     text.chars().count()
 }
 
-/// A record as a line.
+/// Formats a record as a line.
 #[tactic(auto, using(crate::proofs::RowLemmas::row_facts))]
 fn row(
     alloc: Global,
@@ -112,7 +112,7 @@ fn row(
     Ok(line)
 }
 
-/// Appends a cell, padded to a width in characters.
+/// Appends a cell, padded to `width` characters.
 fn push_cell(line: &mut CompactString, field: &str, width: usize) -> Result<(), ReserveError>
     ensures { OnOk result (line.new.text ≡ line.old.text ++ cell width (text_of field.now)) }
 {

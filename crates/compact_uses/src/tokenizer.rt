@@ -1,4 +1,4 @@
-//! A text cut into words, numbers, white space and marks, each interned.
+//! A tokenizer: cuts a text into words, numbers, white space and marks, and interns each.
 ghost use Rattle.std.specs.Prelude.{◌≡◌, ◌++◌, ℕ, List, flat_map, slice_get, Some, IsOk, IfOk, IfErr, OnOk, OnErr};
 ghost use Rattle.std.specs.List.{All};
 ghost use Rattle.compact_uses.specs.Tokens.{kind_of, token_text, IsToken, IsTokenRefusal};
@@ -12,27 +12,27 @@ use compact_edit::{InternError, Interner};
 use compact_str::{CompactString, ReserveError};
 use std::alloc::Global;
 
-/// What a token is made of.
+/// The kind of a token.
 #[derive(Clone, Copy, Debug, PartialEq, Eq)]
 pub enum Kind {
-    /// Letters.
+    /// Alphabetic characters.
     Word,
     /// Digits and other numeric characters.
     Number,
     /// White space.
     Space,
-    /// One character that is nothing else.
+    /// Any other character, alone.
     Mark,
 }
 
-/// A piece of a text: what it is made of, and the number of its text among the names.
+/// A piece of a text: its kind, and the number of its text among the names.
 #[derive(Clone, Copy, Debug, PartialEq, Eq)]
 pub struct Token {
     pub kind: Kind,
     pub name: u32,
 }
 
-/// What a character makes a token of.
+/// Returns the kind of token that a character belongs to.
 fn kind_of(character: char) -> Kind
     ensures { result ≡ kind_of character }
 {
@@ -47,7 +47,7 @@ fn kind_of(character: char) -> Kind
     }
 }
 
-/// Whether a character of the kind `next` goes on with a token of the kind `kind`.
+/// Returns `true` if a character of the kind `next` continues a token of the kind `kind`.
 #[inline]
 fn goes_on(kind: Kind, next: Kind) -> bool
     ensures { result ≡ goes_on kind next }
@@ -55,20 +55,20 @@ fn goes_on(kind: Kind, next: Kind) -> bool
     kind == next && kind != Kind::Mark
 }
 
-/// Cuts a text into tokens. Their texts, joined, are the text; none is empty, and each has characters of its kind
-/// alone. Each is as long as can be: no token goes on where the one before it ends. A mark is one character.
+/// Cuts a text into tokens. Joined, their texts are the text. None is empty, and each has characters of its kind only.
+/// Each is as long as possible: no token continues the one before it. A mark is one character.
 ///
-/// The names are then those that stood and the texts of the tokens, by first occurrence. Names keep their numbers, and
-/// no more come in than the text has characters.
+/// Appends the new texts to the names, by first occurrence, and at most as many as the text has characters. Names keep
+/// their numbers.
 ///
 /// # Errors
 ///
-/// `Reserve` if no memory is found, and `Full` if no number is left for a name, of which 2^32 - 1 stand then. The names
-/// are those that stood and the texts of the first tokens, up to some place. Of the empty text no error comes.
+/// Returns `Reserve` if allocation fails, and `Full` if all 2^32 - 1 numbers are in use. Only the texts of the first
+/// tokens, up to some position, are added to the names then. Never fails if the text is empty.
 ///
 /// # Examples
 ///
-/// Of `ab, 12` the tokens are the word `ab`, the mark `,`, a space and the number `12`.
+/// The tokens of `ab, 12` are the word `ab`, the mark `,`, a space and the number `12`.
 pub fn tokenize(
     alloc: Global,
     names: &mut Interner,
@@ -86,7 +86,7 @@ pub fn tokenize(
     ensures front { OnErr result (AreNamesOfFront names.old names.new text.now.text) }
     ensures err { IfErr result (IsTokenRefusal names.new) }
 {
-    // The proof reads from it that the names are distinct, also where no token comes.
+    // For the proof: the names are distinct, even if there is no token.
     let _distinct = names.len();
     let mut tokens = Vec::new(alloc);
     let mut rest = text.as_str();
@@ -108,7 +108,7 @@ pub fn tokenize(
     Ok(tokens)
 }
 
-/// Puts a piece of the text behind the tokens, unless it is empty.
+/// Appends a piece to the tokens, unless it is empty.
 fn push_token(
     names: &mut Interner,
     tokens: &mut Vec<Token>,

@@ -1,10 +1,10 @@
-//! The ranking of words by how often they stand in a text.
+//! Ranking words by frequency.
 
 use compact_asserts::that;
 use compact_testing::memory::take_all;
 use compact_uses::{Entry, Kind, Token, ranking};
 
-/// A word by its number.
+/// Creates a word from its number.
 fn word(name: u32) -> Token {
     Token {
         kind: Kind::Word,
@@ -12,7 +12,7 @@ fn word(name: u32) -> Token {
     }
 }
 
-/// Whether an entry has this count and this number.
+/// Returns `true` if an entry has this count and number.
 fn is_entry(entry: Option<&Entry>, count: usize, name: u32) -> bool {
     match entry {
         Some(entry) => entry.count == count && entry.name == name,

@@ -12,7 +12,7 @@ use std::process::Abort;
 /// Two records, of lines of 7 and 5 bytes.
 const INPUT: &[u8] = b"ab,\xE2\x82\xAC\n\"d\",\n";
 
-/// Reads records over a reader that gives one byte a call.
+/// Reads records one byte a call.
 fn read(
     alloc: Global,
     stop: Stop,
@@ -21,13 +21,13 @@ fn read(
     read_records(alloc, ',', &mut Pieces::new(INPUT, 1, stop), records)
 }
 
-/// Asserts the report of some records, of which each has a line.
+/// Asserts the report of some records, a line for each.
 fn assert_report(rt: &impl Abort, alloc: Global, records: &[Vec<CompactString>], lines: &[&str]) {
     let rows = aligned_rows(alloc, records).expect(rt, "memory");
     assert_that(rt, are_texts(rows.as_slice(), lines));
 }
 
-/// The report of the first records.
+/// Returns the report of the first `count` records.
 fn lines_of(count: usize) -> &'static [&'static str] {
     match count {
         0 => &[],
@@ -36,7 +36,7 @@ fn lines_of(count: usize) -> &'static [&'static str] {
     }
 }
 
-/// Asserts that a reader that fails once it has given so many bytes leaves the records of the lines that have ended.
+/// Asserts that a reader that fails after `given` bytes leaves the records of the complete lines.
 fn assert_failed(rt: &impl Abort, alloc: Global, given: usize) {
     let ended = match given {
         0..=6 => 0,
@@ -71,7 +71,7 @@ fn a_reader_that_is_interrupted_is_asked_again(rt: HostRuntime) {
     }
 }
 
-/// Asserts how the reading ends where the reader ends after so many bytes, and how many records there are.
+/// Asserts the outcome and the number of records if the reader ends after some bytes.
 fn assert_ended(
     rt: &impl Abort,
     alloc: Global,

@@ -1,4 +1,4 @@
-//! Records: fields of a line, what is written and read back, faults with their lines, and a reader that fails.
+//! Records: fields of a line, writing and reading back, faults with their lines, and a reader that fails.
 
 use crate::asserts::{assert_equal, assert_that};
 use compact_str::CompactString;
@@ -13,7 +13,7 @@ use std::io;
 use std::io::Read;
 use std::process::Abort;
 
-/// Gives one line and a half, and then fails.
+/// Yields one line and a half, then fails.
 #[derive(Drop)]
 struct Failing {
     given: bool,
@@ -54,7 +54,7 @@ fn assert_fault(rt: &impl Abort, alloc: Global, line: &str, fault: Fault) {
     );
 }
 
-// The fields are those that Python's csv reader gives, but for the empty line, which has one empty field here.
+// As Python's csv reader, except for the empty line, which has one empty field here.
 #[test]
 fn a_line_has_its_fields(rt: HostRuntime) {
     let rt = &rt;
@@ -66,7 +66,7 @@ fn a_line_has_its_fields(rt: HostRuntime) {
     assert_fault(rt, alloc, "\"a\"b,c", Fault::TextBehindQuote);
 }
 
-// Python's csv reader would take the first quote for one that opens a field.
+// Python's csv reader would let the first quote open a field.
 #[test]
 fn a_quote_that_parts_the_fields_opens_none(rt: HostRuntime) {
     let alloc = rt.alloc();
@@ -100,7 +100,7 @@ fn a_fault_tells_its_line(rt: HostRuntime) {
     assert_equal(rt, records.len(), 3);
 }
 
-/// Asserts that the first fault of some lines is told with this line and cause, and leaves the records before it.
+/// Asserts that the first fault of some lines is reported with this line and cause, keeping the records before it.
 fn assert_stop(rt: &impl Abort, alloc: Global, lines: &str, line: usize, cause: RecordsCause) {
     let mut records = Vec::new(alloc);
     let mut input = lines.as_bytes();
@@ -143,7 +143,7 @@ fn with_no_memory_nothing_is_read(rt: HostRuntime) {
     assert_equal(&rt, records.len(), 0);
 }
 
-// The reader's buffer has 8192 bytes, and what is refused is the memory for the bytes of the line.
+// The reader's buffer has 8192 bytes; the allocation that fails is for the bytes of the line.
 #[test]
 fn no_memory_for_the_bytes_of_a_line_is_told_as_such(rt: HostRuntime) {
     let rt = &rt;

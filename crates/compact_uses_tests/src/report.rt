@@ -1,4 +1,4 @@
-//! The report: columns counted in characters, records that are too short, and refused memory.
+//! The report: columns counted in characters, records that are too short, and no memory.
 
 use crate::asserts::{assert_equal, assert_that};
 use compact_str::CompactString;
@@ -8,7 +8,7 @@ use compact_uses::aligned_rows;
 use std::alloc::Global;
 use std::process::Abort;
 
-/// A record with these fields.
+/// Creates a record with these fields.
 fn fields_of(rt: &impl Abort, alloc: Global, texts: &[&str]) -> Vec<CompactString> {
     let mut fields = Vec::new(alloc);
     for text in texts {
@@ -23,7 +23,7 @@ fn assert_line(rt: &impl Abort, lines: &Vec<CompactString>, index: usize, text: 
     assert_equal(rt, lines.get(index).map(|line| line.as_str()), Some(text));
 }
 
-// The widths are 2, 5 and 1 characters, the bytes of the fields more.
+// The widths are 2, 5 and 1 characters; the fields have more bytes.
 #[test]
 fn columns_are_as_wide_as_their_longest_field_in_characters(rt: HostRuntime) {
     let rt = &rt;

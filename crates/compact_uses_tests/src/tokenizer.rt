@@ -1,4 +1,4 @@
-//! The tokenizer: characters of each width, and refused memory.
+//! The tokenizer: characters of each width, and no memory.
 
 use crate::asserts::{assert_equal, assert_that};
 use compact_edit::{InternError, Interner};
@@ -8,17 +8,17 @@ use compact_uses::{Kind, Token, tokenize};
 use std::alloc::Global;
 use std::process::Abort;
 
-/// Asserts what a token is made of, and its number.
+/// Asserts the kind and number of a token.
 fn assert_token(rt: &impl Abort, token: Option<Token>, kind: Kind, name: u32) {
     assert_that(rt, token == Some(Token { kind, name }));
 }
 
-/// The tokens of a text, for which there is memory.
+/// Tokenizes a text, with ample memory.
 fn tokens_of(rt: &impl Abort, alloc: Global, names: &mut Interner, text: &str) -> Vec<Token> {
     tokenize(alloc, names, &value_of(alloc, text).expect(rt, "memory")).expect(rt, "memory")
 }
 
-/// The kind that a letter stands for.
+/// Returns the kind for a letter.
 fn kind_of(letter: char) -> Kind {
     match letter {
         'w' => Kind::Word,
@@ -28,7 +28,7 @@ fn kind_of(letter: char) -> Kind {
     }
 }
 
-/// Asserts of which kind each token is, as letters in their order, and its number.
+/// Asserts the kinds of tokens, one letter each, and their numbers.
 fn assert_tokens(rt: &impl Abort, tokens: &[Token], letters: &str, numbers: &[u32]) {
     for (index, letter) in letters.chars().enumerate() {
         let name = numbers.get(index).copied().unwrap_or(9);
@@ -43,7 +43,7 @@ fn assert_names(rt: &impl Abort, names: &Interner, wanted: &[(u32, &str)]) {
     }
 }
 
-// Of which kind a character is: Python's `isalpha`, `isnumeric` and `isspace`.
+// Kinds of characters as by Python's `isalpha`, `isnumeric` and `isspace`.
 #[test]
 fn characters_of_each_width_are_cut_by_their_kind(rt: HostRuntime) {
     let rt = &rt;
@@ -67,7 +67,7 @@ fn an_empty_text_has_no_tokens(rt: HostRuntime) {
     assert_equal(&rt, names.len(), 0);
 }
 
-/// Asserts that a text is refused while there is no memory, and that the one name stands.
+/// Asserts that a text fails without memory, keeping the one name.
 fn is_refused(rt: &impl Abort, alloc: Global, names: &mut Interner, text: &str) {
     let text = value_of(alloc, text).expect(rt, "memory");
     let hog = take_all(alloc).expect(rt, "room for the list of blocks");

@@ -1,10 +1,10 @@
-//! Why a line is no visit.
+//! The error of a line that is no visit.
 
 use compact_str::{CompactString, ReserveError};
 use serde::Serialize;
 use std::alloc::Global;
 
-/// The line and the column, counted from 1, at which the input is no visit, and why.
+/// Why the input is no visit, and at which line and column, counted from 1.
 #[derive(Drop, Serialize)]
 pub struct Fault {
     pub line: usize,
@@ -13,8 +13,8 @@ pub struct Fault {
 }
 
 impl Fault {
-    /// An error of the reader of JSON in the line of a number. The reader was given that line alone, so what it says of lines is
-    /// left out.
+    /// Creates a fault from an error of the JSON reader. The reader saw a single line, so the line in its message is
+    /// dropped.
     pub fn new(
         alloc: Global,
         line: usize,

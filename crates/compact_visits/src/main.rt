@@ -1,7 +1,7 @@
-//! The program: reads visits as lines of JSON on standard input, and writes as lines of JSON from where they came.
+//! Reads visits as lines of JSON on standard input, and writes their sources as lines of JSON.
 //!
-//! A line that is no visit is answered by a line that says where it fails and why, and the others are counted all the same. The
-//! status is 1 then, and 0 where each line was counted.
+//! For a line that is no visit it writes a line that says where and why; the others are counted all the same. The
+//! status is then 1, and 0 if each line was counted.
 #![tactic(auto)]
 
 mod fault;
@@ -27,16 +27,16 @@ fn main(rt: HostRuntime) -> ExitCode {
     }
 }
 
-/// Counts the visits that a reader has, one a line. It writes a line for each that is none, and then one for each source.
+/// Counts the visits of a reader, one a line. Writes a line for each that is no visit, and then one for each source.
 ///
-/// The answer is whether each line was a visit. An error says that the reader or the writer failed, or that no memory was found.
+/// Returns `true` if each line was a visit. Fails if the reader, the writer or an allocation does.
 fn count_visits<R: Read, W: Write>(alloc: Global, reader: &mut R, writer: &mut W) -> Result<bool> {
     let mut reader = BufReader::new(alloc, reader)?;
     let mut writer = BufWriter::new(alloc, writer)?;
     answer(alloc, &mut reader, &mut writer)
 }
 
-/// Counts the visits of lines, and writes from where they came. Answers whether each line is one.
+/// Counts the visits of lines, and writes the sources. Returns `true` if each line is a visit.
 fn answer<B: BufRead, W: Write>(alloc: Global, reader: &mut B, writer: &mut W) -> Result<bool> {
     let mut sources = Sources::new(alloc);
     let all_counted = count_lines(alloc, &mut sources, reader, writer)?;
@@ -44,7 +44,7 @@ fn answer<B: BufRead, W: Write>(alloc: Global, reader: &mut B, writer: &mut W) -
     Ok(all_counted)
 }
 
-/// Counts the visits of lines, or writes why they are none. Answers whether each line is one.
+/// Counts the visits of lines, or writes their faults. Returns `true` if each line is a visit.
 fn count_lines<B: BufRead, W: Write>(
     alloc: Global,
     sources: &mut Sources,
@@ -53,7 +53,7 @@ fn count_lines<B: BufRead, W: Write>(
 ) -> Result<bool> {
     let mut line = Vec::new(alloc);
     let mut all_counted = true;
-    // So many lines take longer than any program runs.
+    // No program runs for that many lines.
     for number in 1..usize::MAX {
         line.clear();
         if reader.read_until(b'\n', &mut line)? == 0 {
@@ -66,12 +66,12 @@ fn count_lines<B: BufRead, W: Write>(
     Ok(all_counted)
 }
 
-/// A line without the byte that ends it.
+/// A line without its newline.
 fn without_end(line: &[u8]) -> &[u8] {
     line.strip_suffix(b"\n").unwrap_or(line)
 }
 
-/// Counts the visit of a line, of which the number is counted from 1, or writes why it is none. Answers whether it is one.
+/// Counts the visit of a line, whose number counts from 1, or writes its fault. Returns `true` if it is a visit.
 fn count_line<W: Write>(
     alloc: Global,
     sources: &mut Sources,

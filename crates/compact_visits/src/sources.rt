@@ -1,4 +1,4 @@
-//! From where the visitors came.
+//! The sources of visits.
 
 use crate::visit::{Visit, host_of};
 use anyhow::Result;
@@ -7,12 +7,12 @@ use serde::Serialize;
 use std::alloc::Global;
 use std::collections::HashMap;
 
-/// A host from where visitors came, as a line of the output tells it. It is none for those of whom no host is known.
+/// A line of the output: a host that visitors came from, or `None` if unknown.
 #[derive(Drop, Serialize)]
 pub struct Source {
     pub host: Option<CompactString>,
     pub visits: u64,
-    /// The pages and the tags, each once, in the order in which they came first.
+    /// The pages and the tags, each once, by first occurrence.
     pub pages: Vec<CompactString>,
     pub tags: Vec<CompactString>,
 }
@@ -42,7 +42,7 @@ impl Source {
     }
 }
 
-/// Puts a text behind others, if it is none of them.
+/// Appends a text, unless it is already there.
 fn add_once(texts: &mut Vec<CompactString>, text: CompactString) -> Result<()> {
     if !texts.contains(&text) {
         texts.push(text)?;
@@ -50,7 +50,7 @@ fn add_once(texts: &mut Vec<CompactString>, text: CompactString) -> Result<()> {
     Ok(())
 }
 
-/// The sources by their hosts.
+/// The sources by host.
 #[derive(Drop)]
 pub struct Sources {
     by_host: HashMap<CompactString, Source>,
@@ -63,7 +63,7 @@ impl Sources {
         }
     }
 
-    /// Counts a visit. The map is asked by the `&str` of the host, so that only a new host takes a value.
+    /// Counts a visit. Looks the host up as a `&str`, so that only a new host makes a value.
     pub fn count(&mut self, alloc: Global, visit: Visit) -> Result<()> {
         let Visit {
             page,
@@ -86,7 +86,7 @@ impl Sources {
         Ok(())
     }
 
-    /// The sources, the one with the most visits first, and of those with as many by their hosts.
+    /// Returns the sources by visits, most first, then by host.
     pub fn into_sorted(self, alloc: Global) -> Result<Vec<Source>> {
         let mut sources: Vec<Source> = self.by_host.into_values().collect(alloc)?;
         sources.sort_by(|a, b| b.visits.cmp(&a.visits).then(a.host.cmp(&b.host)))?;

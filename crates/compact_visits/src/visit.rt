@@ -1,9 +1,9 @@
-//! A visit to a page, as a line of the input tells it.
+//! Visits, as lines of the input.
 
 use compact_str::CompactString;
 use serde::Deserialize;
 
-/// A visit: the page, the address from where the visitor came, if there is one, and some tags.
+/// A page, the address that the visitor came from, if any, and some tags.
 #[derive(Debug, Drop, PartialEq, Deserialize)]
 pub struct Visit {
     pub page: CompactString,
@@ -12,7 +12,7 @@ pub struct Visit {
     pub tags: Vec<CompactString>,
 }
 
-/// The host of an address. `https://example.org/a` has the host `example.org`. One with no `://` has the empty host.
+/// Returns the host of an address: `example.org` for `https://example.org/a`, and the empty text if there is no `://`.
 pub fn host_of(address: &str) -> &str {
     let Some((_, rest)) = address.split_once("://") else {
         return "";

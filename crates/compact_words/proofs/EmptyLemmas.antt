@@ -1,4 +1,4 @@
--- Of no names there are no words, and no rows.
+-- No names give no words and no rows.
 use Rattle.std.proofs.Common.{◌≡◌, ℕ, List, false, true, length, take, ap, sym, ◌∙◌, [], map, true≢false, arith}
 use Rattle.std.proofs.lemmas.List.{length-take, length-map, nil_from_length}
 use Rattle.std.proofs.lemmas.List.Sorted.{length_permutation}

@@ -16,13 +16,13 @@ use Rattle.compact_uses.specs.declared.tokenizer.Token.{Token}
 use Rattle.compact_uses.specs.declared.entries.Entry.{Entry}
 use Rattle.compact_uses.specs.Entries.{entries_before, IsRanking}
 
--- the fields of a word: its text, and its count in decimal
+-- a word's text, and its count in decimal
 abbrev pub entry_fields : List (List ℕ) → Entry → List (List ℕ)
 entry_fields names entry = unwrap_or (slice_get names entry.name) [] ∷ decimal entry.count ∷ []
 
--- The text is cut into tokens, each as long as can be; the names are their texts by first occurrence; its words are ranked
--- by their counts among the tokens, and as names where these are the same; the first so many are the records of a table,
--- and the lines are its rows.
+-- The text is cut into the longest possible tokens; the names are their texts by first occurrence; the words are
+-- ranked by their counts, and by name number if those are equal; the first `most` are the records of a table, and the
+-- lines are its rows.
 pub record IsReport (text : List ℕ) (most : ℕ) (lines : List (List ℕ)) : Type 0 where
   pub names : List (List ℕ)
   pub tokens : List Token
@@ -36,20 +36,20 @@ pub record IsReport (text : List ℕ) (most : ℕ) (lines : List (List ℕ)) : T
   pub fields : map (λ fields. map text_in fields.items) table ≡ map (entry_fields names) (take most ranks)
   pub rows : lines ≡ map (λ fields. row_text (widths_of table) fields.items) table
 
--- why a text has no report: for want of memory, or it has so many characters that its tokens may be too many for the numbers
+-- why a text has no report: a failed allocation, or so many characters that its tokens may outnumber the numbers
 abbrev pub IsReportRefusal : List ℕ → InternError → Type 0
 IsReportRefusal text (Reserve error) = ⊤
 IsReportRefusal text Full = 4294967295 ≤ length text
 
--- the text of some bytes whose words are counted: U+FFFD stands for what is no text, and ASCII letters are made small
+-- the text whose words are counted: invalid bytes as U+FFFD, ASCII in lowercase
 abbrev pub counted_text : List ℕ → List ℕ
 counted_text bytes = ascii_lowercase (utf8_lossy_text bytes)
 
--- the bytes of some lines, each with its end
+-- the bytes of some lines, each with its newline
 abbrev pub bytes_of_lines : List (List ℕ) → List ℕ
 bytes_of_lines lines = flat_map (λ line. utf8 line ++ 10 ∷ []) lines
 
--- what a writer has taken grew by the lines of a report of the text
+-- the writer's bytes grew by the lines of a report of the text
 abbrev pub AppendsReport : List ℕ → ℕ → Option (List ℕ) → Option (List ℕ) → Type 0
 AppendsReport text most old new =
     (lines : List (List ℕ)) × IsReport text most lines × Appends old new (bytes_of_lines lines)

@@ -9,13 +9,13 @@ use compact_str::{CompactString, ReserveError};
 use compact_uses::{Entry, aligned_rows, ranking, tokenize};
 use std::alloc::Global;
 
-/// A line for each of the `most` most frequent words of a text, `| word | count |`, in columns of one width. Of words
-/// that are as frequent the one that stands first in the text comes first.
+/// Returns a line for each of the `most` most frequent words of a text, `| word | count |`, in aligned columns.
+/// Equally frequent words are in order of first occurrence.
 ///
 /// # Errors
 ///
-/// `Reserve` if no memory is found, and `Full` if the text has more distinct tokens than there are numbers, and so 2^32
-/// - 1 characters or more. Of the empty text no error comes.
+/// `Reserve` if allocation fails, and `Full` if the text has more distinct tokens than there are numbers, and so at
+/// least 2^32 - 1 characters. Never fails for the empty text.
 pub fn frequent_words(
     alloc: Global,
     text: &CompactString,
@@ -35,7 +35,7 @@ pub fn frequent_words(
     Ok(lines)
 }
 
-/// The records of the first `most` entries. Of none it is never refused.
+/// Returns the records of the first `most` entries. Never fails if there are none.
 fn table_of(
     alloc: Global,
     names: &Interner,
@@ -57,7 +57,7 @@ fn table_of(
     Ok(table)
 }
 
-/// The record of an entry: the word and its count.
+/// Returns the record of an entry: the word and its count.
 fn record(alloc: Global, names: &Interner, entry: Entry) -> Result<Vec<CompactString>, ReserveError>
     ensures { IfOk result (λ fields. map text_in fields.items ≡ entry_fields names.now entry) }
 {

@@ -1,4 +1,4 @@
-//! The program: reads a text on standard input, and prints its ten most frequent words with their counts, in columns.
+//! Reads a text on standard input, and prints its ten most frequent words with their counts, in columns.
 #![tactic(auto, using(compact_str::proofs::ForCallers::for_callers))]
 
 ghost use Rattle.std.specs.Prelude.{map, IfSome, OnOk};
@@ -15,7 +15,7 @@ use std::io;
 use std::io::{BufWriter, Read, Write};
 use std::process::ExitCode;
 
-/// How many words are printed.
+/// The number of words printed.
 const MOST: usize = 10;
 
 fn main(rt: HostRuntime) -> ExitCode {
@@ -28,10 +28,9 @@ fn main(rt: HostRuntime) -> ExitCode {
     }
 }
 
-/// Reads a text to its end, and writes a line for each of its most frequent words. Then the writer is flushed.
+/// Reads a text to its end, writes a line for each of its most frequent words, and flushes.
 ///
-/// What is no text in the input counts as U+FFFD, which is no letter. Uppercase letters of ASCII count as lowercase
-/// ones.
+/// Invalid input counts as U+FFFD, which is not alphabetic. ASCII uppercase counts as lowercase.
 fn print_words<R: Read, W: Write>(alloc: Global, reader: &mut R, writer: &mut W) -> io::Result<()>
     ensures { OnOk result (IfSome (R.remaining reader.old) (λ bytes.
         AppendsReport (counted_text bytes) 10 (W.contents writer.old) (W.contents writer.new))) }
@@ -51,7 +50,7 @@ fn print_words<R: Read, W: Write>(alloc: Global, reader: &mut R, writer: &mut W)
     writer.flush()
 }
 
-/// Writes lines, each with its end.
+/// Writes lines, each with its newline.
 fn write_lines<W: Write>(lines: &[CompactString], writer: &mut W) -> io::Result<()>
     ensures { OnOk result (Appends (W.contents writer.old) (W.contents writer.new)
         (bytes_of_lines (map text_in lines.now))) }

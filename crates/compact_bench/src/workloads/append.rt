@@ -1,11 +1,11 @@
-//! A long text of many pieces.
+//! Building a long text from pieces.
 
 use crate::checksum::{mix, probe};
 use crate::inputs::{PIECES, pieces};
 use compact_str::{CompactString, ReserveError};
 use std::alloc::Global;
 
-/// How many bytes a value has when the next one is begun.
+/// The length at which a new value is begun.
 const ENOUGH: usize = 1_000_000;
 
 /// Appends each piece in turn.

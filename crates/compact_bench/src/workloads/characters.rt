@@ -1,4 +1,4 @@
-//! Changes that go over the characters of a text.
+//! Changes to each character of a text.
 
 use crate::checksum::{mix, probe};
 use crate::inputs::{TEXTS, letters, lines};
@@ -6,10 +6,10 @@ use compact_str::{CompactString, ReserveError};
 use std::alloc::Global;
 use std::ops::Bound;
 
-/// How many letters a long text has.
+/// The length of a long text.
 const LETTERS: u32 = 1024;
 
-/// Keeps all letters but one, in texts of 200.
+/// Retains all letters but one, in texts of 200.
 pub fn retain(alloc: Global, n: u64) -> Result<u64, ReserveError> {
     let texts = lines(alloc)?;
     let mut value = CompactString::default(alloc);
@@ -25,7 +25,7 @@ pub fn retain(alloc: Global, n: u64) -> Result<u64, ReserveError> {
     Ok(sum)
 }
 
-/// Takes the middle half out of texts of 200 letters, and looks at each of its letters.
+/// Drains the middle half of texts of 200 letters, and looks at each letter.
 pub fn drain(alloc: Global, n: u64) -> Result<u64, ReserveError> {
     let texts = lines(alloc)?;
     let mut value = CompactString::default(alloc);
@@ -41,7 +41,7 @@ pub fn drain(alloc: Global, n: u64) -> Result<u64, ReserveError> {
     Ok(sum)
 }
 
-/// Takes a range out, and adds each of its characters to a sum.
+/// Drains a range, and sums its characters.
 #[inline]
 fn drained(
     value: &mut CompactString,
@@ -59,7 +59,7 @@ fn drained(
     Ok(sum)
 }
 
-/// Appends a text to the cleared value, and keeps two letters of three.
+/// Appends a text to the cleared value, and retains two letters of three.
 #[inline]
 pub fn two_of_three(n: u64, text: &str, value: &mut CompactString) -> Result<u64, ReserveError> {
     let mut sum = 0;
@@ -76,7 +76,7 @@ pub fn two_of_three(n: u64, text: &str, value: &mut CompactString) -> Result<u64
     Ok(sum)
 }
 
-/// Takes the middle fifth out of a text of 1024 letters, and looks at each of its letters.
+/// Drains the middle fifth of a text of 1024 letters, and looks at each letter.
 pub fn drain_long(alloc: Global, n: u64) -> Result<u64, ReserveError> {
     let word = letters(alloc, LETTERS)?;
     let mut value = CompactString::new(alloc, word.as_str())?;
@@ -91,7 +91,7 @@ pub fn drain_long(alloc: Global, n: u64) -> Result<u64, ReserveError> {
     Ok(sum)
 }
 
-/// Makes the letters great, and small again.
+/// Makes the letters uppercase, and lowercase again.
 pub fn change_letters(alloc: Global, n: u64) -> Result<u64, ReserveError> {
     let text = letters(alloc, LETTERS)?;
     let mut value = CompactString::new(alloc, text.as_str())?;

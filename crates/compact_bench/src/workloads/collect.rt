@@ -1,4 +1,4 @@
-//! Values of what comes one after another.
+//! Collecting and joining.
 
 use crate::checksum::{mix, probe};
 use crate::hidden;

@@ -1,4 +1,4 @@
-//! Values that are compared and hashed.
+//! Comparing and hashing.
 
 use crate::checksum::mix;
 use crate::hasher::Fnv;
@@ -8,13 +8,13 @@ use std::alloc::Global;
 use std::cmp::Ordering;
 use std::hash::{Hash, Hasher};
 
-/// The values of the short texts, as `values_of` makes them.
+/// Values of the short texts, as by `values_of`.
 pub fn short_values(alloc: Global, step: usize) -> Result<Vec<CompactString>, ReserveError> {
     let texts = short_texts(alloc)?;
     values_of(alloc, &texts, step)
 }
 
-/// Compares each value with one that is the same for every second of them.
+/// Compares each value with another, which is equal for every second of them.
 pub fn equal(alloc: Global, n: u64) -> Result<u64, ReserveError> {
     let values = short_values(alloc, 0)?;
     let others = short_values(alloc, 1)?;

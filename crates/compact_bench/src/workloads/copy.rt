@@ -1,4 +1,4 @@
-//! Clones of values.
+//! Cloning.
 ghost use Rattle.std.specs.Prelude.{◌<◌};
 
 use crate::inputs::values_of;
@@ -18,7 +18,7 @@ pub fn cloned<const COUNT: usize>(
     clone_in_turn::<COUNT>(alloc, n, &values)
 }
 
-/// Clones each value in turn. The loop stands apart, so that what made the values takes none of its registers.
+/// Clones each value in turn. Not inlined, so that the code that made the values takes none of its registers.
 #[inline(never)]
 fn clone_in_turn<const COUNT: usize>(
     alloc: Global,

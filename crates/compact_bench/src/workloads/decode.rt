@@ -1,11 +1,11 @@
-//! Values decoded from bytes and units of 1024 bytes.
+//! Decoding 1024 bytes, or the units of as many.
 
 use crate::inputs::{TEXTS, units};
 use crate::ring::Ring;
 use compact_str::{CompactString, ReserveError};
 use std::alloc::Global;
 
-/// Decodes each text in turn, as they are known to be texts only when they are validated.
+/// Decodes each text in turn; valid, but not known to be.
 pub fn strict(alloc: Global, n: u64, texts: &[String]) -> Result<u64, ReserveError> {
     let mut ring = Ring::new(alloc)?;
     for i in 0..n as usize {
@@ -19,7 +19,7 @@ pub fn strict(alloc: Global, n: u64, texts: &[String]) -> Result<u64, ReserveErr
     Ok(ring.sum())
 }
 
-/// Decodes each row of bytes in turn.
+/// Decodes the bytes of each text in turn.
 pub fn lossy(alloc: Global, n: u64, rows: &[Vec<u8>]) -> Result<u64, ReserveError> {
     let mut ring = Ring::new(alloc)?;
     for i in 0..n as usize {

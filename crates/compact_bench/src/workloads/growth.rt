@@ -1,4 +1,4 @@
-//! Work on texts of a size that the caller gives, from which it is seen how cost grows.
+//! Work on texts of a given size, to see how cost grows.
 
 use crate::checksum::{mix, probe};
 use crate::inputs::{PIECES, pieces};

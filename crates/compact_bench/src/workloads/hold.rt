@@ -1,4 +1,4 @@
-//! Values that stay in memory, so that it can be measured.
+//! Values that stay in memory, to measure it.
 
 use crate::checksum::{mix, probe};
 use crate::generator::Generator;
@@ -7,7 +7,7 @@ use compact_str::ReserveError;
 use std::alloc::Global;
 use std::mem::ManuallyDrop;
 
-/// Makes a vector of `n` values, words of 1 to 24 letters, and never gives it back.
+/// Makes a vector of `n` values, words of 1 to 24 letters, and leaks it.
 pub fn words(alloc: Global, n: u64) -> Result<u64, ReserveError> {
     let mut generator = Generator::new();
     let mut values = Vec::with_capacity(alloc, n as usize)?;

@@ -1,4 +1,4 @@
-//! Words that get numbers, alone and as tokens of a text.
+//! Interning words, alone and as tokens of a text.
 
 use crate::checksum::mix;
 use crate::generator::Generator;
@@ -8,7 +8,7 @@ use compact_str::CompactString;
 use compact_uses::{Kind, Token, tokenize};
 use std::alloc::Global;
 
-/// Interns words that are drawn.
+/// Interns random words.
 pub fn interned(
     alloc: Global,
     n: u64,
@@ -26,7 +26,7 @@ pub fn interned(
     Ok(sum)
 }
 
-/// Cuts a text into tokens, each of which is interned.
+/// Tokenizes a text.
 #[inline]
 pub fn tokens(alloc: Global, n: u64, text: &CompactString) -> Result<u64, InternError> {
     let mut sum = 0;
@@ -38,7 +38,7 @@ pub fn tokens(alloc: Global, n: u64, text: &CompactString) -> Result<u64, Intern
     Ok(sum)
 }
 
-/// The checksum `sum` with these tokens.
+/// Mixes these tokens into `sum`.
 #[inline]
 fn mixed(tokens: &[Token], sum: u64) -> u64 {
     let mut sum = sum;
@@ -53,7 +53,7 @@ fn mixed(tokens: &[Token], sum: u64) -> u64 {
     sum
 }
 
-/// The place of a kind among the kinds.
+/// Returns the index of a kind.
 fn place_of(kind: Kind) -> u64 {
     match kind {
         Kind::Word => 0,

@@ -1,4 +1,4 @@
-//! Values made of texts.
+//! Making values of texts.
 ghost use Rattle.std.specs.Prelude.{◌<◌};
 
 use crate::ring::Ring;

@@ -1,11 +1,11 @@
-//! Values made of numbers and of formats.
+//! Formatting numbers and more.
 
 use crate::inputs::{NAMES, NUMBERS};
 use crate::ring::Ring;
 use compact_ext::{ToCompactString, ToCompactStringError, format_compact};
 use std::alloc::Global;
 
-/// Makes the text of each number in turn.
+/// Formats each number in turn.
 pub fn texts(alloc: Global, n: u64, numbers: &[u64]) -> Result<u64, ToCompactStringError> {
     let mut ring = Ring::new(alloc)?;
     for i in 0..n as usize {
@@ -16,7 +16,7 @@ pub fn texts(alloc: Global, n: u64, numbers: &[u64]) -> Result<u64, ToCompactStr
     Ok(ring.sum())
 }
 
-/// Makes the text of each name and a number below a million.
+/// Formats each name with a number below a million.
 #[inline]
 pub fn formats(
     alloc: Global,

@@ -1,4 +1,4 @@
-//! A text that leaves its value and comes back.
+//! Conversion to `String` and back.
 
 use crate::checksum::{mix, probe};
 use crate::generator::Generator;
@@ -6,10 +6,10 @@ use crate::inputs::word;
 use compact_str::{CompactString, ReserveError};
 use std::alloc::Global;
 
-/// How many letters the text has.
+/// The length of the text.
 const LETTERS: u32 = 100_000;
 
-/// Makes a string of a heap value, and a value of the string, each with the same buffer.
+/// Converts a heap value into a string and back, reusing the buffer.
 pub fn into_string(alloc: Global, n: u64) -> Result<u64, ReserveError> {
     let word = word(alloc, &mut Generator::new(), LETTERS)?;
     let mut value = CompactString::from_string_buffer(word);

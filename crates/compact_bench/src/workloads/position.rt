@@ -1,6 +1,6 @@
 //! Edits within a text.
 //!
-//! A position must be a boundary, which is asked before each edit. The Rust crate asks the same within its calls.
+//! A position must be a boundary, which is checked before each edit. The Rust crate checks the same within its calls.
 
 use crate::checksum::{mix, probe};
 use crate::generator::letter;
@@ -40,7 +40,7 @@ pub fn replace_range(alloc: Global, n: u64) -> Result<u64, ReserveError> {
     Ok(sum)
 }
 
-/// Replaces what stands from `first` to `last`.
+/// Replaces the range from `first` to `last`.
 #[inline]
 fn replace(
     value: &mut CompactString,

@@ -1,4 +1,4 @@
-//! Texts that go over a wire.
+//! Writing and reading the wire form.
 
 use crate::checksum::{mix, probe};
 use crate::inputs::{records, values_of};
@@ -28,7 +28,7 @@ fn write_all(values: &[CompactString], bytes: &mut Vec<u8>) -> Option<()> {
     Some(())
 }
 
-/// Reads each value, and takes it up into a checksum.
+/// Reads each value, and mixes it into a checksum.
 #[inline]
 fn read_all(alloc: Global, bytes: &[u8], sum: u64) -> Option<u64> {
     let mut sum = sum;
@@ -38,7 +38,7 @@ fn read_all(alloc: Global, bytes: &[u8], sum: u64) -> Option<u64> {
     Some(sum)
 }
 
-/// The records as values.
+/// Returns the records as values.
 fn values(alloc: Global) -> Option<Vec<CompactString>> {
     let texts = records(alloc).ok()?;
     values_of(alloc, &texts, 0).ok()

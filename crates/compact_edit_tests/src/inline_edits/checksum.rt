@@ -3,14 +3,14 @@
 use compact_edit::Reply;
 use compact_str::{CompactString, Standard};
 
-/// A number into which others are mixed, one after another.
+/// A number that others are mixed into.
 #[derive(Drop)]
 pub struct Checksum {
     pub mixed: u64,
 }
 
 impl Checksum {
-    /// Adds a number.
+    /// Mixes a number in.
     fn add(&mut self, number: u64) {
         let mixed = self.mixed ^ number;
         self.mixed = mixed.wrapping_mul(1099511628211).rotate_left(5);
@@ -22,7 +22,7 @@ impl Checksum {
         }
     }
 
-    /// Adds what an edit answers.
+    /// Mixes the reply to an edit in.
     pub fn add_reply(&mut self, reply: Option<Reply<Standard>>) {
         match reply {
             Some(Reply::Done) => self.add(1),
@@ -34,7 +34,7 @@ impl Checksum {
         }
     }
 
-    /// Adds the length and the bytes of a text, and of its 24 bytes those that are fixed: its own, and the last one.
+    /// Mixes in the length and bytes of a text, and of its 24 bytes the specified ones: the text and the last byte.
     pub fn add_text(&mut self, text: &CompactString) {
         self.add(text.len() as u64);
         self.add_bytes(text.as_bytes());
@@ -44,7 +44,7 @@ impl Checksum {
         }
     }
 
-    /// Adds all 24 bytes of a text.
+    /// Mixes in all 24 bytes of a text.
     pub fn add_row(&mut self, text: &CompactString) {
         if let Some(row) = text.packed() {
             self.add_bytes(&row);

@@ -1,4 +1,4 @@
-//! Edits that are drawn.
+//! Random edits.
 
 use compact_edit::Edit;
 use compact_str::Standard;
@@ -30,7 +30,7 @@ const PIECES: [&str; 16] = [
     "€€€€",
 ];
 
-/// Answers to the question which characters stay.
+/// Draws which characters `retain` keeps.
 fn answers(random: &mut Random) -> &'static [bool] {
     match random.below(4) {
         0 => &[],
@@ -50,7 +50,7 @@ fn piece(random: &mut Random) -> &'static str {
     PIECES.get(drawn).copied().unwrap_or("")
 }
 
-/// What is lacking to 22, 23 or 24 bytes.
+/// Draws a text that fills up to 22, 23 or 24 bytes.
 fn filling(random: &mut Random, len: usize) -> &'static str {
     const LETTERS: &str = "ffffffffffffffffffffffff";
     let wanted = random.below(3) as usize;
@@ -58,12 +58,12 @@ fn filling(random: &mut Random, len: usize) -> &'static str {
     LETTERS.get(..lacking).unwrap_or("")
 }
 
-/// A place in a text of so many bytes, or one behind its end.
+/// Draws a position in a text of `len` bytes, or one past its end.
 fn place(random: &mut Random, len: usize) -> usize {
     random.below(len.saturating_add(2) as u64) as usize
 }
 
-/// The edit of a number that was drawn. Its places may be no boundaries, and its text may have more than 24 bytes.
+/// Returns the edit for a drawn number. Its positions may be no boundaries, and its text may have more than 24 bytes.
 fn edit_of(drawn: u64, random: &mut Random, len: usize) -> Edit<'static, Standard> {
     match drawn {
         0 | 1 => Edit::Push(character(random)),
@@ -86,7 +86,7 @@ fn edit_of(drawn: u64, random: &mut Random, len: usize) -> Edit<'static, Standar
     }
 }
 
-/// An edit that leaves the text empty, or as long as it is.
+/// Returns an edit that leaves the text empty, or its length unchanged.
 fn rare_edit(random: &mut Random, len: usize) -> Edit<'static, Standard> {
     match random.below(8) {
         0 => Edit::Clear,
@@ -99,7 +99,7 @@ fn rare_edit(random: &mut Random, len: usize) -> Edit<'static, Standard> {
     }
 }
 
-/// How long the longest text is that an edit makes.
+/// Returns the greatest length that an edit can give.
 fn len_after(edit: &Edit<Standard>, len: usize) -> usize {
     match edit {
         Edit::Push(character) | Edit::Insert(_, character) => {
@@ -114,8 +114,8 @@ fn len_after(edit: &Edit<Standard>, len: usize) -> usize {
     }
 }
 
-/// An edit of a text of so many bytes, which takes the last character off where it would make a text of more than 24; `None`
-/// where another text is to be copied.
+/// Draws an edit of a text of `len` bytes, replaced by `Pop` if the result could have more than 24; `None` to copy
+/// another text.
 pub fn edit(random: &mut Random, len: usize) -> Option<Edit<'static, Standard>> {
     let drawn = random.below(20);
     if drawn == 18 {

@@ -1,4 +1,4 @@
-//! What Rust's `String` has after each thousand of the random edits. `replay/inline.sh` writes this file.
+//! Rust's `String` after each thousand of the random edits. `replay/inline.sh` writes this file.
 
 /// A checksum over all that was seen, and the text.
 pub const ENDS: &str = "\

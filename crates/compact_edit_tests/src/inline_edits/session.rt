@@ -7,7 +7,7 @@ use compact_str::{CompactString, ReserveError, Standard};
 use compact_testing::random::Random;
 use std::alloc::Global;
 
-/// A text of at most 24 bytes, another that it was, and a checksum.
+/// A text of at most 24 bytes, an earlier one, and a checksum.
 #[derive(Drop)]
 pub struct Session {
     value: CompactString,
@@ -17,7 +17,7 @@ pub struct Session {
 }
 
 impl Session {
-    /// The empty text.
+    /// Creates a session with the empty text.
     pub fn new(alloc: Global, seed: u64) -> Self {
         Session {
             value: CompactString::default(alloc),
@@ -27,18 +27,16 @@ impl Session {
         }
     }
 
-    /// The text.
     pub fn text(&self) -> &str {
         self.value.as_str()
     }
 
-    /// The checksum.
     pub fn checksum(&self) -> u64 {
         self.checksum.mixed
     }
 
-    /// Makes an edit that is drawn, and adds its answer and what then stands to the checksum. Before it the
-    /// text is sometimes made anew, of its text or of its 24 bytes, or kept to be copied later.
+    /// Makes a random edit, and mixes its reply and the text into the checksum. Sometimes it first makes the text
+    /// anew, from itself or from its 24 bytes, or keeps it to be copied later.
     pub fn step(&mut self, alloc: Global) -> Result<(), ReserveError> {
         match self.random.below(32) {
             0 => self.value = CompactString::new(alloc, self.value.as_str())?,
@@ -52,7 +50,7 @@ impl Session {
         Ok(())
     }
 
-    /// Makes the value of its 24 bytes.
+    /// Makes the value from its 24 bytes.
     fn read_again(&mut self, alloc: Global) {
         if let Some(bytes) = self.value.packed() {
             if let Some(value) = CompactString::from_packed(alloc, &bytes) {
@@ -61,7 +59,7 @@ impl Session {
         }
     }
 
-    /// Runs one edit, or copies the other text. A value that was wiped is added as it stands, whole.
+    /// Runs one edit, or copies the other text. A wiped value is mixed in whole.
     fn run_one(&mut self, alloc: Global) -> Result<Option<Reply<Standard>>, ReserveError> {
         let len = self.value.len();
         let Some(edit) = edit(&mut self.random, len) else {

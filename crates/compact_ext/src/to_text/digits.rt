@@ -1,7 +1,7 @@
-//! The text of a number of up to 64 bits: its digits from the end, four or two at a time, and then its sign.
+//! The text of an integer of up to 64 bits: its digits from the end, four or two at a time, and then its sign.
 //!
-//! The text so far is a number whose lowest byte is the first character: a group of `k` characters moves it up by `8 * k`
-//! bits and is added below. So whole words come out. One that is read after its bytes were written one by one waits for them.
+//! The text so far is a number whose lowest byte is the first character. Each group of characters shifts it up and is
+//! added below. So whole words are written, which avoids a store-forwarding stall when they are read.
 ghost use Rattle.std.specs.Prelude.{◌≡◌, ℕ, ◌+◌, ◌*◌, ◌^◌, ◌<◌, ◌≤◌, length};
 ghost use Rattle.std.specs.Fmt.{decimal, sign_text};
 ghost use Rattle.compact_text.specs.WordBytes.{le_number};
@@ -11,14 +11,14 @@ ghost use Rattle.compact_ext.specs.Digits.{two_digits, four_digits, number_behin
 use compact_text::words::array_of_words;
 use std::marker::Model;
 
-/// The two digits of each number below 100, one after another.
+/// The two digits of each number below 100.
 static PAIRS: [u8; 200] = *b"0001020304050607080910111213141516171819\
 2021222324252627282930313233343536373839\
 4041424344454647484950515253545556575859\
 6061626364656667686970717273747576777879\
 8081828384858687888990919293949596979899";
 
-/// The least number that no word holds.
+/// 2^64, the least number that no word holds.
 const PAST_WORD: u128 = 0x1_0000_0000_0000_0000;
 
 /// Returns the packed form of a number: a minus if it is negative, and the digits of its magnitude.
@@ -44,7 +44,7 @@ fn count_digits(n: u64) -> usize
     n.ilog10() as usize + 1
 }
 
-/// Returns the digits of `n`, made from the end: four at a time, then two, then the last one or two.
+/// Returns the digits of `n`: four at a time, then two, then the last one or two.
 #[inline(always)]
 #[tactic(auto, using(crate::proofs::Digits::digit_groups))]
 fn digits_of(n: u64) -> ShortText
@@ -59,7 +59,7 @@ fn digits_of(n: u64) -> ShortText
     text.behind_first(rest)
 }
 
-/// Returns the number of pairs of digits that follow the first one or two of a number below 10,000: none below 100, else one.
+/// Returns the number of pairs of digits after the first one or two of a number below 10,000.
 #[inline(always)]
 fn count_pairs(n: u64) -> u64
     ensures none { n < 100 → result ≡ 0 }
@@ -68,7 +68,7 @@ fn count_pairs(n: u64) -> u64
     if n >= 100 { 1 } else { 0 }
 }
 
-/// Returns the number of digits of `n`, which is 1 or 2.
+/// Returns the number of digits of `n`.
 #[inline(always)]
 #[tactic(auto, using(crate::proofs::Digits::first_digits))]
 fn count_first(n: u64) -> usize
@@ -78,7 +78,7 @@ fn count_first(n: u64) -> usize
     if n >= 10 { 2 } else { 1 }
 }
 
-/// The four digits of a number below 10,000, the first as the lowest byte.
+/// Returns the four digits of `n`, the first as the lowest byte.
 #[inline(always)]
 fn four(n: u64) -> u64
     requires { n < 10000 }
@@ -87,7 +87,7 @@ fn four(n: u64) -> u64
     pair(n / 100) + (pair(n % 100) << 16)
 }
 
-/// The two digits of a number below 100, the first as the lowest byte.
+/// Returns the two digits of `n`, the first as the lowest byte.
 #[inline(always)]
 #[tactic(auto, using(crate::proofs::Digits::pairs_read))]
 fn pair(n: u64) -> u64
@@ -98,7 +98,7 @@ fn pair(n: u64) -> u64
     u64::from(u16::from_le_bytes([PAIRS[place], PAIRS[place + 1]]))
 }
 
-/// A text of at most 23 bytes as a number, the first byte as the lowest: its first 16 bytes, and the others.
+/// A text of at most 23 bytes as a number, the first byte as the lowest: 16 bytes and the others.
 #[derive(Drop)]
 struct ShortText {
     low: u128,
@@ -112,7 +112,7 @@ impl Model for ShortText {
 }
 
 impl ShortText {
-    /// Puts a group of `count` characters before the text.
+    /// Prepends a group of `count` characters.
     #[inline(always)]
     #[tactic(auto, using(crate::proofs::Digits::moves))]
     fn behind(self, group: u64, count: usize) -> Self
@@ -129,7 +129,7 @@ impl ShortText {
         }
     }
 
-    /// Puts the digits of a number below 10,000 before the text: two, then the last one or two.
+    /// Prepends the digits of a number below 10,000: two, then the last one or two.
     #[inline(always)]
     #[tactic(auto, using(crate::proofs::Digits::last_digits))]
     fn behind_first(self, n: u64) -> Self
@@ -146,7 +146,7 @@ impl ShortText {
         self.behind(group, count + 2 * pairs as usize)
     }
 
-    /// Puts a minus before the text if `is_negative`.
+    /// Prepends a minus if `is_negative`.
     #[inline(always)]
     fn behind_sign(self, is_negative: bool) -> Self
         requires { self < 2 ^ 160 }
@@ -159,7 +159,7 @@ impl ShortText {
         }
     }
 
-    /// Returns the packed form of the text, with its length in the last byte.
+    /// Returns the packed form, with the length in the last byte.
     #[inline(always)]
     #[tactic(auto, using(crate::proofs::Digits::packed_words))]
     fn packed(self, len: usize) -> [u8; 24]

@@ -1,4 +1,4 @@
-//! The texts of integers of up to 64 bits.
+//! Strings from integers of up to 64 bits.
 ghost use Rattle.std.specs.Prelude.{◌≡◌, ⊤};
 ghost use Rattle.std.specs.Fmt.{decimal, signed_decimal};
 ghost use Rattle.compact_str.specs.Value.{placed_text};
@@ -12,7 +12,7 @@ use crate::to_text::digits::number_row;
 use compact_str::{CompactString, Policy, Standard};
 use std::alloc::Global;
 
-/// The text of a number, inline.
+/// Returns an inline string of a number.
 #[inline]
 fn number_value(alloc: Global, magnitude: u64, is_negative: bool) -> CompactString
     ensures { result ≡ placed_text (number_text is_negative magnitude) inline_placement }
@@ -23,11 +23,11 @@ fn number_value(alloc: Global, magnitude: u64, is_negative: bool) -> CompactStri
     }
 }
 
-/// The text of a number that is not negative.
+/// Converts an unsigned number.
 ///
 /// # Errors
 ///
-/// None ever comes, since the text is inline.
+/// Never fails, since the text is inline.
 #[inline]
 #[tactic(auto, using(crate::proofs::NumberTexts::number_values))]
 pub fn unsigned(alloc: Global, n: u64) -> Result<CompactString, ToCompactStringError>
@@ -36,11 +36,11 @@ pub fn unsigned(alloc: Global, n: u64) -> Result<CompactString, ToCompactStringE
     Ok(number_value(alloc, n, false))
 }
 
-/// The text of a number that may be negative. The magnitude of the least one is no number of its own type.
+/// Converts a signed number, by its magnitude, which its own type may not hold.
 ///
 /// # Errors
 ///
-/// None ever comes, since the text is inline.
+/// Never fails, since the text is inline.
 #[inline]
 #[tactic(auto, using(crate::proofs::NumberTexts::number_values))]
 pub fn signed(alloc: Global, n: i64) -> Result<CompactString, ToCompactStringError>

@@ -1,4 +1,4 @@
-//! The texts of integers that are not 0.
+//! Strings from `NonZero` integers.
 ghost use Rattle.std.specs.Prelude.{◌≤◌, length, ⊤};
 ghost use Rattle.std.specs.Fmt.{decimal, signed_decimal};
 ghost use Rattle.std.specs.Int.NonZero.{non_zero_u8_get, non_zero_u16_get, non_zero_u32_get, non_zero_u64_get, non_zero_u128_get, non_zero_usize_get, non_zero_i8_get, non_zero_i16_get, non_zero_i32_get, non_zero_i64_get, non_zero_i128_get, non_zero_isize_get};

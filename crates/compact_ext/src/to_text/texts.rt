@@ -1,4 +1,4 @@
-//! The texts of `bool`, `char` and the kinds of text.
+//! Strings from `bool`, `char` and texts.
 ghost use Rattle.std.specs.Prelude.{◌≡◌, ◌≤◌, [], ◌∷◌, length, string_bytes, ⊤};
 ghost use Rattle.std.specs.Box.{boxed_str_bytes};
 ghost use Rattle.std.specs.Cow.{cow_str_bytes};
@@ -12,11 +12,11 @@ use std::alloc::Global;
 use std::borrow::CowStr;
 use std::boxed::BoxedStr;
 
-/// A copy of a text, placed as by `CompactString::new`.
+/// Copies a text, placed as by `CompactString::new`.
 ///
 /// # Errors
 ///
-/// `Reserve` if a buffer is refused, for a text of more than 24 bytes.
+/// `Reserve` if allocation fails. Never fails up to 24 bytes.
 #[inline]
 pub fn text_copy(alloc: Global, text: &str) -> Result<CompactString, ToCompactStringError>
     ensures { IsTextOf ⟦<Standard as Policy>⟧.growth (text_of text.now)

@@ -1,4 +1,4 @@
-//! The texts of integers of 128 bits, which the crate `itoa` prints.
+//! Strings from integers of 128 bits, by the crate `itoa`.
 ghost use Rattle.std.specs.Prelude.{◌≤◌, length};
 ghost use Rattle.std.specs.Fmt.{decimal, signed_decimal};
 ghost use Rattle.compact_ext.specs.Shown.{IsTextOf};
@@ -10,11 +10,11 @@ use compact_str::{CompactString, Policy, Standard};
 use itoa::{Buffer, Integer};
 use std::alloc::Global;
 
-/// The text that `itoa` prints.
+/// Converts a number of 128 bits.
 ///
 /// # Errors
 ///
-/// `Reserve` if a buffer is refused, for a text of more than 24 bytes.
+/// `Reserve` if allocation fails. Never fails up to 24 bytes.
 pub fn printed<I: Integer>(alloc: Global, n: I) -> Result<CompactString, ToCompactStringError>
     ensures { IsTextOf ⟦<Standard as Policy>⟧.growth (I.text n) (length (I.text n) ≤ 24) result }
 {

@@ -1,4 +1,4 @@
-//! How a text is read from its wire form.
+//! Reading a wire form.
 ghost use Rattle.std.specs.Prelude.{◌≡◌, ◌+◌, ◌^◌, ◌<◌, ◌≤◌, ◌++◌, length, take, drop, IfOk, IfErr, IsErrOf, MatchResult, OnOk, IsTrue, false, vec_len, IsUtf8};
 ghost use Rattle.std.specs.Int.{w32, to_le_bytes};
 ghost use Rattle.std.specs.Vec.{vec_capacity};
@@ -15,25 +15,29 @@ use compact_str::{CompactString, INLINE_CAPACITY, ReserveError};
 use std::alloc::Global;
 use std::io::Read;
 
-// The room that is made at first, whatever length is claimed.
+// The most that is allocated before any byte of the text has come.
 const FIRST_ROOM: usize = 1 << 20;
 
-/// Reads a text from its wire form: its length in bytes as four bytes, the low one first, and then its bytes. A text of
-/// at most 24 bytes is inline, and a longer one on the heap with just the capacity that it needs.
+/// Reads a string from its wire form: its length in bytes as four bytes, the low one first, and then its bytes. The
+/// result is inline up to 24 bytes, else on the heap with the exact capacity.
 ///
-/// Whatever length is claimed, room for 1048576 bytes is made at most before any has come, and it is doubled only once
-/// it is full.
+/// Allocates at most 1 MiB at first, whatever the length, and doubles that only when it is full.
 ///
 /// # Errors
 ///
-/// - `UnexpectedEnd` if the input ends before the text does. All that it had is taken.
-/// - `Io` if the reader fails before that. A part of the form is taken.
-/// - `Reserve` if room for a text of more than 24 bytes is refused. A part of the form is taken, at least its length.
-/// - `Utf8` if all bytes came and are no UTF-8. The form is taken, and nothing after it.
+/// - `UnexpectedEnd` if the input ends inside the form. All of it has been consumed.
+/// - `Io` if the reader fails. Part of the form has been consumed.
+/// - `Reserve` if allocation fails, past 24 bytes. Part of the form has been consumed, at least its length.
+/// - `Utf8` if the text is not valid UTF-8. Exactly its form has been consumed.
 ///
 /// # Examples
 ///
-/// From 02 00 00 00 48 69 4A it reads `"Hi"`, and 4A stays unread.
+/// ```
+/// let mut input = b"\x02\0\0\0HiJ".as_slice();
+/// let text = read_wire(alloc, &mut input)?;
+/// assert_eq!(rt; text.as_str(), "Hi");
+/// assert_eq!(rt; input, b"J".as_slice());
+/// ```
 #[inline]
 pub fn read_wire<R: Read>(alloc: Global, reader: &mut R) -> Result<CompactString, WireError>
     ensures ok { IfOk result (λ v.
@@ -56,7 +60,7 @@ pub fn read_wire<R: Read>(alloc: Global, reader: &mut R) -> Result<CompactString
     }
 }
 
-/// Reads the length, from four bytes with the low one first.
+/// Reads the length.
 #[inline]
 fn read_len<R: Read>(reader: &mut R) -> Result<u32, WireError>
     ensures ok { IfOk result (λ len.
@@ -71,7 +75,7 @@ fn read_len<R: Read>(reader: &mut R) -> Result<u32, WireError>
     Ok(number_of(head))
 }
 
-/// The number that four bytes tell, the low one first.
+/// Decodes the length, the low byte first.
 #[inline]
 pub(super) fn number_of(bytes: [u8; 4]) -> u32
     ensures { to_le_bytes w32 result ≡ bytes }
@@ -79,7 +83,7 @@ pub(super) fn number_of(bytes: [u8; 4]) -> u32
     u32::from_le_bytes(bytes)
 }
 
-/// Reads a text of so many bytes by way of a fixed buffer.
+/// Reads a text of `len` bytes by way of an array.
 #[inline]
 fn read_short<R: Read>(
     alloc: Global,
@@ -102,8 +106,8 @@ fn read_short<R: Read>(
     packed(alloc, &mut room, len)
 }
 
-/// The text of the first bytes of the room, inline, which is never refused: once the last byte tells how many they are, the room
-/// is the value's own, where they are a text.
+/// Returns an inline string of the first `len` bytes of `room`. Writing the length into its last byte makes `room` the
+/// packed form, so this never allocates.
 #[inline]
 fn packed(alloc: Global, room: &mut [u8; 24], len: usize) -> Result<CompactString, WireError>
     requires { len ≤ 24 }
@@ -122,8 +126,8 @@ fn packed(alloc: Global, room: &mut [u8; 24], len: usize) -> Result<CompactStrin
     }
 }
 
-/// Makes the last byte of the room tell how many bytes have come. 24 bytes tell it by themselves, unless they end in a byte that
-/// is a length: then answers `false`, since no text ends so.
+/// Writes the length into the last byte. 24 bytes need none; if they end in a byte that would be a length, which no
+/// text does, returns `false`.
 #[inline(always)]
 fn tell_len(room: &mut [u8; 24], len: usize) -> bool
     requires { len ≤ 24 }
@@ -138,7 +142,7 @@ fn tell_len(room: &mut [u8; 24], len: usize) -> bool
     room[INLINE_CAPACITY - 1] < 192
 }
 
-/// Reads a text of so many bytes, of which nothing is copied once it has come.
+/// Reads a text of `len` bytes into the buffer that the string keeps.
 #[tactic(auto, using(crate::proofs::WireForms::made_texts))]
 fn read_long<R: Read>(alloc: Global, len: usize, reader: &mut R) -> Result<CompactString, WireError>
     requires long { 24 < len }
@@ -162,7 +166,7 @@ fn read_long<R: Read>(alloc: Global, len: usize, reader: &mut R) -> Result<Compa
     Ok(CompactString::from(text))
 }
 
-/// Reads so many bytes, with the room for them made in steps.
+/// Reads `len` bytes, allocating in steps.
 fn read_bytes<R: Read>(alloc: Global, len: usize, reader: &mut R) -> Result<Vec<u8>, WireError>
     requires long { 24 < len }
     requires fits { len < 2 ^ 32 }
@@ -186,8 +190,7 @@ fn read_bytes<R: Read>(alloc: Global, len: usize, reader: &mut R) -> Result<Vec<
     Ok(bytes)
 }
 
-/// How much room there is to be for `len` bytes once so many have come: 1048576 bytes at first, then twice as much as has
-/// come, and never more than `len`.
+/// Returns the next size of the buffer: 1 MiB, then twice what has come, and at most `len`.
 fn next_room(filled: usize, len: usize) -> usize
     requires fits { len < 2 ^ 32 }
     requires missing { filled < len }
@@ -198,7 +201,7 @@ fn next_room(filled: usize, len: usize) -> usize
     len.min(FIRST_ROOM.max(2 * filled))
 }
 
-/// Fills the vector with zeros up to just so much room, or answers `false` where that was refused.
+/// Extends the vector with zeros to exactly `room` bytes, or returns `false` if allocation fails.
 fn make_room(bytes: &mut Vec<u8>, room: usize) -> bool
     requires { vec_len bytes.old < room }
     ensures front { take (vec_len bytes.old) bytes.new.items ≡ bytes.old.items }
@@ -209,11 +212,11 @@ fn make_room(bytes: &mut Vec<u8>, room: usize) -> bool
     if bytes.reserve_exact(room - bytes.len()).is_err() || bytes.resize(room, 0).is_err() {
         return false;
     }
-    // `resize` leaves a capacity that suffices as it is, but says only that it does not shrink.
+    // Always true, but `resize` says only that it does not shrink.
     bytes.capacity() == room
 }
 
-/// Fills the buffer with what comes, or says why no more came.
+/// Fills `buffer` from the reader.
 #[inline]
 fn fill<R: Read>(buffer: &mut [u8], reader: &mut R) -> Result<(), WireError>
     ensures ok { OnOk result

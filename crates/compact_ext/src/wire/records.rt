@@ -1,4 +1,4 @@
-//! The texts of a reader, one after another until its end.
+//! An iterator over wire forms until the end of a reader.
 ghost use Rattle.std.specs.Prelude.{◌≡◌, ◌⊎◌, ◌<◌, ◌≤◌, length, flat_map, IfOk, IfSome, IfNone, IfErr, OnErr, IsUtf8};
 ghost use Rattle.std.specs.Io.{StartsWith};
 ghost use Rattle.std.specs.Io.KnownBytes.{IsAtEnd, Keeps};
@@ -15,21 +15,30 @@ use std::alloc::Global;
 use std::io;
 use std::io::{BufRead, ErrorKind};
 
-// How many bytes tell the length.
+// The bytes of the length.
 const HEAD: usize = 4;
 
-/// The texts whose wire forms stand one after another until the end of a reader, each read as `read_wire` reads it.
+/// An iterator over the strings whose wire forms follow each other in a reader, each read like `read_wire`.
 ///
-/// Where nothing is left `next` answers `None`, and where the reader ends within a form, `UnexpectedEnd`. After a fault it
-/// goes on where the reader stands: after `Utf8` that is the next form.
+/// `next` returns `None` at the end of the reader, or `UnexpectedEnd` if that is inside a form. After an error it
+/// continues from where the reader is: after `Utf8` that is the next form.
 ///
-/// Each text is inline up to 24 bytes, and a longer one on the heap with just the capacity that it needs.
+/// A form that the reader's buffer shows whole is copied once, so reading from a slice or a `BufReader` is faster than
+/// by `read_wire`. If that copy fails, only the length has been consumed.
 ///
-/// A text whose whole form the reader shows is made of the bytes shown, which are copied once; so rows of forms in a slice or
-/// a `BufReader` are read faster than by `read_wire`. Where room for such a text is refused its length alone is taken.
+/// A reader need not end. So the call after 2^64 - 2 others returns an `Io` of the kind `TimedOut`, and later ones
+/// `None`.
 ///
-/// No input is known to end. So the call after 2^64 - 2 others gives up with an `Io` of the kind `TimedOut`, and each later
-/// one answers `None`.
+/// # Examples
+///
+/// ```
+/// let bytes = b"\x01\0\0\0a\x01\0\0\0\xFF\x02\0\0\0\xC3\xA9".as_slice();
+/// let mut records = Records::new(alloc, bytes);
+/// assert!(rt; matches!(records.next(), Some(Ok(text)) if text.as_str() == "a"));
+/// assert!(rt; matches!(records.next(), Some(Err(WireError::Utf8))));
+/// assert!(rt; matches!(records.next(), Some(Ok(text)) if text.as_str() == "é"));
+/// assert!(rt; records.next().is_none());
+/// ```
 #[derive(Drop)]
 pub struct Records<R: BufRead + Drop> {
     reader: R,
@@ -38,7 +47,7 @@ pub struct Records<R: BufRead + Drop> {
 }
 
 impl<R: BufRead + Drop> Records<R> {
-    /// The texts that `reader` has. Nothing is read yet.
+    /// Returns an iterator over the forms in `reader`. Reads nothing yet. See [`Records`].
     pub fn new(alloc: Global, reader: R) -> Self
         ensures { records_left R.remaining result ≡ R.remaining reader }
     {
@@ -49,17 +58,23 @@ impl<R: BufRead + Drop> Records<R> {
         }
     }
 
-    /// All texts that are left, up to the end of the reader.
+    /// Reads all strings up to the end of the reader.
     ///
     /// # Errors
     ///
-    /// The first fault that `next` gives, or `Reserve` if the vector has no room for a text that came. The texts before
-    /// it are dropped. Whole forms with nothing after them give an error only if the reader fails or room is refused,
-    /// and no forms only if it fails.
+    /// The first error of `next`, or `Reserve` if the vector cannot grow. The strings before it are dropped. If only
+    /// whole forms are left, it fails only if the reader or an allocation does; if none is left, only if the reader
+    /// does.
     ///
     /// # Examples
     ///
-    /// Of 01 00 00 00 61 00 00 00 00 they are `"a"` and `""`.
+    /// ```
+    /// let bytes = b"\x02\0\0\0\xC3\xA9\0\0\0\0".as_slice();
+    /// let texts = Records::new(alloc, bytes).into_vec()?;
+    /// assert_eq!(rt; texts.len(), 2);
+    /// assert_eq!(rt; texts[0].as_str(), "é");
+    /// assert_eq!(rt; texts[1].as_str(), "");
+    /// ```
     pub fn into_vec(self) -> Result<Vec<CompactString>, WireError>
         ensures ok { IfOk result (λ texts.
             IfSome (records_left R.remaining self) (λ bytes.
@@ -92,7 +107,7 @@ impl<R: BufRead + Drop> Iterator for Records<R> {
 
     ghost remaining = { λ s. calls_to_come s };
 
-    /// The next text, or `None` at the end.
+    /// Reads the next string, or returns `None` at the end.
     #[tactic(auto, using(crate::proofs::RecordLists::record_steps))]
     fn next(&mut self) -> Option<Result<CompactString, WireError>> {
         if self.calls_left == 0 {
@@ -106,7 +121,7 @@ impl<R: BufRead + Drop> Iterator for Records<R> {
     }
 }
 
-/// The next text of a reader, or `None` at its end.
+/// Reads the next string, or returns `None` at the end.
 #[tactic(auto, using(crate::proofs::RecordLists::record_steps))]
 fn next_record<R: BufRead>(
     alloc: Global,
@@ -134,8 +149,8 @@ fn next_record<R: BufRead>(
     }
 }
 
-/// The text whose form the bytes begin with, or `None` where no whole form of a text stands there. The error says that room
-/// for a text of more than 24 bytes was refused.
+/// Returns the string whose form is a prefix of `bytes`, or `None` if there is no whole and valid one. Fails if
+/// allocation does, past 24 bytes.
 #[inline]
 fn shown_text(alloc: Global, bytes: &[u8]) -> Result<Option<CompactString>, ReserveError>
     ensures ok { IfOk result (λ found. IfSome found (λ v. StartsWith bytes.now (wire v.text))) }
@@ -157,8 +172,7 @@ fn shown_text(alloc: Global, bytes: &[u8]) -> Result<Option<CompactString>, Rese
     }
 }
 
-/// A text of the bytes, which are one: inline up to 24 bytes, and a longer one on the heap with just the capacity that it
-/// needs. The error says that room for that was refused.
+/// Copies valid UTF-8: inline up to 24 bytes, else on the heap with the exact capacity. Fails if allocation does.
 #[inline]
 #[tactic(auto, using(crate::proofs::WireForms::made_texts))]
 fn copy_of(alloc: Global, bytes: &[u8]) -> Result<CompactString, ReserveError>
@@ -174,7 +188,7 @@ fn copy_of(alloc: Global, bytes: &[u8]) -> Result<CompactString, ReserveError>
     let mut copy = Vec::with_capacity(alloc, bytes.len())?;
     copy.extend_from_slice(bytes)?;
     if copy.capacity() != bytes.len() {
-        // The capacity stays as it was, but `extend_from_slice` says only that it does not shrink.
+        // Never reached, but `extend_from_slice` says only that the capacity does not shrink.
         return Err(ReserveError);
     }
     let text = unsafe { String::from_utf8_unchecked(copy) };

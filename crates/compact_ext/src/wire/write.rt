@@ -1,4 +1,4 @@
-//! How a text is written in its wire form.
+//! Writing a wire form.
 ghost use Rattle.std.specs.Prelude.{◌≡◌, ◌^◌, ◌<◌, IfErr, OnOk};
 ghost use Rattle.std.specs.Io.KnownBytes.{Appends};
 ghost use Rattle.compact_str.specs.Text.{size};
@@ -9,17 +9,23 @@ use super::WireError;
 use compact_str::CompactString;
 use std::io::Write;
 
-/// Writes the wire form of `text`: its length in bytes as four bytes, the low one first, and then its bytes. It goes
-/// out in pieces, and the writer is not flushed. It never allocates.
+/// Writes the wire form of `text`: its length in bytes as four bytes, the low one first, and then its bytes. Writes in
+/// pieces and does not flush. Never allocates.
 ///
 /// # Errors
 ///
 /// - `TooLong` if the text has more than 2^32 - 1 bytes. Nothing was written.
-/// - `Io` if a call of the writer fails, and `WriteZero` if it takes none of a piece. A part of the form has gone out, which may be none of it and is not the whole.
+/// - `Io` if the writer fails, or `WriteZero` if it accepts no bytes. Less than the form has been written, perhaps
+///   nothing.
 ///
 /// # Examples
 ///
-/// The form of `"Hi"` is 02 00 00 00 48 69.
+/// ```
+/// let euro = CompactString::new(alloc, "€")?;
+/// let mut bytes = Vec::new(alloc);
+/// write_wire(&euro, &mut bytes)?;
+/// assert_eq!(rt; bytes.as_slice(), [3, 0, 0, 0, 0xE2, 0x82, 0xAC].as_slice());
+/// ```
 #[inline]
 pub fn write_wire<W: Write>(text: &CompactString, writer: &mut W) -> Result<(), WireError>
     ensures ok { OnOk result
@@ -39,7 +45,7 @@ pub fn write_wire<W: Write>(text: &CompactString, writer: &mut W) -> Result<(), 
     write_each(bytes, writer)
 }
 
-/// Writes all of the bytes, or says why the writer did not take them. For no bytes it is not called.
+/// Writes all bytes, by no call if there are none.
 #[inline]
 fn write_each<W: Write>(bytes: &[u8], writer: &mut W) -> Result<(), WireError>
     ensures ok { OnOk result (Appends (W.contents writer.old) (W.contents writer.new) bytes.now) }

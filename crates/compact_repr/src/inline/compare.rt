@@ -1,4 +1,4 @@
-//! How two short texts are compared.
+//! Comparison of two short texts.
 ghost use Rattle.std.specs.Prelude.{◌≡◌, nat_eq};
 ghost use Rattle.std.specs.Cmp.Lexicographic.{pointwise, slice_cmp};
 ghost use Rattle.std.specs.Ordering.{nat_cmp};
@@ -11,8 +11,9 @@ use std::cmp::Ordering;
 const EMPTY: u8 = 192;
 
 impl InlineBuffer {
-    /// Whether the texts are the same. The same three words are the same text, and other last bytes are other texts: a text of
-    /// 24 bytes ends in a byte that is no length. Only what stands between may differ for the same text.
+    /// Returns `true` if the texts are equal. Equal words are equal texts, and different last bytes are different
+    /// texts, since the last byte of a 24-byte text is not a length. Only the bytes between may differ for the same
+    /// text.
     #[inline]
     #[tactic(auto, using(crate::proofs::ByteOrder::order_facts))]
     pub fn same_text(&self, other: &Self) -> bool
@@ -25,8 +26,8 @@ impl InlineBuffer {
         self.as_str() == other.as_str()
     }
 
-    /// The order of the texts. Where the first bytes differ and neither text is empty nothing else is looked at. It stands
-    /// aside, so that which of two bytes is less is reckoned and not branched on.
+    /// Compares the texts, by their first bytes alone if these differ and neither text is empty. Not inlined, so that
+    /// the comparison of the two bytes is not a branch.
     #[inline(never)]
     #[tactic(auto, using(crate::proofs::ByteOrder::order_facts))]
     pub fn text_cmp(&self, other: &Self) -> Ordering

@@ -1,4 +1,4 @@
-//! What 24 packed bytes tell, and how their last byte is written.
+//! Reading packed bytes, and writing their last byte.
 #![tactic(auto, using(crate::proofs::PackedFacts::packed_facts))]
 
 ghost use Rattle.std.specs.Prelude.{◌≡◌, ◌+◌, ◌*◌, ◌^◌, ◌≤◌, ◌<◌, length, take, bit_or, nat_lt, if◌then◌else◌, IsTrue, ◌↔◌};
@@ -12,11 +12,11 @@ use compact_text::words::{
     with_last_byte,
 };
 
-/// The largest last byte of a packed text: behind a text of 23 bytes.
+/// The largest last byte of a packed text: after a text of 23 bytes.
 const MAX_LAST_BYTE: usize = 215;
 
-/// Whether the bytes stand for a text. Where all but the last are ASCII that is known by their words, unless the last byte
-/// can only be of another character.
+/// Returns `true` if the bytes pack a text. Decided by words if the first 23 bytes are ASCII, unless the last byte can
+/// only continue another character.
 #[inline(always)]
 pub fn is_packed(bytes: &[u8; 24]) -> bool
     ensures { IsTrue result ↔ IsPackedFor bytes.now (packed_text bytes.now) }
@@ -28,7 +28,7 @@ pub fn is_packed(bytes: &[u8; 24]) -> bool
     if first_23_are_ascii(bytes) && (last < 128 || last >= 192) {
         return true;
     }
-    // A copy is handed on, so that bytes which are made where they are asked for can stay in registers.
+    // A copy, so that the caller's bytes can stay in registers.
     let copy = *bytes;
     match std::str::from_utf8(&copy[..length_of(&copy)]) {
         Ok(_) => true,
@@ -36,7 +36,7 @@ pub fn is_packed(bytes: &[u8; 24]) -> bool
     }
 }
 
-/// How many bytes of text packed bytes hold, as the last one says. It takes no branch.
+/// Returns the length that the last byte encodes. Branch-free.
 #[inline(always)]
 pub fn length_of(bytes: &[u8; 24]) -> usize
     requires { packed_len bytes.now ≤ 24 }
@@ -50,7 +50,7 @@ pub fn length_of(bytes: &[u8; 24]) -> usize
     }
 }
 
-/// Writes the length of the text that stands first. A text of 24 bytes leaves no place for it, and needs none.
+/// Writes the length of the text, which is at the front. Does nothing at 24 bytes, whose last byte is text.
 #[inline(always)]
 pub fn write_len(bytes: &mut [u8; 24], len: usize)
     requires fits { len ≤ 24 }
@@ -62,7 +62,7 @@ pub fn write_len(bytes: &mut [u8; 24], len: usize)
     }
 }
 
-/// The array with the length of the text that stands first, which is shorter than the array, as a part of its last word.
+/// Returns the array with the length of the text at its front, which has less than 24 bytes, in its last word.
 #[inline(always)]
 pub fn with_len_below_24(array: &[u8; 24], len: usize) -> [u8; 24]
     requires short { len < 24 }
@@ -72,7 +72,7 @@ pub fn with_len_below_24(array: &[u8; 24], len: usize) -> [u8; 24]
     with_last_byte(array, 192 + len as u8)
 }
 
-/// The same of a text that may be all of the array, which then stays as it is.
+/// Like `with_len_below_24`, for a text of up to 24 bytes. One of 24 bytes is returned unchanged.
 #[inline(always)]
 pub fn with_len(array: &[u8; 24], len: usize) -> [u8; 24]
     requires fits { len ≤ 24 }
@@ -86,7 +86,7 @@ pub fn with_len(array: &[u8; 24], len: usize) -> [u8; 24]
     }
 }
 
-/// The last word of a packed array: with the length of the text as its last byte, where the text leaves that free.
+/// Returns the last word with the length as its last byte, unless the text has 24 bytes.
 #[inline(always)]
 fn with_length(word: u64, len: usize) -> u64
     requires { len ≤ 24 }
@@ -99,9 +99,9 @@ fn with_length(word: u64, len: usize) -> u64
     }
 }
 
-/// The packed array of `text`: its bytes, zeros, and its length, or its 24 bytes alone.
+/// Packs `text`: its bytes, zeros and the length, or its 24 bytes.
 ///
-/// From eight bytes on there is no branch on the length.
+/// Branch-free on the length from eight bytes on.
 #[inline]
 pub fn pack(text: &[u8]) -> [u8; 24]
     requires { length text.now ≤ 24 }

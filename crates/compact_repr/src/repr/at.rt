@@ -1,4 +1,4 @@
-//! What stands at a position of a representation's text, in bytes.
+//! Characters and parts of a representation's text, by byte position.
 ghost use Rattle.std.specs.Prelude.{◌≡◌, ◌-◌, ◌<◌, ◌≤◌, ℕ, List, [], ◌∷◌, ◌++◌, length, true, IsTrue, ◌↔◌, IfSome, IsSome, MatchOption};
 ghost use Rattle.std.specs.Char.{len_utf8};
 ghost use Rattle.std.specs.Str.{IsCharBoundary};
@@ -11,7 +11,8 @@ use crate::repr::{Buffer, Repr};
 use compact_text::str_parts;
 
 impl<P: Policy> Repr<P> {
-    /// The text of a heap value; `None` of any other. In a loop it is found out once, and not at each turn, where the text stands.
+    /// Returns the text of a heap value, or `None` if it is not on the heap. A loop thus finds the place once, not at
+    /// each turn.
     #[inline(always)]
     pub fn heap_str(&self) -> Option<&str>
         ensures place { IsSome result ↔ IsHeap self.now }
@@ -24,7 +25,7 @@ impl<P: Policy> Repr<P> {
         }
     }
 
-    /// Whether `index`, in bytes, is between two characters, or at the start or the end.
+    /// Returns `true` if byte `index` is a character boundary; the start and the end are.
     #[inline]
     pub fn is_char_boundary(&self, index: usize) -> bool
         ensures boundary { IsTrue result ↔ IsBoundary self.now.text index }
@@ -33,7 +34,7 @@ impl<P: Policy> Repr<P> {
         self.as_str().is_char_boundary(index)
     }
 
-    /// The character that begins at `index`, in bytes.
+    /// Returns the character that begins at byte `index`.
     #[inline]
     pub fn char_at(&self, index: usize) -> char
         requires boundary { IsBoundary self.now.text index }
@@ -43,7 +44,7 @@ impl<P: Policy> Repr<P> {
         str_parts::char_at(self.as_str(), index)
     }
 
-    /// What stands after `index`, in bytes.
+    /// Returns the text from byte `index` on.
     #[inline]
     pub fn suffix(&self, index: usize) -> &str
         requires { IsBoundary self.now.text index }
@@ -53,7 +54,7 @@ impl<P: Policy> Repr<P> {
         str_parts::suffix(self.as_str(), index)
     }
 
-    /// What stands from one position to another, in bytes.
+    /// Returns the text from byte `start` to byte `end`.
     #[inline]
     pub fn substring(&self, start: usize, end: usize) -> &str
         requires order { start ≤ end }
@@ -65,7 +66,7 @@ impl<P: Policy> Repr<P> {
         str_parts::substring(self.as_str(), start, end)
     }
 
-    /// What stands after `index`, in bytes, where the text is a static one; `None` of any other.
+    /// Returns the text from byte `index` on if the value is static, or `None` if it is not.
     #[inline]
     pub fn static_suffix(&self, index: usize) -> Option<&'static str>
         requires { IsBoundary self.now.text index }

@@ -1,4 +1,4 @@
-//! How room is made and given back.
+//! Reserving and shrinking.
 ghost use Rattle.std.specs.Prelude.{length, ◌≡◌, ◌*◌, ◌/◌, ◌<◌, ◌≤◌, ◌^◌, [], false, max, nat_le, if◌then◌else◌, Some, None, IfOk, OnOk, OnErr, IsOk, IsTrue};
 ghost use Rattle.compact_text.specs.Text.{size, text_of};
 ghost use Rattle.compact_repr.specs.Value.{placed_text, IsHeap};
@@ -11,13 +11,14 @@ use crate::heap::HeapBuffer;
 use crate::inline::{INLINE_CAPACITY, InlineBuffer};
 use crate::repr::{Buffer, Repr};
 use std::alloc::Global;
+/// The largest capacity, 2^56 - 2 bytes.
 
 impl<P: Policy> Repr<P> {
-    /// Makes room for `additional` more bytes.
+    /// Reserves room for `additional` more bytes.
     ///
     /// # Errors
     ///
-    /// [`ReserveError`] if a new buffer is refused.
+    /// Returns [`ReserveError`] if a new buffer cannot be allocated.
     #[inline]
     pub fn reserve(&mut self, additional: usize) -> Result<(), ReserveError>
         ensures ok { OnOk result (reserve P.growth self.old additional ≡ Some self.new) }
@@ -31,7 +32,7 @@ impl<P: Policy> Repr<P> {
         self.make_room(additional)
     }
 
-    /// Whether `additional` more bytes fit as the text stands: its bytes are its own, and have that room.
+    /// Returns `true` if the value is owned and has room for `additional` more bytes.
     #[inline]
     fn fits_in_place(&self, additional: usize) -> bool
         ensures { result ≡ fits_in_place self.now additional }
@@ -43,11 +44,11 @@ impl<P: Policy> Repr<P> {
         }
     }
 
-    /// Makes room that is not there: moves a short text inline, and any other to a greater heap buffer.
+    /// Reserves room that is lacking: moves a short text inline, and any other to a larger heap buffer.
     ///
     /// # Errors
     ///
-    /// [`ReserveError`] if that buffer is refused.
+    /// Returns [`ReserveError`] if that buffer cannot be allocated.
     #[cold]
     #[inline(never)]
     pub(super) fn make_room(&mut self, additional: usize) -> Result<(), ReserveError>
@@ -72,11 +73,11 @@ impl<P: Policy> Repr<P> {
         self.move_to_heap(capacity)
     }
 
-    /// Makes a static value owned; every other stays as it is.
+    /// Makes a static value owned; changes no other.
     ///
     /// # Errors
     ///
-    /// [`ReserveError`] if the value is static and the copy of its text is refused.
+    /// Returns [`ReserveError`] if the value is static and its copy cannot be allocated.
     #[inline(always)]
     pub fn make_owned(&mut self) -> Result<(), ReserveError>
         ensures ok { OnOk result (make_owned P.growth self.old ≡ Some self.new) }
@@ -91,7 +92,7 @@ impl<P: Policy> Repr<P> {
         Ok(())
     }
 
-    /// `new`, for the static value that becomes owned: out of the way of those that are.
+    /// `new` for `make_owned`. Not inlined, so that an owned value pays nothing for it.
     #[cold]
     #[inline(never)]
     fn copy_static(alloc: Global, text: &'static str) -> Result<Self, ReserveError>
@@ -101,8 +102,8 @@ impl<P: Policy> Repr<P> {
         Self::new(alloc, text)
     }
 
-    /// Gives room back: keeps room for the text and for `min_capacity` bytes. A lower capacity on the heap is a new
-    /// buffer; where that is refused all stays as it was.
+    /// Shrinks the capacity to at least the length and `min_capacity`. On the heap this takes a new buffer; if it
+    /// cannot be allocated, nothing is changed.
     pub fn shrink_to(&mut self, min_capacity: usize)
         ensures { Shrinks P.growth self.old min_capacity self.new }
     {
@@ -122,7 +123,7 @@ impl<P: Policy> Repr<P> {
         }
     }
 
-    /// Moves the text, which fits, into the value itself.
+    /// Moves the text, of at most 24 bytes, into the value itself.
     fn move_inline(&mut self)
         requires { size self.old.text ≤ 24 }
         ensures { self.new ≡ placed_text self.old.text inline_placement }
@@ -130,11 +131,11 @@ impl<P: Policy> Repr<P> {
         self.buffer = Buffer::Inline([], InlineBuffer::new(self.as_str()));
     }
 
-    /// Moves the text into a heap buffer of `capacity` bytes, at least as many as stand.
+    /// Moves the text into a heap buffer of `capacity` bytes, at least its length.
     ///
     /// # Errors
     ///
-    /// [`ReserveError`] if that buffer is refused.
+    /// Returns [`ReserveError`] if that buffer cannot be allocated.
     fn move_to_heap(&mut self, capacity: usize) -> Result<(), ReserveError>
         requires fits { size self.old.text ≤ capacity }
         requires grows { IsHeap self.old

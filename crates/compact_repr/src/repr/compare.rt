@@ -1,4 +1,4 @@
-//! How two texts are compared.
+//! Comparison of two texts.
 ghost use Rattle.std.specs.Prelude.{◌≡◌, nat_eq};
 ghost use Rattle.std.specs.Cmp.Lexicographic.{pointwise, slice_cmp};
 ghost use Rattle.std.specs.Ordering.{nat_cmp};
@@ -8,7 +8,7 @@ use crate::repr::{Buffer, Repr};
 use std::cmp::Ordering;
 
 impl<P: Policy> Repr<P> {
-    /// Whether the texts are the same, wherever they stand.
+    /// Returns `true` if the texts are equal, wherever they are stored.
     #[inline]
     #[tactic(auto, using(crate::proofs::ByteOrder::order_facts))]
     pub fn same_text(&self, other: &Self) -> bool
@@ -20,7 +20,7 @@ impl<P: Policy> Repr<P> {
         self.as_str() == other.as_str()
     }
 
-    /// The order of the texts, wherever they stand.
+    /// Compares the texts, wherever they are stored.
     #[inline]
     #[tactic(auto, using(crate::proofs::ByteOrder::order_facts))]
     pub fn text_cmp(&self, other: &Self) -> Ordering
@@ -33,11 +33,10 @@ impl<P: Policy> Repr<P> {
     }
 }
 
-/// The order of two texts, which is that of their bytes.
+/// Compares two texts by their bytes.
 ///
-/// Where the first bytes differ nothing else is looked at: the general way begins by asking how many bytes there are, and
-/// of short texts that is hard to foresee. It stands aside, so that which of two bytes is less is reckoned: where it is
-/// inlined the compiler branches on that, which is as hard to foresee.
+/// Decides by the first bytes if they differ: the general comparison branches on the lengths, which is hard to predict
+/// for short texts. Not inlined: LLVM would turn the comparison of two bytes into such a branch.
 #[inline(never)]
 #[tactic(auto, using(crate::proofs::ByteOrder::order_facts))]
 fn byte_order(text: &str, other: &str) -> Ordering

@@ -1,5 +1,4 @@
-//! Changes of a representation's text in bytes of its own, which never allocate and never move the text to another
-//! place.
+//! Edits in place, which never allocate and never move the text to another place.
 ghost use Rattle.std.specs.Prelude.{◌≡◌, ◌+◌, ◌-◌, ◌^◌, ◌≤◌, ◌<◌, [], ◌∷◌, ◌++◌, length, nat_eq, ◌||◌, IsTrue, false, ◌↔◌, IsSome, IfSome, None};
 ghost use Rattle.compact_text.specs.Text.{size, text_of, ascii_lowercase, ascii_uppercase};
 ghost use Rattle.compact_text.specs.Cut.{IsBoundary, IsAsciiAt, substring, replaced_text};
@@ -15,7 +14,7 @@ use crate::static_str::StaticStr;
 use compact_text::str_parts::substring;
 
 impl<P: Policy> Repr<P> {
-    /// Appends `text` if the value is owned and has room. Answers whether that was so; if not, nothing has changed.
+    /// Appends `text` if the value is owned and has room. Returns whether it did; otherwise changes nothing.
     #[inline(always)]
     pub fn try_push_str(&mut self, text: &str) -> bool
         ensures fits { result ≡ fits_in_place self.old (length text.now) }
@@ -30,8 +29,8 @@ impl<P: Policy> Repr<P> {
         }
     }
 
-    /// Replaces what stands from one boundary to another, in bytes, by `text` if the value is owned and the outcome
-    /// fits. Answers whether that was so; if not, nothing has changed. The place and the capacity stay.
+    /// Replaces the bytes from one boundary to another with `text` if the value is owned and the result fits. Returns
+    /// whether it did; otherwise changes nothing. Keeps the place and the capacity.
     #[inline(always)]
     pub fn try_replace_range(&mut self, start: usize, end: usize, text: &str) -> bool
         requires order { start ≤ end }
@@ -51,8 +50,8 @@ impl<P: Policy> Repr<P> {
         }
     }
 
-    /// Takes out what stands from one boundary to another, in bytes, if the value is owned. Answers whether it is; if
-    /// not, nothing has changed. The place and the capacity stay.
+    /// Removes the bytes from one boundary to another if the value is owned. Returns whether it did; otherwise changes
+    /// nothing. Keeps the place and the capacity.
     #[inline(always)]
     pub fn try_cut_out(&mut self, start: usize, end: usize) -> bool
         requires order { start ≤ end }
@@ -76,8 +75,8 @@ impl<P: Policy> Repr<P> {
         }
     }
 
-    /// Puts an ASCII character in at a boundary, in bytes, if the value is owned and has room. Answers whether that was
-    /// so; if not, nothing has changed.
+    /// Inserts an ASCII character at byte `index`, a boundary, if the value is owned and has room. Returns whether it
+    /// did; otherwise changes nothing.
     #[inline]
     pub fn try_insert_ascii(&mut self, index: usize, byte: u8) -> bool
         requires ascii { byte < 128 }
@@ -96,8 +95,8 @@ impl<P: Policy> Repr<P> {
         }
     }
 
-    /// Removes and returns the character at a boundary, in bytes, if it is ASCII and the value is owned. Returns `None`, with
-    /// nothing changed, if not. The place and the capacity stay.
+    /// Removes and returns the character at byte `index`, a boundary, if it is ASCII and the value is owned. Otherwise
+    /// returns `None` and changes nothing. Keeps the place and the capacity.
     #[inline]
     pub fn try_remove_ascii(&mut self, index: usize) -> Option<char>
         requires { IsBoundary self.old.text index }
@@ -115,8 +114,8 @@ impl<P: Policy> Repr<P> {
         }
     }
 
-    /// Removes and returns the last character, or returns `None` if the text is empty. The place stays, and so does an owned
-    /// capacity: a static text becomes a shorter part of the same static text.
+    /// Removes and returns the last character, or returns `None` if the text is empty. Keeps the place, and the
+    /// capacity of an owned value; a static value becomes a shorter part of the same static text.
     #[inline]
     pub fn pop(&mut self) -> Option<char>
         ensures { PopsChar self.old result self.new }
@@ -128,8 +127,9 @@ impl<P: Policy> Repr<P> {
         }
     }
 
-    /// Keeps the first `len` bytes, which end at a boundary; from the end on, `len` changes nothing. The place stays,
-    /// and so does an owned capacity: a static text becomes the front of the same static text.
+    /// Truncates the text to its first `len` bytes, which end at a boundary; does nothing if `len` is at least the
+    /// length. Keeps the place, and the capacity of an owned value; a static value becomes a prefix of the same static
+    /// text.
     #[inline]
     pub fn truncate(&mut self, len: usize)
         requires { len < size self.old.text → IsBoundary self.old.text len }
@@ -154,8 +154,8 @@ impl<P: Policy> Repr<P> {
         }
     }
 
-    /// Replaces the whole text by `text` if the value is owned and has room for it, or if `text` is empty. Returns whether it
-    /// did; if not, nothing has changed. The place stays, and so does an owned capacity.
+    /// Replaces the whole text with `text` if the value is owned and has room, or if `text` is empty. Returns whether
+    /// it did; otherwise changes nothing. Keeps the place, and the capacity of an owned value.
     #[inline]
     #[tactic(auto, using(compact_text::proofs::TextFacts::empty_facts))]
     pub fn try_assign(&mut self, text: &str) -> bool
@@ -178,7 +178,7 @@ impl<P: Policy> Repr<P> {
         }
     }
 
-    /// Leaves the empty text, in its place.
+    /// Removes all characters. Keeps the place.
     #[inline]
     pub fn clear(&mut self)
         ensures { self.new ≡ clear self.old }
@@ -190,7 +190,7 @@ impl<P: Policy> Repr<P> {
         }
     }
 
-    /// Makes A to Z lowercase in an owned value; the place and the capacity stay.
+    /// Makes A to Z lowercase in an owned value. Keeps the place and the capacity.
     pub fn make_ascii_lowercase(&mut self)
         requires { IsOwned self.old }
         ensures { self.new ≡ placed_text (ascii_lowercase self.old.text) self.old.placement }
@@ -202,7 +202,7 @@ impl<P: Policy> Repr<P> {
         }
     }
 
-    /// Makes a to z uppercase in an owned value; the place and the capacity stay.
+    /// Makes a to z uppercase in an owned value. Keeps the place and the capacity.
     pub fn make_ascii_uppercase(&mut self)
         requires { IsOwned self.old }
         ensures { self.new ≡ placed_text (ascii_uppercase self.old.text) self.old.placement }
@@ -214,8 +214,8 @@ impl<P: Policy> Repr<P> {
         }
     }
 
-    /// Leaves the empty text, and writes zero over every byte that the value's own text has ever held. A static value
-    /// becomes inline; every other keeps its place and its capacity.
+    /// Removes all characters, and writes zeros over every byte that the value owns. A static value becomes inline; any
+    /// other keeps its place and capacity.
     pub fn zeroize(&mut self)
         ensures { self.new ≡ zeroize self.old }
     {
@@ -226,8 +226,8 @@ impl<P: Policy> Repr<P> {
         }
     }
 
-    /// Keeps the characters for which `keep`, asked once of each in order, answers true, in an owned value. The place
-    /// and the capacity stay.
+    /// Keeps the characters of an owned value for which `keep` returns `true`; calls it once for each, in order. Keeps
+    /// the place and the capacity.
     #[inline]
     pub fn retain<F: FnMut(char) -> bool>(&mut self, keep: &mut F)
         requires owned { IsOwned self.old }
@@ -243,8 +243,7 @@ impl<P: Policy> Repr<P> {
         }
     }
 
-    /// Appends the part between two boundaries, in bytes, for which there must be room. Keeps the place and the
-    /// capacity.
+    /// Appends the bytes from one boundary to another, for which there must be room. Keeps the place and the capacity.
     #[tactic(auto, using(compact_text::proofs::TextFacts::text_facts))]
     pub(super) fn push_within_in_place(&mut self, start: usize, end: usize)
         requires order { start ≤ end }

@@ -1,4 +1,4 @@
-//! Changes of a representation's text that may have to make room first, or to make the value owned.
+//! Edits that may have to allocate: to reserve room, or to make the value owned.
 ghost use Rattle.std.specs.Prelude.{◌≡◌, ◌-◌, ◌^◌, ◌<◌, ◌≤◌, [], length, Some, OnOk, OnErr, false};
 ghost use Rattle.compact_text.specs.Text.{size, text_of};
 ghost use Rattle.compact_text.specs.Cut.{IsBoundary, substring};
@@ -10,12 +10,12 @@ use crate::growth::Policy;
 use crate::repr::Repr;
 
 impl<P: Policy> Repr<P> {
-    /// Appends `text`, whatever its length, and makes room first if it does not fit. Not inlined, so that a short append that
-    /// fits calls nothing.
+    /// Appends `text`, of any length; reserves first if it does not fit. Not inlined, so that a short append that fits
+    /// calls nothing.
     ///
     /// # Errors
     ///
-    /// [`ReserveError`] if `text` does not fit and a new buffer cannot be allocated.
+    /// Returns [`ReserveError`] if a new buffer cannot be allocated.
     #[inline(never)]
     #[tactic(auto, using(crate::proofs::Changes::append_in_place_facts, crate::proofs::MoreRoom::slow_facts))]
     pub fn push_str_slow(&mut self, text: &str) -> Result<(), ReserveError>
@@ -34,12 +34,12 @@ impl<P: Policy> Repr<P> {
         Ok(())
     }
 
-    /// Inserts `text`, which does not fit in place, at a boundary, in bytes. A static value becomes owned even if `text` is
-    /// empty.
+    /// Inserts `text`, which does not fit in place, at byte `index`, a boundary. A static value becomes owned even if
+    /// `text` is empty.
     ///
     /// # Errors
     ///
-    /// [`ReserveError`] if a new buffer cannot be allocated.
+    /// Returns [`ReserveError`] if a new buffer cannot be allocated.
     #[cold]
     #[inline(never)]
     #[tactic(auto, using(crate::proofs::MoreRoom::slow_facts))]
@@ -59,11 +59,11 @@ impl<P: Policy> Repr<P> {
         Ok(())
     }
 
-    /// Takes out what stands from one boundary to another, in bytes, once the value is owned.
+    /// Removes the bytes from one boundary to another. A static value becomes owned first.
     ///
     /// # Errors
     ///
-    /// [`ReserveError`] if a static text cannot be made owned.
+    /// Returns [`ReserveError`] if a static value cannot be made owned.
     #[inline]
     #[tactic(auto, using(crate::proofs::Changes::removal_facts))]
     pub fn cut_out(&mut self, start: usize, end: usize) -> Result<(), ReserveError>
@@ -80,12 +80,12 @@ impl<P: Policy> Repr<P> {
         self.replace_slow(start, end, "")
     }
 
-    /// Replaces the part between two boundaries, in bytes, by a `text` that does not fit in place: the value becomes owned
-    /// first, or makes room.
+    /// Replaces the bytes from one boundary to another with a `text` that does not fit in place. Makes the value owned
+    /// first, or reserves room.
     ///
     /// # Errors
     ///
-    /// [`ReserveError`] if a new buffer cannot be allocated.
+    /// Returns [`ReserveError`] if a new buffer cannot be allocated.
     #[cold]
     #[inline(never)]
     #[tactic(auto, using(crate::proofs::MoreRoom::slow_facts))]
@@ -112,12 +112,11 @@ impl<P: Policy> Repr<P> {
         Ok(())
     }
 
-    /// Appends the part between two boundaries, in bytes. It is copied within the buffer, and an empty part changes
-    /// nothing.
+    /// Appends the bytes from one boundary to another, copying them within the buffer. An empty part changes nothing.
     ///
     /// # Errors
     ///
-    /// [`ReserveError`] if there is no room for it and a larger buffer cannot be allocated.
+    /// Returns [`ReserveError`] if they do not fit and a larger buffer cannot be allocated.
     pub fn push_within(&mut self, start: usize, end: usize) -> Result<(), ReserveError>
         requires order { start ≤ end }
         requires first { IsBoundary self.old.text start }

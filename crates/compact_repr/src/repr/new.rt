@@ -1,4 +1,4 @@
-//! How a representation is made.
+//! Creating a representation.
 ghost use Rattle.std.specs.Prelude.{◌≡◌, ◌<◌, ◌≤◌, ℕ, List, length, nat_eq, if◌then◌else◌, [], Some, IfOk, OnErr, IsOk, MatchOption, string_bytes};
 ghost use Rattle.std.specs.String.{string_capacity};
 ghost use Rattle.compact_text.specs.Text.{size, text_of};
@@ -16,7 +16,7 @@ use crate::static_str::StaticStr;
 use std::alloc::Global;
 
 impl<P: Policy> Repr<P> {
-    /// The empty text, inline.
+    /// Creates an empty inline text.
     #[inline]
     pub fn empty(alloc: Global) -> Self
         ensures { result ≡ placed_text [] inline_placement }
@@ -24,11 +24,11 @@ impl<P: Policy> Repr<P> {
         Self::of(alloc, Buffer::Inline([], InlineBuffer::empty()))
     }
 
-    /// A copy of `text`: inline up to 24 bytes, else in a new heap buffer.
+    /// Copies `text`: inline up to 24 bytes, otherwise into a new heap buffer.
     ///
     /// # Errors
     ///
-    /// [`ReserveError`] if the heap buffer is refused.
+    /// Returns [`ReserveError`] if the heap buffer cannot be allocated.
     #[inline(always)]
     pub fn new(alloc: Global, text: &str) -> Result<Self, ReserveError>
         ensures ok { IfOk result (λ r. new P.growth (text_of text.now) ≡ Some r) }
@@ -42,8 +42,8 @@ impl<P: Policy> Repr<P> {
         Ok(Self::of(alloc, Buffer::Inline([], inline)))
     }
 
-    /// A copy of a `text` of more than 24 bytes. It stands apart, so that a short text is made where the call stands, and it
-    /// answers the buffer alone, so that the place of its answer is not that of the value.
+    /// Copies a `text` of more than 24 bytes. Not inlined, so that the short case can be. Returns only the buffer,
+    /// which avoids a store-forwarding stall.
     #[inline(never)]
     fn long_copy(alloc: Global, text: &str) -> Result<HeapBuffer, ReserveError>
         requires { 24 < length text.now }
@@ -51,7 +51,7 @@ impl<P: Policy> Repr<P> {
             (λ h. new P.growth (text_of text.now)
             ≡ Some (placed_text h.text (heap_placement h.capacity))) }
     {
-        // Not by `checked_capacity`, whose `Option` would be tested once more.
+        // Not `checked_capacity`, whose `Option` would be tested once more.
         let capacity = text.len().max(P::MIN_HEAP);
         if capacity > MAX_CAPACITY {
             return Err(ReserveError);
@@ -60,7 +60,7 @@ impl<P: Policy> Repr<P> {
         Ok(heap)
     }
 
-    /// A text of the program, which is not copied if it is longer than 24 bytes.
+    /// Creates a value from a string literal: inline up to 24 bytes, otherwise by reference.
     #[inline]
     pub fn from_static(alloc: Global, text: &'static str) -> Self
         ensures { let t = text_of text.now in result ≡ placed_text t (const_new_placement t) }
@@ -72,7 +72,7 @@ impl<P: Policy> Repr<P> {
         Self::of(alloc, Buffer::Inline([], inline))
     }
 
-    /// The text that 24 bytes stand for, inline, or `None` where they stand for none.
+    /// Creates an inline value from 24 packed bytes, or returns `None` if they do not pack a text.
     #[inline]
     pub fn from_packed(alloc: Global, bytes: &[u8; 24]) -> Option<Self>
         ensures { MatchOption result ((t : List ℕ) → ¬ (IsPackedFor bytes.now t))
@@ -82,11 +82,11 @@ impl<P: Policy> Repr<P> {
         Some(Self::of(alloc, Buffer::Inline([], inline)))
     }
 
-    /// The empty text with room for `capacity` bytes: inline up to 24, else in a new heap buffer.
+    /// Creates an empty text with room for `capacity` bytes: inline up to 24, otherwise in a new heap buffer.
     ///
     /// # Errors
     ///
-    /// [`ReserveError`] if the heap buffer is refused.
+    /// Returns [`ReserveError`] if the heap buffer cannot be allocated.
     pub fn with_capacity(alloc: Global, capacity: usize) -> Result<Self, ReserveError>
         ensures ok { IfOk result (λ r. with_capacity P.growth capacity ≡ Some r) }
         ensures err { OnErr result (WithCapacityAllocates capacity) }
@@ -101,7 +101,7 @@ impl<P: Policy> Repr<P> {
         Ok(Self::of(alloc, Buffer::Heap(heap)))
     }
 
-    /// Takes `text` over: up to 24 bytes inline, else with its buffer, of which nothing is copied.
+    /// Converts a `String`: copies up to 24 bytes inline, and otherwise reuses its buffer.
     pub fn from_string(text: String) -> Self
         ensures { let t = text_of (string_bytes text)
             in result ≡ placed_text t (from_string_placement t (string_capacity text)) }
@@ -114,7 +114,7 @@ impl<P: Policy> Repr<P> {
         Self::of(alloc, Buffer::Heap(HeapBuffer::from_string(text)))
     }
 
-    /// Takes `text` over with its buffer, of which nothing is copied. One with no buffer is inline and empty.
+    /// Reuses the buffer of `text`, without copying. A string with no buffer becomes inline and empty.
     pub fn from_string_buffer(text: String) -> Self
         ensures { let t = text_of (string_bytes text)
             in result ≡ placed_text t (if nat_eq (string_capacity text) 0 then inline_placement
@@ -127,12 +127,12 @@ impl<P: Policy> Repr<P> {
         Self::of(alloc, Buffer::Heap(HeapBuffer::from_string(text)))
     }
 
-    /// A copy: of a heap text with a buffer made anew, else as it stands. An inline value is copied where the call
-    /// stands, with no call.
+    /// Clones the value: a heap text of more than 24 bytes gets a new buffer, a shorter one is copied inline. Inlined,
+    /// so that an inline value is copied without a call.
     ///
     /// # Errors
     ///
-    /// [`ReserveError`] if the new buffer of a heap text is refused.
+    /// Returns [`ReserveError`] if the new buffer cannot be allocated.
     #[inline(always)]
     pub fn try_clone(&self) -> Result<Self, ReserveError>
         ensures ok { IfOk result (λ r. clone P.growth self.now ≡ Some r) }
@@ -152,7 +152,7 @@ impl<P: Policy> Repr<P> {
         }
     }
 
-    /// A copy of a `text` of at most 24 bytes, inline. It stands apart, for the rare value that has such a text on the heap.
+    /// Copies a `text` of at most 24 bytes inline. Not inlined: a text so short is rarely on the heap.
     #[cold]
     #[inline(never)]
     fn short_copy(alloc: Global, text: &str) -> Self

@@ -1,4 +1,4 @@
-//! Whole buffers of bytes read as UTF-8.
+//! Decoding UTF-8 from a `Buf`.
 ghost use Rattle.std.specs.Prelude.{◌≡◌, ◌<◌, ◌≤◌, ◌++◌, [], length, IfOk, IfErr, OnOk, OnErr, IsOk};
 ghost use Rattle.std.specs.Str.{IsUtf8};
 ghost use Rattle.compact_repr.specs.Text.{text_of};
@@ -15,17 +15,23 @@ use compact_repr::{INLINE_CAPACITY, ReserveError, Standard};
 use std::alloc::Global;
 
 impl PolicyString<Standard> {
-    /// The text that all bytes of a buffer encode in UTF-8, in however many pieces they lie: inline up to 24 bytes, and
-    /// else on the heap in a buffer that holds it. All bytes are taken, and then they are validated.
+    /// Converts all remaining bytes of `buf` to a string, in any number of chunks. The result is inline up to 24
+    /// bytes, else on the heap. Consumes all bytes, and then validates them.
     ///
     /// # Errors
     ///
-    /// `Utf8` if they encode no text, and where they stop being one. `Reserve` if memory for more than 24 bytes is
-    /// refused; then a beginning of the bytes may be taken, and they are not validated.
+    /// - `Utf8` if the bytes are not valid UTF-8, with the position. They have been consumed.
+    /// - `Reserve` if allocation fails, which is never up to 24 bytes. Some bytes may have been consumed, and none
+    ///   validated.
     ///
     /// # Examples
     ///
-    /// A buffer of F0 and 9F 92 96 in two pieces gives U+1F496.
+    /// ```
+    /// let mut buf = b"caf\xC3\xA9".as_slice();
+    /// let name = CompactString::from_utf8_buf(alloc, &mut buf)?;
+    /// assert_eq!(rt; name.as_str(), "café");
+    /// assert!(rt; !buf.has_remaining());
+    /// ```
     #[tactic(auto, using(crate::proofs::FittedTexts::buf_facts))]
     pub fn from_utf8_buf<B: Buf>(alloc: Global, buf: &mut B) -> Result<CompactString, FromUtf8Error>
         ensures text { IfOk result (λ v. BytesEncode (B.unread buf.old) v.text) }
@@ -53,12 +59,12 @@ impl PolicyString<Standard> {
         Ok(Self::from(unsafe { String::from_utf8_unchecked(bytes) }))
     }
 
-    /// The text that all bytes of a buffer encode in UTF-8, as by `from_utf8_buf`, but not validated: that they encode
-    /// one is the caller's condition.
+    /// Converts all remaining bytes of `buf` to a string without validating them: they must be valid UTF-8. See
+    /// [`from_utf8_buf`](Self::from_utf8_buf).
     ///
     /// # Errors
     ///
-    /// [`ReserveError`] if memory for more than 24 bytes is refused; then a beginning of the bytes may be taken.
+    /// [`ReserveError`] if allocation fails, which is never up to 24 bytes. Some bytes may have been consumed.
     #[tactic(auto, using(crate::proofs::FittedTexts::buf_facts))]
     pub fn from_utf8_buf_unchecked<B: Buf>(
         alloc: Global,
@@ -85,7 +91,7 @@ impl PolicyString<Standard> {
     }
 }
 
-/// All bytes of a buffer that has at most 24, in a row of the caller's.
+/// Reads all of `buf` into `row`, and returns the part that it fills.
 fn read_short<'a, B: Buf>(buf: &mut B, row: &'a mut [u8; INLINE_CAPACITY]) -> &'a [u8]
     requires { length (B.unread buf.old) ≤ 24 }
     ensures bytes { result.now ≡ B.unread buf.old }
@@ -97,7 +103,7 @@ fn read_short<'a, B: Buf>(buf: &mut B, row: &'a mut [u8; INLINE_CAPACITY]) -> &'
     front
 }
 
-/// All bytes of a buffer, copied once. Where memory is refused a beginning of them may be taken.
+/// Copies all of `buf`, once. On `Err` some bytes may have been consumed.
 fn read_long<B: Buf>(alloc: Global, buf: &mut B) -> Result<Vec<u8>, ReserveError>
     ensures bytes { IfOk result (λ bytes. bytes.items ≡ B.unread buf.old) }
     ensures consumed { OnOk result (B.unread buf.new ≡ []) }

@@ -1,24 +1,24 @@
-//! Why bytes or units were not decoded.
+//! Errors of the decoders.
 ghost use Rattle.std.specs.Prelude.{◌≡◌};
 
 use compact_repr::ReserveError;
 use thiserror::Error;
 
-/// Why no value was made of bytes that are read as UTF-8.
+/// The error of `from_utf8` and `from_utf8_buf`.
 ///
-/// `Utf8` shows as `invalid utf-8`, and `Reserve` as the error in it.
+/// `Utf8` displays as `invalid utf-8`, and `Reserve` as the error in it.
 #[derive(Clone, Copy, Debug, PartialEq, Error)]
 pub enum FromUtf8Error {
-    /// They encode no text.
+    /// The bytes are not valid UTF-8.
     #[error("invalid utf-8")]
     Utf8 {
-        /// How many bytes the longest prefix has that encodes a text.
+        /// The length of the longest valid prefix, in bytes.
         valid_up_to: usize,
-        /// How many bytes the invalid sequence after it has, from 1 to 3, or `None` where the input ends inside a sequence
-        /// that more bytes could complete.
+        /// The length of the invalid sequence after it, 1 to 3 bytes; `None` if the input ends inside a sequence that
+        /// more bytes could complete.
         error_len: Option<usize>,
     },
-    /// Room was refused.
+    /// Allocation failed.
     #[error("{0}")]
     Reserve(ReserveError),
 }
@@ -34,22 +34,22 @@ impl From<ReserveError> for FromUtf8Error {
     }
 }
 
-/// Units of 16 bits encode no text: a surrogate is in no pair, or bytes that stand for units are odd in number.
+/// The error of invalid UTF-16: a surrogate is unpaired, or the number of bytes is odd.
 ///
-/// It shows as `invalid utf-16: lone surrogate found`.
+/// Displays as `invalid utf-16: lone surrogate found`.
 #[derive(Clone, Copy, Debug, Error)]
 #[error("invalid utf-16: lone surrogate found")]
 pub struct Utf16Error;
 
-/// Why no value was made of units that are read as UTF-16.
+/// The error of `from_utf16`, `from_utf16le` and `from_utf16be`.
 ///
-/// Each case shows as the error in it.
+/// Displays as the error in it.
 #[derive(Clone, Copy, Debug, Error)]
 pub enum FromUtf16Error {
-    /// They encode no text.
+    /// The input is not valid UTF-16.
     #[error("{0}")]
     Utf16(Utf16Error),
-    /// Room was refused.
+    /// Allocation failed.
     #[error("{0}")]
     Reserve(ReserveError),
 }

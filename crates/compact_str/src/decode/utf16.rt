@@ -1,4 +1,4 @@
-//! Units of 16 bits read as UTF-16, and bytes that stand for units, two and two.
+//! Decoding UTF-16, from units or pairs of bytes.
 ghost use Rattle.std.specs.Prelude.{◌≡◌, ◌<◌, ◌≤◌, ◌++◌, ℕ, List, length, IfOk, IfErr, IsOk};
 ghost use Rattle.compact_repr.specs.Text.{size};
 ghost use Rattle.compact_codec.specs.Utf16Text.{UnitsEncode, utf16_lossy_text};
@@ -18,16 +18,22 @@ use compact_repr::{ReserveError, Standard};
 use std::alloc::Global;
 
 impl PolicyString<Standard> {
-    /// The text that the units encode in UTF-16: inline up to 24 bytes, and else on the heap in a buffer that holds it.
-    /// The units are validated before memory is asked for.
+    /// Converts UTF-16 units to a string, inline up to 24 bytes, else on the heap. Validates before it allocates.
     ///
     /// # Errors
     ///
-    /// `Utf16` if a surrogate is in no pair. `Reserve` if a buffer is refused, for a text of more than 24 bytes.
+    /// - `Utf16` if a surrogate is unpaired.
+    /// - `Reserve` if allocation fails, which is never up to 24 bytes of text.
     ///
     /// # Examples
     ///
-    /// `[0xD834, 0xDD1E]` gives U+1D11E, and `[0xD834, 0x0041]` the error `Utf16`.
+    /// ```
+    /// let clef = CompactString::from_utf16(alloc, &[0xD834, 0xDD1E])?;
+    /// assert_eq!(rt; clef.as_str(), "𝄞");
+    ///
+    /// let unpaired = CompactString::from_utf16(alloc, &[0xD834, 0x41]);
+    /// assert!(rt; matches!(unpaired, Err(FromUtf16Error::Utf16(_))));
+    /// ```
     #[tactic(auto, using(compact_codec::proofs::ForDecoders::strict_decoding))]
     pub fn from_utf16(alloc: Global, units: &[u16]) -> Result<CompactString, FromUtf16Error>
         ensures text { IfOk result (λ v. UnitsEncode units.now v.text) }
@@ -45,16 +51,19 @@ impl PolicyString<Standard> {
         }
     }
 
-    /// The text of the units in UTF-16, with one U+FFFD for each surrogate that is in no pair: inline up to 24 bytes,
-    /// and else on the heap in a buffer that holds it.
+    /// Converts UTF-16 units to a string, replacing each unpaired surrogate with U+FFFD. The result is inline up to 24
+    /// bytes, else on the heap.
     ///
     /// # Errors
     ///
-    /// [`ReserveError`] if a buffer is refused, for a text of more than 24 bytes.
+    /// [`ReserveError`] if allocation fails. Never fails up to 24 bytes of text.
     ///
     /// # Examples
     ///
-    /// `[0xD834, 0x0041]` gives U+FFFD and `A`.
+    /// ```
+    /// let name = CompactString::from_utf16_lossy(alloc, &[0xD834, 0x41])?;
+    /// assert_eq!(rt; name.as_str(), "\u{FFFD}A");
+    /// ```
     #[tactic(auto, using(compact_codec::proofs::ForDecoders::lossy_decoding, crate::proofs::FittedTexts::decoded_part_facts))]
     pub fn from_utf16_lossy(alloc: Global, units: &[u16]) -> Result<CompactString, ReserveError>
         ensures { MakesText (utf16_lossy_text units.now) result }
@@ -76,16 +85,19 @@ impl PolicyString<Standard> {
         Ok(made)
     }
 
-    /// `from_utf16` of the units that the bytes stand for, two bytes a unit, the low byte first. A byte order mark is a
-    /// character.
+    /// Like [`from_utf16`](Self::from_utf16), from pairs of bytes, the low byte first. Keeps a byte order mark.
     ///
     /// # Errors
     ///
-    /// `Utf16` if a surrogate is in no pair, or the bytes are odd in number. `Reserve` as from `from_utf16`.
+    /// - `Utf16` if a surrogate is unpaired or the number of bytes is odd.
+    /// - `Reserve` as from `from_utf16`.
     ///
     /// # Examples
     ///
-    /// `41 00` is `"A"`.
+    /// ```
+    /// let euro = CompactString::from_utf16le(alloc, &[0xAC, 0x20])?;
+    /// assert_eq!(rt; euro.as_str(), "€");
+    /// ```
     pub fn from_utf16le(alloc: Global, bytes: &[u8]) -> Result<CompactString, FromUtf16Error>
         ensures text { IfOk result (λ v. PairsEncode LittleEndian bytes.now v.text) }
         ensures fitted { IfOk result IsPlacedBySize }
@@ -96,16 +108,19 @@ impl PolicyString<Standard> {
         from_bytes(alloc, ByteOrder::LittleEndian, bytes)
     }
 
-    /// `from_utf16` of the units that the bytes stand for, two bytes a unit, the high byte first. A byte order mark is
-    /// a character.
+    /// Like [`from_utf16`](Self::from_utf16), from pairs of bytes, the high byte first. Keeps a byte order mark.
     ///
     /// # Errors
     ///
-    /// `Utf16` if a surrogate is in no pair, or the bytes are odd in number. `Reserve` as from `from_utf16`.
+    /// - `Utf16` if a surrogate is unpaired or the number of bytes is odd.
+    /// - `Reserve` as from `from_utf16`.
     ///
     /// # Examples
     ///
-    /// `00 41` is `"A"`.
+    /// ```
+    /// let euro = CompactString::from_utf16be(alloc, &[0x20, 0xAC])?;
+    /// assert_eq!(rt; euro.as_str(), "€");
+    /// ```
     pub fn from_utf16be(alloc: Global, bytes: &[u8]) -> Result<CompactString, FromUtf16Error>
         ensures text { IfOk result (λ v. PairsEncode BigEndian bytes.now v.text) }
         ensures fitted { IfOk result IsPlacedBySize }
@@ -116,8 +131,8 @@ impl PolicyString<Standard> {
         from_bytes(alloc, ByteOrder::BigEndian, bytes)
     }
 
-    /// `from_utf16_lossy` of the units that the bytes stand for, two bytes a unit, the low byte first, with one more
-    /// U+FFFD at the end for an odd last byte. A byte order mark is a character.
+    /// Like [`from_utf16_lossy`](Self::from_utf16_lossy), from pairs of bytes, the low byte first. An odd last byte
+    /// becomes U+FFFD. Keeps a byte order mark.
     ///
     /// # Errors
     ///
@@ -125,15 +140,18 @@ impl PolicyString<Standard> {
     ///
     /// # Examples
     ///
-    /// `41 00 42` gives `A` and U+FFFD.
+    /// ```
+    /// let name = CompactString::from_utf16le_lossy(alloc, &[0x41, 0, 0x42])?;
+    /// assert_eq!(rt; name.as_str(), "A\u{FFFD}");
+    /// ```
     pub fn from_utf16le_lossy(alloc: Global, bytes: &[u8]) -> Result<CompactString, ReserveError>
         ensures { MakesText (utf16_bytes_lossy_text LittleEndian bytes.now) result }
     {
         from_bytes_lossy(alloc, ByteOrder::LittleEndian, bytes)
     }
 
-    /// `from_utf16_lossy` of the units that the bytes stand for, two bytes a unit, the high byte first, with one more
-    /// U+FFFD at the end for an odd last byte. A byte order mark is a character.
+    /// Like [`from_utf16_lossy`](Self::from_utf16_lossy), from pairs of bytes, the high byte first. An odd last byte
+    /// becomes U+FFFD. Keeps a byte order mark.
     ///
     /// # Errors
     ///
@@ -141,7 +159,10 @@ impl PolicyString<Standard> {
     ///
     /// # Examples
     ///
-    /// `00 41 42` gives `A` and U+FFFD.
+    /// ```
+    /// let name = CompactString::from_utf16be_lossy(alloc, &[0, 0x41, 0x42])?;
+    /// assert_eq!(rt; name.as_str(), "A\u{FFFD}");
+    /// ```
     pub fn from_utf16be_lossy(alloc: Global, bytes: &[u8]) -> Result<CompactString, ReserveError>
         ensures { MakesText (utf16_bytes_lossy_text BigEndian bytes.now) result }
     {
@@ -149,7 +170,7 @@ impl PolicyString<Standard> {
     }
 }
 
-/// The text that the bytes encode, two bytes a unit.
+/// Converts pairs of bytes, in either order.
 #[tactic(auto, using(compact_codec::proofs::ForDecoders::strict_decoding))]
 fn from_bytes(
     alloc: Global,
@@ -171,7 +192,7 @@ fn from_bytes(
     }
 }
 
-/// The text of the bytes, two bytes a unit, with U+FFFD for what is invalid.
+/// Converts pairs of bytes, replacing what is invalid with U+FFFD.
 #[tactic(auto, using(compact_codec::proofs::ForDecoders::lossy_decoding, crate::proofs::FittedTexts::first_facts))]
 fn from_bytes_lossy(
     alloc: Global,

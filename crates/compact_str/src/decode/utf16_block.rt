@@ -1,4 +1,4 @@
-//! A row of bytes into which units are written as UTF-8, ahead of the value that takes them.
+//! A buffer on the stack in which units become UTF-8.
 ghost use Rattle.std.specs.Prelude.{if◌then◌else◌, ◌≡◌, ◌+◌, ◌*◌, ◌<◌, ◌≤◌, ◌++◌, length, take, drop};
 ghost use Rattle.std.specs.Char.{encode_utf8};
 ghost use Rattle.std.specs.Int.{is_in_range};
@@ -8,19 +8,19 @@ ghost use Rattle.compact_codec.specs.Utf16Text.{utf16_lossy_text};
 
 use compact_codec::utf16;
 
-/// The most bytes of a row.
+/// The capacity of the buffer.
 pub const ROW: usize = 256;
 
-/// What `fill` took and wrote.
+/// The result of `fill`.
 #[derive(Clone, Copy)]
 pub struct Filled {
-    /// How many units it took.
+    /// The number of units read.
     pub taken: usize,
-    /// How many bytes it wrote, at the front of the row.
+    /// The number of bytes written.
     pub len: usize,
 }
 
-/// Writes the lossy text of the units into the row, character by character, until none is left or the next may not fit.
+/// Writes the lossy text of `units` to the front of `row`, until they end or the next character may not fit.
 #[inline]
 pub fn fill(row: &mut [u8; 256], units: &[u16]) -> Filled
     ensures taken { result.taken ≤ length units.now }
@@ -48,7 +48,7 @@ pub fn fill(row: &mut [u8; 256], units: &[u16]) -> Filled
     Filled { taken, len }
 }
 
-/// Whether a unit is one of a pair.
+/// Returns `true` if `unit` is a surrogate.
 #[inline]
 fn is_surrogate(unit: u16) -> bool
     ensures { result ≡ is_in_range 0xD800 0xDFFF unit }
@@ -56,8 +56,8 @@ fn is_surrogate(unit: u16) -> bool
     0xD800 <= unit && unit <= 0xDFFF
 }
 
-/// Writes the bytes of the character that a unit is by itself from `at` on, and answers where they end. How many they are
-/// cannot be foreseen, so three are written whatever they are, and no branch is on it.
+/// Writes a unit that is no surrogate at `at`, and returns the end. Always writes three bytes, to avoid an
+/// unpredictable branch.
 #[inline]
 fn write_unit(row: &mut [u8; 256], at: usize, unit: u16) -> usize
     requires { at + 4 ≤ 256 }
@@ -75,7 +75,7 @@ fn write_unit(row: &mut [u8; 256], at: usize, unit: u16) -> usize
     at + either(one, 1, either(two, 2, 3)) as usize
 }
 
-/// The first number where the test holds, else the second.
+/// Returns `yes` if `test` is true, else `no`.
 #[inline]
 fn either(test: bool, yes: u16, no: u16) -> u16
     ensures { result ≡ (if test then yes else no) }
@@ -83,7 +83,7 @@ fn either(test: bool, yes: u16, no: u16) -> u16
     if test { yes } else { no }
 }
 
-/// Writes the bytes of a character from `at` on, and answers where they end.
+/// Writes `character` at `at`, and returns the end.
 #[inline]
 fn write_character(row: &mut [u8; 256], at: usize, character: char) -> usize
     requires { at + 4 ≤ 256 }
@@ -113,7 +113,7 @@ fn write_character(row: &mut [u8; 256], at: usize, character: char) -> usize
     at + 4
 }
 
-/// How many bytes the text of the units takes, or a few less where they are no text.
+/// Returns the length of `units` in UTF-8, or a few bytes less if they are invalid.
 pub fn utf8_room(units: &[u16]) -> usize
     ensures { result ≤ 3 * length units.now }
 {
@@ -127,7 +127,7 @@ pub fn utf8_room(units: &[u16]) -> usize
     room
 }
 
-/// The same of few units.
+/// Returns the same for at most 256 units, whose sum fits a `u16`.
 #[inline]
 fn part_room(units: &[u16]) -> u16
     requires { length units.now ≤ 256 }

@@ -1,4 +1,4 @@
-//! Slices of bytes read as UTF-8.
+//! Decoding UTF-8 from a slice.
 ghost use Rattle.std.specs.Prelude.{◌≡◌, ◌<◌, ◌≤◌, ◌++◌, length, IfOk, IfErr, OnOk, IsOk, Some};
 ghost use Rattle.std.specs.Str.{IsUtf8};
 ghost use Rattle.compact_repr.specs.Text.{text_of};
@@ -17,16 +17,23 @@ use compact_repr::{Policy, ReserveError, Standard};
 use std::alloc::Global;
 
 impl PolicyString<Standard> {
-    /// The text that the bytes encode in UTF-8, placed as by `new`. The bytes are validated before memory is asked for.
+    /// Converts bytes to a string, placed as by [`new`](Self::new). Validates before it allocates.
     ///
     /// # Errors
     ///
-    /// `Utf8` if they encode no text, and where they stop being one. `Reserve` if they do and `new` is refused, as it
-    /// never is up to 24 bytes.
+    /// - `Utf8` if the bytes are not valid UTF-8, with the position.
+    /// - `Reserve` if allocation fails, which is never up to 24 bytes.
     ///
     /// # Examples
     ///
-    /// `[0xC3, 0xA9]` gives `"é"`. `[0x61, 0xE2, 0x82]` has its error after 1 byte, with an open end.
+    /// ```
+    /// let name = CompactString::from_utf8(alloc, b"caf\xC3\xA9")?;
+    /// assert_eq!(rt; name.as_str(), "café");
+    ///
+    /// // The input ends inside a character of three bytes.
+    /// let error = CompactString::from_utf8(alloc, b"a\xE2\x82").err();
+    /// assert!(rt; error == Some(FromUtf8Error::Utf8 { valid_up_to: 1, error_len: None }));
+    /// ```
     #[inline]
     #[tactic(auto, using(crate::proofs::FittedTexts::strict_facts))]
     pub fn from_utf8(alloc: Global, bytes: &[u8]) -> Result<CompactString, FromUtf8Error>
@@ -50,17 +57,22 @@ impl PolicyString<Standard> {
         }
     }
 
-    /// The text of the bytes in UTF-8, with one U+FFFD for each invalid sequence, which is the longest run of bytes
-    /// there that begins a character, or one byte. It is inline up to 24 bytes, and else on the heap in a buffer that
-    /// holds it.
+    /// Converts bytes to a string, replacing each invalid sequence with U+FFFD. An invalid sequence is the longest run
+    /// of bytes that begins a character, or else one byte. The result is inline up to 24 bytes, else on the heap.
     ///
     /// # Errors
     ///
-    /// [`ReserveError`] if a buffer is refused, for a text of more than 24 bytes.
+    /// [`ReserveError`] if allocation fails. Never fails up to 24 bytes of text.
     ///
     /// # Examples
     ///
-    /// `[0xE1, 0x80, 0x41]` gives U+FFFD and `A`, and `[0xC0, 0x80]` two U+FFFD.
+    /// ```
+    /// let name = CompactString::from_utf8_lossy(alloc, b"\xE1\x80A")?;
+    /// assert_eq!(rt; name.as_str(), "\u{FFFD}A");
+    ///
+    /// let name = CompactString::from_utf8_lossy(alloc, b"\xC0\x80")?;
+    /// assert_eq!(rt; name.as_str(), "\u{FFFD}\u{FFFD}");
+    /// ```
     #[inline]
     #[tactic(auto, using(compact_codec::proofs::ForDecoders::lossy_decoding, crate::proofs::FittedTexts::new_facts))]
     pub fn from_utf8_lossy(alloc: Global, bytes: &[u8]) -> Result<CompactString, ReserveError>
@@ -72,8 +84,8 @@ impl PolicyString<Standard> {
         }
     }
 
-    /// The text that the bytes encode in UTF-8, placed as by `new`, but not validated: that they encode one is the
-    /// caller's condition.
+    /// Converts bytes to a string without validating them: they must be valid UTF-8. Placed as by [`new`](Self::new).
+    /// See [`from_utf8`](Self::from_utf8).
     ///
     /// # Errors
     ///
@@ -87,7 +99,7 @@ impl PolicyString<Standard> {
     }
 }
 
-/// The text of bytes of which the error is known, chunk by chunk.
+/// Converts invalid bytes, chunk by chunk, from their first error on.
 #[tactic(auto, using(compact_codec::proofs::ForDecoders::lossy_decoding, crate::proofs::FittedTexts::decoded_part_facts))]
 fn from_invalid(
     alloc: Global,

@@ -1,4 +1,4 @@
-//! Texts that are appended to a `String`.
+//! Appending texts to a `String`.
 ghost use Rattle.std.specs.Prelude.{◌≡◌, ◌+◌, ◌<◌, ◌≤◌, List, ◌++◌, flat_map, OnOk, OnErr, IsOk, length, string_bytes};
 ghost use Rattle.std.specs.Iterator.{Drains, IsFiniteIterable};
 ghost use Rattle.std.specs.String.{string_capacity};
@@ -8,17 +8,21 @@ ghost use Rattle.compact_str.specs.Collect.{OfIterator, OfItems, OfAllItems, Sto
 use crate::iter::AsText;
 use compact_repr::ReserveError;
 
-/// Appends each text of `items` to `line` in turn, up to the first that is refused: so values become part of a
-/// `String`. The capacity never shrinks.
+/// Appends each item of `items` to `line`. Never shrinks the capacity.
 ///
 /// # Errors
 ///
-/// [`ReserveError`] if the line has no room for a text, as it has grown by then, and no memory is found. The texts
-/// before that one are appended, and those behind it are not asked for.
+/// [`ReserveError`] if `line` has no room left for an item and allocation fails. The items before it have been
+/// appended, and later ones are not consumed.
 ///
 /// # Examples
 ///
-/// A `String` of `"a"` and the values `"b"` and `"c"` give `"abc"`.
+/// ```
+/// let mut line = String::from_str(alloc, "a")?;
+/// let names = [CompactString::const_new(alloc, "ä"), CompactString::const_new(alloc, "b")];
+/// append_all(&mut line, names)?;
+/// assert_eq!(rt; line.as_str(), "aäb");
+/// ```
 pub fn append_all<T: AsText, U: IntoIterator<Item = T>>(
     line: &mut String,
     items: U,
@@ -40,7 +44,7 @@ pub fn append_all<T: AsText, U: IntoIterator<Item = T>>(
     append_texts(line, items)
 }
 
-/// `append_all`, whose clause `ok` tells the items as a list.
+/// Like [`append_all`]; the clause `ok` also names the items as a list.
 ///
 /// # Errors
 ///
@@ -67,7 +71,7 @@ pub fn append_texts<T: AsText, U: IntoIterator<Item = T>>(
     Ok(())
 }
 
-/// Appends one text, for which room is made first: so a refusal leaves the capacity that had no room for it.
+/// Reserves first, so that `Err` implies that the capacity was too small.
 #[inline]
 #[tactic(auto, using(crate::proofs::EditFacts::string_facts))]
 fn append_text(line: &mut String, text: &str) -> Result<(), ReserveError>

@@ -1,4 +1,4 @@
-//! What can be read as a text.
+//! Types that can be read as a `str`.
 ghost use Rattle.std.specs.Prelude.{◌≡◌, ℕ, List, string_bytes};
 ghost use Rattle.std.specs.Box.{boxed_str_bytes};
 ghost use Rattle.std.specs.Cow.{cow_str_bytes};
@@ -10,18 +10,22 @@ use compact_repr::Policy;
 use std::borrow::CowStr;
 use std::boxed::BoxedStr;
 
-/// What can be read as a text: an item that values are collected from.
+/// A type that can be read as a `str`: an item to collect, join or append.
 ///
-/// It is there for `&str`, `String`, `BoxedStr`, `CowStr` and `CompactString`, and for a reference to any of them.
+/// Implemented for `&str`, `String`, `BoxedStr`, `CowStr` and `CompactString`, and for references to them.
 pub trait AsText: Drop {
-    // Its text, as a list of characters.
+    // The characters.
     ghost text: { Self → List ℕ };
 
-    /// The text.
+    /// Returns the text.
     ///
     /// # Examples
     ///
-    /// `"abc".text()` is `"abc"`.
+    /// ```
+    /// let name = CompactString::new(alloc, "é")?;
+    /// assert_eq!(rt; name.text(), "é");
+    /// assert_eq!(rt; name.text(), "é".text());
+    /// ```
     fn text(&self) -> &str
         ensures { text_of result.now ≡ text self.now };
 }

@@ -1,4 +1,4 @@
-//! What comes one after another, collected into a value.
+//! Collecting texts and characters.
 ghost use Rattle.std.specs.Prelude.{◌≡◌, ◌+◌, ◌≤◌, List, ℕ, flat_map, fold, map, IfOk, OnErr, IsOk};
 ghost use Rattle.std.specs.Iterator.{Drains, IsFiniteIterable};
 ghost use Rattle.compact_repr.specs.Text.{size};
@@ -12,7 +12,7 @@ use crate::string::PolicyString;
 use compact_repr::{Policy, ReserveError};
 use std::alloc::{AllocError, Global};
 
-/// The pieces one after another.
+/// Concatenates the pieces.
 fn collect_pieces<P: Policy, T: Piece, U: IntoIterator<Item = T>>(
     alloc: Global,
     iter: U,
@@ -34,19 +34,25 @@ fn collect_pieces<P: Policy, T: Piece, U: IntoIterator<Item = T>>(
 }
 
 impl<P: Policy> PolicyString<P> {
-    /// The texts of `texts` one after another: inline up to 24 bytes, else on the heap. `collect` of the texts means
-    /// the same.
+    /// Concatenates `texts`, like `collect`. The result is inline up to 24 bytes, else on the heap.
     ///
-    /// How many items are hinted at makes no room. A text of at most 1024 bytes is made in a buffer that just fits it,
-    /// or in the least one, and a longer one by growth.
+    /// Ignores `size_hint`. Up to 1024 bytes a heap buffer is allocated once, with the exact or the minimum capacity;
+    /// a longer text grows.
     ///
     /// # Errors
     ///
-    /// [`ReserveError`] if a buffer is refused, for a text of more than 24 bytes.
+    /// [`ReserveError`] if allocation fails. Never fails up to 24 bytes.
     ///
     /// # Examples
     ///
-    /// `CompactString::from_texts(alloc, ["ab", "", "c"])?` is `"abc"`.
+    /// ```
+    /// let name = CompactString::from_texts(alloc, ["caf", "", "é"])?;
+    /// assert_eq!(rt; name.as_str(), "café");
+    ///
+    /// let full = CompactString::from_texts(alloc, ["twelve bytes", "twelve more."])?;
+    /// assert_eq!(rt; full.len(), 24);
+    /// assert!(rt; !full.is_heap_allocated());
+    /// ```
     pub fn from_texts<T: AsText, U: IntoIterator<Item = T>>(
         alloc: Global,
         texts: U,
@@ -69,8 +75,7 @@ impl<P: Policy> PolicyString<P> {
         collect_pieces(alloc, texts)
     }
 
-    /// The characters of `characters` one after another: inline up to 24 bytes, else on the heap, with buffers as by
-    /// `from_texts`. `collect` of the characters means the same.
+    /// Collects characters, like `collect`. Allocates like [`from_texts`](Self::from_texts).
     ///
     /// # Errors
     ///
@@ -78,7 +83,10 @@ impl<P: Policy> PolicyString<P> {
     ///
     /// # Examples
     ///
-    /// `CompactString::from_chars(alloc, ['a', 'ä'])?` is `"aä"`.
+    /// ```
+    /// let name = CompactString::from_chars(alloc, "Äpfel".chars().filter(|c| c.is_ascii()))?;
+    /// assert_eq!(rt; name.as_str(), "pfel");
+    /// ```
     pub fn from_chars<U: IntoIterator<Item = char>>(
         alloc: Global,
         characters: U,
@@ -103,12 +111,11 @@ impl<P: Policy, T: AsText> FromIterator<T> for PolicyString<P> {
 
     ghost from_iter_gives = { λ xs v. (v.text ≡ flat_map T.text xs) × IsPlacedBySize v };
 
-    /// `from_texts` for `collect`, which tells a caller the text and the place, but not that up to 24 bytes are never
-    /// refused.
+    /// Like `from_texts`. Callers of `collect` know the text and the place, but not that up to 24 bytes never fail.
     ///
     /// # Errors
     ///
-    /// `AllocError` where `from_texts` answers [`ReserveError`].
+    /// `AllocError` if allocation fails.
     fn from_iter<U: IntoIterator<Item = T>>(alloc: Global, texts: U) -> Result<Self, AllocError>
         requires { IsFiniteIterable U.into_iter_gives U.IntoIter.can_next U.IntoIter.remaining
             texts }
@@ -134,11 +141,11 @@ impl<P: Policy> FromIterator<char> for PolicyString<P> {
 
     ghost from_iter_gives = { λ xs v. (v.text ≡ xs) × IsPlacedBySize v };
 
-    /// `from_chars` for `collect`.
+    /// Like `from_chars`.
     ///
     /// # Errors
     ///
-    /// `AllocError` where `from_chars` answers [`ReserveError`].
+    /// `AllocError` if allocation fails.
     #[tactic(auto, using(crate::proofs::CollectFacts::collect_facts))]
     fn from_iter<U: IntoIterator<Item = char>>(
         alloc: Global,
@@ -168,11 +175,11 @@ impl<'a, P: Policy> FromIterator<&'a char> for PolicyString<P> {
 
     ghost from_iter_gives = { λ xs v. (v.text ≡ map (λ c. c.now) xs) × IsPlacedBySize v };
 
-    /// `from_chars` of the characters that are referred to, for `collect`.
+    /// Like `from_chars`.
     ///
     /// # Errors
     ///
-    /// `AllocError` where `from_chars` answers [`ReserveError`].
+    /// `AllocError` if allocation fails.
     #[tactic(auto, using(crate::proofs::CollectFacts::collect_facts))]
     fn from_iter<U: IntoIterator<Item = &'a char>>(
         alloc: Global,

@@ -1,4 +1,4 @@
-//! What comes one after another, appended to a value.
+//! Appending the items of an iterator.
 ghost use Rattle.std.specs.Prelude.{◌≡◌, ◌≤◌, List, ◌++◌, flat_map, map, OnOk, OnErr, IsOk};
 ghost use Rattle.std.specs.Iterator.{IsFiniteIterable};
 ghost use Rattle.compact_repr.specs.Text.{size};
@@ -12,7 +12,7 @@ use crate::string::PolicyString;
 use compact_repr::{Policy, ReserveError};
 use std::alloc::AllocError;
 
-/// Appends each piece in turn, up to the first that is refused.
+/// Appends each piece, and stops at the first error.
 fn extend_pieces<P: Policy, T: Piece, U: IntoIterator<Item = T>>(
     value: &mut PolicyString<P>,
     iter: U,
@@ -35,18 +35,20 @@ fn extend_pieces<P: Policy, T: Piece, U: IntoIterator<Item = T>>(
 }
 
 impl<P: Policy> PolicyString<P> {
-    /// Appends each text of `texts` in turn, as `push_str` does, up to the first that is refused. How many items are
-    /// hinted at makes no room.
+    /// Appends each item of `texts`, like `push_str`. Ignores `size_hint`.
     ///
     /// # Errors
     ///
-    /// [`ReserveError`] if `push_str` of a text is refused, as none is where there is room for all of them. The texts
-    /// before it are appended, and those behind it are not asked for; `truncate` at the old length takes them off
-    /// again.
+    /// [`ReserveError`] if allocation fails. The items before the one that failed have been appended, and later ones
+    /// are not consumed; `truncate` at the old length undoes it. Never fails if there is room for all items.
     ///
     /// # Examples
     ///
-    /// `"a"` extended by `["b", "", "cd"]` is `"abcd"`.
+    /// ```
+    /// let mut line = CompactString::new(alloc, "a")?;
+    /// line.extend_texts(["ä", "", "bc"])?;
+    /// assert_eq!(rt; line.as_str(), "aäbc");
+    /// ```
     pub fn extend_texts<T: AsText, U: IntoIterator<Item = T>>(
         &mut self,
         texts: U,
@@ -72,17 +74,19 @@ impl<P: Policy> PolicyString<P> {
         extend_pieces(self, texts)
     }
 
-    /// Appends each character of `characters` in turn, as `push` does, up to the first that is refused. How many items
-    /// are hinted at makes no room.
+    /// Appends each character, like `push`. Ignores `size_hint`.
     ///
     /// # Errors
     ///
-    /// [`ReserveError`] if `push` of a character is refused, as none is where there is room for all of them. The
-    /// characters before it are appended, as by `extend_texts`.
+    /// [`ReserveError`] as from [`extend_texts`](Self::extend_texts).
     ///
     /// # Examples
     ///
-    /// `"a"` extended by `['b', 'ä']` is `"abä"`.
+    /// ```
+    /// let mut line = CompactString::new(alloc, "a")?;
+    /// line.extend_chars(['b', 'ä'])?;
+    /// assert_eq!(rt; line.as_str(), "abä");
+    /// ```
     pub fn extend_chars<U: IntoIterator<Item = char>>(
         &mut self,
         characters: U,
@@ -112,11 +116,11 @@ impl<P: Policy> PolicyString<P> {
 impl<P: Policy, T: AsText> Extend<T> for PolicyString<P> {
     ghost extend_gives = { λ v xs w. Appends P.growth T.text v xs w };
 
-    /// `extend_texts` as the library's trait has it.
+    /// Like `extend_texts`.
     ///
     /// # Errors
     ///
-    /// `AllocError` where `extend_texts` answers [`ReserveError`].
+    /// `AllocError` if allocation fails.
     fn extend<U: IntoIterator<Item = T>>(&mut self, texts: U) -> Result<(), AllocError>
         requires { IsFiniteIterable U.into_iter_gives U.IntoIter.can_next U.IntoIter.remaining
             texts }
@@ -143,11 +147,11 @@ impl<P: Policy, T: AsText> Extend<T> for PolicyString<P> {
 impl<P: Policy> Extend<char> for PolicyString<P> {
     ghost extend_gives = { λ v xs w. Appends P.growth char_text v xs w };
 
-    /// `extend_chars` as the library's trait has it.
+    /// Like `extend_chars`.
     ///
     /// # Errors
     ///
-    /// `AllocError` where `extend_chars` answers [`ReserveError`].
+    /// `AllocError` if allocation fails.
     fn extend<U: IntoIterator<Item = char>>(&mut self, characters: U) -> Result<(), AllocError>
         requires { IsFiniteIterable U.into_iter_gives U.IntoIter.can_next U.IntoIter.remaining
             characters }
@@ -174,11 +178,11 @@ impl<P: Policy> Extend<char> for PolicyString<P> {
 impl<'a, P: Policy> Extend<&'a char> for PolicyString<P> {
     ghost extend_gives = { λ v xs w. Appends P.growth (λ c. char_text c.now) v xs w };
 
-    /// `extend_chars` of the characters that are referred to.
+    /// Like `extend_chars`.
     ///
     /// # Errors
     ///
-    /// `AllocError` where `extend_chars` answers [`ReserveError`].
+    /// `AllocError` if allocation fails.
     fn extend<U: IntoIterator<Item = &'a char>>(&mut self, references: U) -> Result<(), AllocError>
         requires { IsFiniteIterable U.into_iter_gives U.IntoIter.can_next U.IntoIter.remaining
             references }

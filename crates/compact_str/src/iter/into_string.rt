@@ -1,4 +1,4 @@
-//! A `String` that values are appended to, or collected into, by the traits of the library.
+//! `Extend` and `FromIterator` of `String`, for values.
 ghost use Rattle.std.specs.Prelude.{◌≡◌, ◌+◌, ◌≤◌, List, ◌++◌, flat_map, IfOk, IsOk, OnOk, OnErr, string_bytes};
 ghost use Rattle.std.specs.Iterator.{Drains, IsFiniteIterable};
 ghost use Rattle.std.specs.String.{string_capacity};
@@ -15,11 +15,11 @@ impl<P: Policy> Extend<PolicyString<P>> for String {
     ghost extend_gives = { λ s xs t.
         text_of (string_bytes t) ≡ text_of (string_bytes s) ++ flat_map text_in xs };
 
-    /// `append_all` as the library's trait has it.
+    /// Like `append_all`.
     ///
     /// # Errors
     ///
-    /// `AllocError` where `append_all` answers [`ReserveError`].
+    /// `AllocError` if allocation fails.
     fn extend<U: IntoIterator<Item = PolicyString<P>>>(
         &mut self,
         values: U,
@@ -47,11 +47,11 @@ impl<P: Policy> FromIterator<PolicyString<P>> for String {
 
     ghost from_iter_gives = { λ xs s. text_of (string_bytes s) ≡ flat_map text_in xs };
 
-    /// The texts of the values, one after another, appended to an empty `String`.
+    /// Concatenates the values into a new `String`.
     ///
     /// # Errors
     ///
-    /// `AllocError` if no memory is found for them. None is needed if all are empty.
+    /// `AllocError` if allocation fails. Never fails if all values are empty.
     fn from_iter<U: IntoIterator<Item = PolicyString<P>>>(
         alloc: Global,
         values: U,

@@ -1,4 +1,4 @@
-//! How the items of an iterator are joined.
+//! Joining the items of an iterator.
 ghost use Rattle.std.specs.Prelude.{◌≡◌, ◌≤◌, List, flat_map, IfOk, OnErr, IsOk};
 ghost use Rattle.std.specs.Iterator.{Drains, HoldsAlong, IsFinite};
 ghost use Rattle.std.specs.Iterator.Runs.{WholeRun};
@@ -13,18 +13,20 @@ use crate::string::{CompactString, PolicyString};
 use compact_repr::{Policy, ReserveError};
 use std::alloc::Global;
 
-/// What an iterator of texts can be made into.
+/// Concatenating and joining, for iterators of texts.
 pub trait CompactStringExt: Iterator {
-    /// The items one after another: inline up to 24 bytes, else on the heap. How many items are hinted at makes no
-    /// room.
+    /// Concatenates the items. The result is inline up to 24 bytes, else on the heap. Ignores `size_hint`.
     ///
     /// # Errors
     ///
-    /// [`ReserveError`] if a buffer is refused, for a text of more than 24 bytes.
+    /// [`ReserveError`] if allocation fails. Never fails up to 24 bytes.
     ///
     /// # Examples
     ///
-    /// `["ab", "c"].into_iter().concat_compact(alloc)?` is `"abc"`.
+    /// ```
+    /// let name = ["caf", "é"].into_iter().concat_compact(alloc)?;
+    /// assert_eq!(rt; name.as_str(), "café");
+    /// ```
     final fn concat_compact(self, alloc: Global) -> Result<CompactString, ReserveError>
     where
         Self: Sized + Drop,
@@ -45,16 +47,19 @@ pub trait CompactStringExt: Iterator {
         CompactString::from_texts(alloc, self)
     }
 
-    /// The items one after another, with `separator` between each two, also round an empty item: inline up to 24 bytes,
-    /// else on the heap. How many items are hinted at makes no room.
+    /// Concatenates the items with `separator` between each two, even if they are empty. The result is inline up to 24
+    /// bytes, else on the heap. Ignores `size_hint`.
     ///
     /// # Errors
     ///
-    /// [`ReserveError`] if a buffer is refused, for a text of more than 24 bytes.
+    /// [`ReserveError`] if allocation fails. Never fails up to 24 bytes.
     ///
     /// # Examples
     ///
-    /// `["a", "", "b"].into_iter().join_compact(alloc, "-")?` is `"a--b"`.
+    /// ```
+    /// let path = ["usr", "", "café"].into_iter().join_compact(alloc, "/")?;
+    /// assert_eq!(rt; path.as_str(), "usr//café");
+    /// ```
     final fn join_compact(
         self,
         alloc: Global,
@@ -83,7 +88,7 @@ pub trait CompactStringExt: Iterator {
 
 impl<I: Iterator> CompactStringExt for I {}
 
-/// The items of `pieces` with `separator` between each two.
+/// Like `join_compact`, for every growth policy.
 fn join_pieces<P: Policy, T: AsText, I: Iterator<Item = T> + Drop>(
     alloc: Global,
     pieces: I,

@@ -1,4 +1,4 @@
-//! What is collected or appended: a text, or a character.
+//! Items to collect or append: texts and characters.
 ghost use Rattle.std.specs.Prelude.{◌≡◌, ℕ, ◌+◌, ◌<◌, ◌≤◌, List, ◌++◌, OnOk, OnErr, IsOk, Some};
 ghost use Rattle.compact_repr.specs.Text.{size};
 ghost use Rattle.compact_repr.specs.Calls.{push_str, PushStrAllocates};
@@ -10,12 +10,12 @@ use crate::iter::AsText;
 use crate::string::PolicyString;
 use compact_repr::{Policy, ReserveError};
 
-/// A piece of a text, which is appended as a whole.
+/// A text or a character, which is appended as a whole.
 pub trait Piece: Drop {
-    // Its text, as a list of characters.
+    // The characters.
     ghost text: { Self → List ℕ };
 
-    /// Appends the piece, as `push_str` and `push` do.
+    /// Appends the piece, like `push_str` and `push`.
     ///
     /// # Errors
     ///
@@ -26,11 +26,11 @@ pub trait Piece: Drop {
         ensures err { OnErr result
             ((value.new ≡ value.old) × PushStrAllocates value.old (text self.now)) };
 
-    /// Takes the piece behind what has come.
+    /// Appends the piece to a builder.
     ///
     /// # Errors
     ///
-    /// [`ReserveError`] if a buffer is refused, for more than 24 bytes.
+    /// [`ReserveError`] if allocation fails. Never fails up to 24 bytes.
     fn gather_into<P: Policy>(&self, gathered: &mut Builder<P>) -> Result<(), ReserveError>
         ensures ok { OnOk result (gathered.new ≡ gathered.old ++ text self.now) }
         ensures err { OnErr result (24 < size gathered.old + size (text self.now)) };

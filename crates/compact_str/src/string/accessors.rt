@@ -1,4 +1,4 @@
-//! How a value is looked at.
+//! Reading the text, its place and its capacity.
 ghost use Rattle.std.specs.Prelude.{◌≡◌, ℕ, ◌<◌, ◌^◌, ◌↔◌, [], length, IsTrue, IsSome, IfSome};
 ghost use Rattle.std.specs.Str.{IsCharBoundary, IsUtf8};
 ghost use Rattle.compact_repr.specs.Text.{size, utf8, text_of};
@@ -11,17 +11,28 @@ use compact_repr::Policy;
 use std::alloc::Global;
 
 impl<P: Policy> PolicyString<P> {
-    /// The allocator that gives a heap buffer: with it another value may be made beside this one.
+    /// Returns the allocator.
+    ///
+    /// # Examples
+    ///
+    /// ```
+    /// let name = CompactString::new(alloc, "Zoë")?;
+    /// let greeting = CompactString::new(name.allocator(), "Salut")?;
+    /// assert_eq!(rt; greeting.as_str(), "Salut");
+    /// ```
     #[inline]
     pub fn allocator(&self) -> Global {
         self.repr.allocator()
     }
 
-    /// The text. Where its bytes may be cut, as where `find` found a character, there is a boundary of the text.
+    /// Returns the text. Every boundary of the result, such as one that `find` returns, is a boundary of the string.
     ///
     /// # Examples
     ///
-    /// `CompactString::new(alloc, "abc")?.as_str()` is `"abc"`.
+    /// ```
+    /// let name = CompactString::new(alloc, "café")?;
+    /// assert_eq!(rt; name.as_str(), "café");
+    /// ```
     #[inline]
     pub fn as_str(&self) -> &str
         ensures bytes { result.now ≡ utf8 self.now.text }
@@ -32,11 +43,14 @@ impl<P: Policy> PolicyString<P> {
         self.repr.as_str()
     }
 
-    /// The bytes of the text in UTF-8.
+    /// Returns the text as UTF-8 bytes.
     ///
     /// # Examples
     ///
-    /// Of `"é"` they are C3 and A9.
+    /// ```
+    /// let text = CompactString::new(alloc, "é")?;
+    /// assert_eq!(rt; text.as_bytes(), [0xC3, 0xA9].as_slice());
+    /// ```
     #[inline]
     pub fn as_bytes(&self) -> &[u8]
         ensures bytes { result.now ≡ utf8 self.now.text }
@@ -47,11 +61,11 @@ impl<P: Policy> PolicyString<P> {
         self.as_str().as_bytes()
     }
 
-    /// The text of a static value, which outlives the value, or `None` of every other.
+    /// Returns the text of a static string, which outlives it, or `None` for any other.
     ///
     /// # Examples
     ///
-    /// `CompactString::const_new(alloc, text).as_static_str()` is `Some(text)` for a `text` of more than 24 bytes.
+    /// See [`const_new`].
     #[inline]
     pub fn as_static_str(&self) -> Option<&'static str>
         ensures place { IsSome result ↔ IsStatic self.now }
@@ -61,14 +75,20 @@ impl<P: Policy> PolicyString<P> {
         self.repr.as_static_str()
     }
 
-    /// The 24 bytes of an inline value, or `None` of every other. `PolicyString::from_packed` gives the text back.
+    /// Returns the 24 bytes of an inline string, or `None` for any other. `from_packed` restores the string.
     ///
-    /// A text of 24 bytes is all of them. A shorter one is the first of them, and the last is 192 and the length; what
-    /// stands between is open.
+    /// A text of 24 bytes fills the array. A shorter one is followed by unspecified bytes, and the last byte is
+    /// `192 + len`.
     ///
     /// # Examples
     ///
-    /// Of the empty text the last byte is C0, and of a static value there are none.
+    /// ```
+    /// let text = CompactString::new(alloc, "é")?;
+    /// let bytes = text.packed();
+    /// assert_eq!(rt; bytes.map(|bytes| bytes[23]), Some(192 + 2));
+    /// let copy = bytes.and_then(|bytes| CompactString::from_packed(alloc, &bytes));
+    /// assert!(rt; copy == Some(text));
+    /// ```
     #[inline]
     pub fn packed(&self) -> Option<[u8; 24]>
         ensures place { IsSome result ↔ (IsInline self.now) }
@@ -77,11 +97,13 @@ impl<P: Policy> PolicyString<P> {
         self.repr.packed()
     }
 
-    /// The length of the text in bytes. The clause `sound` says besides that the text fits its place.
+    /// Returns the length in bytes. The clause `sound` also states that the text fits its place.
     ///
     /// # Examples
     ///
-    /// Of `"é"` it is 2.
+    /// ```
+    /// assert_eq!(rt; CompactString::new(alloc, "é")?.len(), 2);
+    /// ```
     #[inline]
     pub fn len(&self) -> usize
         ensures value { result ≡ size self.now.text }
@@ -91,11 +113,14 @@ impl<P: Policy> PolicyString<P> {
         self.repr.len()
     }
 
-    /// Whether the text has no character, and so no byte.
+    /// Returns `true` if the length is 0.
     ///
     /// # Examples
     ///
-    /// `""` is empty, and `" "` is not.
+    /// ```
+    /// assert!(rt; CompactString::new(alloc, "")?.is_empty());
+    /// assert!(rt; !CompactString::new(alloc, " ")?.is_empty());
+    /// ```
     #[inline]
     #[tactic(auto, using(crate::proofs::EditFacts::append_facts))]
     pub fn is_empty(&self) -> bool
@@ -104,12 +129,11 @@ impl<P: Policy> PolicyString<P> {
         self.len() == 0
     }
 
-    /// How many bytes there is room for with no new buffer: 24 in an inline value, the length of a static one, and on
-    /// the heap the size of the buffer.
+    /// Returns the capacity in bytes: 24 if inline, the length if static, and the size of the buffer on the heap.
     ///
     /// # Examples
     ///
-    /// A new text of 25 bytes has capacity 32.
+    /// See [`new`].
     #[inline]
     pub fn capacity(&self) -> usize
         ensures { result ≡ self.now.placement.capacity }
@@ -117,11 +141,11 @@ impl<P: Policy> PolicyString<P> {
         self.repr.capacity()
     }
 
-    /// Whether the text stands in a buffer on the heap.
+    /// Returns `true` if the string is heap-allocated.
     ///
     /// # Examples
     ///
-    /// A new text of 25 bytes does, and one of 24 does not.
+    /// See [`new`].
     #[inline]
     pub fn is_heap_allocated(&self) -> bool
         ensures { result ≡ is_heap self.now.placement.place }
@@ -129,12 +153,16 @@ impl<P: Policy> PolicyString<P> {
         self.repr.is_heap_allocated()
     }
 
-    /// Whether `index`, in bytes, is a boundary: 0, the length, or where a character begins. If it is, the text may be
-    /// cut there as a `&str`, as by `&value[..index]`.
+    /// Returns `true` if `index`, in bytes, is 0, the length or the start of a character. The text may be cut only
+    /// there, as by `&value[..index]`.
     ///
     /// # Examples
     ///
-    /// In `"äb"` 0, 2 and 3 are boundaries.
+    /// ```
+    /// let text = CompactString::new(alloc, "äb")?;
+    /// assert!(rt; text.is_char_boundary(2));
+    /// assert!(rt; !text.is_char_boundary(1));
+    /// ```
     #[inline]
     pub fn is_char_boundary(&self, index: usize) -> bool
         ensures text { IsTrue result ↔ IsBoundary self.now.text index }

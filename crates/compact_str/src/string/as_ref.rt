@@ -1,4 +1,4 @@
-//! A value where bytes or a path are wanted.
+//! Strings as bytes and paths.
 ghost use Rattle.std.specs.Prelude.{Some};
 ghost use Rattle.compact_repr.specs.Text.{utf8};
 
@@ -11,7 +11,6 @@ use std::path::AsPath;
 impl<P: Policy> AsSlice<u8> for PolicyString<P> {
     ghost items = { λ v. utf8 v.text };
 
-    /// `as_bytes`, under a bound.
     #[inline]
     fn as_slice(&self) -> &[u8] {
         self.as_bytes()
@@ -21,7 +20,7 @@ impl<P: Policy> AsSlice<u8> for PolicyString<P> {
 impl<P: Policy> AsBytes for PolicyString<P> {
     ghost bytes = { λ v. Some (utf8 v.text) };
 
-    /// `as_bytes`, for what writes or reads the bytes of a value.
+    /// Same as `as_bytes`, for writers and readers.
     #[inline]
     fn as_byte_slice(&self) -> &[u8] {
         self.as_bytes()
@@ -31,7 +30,6 @@ impl<P: Policy> AsBytes for PolicyString<P> {
 impl<P: Policy> AsBytes for &PolicyString<P> {
     ghost bytes = { λ v. Some (utf8 v.now.text) };
 
-    /// `as_bytes` of what is referred to.
     #[inline]
     fn as_byte_slice(&self) -> &[u8] {
         let value: &PolicyString<P> = *self;
@@ -42,11 +40,7 @@ impl<P: Policy> AsBytes for &PolicyString<P> {
 impl<P: Policy> AsPath for PolicyString<P> {
     ghost path_text = { λ v. Some (utf8 v.text) };
 
-    /// `as_str`, for what takes a path.
-    ///
-    /// # Examples
-    ///
-    /// `File::open(alloc, &name)` opens the file of that name.
+    /// Same as `as_str`, for calls that take a path, such as `File::open`.
     #[inline]
     fn path_text(&self) -> &str {
         self.as_str()

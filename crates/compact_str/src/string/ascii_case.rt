@@ -1,4 +1,4 @@
-//! How the text is changed in place, character by character.
+//! ASCII case.
 ghost use Rattle.std.specs.Prelude.{◌≡◌, ℕ, ◌≤◌, [], length, Some, IfOk, OnOk, OnErr, IsOk};
 ghost use Rattle.compact_repr.specs.Text.{size, ascii_lowercase, ascii_uppercase};
 ghost use Rattle.compact_repr.specs.Cut.{IsBoundary};
@@ -10,16 +10,20 @@ use crate::string::PolicyString;
 use compact_repr::{Policy, ReserveError};
 
 impl<P: Policy> PolicyString<P> {
-    /// Makes A to Z lowercase, in place; every other character stays, and so does each boundary. A static value becomes
-    /// owned first, also where no character changes.
+    /// Converts A to Z to lower case in place. Other characters and all boundaries stay. A static string becomes owned
+    /// first, even if no character changes.
     ///
     /// # Errors
     ///
-    /// [`ReserveError`] if a static text of more than 24 bytes cannot be made owned. An owned value is never refused.
+    /// [`ReserveError`] if copying a static string of more than 24 bytes fails. Never fails for an owned string.
     ///
     /// # Examples
     ///
-    /// `"ABCÄ"` becomes `"abcÄ"`.
+    /// ```
+    /// let mut word = CompactString::new(alloc, "ABCÄ")?;
+    /// word.make_ascii_lowercase()?;
+    /// assert_eq!(rt; word.as_str(), "abcÄ");
+    /// ```
     #[tactic(auto, using(crate::proofs::EditFacts::letter_facts))]
     pub fn make_ascii_lowercase(&mut self) -> Result<(), ReserveError>
         ensures ok { OnOk result (make_ascii_lowercase P.growth self.old ≡ Some self.new) }
@@ -34,16 +38,19 @@ impl<P: Policy> PolicyString<P> {
         Ok(())
     }
 
-    /// Makes a to z uppercase, in place; every other character stays, and so does each boundary. A static value becomes
-    /// owned first, also where no character changes.
+    /// Converts a to z to upper case in place, like `make_ascii_lowercase`.
     ///
     /// # Errors
     ///
-    /// [`ReserveError`] if a static text of more than 24 bytes cannot be made owned. An owned value is never refused.
+    /// [`ReserveError`] as from `make_ascii_lowercase`.
     ///
     /// # Examples
     ///
-    /// `"abcä"` becomes `"ABCä"`.
+    /// ```
+    /// let mut word = CompactString::new(alloc, "abcä")?;
+    /// word.make_ascii_uppercase()?;
+    /// assert_eq!(rt; word.as_str(), "ABCä");
+    /// ```
     #[tactic(auto, using(crate::proofs::EditFacts::letter_facts))]
     pub fn make_ascii_uppercase(&mut self) -> Result<(), ReserveError>
         ensures ok { OnOk result (make_ascii_uppercase P.growth self.old ≡ Some self.new) }
@@ -58,15 +65,18 @@ impl<P: Policy> PolicyString<P> {
         Ok(())
     }
 
-    /// A new value, placed as by `new`, with the text in which A to Z are lowercase. This value stays as it is.
+    /// Returns a copy with A to Z in lower case, placed as by `new`.
     ///
     /// # Errors
     ///
-    /// [`ReserveError`] if `new` is refused, as it never is up to 24 bytes.
+    /// [`ReserveError`] if `new` fails. Never fails up to 24 bytes.
     ///
     /// # Examples
     ///
-    /// Of `"ABCÄ"` it is `"abcÄ"`.
+    /// ```
+    /// let word = CompactString::new(alloc, "ABCÄ")?;
+    /// assert_eq!(rt; word.to_ascii_lowercase()?.as_str(), "abcÄ");
+    /// ```
     #[tactic(auto, using(crate::proofs::EditFacts::letter_facts))]
     pub fn to_ascii_lowercase(&self) -> Result<Self, ReserveError>
         ensures ok { IfOk result (λ v. new P.growth (ascii_lowercase self.now.text) ≡ Some v) }
@@ -79,15 +89,18 @@ impl<P: Policy> PolicyString<P> {
         Ok(copy)
     }
 
-    /// A new value, placed as by `new`, with the text in which a to z are uppercase. This value stays as it is.
+    /// Returns a copy with a to z in upper case, placed as by `new`.
     ///
     /// # Errors
     ///
-    /// [`ReserveError`] if `new` is refused, as it never is up to 24 bytes.
+    /// [`ReserveError`] if `new` fails. Never fails up to 24 bytes.
     ///
     /// # Examples
     ///
-    /// Of `"abcä"` it is `"ABCä"`.
+    /// ```
+    /// let word = CompactString::new(alloc, "abcä")?;
+    /// assert_eq!(rt; word.to_ascii_uppercase()?.as_str(), "ABCä");
+    /// ```
     #[tactic(auto, using(crate::proofs::EditFacts::letter_facts))]
     pub fn to_ascii_uppercase(&self) -> Result<Self, ReserveError>
         ensures ok { IfOk result (λ v. new P.growth (ascii_uppercase self.now.text) ≡ Some v) }

@@ -1,4 +1,4 @@
-//! How room is made and given back.
+//! Reserving and shrinking.
 ghost use Rattle.std.specs.Prelude.{◌≡◌, Some, OnOk, OnErr};
 ghost use Rattle.compact_repr.specs.Calls.{make_owned, Shrinks};
 ghost use Rattle.compact_str.specs.Room.{Reserves};
@@ -9,17 +9,22 @@ use crate::string::PolicyString;
 use compact_repr::{Policy, ReserveError};
 
 impl<P: Policy> PolicyString<P> {
-    /// Makes room for `additional` more bytes. An owned value with that room stays as it is. Else the text stands
-    /// inline if all then fits in 24 bytes, and if not in a heap buffer. That has as many bytes as are needed, or half
-    /// as much again as the text has, or 32, whichever is most.
+    /// Reserves room for `additional` more bytes. Does nothing if an owned string has it.
+    ///
+    /// Otherwise moves the text inline if all fits in 24 bytes, else to a heap buffer of the bytes needed, 1.5 times
+    /// the length, or 32, whichever is most.
     ///
     /// # Errors
     ///
-    /// [`ReserveError`] if the heap buffer is refused.
+    /// [`ReserveError`] if the heap buffer cannot be allocated.
     ///
     /// # Examples
     ///
-    /// After `reserve(100)` no append or insertion is refused until 100 bytes have been put in.
+    /// ```
+    /// let mut line = CompactString::new(alloc, "é")?;
+    /// line.reserve(100)?;
+    /// assert_eq!(rt; line.capacity(), 102);
+    /// ```
     #[inline]
     pub fn reserve(&mut self, additional: usize) -> Result<(), ReserveError>
         ensures { Reserves P.growth self.old additional result self.new }
@@ -27,11 +32,15 @@ impl<P: Policy> PolicyString<P> {
         self.repr.reserve(additional)
     }
 
-    /// `reserve` under its other name.
+    /// Same as `reserve`.
     ///
     /// # Errors
     ///
     /// [`ReserveError`] as from `reserve`.
+    ///
+    /// # Examples
+    ///
+    /// See [`reserve`].
     #[inline]
     pub fn try_reserve(&mut self, additional: usize) -> Result<(), ReserveError>
         ensures { Reserves P.growth self.old additional result self.new }
@@ -39,13 +48,19 @@ impl<P: Policy> PolicyString<P> {
         self.reserve(additional)
     }
 
-    /// Gives room back: a heap value keeps room for its text and for `min_capacity` bytes. Where that fits in 24 bytes
-    /// the text moves inline. Else a lower capacity is a new buffer of at least 32 bytes, and if that is refused all
-    /// stays as it was. The capacity never rises, and an inline or static value stays as it is.
+    /// Shrinks the capacity of a heap string to at least its length and `min_capacity`.
+    ///
+    /// Moves the text inline if 24 bytes suffice, else to a smaller buffer of at least 32. Does nothing if that cannot
+    /// be allocated. An inline or static string stays unchanged.
     ///
     /// # Examples
     ///
-    /// A heap text of 30 bytes with capacity 100 has capacity 40 after `shrink_to(40)`.
+    /// ```
+    /// let mut line = CompactString::with_capacity(alloc, 100)?;
+    /// line.push_str("some text of exactly 30 bytès")?;
+    /// line.shrink_to(40);
+    /// assert_eq!(rt; line.capacity(), 40);
+    /// ```
     pub fn shrink_to(&mut self, min_capacity: usize)
         ensures shrinks { Shrinks P.growth self.old min_capacity self.new }
         ensures text { self.new.text ≡ self.old.text }
@@ -53,11 +68,16 @@ impl<P: Policy> PolicyString<P> {
         self.repr.shrink_to(min_capacity);
     }
 
-    /// `shrink_to(0)`: a heap value keeps room for its text alone.
+    /// Shrinks the capacity of a heap string to its length, as `shrink_to(0)`.
     ///
     /// # Examples
     ///
-    /// A heap text of 24 bytes moves inline.
+    /// ```
+    /// let mut line = CompactString::with_capacity(alloc, 100)?;
+    /// line.push_str("exactly twenty-four byte")?;
+    /// line.shrink_to_fit();
+    /// assert!(rt; !line.is_heap_allocated());
+    /// ```
     pub fn shrink_to_fit(&mut self)
         ensures shrinks { Shrinks P.growth self.old 0 self.new }
         ensures text { self.new.text ≡ self.old.text }
@@ -65,11 +85,11 @@ impl<P: Policy> PolicyString<P> {
         self.repr.shrink_to(0);
     }
 
-    /// Makes a static value owned; every other stays as it is.
+    /// Makes a static string owned; leaves any other unchanged.
     ///
     /// # Errors
     ///
-    /// [`ReserveError`] if the value is static and the copy of its text is refused.
+    /// [`ReserveError`] if copying a static string fails.
     #[inline(always)]
     #[tactic(auto, using(crate::proofs::Drains::owned_facts))]
     pub(crate) fn make_owned(&mut self) -> Result<(), ReserveError>

@@ -1,4 +1,4 @@
-//! How a value is copied.
+//! Cloning.
 ghost use Rattle.std.specs.Prelude.{◌≡◌, ◌≤◌, Some, OnOk, OnErr, IsOk, IsTrue, not, false};
 ghost use Rattle.compact_repr.specs.Text.{size};
 ghost use Rattle.compact_repr.specs.Value.{is_heap};
@@ -16,16 +16,12 @@ impl<P: Policy> Clone for PolicyString<P> {
 
     ghost is_infallible = { λ v. IsTrue (not (clone_allocates v)) };
 
-    /// A copy with the same text. An inline or static value is copied as it stands, which never allocates; a heap value
-    /// is copied by `new`, with no spare room.
+    /// Copies the string. An inline or static one keeps its place and never allocates; a heap one is copied as by
+    /// `new`.
     ///
     /// # Errors
     ///
-    /// `AllocError` if `new` is refused, which is so only of a heap value of more than 24 bytes.
-    ///
-    /// # Examples
-    ///
-    /// A clone of `"abc"` is `"abc"` inline.
+    /// `AllocError` if copying a heap string of more than 24 bytes fails.
     #[inline(always)]
     fn clone(&self) -> Result<Self, AllocError> {
         match self.repr.try_clone() {
@@ -36,17 +32,23 @@ impl<P: Policy> Clone for PolicyString<P> {
 }
 
 impl<P: Policy> PolicyString<P> {
-    /// Makes this value a clone of `source`. An inline or static `source` is copied with its place and capacity. The
-    /// text of a heap one goes where this value's text stands, if there is room for it, and else where `new` puts it.
+    /// Replaces this string with a clone of `source`. Reuses this string's buffer if `source` is on the heap and fits;
+    /// otherwise copies a heap `source` as by `new`, and any other with its place and capacity.
     ///
     /// # Errors
     ///
-    /// [`ReserveError`] if a new buffer is refused. None is needed for a source that is not on the heap, nor for a text
-    /// that fits in 24 bytes or in the capacity that this value owns.
+    /// [`ReserveError`] if allocation fails. Never fails if `source` is not on the heap, has at most 24 bytes, or fits
+    /// in the capacity that this string owns.
     ///
     /// # Examples
     ///
-    /// A target on the heap with capacity 100 keeps its buffer for a heap source of 30 bytes.
+    /// ```
+    /// let source = CompactString::new(alloc, "exactly twenty-five bytes")?;
+    /// let mut target = CompactString::with_capacity(alloc, 100)?;
+    /// target.clone_from(&source)?;
+    /// assert_eq!(rt; target.as_str(), "exactly twenty-five bytes");
+    /// assert_eq!(rt; target.capacity(), 100);
+    /// ```
     pub fn clone_from(&mut self, source: &Self) -> Result<(), ReserveError>
         ensures ok { OnOk result (clone_from P.growth self.old source.now ≡ Some self.new) }
         ensures text { OnOk result (self.new.text ≡ source.now.text) }

@@ -1,4 +1,4 @@
-//! How two values are compared, and how a value is hashed: by the text alone, wherever it stands.
+//! Comparing and hashing, by text alone.
 ghost use Rattle.std.specs.Prelude.{Some};
 ghost use Rattle.std.specs.Cmp as laws;
 ghost use Rattle.std.specs.Cmp.{on_equiv, on_total, on_per, on_po};
@@ -19,11 +19,16 @@ impl<P: Policy> PartialEq for PolicyString<P> {
 
     ghost laws = { on_per text_in (laws.partial_equiv_from_equiv nat_list_eq_equiv) };
 
-    /// Whether the texts are the same. Place and capacity have no part in it.
+    /// Returns `true` if the texts are equal, whatever the place and capacity.
     ///
     /// # Examples
     ///
-    /// `"abc"` on the heap equals `"abc"` inline.
+    /// ```
+    /// let inline = CompactString::new(alloc, "é")?;
+    /// let mut heap = CompactString::with_capacity(alloc, 100)?;
+    /// heap.push('é')?;
+    /// assert!(rt; inline == heap);
+    /// ```
     #[inline]
     fn eq(&self, other: &Self) -> bool {
         self.repr.same_text(&other.repr)
@@ -39,7 +44,6 @@ impl<P: Policy> PartialOrd for PolicyString<P> {
 
     ghost laws = { on_po text_in texts_po };
 
-    /// `cmp`, which always has an answer.
     #[inline]
     fn partial_cmp(&self, other: &Self) -> Option<Ordering> {
         Some(self.cmp(other))
@@ -55,12 +59,16 @@ impl<P: Policy> Ord for PolicyString<P> {
 
     ghost matches_eq = { λ v w. texts_ties v.text w.text };
 
-    /// The order of the texts: at the first place where they differ the smaller character decides, and a proper prefix
-    /// comes first. It is found on bytes, whose order is that of the characters.
+    /// Compares the texts: the smaller character decides at the first difference, and a proper prefix comes first.
+    /// Compares bytes, which order like the characters.
     ///
     /// # Examples
     ///
-    /// `"ab"` comes before `"b"`, and U+FFFD before U+10000.
+    /// ```
+    /// let first = CompactString::new(alloc, "\u{FFFD}")?;
+    /// let second = CompactString::new(alloc, "\u{10000}")?;
+    /// assert!(rt; first < second);
+    /// ```
     #[inline]
     fn cmp(&self, other: &Self) -> Ordering {
         self.repr.text_cmp(&other.repr)
@@ -72,7 +80,7 @@ impl<P: Policy> Hash for PolicyString<P> {
 
     ghost respects_eq = { Prim.search (hashing, rules) };
 
-    /// Feeds what the `str` of the text feeds, so that equal values feed the same.
+    /// Hashes like `str`, so that equal strings hash equally.
     #[inline]
     fn hash<H: Hasher>(&self, state: &mut H) {
         self.as_str().hash(state);

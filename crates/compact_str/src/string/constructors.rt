@@ -1,4 +1,4 @@
-//! How a value is made.
+//! Creating strings.
 ghost use Rattle.std.specs.Prelude.{◌≡◌, ◌<◌, ◌≤◌, ℕ, List, [], length, nat_eq, if◌then◌else◌, Some, IfOk, IfErr, IsOk, ◌↔◌, MatchOption, MatchResult, string_bytes};
 ghost use Rattle.std.specs.Str.{IsUtf8};
 ghost use Rattle.std.specs.Vec.{vec_capacity};
@@ -23,12 +23,15 @@ use std::boxed::BoxedStr;
 use std::string::FromUtf8Error;
 
 impl<P: Policy> PolicyString<P> {
-    /// The empty text, inline, which never allocates. It is a plain function, since the trait `Default` hands in no
-    /// allocator.
+    /// Creates an empty string, inline and without allocating. Not the trait `Default`, which takes no allocator.
     ///
     /// # Examples
     ///
-    /// `CompactString::default(alloc).as_str()` is `""`.
+    /// ```
+    /// let name = CompactString::default(alloc);
+    /// assert!(rt; name.is_empty());
+    /// assert_eq!(rt; name.capacity(), 24);
+    /// ```
     #[inline]
     pub fn default(alloc: Global) -> Self
         ensures { result ≡ placed_text [] inline_placement }
@@ -38,15 +41,23 @@ impl<P: Policy> PolicyString<P> {
         }
     }
 
-    /// A copy of `text`: inline up to 24 bytes, else in a heap buffer of 32 bytes or as many as the text has.
+    /// Creates a string from `text`: inline up to 24 bytes, otherwise in a heap buffer of its length, at least 32.
     ///
     /// # Errors
     ///
-    /// [`ReserveError`] if the heap buffer is refused. Up to 24 bytes none is needed.
+    /// [`ReserveError`] if the heap buffer cannot be allocated. Never fails up to 24 bytes.
     ///
     /// # Examples
     ///
-    /// `CompactString::new(alloc, "abc")?` is inline with capacity 24, and a text of 25 bytes has capacity 32.
+    /// ```
+    /// let inline = CompactString::new(alloc, "exactly twenty-four byte")?;
+    /// assert_eq!(rt; inline.len(), 24);
+    /// assert!(rt; !inline.is_heap_allocated());
+    ///
+    /// let heap = CompactString::new(alloc, "exactly twenty-five bytes")?;
+    /// assert!(rt; heap.is_heap_allocated());
+    /// assert_eq!(rt; heap.capacity(), 32);
+    /// ```
     #[inline]
     pub fn new(alloc: Global, text: &str) -> Result<Self, ReserveError>
         ensures { CopiesText P.growth text.now result }
@@ -57,11 +68,15 @@ impl<P: Policy> PolicyString<P> {
         }
     }
 
-    /// `new` under its other name.
+    /// Same as `new`.
     ///
     /// # Errors
     ///
     /// [`ReserveError`] as from `new`.
+    ///
+    /// # Examples
+    ///
+    /// See [`new`].
     #[inline]
     pub fn try_new(alloc: Global, text: &str) -> Result<Self, ReserveError>
         ensures { CopiesText P.growth text.now result }
@@ -69,11 +84,15 @@ impl<P: Policy> PolicyString<P> {
         Self::new(alloc, text)
     }
 
-    /// `new` under the name that the trait `FromStr` has, which hands in no allocator.
+    /// Same as `new`. Not the trait `FromStr`, which takes no allocator.
     ///
     /// # Errors
     ///
     /// [`ReserveError`] as from `new`.
+    ///
+    /// # Examples
+    ///
+    /// See [`new`].
     #[inline]
     pub fn from_str(alloc: Global, text: &str) -> Result<Self, ReserveError>
         ensures { CopiesText P.growth text.now result }
@@ -81,11 +100,18 @@ impl<P: Policy> PolicyString<P> {
         Self::try_new(alloc, text)
     }
 
-    /// A text of the program: inline up to 24 bytes, else static, borrowed for ever and not copied. It never allocates.
+    /// Creates a string from a literal without allocating: inline up to 24 bytes, otherwise by reference.
     ///
     /// # Examples
     ///
-    /// `CompactString::const_new(alloc, "abc")` is inline, and a text of 30 bytes is static with capacity 30.
+    /// ```
+    /// let month = CompactString::const_new(alloc, "März");
+    /// assert!(rt; month.as_static_str().is_none());
+    ///
+    /// let digits = CompactString::const_new(alloc, "0123456789abcdefghijklmno");
+    /// assert_eq!(rt; digits.as_static_str(), Some("0123456789abcdefghijklmno"));
+    /// assert_eq!(rt; digits.capacity(), 25);
+    /// ```
     #[inline]
     pub fn const_new(alloc: Global, text: &'static str) -> Self
         ensures value { let t = text_of text.now in result ≡ placed_text t (const_new_placement t) }
@@ -96,15 +122,22 @@ impl<P: Policy> PolicyString<P> {
         }
     }
 
-    /// The text that 24 bytes stand for, inline, as `packed` gives them, or `None` where they stand for none. It never
-    /// allocates.
+    /// Creates an inline string from the 24 bytes that `packed` returns, without allocating.
     ///
-    /// They stand for none where the last byte is above 215, and where the bytes of the text are no UTF-8. What stands
-    /// behind the text is not looked at.
+    /// Returns `None` if the last byte is above 215 or the contents are not valid UTF-8. Ignores the padding.
     ///
     /// # Examples
     ///
-    /// 24 times 61 gives 24 letters `a`, and of a first byte 61 and a last byte C1 the text is `"a"`.
+    /// ```
+    /// let mut bytes = [0u8; 24];
+    /// bytes[0] = b'x';
+    /// bytes[23] = 192 + 1;
+    /// let name = CompactString::from_packed(alloc, &bytes);
+    /// assert_eq!(rt; name.as_deref(), Some("x"));
+    ///
+    /// bytes[23] = 216;
+    /// assert!(rt; CompactString::from_packed(alloc, &bytes).is_none());
+    /// ```
     #[inline]
     pub fn from_packed(alloc: Global, bytes: &[u8; 24]) -> Option<Self>
         ensures value { MatchOption result ((t : List ℕ) → ¬ (IsPackedFor bytes.now t))
@@ -116,15 +149,21 @@ impl<P: Policy> PolicyString<P> {
         Some(PolicyString { repr })
     }
 
-    /// The empty text with room for `capacity` bytes: inline up to 24, else in a heap buffer of at least 32.
+    /// Creates an empty string with room for `capacity` bytes: inline up to 24, else in a heap buffer of at least 32.
     ///
     /// # Errors
     ///
-    /// [`ReserveError`] if the heap buffer is refused. Up to 24 bytes none is needed.
+    /// [`ReserveError`] if the heap buffer cannot be allocated. Never fails up to 24 bytes.
     ///
     /// # Examples
     ///
-    /// `CompactString::with_capacity(alloc, 30)?` has capacity 32, and no append up to that is refused.
+    /// ```
+    /// let mut line = CompactString::with_capacity(alloc, 30)?;
+    /// assert_eq!(rt; line.capacity(), 32);
+    ///
+    /// line.push_str("thirty-two bytes, all allocated.")?;
+    /// assert_eq!(rt; line.capacity(), 32);
+    /// ```
     pub fn with_capacity(alloc: Global, capacity: usize) -> Result<Self, ReserveError>
         ensures { MakesEmpty P.growth capacity result }
     {
@@ -134,22 +173,33 @@ impl<P: Policy> PolicyString<P> {
         }
     }
 
-    /// `with_capacity` under its other name.
+    /// Same as `with_capacity`.
     ///
     /// # Errors
     ///
     /// [`ReserveError`] as from `with_capacity`.
+    ///
+    /// # Examples
+    ///
+    /// See [`with_capacity`].
     pub fn try_with_capacity(alloc: Global, capacity: usize) -> Result<Self, ReserveError>
         ensures { MakesEmpty P.growth capacity result }
     {
         Self::with_capacity(alloc, capacity)
     }
 
-    /// Takes `text` over with its buffer and capacity, even a short one. Nothing is copied, and it never allocates.
+    /// Creates a string that reuses the buffer and capacity of `text`, even if it is short. Neither copies nor
+    /// allocates. A `text` with no buffer becomes inline and empty.
     ///
     /// # Examples
     ///
-    /// A string of 3 bytes in a buffer of 10 is on the heap with capacity 10. One with no buffer is inline and empty.
+    /// ```
+    /// let mut text = String::with_capacity(alloc, 10)?;
+    /// text.push('é')?;
+    /// let name = CompactString::from_string_buffer(text);
+    /// assert!(rt; name.is_heap_allocated());
+    /// assert_eq!(rt; name.capacity(), 10);
+    /// ```
     pub fn from_string_buffer(text: String) -> Self
         ensures value { let t = text_of (string_bytes text)
             in result ≡ placed_text t (if nat_eq (string_capacity text) 0 then inline_placement
@@ -161,15 +211,18 @@ impl<P: Policy> PolicyString<P> {
         }
     }
 
-    /// A borrowed text is copied as by `new`, and an owned one taken over as by `From<String>`.
+    /// Copies a borrowed text as `new` does, and takes ownership of an owned one as `From<String>` does.
     ///
     /// # Errors
     ///
-    /// [`ReserveError`] if the copy of a borrowed text of more than 24 bytes is refused.
+    /// [`ReserveError`] if copying a borrowed text of more than 24 bytes fails.
     ///
     /// # Examples
     ///
-    /// `CowStr::Borrowed("abc")` gives `"abc"` inline.
+    /// ```
+    /// let name = CompactString::from_cow(alloc, CowStr::Borrowed("Zoë"))?;
+    /// assert_eq!(rt; name.as_str(), "Zoë");
+    /// ```
     #[tactic(auto, using(crate::proofs::EditFacts::string_facts))]
     pub fn from_cow(alloc: Global, text: CowStr<'_>) -> Result<Self, ReserveError>
         ensures takes { TakesCow P.growth text.entry result }
@@ -183,15 +236,20 @@ impl<P: Policy> PolicyString<P> {
         }
     }
 
-    /// A copy of `text` as `new` makes it; the box is dropped.
+    /// Copies `text` as `new` does and drops the box. `From<BoxedStr>` reuses its buffer instead.
     ///
     /// # Errors
     ///
-    /// [`Refused`] if `new` is, with `text` as it was. Up to 24 bytes that never comes.
+    /// [`Refused`] with `text`, unchanged, if allocation fails. Never fails up to 24 bytes.
     ///
     /// # Examples
     ///
-    /// A box of `"abc"` gives `"abc"` inline.
+    /// ```
+    /// let text = String::from_str(alloc, "Zoë")?.into_boxed_str();
+    /// let name = CompactString::from_boxed_str(alloc, text).map_err(ReserveError::from)?;
+    /// assert_eq!(rt; name.as_str(), "Zoë");
+    /// assert!(rt; !name.is_heap_allocated());
+    /// ```
     pub fn from_boxed_str(alloc: Global, text: BoxedStr) -> Result<Self, Refused<BoxedStr>>
         ensures ok { IfOk result (λ v. new P.growth (text_of (boxed_str_bytes text)) ≡ Some v) }
         ensures text { IfOk result (λ v. v.text ≡ text_of (boxed_str_bytes text)) }
@@ -211,8 +269,15 @@ impl<P: Policy> From<String> for PolicyString<P> {
     ghost from_gives = { λ s v. let t = text_of (string_bytes s) in v
         ≡ placed_text t (from_string_placement t (string_capacity s)) };
 
-    /// Takes `text` over: inline up to 24 bytes, and its buffer is dropped; else with its buffer and capacity. Nothing
-    /// on the heap is copied, and it never allocates.
+    /// Takes ownership of `text` without allocating. Up to 24 bytes it becomes inline and its buffer is freed;
+    /// otherwise it keeps its buffer and capacity.
+    ///
+    /// # Examples
+    ///
+    /// ```
+    /// let text = String::from_str(alloc, "Zoë")?;
+    /// assert!(rt; !CompactString::from(text).is_heap_allocated());
+    /// ```
     fn from(text: String) -> Self {
         PolicyString {
             repr: Repr::from_string(text),
@@ -228,15 +293,21 @@ impl<P: Policy> TryFrom<Vec<u8>> for PolicyString<P> {
         ≡ placed_text t (from_string_placement t (vec_capacity b)))
         (λ e. (from_utf8_error_vec e ≡ b) × IsErrorOf b.items (from_utf8_error_cause e)) };
 
-    /// Takes the bytes over as `From<String>` takes a text, and never allocates.
+    /// Takes ownership of UTF-8 bytes as `From<String>` does, without allocating.
     ///
     /// # Errors
     ///
-    /// `FromUtf8Error`, which hands the bytes back, if they are no UTF-8.
+    /// `FromUtf8Error` with the bytes if they are not valid UTF-8.
     ///
     /// # Examples
     ///
-    /// The bytes 61 62 give `"ab"`, and C3 alone is refused.
+    /// ```
+    /// let bytes = Vec::from_slice(alloc, &[0xC3u8, 0xA9])?;
+    /// assert_eq!(rt; CompactString::try_from(bytes)?.as_str(), "é");
+    ///
+    /// let bytes = Vec::from_slice(alloc, &[0xC3u8])?;
+    /// assert!(rt; CompactString::try_from(bytes).is_err());
+    /// ```
     fn try_from(bytes: Vec<u8>) -> Result<Self, FromUtf8Error> {
         match String::from_utf8(bytes) {
             Ok(text) => Ok(Self::from(text)),
@@ -249,8 +320,8 @@ impl<P: Policy> From<BoxedStr> for PolicyString<P> {
     ghost from_gives = { λ b v. let t = text_of (boxed_str_bytes b) in
         (v.text ≡ t) × ((capacity : ℕ) × (v ≡ placed_text t (from_string_placement t capacity))) };
 
-    /// Takes the text over as `From<String>` does, with the capacity that the box keeps. It never allocates, where
-    /// `from_boxed_str` copies.
+    /// Takes ownership of `text` as `From<String>` does, with the capacity of the box. Never allocates, unlike
+    /// `from_boxed_str`.
     #[tactic(auto, using(crate::proofs::EditFacts::string_facts))]
     fn from(text: BoxedStr) -> Self {
         let text = text.into_string();

@@ -1,4 +1,4 @@
-//! A value where a `&str` is wanted.
+//! Strings as `&str`.
 ghost use Rattle.std.specs.Prelude.{◌≡◌, ℕ, List, length};
 ghost use Rattle.std.specs.Str.{IsCharBoundary};
 ghost use Rattle.compact_repr.specs.Text.{size, utf8, text_of};
@@ -12,11 +12,15 @@ use std::ops::{AsDeref, DerefStr};
 impl<P: Policy> DerefStr for PolicyString<P> {
     ghost deref_gives = { λ v bytes. bytes ≡ utf8 v.text };
 
-    /// `as_str`, so that the methods of `&str` are methods of a value, and `&value` is a `&str` where one is asked for.
+    /// Returns the text, so that a string has the methods of `&str` and `&value` is a `&str` if one is expected.
     ///
     /// # Examples
     ///
-    /// Of `"key=value"`, `value.find('=')` is `Some(3)`, and `&value[..3]` is `"key"`.
+    /// ```
+    /// let field = CompactString::new(alloc, "clé=valeur")?;
+    /// assert_eq!(rt; field.find('='), Some(4));
+    /// assert_eq!(rt; &field[..4], "clé");
+    /// ```
     #[inline]
     fn deref(&self) -> &str
         ensures bytes { result.now ≡ utf8 self.now.text }
@@ -39,11 +43,14 @@ impl<'a, P: Policy + 'a> AsDeref<'a> for PolicyString<P> {
 
     ghost output_view = { λ y. y.now };
 
-    /// `as_str`, for `as_deref` of an `Option`.
+    /// Same as `as_str`, for `as_deref` of an `Option`.
     ///
     /// # Examples
     ///
-    /// Of `None`, `option.as_deref().unwrap_or("none")` is `"none"`.
+    /// ```
+    /// let name: Option<CompactString> = None;
+    /// assert_eq!(rt; name.as_deref().unwrap_or("none"), "none");
+    /// ```
     #[inline]
     fn shown(&'a self) -> &'a str {
         self
@@ -53,7 +60,7 @@ impl<'a, P: Policy + 'a> AsDeref<'a> for PolicyString<P> {
 impl<P: Policy> AsStr for PolicyString<P> {
     ghost text = { λ v. utf8 v.text };
 
-    /// The method `as_str`, under a bound: a call that takes any `T: AsStr` takes a value.
+    /// Same as `as_str`, for calls that take any `T: AsStr`.
     #[inline]
     fn as_str(&self) -> &str {
         PolicyString::as_str(self)

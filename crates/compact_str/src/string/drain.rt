@@ -1,4 +1,4 @@
-//! A range of a value that is taken out, character by character.
+//! A draining iterator.
 ghost use Rattle.std.specs.Prelude.{◌≡◌, ℕ, ◌≤◌, List, length, [], Some, IfSome, IfOk, OnErr, IsOk, true};
 ghost use Rattle.std.specs.Borrow.{sem, RestsIfErr};
 ghost use Rattle.compact_repr.specs.Text.{size, utf8, text_of};
@@ -20,23 +20,23 @@ use std::fmt::{Debug, Display, Formatter, Write};
 use std::iter::FusedIterator;
 use std::ops::Bound;
 
-/// The characters of a range that `drain` takes out of a value: an iterator from both ends, each character once.
+/// A draining iterator over the characters of a range, from both ends.
 ///
-/// Its drop takes the old_len range out, however much was taken from it.
+/// Dropping it removes the whole range, even if it was not exhausted. Created by `drain`.
 pub struct Drain<'a, P: Policy> {
     value: &'a mut PolicyString<P>,
-    // The range, in bytes.
+    // The whole range, in bytes.
     start: usize,
     end: usize,
-    // The length of the text before the range is removed. The ghost fields hold of a drain whose drop has run too, when its
-    // positions may be no boundaries any more, so they speak of a text of this length alone. While the length is this one,
-    // neither a step nor the drop tests whether a position is a boundary.
+    // The length of the text before the removal. The ghost fields hold after the drop too, when the positions may no
+    // longer be boundaries, so they speak of a text of this length alone. While it has this length, neither a step nor
+    // the drop tests boundaries.
     old_len: usize,
-    // The part of the range that has not been returned yet.
+    // The part not returned yet.
     rest_start: usize,
     rest_end: usize,
-    // Whether the range is known to be ASCII. A loop over such a range tests no character for its width, so the compiler
-    // may take several in one step.
+    // Whether the range is known to be ASCII. A loop over it then tests no widths, so the compiler may take several
+    // characters in one step.
     is_ascii: bool,
     ghost owned: { IsOwned value.now },
     ghost within: { size value.now.text ≤ old_len },
@@ -51,18 +51,22 @@ impl<P: Policy> PolicyString<P> {
     ghost use Rattle.compact_str.specs.Drain.{drain_rest, value_after_drain, drain_lender};
     ghost use Rattle.compact_str.specs.contracts.string.PolicyString.{the_row};
 
-    /// Takes a range of the text out, in bytes: answers its characters, and the drop of the answer leaves what stood
-    /// before and after it. A static value becomes owned first, for an empty range too. Whether the bounds are a range
-    /// of the text, `check_range` tells.
+    /// Removes a range of bytes, which `check_range` must accept, and returns its characters as an iterator. The range
+    /// is removed when the iterator is dropped. A static string becomes owned first, even for an empty range.
     ///
     /// # Errors
     ///
-    /// [`ReserveError`] if a static text of more than 24 bytes cannot be made owned. An owned value is never refused.
+    /// [`ReserveError`] if copying a static string of more than 24 bytes fails. Never fails for an owned string.
     ///
     /// # Examples
     ///
-    /// Of `"Hello, world!"` from `Included(5)` to `Excluded(12)` it gives the characters of `", world"`, and leaves
-    /// `"Hello!"`.
+    /// ```
+    /// let mut greeting = CompactString::new(alloc, "Hello, wörld!")?;
+    /// let mut drain = greeting.drain(Included(5), Excluded(13))?;
+    /// assert_eq!(rt; drain.next_back(), Some('d'));
+    /// drop(drain);
+    /// assert_eq!(rt; greeting.as_str(), "Hello!");
+    /// ```
     #[inline]
     pub fn drain(
         &mut self,
@@ -95,7 +99,7 @@ impl<P: Policy> PolicyString<P> {
         Ok(self.drain_between(first, last))
     }
 
-    /// The characters from one position to another, in bytes, which are taken out when the answer is dropped.
+    /// Creates the drain of an owned string.
     #[inline]
     fn drain_between(&mut self, start: usize, end: usize) -> Drain<'_, P>
         requires owned { IsOwned self.old }
@@ -121,21 +125,30 @@ impl<P: Policy> PolicyString<P> {
 impl<P: Policy> Drain<'_, P> {
     ghost use Rattle.compact_str.specs.Drain.{drain_rest};
 
-    /// The part of the range that is not yet taken.
+    /// Returns the rest of the range as a `&str`.
+    ///
+    /// # Examples
+    ///
+    /// ```
+    /// let mut word = CompactString::new(alloc, "naïve")?;
+    /// let mut drain = word.drain(Included(1), Unbounded)?;
+    /// assert_eq!(rt; drain.next(), Some('a'));
+    /// assert_eq!(rt; drain.as_str(), "ïve");
+    /// ```
     #[inline(always)]
     pub fn as_str(&self) -> &str
         ensures bytes { result.now ≡ utf8 (drain_rest self.now) }
         ensures text { text_of result.now ≡ drain_rest self.now }
         ensures len { length result.now ≡ size (drain_rest self.now) }
     {
-        // An inline text is short: the loop has one way of reading alone, that of the heap.
+        // An inline text is short, so the hot loop reads only the heap.
         match self.heap_rest() {
             Some(rest) => rest,
             None => self.value.cold_range_text(self.rest_start, self.rest_end),
         }
     }
 
-    /// The same of a heap value, which is as it was when the drain was made; `None` of any other.
+    /// Like `as_str` for a heap string of the same length as when the drain was created; otherwise `None`.
     #[inline(always)]
     fn heap_rest(&self) -> Option<&str>
         ensures text { IfSome result (λ s. text_of s.now ≡ drain_rest self.now) }
@@ -164,10 +177,9 @@ impl<P: Policy> Iterator for Drain<'_, P> {
 
     ghost remaining = { λ d. at_most (length (drain_rest d)) };
 
-    /// The first character that is not yet taken.
     #[inline(always)]
     fn next(&mut self) -> Option<char> {
-        // That `front` is before `back` tells the proof that the sums below fit.
+        // Shows the proof that the sums below fit: `front` is before `back`.
         let (front, back) = (self.rest_start, self.rest_end);
         if self.is_ascii {
             if let Some(rest) = self.heap_rest() {
@@ -185,13 +197,13 @@ impl<P: Policy> Iterator for Drain<'_, P> {
                 return Some(character);
             }
         }
-        // It takes the positions, so that the loop need not count what is left.
+        // Passes positions, so that the loop need not count what is left.
         let word = self.value.first_char_packed(front, back)?;
         self.rest_start = range::position_after(front, word);
         Some(unsafe { char::from_u32_unchecked((word >> 32) as u32) })
     }
 
-    /// How many characters are left: at least a quarter of the bytes, and at most as many.
+    /// Returns a quarter of the remaining bytes, rounded up, and all of them.
     #[inline]
     fn size_hint(&self) -> (usize, Option<usize>)
         ensures lower { IsWithinCount result.0 (at_most (length (drain_rest self.now))) }
@@ -209,7 +221,6 @@ impl<P: Policy> DoubleEndedIterator for Drain<'_, P> {
 
     ghost next_back_gives = { DrainsBack };
 
-    /// The last character that is not yet taken.
     #[inline]
     fn next_back(&mut self) -> Option<char> {
         let character = last_char(self.as_str())?;
@@ -223,7 +234,6 @@ impl<P: Policy> FusedIterator for Drain<'_, P> {}
 impl<P: Policy> Drop for Drain<'_, P> {
     ghost use Rattle.compact_str.specs.Drain.{value_after_drain};
 
-    /// Takes the old_len range out of the value.
     #[inline]
     fn drop(self)
         ensures { self.exit.0.now ≡ value_after_drain self.entry }
@@ -250,14 +260,14 @@ impl<P: Policy> Display for Drain<'_, P> {
 
     ghost styled_output = { λ d _. Some (utf8 (drain_rest d)) };
 
-    /// Prints what is not yet taken, whatever the width.
+    /// Writes the rest of the range, ignoring a width.
     fn fmt<W: Write>(&self, f: &mut Formatter<W>) -> fmt::Result {
         f.write_str(self.as_str())
     }
 }
 
 impl<P: Policy> Debug for Drain<'_, P> {
-    /// Prints `Drain(`, what is not yet taken as its `Debug` shows it, and `)`.
+    /// Writes the rest of the range as `Drain("..")`.
     fn fmt<W: Write>(&self, f: &mut Formatter<W>) -> fmt::Result {
         f.debug_tuple("Drain").field(&self.as_str()).finish()
     }

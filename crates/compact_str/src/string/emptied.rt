@@ -1,4 +1,4 @@
-//! An empty value where one is made to stand in a place.
+//! `Emptied` and `MadeWith`, for `mem::try_take` and `or_default`.
 ghost use Rattle.std.specs.Prelude.{◌≡◌, [], IfOk, IsOk};
 ghost use Rattle.compact_repr.specs.Value.{placed_text};
 ghost use Rattle.compact_repr.specs.Capacity.{inline_placement};
@@ -11,11 +11,11 @@ use std::default::{Emptied, MadeWith};
 impl<P: Policy> Emptied for PolicyString<P> {
     ghost is_emptied = { λ v. v ≡ placed_text [] inline_placement };
 
-    /// The empty text, which `mem::try_take` leaves in the place of a value.
+    /// Returns an empty string, for `mem::try_take`.
     ///
     /// # Errors
     ///
-    /// None ever comes, since the empty text is inline.
+    /// Never fails: an empty string is inline.
     #[inline]
     fn emptied(like: &Self) -> Result<Self, AllocError>
         ensures empty { IfOk result (λ v. v ≡ placed_text [] inline_placement) }
@@ -28,7 +28,7 @@ impl<P: Policy> Emptied for PolicyString<P> {
 impl<P: Policy> MadeWith<Global> for PolicyString<P> {
     ghost is_made_with = { λ v. v ≡ placed_text [] inline_placement };
 
-    /// The empty text, which `or_default` puts into a map.
+    /// Returns an empty string, for `or_default` of a map.
     #[inline]
     fn made_with(alloc: Global) -> Self {
         Self::default(alloc)

@@ -1,4 +1,4 @@
-//! A value that is a key of the maps and sets of `indexmap` is looked up by its text.
+//! Lookup by text in the maps and sets of `indexmap`.
 ghost use Rattle.std.specs.Cmp.Lexicographic.{bytes_decides, nat_list_eq_equiv};
 ghost use Rattle.std.specs.Hash as fed;
 ghost use Rattle.std.proofs.Common.{ap, ◌∙◌};
@@ -18,11 +18,7 @@ impl<P: Policy> Equivalent<PolicyString<P>> for &str {
     ghost respects_eq = { λ q x y h.
         nat_list_eq_equiv.congr q.now (utf8 x.text) (utf8 y.text) h ∙ utf8-same x.text y.text };
 
-    /// Whether the key has this text, for which no value is made.
-    ///
-    /// # Examples
-    ///
-    /// `map.get("abc")` finds a key `"abc"`.
+    /// Returns `true` if the key has this text, as for `map.get("abc")`.
     #[inline]
     fn equivalent(&self, key: &PolicyString<P>) -> bool {
         *self == key.as_str()

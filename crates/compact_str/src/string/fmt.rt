@@ -1,4 +1,4 @@
-//! How a value is shown.
+//! Formatting.
 ghost use Rattle.std.specs.Prelude.{Some};
 ghost use Rattle.std.specs.Fmt.{styled_text, debug_str};
 ghost use Rattle.compact_repr.specs.Text.{utf8};
@@ -13,11 +13,16 @@ impl<P: Policy> Display for PolicyString<P> {
 
     ghost styled_output = { λ v s. Some (styled_text s (utf8 v.text)) };
 
-    /// Shows the text as its `str` is shown, padded where a width is given.
+    /// Writes the text like `str`, padded if a width is given.
     ///
     /// # Examples
     ///
-    /// `{:*>5}` of `"äb"` is `***äb`.
+    /// ```
+    /// let name = CompactString::new(alloc, "äb")?;
+    /// let mut line = CompactString::default(alloc);
+    /// write!(line, "{name:*>5}")?;
+    /// assert_eq!(rt; line.as_str(), "***äb");
+    /// ```
     #[inline]
     fn fmt<W: fmt::Write>(&self, f: &mut fmt::Formatter<W>) -> fmt::Result {
         f.pad(self.as_str())
@@ -27,7 +32,7 @@ impl<P: Policy> Display for PolicyString<P> {
 impl<P: Policy> Debug for PolicyString<P> {
     ghost debug_output = { λ v. debug_str (utf8 v.text) };
 
-    /// Shows the text as its `str` is shown: between quotes, with escapes.
+    /// Writes the text like `str`, quoted and escaped.
     #[inline]
     fn fmt<W: fmt::Write>(&self, f: &mut fmt::Formatter<W>) -> fmt::Result {
         Debug::fmt(self.as_str(), f)

@@ -1,4 +1,4 @@
-//! How the text is changed by byte position.
+//! Editing by byte position.
 ghost use Rattle.std.specs.Prelude.{◌≡◌, ℕ, ◌+◌, ◌-◌, ◌^◌, ◌<◌, ◌≤◌, ◌↔◌, ◌∷◌, ◌++◌, [], length, take, drop, Some, None, IfOk, OnOk, OnErr, IsOk, IsTrue, MatchOption};
 ghost use Rattle.std.specs.Char.{len_utf8, encode_utf8};
 ghost use Rattle.std.specs.Range.Bound.{start_index, end_index};
@@ -18,14 +18,18 @@ use compact_text::str_parts::{encode_char, is_boundary};
 use std::ops::Bound;
 
 impl<P: Policy> PolicyString<P> {
-    /// Where a range of the text begins and ends, in bytes; `None` exactly of one that ends before it starts, or of
-    /// which an end is no boundary. An excluded start is a byte after the bound, and so is an included end.
+    /// Returns the start and end of a range in bytes, or `None` if it ends before it starts or an end is not a
+    /// character boundary. `Excluded(n)` starts at `n + 1`; `Included(n)` ends at `n + 1`.
     ///
-    /// The pair serves `replace_range` as `Included` and `Excluded` bounds.
+    /// `replace_range` takes the pair as `Included` and `Excluded`.
     ///
     /// # Examples
     ///
-    /// Of `"äb"` from `Excluded(1)` to `Excluded(3)` it answers 2 and 3.
+    /// ```
+    /// let text = CompactString::new(alloc, "äb")?;
+    /// assert_eq!(rt; text.check_range(Excluded(1), Unbounded), Some((2, 3)));
+    /// assert_eq!(rt; text.check_range(Included(1), Unbounded), None);
+    /// ```
     #[tactic(auto, using(crate::proofs::EditFacts::position_facts))]
     pub fn check_range(&self, start: Bound<usize>, end: Bound<usize>) -> Option<(usize, usize)>
         ensures { MatchOption result (¬ IsRange self.now.text start end)
@@ -41,11 +45,14 @@ impl<P: Policy> PolicyString<P> {
         }
     }
 
-    /// The part of the text in a range, in bytes. Whether the bounds are a range of the text, `check_range` tells.
+    /// Returns the text in a range of bytes, which `check_range` must accept.
     ///
     /// # Examples
     ///
-    /// Of `"key=value"` from `Included(4)` to `Unbounded` it is `"value"`.
+    /// ```
+    /// let field = CompactString::new(alloc, "clé=valeur")?;
+    /// assert_eq!(rt; field.range(Included(5), Unbounded), "valeur");
+    /// ```
     #[tactic(auto, using(crate::proofs::EditFacts::position_facts))]
     pub fn range(&self, start: Bound<usize>, end: Bound<usize>) -> &str
         requires { IsRange self.now.text start end }
@@ -61,18 +68,23 @@ impl<P: Policy> PolicyString<P> {
         self.repr.substring(first, last)
     }
 
-    /// Puts `text` in at the boundary `index`, in bytes. Room is made first, and a static value becomes owned even for
-    /// an empty text. `index` stays a boundary, and so is the place behind what was put in. An insertion gives no room
-    /// back.
+    /// Inserts `text` at byte `index`, which must be a character boundary. Reserves first, so a static string becomes
+    /// owned even if `text` is empty. Never shrinks the capacity.
+    ///
+    /// `index` and the end of the inserted text are boundaries afterwards.
     ///
     /// # Errors
     ///
-    /// [`ReserveError`] if a new buffer is refused. None is needed where the outcome fits in 24 bytes or in the
-    /// capacity that the value owns.
+    /// [`ReserveError`] if allocation fails. Never fails if the result fits in 24 bytes or in the capacity of an owned
+    /// string.
     ///
     /// # Examples
     ///
-    /// `"bc"` put into `"ad"` at 1 gives `"abcd"`.
+    /// ```
+    /// let mut word = CompactString::new(alloc, "né")?;
+    /// word.insert_str(1, "aïv")?;
+    /// assert_eq!(rt; word.as_str(), "naïvé");
+    /// ```
     #[inline]
     #[tactic(auto, using(crate::proofs::EditFacts::insertion_facts))]
     pub fn insert_str(&mut self, index: usize, text: &str) -> Result<(), ReserveError>
@@ -97,8 +109,7 @@ impl<P: Policy> PolicyString<P> {
         self.repr.insert_str_slow(index, text)
     }
 
-    /// Puts a character in at the boundary `index`, in bytes, as `insert_str` puts its text in. A cursor goes on by
-    /// `character.len_utf8()`.
+    /// Inserts a character at byte `index`, like `insert_str`. The next position is `index + character.len_utf8()`.
     ///
     /// # Errors
     ///
@@ -106,7 +117,12 @@ impl<P: Policy> PolicyString<P> {
     ///
     /// # Examples
     ///
-    /// `'é'` put into `"ab"` at 1 gives `"aéb"`, and 3 is the place behind it.
+    /// ```
+    /// let mut text = CompactString::new(alloc, "ab")?;
+    /// text.insert(1, 'é')?;
+    /// text.insert(3, '!')?;
+    /// assert_eq!(rt; text.as_str(), "aé!b");
+    /// ```
     #[inline]
     pub fn insert(&mut self, index: usize, character: char) -> Result<(), ReserveError>
         requires { IsBoundary self.old.text index }
@@ -131,16 +147,20 @@ impl<P: Policy> PolicyString<P> {
         self.insert_str(index, encode_char(character, &mut bytes))
     }
 
-    /// Takes out the character that begins at the boundary `index`, in bytes and below the length, and answers it. A
-    /// static value becomes owned first.
+    /// Removes and returns the character at byte `index`, a character boundary below the length. A static string
+    /// becomes owned first.
     ///
     /// # Errors
     ///
-    /// [`ReserveError`] if a static text of more than 24 bytes cannot be made owned. An owned value is never refused.
+    /// [`ReserveError`] if copying a static string of more than 24 bytes fails. Never fails for an owned string.
     ///
     /// # Examples
     ///
-    /// Of `"aéb"` at 1 it answers `'é'` and leaves `"ab"`.
+    /// ```
+    /// let mut text = CompactString::new(alloc, "aéb")?;
+    /// assert_eq!(rt; text.remove(1)?, 'é');
+    /// assert_eq!(rt; text.as_str(), "ab");
+    /// ```
     #[inline]
     #[tactic(auto, using(crate::proofs::EditFacts::position_facts))]
     pub fn remove(&mut self, index: usize) -> Result<char, ReserveError>
@@ -154,7 +174,7 @@ impl<P: Policy> PolicyString<P> {
         self.remove_char(index)
     }
 
-    /// `remove` of any character, in any place.
+    /// `remove` for any character and place.
     #[inline(never)]
     #[tactic(auto, using(crate::proofs::EditFacts::position_facts))]
     fn remove_char(&mut self, index: usize) -> Result<char, ReserveError>
@@ -163,24 +183,28 @@ impl<P: Policy> PolicyString<P> {
         ensures { RemovesChar P.growth self.old index result self.new }
     {
         let len = self.repr.len();
-        // The position is in the text, so that what follows the character is too.
+        // Shows the proof that the end of the character is in the text.
         prove!(index < len);
         let character = self.repr.char_at(index);
         self.repr.cut_out(index, index + character.len_utf8())?;
         Ok(character)
     }
 
-    /// Replaces a range of the text, in bytes. A static value becomes owned, and one that grows makes room for the
-    /// difference. Whether the bounds are a range of the text, `check_range` tells.
+    /// Replaces a range of bytes, which `check_range` must accept. A static string becomes owned. Reserves the
+    /// difference if the string grows.
     ///
     /// # Errors
     ///
-    /// [`ReserveError`] if a new buffer is refused. None is needed where there is room for the difference, nor in an
-    /// owned value for a text that is no longer than the range.
+    /// [`ReserveError`] if allocation fails. Never fails if the string is owned and the result fits in its capacity, or
+    /// if neither exceeds 24 bytes.
     ///
     /// # Examples
     ///
-    /// `"abc"` from `Included(1)` to `Excluded(2)` replaced by `"xy"` gives `"axyc"`.
+    /// ```
+    /// let mut word = CompactString::new(alloc, "grün")?;
+    /// word.replace_range(Included(2), Excluded(4), "ee")?;
+    /// assert_eq!(rt; word.as_str(), "green");
+    /// ```
     #[tactic(auto, using(crate::proofs::EditFacts::replacement_facts))]
     pub fn replace_range(
         &mut self,
@@ -213,17 +237,22 @@ impl<P: Policy> PolicyString<P> {
         self.repr.replace_slow(first, last, text)
     }
 
-    /// Splits the text at the boundary `index`, in bytes: keeps what stands before it, in its place, and answers the
-    /// rest. Of a static value the rest is static too where it is longer than 24 bytes, and not copied.
+    /// Splits the string at byte `index`, which must be a character boundary. Keeps `[0, index)` in its place and
+    /// returns `[index, len)`. If the string is static, a result of more than 24 bytes is static too, and is not
+    /// copied.
     ///
     /// # Errors
     ///
-    /// [`ReserveError`] if a buffer for the rest is refused. None is needed of a static value, nor for a rest of at
-    /// most 24 bytes.
+    /// [`ReserveError`] if allocation fails. Never fails for a static string or a result of at most 24 bytes.
     ///
     /// # Examples
     ///
-    /// `"key=value"` at 4 keeps `"key="` and answers `"value"`.
+    /// ```
+    /// let mut key = CompactString::new(alloc, "clé=valeur")?;
+    /// let value = key.split_off(5)?;
+    /// assert_eq!(rt; key.as_str(), "clé=");
+    /// assert_eq!(rt; value.as_str(), "valeur");
+    /// ```
     #[tactic(auto, using(crate::proofs::EditFacts::position_facts))]
     pub fn split_off(&mut self, index: usize) -> Result<Self, ReserveError>
         requires { IsBoundary self.old.text index }
@@ -248,7 +277,7 @@ impl<P: Policy> PolicyString<P> {
     }
 }
 
-/// Where a range of a text of `len` bytes begins and ends, in bytes; `None` only where an end of it is past the text.
+/// Returns the start and end of a range of a text of `len` bytes. Returns `None` only if an end is past `len`.
 #[inline]
 pub fn byte_range(start: Bound<usize>, end: Bound<usize>, len: usize) -> Option<(usize, usize)>
     ensures { MatchOption result (¬ ((start_index start ≤ len) × (end_index end len ≤ len)))

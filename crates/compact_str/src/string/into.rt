@@ -1,4 +1,4 @@
-//! How a text leaves its value.
+//! Conversions out of a string.
 ghost use Rattle.std.specs.Prelude.{◌≡◌, ◌≤◌, false, IfOk, IfErr, IsOk, string_bytes, not};
 ghost use Rattle.std.specs.Vec.{vec_capacity};
 ghost use Rattle.std.specs.String.{string_capacity};
@@ -18,15 +18,19 @@ use std::boxed::BoxedStr;
 use std::rc::RcStr;
 
 impl<P: Policy> PolicyString<P> {
-    /// The text as a `String`: of a heap value with its buffer and at least its capacity, and of every other a copy.
+    /// Converts into a `String`. A heap string keeps its buffer and at least its capacity; any other is copied.
     ///
     /// # Errors
     ///
-    /// [`Refused`] with the value as it was, if no memory is found for the copy. A heap value needs none.
+    /// [`Refused`] with the string, unchanged, if the copy cannot be allocated. Never fails for a heap string.
     ///
     /// # Examples
     ///
-    /// `CompactString::new(alloc, "abc")?.into_string()` is a copy of `"abc"`.
+    /// ```
+    /// let name = CompactString::new(alloc, "café")?;
+    /// let text = name.into_string().map_err(ReserveError::from)?;
+    /// assert_eq!(rt; text.as_str(), "café");
+    /// ```
     pub fn into_string(self) -> Result<String, Refused<Self>>
         ensures bytes { IfOk result (λ s. string_bytes s ≡ utf8 self.text) }
         ensures text { IfOk result (λ s. text_of (string_bytes s) ≡ self.text) }
@@ -46,7 +50,7 @@ impl<P: Policy> PolicyString<P> {
         }
     }
 
-    /// The bytes of the text as a vector: of a heap value with its buffer, and of every other a copy.
+    /// Converts into a vector of bytes. A heap string keeps its buffer; any other is copied.
     ///
     /// # Errors
     ///
@@ -54,7 +58,11 @@ impl<P: Policy> PolicyString<P> {
     ///
     /// # Examples
     ///
-    /// Of `"é"` they are C3 and A9.
+    /// ```
+    /// let text = CompactString::new(alloc, "é")?;
+    /// let bytes = text.into_vec().map_err(ReserveError::from)?;
+    /// assert_eq!(rt; bytes.as_slice(), [0xC3, 0xA9].as_slice());
+    /// ```
     pub fn into_vec(self) -> Result<Vec<u8>, Refused<Self>>
         ensures bytes { IfOk result (λ v. v.items ≡ utf8 self.text) }
         ensures text { IfOk result (λ v. text_of v.items ≡ self.text) }
@@ -70,17 +78,21 @@ impl<P: Policy> PolicyString<P> {
         }
     }
 
-    /// The bytes of the text in a vector that holds 24 of them in itself: of a heap value with its buffer if that has
-    /// room for more, and of every other a copy.
+    /// Converts into a `SmallVec` with 24 bytes inline. Reuses a heap buffer of more than 24 bytes; otherwise copies.
     ///
     /// # Errors
     ///
-    /// [`Refused`] with the value as it was, if it is a static one of more than 24 bytes and no memory is found for the
-    /// copy.
+    /// [`Refused`] with the string, unchanged, if it is static with more than 24 bytes and the copy cannot be
+    /// allocated.
     ///
     /// # Examples
     ///
-    /// Of `"é"` they are C3 and A9.
+    /// ```
+    /// let text = CompactString::new(alloc, "é")?;
+    /// let bytes = text.into_bytes().map_err(ReserveError::from)?;
+    /// assert_eq!(rt; bytes.as_slice(), [0xC3, 0xA9].as_slice());
+    /// assert_eq!(rt; bytes.capacity(), 24);
+    /// ```
     pub fn into_bytes(self) -> Result<SmallVec<u8, 24>, Refused<Self>>
         ensures bytes { IfOk result (λ v. v.items ≡ utf8 self.text) }
         ensures text { IfOk result (λ v. text_of v.items ≡ self.text) }
@@ -98,7 +110,7 @@ impl<P: Policy> PolicyString<P> {
         }
     }
 
-    /// The text in a box: of a heap value with its buffer, and of every other a copy.
+    /// Converts into a `BoxedStr`. A heap string keeps its buffer; any other is copied.
     ///
     /// # Errors
     ///
@@ -106,7 +118,11 @@ impl<P: Policy> PolicyString<P> {
     ///
     /// # Examples
     ///
-    /// `CompactString::new(alloc, "abc")?.into_boxed_str()` is a box of `"abc"`.
+    /// ```
+    /// let name = CompactString::new(alloc, "café")?;
+    /// let text = name.into_boxed_str().map_err(ReserveError::from)?;
+    /// assert_eq!(rt; text.as_str(), "café");
+    /// ```
     pub fn into_boxed_str(self) -> Result<BoxedStr, Refused<Self>>
         ensures bytes { IfOk result (λ b. boxed_str_bytes b ≡ utf8 self.text) }
         ensures text { IfOk result (λ b. text_of (boxed_str_bytes b) ≡ self.text) }
@@ -120,15 +136,19 @@ impl<P: Policy> PolicyString<P> {
         }
     }
 
-    /// A copy of the text that is shared by counting.
+    /// Converts into an `RcStr`; always copies.
     ///
     /// # Errors
     ///
-    /// [`Refused`] with the value as it was, if no memory is found for the copy.
+    /// [`Refused`] with the string, unchanged, if the copy cannot be allocated.
     ///
     /// # Examples
     ///
-    /// `CompactString::new(alloc, "abc")?.into_rc()` is an `RcStr` of `"abc"`.
+    /// ```
+    /// let name = CompactString::new(alloc, "café")?;
+    /// let shared = name.into_rc().map_err(ReserveError::from)?;
+    /// assert_eq!(rt; shared.as_str(), "café");
+    /// ```
     pub fn into_rc(self) -> Result<RcStr, Refused<Self>>
         ensures bytes { IfOk result (λ r. rc_str_bytes r ≡ utf8 self.text) }
         ensures text { IfOk result (λ r. text_of (rc_str_bytes r) ≡ self.text) }
@@ -143,16 +163,19 @@ impl<P: Policy> PolicyString<P> {
         }
     }
 
-    /// The text borrowed or owned: a static one is borrowed for ever, one on the heap is owned with its buffer, and one
-    /// inline is copied.
+    /// Converts into a `CowStr`: borrows a static string, keeps the buffer of a heap one and copies an inline one.
     ///
     /// # Errors
     ///
-    /// [`Refused`] with the value as it was, if it is an inline one and no memory is found for the copy.
+    /// [`Refused`] with the string, unchanged, if it is inline and the copy cannot be allocated.
     ///
     /// # Examples
     ///
-    /// A static text of 30 bytes is `CowStr::Borrowed`.
+    /// ```
+    /// let digits = CompactString::const_new(alloc, "0123456789abcdefghijklmno");
+    /// let cow = digits.into_cow().map_err(ReserveError::from)?;
+    /// assert!(rt; matches!(cow, CowStr::Borrowed(_)));
+    /// ```
     pub fn into_cow(self) -> Result<CowStr<'static>, Refused<Self>>
         ensures bytes { IfOk result (λ c. cow_str_bytes c ≡ utf8 self.text) }
         ensures text { IfOk result (λ c. text_of (cow_str_bytes c) ≡ self.text) }
@@ -174,11 +197,14 @@ impl<P: Policy> PolicyString<P> {
         }
     }
 
-    /// The text, borrowed from the value.
+    /// Returns the text as a borrowed `CowStr`.
     ///
     /// # Examples
     ///
-    /// Of `"abc"` it is `CowStr::Borrowed("abc")`.
+    /// ```
+    /// let name = CompactString::new(alloc, "café")?;
+    /// assert_eq!(rt; name.as_cow().as_str(), "café");
+    /// ```
     #[inline]
     pub fn as_cow(&self) -> CowStr<'_>
         ensures bytes { cow_str_bytes result ≡ utf8 self.now.text }
@@ -189,7 +215,7 @@ impl<P: Policy> PolicyString<P> {
     }
 }
 
-/// The refusal that hands a value back.
+/// Returns the string in an error.
 fn refused<P: Policy>(repr: Repr<P>) -> Refused<PolicyString<P>>
     ensures { result.value ≡ repr }
 {

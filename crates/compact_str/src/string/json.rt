@@ -1,4 +1,4 @@
-//! A text as a JSON string.
+//! JSON strings.
 ghost use Rattle.std.specs.Prelude.{◌≡◌, ◌≤◌, length, Some, None, IfOk, IfErr, IsOk, IsErr, IsTrue};
 ghost use Rattle.serde_json.specs.View.{view as json_view};
 ghost use Rattle.serde_json.specs.Find.{as_str as json_text};
@@ -12,13 +12,13 @@ use serde_json::Value;
 use std::alloc::Global;
 use thiserror::Error;
 
-/// Why no value was made of a JSON value.
+/// The error of `from_json`.
 #[derive(Debug, Drop, Error)]
 pub enum FromJsonError {
-    /// It is no string.
+    /// The value is not a string.
     #[error("not a JSON string")]
     NotAString,
-    /// It is a string, for whose copy room was refused.
+    /// Copying the string failed.
     #[error("{0}")]
     Reserve(ReserveError),
 }
@@ -28,22 +28,24 @@ impl From<ReserveError> for FromJsonError {
 
     ghost from_gives = { λ e error. error ≡ Reserve e };
 
-    /// The case `Reserve`.
     fn from(error: ReserveError) -> Self {
         FromJsonError::Reserve(error)
     }
 }
 
 impl<P: Policy> PolicyString<P> {
-    /// A copy of the text as a JSON string.
+    /// Returns a copy of the text as a JSON string.
     ///
     /// # Errors
     ///
-    /// [`ReserveError`] if no memory is found for the copy.
+    /// [`ReserveError`] if the copy cannot be allocated.
     ///
     /// # Examples
     ///
-    /// `to_string` prints `"abc"` with its quotes.
+    /// ```
+    /// let json = CompactString::new(alloc, "café")?.to_json()?;
+    /// assert_eq!(rt; json.as_str(), Some("café"));
+    /// ```
     pub fn to_json(&self) -> Result<Value, ReserveError>
         ensures { IfOk result (λ v. json_view v ≡ json_string (utf8 self.now.text)) }
     {
@@ -53,12 +55,18 @@ impl<P: Policy> PolicyString<P> {
         }
     }
 
-    /// A copy of the text of a JSON string, as `new` makes it.
+    /// Returns a copy of the text of a JSON string, as by `new`.
     ///
     /// # Errors
     ///
-    /// `NotAString` if the value is no string, as the number 1 and null are none. `Reserve` if it is one, and `new` is
-    /// refused, as it never is up to 24 bytes.
+    /// `NotAString` if `value` is not a string, such as 1 or null. `Reserve` if `new` fails, never up to 24 bytes.
+    ///
+    /// # Examples
+    ///
+    /// ```
+    /// let json = CompactString::new(alloc, "café")?.to_json()?;
+    /// assert_eq!(rt; CompactString::from_json(alloc, &json)?.as_str(), "café");
+    /// ```
     pub fn from_json(alloc: Global, value: &Value) -> Result<Self, FromJsonError>
         ensures reads { ReadsJson P.growth (json_view value.now) result }
         ensures text { IfOk result (λ v. json_view value.now ≡ json_string (utf8 v.text)) }

@@ -1,4 +1,4 @@
-//! How the text is changed at its end.
+//! Appending, popping and truncating.
 ghost use Rattle.std.specs.Prelude.{◌≡◌, ℕ, ◌<◌, ◌≤◌, ◌++◌, ◌∷◌, [], length, Some, IfOk, IfErr, OnOk, OnErr, IsOk, MatchOption};
 ghost use Rattle.std.specs.Char.{len_utf8, encode_utf8};
 ghost use Rattle.compact_repr.specs.Text.{size, text_of, utf8};
@@ -15,17 +15,19 @@ use compact_text::str_parts::encode_char;
 use std::fmt;
 
 impl<P: Policy> PolicyString<P> {
-    /// Appends `text`. An empty one changes nothing; for any other, room is made as by `reserve`. An append gives no
-    /// room back: what has room for this text and for more has room for the rest afterwards.
+    /// Appends `text`. Reserves as `reserve` does, unless `text` is empty. Never shrinks the capacity.
     ///
     /// # Errors
     ///
-    /// [`ReserveError`] if a new buffer is refused. None is needed where the outcome fits in the capacity or in 24
-    /// bytes.
+    /// [`ReserveError`] if allocation fails. Never fails if the result fits in the capacity or in 24 bytes.
     ///
     /// # Examples
     ///
-    /// `"ab"` and `"c"` give `"abc"`.
+    /// ```
+    /// let mut order = CompactString::new(alloc, "caf")?;
+    /// order.push_str("é noir")?;
+    /// assert_eq!(rt; order.as_str(), "café noir");
+    /// ```
     #[inline]
     #[tactic(auto, using(crate::proofs::EditFacts::append_facts))]
     pub fn push_str(&mut self, text: &str) -> Result<(), ReserveError>
@@ -43,7 +45,7 @@ impl<P: Policy> PolicyString<P> {
         self.repr.push_str_slow(text)
     }
 
-    /// Appends a character, 1 to 4 bytes, as `push_str` appends its text.
+    /// Appends a character, 1 to 4 bytes, like `push_str`.
     ///
     /// # Errors
     ///
@@ -51,7 +53,11 @@ impl<P: Policy> PolicyString<P> {
     ///
     /// # Examples
     ///
-    /// `"caf"` and `'é'` give `"café"`.
+    /// ```
+    /// let mut name = CompactString::new(alloc, "caf")?;
+    /// name.push('é')?;
+    /// assert_eq!(rt; name.as_str(), "café");
+    /// ```
     #[inline]
     #[tactic(auto, using(crate::proofs::EditFacts::character_facts))]
     pub fn push(&mut self, character: char) -> Result<(), ReserveError>
@@ -68,15 +74,19 @@ impl<P: Policy> PolicyString<P> {
         self.push_str(encode_char(character, &mut bytes))
     }
 
-    /// Appends `text`, as `push_str` does, to a value that is handed in, and hands it out again.
+    /// Appends `text` and returns the string, like Rust's `+`.
     ///
     /// # Errors
     ///
-    /// [`Refused`] if `push_str` is, with the value as it was.
+    /// [`Refused`] with the string, unchanged, if `push_str` fails.
     ///
     /// # Examples
     ///
-    /// `CompactString::new(alloc, "ab")?.add_str("c")` is `"abc"`.
+    /// ```
+    /// let name = CompactString::new(alloc, "caf")?;
+    /// let name = name.add_str("é").map_err(ReserveError::from)?;
+    /// assert_eq!(rt; name.as_str(), "café");
+    /// ```
     pub fn add_str(mut self, text: &str) -> Result<Self, Refused<Self>>
         ensures ok { IfOk result (λ v. push_str P.growth self (text_of text.now) ≡ Some v) }
         ensures text { IfOk result (λ v. v.text ≡ self.text ++ text_of text.now) }
@@ -92,12 +102,17 @@ impl<P: Policy> PolicyString<P> {
         }
     }
 
-    /// Takes the last character off and answers it, or `None` of the empty text, which stays. The place stays, and so
-    /// does the capacity of an inline or heap value; a static value stays static, and is shorter.
+    /// Removes and returns the last character, or returns `None` if the string is empty.
+    ///
+    /// Keeps the place, and the capacity of an owned string. A static string stays static and gets shorter.
     ///
     /// # Examples
     ///
-    /// Of `"café"` it answers `'é'` and leaves `"caf"`.
+    /// ```
+    /// let mut name = CompactString::new(alloc, "café")?;
+    /// assert_eq!(rt; name.pop(), Some('é'));
+    /// assert_eq!(rt; name.as_str(), "caf");
+    /// ```
     #[inline]
     #[tactic(auto, using(crate::proofs::EditFacts::position_facts))]
     pub fn pop(&mut self) -> Option<char>
@@ -108,15 +123,20 @@ impl<P: Policy> PolicyString<P> {
         self.repr.pop()
     }
 
-    /// Keeps the first `len` bytes, which end at a boundary; if the text has no more than that, nothing changes. The
-    /// place stays, and so does the capacity of an inline or heap value.
+    /// Shortens the string to `len` bytes, which must end at a character boundary. Does nothing if it is not longer.
     ///
-    /// Whether `len` is a boundary, `is_char_boundary` tells. The length that a value had before an append is one, and
-    /// gives the old text back.
+    /// Keeps the place, and the capacity of an owned string. `is_char_boundary` tests `len`. The length before an
+    /// append is always a boundary, and truncating to it undoes the append.
     ///
     /// # Examples
     ///
-    /// Of `"café"` the first 3 bytes are `"caf"`.
+    /// ```
+    /// let mut name = CompactString::new(alloc, "café")?;
+    /// let len = name.len();
+    /// name.push_str(" noir")?;
+    /// name.truncate(len);
+    /// assert_eq!(rt; name.as_str(), "café");
+    /// ```
     #[inline]
     #[tactic(auto, using(crate::proofs::EditFacts::position_facts))]
     pub fn truncate(&mut self, len: usize)
@@ -129,12 +149,17 @@ impl<P: Policy> PolicyString<P> {
         self.repr.truncate(len);
     }
 
-    /// Leaves the empty text. The place stays, and so does the capacity of an inline or heap value; a static value has
-    /// capacity 0 then.
+    /// Removes the text. Keeps the place, and the capacity of an owned string; that of a static one becomes 0.
     ///
     /// # Examples
     ///
-    /// A heap value with capacity 100 keeps it.
+    /// ```
+    /// let mut line = CompactString::with_capacity(alloc, 100)?;
+    /// line.push('é')?;
+    /// line.clear();
+    /// assert!(rt; line.is_empty());
+    /// assert_eq!(rt; line.capacity(), 100);
+    /// ```
     #[inline]
     pub fn clear(&mut self)
         ensures value { self.new ≡ clear self.old }
@@ -147,12 +172,12 @@ impl<P: Policy> PolicyString<P> {
 impl<P: Policy> fmt::Write for PolicyString<P> {
     ghost write_str_gives = { Writes P.growth };
 
-    /// Appends `text` as `push_str` does, so that generic code may write to a value.
+    /// Appends `text` like `push_str`, for generic writers.
     ///
     /// # Errors
     ///
-    /// `fmt::Error` if `push_str` is refused; the value is then as it was. Generic code may have written some of its parts
-    /// before the one that was refused, and `truncate` at the old length takes them off again.
+    /// `fmt::Error` if `push_str` fails, leaving the string unchanged. What generic code wrote before stays; `truncate`
+    /// to the old length removes it.
     #[tactic(auto, using(crate::proofs::EditFacts::append_facts))]
     fn write_str(&mut self, text: &str) -> fmt::Result
         ensures ok { IsOk result → Writes P.growth self.old text.now self.new }

@@ -1,4 +1,4 @@
-//! How a text is repeated.
+//! Repeating a text.
 ghost use Rattle.std.specs.Prelude.{◌≡◌, ◌≤◌, ◌*◌, [], Some, IfOk, OnErr, IsOk};
 ghost use Rattle.compact_repr.specs.Text.{size};
 ghost use Rattle.compact_repr.specs.Value.{placed_text};
@@ -9,15 +9,18 @@ use crate::string::PolicyString;
 use compact_repr::{Policy, ReserveError};
 
 impl<P: Policy> PolicyString<P> {
-    /// The text `count` times, one after another, in one buffer. Once, it is a clone; an empty outcome is inline.
+    /// Returns the text repeated `count` times, in one buffer. `repeat(1)` is a clone; an empty result is inline.
     ///
     /// # Errors
     ///
-    /// [`ReserveError`] if the buffer is refused. None is needed for an outcome of at most 24 bytes.
+    /// [`ReserveError`] if allocation fails. Never fails if the result has at most 24 bytes.
     ///
     /// # Examples
     ///
-    /// `"abc"` three times is `"abcabcabc"`.
+    /// ```
+    /// let text = CompactString::new(alloc, "né")?;
+    /// assert_eq!(rt; text.repeat(3)?.as_str(), "nénéné");
+    /// ```
     #[tactic(auto, using(crate::proofs::EditFacts::repeat_facts))]
     pub fn repeat(&self, count: usize) -> Result<Self, ReserveError>
         ensures ok { IfOk result (λ v. repeat P.growth self.now count ≡ Some v) }
@@ -35,7 +38,7 @@ impl<P: Policy> PolicyString<P> {
             return Err(ReserveError);
         };
         let mut all = Self::with_capacity(self.allocator(), total)?;
-        // An empty text is done, however often it is wanted.
+        // Avoids `count` empty appends.
         if total == 0 {
             return Ok(all);
         }
@@ -43,7 +46,7 @@ impl<P: Policy> PolicyString<P> {
         Ok(all)
     }
 
-    /// Appends the text of `piece` so many times to the empty text, which has room for them all.
+    /// Appends `piece` `count` times to an empty string with room for them all.
     fn fill(&mut self, piece: &Self, count: usize)
         requires empty { self.old.text ≡ [] }
         requires room { with_capacity_placement P.growth (size piece.now.text * count)

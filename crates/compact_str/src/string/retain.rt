@@ -1,4 +1,4 @@
-//! How the text is reduced to the characters that a test keeps.
+//! Removing characters by a predicate.
 ghost use Rattle.std.specs.Prelude.{◌≡◌, ◌≤◌, ℕ, Bool, Some, OnOk, OnErr, IsOk, filter};
 ghost use Rattle.compact_repr.specs.Text.{size};
 ghost use Rattle.compact_repr.specs.Capacity.{owned_placement, MakeOwnedAllocates};
@@ -10,19 +10,23 @@ use crate::string::PolicyString;
 use compact_repr::{Policy, ReserveError};
 
 impl<P: Policy> PolicyString<P> {
-    /// Keeps the characters for which `keep` answers true. It is asked once of each character, in order, and may have a
-    /// state of its own. A static value becomes owned first, even where all are kept.
+    /// Retains only the characters for which `keep`, called once for each in order, returns `true`. A static string
+    /// becomes owned first, even if all are kept.
     ///
-    /// Of a test that always says the same of a character, the clause `filter` tells the text.
+    /// If `keep` always returns the same for a character, the clause `filter` states the result.
     ///
     /// # Errors
     ///
-    /// [`ReserveError`] if a static text of more than 24 bytes cannot be made owned; then `keep` was not asked. An
-    /// owned value is never refused.
+    /// [`ReserveError`] if copying a static string of more than 24 bytes fails; `keep` is then not called. Never fails
+    /// for an owned string.
     ///
     /// # Examples
     ///
-    /// Of `"a-b-c"`, `|character| character != '-'` keeps `"abc"`.
+    /// ```
+    /// let mut word = CompactString::new(alloc, "c-a-f-é")?;
+    /// word.retain(|character| character != '-')?;
+    /// assert_eq!(rt; word.as_str(), "café");
+    /// ```
     #[inline]
     pub fn retain<F: FnMut(char) -> bool>(&mut self, mut keep: F) -> Result<(), ReserveError>
         requires { F.IsAlwaysCallable keep }
@@ -38,12 +42,27 @@ impl<P: Policy> PolicyString<P> {
         self.retain_by(&mut keep)
     }
 
-    /// `retain` with a test that is lent. So the clauses can tell that it was asked of each character and no more, and
-    /// not before a refusal: whoever counts in it knows the count.
+    /// Like `retain`, with a borrowed closure whose final state is specified.
     ///
     /// # Errors
     ///
     /// [`ReserveError`] as from `retain`.
+    ///
+    /// # Examples
+    ///
+    /// ```
+    /// let mut word = CompactString::new(alloc, "naïve")?;
+    /// let mut removed = 0;
+    /// let mut keep = |character: char| {
+    ///     if !character.is_ascii() {
+    ///         removed += 1;
+    ///     }
+    ///     character.is_ascii()
+    /// };
+    /// word.retain_by(&mut keep)?;
+    /// assert_eq!(rt; word.as_str(), "nave");
+    /// assert_eq!(rt; removed, 1);
+    /// ```
     #[inline]
     pub fn retain_by<F: FnMut(char) -> bool>(&mut self, keep: &mut F) -> Result<(), ReserveError>
         requires { F.IsAlwaysCallable keep.old }

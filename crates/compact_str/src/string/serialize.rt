@@ -1,4 +1,4 @@
-//! A value as a field of what serde writes and reads.
+//! Serialization by serde.
 ghost use Rattle.std.specs.Prelude.{◌≡◌, IfOk, string_bytes};
 ghost use Rattle.serde.specs.Event.{Logs, text as text_event};
 ghost use Rattle.compact_repr.specs.Text.{utf8};
@@ -16,15 +16,11 @@ impl<P: Policy> Described for PolicyString<P> {
 }
 
 impl<P: Policy> Serialize for PolicyString<P> {
-    /// Writes the text as a `String` is written.
+    /// Serializes like a `String`.
     ///
     /// # Errors
     ///
-    /// That of `out`, where it takes no more.
-    ///
-    /// # Examples
-    ///
-    /// In JSON `"abc"` is written with its quotes.
+    /// The error of `out`.
     #[inline]
     fn serialize<S: Serializer>(&self, out: &mut S) -> Result<(), S::Error> {
         out.str(self.as_str())
@@ -32,12 +28,13 @@ impl<P: Policy> Serialize for PolicyString<P> {
 }
 
 impl<P: Policy> DeserializeOwned for PolicyString<P> {
-    /// A text that the reader gives. One with no escape is copied as by `new`, so that up to 24 bytes never allocate.
-    /// The clause tells a caller of one reader nothing of which text was read.
+    /// Reads a string. Copies one without escapes as `new` does, so that up to 24 bytes never allocate.
+    ///
+    /// To a caller with one reader, the clause does not state which text was read.
     ///
     /// # Errors
     ///
-    /// The reader's own, if it has no text to give or no memory is found.
+    /// The reader's own, if it has no string or allocation fails.
     fn deserialize_owned<F: Format>(
         alloc: Global,
         from: &mut Deserializer<'_, '_, F>,
@@ -49,7 +46,7 @@ impl<P: Policy> DeserializeOwned for PolicyString<P> {
 }
 
 impl<'de, P: Policy> Deserialize<'de> for PolicyString<P> {
-    /// As `deserialize_owned`: the value borrows nothing of what is read.
+    /// Same as `deserialize_owned`: borrows nothing from the input.
     ///
     /// # Errors
     ///
@@ -64,8 +61,7 @@ impl<'de, P: Policy> Deserialize<'de> for PolicyString<P> {
     }
 }
 
-/// A text that stands in the input as it reads is copied from there. Any other, as one with an escape, is read as a `String`
-/// and taken over.
+/// Copies borrowed input directly; reads escaped strings through a `String`.
 fn read_text<P: Policy, F: Format>(
     alloc: Global,
     from: &mut Deserializer<'_, '_, F>,
@@ -93,7 +89,7 @@ fn read_text<P: Policy, F: Format>(
     Ok(taken_over(text))
 }
 
-/// A copy, as `new` makes it.
+/// `new`, with a clause in bytes.
 #[inline]
 fn copy_of<P: Policy>(alloc: Global, text: &str) -> Result<PolicyString<P>, ReserveError>
     ensures { IfOk result (λ v. utf8 v.text ≡ text.now) }
@@ -101,7 +97,7 @@ fn copy_of<P: Policy>(alloc: Global, text: &str) -> Result<PolicyString<P>, Rese
     PolicyString::new(alloc, text)
 }
 
-/// A text as `From<String>` takes it over.
+/// `From<String>`, with a clause in bytes.
 #[inline]
 #[tactic(auto, using(crate::proofs::EditFacts::string_facts))]
 fn taken_over<P: Policy>(text: String) -> PolicyString<P>

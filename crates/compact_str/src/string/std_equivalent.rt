@@ -1,6 +1,6 @@
-//! A value that is a key of the library's own maps and sets is looked up by its text.
+//! Lookup by text in std's maps and sets.
 //!
-//! The two traits here are to leave the library: then this file and `specs/Lookups.antt` go with them, and nothing else.
+//! Both traits will leave std; then this file and `specs/Lookups.antt` go, and nothing else.
 ghost use Rattle.std.specs.Prelude.{◌≡◌};
 ghost use Rattle.std.specs.Cmp.Lexicographic.{bytes_decides, nat_list_eq_equiv, nat_list_cmp_total, slice_cmp};
 ghost use Rattle.std.specs.Ordering.{nat_cmp};
@@ -25,7 +25,7 @@ impl<P: Policy> Equivalent<PolicyString<P>> for &str {
     ghost respects_eq = { λ q x y h.
         nat_list_eq_equiv.congr q.now (utf8 x.text) (utf8 y.text) h ∙ utf8-same x.text y.text };
 
-    /// Whether the key of a `HashMap` or a `HashSet` has this text.
+    /// Returns `true` if the key of a `HashMap` or `HashSet` has this text.
     #[inline]
     fn equivalent(&self, key: &PolicyString<P>) -> bool {
         *self == key.as_str()
@@ -42,7 +42,7 @@ impl<P: Policy> Comparable<PolicyString<P>> for &str {
         le_lt_trans nat_list_cmp_total q.now (utf8 x.text) (utf8 y.text) le
         (utf8-order x.text y.text ∙ lt) };
 
-    /// The order of this text and of the key of a `BTreeMap` or a `BTreeSet`.
+    /// Compares this text with the key of a `BTreeMap` or `BTreeSet`.
     #[inline]
     fn compare(&self, key: &PolicyString<P>) -> Ordering {
         compare_texts(*self, key.as_str())

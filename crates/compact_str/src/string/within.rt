@@ -1,4 +1,4 @@
-//! Calls on a part of the text, given as a range of Rust's.
+//! Methods on Rust's ranges, such as `1..3`.
 ghost use Rattle.std.specs.Prelude.{◌≡◌, ◌-◌, ◌+◌, ◌≤◌, ◌++◌, [], length, Some, IfOk, OnOk, OnErr, IsOk};
 ghost use Rattle.std.specs.Borrow.{sem, RestsIfErr};
 ghost use Rattle.std.specs.Range.Bound.{bound_map};
@@ -20,11 +20,14 @@ impl<P: Policy> PolicyString<P> {
     ghost use Rattle.compact_str.specs.Drain.{drain_rest, value_after_drain, drain_lender};
     ghost use Rattle.compact_str.specs.contracts.string.PolicyString.{the_row};
 
-    /// The part of the text in `range`, in bytes, as `range` gives it by two bounds.
+    /// Returns the text in a range of bytes, like `range`.
     ///
     /// # Examples
     ///
-    /// Of `"key=value"` the part in `4..` is `"value"`.
+    /// ```
+    /// let field = CompactString::new(alloc, "clé=valeur")?;
+    /// assert_eq!(rt; field.range_within(5..), "valeur");
+    /// ```
     pub fn range_within<R: RangeBounds<usize>>(&self, range: R) -> &str
         requires known { R.has_bounds range }
         requires range { IsRange self.now.text (R.start_bound range) (R.end_bound range) }
@@ -39,7 +42,7 @@ impl<P: Policy> PolicyString<P> {
         self.range(start, end)
     }
 
-    /// Takes the characters in `range`, in bytes, out of the text, as `drain` does.
+    /// Removes a range of bytes and returns its characters as an iterator, like `drain`.
     ///
     /// # Errors
     ///
@@ -47,7 +50,11 @@ impl<P: Policy> PolicyString<P> {
     ///
     /// # Examples
     ///
-    /// Of `"Hello, world!"` in `5..12` it gives the characters of `", world"`, and leaves `"Hello!"`.
+    /// ```
+    /// let mut greeting = CompactString::new(alloc, "Hello, wörld!")?;
+    /// drop(greeting.drain_within(5..13)?);
+    /// assert_eq!(rt; greeting.as_str(), "Hello!");
+    /// ```
     pub fn drain_within<R: RangeBounds<usize>>(
         &mut self,
         range: R,
@@ -76,7 +83,7 @@ impl<P: Policy> PolicyString<P> {
         self.drain(start, end)
     }
 
-    /// Replaces the part of the text in `range`, in bytes, as `replace_range` does.
+    /// Replaces a range of bytes, like `replace_range`.
     ///
     /// # Errors
     ///
@@ -84,7 +91,11 @@ impl<P: Policy> PolicyString<P> {
     ///
     /// # Examples
     ///
-    /// `"abc"` with `1..2` replaced by `"xy"` gives `"axyc"`.
+    /// ```
+    /// let mut word = CompactString::new(alloc, "grün")?;
+    /// word.replace_within(2..4, "ee")?;
+    /// assert_eq!(rt; word.as_str(), "green");
+    /// ```
     pub fn replace_within<R: RangeBounds<usize>>(
         &mut self,
         range: R,
@@ -114,8 +125,7 @@ impl<P: Policy> PolicyString<P> {
         self.replace_range(start, end, text)
     }
 
-    /// Appends the part of the text in `range`, in bytes, once more, as `push_str` would append it. It is copied within
-    /// the buffer.
+    /// Appends a copy of a range of bytes, like `push_str`. Copies within the buffer.
     ///
     /// # Errors
     ///
@@ -123,7 +133,11 @@ impl<P: Policy> PolicyString<P> {
     ///
     /// # Examples
     ///
-    /// `"abc"` with `1..` gives `"abcbc"`.
+    /// ```
+    /// let mut text = CompactString::new(alloc, "né")?;
+    /// text.extend_from_within(1..)?;
+    /// assert_eq!(rt; text.as_str(), "néé");
+    /// ```
     #[tactic(auto, using(crate::proofs::Within::within_facts))]
     pub fn extend_from_within<R: RangeBounds<usize>>(
         &mut self,
@@ -158,7 +172,6 @@ impl<P: Policy> PolicyString<P> {
     }
 }
 
-/// The two bounds of a range.
 fn bounds<R: RangeBounds<usize>>(range: R) -> (Bound<usize>, Bound<usize>)
     requires { R.has_bounds range }
     ensures start { result.0 ≡ R.start_bound range }

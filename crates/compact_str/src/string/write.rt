@@ -1,4 +1,4 @@
-//! Appending what a `Display` shows.
+//! Appending formatted values.
 ghost use Rattle.std.specs.Prelude.{◌≡◌, ◌++◌, Some, IfSome, OnOk, OnErr};
 ghost use Rattle.std.specs.Fmt.{AppendsText, with_newline};
 ghost use Rattle.compact_repr.specs.Text.{text_of, utf8};
@@ -14,16 +14,20 @@ use std::fmt::{Display, Write};
 impl<P: Policy> PolicyString<P> {
     /// Appends what `value` displays, all of it or nothing, with the capacity of one `push_str`.
     ///
-    /// It is formatted on the stack first, and past 1024 bytes in a temporary heap buffer.
+    /// Formats on the stack first, and past 1024 bytes in a temporary heap buffer.
     ///
     /// # Errors
     ///
-    /// [`ReserveError`] if a buffer cannot be allocated, even if `value` ignores that, and also if `value` itself returns
-    /// an error. `format_compact!` tells the two apart. The string is then unchanged.
+    /// [`ReserveError`] if a buffer cannot be allocated, even if `value` ignores that, or if `value` itself returns an
+    /// error; `format_compact!` distinguishes the two. The string is then unchanged.
     ///
     /// # Examples
     ///
-    /// `"ab"` and the number 12 give `"ab12"`.
+    /// ```
+    /// let mut line = CompactString::new(alloc, "n° ")?;
+    /// line.write(12)?;
+    /// assert_eq!(rt; line.as_str(), "n° 12");
+    /// ```
     pub fn write<D: Display + Drop>(&mut self, value: D) -> Result<(), ReserveError>
         ensures ok { OnOk result (IfSome (D.output value)
             (λ shown. push_str P.growth self.old (text_of shown) ≡ Some self.new)) }
@@ -40,7 +44,7 @@ impl<P: Policy> PolicyString<P> {
         }
     }
 
-    /// What `write!` calls: appends what `value` shows, as `write` does.
+    /// Appends what `value` displays, like `write`. Called by `write!`.
     ///
     /// # Errors
     ///
@@ -48,7 +52,12 @@ impl<P: Policy> PolicyString<P> {
     ///
     /// # Examples
     ///
-    /// `write!(line, "{name}: {count}")?` appends `"total: 3"`.
+    /// ```
+    /// let mut line = CompactString::default(alloc);
+    /// let (name, count) = ("café", 3);
+    /// write!(line, "{name}: {count}")?;
+    /// assert_eq!(rt; line.as_str(), "café: 3");
+    /// ```
     #[inline]
     pub fn write_fmt<D: Display + Drop>(&mut self, value: D) -> Result<(), ReserveError>
         ensures ok { OnOk result (IfSome (D.output value)
@@ -62,7 +71,7 @@ impl<P: Policy> PolicyString<P> {
         self.write(value)
     }
 
-    /// Appends what `value` shows and a line feed, as `write` appends.
+    /// Appends what `value` displays and a newline, like `write`.
     ///
     /// # Errors
     ///
@@ -70,7 +79,11 @@ impl<P: Policy> PolicyString<P> {
     ///
     /// # Examples
     ///
-    /// `"ab"` and the number 12 give `"ab12\n"`.
+    /// ```
+    /// let mut line = CompactString::new(alloc, "n° ")?;
+    /// line.writeln(12)?;
+    /// assert_eq!(rt; line.as_str(), "n° 12\n");
+    /// ```
     pub fn writeln<D: Display + Drop>(&mut self, value: D) -> Result<(), ReserveError>
         ensures ok { OnOk result (IfSome (with_newline (D.output value))
             (λ shown. push_str P.growth self.old (text_of shown) ≡ Some self.new)) }

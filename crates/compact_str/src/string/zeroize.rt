@@ -7,14 +7,19 @@ use crate::string::PolicyString;
 use compact_repr::Policy;
 
 impl<P: Policy> PolicyString<P> {
-    /// Leaves the empty text, and writes zero over every byte of the value's own buffer, also behind a text that was
-    /// made shorter. A static value becomes inline; every other keeps its place and its capacity.
+    /// Removes the text and overwrites the whole buffer with zeros, also past the end of a shortened text. A static
+    /// string becomes inline; any other keeps its place and capacity.
     ///
-    /// A buffer that the value gave back before, as at a growth, is not reached.
+    /// Buffers freed earlier, for example by growth, are not cleared.
     ///
     /// # Examples
     ///
-    /// `"secret"` becomes `""`.
+    /// ```
+    /// let mut secret = CompactString::new(alloc, "pässword of more than 24 bytes")?;
+    /// secret.zeroize();
+    /// assert!(rt; secret.is_empty());
+    /// assert_eq!(rt; secret.capacity(), 32);
+    /// ```
     pub fn zeroize(&mut self)
         ensures value { self.new ≡ zeroize self.old }
         ensures text { self.new.text ≡ [] }

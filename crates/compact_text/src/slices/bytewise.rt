@@ -1,8 +1,8 @@
-//! Changes of each byte by itself.
+//! Changes of single bytes.
 ghost use Rattle.std.specs.Prelude.{◌≡◌, ◌≤◌, length, take, drop, map, replicate};
 ghost use Rattle.std.specs.Char.{to_ascii_lowercase, to_ascii_uppercase};
 
-/// Writes every byte of `slice` with zero.
+/// Fills the slice with zeros.
 #[inline]
 pub fn fill_zero(slice: &mut [u8])
     ensures { slice.new ≡ replicate (length slice.old) 0 }
@@ -10,7 +10,7 @@ pub fn fill_zero(slice: &mut [u8])
     slice.fill(0);
 }
 
-/// Makes A to Z lowercase in the first `len` bytes of `slice`. Every other byte stays.
+/// Makes A to Z lowercase in the first `len` bytes.
 #[inline]
 pub fn make_lowercase(slice: &mut [u8], len: usize)
     requires { len ≤ length slice.old }
@@ -20,7 +20,7 @@ pub fn make_lowercase(slice: &mut [u8], len: usize)
     slice[..len].make_ascii_lowercase();
 }
 
-/// Makes a to z uppercase in the first `len` bytes of `slice`. Every other byte stays.
+/// Makes a to z uppercase in the first `len` bytes.
 #[inline]
 pub fn make_uppercase(slice: &mut [u8], len: usize)
     requires { len ≤ length slice.old }

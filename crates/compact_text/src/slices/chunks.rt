@@ -1,10 +1,10 @@
-//! So many bytes of a slice at once, as a vector of the processor.
+//! SIMD loads and stores.
 ghost use Rattle.std.specs.Prelude.{◌≡◌, ◌+◌, ◌≤◌, ◌++◌, length, take, drop};
 ghost use lib.Seq.{paste};
 
 use std::simd::prelude::*;
 
-/// The `N` bytes from a place on.
+/// Loads the `N` bytes at `at`.
 #[inline(always)]
 pub fn chunk<const N: usize>(slice: &[u8], at: usize) -> Simd<u8, N>
     requires { at + N ≤ length slice.now }
@@ -14,7 +14,7 @@ pub fn chunk<const N: usize>(slice: &[u8], at: usize) -> Simd<u8, N>
     Simd::from_slice(&slice[at..])
 }
 
-/// Writes `N` bytes from a place on.
+/// Stores `N` bytes at `at`.
 #[inline(always)]
 pub fn set_chunk<const N: usize>(slice: &mut [u8], at: usize, chunk: Simd<u8, N>)
     requires long_enough { at + N ≤ length slice.old }
@@ -24,7 +24,7 @@ pub fn set_chunk<const N: usize>(slice: &mut [u8], at: usize, chunk: Simd<u8, N>
     set_first_chunk(&mut slice[at..], chunk);
 }
 
-/// Writes the first `N` bytes.
+/// Stores the first `N` bytes.
 #[inline(always)]
 fn set_first_chunk<const N: usize>(slice: &mut [u8], chunk: Simd<u8, N>)
     requires long_enough { N ≤ length slice.old }

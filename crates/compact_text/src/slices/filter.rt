@@ -1,4 +1,4 @@
-//! Which characters of a text in a slice stay.
+//! Retaining characters of a text in a slice.
 ghost use Rattle.std.specs.Prelude.{◌≡◌, ◌+◌, ◌≤◌, ◌<◌, ◌++◌, length, take, drop, IfSome, IsSome};
 ghost use Rattle.std.specs.Char.{len_utf8, encode_utf8, IsScalar};
 ghost use Rattle.std.specs.Str.{IsUtf8};
@@ -7,8 +7,8 @@ ghost use Rattle.compact_text.specs.Retain.{RetainsCharsTo};
 
 use super::write;
 
-/// Of the text in the first `len` bytes of `slice` moves to the front the characters for which `keep`, asked once of each in
-/// order, answers true. Answers how many bytes they take.
+/// Moves to the front those characters of the first `len` bytes for which `keep` returns `true`; calls it once for
+/// each, in order. Returns their length in bytes.
 #[inline(always)]
 pub fn retain<F: FnMut(char) -> bool>(slice: &mut [u8], len: usize, keep: &mut F) -> usize
     requires long_enough { len ≤ length slice.old }
@@ -23,7 +23,7 @@ pub fn retain<F: FnMut(char) -> bool>(slice: &mut [u8], len: usize, keep: &mut F
     move_retained(&mut slice[..len], keep)
 }
 
-/// `retain` of a whole slice. It goes once over the slice, and a character moves where it is kept.
+/// `retain` of a whole slice, in one pass.
 #[inline(always)]
 fn move_retained<F: FnMut(char) -> bool>(slice: &mut [u8], keep: &mut F) -> usize
     requires utf8 { IsUtf8 slice.old }
@@ -37,7 +37,7 @@ fn move_retained<F: FnMut(char) -> bool>(slice: &mut [u8], keep: &mut F) -> usiz
     let mut read = 0;
     let mut kept = 0;
     while read < slice.len() {
-        // A place that hangs on the answers would hold the next read up, so nothing is written ahead of an answer.
+        // Writes only after `keep` has returned: a position that depends on the result would delay the next read.
         while let Some(character) = ascii_at(slice, read) {
             if keep(character) {
                 write_char(slice, kept, character, 1);
@@ -57,7 +57,7 @@ fn move_retained<F: FnMut(char) -> bool>(slice: &mut [u8], keep: &mut F) -> usiz
     kept
 }
 
-/// The character at a place of `slice` where it is one of ASCII, else `None`; so it is at the end.
+/// Returns the character at `at` if it is ASCII. Otherwise, and at the end, returns `None`.
 #[inline(always)]
 fn ascii_at(slice: &[u8], at: usize) -> Option<char>
     requires utf8 { IsUtf8 (drop at slice.now) }
@@ -74,7 +74,7 @@ fn ascii_at(slice: &[u8], at: usize) -> Option<char>
     None
 }
 
-/// The character that begins at a place of `slice`, and how many bytes it has.
+/// Returns the character that begins at `at`, and its length in bytes.
 #[inline(always)]
 fn char_from(slice: &[u8], at: usize) -> (char, usize)
     requires utf8 { IsUtf8 (drop at slice.now) }
@@ -98,7 +98,7 @@ fn char_from(slice: &[u8], at: usize) -> (char, usize)
     }
 }
 
-/// Writes a character of that many bytes at a place of `slice`.
+/// Writes a character of `width` bytes at `at`.
 #[inline(always)]
 fn write_char(slice: &mut [u8], at: usize, character: char, width: usize)
     requires room { at + width ≤ length slice.old }

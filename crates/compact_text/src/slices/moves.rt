@@ -1,13 +1,13 @@
-//! Moves within a slice of bytes, where the old and the new places may overlap.
+//! Overlapping moves within a byte slice.
 //!
-//! Up to 128 bytes move by their two ends, which are both read before either is written. More of them move at once where
-//! they go by one to four places, and else in blocks of 64, from the end where the new place is the later one.
+//! Up to 128 bytes move by both ends, which are read before either is written. More move by one `memmove` if the
+//! distance is one to four bytes, and otherwise in blocks of 64, from the end if they move up.
 ghost use Rattle.std.specs.Prelude.{◌≡◌, ◌+◌, ◌-◌, ◌≤◌, length, drop};
 ghost use lib.Seq.{paste};
 
 use super::chunks::{chunk, set_chunk};
 
-/// Moves `count` bytes of `slice` from one place to another, which may overlap.
+/// Moves `count` bytes from `from` to `to`, which may overlap.
 #[inline(always)]
 #[tactic(auto, using(crate::proofs::Shifts::shifts))]
 pub fn shift(slice: &mut [u8], from: usize, to: usize, count: usize)
@@ -54,9 +54,9 @@ pub fn move_down<const DISTANCE: usize>(slice: &mut [u8], to: usize, count: usiz
     move_part_down::<DISTANCE>(&mut slice[to..to + DISTANCE + count]);
 }
 
-/// Moves all but the last `DISTANCE` bytes up by as many places.
+/// Moves all but the last `DISTANCE` bytes up by `DISTANCE`.
 ///
-/// It stands alone, with the distance known, so that the compiler makes one `memmove` of it.
+/// A separate function with a known distance, so that the compiler makes one `memmove` of it.
 #[inline(never)]
 fn move_part_up<const DISTANCE: usize>(part: &mut [u8])
     requires { DISTANCE ≤ length part.old }
@@ -66,9 +66,9 @@ fn move_part_up<const DISTANCE: usize>(part: &mut [u8])
     part.copy_within(0..count, DISTANCE);
 }
 
-/// Moves all but the first `DISTANCE` bytes down by as many places.
+/// Moves all but the first `DISTANCE` bytes down by `DISTANCE`.
 ///
-/// It stands alone, with the distance known, so that the compiler makes one `memmove` of it.
+/// A separate function with a known distance, so that the compiler makes one `memmove` of it.
 #[inline(never)]
 fn move_part_down<const DISTANCE: usize>(part: &mut [u8])
     requires { DISTANCE ≤ length part.old }
@@ -78,10 +78,10 @@ fn move_part_down<const DISTANCE: usize>(part: &mut [u8])
     part.copy_within(DISTANCE..len, 0);
 }
 
-/// As many bytes move at once.
+/// The block size.
 const BLOCK: usize = 64;
 
-/// Moves bytes to a later place, the last ones first.
+/// Moves bytes up, the last ones first.
 #[inline(never)]
 fn shift_up(slice: &mut [u8], from: usize, to: usize, count: usize)
     requires upward { from ≤ to }
@@ -96,7 +96,7 @@ fn shift_up(slice: &mut [u8], from: usize, to: usize, count: usize)
     copy_up_to_128(slice, from, to, left);
 }
 
-/// Moves bytes to an earlier place, the first ones first.
+/// Moves bytes down, the first ones first.
 #[inline(never)]
 fn shift_down(slice: &mut [u8], from: usize, to: usize, count: usize)
     requires downward { to ≤ from }
@@ -111,7 +111,7 @@ fn shift_down(slice: &mut [u8], from: usize, to: usize, count: usize)
     copy_up_to_128(slice, from + done, to + done, count - done);
 }
 
-/// Moves at most two blocks of bytes.
+/// Moves at most two blocks.
 #[inline(always)]
 fn copy_up_to_128(slice: &mut [u8], from: usize, to: usize, count: usize)
     requires two_blocks { count ≤ 128 }
@@ -136,7 +136,7 @@ fn copy_up_to_128(slice: &mut [u8], from: usize, to: usize, count: usize)
     }
 }
 
-/// Moves `count` bytes, which are at least `N` and at most twice as many, as the first `N` and the last `N` of them.
+/// Moves `count` bytes, `N` to `2 * N`, as the first `N` and the last `N`.
 #[inline(always)]
 fn copy_both_ends<const N: usize>(slice: &mut [u8], from: usize, to: usize, count: usize)
     requires least { N ≤ count }

@@ -1,4 +1,4 @@
-//! How the fields of a line are read.
+//! Reading the fields of a line.
 ghost use Rattle.std.specs.Prelude.{map, IfOk, IfErr, OnOk};
 ghost use Rattle.compact_str.specs.Order.{text_in};
 ghost use Rattle.compact_uses.specs.Lines.{ReadsAs, IsFault, ReadsAsWritten, ReadsOrBreaks, PlainFieldsReadBack};
@@ -8,25 +8,25 @@ use compact_str::{CompactString, ReserveError};
 use std::alloc::Global;
 use std::mem;
 
-/// Why a line is no record.
+/// A fault for which a line is not a record.
 #[derive(Clone, Copy, Debug, PartialEq, Eq)]
 pub enum Fault {
     /// A quoted field does not end.
     OpenQuote,
-    /// Behind a quoted field stands something other than a separator.
+    /// A quoted field is followed by something other than a separator.
     TextBehindQuote,
 }
 
-/// Why no fields were read.
+/// The error of [`fields_of`].
 #[derive(Debug, Drop)]
 pub enum LineError {
-    /// Memory was refused.
+    /// Allocation failed.
     Reserve(ReserveError),
-    /// The line is no record.
+    /// The line is not a record.
     Fault(Fault),
 }
 
-/// Where a reader stands in a field.
+/// The state within a field.
 #[derive(Clone, Copy, PartialEq)]
 enum Place {
     /// At its start.
@@ -35,24 +35,24 @@ enum Place {
     Plain,
     /// Within quotes.
     Quoted,
-    /// Behind a quote that may end the field.
+    /// After a quote that may end the field.
     Behind,
 }
 
-/// What a character does to the field that is being read.
+/// The effect of a character on the field being read.
 #[derive(Clone, Copy)]
 enum Effect {
-    /// It is of the field.
+    /// It belongs to the field.
     Keep(Place),
-    /// It is a quote that is not of the field.
+    /// It is a quote that does not belong to the field.
     Skip(Place),
     /// It ends the field.
     End,
-    /// It cannot stand there.
+    /// It is not allowed there.
     Broken,
 }
 
-/// What a character does at a place.
+/// Returns the effect of a character in a state.
 fn effect_of(separator: char, place: Place, character: char) -> Effect
     ensures { HasEffect separator place character result }
 {
@@ -67,7 +67,7 @@ fn effect_of(separator: char, place: Place, character: char) -> Effect
     }
 }
 
-/// What was read of a line: whole fields, the one that is being read, and where it stands in that.
+/// The whole fields read, the one being read, and the state within it.
 #[derive(Drop)]
 struct Reading {
     done: Vec<CompactString>,
@@ -75,12 +75,12 @@ struct Reading {
     place: Place,
 }
 
-/// The fields of a line. A field in quotes may have the separator, and two quotes in it stand for one. Where the
-/// separator is a quote itself, it parts the fields, and none is in quotes.
+/// Splits a line into fields. A field in quotes may contain the separator, and two quotes in it are one. If the
+/// separator is a quote itself, it separates the fields, and none is in quotes.
 ///
 /// # Errors
 ///
-/// `Reserve` if no memory is found, else why the line is no record.
+/// Returns `Reserve` if allocation fails, or the fault for which the line is not a record.
 ///
 /// # Examples
 ///
@@ -118,17 +118,17 @@ pub fn fields_of(
     Ok(done)
 }
 
-/// A law: a line reads as the fields that are written in it, each plain or in quotes, in any mix.
+/// A law: a line reads as the fields written in it, each plain or in quotes, in any mix.
 pub fn fields_read_as_written()
     ensures { ReadsAsWritten }
 {}
 
-/// A law: each line reads as some fields or breaks for a fault, and not in two ways.
+/// A law: each line either reads as some fields or is broken for a fault, in one way only.
 pub fn each_line_reads_or_breaks()
     ensures { ReadsOrBreaks }
 {}
 
-/// A law: fields that have no separator and do not begin with a quote read as they are where separators part them.
+/// A law: fields that contain no separator and do not begin with a quote read as themselves when joined by separators.
 pub fn plain_fields_read_as_themselves()
     ensures { PlainFieldsReadBack }
 {}

@@ -1,4 +1,4 @@
-//! How fields are written as a line.
+//! Writing fields as a line.
 ghost use Rattle.std.specs.Prelude.{◌≡◌, ◌≢◌, ◌+◌, ◌≤◌, ◌++◌, [], map, IfOk, IsOk, OnOk};
 ghost use Rattle.compact_str.specs.Text.{size};
 ghost use Rattle.compact_str.specs.Order.{text_in};
@@ -7,15 +7,15 @@ ghost use Rattle.compact_uses.specs.Lines.{quote, quoted_field, quoted_line, Rea
 use compact_str::{CompactString, ReserveError};
 use std::alloc::Global;
 
-/// The fields of a record as a line, each in quotes, from which `fields_of` reads them back.
+/// Writes the fields of a record as a line, each in quotes, which `fields_of` reads back.
 ///
 /// # Errors
 ///
-/// [`ReserveError`] if a buffer is refused, for a line of more than 24 bytes.
+/// Returns [`ReserveError`] if a buffer for a line of more than 24 bytes cannot be allocated.
 ///
 /// # Examples
 ///
-/// With the separator `,` the fields `a` and `b"` give `"a","b"""`.
+/// With the separator `,` the fields `a` and `b"` are written as `"a","b"""`.
 pub fn quoted_line(
     alloc: Global,
     separator: char,

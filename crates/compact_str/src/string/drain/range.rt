@@ -1,4 +1,4 @@
-//! What stands from one position to another, for any two positions.
+//! The text between two positions, whether or not they form a range.
 ghost use Rattle.std.specs.Prelude.{◌≡◌, IsTrue, ℕ, ◌+◌, ◌*◌, ◌%◌, ◌^◌, ◌<◌, ◌≤◌, List, [], ◌∷◌, length, IfSome, MatchOption, true, false};
 ghost use Rattle.std.specs.Char.{len_utf8, InScalarRange};
 ghost use Rattle.compact_repr.specs.Text.{size, text_of};
@@ -9,10 +9,10 @@ use crate::string::PolicyString;
 use compact_repr::Policy;
 use compact_text::str_parts::{first_char, is_boundary, substring};
 
-/// The most bytes of a range that are looked at ahead.
+/// The longest range that is tested for ASCII, in bytes.
 const MAX_LOOKED_AT: usize = 1024;
 
-/// What stands in `text` from one position to another, in bytes; nothing where these begin and end no range.
+/// Returns the text between two positions in bytes, empty if they form no range.
 #[inline(always)]
 #[tactic(auto, using(crate::proofs::Drains::drain_facts))]
 pub fn range_text(text: &str, start: usize, end: usize) -> &str
@@ -33,7 +33,7 @@ fn is_range(text: &str, start: usize, end: usize) -> bool
     start <= end && is_boundary(text, start) && is_boundary(text, end)
 }
 
-/// The first character of an ASCII text, or `None` of the empty text.
+/// Returns the first character of an ASCII text, or `None` if it is empty.
 #[inline(always)]
 pub fn first_of_ascii(text: &str) -> Option<char>
     requires { length (text_of text.now) ≡ size (text_of text.now) }
@@ -46,7 +46,7 @@ pub fn first_of_ascii(text: &str) -> Option<char>
     Some(char::from(text.as_bytes()[0]))
 }
 
-/// Where a character ends that begins at `start`, in bytes, by what `first_char_packed` answers of it.
+/// Returns the end of a character at byte `start`, given the `word` of `first_char_packed`.
 #[cold]
 #[inline(never)]
 pub fn position_after(start: usize, word: u64) -> usize
@@ -57,7 +57,7 @@ pub fn position_after(start: usize, word: u64) -> usize
 }
 
 impl<P: Policy> PolicyString<P> {
-    /// The text of a heap value; `None` of any other.
+    /// Returns the text of a heap string, or `None` for any other.
     #[inline(always)]
     #[tactic(auto, using(compact_text::proofs::TextFacts::text_facts))]
     pub(crate) fn heap_str(&self) -> Option<&str>
@@ -67,8 +67,8 @@ impl<P: Policy> PolicyString<P> {
         self.repr.heap_str()
     }
 
-    /// Whether a range is known to be ASCII. It answers `false` of a value that is not on the heap, and of a range so long that a
-    /// drain from which no character is taken should not wait for the answer.
+    /// Returns `true` if a range of at most 1 KiB of a heap string is ASCII. Reads no longer range, so that an unused
+    /// drain stays cheap.
     #[inline(never)]
     #[tactic(auto, using(crate::proofs::Drains::drain_facts))]
     pub(crate) fn is_short_ascii_range(&self, start: usize, end: usize) -> bool
@@ -84,8 +84,7 @@ impl<P: Policy> PolicyString<P> {
         }
     }
 
-    /// What stands in the text from one position to another, for what is not expected: it stays out of its caller's loop, with the
-    /// look at where the text stands.
+    /// Cold path of `Drain::as_str`, not inlined so that the heap loop stays tight.
     #[cold]
     #[inline(never)]
     #[tactic(auto, using(compact_text::proofs::TextFacts::text_facts))]
@@ -96,10 +95,12 @@ impl<P: Policy> PolicyString<P> {
         range_text(self.as_str(), start, end)
     }
 
-    /// The first character of what stands from one position to another, for where it is seldom asked: its code in the upper
-    /// half of a word, and how many bytes it takes in the lower one. It stays out of its caller's loop, and so does
-    /// `position_after`; neither writes, so what the loop has read it need not read again. And of the upper half of a word the
-    /// compiler knows that it fits in 32 bits, so a loop that widens its characters need not widen each of them anew.
+    /// Returns the first character between two positions: its code in the upper half of a word, its length in bytes in
+    /// the lower.
+    ///
+    /// Not inlined, like `position_after`, to stay out of the caller's loop; neither writes, so the loop need not read
+    /// again what it has read. The compiler knows that the upper half fits in 32 bits, so a loop that widens characters
+    /// need not widen each.
     #[cold]
     #[inline(never)]
     pub(crate) fn first_char_packed(&self, start: usize, end: usize) -> Option<u64>
@@ -115,8 +116,8 @@ impl<P: Policy> PolicyString<P> {
         }
     }
 
-    /// Takes out what stands from one position to another, in bytes of the value's own. If the text has `old_len` bytes these
-    /// are known to begin and end a range; else it is looked at, and where they do not, nothing changes.
+    /// Removes the text between two positions of an owned string. They form a range if the text has `old_len` bytes.
+    /// Otherwise tests them, and does nothing if they do not.
     #[inline]
     #[tactic(auto, using(crate::proofs::Drains::drain_facts))]
     pub(crate) fn remove_range(&mut self, start: usize, end: usize, old_len: usize)
@@ -131,7 +132,7 @@ impl<P: Policy> PolicyString<P> {
         }
     }
 
-    /// As `remove_range`, for what is not expected: it stays out of a drain's drop.
+    /// Cold path of `remove_range`, kept out of the drop of a drain.
     #[cold]
     #[inline(never)]
     #[tactic(auto, using(crate::proofs::Drains::drain_facts))]

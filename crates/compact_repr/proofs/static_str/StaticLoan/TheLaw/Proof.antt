@@ -1,4 +1,4 @@
--- A static reference can be had twice, so one is taken out of the borrow, and its double is put back. Assumes `Logic`.
+-- A static reference can be duplicated: one is taken from the borrow, and its copy put back. Assumes `Logic`.
 use mathlib.Core.List.{[], ◌∷◌}
 use seplogic.Ra.Ura.{Ura}
 use mir.Syntax.{named, w8}

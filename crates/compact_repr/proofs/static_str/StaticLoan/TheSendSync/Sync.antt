@@ -1,4 +1,4 @@
--- What a `&` to the loan holds names no thread either.
+-- The content of a `&StaticLoan` names no thread either.
 use denote.Slice.{shr_slice_vals}
 use denote.Param.Send.{IsSend, IsSync, struct_sync, sendable}
 use denote.Struct.Owning.{shape}

@@ -1,4 +1,4 @@
--- `of` passes the reference's right on to the loan, and gives its pointer beside it. Assumes `Logic`.
+-- `of` moves the reference's right into the loan, and returns its pointer. Assumes `Logic`.
 use Rattle.std.proofs.Common.{[], ◌∷◌, refl}
 use mathlib.Core.List.{List}
 use mir.Val.{Val, vptr, vstruct, vcons, vnil}
@@ -38,7 +38,7 @@ of_spec 𝓤 𝓛 𝓜 𝓡 wired =
     let bytes = a.0 in let at = vptr bytes.ref_ptr.0 bytes.ref_ptr.1 in let empty = vstruct vnil in let Fields = Struct (shape loan.the_type) in
     let mark : (loan.the_row).Denot = record { bytes = bytes } in let pair = vstruct (vcons at (vcons empty vnil)) in let Both = RawPtr ∷ loan.the_row ∷ [] in
     qed 𝓛 ((‵ ftrue ⊛ ‵ (static_loan bytes) ⊛ ‵ ftrue) ∷ ‵ ftrue ∷ []) ∵ split ! $ drop ! $ split ! $ keep ! (0 ∷ []) $
-    -- what the result owns: the loan, and nothing for the pointer
+    -- the result owns the loan, and nothing for the pointer
     owned ! Fields _ (Struct-Makes 𝓛 (shape loan.the_type) tt) tt _ (tt, (refl, tt)) $ fjoin ! $
     nothing ! $ move ! (1 ∷ 0 ∷ []) $ fjoin ! $ feq_i ! (List Val) (at ∷ []) (at ∷ []) refl $ fjoin ! $ feq_i ! (List Val) (pair ∷ []) (pair ∷ []) refl $ fjoin ! $
     fpack ! (Valss Both) (within (declared.shape (tuple_type Both)) (address bytes, (mark, tt)) (pair ∷ [])) (at ∷ [], (empty ∷ [], tt)) $

@@ -1,4 +1,4 @@
--- `read` makes the reference again, from its pointer and its count. Assumes `Logic`.
+-- `read` rebuilds the reference from its pointer and length. Assumes `Logic`.
 use Rattle.std.proofs.Common.{ℕ, ◌<◌, ◌^◌, List, [], ◌∷◌, length, refl, subst, w64}
 use mir.Syntax.{named}
 use mir.Val.{Val, Fits, vptr, vint}
