@@ -1,5 +1,5 @@
 -- The results of changes, as plain facts.
-use Rattle.std.proofs.Common.{◌≡◌, ℕ, ◌+◌, ◌-◌, ◌≤◌, List, [], ◌++◌, Some, true, false, arith, append-nil}
+use Rattle.std.proofs.Common.{◌≡◌, ℕ, ◌-◌, List, [], ◌++◌, Some, true, false, arith, append-nil}
 use Rattle.std.proofs.lemmas.Grind.{common_steps}
 use Rattle.compact_text.proofs.TextFacts.{text_facts}
 use Rattle.compact_text.specs.Text.{size}

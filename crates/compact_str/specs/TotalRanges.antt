@@ -3,6 +3,7 @@ use Rattle.std.specs.Prelude.{◌≡◌, ℕ, Bool, not, ◌&&◌, List, [], len
 use Rattle.compact_repr.specs.Text.{size}
 use Rattle.compact_repr.specs.Cut.{is_boundary, substring, replaced_text}
 use Rattle.compact_repr.specs.Value.{PlacedText, placed_text, is_static}
+
 -- p is a boundary of t
 
 -- i to j is a range of t

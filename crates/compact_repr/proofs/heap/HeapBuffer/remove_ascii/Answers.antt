@@ -2,9 +2,8 @@ use Rattle.std.proofs.Common.{◌≡◌, ◌+◌, [], ◌∷◌, ◌++◌, ◌�
 use Rattle.std.specs.List.{replace_range}
 use Rattle.std.proofs.lemmas.List.{take_at}
 use Rattle.compact_text.proofs.Ascii.{ascii-removed, utf8-ascii-removed}
-use Rattle.compact_text.proofs.Cuts.{boundary-within}
 use Rattle.compact_text.proofs.Texts.{size-text_of}
-use Rattle.compact_repr.proofs.HeapTexts.{shown-text, shown-capacity, shown-size, written, whole}
+use Rattle.compact_repr.proofs.HeapTexts.{shown-text, shown-capacity, written, whole}
 use Rattle.compact_repr.proofs.heap.HeapBuffer.remove_ascii.Goals as goal
 
 now : (c : goal.After-take_last-last) → c.take_last-last.new.self.items ≡ replace_range c.self.inside.bytes.items c.args.index (c.args.index + 1) []
@@ -15,9 +14,6 @@ now c =
     ∙ ap (take _) (sym left)
     ∙ c.remove_byte.ensures
     ∙ rw (c.as_mut_slice.ensures.value, c.len-len.ensures, whole c.self.inside.bytes.items c.self.inside.bytes.len (omega arith)) refl
-
-pub take_last-last-requires : goal.take_last-last-requires
-take_last-last-requires c = omega (arith, shown-size _ c.self.view_is c.self.invariant, boundary-within _ _ c.requires.next)
 
 pub invariant_of-self : goal.invariant_of-self
 invariant_of-self c = rw (now c) (utf8-ascii-removed _ c.args.index (shown-text _ c.self.view_is) c.self.invariant c.requires.boundary c.requires.next)

@@ -1,20 +1,8 @@
-use Rattle.std.proofs.Common.{◌∙◌, arith}
+use Rattle.std.proofs.Common.{◌∙◌}
 use Rattle.compact_text.proofs.Letters.{utf8-lowercase, text_of-lowercase}
-use Rattle.compact_repr.proofs.PackedTexts.{packed-text, packed-again, packed-most}
-use Rattle.compact_repr.proofs.PackedEdits.{utf8-seen, len-fits}
+use Rattle.compact_repr.proofs.PackedTexts.{packed-text}
+use Rattle.compact_repr.proofs.PackedEdits.{utf8-seen}
 use Rattle.compact_repr.proofs.inline.InlineBuffer.make_ascii_lowercase.Goals as goal
-
-pub invariant_of-self : goal.invariant_of-self
-invariant_of-self c = packed-again _ _ c.write_len.ensures
-
-pub write_len-requires-clause-fits : goal.write_len-requires-clause-fits
-write_len-requires-clause-fits c =
-    let most = len-fits _ c.self.view_is c.self.invariant in
-    let read = c.length_of-len.ensures in
-    omega (arith, most, read)
-
-pub returns-clause-fits : goal.returns-clause-fits
-returns-clause-fits c = rw (packed-text _ _ c.write_len.ensures) (packed-most _ _ c.write_len.ensures)
 
 pub write_len-requires-clause-text : goal.write_len-requires-clause-text
 write_len-requires-clause-text c = rw (c.make_lowercase.ensures.front, c.length_of-len.ensures) (utf8-lowercase _ (utf8-seen _ c.self.invariant))

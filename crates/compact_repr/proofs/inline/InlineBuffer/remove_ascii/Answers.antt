@@ -2,7 +2,7 @@ use Rattle.std.proofs.Common.{◌∙◌, arith}
 use Rattle.compact_text.proofs.Cuts.{boundary-within}
 use Rattle.compact_text.proofs.Ascii.{ascii-removed, utf8-ascii-removed}
 use Rattle.compact_text.proofs.SplicedSlices.{word-byte-out}
-use Rattle.compact_repr.proofs.PackedTexts.{packed-text, packed-most, packed-again}
+use Rattle.compact_repr.proofs.PackedTexts.{packed-text, packed-again}
 use Rattle.compact_repr.proofs.PackedEdits.{len-seen, len-fits, utf8-seen}
 use Rattle.compact_repr.proofs.inline.InlineBuffer.remove_ascii.Goals as goal
 
@@ -27,31 +27,3 @@ returns-clause-removed c =
     let bytes = word-byte-out c.self.inside.bytes c.remove_byte-array.result c.length_of-len.result c.args.index (omega (arith, stands, within, e)) (omega (arith, most, e)) c.self.told c.remove_byte-array.ensures in
     packed-text _ _ c.with_len_below_24-self-inside.ensures
     ∙ rw (bytes, e) (ascii-removed _ c.args.index c.self.view_is (utf8-seen _ c.self.invariant) c.requires.boundary c.requires.next)
-
-pub length_of-len-requires : goal.length_of-len-requires
-length_of-len-requires c = len-fits _ c.self.view_is c.self.invariant
-
-pub remove_byte-array-requires : goal.remove_byte-array-requires
-remove_byte-array-requires c =
-    let most = len-fits _ c.self.view_is c.self.invariant in
-    let stands = len-seen _ c.self.view_is c.self.invariant in
-    let within = boundary-within _ _ c.requires.next in
-    omega (arith, most, stands, within)
-
-pub with_len_below_24-self-inside-requires-clause-short : goal.with_len_below_24-self-inside-requires-clause-short
-with_len_below_24-self-inside-requires-clause-short c =
-    let most = len-fits _ c.self.view_is c.self.invariant in
-    let stands = len-seen _ c.self.view_is c.self.invariant in
-    let within = boundary-within _ _ c.requires.next in
-    let e = c.length_of-len.ensures in
-    omega (arith, most, stands, within, e)
-
-pub overflow_sub-len : goal.overflow_sub-len
-overflow_sub-len c =
-    let stands = len-seen _ c.self.view_is c.self.invariant in
-    let within = boundary-within _ _ c.requires.next in
-    let e = c.length_of-len.ensures in
-    omega (arith, stands, within, e)
-
-pub returns-clause-within : goal.returns-clause-within
-returns-clause-within c = rw (packed-text _ _ c.with_len_below_24-self-inside.ensures) (packed-most _ _ c.with_len_below_24-self-inside.ensures)

@@ -6,6 +6,3 @@ returns-clause-boundary g c = (
   (λ h. boundary-text _ _ c.as_str.ensures.text c.as_str.utf8 (c.is_char_boundary.ensures.test.0 h)),
   (λ h. c.is_char_boundary.ensures.test.1 (boundary-bytes _ _ c.as_str.ensures.text c.as_str.utf8 h)),
 )
-
-pub returns-clause-bytes : goal.returns-clause-bytes
-returns-clause-bytes g c = λ yes. rw (← c.as_str.ensures.bytes) (c.is_char_boundary.ensures.test.0 yes)

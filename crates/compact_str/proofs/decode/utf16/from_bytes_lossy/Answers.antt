@@ -8,20 +8,6 @@ use Rattle.compact_codec.proofs.ForDecoders.{made-utf16_bytes_lossy_text}
 use Rattle.compact_str.proofs.FittedTexts.{first-asks, refused-fitted, asks-succeeds, long-asks}
 use Rattle.compact_str.proofs.decode.utf16.from_bytes_lossy.Goals as goal
 
-pub loop-rest-init : goal.loop-rest-init
-loop-rest-init c = ap (λ (t : List ℕ). t ++ utf16_bytes_lossy_text c.args.order c.args.bytes.now) c.new-gathered.ensures
-
-pub loop-rest-preserved : goal.loop-rest-preserved
-loop-rest-preserved c =
-    let character = c.unwrap_or.result in
-    let left = drop c.first_character-step.result.taken c.loop-rest.rest.now in
-    let more = utf16_bytes_lossy_text c.args.order left in
-    let next : utf16_bytes_lossy_text c.args.order c.loop-rest.rest.now ≡ character ∷ more = c.first_character-step.ensures.lossy ∙ ap (λ x. x ∷ more) (sym c.unwrap_or.ensures) in
-    let all : take (length c.loop-rest.rest.now - c.first_character-step.result.taken) left ≡ left = take_all _ left (omega (arith, length-drop c.first_character-step.result.taken c.loop-rest.rest.now)) in
-    rw all
-    (ap (λ (t : List ℕ). t ++ more) c.in_ok-push.ensures.ok ∙ append_assoc c.loop-rest.gathered (character ∷ []) more ∙ ap (λ (t : List ℕ). c.loop-rest.gathered ++ t) (sym next)
-    ∙ c.loop-rest.invariant)
-
 -- the text is longer than 24 bytes, since its front with this character is
 pub returns-in_err-push : goal.returns-in_err-push
 returns-in_err-push c =

@@ -20,13 +20,6 @@ all-read : (whole old new front invalid rest : List ℕ) → old ++ (front ++ (r
 all-read whole old new front invalid rest e none left n =
     n ∙ ap (λ (t : List ℕ). old ++ t) (sym (append-nil front)) ∙ rw (replacement_text-none invalid none, utf8_lossy_text-empty rest left) at e
 
-pub loop-made-init : goal.loop-made-init
-loop-made-init c = record {
-  fitted = search (rules, fitted-empty);
-  text = search rules;
-  whole = search rules;
-}
-
 pub loop-made-preserved : goal.loop-made-preserved
 loop-made-preserved c =
     let some : 0 < length c.loop-made.chunk.invalid.now = search rules in

@@ -6,9 +6,6 @@ use Rattle.compact_str.specs.Collect.{join}
 use Rattle.compact_str.proofs.Collecting.{on_err, join_of, join-first, join-piece, first-drained, finished-ok, finished-err, join-turn, join-start}
 use Rattle.compact_str.proofs.iter.join.join_pieces.Goals as goal
 
-join-none : {T : Type 0} (f : T → List ℕ) (separator z : List ℕ) → z ≡ [] → z ≡ join separator f []
-join-none f separator z e = e ∙ sym (drop-nil (length separator))
-
 pub returns-in_err-push_str-clause-err : goal.returns-in_err-push_str-clause-err
 returns-in_err-push_str-clause-err g c =
     on_err c.from_residual.result (
@@ -40,32 +37,3 @@ returns-clause-err g c =
       c.in-Some.ensures.steps,
       subst (λ q. Yields g.I.Iterator.next_gives q c.loop-piece.yielded c.loop-piece.piece-iterator) c.into_iter-piece-iterator.ensures.into_iter_gives c.loop-piece.yielded_by,
     )
-
-pub loop-piece-preserved : goal.loop-piece-preserved
-loop-piece-preserved g c =
-    join-turn g.T.AsText.text (text_of c.args.separator.now) c.in-Some.first c.loop-piece.yielded c.in-Some-piece.piece c.loop-piece.invariant c.text-in-loop-piece.ensures
-    c.in_ok-push_separated.ensures.ok
-
-pub loop-piece-init : goal.loop-piece-init
-loop-piece-init g c =
-    join-start g.T.AsText.text (text_of c.args.separator.now) c.in-Some.first _ _ _ c.new-gathered.ensures c.text.ensures c.in_ok-push_str.ensures.ok
-
-pub returns-in_default-clause-ok : goal.returns-in_default-clause-ok
-returns-in_default-clause-ok g c =
-    finished-ok g.I.Iterator.next_gives c.args.pieces (join_of g.I.Iterator.next_gives g.T.AsText.text c.args.pieces c.args.separator.now) c.new-gathered.result [] c.finish.result
-    c.finish.ensures.text (join-none g.T.AsText.text (text_of c.args.separator.now) c.new-gathered.result c.new-gathered.ensures)
-    (c.next.new.self, (c.args.pieces, refl, c.in_default.ensures.steps))
-
-pub returns-in_default-clause-err : goal.returns-in_default-clause-err
-returns-in_default-clause-err g c =
-    finished-err g.I.Iterator.next_gives c.args.pieces (join_of g.I.Iterator.next_gives g.T.AsText.text c.args.pieces c.args.separator.now) c.new-gathered.result [] c.args.pieces
-    c.finish.result c.finish.ensures.err (join-none g.T.AsText.text (text_of c.args.separator.now) c.new-gathered.result c.new-gathered.ensures) refl
-
-pub returns-in_default-clause-fitted : goal.returns-in_default-clause-fitted
-returns-in_default-clause-fitted g c = c.finish.ensures.fitted
-
-pub returns-clause-fitted : goal.returns-clause-fitted
-returns-clause-fitted g c = c.finish-2.ensures.fitted
-
-pub push_separated-requires : goal.push_separated-requires
-push_separated-requires g c = record { same = c.new-padded.ensures.text }

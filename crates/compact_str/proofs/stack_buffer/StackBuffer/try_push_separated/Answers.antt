@@ -4,10 +4,6 @@ use Rattle.std.proofs.lemmas.Str.{IsUtf8-append, chars-append}
 use Rattle.compact_text.proofs.Texts.{size-front}
 use Rattle.compact_str.proofs.stack_buffer.StackBuffer.try_push_separated.Goals as goal
 
-pub returns-then-text-gt-MAX_SHORT_LEN-clause-fits : goal.returns-then-text-gt-MAX_SHORT_LEN-clause-fits
-returns-then-text-gt-MAX_SHORT_LEN-clause-fits c =
-    ((λ h. absurd (false≢true h)), (λ h. absurd (omega (arith, h.0, c.if-text-gt-MAX_SHORT_LEN.true))))
-
 pub returns-then-self-clause-fits : goal.returns-then-self-clause-fits
 returns-then-self-clause-fits c =
     let stands = size-front _ _ c.self.view_is c.self.invariant.1 (omega arith) in

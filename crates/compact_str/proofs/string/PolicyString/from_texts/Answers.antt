@@ -7,11 +7,6 @@ returns-clause-text g c =
     collected-ran g.U.IntoIterator.into_iter_gives g.U.IntoIter.Iterator.next_gives g.T.AsText.text _ (flat_map g.T.AsText.text) (λ xs. refl) c.collect_pieces.result
     c.collect_pieces.ensures.ok
 
-pub returns-clause-succeeds : goal.returns-clause-succeeds
-returns-clause-succeeds g c =
-    collected-succeeds g.U.IntoIterator.into_iter_gives g.U.IntoIter.Iterator.next_gives g.T.AsText.text _ (flat_map g.T.AsText.text) (λ xs. refl)
-    c.collect_pieces.result c.collect_pieces.ensures.err
-
 pub returns-clause-size : goal.returns-clause-size
 returns-clause-size g c =
     collected-size g.U.IntoIterator.into_iter_gives g.U.IntoIter.Iterator.next_gives g.T.AsText.text _ (flat_map g.T.AsText.text) (λ xs. refl) c.collect_pieces.result

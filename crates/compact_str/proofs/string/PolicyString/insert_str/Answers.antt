@@ -32,8 +32,5 @@ slow g c =
     let same = c.if-try_replace_range.ensures.full refl ∙ c.self.view_is in
     subst (λ (u : PlacedText). OnOk c.insert_str_slow.result (insert_str g.P.Policy.growth u c.args.index (text_of c.args.text.now) ≡ Some c.insert_str_slow.new.self)) same c.insert_str_slow.ensures.ok
 
-pub returns-clause-bytes : goal.returns-clause-bytes
-returns-clause-bytes g c = on_ok_weaker c.insert_str_slow.result (λ e. insert_str-bytes g.P.Policy.growth c.args.self.now c.insert_str_slow.new.self c.args.index c.args.text.now e c.requires c.utf8.text) (slow g c)
-
 pub returns-clause-after : goal.returns-clause-after
 returns-clause-after g c = on_ok_weaker c.insert_str_slow.result (λ e. insert_str-behind g.P.Policy.growth c.args.self.now c.insert_str_slow.new.self c.args.index (length c.args.text.now) (text_of c.args.text.now) e c.requires (size-text_of c.args.text.now c.utf8.text)) (slow g c)

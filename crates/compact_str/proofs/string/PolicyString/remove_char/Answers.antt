@@ -11,14 +11,6 @@ use Rattle.compact_text.proofs.Cuts.{boundary-within, boundary-next}
 use Rattle.compact_str.proofs.Positions.{replace_range-removes, asks-by_nothing, shortened_placement-character}
 use Rattle.compact_str.proofs.string.PolicyString.remove_char.Goals as goal
 
-pub overflow_add-index : goal.overflow_add-index
-overflow_add-index g c =
-    let next = c.char_at-character.ensures in
-    let tail : text_after c.args.self.now.text c.args.index ≡ c.char_at-character.result ∷ next.0 = ap (λ (v : PlacedText). text_after v.text c.args.index) (sym c.self.view_is) ∙ next.1 in
-    let within = boundary-within _ _ (boundary-next _ next.0 _ _ c.requires.boundary tail) in
-    let len : c.len-len.result ≡ size c.args.self.now.text = c.len-len.ensures.value ∙ ap (λ (v : PlacedText). size v.text) c.self.view_is in
-    omega (arith, within, len, c.len-len.ensures.small, c.len_utf8.ensures.value)
-
 pub cut_out-requires-clause-last : goal.cut_out-requires-clause-last
 cut_out-requires-clause-last g c =
     let next = c.char_at-character.ensures in

@@ -25,26 +25,3 @@ returns-clause-boundaries g c =
     let kept : c.truncate.new.self.text ≡ text_before c.args.self.now.text c.args.index =
     ap (λ (v : PlacedText). v.text) c.truncate.ensures ∙ truncate-text c.self.inside.repr c.args.index ∙ ap (λ (v : PlacedText). text_before v.text c.args.index) c.self.view_is in
     λ _ i h k. subst (λ (t : List ℕ). IsBoundary t i) (sym kept) (text_before-boundary c.args.self.now.text i c.args.index h k)
-
-pub returns-clause-text : goal.returns-clause-text
-returns-clause-text g c =
-    let kept : c.truncate.new.self.text ≡ text_before c.args.self.now.text c.args.index =
-    ap (λ (v : PlacedText). v.text) c.truncate.ensures ∙ truncate-text c.self.inside.repr c.args.index ∙ ap (λ (v : PlacedText). text_before v.text c.args.index) c.self.view_is in
-    let tail : c.match-static_suffix.repr.text ≡ text_after c.args.self.now.text c.args.index = elim c.match-static_suffix.branch [
-      | in-Some w ↦ grind (arith, text_facts, common_steps)
-      | in-None+in_ok-repr-in-None w ↦ grind (arith, text_facts, common_steps)
-    ] in
-    (kept, tail)
-
-pub returns-clause-succeeds : goal.returns-clause-succeeds
-returns-clause-succeeds g c = λ _. refl
-
-pub returns-clause-ok : goal.returns-clause-ok
-returns-clause-ok g c = record {
-  leaves = elim c.match-static_suffix.branch [
-    | in-Some w ↦ grind (arith, text_facts, common_steps)
-    | in-None+in_ok-repr-in-None w ↦ grind (arith, text_facts, common_steps)
-  ];
-  stays = c.truncate.ensures ∙ ap (λ (v : PlacedText). truncate v c.args.index) c.self.view_is
-      ∙ ap (λ (t : List ℕ). placed_text t (shortened_placement c.args.self.now t)) (truncate-text c.args.self.now c.args.index);
-}

@@ -11,10 +11,3 @@ returns-clause-boundaries g c =
     let kept : c.truncate.new.self.text ≡ text_before c.args.self.now.text c.args.len =
     ap (λ (v : PlacedText). v.text) c.truncate.ensures ∙ truncate-text c.self.inside.repr c.args.len ∙ ap (λ (v : PlacedText). text_before v.text c.args.len) c.self.view_is in
     λ i h k. subst (λ (t : List ℕ). IsBoundary t i) (sym kept) (text_before-boundary c.args.self.now.text i c.args.len h k)
-
-pub returns-clause-value : goal.returns-clause-value
-returns-clause-value g c = c.truncate.ensures ∙ ap (λ (v : PlacedText). truncate v c.args.len) c.self.view_is
-
-pub returns-clause-text : goal.returns-clause-text
-returns-clause-text g c =
-    ap (λ (v : PlacedText). v.text) c.truncate.ensures ∙ truncate-text c.self.inside.repr c.args.len ∙ ap (λ (v : PlacedText). text_before v.text c.args.len) c.self.view_is

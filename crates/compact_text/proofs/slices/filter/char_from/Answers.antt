@@ -16,11 +16,6 @@ returns-clause-encoded c =
     rw c.len_utf8.ensures.value
     (behind_char _ _ _ _ (sym (take_all _ _ (omega (arith, length-drop c.args.at c.args.slice.now))) ∙ sym c.from_utf8_unchecked.ensures ∙ sym c.chars.ensures.rest ∙ c.in-Some.ensures.steps.0))
 
-pub returns-clause-within : goal.returns-clause-within
-returns-clause-within c =
-    rw c.len_utf8.ensures.value
-    (within_char _ _ _ _ c.requires.inside (sym (take_all _ _ (omega (arith, length-drop c.args.at c.args.slice.now))) ∙ sym c.from_utf8_unchecked.ensures ∙ sym c.chars.ensures.rest ∙ c.in-Some.ensures.steps.0))
-
 pub returns-clause-rest : goal.returns-clause-rest
 returns-clause-rest c =
     rw c.len_utf8.ensures.value

@@ -4,20 +4,8 @@ use Rattle.compact_text.proofs.Keeping.{Stands, stands-first, stands-kept, stand
 use Rattle.compact_text.proofs.slices.filter.move_retained.Goals.{then-keep, else-keep, then-keep-2, else-keep-2}
 use Rattle.compact_text.proofs.slices.filter.move_retained.Goals as goal
 
-pub loop-read-init : goal.loop-read-init
-loop-read-init g c = (search of_calls, omega arith, omega arith, stands-first g.F.FnMut c.args.keep.now c.args.slice.now c.requires.utf8)
-
 pub returns-clause-text : goal.returns-clause-text
 returns-clause-text g c = stands-last g.F.FnMut c.args.keep.now c.loop-read.keep (text_of c.args.slice.now) c.loop-read.slice c.loop-read.kept c.loop-read.read (omega arith) c.loop-read.invariant.3
-
-pub returns-clause-callable : goal.returns-clause-callable
-returns-clause-callable g c = c.loop-read.invariant.0
-
-pub returns-clause-utf8 : goal.returns-clause-utf8
-returns-clause-utf8 g c = c.loop-read.invariant.3.1
-
-pub returns-clause-within : goal.returns-clause-within
-returns-clause-within g c = omega arith
 
 pub loop-character-preserved : goal.loop-character-preserved
 loop-character-preserved g c =

@@ -3,9 +3,6 @@ use Rattle.std.proofs.lemmas.List.Edits.{paste_none}
 use Rattle.compact_text.proofs.Shifts.{shifted-down}
 use Rattle.compact_text.proofs.slices.moves.shift_down.Goals as goal
 
-pub moves-init : goal.moves-init
-moves-init c = (omega arith, paste_none c.args.slice.now c.args.to (drop c.args.from c.args.slice.now))
-
 pub moves-preserved : goal.moves-preserved
 moves-preserved c = (
   omega arith,

@@ -4,14 +4,6 @@ use lib.Seq.{paste}
 use Rattle.compact_text.proofs.Shifts.{shifted-up}
 use Rattle.compact_text.proofs.slices.moves.shift_up.Goals as goal
 
-pub moves-init : goal.moves-init
-moves-init c =
-    let none : 0 ≡ c.args.count - c.args.count = omega arith in (
-      omega arith,
-      paste_none c.args.slice.now (c.args.to + c.args.count) (drop (c.args.from + c.args.count) c.args.slice.now)
-          ∙ ap (λ (n : ℕ). paste c.args.slice.now (c.args.to + c.args.count) (drop (c.args.from + c.args.count) c.args.slice.now) n) none,
-    )
-
 pub moves-preserved : goal.moves-preserved
 moves-preserved c = (
   omega arith,

@@ -19,37 +19,8 @@ use Rattle.compact_str.specs.declared.decode.error.FromUtf8Error.TheVariants.{Ut
 use Rattle.compact_str.proofs.FittedTexts.{spelled-encoded, new-fitted, from_string_placement-fitted, long-asks}
 use Rattle.compact_str.proofs.decode.buf.PolicyString+Standard.from_utf8_buf.Goals as goal
 
-on_ok : {T E P : Type 0} (r : Result T E) → P → OnOk r P
-on_ok (Ok _) h = h
-on_ok (Err _) h = tt
-
--- a slice that was refused is a buffer of which all was taken
-all_taken : (bytes left : List ℕ) (e : FromUtf8Error) → left ≡ [] → IsUtf8Refusal bytes e → IsUtf8BufRefusal bytes left e
-all_taken bytes left (Utf8 n len) none h = (h.0, h.1, none)
-all_taken bytes left (Reserve _) none h = (h.1, (length bytes, none ∙ sym (drop_of_length-le bytes (omega arith))))
-
 bytes-held : (s : String Global) → length (string_bytes s) ≤ string_capacity s
 bytes-held s = grind (arith, common_steps)
-
-pub read_short-requires : goal.read_short-requires
-read_short-requires g c = omega (arith, c.remaining.ensures)
-
-pub returns-then-remaining-le-INLINE_CAPACITY : goal.returns-then-remaining-le-INLINE_CAPACITY
-returns-then-remaining-le-INLINE_CAPACITY g c =
-    let r = c.from_utf8.result in
-    let bytes = g.B.Buf.unread c.args.buf.now in
-    let left = g.B.Buf.unread c.read_short.new.buf in
-    let same : c.read_short.result.now ≡ bytes = c.read_short.ensures.bytes in
-    record {
-      text = subst (λ (bs : List ℕ). IfOk r (λ v. BytesEncode bs v.text)) same c.from_utf8.ensures.encoded;
-      fitted = IfOk-weaker r _ IsPlacedBySize (λ v is. new-fitted standard_growth v (text_of c.read_short.result.now) is)
-          c.from_utf8.ensures.ok;
-      consumed = on_ok r c.read_short.ensures.consumed;
-      kept = c.read_short.ensures.kept;
-      succeeds = subst (λ (bs : List ℕ). IsUtf8 bs → length bs ≤ 24 → IsOk r) same c.from_utf8.ensures.succeeds;
-      err = IfErr-weaker r _ (IsUtf8BufRefusal bytes left) (λ e. all_taken bytes left e c.read_short.ensures.consumed)
-          (subst (λ (bs : List ℕ). IfErr r (IsUtf8Refusal bs)) same c.from_utf8.ensures.err);
-    }
 
 pub returns-in-Err : goal.returns-in-Err
 returns-in-Err g c =
@@ -82,9 +53,6 @@ returns-in-Err-validate g c =
         c.in-Ok.ensures.consumed,
       );
     }
-
-pub from_utf8_unchecked-requires : goal.from_utf8_unchecked-requires
-from_utf8_unchecked-requires g c = subst IsUtf8 c.as_slice.ensures.value c.in_default.ensures.text.1
 
 pub returns : goal.returns
 returns g c =

@@ -9,10 +9,6 @@ pub returns-clause-text : goal.returns-clause-text
 returns-clause-text g c =
     joined-ran g.Self.Iterator.next_gives c.args.self (join (text_of c.args.separator.now) g.Self.Item.AsText.text) c.join_pieces.result c.join_pieces.ensures.ok
 
-pub returns-clause-succeeds : goal.returns-clause-succeeds
-returns-clause-succeeds g c =
-    joined-succeeds g.Self.Iterator.next_gives c.args.self (join (text_of c.args.separator.now) g.Self.Item.AsText.text) c.join_pieces.result c.join_pieces.ensures.err
-
 pub returns-clause-bytes : goal.returns-clause-bytes
 returns-clause-bytes g c =
     let read = g.Self.Item.AsText.text in
