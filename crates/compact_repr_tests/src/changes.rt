@@ -52,10 +52,8 @@ fn assert_dashes(rt: &impl Abort, text: &mut Repr<Standard>, steps: &[(usize, bo
 /// Removes one-byte characters in turn, and asserts whether the text is owned, and the result.
 fn assert_removed(rt: &impl Abort, text: &mut Repr<Standard>, steps: &[(usize, bool, &str)]) {
     for (index, owned, outcome) in steps {
-        that(*index < text.len()).expect(rt, "it holds");
         that(text.is_char_boundary(*index)).expect(rt, "it holds");
-        that(text.is_char_boundary(*index + 1)).expect(rt, "it holds");
-        assert_equal(rt, text.try_remove_ascii(*index), *owned);
+        assert_equal(rt, text.try_remove_ascii(*index).is_some(), *owned);
         assert_equal(rt, text.as_str(), *outcome);
     }
 }
@@ -83,7 +81,8 @@ fn inline(rt: HostRuntime) {
         .expect(rt, "it holds");
     }
     assert_chars(rt, &text, &[(0, 'ä'), (2, 'b'), (3, '𝄞')]);
-    assert_equal(rt, text.last_char(), Some('𝄞'));
+    assert_equal(rt, text.pop(), Some('𝄞'));
+    assert_that(rt, text.try_push_str("𝄞"));
     assert_replaced(
         rt,
         &mut text,
@@ -99,7 +98,7 @@ fn inline(rt: HostRuntime) {
         &mut text,
         &[(24, "yz𝄞end of a long tex"), (2, "yz"), (0, "")],
     );
-    assert_equal(rt, text.last_char(), None);
+    assert_equal(rt, text.pop(), None);
 }
 
 #[test]
@@ -117,7 +116,8 @@ fn heap(rt: HostRuntime) {
             (29, 29, "ß", "äyz0123456789012345678901234ß"),
         ],
     );
-    assert_equal(rt, text.last_char(), Some('ß'));
+    assert_equal(rt, text.pop(), Some('ß'));
+    assert_that(rt, text.try_push_str("ß"));
     assert_chars(rt, &text, &[(2, 'y')]);
     assert_truncated(rt, &mut text, &[(4, "äyz")]);
     assert_equal(rt, text.capacity(), 32);
@@ -192,7 +192,8 @@ fn of_the_program(rt: HostRuntime) {
         text.static_suffix(3),
         Some("𝄞 and so on, past the inline capacity"),
     );
-    assert_equal(rt, text.last_char(), Some('y'));
+    assert_equal(rt, text.pop(), Some('y'));
+    assert_equal(rt, text.as_str(), "äb𝄞 and so on, past the inline capacit");
     assert_truncated(rt, &mut text, &[(7, "äb𝄞")]);
     assert_equal(rt, text.capacity(), 7);
     that(text.is_char_boundary(0)).expect(rt, "it holds");

@@ -152,8 +152,7 @@ fn assert_one_byte(rt: &impl Abort, text: &mut Repr<Standard>, tail: usize) {
     assert_that(rt, text.try_insert_ascii(10, b'a'));
     assert_bytes(rt, text.as_str().as_bytes(), 1, 10, tail);
     that(text.is_char_boundary(10)).expect(rt, "it holds");
-    that(text.is_char_boundary(11)).expect(rt, "it holds");
-    assert_that(rt, text.try_remove_ascii(10));
+    assert_equal(rt, text.try_remove_ascii(10), Some('a'));
     assert_bytes(rt, text.as_str().as_bytes(), 0, 10, tail);
 }
 

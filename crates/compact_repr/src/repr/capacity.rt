@@ -143,11 +143,22 @@ impl<P: Policy> Repr<P> {
         ensures ok { OnOk result (self.new ≡ placed_text self.old.text (heap_placement capacity)) }
         ensures err { OnErr result (self.new ≡ self.old) }
     {
-        if let Buffer::Heap(heap) = &mut self.buffer {
-            heap.grow(capacity)?;
-            return Ok(());
-        }
-        let heap = HeapBuffer::copy_of(self.alloc, self.as_str(), capacity)?;
+        let heap = match &mut self.buffer {
+            Buffer::Heap(heap) => {
+                heap.grow(capacity)?;
+                return Ok(());
+            }
+            Buffer::Inline(_, inline) => HeapBuffer::copy_of(
+                self.alloc,
+                inline.as_str(),
+                capacity,
+            )?,
+            Buffer::Static(text) => HeapBuffer::copy_of(
+                self.alloc,
+                text.as_static_str(),
+                capacity,
+            )?,
+        };
         self.buffer = Buffer::Heap(heap);
         Ok(())
     }

@@ -8,10 +8,11 @@ ghost use Rattle.compact_repr.specs.Calls.{push_str, insert_str, replace_range, 
 use crate::error::ReserveError;
 use crate::growth::Policy;
 use crate::repr::Repr;
+use compact_text::slices::MAX_SHORT_LEN;
 
 impl<P: Policy> Repr<P> {
-    /// Appends `text`, of any length; reserves first if it does not fit. Not inlined, so that a short append that fits
-    /// calls nothing.
+    /// Appends a `text` that is long or does not fit in place; reserves first if it does not fit. Not inlined, so that a
+    /// short append that fits calls nothing.
     ///
     /// # Errors
     ///
@@ -19,12 +20,16 @@ impl<P: Policy> Repr<P> {
     #[inline(never)]
     #[tactic(auto, using(crate::proofs::Changes::append_in_place_facts, crate::proofs::MoreRoom::slow_facts))]
     pub fn push_str_slow(&mut self, text: &str) -> Result<(), ReserveError>
+        requires { length text.now ≤ 32 → fits_in_place self.old (length text.now) ≡ false }
         ensures ok { OnOk result (push_str P.growth self.old (text_of text.now) ≡ Some self.new) }
         ensures err { OnErr result
             ((self.new ≡ self.old) × PushStrAllocates self.old (text_of text.now)) }
     {
-        // A text that was too long to be tried inline may fit.
-        if self.try_push_str(text) || text.is_empty() {
+        // Only a long text has not been tried in place.
+        if text.len() > MAX_SHORT_LEN && self.try_push_str(text) {
+            return Ok(());
+        }
+        if text.is_empty() {
             return Ok(());
         }
         self.make_room(text.len())?;

@@ -92,23 +92,24 @@ impl<P: Policy> PolicyString<P> {
         ensures succeeds_short { size self.old.text ≤ 24 → IsOk result }
         ensures err { OnErr result (MakeOwnedAllocates self.old) }
     {
-        let Some((first, last)) = byte_range(start, end, self.len()) else {
+        let len = self.len();
+        let Some((first, last)) = byte_range(start, end, len) else {
             unreachable!();
         };
         self.make_owned()?;
-        Ok(self.drain_between(first, last))
+        Ok(self.drain_between(first, last, len))
     }
 
-    /// Creates the drain of an owned string.
+    /// Creates the drain of an owned string of `old_len` bytes.
     #[inline]
-    fn drain_between(&mut self, start: usize, end: usize) -> Drain<'_, P>
+    fn drain_between(&mut self, start: usize, end: usize, old_len: usize) -> Drain<'_, P>
+        requires len { old_len ≡ size self.old.text }
         requires owned { IsOwned self.old }
         requires range { is_range self.old.text start end ≡ true }
         ensures same_reference { drain_lender result ≡ self.entry.ghost_name }
         ensures rest { drain_rest result ≡ range_text self.old.text start end }
         ensures leaves { value_after_drain result ≡ without_range self.old start end }
     {
-        let old_len = self.len();
         let is_ascii = self.is_short_ascii_range(start, end);
         Drain {
             value: self,
