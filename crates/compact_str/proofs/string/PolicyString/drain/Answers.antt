@@ -9,7 +9,7 @@ pub drain_between-requires-clause-range : goal.drain_between-requires-clause-ran
 drain_between-requires-clause-range g c =
     let own = c.in_ok-make_owned.ensures in
     let first = c.in-Some.ensures.0 in
-    let last = c.in-Some.ensures.1 ∙ ap (λ (n : ℕ). end_index c.args.end n) c.len.ensures.value in
+    let last = c.in-Some.ensures.1 ∙ ap (λ (n : ℕ). end_index c.args.end n) c.len-len.ensures.value in
     let range = c.requires in
     rw (first, last) (owned_placement-range g.P.Policy.growth _ _ _ _ own.ok range.order range.first range.last)
 
@@ -17,7 +17,7 @@ pub returns : goal.returns
 returns g c =
     let own = c.in_ok-make_owned.ensures in
     let first = c.in-Some.ensures.0 in
-    let last = c.in-Some.ensures.1 ∙ ap (λ (n : ℕ). end_index c.args.end n) c.len.ensures.value in
+    let last = c.in-Some.ensures.1 ∙ ap (λ (n : ℕ). end_index c.args.end n) c.len-len.ensures.value in
     let range = c.requires in (
       (ap some (sym c.drain_between.ensures.same_reference), (λ w. refl), tt),
       record {
