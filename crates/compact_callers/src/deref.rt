@@ -10,7 +10,7 @@ use std::convert::AsStr;
 
 /// Keeps the key of a `key=value` field and returns its value. Returns `None`, with the field unchanged, if it has no
 /// `=`.
-pub fn split_at_sign(field: &mut CompactString) -> Result<Option<CompactString>, ReserveError>
+pub fn split_at_equals(field: &mut CompactString) -> Result<Option<CompactString>, ReserveError>
     ensures parts { IfOk result (λ value. MatchOption value (field.new ≡ field.old)
         (λ v. field.old.text ≡ field.new.text ++ codes "=" ++ v.text)) }
     ensures unchanged { OnErr result (field.new ≡ field.old) }

@@ -3,7 +3,7 @@
 use crate::asserts::{assert_equal, assert_that};
 use compact_callers::deref::{
     append_other, bytes_of_both, characters_of, filled_lines, longest_word, number_in, shown_name,
-    split_at_sign, weight_of, with_commas,
+    split_at_equals, weight_of, with_commas,
 };
 use compact_testing::seen::is_inline;
 use compact_testing::values::short;
@@ -12,10 +12,10 @@ use compact_testing::values::short;
 fn a_field_is_split(rt: HostRuntime) {
     let rt = &rt;
     let mut field = short(rt.alloc(), "clé=a=b");
-    let value = split_at_sign(&mut field).expect(rt, "memory");
+    let value = split_at_equals(&mut field).expect(rt, "memory");
     assert_that(rt, is_inline(&field, "clé"));
     assert_that(rt, is_inline(&value.expect(rt, "a value"), "a=b"));
-    let again = split_at_sign(&mut field).expect(rt, "memory");
+    let again = split_at_equals(&mut field).expect(rt, "memory");
     assert_that(rt, again.is_none());
 }
 

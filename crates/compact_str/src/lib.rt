@@ -1,4 +1,4 @@
-//! A drop-in replacement for `String`. Up to 24 bytes are stored inline, longer text on the heap, and a `&'static str`
+//! A replacement for `String`. Up to 24 bytes are stored inline, longer text on the heap, and a `&'static str`
 //! by reference.
 //!
 //! Short strings never allocate. Methods that may allocate return a `Result`. On `Err` text, place and capacity are

@@ -41,11 +41,11 @@ impl<P: Policy> PolicyString<P> {
         }
     }
 
-    /// Creates a string from `text`: inline up to 24 bytes, otherwise in a heap buffer of its length, at least 32.
+    /// Creates a string from `text`: inline up to 24 bytes, else in a heap buffer of its length, or of 32 if that is more.
     ///
     /// # Errors
     ///
-    /// [`ReserveError`] if the heap buffer cannot be allocated. Never fails up to 24 bytes.
+    /// [`ReserveError`] if the heap buffer cannot be allocated. Never fails for at most 24 bytes.
     ///
     /// # Examples
     ///
@@ -124,7 +124,8 @@ impl<P: Policy> PolicyString<P> {
 
     /// Creates an inline string from the 24 bytes that `packed` returns, without allocating.
     ///
-    /// Returns `None` if the last byte is above 215 or the contents are not valid UTF-8. Ignores the padding.
+    /// The last byte is 192 plus the length of a text below 24 bytes; at most 191, it ends a text of 24. Returns `None` if it
+    /// is above 215 or the text is not valid UTF-8. Ignores the bytes between.
     ///
     /// # Examples
     ///
@@ -149,11 +150,12 @@ impl<P: Policy> PolicyString<P> {
         Some(PolicyString { repr })
     }
 
-    /// Creates an empty string with room for `capacity` bytes: inline up to 24, else in a heap buffer of at least 32.
+    /// Creates an empty string with room for `capacity` bytes: inline up to 24, else in a heap buffer of `capacity` bytes,
+    /// or of 32 if that is more.
     ///
     /// # Errors
     ///
-    /// [`ReserveError`] if the heap buffer cannot be allocated. Never fails up to 24 bytes.
+    /// [`ReserveError`] if the heap buffer cannot be allocated. Never fails for at most 24 bytes.
     ///
     /// # Examples
     ///
@@ -236,11 +238,12 @@ impl<P: Policy> PolicyString<P> {
         }
     }
 
-    /// Copies `text` as `new` does and drops the box. `From<BoxedStr>` reuses its buffer instead.
+    /// Copies `text` as `new` does and drops the box, so that the capacity is that of `new`. `From<BoxedStr>` reuses the
+    /// box's buffer instead, and never fails.
     ///
     /// # Errors
     ///
-    /// [`Refused`] with `text`, unchanged, if allocation fails. Never fails up to 24 bytes.
+    /// [`Refused`] with `text`, unchanged, if allocation fails. Never fails for at most 24 bytes.
     ///
     /// # Examples
     ///

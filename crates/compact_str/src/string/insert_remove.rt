@@ -18,10 +18,11 @@ use compact_text::str_parts::{encode_char, is_boundary};
 use std::ops::Bound;
 
 impl<P: Policy> PolicyString<P> {
-    /// Returns the start and end of a range in bytes, or `None` if it ends before it starts or an end is not a
-    /// character boundary. `Excluded(n)` starts at `n + 1`; `Included(n)` ends at `n + 1`.
+    /// Returns where a range starts and where it ends, in bytes, or `None` if it ends before it starts or one of the two is
+    /// not a character boundary. As a start `Excluded(n)` means `n + 1`; as an end `Included(n)` does.
     ///
-    /// `replace_range` takes the pair as `Included` and `Excluded`.
+    /// After `Some((first, last))` the same bounds may be passed to `range`, `drain` and `replace_range`, and so may
+    /// `Included(first), Excluded(last)`.
     ///
     /// # Examples
     ///
@@ -196,7 +197,7 @@ impl<P: Policy> PolicyString<P> {
     /// # Errors
     ///
     /// [`ReserveError`] if allocation fails. Never fails if the string is owned and the result fits in its capacity, or
-    /// if neither exceeds 24 bytes.
+    /// if both the string and the result have at most 24 bytes.
     ///
     /// # Examples
     ///

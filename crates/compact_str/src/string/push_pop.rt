@@ -15,11 +15,12 @@ use compact_text::str_parts::encode_char;
 use std::fmt;
 
 impl<P: Policy> PolicyString<P> {
-    /// Appends `text`. Reserves as `reserve` does, unless `text` is empty. Never shrinks the capacity.
+    /// Appends `text`. Unless it is empty, reserves as `reserve` does, so a static string is copied and becomes owned. Never
+    /// shrinks the capacity.
     ///
     /// # Errors
     ///
-    /// [`ReserveError`] if allocation fails. Never fails if the result fits in the capacity or in 24 bytes.
+    /// [`ReserveError`] if allocation fails. Never fails if the result fits in 24 bytes or in the capacity of an owned string.
     ///
     /// # Examples
     ///
@@ -104,7 +105,7 @@ impl<P: Policy> PolicyString<P> {
 
     /// Removes and returns the last character, or returns `None` if the string is empty.
     ///
-    /// Keeps the place, and the capacity of an owned string. A static string stays static and gets shorter.
+    /// Keeps the place (inline, heap or static), and the capacity unless static. A static string gets shorter.
     ///
     /// # Examples
     ///
@@ -123,10 +124,11 @@ impl<P: Policy> PolicyString<P> {
         self.repr.pop()
     }
 
-    /// Shortens the string to `len` bytes, which must end at a character boundary. Does nothing if it is not longer.
+    /// Shortens the string to its first `len` bytes; does nothing if it has no more. A `len` below the length must be a
+    /// character boundary, as `is_char_boundary` tests.
     ///
-    /// Keeps the place, and the capacity of an owned string. `is_char_boundary` tests `len`. The length before an
-    /// append is always a boundary, and truncating to it undoes the append.
+    /// Keeps the place (inline, heap or static), and the capacity unless static. The length before an append is always a
+    /// boundary, and truncating to it undoes the append.
     ///
     /// # Examples
     ///
