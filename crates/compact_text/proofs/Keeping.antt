@@ -1,6 +1,6 @@
 -- Retaining characters in a slice of bytes.
 use Rattle.std.proofs.Common.{◌≡◌, ◌∙◌, refl, ap, sym, subst, arith, ℕ, ◌+◌, ◌-◌, ◌<◌, ◌≤◌, List, [], ◌∷◌, ◌++◌, length, take, drop, Bool, true, false, cond, inl, inr, append_assoc, append-nil, length-append}
-use Rattle.std.proofs.lemmas.List.{length-drop, drop-drop, drop_all}
+use Rattle.std.proofs.lemmas.List.{length-drop, drop-drop, drop_all, get_or-drop}
 use Rattle.std.proofs.lemmas.Bool.{cases_lt}
 use Rattle.std.proofs.lemmas.Str.{encode_ascii, byte_from_char, encodes-chars, len_utf8_ascii, drop_past_char, chars_past_char, IsUtf8-past_char, IsUtf8-append, IsUtf8-encode, IsUtf8-nil, chars-nil, length-encode}
 use Rattle.std.specs.Char.{len_utf8, IsScalar}
@@ -109,3 +109,13 @@ first_past_ascii {text} bytes b e u is high c rest split =
       | inl low ↦ absurd (omega (arith, is, high, low, byte_from_char bytes (encodes rest) c spelled low))
       | inr h ↦ h
     ]
+
+pub none-at_end : (bytes : List ℕ) (at : ℕ) → length bytes ≤ at → (c : ℕ) (rest : List ℕ) → text_of (drop at bytes) ≡ c ∷ rest → 128 ≤ c
+none-at_end bytes at ended c rest split =
+    let none : [] ≡ c ∷ rest = sym chars-nil ∙ sym (ap (λ (l : List ℕ). text_of l) (drop_all at bytes ended)) ∙ split in
+    omega (arith, ap length none)
+
+pub past_ascii-at : (bytes : List ℕ) (at : ℕ) → IsUtf8 (drop at bytes) → 128 ≤ get_or bytes at 0 → (c : ℕ) (rest : List ℕ) → text_of (drop at bytes) ≡ c ∷ rest → 128 ≤ c
+past_ascii-at bytes at u high =
+    let same : get_or (drop at bytes) 0 0 ≡ get_or bytes at 0 = grind (arith, get_or-drop) in
+    first_past_ascii (drop at bytes) (get_or (drop at bytes) 0 0) refl u refl (omega (arith, same, high))

@@ -1,7 +1,10 @@
 //! Edits of byte slices, in few wide reads and writes.
-ghost use Rattle.std.specs.Prelude.{◌≡◌, ◌+◌, ◌-◌, ◌≤◌, ◌<◌, [], ◌∷◌, ◌++◌, length, take, drop};
+ghost use Rattle.std.specs.Prelude.{◌≡◌, ◌+◌, ◌-◌, ◌≤◌, ◌<◌, ℕ, List, [], ◌∷◌, ◌++◌, length, take, drop, IfSome, IsSome, MatchOption};
+ghost use Rattle.std.specs.Char.{len_utf8, encode_utf8, IsScalar};
+ghost use Rattle.std.specs.Str.{IsUtf8};
 ghost use Rattle.std.specs.List.{replace_range};
 ghost use lib.Seq.{paste};
+ghost use Rattle.compact_text.specs.Text.{text_of};
 
 mod bytewise;
 mod chunks;
@@ -59,6 +62,30 @@ pub fn cut_out(slice: &mut [u8], len: usize, start: usize, end: usize)
         ≡ replace_range (take len slice.old) start end [] }
 {
     shift(slice, end, start, len - end);
+}
+
+/// Returns the character at `at`, a boundary of a text, if it is ASCII. Otherwise, and at the end, returns `None`.
+#[inline(always)]
+pub fn ascii_at(slice: &[u8], at: usize) -> Option<char>
+    requires utf8 { IsUtf8 (drop at slice.now) }
+    ensures encoded { IfSome result
+        (λ c. drop at slice.now ≡ encode_utf8 c ++ drop (at + 1) slice.now) }
+    ensures within { IsSome result → at + 1 ≤ length slice.now }
+    ensures rest { IsSome result → IsUtf8 (drop (at + 1) slice.now) }
+    ensures scalar { IfSome result (λ c. IsScalar c) }
+    ensures text { MatchOption result
+        ((c : ℕ) (rest : List ℕ) → text_of (drop at slice.now) ≡ c ∷ rest → 128 ≤ c)
+        (λ c. (len_utf8 c ≡ 1) × ((rest : List ℕ) × (text_of (drop at slice.now) ≡ c ∷ rest))) }
+{
+    if at >= slice.len() {
+        return None;
+    }
+    let byte = slice[at];
+    if byte < 128 {
+        Some(char::from(byte))
+    } else {
+        None
+    }
 }
 
 /// Writes `source` at `at`.

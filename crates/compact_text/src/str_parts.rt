@@ -4,6 +4,8 @@ ghost use Rattle.std.specs.Char.{len_utf8};
 ghost use Rattle.compact_text.specs.Text.{text_of};
 ghost use Rattle.compact_text.specs.Cut.{IsBoundary, is_boundary, text_before, text_after, substring, CutIsBeforeAndAfter};
 
+use crate::slices::ascii_at;
+
 /// Returns the part before a boundary.
 #[inline]
 pub fn prefix(text: &str, index: usize) -> &str
@@ -63,15 +65,7 @@ pub fn first_ascii(text: &str) -> Option<char>
     ensures { MatchOption result ((c : ℕ) (rest : List ℕ) → text_of text.now ≡ c ∷ rest → 128 ≤ c)
         (λ c. (len_utf8 c ≡ 1) × ((rest : List ℕ) × (text_of text.now ≡ c ∷ rest))) }
 {
-    if text.is_empty() {
-        return None;
-    }
-    let byte = text.as_bytes()[0];
-    if byte < 128 {
-        Some(char::from(byte))
-    } else {
-        None
-    }
+    ascii_at(text.as_bytes(), 0)
 }
 
 /// Returns the first character, or `None` if the text is empty.

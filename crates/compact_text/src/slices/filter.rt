@@ -5,7 +5,7 @@ ghost use Rattle.std.specs.Str.{IsUtf8};
 ghost use Rattle.compact_text.specs.Text.{text_of};
 ghost use Rattle.compact_text.specs.Retain.{RetainsCharsTo};
 
-use super::write;
+use super::{ascii_at, write};
 
 /// Moves to the front those characters of the first `len` bytes for which `keep` returns `true`; calls it once for
 /// each, in order. Returns their length in bytes.
@@ -55,23 +55,6 @@ fn move_retained<F: FnMut(char) -> bool>(slice: &mut [u8], keep: &mut F) -> usiz
         }
     }
     kept
-}
-
-/// Returns the character at `at` if it is ASCII. Otherwise, and at the end, returns `None`.
-#[inline(always)]
-fn ascii_at(slice: &[u8], at: usize) -> Option<char>
-    requires utf8 { IsUtf8 (drop at slice.now) }
-    ensures encoded { IfSome result
-        (λ c. drop at slice.now ≡ encode_utf8 c ++ drop (at + 1) slice.now) }
-    ensures width { IfSome result (λ c. 1 ≡ len_utf8 c) }
-    ensures within { IsSome result → at + 1 ≤ length slice.now }
-    ensures rest { IsSome result → IsUtf8 (drop (at + 1) slice.now) }
-    ensures scalar { IfSome result (λ c. IsScalar c) }
-{
-    if at < slice.len() && slice[at] < 128 {
-        return Some(char::from(slice[at]));
-    }
-    None
 }
 
 /// Returns the character that begins at `at`, and its length in bytes.
