@@ -4,7 +4,8 @@ ghost use Rattle.compact_str.specs.Text.{size};
 ghost use Rattle.compact_str.specs.Cut.{substring};
 ghost use Rattle.compact_str.specs.Calls.{new, replace_range, retain};
 ghost use Rattle.compact_str.specs.RetainRules.{retained_text, answer_rule, next_answer};
-ghost use Rattle.compact_str.specs.Ranges.{IsRange, range_start, range_end};
+ghost use Rattle.std.specs.declared.ops.Bound.TheVariants.{Included, Excluded};
+ghost use Rattle.compact_str.specs.Ranges.{IsRange};
 ghost use Rattle.compact_edit.specs.Steps.{Step};
 ghost use Rattle.compact_edit.specs.Runs.{RunsTo};
 ghost use Rattle.compact_str.specs.Capacity.{WithCapacityAllocates, MakeOwnedAllocates};
@@ -162,14 +163,14 @@ fn replace_range<P: Policy>(
 fn drain<P: Policy>(value: &mut PolicyString<P>, start: Bound<usize>, end: Bound<usize>) -> Reply<P>
     ensures { Step P.growth value.old (Edit.Drain start end) result value.new }
 {
-    let Some(_) = value.check_range(start, end) else {
+    let Some((first, last)) = value.check_range(start, end) else {
         return Reply::BadPosition;
     };
-    let range = match copy_of_range(value, start, end) {
+    let range = match copy_of_range(value, first, last) {
         Ok(range) => range,
         Err(error) => return Reply::Refused(error),
     };
-    match take_out(value, start, end) {
+    match take_out(value, first, last) {
         Ok(()) => Reply::Text(range),
         Err(error) => Reply::Refused(error),
     }
@@ -179,33 +180,31 @@ fn drain<P: Policy>(value: &mut PolicyString<P>, start: Bound<usize>, end: Bound
 #[tactic(auto, using(compact_str::proofs::ForCallers::for_callers))]
 fn copy_of_range<P: Policy>(
     value: &PolicyString<P>,
-    start: Bound<usize>,
-    end: Bound<usize>,
+    first: usize,
+    last: usize,
 ) -> Result<PolicyString<P>, ReserveError>
-    requires { IsRange value.now.text start end }
-    ensures ok { IfOk result
-        (λ v. new P.growth (substring value.now.text (range_start start)
-        (range_end value.now.text end)) ≡ Some v) }
+    requires { IsRange value.now.text (Included first) (Excluded last) }
+    ensures ok { IfOk result (λ v. new P.growth (substring value.now.text first last) ≡ Some v) }
     ensures err { OnErr result
-        (WithCapacityAllocates
-        (size (substring value.now.text (range_start start) (range_end value.now.text end)))) }
+        (WithCapacityAllocates (size (substring value.now.text first last))) }
 {
-    PolicyString::new(value.allocator(), value.range(start, end))
+    PolicyString::new(
+        value.allocator(),
+        value.range(Bound::Included(first), Bound::Excluded(last)),
+    )
 }
 
 /// Removes a range.
 fn take_out<P: Policy>(
     value: &mut PolicyString<P>,
-    start: Bound<usize>,
-    end: Bound<usize>,
+    first: usize,
+    last: usize,
 ) -> Result<(), ReserveError>
-    requires { IsRange value.old.text start end }
-    ensures ok { OnOk result
-        (replace_range P.growth value.old (range_start start) (range_end value.old.text end) []
-        ≡ Some value.new) }
+    requires { IsRange value.old.text (Included first) (Excluded last) }
+    ensures ok { OnOk result (replace_range P.growth value.old first last [] ≡ Some value.new) }
     ensures err { OnErr result ((value.new ≡ value.old) × MakeOwnedAllocates value.old) }
 {
-    drop(value.drain(start, end)?);
+    drop(value.drain(Bound::Included(first), Bound::Excluded(last))?);
     Ok(())
 }
 

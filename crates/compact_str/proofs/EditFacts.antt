@@ -2,10 +2,10 @@
 use Rattle.std.proofs.lemmas.Str.{IsUtf8-string_bytes}
 use Rattle.compact_text.proofs.TextFacts.{text_facts}
 use Rattle.compact_text.proofs.Texts.{empty_text}
-use Rattle.compact_repr.proofs.Changes.{push_str-text, push_str-in_place, insert_str-in_place, replace_range-in_place}
+use Rattle.compact_repr.proofs.Changes.{push_str-text, push_str-in_place, replace_range-in_place}
 use Rattle.compact_text.proofs.Cuts.{boundary-within, size-text_after, boundary-next, text_after-next}
-use Rattle.compact_str.proofs.Positions.{truncate-last, removed-in_place, truncate-boundary, truncate-text, boundary-cut, asks-by_nothing, insert_str-text, insert_str-place, insert_str-behind, insert_str-bytes, insert-bytes, range_replaced-text}
-use Rattle.compact_str.proofs.Rooms.{push_str-sure, push_str-bytes, pushed-bytes, insert_str-sure}
+use Rattle.compact_str.proofs.Positions.{truncate-last, removed-in_place, truncate-boundary, truncate-text, boundary-cut, asks-by_nothing, inserts_text, inserted-in_place, replaces_range}
+use Rattle.compact_str.proofs.Rooms.{push_str-sure, push_str-bytes, pushed-bytes}
 use Rattle.compact_text.proofs.Letters.{boundary-lowercase, boundary-uppercase}
 use Rattle.compact_str.proofs.Letters.{make_ascii_lowercase-owned, make_ascii_uppercase-owned, make_owned-text, new-lowercase, new-uppercase}
 use Rattle.compact_str.proofs.Repeats.{repeated_text-none, repeated_text-one}
@@ -22,10 +22,10 @@ pub ruleset position_facts =
 
 -- insertion
 pub ruleset insertion_facts =
-    (text_facts, insert_str-text, insert_str-place, insert_str-behind, insert_str-bytes, insert-bytes, insert_str-sure, insert_str-in_place)
+    (text_facts, inserts_text, inserted-in_place)
 
 -- replacement
-pub ruleset replacement_facts = (text_facts, replace_range-in_place, range_replaced-text)
+pub ruleset replacement_facts = (text_facts, replace_range-in_place, replaces_range)
 
 -- repetition
 pub ruleset repeat_facts = (text_facts, repeated_text-none, repeated_text-one)

@@ -1,20 +1,23 @@
 -- Texts and values cut at a position.
-use Rattle.std.proofs.Common.{◌≡◌, Some, Result, Ok, Err, true, false, ℕ, ◌+◌, ◌-◌, ◌<◌, ◌≤◌, List, [], ◌∷◌, ◌++◌, take, drop, refl, ap, sym, subst, ◌∙◌, arith, append_assoc, append-nil, take_at, drop_at}
+use Rattle.std.proofs.Common.{◌≡◌, Some, Result, Ok, Err, true, false, ℕ, ◌+◌, ◌-◌, ◌<◌, ◌≤◌, ◌^◌, List, [], ◌∷◌, ◌++◌, take, drop, refl, ap, sym, subst, ◌∙◌, arith, append_assoc, append-nil, take_at, drop_at}
 use Rattle.std.proofs.lemmas.Grind.{common_steps}
 use Rattle.std.proofs.lemmas.Bool.{cond-true, cond-false, lt-leb, le-leb}
 use Rattle.std.proofs.lemmas.Bool.Decides.{nat_tests}
-use Rattle.std.proofs.lemmas.Str.{len_utf8_bounds, encodes-append, encodes-chars}
-use Rattle.std.specs.Prelude.{IsTrue, IsErr, option_map}
-use Rattle.std.specs.Char.{len_utf8, encode_utf8, is_ascii}
+use Rattle.std.proofs.lemmas.Str.{len_utf8_bounds, encodes-append}
+use Rattle.std.specs.Prelude.{IsTrue, IsErr, OnOk, OnErr, option_map}
+use Rattle.std.specs.Char.{len_utf8, is_ascii}
 use Rattle.std.specs.Str.{IsUtf8}
 use Rattle.compact_repr.specs.Text.{size, text_of, utf8}
 use Rattle.compact_repr.specs.Cut.{IsCut, IsBoundary, IsAsciiAt, text_before, text_after, replaced_text}
-use Rattle.compact_repr.specs.Value.{PlacedText, placed_text, is_static}
-use Rattle.compact_repr.specs.Capacity.{Growth, shortened_placement, owned_placement, make_owned_allocates}
-use Rattle.compact_repr.specs.Calls.{truncate, insert_str, replace_range, replace_range_allocates}
-use Rattle.compact_str.specs.Edits.{RemovesChar}
-use Rattle.compact_text.proofs.Texts.{length-utf8, size-append, empty_text}
-use Rattle.compact_text.proofs.Cuts.{boundary-from_size, boundary-next, text_after-next, text_before-text_after, text_before-append, text_after-append, size-text_before, size-text_after}
+use Rattle.compact_repr.specs.Value.{PlacedText, placed_text, is_static, IsOwned}
+use Rattle.compact_repr.specs.Capacity.{Growth, fits_in_place, shortened_placement, owned_placement, make_owned_allocates, ReserveAllocates}
+use Rattle.compact_repr.specs.Calls.{truncate, insert_str, replace_range, replace_range_allocates, ReplaceRangeAllocates}
+use Rattle.compact_str.specs.Edits.{InsertsText, RemovesChar, ReplacesRange}
+use Rattle.compact_str.specs.Room.{HasRoomFor}
+use Rattle.compact_repr.proofs.Changes.{insert_str-in_place}
+use Rattle.compact_str.proofs.Rooms.{insert_str-sure}
+use Rattle.compact_text.proofs.Texts.{length-utf8, size-append, size-text_of, empty_text}
+use Rattle.compact_text.proofs.Cuts.{boundary-from_size, text_after-next, text_before-text_after, text_before-append, text_after-append, size-text_before, size-text_after}
 
 -- a text without its last character
 pub truncate-last : (v : PlacedText) (front : List ℕ) (c : ℕ) → v.text ≡ front ++ c ∷ [] → truncate v (size v.text - len_utf8 c) ≡ placed_text front (shortened_placement v front)
@@ -105,12 +108,6 @@ removed-in_place g v w p c h a o s =
 pub insert_str-text : (g : Growth) (v w : PlacedText) (p : ℕ) (s : List ℕ) → insert_str g v p s ≡ Some w → w.text ≡ replaced_text v.text p p s
 insert_str-text g v w p s e = grind (arith, common_steps)
 
-pub insert_str-place : (g : Growth) (v w : PlacedText) (p : ℕ) (s : List ℕ) → insert_str g v p s ≡ Some w → IsBoundary v.text p → IsBoundary w.text p
-insert_str-place g v w p s e h = subst (λ (t : List ℕ). IsBoundary t p) (sym (insert_str-text g v w p s e)) (replace_range-start v.text s p p h)
-
-pub insert_str-behind : (g : Growth) (v w : PlacedText) (p n : ℕ) (s : List ℕ) → insert_str g v p s ≡ Some w → IsBoundary v.text p → size s ≡ n → IsBoundary w.text (p + n)
-insert_str-behind g v w p n s e h k = subst (λ (t : List ℕ). IsBoundary t (p + n)) (sym (insert_str-text g v w p s e)) (replace_range-end v.text s p p (p + n) n h k refl)
-
 -- its bytes
 
 inserted-bytes : (t s : List ℕ) (p : ℕ) → IsBoundary t p → utf8 (replaced_text t p p s) ≡ take p (utf8 t) ++ utf8 s ++ drop p (utf8 t)
@@ -124,23 +121,60 @@ inserted-bytes t s p h =
     ∙ ap (λ x. x ++ utf8 s ++ back) (sym (ap (take p) parts ∙ take_at front back p long))
     ∙ ap (λ x. take p (utf8 t) ++ utf8 s ++ x) (sym (ap (drop p) parts ∙ drop_at front back p long))
 
-pub insert_str-bytes : (g : Growth) (v w : PlacedText) (p : ℕ) (bytes : List ℕ) → insert_str g v p (text_of bytes) ≡ Some w → IsBoundary v.text p → IsUtf8 bytes
-    → utf8 w.text ≡ take p (utf8 v.text) ++ bytes ++ drop p (utf8 v.text)
-insert_str-bytes g v w p bytes e h u =
-    ap utf8 (insert_str-text g v w p (text_of bytes) e)
-    ∙ inserted-bytes v.text (text_of bytes) p h
-    ∙ ap (λ x. take p (utf8 v.text) ++ x ++ drop p (utf8 v.text)) (encodes-chars bytes u)
+-- an insertion that says how it ended says all of it
+reserve-never_allocates : (v : PlacedText) (n : ℕ) → HasRoomFor v n → ReserveAllocates v n → ⊥
+reserve-never_allocates v n room asks = grind (arith, common_steps)
 
-pub insert-bytes : (g : Growth) (v w : PlacedText) (p c : ℕ) → insert_str g v p (c ∷ []) ≡ Some w → IsBoundary v.text p
-    → utf8 w.text ≡ take p (utf8 v.text) ++ encode_utf8 c ++ drop p (utf8 v.text)
-insert-bytes g v w p c e h =
-    ap utf8 (insert_str-text g v w p (c ∷ []) e)
-    ∙ inserted-bytes v.text (c ∷ []) p h
-    ∙ ap (λ x. take p (utf8 v.text) ++ x ++ drop p (utf8 v.text)) (append-nil (encode_utf8 c))
+pub inserts_text : {E : Type 0} (g : Growth) (v w : PlacedText) (p n : ℕ) (s bytes : List ℕ) (r : Result (Unit {0}) E) → IsBoundary v.text p → utf8 s ≡ bytes → size s ≡ n
+    → OnOk r (insert_str g v p s ≡ Some w) → OnOk r (p + n < 2 ^ 64) → OnErr r ((w ≡ v) × ReserveAllocates v n) → InsertsText g v p s bytes n r w
+inserts_text g v w p n s bytes (Ok _) h encoded long ok fits err =
+    let text = insert_str-text g v w p s ok in
+    record {
+      ok = ok;
+      text = text;
+      bytes = ap utf8 text ∙ inserted-bytes v.text s p h ∙ ap (λ x. take p (utf8 v.text) ++ x ++ drop p (utf8 v.text)) encoded;
+      boundary = subst (λ (t : List ℕ). IsBoundary t p) (sym text) (replace_range-start v.text s p p h);
+      after = subst (λ (t : List ℕ). IsBoundary t (p + n)) (sym text) (replace_range-end v.text s p p (p + n) n h long refl);
+      after_fits = fits;
+      room = insert_str-sure g v w p s ok;
+      succeeds = λ _. refl;
+      err = tt;
+    }
+inserts_text g v w p n s bytes (Err _) h encoded long ok fits err =
+    record { ok = tt; text = tt; bytes = tt; boundary = tt; after = tt; after_fits = tt; room = tt; succeeds = λ room. absurd (reserve-never_allocates v n room err.1); err = err }
+
+-- an insertion within the room
+pub inserted-in_place : {E : Type 0} (g : Growth) (v w : PlacedText) (p k n : ℕ) (s bytes : List ℕ) → w ≡ placed_text (replaced_text v.text p p s) v.placement → fits_in_place v k ≡ true → k ≡ n
+    → IsBoundary v.text p → utf8 s ≡ bytes → size s ≡ n → p + n < 2 ^ 64 → InsertsText {E = E} g v p s bytes n (Ok tt) w
+inserted-in_place g v w p k n s bytes is fits same h encoded long small =
+    let room : k ≡ n - (p - p) = omega (arith, same) in
+    let done = insert_str-in_place g v w p n s (sym long) (subst (λ (m : ℕ). fits_in_place v m ≡ true) room fits) is in
+    inserts_text g v w p n s bytes (Ok tt) h encoded long done small tt
 
 -- a value with a replacement
 pub range_replaced-text : (g : Growth) (v w : PlacedText) (i j : ℕ) (s : List ℕ) → replace_range g v i j s ≡ Some w → w.text ≡ replaced_text v.text i j s
 range_replaced-text g v w i j s e = grind (arith, common_steps)
+
+-- which never allocates within the room, nor in an owned value for a text no longer
+replace_range-never_allocates : (v : PlacedText) (i j n : ℕ) (s : List ℕ) → size s ≡ n → HasRoomFor v (n - (j - i)) → ReplaceRangeAllocates v i j s → ⊥
+replace_range-never_allocates v i j n s long room asks = grind (arith, common_steps)
+
+replace_range-never_owns : (v : PlacedText) (i j n : ℕ) (s : List ℕ) → size s ≡ n → IsOwned v → i + n ≤ j → ReplaceRangeAllocates v i j s → ⊥
+replace_range-never_owns v i j n s long own short asks = grind (arith, common_steps)
+
+pub replaces_range : {E : Type 0} (g : Growth) (v w : PlacedText) (i j : ℕ) (bytes : List ℕ) (r : Result (Unit {0}) E) → IsUtf8 bytes
+    → OnOk r (replace_range g v i j (text_of bytes) ≡ Some w) → OnErr r ((w ≡ v) × ReplaceRangeAllocates v i j (text_of bytes)) → ReplacesRange g v i j bytes r w
+replaces_range g v w i j bytes (Ok _) u ok err =
+    record { ok = ok; text = range_replaced-text g v w i j (text_of bytes) ok; succeeds = λ _. refl; succeeds_owned = λ _ _. refl; err = tt }
+replaces_range g v w i j bytes (Err _) u ok err =
+    let long = size-text_of bytes u in
+    record {
+      ok = tt;
+      text = tt;
+      succeeds = λ room. absurd (replace_range-never_allocates v i j _ (text_of bytes) long room err.1);
+      succeeds_owned = λ own short. absurd (replace_range-never_owns v i j _ (text_of bytes) long own short err.1);
+      err = err;
+    }
 
 replace_range-by_nothing : (g : Growth) (v w : PlacedText) (i j : ℕ) → replace_range g v i j [] ≡ Some w → option_map (placed_text (replaced_text v.text i j [])) (owned_placement g v) ≡ Some w
 replace_range-by_nothing g v w i j e = grind (arith, common_steps)

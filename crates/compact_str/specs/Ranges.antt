@@ -1,9 +1,9 @@
 -- Ranges of a text by two bounds.
-use Rattle.std.specs.Prelude.{ℕ, ◌≤◌, List}
+use Rattle.std.specs.Prelude.{◌≡◌, ℕ, ◌-◌, ◌≤◌, List, length}
 use Rattle.std.specs.declared.ops.Bound.{Bound}
 use Rattle.std.specs.Range.Bound.{start_index, end_index}
-use Rattle.compact_repr.specs.Text.{size}
-use Rattle.compact_repr.specs.Cut.{IsBoundary}
+use Rattle.compact_repr.specs.Text.{size, utf8, text_of}
+use Rattle.compact_repr.specs.Cut.{IsBoundary, substring}
 
 -- The byte positions of a range's ends. An excluded start and an included end are one past the bound; an open end is
 -- the end of t.
@@ -18,3 +18,9 @@ pub record IsRange (t : List ℕ) (start end : Bound ℕ) : Type 0 where
   pub order : range_start start ≤ range_end t end
   pub first : IsBoundary t (range_start start)
   pub last : IsBoundary t (range_end t end)
+
+-- these bytes are the part of t from i to j
+pub record IsPart (t : List ℕ) (i j : ℕ) (part : List ℕ) : Type 0 where
+  pub bytes : part ≡ utf8 (substring t i j)
+  pub text : text_of part ≡ substring t i j
+  pub len : length part ≡ j - i

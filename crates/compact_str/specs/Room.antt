@@ -1,7 +1,7 @@
 -- Room for a text.
-use Rattle.std.specs.Prelude.{◌≡◌, ℕ, ◌+◌, ◌≤◌, [], false, max, if◌then◌else◌, Result, IfOk, OnOk, OnErr, IsOk, Some}
+use Rattle.std.specs.Prelude.{◌≡◌, ℕ, ◌+◌, ◌≤◌, [], max, if◌then◌else◌, Result, IfOk, OnOk, OnErr, IsOk, Some}
 use Rattle.compact_repr.specs.Text.{size}
-use Rattle.compact_repr.specs.Value.{PlacedText, is_static, IsOwned}
+use Rattle.compact_repr.specs.Value.{PlacedText, is_static}
 use Rattle.compact_repr.specs.Capacity.{Growth, WithCapacityAllocates, ReserveAllocates}
 use Rattle.compact_repr.specs.Calls.{with_capacity, reserve}
 

@@ -12,7 +12,6 @@ ghost use Rattle.compact_repr.specs.Value.{IsOwned};
 mod range;
 
 use crate::string::PolicyString;
-use crate::string::insert_remove::byte_range;
 use compact_repr::{Policy, ReserveError};
 use compact_text::str_parts::{first_ascii, last_char, substring};
 use std::fmt;
@@ -48,7 +47,7 @@ pub struct Drain<'a, P: Policy> {
 
 impl<P: Policy> PolicyString<P> {
     ghost use Rattle.compact_str.specs.TotalRanges.{range_text, without_range};
-    ghost use Rattle.compact_str.specs.Drain.{drain_rest, value_after_drain, drain_lender};
+    ghost use Rattle.compact_str.specs.Drain.{drain_rest, value_after_drain, drain_lender, DrainsRange};
     ghost use Rattle.compact_str.specs.contracts.string.PolicyString.{the_row};
 
     /// Removes a range of bytes, which `check_range` must accept, and returns its characters as an iterator. The range
@@ -77,25 +76,13 @@ impl<P: Policy> PolicyString<P> {
         ensures* refused { sem 𝓛
             (RestsIfErr (the_row P.row P.Policy) self.entry drain_lender result
             (λ v. v ≡ self.old)) }
-        ensures same_reference { IfOk result (λ d. drain_lender d ≡ self.entry.ghost_name) }
-        ensures rest { IfOk result
-            (λ d. drain_rest d ≡ substring self.old.text (range_start start)
-            (range_end self.old.text end)) }
-        ensures leaves { IfOk result
-            (λ d. replace_range P.growth self.old (range_start start)
-            (range_end self.old.text end) []
-            ≡ Some (value_after_drain d)) }
-        ensures text { IfOk result
-            (λ d. (value_after_drain d).text
-            ≡ replaced_text self.old.text (range_start start) (range_end self.old.text end) []) }
-        ensures succeeds { IsOwned self.old → IsOk result }
-        ensures succeeds_short { size self.old.text ≤ 24 → IsOk result }
-        ensures err { OnErr result (MakeOwnedAllocates self.old) }
+        ensures drains { DrainsRange P.growth self.old self.entry.ghost_name (range_start start)
+            (range_end self.old.text end) result }
     {
-        let len = self.len();
-        let Some((first, last)) = byte_range(start, end, len) else {
+        let Some((first, last)) = self.byte_range(start, end) else {
             unreachable!();
         };
+        let len = self.len();
         self.make_owned()?;
         Ok(self.drain_between(first, last, len))
     }

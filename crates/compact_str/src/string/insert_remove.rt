@@ -1,14 +1,13 @@
 //! Editing by byte position.
 ghost use Rattle.std.specs.Prelude.{◌≡◌, ℕ, ◌+◌, ◌-◌, ◌^◌, ◌<◌, ◌≤◌, ◌↔◌, ◌∷◌, ◌++◌, [], length, take, drop, Some, None, IfOk, OnOk, OnErr, IsOk, IsTrue, MatchOption};
 ghost use Rattle.std.specs.Char.{len_utf8, encode_utf8};
-ghost use Rattle.std.specs.Range.Bound.{start_index, end_index};
 ghost use Rattle.std.specs.Str.{IsCharBoundary};
 ghost use Rattle.compact_repr.specs.Text.{size, utf8, text_of};
 ghost use Rattle.compact_repr.specs.Cut.{IsCut, IsBoundary, text_before, text_after, substring, replaced_text};
 ghost use Rattle.compact_str.specs.Room.{HasRoomFor, infallible_capacity};
-ghost use Rattle.compact_repr.specs.Calls.{insert_str, replace_range, ReplaceRangeAllocates};
-ghost use Rattle.compact_str.specs.Edits.{RemovesChar, SplitsOff, SplitAllocates};
-ghost use Rattle.compact_str.specs.Ranges.{IsRange, range_start, range_end};
+ghost use Rattle.compact_repr.specs.Calls.{insert_str};
+ghost use Rattle.compact_str.specs.Edits.{InsertsText, RemovesChar, ReplacesRange, SplitsOff, SplitAllocates};
+ghost use Rattle.compact_str.specs.Ranges.{IsRange, IsPart, range_start, range_end};
 ghost use Rattle.compact_repr.specs.Capacity.{ReserveAllocates};
 ghost use Rattle.compact_repr.specs.Value.{IsOwned, IsStatic};
 
@@ -37,8 +36,8 @@ impl<P: Policy> PolicyString<P> {
             (λ range. IsRange self.now.text start end × (range.0 ≡ range_start start)
             × (range.1 ≡ range_end self.now.text end)) }
     {
+        let (first, last) = self.byte_range(start, end)?;
         let text = self.as_str();
-        let (first, last) = byte_range(start, end, text.len())?;
         if first <= last && is_boundary(text, first) && is_boundary(text, last) {
             Some((first, last))
         } else {
@@ -57,13 +56,9 @@ impl<P: Policy> PolicyString<P> {
     #[tactic(auto, using(crate::proofs::EditFacts::position_facts))]
     pub fn range(&self, start: Bound<usize>, end: Bound<usize>) -> &str
         requires { IsRange self.now.text start end }
-        ensures bytes { result.now
-            ≡ utf8 (substring self.now.text (range_start start) (range_end self.now.text end)) }
-        ensures text { text_of result.now
-            ≡ substring self.now.text (range_start start) (range_end self.now.text end) }
-        ensures len { length result.now ≡ range_end self.now.text end - range_start start }
+        ensures { IsPart self.now.text (range_start start) (range_end self.now.text end) result.now }
     {
-        let Some((first, last)) = byte_range(start, end, self.len()) else {
+        let Some((first, last)) = self.byte_range(start, end) else {
             unreachable!();
         };
         self.repr.substring(first, last)
@@ -90,19 +85,8 @@ impl<P: Policy> PolicyString<P> {
     #[tactic(auto, using(crate::proofs::EditFacts::insertion_facts))]
     pub fn insert_str(&mut self, index: usize, text: &str) -> Result<(), ReserveError>
         requires { IsBoundary self.old.text index }
-        ensures ok { OnOk result
-            (insert_str P.growth self.old index (text_of text.now) ≡ Some self.new) }
-        ensures text { OnOk result
-            (self.new.text ≡ replaced_text self.old.text index index (text_of text.now)) }
-        ensures bytes { OnOk result (utf8 self.new.text
-            ≡ take index (utf8 self.old.text) ++ text.now ++ drop index (utf8 self.old.text)) }
-        ensures place { OnOk result (IsBoundary self.new.text index) }
-        ensures after { OnOk result (IsBoundary self.new.text (index + length text.now)) }
-        ensures after_fits { OnOk result (index + length text.now < 2 ^ 64) }
-        ensures room { OnOk result (infallible_capacity self.old ≤ infallible_capacity self.new) }
-        ensures succeeds { HasRoomFor self.old (length text.now) → IsOk result }
-        ensures err { OnErr result
-            ((self.new ≡ self.old) × ReserveAllocates self.old (size (text_of text.now))) }
+        ensures { InsertsText P.growth self.old index (text_of text.now) text.now (length text.now)
+            result self.new }
     {
         if self.repr.try_replace_range(index, index, text) {
             return Ok(());
@@ -125,21 +109,11 @@ impl<P: Policy> PolicyString<P> {
     /// assert_eq!(rt; text.as_str(), "aé!b");
     /// ```
     #[inline]
+    #[tactic(auto, using(crate::proofs::EditFacts::insertion_facts))]
     pub fn insert(&mut self, index: usize, character: char) -> Result<(), ReserveError>
         requires { IsBoundary self.old.text index }
-        ensures ok { OnOk result
-            (insert_str P.growth self.old index (character ∷ []) ≡ Some self.new) }
-        ensures text { OnOk result
-            (self.new.text ≡ replaced_text self.old.text index index (character ∷ [])) }
-        ensures bytes { OnOk result (utf8 self.new.text ≡ take index (utf8 self.old.text)
-            ++ encode_utf8 character ++ drop index (utf8 self.old.text)) }
-        ensures place { OnOk result (IsBoundary self.new.text index) }
-        ensures after { OnOk result (IsBoundary self.new.text (index + len_utf8 character)) }
-        ensures after_fits { OnOk result (index + len_utf8 character < 2 ^ 64) }
-        ensures room { OnOk result (infallible_capacity self.old ≤ infallible_capacity self.new) }
-        ensures succeeds { HasRoomFor self.old (len_utf8 character) → IsOk result }
-        ensures err { OnErr result
-            ((self.new ≡ self.old) × ReserveAllocates self.old (len_utf8 character)) }
+        ensures { InsertsText P.growth self.old index (character ∷ []) (encode_utf8 character)
+            (len_utf8 character) result self.new }
     {
         if character.is_ascii() && self.repr.try_insert_ascii(index, character as u8) {
             return Ok(());
@@ -214,22 +188,10 @@ impl<P: Policy> PolicyString<P> {
         text: &str,
     ) -> Result<(), ReserveError>
         requires { IsRange self.old.text start end }
-        ensures ok { OnOk result
-            (replace_range P.growth self.old (range_start start) (range_end self.old.text end)
-            (text_of text.now) ≡ Some self.new) }
-        ensures text { OnOk result
-            (self.new.text ≡ replaced_text self.old.text (range_start start)
-            (range_end self.old.text end) (text_of text.now)) }
-        ensures succeeds { HasRoomFor self.old
-            (length text.now - (range_end self.old.text end - range_start start)) → IsOk result }
-        ensures succeeds_owned { IsOwned self.old
-            → range_start start + length text.now ≤ range_end self.old.text end → IsOk result }
-        ensures err { OnErr result
-            ((self.new ≡ self.old)
-            × ReplaceRangeAllocates self.old (range_start start) (range_end self.old.text end)
-            (text_of text.now)) }
+        ensures { ReplacesRange P.growth self.old (range_start start) (range_end self.old.text end)
+            text.now result self.new }
     {
-        let Some((first, last)) = byte_range(start, end, self.len()) else {
+        let Some((first, last)) = self.byte_range(start, end) else {
             unreachable!();
         };
         if self.repr.try_replace_range(first, last, text) {
@@ -258,9 +220,6 @@ impl<P: Policy> PolicyString<P> {
     pub fn split_off(&mut self, index: usize) -> Result<Self, ReserveError>
         requires { IsBoundary self.old.text index }
         ensures ok { IfOk result (λ tail. SplitsOff P.growth self.old index tail self.new) }
-        ensures text { IfOk result
-            (λ tail. (self.new.text ≡ text_before self.old.text index)
-            × (tail.text ≡ text_after self.old.text index)) }
         ensures cut { IfOk result (λ tail. IsCut self.old.text index self.new.text tail.text) }
         ensures boundaries { IsOk result → (i : ℕ) → i ≤ index → IsBoundary self.old.text i
             → IsBoundary self.new.text i }
@@ -276,23 +235,40 @@ impl<P: Policy> PolicyString<P> {
         self.repr.truncate(index);
         Ok(PolicyString { repr })
     }
-}
 
-/// Returns the start and end of a range of a text of `len` bytes. Returns `None` only if an end is past `len`.
-#[inline]
-pub fn byte_range(start: Bound<usize>, end: Bound<usize>, len: usize) -> Option<(usize, usize)>
-    ensures { MatchOption result (¬ ((start_index start ≤ len) × (end_index end len ≤ len)))
-        (λ range. (range.0 ≡ start_index start) × (range.1 ≡ end_index end len)) }
-{
-    let first = match start {
-        Bound::Included(index) => index,
-        Bound::Excluded(index) => index.checked_add(1)?,
-        Bound::Unbounded => 0,
-    };
-    let last = match end {
-        Bound::Included(index) => index.checked_add(1)?,
-        Bound::Excluded(index) => index,
-        Bound::Unbounded => len,
-    };
-    Some((first, last))
+    /// Returns the start and end of a range, in bytes, of which it tests neither, or `None` if there is no such range. Reads
+    /// the length only if a bound needs it.
+    #[inline]
+    pub(crate) fn byte_range(
+        &self,
+        start: Bound<usize>,
+        end: Bound<usize>,
+    ) -> Option<(usize, usize)>
+        ensures { MatchOption result (¬ IsRange self.now.text start end)
+            (λ range. (range.0 ≡ range_start start) × (range.1 ≡ range_end self.now.text end)) }
+    {
+        let first = match start {
+            Bound::Included(index) => index,
+            Bound::Excluded(index) => self.position_after(index)?,
+            Bound::Unbounded => 0,
+        };
+        let last = match end {
+            Bound::Included(index) => self.position_after(index)?,
+            Bound::Excluded(index) => index,
+            Bound::Unbounded => self.len(),
+        };
+        Some((first, last))
+    }
+
+    /// Returns `index + 1`, or `None` if that is past the end.
+    #[inline]
+    fn position_after(&self, index: usize) -> Option<usize>
+        ensures { MatchOption result (size self.now.text ≤ index) (λ after. after ≡ index + 1) }
+    {
+        if index < self.len() {
+            Some(index + 1)
+        } else {
+            None
+        }
+    }
 }

@@ -4,20 +4,20 @@ ghost use Rattle.std.specs.Borrow.{sem, RestsIfErr};
 ghost use Rattle.std.specs.Range.Bound.{bound_map};
 ghost use Rattle.compact_repr.specs.Text.{size, utf8, text_of};
 ghost use Rattle.compact_repr.specs.Cut.{substring, replaced_text};
-ghost use Rattle.compact_repr.specs.Calls.{push_str, replace_range, PushStrAllocates, ReplaceRangeAllocates};
+ghost use Rattle.compact_repr.specs.Calls.{push_str, replace_range, PushStrAllocates};
+ghost use Rattle.compact_str.specs.Edits.{ReplacesRange};
 ghost use Rattle.compact_str.specs.Room.{HasRoomFor, infallible_capacity};
-ghost use Rattle.compact_str.specs.Ranges.{IsRange, range_start, range_end};
+ghost use Rattle.compact_str.specs.Ranges.{IsRange, IsPart, range_start, range_end};
 ghost use Rattle.compact_repr.specs.Capacity.{MakeOwnedAllocates};
 ghost use Rattle.compact_repr.specs.Value.{IsOwned};
 
 use crate::string::PolicyString;
 use crate::string::drain::Drain;
-use crate::string::insert_remove::byte_range;
 use compact_repr::{Policy, ReserveError};
 use std::ops::{Bound, RangeBounds};
 
 impl<P: Policy> PolicyString<P> {
-    ghost use Rattle.compact_str.specs.Drain.{drain_rest, value_after_drain, drain_lender};
+    ghost use Rattle.compact_str.specs.Drain.{drain_lender, DrainsRange};
     ghost use Rattle.compact_str.specs.contracts.string.PolicyString.{the_row};
 
     /// Returns the text in a range of bytes, like `range`.
@@ -31,12 +31,8 @@ impl<P: Policy> PolicyString<P> {
     pub fn range_within<R: RangeBounds<usize>>(&self, range: R) -> &str
         requires known { R.has_bounds range }
         requires range { IsRange self.now.text (R.start_bound range) (R.end_bound range) }
-        ensures bytes { result.now ≡ utf8 (substring self.now.text
-            (range_start (R.start_bound range)) (range_end self.now.text (R.end_bound range))) }
-        ensures text { text_of result.now ≡ substring self.now.text
-            (range_start (R.start_bound range)) (range_end self.now.text (R.end_bound range)) }
-        ensures len { length result.now
-            ≡ range_end self.now.text (R.end_bound range) - range_start (R.start_bound range) }
+        ensures { IsPart self.now.text (range_start (R.start_bound range))
+            (range_end self.now.text (R.end_bound range)) result.now }
     {
         let (start, end) = bounds(range);
         self.range(start, end)
@@ -64,20 +60,9 @@ impl<P: Policy> PolicyString<P> {
         ensures* refused { sem 𝓛
             (RestsIfErr (the_row P.row P.Policy) self.entry drain_lender result
             (λ v. v ≡ self.old)) }
-        ensures same_reference { IfOk result (λ d. drain_lender d ≡ self.entry.ghost_name) }
-        ensures rest { IfOk result (λ d. drain_rest d ≡ substring self.old.text
-            (range_start (R.start_bound range)) (range_end self.old.text (R.end_bound range))) }
-        ensures leaves { IfOk result
-            (λ d. replace_range P.growth self.old (range_start (R.start_bound range))
-            (range_end self.old.text (R.end_bound range)) []
-            ≡ Some (value_after_drain d)) }
-        ensures text { IfOk result
-            (λ d. (value_after_drain d).text ≡ replaced_text self.old.text
-            (range_start (R.start_bound range))
-            (range_end self.old.text (R.end_bound range)) []) }
-        ensures succeeds { IsOwned self.old → IsOk result }
-        ensures succeeds_short { size self.old.text ≤ 24 → IsOk result }
-        ensures err { OnErr result (MakeOwnedAllocates self.old) }
+        ensures drains { DrainsRange P.growth self.old self.entry.ghost_name
+            (range_start (R.start_bound range)) (range_end self.old.text (R.end_bound range))
+            result }
     {
         let (start, end) = bounds(range);
         self.drain(start, end)
@@ -103,23 +88,8 @@ impl<P: Policy> PolicyString<P> {
     ) -> Result<(), ReserveError>
         requires known { R.has_bounds range }
         requires range { IsRange self.old.text (R.start_bound range) (R.end_bound range) }
-        ensures ok { OnOk result
-            (replace_range P.growth self.old (range_start (R.start_bound range))
-            (range_end self.old.text (R.end_bound range)) (text_of text.now) ≡ Some self.new) }
-        ensures text { OnOk result
-            (self.new.text ≡ replaced_text self.old.text (range_start (R.start_bound range))
-            (range_end self.old.text (R.end_bound range)) (text_of text.now)) }
-        ensures succeeds { HasRoomFor self.old
-            (length text.now
-            - (range_end self.old.text (R.end_bound range) - range_start (R.start_bound range)))
-            → IsOk result }
-        ensures succeeds_owned { IsOwned self.old
-            → range_start (R.start_bound range) + length text.now
-            ≤ range_end self.old.text (R.end_bound range) → IsOk result }
-        ensures err { OnErr result
-            ((self.new ≡ self.old)
-            × ReplaceRangeAllocates self.old (range_start (R.start_bound range))
-            (range_end self.old.text (R.end_bound range)) (text_of text.now)) }
+        ensures { ReplacesRange P.growth self.old (range_start (R.start_bound range))
+            (range_end self.old.text (R.end_bound range)) text.now result self.new }
     {
         let (start, end) = bounds(range);
         self.replace_range(start, end, text)
@@ -165,7 +135,7 @@ impl<P: Policy> PolicyString<P> {
             (range_start (R.start_bound range)) (range_end self.old.text (R.end_bound range)))) }
     {
         let (start, end) = bounds(range);
-        let Some((first, last)) = byte_range(start, end, self.len()) else {
+        let Some((first, last)) = self.byte_range(start, end) else {
             unreachable!();
         };
         self.repr.push_within(first, last)

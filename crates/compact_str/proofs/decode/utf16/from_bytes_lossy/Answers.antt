@@ -1,4 +1,4 @@
-use Rattle.std.proofs.Common.{rules, arith, refl, ℕ, ◌≡◌, ◌-◌, ◌<◌, List, [], ◌∷◌, ◌∙◌, ap, sym, subst, length, drop, IfOk, OnErr, IsTrue}
+use Rattle.std.proofs.Common.{rules, arith, refl, ℕ, ◌≡◌, ◌<◌, List, [], ◌∷◌, ◌∙◌, ap, sym, subst, length, drop, IfOk, OnErr, IsTrue}
 use Rattle.std.proofs.lemmas.Result.{on_err_weaker}
 use Rattle.std.specs.Char.{len_utf8}
 use Rattle.compact_repr.specs.Text.{size}

@@ -3,7 +3,6 @@ use Rattle.std.proofs.Common.{◌≡◌, List, ℕ, ap, sym, ◌∙◌, subst, a
 use Rattle.std.proofs.lemmas.Grind.{common_steps}
 use Rattle.compact_repr.specs.Cut.{IsBoundary, text_before, text_after}
 use Rattle.compact_repr.specs.Value.{PlacedText}
-use Rattle.compact_repr.specs.Calls.{truncate}
 use Rattle.compact_text.proofs.TextFacts.{text_facts}
 use Rattle.compact_str.proofs.Positions.{truncate-text, text_before-boundary, boundary-cut}
 use Rattle.compact_str.proofs.string.PolicyString.split_off.Goals as goal

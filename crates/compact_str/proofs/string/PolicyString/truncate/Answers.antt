@@ -2,7 +2,6 @@
 use Rattle.std.proofs.Common.{◌≡◌, List, ℕ, ap, sym, ◌∙◌, subst}
 use Rattle.compact_repr.specs.Cut.{IsBoundary, text_before}
 use Rattle.compact_repr.specs.Value.{PlacedText}
-use Rattle.compact_repr.specs.Calls.{truncate}
 use Rattle.compact_str.proofs.Positions.{truncate-text, text_before-boundary}
 use Rattle.compact_str.proofs.string.PolicyString.truncate.Goals as goal
 
