@@ -5,7 +5,8 @@ ghost use Rattle.compact_text.specs.Text.{size, utf8, text_of, IsText, ascii_low
 ghost use Rattle.compact_text.specs.Cut.{IsBoundary, IsAsciiAt, text_before, substring, replaced_text};
 ghost use Rattle.compact_text.specs.Retain.{RetainsCharsTo};
 
-use compact_text::str_parts::{first_ascii, last_char, suffix};
+use compact_text::slices::ascii_at;
+use compact_text::str_parts::last_char;
 use compact_text::{slices, vec};
 use std::alloc::{AllocError, Global};
 use std::marker::Model;
@@ -230,7 +231,7 @@ impl HeapBuffer {
             })) }
         ensures within { IsSome result → size self.new.text ≤ self.old.capacity }
     {
-        let character = first_ascii(suffix(self.as_str(), index))?;
+        let character = ascii_at(self.as_str().as_bytes(), index)?;
         self.remove_ascii(index);
         Some(character)
     }

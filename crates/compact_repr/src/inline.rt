@@ -10,8 +10,8 @@ ghost use Rattle.compact_text.specs.Retain.{RetainsCharsTo};
 mod compare;
 mod length;
 
-use compact_text::slices;
-use compact_text::str_parts::{first_ascii, last_char, suffix};
+use compact_text::slices::{self, ascii_at};
+use compact_text::str_parts::last_char;
 use compact_text::words::{insert_byte, remove_byte};
 use length::{is_packed, length_of, pack, with_len, with_len_below_24, write_len};
 use std::marker::Model;
@@ -157,7 +157,7 @@ impl InlineBuffer {
             (λ c. IsAsciiAt self.old index c × (self.new ≡ replaced_text self.old index (index + 1) [])) }
         ensures within { IsSome result → size self.new ≤ 24 }
     {
-        let character = first_ascii(suffix(self.as_str(), index))?;
+        let character = ascii_at(self.as_str().as_bytes(), index)?;
         self.remove_ascii(index);
         Some(character)
     }

@@ -116,9 +116,15 @@ text_of-drop bytes p e u h =
 pub utf8-take : {t : List ℕ} (bytes : List ℕ) (p : ℕ) → text_of bytes ≡ t → IsUtf8 bytes → IsBoundary t p → IsUtf8 (take p bytes)
 utf8-take bytes p e u h = IsUtf8-take bytes p u (boundary-bytes bytes p e u h)
 
+pub utf8-drop : {t : List ℕ} (bytes : List ℕ) (p : ℕ) → text_of bytes ≡ t → IsUtf8 bytes → IsBoundary t p → IsUtf8 (drop p bytes)
+utf8-drop bytes p e u h = IsUtf8-drop bytes p u (boundary-bytes bytes p e u h)
+
+pub ascii_at-text : {t : List ℕ} (bytes : List ℕ) (p c : ℕ) → text_of bytes ≡ t → IsUtf8 bytes → IsBoundary t p → (len_utf8 c ≡ 1) × ((rest : List ℕ) × (text_of (drop p bytes) ≡ c ∷ rest)) → IsAsciiAt t p c
+ascii_at-text bytes p c e u h a = record { width = a.0; rest = a.1.0; text = sym (text_of-drop bytes p e u h) ∙ a.1.1 }
+
 pub utf8-replaced : {t : List ℕ} (bytes s : List ℕ) (start end : ℕ) → text_of bytes ≡ t → IsUtf8 bytes → IsUtf8 s → IsBoundary t start → IsBoundary t end → IsUtf8 (replace_range bytes start end s)
 utf8-replaced bytes s start end e u v h k =
-    IsUtf8-append _ _ (IsUtf8-append _ _ (utf8-take bytes start e u h) v) (IsUtf8-drop bytes end u (boundary-bytes bytes end e u k))
+    IsUtf8-append _ _ (IsUtf8-append _ _ (utf8-take bytes start e u h) v) (utf8-drop bytes end e u k)
 
 pub text_of-replaced : {t : List ℕ} (bytes s : List ℕ) (start end : ℕ) → text_of bytes ≡ t → IsUtf8 bytes → IsUtf8 s → IsBoundary t start → IsBoundary t end → text_of (replace_range bytes start end s) ≡ replaced_text t start end (text_of s)
 text_of-replaced bytes s start end e u v h k =

@@ -1,10 +1,16 @@
-use Rattle.std.proofs.Common.{ℕ, List, ap, sym, ◌∙◌}
-use Rattle.compact_text.specs.Cut.{text_after}
-use Rattle.compact_text.proofs.Cuts.{boundary-ascii}
+use Rattle.compact_text.proofs.Cuts.{utf8-drop, ascii_at-text, boundary-ascii}
 use Rattle.compact_repr.proofs.heap.HeapBuffer.try_remove_ascii.Goals as goal
+
+pub ascii_at-requires : goal.ascii_at-requires
+ascii_at-requires c = record { utf8 = utf8-drop c.as_bytes.result.now c.args.index (rw c.as_bytes.ensures.value c.as_str.ensures.text) c.as_bytes.ensures.utf8 c.requires }
 
 pub remove_ascii-requires-clause-next : goal.remove_ascii-requires-clause-next
 remove_ascii-requires-clause-next c =
-    let first = c.in_ok-character.ensures in
-    let tail = ap (λ (t : List ℕ). text_after t c.args.index) (sym c.as_str.ensures.text) ∙ sym c.suffix.ensures in
-    boundary-ascii _ c.args.index _ c.requires (record { width = first.0; rest = first.1.0; text = tail ∙ first.1.1 })
+    boundary-ascii _ c.args.index _ c.requires
+    (ascii_at-text c.as_bytes.result.now c.args.index _ (rw c.as_bytes.ensures.value c.as_str.ensures.text) c.as_bytes.ensures.utf8 c.requires c.in_ok-character.ensures.text)
+
+pub returns-clause-removed : goal.returns-clause-removed
+returns-clause-removed c = (
+  ascii_at-text c.as_bytes.result.now c.args.index _ (rw c.as_bytes.ensures.value c.as_str.ensures.text) c.as_bytes.ensures.utf8 c.requires c.in_ok-character.ensures.text,
+  c.remove_ascii.ensures.removed,
+)
