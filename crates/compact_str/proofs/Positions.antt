@@ -126,7 +126,7 @@ reserve-never_allocates : (v : PlacedText) (n : ℕ) → HasRoomFor v n → Rese
 reserve-never_allocates v n room asks = grind (arith, common_steps)
 
 pub inserts_text : {E : Type 0} (g : Growth) (v w : PlacedText) (p n : ℕ) (s bytes : List ℕ) (r : Result (Unit {0}) E) → IsBoundary v.text p → utf8 s ≡ bytes → size s ≡ n
-    → OnOk r (insert_str g v p s ≡ Some w) → OnOk r (p + n < 2 ^ 64) → OnErr r ((w ≡ v) × ReserveAllocates v n) → InsertsText g v p s bytes n r w
+    → OnOk r (insert_str g v p s ≡ Some w) → OnOk r (p + n < 2 ^ 64) → OnErr r ((w ≡ v) × ReserveAllocates v (size s)) → InsertsText g v p s bytes n r w
 inserts_text g v w p n s bytes (Ok _) h encoded long ok fits err =
     let text = insert_str-text g v w p s ok in
     record {
@@ -141,7 +141,7 @@ inserts_text g v w p n s bytes (Ok _) h encoded long ok fits err =
       err = tt;
     }
 inserts_text g v w p n s bytes (Err _) h encoded long ok fits err =
-    record { ok = tt; text = tt; bytes = tt; boundary = tt; after = tt; after_fits = tt; room = tt; succeeds = λ room. absurd (reserve-never_allocates v n room err.1); err = err }
+    record { ok = tt; text = tt; bytes = tt; boundary = tt; after = tt; after_fits = tt; room = tt; succeeds = λ room. absurd (reserve-never_allocates v n room (subst (λ (m : ℕ). ReserveAllocates v m) long err.1)); err = err }
 
 -- an insertion within the room
 pub inserted-in_place : {E : Type 0} (g : Growth) (v w : PlacedText) (p k n : ℕ) (s bytes : List ℕ) → w ≡ placed_text (replaced_text v.text p p s) v.placement → fits_in_place v k ≡ true → k ≡ n

@@ -39,7 +39,7 @@ pub record InsertsText {E : Type 0} (g : Growth) (v : PlacedText) (index : ℕ) 
   pub after_fits : OnOk r (index + n < 2 ^ 64)
   pub room : OnOk r (infallible_capacity v ≤ infallible_capacity w)
   pub succeeds : HasRoomFor v n → IsOk r
-  pub err : OnErr r ((w ≡ v) × ReserveAllocates v n)
+  pub err : OnErr r ((w ≡ v) × ReserveAllocates v (size s))
 
 -- w is v made owned, with the bytes from i to j replaced by these; on failure w is v
 pub record ReplacesRange {E : Type 0} (g : Growth) (v : PlacedText) (i j : ℕ) (bytes : List ℕ) (r : Result (Unit {0}) E) (w : PlacedText) : Type 0 where
