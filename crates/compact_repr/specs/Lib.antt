@@ -8,3 +8,4 @@ pub use Rattle.compact_text.specs.Retain
 pub mod BufferValue
 pub mod Loan
 pub mod Packed
+pub mod Words

@@ -1,6 +1,6 @@
 //! Growth policies, and the capacity that a heap buffer grows to.
 ghost use Rattle.std.specs.Prelude.{◌≡◌, ℕ, ◌*◌, ◌/◌, ◌<◌, ◌^◌, max, nat_le, if◌then◌else◌, Some, None};
-ghost use Rattle.compact_repr.specs.Capacity.{Growth, IsLawful, standard_growth, max_capacity};
+ghost use Rattle.compact_repr.specs.Words.{Growth, IsLawful, standard_growth, max_capacity};
 
 /// The least capacity of a heap buffer, and its growth factor, `NUM / DEN`.
 ///

@@ -1,8 +1,7 @@
 //! A heap buffer: a text in a vector of bytes, whose capacity is the vector's.
 ghost use Rattle.std.specs.Prelude.{◌≡◌, ◌+◌, ◌-◌, ◌≤◌, ◌<◌, ◌^◌, [], ◌∷◌, ◌++◌, length, false, IfOk, OnOk, OnErr, IsSome, IsTrue, ◌↔◌, MatchOption};
 ghost use Rattle.std.specs.String.{string_bytes, string_capacity};
-ghost use Rattle.compact_text.specs.Text.{size, utf8, text_of, IsText, ascii_lowercase, ascii_uppercase};
-ghost use Rattle.compact_text.specs.Cut.{IsBoundary, IsAsciiAt, text_before, substring, replaced_text};
+ghost use Rattle.compact_repr.specs.Words.{size, utf8, text_of, IsText, ascii_lowercase, ascii_uppercase, IsBoundary, IsAsciiAt, text_before, substring, replaced_text};
 ghost use Rattle.compact_text.specs.Retain.{RetainsCharsTo};
 
 use compact_text::slices::ascii_at;
@@ -22,8 +21,7 @@ pub struct HeapBuffer {
 impl Model for HeapBuffer {
     ghost use Rattle.std.specs.Str.{IsUtf8};
     ghost use Rattle.std.specs.Vec.{vec_capacity};
-    ghost use Rattle.compact_text.specs.Text.{text_of};
-    ghost use Rattle.compact_repr.specs.Value.{HeapText};
+    ghost use Rattle.compact_repr.specs.Words.{text_of, HeapText};
 
     ghost Value = { HeapText };
 

@@ -1,9 +1,8 @@
 //! The representation: a buffer of one of three kinds, and the allocator it grows with.
 ghost use Rattle.std.specs.Prelude.{◌≡◌, ◌<◌, ◌≤◌, ◌^◌, ◌↔◌, IsSome, IfSome, false, IfOk, IfErr, string_bytes};
 ghost use Rattle.std.specs.String.{string_capacity};
-ghost use Rattle.compact_text.specs.Text.{size, utf8, text_of};
+ghost use Rattle.compact_repr.specs.Words.{size, utf8, text_of, inline, is_heap, IsSound, IsStatic, IsHeap, IsInline};
 ghost use Rattle.compact_repr.specs.Packed.{IsPackedFor};
-ghost use Rattle.compact_repr.specs.Value.{inline, is_heap, IsSound, IsStatic, IsHeap, IsInline};
 ghost use Rattle.compact_repr.specs.BufferValue.{buffer_value, IsSoundBuffer};
 
 mod at;
@@ -37,7 +36,7 @@ pub struct Repr<P: Policy> {
 }
 
 impl<P: Policy> Model for Repr<P> {
-    ghost use Rattle.compact_repr.specs.Value.{PlacedText};
+    ghost use Rattle.compact_repr.specs.Words.{PlacedText};
 
     ghost Value = { PlacedText };
 

@@ -5,8 +5,7 @@
 ghost use Rattle.std.specs.Prelude.{◌≡◌, ◌<◌, ◌^◌, ℕ, List, [], ◌∷◌, ◌++◌, length, MatchOption};
 ghost use denote.Ref.{Bor};
 ghost use Rattle.compact_repr.specs.Loan.{static_loan, address};
-ghost use Rattle.compact_text.specs.Text.{size, utf8, text_of, IsText};
-ghost use Rattle.compact_text.specs.Cut.{IsBoundary, text_before, text_after};
+ghost use Rattle.compact_repr.specs.Words.{size, utf8, text_of, IsText, IsBoundary, text_before, text_after};
 
 use compact_text::str_parts;
 use std::marker::Model;
@@ -54,7 +53,7 @@ pub struct StaticStr {
 impl Model for StaticStr {
     ghost use Rattle.std.specs.Prelude.{◌≡◌, ◌<◌, ◌^◌, ℕ, List, length, IsUtf8};
     ghost use Rattle.compact_repr.specs.Loan.{address};
-    ghost use Rattle.compact_text.specs.Text.{text_of};
+    ghost use Rattle.compact_repr.specs.Words.{text_of};
 
     ghost Value = { List ℕ };
 

@@ -3,7 +3,7 @@
 
 ghost use Rattle.std.specs.Prelude.{◌≡◌, ◌+◌, ◌*◌, ◌^◌, ◌≤◌, ◌<◌, length, take, bit_or, nat_lt, if◌then◌else◌, IsTrue, ◌↔◌};
 ghost use Rattle.std.specs.Str.{IsUtf8};
-ghost use Rattle.compact_text.specs.Text.{text_of};
+ghost use Rattle.compact_repr.specs.Words.{text_of};
 ghost use Rattle.compact_repr.specs.Packed.{IsPackedFor, packed_len, packed_text, packed_bytes};
 
 use crate::inline::INLINE_CAPACITY;

@@ -2,9 +2,7 @@
 ghost use Rattle.std.specs.Prelude.{◌≡◌, ◌-◌, ◌<◌, ◌≤◌, ℕ, List, [], ◌∷◌, ◌++◌, length, true, IsTrue, ◌↔◌, IfSome, IsSome, MatchOption};
 ghost use Rattle.std.specs.Char.{len_utf8};
 ghost use Rattle.std.specs.Str.{IsCharBoundary};
-ghost use Rattle.compact_text.specs.Text.{size, utf8, text_of};
-ghost use Rattle.compact_text.specs.Cut.{IsBoundary, text_after, substring};
-ghost use Rattle.compact_repr.specs.Value.{is_static, IsOwned, IsHeap};
+ghost use Rattle.compact_repr.specs.Words.{size, utf8, text_of, IsBoundary, text_after, substring, is_static, IsOwned, IsHeap};
 
 use crate::growth::Policy;
 use crate::repr::{Buffer, Repr};

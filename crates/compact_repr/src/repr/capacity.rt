@@ -1,9 +1,6 @@
 //! Reserving and shrinking.
 ghost use Rattle.std.specs.Prelude.{length, ◌≡◌, ◌*◌, ◌/◌, ◌<◌, ◌≤◌, ◌^◌, [], false, max, nat_le, if◌then◌else◌, Some, None, IfOk, OnOk, OnErr, IsOk, IsTrue};
-ghost use Rattle.compact_text.specs.Text.{size, text_of};
-ghost use Rattle.compact_repr.specs.Value.{placed_text, IsHeap};
-ghost use Rattle.compact_repr.specs.Capacity.{fits_in_place, inline_placement, heap_placement, max_capacity, WithCapacityAllocates, MakeOwnedAllocates, ReserveAllocates};
-ghost use Rattle.compact_repr.specs.Calls.{new, reserve, make_owned, Shrinks};
+ghost use Rattle.compact_repr.specs.Words.{size, text_of, placed_text, IsHeap, fits_in_place, inline_placement, heap_placement, max_capacity, WithCapacityAllocates, MakeOwnedAllocates, ReserveAllocates, new, reserve, make_owned, Shrinks};
 
 use crate::error::ReserveError;
 use crate::growth::{Policy, grown_capacity};

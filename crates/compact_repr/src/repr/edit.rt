@@ -1,10 +1,6 @@
 //! Edits in place, which never allocate and never move the text to another place.
 ghost use Rattle.std.specs.Prelude.{◌≡◌, ◌+◌, ◌-◌, ◌^◌, ◌≤◌, ◌<◌, [], ◌∷◌, ◌++◌, length, nat_eq, ◌||◌, IsTrue, false, ◌↔◌, IsSome, IfSome, None};
-ghost use Rattle.compact_text.specs.Text.{size, text_of, ascii_lowercase, ascii_uppercase};
-ghost use Rattle.compact_text.specs.Cut.{IsBoundary, IsAsciiAt, substring, replaced_text};
-ghost use Rattle.compact_repr.specs.Value.{placed_text, IsOwned};
-ghost use Rattle.compact_repr.specs.Capacity.{fits_in_place};
-ghost use Rattle.compact_repr.specs.Calls.{clear, truncate, zeroize, PopsChar};
+ghost use Rattle.compact_repr.specs.Words.{size, text_of, ascii_lowercase, ascii_uppercase, IsBoundary, IsAsciiAt, substring, replaced_text, placed_text, IsOwned, fits_in_place, clear, truncate, zeroize, PopsChar};
 ghost use Rattle.compact_text.specs.Retain.{RetainsCharsTo};
 
 use crate::growth::Policy;

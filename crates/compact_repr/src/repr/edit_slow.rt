@@ -1,9 +1,6 @@
 //! Edits that may have to allocate: to reserve room, or to make the value owned.
 ghost use Rattle.std.specs.Prelude.{◌≡◌, ◌-◌, ◌^◌, ◌<◌, ◌≤◌, [], length, Some, OnOk, OnErr, false};
-ghost use Rattle.compact_text.specs.Text.{size, text_of};
-ghost use Rattle.compact_text.specs.Cut.{IsBoundary, substring};
-ghost use Rattle.compact_repr.specs.Capacity.{fits_in_place, ReserveAllocates};
-ghost use Rattle.compact_repr.specs.Calls.{push_str, insert_str, replace_range, PushStrAllocates, ReplaceRangeAllocates};
+ghost use Rattle.compact_repr.specs.Words.{size, text_of, IsBoundary, substring, fits_in_place, ReserveAllocates, push_str, insert_str, replace_range, PushStrAllocates, ReplaceRangeAllocates};
 
 use crate::error::ReserveError;
 use crate::growth::Policy;

@@ -1,11 +1,8 @@
 //! Creating a representation.
 ghost use Rattle.std.specs.Prelude.{◌≡◌, ◌<◌, ◌≤◌, ℕ, List, length, nat_eq, if◌then◌else◌, [], Some, IfOk, OnErr, IsOk, MatchOption, string_bytes};
 ghost use Rattle.std.specs.String.{string_capacity};
-ghost use Rattle.compact_text.specs.Text.{size, text_of};
-ghost use Rattle.compact_repr.specs.Value.{placed_text};
+ghost use Rattle.compact_repr.specs.Words.{size, text_of, placed_text, inline_placement, heap_placement, const_new_placement, from_string_placement, WithCapacityAllocates, CloneAllocates, new, with_capacity, clone};
 ghost use Rattle.compact_repr.specs.Packed.{IsPackedFor};
-ghost use Rattle.compact_repr.specs.Capacity.{inline_placement, heap_placement, const_new_placement, from_string_placement, WithCapacityAllocates, CloneAllocates};
-ghost use Rattle.compact_repr.specs.Calls.{new, with_capacity, clone};
 
 use crate::error::ReserveError;
 use crate::growth::{MAX_CAPACITY, Policy, checked_capacity};
