@@ -27,7 +27,7 @@ pub use Rattle.compact_repr.proofs.Changes.{push_str-text}
 pub use Rattle.compact_text.proofs.Cuts.{text_before-text_after, text_before-append, text_after-append, boundary-text, text_of-take, text_of-drop, boundary-within, size-text_before, size-text_after}
 pub use Rattle.compact_repr.proofs.PackedTexts.{one_text}
 pub use Rattle.compact_repr.proofs.ByteOrder.{utf8-same}
-pub use Rattle.compact_str.proofs.Rooms.{pushed-bytes}
+pub use Rattle.compact_str.proofs.Rooms.{appended-bytes, pushed-bytes}
 pub use Rattle.compact_str.proofs.Positions.{text_before-text_before, boundary-seam}
 pub use Rattle.compact_str.proofs.Collecting.{join-map}
 pub use Rattle.compact_str.proofs.KeyFacts.{texts-from_same, same-from_texts, texts-from_equal}
@@ -133,9 +133,6 @@ pub ruleset for_callers = (
 
 pub made-bytes : (t bytes : List ℕ) → t ≡ text_of bytes → IsUtf8 bytes → utf8 t ≡ bytes
 made-bytes t bytes e u = ap utf8 e ∙ encodes-chars bytes u
-
-pub appended-bytes : (t old bytes : List ℕ) → t ≡ old ++ text_of bytes → IsUtf8 bytes → utf8 t ≡ utf8 old ++ bytes
-appended-bytes t old bytes e u = ap utf8 e ∙ encodes-append old (text_of bytes) ∙ ap (λ x. utf8 old ++ x) (encodes-chars bytes u)
 
 pub utf8-decimal : (n : ℕ) → n < 2 ^ 64 → utf8 (decimal n) ≡ decimal n
 utf8-decimal n h = encodes-IsAscii (decimal n) (IsAscii-decimal n h)
