@@ -2,7 +2,7 @@
 -- `#[tactic(auto, using(compact_str::proofs::ForCallers::for_callers))]`.
 use Rattle.std.proofs.Common.{◌≡◌, ℕ, Bool, IsTrue, false, nat_eq, ◌+◌, ◌-◌, ◌*◌, ◌^◌, ◌<◌, ◌≤◌, List, [], ◌∷◌, ◌++◌, length, drop, take, refl, ap, sym, subst, ◌∙◌, arith, append_assoc, append-nil}
 pub use Rattle.std.proofs.lemmas.Str.{chars_from_encodes}
-use Rattle.std.proofs.lemmas.Str.{chars-nil, chars-append, chars_past_char, IsUtf8-nil, chars-IsAscii, encodes-append, encodes-chars, encodes-IsAscii, IsUtf8-string_bytes, IsUtf8-append, IsUtf8-drop, IsUtf8-from_ascii, IsUtf8-from_is_utf8, is_utf8-from_IsUtf8}
+use Rattle.std.proofs.lemmas.Str.{chars-nil, chars-append, chars_past_char, IsUtf8-nil, chars-IsAscii, encodes-chars, encodes-IsAscii, IsUtf8-string_bytes, IsUtf8-append, IsUtf8-drop, IsUtf8-from_ascii, IsUtf8-from_is_utf8, is_utf8-from_IsUtf8}
 use Rattle.std.proofs.lemmas.Bool.Decides.{nat_tests}
 use Rattle.std.specs.Char.{len_utf8, encode_utf8}
 use Rattle.std.specs.Cmp.Lexicographic.{same_text}

@@ -1,7 +1,7 @@
 -- What a `Display` writes to an empty builder is then appended.
-use Rattle.std.proofs.Common.{◌≡◌, ℕ, List, [], ◌∷◌, ◌++◌, Option, Some, None, Result, Ok, Err, IfSome, OnOk, OnErr, ap, sym, subst, ◌∙◌, append_assoc, append-nil}
+use Rattle.std.proofs.Common.{◌≡◌, ℕ, List, [], ◌∷◌, ◌++◌, Option, Some, None, Result, Ok, Err, OnOk, OnErr, ap, sym, subst, ◌∙◌, append_assoc, append-nil}
 use Rattle.std.proofs.lemmas.Str.{chars-nil, chars-append, encodes-append, encodes-chars, IsUtf8-nil, IsUtf8-append}
-use Rattle.std.specs.Fmt.{AppendsText, WritesInCalls, WritesText}
+use Rattle.std.specs.Fmt.{WritesInCalls, WritesText}
 use Rattle.std.specs.List.{FoldsTo, concat}
 use Rattle.std.specs.Str.{IsUtf8}
 use Rattle.compact_repr.specs.Text.{text_of, utf8}

@@ -1,7 +1,7 @@
 -- Room for a text, and the calls that make or need it.
-use Rattle.std.specs.Prelude.{◌≡◌, ℕ, ◌+◌, ◌≤◌, List, [], ◌++◌, length, false, max, if◌then◌else◌, Result, IfOk, IfErr, OnOk, OnErr, IsOk, Some}
+use Rattle.std.specs.Prelude.{◌≡◌, ℕ, ◌+◌, ◌≤◌, List, [], ◌++◌, length, max, if◌then◌else◌, Result, IfOk, IfErr, OnOk, OnErr, IsOk, Some}
 use Rattle.compact_repr.specs.Text.{size, utf8}
-use Rattle.compact_repr.specs.Value.{PlacedText, is_static, IsOwned}
+use Rattle.compact_repr.specs.Value.{PlacedText, is_static}
 use Rattle.compact_repr.specs.Capacity.{Growth, WithCapacityAllocates, ReserveAllocates}
 use Rattle.compact_repr.specs.Calls.{with_capacity, reserve, push_str, PushStrAllocates}
 use Rattle.compact_str.specs.declared.refused.Refused.{Refused}

@@ -1,5 +1,5 @@
 //! Collecting texts and characters.
-ghost use Rattle.std.specs.Prelude.{◌≡◌, ◌+◌, List, flat_map, fold, map, IfOk, OnErr};
+ghost use Rattle.std.specs.Prelude.{◌≡◌, ◌+◌, flat_map, fold, map, IfOk, OnErr};
 ghost use Rattle.std.specs.Iterator.{IsFiniteIterable};
 ghost use Rattle.compact_repr.specs.Text.{size};
 ghost use Rattle.compact_str.specs.FittedValues.{IsPlacedBySize};
