@@ -21,7 +21,7 @@ use Rattle.compact_ext.specs.declared.wire.records.Records.{Records}
 use Rattle.compact_ext.specs.WireRecords.HasTexts.{none, text, no_text}
 use Rattle.compact_ext.specs.Wire.{wire, HasForm, ReadFails, IsOutsideForm}
 use Rattle.compact_ext.proofs.WireForms.{form-whole, form-tells, length-wire, outside-form, told-text}
-use Rattle.compact_ext.specs.WireRecords.{records_left, unread_bytes, GivesRecord, GivesNext, FailsAfterTexts, FindsNoRoom, ShowsNoForm, TakesForms, TakesTexts, HasTexts, FailsWithin, HasBegun, HasMore, IsOutsideForms, IsPlacedAsRead, FitsForm, ReadsAllBack, ReadsNextBack, TakesForm}
+use Rattle.compact_ext.specs.WireRecords.{records_left, unread_bytes, GivesRecord, GivesNext, FailsAfterTexts, FindsNoRoom, ShowsNoForm, forms_of, AreForms, ReadsIntoVec, TakesForms, TakesTexts, HasTexts, FailsWithin, HasBegun, HasMore, IsOutsideForms, IsPlacedAsRead, FitsForm, ReadsAllBack, ReadsNextBack, TakesForm}
 
 -- a reader that failed before its first byte
 
@@ -54,8 +54,7 @@ took-unmoved (Some x) None new front same took = absurd same
 took-unmoved (Some x) (Some y) new front same took = subst (λ (l : List ℕ). Consumes (Some l) new front) same took
 
 pub record-read : (old mid new : Option (List ℕ)) (r : Result PlacedText WireError) → Keeps old mid → HasMore old → IfOk r (λ v. Consumes mid new (wire v.text)) → IfOk r FitsForm → IfOk r IsPlacedAsRead
-    → IfErr r (λ e. ReadFails mid new e)
-    → MatchResult r (TakesForm old new) (λ e. FailsWithin old new e)
+    → IfErr r (λ e. ReadFails mid new e) → GivesNext old (Some r) new
 record-read old mid new (Ok v) same more ok fits placed err = record { form = took-unmoved old mid new (wire v.text) same ok; fits = fits; placed = placed }
 record-read old mid new (Err e) same more ok fits placed err = record { fails = fails-unmoved old mid new e same err; begun = has-begun old mid new e more err }
 
@@ -98,40 +97,37 @@ pub broken-shows_none : (shown : List ℕ) (n : ℕ) → n < 2 ^ 32 → to_le_by
 broken-shows_none shown n small head broken = λ (t : List ℕ) (form : HasForm t) (begins : StartsWith shown (wire t)).
     broken (subst IsUtf8 (form-whole shown t n small form.1 begins head).1 (t, (form.0, refl)))
 
-abbrev spelled : List PlacedText → List ℕ
-spelled = flat_map (λ v. wire v.text)
-
 -- texts consumed one after another
 
 pub takes-none : (known : Option (List ℕ)) → TakesForms known known []
 takes-none known = record { forms = Consumes-nil known; fit = All-nil FitsForm; placed = All-nil IsPlacedAsRead }
 
-spelled-last : (texts : List PlacedText) (v : PlacedText) → spelled texts ++ wire v.text ≡ spelled (texts ++ v ∷ [])
-spelled-last texts v = ap (λ l. spelled texts ++ l) (sym (append-nil (wire v.text))) ∙ sym (flat_map-append (λ (w : PlacedText). wire w.text) texts (v ∷ []))
+forms-last : (texts : List PlacedText) (v : PlacedText) → forms_of texts ++ wire v.text ≡ forms_of (texts ++ v ∷ [])
+forms-last texts v = ap (λ l. forms_of texts ++ l) (sym (append-nil (wire v.text))) ∙ sym (flat_map-append (λ (w : PlacedText). wire w.text) texts (v ∷ []))
 
 pub takes-more : (old mid new : Option (List ℕ)) (texts : List PlacedText) (v : PlacedText) → TakesForms old mid texts → TakesForm mid new v → TakesForms old new (texts ++ v ∷ [])
 takes-more old mid new texts v took last = record {
-  forms = subst (Consumes old new) (spelled-last texts v) (Consumes-trans old mid new (spelled texts) (wire v.text) took.forms last.form);
+  forms = subst (Consumes old new) (forms-last texts v) (Consumes-trans old mid new (forms_of texts) (wire v.text) took.forms last.form);
   fit = All-append FitsForm texts (v ∷ []) took.fit (All-cons FitsForm v [] last.fits (All-nil FitsForm));
   placed = All-append IsPlacedAsRead texts (v ∷ []) took.placed (All-cons IsPlacedAsRead v [] last.placed (All-nil IsPlacedAsRead));
 }
 
 -- what is consumed up to the end is all
-pub takes-all : (old new : Option (List ℕ)) (texts : List PlacedText) → TakesForms old new texts → IsAtEnd new → IfSome old (λ bytes. bytes ≡ spelled texts)
+pub takes-all : (old new : Option (List ℕ)) (texts : List PlacedText) → TakesForms old new texts → IsAtEnd new → AreForms old texts
 takes-all None new texts took end = tt
 takes-all (Some xs) None texts took end = absurd took.forms
-takes-all (Some xs) (Some ys) texts took end = took.forms ∙ ap (λ l. spelled texts ++ l) end ∙ append-nil (spelled texts)
+takes-all (Some xs) (Some ys) texts took end = took.forms ∙ ap (λ l. forms_of texts ++ l) end ∙ append-nil (forms_of texts)
 
 -- The texts of forms are those that were written.
 
 -- texts whose forms begin those of others are the first of these
-same-texts : (texts : List (List ℕ)) (found : List PlacedText) (more : List ℕ) → All HasForm texts → All FitsForm found → flat_map wire texts ≡ spelled found ++ more
+same-texts : (texts : List (List ℕ)) (found : List PlacedText) (more : List ℕ) → All HasForm texts → All FitsForm found → flat_map wire texts ≡ forms_of found ++ more
     → (rest : List (List ℕ)) × (texts ≡ map (λ v. v.text) found ++ rest) × (more ≡ flat_map wire rest) × All HasForm rest
 same-texts texts [] more forms fits is = (texts, refl, sym is, forms)
-same-texts [] (v ∷ found) more forms fits is = absurd (omega (arith, ap length is, length-append (wire v.text) (spelled found), length-append (wire v.text ++ spelled found) more, length-wire v.text))
+same-texts [] (v ∷ found) more forms fits is = absurd (omega (arith, ap length is, length-append (wire v.text) (forms_of found), length-append (wire v.text ++ forms_of found) more, length-wire v.text))
 same-texts (t ∷ texts) (v ∷ found) more forms fits is =
-    let (first, others) = form-tells t v.text (flat_map wire texts) (spelled found ++ more) (All-head HasForm t texts forms).1 (All-head FitsForm v found fits).1
-    (is ∙ append_assoc (wire v.text) (spelled found) more) in
+    let (first, others) = form-tells t v.text (flat_map wire texts) (forms_of found ++ more) (All-head HasForm t texts forms).1 (All-head FitsForm v found fits).1
+    (is ∙ append_assoc (wire v.text) (forms_of found) more) in
     let (rest, all, left, last) = same-texts texts found more (All-tail HasForm t texts forms) (All-tail FitsForm v found fits) others in
     (rest, ap (λ l. l ∷ texts) first ∙ ap (λ l. v.text ∷ l) all, left, last)
 
@@ -174,7 +170,7 @@ fewer-left texts rest found all = omega (arith, ap length all, length-append (ma
 later-fails : (texts : List (List ℕ)) (e : WireError) → All HasForm texts → FailsAfterTexts (Some (flat_map wire texts)) e → IsOutsideForms texts e
 later-fails texts e forms f = left-fails f.mid f.took.forms f.fails
   where
-    left-fails : (mid : Option (List ℕ)) → Consumes (Some (flat_map wire texts)) mid (spelled f.texts) → FailsWithin mid f.new e → IsOutsideForms texts e
+    left-fails : (mid : Option (List ℕ)) → Consumes (Some (flat_map wire texts)) mid (forms_of f.texts) → FailsWithin mid f.new e → IsOutsideForms texts e
     left-fails None took fails = absurd took
     left-fails (Some left) took fails =
         let (rest, all, is, last) = same-texts texts f.texts left forms f.took.fit took in
@@ -185,9 +181,9 @@ some-taken : (texts : List (List ℕ)) (mid : Option (List ℕ)) (found : List P
     → 0 < length texts
 some-taken [] None found v forms took = absurd took.forms
 some-taken [] (Some left) found v forms took =
-    let long = length-append (spelled (found ++ v ∷ [])) left in
-    let front : length (spelled (found ++ v ∷ [])) ≡ length (spelled found) + length (wire v.text) =
-    ap length (sym (spelled-last found v)) ∙ length-append (spelled found) (wire v.text) in
+    let long = length-append (forms_of (found ++ v ∷ [])) left in
+    let front : length (forms_of (found ++ v ∷ [])) ≡ length (forms_of found) + length (wire v.text) =
+    ap length (sym (forms-last found v)) ∙ length-append (forms_of found) (wire v.text) in
     absurd (omega (arith, ap length took.forms, long, front, length-wire v.text))
 some-taken (t ∷ texts) mid found v forms took = omega arith
 
@@ -197,12 +193,12 @@ Fails known e = FailsAfterTexts known e ⊎ FindsNoRoom known e
 room-fails : (texts : List (List ℕ)) (e : WireError) → All HasForm texts → FindsNoRoom (Some (flat_map wire texts)) e → IsOutsideForms texts e
 room-fails texts e forms f = subst (IsOutsideForms texts) (sym f.refused) (some-taken texts f.mid f.texts f.last forms f.took)
 
-pub records-back : (known : Option (List ℕ)) (r : Result (Vec PlacedText) WireError) → IfOk r (λ all. IfSome known (λ bytes. bytes ≡ spelled all.items)) → IfOk r (λ all. All FitsForm all.items)
+records-back : (known : Option (List ℕ)) (r : Result (Vec PlacedText) WireError) → IfOk r (λ all. AreForms known all.items) → IfOk r (λ all. All FitsForm all.items)
     → IfErr r (Fails known) → ReadsAllBack known r
 records-back known (Ok all) took fits err = record {
   back = λ (texts : List (List ℕ)) (forms : All HasForm texts) (is : known ≡ Some (flat_map wire texts)).
-      let whole = subst (λ o. IfSome o (λ bytes. bytes ≡ spelled all.items)) is took in
-      let (rest, same, left, last) = same-texts texts all.items [] forms fits (whole ∙ sym (append-nil (spelled all.items))) in
+      let whole = subst (λ o. IfSome o (λ bytes. bytes ≡ forms_of all.items)) is took in
+      let (rest, same, left, last) = same-texts texts all.items [] forms fits (whole ∙ sym (append-nil (forms_of all.items))) in
       sym (same ∙ ap (λ l. map (λ v. v.text) all.items ++ l) (no-forms rest left) ∙ append-nil (map (λ v. v.text) all.items));
 }
 records-back known (Err e) took fits err = record {
@@ -212,6 +208,10 @@ records-back known (Err e) took fits err = record {
         | inr g ↦ room-fails texts e forms g
       ];
 }
+
+pub reads-all : (known : Option (List ℕ)) (r : Result (Vec PlacedText) WireError) → IfOk r (λ all. AreForms known all.items) → IfOk r (λ all. All FitsForm all.items)
+    → IfOk r (λ all. All IsPlacedAsRead all.items) → IfErr r (Fails known) → ReadsIntoVec known r
+reads-all known r took fits placed err = record { ok = took; fits = fits; placement = placed; back = records-back known r took fits err; err = err }
 
 -- the next text is that of the first form
 pub next-back : {R : Type 0} (remaining : R → Option (List ℕ)) (s t : Records R) (r : Option (Result PlacedText WireError)) → GivesRecord remaining s r t → ReadsNextBack remaining s r t

@@ -1,5 +1,5 @@
 -- Iterating over wire forms.
-use Rattle.std.specs.Prelude.{◌≡◌, ◌<◌, ◌==◌, ◌++◌, ◌+◌, ℕ, List, [], ◌∷◌, length, drop, map, if◌then◌else◌, Option, None, Some, Result, Err, IfSome, MatchOption, MatchResult, flat_map, IsUtf8, ⊤}
+use Rattle.std.specs.Prelude.{◌≡◌, ◌<◌, ◌==◌, ◌++◌, ◌+◌, ℕ, List, [], ◌∷◌, length, drop, map, if◌then◌else◌, Option, None, Some, Result, Ok, Err, IfOk, IfErr, IfSome, ◌⊎◌, MatchOption, MatchResult, flat_map, IsUtf8, ⊤}
 use Rattle.std.specs.Global.{Vec}
 use Rattle.std.specs.Io.{StartsWith}
 use Rattle.std.specs.Io.KnownBytes.{Consumes, IsAtEnd, Keeps}
@@ -61,9 +61,9 @@ pub record StaysAtEnd (old new : Option (List ℕ)) : Type 0 where
 -- a text whose form is consumed, an error of `read_wire`, or `None` at the end
 abbrev pub GivesNext : Option (List ℕ) → Option (Result PlacedText WireError)
     → Option (List ℕ) → Type 0
-GivesNext old r new =
-    MatchOption r (StaysAtEnd old new)
-    (λ item. MatchResult item (TakesForm old new) (FailsWithin old new))
+GivesNext old None new = StaysAtEnd old new
+GivesNext old (Some (Ok v)) new = TakesForm old new v
+GivesNext old (Some (Err e)) new = FailsWithin old new e
 
 -- The bytes still to be read after `next`. After an `Io` the iterator may have given up, so they are the reader's.
 abbrev pub unread_bytes : {R : Type 0} → (R → Option (List ℕ)) → Option (Result PlacedText WireError)
@@ -77,9 +77,13 @@ abbrev pub GivesRecord : {R : Type 0} → (R → Option (List ℕ)) → Records 
     → Option (Result PlacedText WireError) → Records R → Type 0
 GivesRecord remaining s r t = GivesNext (records_left remaining s) r (unread_bytes remaining r t)
 
+-- the forms of these values, one after another
+abbrev pub forms_of : List PlacedText → List ℕ
+forms_of texts = flat_map (λ v. wire v.text) texts
+
 -- the forms of these texts are consumed, and each is placed as by `read_wire`
 pub record TakesForms (old new : Option (List ℕ)) (texts : List PlacedText) : Type 0 where
-  pub forms : Consumes old new (flat_map (λ v. wire v.text) texts)
+  pub forms : Consumes old new (forms_of texts)
   pub fit : All FitsForm texts
   pub placed : All IsPlacedAsRead texts
 
@@ -98,6 +102,16 @@ pub record FindsNoRoom (known : Option (List ℕ)) (e : WireError) : Type 0 wher
   pub mid : Option (List ℕ)
   pub took : TakesForms known mid (texts ++ last ∷ [])
   pub refused : e ≡ Reserve (record {})
+
+-- all known bytes are the forms of these texts
+abbrev pub AreForms : Option (List ℕ) → List PlacedText → Type 0
+AreForms known texts = IfSome known (λ bytes. bytes ≡ forms_of texts)
+
+-- the bytes begin with the form of v, and v is placed as by `read_wire`
+pub record ShowsForm (bytes : List ℕ) (v : PlacedText) : Type 0 where
+  pub form : StartsWith bytes (wire v.text)
+  pub fits : FitsForm v
+  pub placed : IsPlacedAsRead v
 
 -- the bytes do not begin with a whole form
 abbrev pub ShowsNoForm : List ℕ → Type 0
@@ -122,6 +136,14 @@ pub record ReadsAllBack (known : Option (List ℕ)) (r : Result (Vec PlacedText)
     : Type 0 where
   pub back : (texts : List (List ℕ)) → All HasForm texts → known ≡ Some (flat_map wire texts)
       → MatchResult r (λ all. map (λ v. v.text) all.items ≡ texts) (IsOutsideForms texts)
+
+-- `into_vec` reads all texts; or it fails after some, or the vector finds no room
+pub record ReadsIntoVec (known : Option (List ℕ)) (r : Result (Vec PlacedText) WireError) : Type 0 where
+  pub ok : IfOk r (λ all. AreForms known all.items)
+  pub fits : IfOk r (λ all. All FitsForm all.items)
+  pub placement : IfOk r (λ all. All IsPlacedAsRead all.items)
+  pub back : ReadsAllBack known r
+  pub err : IfErr r (λ e. FailsAfterTexts known e ⊎ FindsNoRoom known e)
 
 -- a whole form that is not valid UTF-8
 abbrev pub IsFormOfNoText : List ℕ → Type 0

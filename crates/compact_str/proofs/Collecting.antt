@@ -18,7 +18,8 @@ use Rattle.compact_repr.specs.Value.{PlacedText}
 use Rattle.compact_repr.specs.Capacity.{Growth}
 use Rattle.compact_repr.specs.Calls.{push_str}
 use Rattle.compact_str.specs.Room.{HasRoomFor, infallible_capacity}
-use Rattle.compact_str.specs.Collect.{Appends, AppendsAll, AppendsUpToRefused, PassesInline, GivesText, StopsWithout, char_text, join}
+use Rattle.compact_str.specs.FittedValues.{IsPlacedBySize}
+use Rattle.compact_str.specs.Collect.{Appends, AppendsAll, AppendsUpToRefused, PassesInline, GivesText, StopsWithout, Extends, Collects, char_text, join}
 use Rattle.compact_text.proofs.Texts.{size-append, size-text_of}
 use Rattle.compact_repr.proofs.Changes.{push_str-text}
 use Rattle.compact_str.proofs.Rooms.{push_str-sure}
@@ -69,25 +70,38 @@ module _ {U S T E : Type 0} (becomes : U → S → Type 0) (steps : S → Option
   Stopped r = OnErr r ((it : S) × becomes iter it × AppendsUpToRefused steps g f it v w)
 
   -- the items are appended
-  pub extended-ran : (read : List T → List ℕ) → ((xs : List T) → flat_map f xs ≡ read xs) → (r : Result (Unit {0}) E) → Extended r
+  extended-ran : (read : List T → List ℕ) → ((xs : List T) → flat_map f xs ≡ read xs) → (r : Result (Unit {0}) E) → Extended r
       → OnOk r ((it : S) × becomes iter it × WholeRun steps it (λ p. w.text ≡ v.text ++ read p.items))
   extended-ran read same (Ok _) (it, b, (xs, d, a)) =
       (it, b, whole-run steps it xs (λ ys. w.text ≡ v.text ++ read ys) d (Appends-text g f v w xs a ∙ ap (λ l. v.text ++ l) (same xs)))
   extended-ran read same (Err _) e = tt
 
   -- the capacity never shrinks
-  pub extended-room : (r : Result (Unit {0}) E) → Extended r → Stopped r → infallible_capacity v ≤ infallible_capacity w
+  extended-room : (r : Result (Unit {0}) E) → Extended r → Stopped r → infallible_capacity v ≤ infallible_capacity w
   extended-room (Ok _) (it, b, (xs, d, a)) e = Appends-sure g f v w xs a
   extended-room (Err _) e (it, b, s) = Appends-sure g f v w s.0 s.4
 
   -- the old text is a prefix
-  pub extended-boundary : (r : Result (Unit {0}) E) → Extended r → Stopped r → IsBoundary w.text (size v.text)
+  extended-boundary : (r : Result (Unit {0}) E) → Extended r → Stopped r → IsBoundary w.text (size v.text)
   extended-boundary (Ok _) (it, b, (xs, d, a)) e = (v.text, flat_map f xs, record { parts = Appends-text g f v w xs a; position = refl })
   extended-boundary (Err _) e (it, b, s) = (v.text, flat_map f s.0, record { parts = Appends-text g f v w s.0 s.4; position = refl })
 
-  pub extended-front : (r : Result (Unit {0}) E) → Extended r → Stopped r → text_before w.text (size v.text) ≡ v.text
+  extended-front : (r : Result (Unit {0}) E) → Extended r → Stopped r → text_before w.text (size v.text) ≡ v.text
   extended-front (Ok _) (it, b, (xs, d, a)) e = ap (λ t. text_before t (size v.text)) (Appends-text g f v w xs a) ∙ text_before-append v.text (flat_map f xs) (size v.text) refl
   extended-front (Err _) e (it, b, s) = ap (λ t. text_before t (size v.text)) (Appends-text g f v w s.0 s.4) ∙ text_before-append v.text (flat_map f s.0) (size v.text) refl
+
+  pub extended : (read : List T → List ℕ) → ((xs : List T) → flat_map f xs ≡ read xs) → (r : Result (Unit {0}) E) → Extended r
+      → (((it : S) → becomes iter it → HoldsAlong steps it (λ xs. HasRoomFor v (size (flat_map f xs)))) → IsOk r) → Stopped r
+      → Extends becomes steps g f read iter v r w
+  extended read same r done sure stopped = record {
+    ok = done;
+    text = extended-ran read same r done;
+    boundary = extended-boundary r done stopped;
+    front = extended-front r done stopped;
+    room = extended-room r done stopped;
+    succeeds = λ fits. sure (λ it b xs t y. subst (λ l. HasRoomFor v (size l)) (sym (same xs)) (fits it b xs t y));
+    err = stopped;
+  }
 
   -- the same for the trait `Extend`
   pub extended-for_trait : (r : Result (Unit {0}) E) → Extended r → Stopped r
@@ -108,7 +122,11 @@ module _ {U S T E : Type 0} (becomes : U → S → Type 0) (steps : S → Option
   abbrev pub Overflowed : (List T → List ℕ) → Result PlacedText E → Type 0
   Overflowed read r = OnErr r ((it : S) × becomes iter it × PassesInline steps read it)
 
-  pub collected-ran : (r : Result PlacedText E) → Collected r → IfOk r (λ v. (it : S) × becomes iter it × WholeRun steps it (λ p. v.text ≡ read p.items))
+  read-all : (r : Result PlacedText E) → Collected r → IfOk r (λ v. (it : S) × (xs : List T) × becomes iter it × Drains steps it xs × (v.text ≡ read xs))
+  read-all (Ok v) (it, xs, b, d, e) = (it, xs, b, d, e ∙ same xs)
+  read-all (Err _) e = tt
+
+  collected-ran : (r : Result PlacedText E) → Collected r → IfOk r (λ v. (it : S) × becomes iter it × WholeRun steps it (λ p. v.text ≡ read p.items))
   collected-ran (Ok v) (it, xs, b, d, e) = (it, b, whole-run steps it xs (λ ys. v.text ≡ read ys) d (e ∙ same xs))
   collected-ran (Err _) e = tt
 
@@ -117,14 +135,23 @@ module _ {U S T E : Type 0} (becomes : U → S → Type 0) (steps : S → Option
       (it, b, whole-run steps it xs (λ ys. size v.text ≡ fold (λ (n : ℕ) y. n + size (f y)) 0 ys) d (ap size e ∙ omega (arith, size-each f xs 0)))
   collected-size (Err _) e = tt
 
-  pub collected-err : (r : Result PlacedText E) → Overflowed (flat_map f) r → Overflowed read r
+  collected-err : (r : Result PlacedText E) → Overflowed (flat_map f) r → Overflowed read r
   collected-err (Ok v) e = tt
   collected-err (Err _) (it, b, o) = (it, b, (o.0, o.1, o.2, subst (λ l. 24 < size l) (same o.0) o.3))
 
   -- never fails up to 24 bytes
-  pub collected-succeeds : (r : Result PlacedText E) → Overflowed read r → ((it : S) → becomes iter it → HoldsAlong steps it (λ xs. size (read xs) ≤ 24)) → IsOk r
+  collected-succeeds : (r : Result PlacedText E) → Overflowed read r → ((it : S) → becomes iter it → HoldsAlong steps it (λ xs. size (read xs) ≤ 24)) → IsOk r
   collected-succeeds (Ok v) e h = refl
   collected-succeeds (Err _) (it, b, o) h = absurd (omega (arith, h it b o.0 o.1 o.2, o.3))
+
+  pub collected : (r : Result PlacedText E) → Collected r → IfOk r IsPlacedBySize → Overflowed (flat_map f) r → Collects becomes steps read iter r
+  collected r all fitted stopped = record {
+    ok = read-all r all;
+    text = collected-ran r all;
+    fitted = fitted;
+    succeeds = collected-succeeds r (collected-err r stopped);
+    err = collected-err r stopped;
+  }
 
 -- the same for the trait `FromIterator`: G holds of the value and the items, and F
 pub collected-for_trait : {S T V E : Type 0} (from : S → Type 0) (steps : S → Option T → S → Type 0) (W F : V → Type 0) (G : List T → V → Type 0) (r : Result V E)

@@ -2,7 +2,7 @@
 -- `#[tactic(auto, using(compact_str::proofs::ForCallers::for_callers))]`.
 use Rattle.std.proofs.Common.{◌≡◌, ℕ, Bool, IsTrue, false, nat_eq, ◌+◌, ◌-◌, ◌*◌, ◌^◌, ◌<◌, ◌≤◌, List, [], ◌∷◌, ◌++◌, length, drop, take, refl, ap, sym, subst, ◌∙◌, arith, append_assoc, append-nil}
 pub use Rattle.std.proofs.lemmas.Str.{chars_from_encodes}
-use Rattle.std.proofs.lemmas.Str.{chars-nil, chars-append, chars_past_char, IsUtf8-nil, chars-IsAscii, encodes-append, encodes-chars, encodes-IsAscii, IsUtf8-string_bytes, IsUtf8-append, IsUtf8-drop, IsUtf8-from_ascii, IsUtf8-from_is_utf8, is_utf8-from_IsUtf8}
+use Rattle.std.proofs.lemmas.Str.{chars-nil, chars-append, chars_past_char, IsUtf8-nil, chars-IsAscii, encodes-chars, encodes-IsAscii, IsUtf8-string_bytes, IsUtf8-append, IsUtf8-drop, IsUtf8-from_ascii, IsUtf8-from_is_utf8, is_utf8-from_IsUtf8}
 use Rattle.std.proofs.lemmas.Bool.Decides.{nat_tests}
 use Rattle.std.specs.Char.{len_utf8, encode_utf8}
 use Rattle.std.specs.Cmp.Lexicographic.{same_text}
@@ -27,7 +27,7 @@ pub use Rattle.compact_repr.proofs.Changes.{push_str-text}
 pub use Rattle.compact_text.proofs.Cuts.{text_before-text_after, text_before-append, text_after-append, boundary-text, text_of-take, text_of-drop, boundary-within, size-text_before, size-text_after}
 pub use Rattle.compact_repr.proofs.PackedTexts.{one_text}
 pub use Rattle.compact_repr.proofs.ByteOrder.{utf8-same}
-pub use Rattle.compact_str.proofs.Rooms.{pushed-bytes}
+pub use Rattle.compact_str.proofs.Rooms.{appended-bytes, pushed-bytes}
 pub use Rattle.compact_str.proofs.Positions.{text_before-text_before, boundary-seam}
 pub use Rattle.compact_str.proofs.Collecting.{join-map}
 pub use Rattle.compact_str.proofs.KeyFacts.{texts-from_same, same-from_texts, texts-from_equal}
@@ -133,9 +133,6 @@ pub ruleset for_callers = (
 
 pub made-bytes : (t bytes : List ℕ) → t ≡ text_of bytes → IsUtf8 bytes → utf8 t ≡ bytes
 made-bytes t bytes e u = ap utf8 e ∙ encodes-chars bytes u
-
-pub appended-bytes : (t old bytes : List ℕ) → t ≡ old ++ text_of bytes → IsUtf8 bytes → utf8 t ≡ utf8 old ++ bytes
-appended-bytes t old bytes e u = ap utf8 e ∙ encodes-append old (text_of bytes) ∙ ap (λ x. utf8 old ++ x) (encodes-chars bytes u)
 
 pub utf8-decimal : (n : ℕ) → n < 2 ^ 64 → utf8 (decimal n) ≡ decimal n
 utf8-decimal n h = encodes-IsAscii (decimal n) (IsAscii-decimal n h)

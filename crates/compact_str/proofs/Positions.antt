@@ -12,7 +12,7 @@ use Rattle.compact_repr.specs.Cut.{IsCut, IsBoundary, IsAsciiAt, text_before, te
 use Rattle.compact_repr.specs.Value.{PlacedText, placed_text, is_static, IsOwned}
 use Rattle.compact_repr.specs.Capacity.{Growth, fits_in_place, shortened_placement, owned_placement, make_owned_allocates, ReserveAllocates}
 use Rattle.compact_repr.specs.Calls.{truncate, insert_str, replace_range, replace_range_allocates, ReplaceRangeAllocates}
-use Rattle.compact_str.specs.Edits.{InsertsText, RemovesChar, ReplacesRange}
+use Rattle.compact_str.specs.Edits.{InsertsStr, RemovesChar, ReplacesRange}
 use Rattle.compact_str.specs.Room.{HasRoomFor}
 use Rattle.compact_repr.proofs.Changes.{insert_str-in_place}
 use Rattle.compact_str.proofs.Rooms.{insert_str-sure}
@@ -125,9 +125,9 @@ inserted-bytes t s p h =
 reserve-never_allocates : (v : PlacedText) (n : ℕ) → HasRoomFor v n → ReserveAllocates v n → ⊥
 reserve-never_allocates v n room asks = grind (arith, common_steps)
 
-pub inserts_text : {E : Type 0} (g : Growth) (v w : PlacedText) (p n : ℕ) (s bytes : List ℕ) (r : Result (Unit {0}) E) → IsBoundary v.text p → utf8 s ≡ bytes → size s ≡ n
-    → OnOk r (insert_str g v p s ≡ Some w) → OnOk r (p + n < 2 ^ 64) → OnErr r ((w ≡ v) × ReserveAllocates v (size s)) → InsertsText g v p s bytes n r w
-inserts_text g v w p n s bytes (Ok _) h encoded long ok fits err =
+pub inserts_str : {E : Type 0} (g : Growth) (v w : PlacedText) (p n : ℕ) (s bytes : List ℕ) (r : Result (Unit {0}) E) → IsBoundary v.text p → utf8 s ≡ bytes → size s ≡ n
+    → OnOk r (insert_str g v p s ≡ Some w) → OnOk r (p + n < 2 ^ 64) → OnErr r ((w ≡ v) × ReserveAllocates v (size s)) → InsertsStr g v p s bytes n r w
+inserts_str g v w p n s bytes (Ok _) h encoded long ok fits err =
     let text = insert_str-text g v w p s ok in
     record {
       ok = ok;
@@ -140,16 +140,16 @@ inserts_text g v w p n s bytes (Ok _) h encoded long ok fits err =
       succeeds = λ _. refl;
       err = tt;
     }
-inserts_text g v w p n s bytes (Err _) h encoded long ok fits err =
+inserts_str g v w p n s bytes (Err _) h encoded long ok fits err =
     record { ok = tt; text = tt; bytes = tt; boundary = tt; after = tt; after_fits = tt; room = tt; succeeds = λ room. absurd (reserve-never_allocates v n room (subst (λ (m : ℕ). ReserveAllocates v m) long err.1)); err = err }
 
 -- an insertion within the room
 pub inserted-in_place : {E : Type 0} (g : Growth) (v w : PlacedText) (p k n : ℕ) (s bytes : List ℕ) → w ≡ placed_text (replaced_text v.text p p s) v.placement → fits_in_place v k ≡ true → k ≡ n
-    → IsBoundary v.text p → utf8 s ≡ bytes → size s ≡ n → p + n < 2 ^ 64 → InsertsText {E = E} g v p s bytes n (Ok tt) w
+    → IsBoundary v.text p → utf8 s ≡ bytes → size s ≡ n → p + n < 2 ^ 64 → InsertsStr {E = E} g v p s bytes n (Ok tt) w
 inserted-in_place g v w p k n s bytes is fits same h encoded long small =
     let room : k ≡ n - (p - p) = omega (arith, same) in
     let done = insert_str-in_place g v w p n s (sym long) (subst (λ (m : ℕ). fits_in_place v m ≡ true) room fits) is in
-    inserts_text g v w p n s bytes (Ok tt) h encoded long done small tt
+    inserts_str g v w p n s bytes (Ok tt) h encoded long done small tt
 
 -- a value with a replacement
 pub range_replaced-text : (g : Growth) (v w : PlacedText) (i j : ℕ) (s : List ℕ) → replace_range g v i j s ≡ Some w → w.text ≡ replaced_text v.text i j s

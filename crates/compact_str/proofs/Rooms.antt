@@ -28,6 +28,9 @@ pub push_str-bytes : (g : Growth) (v w : PlacedText) (bytes : List ℕ) → push
 push_str-bytes g v w bytes e u =
     ap utf8 (push_str-text g v w (text_of bytes) e) ∙ encodes-append v.text (text_of bytes) ∙ ap (λ (x : List ℕ). utf8 v.text ++ x) (encodes-chars bytes u)
 
+pub appended-bytes : (t old bytes : List ℕ) → t ≡ old ++ text_of bytes → IsUtf8 bytes → utf8 t ≡ utf8 old ++ bytes
+appended-bytes t old bytes e u = ap utf8 e ∙ encodes-append old (text_of bytes) ∙ ap (λ (x : List ℕ). utf8 old ++ x) (encodes-chars bytes u)
+
 pub pushed-bytes : (t old : List ℕ) (c : ℕ) → t ≡ old ++ c ∷ [] → utf8 t ≡ utf8 old ++ encode_utf8 c
 pushed-bytes t old c e = ap utf8 e ∙ encodes-append old (c ∷ []) ∙ ap (λ x. utf8 old ++ x) (append-nil (encode_utf8 c))
 

@@ -1,11 +1,11 @@
 -- Conversions to a value.
-use Rattle.std.specs.Prelude.{◌≡◌, ◌≤◌, ℕ, List, length, Result, IfOk, OnErr, IsOk, MatchResult, IsOkAnd, Some, string_bytes, ⊤}
+use Rattle.std.specs.Prelude.{◌≡◌, ◌≤◌, ℕ, List, length, nat_eq, if◌then◌else◌, Result, IfOk, OnErr, IsOk, MatchResult, IsOkAnd, Some, string_bytes, ⊤}
 use Rattle.std.specs.String.{string_capacity}
 use Rattle.std.specs.declared.borrow.CowStr.{CowStr}
 use Rattle.std.specs.declared.borrow.CowStr.TheVariants.{Borrowed, Owned}
 use Rattle.compact_repr.specs.Text.{text_of, utf8}
-use Rattle.compact_repr.specs.Value.{PlacedText, placed_text}
-use Rattle.compact_repr.specs.Capacity.{Growth, from_string_placement, WithCapacityAllocates}
+use Rattle.compact_repr.specs.Value.{Placement, PlacedText, placed_text}
+use Rattle.compact_repr.specs.Capacity.{Growth, inline_placement, heap_placement, from_string_placement, WithCapacityAllocates}
 use Rattle.compact_repr.specs.Calls.{new}
 
 -- r is a new value with the text of the bytes s; never fails up to 24 bytes
@@ -15,6 +15,10 @@ pub record CopiesText {E : Type 0} (g : Growth) (s : List ℕ) (r : Result Place
   pub bytes : IfOk r (λ v. utf8 v.text ≡ s)
   pub succeeds : length s ≤ 24 → IsOk r
   pub err : OnErr r (WithCapacityAllocates (length s))
+
+-- the buffer of a `String` of this capacity, even for a short text; inline if there is none
+abbrev pub string_buffer_placement : ℕ → Placement
+string_buffer_placement capacity = if nat_eq capacity 0 then inline_placement else heap_placement capacity
 
 -- a borrowed text is copied, which fails only if it allocates; the buffer of an owned one is reused
 abbrev pub TakesCow : {Z E : Type 0} → Growth → CowStr Z → Result PlacedText E → Type 0

@@ -30,7 +30,7 @@ pub record RemovesChar {E : Type 0} (g : Growth) (v : PlacedText) (index : ℕ) 
   pub err : OnErr r ((w ≡ v) × MakeOwnedAllocates v)
 
 -- w is v with s, encoded in n bytes, inserted at a position; on failure w is v
-pub record InsertsText {E : Type 0} (g : Growth) (v : PlacedText) (index : ℕ) (s encoded : List ℕ) (n : ℕ) (r : Result (Unit {0}) E) (w : PlacedText) : Type 0 where
+pub record InsertsStr {E : Type 0} (g : Growth) (v : PlacedText) (index : ℕ) (s encoded : List ℕ) (n : ℕ) (r : Result (Unit {0}) E) (w : PlacedText) : Type 0 where
   pub ok : OnOk r (insert_str g v index s ≡ Some w)
   pub text : OnOk r (w.text ≡ replaced_text v.text index index s)
   pub bytes : OnOk r (utf8 w.text ≡ take index (utf8 v.text) ++ encoded ++ drop index (utf8 v.text))

@@ -1,9 +1,9 @@
--- Room for a text.
-use Rattle.std.specs.Prelude.{◌≡◌, ℕ, ◌+◌, ◌≤◌, [], max, if◌then◌else◌, Result, IfOk, OnOk, OnErr, IsOk, Some}
-use Rattle.compact_repr.specs.Text.{size}
+-- Room for a text, and the calls that make or need it.
+use Rattle.std.specs.Prelude.{◌≡◌, ℕ, ◌+◌, ◌≤◌, List, [], ◌++◌, length, max, if◌then◌else◌, Result, IfOk, IfErr, OnOk, OnErr, IsOk, Some}
+use Rattle.compact_repr.specs.Text.{size, utf8}
 use Rattle.compact_repr.specs.Value.{PlacedText, is_static}
 use Rattle.compact_repr.specs.Capacity.{Growth, WithCapacityAllocates, ReserveAllocates}
-use Rattle.compact_repr.specs.Calls.{with_capacity, reserve}
+use Rattle.compact_repr.specs.Calls.{with_capacity, reserve, push_str, PushStrAllocates}
 
 -- the capacity that v owns
 abbrev pub own_capacity : PlacedText → ℕ
@@ -32,3 +32,21 @@ pub record Reserves {E : Type 0} (g : Growth) (v : PlacedText) (n : ℕ) (r : Re
   pub room : OnOk r (HasRoomFor w n)
   pub succeeds : HasRoomFor v n → IsOk r
   pub err : OnErr r ((w ≡ v) × ReserveAllocates v n)
+
+-- w is v with the text t appended, in bytes s; on failure w is v
+pub record PushesStr {E : Type 0} (g : Growth) (v : PlacedText) (t s : List ℕ) (r : Result (Unit {0}) E) (w : PlacedText) : Type 0 where
+  pub ok : OnOk r (push_str g v t ≡ Some w)
+  pub text : OnOk r (w.text ≡ v.text ++ t)
+  pub bytes : OnOk r (utf8 w.text ≡ utf8 v.text ++ s)
+  pub room : OnOk r (infallible_capacity v ≤ infallible_capacity w)
+  pub succeeds : HasRoomFor v (length s) → IsOk r
+  pub err : OnErr r ((w ≡ v) × PushStrAllocates v t)
+
+-- r is v with the text t appended, in bytes s; on failure v is returned, as the value of the error
+pub record AddsStr {E : Type 0} (g : Growth) (v : PlacedText) (t s : List ℕ) (r : Result PlacedText E) (value_of : E → PlacedText) : Type 0 where
+  pub ok : IfOk r (λ w. push_str g v t ≡ Some w)
+  pub text : IfOk r (λ w. w.text ≡ v.text ++ t)
+  pub bytes : IfOk r (λ w. utf8 w.text ≡ utf8 v.text ++ s)
+  pub room : IfOk r (λ w. infallible_capacity v ≤ infallible_capacity w)
+  pub succeeds : HasRoomFor v (length s) → IsOk r
+  pub err : IfErr r (λ e. (value_of e ≡ v) × PushStrAllocates v t)

@@ -1,11 +1,8 @@
 //! An iterator over wire forms until the end of a reader.
-ghost use Rattle.std.specs.Prelude.{◌≡◌, ◌⊎◌, ◌<◌, ◌≤◌, length, flat_map, IfOk, IfSome, IfNone, IfErr, OnErr, IsUtf8};
-ghost use Rattle.std.specs.Io.{StartsWith};
-ghost use Rattle.std.specs.Io.KnownBytes.{IsAtEnd, Keeps};
-ghost use Rattle.std.specs.List.{All};
+ghost use Rattle.std.specs.Prelude.{◌≡◌, ◌<◌, ◌≤◌, length, IfOk, MatchOption, OnErr, IsUtf8};
 ghost use Rattle.compact_str.specs.Text.{IsText, utf8};
-ghost use Rattle.compact_ext.specs.WireRecords.{records_left, calls_to_come, GivesNext, GivesRecord, FailsAfterTexts, FindsNoRoom, HasMore, IsPlacedAsRead, FitsForm, ReadsAllBack, ShowsNoForm};
-ghost use Rattle.compact_ext.specs.Wire.{wire, claimed_len};
+ghost use Rattle.compact_ext.specs.WireRecords.{records_left, calls_to_come, GivesNext, GivesRecord, IsPlacedAsRead, ReadsIntoVec, ShowsForm, ShowsNoForm};
+ghost use Rattle.compact_ext.specs.Wire.{claimed_len};
 
 use super::read::number_of;
 use super::{WireError, read_wire};
@@ -76,15 +73,7 @@ impl<R: BufRead + Drop> Records<R> {
     /// assert_eq!(rt; texts[1].as_str(), "");
     /// ```
     pub fn into_vec(self) -> Result<Vec<CompactString>, WireError>
-        ensures ok { IfOk result (λ texts.
-            IfSome (records_left R.remaining self) (λ bytes.
-            bytes ≡ flat_map (λ v. wire v.text) texts.items)) }
-        ensures fits { IfOk result (λ texts. All FitsForm texts.items) }
-        ensures placement { IfOk result (λ texts. All IsPlacedAsRead texts.items) }
-        ensures back { ReadsAllBack (records_left R.remaining self) result }
-        ensures err { IfErr result (λ e.
-            FailsAfterTexts (records_left R.remaining self) e
-            ⊎ FindsNoRoom (records_left R.remaining self) e) }
+        ensures { ReadsIntoVec (records_left R.remaining self) result }
     {
         let mut texts = Vec::new(self.alloc);
         for item in self {
@@ -153,10 +142,8 @@ fn next_record<R: BufRead>(
 /// allocation does, past 24 bytes.
 #[inline]
 fn shown_text(alloc: Global, bytes: &[u8]) -> Result<Option<CompactString>, ReserveError>
-    ensures ok { IfOk result (λ found. IfSome found (λ v. StartsWith bytes.now (wire v.text))) }
-    ensures none { IfOk result (λ found. IfNone found (ShowsNoForm bytes.now)) }
-    ensures fits { IfOk result (λ found. IfSome found FitsForm) }
-    ensures placement { IfOk result (λ found. IfSome found IsPlacedAsRead) }
+    ensures shown { IfOk result (λ found.
+        MatchOption found (ShowsNoForm bytes.now) (ShowsForm bytes.now)) }
     ensures err { OnErr result ((4 ≤ length bytes.now) × (24 < claimed_len bytes.now)) }
 {
     let Some((head, rest)) = bytes.split_first_chunk::<HEAD>() else {

@@ -1,9 +1,9 @@
 //! Appending texts to a `String`.
-ghost use Rattle.std.specs.Prelude.{◌≡◌, ◌+◌, ◌<◌, ◌≤◌, List, ◌++◌, flat_map, OnOk, OnErr, IsOk, length, string_bytes};
-ghost use Rattle.std.specs.Iterator.{Drains, IsFiniteIterable};
+ghost use Rattle.std.specs.Prelude.{◌≡◌, ◌+◌, ◌<◌, ◌≤◌, ◌++◌, flat_map, OnOk, OnErr, length};
+ghost use Rattle.std.specs.Iterator.{IsFiniteIterable};
 ghost use Rattle.std.specs.String.{string_capacity};
 ghost use Rattle.compact_repr.specs.Text.{size, text_of};
-ghost use Rattle.compact_str.specs.Collect.{OfIterator, OfItems, OfAllItems, StopsWithout};
+ghost use Rattle.compact_str.specs.Collect.{OfIterator, OfDrained, StopsWithout, ExtendsString, string_text};
 
 use crate::iter::AsText;
 use compact_repr::ReserveError;
@@ -28,23 +28,13 @@ pub fn append_all<T: AsText, U: IntoIterator<Item = T>>(
     items: U,
 ) -> Result<(), ReserveError>
     requires { IsFiniteIterable U.into_iter_gives U.IntoIter.can_next U.IntoIter.remaining items }
-    ensures text { OnOk result
-        (OfItems U.into_iter_gives U.IntoIter.next_gives items
-        (λ xs. text_of (string_bytes line.new)
-        ≡ text_of (string_bytes line.old) ++ flat_map T.text xs)) }
-    ensures succeeds { OfAllItems U.into_iter_gives U.IntoIter.next_gives items
-        (λ xs. length (string_bytes line.old) + size (flat_map T.text xs)
-        ≤ string_capacity line.old) → IsOk result }
-    ensures capacity { string_capacity line.old ≤ string_capacity line.new }
-    ensures err { OnErr result
-        (OfIterator U.into_iter_gives items
-        (λ it. StopsWithout U.IntoIter.next_gives T.text it (string_capacity line.new)
-        (text_of (string_bytes line.old)) (text_of (string_bytes line.new)))) }
+    ensures { ExtendsString U.into_iter_gives U.IntoIter.next_gives T.text items line.old result
+        line.new }
 {
     append_texts(line, items)
 }
 
-/// Like [`append_all`]; the clause `ok` also names the items as a list.
+/// The loop of [`append_all`].
 ///
 /// # Errors
 ///
@@ -55,15 +45,13 @@ pub fn append_texts<T: AsText, U: IntoIterator<Item = T>>(
 ) -> Result<(), ReserveError>
     requires { IsFiniteIterable U.into_iter_gives U.IntoIter.can_next U.IntoIter.remaining items }
     ensures ok { OnOk result
-        ((it : U.IntoIter) × (xs : List T) × U.into_iter_gives items it
-        × Drains U.IntoIter.next_gives it xs
-        × (text_of (string_bytes line.new)
-        ≡ text_of (string_bytes line.old) ++ flat_map T.text xs)) }
+        (OfDrained U.into_iter_gives U.IntoIter.next_gives items
+        (λ xs. string_text line.new ≡ string_text line.old ++ flat_map T.text xs)) }
     ensures capacity { string_capacity line.old ≤ string_capacity line.new }
     ensures err { OnErr result
         (OfIterator U.into_iter_gives items
         (λ it. StopsWithout U.IntoIter.next_gives T.text it (string_capacity line.new)
-        (text_of (string_bytes line.old)) (text_of (string_bytes line.new)))) }
+        (string_text line.old) (string_text line.new))) }
 {
     for item in items {
         append_text(line, item.text())?;
@@ -75,12 +63,11 @@ pub fn append_texts<T: AsText, U: IntoIterator<Item = T>>(
 #[inline]
 #[tactic(auto, using(crate::proofs::EditFacts::string_facts))]
 fn append_text(line: &mut String, text: &str) -> Result<(), ReserveError>
-    ensures ok { OnOk result
-        (text_of (string_bytes line.new) ≡ text_of (string_bytes line.old) ++ text_of text.now) }
+    ensures ok { OnOk result (string_text line.new ≡ string_text line.old ++ text_of text.now) }
     ensures capacity { string_capacity line.old ≤ string_capacity line.new }
     ensures err { OnErr result
-        ((text_of (string_bytes line.new) ≡ text_of (string_bytes line.old))
-        × (string_capacity line.new < size (text_of (string_bytes line.old)) + length text.now)) }
+        ((string_text line.new ≡ string_text line.old)
+        × (string_capacity line.new < size (string_text line.old) + length text.now)) }
 {
     if line.reserve(text.len()).is_err() {
         return Err(ReserveError);

@@ -1,9 +1,9 @@
 //! Collecting texts and characters.
-ghost use Rattle.std.specs.Prelude.{◌≡◌, ◌+◌, ◌≤◌, List, ℕ, flat_map, fold, map, IfOk, OnErr, IsOk};
-ghost use Rattle.std.specs.Iterator.{Drains, IsFiniteIterable};
+ghost use Rattle.std.specs.Prelude.{◌≡◌, ◌+◌, flat_map, fold, map, IfOk, OnErr};
+ghost use Rattle.std.specs.Iterator.{IsFiniteIterable};
 ghost use Rattle.compact_repr.specs.Text.{size};
 ghost use Rattle.compact_str.specs.FittedValues.{IsPlacedBySize};
-ghost use Rattle.compact_str.specs.Collect.{OfIterator, OfItems, OfAllItems, PassesInline, char_text};
+ghost use Rattle.compact_str.specs.Collect.{OfIterator, OfItems, OfDrained, PassesInline, Collects};
 
 use crate::builder::Builder;
 use crate::iter::AsText;
@@ -19,8 +19,8 @@ fn collect_pieces<P: Policy, T: Piece, U: IntoIterator<Item = T>>(
 ) -> Result<PolicyString<P>, ReserveError>
     requires { IsFiniteIterable U.into_iter_gives U.IntoIter.can_next U.IntoIter.remaining iter }
     ensures ok { IfOk result
-        (λ v. (it : U.IntoIter) × (xs : List T) × U.into_iter_gives iter it
-        × Drains U.IntoIter.next_gives it xs × (v.text ≡ flat_map T.text xs)) }
+        (λ v. OfDrained U.into_iter_gives U.IntoIter.next_gives iter
+        (λ xs. v.text ≡ flat_map T.text xs)) }
     ensures fitted { IfOk result IsPlacedBySize }
     ensures err { OnErr result
         (OfIterator U.into_iter_gives iter
@@ -59,18 +59,11 @@ impl<P: Policy> PolicyString<P> {
     ) -> Result<Self, ReserveError>
         requires { IsFiniteIterable U.into_iter_gives U.IntoIter.can_next U.IntoIter.remaining
             texts }
-        ensures text { IfOk result
-            (λ v. OfItems U.into_iter_gives U.IntoIter.next_gives texts
-            (λ xs. v.text ≡ flat_map T.text xs)) }
+        ensures collects { Collects U.into_iter_gives U.IntoIter.next_gives (flat_map T.text) texts
+            result }
         ensures size { IfOk result
             (λ v. OfItems U.into_iter_gives U.IntoIter.next_gives texts
             (λ xs. size v.text ≡ fold (λ n text. n + size (T.text text)) 0 xs)) }
-        ensures fitted { IfOk result IsPlacedBySize }
-        ensures succeeds { OfAllItems U.into_iter_gives U.IntoIter.next_gives texts
-            (λ xs. size (flat_map T.text xs) ≤ 24) → IsOk result }
-        ensures err { OnErr result
-            (OfIterator U.into_iter_gives texts
-            (λ it. PassesInline U.IntoIter.next_gives (flat_map T.text) it)) }
     {
         collect_pieces(alloc, texts)
     }
@@ -93,14 +86,7 @@ impl<P: Policy> PolicyString<P> {
     ) -> Result<Self, ReserveError>
         requires { IsFiniteIterable U.into_iter_gives U.IntoIter.can_next U.IntoIter.remaining
             characters }
-        ensures text { IfOk result
-            (λ v. OfItems U.into_iter_gives U.IntoIter.next_gives characters (λ xs. v.text ≡ xs)) }
-        ensures fitted { IfOk result IsPlacedBySize }
-        ensures succeeds { OfAllItems U.into_iter_gives U.IntoIter.next_gives characters
-            (λ xs. size xs ≤ 24) → IsOk result }
-        ensures err { OnErr result
-            (OfIterator U.into_iter_gives characters
-            (λ it. PassesInline U.IntoIter.next_gives (λ xs. xs) it)) }
+        ensures { Collects U.into_iter_gives U.IntoIter.next_gives (λ xs. xs) characters result }
     {
         collect_pieces(alloc, characters)
     }
@@ -119,17 +105,9 @@ impl<P: Policy, T: AsText> FromIterator<T> for PolicyString<P> {
     fn from_iter<U: IntoIterator<Item = T>>(alloc: Global, texts: U) -> Result<Self, AllocError>
         requires { IsFiniteIterable U.into_iter_gives U.IntoIter.can_next U.IntoIter.remaining
             texts }
-        ensures text { IfOk result
-            (λ v. (it : U.IntoIter) × (xs : List T) × U.into_iter_gives texts it
-            × Drains U.IntoIter.next_gives it xs × (v.text ≡ flat_map T.text xs)) }
-        ensures fitted { IfOk result IsPlacedBySize }
-        ensures succeeds { OfAllItems U.into_iter_gives U.IntoIter.next_gives texts
-            (λ xs. size (flat_map T.text xs) ≤ 24) → IsOk result }
-        ensures err { OnErr result
-            (OfIterator U.into_iter_gives texts
-            (λ it. PassesInline U.IntoIter.next_gives (flat_map T.text) it)) }
+        ensures { Collects U.into_iter_gives U.IntoIter.next_gives (flat_map T.text) texts result }
     {
-        match collect_pieces(alloc, texts) {
+        match Self::from_texts(alloc, texts) {
             Ok(value) => Ok(value),
             Err(ReserveError) => Err(AllocError),
         }
@@ -146,24 +124,15 @@ impl<P: Policy> FromIterator<char> for PolicyString<P> {
     /// # Errors
     ///
     /// `AllocError` if allocation fails.
-    #[tactic(auto, using(crate::proofs::CollectFacts::collect_facts))]
     fn from_iter<U: IntoIterator<Item = char>>(
         alloc: Global,
         characters: U,
     ) -> Result<Self, AllocError>
         requires { IsFiniteIterable U.into_iter_gives U.IntoIter.can_next U.IntoIter.remaining
             characters }
-        ensures text { IfOk result
-            (λ v. (it : U.IntoIter) × (xs : List ℕ) × U.into_iter_gives characters it
-            × Drains U.IntoIter.next_gives it xs × (v.text ≡ xs)) }
-        ensures fitted { IfOk result IsPlacedBySize }
-        ensures succeeds { OfAllItems U.into_iter_gives U.IntoIter.next_gives characters
-            (λ xs. size xs ≤ 24) → IsOk result }
-        ensures err { OnErr result
-            (OfIterator U.into_iter_gives characters
-            (λ it. PassesInline U.IntoIter.next_gives (λ xs. xs) it)) }
+        ensures { Collects U.into_iter_gives U.IntoIter.next_gives (λ xs. xs) characters result }
     {
-        match collect_pieces(alloc, characters) {
+        match Self::from_chars(alloc, characters) {
             Ok(value) => Ok(value),
             Err(ReserveError) => Err(AllocError),
         }
@@ -180,22 +149,14 @@ impl<'a, P: Policy> FromIterator<&'a char> for PolicyString<P> {
     /// # Errors
     ///
     /// `AllocError` if allocation fails.
-    #[tactic(auto, using(crate::proofs::CollectFacts::collect_facts))]
     fn from_iter<U: IntoIterator<Item = &'a char>>(
         alloc: Global,
         references: U,
     ) -> Result<Self, AllocError>
         requires { IsFiniteIterable U.into_iter_gives U.IntoIter.can_next U.IntoIter.remaining
             references }
-        ensures text { IfOk result
-            (λ v. (it : U.IntoIter) × (xs : List _) × U.into_iter_gives references it
-            × Drains U.IntoIter.next_gives it xs × (v.text ≡ map (λ c. c.now) xs)) }
-        ensures fitted { IfOk result IsPlacedBySize }
-        ensures succeeds { OfAllItems U.into_iter_gives U.IntoIter.next_gives references
-            (λ xs. size (map (λ c. c.now) xs) ≤ 24) → IsOk result }
-        ensures err { OnErr result
-            (OfIterator U.into_iter_gives references
-            (λ it. PassesInline U.IntoIter.next_gives (λ xs. map (λ c. c.now) xs) it)) }
+        ensures { Collects U.into_iter_gives U.IntoIter.next_gives (map (λ c. c.now)) references
+            result }
     {
         match collect_pieces(alloc, references) {
             Ok(value) => Ok(value),

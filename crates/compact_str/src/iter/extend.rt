@@ -1,10 +1,9 @@
 //! Appending the items of an iterator.
-ghost use Rattle.std.specs.Prelude.{◌≡◌, ◌≤◌, List, ◌++◌, flat_map, map, OnOk, OnErr, IsOk};
+ghost use Rattle.std.specs.Prelude.{flat_map, map, OnOk, OnErr, IsOk};
 ghost use Rattle.std.specs.Iterator.{IsFiniteIterable};
 ghost use Rattle.compact_repr.specs.Text.{size};
-ghost use Rattle.compact_repr.specs.Cut.{IsBoundary, text_before};
-ghost use Rattle.compact_str.specs.Room.{HasRoomFor, infallible_capacity};
-ghost use Rattle.compact_str.specs.Collect.{OfIterator, OfItems, OfAllItems, Appends, AppendsAll, AppendsUpToRefused, char_text};
+ghost use Rattle.compact_str.specs.Room.{HasRoomFor};
+ghost use Rattle.compact_str.specs.Collect.{OfIterator, OfAllItems, Appends, AppendsAll, AppendsUpToRefused, Extends, char_text};
 
 use crate::iter::AsText;
 use crate::iter::piece::Piece;
@@ -55,21 +54,8 @@ impl<P: Policy> PolicyString<P> {
     ) -> Result<(), ReserveError>
         requires { IsFiniteIterable U.into_iter_gives U.IntoIter.can_next U.IntoIter.remaining
             texts }
-        ensures ok { OnOk result
-            (OfIterator U.into_iter_gives texts
-            (λ it. AppendsAll U.IntoIter.next_gives P.growth T.text it self.old self.new)) }
-        ensures text { OnOk result
-            (OfItems U.into_iter_gives U.IntoIter.next_gives texts
-            (λ xs. self.new.text ≡ self.old.text ++ flat_map T.text xs)) }
-        ensures boundary { IsBoundary self.new.text (size self.old.text) }
-        ensures front { text_before self.new.text (size self.old.text) ≡ self.old.text }
-        ensures room { infallible_capacity self.old ≤ infallible_capacity self.new }
-        ensures succeeds { OfAllItems U.into_iter_gives U.IntoIter.next_gives texts
-            (λ xs. HasRoomFor self.old (size (flat_map T.text xs))) → IsOk result }
-        ensures err { OnErr result
-            (OfIterator U.into_iter_gives texts
-            (λ it. AppendsUpToRefused U.IntoIter.next_gives P.growth T.text it self.old
-            self.new)) }
+        ensures { Extends U.into_iter_gives U.IntoIter.next_gives P.growth T.text (flat_map T.text)
+            texts self.old result self.new }
     {
         extend_pieces(self, texts)
     }
@@ -93,21 +79,8 @@ impl<P: Policy> PolicyString<P> {
     ) -> Result<(), ReserveError>
         requires { IsFiniteIterable U.into_iter_gives U.IntoIter.can_next U.IntoIter.remaining
             characters }
-        ensures ok { OnOk result
-            (OfIterator U.into_iter_gives characters
-            (λ it. AppendsAll U.IntoIter.next_gives P.growth char_text it self.old self.new)) }
-        ensures text { OnOk result
-            (OfItems U.into_iter_gives U.IntoIter.next_gives characters
-            (λ xs. self.new.text ≡ self.old.text ++ xs)) }
-        ensures boundary { IsBoundary self.new.text (size self.old.text) }
-        ensures front { text_before self.new.text (size self.old.text) ≡ self.old.text }
-        ensures room { infallible_capacity self.old ≤ infallible_capacity self.new }
-        ensures succeeds { OfAllItems U.into_iter_gives U.IntoIter.next_gives characters
-            (λ xs. HasRoomFor self.old (size xs)) → IsOk result }
-        ensures err { OnErr result
-            (OfIterator U.into_iter_gives characters
-            (λ it. AppendsUpToRefused U.IntoIter.next_gives P.growth char_text it
-            self.old self.new)) }
+        ensures { Extends U.into_iter_gives U.IntoIter.next_gives P.growth char_text (λ xs. xs)
+            characters self.old result self.new }
     {
         extend_pieces(self, characters)
     }
@@ -124,18 +97,8 @@ impl<P: Policy, T: AsText> Extend<T> for PolicyString<P> {
     fn extend<U: IntoIterator<Item = T>>(&mut self, texts: U) -> Result<(), AllocError>
         requires { IsFiniteIterable U.into_iter_gives U.IntoIter.can_next U.IntoIter.remaining
             texts }
-        ensures ok { OnOk result
-            (OfIterator U.into_iter_gives texts
-            (λ it. AppendsAll U.IntoIter.next_gives P.growth T.text it self.old self.new)) }
-        ensures text { OnOk result
-            (OfItems U.into_iter_gives U.IntoIter.next_gives texts
-            (λ xs. self.new.text ≡ self.old.text ++ flat_map T.text xs)) }
-        ensures succeeds { OfAllItems U.into_iter_gives U.IntoIter.next_gives texts
-            (λ xs. HasRoomFor self.old (size (flat_map T.text xs))) → IsOk result }
-        ensures err { OnErr result
-            (OfIterator U.into_iter_gives texts
-            (λ it. AppendsUpToRefused U.IntoIter.next_gives P.growth T.text it self.old
-            self.new)) }
+        ensures { Extends U.into_iter_gives U.IntoIter.next_gives P.growth T.text (flat_map T.text)
+            texts self.old result self.new }
     {
         match self.extend_texts(texts) {
             Ok(()) => Ok(()),
@@ -155,18 +118,8 @@ impl<P: Policy> Extend<char> for PolicyString<P> {
     fn extend<U: IntoIterator<Item = char>>(&mut self, characters: U) -> Result<(), AllocError>
         requires { IsFiniteIterable U.into_iter_gives U.IntoIter.can_next U.IntoIter.remaining
             characters }
-        ensures ok { OnOk result
-            (OfIterator U.into_iter_gives characters
-            (λ it. AppendsAll U.IntoIter.next_gives P.growth char_text it self.old self.new)) }
-        ensures text { OnOk result
-            (OfItems U.into_iter_gives U.IntoIter.next_gives characters
-            (λ xs. self.new.text ≡ self.old.text ++ xs)) }
-        ensures succeeds { OfAllItems U.into_iter_gives U.IntoIter.next_gives characters
-            (λ xs. HasRoomFor self.old (size xs)) → IsOk result }
-        ensures err { OnErr result
-            (OfIterator U.into_iter_gives characters
-            (λ it. AppendsUpToRefused U.IntoIter.next_gives P.growth char_text it
-            self.old self.new)) }
+        ensures { Extends U.into_iter_gives U.IntoIter.next_gives P.growth char_text (λ xs. xs)
+            characters self.old result self.new }
     {
         match self.extend_chars(characters) {
             Ok(()) => Ok(()),
@@ -186,19 +139,8 @@ impl<'a, P: Policy> Extend<&'a char> for PolicyString<P> {
     fn extend<U: IntoIterator<Item = &'a char>>(&mut self, references: U) -> Result<(), AllocError>
         requires { IsFiniteIterable U.into_iter_gives U.IntoIter.can_next U.IntoIter.remaining
             references }
-        ensures ok { OnOk result
-            (OfIterator U.into_iter_gives references
-            (λ it. AppendsAll U.IntoIter.next_gives P.growth
-            (λ c. char_text c.now) it self.old self.new)) }
-        ensures text { OnOk result
-            (OfItems U.into_iter_gives U.IntoIter.next_gives references
-            (λ xs. self.new.text ≡ self.old.text ++ map (λ c. c.now) xs)) }
-        ensures succeeds { OfAllItems U.into_iter_gives U.IntoIter.next_gives references
-            (λ xs. HasRoomFor self.old (size (map (λ c. c.now) xs))) → IsOk result }
-        ensures err { OnErr result
-            (OfIterator U.into_iter_gives references
-            (λ it. AppendsUpToRefused U.IntoIter.next_gives P.growth
-            (λ c. char_text c.now) it self.old self.new)) }
+        ensures { Extends U.into_iter_gives U.IntoIter.next_gives P.growth (λ c. char_text c.now)
+            (map (λ c. c.now)) references self.old result self.new }
     {
         match extend_pieces(self, references) {
             Ok(()) => Ok(()),

@@ -1,10 +1,9 @@
 //! Joining the items of an iterator.
-ghost use Rattle.std.specs.Prelude.{◌≡◌, ◌≤◌, List, flat_map, IfOk, OnErr, IsOk};
-ghost use Rattle.std.specs.Iterator.{Drains, HoldsAlong, IsFinite};
-ghost use Rattle.std.specs.Iterator.Runs.{WholeRun};
-ghost use Rattle.compact_repr.specs.Text.{size, text_of, utf8};
+ghost use Rattle.std.specs.Prelude.{◌≡◌, List, flat_map, IfOk, OnErr};
+ghost use Rattle.std.specs.Iterator.{Drains, IsFinite};
+ghost use Rattle.compact_repr.specs.Text.{text_of, utf8};
 ghost use Rattle.compact_str.specs.FittedValues.{IsPlacedBySize};
-ghost use Rattle.compact_str.specs.Collect.{PassesInline, join};
+ghost use Rattle.compact_str.specs.Collect.{PassesInline, Joins, join};
 
 use crate::builder::Builder;
 use crate::iter::AsText;
@@ -33,16 +32,8 @@ pub trait CompactStringExt: Iterator {
         Self::Item: AsText,
         requires can { Self.can_next self }
         requires ends { IsFinite (Self.remaining self) }
-        ensures text { IfOk result
-            (λ v. WholeRun Self.next_gives self
-            (λ run. v.text ≡ flat_map Self.Item.text run.items)) }
-        ensures bytes { IfOk result
-            (λ v. WholeRun Self.next_gives self
-            (λ run. utf8 v.text ≡ flat_map (λ x. utf8 (Self.Item.text x)) run.items)) }
-        ensures fitted { IfOk result IsPlacedBySize }
-        ensures succeeds { HoldsAlong Self.next_gives self
-            (λ xs. size (flat_map Self.Item.text xs) ≤ 24) → IsOk result }
-        ensures err { OnErr result (PassesInline Self.next_gives (flat_map Self.Item.text) self) }
+        ensures { Joins Self.next_gives (flat_map Self.Item.text)
+            (flat_map (λ x. utf8 (Self.Item.text x))) self result }
     {
         CompactString::from_texts(alloc, self)
     }
@@ -70,17 +61,8 @@ pub trait CompactStringExt: Iterator {
         Self::Item: AsText,
         requires can { Self.can_next self }
         requires ends { IsFinite (Self.remaining self) }
-        ensures text { IfOk result
-            (λ v. WholeRun Self.next_gives self
-            (λ run. v.text ≡ join (text_of separator.now) Self.Item.text run.items)) }
-        ensures bytes { IfOk result
-            (λ v. WholeRun Self.next_gives self
-            (λ run. utf8 v.text ≡ join separator.now (λ x. utf8 (Self.Item.text x)) run.items)) }
-        ensures fitted { IfOk result IsPlacedBySize }
-        ensures succeeds { HoldsAlong Self.next_gives self
-            (λ xs. size (join (text_of separator.now) Self.Item.text xs) ≤ 24) → IsOk result }
-        ensures err { OnErr result
-            (PassesInline Self.next_gives (join (text_of separator.now) Self.Item.text) self) }
+        ensures { Joins Self.next_gives (join (text_of separator.now) Self.Item.text)
+            (join separator.now (λ x. utf8 (Self.Item.text x))) self result }
     {
         join_pieces(alloc, self, separator)
     }

@@ -1,5 +1,5 @@
 //! Creating strings.
-ghost use Rattle.std.specs.Prelude.{◌≡◌, ◌<◌, ◌≤◌, ℕ, List, [], length, nat_eq, if◌then◌else◌, Some, IfOk, IfErr, IsOk, ◌↔◌, MatchOption, MatchResult, string_bytes};
+ghost use Rattle.std.specs.Prelude.{◌≡◌, ◌<◌, ℕ, List, [], length, IfOk, IfErr, IsOk, ◌↔◌, MatchOption, MatchResult, string_bytes};
 ghost use Rattle.std.specs.Str.{IsUtf8};
 ghost use Rattle.std.specs.Vec.{vec_capacity};
 ghost use Rattle.std.specs.String.{string_capacity, from_utf8_error_vec, from_utf8_error_cause};
@@ -8,10 +8,9 @@ ghost use Rattle.std.specs.Cow.{cow_str_bytes};
 ghost use Rattle.compact_repr.specs.Text.{text_of, utf8};
 ghost use Rattle.compact_repr.specs.Packed.{IsPackedFor};
 ghost use Rattle.compact_repr.specs.Value.{placed_text, IsHeap};
-ghost use Rattle.compact_repr.specs.Capacity.{inline_placement, heap_placement, const_new_placement, from_string_placement, WithCapacityAllocates};
-ghost use Rattle.compact_repr.specs.Calls.{new};
+ghost use Rattle.compact_repr.specs.Capacity.{inline_placement, const_new_placement, from_string_placement};
 ghost use Rattle.compact_str.specs.Room.{MakesEmpty};
-ghost use Rattle.compact_str.specs.Conversions.{CopiesText, TakesCow, IsFreeCow};
+ghost use Rattle.compact_str.specs.Conversions.{CopiesText, string_buffer_placement, TakesCow, IsFreeCow};
 ghost use Rattle.compact_str.specs.DecodeErrors.{IsErrorOf};
 
 use crate::refused::Refused;
@@ -143,8 +142,6 @@ impl<P: Policy> PolicyString<P> {
     pub fn from_packed(alloc: Global, bytes: &[u8; 24]) -> Option<Self>
         ensures value { MatchOption result ((t : List ℕ) → ¬ (IsPackedFor bytes.now t))
             (λ v. IsPackedFor bytes.now v.text × (v.placement ≡ inline_placement)) }
-        ensures succeeds { (t : List ℕ) → IsPackedFor bytes.now t
-            → (result ≡ Some (placed_text t inline_placement)) }
     {
         let repr = Repr::from_packed(alloc, bytes)?;
         Some(PolicyString { repr })
@@ -204,8 +201,7 @@ impl<P: Policy> PolicyString<P> {
     /// ```
     pub fn from_string_buffer(text: String) -> Self
         ensures value { let t = text_of (string_bytes text)
-            in result ≡ placed_text t (if nat_eq (string_capacity text) 0 then inline_placement
-            else heap_placement (string_capacity text)) }
+            in result ≡ placed_text t (string_buffer_placement (string_capacity text)) }
         ensures place { 0 < length (string_bytes text) → IsHeap result }
     {
         PolicyString {
@@ -254,12 +250,8 @@ impl<P: Policy> PolicyString<P> {
     /// assert!(rt; !name.is_heap_allocated());
     /// ```
     pub fn from_boxed_str(alloc: Global, text: BoxedStr) -> Result<Self, Refused<BoxedStr>>
-        ensures ok { IfOk result (λ v. new P.growth (text_of (boxed_str_bytes text)) ≡ Some v) }
-        ensures text { IfOk result (λ v. v.text ≡ text_of (boxed_str_bytes text)) }
-        ensures bytes { IfOk result (λ v. utf8 v.text ≡ boxed_str_bytes text) }
-        ensures succeeds { length (boxed_str_bytes text) ≤ 24 → IsOk result }
-        ensures err { IfErr result
-            (λ e. (e.value ≡ text) × WithCapacityAllocates (length (boxed_str_bytes text))) }
+        ensures copies { CopiesText P.growth (boxed_str_bytes text) result }
+        ensures err { IfErr result (λ e. e.value ≡ text) }
     {
         match Self::new(alloc, text.as_str()) {
             Ok(value) => Ok(value),

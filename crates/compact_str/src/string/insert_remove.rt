@@ -6,7 +6,7 @@ ghost use Rattle.compact_repr.specs.Text.{size, utf8, text_of};
 ghost use Rattle.compact_repr.specs.Cut.{IsCut, IsBoundary, text_before, text_after, substring, replaced_text};
 ghost use Rattle.compact_str.specs.Room.{HasRoomFor, infallible_capacity};
 ghost use Rattle.compact_repr.specs.Calls.{insert_str};
-ghost use Rattle.compact_str.specs.Edits.{InsertsText, RemovesChar, ReplacesRange, SplitsOff, SplitAllocates};
+ghost use Rattle.compact_str.specs.Edits.{InsertsStr, RemovesChar, ReplacesRange, SplitsOff, SplitAllocates};
 ghost use Rattle.compact_str.specs.Ranges.{IsRange, IsPart, range_start, range_end};
 ghost use Rattle.compact_repr.specs.Capacity.{ReserveAllocates};
 ghost use Rattle.compact_repr.specs.Value.{IsOwned, IsStatic};
@@ -85,7 +85,7 @@ impl<P: Policy> PolicyString<P> {
     #[tactic(auto, using(crate::proofs::EditFacts::insertion_facts))]
     pub fn insert_str(&mut self, index: usize, text: &str) -> Result<(), ReserveError>
         requires { IsBoundary self.old.text index }
-        ensures { InsertsText P.growth self.old index (text_of text.now) text.now (length text.now)
+        ensures { InsertsStr P.growth self.old index (text_of text.now) text.now (length text.now)
             result self.new }
     {
         if self.repr.try_replace_range(index, index, text) {
@@ -112,7 +112,7 @@ impl<P: Policy> PolicyString<P> {
     #[tactic(auto, using(crate::proofs::EditFacts::insertion_facts))]
     pub fn insert(&mut self, index: usize, character: char) -> Result<(), ReserveError>
         requires { IsBoundary self.old.text index }
-        ensures { InsertsText P.growth self.old index (character ∷ []) (encode_utf8 character)
+        ensures { InsertsStr P.growth self.old index (character ∷ []) (encode_utf8 character)
             (len_utf8 character) result self.new }
     {
         if character.is_ascii() && self.repr.try_insert_ascii(index, character as u8) {

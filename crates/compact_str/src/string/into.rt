@@ -1,12 +1,12 @@
 //! Conversions out of a string.
-ghost use Rattle.std.specs.Prelude.{◌≡◌, ◌≤◌, false, IfOk, IfErr, IsOk, string_bytes, not};
+ghost use Rattle.std.specs.Prelude.{◌≡◌, ◌≤◌, false, IfOk, IfErr, IsOk, string_bytes};
 ghost use Rattle.std.specs.Vec.{vec_capacity};
 ghost use Rattle.std.specs.String.{string_capacity};
 ghost use Rattle.std.specs.Box.{boxed_str_bytes};
 ghost use Rattle.std.specs.Rc.{rc_str_bytes};
 ghost use Rattle.std.specs.Cow.{cow_str_bytes, IsBorrowedStr};
 ghost use Rattle.compact_repr.specs.Text.{size, utf8, text_of};
-ghost use Rattle.compact_repr.specs.Value.{is_heap, IsOwned, IsStatic, IsHeap};
+ghost use Rattle.compact_repr.specs.Value.{is_heap, IsInline, IsOwned, IsStatic, IsHeap};
 ghost use Rattle.compact_repr.specs.Capacity.{MakeOwnedAllocates};
 
 use crate::refused::Refused;
@@ -184,9 +184,7 @@ impl<P: Policy> PolicyString<P> {
             → IfOk result (λ c. ¬ IsBorrowedStr c) }
         ensures succeeds_static { IsStatic self → IsOk result }
         ensures succeeds_heap { IsHeap self → IsOk result }
-        ensures err { IfErr result
-            (λ e. (e.value ≡ self) × (IsOwned self)
-            × (is_heap self.placement.place ≡ false)) }
+        ensures err { IfErr result (λ e. (e.value ≡ self) × IsInline self) }
     {
         if let Some(text) = self.repr.as_static_str() {
             return Ok(CowStr::Borrowed(text));

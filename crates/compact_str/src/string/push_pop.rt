@@ -1,10 +1,10 @@
 //! Appending, popping and truncating.
-ghost use Rattle.std.specs.Prelude.{◌≡◌, ℕ, ◌<◌, ◌≤◌, ◌++◌, ◌∷◌, [], length, Some, IfOk, IfErr, OnOk, OnErr, IsOk, MatchOption};
+ghost use Rattle.std.specs.Prelude.{◌≡◌, ℕ, ◌<◌, ◌≤◌, ◌++◌, ◌∷◌, [], IsOk, MatchOption};
 ghost use Rattle.std.specs.Char.{len_utf8, encode_utf8};
-ghost use Rattle.compact_repr.specs.Text.{size, text_of, utf8};
+ghost use Rattle.compact_repr.specs.Text.{size, text_of};
 ghost use Rattle.compact_repr.specs.Cut.{IsBoundary, text_before};
-ghost use Rattle.compact_repr.specs.Calls.{push_str, clear, truncate, PopsChar, PushStrAllocates};
-ghost use Rattle.compact_str.specs.Room.{HasRoomFor, infallible_capacity};
+ghost use Rattle.compact_repr.specs.Calls.{clear, truncate, PopsChar};
+ghost use Rattle.compact_str.specs.Room.{HasRoomFor, PushesStr, AddsStr};
 ghost use Rattle.compact_str.specs.Edits.{Writes};
 
 use crate::refused::Refused;
@@ -32,13 +32,7 @@ impl<P: Policy> PolicyString<P> {
     #[inline]
     #[tactic(auto, using(crate::proofs::EditFacts::append_facts))]
     pub fn push_str(&mut self, text: &str) -> Result<(), ReserveError>
-        ensures ok { OnOk result (push_str P.growth self.old (text_of text.now) ≡ Some self.new) }
-        ensures text { OnOk result (self.new.text ≡ self.old.text ++ text_of text.now) }
-        ensures bytes { OnOk result (utf8 self.new.text ≡ utf8 self.old.text ++ text.now) }
-        ensures room { OnOk result (infallible_capacity self.old ≤ infallible_capacity self.new) }
-        ensures succeeds { HasRoomFor self.old (length text.now) → IsOk result }
-        ensures err { OnErr result
-            ((self.new ≡ self.old) × PushStrAllocates self.old (text_of text.now)) }
+        ensures { PushesStr P.growth self.old (text_of text.now) text.now result self.new }
     {
         if text.len() <= MAX_SHORT_LEN && self.repr.try_push_str(text) {
             return Ok(());
@@ -62,14 +56,9 @@ impl<P: Policy> PolicyString<P> {
     #[inline]
     #[tactic(auto, using(crate::proofs::EditFacts::character_facts))]
     pub fn push(&mut self, character: char) -> Result<(), ReserveError>
-        ensures ok { OnOk result (push_str P.growth self.old (character ∷ []) ≡ Some self.new) }
-        ensures text { OnOk result (self.new.text ≡ self.old.text ++ character ∷ []) }
-        ensures bytes { OnOk result
-            (utf8 self.new.text ≡ utf8 self.old.text ++ encode_utf8 character) }
-        ensures room { OnOk result (infallible_capacity self.old ≤ infallible_capacity self.new) }
+        ensures pushes { PushesStr P.growth self.old (character ∷ []) (encode_utf8 character) result
+            self.new }
         ensures succeeds { HasRoomFor self.old (len_utf8 character) → IsOk result }
-        ensures err { OnErr result
-            ((self.new ≡ self.old) × PushStrAllocates self.old (character ∷ [])) }
     {
         let mut bytes = [0; 4];
         self.push_str(encode_char(character, &mut bytes))
@@ -89,13 +78,7 @@ impl<P: Policy> PolicyString<P> {
     /// assert_eq!(rt; name.as_str(), "café");
     /// ```
     pub fn add_str(mut self, text: &str) -> Result<Self, Refused<Self>>
-        ensures ok { IfOk result (λ v. push_str P.growth self (text_of text.now) ≡ Some v) }
-        ensures text { IfOk result (λ v. v.text ≡ self.text ++ text_of text.now) }
-        ensures bytes { IfOk result (λ v. utf8 v.text ≡ utf8 self.text ++ text.now) }
-        ensures room { IfOk result (λ v. infallible_capacity self ≤ infallible_capacity v) }
-        ensures succeeds { HasRoomFor self (length text.now) → IsOk result }
-        ensures err { IfErr result
-            (λ e. (e.value ≡ self) × PushStrAllocates self (text_of text.now)) }
+        ensures { AddsStr P.growth self (text_of text.now) text.now result (λ e. e.value) }
     {
         match self.push_str(text) {
             Ok(()) => Ok(self),
@@ -183,11 +166,7 @@ impl<P: Policy> fmt::Write for PolicyString<P> {
     #[tactic(auto, using(crate::proofs::EditFacts::append_facts))]
     fn write_str(&mut self, text: &str) -> fmt::Result
         ensures ok { IsOk result → Writes P.growth self.old text.now self.new }
-        ensures text { OnOk result (self.new.text ≡ self.old.text ++ text_of text.now) }
-        ensures room { OnOk result (infallible_capacity self.old ≤ infallible_capacity self.new) }
-        ensures succeeds { HasRoomFor self.old (length text.now) → IsOk result }
-        ensures err { OnErr result
-            ((self.new ≡ self.old) × PushStrAllocates self.old (text_of text.now)) }
+        ensures pushes { PushesStr P.growth self.old (text_of text.now) text.now result self.new }
     {
         match self.push_str(text) {
             Ok(()) => Ok(()),

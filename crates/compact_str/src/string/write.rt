@@ -1,8 +1,6 @@
 //! Appending formatted values.
-ghost use Rattle.std.specs.Prelude.{◌≡◌, ◌++◌, Some, IfSome, OnOk, OnErr};
-ghost use Rattle.std.specs.Fmt.{AppendsText, with_newline};
-ghost use Rattle.compact_repr.specs.Text.{text_of, utf8};
-ghost use Rattle.compact_repr.specs.Calls.{push_str};
+ghost use Rattle.std.specs.Fmt.{with_newline};
+ghost use Rattle.compact_str.specs.Shown.{PushesShown};
 
 use crate::builder::Builder;
 use crate::string::PolicyString;
@@ -29,13 +27,7 @@ impl<P: Policy> PolicyString<P> {
     /// assert_eq!(rt; line.as_str(), "n° 12");
     /// ```
     pub fn write<D: Display + Drop>(&mut self, value: D) -> Result<(), ReserveError>
-        ensures ok { OnOk result (IfSome (D.output value)
-            (λ shown. push_str P.growth self.old (text_of shown) ≡ Some self.new)) }
-        ensures text { OnOk result (IfSome (D.output value)
-            (λ shown. self.new.text ≡ self.old.text ++ text_of shown)) }
-        ensures bytes { OnOk result
-            (AppendsText (utf8 self.old.text) (utf8 self.new.text) (D.output value)) }
-        ensures err { OnErr result (self.new ≡ self.old) }
+        ensures { PushesShown P.growth self.old (D.output value) result self.new }
     {
         let mut shown = Builder::new(self.allocator());
         match shown.write(value) {
@@ -60,13 +52,7 @@ impl<P: Policy> PolicyString<P> {
     /// ```
     #[inline]
     pub fn write_fmt<D: Display + Drop>(&mut self, value: D) -> Result<(), ReserveError>
-        ensures ok { OnOk result (IfSome (D.output value)
-            (λ shown. push_str P.growth self.old (text_of shown) ≡ Some self.new)) }
-        ensures text { OnOk result (IfSome (D.output value)
-            (λ shown. self.new.text ≡ self.old.text ++ text_of shown)) }
-        ensures bytes { OnOk result
-            (AppendsText (utf8 self.old.text) (utf8 self.new.text) (D.output value)) }
-        ensures err { OnErr result (self.new ≡ self.old) }
+        ensures { PushesShown P.growth self.old (D.output value) result self.new }
     {
         self.write(value)
     }
@@ -85,14 +71,7 @@ impl<P: Policy> PolicyString<P> {
     /// assert_eq!(rt; line.as_str(), "n° 12\n");
     /// ```
     pub fn writeln<D: Display + Drop>(&mut self, value: D) -> Result<(), ReserveError>
-        ensures ok { OnOk result (IfSome (with_newline (D.output value))
-            (λ shown. push_str P.growth self.old (text_of shown) ≡ Some self.new)) }
-        ensures text { OnOk result (IfSome (with_newline (D.output value))
-            (λ shown. self.new.text ≡ self.old.text ++ text_of shown)) }
-        ensures bytes { OnOk result
-            (AppendsText (utf8 self.old.text) (utf8 self.new.text)
-            (with_newline (D.output value))) }
-        ensures err { OnErr result (self.new ≡ self.old) }
+        ensures { PushesShown P.growth self.old (with_newline (D.output value)) result self.new }
     {
         let mut shown = Builder::new(self.allocator());
         match shown.writeln(value) {

@@ -1,9 +1,8 @@
 -- The form that was shown is passed over, or its length.
-use Rattle.std.proofs.Common.{IfSome, rules, arith, subst}
-use Rattle.std.specs.Io.{StartsWith}
+use Rattle.std.proofs.Common.{rules, arith, subst}
+use Rattle.std.specs.Prelude.{MatchOption}
 use Rattle.std.specs.Io.BufRead.{FillKeeps}
-use Rattle.compact_ext.specs.WireRecords.{IsPlacedAsRead, FitsForm}
-use Rattle.compact_ext.specs.Wire.{wire}
+use Rattle.compact_ext.specs.WireRecords.{ShowsNoForm, ShowsForm}
 use Rattle.compact_ext.proofs.WireForms.{took-shown, head-taken}
 use Rattle.compact_ext.proofs.RecordLists.{more-shown, record-read}
 use Rattle.compact_ext.proofs.wire.records.next_record.Goals as goal
@@ -12,13 +11,11 @@ pub returns-in-Ok-Some : goal.returns-in-Ok-Some
 returns-in-Ok-Some g c =
     let rested = c.fill_buf.follows.lender-at-none in
     let filled = subst (FillKeeps _ (g.R.Read.remaining rested) (g.R.BufRead.consumable_len rested)) c.in-Ok.is c.fill_buf.follows.holds-at-none in
-    let begins = subst (λ found. IfSome found (λ v. StartsWith c.in-Ok.bytes.now (wire v.text))) c.in-Ok-Some.field-0-is c.in-Ok-Some.ensures.ok in
-    let fits = subst (λ found. IfSome found FitsForm) c.in-Ok-Some.field-0-is c.in-Ok-Some.ensures.fits in
-    let placed = subst (λ found. IfSome found IsPlacedAsRead) c.in-Ok-Some.field-0-is c.in-Ok-Some.ensures.placement in
+    let shows = subst (λ found. MatchOption found (ShowsNoForm c.in-Ok.bytes.now) (ShowsForm c.in-Ok.bytes.now)) c.in-Ok-Some.field-0-is c.in-Ok-Some.ensures.shown in
     record {
-      form = took-shown _ _ _ _ c.in-Ok.bytes.now c.in-Ok-Some.text.text c.len.result c.len.ensures.value begins c.in-Ok.ensures.front c.in-Ok.ensures.end filled.0 filled.1 c.consume.ensures.bytes;
-      fits = fits;
-      placed = placed;
+      form = took-shown _ _ _ _ c.in-Ok.bytes.now c.in-Ok-Some.text.text c.len.result c.len.ensures.value shows.form c.in-Ok.ensures.front c.in-Ok.ensures.end filled.0 filled.1 c.consume.ensures.bytes;
+      fits = shows.fits;
+      placed = shows.placed;
     }
 
 pub returns-in-Err-shown_text : goal.returns-in-Err-shown_text

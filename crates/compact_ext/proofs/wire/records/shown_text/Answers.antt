@@ -7,23 +7,20 @@ use Rattle.compact_ext.proofs.RecordLists.{cut-shows_none, broken-shows_none}
 use Rattle.compact_ext.proofs.wire.records.shown_text.Goals as goal
 use Rattle.compact_ext.proofs.wire.records.shown_text.Goals.{then-len-rest-via-then-len-rest, then-len-rest-via-else-len-rest+then-not-is_utf8}
 
-pub returns-in-Ok-clause-ok : goal.returns-in-Ok-clause-ok
-returns-in-Ok-clause-ok c =
+pub returns-in-Ok-clause-shown : goal.returns-in-Ok-clause-shown
+returns-in-Ok-clause-shown c =
     let split = c.in-Some.ensures.cases in
     let len = c.number_of-len.result in
     let made = c.in-Ok.ensures.bytes ∙ ap (take len) split.1 in
-    form-shown c.args.bytes.now c.in-Ok.text.text len (c.number_of-len.ensures ∙ split.0) (omega (arith, split.2, c.if-len-rest.false)) made
-
-pub returns-in-Ok-clause-fits : goal.returns-in-Ok-clause-fits
-returns-in-Ok-clause-fits c =
-    let split = c.in-Some.ensures.cases in (
-      c.in-Ok.ensures.text,
-      form-fits c.number_of-len.result c.in-Ok.text.text _ (search rules) (omega (arith, split.2, c.if-len-rest.false)) c.in-Ok.ensures.bytes,
-    )
+    record {
+      form = form-shown c.args.bytes.now c.in-Ok.text.text len (c.number_of-len.ensures ∙ split.0) (omega (arith, split.2, c.if-len-rest.false)) made;
+      fits = (c.in-Ok.ensures.text, form-fits len c.in-Ok.text.text _ (search rules) (omega (arith, split.2, c.if-len-rest.false)) c.in-Ok.ensures.bytes);
+      placed = c.in-Ok.ensures.placement;
+    }
 
 -- a length beyond what is shown, or bytes that are no text
-pub returns-then-len-rest-clause-none : goal.returns-then-len-rest-clause-none
-returns-then-len-rest-clause-none c =
+pub returns-then-len-rest-clause-shown : goal.returns-then-len-rest-clause-shown
+returns-then-len-rest-clause-shown c =
     let split = c.in-Some.ensures.cases in
     let len = c.number_of-len.result in
     let small : len < 2 ^ 32 = search rules in

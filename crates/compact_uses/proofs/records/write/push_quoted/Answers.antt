@@ -34,7 +34,7 @@ returns-in_err-push-2-clause-succeeds c = λ small.
     let turn = YieldsList-turn (YieldsList-from_chars c.as_str.result.now c.as_str.utf8 cc) c.loop-character.yielded _ c.loop-character.yielded_by _ _ c.in-Some.character c.in-Some.is c.next.ensures.steps in
     let so_far = YieldsList-so_far (YieldsList-from_chars c.as_str.result.now c.as_str.utf8 cc) c.loop-character.yielded _ c.loop-character.yielded_by in
     let room = room-at c.loop-character.line c.args.line.now.text c.push.new.self.text (text_of c.as_str.result.now) c.args.field.now.text c.loop-character.yielded c.in-Some.character
-    c.in_ok-push.ensures.text c.loop-character.invariant.text c.as_str.ensures.text so_far turn small in
+    c.in_ok-push.ensures.pushes.text c.loop-character.invariant.text c.as_str.ensures.text so_far turn small in
     let two = size-quote c.in-Some.character c.if-character-eq34.true in
     absurd (not-refused c.loop-character.line 1 (omega (arith, room, two)) c.in_err-push-2.ensures.succeeds)
 
@@ -43,9 +43,9 @@ returns-in_err-push-3-clause-succeeds c = λ small.
     let turn = YieldsList-turn (YieldsList-from_chars c.as_str.result.now c.as_str.utf8 cc) c.loop-character.yielded _ c.loop-character.yielded_by _ _ c.in-Some.character c.in-Some.is c.next.ensures.steps in
     let so_far = YieldsList-so_far (YieldsList-from_chars c.as_str.result.now c.as_str.utf8 cc) c.loop-character.yielded _ c.loop-character.yielded_by in
     let room = room-at c.loop-character.line c.args.line.now.text c.push.new.self.text (text_of c.as_str.result.now) c.args.field.now.text c.loop-character.yielded c.in-Some.character
-    c.in_ok-push.ensures.text c.loop-character.invariant.text c.as_str.ensures.text so_far turn small in
+    c.in_ok-push.ensures.pushes.text c.loop-character.invariant.text c.as_str.ensures.text so_far turn small in
     let two = size-quote c.in-Some.character c.if-character-eq34.true in
-    let more : size c.push-then-character-eq34.new.self.text ≡ size c.loop-character.line.text + 1 = ap size c.in_ok-push-2.ensures.text ∙ size-append c.loop-character.line.text (quote ∷ []) in
+    let more : size c.push-then-character-eq34.new.self.text ≡ size c.loop-character.line.text + 1 = ap size c.in_ok-push-2.ensures.pushes.text ∙ size-append c.loop-character.line.text (quote ∷ []) in
     absurd (not-refused c.push-then-character-eq34.new.self 1 (omega (arith, room, two, more)) c.in_err-push-3.ensures.succeeds)
 
 pub returns-in_err-push-4-clause-succeeds : goal.returns-in_err-push-4-clause-succeeds
@@ -53,6 +53,6 @@ returns-in_err-push-4-clause-succeeds c = λ small.
     let turn = YieldsList-turn (YieldsList-from_chars c.as_str.result.now c.as_str.utf8 cc) c.loop-character.yielded _ c.loop-character.yielded_by _ _ c.in-Some.character c.in-Some.is c.next.ensures.steps in
     let so_far = YieldsList-so_far (YieldsList-from_chars c.as_str.result.now c.as_str.utf8 cc) c.loop-character.yielded _ c.loop-character.yielded_by in
     let room = room-at c.loop-character.line c.args.line.now.text c.push.new.self.text (text_of c.as_str.result.now) c.args.field.now.text c.loop-character.yielded c.in-Some.character
-    c.in_ok-push.ensures.text c.loop-character.invariant.text c.as_str.ensures.text so_far turn small in
+    c.in_ok-push.ensures.pushes.text c.loop-character.invariant.text c.as_str.ensures.text so_far turn small in
     let other = size-other c.in-Some.character c.if-character-eq34.false in
     absurd (not-refused c.loop-character.line (len_utf8 c.in-Some.character) (omega (arith, room, other)) c.in_err-push-4.ensures.succeeds)

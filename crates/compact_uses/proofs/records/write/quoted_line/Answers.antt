@@ -44,5 +44,5 @@ returns-in_err-push_quoted-2-clause-succeeds c = λ small.
     c.in_ok-push_quoted.ensures.text ∙ ap (λ (v : PlacedText). v.text ++ quoted_field c.in-Some.first.now.text) c.default-line.ensures in
     let room = field-room c.args.separator c.loop-field.line c.in-Some.first.now c.field-item.result c.args.fields.now c.in-Some.others.now c.loop-field.field-index are c.loop-field-test.true c.field-item.is
     (c.loop-field.invariant ∙ ap (λ t. t ++ flat_map (λ other. c.args.separator ∷ quoted_field other) (map text_in (take c.loop-field.field-index c.in-Some.others.now))) begun) small in
-    let behind : size c.push.new.self.text ≡ size c.loop-field.line.text + (len_utf8 c.args.separator + 0) = ap size c.in_ok-push.ensures.text ∙ size-append c.loop-field.line.text (c.args.separator ∷ []) in
+    let behind : size c.push.new.self.text ≡ size c.loop-field.line.text + (len_utf8 c.args.separator + 0) = ap size c.in_ok-push.ensures.pushes.text ∙ size-append c.loop-field.line.text (c.args.separator ∷ []) in
     absurd (true≢false (sym (c.in_err-push_quoted-2.ensures.succeeds (omega (arith, room, behind)))))

@@ -1,13 +1,16 @@
-use Rattle.std.proofs.Common.{flat_map}
+use Rattle.std.proofs.Common.{rules, flat_map}
 use Rattle.compact_repr.specs.Text.{utf8}
 use Rattle.compact_str.proofs.Collecting.{ran-here, ran-bytes, utf8-flat_map}
 use Rattle.compact_str.proofs.iter.join.CompactStringExt.concat_compact.Goals as goal
 
-pub returns-clause-text : goal.returns-clause-text
-returns-clause-text g c = ran-here g.Self.Iterator.next_gives c.args.self (flat_map g.Self.Item.AsText.text) c.from_texts.result c.from_texts.ensures.text
-
-pub returns-clause-bytes : goal.returns-clause-bytes
-returns-clause-bytes g c =
-    ran-bytes g.Self.Iterator.next_gives c.args.self (flat_map g.Self.Item.AsText.text) (flat_map (λ x. utf8 (g.Self.Item.AsText.text x)))
-    (utf8-flat_map g.Self.Item.AsText.text) c.from_texts.result
-    (ran-here g.Self.Iterator.next_gives c.args.self (flat_map g.Self.Item.AsText.text) c.from_texts.result c.from_texts.ensures.text)
+pub returns : goal.returns
+returns g c =
+    let read = g.Self.Item.AsText.text in
+    let text = ran-here g.Self.Iterator.next_gives c.args.self (flat_map read) c.from_texts.result c.from_texts.ensures.collects.text in
+    record {
+      text = text;
+      bytes = ran-bytes g.Self.Iterator.next_gives c.args.self (flat_map read) (flat_map (λ x. utf8 (read x))) (utf8-flat_map read) c.from_texts.result text;
+      fitted = c.from_texts.ensures.collects.fitted;
+      succeeds = search rules;
+      err = search rules;
+    }
