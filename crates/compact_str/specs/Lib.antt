@@ -30,3 +30,4 @@ pub mod Lookups
 pub mod HashedKeys
 pub mod SortedKeys
 pub mod Shown
+pub mod Words

@@ -1,8 +1,7 @@
 //! A builder that collects short pieces on the stack before it appends them.
 ghost use Rattle.std.specs.Prelude.{◌≡◌, ◌+◌, ◌<◌, [], ◌∷◌, ◌++◌, length, Some, OnOk, OnErr, IfOk, IfSome};
 ghost use Rattle.std.specs.Char.{len_utf8};
-ghost use Rattle.compact_repr.specs.Text.{size, text_of};
-ghost use Rattle.compact_repr.specs.Calls.{push_str};
+ghost use Rattle.compact_str.specs.Words.{size, text_of, push_str};
 ghost use Rattle.compact_str.specs.FittedValues.{IsPlacedBySize};
 ghost use Rattle.compact_str.specs.Shown.{Shows};
 

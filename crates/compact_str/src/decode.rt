@@ -1,6 +1,6 @@
 //! Decoding UTF-8 and UTF-16.
 ghost use Rattle.std.specs.Prelude.{◌≡◌, ◌+◌, ◌<◌, ◌++◌, length, OnOk, OnErr};
-ghost use Rattle.compact_repr.specs.Text.{size, text_of};
+ghost use Rattle.compact_str.specs.Words.{size, text_of};
 ghost use Rattle.compact_str.specs.FittedValues.{IsPlacedBySize};
 
 mod buf;

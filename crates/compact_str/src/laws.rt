@@ -4,7 +4,7 @@ ghost use Rattle.std.specs.Prelude.{◌≡◌};
 ghost use Rattle.std.specs.Hash as fed;
 ghost use Rattle.std.specs.Ordering.{ordering_index};
 ghost use Rattle.std.specs.List.Sorted.{IsSorted, IsNonDecreasingBy};
-ghost use Rattle.compact_repr.specs.Text.{utf8};
+ghost use Rattle.compact_str.specs.Words.{utf8};
 ghost use Rattle.compact_str.specs.Order.{ByteOrderIsTextOrder, text_cmp};
 
 use crate::string::PolicyString;

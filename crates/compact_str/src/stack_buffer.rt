@@ -1,6 +1,6 @@
 //! Text on the stack, which is collected before it is appended to a value.
 ghost use Rattle.std.specs.Prelude.{◌≡◌, ◌+◌, ◌≤◌, ◌<◌, [], ◌∷◌, ◌++◌, length, false, IfSome, IsSome, IsTrue, ◌↔◌};
-ghost use Rattle.compact_text.specs.Text.{size, utf8, text_of};
+ghost use Rattle.compact_str.specs.Words.{size, utf8, text_of};
 
 use compact_text::slices;
 use std::marker::Model;
@@ -24,7 +24,7 @@ pub struct PaddedStr {
 impl Model for PaddedStr {
     ghost use Rattle.std.specs.Prelude.{ℕ, List, take, ◌≤◌};
     ghost use Rattle.std.specs.Str.{IsUtf8};
-    ghost use Rattle.compact_text.specs.Text.{text_of};
+    ghost use Rattle.compact_str.specs.Words.{text_of};
 
     ghost Value = { List ℕ };
 
@@ -62,7 +62,7 @@ pub struct StackBuffer {
 impl Model for StackBuffer {
     ghost use Rattle.std.specs.Prelude.{ℕ, List, take, ◌≤◌};
     ghost use Rattle.std.specs.Str.{IsUtf8};
-    ghost use Rattle.compact_text.specs.Text.{text_of};
+    ghost use Rattle.compact_str.specs.Words.{text_of};
 
     ghost Value = { List ℕ };
 

@@ -52,7 +52,7 @@ pub struct PolicyString<P: Policy> {
 pub type CompactString = PolicyString<Standard>;
 
 impl<P: Policy> Model for PolicyString<P> {
-    ghost use Rattle.compact_repr.specs.Value.{PlacedText};
+    ghost use Rattle.compact_str.specs.Words.{PlacedText};
 
     ghost Value = { PlacedText };
 

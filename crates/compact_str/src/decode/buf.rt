@@ -1,11 +1,10 @@
 //! Decoding UTF-8 from a `Buf`.
 ghost use Rattle.std.specs.Prelude.{◌≡◌, ◌<◌, ◌≤◌, ◌++◌, [], length, IfOk, IfErr, OnOk, OnErr, IsOk};
 ghost use Rattle.std.specs.Str.{IsUtf8};
-ghost use Rattle.compact_repr.specs.Text.{text_of};
+ghost use Rattle.compact_str.specs.Words.{text_of, WithCapacityAllocates};
 ghost use Rattle.compact_codec.specs.Utf8Text.{BytesEncode};
 ghost use Rattle.compact_str.specs.FittedValues.{IsPlacedBySize};
 ghost use Rattle.compact_str.specs.DecodeErrors.{IsSuffixOf, IsUtf8BufRefusal};
-ghost use Rattle.compact_repr.specs.Capacity.{WithCapacityAllocates};
 
 use crate::decode::error::FromUtf8Error;
 use crate::string::{CompactString, PolicyString};

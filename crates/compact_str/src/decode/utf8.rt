@@ -1,8 +1,7 @@
 //! Decoding UTF-8 from a slice.
 ghost use Rattle.std.specs.Prelude.{◌≡◌, ◌<◌, ◌≤◌, ◌++◌, length, IfOk, IfErr, OnOk, IsOk, Some};
 ghost use Rattle.std.specs.Str.{IsUtf8};
-ghost use Rattle.compact_repr.specs.Text.{text_of};
-ghost use Rattle.compact_repr.specs.Calls.{new};
+ghost use Rattle.compact_str.specs.Words.{text_of, new};
 ghost use Rattle.compact_codec.specs.InvalidSequence.{IsUtf8Error};
 ghost use Rattle.compact_codec.specs.Utf8Text.{BytesEncode, utf8_lossy_text};
 ghost use Rattle.compact_str.specs.FittedValues.{MakesText};

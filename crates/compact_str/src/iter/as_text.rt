@@ -2,7 +2,7 @@
 ghost use Rattle.std.specs.Prelude.{◌≡◌, ℕ, List, string_bytes};
 ghost use Rattle.std.specs.Box.{boxed_str_bytes};
 ghost use Rattle.std.specs.Cow.{cow_str_bytes};
-ghost use Rattle.compact_repr.specs.Text.{text_of};
+ghost use Rattle.compact_str.specs.Words.{text_of};
 ghost use Rattle.compact_str.specs.Order.{text_in};
 
 use crate::string::PolicyString;

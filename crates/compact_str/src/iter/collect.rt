@@ -1,7 +1,7 @@
 //! Collecting texts and characters.
 ghost use Rattle.std.specs.Prelude.{◌≡◌, ◌+◌, flat_map, fold, map, IfOk, OnErr};
 ghost use Rattle.std.specs.Iterator.{IsFiniteIterable};
-ghost use Rattle.compact_repr.specs.Text.{size};
+ghost use Rattle.compact_str.specs.Words.{size};
 ghost use Rattle.compact_str.specs.FittedValues.{IsPlacedBySize};
 ghost use Rattle.compact_str.specs.Collect.{OfIterator, OfItems, OfDrained, PassesInline, Collects};
 

@@ -1,8 +1,7 @@
 //! Appending the items of an iterator.
 ghost use Rattle.std.specs.Prelude.{flat_map, map, OnOk, OnErr, IsOk};
 ghost use Rattle.std.specs.Iterator.{IsFiniteIterable};
-ghost use Rattle.compact_repr.specs.Text.{size};
-ghost use Rattle.compact_str.specs.Room.{HasRoomFor};
+ghost use Rattle.compact_str.specs.Words.{size, HasRoomFor};
 ghost use Rattle.compact_str.specs.Collect.{OfIterator, OfAllItems, Appends, AppendsAll, AppendsUpToRefused, Extends, char_text};
 
 use crate::iter::AsText;

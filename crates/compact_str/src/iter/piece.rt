@@ -1,8 +1,6 @@
 //! Items to collect or append: texts and characters.
 ghost use Rattle.std.specs.Prelude.{◌≡◌, ℕ, ◌+◌, ◌<◌, List, ◌++◌, OnOk, OnErr, IsOk, Some};
-ghost use Rattle.compact_repr.specs.Text.{size};
-ghost use Rattle.compact_repr.specs.Calls.{push_str, PushStrAllocates};
-ghost use Rattle.compact_str.specs.Room.{HasRoomFor};
+ghost use Rattle.compact_str.specs.Words.{size, push_str, PushStrAllocates, HasRoomFor};
 ghost use Rattle.compact_str.specs.Collect.{char_text};
 
 use crate::builder::Builder;

@@ -1,10 +1,8 @@
 //! Reading the text, its place and its capacity.
 ghost use Rattle.std.specs.Prelude.{◌≡◌, ℕ, ◌<◌, ◌^◌, ◌↔◌, [], length, IsTrue, IsSome, IfSome};
 ghost use Rattle.std.specs.Str.{IsCharBoundary, IsUtf8};
-ghost use Rattle.compact_repr.specs.Text.{size, utf8, text_of};
-ghost use Rattle.compact_repr.specs.Cut.{IsBoundary};
+ghost use Rattle.compact_str.specs.Words.{size, utf8, text_of, IsBoundary, inline, is_heap, IsSound, IsStatic, IsInline};
 ghost use Rattle.compact_repr.specs.Packed.{IsPackedFor};
-ghost use Rattle.compact_repr.specs.Value.{inline, is_heap, IsSound, IsStatic, IsInline};
 
 use crate::string::PolicyString;
 use compact_repr::Policy;

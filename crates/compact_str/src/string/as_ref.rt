@@ -1,6 +1,6 @@
 //! Strings as bytes and paths.
 ghost use Rattle.std.specs.Prelude.{Some};
-ghost use Rattle.compact_repr.specs.Text.{utf8};
+ghost use Rattle.compact_str.specs.Words.{utf8};
 
 use crate::string::PolicyString;
 use compact_repr::Policy;

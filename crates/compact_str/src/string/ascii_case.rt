@@ -1,10 +1,6 @@
 //! ASCII case.
 ghost use Rattle.std.specs.Prelude.{◌≡◌, ℕ, ◌≤◌, [], length, Some, IfOk, OnOk, OnErr, IsOk};
-ghost use Rattle.compact_repr.specs.Text.{size, ascii_lowercase, ascii_uppercase};
-ghost use Rattle.compact_repr.specs.Cut.{IsBoundary};
-ghost use Rattle.compact_repr.specs.Calls.{new, make_ascii_lowercase, make_ascii_uppercase, zeroize};
-ghost use Rattle.compact_repr.specs.Capacity.{WithCapacityAllocates, MakeOwnedAllocates};
-ghost use Rattle.compact_repr.specs.Value.{IsOwned};
+ghost use Rattle.compact_str.specs.Words.{size, ascii_lowercase, ascii_uppercase, IsBoundary, new, make_ascii_lowercase, make_ascii_uppercase, zeroize, WithCapacityAllocates, MakeOwnedAllocates, IsOwned};
 
 use crate::string::PolicyString;
 use compact_repr::{Policy, ReserveError};

@@ -1,9 +1,6 @@
 //! Reserving and shrinking.
 ghost use Rattle.std.specs.Prelude.{◌≡◌, Some, OnOk, OnErr};
-ghost use Rattle.compact_repr.specs.Calls.{make_owned, Shrinks};
-ghost use Rattle.compact_str.specs.Room.{Reserves};
-ghost use Rattle.compact_repr.specs.Capacity.{MakeOwnedAllocates};
-ghost use Rattle.compact_repr.specs.Value.{IsOwned};
+ghost use Rattle.compact_str.specs.Words.{make_owned, Shrinks, Reserves, MakeOwnedAllocates, IsOwned};
 
 use crate::string::PolicyString;
 use compact_repr::{Policy, ReserveError};

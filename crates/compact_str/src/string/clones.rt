@@ -1,10 +1,6 @@
 //! Cloning.
 ghost use Rattle.std.specs.Prelude.{◌≡◌, ◌≤◌, Some, OnOk, OnErr, IsOk, IsTrue, not, false};
-ghost use Rattle.compact_repr.specs.Text.{size};
-ghost use Rattle.compact_repr.specs.Value.{is_heap};
-ghost use Rattle.compact_repr.specs.Capacity.{clone_allocates};
-ghost use Rattle.compact_repr.specs.Calls.{clone};
-ghost use Rattle.compact_str.specs.Room.{infallible_capacity};
+ghost use Rattle.compact_str.specs.Words.{size, is_heap, clone_allocates, clone, infallible_capacity};
 ghost use Rattle.compact_str.specs.Clones.{clone_from, CloneFromAllocates};
 
 use crate::string::PolicyString;

@@ -5,11 +5,8 @@ ghost use Rattle.std.specs.Vec.{vec_capacity};
 ghost use Rattle.std.specs.String.{string_capacity, from_utf8_error_vec, from_utf8_error_cause};
 ghost use Rattle.std.specs.Box.{boxed_str_bytes};
 ghost use Rattle.std.specs.Cow.{cow_str_bytes};
-ghost use Rattle.compact_repr.specs.Text.{text_of, utf8};
+ghost use Rattle.compact_str.specs.Words.{text_of, utf8, placed_text, IsHeap, inline_placement, const_new_placement, from_string_placement, MakesEmpty};
 ghost use Rattle.compact_repr.specs.Packed.{IsPackedFor};
-ghost use Rattle.compact_repr.specs.Value.{placed_text, IsHeap};
-ghost use Rattle.compact_repr.specs.Capacity.{inline_placement, const_new_placement, from_string_placement};
-ghost use Rattle.compact_str.specs.Room.{MakesEmpty};
 ghost use Rattle.compact_str.specs.Conversions.{CopiesText, string_buffer_placement, TakesCow, IsFreeCow};
 ghost use Rattle.compact_str.specs.DecodeErrors.{IsErrorOf};
 

@@ -1,8 +1,7 @@
 //! Strings as `&str`.
 ghost use Rattle.std.specs.Prelude.{◌≡◌, ℕ, List, length};
 ghost use Rattle.std.specs.Str.{IsCharBoundary};
-ghost use Rattle.compact_repr.specs.Text.{size, utf8, text_of};
-ghost use Rattle.compact_repr.specs.Cut.{IsBoundary};
+ghost use Rattle.compact_str.specs.Words.{size, utf8, text_of, IsBoundary};
 
 use crate::string::PolicyString;
 use compact_repr::Policy;

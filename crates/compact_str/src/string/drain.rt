@@ -1,13 +1,9 @@
 //! A draining iterator.
 ghost use Rattle.std.specs.Prelude.{◌≡◌, ℕ, ◌≤◌, List, length, [], Some, IfSome, IfOk, OnErr, IsOk, true};
 ghost use Rattle.std.specs.Borrow.{sem, RestsIfErr};
-ghost use Rattle.compact_repr.specs.Text.{size, utf8, text_of};
-ghost use Rattle.compact_repr.specs.Cut.{substring, replaced_text};
-ghost use Rattle.compact_repr.specs.Calls.{replace_range};
+ghost use Rattle.compact_str.specs.Words.{size, utf8, text_of, substring, replaced_text, replace_range, MakeOwnedAllocates, IsOwned};
 ghost use Rattle.compact_str.specs.Ranges.{IsRange, range_start, range_end};
 ghost use Rattle.compact_str.specs.TotalRanges.{is_range, IsAsciiRange};
-ghost use Rattle.compact_repr.specs.Capacity.{MakeOwnedAllocates};
-ghost use Rattle.compact_repr.specs.Value.{IsOwned};
 
 mod range;
 
@@ -241,7 +237,7 @@ impl<P: Policy> Drop for Drain<'_, P> {
 
 impl<P: Policy> Display for Drain<'_, P> {
     ghost use Rattle.std.specs.Prelude.{Some};
-    ghost use Rattle.compact_repr.specs.Text.{utf8};
+    ghost use Rattle.compact_str.specs.Words.{utf8};
     ghost use Rattle.compact_str.specs.Drain.{drain_rest};
 
     ghost output = { λ d. Some (utf8 (drain_rest d)) };

@@ -1,7 +1,6 @@
 //! `Emptied` and `MadeWith`, for `mem::try_take` and `or_default`.
 ghost use Rattle.std.specs.Prelude.{◌≡◌, [], IfOk, IsOk};
-ghost use Rattle.compact_repr.specs.Value.{placed_text};
-ghost use Rattle.compact_repr.specs.Capacity.{inline_placement};
+ghost use Rattle.compact_str.specs.Words.{placed_text, inline_placement};
 
 use crate::string::PolicyString;
 use compact_repr::Policy;

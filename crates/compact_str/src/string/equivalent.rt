@@ -3,7 +3,7 @@ ghost use Rattle.std.specs.Cmp.Lexicographic.{bytes_decides, nat_list_eq_equiv};
 ghost use Rattle.std.specs.Hash as fed;
 ghost use Rattle.std.proofs.Common.{ap, ◌∙◌};
 ghost use Rattle.std.specs.Str.{bytes_eq};
-ghost use Rattle.compact_repr.specs.Text.{utf8};
+ghost use Rattle.compact_str.specs.Words.{utf8};
 ghost use Rattle.compact_repr.proofs.ByteOrder.{utf8-same};
 
 use crate::string::PolicyString;

@@ -1,7 +1,7 @@
 //! Formatting.
 ghost use Rattle.std.specs.Prelude.{Some};
 ghost use Rattle.std.specs.Fmt.{styled_text, debug_str};
-ghost use Rattle.compact_repr.specs.Text.{utf8};
+ghost use Rattle.compact_str.specs.Words.{utf8};
 
 use crate::string::PolicyString;
 use compact_repr::Policy;

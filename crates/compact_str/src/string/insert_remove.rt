@@ -2,14 +2,9 @@
 ghost use Rattle.std.specs.Prelude.{◌≡◌, ℕ, ◌+◌, ◌-◌, ◌^◌, ◌<◌, ◌≤◌, ◌↔◌, ◌∷◌, ◌++◌, [], length, take, drop, Some, None, IfOk, OnOk, OnErr, IsOk, IsTrue, MatchOption};
 ghost use Rattle.std.specs.Char.{len_utf8, encode_utf8};
 ghost use Rattle.std.specs.Str.{IsCharBoundary};
-ghost use Rattle.compact_repr.specs.Text.{size, utf8, text_of};
-ghost use Rattle.compact_repr.specs.Cut.{IsCut, IsBoundary, text_before, text_after, substring, replaced_text};
-ghost use Rattle.compact_str.specs.Room.{HasRoomFor, infallible_capacity};
-ghost use Rattle.compact_repr.specs.Calls.{insert_str};
+ghost use Rattle.compact_str.specs.Words.{size, utf8, text_of, IsCut, IsBoundary, text_before, text_after, substring, replaced_text, HasRoomFor, infallible_capacity, insert_str, ReserveAllocates, IsOwned, IsStatic};
 ghost use Rattle.compact_str.specs.Edits.{InsertsStr, RemovesChar, ReplacesRange, SplitsOff, SplitAllocates};
 ghost use Rattle.compact_str.specs.Ranges.{IsRange, IsPart, range_start, range_end};
-ghost use Rattle.compact_repr.specs.Capacity.{ReserveAllocates};
-ghost use Rattle.compact_repr.specs.Value.{IsOwned, IsStatic};
 
 use crate::string::PolicyString;
 use compact_repr::{Policy, Repr, ReserveError};

@@ -5,9 +5,7 @@ ghost use Rattle.std.specs.String.{string_capacity};
 ghost use Rattle.std.specs.Box.{boxed_str_bytes};
 ghost use Rattle.std.specs.Rc.{rc_str_bytes};
 ghost use Rattle.std.specs.Cow.{cow_str_bytes, IsBorrowedStr};
-ghost use Rattle.compact_repr.specs.Text.{size, utf8, text_of};
-ghost use Rattle.compact_repr.specs.Value.{is_heap, IsInline, IsOwned, IsStatic, IsHeap};
-ghost use Rattle.compact_repr.specs.Capacity.{MakeOwnedAllocates};
+ghost use Rattle.compact_str.specs.Words.{size, utf8, text_of, is_heap, IsInline, IsOwned, IsStatic, IsHeap, MakeOwnedAllocates};
 
 use crate::refused::Refused;
 use crate::string::PolicyString;

@@ -3,7 +3,7 @@ ghost use Rattle.std.specs.Prelude.{◌≡◌, ◌≤◌, length, Some, None, If
 ghost use Rattle.serde_json.specs.View.{view as json_view};
 ghost use Rattle.serde_json.specs.Find.{as_str as json_text};
 ghost use Rattle.serde_json.specs.Data.{string as json_string};
-ghost use Rattle.compact_repr.specs.Text.{utf8, text_of};
+ghost use Rattle.compact_str.specs.Words.{utf8, text_of};
 ghost use Rattle.compact_str.specs.Json.{ReadsJson};
 
 use crate::string::PolicyString;

@@ -1,10 +1,7 @@
 //! Appending, popping and truncating.
 ghost use Rattle.std.specs.Prelude.{◌≡◌, ℕ, ◌<◌, ◌≤◌, ◌++◌, ◌∷◌, [], IsOk, MatchOption};
 ghost use Rattle.std.specs.Char.{len_utf8, encode_utf8};
-ghost use Rattle.compact_repr.specs.Text.{size, text_of};
-ghost use Rattle.compact_repr.specs.Cut.{IsBoundary, text_before};
-ghost use Rattle.compact_repr.specs.Calls.{clear, truncate, PopsChar};
-ghost use Rattle.compact_str.specs.Room.{HasRoomFor, PushesStr, AddsStr};
+ghost use Rattle.compact_str.specs.Words.{size, text_of, IsBoundary, text_before, clear, truncate, PopsChar, HasRoomFor, PushesStr, AddsStr};
 ghost use Rattle.compact_str.specs.Edits.{Writes};
 
 use crate::refused::Refused;

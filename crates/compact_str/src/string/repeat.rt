@@ -1,8 +1,6 @@
 //! Repeating a text.
 ghost use Rattle.std.specs.Prelude.{◌≡◌, ◌≤◌, ◌*◌, [], Some, IfOk, OnErr, IsOk};
-ghost use Rattle.compact_repr.specs.Text.{size};
-ghost use Rattle.compact_repr.specs.Value.{placed_text};
-ghost use Rattle.compact_repr.specs.Capacity.{with_capacity_placement};
+ghost use Rattle.compact_str.specs.Words.{size, placed_text, with_capacity_placement};
 ghost use Rattle.compact_str.specs.Edits.{repeat, repeated_text, RepeatAllocates};
 
 use crate::string::PolicyString;

@@ -1,10 +1,8 @@
 //! Removing characters by a predicate.
 ghost use Rattle.std.specs.Prelude.{◌≡◌, ◌≤◌, ℕ, Bool, Some, OnOk, OnErr, IsOk, filter};
-ghost use Rattle.compact_repr.specs.Text.{size};
-ghost use Rattle.compact_repr.specs.Capacity.{owned_placement, MakeOwnedAllocates};
+ghost use Rattle.compact_str.specs.Words.{size, owned_placement, MakeOwnedAllocates, IsOwned};
 ghost use Rattle.compact_repr.specs.Retain.{RetainsCharsTo};
 ghost use Rattle.compact_str.specs.RetainRules.{RetainsChars, AgreesWith};
-ghost use Rattle.compact_repr.specs.Value.{IsOwned};
 
 use crate::string::PolicyString;
 use compact_repr::{Policy, ReserveError};

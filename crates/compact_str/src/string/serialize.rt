@@ -1,7 +1,7 @@
 //! Serialization by serde.
 ghost use Rattle.std.specs.Prelude.{◌≡◌, IfOk, string_bytes};
 ghost use Rattle.serde.specs.Event.{Logs, text as text_event};
-ghost use Rattle.compact_repr.specs.Text.{utf8};
+ghost use Rattle.compact_str.specs.Words.{utf8};
 ghost use Rattle.compact_str.specs.GivenTexts.{IsGivenText};
 
 use crate::string::PolicyString;

@@ -7,7 +7,7 @@ ghost use Rattle.std.specs.Ordering.{nat_cmp};
 ghost use Rattle.std.specs.Hash as fed;
 ghost use Rattle.std.proofs.Common.{ap, ◌∙◌};
 ghost use Rattle.std.specs.Str.{bytes_eq};
-ghost use Rattle.compact_repr.specs.Text.{utf8};
+ghost use Rattle.compact_str.specs.Words.{utf8};
 ghost use Rattle.compact_repr.proofs.ByteOrder.{utf8-same, utf8-order};
 ghost use Rattle.compact_str.specs.Lookups.{le_lt_trans};
 

@@ -2,14 +2,9 @@
 ghost use Rattle.std.specs.Prelude.{◌≡◌, ◌-◌, ◌+◌, ◌≤◌, ◌++◌, [], length, Some, IfOk, OnOk, OnErr, IsOk};
 ghost use Rattle.std.specs.Borrow.{sem, RestsIfErr};
 ghost use Rattle.std.specs.Range.Bound.{bound_map};
-ghost use Rattle.compact_repr.specs.Text.{size, utf8, text_of};
-ghost use Rattle.compact_repr.specs.Cut.{substring, replaced_text};
-ghost use Rattle.compact_repr.specs.Calls.{push_str, replace_range, PushStrAllocates};
+ghost use Rattle.compact_str.specs.Words.{size, utf8, text_of, substring, replaced_text, push_str, replace_range, PushStrAllocates, HasRoomFor, infallible_capacity, MakeOwnedAllocates, IsOwned};
 ghost use Rattle.compact_str.specs.Edits.{ReplacesRange};
-ghost use Rattle.compact_str.specs.Room.{HasRoomFor, infallible_capacity};
 ghost use Rattle.compact_str.specs.Ranges.{IsRange, IsPart, range_start, range_end};
-ghost use Rattle.compact_repr.specs.Capacity.{MakeOwnedAllocates};
-ghost use Rattle.compact_repr.specs.Value.{IsOwned};
 
 use crate::string::PolicyString;
 use crate::string::drain::Drain;

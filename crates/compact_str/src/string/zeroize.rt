@@ -1,7 +1,6 @@
 //! Zeroing the buffer.
 ghost use Rattle.std.specs.Prelude.{◌≡◌, []};
-ghost use Rattle.compact_repr.specs.Calls.{zeroize};
-ghost use Rattle.compact_repr.specs.Value.{IsOwned};
+ghost use Rattle.compact_str.specs.Words.{zeroize, IsOwned};
 
 use crate::string::PolicyString;
 use compact_repr::Policy;
