@@ -24,7 +24,7 @@ use Rattle.compact_lines.specs.declared.command.Command.TheVariants as commands
 use Rattle.compact_lines.specs.declared.command.Command.{Command}
 use Rattle.compact_lines.specs.Sessions.{State, Executes, DoesOrRefuses, runs_edit, command_allocates}
 use Rattle.compact_lines.specs.Commands.{reference_to, line_command, command_itself, edit_itself, command_of, answers_of}
-use Rattle.compact_lines.specs.Lines.{AnswersCommand, outcome_line, value_line, AnswersLine, AnswersLines, IsFirstLine, bytes_of, AppendsFront, AppendsPart, AppendsAnswers, AppendsSomeAnswers}
+use Rattle.compact_lines.specs.Lines.{AnswersCommand, outcome_line, value_line, AnswersLine, AnswersLines, IsFirstLine, bytes_of, AppendsFront, AppendsAnswer, AppendsAnswerFront, AppendsPart, AppendsAnswers, AppendsSomeAnswers}
 
 abbrev pub standard : Growth
 standard = record { least = 32; numerator = 3; denominator = 2 }
@@ -120,39 +120,41 @@ AnswersSoFar g v known now old new w =
 pub command-answered : {X E : Type 0} (r : Result X E) (g : Growth) (v w : State) (u : PlacedText) (command : Command) (outcome : Result (Reply Standard) ReserveError)
     (old mid new : Option (List ℕ)) → DoesOrRefuses g v command outcome w
     → Appends old mid (outcome_line outcome) → u ≡ w.value → OnOk r (Appends mid new (value_line u))
-    → OnOk r ((answer : List ℕ) × AnswersCommand g v (Some command) answer w × Appends old new answer)
+    → OnOk r (AppendsAnswer g v (Some command) old new w)
 command-answered (Err e) g v w u command outcome old mid new does first same second = tt
 command-answered (Ok x) g v w u command outcome old mid new does first same second =
-    let line = rw same at second in (
-      outcome_line outcome ++ value_line w.value,
-      (outcome, refl, does),
-      appends-both old mid new (outcome_line outcome) (value_line w.value) first line,
-    )
+    let line = rw same at second in
+    record {
+      answer = outcome_line outcome ++ value_line w.value;
+      answers = (outcome, refl, does);
+      written = appends-both old mid new (outcome_line outcome) (value_line w.value) first line;
+    }
 
 -- an executed command, its lines written in part
 
 pub outcome-stopped : {X E : Type 0} (r : Result X E) (g : Growth) (v w : State) (command : Command) (outcome : Result (Reply Standard) ReserveError) (old new : Option (List ℕ))
     → DoesOrRefuses g v command outcome w
     → AppendsFront old new (outcome_line outcome)
-    → OnErr r ((answer : List ℕ) × AnswersCommand g v (Some command) answer w × AppendsFront old new answer)
+    → OnErr r (AppendsAnswerFront g v (Some command) old new w)
 outcome-stopped (Ok x) g v w command outcome old new does front = tt
-outcome-stopped (Err e) g v w command outcome old new does front = (
-  outcome_line outcome ++ value_line w.value,
-  (outcome, refl, does),
-  front-first old new (outcome_line outcome) (value_line w.value) front,
-)
+outcome-stopped (Err e) g v w command outcome old new does front = record {
+  answer = outcome_line outcome ++ value_line w.value;
+  answers = (outcome, refl, does);
+  written = front-first old new (outcome_line outcome) (value_line w.value) front;
+}
 
 pub value-stopped : {X E : Type 0} (r : Result X E) (g : Growth) (v w : State) (u : PlacedText) (command : Command) (outcome : Result (Reply Standard) ReserveError)
     (old mid new : Option (List ℕ)) → DoesOrRefuses g v command outcome w
     → Appends old mid (outcome_line outcome) → u ≡ w.value → OnErr r (AppendsFront mid new (value_line u))
-    → OnErr r ((answer : List ℕ) × AnswersCommand g v (Some command) answer w × AppendsFront old new answer)
+    → OnErr r (AppendsAnswerFront g v (Some command) old new w)
 value-stopped (Ok x) g v w u command outcome old mid new does first same second = tt
 value-stopped (Err e) g v w u command outcome old mid new does first same second =
-    let line = rw same at second in (
-      outcome_line outcome ++ value_line w.value,
-      (outcome, refl, does),
-      front-second old mid new (outcome_line outcome) (value_line w.value) first line,
-    )
+    let line = rw same at second in
+    record {
+      answer = outcome_line outcome ++ value_line w.value;
+      answers = (outcome, refl, does);
+      written = front-second old mid new (outcome_line outcome) (value_line w.value) first line;
+    }
 
 step-same : (g : Growth) (v w : PlacedText) (a b : Edit Standard) → (IsLegal v a → IsLegal v b) → (IsLegal v b → IsLegal v a)
     → (IsTrue (edit_allocates v a) → IsTrue (edit_allocates v b)) → ((reply : Reply Standard) → EditDoes g v a reply w → EditDoes g v b reply w)
@@ -224,30 +226,28 @@ text-line line text bits items command is same spelt read =
 -- the answer to a command answers its line
 pub command-of-line : {X E : Type 0} (r : Result X E) (g : Growth) (v w : State) (command : Option Command) (line : List ℕ) (old new : Option (List ℕ))
     → line_command line ≡ option_map command_itself command
-    → OnOk r ((answer : List ℕ) × AnswersCommand g v command answer w × Appends old new answer)
-    → OnOk r ((answer : List ℕ) × AnswersLine g v line answer w × Appends old new answer)
+    → OnOk r (AppendsAnswer g v command old new w) → OnOk r (AppendsAnswer g v (line_command line) old new w)
 command-of-line (Err e) g v w command line old new is answered = tt
 command-of-line (Ok x) g v w command line old new is answered =
-    (answered.0, rw is (answered-itself g v w command answered.0 answered.1), answered.2)
+    record { answer = answered.answer; answers = rw is (answered-itself g v w command answered.answer answered.answers); written = answered.written }
 
 pub no-command : {X E : Type 0} (r : Result X E) (g : Growth) (v : State) (old new : Option (List ℕ)) → OnOk r (Appends old new (codes "?\n"))
-    → OnOk r ((answer : List ℕ) × AnswersCommand g v None answer v × Appends old new answer)
+    → OnOk r (AppendsAnswer g v None old new v)
 no-command (Err e) g v old new wrote = tt
-no-command (Ok x) g v old new wrote = (codes "?\n", (refl, refl), wrote)
+no-command (Ok x) g v old new wrote = record { answer = codes "?\n"; answers = (refl, refl); written = wrote }
 
 -- likewise a part of it
 pub part-of-line : {X E : Type 0} (r : Result X E) (g : Growth) (v w : State) (command : Option Command) (line : List ℕ) (old new : Option (List ℕ))
     → line_command line ≡ option_map command_itself command
-    → OnErr r ((answer : List ℕ) × AnswersCommand g v command answer w × AppendsFront old new answer)
-    → OnErr r (AppendsPart g v line old new)
+    → OnErr r (AppendsAnswerFront g v command old new w) → OnErr r (AppendsPart g v line old new)
 part-of-line (Ok x) g v w command line old new is answered = tt
 part-of-line (Err e) g v w command line old new is answered =
-    inr (answered.0, w, rw is (answered-itself g v w command answered.0 answered.1), answered.2)
+    inr (w, record { answer = answered.answer; answers = rw is (answered-itself g v w command answered.answer answered.answers); written = answered.written })
 
 pub no-command-stopped : {X E : Type 0} (r : Result X E) (g : Growth) (v : State) (old new : Option (List ℕ)) → OnErr r (AppendsFront old new (codes "?\n"))
-    → OnErr r ((answer : List ℕ) × AnswersCommand g v None answer v × AppendsFront old new answer)
+    → OnErr r (AppendsAnswerFront g v None old new v)
 no-command-stopped (Ok x) g v old new wrote = tt
-no-command-stopped (Err e) g v old new wrote = (codes "?\n", (refl, refl), wrote)
+no-command-stopped (Err e) g v old new wrote = record { answer = codes "?\n"; answers = (refl, refl); written = wrote }
 
 concat-snoc : (xss : List (List ℕ)) (ys : List ℕ) → concat (xss ++ ys ∷ []) ≡ concat xss ++ ys
 concat-snoc [] ys = append-nil ys
@@ -272,15 +272,15 @@ left-next now next (Some bytes) same drops = let dropped = rw same at drops in d
 pub so-far-more : (g : Growth) (v w u : State) (known now next old mid new kept : Option (List ℕ)) (taken line : List ℕ)
     → AnswersSoFar g v known now old mid w → IfSome now (λ bytes. taken ≡ take_through 10 bytes) → 0 < length taken
     → line ≡ strip_last 10 taken → DropsThrough now next 10
-    → (answer : List ℕ) × AnswersLine g w line answer u × Appends mid new answer → Keeps new kept
+    → AppendsAnswer g w (line_command line) mid new u → Keeps new kept
     → AnswersSoFar g v known next old kept u
 so-far-more g v w u known now next old mid new kept taken line so_far takes some stripped drops answered keeps = (
-  so_far.0 ++ answered.0 ∷ [],
+  so_far.0 ++ answered.answer ∷ [],
   option_map (λ bytes. drop_through 10 bytes) so_far.1,
-  answers-more g v w u known so_far.1 so_far.0 line answered.0 so_far.2 (first-line now so_far.1 taken line so_far.3 takes some stripped) answered.1,
+  answers-more g v w u known so_far.1 so_far.0 line answered.answer so_far.2 (first-line now so_far.1 taken line so_far.3 takes some stripped) answered.answers,
   left-next now next so_far.1 so_far.3 drops,
-  rw (concat-snoc so_far.0 answered.0) (appends-kept old new kept (concat so_far.0 ++ answered.0)
-      (appends-both old mid new (concat so_far.0) answered.0 so_far.4 answered.2) keeps),
+  rw (concat-snoc so_far.0 answered.answer) (appends-kept old new kept (concat so_far.0 ++ answered.answer)
+      (appends-both old mid new (concat so_far.0) answered.answer so_far.4 answered.written) keeps),
 )
 
 at-itself : (known : Option (List ℕ)) → IfSome known (λ _. known ≡ known)
@@ -298,17 +298,20 @@ so-far-none g v known old = ([], known, (refl, refl), at-itself known, appends-n
 pub all-answered : (g : Growth) (v w : State) (known now old new : Option (List ℕ))
     → AnswersSoFar g v known now old new w → IsAtEnd now
     → AppendsAnswers g v known old new w
-all-answered g v w known now old new so_far end = (so_far.0, (so_far.1, at-end now so_far.1 so_far.3 end, so_far.2), so_far.4)
+all-answered g v w known now old new so_far end =
+    record { answers = so_far.0; left = so_far.1; lines = so_far.2; end = at-end now so_far.1 so_far.3 end; written = so_far.4 }
 
 -- the session may stop before the first line, after some lines, or within an answer
 
 pub stopped-at-first : {X E : Type 0} (r : Result X E) (g : Growth) (v : State) (known old : Option (List ℕ)) → OnErr r (AppendsSomeAnswers g v known old old)
 stopped-at-first (Ok x) g v known old = tt
-stopped-at-first (Err e) g v known old = ([], known, v, (refl, refl), front-none old old [] (Keeps-refl old))
+stopped-at-first (Err e) g v known old =
+    record { answers = []; left = known; last = v; lines = (refl, refl); written = front-none old old [] (Keeps-refl old) }
 
 pub stopped-so-far : (g : Growth) (v w : State) (known now old new : Option (List ℕ)) → AnswersSoFar g v known now old new w
     → AppendsSomeAnswers g v known old new
-stopped-so-far g v w known now old new so_far = (so_far.0, so_far.1, w, so_far.2, front-all old new (concat so_far.0) so_far.4)
+stopped-so-far g v w known now old new so_far =
+    record { answers = so_far.0; left = so_far.1; last = w; lines = so_far.2; written = front-all old new (concat so_far.0) so_far.4 }
 
 pub stopped-after : {X E : Type 0} (r : Result X E) (g : Growth) (v w : State) (known now old new : Option (List ℕ)) → AnswersSoFar g v known now old new w
     → OnErr r (AppendsSomeAnswers g v known old new)
@@ -319,14 +322,14 @@ within-part : (g : Growth) (v w : State) (known now old mid new : Option (List �
     → AnswersSoFar g v known now old mid w → IfSome now (λ bytes. taken ≡ take_through 10 bytes) → 0 < length taken
     → line ≡ strip_last 10 taken → AppendsPart g w line mid new → AppendsSomeAnswers g v known old new
 within-part g v w known now old mid new taken line so_far takes some stripped (inl kept) =
-    (so_far.0, so_far.1, w, so_far.2, front-all old new (concat so_far.0) (appends-kept old mid new (concat so_far.0) so_far.4 kept))
-within-part g v w known now old mid new taken line so_far takes some stripped (inr part) = (
-  so_far.0 ++ part.0 ∷ [],
-  option_map (λ bytes. drop_through 10 bytes) so_far.1,
-  part.1,
-  answers-more g v w part.1 known so_far.1 so_far.0 line part.0 so_far.2 (first-line now so_far.1 taken line so_far.3 takes some stripped) part.2,
-  rw (concat-snoc so_far.0 part.0) (front-second old mid new (concat so_far.0) part.0 so_far.4 part.3),
-)
+    stopped-so-far g v w known now old new (so_far.0, so_far.1, so_far.2, so_far.3, appends-kept old mid new (concat so_far.0) so_far.4 kept)
+within-part g v w known now old mid new taken line so_far takes some stripped (inr (u, part)) = record {
+  answers = so_far.0 ++ part.answer ∷ [];
+  left = option_map (λ bytes. drop_through 10 bytes) so_far.1;
+  last = u;
+  lines = answers-more g v w u known so_far.1 so_far.0 line part.answer so_far.2 (first-line now so_far.1 taken line so_far.3 takes some stripped) part.answers;
+  written = rw (concat-snoc so_far.0 part.answer) (front-second old mid new (concat so_far.0) part.answer so_far.4 part.written);
+}
 
 pub stopped-within : {X E : Type 0} (r : Result X E) (g : Growth) (v w : State) (known now old mid new : Option (List ℕ)) (taken line : List ℕ)
     → AnswersSoFar g v known now old mid w → IfSome now (λ bytes. taken ≡ take_through 10 bytes) → 0 < length taken

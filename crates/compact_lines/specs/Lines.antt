@@ -9,13 +9,13 @@ use Rattle.std.specs.Io.BufRead.{first_piece, drop_through}
 use Rattle.std.specs.Io.KnownBytes.{IsAtEnd, Appends, Keeps}
 use Rattle.compact_str.specs.Text.{utf8, size}
 use Rattle.compact_str.specs.Value.{Place, inline, heap, static, PlacedText}
-use Rattle.compact_str.specs.Capacity.{Growth}
+use Rattle.compact_str.specs.Capacity.{Growth, standard_growth}
 use Rattle.compact_str.specs.declared.Standard.{Standard}
 use Rattle.compact_str.specs.declared.ReserveError.{ReserveError}
 use Rattle.compact_edit.specs.declared.edit.Reply.{Reply}
 use Rattle.compact_edit.specs.declared.edit.Reply.TheVariants.{Done, Char, Text, BadPosition, Refused}
 use Rattle.compact_lines.specs.declared.command.Command.{Command}
-use Rattle.compact_lines.specs.Sessions.{State, DoesOrRefuses}
+use Rattle.compact_lines.specs.Sessions.{State, first_state, DoesOrRefuses}
 use Rattle.compact_lines.specs.Commands.{line_command}
 
 -- the concatenated bytes of some texts
@@ -63,10 +63,21 @@ AnswersCommand g s (Some command) answer t =
 abbrev pub AnswersLine : Growth → State → List ℕ → List ℕ → State → Type 0
 AnswersLine g s line answer t = AnswersCommand g s (line_command line) answer t
 
+-- from s, a command leads to t, and the writer's bytes grew by its answer
+pub record AppendsAnswer (g : Growth) (s : State) (command : Option Command) (old new : Option (List ℕ)) (t : State) : Type 0 where
+  pub answer : List ℕ
+  pub answers : AnswersCommand g s command answer t
+  pub written : Appends old new answer
+
+-- the same, but by a prefix of the answer
+pub record AppendsAnswerFront (g : Growth) (s : State) (command : Option Command) (old new : Option (List ℕ)) (t : State) : Type 0 where
+  pub answer : List ℕ
+  pub answers : AnswersCommand g s command answer t
+  pub written : AppendsFront old new answer
+
 -- the writer's bytes are unchanged, or grew by a prefix of an answer to the line from s
 abbrev pub AppendsPart : Growth → State → List ℕ → Option (List ℕ) → Option (List ℕ) → Type 0
-AppendsPart g s line old new =
-    Keeps old new ⊎ ((answer : List ℕ) × (t : State) × AnswersLine g s line answer t × AppendsFront old new answer)
+AppendsPart g s line old new = Keeps old new ⊎ ((t : State) × AppendsAnswerFront g s (line_command line) old new t)
 
 -- the line is the first of the known bytes
 abbrev pub IsFirstLine : Option (List ℕ) → List ℕ → Type 0
@@ -79,17 +90,27 @@ AnswersLines g s known (answer ∷ answers) left t =
     (line : List ℕ) × (u : State) × IsFirstLine known line × AnswersLine g s line answer u
     × AnswersLines g u (option_map (λ bytes. drop_through 10 bytes) known) answers left t
 
--- the same for all lines of the known bytes
-abbrev pub AnswersAll : Growth → State → Option (List ℕ) → List (List ℕ) → State → Type 0
-AnswersAll g s known answers t = (left : Option (List ℕ)) × IsAtEnd left × AnswersLines g s known answers left t
+-- from s, the writer's bytes grew by the answers to all lines of the known bytes, which end with t
+pub record AppendsAnswers (g : Growth) (s : State) (known old new : Option (List ℕ)) (t : State) : Type 0 where
+  pub answers : List (List ℕ)
+  pub left : Option (List ℕ)
+  pub lines : AnswersLines g s known answers left t
+  pub end : IsAtEnd left
+  pub written : Appends old new (concat answers)
 
--- the writer's bytes grew by all answers
-abbrev pub AppendsAnswers : Growth → State → Option (List ℕ) → Option (List ℕ) → Option (List ℕ) → State → Type 0
-AppendsAnswers g s known old new t =
-    (answers : List (List ℕ)) × AnswersAll g s known answers t × Appends old new (concat answers)
+-- from s, they grew by a prefix of the answers to some first lines, or none
+pub record AppendsSomeAnswers (g : Growth) (s : State) (known old new : Option (List ℕ)) : Type 0 where
+  pub answers : List (List ℕ)
+  pub left : Option (List ℕ)
+  pub last : State
+  pub lines : AnswersLines g s known answers left last
+  pub written : AppendsFront old new (concat answers)
 
--- the writer's bytes grew by a prefix of the answers to some first lines, or none, from s
-abbrev pub AppendsSomeAnswers : Growth → State → Option (List ℕ) → Option (List ℕ) → Option (List ℕ) → Type 0
-AppendsSomeAnswers g s known old new =
-    (answers : List (List ℕ)) × (left : Option (List ℕ)) × (t : State) × AnswersLines g s known answers left t
-    × AppendsFront old new (concat answers)
+-- from the empty value on, all lines of the known bytes were answered
+pub record AnswersInput (known old new : Option (List ℕ)) : Type 0 where
+  pub last : State
+  pub all : AppendsAnswers standard_growth first_state known old new last
+
+-- from the empty value on, some first lines were answered, perhaps in part
+abbrev pub AnswersInPart : Option (List ℕ) → Option (List ℕ) → Option (List ℕ) → Type 0
+AnswersInPart known old new = AppendsSomeAnswers standard_growth first_state known old new

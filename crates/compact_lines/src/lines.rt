@@ -1,18 +1,19 @@
 //! Answering the lines of a reader on a writer.
-ghost use Rattle.std.specs.Prelude.{◌≡◌, ◌≤◌, List, ℕ, OnErr, OnOk, Some};
+ghost use Rattle.std.specs.Prelude.{◌≡◌, ◌≤◌, OnErr, OnOk, Some};
 ghost use Rattle.std.specs.Fmt.{decimal};
 ghost use Rattle.std.specs.Io.BufRead.{strip_last};
 ghost use Rattle.std.specs.Io.KnownBytes.{Appends};
 ghost use Rattle.compact_str.specs.Text.{utf8};
-ghost use Rattle.compact_lines.specs.Sessions.{State, first_state};
-ghost use Rattle.compact_lines.specs.Lines.{AnswersLine, AnswersCommand, AppendsAnswers, AppendsFront, AppendsPart, AppendsSomeAnswers, outcome_line, place_word, reply_line, value_line};
+ghost use Rattle.compact_str.specs.Capacity.{standard_growth};
+ghost use Rattle.compact_lines.specs.Commands.{line_command};
+ghost use Rattle.compact_lines.specs.Lines.{AnswersInput, AnswersInPart, AppendsAnswer, AppendsAnswerFront, AppendsAnswers, AppendsFront, AppendsPart, AppendsSomeAnswers, outcome_line, place_word, reply_line, value_line};
 
 use crate::command::{Command, answers, parse};
 use crate::session::Session;
 use crate::write::write_texts;
 use compact_edit::Reply;
 use compact_ext::ToCompactString;
-use compact_str::{CompactString, Policy, ReserveError, Standard};
+use compact_str::{CompactString, ReserveError, Standard};
 use std::alloc::Global;
 use std::io;
 use std::io::{BufRead, BufReader, Read, Write};
@@ -30,10 +31,10 @@ use std::io::{BufRead, BufReader, Read, Write};
 /// answers to some first lines.
 pub fn run_lines<R: Read, W: Write>(alloc: Global, reader: &mut R, writer: &mut W) -> u8
     ensures status { result ≤ 1 }
-    ensures answers { result ≡ 0 → (t : State) × AppendsAnswers ⟦<Standard as Policy>⟧.growth
-        first_state (R.remaining reader.old) (W.contents writer.old) (W.contents writer.new) t }
-    ensures stopped { result ≡ 1 → AppendsSomeAnswers ⟦<Standard as Policy>⟧.growth
-        first_state (R.remaining reader.old) (W.contents writer.old) (W.contents writer.new) }
+    ensures answers { result ≡ 0
+        → AnswersInput (R.remaining reader.old) (W.contents writer.old) (W.contents writer.new) }
+    ensures stopped { result ≡ 1
+        → AnswersInPart (R.remaining reader.old) (W.contents writer.old) (W.contents writer.new) }
 {
     match answer_input(alloc, reader, writer) {
         Ok(()) => 0,
@@ -43,10 +44,10 @@ pub fn run_lines<R: Read, W: Write>(alloc: Global, reader: &mut R, writer: &mut 
 
 /// Answers each line of a reader, starting from the empty value.
 fn answer_input<R: Read, W: Write>(alloc: Global, reader: &mut R, writer: &mut W) -> io::Result<()>
-    ensures ok { OnOk result ((t : State) × AppendsAnswers ⟦<Standard as Policy>⟧.growth
-        first_state (R.remaining reader.old) (W.contents writer.old) (W.contents writer.new) t) }
-    ensures err { OnErr result (AppendsSomeAnswers ⟦<Standard as Policy>⟧.growth
-        first_state (R.remaining reader.old) (W.contents writer.old) (W.contents writer.new)) }
+    ensures ok { OnOk result
+        (AnswersInput (R.remaining reader.old) (W.contents writer.old) (W.contents writer.new)) }
+    ensures err { OnErr result
+        (AnswersInPart (R.remaining reader.old) (W.contents writer.old) (W.contents writer.new)) }
 {
     let mut reader = BufReader::new(alloc, reader)?;
     let mut session = Session::new(alloc);
@@ -60,11 +61,10 @@ fn answer_lines<B: BufRead, W: Write>(
     reader: &mut B,
     writer: &mut W,
 ) -> io::Result<()>
-    ensures ok { OnOk result (AppendsAnswers ⟦<Standard as Policy>⟧.growth
-        session.old (B.remaining reader.old) (W.contents writer.old) (W.contents writer.new)
-        session.new) }
-    ensures err { OnErr result (AppendsSomeAnswers ⟦<Standard as Policy>⟧.growth
-        session.old (B.remaining reader.old) (W.contents writer.old) (W.contents writer.new)) }
+    ensures ok { OnOk result (AppendsAnswers standard_growth session.old
+        (B.remaining reader.old) (W.contents writer.old) (W.contents writer.new) session.new) }
+    ensures err { OnErr result (AppendsSomeAnswers standard_growth session.old
+        (B.remaining reader.old) (W.contents writer.old) (W.contents writer.new)) }
 {
     let mut line = Vec::new(alloc);
     for _ in 0..u64::MAX {
@@ -96,11 +96,10 @@ fn answer_line<W: Write>(
     line: &[u8],
     writer: &mut W,
 ) -> io::Result<()>
-    ensures ok { OnOk result ((answer : List ℕ)
-        × AnswersLine ⟦<Standard as Policy>⟧.growth session.old line.now answer session.new
-        × Appends (W.contents writer.old) (W.contents writer.new) answer) }
-    ensures err { OnErr result (AppendsPart ⟦<Standard as Policy>⟧.growth
-        session.old line.now (W.contents writer.old) (W.contents writer.new)) }
+    ensures ok { OnOk result (AppendsAnswer standard_growth session.old (line_command line.now)
+        (W.contents writer.old) (W.contents writer.new) session.new) }
+    ensures err { OnErr result (AppendsPart standard_growth session.old line.now
+        (W.contents writer.old) (W.contents writer.new)) }
 {
     let Ok(line) = std::str::from_utf8(line) else {
         return write_texts(&["?\n"], writer);
@@ -118,14 +117,10 @@ fn answer_command<W: Write>(
     command: Command,
     writer: &mut W,
 ) -> io::Result<()>
-    ensures ok { OnOk result ((answer : List ℕ)
-        × AnswersCommand ⟦<Standard as Policy>⟧.growth session.old (Some
-        command.entry) answer session.new
-        × Appends (W.contents writer.old) (W.contents writer.new) answer) }
-    ensures err { OnErr result ((answer : List ℕ)
-        × AnswersCommand ⟦<Standard as Policy>⟧.growth session.old (Some
-        command.entry) answer session.new
-        × AppendsFront (W.contents writer.old) (W.contents writer.new) answer) }
+    ensures ok { OnOk result (AppendsAnswer standard_growth session.old (Some command.entry)
+        (W.contents writer.old) (W.contents writer.new) session.new) }
+    ensures err { OnErr result (AppendsAnswerFront standard_growth session.old (Some command.entry)
+        (W.contents writer.old) (W.contents writer.new) session.new) }
 {
     let outcome = session.execute(command);
     write_outcome(&outcome, writer)?;
