@@ -2,7 +2,7 @@
 #![tactic(auto, using(compact_str::proofs::ForCallers::for_callers))]
 
 ghost use Rattle.std.specs.Prelude.{◌≡◌, ◌-◌, ◌≤◌, ℕ, List, [], length, map, flat_map, slice_get, Some, IfOk, IsOk, OnOk, OnErr};
-ghost use Rattle.compact_uses.specs.Tokens.{AreNamesOf, AreNamesOfFront, AreParted, token_text};
+ghost use Rattle.compact_uses.specs.Tokens.{IsTokenized, IsPartlyTokenized, token_text};
 ghost use Rattle.compact_uses.specs.declared.tokenizer.Token.{Token};
 
 use compact_edit::{InternError, Interner};
@@ -21,9 +21,9 @@ pub fn learn(
     ensures count { IfOk result (λ count. count ≡ length names.new - length names.old) }
     ensures most { IfOk result (λ count. count ≤ length text.now.text) }
     ensures names { OnOk result ((tokens : List Token)
-        × AreNamesOf names.old names.new tokens
+        × IsTokenized names.old names.new tokens [] text.now.text
         × (flat_map (token_text names.new) tokens ≡ text.now.text)) }
-    ensures front { OnErr result (AreNamesOfFront names.old names.new text.now.text) }
+    ensures front { OnErr result (IsPartlyTokenized names.old names.new text.now.text) }
     ensures empty { text.now.text ≡ [] → IsOk result }
 {
     let before = names.len();
@@ -39,9 +39,8 @@ pub fn numbers_of(
     text: &CompactString,
 ) -> Result<Vec<u32>, InternError>
     ensures numbers { IfOk result (λ numbers. (tokens : List Token)
-        × AreNamesOf names.old names.new tokens
+        × IsTokenized names.old names.new tokens [] text.now.text
         × (flat_map (token_text names.new) tokens ≡ text.now.text)
-        × AreParted tokens
         × (numbers.items ≡ map (λ token. token.name) tokens)) }
     ensures kept { (n : ℕ) (name : List ℕ)
         → slice_get names.old n ≡ Some name → slice_get names.new n ≡ Some name }

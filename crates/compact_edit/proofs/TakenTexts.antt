@@ -72,7 +72,7 @@ takes-none before listed distinct = record {
   places = tt;
 }
 
-takes-push : (before ts names after : List (List ℕ)) (listed mid now : List ℕ) (t : List ℕ) (n : ℕ)
+pub takes-push : (before ts names after : List (List ℕ)) (listed mid now : List ℕ) (t : List ℕ) (n : ℕ)
     → Takes before ts listed names mid → distinct_texts names ≡ names → after ≡ distinct_texts (names ++ t ∷ []) → slice_get after n ≡ Some t → now ≡ mid ++ n ∷ []
     → Takes before (ts ++ t ∷ []) listed after now
 takes-push before ts names after listed mid now t n takes distinct is at pushed =

@@ -1,18 +1,21 @@
 -- The cells of a row, and its number of characters.
-use Rattle.std.proofs.Common.{◌≡◌, ℕ, ◌+◌, ◌-◌, ◌<◌, ◌≤◌, zero, suc, List, [], ◌∷◌, ◌++◌, Option, None, Some, fold, get_or, length, map, max, replicate, slice_get, slice_index_or, take, refl, ap, sym, ◌∙◌, arith, append_assoc, append-nil, length-append}
+use Rattle.std.proofs.Common.{◌≡◌, ℕ, ◌+◌, ◌-◌, ◌<◌, ◌≤◌, zero, suc, List, [], ◌∷◌, ◌++◌, Option, Some, fold, get_or, length, map, max, replicate, slice_get, slice_index_or, take, refl, ap, sym, ◌∙◌, arith, append_assoc, append-nil, length-append}
 use Rattle.std.proofs.lemmas.Grind.{common_steps}
 use Rattle.std.proofs.lemmas.List.{take_more, length-replicate, length-take}
 use Rattle.std.proofs.lemmas.List.Elements.{All-from_recursion, recursion_from_All}
-use Rattle.std.proofs.lemmas.Option.{slice_get-map}
+use Rattle.std.proofs.lemmas.Option.{slice_get-map, slice_get_past}
+use Rattle.std.proofs.lemmas.Str.{chars-nil}
 use Rattle.std.specs.Global.{Vec}
 use Rattle.std.specs.Option.{option_map, unwrap_or}
 use Rattle.std.specs.List.{All, AllByRecursion}
 use Rattle.compact_str.specs.Value.{PlacedText}
 use Rattle.compact_str.specs.Order.{text_in}
+use Rattle.compact_str.specs.Text.{text_of}
 use Rattle.compact_uses.specs.Columns.{field_at, column_width, column_count, widths_before, widths_of, cell, cells, row_text, row_width}
 
-pub missing-field : (fields : List PlacedText) (column : ℕ) → slice_get fields column ≡ None → field_at fields column ≡ []
-missing-field fields column is = ap (λ (x : Option (List ℕ)). unwrap_or x []) (slice_get-map text_in fields column ∙ ap (option_map text_in) is)
+pub missing-field : (fields : List PlacedText) (column : ℕ) → length fields ≤ column → text_of [] ≡ field_at fields column
+missing-field fields column past =
+    chars-nil ∙ sym (ap (λ (x : Option (List ℕ)). unwrap_or x []) (slice_get-map text_in fields column ∙ ap (option_map text_in) (slice_get_past fields column past)))
 
 pub present-field : (fields : List PlacedText) (column : ℕ) (field : PlacedText) → slice_get fields column ≡ Some field → field_at fields column ≡ field.text
 present-field fields column field is = ap (λ (x : Option (List ℕ)). unwrap_or x []) (slice_get-map text_in fields column ∙ ap (option_map text_in) is)
@@ -93,9 +96,10 @@ same-width widths n (line ∷ lines) (fields ∷ table) is all =
     let others : map text_in lines ≡ map (λ fields. row_text widths fields.items) table = cc in
     (ap length first ∙ all.0, same-width widths n lines table others all.1)
 
-pub lines-width : (lines : List PlacedText) (table : List (Vec PlacedText)) → map text_in lines ≡ map (λ fields. row_text (widths_of table) fields.items) table
-    → All (λ line. length line.text ≡ row_width (widths_of table)) lines
-lines-width lines table is =
-    All-from_recursion _ lines (same-width (widths_of table) (row_width (widths_of table)) lines table is (recursion_from_All _ table (rows-width table)))
+pub lines-width : (lines : List PlacedText) (table : List (Vec PlacedText)) (widths : List ℕ) (n : ℕ) → widths ≡ widths_of table → length table ≤ n
+    → map text_in lines ≡ map (λ fields. row_text widths fields.items) (take n table) → All (λ line. length line.text ≡ row_width (widths_of table)) lines
+lines-width lines table widths n are all is =
+    let rows : map text_in lines ≡ map (λ fields. row_text (widths_of table) fields.items) table = grind (arith, common_steps) in
+    All-from_recursion _ lines (same-width (widths_of table) (row_width (widths_of table)) lines table rows (recursion_from_All _ table (rows-width table)))
 
-pub ruleset row_facts = (present-field, row-more)
+pub ruleset row_facts = (missing-field, present-field, row-more)

@@ -1,6 +1,6 @@
 //! Word counts of a text, and the most frequent words.
 ghost use Rattle.std.specs.Prelude.{◌≡◌, ◌<◌, ℕ, length, slice_index, IfOk, IsOk};
-ghost use Rattle.compact_uses.specs.Entries.{word_count, entries_before, IsRanking};
+ghost use Rattle.compact_uses.specs.Entries.{is_word_kind, word_count, entries_before, IsRanking};
 
 use crate::tokenizer::{Kind, Token};
 use std::alloc::{AllocError, Global};
@@ -54,6 +54,7 @@ fn entries(alloc: Global, tokens: &[Token], names: u32) -> Result<Vec<Entry>, Al
 }
 
 /// Returns the count of each number as a word.
+#[tactic(auto, using(crate::proofs::CountLemmas::count_facts))]
 fn word_counts(alloc: Global, tokens: &[Token], names: u32) -> Result<Vec<usize>, AllocError>
     ensures len { IfOk result (λ counts. length counts.items ≡ names) }
     ensures counts { IfOk result (λ counts. (n : ℕ) → n < names
@@ -61,7 +62,7 @@ fn word_counts(alloc: Global, tokens: &[Token], names: u32) -> Result<Vec<usize>
 {
     let mut counts = Vec::from_elem(alloc, 0usize, names as usize)?;
     for token in tokens {
-        if token.kind != Kind::Word {
+        if !is_word_kind(token.kind) {
             continue;
         }
         if token.name >= names {
@@ -70,4 +71,11 @@ fn word_counts(alloc: Global, tokens: &[Token], names: u32) -> Result<Vec<usize>
         counts[token.name as usize] += 1;
     }
     Ok(counts)
+}
+
+/// Returns `true` for the kind of words.
+fn is_word_kind(kind: Kind) -> bool
+    ensures { result ≡ is_word_kind kind }
+{
+    matches!(kind, Kind::Word)
 }

@@ -1,11 +1,7 @@
 //! A tokenizer: cuts a text into words, numbers, white space and marks, and interns each.
-ghost use Rattle.std.specs.Prelude.{◌≡◌, ◌++◌, ℕ, List, flat_map, slice_get, Some, IsOk, IfOk, IfErr, OnOk, OnErr};
-ghost use Rattle.std.specs.List.{All};
-ghost use Rattle.compact_uses.specs.Tokens.{kind_of, token_text, IsToken, IsTokenRefusal};
-ghost use Rattle.std.specs.Prelude.{◌+◌, ◌≤◌, [], false, length};
+ghost use Rattle.std.specs.Prelude.{◌≡◌, ◌≢◌, ◌+◌, ◌<◌, ◌≤◌, ◌∷◌, ℕ, List, [], flat_map, length, slice_get, Some, IsOk, IfOk, IfSome, IfErr, OnErr, MatchBool, MatchOption};
 ghost use Rattle.compact_str.specs.Text.{text_of};
-ghost use Rattle.compact_uses.specs.Tokens.{goes_on, last_kind, AreNamesOf, AreNamesOfFront, AreParted, BeginsApart};
-ghost use Rattle.compact_uses.specs.declared.tokenizer.Kind.{Kind};
+ghost use Rattle.compact_uses.specs.Tokens.{kind_of, token_text, IsFirstPiece, IsTokenized, IsPartlyTokenized, IsTokenRefusal};
 ghost use Rattle.compact_uses.specs.declared.tokenizer.Kind.TheVariants.{Mark};
 
 use compact_edit::{InternError, Interner};
@@ -32,6 +28,93 @@ pub struct Token {
     pub name: u32,
 }
 
+/// Cuts a text into tokens. Joined, their texts are the text. None is empty, and each has characters of its kind only.
+/// Each is as long as possible: no token continues the one before it. A mark is one character.
+///
+/// Appends the new texts to the names, by first occurrence, and at most as many as the text has characters. Names keep
+/// their numbers.
+///
+/// # Errors
+///
+/// Returns `Reserve` if allocation fails, and `Full` if all 2^32 - 1 numbers are in use. Only the texts of the first
+/// tokens, up to some position, are added to the names then. Never fails if the text is empty.
+///
+/// # Examples
+///
+/// The tokens of `ab, 12` are the word `ab`, the mark `,`, a space and the number `12`.
+#[tactic(auto, using(crate::proofs::TokenLemmas::token_facts))]
+pub fn tokenize(
+    alloc: Global,
+    names: &mut Interner,
+    text: &CompactString,
+) -> Result<Vec<Token>, InternError>
+    ensures joined { IfOk result (λ tokens.
+        flat_map (token_text names.new) tokens.items ≡ text.now.text) }
+    ensures tokens { IfOk result (λ tokens.
+        IsTokenized names.old names.new tokens.items [] text.now.text) }
+    ensures kept { (n : ℕ) (name : List ℕ)
+        → slice_get names.old n ≡ Some name → slice_get names.new n ≡ Some name }
+    ensures bound { length names.new ≤ length names.old + length text.now.text }
+    ensures empty { text.now.text ≡ [] → IsOk result }
+    ensures front { OnErr result (IsPartlyTokenized names.old names.new text.now.text) }
+    ensures err { IfErr result (IsTokenRefusal names.new) }
+{
+    // For the proof: the names are distinct, even if there is no token.
+    let _distinct = names.len();
+    let mut tokens = Vec::new(alloc);
+    let mut rest = text.as_str();
+    while let Some(piece) = first_piece(rest) {
+        if tokens.reserve(1).is_err() {
+            return Err(InternError::Reserve(ReserveError));
+        }
+        let name = names.intern(piece.text)?;
+        tokens.push_reserved(Token {
+            kind: piece.kind,
+            name,
+        });
+        rest = piece.rest;
+    }
+    Ok(tokens)
+}
+
+/// The start of a text: a piece as long as possible, of one kind, and the rest.
+#[derive(Drop)]
+struct Piece<'a> {
+    kind: Kind,
+    text: &'a str,
+    rest: &'a str,
+}
+
+/// Cuts off the first piece, or returns `None` if the text is empty.
+fn first_piece(text: &str) -> Option<Piece<'_>>
+    ensures first { MatchOption result (text_of text.now ≡ []) (λ piece. IsFirstPiece piece.kind
+        (text_of piece.text.now) (text_of piece.rest.now) (text_of text.now)) }
+    ensures shorter { IfSome result (λ piece.
+        length (text_of piece.rest.now) < length (text_of text.now)) }
+{
+    let (first, mut rest) = first_character(text)?;
+    let kind = kind_of(first);
+    while let Some((next, others)) = first_character(rest)
+        && goes_on(kind, kind_of(next))
+    {
+        rest = others;
+    }
+    let (text, _) = text.split_at(text.len() - rest.len());
+    Some(Piece { kind, text, rest })
+}
+
+/// Returns the first character and the rest, or `None` if the text is empty.
+#[inline]
+#[tactic(auto, using(crate::proofs::PieceLemmas::character_facts))]
+fn first_character(text: &str) -> Option<(char, &str)>
+    ensures { MatchOption result (text_of text.now ≡ [])
+        (λ cut. text_of text.now ≡ cut.0 ∷ text_of cut.1.now) }
+{
+    let mut characters = text.chars();
+    let character = characters.next()?;
+    Some((character, characters.as_str()))
+}
+
 /// Returns the kind of token that a character belongs to.
 fn kind_of(character: char) -> Kind
     ensures { result ≡ kind_of character }
@@ -47,105 +130,10 @@ fn kind_of(character: char) -> Kind
     }
 }
 
-/// Returns `true` if a character of the kind `next` continues a token of the kind `kind`.
+/// Returns `true` if a character of the kind `next` continues a piece of the kind `kind`.
 #[inline]
 fn goes_on(kind: Kind, next: Kind) -> bool
-    ensures { result ≡ goes_on kind next }
+    ensures { MatchBool result ((next ≡ kind) × (kind ≢ Mark)) (next ≡ kind → kind ≡ Mark) }
 {
     kind == next && kind != Kind::Mark
-}
-
-/// Cuts a text into tokens. Joined, their texts are the text. None is empty, and each has characters of its kind only.
-/// Each is as long as possible: no token continues the one before it. A mark is one character.
-///
-/// Appends the new texts to the names, by first occurrence, and at most as many as the text has characters. Names keep
-/// their numbers.
-///
-/// # Errors
-///
-/// Returns `Reserve` if allocation fails, and `Full` if all 2^32 - 1 numbers are in use. Only the texts of the first
-/// tokens, up to some position, are added to the names then. Never fails if the text is empty.
-///
-/// # Examples
-///
-/// The tokens of `ab, 12` are the word `ab`, the mark `,`, a space and the number `12`.
-pub fn tokenize(
-    alloc: Global,
-    names: &mut Interner,
-    text: &CompactString,
-) -> Result<Vec<Token>, InternError>
-    ensures joined { IfOk result (λ tokens.
-        flat_map (token_text names.new) tokens.items ≡ text.now.text) }
-    ensures parted { IfOk result (λ tokens. AreParted tokens.items) }
-    ensures tokens { IfOk result (λ tokens. All (IsToken names.new) tokens.items) }
-    ensures names { IfOk result (λ tokens. AreNamesOf names.old names.new tokens.items) }
-    ensures kept { (n : ℕ) (name : List ℕ)
-        → slice_get names.old n ≡ Some name → slice_get names.new n ≡ Some name }
-    ensures bound { length names.new ≤ length names.old + length text.now.text }
-    ensures empty { text.now.text ≡ [] → IsOk result }
-    ensures front { OnErr result (AreNamesOfFront names.old names.new text.now.text) }
-    ensures err { IfErr result (IsTokenRefusal names.new) }
-{
-    // For the proof: the names are distinct, even if there is no token.
-    let _distinct = names.len();
-    let mut tokens = Vec::new(alloc);
-    let mut rest = text.as_str();
-    let mut len = 0;
-    let mut kind = Kind::Mark;
-    for character in text.as_str().chars() {
-        let next = kind_of(character);
-        if goes_on(kind, next) {
-            len += character.len_utf8();
-            continue;
-        }
-        let (piece, others) = rest.split_at(len);
-        push_token(names, &mut tokens, kind, piece)?;
-        rest = others;
-        len = character.len_utf8();
-        kind = next;
-    }
-    push_token(names, &mut tokens, kind, rest)?;
-    Ok(tokens)
-}
-
-/// Appends a piece to the tokens, unless it is empty.
-fn push_token(
-    names: &mut Interner,
-    tokens: &mut Vec<Token>,
-    kind: Kind,
-    piece: &str,
-) -> Result<(), InternError>
-    requires tokens { All (IsToken names.old) tokens.old.items }
-    requires alike { All (λ c. kind_of c ≡ kind) (text_of piece.now) }
-    requires single { kind ≡ Mark → length (text_of piece.now) ≤ 1 }
-    requires first { text_of piece.now ≡ [] → tokens.old.items ≡ [] }
-    requires parted { AreParted tokens.old.items }
-    requires follows { goes_on (last_kind Mark tokens.old.items) kind ≡ false }
-    ensures joined { OnOk result (flat_map (token_text names.new) tokens.new.items
-        ≡ flat_map (token_text names.old) tokens.old.items ++ text_of piece.now) }
-    ensures parted { OnOk result (AreParted tokens.new.items) }
-    ensures last { OnOk result ((next : Kind)
-        → goes_on kind next ≡ false → goes_on (last_kind Mark tokens.new.items) next ≡ false) }
-    ensures tokens { OnOk result (All (IsToken names.new) tokens.new.items) }
-    ensures names { OnOk result ((before : List (List ℕ))
-        → AreNamesOf before names.old tokens.old.items
-        → AreNamesOf before names.new tokens.new.items) }
-    ensures kept { (n : ℕ) (name : List ℕ)
-        → slice_get names.old n ≡ Some name → slice_get names.new n ≡ Some name }
-    ensures bound { length names.new ≤ length names.old + length (text_of piece.now) }
-    ensures empty { text_of piece.now ≡ [] → IsOk result }
-    ensures front { OnErr result ((before : List (List ℕ)) (others : List ℕ)
-        → AreNamesOf before names.old tokens.old.items → BeginsApart kind others
-        → AreNamesOfFront before names.new
-        (flat_map (token_text names.old) tokens.old.items ++ text_of piece.now ++ others)) }
-    ensures err { IfErr result (IsTokenRefusal names.new) }
-{
-    if piece.is_empty() {
-        return Ok(());
-    }
-    let name = names.intern(piece)?;
-    if tokens.push(Token { kind, name }).is_err() {
-        return Err(InternError::Reserve(ReserveError));
-    }
-    Ok(())
 }

@@ -1,7 +1,6 @@
 -- The report of the most frequent words of a text.
 use Rattle.std.specs.Prelude.{◌≡◌, ◌≤◌, ℕ, List, [], ◌∷◌, ◌++◌, decimal, Option, flat_map, length, map, slice_get, take, ⊤}
 use Rattle.std.specs.Global.{Vec}
-use Rattle.std.specs.List.{All}
 use Rattle.std.specs.Option.{unwrap_or}
 use Rattle.std.specs.Io.KnownBytes.{Appends}
 use Rattle.compact_str.specs.Utf8Text.{utf8_lossy_text}
@@ -10,7 +9,7 @@ use Rattle.compact_str.specs.Value.{PlacedText}
 use Rattle.compact_str.specs.Order.{text_in}
 use Rattle.compact_edit.specs.declared.intern.InternError.{InternError}
 use Rattle.compact_edit.specs.declared.intern.InternError.TheVariants.{Reserve, Full}
-use Rattle.compact_uses.specs.Tokens.{token_text, IsToken, AreNamesOf, AreParted}
+use Rattle.compact_uses.specs.Tokens.{token_text, IsTokenized}
 use Rattle.compact_uses.specs.Columns.{row_text, widths_of}
 use Rattle.compact_uses.specs.declared.tokenizer.Token.{Token}
 use Rattle.compact_uses.specs.declared.entries.Entry.{Entry}
@@ -26,10 +25,8 @@ entry_fields names entry = unwrap_or (slice_get names entry.name) [] ∷ decimal
 pub record IsReport (text : List ℕ) (most : ℕ) (lines : List (List ℕ)) : Type 0 where
   pub names : List (List ℕ)
   pub tokens : List Token
-  pub named : AreNamesOf [] names tokens
+  pub tokenized : IsTokenized [] names tokens [] text
   pub joined : flat_map (token_text names) tokens ≡ text
-  pub alike : All (IsToken names) tokens
-  pub parted : AreParted tokens
   pub ranks : List Entry
   pub ranked : IsRanking (entries_before tokens (length names)) ranks
   pub table : List (Vec PlacedText)
