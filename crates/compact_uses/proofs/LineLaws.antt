@@ -1,11 +1,10 @@
 -- A line reads as the fields written in it, or is broken, in one way only.
-use Rattle.std.proofs.Common.{◌≡◌, ◌≢◌, ◌⊎◌, ℕ, List, [], ◌∷◌, ◌++◌, flat_map, Result, Ok, Err, MatchResult, refl, ap, sym, ◌∙◌, inl, inr, append-nil}
+use Rattle.std.proofs.Common.{◌≡◌, ◌⊎◌, ℕ, suc, List, [], ◌∷◌, ◌++◌, flat_map, Result, Ok, Err, MatchResult, refl, ap, sym, ◌∙◌, inl, inr, arith, append-nil}
+use Rattle.std.specs.List.{All}
 use Rattle.compact_uses.specs.declared.records.read.Fault.{Fault}
 use Rattle.compact_uses.specs.declared.records.read.LineError.{LineError}
 use Rattle.compact_uses.specs.declared.records.read.LineError.TheVariants as error
-use Rattle.compact_uses.specs.Lines.{quote, quoted_field, IsPlain, IsWritten, IsLineOf, IsBroken, ReadsAs, BreaksFor, IsFault, ReadsOrBreaks, QuotedFieldsReadBack, PlainFieldsReadBack}
-use Rattle.std.specs.List.{AllByRecursion}
-use Rattle.std.proofs.lemmas.List.Elements.{recursion_from_All}
+use Rattle.compact_uses.specs.Lines.{quoted_field, IsWritten, IsLineOf, IsBroken, ReadsAs, BreaksFor, IsFault, ReadsOrBreaks, QuotedFieldsReadBack, PlainFieldsReadBack}
 use Rattle.compact_uses.specs.Reading.{Outcome, outcome, IsFailure}
 use Rattle.compact_uses.proofs.LineParts.{IsWhole, parts}
 use Rattle.compact_uses.proofs.LineReading.{fields-read, fault-read}
@@ -61,35 +60,18 @@ reads-or_breaks separator line = by (outcome separator line) (is-outcome separat
 
 -- lines with fields written in one way
 
-prepended : (separator : ℕ) (field form behind : List ℕ) (fields : List (List ℕ)) → IsWritten separator field form → IsLineOf separator behind fields
-    → IsLineOf separator (form ++ separator ∷ behind) (field ∷ fields)
-prepended separator field form behind fields written is =
-    (field ∷ is.0, is.1, is.2, ap (λ x. field ∷ x) is.3, (form, behind, written, refl, is.4), is.5)
-
-written-line : (separator : ℕ) (form_of : List ℕ → List ℕ) (field : List ℕ) (fields : List (List ℕ))
-    → AllByRecursion (λ f. IsWritten separator f (form_of f)) (field ∷ fields)
+written-line : (separator : ℕ) (form_of : List ℕ → List ℕ) (field : List ℕ) (fields : List (List ℕ)) → All (λ f. IsWritten separator f (form_of f)) (field ∷ fields)
     → IsLineOf separator (form_of field ++ flat_map (λ other. separator ∷ form_of other) fields) (field ∷ fields)
-written-line separator form_of field [] written =
-    rw append-nil ([], field, form_of field, refl, refl, written.0)
+written-line separator form_of field [] written = rw append-nil ([], field, form_of field, refl, refl, written 0 field (omega arith))
 written-line separator form_of field (next ∷ fields) written =
-    prepended separator field (form_of field) (form_of next ++ flat_map (λ other. separator ∷ form_of other) fields) (next ∷ fields) written.0
-    (written-line separator form_of next fields written.1)
-
-all-quoted : (separator : ℕ) → separator ≢ quote → (fields : List (List ℕ)) → AllByRecursion (λ f. IsWritten separator f (quoted_field f)) fields
-all-quoted separator apart [] = tt
-all-quoted separator apart (field ∷ fields) = (inr (apart, refl), all-quoted separator apart fields)
-
-all-plain : (separator : ℕ) (fields : List (List ℕ)) → AllByRecursion (IsPlain separator) fields → AllByRecursion (λ f. IsWritten separator f f) fields
-all-plain separator [] plain = tt
-all-plain separator (field ∷ fields) plain = (inl (plain.0, refl), all-plain separator fields plain.1)
+    let rest = written-line separator form_of next fields (λ k d within. written (suc k) d (omega arith)) in
+    (field ∷ rest.0, rest.1, rest.2, ap (λ x. field ∷ x) rest.3, (form_of field, _, written 0 field (omega arith), refl, rest.4), rest.5)
 
 pub reads-back : QuotedFieldsReadBack
 reads-back separator [] apart some = absurd (some refl)
-reads-back separator (field ∷ fields) apart some =
-    reads-as_written separator _ _ (written-line separator quoted_field field fields (all-quoted separator apart (field ∷ fields)))
+reads-back separator (field ∷ fields) apart some = reads-as_written separator _ _ (written-line separator quoted_field field fields (λ k d within. inr (apart, refl)))
 
 pub reads-plain_fields : PlainFieldsReadBack
 reads-plain_fields separator [] some plain = absurd (some refl)
 reads-plain_fields separator (field ∷ fields) some plain =
-    reads-as_written separator _ _
-    (written-line separator (λ f. f) field fields (all-plain separator (field ∷ fields) (recursion_from_All (IsPlain separator) (field ∷ fields) plain)))
+    reads-as_written separator _ _ (written-line separator (λ f. f) field fields (λ k d within. inl (plain k d within, refl)))

@@ -147,21 +147,18 @@ impl Reading {
                     return Err(LineError::Reserve(ReserveError));
                 }
                 self.place = place;
-                return Ok(());
             }
-            Effect::Skip(place) => {
-                self.place = place;
-                return Ok(());
+            Effect::Skip(place) => self.place = place,
+            Effect::End => {
+                let next = CompactString::default(self.field.allocator());
+                let field = mem::replace(&mut self.field, next);
+                if self.done.push(field).is_err() {
+                    return Err(LineError::Reserve(ReserveError));
+                }
+                self.place = Place::Start;
             }
             Effect::Broken => return Err(LineError::Fault(Fault::TextBehindQuote)),
-            Effect::End => {}
         }
-        let next = CompactString::default(self.field.allocator());
-        let field = mem::replace(&mut self.field, next);
-        if self.done.push(field).is_err() {
-            return Err(LineError::Reserve(ReserveError));
-        }
-        self.place = Place::Start;
         Ok(())
     }
 }
