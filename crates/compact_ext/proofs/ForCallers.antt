@@ -1,20 +1,14 @@
 -- For crates that call this one: the text of a value, as characters. Named at the caller beside the facts of
 -- `compact_str`, as `#[tactic(auto, using(compact_str::proofs::ForCallers::for_callers,
 -- compact_ext::proofs::ForCallers::shown_facts))]`.
-use Rattle.std.proofs.Common.{◌≡◌, ℕ, ◌^◌, ◌<◌, List, [], ◌∷◌, ◌++◌, ap, sym, ◌∙◌, append-nil}
+use Rattle.std.proofs.Common.{◌≡◌, ℕ, ◌^◌, ◌<◌, List, ◌++◌, ap, ◌∙◌}
 use lib.IntN.{ℤ}
 use lib.Signed.{mag}
-use Rattle.std.proofs.lemmas.Str.{chars-nil, chars-append, chars-IsAscii, chars_past_char, IsUtf8-encode, IsUtf8-from_ascii}
+use Rattle.std.proofs.lemmas.Str.{chars-append, chars-IsAscii, IsUtf8-from_ascii}
 use Rattle.std.proofs.lemmas.Fmt.{IsAscii-signed}
-use Rattle.std.specs.Char.{IsScalar, encode_utf8}
 use Rattle.std.specs.Fmt.{signed_decimal}
 use Rattle.compact_str.specs.Text.{text_of}
-
-text_of-encoded : (c : ℕ) → IsScalar c → text_of (encode_utf8 c) ≡ c ∷ []
-text_of-encoded c h = chars_past_char (encode_utf8 c) [] c (IsUtf8-encode c h) (sym (append-nil (encode_utf8 c))) ∙ ap (λ t. c ∷ t) chars-nil
-
-pub text_of-char : (c : ℕ) (bytes : List ℕ) → IsScalar c → text_of (encode_utf8 c ++ bytes) ≡ c ∷ text_of bytes
-text_of-char c bytes h = chars-append (encode_utf8 c) bytes (IsUtf8-encode c h) ∙ ap (λ t. t ++ text_of bytes) (text_of-encoded c h)
+pub use Rattle.compact_str.proofs.ForCallers.{text_of-char}
 
 -- the bytes of a signed number decode to themselves
 

@@ -2,9 +2,9 @@
 -- `#[tactic(auto, using(compact_str::proofs::ForCallers::for_callers))]`.
 use Rattle.std.proofs.Common.{◌≡◌, ℕ, Bool, IsTrue, false, nat_eq, ◌+◌, ◌-◌, ◌*◌, ◌^◌, ◌<◌, ◌≤◌, List, [], ◌∷◌, ◌++◌, length, drop, take, refl, ap, sym, subst, ◌∙◌, arith, append_assoc, append-nil}
 pub use Rattle.std.proofs.lemmas.Str.{chars_from_encodes}
-use Rattle.std.proofs.lemmas.Str.{chars-nil, chars-append, chars_past_char, IsUtf8-nil, chars-IsAscii, encodes-chars, encodes-IsAscii, IsUtf8-string_bytes, IsUtf8-append, IsUtf8-drop, IsUtf8-from_ascii, IsUtf8-from_is_utf8, is_utf8-from_IsUtf8}
+use Rattle.std.proofs.lemmas.Str.{chars-nil, chars-append, chars_past_char, IsUtf8-nil, IsUtf8-encode, chars-IsAscii, encodes-append, encodes-chars, encodes-IsAscii, IsUtf8-string_bytes, IsUtf8-append, IsUtf8-drop, IsUtf8-from_ascii, IsUtf8-from_is_utf8, is_utf8-from_IsUtf8}
 use Rattle.std.proofs.lemmas.Bool.Decides.{nat_tests}
-use Rattle.std.specs.Char.{len_utf8, encode_utf8}
+use Rattle.std.specs.Char.{IsScalar, len_utf8, encode_utf8}
 use Rattle.std.specs.Cmp.Lexicographic.{same_text}
 use lib.Pointwise.{pointwise}
 use Rattle.std.proofs.lemmas.Fmt.{IsAscii-decimal, IsAscii-signed}
@@ -149,3 +149,16 @@ pub invalid-is_utf8 : (bytes : List ℕ) → ¬ (IsUtf8 bytes) → is_utf8 bytes
 invalid-is_utf8 bytes none = false_from_ne_true (is_utf8 bytes) (λ t. none (IsUtf8-from_is_utf8 bytes t))
 
 pub ruleset decoding = (utf8_lossy_text-IsUtf8, is_utf8-from_IsUtf8, invalid-is_utf8)
+
+-- for a loop over `chars`, where the invariant says what holds with the characters left, `text_of (chars_rest l.c-iterator)`:
+-- the next one, and the end
+pub text_of-char : (c : ℕ) (bytes : List ℕ) → IsScalar c → text_of (encode_utf8 c ++ bytes) ≡ c ∷ text_of bytes
+text_of-char c bytes is =
+    chars-append (encode_utf8 c) bytes (IsUtf8-encode c is)
+    ∙ ap (λ t. t ++ text_of bytes) (chars_past_char (encode_utf8 c) [] c (IsUtf8-encode c is) (sym (append-nil (encode_utf8 c))) ∙ ap (λ t. c ∷ t) chars-nil)
+
+pub text_of-empty : (bytes : List ℕ) → length bytes ≡ 0 → text_of bytes ≡ []
+text_of-empty [] none = chars-nil
+text_of-empty (b ∷ bytes) none = absurd (omega arith)
+
+pub ruleset characters_left = (text_of-char, text_of-empty, size-append, append-nil, append_assoc)

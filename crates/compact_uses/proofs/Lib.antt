@@ -1,11 +1,9 @@
 pub mod PieceLemmas
 pub mod TokenLemmas
 pub mod RowLemmas
-pub mod FieldParts
 pub mod LineReading
+pub mod LineParts
 pub mod LineLaws
-pub mod LineLemmas
 pub mod LineExamples
 pub mod RecordLemmas
-pub mod ShortLines
 pub mod CountLemmas

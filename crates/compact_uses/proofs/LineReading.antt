@@ -1,114 +1,96 @@
--- Lines as read character by character; each is some fields or broken.
-use Rattle.std.proofs.Common.{◌≡◌, ◌≢◌, ◌⊎◌, ℕ, List, [], ◌∷◌, ◌++◌, refl, ap, sym, ◌∙◌, inl, inr, append_assoc, append-nil}
+-- The reader's result on a line of fields as written, and on a broken one.
+use Rattle.std.proofs.Common.{◌≡◌, ◌≢◌, ◌⊎◌, ℕ, true, false, List, [], ◌∷◌, ◌++◌, Result, Ok, Err, Option, None, Some, nat_eq, refl, ap, sym, ◌∙◌, inl, inr, append_assoc, append-nil}
+use Rattle.std.proofs.lemmas.Bool.{ne_eqb, eq-eqb}
+use Rattle.std.proofs.lemmas.Bool.Decides.{eqb_tells}
+use Rattle.std.specs.List.{AllByRecursion}
+use Rattle.std.proofs.lemmas.List.Elements.{recursion_from_All}
 use Rattle.compact_uses.specs.declared.records.read.Fault.{Fault}
 use Rattle.compact_uses.specs.declared.records.read.Fault.TheVariants.{OpenQuote, TextBehindQuote}
-use Rattle.compact_uses.specs.declared.records.read.Place.{Place}
 use Rattle.compact_uses.specs.declared.records.read.Place.TheVariants.{Start, Plain, Quoted, Behind}
-use Rattle.compact_uses.specs.declared.records.read.Effect.{Effect}
-use Rattle.compact_uses.specs.declared.records.read.Effect.TheVariants.{Keep, Skip, End, Broken}
-use Rattle.compact_uses.specs.Lines.{quote, IsWritten, BeginsWith, IsLineOf, IsBroken}
-use Rattle.compact_uses.specs.Reading.{IsPartOf, HasEffect}
-use Rattle.compact_uses.proofs.FieldParts.{plain-none, effect, effect-is}
+use Rattle.compact_uses.specs.Lines.{quote, escaped_text, quoted_field, IsPlain, IsWritten, BeginsWith, IsLineOf, IsBrokenField, IsBroken}
+use Rattle.compact_uses.specs.Reading.{outcome, outcome_from}
 
--- these characters of a line were read, with these whole fields
-abbrev pub Stands : ℕ → List ℕ → List (List ℕ) → Place → List ℕ → Type 0
-Stands separator front done place field = (part : List ℕ) × BeginsWith separator front done part × IsPartOf separator place field part
+-- the rest of a line after a field: nothing, or a separator and more
+abbrev pub rest_after : ℕ → Option (List ℕ) → List ℕ
+rest_after separator None = []
+rest_after separator (Some more) = separator ∷ more
+
+-- the result after these fields
+abbrev fields_then : ℕ → List (List ℕ) → Option (List ℕ) → Result (List (List ℕ)) Fault
+fields_then separator done None = Ok done
+fields_then separator done (Some more) = outcome_from separator Start done [] more
+
+-- the test of two characters
+abbrev pub IsTested : ℕ → ℕ → Type 0
+IsTested c d = ((nat_eq c d ≡ true) × (c ≡ d)) ⊎ ((nat_eq c d ≡ false) × (c ≢ d))
 
 module _ (separator : ℕ) where
-  begins-more : (line : List ℕ) (fields : List (List ℕ)) (rest more : List ℕ) → BeginsWith separator line fields rest
-      → BeginsWith separator (line ++ more) fields (rest ++ more)
-  begins-more line [] rest more begins = ap (λ t. t ++ more) begins
-  begins-more line (field ∷ fields) rest more begins = (
-    begins.0,
-    begins.1 ++ more,
-    begins.2,
-    ap (λ t. t ++ more) begins.3 ∙ append_assoc begins.0 (separator ∷ begins.1) more,
-    begins-more begins.1 fields rest more begins.4,
-  )
+  plain-part : (done : List (List ℕ)) (front field rest : List ℕ) → AllByRecursion (λ c. c ≢ separator) field
+      → outcome_from separator Plain done front (field ++ rest) ≡ outcome_from separator Plain done (front ++ field) rest
+  plain-part done front [] rest inside = rw append-nil refl
+  plain-part done front (c ∷ field) rest inside =
+      rw (ne_eqb c separator inside.0) (plain-part done (front ++ c ∷ []) field rest inside.1 ∙ rw append_assoc refl)
 
-  begins-end : (line : List ℕ) (fields : List (List ℕ)) (field form : List ℕ) → BeginsWith separator line fields form → IsWritten separator field form
-      → BeginsWith separator (line ++ separator ∷ []) (fields ++ field ∷ []) []
-  begins-end line [] field form begins written = (form, [], written, ap (λ t. t ++ separator ∷ []) begins, refl)
-  begins-end line (first ∷ fields) field form begins written = (
-    begins.0,
-    begins.1 ++ separator ∷ [],
-    begins.2,
-    ap (λ t. t ++ separator ∷ []) begins.3 ∙ append_assoc begins.0 (separator ∷ begins.1) (separator ∷ []),
-    begins-end begins.1 fields field form begins.4 written,
-  )
+  quoted-part : (done : List (List ℕ)) (front text rest : List ℕ)
+      → outcome_from separator Quoted done front (escaped_text text ++ rest) ≡ outcome_from separator Quoted done (front ++ text) rest
+  quoted-part done front [] rest = rw append-nil refl
+  quoted-part done front (c ∷ text) rest = by (eqb_tells c quote) (λ d. quoted-part done (front ++ d ∷ []) text rest)
+    where
+      by : IsTested c quote
+          → ((d : ℕ) → outcome_from separator Quoted done (front ++ d ∷ []) (escaped_text text ++ rest) ≡ outcome_from separator Quoted done ((front ++ d ∷ []) ++ text) rest)
+          → outcome_from separator Quoted done front (escaped_text (c ∷ text) ++ rest) ≡ outcome_from separator Quoted done (front ++ c ∷ text) rest
+      by (inl is) again = rw is.0 (again quote ∙ rw (append_assoc, is.1) refl)
+      by (inr other) again = rw (other.0, other.0) (again c ∙ rw append_assoc refl)
 
-  -- one more character, by its effect
+  open-quote : separator ≢ quote → (done : List (List ℕ)) (text rest : List ℕ)
+      → outcome_from separator Start done [] (quote ∷ (escaped_text text ++ rest)) ≡ outcome_from separator Quoted done text rest
+  open-quote apart done text rest = rw (ne_eqb quote separator (λ same. apart (sym same))) (quoted-part done [] text rest)
 
-  pub kept-on : (front : List ℕ) (done : List (List ℕ)) (place next : Place) (field : List ℕ) (c : ℕ) → HasEffect separator place c (Keep next)
-      → Stands separator front done place field → Stands separator (front ++ c ∷ []) done next (field ++ c ∷ [])
-  kept-on front done place next field c does stands =
-      (stands.0 ++ c ∷ [], begins-more front done stands.0 (c ∷ []) stands.1, does field stands.0 stands.2)
+  closed-quote : separator ≢ quote → (done : List (List ℕ)) (text rest : List ℕ)
+      → outcome_from separator Start done [] (quoted_field text ++ rest) ≡ outcome_from separator Behind done text rest
+  closed-quote apart done text rest = rw (append_assoc (escaped_text text) (quote ∷ []) rest) (open-quote apart done text (quote ∷ rest))
 
-  pub passed-over : (front : List ℕ) (done : List (List ℕ)) (place next : Place) (field : List ℕ) (c : ℕ) → HasEffect separator place c (Skip next)
-      → Stands separator front done place field → Stands separator (front ++ c ∷ []) done next field
-  passed-over front done place next field c does stands =
-      (stands.0 ++ c ∷ [], begins-more front done stands.0 (c ∷ []) stands.1, does field stands.0 stands.2)
+  quoted-end : separator ≢ quote → (done : List (List ℕ)) (field : List ℕ) (rest : Option (List ℕ))
+      → outcome_from separator Behind done field (rest_after separator rest) ≡ fields_then separator (done ++ field ∷ []) rest
+  quoted-end apart done field None = refl
+  quoted-end apart done field (Some more) = rw (ne_eqb separator quote apart, eq-eqb separator separator refl) refl
 
-  pub ended : (front : List ℕ) (done : List (List ℕ)) (place : Place) (field : List ℕ) (c : ℕ) → HasEffect separator place c End
-      → Stands separator front done place field → Stands separator (front ++ c ∷ []) (done ++ field ∷ []) Start []
-  ended front done place field c does stands =
-      ([], rw does.0 (begins-end front done field stands.0 stands.1 (does.1 field stands.0 stands.2)), (refl, refl))
+  plain-end : (done : List (List ℕ)) (field : List ℕ) (rest : Option (List ℕ))
+      → outcome_from separator Plain done field (rest_after separator rest) ≡ fields_then separator (done ++ field ∷ []) rest
+  plain-end done field None = refl
+  plain-end done field (Some more) = rw (eq-eqb separator separator refl) refl
 
-  pub broken-behind : (front : List ℕ) (done : List (List ℕ)) (place : Place) (field : List ℕ) (c : ℕ) (rest : List ℕ) → place ≡ Behind → c ≢ quote → c ≢ separator
-      → Stands separator front done place field → IsBroken separator (front ++ c ∷ rest) TextBehindQuote
-  broken-behind front done place field c rest is other apart stands =
-      let at = rw is at stands.2 in (
-        at.0,
-        done,
-        stands.0 ++ c ∷ rest,
-        begins-more front done stands.0 (c ∷ rest) stands.1,
-        (field, c, rest, ap (λ t. t ++ c ∷ rest) at.1, other, apart),
-      )
+  plain-field : (done : List (List ℕ)) (field : List ℕ) (rest : Option (List ℕ)) → IsPlain separator field
+      → outcome_from separator Start done [] (field ++ rest_after separator rest) ≡ fields_then separator (done ++ field ∷ []) rest
+  plain-field done [] None plain = refl
+  plain-field done [] (Some more) plain = rw (eq-eqb separator separator refl) refl
+  plain-field done (c ∷ field) rest plain =
+      let inside = recursion_from_All (λ x. x ≢ separator) (c ∷ field) plain.inside in
+      rw (ne_eqb c separator inside.0, ne_eqb c quote (λ same. plain.front (ap Some same)))
+      (plain-part done (c ∷ []) field (rest_after separator rest) inside.1 ∙ plain-end done (c ∷ field) rest)
 
-  -- the end of the line
+  written-field : (done : List (List ℕ)) (field form : List ℕ) (rest : Option (List ℕ)) → IsWritten separator field form
+      → outcome_from separator Start done [] (form ++ rest_after separator rest) ≡ fields_then separator (done ++ field ∷ []) rest
+  written-field done field form rest (inl plain) = rw plain.1 (plain-field done field rest plain.0)
+  written-field done field form rest (inr quoted) =
+      rw quoted.1 (closed-quote quoted.0 done field (rest_after separator rest) ∙ quoted-end quoted.0 done field rest)
 
-  written-at : (place : Place) (field part : List ℕ) → place ≢ Quoted → IsPartOf separator place field part → IsWritten separator field part
-  written-at Start field part closed at = inl (rw at.0 (plain-none separator), at.1 ∙ sym at.0)
-  written-at Plain field part closed at = inl (at.0, at.2)
-  written-at Quoted field part closed at = absurd (closed refl)
-  written-at Behind field part closed at = inr (at.0, at.1)
+  first-fields : (done : List (List ℕ)) (line : List ℕ) (fields : List (List ℕ)) (rest : List ℕ) → BeginsWith separator line fields rest
+      → outcome_from separator Start done [] line ≡ outcome_from separator Start (done ++ fields) [] rest
+  first-fields done line [] rest begins = rw (begins, append-nil) refl
+  first-fields done line (field ∷ fields) rest begins =
+      rw (begins.3, written-field done field begins.0 (Some begins.1) begins.2)
+      (first-fields (done ++ field ∷ []) begins.1 fields rest begins.4 ∙ rw append_assoc refl)
 
-  pub whole-line : (line : List ℕ) (done : List (List ℕ)) (place : Place) (field : List ℕ) → place ≢ Quoted → Stands separator line done place field
-      → IsLineOf separator line (done ++ field ∷ [])
-  whole-line line done place field closed stands =
-      (done, field, stands.0, refl, stands.1, written-at place field stands.0 closed stands.2)
+  pub fields-read : (line : List ℕ) (fields : List (List ℕ)) → IsLineOf separator line fields → outcome separator line ≡ Ok fields
+  fields-read line fields is =
+      first-fields [] line is.0 is.2 is.4 ∙ rw (append-nil, sym is.3) at (written-field is.0 is.1 is.2 None is.5)
 
-  pub open-line : (line : List ℕ) (done : List (List ℕ)) (place : Place) (field : List ℕ) → place ≡ Quoted → Stands separator line done place field
-      → IsBroken separator line OpenQuote
-  open-line line done place field is stands =
-      let at = rw is at stands.2 in
-      (at.0, done, stands.0, stands.1, (field, at.1))
+  broken-field : separator ≢ quote → (done : List (List ℕ)) (rest : List ℕ) (fault : Fault) → IsBrokenField separator rest fault
+      → outcome_from separator Start done [] rest ≡ Err fault
+  broken-field apart done rest OpenQuote (text, is) = rw (is, sym (append-nil (escaped_text text))) (open-quote apart done text [])
+  broken-field apart done rest TextBehindQuote (text, c, more, is, other, no_end) =
+      rw is (closed-quote apart done text (c ∷ more) ∙ rw (ne_eqb c quote other, ne_eqb c separator no_end) refl)
 
-abbrev Outcome : ℕ → List ℕ → Type 0
-Outcome separator line = ((fields : List (List ℕ)) × IsLineOf separator line fields) ⊎ ((fault : Fault) × IsBroken separator line fault)
-
-outcome-at : (separator : ℕ) (place : Place) (front : List ℕ) (done : List (List ℕ)) (field : List ℕ) → Stands separator front done place field → Outcome separator front
-outcome-at separator Quoted front done field stands = inr (OpenQuote, open-line separator front done Quoted field refl stands)
-outcome-at separator Start front done field stands = inl (done ++ field ∷ [], whole-line separator front done Start field (λ is. (cc)) stands)
-outcome-at separator Plain front done field stands = inl (done ++ field ∷ [], whole-line separator front done Plain field (λ is. (cc)) stands)
-outcome-at separator Behind front done field stands = inl (done ++ field ∷ [], whole-line separator front done Behind field (λ is. (cc)) stands)
-
-outcome-from : (separator : ℕ) (rest front : List ℕ) (done : List (List ℕ)) (place : Place) (field : List ℕ) → Stands separator front done place field
-    → Outcome separator (front ++ rest)
-outcome-from separator [] front done place field stands = rw append-nil (outcome-at separator place front done field stands)
-outcome-from separator (c ∷ cs) front done place field stands =
-    by (effect separator place c) (effect-is separator place c) (λ next. outcome-from separator cs (front ++ c ∷ []) next)
-  where
-    by : (does : Effect) → HasEffect separator place c does
-        → ((now : List (List ℕ)) (at : Place) (so_far : List ℕ) → Stands separator (front ++ c ∷ []) now at so_far → Outcome separator ((front ++ c ∷ []) ++ cs))
-        → Outcome separator (front ++ c ∷ cs)
-    by (Keep next) does again = rw append_assoc at (again done next (field ++ c ∷ []) (kept-on separator front done place next field c does stands))
-    by (Skip next) does again = rw append_assoc at (again done next field (passed-over separator front done place next field c does stands))
-    by End does again = rw append_assoc at (again (done ++ field ∷ []) Start [] (ended separator front done place field c does stands))
-    by Broken does again = inr (TextBehindQuote, broken-behind separator front done place field c cs does.0 does.1 does.2 stands)
-
-pub nothing-read : (separator : ℕ) → Stands separator [] [] Start []
-nothing-read separator = ([], refl, (refl, refl))
-
-pub some-outcome : (separator : ℕ) (line : List ℕ) → Outcome separator line
-some-outcome separator line = outcome-from separator line [] [] Start [] (nothing-read separator)
+  pub fault-read : (line : List ℕ) (fault : Fault) → IsBroken separator line fault → outcome separator line ≡ Err fault
+  fault-read line fault is = first-fields [] line is.1 is.2 is.3 ∙ broken-field is.0 is.1 is.2 fault is.4

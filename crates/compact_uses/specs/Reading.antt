@@ -1,8 +1,9 @@
--- The state of a line's reader, and the effect of a character.
-use Rattle.std.specs.Prelude.{◌≡◌, ◌≢◌, ◌<◌, ℕ, List, [], ◌∷◌, ◌++◌, length, map, ⊤}
+-- The reader of a line, one character at a time.
+use Rattle.std.specs.Prelude.{◌≡◌, ℕ, List, [], ◌∷◌, ◌++◌, if◌then◌else◌, nat_eq, map, Result, Ok, Err, ⊤}
 use Rattle.compact_str.specs.Order.{text_in}
-use Rattle.compact_uses.specs.Lines.{quote, escaped_text, quoted_field, IsPlain, IsWritten, BeginsWith}
-use Rattle.compact_uses.specs.declared.records.read.Fault.TheVariants.{TextBehindQuote}
+use Rattle.compact_uses.specs.Lines.{quote}
+use Rattle.compact_uses.specs.declared.records.read.Fault.{Fault}
+use Rattle.compact_uses.specs.declared.records.read.Fault.TheVariants.{OpenQuote, TextBehindQuote}
 use Rattle.compact_uses.specs.declared.records.read.LineError.{LineError}
 use Rattle.compact_uses.specs.declared.records.read.LineError.TheVariants as error
 use Rattle.compact_uses.specs.declared.records.read.Place.{Place}
@@ -11,35 +12,47 @@ use Rattle.compact_uses.specs.declared.records.read.Effect.{Effect}
 use Rattle.compact_uses.specs.declared.records.read.Effect.TheVariants.{Keep, Skip, End, Broken}
 use Rattle.compact_uses.specs.declared.records.read.Reading.{Reading}
 
--- in this state, these characters are the field so far
-abbrev pub IsPartOf : ℕ → Place → List ℕ → List ℕ → Type 0
-IsPartOf separator Start field part = (field ≡ []) × (part ≡ [])
-IsPartOf separator Plain field part = IsPlain separator field × (0 < length field) × (part ≡ field)
-IsPartOf separator Quoted field part = (separator ≢ quote) × (part ≡ quote ∷ escaped_text field)
-IsPartOf separator Behind field part = (separator ≢ quote) × (part ≡ quoted_field field)
+abbrev pub effect_of : ℕ → Place → ℕ → Effect
+effect_of separator Start c = if nat_eq c separator then End else if nat_eq c quote then Skip Quoted else Keep Plain
+effect_of separator Plain c = if nat_eq c separator then End else Keep Plain
+effect_of separator Quoted c = if nat_eq c quote then Skip Behind else Keep Quoted
+effect_of separator Behind c = if nat_eq c quote then Keep Quoted else if nat_eq c separator then End else Broken
 
--- after the characters of such a field, the character has this effect
-abbrev pub HasEffect : ℕ → Place → ℕ → Effect → Type 0
-HasEffect separator place c (Keep next) =
-    (field part : List ℕ) → IsPartOf separator place field part → IsPartOf separator next (field ++ c ∷ []) (part ++ c ∷ [])
-HasEffect separator place c (Skip next) =
-    (field part : List ℕ) → IsPartOf separator place field part → IsPartOf separator next field (part ++ c ∷ [])
-HasEffect separator place c End =
-    (c ≡ separator) × ((field part : List ℕ) → IsPartOf separator place field part → IsWritten separator field part)
-HasEffect separator place c Broken = (place ≡ Behind) × (c ≢ quote) × (c ≢ separator)
+-- the result of reading a line
+abbrev pub Outcome : Type 0
+Outcome = Result (List (List ℕ)) Fault
 
--- these characters were read: whole fields, each followed by a separator, and the next one so far
-abbrev pub HasRead : ℕ → List ℕ → Reading → Type 0
-HasRead separator front reading =
-    (part : List ℕ) × BeginsWith separator front (map text_in reading.done.items) part
-    × IsPartOf separator reading.place reading.field.text part
+-- at its end, from the state, the whole fields and the last one
+abbrev pub outcome_at_end : Place → List (List ℕ) → List ℕ → Outcome
+outcome_at_end Start done field = Ok (done ++ field ∷ [])
+outcome_at_end Plain done field = Ok (done ++ field ∷ [])
+outcome_at_end Quoted done field = Err OpenQuote
+outcome_at_end Behind done field = Ok (done ++ field ∷ [])
 
--- the reader has read one more character
+-- after a character, from its effect and what the rest gives
+abbrev pub outcome_after : Effect → ℕ → List (List ℕ) → List ℕ → (Place → List (List ℕ) → List ℕ → Outcome) → Outcome
+outcome_after (Keep place) c done field rest = rest place done (field ++ c ∷ [])
+outcome_after (Skip place) c done field rest = rest place done field
+outcome_after End c done field rest = rest Start (done ++ field ∷ []) []
+outcome_after Broken c done field rest = Err TextBehindQuote
+
+-- of the rest of a line, after whole fields and a part of one
+abbrev pub outcome_from : ℕ → Place → List (List ℕ) → List ℕ → List ℕ → Outcome
+outcome_from separator place done field [] = outcome_at_end place done field
+outcome_from separator place done field (c ∷ cs) =
+    outcome_after (effect_of separator place c) c done field (λ next now so_far. outcome_from separator next now so_far cs)
+
+abbrev pub outcome : ℕ → List ℕ → Outcome
+outcome separator line = outcome_from separator Start [] [] line
+
+abbrev pub rest_outcome : ℕ → Reading → List ℕ → Outcome
+rest_outcome separator reading rest = outcome_from separator reading.place (map text_in reading.done.items) reading.field.text rest
+
+-- the reader has read the next character
 abbrev pub ReadsOn : ℕ → ℕ → Reading → Reading → Type 0
-ReadsOn separator c old new = (front : List ℕ) → HasRead separator front old → HasRead separator (front ++ c ∷ []) new
+ReadsOn separator c old new = (rest : List ℕ) → rest_outcome separator old (c ∷ rest) ≡ rest_outcome separator new rest
 
--- allocation failed, or the character, neither quote nor separator, follows a quoted field
-abbrev pub IsStop : ℕ → ℕ → Reading → LineError → Type 0
-IsStop separator c reading (error.Reserve e) = ⊤
-IsStop separator c reading (error.Fault fault) =
-    (fault ≡ TextBehindQuote) × (reading.place ≡ Behind) × (c ≢ quote) × (c ≢ separator)
+-- allocation failed, or this is the outcome
+abbrev pub IsFailure : Outcome → LineError → Type 0
+IsFailure outcome (error.Reserve e) = ⊤
+IsFailure outcome (error.Fault fault) = outcome ≡ Err fault

@@ -10,7 +10,7 @@ ghost use Rattle.compact_uses.specs.RecordLines.{IsRecordOf, IsCauseAt, IsLineAf
 mod read;
 mod write;
 
-use compact_str::CompactString;
+use compact_str::{CompactString, FromUtf8Error};
 pub use read::{
     Fault, LineError, each_line_reads_or_breaks, fields_of, fields_read_as_written,
     plain_fields_read_as_themselves,
@@ -130,11 +130,10 @@ fn take_line(
     ensures err { OnErr result (records.new.items ≡ records.old.items) }
     ensures cause { IfErr result (IsCauseAt separator bytes.now) }
 {
-    let Ok(text) = std::str::from_utf8(bytes) else {
-        return Err(RecordsCause::Utf8);
-    };
-    let Ok(line) = CompactString::new(alloc, text) else {
-        return Err(RecordsCause::Reserve);
+    let line = match CompactString::from_utf8(alloc, bytes) {
+        Ok(line) => line,
+        Err(FromUtf8Error::Utf8 { .. }) => return Err(RecordsCause::Utf8),
+        Err(FromUtf8Error::Reserve(_)) => return Err(RecordsCause::Reserve),
     };
     let fields = match fields_of(alloc, separator, &line) {
         Ok(fields) => fields,

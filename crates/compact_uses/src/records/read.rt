@@ -1,8 +1,8 @@
 //! Reading the fields of a line.
-ghost use Rattle.std.specs.Prelude.{map, IfOk, IfErr, OnOk};
+ghost use Rattle.std.specs.Prelude.{◌≡◌, ◌∷◌, ℕ, List, map, IfOk, IfErr, OnOk};
 ghost use Rattle.compact_str.specs.Order.{text_in};
 ghost use Rattle.compact_uses.specs.Lines.{ReadsAs, IsFault, ReadsAsWritten, ReadsOrBreaks, PlainFieldsReadBack};
-ghost use Rattle.compact_uses.specs.Reading.{HasEffect, ReadsOn, IsStop};
+ghost use Rattle.compact_uses.specs.Reading.{effect_of, rest_outcome, ReadsOn, IsFailure};
 
 use compact_str::{CompactString, ReserveError};
 use std::alloc::Global;
@@ -54,7 +54,7 @@ enum Effect {
 
 /// Returns the effect of a character in a state.
 fn effect_of(separator: char, place: Place, character: char) -> Effect
-    ensures { HasEffect separator place character result }
+    ensures { result ≡ effect_of separator place character }
 {
     match place {
         Place::Quoted if character == '"' => Effect::Skip(Place::Behind),
@@ -85,6 +85,7 @@ struct Reading {
 /// # Examples
 ///
 /// With the separator `,` the line `a,"b,""c"` has the fields `a` and `b,"c`.
+#[tactic(auto, using(compact_str::proofs::ForCallers::characters_left))]
 pub fn fields_of(
     alloc: Global,
     separator: char,
@@ -137,7 +138,8 @@ impl Reading {
     /// Reads one character.
     fn take(&mut self, separator: char, character: char) -> Result<(), LineError>
         ensures ok { OnOk result (ReadsOn separator character self.old self.new) }
-        ensures err { IfErr result (IsStop separator character self.old) }
+        ensures err { IfErr result (λ error. (rest : List ℕ)
+            → IsFailure (rest_outcome separator self.old (character ∷ rest)) error) }
     {
         match effect_of(separator, self.place, character) {
             Effect::Keep(place) => {
@@ -145,21 +147,18 @@ impl Reading {
                     return Err(LineError::Reserve(ReserveError));
                 }
                 self.place = place;
-                return Ok(());
             }
-            Effect::Skip(place) => {
-                self.place = place;
-                return Ok(());
+            Effect::Skip(place) => self.place = place,
+            Effect::End => {
+                let next = CompactString::default(self.field.allocator());
+                let field = mem::replace(&mut self.field, next);
+                if self.done.push(field).is_err() {
+                    return Err(LineError::Reserve(ReserveError));
+                }
+                self.place = Place::Start;
             }
             Effect::Broken => return Err(LineError::Fault(Fault::TextBehindQuote)),
-            Effect::End => {}
         }
-        let next = CompactString::default(self.field.allocator());
-        let field = mem::replace(&mut self.field, next);
-        if self.done.push(field).is_err() {
-            return Err(LineError::Reserve(ReserveError));
-        }
-        self.place = Place::Start;
         Ok(())
     }
 }

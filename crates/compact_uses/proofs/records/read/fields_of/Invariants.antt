@@ -1,10 +1,9 @@
-use Rattle.compact_uses.specs.Reading.{HasRead}
+use Rattle.std.proofs.Common.{◌≡◌}
+use Rattle.std.specs.Str.Iter.{chars_rest}
+use Rattle.compact_str.specs.Text.{text_of}
+use Rattle.compact_uses.specs.Reading.{outcome, rest_outcome}
 use Rattle.compact_uses.proofs.records.read.fields_of.Given as goal
 
--- what the iterator has given was read
+-- the rest gives what the line gives
 abbrev pub invariant-loop-character : goal.invariant-loop-character
-invariant-loop-character l = record {
-  can : (goal.iterator-loop-character).can_next l.character-iterator;
-  finite : (goal.iterator-loop-character).is_finite l.character-iterator;
-  reads : HasRead l.separator l.yielded l.reading;
-}
+invariant-loop-character l = rest_outcome l.separator l.reading (text_of (chars_rest l.character-iterator)) ≡ outcome l.separator l.line.text
