@@ -22,7 +22,7 @@ use Rattle.compact_repr.specs.Packed.{IsPackedFor}
 use Rattle.compact_repr.specs.Value.{PlacedText}
 use Rattle.compact_repr.specs.Capacity.{Growth}
 use Rattle.compact_str.specs.Edits.{Writes}
-pub use Rattle.compact_text.proofs.Texts.{length-utf8, utf8-text_of, size-text_of, size-append, empty_text}
+pub use Rattle.compact_text.proofs.Texts.{length-utf8, utf8-text_of, size-text_of, size-append, empty_text, text_of-empty}
 pub use Rattle.compact_repr.proofs.Changes.{push_str-text}
 pub use Rattle.compact_text.proofs.Cuts.{text_before-text_after, text_before-append, text_after-append, boundary-text, text_of-take, text_of-drop, boundary-within, size-text_before, size-text_after}
 pub use Rattle.compact_repr.proofs.PackedTexts.{one_text}
@@ -156,9 +156,5 @@ pub text_of-char : (c : ℕ) (bytes : List ℕ) → IsScalar c → text_of (enco
 text_of-char c bytes is =
     chars-append (encode_utf8 c) bytes (IsUtf8-encode c is)
     ∙ ap (λ t. t ++ text_of bytes) (chars_past_char (encode_utf8 c) [] c (IsUtf8-encode c is) (sym (append-nil (encode_utf8 c))) ∙ ap (λ t. c ∷ t) chars-nil)
-
-pub text_of-empty : (bytes : List ℕ) → length bytes ≡ 0 → text_of bytes ≡ []
-text_of-empty [] none = chars-nil
-text_of-empty (b ∷ bytes) none = absurd (omega arith)
 
 pub ruleset characters_left = (text_of-char, text_of-empty, size-append, append-nil, append_assoc)

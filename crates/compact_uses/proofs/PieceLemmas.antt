@@ -1,21 +1,17 @@
 -- Pieces of a text.
 use Rattle.std.proofs.Common.{◌≡◌, ◌≢◌, ◌-◌, ◌<◌, ◌≤◌, ◌++◌, ◌∷◌, [], ℕ, List, length, take, ap, sym, ◌∙◌, arith, refl, append_assoc, length-append}
-use Rattle.std.proofs.lemmas.List.{nil_from_length}
 use Rattle.std.proofs.lemmas.List.Elements.{All-push, All-nil}
-use Rattle.std.proofs.lemmas.Str.{chars_past_char, chars-nil}
+use Rattle.std.proofs.lemmas.Str.{chars_past_char}
 use Rattle.std.specs.Str.{IsUtf8, IsCharBoundary}
 use Rattle.compact_str.specs.Text.{size, text_of}
 use Rattle.compact_str.specs.Cut.{IsCut, text_before}
-use Rattle.compact_str.proofs.ForCallers.{size-text_of, size-append, text_of-take, text_before-append}
+use Rattle.compact_str.proofs.ForCallers.{size-text_of, size-append, text_of-take, text_of-empty, text_before-append}
 use Rattle.compact_str.proofs.TextBytes.{boundary-bytes}
 use Rattle.compact_uses.specs.declared.tokenizer.Kind.{Kind}
 use Rattle.compact_uses.specs.declared.tokenizer.Kind.TheVariants.{Mark}
 use Rattle.compact_uses.specs.Tokens.{IsPiece, kind_of}
 
-pub text_of-empty : (bytes : List ℕ) → length bytes ≡ 0 → text_of bytes ≡ []
-text_of-empty bytes e = ap text_of (nil_from_length bytes e) ∙ chars-nil
-
-pub ruleset character_facts = (chars_past_char, text_of-empty)
+pub ruleset piece_facts = (chars_past_char, text_of-empty)
 
 -- what is before the rest is a piece
 pub record Begun (kind : Kind) (rest text : List ℕ) : Type 0 where

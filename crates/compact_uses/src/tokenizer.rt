@@ -105,7 +105,7 @@ fn first_piece(text: &str) -> Option<Piece<'_>>
 
 /// Returns the first character and the rest, or `None` if the text is empty.
 #[inline]
-#[tactic(auto, using(crate::proofs::PieceLemmas::character_facts))]
+#[tactic(auto, using(crate::proofs::PieceLemmas::piece_facts))]
 fn first_character(text: &str) -> Option<(char, &str)>
     ensures { MatchOption result (text_of text.now ≡ [])
         (λ cut. text_of text.now ≡ cut.0 ∷ text_of cut.1.now) }
