@@ -1,12 +1,12 @@
 -- Parts of a text, and their removal.
-use Rattle.std.proofs.Common.{◌≡◌, Some, ℕ, ◌+◌, ◌-◌, ◌*◌, ◌%◌, ◌^◌, ◌<◌, ◌≤◌, List, [], ◌∷◌, ◌++◌, Bool, true, false, not, IsTrue, ◌&&◌, length, refl, ap, sym, ◌∙◌, subst, rules, arith, append_assoc, append-nil, length-append, inl, inr, ⊎_elim}
+use Rattle.std.proofs.Common.{◌≡◌, Some, ℕ, ◌+◌, ◌-◌, ◌*◌, ◌<◌, ◌≤◌, List, [], ◌∷◌, ◌++◌, Bool, true, false, not, IsTrue, ◌&&◌, length, refl, ap, sym, ◌∙◌, subst, arith, append_assoc, append-nil, length-append, inl, inr, ⊎_elim}
 use lib.ListN.{get_or}
 use Rattle.std.proofs.lemmas.Grind.{common_steps}
 use Rattle.std.proofs.lemmas.Bool.{cases_Bool, cases_lt, cond-true, cond-false, true≢false, le-leb, leb-true, eq-eqb, eqb-true, and_parts, and_from}
 use Rattle.std.proofs.lemmas.Str.{len_utf8_bounds, chars-IsAscii}
 use Rattle.std.specs.Bool.{MatchBool}
 use Rattle.std.specs.Str.{IsUtf8, IsAscii, IsNotAscii}
-use Rattle.std.specs.Char.{len_utf8, InScalarRange}
+use Rattle.std.specs.Char.{len_utf8}
 use Rattle.compact_text.proofs.TextFacts.{text_facts}
 use Rattle.compact_repr.specs.Text.{size, text_of}
 use Rattle.compact_repr.specs.Cut.{IsBoundary, text_before, text_after, substring, replaced_text, is_boundary}
@@ -118,30 +118,11 @@ front-range t r front back c e =
     of-range t (text_before t front ++ c ∷ []) r (text_after t back) (front + len_utf8 c) back parts first (omega (arith, first, three.1, three.2))
 
 -- both, by the end of the first character
-front-taken : (t r : List ℕ) (front back c behind : ℕ) → range_text t front back ≡ c ∷ r → behind ≡ front + len_utf8 c
+pub front-taken : (t r : List ℕ) (front back c behind : ℕ) → range_text t front back ≡ c ∷ r → behind ≡ front + len_utf8 c
     → (range_text t behind back ≡ r) × (behind ≤ back) × (is_range t behind back ≡ true)
 front-taken t r front back c behind e is =
     let taken = part-front t r front back c e in
     rw is (taken.0, taken.1, front-range t r front back c e)
-
--- that character is one byte
-pub byte-taken : (t s : List ℕ) (front back c : ℕ) → s ≡ range_text t front back → (first : (len_utf8 c ≡ 1) × ((r : List ℕ) × (s ≡ c ∷ r)))
-    → (range_text t front back ≡ c ∷ first.1.0) × (range_text t (front + 1) back ≡ first.1.0) × (front + 1 ≤ back) × (is_range t (front + 1) back ≡ true)
-byte-taken t s front back c is first =
-    let split = sym is ∙ first.1.1 in
-    let taken = front-taken t first.1.0 front back c (front + 1) split (ap (λ (n : ℕ). front + n) (sym first.0)) in
-    (split, taken.0, taken.1, taken.2)
-
--- a word whose upper half is a character's code and whose lower half is its length
-pub width-of_word : (word c : ℕ) → word ≡ c * 2 ^ 32 + len_utf8 c → word % 2 ^ 32 ≡ len_utf8 c
-width-of_word word c is = let bounds = len_utf8_bounds c in search rules
-
--- a character decoded to such a word
-pub word-taken : (t : List ℕ) (front back word behind : ℕ) → behind ≡ front + word % 2 ^ 32
-    → (first : (c : ℕ) × (r : List ℕ) × (word ≡ c * 2 ^ 32 + len_utf8 c) × InScalarRange c × (range_text t front back ≡ c ∷ r))
-    → (range_text t behind back ≡ first.1) × (behind ≤ back) × (is_range t behind back ≡ true)
-word-taken t front back word behind is first =
-    front-taken t first.1 front back first.0 behind first.4 (is ∙ ap (λ (n : ℕ). front + n) (width-of_word word first.0 first.2))
 
 back-range : (t r : List ℕ) (front back c : ℕ) → range_text t front back ≡ r ++ c ∷ [] → is_range t front (back - len_utf8 c) ≡ true
 back-range t r front back c e =

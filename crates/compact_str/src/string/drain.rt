@@ -1,5 +1,6 @@
 //! A draining iterator.
-ghost use Rattle.std.specs.Prelude.{◌≡◌, ℕ, ◌≤◌, List, length, [], Some, IfSome, IfOk, OnErr, IsOk, true};
+ghost use Rattle.std.specs.Prelude.{◌≡◌, ℕ, ◌≤◌, ◌∷◌, List, length, [], Some, IfSome, IfOk, OnErr, IsOk, true};
+ghost use Rattle.std.specs.Char.{len_utf8};
 ghost use Rattle.std.specs.Borrow.{sem, RestsIfErr};
 ghost use Rattle.compact_str.specs.Words.{size, utf8, text_of, substring, replaced_text, replace_range, MakeOwnedAllocates, IsOwned};
 ghost use Rattle.compact_str.specs.Ranges.{IsRange, range_start, range_end};
@@ -107,7 +108,7 @@ impl<P: Policy> PolicyString<P> {
 }
 
 impl<P: Policy> Drain<'_, P> {
-    ghost use Rattle.compact_str.specs.Drain.{drain_rest};
+    ghost use Rattle.compact_str.specs.Drain.{drain_rest, DrainsFront};
 
     /// Returns the rest of the range as a `&str`.
     ///
@@ -147,6 +148,19 @@ impl<P: Policy> Drain<'_, P> {
         }
         None
     }
+
+    /// Returns the first character of the rest, of `width` bytes, and moves past it.
+    #[inline(always)]
+    fn take_first(&mut self, character: char, width: usize) -> Option<char>
+        requires first { (rest : List ℕ) × (drain_rest self.old ≡ character ∷ rest) }
+        requires width { width ≡ len_utf8 character }
+        ensures { DrainsFront self.old result self.new }
+    {
+        // Shows the proof that the sum fits: the start is before the end.
+        let (start, end) = (self.rest_start, self.rest_end);
+        self.rest_start = start + width;
+        Some(character)
+    }
 }
 
 impl<P: Policy> Iterator for Drain<'_, P> {
@@ -162,14 +176,12 @@ impl<P: Policy> Iterator for Drain<'_, P> {
     ghost remaining = { λ d. at_most (length (drain_rest d)) };
 
     #[inline(always)]
+    #[tactic(auto, using(compact_text::proofs::TextFacts::empty_facts))]
     fn next(&mut self) -> Option<char> {
-        // Shows the proof that the sums below fit: `front` is before `back`.
-        let (front, back) = (self.rest_start, self.rest_end);
         if self.is_ascii {
             if let Some(rest) = self.heap_rest() {
                 let letter = range::first_of_ascii(rest)?;
-                self.rest_start = front + 1;
-                return Some(letter);
+                return self.take_first(letter, 1);
             }
         } else {
             let rest = self.as_str();
@@ -177,14 +189,15 @@ impl<P: Policy> Iterator for Drain<'_, P> {
                 return None;
             }
             if let Some(character) = first_ascii(rest) {
-                self.rest_start = front + 1;
-                return Some(character);
+                return self.take_first(character, 1);
             }
         }
         // Passes positions, so that the loop need not count what is left.
-        let word = self.value.first_char_packed(front, back)?;
-        self.rest_start = range::position_after(front, word);
-        Some(unsafe { char::from_u32_unchecked((word >> 32) as u32) })
+        let word = self
+            .value
+            .first_char_packed(self.rest_start, self.rest_end)?;
+        let character = unsafe { char::from_u32_unchecked((word >> 32) as u32) };
+        self.take_first(character, range::width_of(word))
     }
 
     /// Returns a quarter of the remaining bytes, rounded up, and all of them.

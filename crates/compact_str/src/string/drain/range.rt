@@ -45,14 +45,13 @@ pub fn first_of_ascii(text: &str) -> Option<char>
     Some(char::from(text.as_bytes()[0]))
 }
 
-/// Returns the end of a character at byte `start`, given the `word` of `first_char_packed`.
+/// Returns the length in bytes of a character, given the `word` of `first_char_packed`.
 #[cold]
 #[inline(never)]
-pub fn position_after(start: usize, word: u64) -> usize
-    requires { start + word % 2 ^ 32 < 2 ^ 64 }
-    ensures { result ≡ start + word % 2 ^ 32 }
+pub fn width_of(word: u64) -> usize
+    ensures { result ≡ word % 2 ^ 32 }
 {
-    start + (word % 0x1_0000_0000) as usize
+    (word % 0x1_0000_0000) as usize
 }
 
 impl<P: Policy> PolicyString<P> {
@@ -97,7 +96,7 @@ impl<P: Policy> PolicyString<P> {
     /// Returns the first character between two positions: its code in the upper half of a word, its length in bytes in
     /// the lower.
     ///
-    /// Not inlined, like `position_after`, to stay out of the caller's loop; neither writes, so the loop need not read
+    /// Not inlined, like `width_of`, to stay out of the caller's loop; neither writes, so the loop need not read
     /// again what it has read. The compiler knows that the upper half fits in 32 bits, so a loop that widens characters
     /// need not widen each.
     #[cold]
