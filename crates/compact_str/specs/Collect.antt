@@ -33,11 +33,11 @@ string_text s = text_of (string_bytes s)
 abbrev pub OfIterator : {U S : Type 0} → (U → S → Type 0) → U → (S → Type 0) → Type 0
 OfIterator {S = S} becomes iterable P = (it : S) × becomes iterable it × P it
 
--- P holds of the items of one whole run, as a list
+-- P holds of the items of one whole run, by `Drains`
 abbrev pub OfDrained : {U S A : Type 0} → (U → S → Type 0) → (S → Option A → S → Type 0) → U → (List A → Type 0) → Type 0
 OfDrained {S = S} {A = A} becomes steps iterable P = (it : S) × (xs : List A) × becomes iterable it × Drains steps it xs × P xs
 
--- P holds of the items of one whole run
+-- the same by `WholeRun`, as std says it of its own iterators
 abbrev pub OfItems : {U S A : Type 0} → (U → S → Type 0) → (S → Option A → S → Type 0) → U → (List A → Type 0) → Type 0
 OfItems becomes steps iterable P = OfIterator becomes iterable (λ it. WholeRun steps it (λ run. P run.items))
 

@@ -1,12 +1,13 @@
--- Conversions to a value.
-use Rattle.std.specs.Prelude.{◌≡◌, ◌≤◌, ℕ, List, length, nat_eq, if◌then◌else◌, Result, IfOk, OnErr, IsOk, MatchResult, IsOkAnd, Some, string_bytes, ⊤}
+-- Conversions to and from a value.
+use Rattle.std.specs.Prelude.{◌≡◌, ◌≤◌, ℕ, List, length, false, nat_eq, if◌then◌else◌, Result, IfOk, IfErr, OnErr, IsOk, MatchResult, IsOkAnd, Some, string_bytes, ⊤}
 use Rattle.std.specs.String.{string_capacity}
 use Rattle.std.specs.declared.borrow.CowStr.{CowStr}
 use Rattle.std.specs.declared.borrow.CowStr.TheVariants.{Borrowed, Owned}
 use Rattle.compact_repr.specs.Text.{text_of, utf8}
-use Rattle.compact_repr.specs.Value.{Placement, PlacedText, placed_text}
+use Rattle.compact_repr.specs.Value.{Placement, PlacedText, placed_text, is_heap, IsHeap}
 use Rattle.compact_repr.specs.Capacity.{Growth, inline_placement, heap_placement, from_string_placement, WithCapacityAllocates}
 use Rattle.compact_repr.specs.Calls.{new}
+use Rattle.compact_str.specs.declared.refused.Refused.{Refused}
 
 -- r is a new value with the text of the bytes s; never fails up to 24 bytes
 pub record CopiesText {E : Type 0} (g : Growth) (s : List ℕ) (r : Result PlacedText E) : Type 0 where
@@ -24,6 +25,13 @@ string_buffer_placement capacity = if nat_eq capacity 0 then inline_placement el
 abbrev pub TakesCow : {Z E : Type 0} → Growth → CowStr Z → Result PlacedText E → Type 0
 TakesCow g (Borrowed s) r = MatchResult r (λ v. new g (text_of s.now) ≡ Some v) (λ _. WithCapacityAllocates (length s.now))
 TakesCow g (Owned s) r = IsOkAnd r (λ v. let t = text_of (string_bytes s) in v ≡ placed_text t (from_string_placement t (string_capacity s)))
+
+-- r has the bytes of v, in the buffer of a heap value; any other may fail, and is then returned
+pub record ConvertsTo {T : Type 0} (bytes_of : T → List ℕ) (v : PlacedText) (r : Result T (Refused PlacedText)) : Type 0 where
+  pub bytes : IfOk r (λ x. bytes_of x ≡ utf8 v.text)
+  pub text : IfOk r (λ x. text_of (bytes_of x) ≡ v.text)
+  pub succeeds : IsHeap v → IsOk r
+  pub err : IfErr r (λ e. (e.value ≡ v) × (is_heap v.placement.place ≡ false))
 
 -- the conversion never fails: the text is owned, or has at most 24 bytes
 abbrev pub IsFreeCow : {Z : Type 0} → CowStr Z → Type 0

@@ -33,16 +33,18 @@ pub record Reserves {E : Type 0} (g : Growth) (v : PlacedText) (n : ℕ) (r : Re
   pub succeeds : HasRoomFor v n → IsOk r
   pub err : OnErr r ((w ≡ v) × ReserveAllocates v n)
 
--- w is v with the text t appended, in bytes s; on failure w is v
+-- w is v with the text t appended, whose bytes are s; never fails if they fit, and on failure w is v
 pub record PushesStr {E : Type 0} (g : Growth) (v : PlacedText) (t s : List ℕ) (r : Result (Unit {0}) E) (w : PlacedText) : Type 0 where
   pub ok : OnOk r (push_str g v t ≡ Some w)
   pub text : OnOk r (w.text ≡ v.text ++ t)
   pub bytes : OnOk r (utf8 w.text ≡ utf8 v.text ++ s)
   pub room : OnOk r (infallible_capacity v ≤ infallible_capacity w)
   pub succeeds : HasRoomFor v (length s) → IsOk r
+  -- unchanged, and `push_str` needs a heap buffer
   pub err : OnErr r ((w ≡ v) × PushStrAllocates v t)
 
--- r is v with the text t appended, in bytes s; on failure v is returned, as the value of the error
+-- r is v with the text t appended, whose bytes are s; never fails if they fit, and on failure v is returned, as the error's
+-- value
 pub record AddsStr {E : Type 0} (g : Growth) (v : PlacedText) (t s : List ℕ) (r : Result PlacedText E) (value_of : E → PlacedText) : Type 0 where
   pub ok : IfOk r (λ w. push_str g v t ≡ Some w)
   pub text : IfOk r (λ w. w.text ≡ v.text ++ t)

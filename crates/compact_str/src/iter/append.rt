@@ -39,7 +39,7 @@ pub fn append_all<T: AsText, U: IntoIterator<Item = T>>(
 /// # Errors
 ///
 /// [`ReserveError`] as from `append_all`.
-pub fn append_texts<T: AsText, U: IntoIterator<Item = T>>(
+fn append_texts<T: AsText, U: IntoIterator<Item = T>>(
     line: &mut String,
     items: U,
 ) -> Result<(), ReserveError>

@@ -1,11 +1,12 @@
 //! Conversions out of a string.
-ghost use Rattle.std.specs.Prelude.{◌≡◌, ◌≤◌, false, IfOk, IfErr, IsOk, string_bytes};
-ghost use Rattle.std.specs.Vec.{vec_capacity};
+ghost use Rattle.std.specs.Prelude.{◌≡◌, ◌≤◌, IfOk, IfErr, IsOk, string_bytes};
+ghost use Rattle.std.specs.Vec.{vec_items, vec_capacity};
 ghost use Rattle.std.specs.String.{string_capacity};
 ghost use Rattle.std.specs.Box.{boxed_str_bytes};
 ghost use Rattle.std.specs.Rc.{rc_str_bytes};
 ghost use Rattle.std.specs.Cow.{cow_str_bytes, IsBorrowedStr};
-ghost use Rattle.compact_str.specs.Words.{size, utf8, text_of, is_heap, IsInline, IsOwned, IsStatic, IsHeap, MakeOwnedAllocates};
+ghost use Rattle.compact_str.specs.Words.{size, utf8, text_of, IsInline, IsOwned, IsStatic, IsHeap, MakeOwnedAllocates};
+ghost use Rattle.compact_str.specs.Conversions.{ConvertsTo};
 
 use crate::refused::Refused;
 use crate::string::PolicyString;
@@ -30,13 +31,9 @@ impl<P: Policy> PolicyString<P> {
     /// assert_eq!(rt; text.as_str(), "café");
     /// ```
     pub fn into_string(self) -> Result<String, Refused<Self>>
-        ensures bytes { IfOk result (λ s. string_bytes s ≡ utf8 self.text) }
-        ensures text { IfOk result (λ s. text_of (string_bytes s) ≡ self.text) }
+        ensures converts { ConvertsTo string_bytes self result }
         ensures capacity { IsHeap self
             → IfOk result (λ s. self.placement.capacity ≤ string_capacity s) }
-        ensures succeeds { IsHeap self → IsOk result }
-        ensures err { IfErr result
-            (λ e. (e.value ≡ self) × (is_heap self.placement.place ≡ false)) }
     {
         let PolicyString { repr } = self;
         match repr.into_heap_string() {
@@ -62,13 +59,9 @@ impl<P: Policy> PolicyString<P> {
     /// assert_eq!(rt; bytes.as_slice(), [0xC3, 0xA9].as_slice());
     /// ```
     pub fn into_vec(self) -> Result<Vec<u8>, Refused<Self>>
-        ensures bytes { IfOk result (λ v. v.items ≡ utf8 self.text) }
-        ensures text { IfOk result (λ v. text_of v.items ≡ self.text) }
+        ensures converts { ConvertsTo vec_items self result }
         ensures capacity { IsHeap self
             → IfOk result (λ v. self.placement.capacity ≤ vec_capacity v) }
-        ensures succeeds { IsHeap self → IsOk result }
-        ensures err { IfErr result
-            (λ e. (e.value ≡ self) × (is_heap self.placement.place ≡ false)) }
     {
         match self.into_string() {
             Ok(text) => Ok(text.into_bytes()),
@@ -122,11 +115,7 @@ impl<P: Policy> PolicyString<P> {
     /// assert_eq!(rt; text.as_str(), "café");
     /// ```
     pub fn into_boxed_str(self) -> Result<BoxedStr, Refused<Self>>
-        ensures bytes { IfOk result (λ b. boxed_str_bytes b ≡ utf8 self.text) }
-        ensures text { IfOk result (λ b. text_of (boxed_str_bytes b) ≡ self.text) }
-        ensures succeeds { IsHeap self → IsOk result }
-        ensures err { IfErr result
-            (λ e. (e.value ≡ self) × (is_heap self.placement.place ≡ false)) }
+        ensures { ConvertsTo boxed_str_bytes self result }
     {
         match self.into_string() {
             Ok(text) => Ok(text.into_boxed_str()),

@@ -1,4 +1,4 @@
-use Rattle.std.proofs.Common.{ℕ, ◌-◌, arith, length-take}
+use Rattle.std.proofs.Common.{ℕ, arith, length-take}
 use Rattle.compact_ext.proofs.WireForms.{stops-later}
 use Rattle.compact_ext.proofs.wire.read.read_bytes.Goals as goal
 
