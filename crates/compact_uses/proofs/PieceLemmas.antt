@@ -1,6 +1,6 @@
 -- Pieces of a text.
 use Rattle.std.proofs.Common.{◌≡◌, ◌≢◌, ◌-◌, ◌<◌, ◌≤◌, ◌++◌, ◌∷◌, [], ℕ, List, length, take, ap, sym, ◌∙◌, arith, refl, append_assoc, length-append}
-use Rattle.std.proofs.lemmas.List.Elements.{All-push, All-nil}
+use Rattle.std.proofs.lemmas.List.Elements.{All-push, All-cons, All-nil}
 use Rattle.std.proofs.lemmas.Str.{chars_past_char}
 use Rattle.std.specs.Str.{IsUtf8, IsCharBoundary}
 use Rattle.compact_str.specs.Text.{size, text_of}
@@ -9,38 +9,37 @@ use Rattle.compact_str.proofs.ForCallers.{size-text_of, size-append, text_of-tak
 use Rattle.compact_str.proofs.TextBytes.{boundary-bytes}
 use Rattle.compact_uses.specs.declared.tokenizer.Kind.{Kind}
 use Rattle.compact_uses.specs.declared.tokenizer.Kind.TheVariants.{Mark}
-use Rattle.compact_uses.specs.Tokens.{IsPiece, kind_of}
+use Rattle.compact_uses.specs.Tokens.{Continues, IsPiece, kind_of}
 
 pub ruleset piece_facts = (chars_past_char, text_of-empty)
+
+pub continues-none : (kind : Kind) (text : List ℕ) → Continues kind text text
+continues-none kind text = record { more = []; joined = refl; single = λ mark. refl; alike = All-nil (λ c. kind_of c ≡ kind) }
+
+pub continues-more : (kind next : Kind) (c : ℕ) (text rest others : List ℕ) → Continues kind text rest → rest ≡ c ∷ others → next ≡ kind_of c
+    → (next ≡ kind) × (kind ≢ Mark) → Continues kind text others
+continues-more kind next c text rest others before is k (same, no_mark) = record {
+  more = before.more ++ c ∷ [];
+  joined = append_assoc before.more (c ∷ []) others ∙ rw (sym is) before.joined;
+  single = λ mark. absurd (no_mark mark);
+  alike = All-push (λ d. kind_of d ≡ kind) before.more c before.alike (sym k ∙ same);
+}
 
 -- what is before the rest is a piece
 pub record Begun (kind : Kind) (rest text : List ℕ) : Type 0 where
   pub piece : List ℕ
   pub is : IsPiece kind piece rest text
 
-pub begun-one : (kind : Kind) (c : ℕ) (rest text : List ℕ) → text ≡ c ∷ rest → kind ≡ kind_of c → Begun kind rest text
-begun-one kind c rest text is k = record {
-  piece = c ∷ [];
-  is = record { joined = sym is; filled = omega arith; single = λ mark. refl; alike = All-push (λ d. kind_of d ≡ kind) [] c (All-nil _) (sym k) };
-}
-
-pub begun-more : (kind next : Kind) (c : ℕ) (rest others text : List ℕ) → Begun kind rest text → rest ≡ c ∷ others → next ≡ kind_of c
-    → (next ≡ kind) × (kind ≢ Mark) → Begun kind others text
-begun-more kind next c rest others text begun is k (same, no_mark) = record {
-  piece = begun.piece ++ c ∷ [];
+pub begun : (kind : Kind) (c : ℕ) (text others rest : List ℕ) → text ≡ c ∷ others → kind ≡ kind_of c → Continues kind others rest → Begun kind rest text
+begun kind c text others rest is k before = record {
+  piece = c ∷ before.more;
   is = record {
-    joined = append_assoc begun.piece (c ∷ []) others ∙ rw (sym is) begun.is.joined;
-    filled = omega (arith, length-append begun.piece (c ∷ []));
-    single = λ mark. absurd (no_mark mark);
-    alike = All-push (λ d. kind_of d ≡ kind) begun.piece c begun.is.alike (sym k ∙ same);
+    joined = ap (λ t. c ∷ t) before.joined ∙ sym is;
+    filled = omega arith;
+    single = λ mark. ap (λ (t : List ℕ). length (c ∷ t)) (before.single mark);
+    alike = All-cons (λ d. kind_of d ≡ kind) c before.more (sym k) before.alike;
   };
 }
-
-pub longest : (kind next : Kind) (rest others : List ℕ) (c : ℕ) → rest ≡ c ∷ others → next ≡ kind_of c → (next ≡ kind → kind ≡ Mark)
-    → (d : ℕ) (ds : List ℕ) → rest ≡ d ∷ ds → kind_of d ≡ kind → kind ≡ Mark
-longest kind next rest others c is k apart d ds same kinds =
-    let first : d ≡ c = cc in
-    apart (k ∙ ap kind_of (sym first) ∙ kinds)
 
 pub begun-shorter : (kind : Kind) (rest text : List ℕ) → Begun kind rest text → length rest < length text
 begun-shorter kind rest text begun = omega (arith, ap length begun.is.joined, length-append begun.piece rest, begun.is.filled)

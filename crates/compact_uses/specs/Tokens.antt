@@ -28,10 +28,23 @@ pub record IsPiece (kind : Kind) (piece rest text : List ℕ) : Type 0 where
   pub single : kind ≡ Mark → length piece ≡ 1
   pub alike : All (λ c. kind_of c ≡ kind) piece
 
--- The piece is as long as possible: the rest does not begin with a character of its kind, unless that is a mark.
+-- the text does not begin with a character that continues a piece of this kind
+abbrev pub BeginsApart : Kind → List ℕ → Type 0
+BeginsApart kind [] = Unit
+BeginsApart kind (c ∷ cs) = kind_of c ≡ kind → kind ≡ Mark
+
+-- The text is the rest after characters that continue a piece of this kind: they are of the kind, and none is after a
+-- mark.
+pub record Continues (kind : Kind) (text rest : List ℕ) : Type 0 where
+  pub more : List ℕ
+  pub joined : more ++ rest ≡ text
+  pub single : kind ≡ Mark → more ≡ []
+  pub alike : All (λ c. kind_of c ≡ kind) more
+
+-- the piece is as long as possible
 pub record IsFirstPiece (kind : Kind) (piece rest text : List ℕ) : Type 0 where
   pub is : IsPiece kind piece rest text
-  pub longest : (c : ℕ) (cs : List ℕ) → rest ≡ c ∷ cs → kind_of c ≡ kind → kind ≡ Mark
+  pub longest : BeginsApart kind rest
 
 -- the pieces are the first of the text, each as long as possible and of its token's kind; the rest follows
 abbrev pub ArePieces : List Token → List (List ℕ) → List ℕ → List ℕ → Type 0

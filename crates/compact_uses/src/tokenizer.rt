@@ -1,7 +1,7 @@
 //! A tokenizer: cuts a text into words, numbers, white space and marks, and interns each.
 ghost use Rattle.std.specs.Prelude.{◌≡◌, ◌≢◌, ◌+◌, ◌<◌, ◌≤◌, ◌∷◌, ℕ, List, [], flat_map, length, slice_get, Some, IsOk, IfOk, IfSome, IfErr, OnErr, MatchBool, MatchOption};
 ghost use Rattle.compact_str.specs.Text.{text_of};
-ghost use Rattle.compact_uses.specs.Tokens.{kind_of, token_text, IsFirstPiece, IsTokenized, IsPartlyTokenized, IsTokenRefusal};
+ghost use Rattle.compact_uses.specs.Tokens.{kind_of, token_text, BeginsApart, Continues, IsFirstPiece, IsTokenized, IsPartlyTokenized, IsTokenRefusal};
 ghost use Rattle.compact_uses.specs.declared.tokenizer.Kind.TheVariants.{Mark};
 
 use compact_edit::{InternError, Interner};
@@ -92,15 +92,26 @@ fn first_piece(text: &str) -> Option<Piece<'_>>
     ensures shorter { IfSome result (λ piece.
         length (text_of piece.rest.now) < length (text_of text.now)) }
 {
-    let (first, mut rest) = first_character(text)?;
+    let (first, others) = first_character(text)?;
     let kind = kind_of(first);
-    while let Some((next, others)) = first_character(rest)
-        && goes_on(kind, kind_of(next))
-    {
-        rest = others;
-    }
+    let rest = rest_of(kind, others);
     let (text, _) = text.split_at(text.len() - rest.len());
     Some(Piece { kind, text, rest })
+}
+
+/// Returns the text without the characters at its start that continue a piece of this kind.
+fn rest_of(kind: Kind, text: &str) -> &str
+    ensures more { Continues kind (text_of text.now) (text_of result.now) }
+    ensures apart { BeginsApart kind (text_of result.now) }
+{
+    let mut rest = text;
+    while let Some((character, others)) = first_character(rest) {
+        if !goes_on(kind, kind_of(character)) {
+            return rest;
+        }
+        rest = others;
+    }
+    rest
 }
 
 /// Returns the first character and the rest, or `None` if the text is empty.
