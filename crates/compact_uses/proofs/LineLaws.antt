@@ -28,7 +28,7 @@ module _ (separator : ℕ) (line : List ℕ) where
         none = λ fields written. let again = fields-read separator line fields written in cc;
       }
 
-  -- the line reads as the reader's result, or breaks for its fault
+  -- the line is as the reader says
   is-outcome : MatchResult (outcome separator line) (ReadsAs separator line) (BreaksFor separator line)
   is-outcome = by (parts separator line).whole
     where

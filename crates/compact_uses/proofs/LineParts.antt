@@ -14,24 +14,25 @@ IsWhole separator line =
     (fields : List (List ℕ)) × (rest : List ℕ) × BeginsWith separator line fields rest
     × (((last : List ℕ) × IsWritten separator last rest) ⊎ ((fault : Fault) × (separator ≢ quote) × IsBrokenField separator rest fault))
 
--- the rest of a line within a plain field
+-- the rest of a line, from within a plain field
 abbrev pub IsInPlain : ℕ → List ℕ → Type 0
 IsInPlain separator line =
     (field : List ℕ) × (rest : Option (List ℕ)) × AllByRecursion (λ c. c ≢ separator) field × (line ≡ field ++ rest_after separator rest)
     × IfSome rest (IsWhole separator)
 
--- after a closed quote
-abbrev pub IsBehind : ℕ → List ℕ → Type 0
-IsBehind separator line =
+-- after a closing quote
+abbrev pub IsAfterQuotes : ℕ → List ℕ → Type 0
+IsAfterQuotes separator line =
     ((rest : Option (List ℕ)) × (line ≡ rest_after separator rest) × IfSome rest (IsWhole separator))
     ⊎ ((c : ℕ) × (more : List ℕ) × (line ≡ c ∷ more) × (c ≢ quote) × (c ≢ separator))
 
--- within quotes
+-- from within quotes, which stay open or are closed
 abbrev pub IsInQuotes : ℕ → List ℕ → Type 0
 IsInQuotes separator line =
     ((text : List ℕ) × (line ≡ escaped_text text))
-    ⊎ ((text rest : List ℕ) × (line ≡ (escaped_text text ++ quote ∷ []) ++ rest) × IsBehind separator rest)
+    ⊎ ((text rest : List ℕ) × (line ≡ (escaped_text text ++ quote ∷ []) ++ rest) × IsAfterQuotes separator rest)
 
+-- a line from each state of the reader
 pub record Parts (separator : ℕ) (line : List ℕ) : Type 0 where
   pub whole : IsWhole separator line
   plain : IsInPlain separator line
@@ -52,11 +53,11 @@ module _ (separator : ℕ) where
       let plain : IsPlain separator (c ∷ field) = record { inside = All-from_recursion (λ x. x ≢ separator) (c ∷ field) (apart, inside); front = λ same. other (cc) } in
       rw is (first-field (c ∷ field) (c ∷ field) rest (inl (plain, refl)) whole)
 
-  quoted-field : (line : List ℕ) → separator ≢ quote → IsInQuotes separator line → IsWhole separator (quote ∷ line)
-  quoted-field line apart (inl (text, is)) = ([], quote ∷ line, refl, inr (OpenQuote, apart, (text, ap (λ t. quote ∷ t) is)))
-  quoted-field line apart (inr (text, behind, is, inl (rest, more, whole))) =
+  opened-field : (line : List ℕ) → separator ≢ quote → IsInQuotes separator line → IsWhole separator (quote ∷ line)
+  opened-field line apart (inl (text, is)) = ([], quote ∷ line, refl, inr (OpenQuote, apart, (text, ap (λ t. quote ∷ t) is)))
+  opened-field line apart (inr (text, behind, is, inl (rest, more, whole))) =
       rw (is, more) (first-field text (quoted_field text) rest (inr (apart, refl)) whole)
-  quoted-field line apart (inr (text, behind, is, inr (c, more, at, other, no_end))) =
+  opened-field line apart (inr (text, behind, is, inr (c, more, at, other, no_end))) =
       ([], quote ∷ line, refl, inr (TextBehindQuote, apart, (text, c, more, rw (is, at) refl, other, no_end)))
 
   one-more : (c : ℕ) (line : List ℕ) → nat_eq c quote ≡ false → IsInQuotes separator line → IsInQuotes separator (c ∷ line)
@@ -83,7 +84,7 @@ module _ (separator : ℕ) where
     where
       whole_of : IsTested c separator → IsTested c quote → Parts separator line → IsWhole separator (c ∷ line)
       whole_of (inl end) is p = rw end.1 (first-field [] [] (Some line) (inl (no-field, refl)) p.whole)
-      whole_of (inr apart) (inl is) p = rw is.1 (quoted-field line (λ same. apart.1 (is.1 ∙ sym same)) p.quoted)
+      whole_of (inr apart) (inl is) p = rw is.1 (opened-field line (λ same. apart.1 (is.1 ∙ sym same)) p.quoted)
       whole_of (inr apart) (inr other) p = plain-field c line apart.1 other.1 p.plain
 
       plain_of : IsTested c separator → Parts separator line → IsInPlain separator (c ∷ line)

@@ -1,4 +1,4 @@
--- The reader's result on a line of fields as written, and on a broken one.
+-- The outcome of a line of fields as written, and of a broken one.
 use Rattle.std.proofs.Common.{◌≡◌, ◌≢◌, ◌⊎◌, ℕ, true, false, List, [], ◌∷◌, ◌++◌, Result, Ok, Err, Option, None, Some, nat_eq, refl, ap, sym, ◌∙◌, inl, inr, append_assoc, append-nil}
 use Rattle.std.proofs.lemmas.Bool.{ne_eqb, eq-eqb}
 use Rattle.std.proofs.lemmas.Bool.Decides.{eqb_tells}
@@ -15,10 +15,10 @@ abbrev pub rest_after : ℕ → Option (List ℕ) → List ℕ
 rest_after separator None = []
 rest_after separator (Some more) = separator ∷ more
 
--- the result after these fields
-abbrev fields_then : ℕ → List (List ℕ) → Option (List ℕ) → Result (List (List ℕ)) Fault
-fields_then separator done None = Ok done
-fields_then separator done (Some more) = outcome_from separator Start done [] more
+-- the outcome after these fields
+abbrev outcome_then : ℕ → List (List ℕ) → Option (List ℕ) → Result (List (List ℕ)) Fault
+outcome_then separator done None = Ok done
+outcome_then separator done (Some more) = outcome_from separator Start done [] more
 
 -- the test of two characters
 abbrev pub IsTested : ℕ → ℕ → Type 0
@@ -51,17 +51,17 @@ module _ (separator : ℕ) where
   closed-quote apart done text rest = rw (append_assoc (escaped_text text) (quote ∷ []) rest) (open-quote apart done text (quote ∷ rest))
 
   quoted-end : separator ≢ quote → (done : List (List ℕ)) (field : List ℕ) (rest : Option (List ℕ))
-      → outcome_from separator Behind done field (rest_after separator rest) ≡ fields_then separator (done ++ field ∷ []) rest
+      → outcome_from separator Behind done field (rest_after separator rest) ≡ outcome_then separator (done ++ field ∷ []) rest
   quoted-end apart done field None = refl
   quoted-end apart done field (Some more) = rw (ne_eqb separator quote apart, eq-eqb separator separator refl) refl
 
   plain-end : (done : List (List ℕ)) (field : List ℕ) (rest : Option (List ℕ))
-      → outcome_from separator Plain done field (rest_after separator rest) ≡ fields_then separator (done ++ field ∷ []) rest
+      → outcome_from separator Plain done field (rest_after separator rest) ≡ outcome_then separator (done ++ field ∷ []) rest
   plain-end done field None = refl
   plain-end done field (Some more) = rw (eq-eqb separator separator refl) refl
 
   plain-field : (done : List (List ℕ)) (field : List ℕ) (rest : Option (List ℕ)) → IsPlain separator field
-      → outcome_from separator Start done [] (field ++ rest_after separator rest) ≡ fields_then separator (done ++ field ∷ []) rest
+      → outcome_from separator Start done [] (field ++ rest_after separator rest) ≡ outcome_then separator (done ++ field ∷ []) rest
   plain-field done [] None plain = refl
   plain-field done [] (Some more) plain = rw (eq-eqb separator separator refl) refl
   plain-field done (c ∷ field) rest plain =
@@ -70,7 +70,7 @@ module _ (separator : ℕ) where
       (plain-part done (c ∷ []) field (rest_after separator rest) inside.1 ∙ plain-end done (c ∷ field) rest)
 
   written-field : (done : List (List ℕ)) (field form : List ℕ) (rest : Option (List ℕ)) → IsWritten separator field form
-      → outcome_from separator Start done [] (form ++ rest_after separator rest) ≡ fields_then separator (done ++ field ∷ []) rest
+      → outcome_from separator Start done [] (form ++ rest_after separator rest) ≡ outcome_then separator (done ++ field ∷ []) rest
   written-field done field form rest (inl plain) = rw plain.1 (plain-field done field rest plain.0)
   written-field done field form rest (inr quoted) =
       rw quoted.1 (closed-quote quoted.0 done field (rest_after separator rest) ∙ quoted-end quoted.0 done field rest)
