@@ -7,6 +7,3 @@ pub returns : goal.returns
 returns g c =
     ran_to_end _ _ _ _ _ c.loop-part.yielded (λ xs. c.loop-part.line.text ≡ c.args.line.now.text ++ flat_map g.T.Spelled.text xs)
     c.into_iter-part-iterator.ensures.into_iter_gives c.loop-part.yielded_by c.in-None.ensures.steps c.loop-part.invariant
-
-pub loop-part-preserved : goal.loop-part-preserved
-loop-part-preserved g c = search (c.loop-part.invariant, c.in_ok-push_str.ensures.text, c.spelled.ensures, append_assoc, append-nil, flat_map-append)

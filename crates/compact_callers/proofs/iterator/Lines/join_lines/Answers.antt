@@ -8,7 +8,3 @@ pub returns : goal.returns
 returns g c =
     ran_to_end _ _ _ _ _ c.loop-part.yielded (λ xs. c.loop-part.lines.text ≡ flat_map (λ part. g.Self.Item.Spelled.text part ++ text_of c.args.end.now) xs)
     c.into_iter-part-iterator.ensures.into_iter_gives c.loop-part.yielded_by c.in-None.ensures.steps c.loop-part.invariant
-
-pub loop-part-preserved : goal.loop-part-preserved
-loop-part-preserved g c =
-    search (c.loop-part.invariant, c.in_ok-push_str.ensures.text, c.in_ok-push_str-2.ensures.text, c.spelled.ensures, append_assoc, append-nil, flat_map-append)
