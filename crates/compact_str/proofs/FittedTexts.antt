@@ -10,7 +10,7 @@ use Rattle.compact_repr.specs.Text.{size, text_of}
 use Rattle.compact_repr.specs.Value.{PlacedText, placed_text, heap, is_heap}
 use Rattle.compact_repr.specs.Capacity.{Growth, inline_placement, with_capacity_allocates, from_string_placement}
 use Rattle.compact_repr.specs.Calls.{new, push_str, reserve}
-use Rattle.compact_text.proofs.Texts.{size-append}
+use Rattle.compact_text.proofs.Texts.{size-append, size-text_of}
 use Rattle.compact_repr.proofs.Changes.{push_str-text}
 use Rattle.compact_text.specs.Text.{replacement_character}
 use Rattle.compact_codec.specs.Utf8Text.{BytesEncode, replacement_text}
@@ -93,6 +93,11 @@ refused-fitted t (Err _) h asks = record { text = tt; fitted = tt; succeeds = λ
 
 pub long-asks : (n : ℕ) → 24 < n → IsTrue (with_capacity_allocates n)
 long-asks n h = grind (arith, common_steps)
+
+-- so if a part is refused, the whole may be
+pub part-refused : {E : Type 0} (t a rest bytes : List ℕ) (r : Result PlacedText E) → IsErr r → a ++ (text_of bytes ++ rest) ≡ t → IsUtf8 bytes
+    → 24 < size a + length bytes → MakesText t r
+part-refused t a rest bytes r h e is more = refused-fitted t r h (part-asks t a (text_of bytes) rest (length bytes) e (sym (size-text_of bytes is)) more)
 
 pub ruleset decoded_part_facts = (text_facts, part-asks)
 
