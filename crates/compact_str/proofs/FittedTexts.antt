@@ -83,9 +83,6 @@ pub refused-fitted : {E : Type 0} (t : List ℕ) (r : Result PlacedText E) → I
 refused-fitted t (Ok _) h asks = absurd (true≢false (sym h))
 refused-fitted t (Err _) h asks = record { text = tt; fitted = tt; succeeds = λ k. absurd (short-asks (size t) k asks); err = asks }
 
-pub long-asks : (n : ℕ) → 24 < n → IsTrue (with_capacity_allocates n)
-long-asks n h = grind (arith, common_steps)
-
 -- so if a part is refused, the whole may be
 pub part-refused : {E : Type 0} (t a rest bytes : List ℕ) (r : Result PlacedText E) → IsErr r → a ++ (text_of bytes ++ rest) ≡ t → IsUtf8 bytes
     → 24 < size a + length bytes → MakesText t r
