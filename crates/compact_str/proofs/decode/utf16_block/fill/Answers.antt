@@ -6,16 +6,14 @@ use Rattle.compact_str.proofs.decode.utf16_block.fill.Goals as goal
 pub loop-taken-preserved-then-is_surrogate : goal.loop-taken-preserved-then-is_surrogate
 loop-taken-preserved-then-is_surrogate c =
     let step = c.first_character-step.ensures in
-    let onward = step.taken in
     let scalar : IsScalar c.unwrap_or-character.result = search rules in
     let begins = front_at c.args.units.now c.loop-taken.taken c.first_character-step.result.taken c.unwrap_or-character.result _ step.lossy c.unwrap_or-character.ensures in
     let written = character_behind _ _ _ _ _ _ c.loop-taken.invariant.text begins c.write_character-len.ensures.bytes c.loop-taken.invariant.utf8 scalar in
-    let end = c.write_character-len.ensures.end in
     record {
-      within = reach_at c.args.units.now c.loop-taken.taken c.first_character-step.result.taken c.loop-taken.invariant.within onward.1;
-      room = omega arith;
-      few = omega (arith, end.0);
-      none = λ h. absurd (omega (arith, h, onward.0));
+      within = reach_at c.args.units.now c.loop-taken.taken c.first_character-step.result.taken c.loop-taken.invariant.within step.taken.1;
+      room = omega (arith, c.write_character-len.ensures.end.1);
+      few = omega (arith, c.write_character-len.ensures.end.0);
+      none = λ h. absurd (omega (arith, h, step.taken.0));
       utf8 = written.1;
       text = written.0;
     }
@@ -25,11 +23,10 @@ loop-taken-preserved c =
     let fits : get_or c.args.units.now c.loop-taken.taken 0 < 0x1_0000 = let f = c.type_inv.units c.loop-taken.taken in omega arith in
     let begins = unit_at c.args.units.now c.loop-taken.taken _ c.loop-taken-test.true refl fits (sym c.is_surrogate.ensures ∙ c.if-is_surrogate.false) in
     let written = character_behind _ _ _ _ _ _ c.loop-taken.invariant.text begins.0 c.write_unit-len.ensures.bytes c.loop-taken.invariant.utf8 begins.1 in
-    let end = c.write_unit-len.ensures.end in
     record {
       within = omega arith;
-      room = omega arith;
-      few = omega (arith, end.0);
+      room = omega (arith, c.write_unit-len.ensures.end.1);
+      few = omega (arith, c.write_unit-len.ensures.end.0);
       none = λ h. absurd (omega (arith, h));
       utf8 = written.1;
       text = written.0;
