@@ -2,7 +2,8 @@
 use Rattle.std.proofs.Common.{◌≡◌, Some, ℕ, ◌+◌, ◌<◌, ◌≤◌, List, [], ◌∷◌, ◌++◌, length, false, IsTrue, refl, subst, sym, ap, ◌∙◌, arith, append_assoc, inl, inr}
 use Rattle.std.proofs.lemmas.Grind.{common_steps}
 use Rattle.std.proofs.lemmas.Bool.{cases_lt, true≢false}
-use Rattle.std.specs.Prelude.{Result, Ok, Err, OnErr, IsOk, IsErr}
+use Rattle.std.specs.Prelude.{Result, Ok, Err, IsErr}
+use Rattle.std.specs.Char.{len_utf8}
 use Rattle.std.specs.Str.{chars, IsUtf8}
 use Rattle.std.proofs.lemmas.Str.{encodes-chars, scalars-chars}
 use Rattle.compact_text.proofs.TextFacts.{text_facts}
@@ -10,7 +11,7 @@ use Rattle.compact_repr.specs.Text.{size, text_of}
 use Rattle.compact_repr.specs.Value.{PlacedText, placed_text, heap, is_heap}
 use Rattle.compact_repr.specs.Capacity.{Growth, inline_placement, with_capacity_allocates, from_string_placement}
 use Rattle.compact_repr.specs.Calls.{new, push_str, reserve}
-use Rattle.compact_text.proofs.Texts.{size-append}
+use Rattle.compact_text.proofs.Texts.{size-append, size-text_of}
 use Rattle.compact_repr.proofs.Changes.{push_str-text}
 use Rattle.compact_text.specs.Text.{replacement_character}
 use Rattle.compact_codec.specs.Utf8Text.{BytesEncode, replacement_text}
@@ -74,29 +75,25 @@ part-asks t a p rest n e k more =
     let long : size t ≡ size a + (size p + size rest) = ap size (sym e) ∙ size-append a (p ++ rest) ∙ ap (λ (n : ℕ). size a + n) (size-append p rest) in
     grind (arith, common_steps)
 
--- the same of the first character of the rest
-pub first-asks : (t a left rest p : List ℕ) (c n : ℕ) → a ++ left ≡ t → left ≡ c ∷ rest → p ≡ c ∷ [] → n ≡ size p → 24 < size a + n
-    → IsTrue (with_capacity_allocates (size t))
-first-asks t a left rest p c n e l q k more = part-asks t a p rest n (rw q (ap (λ (x : List ℕ). a ++ x) (sym l)) ∙ e) k more
-
 -- up to 24 bytes nothing fails
 short-asks : (n : ℕ) → n ≤ 24 → IsTrue (with_capacity_allocates n) → ⊥
 short-asks n h asks = grind (arith, common_steps)
-
-pub asks-succeeds : {E : Type 0} (t : List ℕ) (r : Result PlacedText E) → OnErr r (IsTrue (with_capacity_allocates (size t))) → size t ≤ 24 → IsOk r
-asks-succeeds t (Ok _) e h = refl
-asks-succeeds t (Err _) e h = absurd (short-asks (size t) h e)
 
 pub refused-fitted : {E : Type 0} (t : List ℕ) (r : Result PlacedText E) → IsErr r → IsTrue (with_capacity_allocates (size t)) → MakesText t r
 refused-fitted t (Ok _) h asks = absurd (true≢false (sym h))
 refused-fitted t (Err _) h asks = record { text = tt; fitted = tt; succeeds = λ k. absurd (short-asks (size t) k asks); err = asks }
 
-pub long-asks : (n : ℕ) → 24 < n → IsTrue (with_capacity_allocates n)
-long-asks n h = grind (arith, common_steps)
+-- so if a part is refused, the whole may be
+pub part-refused : {E : Type 0} (t a rest bytes : List ℕ) (r : Result PlacedText E) → IsErr r → a ++ (text_of bytes ++ rest) ≡ t → IsUtf8 bytes
+    → 24 < size a + length bytes → MakesText t r
+part-refused t a rest bytes r h e is more = refused-fitted t r h (part-asks t a (text_of bytes) rest (length bytes) e (sym (size-text_of bytes is)) more)
 
 pub ruleset decoded_part_facts = (text_facts, part-asks)
 
-pub ruleset first_facts = (text_facts, first-asks)
+-- the same of the first character of the rest
+pub first-refused : {E : Type 0} (t a left rest : List ℕ) (c d : ℕ) (r : Result PlacedText E) → IsErr r → a ++ left ≡ t → left ≡ d ∷ rest → c ≡ d
+    → 24 < size a + len_utf8 c → MakesText t r
+first-refused t a left rest c d r h e l same more = refused-fitted t r h (part-asks t a (d ∷ []) rest (len_utf8 c) (ap (λ (x : List ℕ). a ++ x) (sym l) ∙ e) (rw same (omega arith)) more)
 
 mark-text : text_of (0xEF ∷ 0xBF ∷ 0xBD ∷ []) ≡ replacement_character ∷ []
 unfolding chars

@@ -4,7 +4,7 @@ use Rattle.std.proofs.lemmas.Grind.{common_steps}
 use Rattle.std.proofs.lemmas.Bool.{cond-true, cond-false, lt-leb, le-leb}
 use Rattle.std.proofs.lemmas.Bool.Decides.{nat_tests}
 use Rattle.std.proofs.lemmas.Str.{len_utf8_bounds, encodes-append}
-use Rattle.std.specs.Prelude.{IsTrue, IsErr, OnOk, OnErr, option_map}
+use Rattle.std.specs.Prelude.{IsTrue, OnOk, OnErr, option_map}
 use Rattle.std.specs.Char.{len_utf8, is_ascii}
 use Rattle.std.specs.Str.{IsUtf8}
 use Rattle.compact_repr.specs.Text.{size, text_of, utf8}
@@ -183,10 +183,6 @@ replace_range-by_nothing g v w i j e = grind (arith, common_steps)
 pub asks-by_nothing : (v : PlacedText) (i j : ℕ) → IsTrue (replace_range_allocates v i j []) → IsTrue (make_owned_allocates v)
 asks-by_nothing v i j h = grind (arith, common_steps)
 
--- which needs more than 24 bytes
-pub owning-long : (v : PlacedText) → IsTrue (make_owned_allocates v) → 24 < size v.text
-owning-long v h = grind (arith, common_steps)
-
 -- a removal of the character at a boundary
 pub replace_range-removes : {E : Type 0} (g : Growth) (v w : PlacedText) (rest : List ℕ) (p c n : ℕ) → IsBoundary v.text p → text_after v.text p ≡ c ∷ rest → n ≡ len_utf8 c
     → replace_range g v p (p + n) [] ≡ Some w → RemovesChar {E = E} g v p (Ok c) w
@@ -202,18 +198,4 @@ replace_range-removes g v w rest p c n h e k o =
       succeeds = λ _. refl;
       succeeds_short = λ _. refl;
       err = tt;
-    }
-
--- a removal that fails to make the value owned
-pub shortened_placement-character : {E : Type 0} (g : Growth) (v w : PlacedText) (p : ℕ) (r : Result ℕ E) → IsErr r → w ≡ v → IsTrue (make_owned_allocates v) → RemovesChar g v p r w
-shortened_placement-character g v w p (Ok c) fails same asks = absurd (grind (arith, fails))
-shortened_placement-character g v w p (Err e) fails same asks =
-    let long = owning-long v asks in
-    record {
-      ok = tt;
-      text = tt;
-      character = tt;
-      succeeds = λ owned_placement. absurd (grind (arith, common_steps, owned_placement, asks));
-      succeeds_short = λ short. absurd (omega (arith, long, short));
-      err = (same, asks);
     }

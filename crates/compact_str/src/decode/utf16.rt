@@ -193,7 +193,7 @@ fn from_bytes(
 }
 
 /// Converts pairs of bytes, replacing what is invalid with U+FFFD.
-#[tactic(auto, using(compact_codec::proofs::ForDecoders::lossy_decoding, crate::proofs::FittedTexts::first_facts))]
+#[tactic(auto, using(compact_codec::proofs::ForDecoders::lossy_decoding))]
 fn from_bytes_lossy(
     alloc: Global,
     order: ByteOrder,
