@@ -1,19 +1,11 @@
 -- The group has the digits of the number.
 use Rattle.std.proofs.Common.{arith, refl, sym}
-use Rattle.compact_ext.proofs.Digits.{digits-fit, last-count, last-fits, last-group}
+use Rattle.compact_ext.proofs.Digits.{digits-fit, last-fits, last-group}
 use Rattle.compact_ext.proofs.to_text.digits.ShortText.behind_first.Goals as goal
 
 pub overflow_add-group : goal.overflow_add-group
 overflow_add-group c =
     let g = last-group _ _ _ c.pair.result c.pair-2.result c.requires.small c.count_pairs-pairs.ensures.none c.count_pairs-pairs.ensures.one c.count_first-count.ensures.len c.pair.ensures c.pair-2.ensures in omega (arith, g, last-fits c.args.n c.requires.small)
-
-pub overflow_add-count : goal.overflow_add-count
-overflow_add-count c =
-    let g = last-group _ _ _ _ _ c.requires.small c.count_pairs-pairs.ensures.none c.count_pairs-pairs.ensures.one c.count_first-count.ensures.len refl refl in omega (arith, g, last-count c.args.n c.requires.small)
-
-pub behind-requires-clause-most : goal.behind-requires-clause-most
-behind-requires-clause-most c =
-    let g = last-group _ _ _ c.pair.result c.pair-2.result c.requires.small c.count_pairs-pairs.ensures.none c.count_pairs-pairs.ensures.one c.count_first-count.ensures.len c.pair.ensures c.pair-2.ensures in omega (arith, g, last-count c.args.n c.requires.small)
 
 pub behind-requires-clause-group : goal.behind-requires-clause-group
 behind-requires-clause-group c =
