@@ -122,7 +122,7 @@ last-steps n p h none one =
     (λ (high : 100 ≤ n). rw (one high) (omega arith, omega arith, omega arith))
     (cases_lt n 100)
 
-pub last-count : (n : ℕ) → n < 10000 → length (decimal n) ≤ 4
+last-count : (n : ℕ) → n < 10000 → length (decimal n) ≤ 4
 last-count n h = length-decimal-le 4 n (omega arith) (omega arith) (omega arith)
 
 pub last-fits : (n : ℕ) → n < 10000 → le_number (decimal n) < 2 ^ 32

@@ -26,9 +26,6 @@ use Rattle.compact_lines.specs.Sessions.{State, Executes, DoesOrRefuses, runs_ed
 use Rattle.compact_lines.specs.Commands.{reference_to, line_command, command_itself, edit_itself, command_of, answers_of}
 use Rattle.compact_lines.specs.Lines.{AnswersCommand, outcome_line, value_line, AnswersLine, AnswersLines, IsFirstLine, bytes_of, AppendsFront, AppendsAnswer, AppendsAnswerFront, AppendsPart, AppendsAnswers, AppendsSomeAnswers}
 
-abbrev pub standard : Growth
-standard = record { least = 32; numerator = 3; denominator = 2 }
-
 -- two appends compose
 pub appends-both : (a b c : Option (List ℕ)) (xs ys : List ℕ) → Appends a b xs → Appends b c ys → Appends a c (xs ++ ys)
 appends-both None b c xs ys first then = tt

@@ -73,7 +73,9 @@ fn count_pairs(n: u64) -> u64
 #[tactic(auto, using(crate::proofs::Digits::first_digits))]
 fn count_first(n: u64) -> usize
     requires { n < 100 }
-    ensures { result ≡ length (decimal n) }
+    ensures len { result ≡ length (decimal n) }
+    ensures some { 1 ≤ result }
+    ensures most { result ≤ 2 }
 {
     if n >= 10 { 2 } else { 1 }
 }

@@ -1,6 +1,6 @@
 use Rattle.std.proofs.Common.{◌≡◌, ◌<◌, ◌∙◌, ◌+◌, ℕ, List, length, ap, arith}
 use Rattle.std.specs.Io.BufRead.{strip_last}
-use Rattle.compact_lines.proofs.LineLemmas.{so-far-more, stopped-after, stopped-within, standard}
+use Rattle.compact_lines.proofs.LineLemmas.{so-far-more, stopped-after, stopped-within}
 use Rattle.compact_lines.proofs.lines.answer_lines.Goals as goal
 
 some-read : (bytes : List ℕ) (len before n : ℕ) → len ≡ length bytes → len ≡ before + n → (n ≡ 0 → ⊥) → 0 < length bytes
@@ -9,40 +9,24 @@ some-read bytes len before n is more some = omega arith
 pub loop-preserved : goal.loop-preserved
 loop-preserved g c =
     let takes = rw c.clear.ensures.items at c.in_ok-read_until.ensures.bytes in
-    let some : 0 < length c.read_until.new.buf.items = some-read _ _ _ _ c.read_until.new.buf.ok.0 c.in_ok-read_until.ensures.ok
-    c.if-branch-eq0.false in
+    let some = some-read _ _ _ _ c.read_until.new.buf.ok.0 c.in_ok-read_until.ensures.ok c.if-branch-eq0.false in
     let stripped = c.without_end.ensures ∙ ap (λ t. strip_last 10 t) c.as_slice.ensures.value in
-    so-far-more standard c.args.session.now c.loop.session c.answer_line.new.session
-    (g.B.Read.remaining c.args.reader.now) (g.B.Read.remaining c.loop.reader) (g.B.Read.remaining c.read_until.new.self)
-    (g.W.Write.contents c.args.writer.now) (g.W.Write.contents c.loop.writer) (g.W.Write.contents c.answer_line.new.writer) (g.W.Write.contents c.flush.new.self)
-    c.read_until.new.buf.items c.without_end.result.now c.loop.invariant takes some stripped c.in_ok-read_until.ensures.rest
-    c.in_ok-answer_line.ensures.ok c.flush.ensures.bytes
+    so-far-more _ _ _ _ _ _ _ _ _ _ _ _ _ c.loop.invariant takes some stripped c.in_ok-read_until.ensures.rest c.in_ok-answer_line.ensures.ok c.flush.ensures.bytes
 
 pub returns-in_err-read_until-clause-err : goal.returns-in_err-read_until-clause-err
-returns-in_err-read_until-clause-err g c =
-    stopped-after _ standard c.args.session.now c.loop.session (g.B.Read.remaining c.args.reader.now) (g.B.Read.remaining c.loop.reader)
-    (g.W.Write.contents c.args.writer.now) (g.W.Write.contents c.loop.writer) c.loop.invariant
+returns-in_err-read_until-clause-err g c = stopped-after _ _ _ _ _ _ _ _ c.loop.invariant
 
 pub returns-in_err-answer_line-clause-err : goal.returns-in_err-answer_line-clause-err
 returns-in_err-answer_line-clause-err g c =
     let takes = rw c.clear.ensures.items at c.in_ok-read_until.ensures.bytes in
-    let some : 0 < length c.read_until.new.buf.items = some-read _ _ _ _ c.read_until.new.buf.ok.0 c.in_ok-read_until.ensures.ok
-    c.if-branch-eq0.false in
+    let some = some-read _ _ _ _ c.read_until.new.buf.ok.0 c.in_ok-read_until.ensures.ok c.if-branch-eq0.false in
     let stripped = c.without_end.ensures ∙ ap (λ t. strip_last 10 t) c.as_slice.ensures.value in
-    stopped-within _ standard c.args.session.now c.loop.session (g.B.Read.remaining c.args.reader.now) (g.B.Read.remaining c.loop.reader)
-    (g.W.Write.contents c.args.writer.now) (g.W.Write.contents c.loop.writer) (g.W.Write.contents c.answer_line.new.writer)
-    c.read_until.new.buf.items c.without_end.result.now c.loop.invariant takes some stripped c.in_err-answer_line.ensures.err
+    stopped-within _ _ _ _ _ _ _ _ _ _ _ c.loop.invariant takes some stripped c.in_err-answer_line.ensures.err
 
 pub returns-in_err-flush-clause-err : goal.returns-in_err-flush-clause-err
 returns-in_err-flush-clause-err g c =
     let takes = rw c.clear.ensures.items at c.in_ok-read_until.ensures.bytes in
-    let some : 0 < length c.read_until.new.buf.items = some-read _ _ _ _ c.read_until.new.buf.ok.0 c.in_ok-read_until.ensures.ok
-    c.if-branch-eq0.false in
+    let some = some-read _ _ _ _ c.read_until.new.buf.ok.0 c.in_ok-read_until.ensures.ok c.if-branch-eq0.false in
     let stripped = c.without_end.ensures ∙ ap (λ t. strip_last 10 t) c.as_slice.ensures.value in
-    stopped-after _ standard c.args.session.now c.answer_line.new.session (g.B.Read.remaining c.args.reader.now) (g.B.Read.remaining c.read_until.new.self)
-    (g.W.Write.contents c.args.writer.now) (g.W.Write.contents c.flush.new.self)
-    (so-far-more standard c.args.session.now c.loop.session c.answer_line.new.session
-    (g.B.Read.remaining c.args.reader.now) (g.B.Read.remaining c.loop.reader) (g.B.Read.remaining c.read_until.new.self)
-    (g.W.Write.contents c.args.writer.now) (g.W.Write.contents c.loop.writer) (g.W.Write.contents c.answer_line.new.writer) (g.W.Write.contents c.flush.new.self)
-    c.read_until.new.buf.items c.without_end.result.now c.loop.invariant takes some stripped c.in_ok-read_until.ensures.rest
-    c.in_ok-answer_line.ensures.ok c.flush.ensures.bytes)
+    stopped-after _ _ _ _ _ _ _ _
+    (so-far-more _ _ _ _ _ _ _ _ _ _ _ _ _ c.loop.invariant takes some stripped c.in_ok-read_until.ensures.rest c.in_ok-answer_line.ensures.ok c.flush.ensures.bytes)

@@ -26,19 +26,16 @@ none-shown P ranks most n i is within none = absurd (omega (arith, length-take m
 
 pub loop-entry-preserved : goal.loop-entry-preserved
 loop-entry-preserved c =
-    rows-more (λ fields. map text_in fields.items) (entry_fields c.args.names.now) c.loop-entry.table.items c.push.new.self.items (take c.min.result c.args.ranks.now) c.loop-entry.entry-index
-    c.in_ok-fields.fields _ c.loop-entry-test.true (pushed c.push.result _ _ _ c.if-is_err.ensures.value c.push.ensures.items) c.in_ok-fields.ensures c.loop-entry.invariant
+    rows-more (λ fields. map text_in fields.items) (entry_fields c.args.names.now) _ _ _ _ _ _ c.loop-entry-test.true (pushed _ _ _ _ c.if-is_err.ensures.value c.push.ensures.items) c.in_ok-fields.ensures c.loop-entry.invariant
 
 pub returns-in_err-fields-clause-records : goal.returns-in_err-fields-clause-records
 returns-in_err-fields-clause-records c = IfOk-from_err _ _ c.from_residual.ensures.0
 
 pub returns-in_err-fields-clause-empty : goal.returns-in_err-fields-clause-empty
-returns-in_err-fields-clause-empty c = none-shown _ c.args.ranks.now c.args.most c.min.result c.loop-entry.entry-index c.min.ensures c.loop-entry-test.true
+returns-in_err-fields-clause-empty c = none-shown _ _ _ _ _ c.min.ensures c.loop-entry-test.true
 
 pub returns-clause-records : goal.returns-clause-records
-returns-clause-records c =
-    rows-all (λ fields. map text_in fields.items) (entry_fields c.args.names.now) c.loop-entry.table.items c.args.ranks.now c.args.most c.min.result c.loop-entry.entry-index c.min.ensures c.loop-entry-test.false
-    c.loop-entry.invariant
+returns-clause-records c = rows-all (λ fields. map text_in fields.items) (entry_fields c.args.names.now) _ _ _ _ _ c.min.ensures c.loop-entry-test.false c.loop-entry.invariant
 
 pub returns-then-is_err-clause-empty : goal.returns-then-is_err-clause-empty
-returns-then-is_err-clause-empty c = none-shown _ c.args.ranks.now c.args.most c.min.result c.loop-entry.entry-index c.min.ensures c.loop-entry-test.true
+returns-then-is_err-clause-empty c = none-shown _ _ _ _ _ c.min.ensures c.loop-entry-test.true

@@ -1,17 +1,13 @@
 -- The form that was shown is passed over, or its length.
-use Rattle.std.proofs.Common.{rules, arith, subst}
-use Rattle.std.specs.Prelude.{MatchOption}
-use Rattle.std.specs.Io.BufRead.{FillKeeps}
-use Rattle.compact_ext.specs.WireRecords.{ShowsNoForm, ShowsForm}
+use Rattle.std.proofs.Common.{rules, arith}
 use Rattle.compact_ext.proofs.WireForms.{took-shown, head-taken}
 use Rattle.compact_ext.proofs.RecordLists.{more-shown, record-read}
 use Rattle.compact_ext.proofs.wire.records.next_record.Goals as goal
 
 pub returns-in-Ok-Some : goal.returns-in-Ok-Some
 returns-in-Ok-Some g c =
-    let rested = c.fill_buf.follows.lender-at-none in
-    let filled = subst (FillKeeps _ (g.R.Read.remaining rested) (g.R.BufRead.consumable_len rested)) c.in-Ok.is c.fill_buf.follows.holds-at-none in
-    let shows = subst (λ found. MatchOption found (ShowsNoForm c.in-Ok.bytes.now) (ShowsForm c.in-Ok.bytes.now)) c.in-Ok-Some.field-0-is c.in-Ok-Some.ensures.shown in
+    let filled = rw c.in-Ok.is at c.fill_buf.follows.holds-at-none in
+    let shows = rw c.in-Ok-Some.field-0-is at c.in-Ok-Some.ensures.shown in
     record {
       form = took-shown _ _ _ _ c.in-Ok.bytes.now c.in-Ok-Some.text.text c.len.result c.len.ensures.value shows.form c.in-Ok.ensures.front c.in-Ok.ensures.end filled.0 filled.1 c.consume.ensures.bytes;
       fits = shows.fits;
@@ -20,8 +16,7 @@ returns-in-Ok-Some g c =
 
 pub returns-in-Err-shown_text : goal.returns-in-Err-shown_text
 returns-in-Err-shown_text g c =
-    let rested = c.fill_buf.follows.lender-at-none in
-    let filled = subst (FillKeeps _ (g.R.Read.remaining rested) (g.R.BufRead.consumable_len rested)) c.in-Ok.is c.fill_buf.follows.holds-at-none in
+    let filled = rw c.in-Ok.is at c.fill_buf.follows.holds-at-none in
     let asked = c.in-Err-shown_text.ensures.err in
     record {
       fails = head-taken _ _ _ _ c.in-Ok.bytes.now _ asked.0 asked.1 c.in-Ok.ensures.front c.in-Ok.ensures.end filled.0 filled.1 c.consume-in-Err-shown_text.ensures.bytes;
@@ -30,7 +25,6 @@ returns-in-Err-shown_text g c =
 
 pub returns-in-Ok-None : goal.returns-in-Ok-None
 returns-in-Ok-None g c =
-    let rested = c.fill_buf.follows.lender-at-none in
-    let filled = subst (FillKeeps _ (g.R.Read.remaining rested) (g.R.BufRead.consumable_len rested)) c.in-Ok.is c.fill_buf.follows.holds-at-none in
+    let filled = rw c.in-Ok.is at c.fill_buf.follows.holds-at-none in
     let more = more-shown _ c.in-Ok.bytes.now c.in-Ok.ensures.front (search rules) in
-    record-read _ (g.R.Read.remaining rested) _ c.read_wire.result filled.0 more c.read_wire.ensures.ok c.read_wire.ensures.fits c.read_wire.ensures.placement c.read_wire.ensures.err
+    record-read _ _ _ c.read_wire.result filled.0 more c.read_wire.ensures.ok c.read_wire.ensures.fits c.read_wire.ensures.placement c.read_wire.ensures.err

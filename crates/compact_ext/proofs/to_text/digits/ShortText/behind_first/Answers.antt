@@ -1,40 +1,16 @@
 -- The group has the digits of the number.
 use Rattle.std.proofs.Common.{arith, refl, sym}
-use Rattle.compact_ext.proofs.Digits.{digits-fit, last-count, last-fits, last-group}
+use Rattle.compact_ext.proofs.Digits.{digits-fit, last-fits, last-group}
 use Rattle.compact_ext.proofs.to_text.digits.ShortText.behind_first.Goals as goal
-
-pub overflow_mul-group : goal.overflow_mul-group
-overflow_mul-group c =
-    let g = last-group c.args.n c.count_pairs-pairs.result c.count_first-count.result _ _ c.requires.small c.count_pairs-pairs.ensures.none c.count_pairs-pairs.ensures.one c.count_first-count.ensures refl refl in omega arith
-
-pub overflow_shl-group : goal.overflow_shl-group
-overflow_shl-group c =
-    let g = last-group c.args.n c.count_pairs-pairs.result c.count_first-count.result _ _ c.requires.small c.count_pairs-pairs.ensures.none c.count_pairs-pairs.ensures.one c.count_first-count.ensures refl refl in omega arith
-
-pub overflow_sub-group : goal.overflow_sub-group
-overflow_sub-group c =
-    let g = last-group c.args.n c.count_pairs-pairs.result c.count_first-count.result _ _ c.requires.small c.count_pairs-pairs.ensures.none c.count_pairs-pairs.ensures.one c.count_first-count.ensures refl refl in g.1
 
 pub overflow_add-group : goal.overflow_add-group
 overflow_add-group c =
-    let g = last-group c.args.n c.count_pairs-pairs.result c.count_first-count.result c.pair.result c.pair-2.result c.requires.small c.count_pairs-pairs.ensures.none c.count_pairs-pairs.ensures.one c.count_first-count.ensures c.pair.ensures c.pair-2.ensures in omega (arith, g, last-fits c.args.n c.requires.small)
-
-pub overflow_add-count : goal.overflow_add-count
-overflow_add-count c =
-    let g = last-group c.args.n c.count_pairs-pairs.result c.count_first-count.result _ _ c.requires.small c.count_pairs-pairs.ensures.none c.count_pairs-pairs.ensures.one c.count_first-count.ensures refl refl in omega (arith, g, last-count c.args.n c.requires.small)
-
-pub behind-requires-clause-some : goal.behind-requires-clause-some
-behind-requires-clause-some c =
-    let g = last-group c.args.n c.count_pairs-pairs.result c.count_first-count.result _ _ c.requires.small c.count_pairs-pairs.ensures.none c.count_pairs-pairs.ensures.one c.count_first-count.ensures refl refl in omega arith
-
-pub behind-requires-clause-most : goal.behind-requires-clause-most
-behind-requires-clause-most c =
-    let g = last-group c.args.n c.count_pairs-pairs.result c.count_first-count.result c.pair.result c.pair-2.result c.requires.small c.count_pairs-pairs.ensures.none c.count_pairs-pairs.ensures.one c.count_first-count.ensures c.pair.ensures c.pair-2.ensures in omega (arith, g, last-count c.args.n c.requires.small)
+    let g = last-group _ _ _ c.pair.result c.pair-2.result c.requires.small c.count_pairs-pairs.ensures.none c.count_pairs-pairs.ensures.one c.count_first-count.ensures.len c.pair.ensures c.pair-2.ensures in omega (arith, g, last-fits c.args.n c.requires.small)
 
 pub behind-requires-clause-group : goal.behind-requires-clause-group
 behind-requires-clause-group c =
-    let g = last-group c.args.n c.count_pairs-pairs.result c.count_first-count.result c.pair.result c.pair-2.result c.requires.small c.count_pairs-pairs.ensures.none c.count_pairs-pairs.ensures.one c.count_first-count.ensures c.pair.ensures c.pair-2.ensures in rw (g.3, g.2) (digits-fit c.args.n (omega arith))
+    let g = last-group _ _ _ c.pair.result c.pair-2.result c.requires.small c.count_pairs-pairs.ensures.none c.count_pairs-pairs.ensures.one c.count_first-count.ensures.len c.pair.ensures c.pair-2.ensures in rw (g.3, g.2) (digits-fit c.args.n (omega arith))
 
 pub returns : goal.returns
 returns c =
-    let g = last-group c.args.n c.count_pairs-pairs.result c.count_first-count.result c.pair.result c.pair-2.result c.requires.small c.count_pairs-pairs.ensures.none c.count_pairs-pairs.ensures.one c.count_first-count.ensures c.pair.ensures c.pair-2.ensures in rw (sym g.2, sym g.3) c.behind.ensures
+    let g = last-group _ _ _ c.pair.result c.pair-2.result c.requires.small c.count_pairs-pairs.ensures.none c.count_pairs-pairs.ensures.one c.count_first-count.ensures.len c.pair.ensures c.pair-2.ensures in rw (sym g.2, sym g.3) c.behind.ensures
