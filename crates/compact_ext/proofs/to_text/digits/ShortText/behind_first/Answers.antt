@@ -1,5 +1,5 @@
 -- The group has the digits of the number.
-use Rattle.std.proofs.Common.{arith, refl, sym}
+use Rattle.std.proofs.Common.{arith, sym}
 use Rattle.compact_ext.proofs.Digits.{digits-fit, last-fits, last-group}
 use Rattle.compact_ext.proofs.to_text.digits.ShortText.behind_first.Goals as goal
 
