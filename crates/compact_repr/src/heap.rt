@@ -173,18 +173,11 @@ impl HeapBuffer {
         ensures small { size self.old.text < 2 ^ 63 }
         ensures full { result ≡ false → self.new ≡ self.old }
     {
-        let old = self.bytes.len();
-        let len = old - (end - start) + text.len();
+        let len = self.bytes.len() - (end - start) + text.len();
         if len > self.bytes.capacity() {
             return false;
         }
-        if len > old {
-            vec::append_zeros(&mut self.bytes, len);
-            slices::splice(self.bytes.as_mut_slice(), old, start, end, text.as_bytes());
-        } else {
-            slices::splice(self.bytes.as_mut_slice(), old, start, end, text.as_bytes());
-            self.bytes.truncate(len);
-        }
+        vec::splice(&mut self.bytes, start, end, text.as_bytes());
         true
     }
 

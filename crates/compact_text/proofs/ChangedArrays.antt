@@ -44,11 +44,12 @@ with_last xs at last within is =
 regrouped : (a b c d : List ℕ) (k m n : ℕ) → (a ++ k ∷ b) ++ (m ∷ c) ++ (n ∷ d) ≡ a ++ k ∷ ((b ++ m ∷ []) ++ ((c ++ n ∷ []) ++ d))
 regrouped a b c d k m n = simp append_assoc
 
-pub inserted_first : (x y z u v w : List ℕ) (at byte m n : ℕ) → length x ≡ 8 → length y ≡ 8 → at ≤ 7
+pub inserted_first : (xs now x y z u v w : List ℕ) (at byte m n : ℕ) → at ≤ 7 → now ≡ u ++ v ++ w
     → u ≡ take at x ++ byte ∷ take (7 - at) (drop at x) → drop 7 x ≡ m ∷ [] → v ≡ m ∷ take 7 y → drop 7 y ≡ n ∷ [] → w ≡ n ∷ take 7 z
-    → u ++ v ++ w ≡ take at (x ++ y ++ z) ++ byte ∷ take (23 - at) (drop at (x ++ y ++ z))
-inserted_first x y z u v w at byte m n length_x length_y within first last_x second last_y third =
-    let words : u ++ v ++ w ≡ (take at x ++ byte ∷ take (7 - at) (drop at x)) ++ (m ∷ take 7 y) ++ (n ∷ take 7 z) = cc in
+    → x ≡ take 8 xs → y ≡ take 8 (drop 8 xs) → z ≡ take 8 (drop 16 xs) → length x ≡ 8 → length y ≡ 8 → length xs ≡ 24
+    → now ≡ take at xs ++ byte ∷ take (23 - at) (drop at xs)
+inserted_first xs now x y z u v w at byte m n within is first last_x second last_y third is_x is_y is_z length_x length_y long =
+    let words : now ≡ (take at x ++ byte ∷ take (7 - at) (drop at x)) ++ (m ∷ take 7 y) ++ (n ∷ take 7 z) = cc in
     let middle : take (7 - at) (drop at x) ++ m ∷ [] ≡ drop at x = with_last x at m within last_x in
     let behind : take 7 y ++ n ∷ [] ≡ y = with_last y 0 n (omega arith) last_y in
     let whole = put_in x (y ++ z) at byte 23 15 (omega arith) (omega arith) in
@@ -58,13 +59,14 @@ inserted_first x y z u v w at byte m n length_x length_y within first last_x sec
     ∙ ap (λ (ys : List ℕ). take at x ++ byte ∷ (drop at x ++ (ys ++ take 7 z))) behind
     ∙ ap (λ (ys : List ℕ). take at x ++ byte ∷ (drop at x ++ ys)) (sym (take_past y z 15 7 (omega arith)))
     ∙ sym whole
-    ∙ ap (λ (ys : List ℕ). take at ys ++ byte ∷ take (23 - at) (drop at ys)) (sym (append_assoc x y z))
+    ∙ ap (λ (ys : List ℕ). take at ys ++ byte ∷ take (23 - at) (drop at ys)) (sym (append_assoc x y z) ∙ array_is_three xs x y z long is_x is_y is_z)
 
-pub inserted_second : (x y z v w : List ℕ) (at from byte n : ℕ) → length x ≡ 8 → length y ≡ 8 → at ≡ 8 + from → from ≤ 7
-    → v ≡ take from y ++ byte ∷ take (7 - from) (drop from y) → drop 7 y ≡ n ∷ [] → w ≡ n ∷ take 7 z
-    → x ++ v ++ w ≡ take at (x ++ y ++ z) ++ byte ∷ take (23 - at) (drop at (x ++ y ++ z))
-inserted_second x y z v w at from byte n length_x length_y place within second last_y third =
-    let words : x ++ v ++ w ≡ x ++ (take from y ++ byte ∷ take (7 - from) (drop from y)) ++ (n ∷ take 7 z) = cc in
+pub inserted_second : (xs now x y z v w : List ℕ) (at from byte n : ℕ) → now ≡ x ++ v ++ w
+    → v ≡ take from y ++ byte ∷ take (7 - from) (drop from y) → drop 7 y ≡ n ∷ [] → w ≡ n ∷ take 7 z → at ≡ 8 + from → from ≤ 7
+    → x ≡ take 8 xs → y ≡ take 8 (drop 8 xs) → z ≡ take 8 (drop 16 xs) → length x ≡ 8 → length y ≡ 8 → length xs ≡ 24
+    → now ≡ take at xs ++ byte ∷ take (23 - at) (drop at xs)
+inserted_second xs now x y z v w at from byte n is second last_y third place within is_x is_y is_z length_x length_y long =
+    let words : now ≡ x ++ (take from y ++ byte ∷ take (7 - from) (drop from y)) ++ (n ∷ take 7 z) = cc in
     let middle : take (7 - from) (drop from y) ++ n ∷ [] ≡ drop from y = with_last y from n within last_y in
     let both : length (x ++ y) ≡ 16 = length-append x y ∙ omega arith in
     let whole = put_in (x ++ y) z at byte 23 7 (omega arith) (omega arith) in
@@ -75,29 +77,34 @@ inserted_second x y z v w at from byte n length_x length_y place within second l
     ∙ ap (λ (ys : List ℕ). ys ++ byte ∷ (drop from y ++ take 7 z)) (sym (take_past x y at from (omega arith)))
     ∙ ap (λ (ys : List ℕ). take at (x ++ y) ++ byte ∷ (ys ++ take 7 z)) (sym (drop_past x y at from (omega arith)))
     ∙ sym whole
+    ∙ ap (λ (ys : List ℕ). take at ys ++ byte ∷ take (23 - at) (drop at ys)) (array_is_three xs x y z long is_x is_y is_z)
 
-pub inserted_third : (x y z w : List ℕ) (at from byte : ℕ) → length x ≡ 8 → length y ≡ 8 → at ≡ 16 + from
-    → w ≡ take from z ++ byte ∷ take (7 - from) (drop from z)
-    → x ++ y ++ w ≡ take at (x ++ y ++ z) ++ byte ∷ take (23 - at) (drop at (x ++ y ++ z))
-inserted_third x y z w at from byte length_x length_y place third =
+pub inserted_third : (xs now x y z w : List ℕ) (at from byte : ℕ) → now ≡ x ++ y ++ w
+    → w ≡ take from z ++ byte ∷ take (7 - from) (drop from z) → at ≡ 16 + from
+    → x ≡ take 8 xs → y ≡ take 8 (drop 8 xs) → z ≡ take 8 (drop 16 xs) → length x ≡ 8 → length y ≡ 8 → length xs ≡ 24
+    → now ≡ take at xs ++ byte ∷ take (23 - at) (drop at xs)
+inserted_third xs now x y z w at from byte is third place is_x is_y is_z length_x length_y long =
     let both : length (x ++ y) ≡ 16 = length-append x y ∙ omega arith in
     let left : 7 - from ≡ 23 - at = omega arith in
-    ap (λ (ys : List ℕ). x ++ y ++ ys) third
+    is
+    ∙ ap (λ (ys : List ℕ). x ++ y ++ ys) third
     ∙ sym (append_assoc (x ++ y) (take from z) (byte ∷ take (7 - from) (drop from z)))
     ∙ ap (λ (ys : List ℕ). ys ++ byte ∷ take (7 - from) (drop from z)) (sym (take_past (x ++ y) z at from (omega arith)))
     ∙ ap (λ (ys : List ℕ). take at (x ++ y ++ z) ++ byte ∷ take (7 - from) ys) (sym (drop_past (x ++ y) z at from (omega arith)))
     ∙ ap (λ (n : ℕ). take at (x ++ y ++ z) ++ byte ∷ take n (drop at (x ++ y ++ z))) left
+    ∙ ap (λ (ys : List ℕ). take at ys ++ byte ∷ take (23 - at) (drop at ys)) (array_is_three xs x y z long is_x is_y is_z)
 
 -- the word after the last one
 pub zero_follows : take 1 (word_bytes 0) ≡ 0 ∷ []
 unfolding word_bytes
 zero_follows = refl
 
-pub removed_first : (x y z u v w : List ℕ) (at : ℕ) → length x ≡ 8 → at ≤ 7
+pub removed_first : (xs now x y z u v w : List ℕ) (at : ℕ) → at ≤ 7 → now ≡ u ++ v ++ w
     → u ≡ take at x ++ drop (at + 1) x ++ take 1 y → v ≡ drop 1 y ++ take 1 z → w ≡ drop 1 z ++ take 1 (word_bytes 0)
-    → u ++ v ++ w ≡ take at (x ++ y ++ z) ++ drop (at + 1) (x ++ y ++ z) ++ 0 ∷ []
-removed_first x y z u v w at length_x within first second third =
-    let words : u ++ v ++ w ≡ (take at x ++ drop (at + 1) x ++ take 1 y) ++ (drop 1 y ++ take 1 z) ++ (drop 1 z ++ 0 ∷ []) =
+    → x ≡ take 8 xs → y ≡ take 8 (drop 8 xs) → z ≡ take 8 (drop 16 xs) → length x ≡ 8 → length xs ≡ 24
+    → now ≡ take at xs ++ drop (at + 1) xs ++ 0 ∷ []
+removed_first xs now x y z u v w at within is first second third is_x is_y is_z length_x long =
+    let words : now ≡ (take at x ++ drop (at + 1) x ++ take 1 y) ++ (drop 1 y ++ take 1 z) ++ (drop 1 z ++ 0 ∷ []) =
     let last = zero_follows in cc in
     let grouped : (take at x ++ drop (at + 1) x ++ take 1 y) ++ (drop 1 y ++ take 1 z) ++ (drop 1 z ++ 0 ∷ [])
     ≡ (take at x ++ (drop (at + 1) x ++ ((take 1 y ++ drop 1 y) ++ (take 1 z ++ drop 1 z)))) ++ 0 ∷ [] = simp append_assoc in
@@ -106,13 +113,14 @@ removed_first x y z u v w at length_x within first second third =
     ∙ ap (λ (ys : List ℕ). (take at x ++ (drop (at + 1) x ++ (ys ++ (take 1 z ++ drop 1 z)))) ++ 0 ∷ []) (take-append-drop 1 y)
     ∙ ap (λ (ys : List ℕ). (take at x ++ (drop (at + 1) x ++ (y ++ ys))) ++ 0 ∷ []) (take-append-drop 1 z)
     ∙ ap (λ (ys : List ℕ). ys ++ 0 ∷ []) (sym (taken_out x (y ++ z) at (omega arith)))
-    ∙ ap (λ (ys : List ℕ). take at ys ++ drop (at + 1) ys ++ 0 ∷ []) (sym (append_assoc x y z))
+    ∙ ap (λ (ys : List ℕ). take at ys ++ drop (at + 1) ys ++ 0 ∷ []) (sym (append_assoc x y z) ∙ array_is_three xs x y z long is_x is_y is_z)
 
-pub removed_second : (x y z v w : List ℕ) (at from : ℕ) → length x ≡ 8 → length y ≡ 8 → at ≡ 8 + from → from ≤ 7
-    → v ≡ take from y ++ drop (from + 1) y ++ take 1 z → w ≡ drop 1 z ++ take 1 (word_bytes 0)
-    → x ++ v ++ w ≡ take at (x ++ y ++ z) ++ drop (at + 1) (x ++ y ++ z) ++ 0 ∷ []
-removed_second x y z v w at from length_x length_y place within second third =
-    let words : x ++ v ++ w ≡ x ++ (take from y ++ drop (from + 1) y ++ take 1 z) ++ (drop 1 z ++ 0 ∷ []) = let last = zero_follows in cc in
+pub removed_second : (xs now x y z v w : List ℕ) (at from : ℕ) → now ≡ x ++ v ++ w
+    → v ≡ take from y ++ drop (from + 1) y ++ take 1 z → w ≡ drop 1 z ++ take 1 (word_bytes 0) → at ≡ 8 + from → from ≤ 7
+    → x ≡ take 8 xs → y ≡ take 8 (drop 8 xs) → z ≡ take 8 (drop 16 xs) → length x ≡ 8 → length y ≡ 8 → length xs ≡ 24
+    → now ≡ take at xs ++ drop (at + 1) xs ++ 0 ∷ []
+removed_second xs now x y z v w at from is second third place within is_x is_y is_z length_x length_y long =
+    let words : now ≡ x ++ (take from y ++ drop (from + 1) y ++ take 1 z) ++ (drop 1 z ++ 0 ∷ []) = let last = zero_follows in cc in
     let both : length (x ++ y) ≡ 16 = length-append x y ∙ omega arith in
     let grouped : x ++ (take from y ++ drop (from + 1) y ++ take 1 z) ++ (drop 1 z ++ 0 ∷ [])
     ≡ ((x ++ take from y) ++ (drop (from + 1) y ++ (take 1 z ++ drop 1 z))) ++ 0 ∷ [] = simp append_assoc in
@@ -122,18 +130,21 @@ removed_second x y z v w at from length_x length_y place within second third =
     ∙ ap (λ (ys : List ℕ). (ys ++ (drop (from + 1) y ++ z)) ++ 0 ∷ []) (sym (take_past x y at from (omega arith)))
     ∙ ap (λ (ys : List ℕ). (take at (x ++ y) ++ (ys ++ z)) ++ 0 ∷ []) (sym (drop_past x y (at + 1) (from + 1) (omega arith)))
     ∙ ap (λ (ys : List ℕ). ys ++ 0 ∷ []) (sym (taken_out (x ++ y) z at (omega arith)))
+    ∙ ap (λ (ys : List ℕ). take at ys ++ drop (at + 1) ys ++ 0 ∷ []) (array_is_three xs x y z long is_x is_y is_z)
 
-pub removed_third : (x y z w : List ℕ) (at from : ℕ) → length x ≡ 8 → length y ≡ 8 → at ≡ 16 + from
-    → w ≡ take from z ++ drop (from + 1) z ++ take 1 (word_bytes 0)
-    → x ++ y ++ w ≡ take at (x ++ y ++ z) ++ drop (at + 1) (x ++ y ++ z) ++ 0 ∷ []
-removed_third x y z w at from length_x length_y place third =
+pub removed_third : (xs now x y z w : List ℕ) (at from : ℕ) → now ≡ x ++ y ++ w
+    → w ≡ take from z ++ drop (from + 1) z ++ take 1 (word_bytes 0) → at ≡ 16 + from
+    → x ≡ take 8 xs → y ≡ take 8 (drop 8 xs) → z ≡ take 8 (drop 16 xs) → length x ≡ 8 → length y ≡ 8 → length xs ≡ 24
+    → now ≡ take at xs ++ drop (at + 1) xs ++ 0 ∷ []
+removed_third xs now x y z w at from is third place is_x is_y is_z length_x length_y long =
     let both : length (x ++ y) ≡ 16 = length-append x y ∙ omega arith in
-    let words : x ++ y ++ w ≡ x ++ y ++ (take from z ++ drop (from + 1) z ++ 0 ∷ []) = let last = zero_follows in cc in
+    let words : now ≡ x ++ y ++ (take from z ++ drop (from + 1) z ++ 0 ∷ []) = let last = zero_follows in cc in
     let grouped : x ++ y ++ (take from z ++ drop (from + 1) z ++ 0 ∷ []) ≡ (x ++ y ++ take from z) ++ drop (from + 1) z ++ 0 ∷ [] = simp append_assoc in
     words
     ∙ grouped
     ∙ ap (λ (ys : List ℕ). ys ++ drop (from + 1) z ++ 0 ∷ []) (sym (take_past (x ++ y) z at from (omega arith)))
     ∙ ap (λ (ys : List ℕ). take at (x ++ y ++ z) ++ ys ++ 0 ∷ []) (sym (drop_past (x ++ y) z (at + 1) (from + 1) (omega arith)))
+    ∙ ap (λ (ys : List ℕ). take at ys ++ drop (at + 1) ys ++ 0 ∷ []) (array_is_three xs x y z long is_x is_y is_z)
 
 -- with another last byte only the third word differs
 pub other_last : (xs x y z : List ℕ) (last : ℕ) → length xs ≡ 24 → x ≡ take 8 xs → y ≡ take 8 (drop 8 xs) → z ≡ take 8 (drop 16 xs)

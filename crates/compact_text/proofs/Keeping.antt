@@ -62,28 +62,21 @@ abbrev pub Stands : {F : Type 0} → Mut F (ℕ × Unit {0}) Bool → F → List
 Stands g first whole f slice kept read =
     IsUtf8 (drop read slice) × IsUtf8 (take kept slice) × GoesOn g first whole f (text_of (take kept slice)) (text_of (drop read slice))
 
-pub stands-kept : {F : Type 0} (g : Mut F (ℕ × Unit {0}) Bool) (first f h : F) (whole slice now : List ℕ) (kept read n c : ℕ) (said : Bool)
-    → said ≡ true → Called g f (c, tt) said h → IsScalar c → kept ≤ read → drop read slice ≡ encode c ++ drop (read + n) slice → IsUtf8 (drop (read + n) slice)
-    → take (kept + n) now ≡ take kept slice ++ encode c → drop (kept + n) now ≡ drop (kept + n) slice
-    → Stands g first whole f slice kept read → Stands g first whole h now (kept + n) (read + n)
-stands-kept g first f h whole slice now kept read n c said says called s order e u front behind stands =
+-- a character is tested, and written where the retained part ends if it is retained
+pub stands-next : {F : Type 0} (g : Mut F (ℕ × Unit {0}) Bool) (first f h : F) (whole slice now : List ℕ) (kept next read n c : ℕ) (said : Bool)
+    → Called g f (c, tt) said h → IsScalar c → kept ≤ read → drop read slice ≡ encode c ++ drop (read + n) slice → IsUtf8 (drop (read + n) slice)
+    → take next now ≡ cond said (take kept slice ++ encode c) (take kept slice) → drop (kept + n) now ≡ drop (kept + n) slice
+    → Stands g first whole f slice kept read → Stands g first whole h now next (read + n)
+stands-next g first f h whole slice now kept next read n c true called s order e u front behind stands =
     let later : drop (read + n) now ≡ drop (read + n) slice = drop-later now slice (kept + n) (read + n) (omega (arith, order)) behind in
-    let text : text_of (take (kept + n) now) ≡ text_of (take kept slice) ++ c ∷ [] = ap (λ (l : List ℕ). text_of l) front ∙ text_of-put (take kept slice) c s stands.1 in
     let rest = chars_past_char (drop read slice) (drop (read + n) slice) c stands.0 e in
-    let on = goes_on-kept g first f h whole (text_of (drop read slice)) (text_of (drop (read + n) slice)) (text_of (take kept slice)) c rest (subst (λ (b : Bool). Called g f (c, tt) b h) says called) stands.2 in (
-      subst IsUtf8 (sym later) u,
-      subst IsUtf8 (sym front) (utf8-put (take kept slice) c s stands.1),
-      subst (λ (l : List ℕ). GoesOn g first whole h (text_of (take (kept + n) now)) (text_of l)) (sym later)
-          (subst (λ (l : List ℕ). GoesOn g first whole h l (text_of (drop (read + n) slice))) (sym text) on),
-    )
-
--- the test is false, and the slice unchanged
-pub stands-dropped : {F : Type 0} (g : Mut F (ℕ × Unit {0}) Bool) (first f h : F) (whole slice : List ℕ) (kept read n c : ℕ) (said : Bool)
-    → said ≡ false → Called g f (c, tt) said h → drop read slice ≡ encode c ++ drop (read + n) slice → IsUtf8 (drop (read + n) slice)
-    → Stands g first whole f slice kept read → Stands g first whole h slice kept (read + n)
-stands-dropped g first f h whole slice kept read n c said says called e u stands =
+    let on = goes_on-kept g first f h whole (text_of (drop read slice)) (text_of (drop (read + n) slice)) (text_of (take kept slice)) c rest called stands.2 in
+    rw (later, front, text_of-put (take kept slice) c s stands.1) (u, utf8-put (take kept slice) c s stands.1, on)
+stands-next g first f h whole slice now kept next read n c false called s order e u front behind stands =
+    let later : drop (read + n) now ≡ drop (read + n) slice = drop-later now slice (kept + n) (read + n) (omega (arith, order)) behind in
     let rest = chars_past_char (drop read slice) (drop (read + n) slice) c stands.0 e in
-    (u, stands.1, goes_on-dropped g first f h whole (text_of (drop read slice)) (text_of (drop (read + n) slice)) (text_of (take kept slice)) c rest (subst (λ (b : Bool). Called g f (c, tt) b h) says called) stands.2)
+    let on = goes_on-dropped g first f h whole (text_of (drop read slice)) (text_of (drop (read + n) slice)) (text_of (take kept slice)) c rest called stands.2 in
+    rw (later, front) (u, stands.1, on)
 
 pub stands-first : {F : Type 0} (g : Mut F (ℕ × Unit {0}) Bool) (first : F) (slice : List ℕ) → IsUtf8 slice → Stands g first (text_of slice) first slice 0 0
 stands-first g first slice u = (u, IsUtf8-nil, λ v last k. subst (λ (l : List ℕ). RetainsCharsTo g first (text_of slice) l last) (ap (λ (l : List ℕ). l ++ v) (sym chars-nil)) k)

@@ -2,8 +2,10 @@
 //!
 //! A loop through a reference would reload the vector for each byte, so the vector is moved out first.
 ghost use Rattle.std.specs.Prelude.{◌≡◌, ◌+◌, ◌-◌, ◌<◌, ◌≤◌, ◌++◌, length, take, drop, replicate};
+ghost use Rattle.std.specs.List.{replace_range};
 ghost use Rattle.std.specs.Vec.{vec_len, vec_capacity};
 
+use crate::slices;
 use std::mem;
 
 /// The block size.
@@ -100,6 +102,26 @@ fn append_many(vec: &mut Vec<u8>, source: &[u8])
         }
         vec.truncate(len + (count - LONG_BLOCK));
         append_array::<LONG_BLOCK>(vec, array_at::<LONG_BLOCK>(source, count - LONG_BLOCK));
+    }
+}
+
+/// Replaces the bytes from `start` to `end` with `source`.
+#[inline(always)]
+pub fn splice(bytes: &mut Vec<u8>, start: usize, end: usize, source: &[u8])
+    requires order { start ≤ end }
+    requires within { end ≤ vec_len bytes.old }
+    requires room { vec_len bytes.old + length source.now ≤ vec_capacity bytes.old + (end - start) }
+    ensures items { bytes.new.items ≡ replace_range bytes.old.items start end source.now }
+    ensures capacity { vec_capacity bytes.new ≡ vec_capacity bytes.old }
+{
+    let old = bytes.len();
+    let len = old - (end - start) + source.len();
+    if len > old {
+        append_zeros(bytes, len);
+        slices::splice(bytes.as_mut_slice(), old, start, end, source);
+    } else {
+        slices::splice(bytes.as_mut_slice(), old, start, end, source);
+        bytes.truncate(len);
     }
 }
 

@@ -1,5 +1,5 @@
 //! Retaining characters of a text in a slice.
-ghost use Rattle.std.specs.Prelude.{◌≡◌, ◌+◌, ◌≤◌, ◌<◌, ◌++◌, length, take, drop, IfSome, IsSome};
+ghost use Rattle.std.specs.Prelude.{◌≡◌, ◌+◌, ◌≤◌, ◌<◌, ◌++◌, length, take, drop, if◌then◌else◌, IfSome, IsSome};
 ghost use Rattle.std.specs.Char.{len_utf8, encode_utf8, IsScalar};
 ghost use Rattle.std.specs.Str.{IsUtf8};
 ghost use Rattle.compact_text.specs.Text.{text_of};
@@ -39,18 +39,14 @@ fn move_retained<F: FnMut(char) -> bool>(slice: &mut [u8], keep: &mut F) -> usiz
     while read < slice.len() {
         // Writes only after `keep` has returned: a position that depends on the result would delay the next read.
         while let Some(character) = ascii_at(slice, read) {
-            if keep(character) {
-                write_char(slice, kept, character, 1);
-                kept += 1;
-            }
+            let is_kept = keep(character);
+            kept = write_if(slice, kept, character, 1, is_kept);
             read += 1;
         }
         if read < slice.len() {
             let (character, width) = char_from(slice, read);
-            if keep(character) {
-                write_char(slice, kept, character, width);
-                kept += width;
-            }
+            let is_kept = keep(character);
+            kept = write_if(slice, kept, character, width, is_kept);
             read += width;
         }
     }
@@ -79,6 +75,23 @@ fn char_from(slice: &[u8], at: usize) -> (char, usize)
         Some(character) => (character, character.len_utf8()),
         None => unreachable!(),
     }
+}
+
+/// Writes a character of `width` bytes at `at` if it is kept, and returns where the next one goes.
+#[inline(always)]
+fn write_if(slice: &mut [u8], at: usize, character: char, width: usize, is_kept: bool) -> usize
+    requires room { at + width ≤ length slice.old }
+    requires width { width ≡ len_utf8 character }
+    ensures front { take result slice.new
+        ≡ (if is_kept then take at slice.old ++ encode_utf8 character else take at slice.old) }
+    ensures after { drop (at + width) slice.new ≡ drop (at + width) slice.old }
+    ensures within { result ≤ at + width }
+{
+    if !is_kept {
+        return at;
+    }
+    write_char(slice, at, character, width);
+    at + width
 }
 
 /// Writes a character of `width` bytes at `at`.
