@@ -18,7 +18,7 @@ use Rattle.compact_text.proofs.Keeping.{first_ascii, first_past_ascii}
 use Rattle.compact_text.proofs.Cuts.{text_before-text_after, size-text_before, size-replaced, boundary-from_size}
 use Rattle.compact_text.proofs.Middles.{substring-parts, parts-substring}
 use Rattle.compact_str.specs.TotalRanges.{is_range, range_text, IsAsciiRange, without_range}
-use Rattle.compact_str.proofs.Letters.{make_owned-text}
+use Rattle.compact_str.proofs.AsciiCase.{make_owned-text}
 
 pub make_owned-owned_placement : (g : Growth) (v u : PlacedText) → make_owned g v ≡ Some u → is_static u.placement.place ≡ false
 make_owned-owned_placement g v u e = grind (arith, common_steps)

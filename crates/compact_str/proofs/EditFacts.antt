@@ -6,8 +6,8 @@ use Rattle.compact_repr.proofs.Changes.{push_str-text, push_str-in_place, replac
 use Rattle.compact_text.proofs.Cuts.{boundary-within, size-text_after, boundary-next, text_after-next}
 use Rattle.compact_str.proofs.Positions.{truncate-last, removed-in_place, truncate-boundary, truncate-text, boundary-cut, asks-by_nothing, inserts_str, inserted-in_place, replaces_range}
 use Rattle.compact_str.proofs.Rooms.{push_str-sure, appended-bytes, pushed-bytes}
-use Rattle.compact_text.proofs.Letters.{boundary-lowercase, boundary-uppercase}
-use Rattle.compact_str.proofs.Letters.{make_ascii_lowercase-owned, make_ascii_uppercase-owned, make_owned-text, new-lowercase, new-uppercase}
+use Rattle.compact_text.proofs.AsciiCase.{boundary-lowercase, boundary-uppercase}
+use Rattle.compact_str.proofs.AsciiCase.{make_ascii_lowercase-owned, make_ascii_uppercase-owned, make_owned-text, new-lowercase, new-uppercase}
 use Rattle.compact_str.proofs.Repeats.{repeated_text-none, repeated_text-one}
 
 -- append
@@ -31,7 +31,7 @@ pub ruleset replacement_facts = (text_facts, replace_range-in_place, replaces_ra
 pub ruleset repeat_facts = (text_facts, repeated_text-none, repeated_text-one)
 
 -- change of ASCII case
-pub ruleset letter_facts = (text_facts, make_ascii_lowercase-owned, make_ascii_uppercase-owned, make_owned-text, new-lowercase, new-uppercase, boundary-lowercase, boundary-uppercase)
+pub ruleset case_facts = (text_facts, make_ascii_lowercase-owned, make_ascii_uppercase-owned, make_owned-text, new-lowercase, new-uppercase, boundary-lowercase, boundary-uppercase)
 
 -- conversion from `String`
 pub ruleset string_facts = (text_facts, IsUtf8-string_bytes)

@@ -1,6 +1,6 @@
 pub mod Positions
 pub mod Rooms
-pub mod Letters
+pub mod AsciiCase
 pub mod Drains
 pub mod Kept
 pub mod Repeats

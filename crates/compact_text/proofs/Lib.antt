@@ -7,7 +7,7 @@ pub mod Appends
 pub mod Parts
 pub mod SplicedSlices
 pub mod TextFacts
-pub mod Letters
+pub mod AsciiCase
 pub mod Keeping
 pub mod Middles
 pub mod Numbers

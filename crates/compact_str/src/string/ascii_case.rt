@@ -20,7 +20,7 @@ impl<P: Policy> PolicyString<P> {
     /// word.make_ascii_lowercase()?;
     /// assert_eq!(rt; word.as_str(), "abcÄ");
     /// ```
-    #[tactic(auto, using(crate::proofs::EditFacts::letter_facts))]
+    #[tactic(auto, using(crate::proofs::EditFacts::case_facts))]
     pub fn make_ascii_lowercase(&mut self) -> Result<(), ReserveError>
         ensures ok { OnOk result (make_ascii_lowercase P.growth self.old ≡ Some self.new) }
         ensures text { OnOk result (self.new.text ≡ ascii_lowercase self.old.text) }
@@ -47,7 +47,7 @@ impl<P: Policy> PolicyString<P> {
     /// word.make_ascii_uppercase()?;
     /// assert_eq!(rt; word.as_str(), "ABCä");
     /// ```
-    #[tactic(auto, using(crate::proofs::EditFacts::letter_facts))]
+    #[tactic(auto, using(crate::proofs::EditFacts::case_facts))]
     pub fn make_ascii_uppercase(&mut self) -> Result<(), ReserveError>
         ensures ok { OnOk result (make_ascii_uppercase P.growth self.old ≡ Some self.new) }
         ensures text { OnOk result (self.new.text ≡ ascii_uppercase self.old.text) }
@@ -73,7 +73,7 @@ impl<P: Policy> PolicyString<P> {
     /// let word = CompactString::new(alloc, "ABCÄ")?;
     /// assert_eq!(rt; word.to_ascii_lowercase()?.as_str(), "abcÄ");
     /// ```
-    #[tactic(auto, using(crate::proofs::EditFacts::letter_facts))]
+    #[tactic(auto, using(crate::proofs::EditFacts::case_facts))]
     pub fn to_ascii_lowercase(&self) -> Result<Self, ReserveError>
         ensures ok { IfOk result (λ v. new P.growth (ascii_lowercase self.now.text) ≡ Some v) }
         ensures text { IfOk result (λ v. v.text ≡ ascii_lowercase self.now.text) }
@@ -97,7 +97,7 @@ impl<P: Policy> PolicyString<P> {
     /// let word = CompactString::new(alloc, "abcä")?;
     /// assert_eq!(rt; word.to_ascii_uppercase()?.as_str(), "ABCä");
     /// ```
-    #[tactic(auto, using(crate::proofs::EditFacts::letter_facts))]
+    #[tactic(auto, using(crate::proofs::EditFacts::case_facts))]
     pub fn to_ascii_uppercase(&self) -> Result<Self, ReserveError>
         ensures ok { IfOk result (λ v. new P.growth (ascii_uppercase self.now.text) ≡ Some v) }
         ensures text { IfOk result (λ v. v.text ≡ ascii_uppercase self.now.text) }

@@ -1,7 +1,7 @@
 use Rattle.std.proofs.Common.{◌≡◌, ◌++◌, ◌∙◌, sym, take, drop, length, map, arith, refl}
 use Rattle.std.specs.Char.{to_ascii_lowercase}
 use Rattle.compact_repr.proofs.HeapTexts.{shown-text, shown-capacity, shown-size, written, whole}
-use Rattle.compact_text.proofs.Letters.{utf8-lowercase, text_of-lowercase, size-lowercase}
+use Rattle.compact_text.proofs.AsciiCase.{utf8-lowercase, text_of-lowercase, size-lowercase}
 use Rattle.compact_repr.proofs.heap.HeapBuffer.make_ascii_lowercase.Goals as goal
 
 now : (c : goal.After-self-1)

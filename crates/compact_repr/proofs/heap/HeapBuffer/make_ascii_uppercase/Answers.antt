@@ -1,7 +1,7 @@
 use Rattle.std.proofs.Common.{◌≡◌, ◌++◌, ◌∙◌, sym, take, drop, length, map, arith, refl}
 use Rattle.std.specs.Char.{to_ascii_uppercase}
 use Rattle.compact_repr.proofs.HeapTexts.{shown-text, shown-capacity, shown-size, written, whole}
-use Rattle.compact_text.proofs.Letters.{utf8-uppercase, text_of-uppercase, size-uppercase}
+use Rattle.compact_text.proofs.AsciiCase.{utf8-uppercase, text_of-uppercase, size-uppercase}
 use Rattle.compact_repr.proofs.heap.HeapBuffer.make_ascii_uppercase.Goals as goal
 
 now : (c : goal.After-self-1)

@@ -1,5 +1,5 @@
 use Rattle.std.proofs.Common.{◌∙◌}
-use Rattle.compact_text.proofs.Letters.{utf8-lowercase, text_of-lowercase}
+use Rattle.compact_text.proofs.AsciiCase.{utf8-lowercase, text_of-lowercase}
 use Rattle.compact_repr.proofs.PackedTexts.{packed-text}
 use Rattle.compact_repr.proofs.PackedEdits.{utf8-seen}
 use Rattle.compact_repr.proofs.inline.InlineBuffer.make_ascii_lowercase.Goals as goal

@@ -1,5 +1,5 @@
 use Rattle.std.proofs.Common.{◌∙◌}
-use Rattle.compact_text.proofs.Letters.{utf8-uppercase, text_of-uppercase}
+use Rattle.compact_text.proofs.AsciiCase.{utf8-uppercase, text_of-uppercase}
 use Rattle.compact_repr.proofs.PackedTexts.{packed-text}
 use Rattle.compact_repr.proofs.PackedEdits.{utf8-seen}
 use Rattle.compact_repr.proofs.inline.InlineBuffer.make_ascii_uppercase.Goals as goal

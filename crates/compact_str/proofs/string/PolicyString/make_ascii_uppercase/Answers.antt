@@ -2,8 +2,8 @@ use Rattle.std.proofs.Common.{rules, ◌≡◌, ℕ, List, ap, sym, subst, ◌�
 use Rattle.compact_repr.specs.Text.{ascii_uppercase}
 use Rattle.compact_repr.specs.Cut.{IsBoundary}
 use Rattle.compact_repr.specs.Value.{PlacedText}
-use Rattle.compact_text.proofs.Letters.{boundary-uppercase}
-use Rattle.compact_str.proofs.Letters.{make_owned-text}
+use Rattle.compact_text.proofs.AsciiCase.{boundary-uppercase}
+use Rattle.compact_str.proofs.AsciiCase.{make_owned-text}
 use Rattle.compact_str.proofs.string.PolicyString.make_ascii_uppercase.Goals as goal
 
 pub returns-clause-boundaries : goal.returns-clause-boundaries

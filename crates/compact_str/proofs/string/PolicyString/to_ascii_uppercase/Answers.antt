@@ -2,7 +2,7 @@ use Rattle.std.proofs.Common.{◌≡◌, ℕ, List, Some, ap, subst, ◌∙◌}
 use Rattle.compact_repr.specs.Text.{ascii_uppercase}
 use Rattle.compact_repr.specs.Value.{PlacedText, placed_text}
 use Rattle.compact_repr.specs.Calls.{new}
-use Rattle.compact_str.proofs.Letters.{new-uppercase}
+use Rattle.compact_str.proofs.AsciiCase.{new-uppercase}
 use Rattle.compact_str.proofs.string.PolicyString.to_ascii_uppercase.Goals as goal
 
 pub returns-clause-ok : goal.returns-clause-ok

@@ -5,7 +5,7 @@ use Rattle.compact_repr.specs.Text.{ascii_lowercase, ascii_uppercase}
 use Rattle.compact_repr.specs.Value.{PlacedText, placed_text}
 use Rattle.compact_repr.specs.Capacity.{Growth}
 use Rattle.compact_repr.specs.Calls.{new, make_owned, make_ascii_lowercase, make_ascii_uppercase}
-use Rattle.compact_text.proofs.Letters.{size-lowercase, size-uppercase}
+use Rattle.compact_text.proofs.AsciiCase.{size-lowercase, size-uppercase}
 
 -- a value made owned, and then changed
 pub make_ascii_lowercase-owned : (g : Growth) (v u w : PlacedText) → make_owned g v ≡ Some u → w ≡ placed_text (ascii_lowercase u.text) u.placement → make_ascii_lowercase g v ≡ Some w
