@@ -102,15 +102,6 @@ bytes_moved_by_step-kept v w e = grind (arith, common_steps, same_place-refl)
 bytes_moved_by_step-grown_capacity : (v w : PlacedText) → v.placement.capacity < w.placement.capacity → bytes_moved_by_step v w ≡ size v.text
 bytes_moved_by_step-grown_capacity v w h = grind (arith, common_steps)
 
--- a push that keeps the capacity keeps the place
-pub bytes_moved_by_step-same_capacity : (g : Growth) (v w : PlacedText) (s : List ℕ) → IsSound v → push_str g v s ≡ Some w
-    → w.placement.capacity ≡ v.placement.capacity → 0 ≡ bytes_moved_by_step v w
-bytes_moved_by_step-same_capacity g v w s sound e same = grind (arith, common_steps)
-
-pub bytes_moved_by_step-other_capacity : (v w : PlacedText) (n : ℕ) → n ≡ size v.text
-    → ¬ (w.placement.capacity ≡ v.placement.capacity) → n ≡ bytes_moved_by_step v w
-bytes_moved_by_step-other_capacity v w n is other = grind (arith, common_steps)
-
 pub paid-push : (g : Growth) (v w : PlacedText) (s : List ℕ) (b m n : ℕ) → IsLawful g → IsPaid g v.placement (size v.text) m → push_str g v s ≡ Some w → b ≡ bytes_moved_by_step v w → n ≡ m + b
     → IsPaid g w.placement (size w.text) n
 paid-push g v w s b m n law paid e bytes is =

@@ -30,10 +30,3 @@ RunsTo-append g v edits before after u w edit reply runs step =
 pub RunsTo-take_more : {P : Type 0} (g : Growth) (v : PlacedText) (edits : List (Edit P)) (i : ℕ) (edit : Edit P) (before after : List (Reply P)) (u w : PlacedText) (reply : Reply P) → i < length edits → edit ≡ get_or edits i edit → RunsTo g v (take i edits) before after u → Step g u edit reply w → RunsTo g v (take (i + 1) edits) before (after ++ reply ∷ []) w
 RunsTo-take_more g v edits i edit before after u w reply h is runs step =
     rw (take_more edits i edit h) (RunsTo-append g v (take i edits) before after u w (get_or edits i edit) reply runs (subst (λ (e : _). Step g u e reply w) is step))
-
-pub Step-insert_str : {P T : Type 0} (g : Growth) (v w : PlacedText) (p : ℕ) (s : Bor (List ℕ)) (r : Result T ReserveError)
-    (reply : Reply P) → IsBoundary v.text p → OnOk r (insert_str g v p (text_of s.now) ≡ Some w)
-    → OnErr r ((w ≡ v) × IsTrue (reserve_allocates v (size (text_of s.now))))
-    → MatchResult r (λ _. reply ≡ Done) (λ e. reply ≡ Refused e) → Step g v (InsertStr p s) reply w
-Step-insert_str g v w p s (Ok x) reply legal ok err is = rw is (legal, (refl, ok))
-Step-insert_str g v w p s (Err e) reply legal ok err is = rw is (err.0, legal, err.1)

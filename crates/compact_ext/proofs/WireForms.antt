@@ -25,9 +25,6 @@ use Rattle.compact_ext.specs.Wire.{wire, claimed_len, WritesFront, IsWriterFault
 pub made-text : (bytes t : List ℕ) → IsUtf8 bytes → t ≡ text_of bytes → IsText t
 made-text bytes t is same = subst IsText (sym same) (scalars-chars bytes is)
 
-pub made-utf8 : (bytes t : List ℕ) → IsUtf8 bytes → t ≡ text_of bytes → utf8 t ≡ bytes
-made-utf8 bytes t is same = ap utf8 same ∙ utf8-text_of bytes is
-
 pub ruleset made_texts = (text_facts, made-text)
 
 pub IfOk-join : {A E : Type 0} (P Q S : A → Type 0) (r : Result A E) → ((a : A) → P a → Q a → S a) → IfOk r P → IfOk r Q → IfOk r S
@@ -78,10 +75,6 @@ stops-later old mid new front n len e c s h = record {
   short = omega (arith, length-append front s.taken_bytes, s.short, h);
   cause = stop-more n len new e (omega (arith, h)) s.cause;
 }
-
-pub text-fails : (old new : Option (List ℕ)) (n : ℕ) (e : WireError) → StopsBelow old new n e → TextFails old new n e
-text-fails old new n Utf8 s = absurd s.cause
-text-fails old new n e s = s
 
 -- the four bytes of a length, and what came of the text
 claimed : (n : ℕ) (taken : List ℕ) → n < 2 ^ 32 → claimed_len (to_le_bytes w32 n ++ taken) ≡ n

@@ -280,23 +280,9 @@ so-far-more g v w u known now next old mid new kept taken line so_far takes some
       (appends-both old mid new (concat so_far.0) answered.answer so_far.4 answered.written) keeps),
 )
 
-at-itself : (known : Option (List ℕ)) → IfSome known (λ _. known ≡ known)
-at-itself None = tt
-at-itself (Some bytes) = refl
-
 at-end : (now left : Option (List ℕ)) → IfSome left (λ _. now ≡ left) → IsAtEnd now → IsAtEnd left
 at-end now None same end = tt
 at-end now (Some bytes) same end = let here = rw same at end in here
-
-pub so-far-none : (g : Growth) (v : State) (known old : Option (List ℕ)) → AnswersSoFar g v known known old old v
-so-far-none g v known old = ([], known, (refl, refl), at-itself known, appends-nothing old)
-
--- at the end of the known bytes, all lines are answered
-pub all-answered : (g : Growth) (v w : State) (known now old new : Option (List ℕ))
-    → AnswersSoFar g v known now old new w → IsAtEnd now
-    → AppendsAnswers g v known old new w
-all-answered g v w known now old new so_far end =
-    record { answers = so_far.0; left = so_far.1; lines = so_far.2; end = at-end now so_far.1 so_far.3 end; written = so_far.4 }
 
 -- the session may stop before the first line, after some lines, or within an answer
 

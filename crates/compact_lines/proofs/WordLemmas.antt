@@ -18,9 +18,6 @@ number-none : (len v most : ℕ) (all : Bool) → ((0 < len) × (v < most) → �
     → None ≡ (if nat_lt 0 len && all && nat_lt v most then Some v else None)
 number-none len v most all never = grind (arith, nat_tests)
 
-number-no-digits : (len v most : ℕ) (all : Bool) → all ≡ false → None ≡ (if nat_lt 0 len && all && nat_lt v most then Some v else None)
-number-no-digits len v most all none = grind (arith, nat_tests)
-
 own : IsNumeralModel (λ ds. list_all is_ascii_digit ds ≡ true) (digits_value 10)
 own = numerals_by_value _ (search rules)
 
@@ -32,10 +29,6 @@ number-parsed {E} word (Ok n) h are =
     ap Some k.1 ∙ number-there (length word) (digits_value 10 word) (2 ^ 64) (list_all is_ascii_digit word) are k.0.0 k.0.1
 number-parsed {E} word (Err e) h are =
     number-none (length word) (digits_value 10 word) (2 ^ 64) (list_all is_ascii_digit word) (parse_digits own {E = E} 64 word (Err e) h are)
-
--- a word with another byte is no number
-pub no-digits : (word : List ℕ) → list_all is_ascii_digit word ≡ false → None ≡ number_of word
-no-digits word none = number-no-digits (length word) (digits_value 10 word) (2 ^ 64) (list_all is_ascii_digit word) none
 
 one-scalar : (c : ℕ) → all_scalars (c ∷ []) ≡ true → IsScalar c
 one-scalar c is = search rules

@@ -32,12 +32,6 @@ fits-now u n fits =
     let short = leb-true (size u.text + n) u.placement.capacity parts.1 in
     (not-true _ parts.0, omega (arith, short))
 
-pub fits-within : (u : PlacedText) (n k : ℕ) → IsTrue (fits_in_place u 0) → n ≤ k → FitsFor u n k
-fits-within u n k fits short = let h = fits-now u 0 fits in (h.0, omega (arith, h.1, short))
-
-pub fits-beyond : (u : PlacedText) (n k : ℕ) → IsTrue (fits_in_place u (n - k)) → FitsFor u n k
-fits-beyond u n k fits = let h = fits-now u (n - k) fits in (h.0, omega (arith, h.1))
-
 pub push-nothing : (g : Growth) (v : PlacedText) (s : List ℕ) → size s ≡ 0 → push_str g v s ≡ Some v
 push-nothing g v s none = rw none refl
 

@@ -12,10 +12,3 @@ size-string s = size-text_of (string_bytes s) (IsUtf8-string_bytes s)
 
 pub string_fits : {Z : Type 0} (s : String Z) → size (text_of (string_bytes s)) ≤ string_capacity s
 string_fits s = let e = size-string s in let k = s.bytes.ok in omega (arith, e, k.0, k.1)
-
-no_bytes : (bytes : List ℕ) → length bytes ≤ 0 → bytes ≡ []
-no_bytes [] h = refl
-no_bytes (b ∷ bs) h = absurd (omega arith)
-
-pub no_buffer : {Z : Type 0} (s : String Z) → string_capacity s ≡ 0 → string_bytes s ≡ []
-no_buffer s e = let k = s.bytes.ok in no_bytes (string_bytes s) (omega (arith, e, k.0, k.1))

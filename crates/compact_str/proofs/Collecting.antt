@@ -200,9 +200,6 @@ join-cons f separator x xs =
 pub join-one : {T : Type 0} (f : T → List ℕ) (separator : List ℕ) (x : T) → join separator f (x ∷ []) ≡ f x
 join-one f separator x = join-cons f separator x [] ∙ append-nil (f x)
 
-pub join-start : {T : Type 0} (f : T → List ℕ) (separator : List ℕ) (x : T) (z p w : List ℕ) → z ≡ [] → p ≡ f x → w ≡ z ++ p → w ≡ join separator f (x ∷ [])
-join-start f separator x z p w e k h = h ∙ ap (λ l. l ++ p) e ∙ k ∙ sym (join-one f separator x)
-
 -- the bytes of texts concatenated and joined
 
 pub utf8-flat_map : {T : Type 0} (f : T → List ℕ) (xs : List T) → utf8 (flat_map f xs) ≡ flat_map (λ x. utf8 (f x)) xs
@@ -232,11 +229,6 @@ join-next f separator z xs x =
     ∙ ap (λ l. (f z ++ others) ++ l) (append-nil (separator ++ f x))
     ∙ sym (append_assoc (f z ++ others) separator (f x))
     ∙ ap (λ l. (l ++ separator) ++ f x) (sym (join-cons f separator z xs))
-
--- one turn of the joining loop
-pub join-turn : {T : Type 0} (f : T → List ℕ) (separator : List ℕ) (z : T) (xs : List T) (x : T) {a w p : List ℕ} → a ≡ join separator f (z ∷ xs)
-    → p ≡ f x → w ≡ (a ++ separator) ++ p → w ≡ join separator f (z ∷ (xs ++ x ∷ []))
-join-turn f separator z xs x a p w = rw (w, p, a) (sym (join-next f separator z xs x))
 
 -- an item before a loop, and those of the loop
 pub first-drained : {S T : Type 0} (steps : S → Option T → S → Type 0) {s j k t u : S} {x : T} (xs : List T) → steps s (Some x) j → k ≡ j → Yields steps k xs t → steps t None u → Drains steps s (x ∷ xs)

@@ -80,10 +80,6 @@ text_after-replaced_text t start end h =
 pub truncate-boundary : (v : PlacedText) (p : ℕ) → IsBoundary v.text p → truncate v p ≡ placed_text (text_before v.text p) (shortened_placement v (text_before v.text p))
 truncate-boundary v p h = grind (arith, common_steps, text_before-end)
 
--- an ASCII character is one byte
-ascii-width : (c : ℕ) → is_ascii c ≡ true → len_utf8 c ≡ 1
-ascii-width c e = grind (arith, common_steps)
-
 -- an owned value without an ASCII character, in place
 pub removed-in_place : {E : Type 0} (g : Growth) (v w : PlacedText) (p c : ℕ) → IsBoundary v.text p → IsAsciiAt v.text p c
     → is_static v.placement.place ≡ false → w ≡ placed_text (replaced_text v.text p (p + 1) []) v.placement → RemovesChar {E = E} g v p (Ok c) w

@@ -38,10 +38,6 @@ pushed-bytes t old c e = ap utf8 e ∙ encodes-append old (c ∷ []) ∙ ap (λ 
 asks-with_room : (v : PlacedText) (n : ℕ) → HasRoomFor v n → IsTrue (reserve_allocates v n) → ⊥
 asks-with_room v n h asks = grind (arith, common_steps)
 
-pub reserve_allocates-succeeds : {E : Type 0} (v w : PlacedText) (n : ℕ) (r : Result (Unit {0}) E) → OnErr r ((w ≡ v) × IsTrue (reserve_allocates v n)) → HasRoomFor v n → IsOk r
-reserve_allocates-succeeds v w n (Ok _) e h = refl
-reserve_allocates-succeeds v w n (Err _) e h = absurd (asks-with_room v n h e.1)
-
 pub push_str_allocates-succeeds : {E : Type 0} (v w : PlacedText) (n : ℕ) (s : List ℕ) (r : Result (Unit {0}) E) → n ≡ size s → OnErr r ((w ≡ v) × IsTrue (push_str_allocates v s)) → HasRoomFor v n → IsOk r
 push_str_allocates-succeeds v w n s (Ok _) k e h = refl
 push_str_allocates-succeeds v w n s (Err _) k e h = absurd (asks-with_room v (size s) (subst (HasRoomFor v) k h) (and_parts _ _ e.1).1)

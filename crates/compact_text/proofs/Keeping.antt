@@ -16,9 +16,6 @@ use Rattle.compact_text.proofs.Cuts.{text_of-last}
 pub behind_char : (slice rest : List ℕ) (at c : ℕ) → drop at slice ≡ encode c ++ rest → drop at slice ≡ encode c ++ drop (at + len_utf8 c) slice
 behind_char slice rest at c e = e ∙ ap (λ (l : List ℕ). encode c ++ l) (sym (drop_past_char slice rest at c e))
 
-pub within_char : (slice rest : List ℕ) (at c : ℕ) → at < length slice → drop at slice ≡ encode c ++ rest → at + len_utf8 c ≤ length slice
-within_char slice rest at c h e = omega (arith, h, ap length e, length-drop at slice, length-append (encode c) rest, length-encode c)
-
 pub utf8-behind_char : (slice rest : List ℕ) (at c : ℕ) → IsUtf8 (drop at slice) → drop at slice ≡ encode c ++ rest → IsUtf8 (drop (at + len_utf8 c) slice)
 utf8-behind_char slice rest at c u e = subst IsUtf8 (sym (drop_past_char slice rest at c e)) (IsUtf8-past_char (drop at slice) rest c u e)
 
@@ -77,9 +74,6 @@ stands-next g first f h whole slice now kept next read n c false called s order 
     let rest = chars_past_char (drop read slice) (drop (read + n) slice) c stands.0 e in
     let on = goes_on-dropped g first f h whole (text_of (drop read slice)) (text_of (drop (read + n) slice)) (text_of (take kept slice)) c rest called stands.2 in
     rw (later, front) (u, stands.1, on)
-
-pub stands-first : {F : Type 0} (g : Mut F (ℕ × Unit {0}) Bool) (first : F) (slice : List ℕ) → IsUtf8 slice → Stands g first (text_of slice) first slice 0 0
-stands-first g first slice u = (u, IsUtf8-nil, λ v last k. subst (λ (l : List ℕ). RetainsCharsTo g first (text_of slice) l last) (ap (λ (l : List ℕ). l ++ v) (sym chars-nil)) k)
 
 pub stands-last : {F : Type 0} (g : Mut F (ℕ × Unit {0}) Bool) (first f : F) (whole slice : List ℕ) (kept read : ℕ) → length slice ≤ read → Stands g first whole f slice kept read → RetainsCharsTo g first whole (text_of (take kept slice)) f
 stands-last g first f whole slice kept read h stands =

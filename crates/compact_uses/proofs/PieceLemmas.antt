@@ -13,9 +13,6 @@ use Rattle.compact_uses.specs.Tokens.{Continues, IsPiece, kind_of}
 
 pub ruleset piece_facts = (chars_past_char, text_of-empty)
 
-pub continues-none : (kind : Kind) (text : List ℕ) → Continues kind text text
-continues-none kind text = record { more = []; joined = refl; single = λ mark. refl; alike = All-nil (λ c. kind_of c ≡ kind) }
-
 pub continues-more : (kind next : Kind) (c : ℕ) (text rest others : List ℕ) → Continues kind text rest → rest ≡ c ∷ others → next ≡ kind_of c
     → (next ≡ kind) × (kind ≢ Mark) → Continues kind text others
 continues-more kind next c text rest others before is k (same, no_mark) = record {

@@ -1,4 +1,4 @@
-use Rattle.std.proofs.Common.{ap, sym, ◌∙◌, drop, rules, true≢false}
+use Rattle.std.proofs.Common.{ap, sym, ◌∙◌, drop, true≢false}
 use Rattle.std.specs.Str.Lossy.{utf8_error_len}
 use Rattle.compact_codec.proofs.Parts.{error_is}
 use Rattle.compact_codec.proofs.utf8.validate_in_order.Goals as goal
