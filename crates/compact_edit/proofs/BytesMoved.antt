@@ -4,7 +4,7 @@ use Rattle.std.proofs.Math.Nat.{mul-le-mul_left, mul-le-mul_right}
 use Rattle.std.proofs.lemmas.Grind.{common_steps}
 use Rattle.compact_str.proofs.ForCallers.{size-append}
 use Rattle.compact_str.specs.Text.{size}
-use Rattle.compact_str.specs.Value.{Place, inline, heap, static, is_static, IsSound, Placement, PlacedText}
+use Rattle.compact_str.specs.Value.{Place, inline, heap, static, is_static, Placement, PlacedText}
 use Rattle.compact_str.specs.Capacity.{Growth, IsLawful, max_capacity, inline_placement, heap_placement, grown_capacity}
 use Rattle.compact_str.specs.Calls.{push_str}
 use Rattle.compact_edit.specs.Pushes.{same_place, bytes_moved_by_step}

@@ -1,18 +1,11 @@
 -- Runs extended by an edit.
-use Rattle.std.proofs.Common.{◌≡◌, ℕ, ◌+◌, ◌<◌, List, [], ◌∷◌, ◌++◌, Some, IsTrue, Result, Ok, Err, OnErr, Bor}
+use Rattle.std.proofs.Common.{◌≡◌, ℕ, ◌+◌, ◌<◌, List, [], ◌∷◌, ◌++◌}
 use Rattle.std.proofs.Common.{refl, append_assoc, subst, take, get_or, length}
-use Rattle.std.specs.Prelude.{OnOk, MatchResult}
 use Rattle.std.proofs.lemmas.List.{take_more}
-use Rattle.compact_str.specs.declared.ReserveError.{ReserveError}
-use Rattle.compact_str.specs.Text.{text_of, size}
-use Rattle.compact_str.specs.Cut.{IsBoundary}
 use Rattle.compact_str.specs.Value.{PlacedText}
-use Rattle.compact_str.specs.Capacity.{Growth, reserve_allocates}
-use Rattle.compact_str.specs.Calls.{insert_str}
+use Rattle.compact_str.specs.Capacity.{Growth}
 use Rattle.compact_edit.specs.declared.edit.Edit.{Edit}
-use Rattle.compact_edit.specs.declared.edit.Edit.TheVariants.{InsertStr}
 use Rattle.compact_edit.specs.declared.edit.Reply.{Reply}
-use Rattle.compact_edit.specs.declared.edit.Reply.TheVariants.{Done, Refused}
 use Rattle.compact_edit.specs.Steps.{Step}
 use Rattle.compact_edit.specs.Runs.{Run, RunsTo}
 

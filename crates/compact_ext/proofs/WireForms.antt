@@ -16,7 +16,7 @@ use lib.Seq.{take-add, take-take}
 use Rattle.compact_text.proofs.TextFacts.{text_facts}
 use Rattle.compact_str.specs.Text.{IsText, size, text_of, utf8}
 use Rattle.compact_str.specs.Value.{PlacedText}
-use Rattle.compact_text.proofs.Texts.{length-utf8, utf8-text_of}
+use Rattle.compact_text.proofs.Texts.{length-utf8}
 use Rattle.compact_ext.specs.declared.wire.WireError.{WireError}
 use Rattle.compact_ext.specs.declared.wire.WireError.TheVariants.{TooLong, UnexpectedEnd, Utf8, Io, WriteZero, Reserve}
 use Rattle.compact_ext.specs.Wire.{wire, claimed_len, WritesFront, IsWriterFault, WriteFails, IsUnfinished, IsReadFault, ReadFails, IsStop, StopsBelow, TextFails, IsOutsideForm, ReadsBack, FormTellsText}

@@ -5,7 +5,7 @@ use Rattle.std.proofs.lemmas.Bool.{cond-true, cond-false, lt-leb, le-leb}
 use Rattle.std.proofs.lemmas.Bool.Decides.{nat_tests}
 use Rattle.std.proofs.lemmas.Str.{len_utf8_bounds, encodes-append}
 use Rattle.std.specs.Prelude.{IsTrue, OnOk, OnErr, option_map}
-use Rattle.std.specs.Char.{len_utf8, is_ascii}
+use Rattle.std.specs.Char.{len_utf8}
 use Rattle.std.specs.Str.{IsUtf8}
 use Rattle.compact_repr.specs.Text.{size, text_of, utf8}
 use Rattle.compact_repr.specs.Cut.{IsCut, IsBoundary, IsAsciiAt, text_before, text_after, replaced_text}

@@ -1,4 +1,4 @@
-use Rattle.std.proofs.Common.{◌-◌, true, arith, inr}
+use Rattle.std.proofs.Common.{arith, inr}
 use Rattle.compact_edit.proofs.TakenTexts.{takes-more, stops-at, still-distinct}
 use Rattle.compact_edit.proofs.intern.Interner.intern_all.Goals as goal
 

@@ -1,4 +1,4 @@
-use Rattle.std.proofs.Common.{◌≡◌, ◌∷◌, [], ◌++◌, Ok, Err, Some, refl, sym, subst, inl, inr, rules}
+use Rattle.std.proofs.Common.{◌≡◌, ◌∷◌, [], ◌++◌, Ok, Err, refl, sym, subst, inl, inr, rules}
 use Rattle.compact_ext.specs.declared.wire.WireError.TheVariants.{Reserve}
 use Rattle.compact_ext.specs.WireRecords.{TakesForms}
 use Rattle.compact_ext.proofs.RecordLists.{reads-all, takes-more, takes-all}
