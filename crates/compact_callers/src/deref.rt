@@ -2,7 +2,7 @@
 #![tactic(auto, using(compact_str::proofs::ForCallers::for_callers))]
 
 ghost use Rattle.std.specs.Prelude.{◌≡◌, ◌+◌, ◌^◌, ◌≤◌, ◌++◌, length, IfOk, OnOk, OnErr, IsOk, MatchOption, codes};
-ghost use Rattle.compact_str.specs.Text.{text_of, size, utf8};
+ghost use Rattle.compact_str.specs.Text.{text_of, size};
 
 use compact_str::{CompactString, ReserveError};
 use std::alloc::{AllocError, Global};

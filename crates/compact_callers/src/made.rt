@@ -1,7 +1,7 @@
 //! Values moved out with `take`, in small vectors, and made from bytes and boxes without a copy.
 #![tactic(auto, using(compact_str::proofs::ForCallers::for_callers))]
 
-ghost use Rattle.std.specs.Prelude.{◌≡◌, [], ◌∷◌, ◌++◌, IfOk, IfErr, OnOk, OnErr, IsOk, length};
+ghost use Rattle.std.specs.Prelude.{◌≡◌, [], ◌∷◌, IfOk, IfErr, OnOk, OnErr, IsOk, length};
 ghost use Rattle.std.specs.Str.{IsUtf8};
 ghost use Rattle.std.specs.String.{from_utf8_error_vec};
 ghost use Rattle.std.specs.Box.{boxed_str_bytes};

@@ -1,5 +1,5 @@
 //! The packed form in tables of fixed-width rows.
-ghost use Rattle.std.specs.Prelude.{◌≡◌, ◌↔◌, ℕ, List, IfSome, IsSome, IsTrue};
+ghost use Rattle.std.specs.Prelude.{◌≡◌, ℕ, List, IfSome, IsSome, IsTrue};
 ghost use Rattle.compact_str.specs.Value.{inline, IsInline};
 ghost use Rattle.compact_str.specs.Capacity.{inline_placement};
 ghost use Rattle.compact_str.specs.Packed.{IsPackedFor};

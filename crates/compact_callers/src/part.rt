@@ -1,7 +1,7 @@
 //! Splitting a text and formatting one. Each contract names the parts.
 #![tactic(auto, using(compact_str::proofs::ForCallers::for_callers, compact_str::proofs::PartFacts::part_facts))]
 
-ghost use Rattle.std.specs.Prelude.{◌≡◌, ◌≢◌, ◌↔◌, ◌++◌, ◌∷◌, IfSome, OnOk, OnErr, IsTrue, Some, true, false, codes, decimal, slice_get};
+ghost use Rattle.std.specs.Prelude.{◌≡◌, ◌≢◌, ◌↔◌, ◌++◌, IfSome, OnOk, OnErr, IsTrue, Some, true, false, codes, decimal, slice_get};
 ghost use Rattle.std.specs.Str.{trim};
 ghost use Rattle.compact_str.specs.Text.{text_of, utf8};
 ghost use Rattle.compact_str.specs.Trim.{IsBetweenWhitespace};

@@ -1,7 +1,7 @@
 //! Removing parts of a text. Only `every_second` and `every_second_told`, whose closures have state, need a proof
 //! file.
-ghost use Rattle.std.specs.Prelude.{◌≡◌, ◌++◌, ◌∷◌, [], OnOk, OnErr, IfOk, MatchOption, not, false, filter, ◌==◌};
-ghost use Rattle.compact_str.specs.Text.{text_of, ascii_lowercase};
+ghost use Rattle.std.specs.Prelude.{◌≡◌, ◌++◌, ◌∷◌, [], OnOk, OnErr, IfOk, not, false, filter, ◌==◌};
+ghost use Rattle.compact_str.specs.Text.{ascii_lowercase};
 ghost use Rattle.compact_str.specs.Cut.{substring, replaced_text};
 ghost use Rattle.compact_str.specs.RetainRules.{retained_text, retain_state};
 ghost use Rattle.compact_str.specs.Ranges.{IsRange, range_start, range_end};

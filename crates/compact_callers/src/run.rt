@@ -2,7 +2,7 @@
 ghost use Rattle.std.specs.Prelude.{◌≡◌, ◌⊎◌, ◌+◌, [], Some, vec_len, IfOk, OnOk, OnErr};
 ghost use Rattle.std.specs.Bool.{OnTrue};
 ghost use Rattle.compact_str.specs.Text.{text_of};
-ghost use Rattle.compact_str.specs.Capacity.{Growth, IsLawful};
+ghost use Rattle.compact_str.specs.Capacity.{IsLawful};
 ghost use Rattle.compact_str.specs.Calls.{clear, push_str};
 
 use compact_edit::{Edit, Reply, run};

@@ -1,5 +1,5 @@
 //! Bytes read as UTF-8 (Unicode Standard, 3.9).
-ghost use Rattle.std.specs.Prelude.{◌≡◌, ◌↔◌, ◌+◌, ◌<◌, ◌≤◌, ◌++◌, take, length, IfOk, IfErr, OnErr, IsOk, IsTrue, IsUtf8};
+ghost use Rattle.std.specs.Prelude.{◌≡◌, ◌↔◌, ◌+◌, ◌<◌, ◌≤◌, ◌++◌, take, length, IsTrue, IsUtf8};
 ghost use Rattle.std.specs.Str.{IsAscii};
 ghost use Rattle.compact_text.specs.Text.{text_of};
 ghost use Rattle.compact_codec.specs.Utf8Table.{TableIsTheEncodings};

@@ -1,7 +1,7 @@
 //! The interner: a number for each distinct text.
 ghost use Rattle.std.specs.Prelude.{◌≡◌, ◌<◌, ◌≤◌, ◌↔◌, ℕ, List, [], ◌∷◌, ◌++◌, length, Some, IsOk, IsSome, IfOk, IfErr, OnOk, OnErr, option_map, slice_get};
 ghost use Rattle.std.specs.Prelude.{false};
-ghost use Rattle.compact_str.specs.Text.{size, text_of, utf8};
+ghost use Rattle.compact_str.specs.Text.{text_of};
 ghost use Rattle.compact_edit.specs.Names.{distinct_texts, texts_of, contains, IsRefusal, Takes, StopsEarly};
 
 use compact_str::{CompactString, ReserveError};

@@ -1,7 +1,7 @@
 //! Arrays of 24 bytes as three words, read and written whole, without loops over bytes.
 #![tactic(auto)]
 
-ghost use Rattle.std.specs.Prelude.{◌≡◌, ◌+◌, ◌-◌, ◌*◌, ◌/◌, ◌^◌, ◌≤◌, ◌<◌, ◌∷◌, [], ◌++◌, length, take, drop, slice_index, nat_lt, if◌then◌else◌, bit_or, IsTrue};
+ghost use Rattle.std.specs.Prelude.{◌≡◌, ◌+◌, ◌-◌, ◌*◌, ◌/◌, ◌^◌, ◌≤◌, ◌<◌, ◌∷◌, [], ◌++◌, length, take, drop, slice_index, IsTrue};
 ghost use Rattle.std.specs.Str.{IsAscii};
 ghost use Rattle.compact_text.specs.WordBytes.{le_number, word_bytes};
 

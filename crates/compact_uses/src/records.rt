@@ -5,7 +5,7 @@ ghost use Rattle.std.specs.declared.io.ErrorKind.TheVariants.{OutOfMemory};
 ghost use Rattle.std.specs.Global.{Vec};
 ghost use Rattle.compact_str.specs.Value.{PlacedText};
 ghost use Rattle.compact_uses.specs.declared.records.RecordsCause.TheVariants as cause;
-ghost use Rattle.compact_uses.specs.RecordLines.{IsRecordOf, IsCauseAt, IsLineAfter, ReadsRecords, ReadsAll, ReadsUpTo};
+ghost use Rattle.compact_uses.specs.RecordLines.{IsRecordOf, IsCauseAt, IsLineAfter, ReadsAll, ReadsUpTo};
 
 mod read;
 mod write;

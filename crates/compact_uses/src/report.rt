@@ -1,10 +1,9 @@
 //! Records as rows of aligned columns.
-ghost use Rattle.std.specs.Prelude.{◌≡◌, ◌∷◌, ◌++◌, [], fold, length, map, IfOk, OnOk, IsOk};
+ghost use Rattle.std.specs.Prelude.{◌≡◌, ◌++◌, [], length, map, IfOk, OnOk, IsOk};
 ghost use Rattle.std.specs.List.{All};
-ghost use Rattle.std.specs.Str.{chars};
 ghost use Rattle.compact_str.specs.Text.{text_of};
 ghost use Rattle.compact_str.specs.Order.{text_in};
-ghost use Rattle.compact_uses.specs.Columns.{field_at, column_width, column_count, widths_before, widths_of, cell, row_text, row_width};
+ghost use Rattle.compact_uses.specs.Columns.{field_at, column_width, column_count, widths_of, cell, row_text, row_width};
 
 use compact_str::{CompactString, ReserveError};
 use std::alloc::Global;

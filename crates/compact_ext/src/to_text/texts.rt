@@ -1,5 +1,5 @@
 //! Strings from `bool`, `char` and texts.
-ghost use Rattle.std.specs.Prelude.{◌≡◌, ◌≤◌, [], ◌∷◌, length, string_bytes, ⊤};
+ghost use Rattle.std.specs.Prelude.{◌≤◌, [], ◌∷◌, length, string_bytes, ⊤};
 ghost use Rattle.std.specs.Box.{boxed_str_bytes};
 ghost use Rattle.std.specs.Cow.{cow_str_bytes};
 ghost use Rattle.compact_str.specs.Text.{text_of, size};

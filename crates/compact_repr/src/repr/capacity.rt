@@ -1,6 +1,6 @@
 //! Reserving and shrinking.
-ghost use Rattle.std.specs.Prelude.{length, ◌≡◌, ◌*◌, ◌/◌, ◌<◌, ◌≤◌, ◌^◌, [], false, max, nat_le, if◌then◌else◌, Some, None, IfOk, OnOk, OnErr, IsOk, IsTrue};
-ghost use Rattle.compact_repr.specs.Words.{size, text_of, placed_text, IsHeap, fits_in_place, inline_placement, heap_placement, max_capacity, WithCapacityAllocates, MakeOwnedAllocates, ReserveAllocates, new, reserve, make_owned, Shrinks};
+ghost use Rattle.std.specs.Prelude.{length, ◌≡◌, ◌*◌, ◌/◌, ◌<◌, ◌≤◌, ◌^◌, [], false, Some, IfOk, OnOk, OnErr, IsTrue};
+ghost use Rattle.compact_repr.specs.Words.{size, text_of, placed_text, IsHeap, fits_in_place, inline_placement, heap_placement, WithCapacityAllocates, MakeOwnedAllocates, ReserveAllocates, new, reserve, make_owned, Shrinks};
 
 use crate::error::ReserveError;
 use crate::growth::{Policy, grown_capacity};

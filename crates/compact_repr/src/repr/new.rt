@@ -1,7 +1,7 @@
 //! Creating a representation.
-ghost use Rattle.std.specs.Prelude.{◌≡◌, ◌<◌, ◌≤◌, ℕ, List, length, nat_eq, if◌then◌else◌, [], Some, IfOk, OnErr, IsOk, MatchOption, string_bytes};
+ghost use Rattle.std.specs.Prelude.{◌≡◌, ◌<◌, ◌≤◌, ℕ, List, length, nat_eq, if◌then◌else◌, [], Some, IfOk, OnErr, MatchOption, string_bytes};
 ghost use Rattle.std.specs.String.{string_capacity};
-ghost use Rattle.compact_repr.specs.Words.{size, text_of, placed_text, inline_placement, heap_placement, const_new_placement, from_string_placement, WithCapacityAllocates, CloneAllocates, new, with_capacity, clone};
+ghost use Rattle.compact_repr.specs.Words.{text_of, placed_text, inline_placement, heap_placement, const_new_placement, from_string_placement, WithCapacityAllocates, CloneAllocates, new, with_capacity, clone};
 ghost use Rattle.compact_repr.specs.Packed.{IsPackedFor};
 
 use crate::error::ReserveError;

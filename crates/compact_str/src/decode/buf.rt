@@ -1,5 +1,5 @@
 //! Decoding UTF-8 from a `Buf`.
-ghost use Rattle.std.specs.Prelude.{◌≡◌, ◌<◌, ◌≤◌, ◌++◌, [], length, IfOk, IfErr, OnOk, OnErr, IsOk};
+ghost use Rattle.std.specs.Prelude.{◌≡◌, ◌<◌, ◌≤◌, [], length, IfOk, IfErr, OnOk, OnErr, IsOk};
 ghost use Rattle.std.specs.Str.{IsUtf8};
 ghost use Rattle.compact_str.specs.Words.{text_of, WithCapacityAllocates};
 ghost use Rattle.compact_codec.specs.Utf8Text.{BytesEncode};

@@ -1,5 +1,5 @@
 //! Decoding UTF-16, from units or pairs of bytes.
-ghost use Rattle.std.specs.Prelude.{◌≡◌, ◌<◌, ◌≤◌, ◌++◌, ℕ, List, length, IfOk, IfErr, IsOk};
+ghost use Rattle.std.specs.Prelude.{◌<◌, ◌≤◌, ℕ, List, IfOk, IfErr, IsOk};
 ghost use Rattle.compact_str.specs.Words.{size};
 ghost use Rattle.compact_codec.specs.Utf16Text.{UnitsEncode, utf16_lossy_text};
 ghost use Rattle.compact_codec.specs.Utf16Bytes.{utf16_bytes_lossy_text};

@@ -1,5 +1,5 @@
 //! Decoding UTF-8 from a slice.
-ghost use Rattle.std.specs.Prelude.{◌≡◌, ◌<◌, ◌≤◌, ◌++◌, length, IfOk, IfErr, OnOk, IsOk, Some};
+ghost use Rattle.std.specs.Prelude.{◌≡◌, ◌<◌, ◌≤◌, length, IfOk, IfErr, OnOk, IsOk, Some};
 ghost use Rattle.std.specs.Str.{IsUtf8};
 ghost use Rattle.compact_str.specs.Words.{text_of, new};
 ghost use Rattle.compact_codec.specs.InvalidSequence.{IsUtf8Error};

@@ -1,6 +1,6 @@
 //! ASCII case.
-ghost use Rattle.std.specs.Prelude.{◌≡◌, ℕ, ◌≤◌, [], length, Some, IfOk, OnOk, OnErr, IsOk};
-ghost use Rattle.compact_str.specs.Words.{size, ascii_lowercase, ascii_uppercase, IsBoundary, new, make_ascii_lowercase, make_ascii_uppercase, zeroize, WithCapacityAllocates, MakeOwnedAllocates, IsOwned};
+ghost use Rattle.std.specs.Prelude.{◌≡◌, ℕ, ◌≤◌, [], Some, IfOk, OnOk, OnErr, IsOk};
+ghost use Rattle.compact_str.specs.Words.{size, ascii_lowercase, ascii_uppercase, IsBoundary, new, make_ascii_lowercase, make_ascii_uppercase, WithCapacityAllocates, MakeOwnedAllocates, IsOwned};
 
 use crate::string::PolicyString;
 use compact_repr::{Policy, ReserveError};

@@ -1,8 +1,8 @@
 //! A draining iterator.
-ghost use Rattle.std.specs.Prelude.{◌≡◌, ℕ, ◌≤◌, ◌∷◌, List, length, [], Some, IfSome, IfOk, OnErr, IsOk, true};
+ghost use Rattle.std.specs.Prelude.{◌≡◌, ℕ, ◌≤◌, ◌∷◌, List, length, [], Some, IfSome, true};
 ghost use Rattle.std.specs.Char.{len_utf8};
 ghost use Rattle.std.specs.Borrow.{sem, RestsIfErr};
-ghost use Rattle.compact_str.specs.Words.{size, utf8, text_of, substring, replaced_text, replace_range, MakeOwnedAllocates, IsOwned};
+ghost use Rattle.compact_str.specs.Words.{size, utf8, text_of, substring, IsOwned};
 ghost use Rattle.compact_str.specs.Ranges.{IsRange, range_start, range_end};
 ghost use Rattle.compact_str.specs.TotalRanges.{is_range, IsAsciiRange};
 

@@ -1,8 +1,7 @@
 //! Editing by byte position.
-ghost use Rattle.std.specs.Prelude.{◌≡◌, ℕ, ◌+◌, ◌-◌, ◌^◌, ◌<◌, ◌≤◌, ◌↔◌, ◌∷◌, ◌++◌, [], length, take, drop, Some, None, IfOk, OnOk, OnErr, IsOk, IsTrue, MatchOption};
+ghost use Rattle.std.specs.Prelude.{◌≡◌, ℕ, ◌+◌, ◌-◌, ◌<◌, ◌≤◌, ◌∷◌, [], length, Some, None, IfOk, OnErr, IsOk, MatchOption};
 ghost use Rattle.std.specs.Char.{len_utf8, encode_utf8};
-ghost use Rattle.std.specs.Str.{IsCharBoundary};
-ghost use Rattle.compact_str.specs.Words.{size, utf8, text_of, IsCut, IsBoundary, text_before, text_after, substring, replaced_text, HasRoomFor, infallible_capacity, insert_str, ReserveAllocates, IsOwned, IsStatic};
+ghost use Rattle.compact_str.specs.Words.{size, text_of, IsCut, IsBoundary, insert_str, IsStatic};
 ghost use Rattle.compact_str.specs.Edits.{InsertsStr, RemovesChar, ReplacesRange, SplitsOff, SplitAllocates};
 ghost use Rattle.compact_str.specs.Ranges.{IsRange, IsPart, range_start, range_end};
 

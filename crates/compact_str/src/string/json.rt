@@ -1,9 +1,8 @@
 //! JSON strings.
-ghost use Rattle.std.specs.Prelude.{◌≡◌, ◌≤◌, length, Some, None, IfOk, IfErr, IsOk, IsErr, IsTrue};
+ghost use Rattle.std.specs.Prelude.{◌≡◌, Some, IfOk};
 ghost use Rattle.serde_json.specs.View.{view as json_view};
-ghost use Rattle.serde_json.specs.Find.{as_str as json_text};
 ghost use Rattle.serde_json.specs.Data.{string as json_string};
-ghost use Rattle.compact_str.specs.Words.{utf8, text_of};
+ghost use Rattle.compact_str.specs.Words.{utf8};
 ghost use Rattle.compact_str.specs.Json.{ReadsJson};
 
 use crate::string::PolicyString;
