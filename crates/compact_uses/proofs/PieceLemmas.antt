@@ -1,5 +1,5 @@
 -- Pieces of a text.
-use Rattle.std.proofs.Common.{◌≡◌, ◌≢◌, ◌-◌, ◌<◌, ◌≤◌, ◌++◌, ◌∷◌, [], ℕ, List, length, take, ap, sym, ◌∙◌, arith, refl, append_assoc, length-append}
+use Rattle.std.proofs.Common.{◌≡◌, ◌≢◌, ◌-◌, ◌++◌, ◌∷◌, [], ℕ, List, length, take, ap, sym, ◌∙◌, arith, refl, append_assoc}
 use Rattle.std.proofs.lemmas.List.Elements.{All-push, All-cons}
 use Rattle.std.proofs.lemmas.Str.{chars_past_char}
 use Rattle.std.specs.Str.{IsUtf8, IsCharBoundary}
@@ -38,9 +38,6 @@ begun kind c text others rest is k before = record {
   };
 }
 
-pub begun-shorter : (kind : Kind) (rest text : List ℕ) → Begun kind rest text → length rest < length text
-begun-shorter kind rest text begun = omega (arith, ap length begun.is.joined, length-append begun.piece rest, begun.is.filled)
-
 -- the bytes before those of the rest are the piece
 
 cut : (kind : Kind) (bytes rest : List ℕ) (begun : Begun kind (text_of rest) (text_of bytes)) → IsUtf8 bytes → IsUtf8 rest
@@ -49,9 +46,6 @@ cut kind bytes rest begun u v = record {
   parts = sym begun.is.joined;
   position = omega (arith, ap size begun.is.joined, size-append begun.piece (text_of rest), size-text_of bytes u, size-text_of rest v);
 }
-
-pub cut-within : (kind : Kind) (bytes rest : List ℕ) → Begun kind (text_of rest) (text_of bytes) → IsUtf8 bytes → IsUtf8 rest → length rest ≤ length bytes
-cut-within kind bytes rest begun u v = omega (arith, ap size begun.is.joined, size-append begun.piece (text_of rest), size-text_of bytes u, size-text_of rest v)
 
 pub cut-boundary : (kind : Kind) (bytes rest : List ℕ) → Begun kind (text_of rest) (text_of bytes) → IsUtf8 bytes → IsUtf8 rest → IsCharBoundary bytes (length bytes - length rest)
 cut-boundary kind bytes rest begun u v = boundary-bytes bytes _ refl u (begun.piece, text_of rest, cut kind bytes rest begun u v)

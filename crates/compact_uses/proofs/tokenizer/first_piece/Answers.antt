@@ -1,8 +1,5 @@
-use Rattle.compact_uses.proofs.PieceLemmas.{begun, begun-shorter, cut-within, cut-boundary, cut-piece}
+use Rattle.compact_uses.proofs.PieceLemmas.{begun, cut-boundary, cut-piece}
 use Rattle.compact_uses.proofs.tokenizer.first_piece.Goals as goal
-
-pub overflow_sub-text : goal.overflow_sub-text
-overflow_sub-text c = cut-within _ _ _ (begun _ _ _ _ _ c.in_ok-first.ensures c.kind_of-kind.ensures c.rest_of-rest.ensures.more) c.utf8.text c.rest_of-rest.utf8
 
 pub split_at-requires : goal.split_at-requires
 split_at-requires c = cut-boundary _ _ _ (begun _ _ _ _ _ c.in_ok-first.ensures c.kind_of-kind.ensures c.rest_of-rest.ensures.more) c.utf8.text c.rest_of-rest.utf8
@@ -12,6 +9,3 @@ returns-clause-first c = record {
   is = cut-piece _ _ _ _ (begun _ _ _ _ _ c.in_ok-first.ensures c.kind_of-kind.ensures c.rest_of-rest.ensures.more) c.utf8.text c.rest_of-rest.utf8 c.split_at.ensures.front;
   longest = c.rest_of-rest.ensures.apart;
 }
-
-pub returns-clause-shorter : goal.returns-clause-shorter
-returns-clause-shorter c = begun-shorter _ _ _ (begun _ _ _ _ _ c.in_ok-first.ensures c.kind_of-kind.ensures c.rest_of-rest.ensures.more)
