@@ -5,6 +5,7 @@ use Rattle.std.proofs.lemmas.Grind.{common_steps}
 use Rattle.std.proofs.lemmas.Bool.{cases_Bool, cases_lt, cond-true, cond-false, true≢false, le-leb, leb-true, eq-eqb, eqb-true, and_parts, and_from}
 use Rattle.std.proofs.lemmas.Str.{len_utf8_bounds, chars-IsAscii}
 use Rattle.std.specs.Bool.{MatchBool}
+use Rattle.std.specs.Prelude.{Ok}
 use Rattle.std.specs.Str.{IsUtf8, IsAscii, IsNotAscii}
 use Rattle.std.specs.Char.{len_utf8}
 use Rattle.compact_text.proofs.TextFacts.{text_facts}
@@ -17,6 +18,10 @@ use Rattle.compact_text.proofs.Texts.{size-append, size-text_of}
 use Rattle.compact_text.proofs.Keeping.{first_ascii, first_past_ascii}
 use Rattle.compact_text.proofs.Cuts.{text_before-text_after, size-text_before, size-replaced, boundary-from_size}
 use Rattle.compact_text.proofs.Middles.{substring-parts, parts-substring}
+use Rattle.compact_repr.specs.Value.{IsOwned}
+use Rattle.compact_repr.specs.declared.growth.Policy.{Ghosts}
+use Rattle.compact_str.specs.declared.string.drain.Drain.{Drain}
+use Rattle.compact_str.specs.Drain.{drain_lender, DrainsRange}
 use Rattle.compact_str.specs.TotalRanges.{is_range, range_text, IsAsciiRange, without_range}
 use Rattle.compact_str.proofs.AsciiCase.{make_owned-text}
 
@@ -206,6 +211,28 @@ without_range-ascii v i j front back whole within ascii is =
 pub drained : (g : Growth) (v u : PlacedText) (i j : ℕ) → make_owned g v ≡ Some u → is_static u.placement.place ≡ false → i ≤ j → IsBoundary v.text i → IsBoundary v.text j → replace_range g v i j [] ≡ Some (without_range u i j)
 drained g v u i j o own order h k = rw (make_owned-placement g v u o, le-leb 0 (j - i) (omega arith), owned_placement-without_range g v u i j o own order h k) refl
 
+-- a range of a value made owned first, and its drain
+pub made_owned-range : (g : Growth) (v u : PlacedText) (i j : ℕ) → make_owned g v ≡ Some u → i ≤ j → IsBoundary v.text i → IsBoundary v.text j
+    → IsOwned u × (size u.text ≡ size v.text) × (is_range u.text i j ≡ true)
+made_owned-range g v u i j o order h k =
+    (make_owned-owned_placement g v u o, ap size (make_owned-text g v u o), owned_placement-range g v u i j o order h k)
+
+pub drains-range : {P : Type 0} {G : Ghosts P} {E : Type 0} (g : Growth) (v u : PlacedText) (i j : ℕ) (d : Drain P G) → make_owned g v ≡ Some u
+    → i ≤ j → IsBoundary v.text i → IsBoundary v.text j → d.value.now ≡ u → d.start ≡ i → d.end ≡ j → d.rest_start ≡ i → d.rest_end ≡ j
+    → DrainsRange {E = E} g v (drain_lender d) i j (Ok d)
+drains-range g v u i j d o order h k now first last rest_first rest_last =
+    let own = make_owned-owned_placement g v u o in
+    let part : range_text u.text i j ≡ substring v.text i j = ap (λ (t : List ℕ). range_text t i j) (make_owned-text g v u o) ∙ part-range v.text i j order h k in
+    record {
+      same_reference = refl;
+      rest = rw (now, rest_first, rest_last) part;
+      leaves = rw (now, first, last) (drained g v u i j o own order h k);
+      text = rw (now, first, last) (ap (λ (w : PlacedText). w.text) (owned_placement-without_range g v u i j o own order h k));
+      succeeds = λ _. refl;
+      succeeds_short = λ _. refl;
+      err = tt;
+    }
+
 -- a character has at least one byte
 pub length-least : (t : List ℕ) → length t ≤ size t
 length-least [] = omega arith
@@ -266,5 +293,9 @@ ascii-back t r front back c width old new all =
     rw new (omega (arith, whole, sizes, lengths, wide, rest))
 
 pub ruleset drain_facts = (text_facts, range-is_range, room-owned_placement)
+
+pub ruleset owning_drain_facts = (text_facts, made_owned-range, drains-range)
+
+pub ruleset ascii_range_facts = (drain_facts, ascii-of_bytes)
 
 pub ruleset owned_facts = (text_facts, make_owned-text, make_owned-owned_placement)

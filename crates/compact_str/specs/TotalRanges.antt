@@ -4,8 +4,6 @@ use Rattle.compact_repr.specs.Text.{size}
 use Rattle.compact_repr.specs.Cut.{is_boundary, substring, replaced_text}
 use Rattle.compact_repr.specs.Value.{PlacedText, placed_text, is_static}
 
--- p is a boundary of t
-
 -- i to j is a range of t
 abbrev pub is_range : List ℕ → ℕ → ℕ → Bool
 is_range t i j = nat_le i j && (is_boundary t i && is_boundary t j)

@@ -64,6 +64,7 @@ impl<P: Policy> PolicyString<P> {
     /// assert_eq!(rt; greeting.as_str(), "Hello!");
     /// ```
     #[inline]
+    #[tactic(auto, using(crate::proofs::Drains::owning_drain_facts))]
     pub fn drain(
         &mut self,
         start: Bound<usize>,
@@ -79,31 +80,18 @@ impl<P: Policy> PolicyString<P> {
         let Some((first, last)) = self.byte_range(start, end) else {
             unreachable!();
         };
-        let len = self.len();
+        let old_len = self.len();
         self.make_owned()?;
-        Ok(self.drain_between(first, last, len))
-    }
-
-    /// Creates the drain of an owned string of `old_len` bytes.
-    #[inline]
-    fn drain_between(&mut self, start: usize, end: usize, old_len: usize) -> Drain<'_, P>
-        requires len { old_len ≡ size self.old.text }
-        requires owned { IsOwned self.old }
-        requires range { is_range self.old.text start end ≡ true }
-        ensures same_reference { drain_lender result ≡ self.entry.ghost_name }
-        ensures rest { drain_rest result ≡ range_text self.old.text start end }
-        ensures leaves { value_after_drain result ≡ without_range self.old start end }
-    {
-        let is_ascii = self.is_short_ascii_range(start, end);
-        Drain {
+        let is_ascii = self.is_short_ascii_range(first, last);
+        Ok(Drain {
             value: self,
-            start,
-            end,
+            start: first,
+            end: last,
             old_len,
-            rest_start: start,
-            rest_end: end,
+            rest_start: first,
+            rest_end: last,
             is_ascii,
-        }
+        })
     }
 }
 
@@ -135,13 +123,15 @@ impl<P: Policy> Drain<'_, P> {
 
     /// Like `as_str` for a heap string of the same length as when the drain was created; otherwise `None`.
     #[inline(always)]
+    #[tactic(auto, using(crate::proofs::Drains::drain_facts))]
     fn heap_rest(&self) -> Option<&str>
         ensures text { IfSome result (λ s. text_of s.now ≡ drain_rest self.now) }
         ensures len { IfSome result (λ s. length s.now ≡ size (drain_rest self.now)) }
         ensures ascii { IfSome result
             (λ s. self.now.is_ascii ≡ true → length (text_of s.now) ≡ size (text_of s.now)) }
     {
-        if let Some(text) = self.value.heap_str() {
+        let value = &*self.value;
+        if let Some(text) = value.repr.heap_str() {
             if text.len() == self.old_len {
                 return Some(substring(text, self.rest_start, self.rest_end));
             }

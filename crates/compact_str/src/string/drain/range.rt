@@ -55,25 +55,15 @@ pub fn width_of(word: u64) -> usize
 }
 
 impl<P: Policy> PolicyString<P> {
-    /// Returns the text of a heap string, or `None` for any other.
-    #[inline(always)]
-    #[tactic(auto, using(compact_text::proofs::TextFacts::text_facts))]
-    pub(crate) fn heap_str(&self) -> Option<&str>
-        ensures text { IfSome result (λ s. text_of s.now ≡ self.now.text) }
-        ensures len { IfSome result (λ s. length s.now ≡ size self.now.text) }
-    {
-        self.repr.heap_str()
-    }
-
     /// Returns `true` if a range of at most 1 KiB of a heap string is ASCII. Reads no longer range, so that an unused
     /// drain stays cheap.
     #[inline(never)]
-    #[tactic(auto, using(crate::proofs::Drains::drain_facts))]
+    #[tactic(auto, using(crate::proofs::Drains::ascii_range_facts))]
     pub(crate) fn is_short_ascii_range(&self, start: usize, end: usize) -> bool
         requires { is_range self.now.text start end ≡ true }
         ensures { IsTrue result → IsAsciiRange self.now.text start end }
     {
-        match self.heap_str() {
+        match self.repr.heap_str() {
             Some(text) => {
                 let range = substring(text, start, end);
                 range.len() <= MAX_LOOKED_AT && range.is_ascii()
