@@ -296,6 +296,8 @@ pub ruleset drain_facts = (text_facts, range-is_range, room-owned_placement)
 
 pub ruleset owning_drain_facts = (text_facts, made_owned-range, drains-range)
 
+pub ruleset without_range_facts = (without_range-owned_placement, without_range-is_range, without_range-ascii, size-without_range)
+
 pub ruleset ascii_range_facts = (drain_facts, ascii-of_bytes)
 
 pub ruleset owned_facts = (text_facts, make_owned-text, make_owned-owned_placement)

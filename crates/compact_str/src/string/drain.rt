@@ -222,6 +222,7 @@ impl<P: Policy> Drop for Drain<'_, P> {
     ghost use Rattle.compact_str.specs.Drain.{value_after_drain};
 
     #[inline]
+    #[tactic(auto, using(crate::proofs::Drains::without_range_facts))]
     fn drop(self)
         ensures { self.exit.0.now ≡ value_after_drain self.entry }
     {
