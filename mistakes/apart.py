@@ -120,7 +120,7 @@ def unproved(crate, bodies):
     finally:
         for file, text in was.items():
             write(f"{crate}/{file}", text)
-    return UNPROVED.findall(said), "\nlogic=not-proved" in said
+    return UNPROVED.findall(said), "\nlogic=proved" not in said
 
 
 def try_together(crate, bodies):

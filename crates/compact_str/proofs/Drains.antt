@@ -28,7 +28,7 @@ use Rattle.compact_str.proofs.AsciiCase.{make_owned-text}
 pub make_owned-owned_placement : (g : Growth) (v u : PlacedText) → make_owned g v ≡ Some u → is_static u.placement.place ≡ false
 make_owned-owned_placement g v u e = grind (arith, common_steps)
 
-pub make_owned-placement : (g : Growth) (v u : PlacedText) → make_owned g v ≡ Some u → owned_placement g v ≡ Some u.placement
+make_owned-placement : (g : Growth) (v u : PlacedText) → make_owned g v ≡ Some u → owned_placement g v ≡ Some u.placement
 make_owned-placement g v u e = grind (arith, common_steps)
 
 -- an owned text fits its capacity
@@ -57,7 +57,7 @@ range-is_range t i j e =
     let cuts = and_parts _ _ order.1 in
     (leb-true i j order.0, boundary-is_boundary t i cuts.0, boundary-is_boundary t j cuts.1)
 
-pub part-range : (t : List ℕ) (i j : ℕ) → i ≤ j → IsBoundary t i → IsBoundary t j → range_text t i j ≡ substring t i j
+part-range : (t : List ℕ) (i j : ℕ) → i ≤ j → IsBoundary t i → IsBoundary t j → range_text t i j ≡ substring t i j
 part-range t i j order h k = cond-true _ _ _ (is_range-range t i j order h k)
 
 of-range : (t a m b : List ℕ) (i j : ℕ) → t ≡ a ++ m ++ b → size a ≡ i → size a + size m ≡ j → is_range t i j ≡ true
@@ -146,12 +146,12 @@ back-taken t s front back c width is wide last =
     rw wide (split, taken.0, taken.1, back-range t last.0 front back c split)
 
 -- a range stays one when the value is made owned
-pub owned_placement-range : (g : Growth) (v u : PlacedText) (i j : ℕ) → make_owned g v ≡ Some u → i ≤ j → IsBoundary v.text i → IsBoundary v.text j → is_range u.text i j ≡ true
+owned_placement-range : (g : Growth) (v u : PlacedText) (i j : ℕ) → make_owned g v ≡ Some u → i ≤ j → IsBoundary v.text i → IsBoundary v.text j → is_range u.text i j ≡ true
 owned_placement-range g v u i j o order h k =
     ap (λ (t : List ℕ). is_range t i j) (make_owned-text g v u o) ∙ is_range-range v.text i j order h k
 
 -- a value made owned, and then without a range
-pub owned_placement-without_range : (g : Growth) (v u : PlacedText) (i j : ℕ) → make_owned g v ≡ Some u → is_static u.placement.place ≡ false → i ≤ j → IsBoundary v.text i → IsBoundary v.text j
+owned_placement-without_range : (g : Growth) (v u : PlacedText) (i j : ℕ) → make_owned g v ≡ Some u → is_static u.placement.place ≡ false → i ≤ j → IsBoundary v.text i → IsBoundary v.text j
     → without_range u i j ≡ placed_text (replaced_text v.text i j []) u.placement
 owned_placement-without_range g v u i j o own order h k =
     let text = make_owned-text g v u o in
@@ -208,7 +208,7 @@ without_range-ascii v i j front back whole within ascii is =
     let same = without_range-same v i j (omega (arith, is, within)) in
     subst (λ (t : List ℕ). IsAsciiRange t front back) (sym same) (ascii (subst (λ (t : List ℕ). size t ≡ whole) same is))
 
-pub drained : (g : Growth) (v u : PlacedText) (i j : ℕ) → make_owned g v ≡ Some u → is_static u.placement.place ≡ false → i ≤ j → IsBoundary v.text i → IsBoundary v.text j → replace_range g v i j [] ≡ Some (without_range u i j)
+drained : (g : Growth) (v u : PlacedText) (i j : ℕ) → make_owned g v ≡ Some u → is_static u.placement.place ≡ false → i ≤ j → IsBoundary v.text i → IsBoundary v.text j → replace_range g v i j [] ≡ Some (without_range u i j)
 drained g v u i j o own order h k = rw (make_owned-placement g v u o, le-leb 0 (j - i) (omega arith), owned_placement-without_range g v u i j o own order h k) refl
 
 -- a range of a value made owned first, and its drain
