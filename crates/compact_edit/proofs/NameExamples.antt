@@ -26,5 +26,5 @@ past-the-last : slice_get (a ∷ b ∷ [] ∷ []) 3 ≡ None
 past-the-last = refl
 
 -- with the name b and the number 7 listed, a and b get 1 and 0
-taken-behind : Takes (b ∷ []) (a ∷ b ∷ []) (7 ∷ []) (b ∷ a ∷ []) (7 ∷ 1 ∷ 0 ∷ [])
-taken-behind = record { names = refl; numbers = 1 ∷ 0 ∷ []; behind = refl; places = (refl, (refl, tt)) }
+taken-appended : Takes (b ∷ []) (a ∷ b ∷ []) (7 ∷ []) (b ∷ a ∷ []) (7 ∷ 1 ∷ 0 ∷ [])
+taken-appended = record { names = refl; numbers = 1 ∷ 0 ∷ []; appended = refl; places = (refl, (refl, tt)) }

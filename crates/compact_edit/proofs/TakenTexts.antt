@@ -68,7 +68,7 @@ pub takes-none : (before : List (List ℕ)) (listed : List ℕ) → distinct_tex
 takes-none before listed distinct = record {
   names = sym (ap distinct_texts (append-nil before) ∙ distinct);
   numbers = [];
-  behind = sym (append-nil listed);
+  appended = sym (append-nil listed);
   places = tt;
 }
 
@@ -80,7 +80,7 @@ takes-push before ts names after listed mid now t n takes distinct is at pushed 
     record {
       names = noting ∙ ap (λ others. noted others t) takes.names ∙ sym (distinct_texts-push (before ++ ts) t) ∙ ap distinct_texts (append_assoc before ts (t ∷ []));
       numbers = takes.numbers ++ n ∷ [];
-      behind = pushed ∙ ap (λ m. m ++ n ∷ []) takes.behind ∙ append_assoc listed takes.numbers (n ∷ []);
+      appended = pushed ∙ ap (λ m. m ++ n ∷ []) takes.appended ∙ append_assoc listed takes.numbers (n ∷ []);
       places = numbers-more names after (λ x i h. rw noting (slice_get-noted names t x i h)) ts takes.numbers t n takes.places at;
     }
 

@@ -27,7 +27,7 @@ AreNumbersOf names texts numbers = AllZip (λ t n. slice_get names n ≡ Some t)
 pub record Takes (before texts : List (List ℕ)) (listed : List ℕ) (after : List (List ℕ)) (now_listed : List ℕ) : Type 0 where
   pub names : after ≡ distinct_texts (before ++ texts)
   pub numbers : List ℕ
-  pub behind : now_listed ≡ listed ++ numbers
+  pub appended : now_listed ≡ listed ++ numbers
   pub places : AreNumbersOf after texts numbers
 
 -- the error of a new text: allocation failed with a number left, or no number is left

@@ -16,7 +16,7 @@ use Rattle.compact_text.specs.WordBytes.{le_number}
 use Rattle.compact_repr.specs.Packed.{packed_bytes}
 use Rattle.compact_text.proofs.Numbers.{AllBytes, AllBytes-append, AllBytes-cons, AllBytes-zeros, le_number-append, le_number-lt, three-words}
 use Rattle.compact_ext.specs.declared.to_text.digits.TheConstants.{PAIRS}
-use Rattle.compact_ext.specs.Digits.{two_digits, four_digits, number_behind, number_text}
+use Rattle.compact_ext.specs.Digits.{two_digits, four_digits, prepended_number, number_text}
 use Rattle.compact_ext.proofs.NumberTexts.{IsAscii-number}
 
 -- the number of digits, by the power of ten reached
@@ -62,8 +62,8 @@ pub ruleset pairs_read = (pair_number)
 
 -- the digits still to come precede those so far
 
-behind-append : (text : ℕ) (top group : List ℕ) → number_behind text (top ++ group) ≡ number_behind (number_behind text group) top
-behind-append text top group =
+prepended-append : (text : ℕ) (top group : List ℕ) → prepended_number text (top ++ group) ≡ prepended_number (prepended_number text group) top
+prepended-append text top group =
     let both : 8 * length (top ++ group) ≡ 8 * length group + 8 * length top = ap (λ (k : ℕ). 8 * k) (length-append top group) ∙ omega arith in
     let scale = ap (λ (k : ℕ). text * 2 ^ k) both ∙ ap (λ (k : ℕ). text * k) (pow-add 2 (8 * length group) (8 * length top)) in
     omega (arith, scale, le_number-append top group)
@@ -71,11 +71,11 @@ behind-append text top group =
 bytes-decimal : (n : ℕ) → n < 2 ^ 64 → AllBytes (decimal n)
 bytes-decimal n h i = omega (arith, IsAscii-decimal n h i)
 
-pub behind-four : (text n : ℕ) → 10000 ≤ n → n < 2 ^ 64 → number_behind text (decimal n) ≡ number_behind (text * 2 ^ 32 + le_number (four_digits (n % 10000))) (decimal (n / 10000))
-behind-four text n low fits = ap (number_behind text) (decimal_four n low fits) ∙ behind-append text (decimal (n / 10000)) (four_digits (n % 10000))
+pub prepended-four : (text n : ℕ) → 10000 ≤ n → n < 2 ^ 64 → prepended_number text (decimal n) ≡ prepended_number (text * 2 ^ 32 + le_number (four_digits (n % 10000))) (decimal (n / 10000))
+prepended-four text n low fits = ap (prepended_number text) (decimal_four n low fits) ∙ prepended-append text (decimal (n / 10000)) (four_digits (n % 10000))
 
-pub behind-two : (text n : ℕ) → 100 ≤ n → n < 2 ^ 64 → number_behind text (decimal n) ≡ number_behind (text * 2 ^ 16 + le_number (two_digits (n % 100))) (decimal (n / 100))
-behind-two text n low fits = ap (number_behind text) (decimal_pair n low fits) ∙ behind-append text (decimal (n / 100)) (two_digits (n % 100))
+pub prepended-two : (text n : ℕ) → 100 ≤ n → n < 2 ^ 64 → prepended_number text (decimal n) ≡ prepended_number (text * 2 ^ 16 + le_number (two_digits (n % 100))) (decimal (n / 100))
+prepended-two text n low fits = ap (prepended_number text) (decimal_pair n low fits) ∙ prepended-append text (decimal (n / 100)) (two_digits (n % 100))
 
 pub number-fits : (n : ℕ) → n < 2 ^ 64 → le_number (decimal n) < 2 ^ 160
 number-fits n fits =
@@ -84,10 +84,10 @@ number-fits n fits =
     let below = le_number-lt (decimal n) (bytes-decimal n fits) in
     omega arith
 
-pub behind-fits : (text n : ℕ) (front : List ℕ) → number_behind text front ≡ le_number (decimal n) → n < 2 ^ 64 → text < 2 ^ 160
-behind-fits text n front e fits = omega (arith, e, number-fits n fits, le-mul_of_pos_right {m = 2 ^ (8 * length front)} text (pow_pos (8 * length front)))
+pub prepended-fits : (text n : ℕ) (front : List ℕ) → prepended_number text front ≡ le_number (decimal n) → n < 2 ^ 64 → text < 2 ^ 160
+prepended-fits text n front e fits = omega (arith, e, number-fits n fits, le-mul_of_pos_right {m = 2 ^ (8 * length front)} text (pow_pos (8 * length front)))
 
-pub ruleset digit_groups = (behind-four, behind-two, behind-fits)
+pub ruleset digit_groups = (prepended-four, prepended-two, prepended-fits)
 
 pub one-digit : (n : ℕ) → n < 10 → length (decimal n) ≡ 1
 one-digit n low = ap length (decimal_digit n low)
@@ -220,13 +220,13 @@ row-packed text row few bytes long all e =
     (e ∙ sym number)
     ∙ sym (cond-true _ _ _ (lt-ltb (length text) 24 (omega arith)))
 
-pub sign-fits : (s : Bool) (n : ℕ) → n < 2 ^ 64 → number_behind (le_number (decimal n)) (sign_text s) < 2 ^ 184
+pub sign-fits : (s : Bool) (n : ℕ) → n < 2 ^ 64 → prepended_number (le_number (decimal n)) (sign_text s) < 2 ^ 184
 sign-fits true n h = omega (arith, number-fits n h)
 sign-fits false n h = omega (arith, number-fits n h)
 
 -- the sign is one more byte
 pub number-row : (s : Bool) (n sign count first text : ℕ) (row : List ℕ) → n < 2 ^ 64 → sign ≡ bool_byte s → count ≡ length (decimal n)
-    → first ≡ le_number (decimal n) → text ≡ number_behind first (sign_text s) → length row ≡ 24 → AllBytes row
+    → first ≡ le_number (decimal n) → text ≡ prepended_number first (sign_text s) → length row ≡ 24 → AllBytes row
     → le_number row ≡ (192 + (sign + count)) * 2 ^ 184 + text → row ≡ packed_bytes (number_text s n)
 number-row true n sign count first text row h one many is more long all e =
     row-packed (number_text true n) row (omega (arith, count-short n h)) (λ i. omega (arith, IsAscii-number true n h i)) long all (omega arith)

@@ -6,7 +6,7 @@ use Rattle.compact_str.specs.Value.{placed_text}
 use Rattle.compact_str.specs.Capacity.{Growth, inline_placement, heap_placement}
 use Rattle.compact_str.specs.Calls.{new}
 use Rattle.compact_text.specs.WordBytes.{le_number}
-use Rattle.compact_ext.specs.Digits.{two_digits, four_digits, number_behind, number_text}
+use Rattle.compact_ext.specs.Digits.{two_digits, four_digits, prepended_number, number_text}
 use Rattle.compact_ext.specs.Shown.{bool_text}
 
 abbrev standard : Growth
@@ -56,7 +56,7 @@ seven_has_a_nought_before_it = refl
 seven_has_three_noughts_before_it : four_digits 7 ≡ codes "0007"
 seven_has_three_noughts_before_it = refl
 
-two_before_three_are_five : number_behind (le_number (codes "345")) (codes "12") ≡ le_number (codes "12345")
+two_before_three_are_five : prepended_number (le_number (codes "345")) (codes "12") ≡ le_number (codes "12345")
 two_before_three_are_five = refl
 
 twenty_characters_stand_inline : new standard (signed_decimal (negsuc 9223372036854775807)) ≡ Some (placed_text (codes "-9223372036854775808") inline_placement)

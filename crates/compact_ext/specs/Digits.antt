@@ -16,5 +16,5 @@ abbrev pub number_text : Bool → ℕ → List ℕ
 number_text is_negative magnitude = sign_text is_negative ++ decimal magnitude
 
 -- the number of a text with the bytes `front` before it
-abbrev pub number_behind : ℕ → List ℕ → ℕ
-number_behind text front = text * 2 ^ (8 * length front) + le_number front
+abbrev pub prepended_number : ℕ → List ℕ → ℕ
+prepended_number text front = text * 2 ^ (8 * length front) + le_number front

@@ -47,7 +47,7 @@ texts-joined names (token ∷ tokens) (piece ∷ pieces) rest text (others, firs
 pub tokenized-joined : (before names : List (List ℕ)) (tokens : List Token) (rest text : List ℕ) → IsTokenized before names tokens rest text → rest ≡ []
     → flat_map (token_text names) tokens ≡ text
 tokenized-joined before names tokens rest text done none =
-    sym (append-nil _) ∙ texts-joined names tokens done.pieces [] text (rw none at done.cut) (rw done.takes.behind done.takes.places)
+    sym (append-nil _) ∙ texts-joined names tokens done.pieces [] text (rw none at done.cut) (rw done.takes.appended done.takes.places)
 
 -- at most one name is added
 

@@ -6,7 +6,7 @@ ghost use Rattle.std.specs.Prelude.{◌≡◌, ℕ, ◌+◌, ◌*◌, ◌^◌, �
 ghost use Rattle.std.specs.Fmt.{decimal, sign_text};
 ghost use Rattle.compact_text.specs.WordBytes.{le_number};
 ghost use Rattle.compact_repr.specs.Packed.{packed_bytes};
-ghost use Rattle.compact_ext.specs.Digits.{two_digits, four_digits, number_behind, number_text};
+ghost use Rattle.compact_ext.specs.Digits.{two_digits, four_digits, prepended_number, number_text};
 
 use compact_text::words::array_of_words;
 use std::marker::Model;
@@ -28,7 +28,7 @@ pub fn number_row(magnitude: u64, is_negative: bool) -> [u8; 24]
     ensures { result ≡ packed_bytes (number_text is_negative magnitude) }
 {
     let len = usize::from(is_negative) + count_digits(magnitude);
-    digits_of(magnitude).behind_sign(is_negative).packed(len)
+    digits_of(magnitude).prepend_sign(is_negative).packed(len)
 }
 
 /// Returns the number of digits of `n`.
@@ -53,10 +53,10 @@ fn digits_of(n: u64) -> ShortText
     let mut rest = n;
     let mut text = ShortText { low: 0, high: 0 };
     while rest >= 10_000 {
-        text = text.behind(four(rest % 10_000), 4);
+        text = text.prepend(four(rest % 10_000), 4);
         rest /= 10_000;
     }
-    text.behind_first(rest)
+    text.prepend_first(rest)
 }
 
 /// Returns the number of pairs of digits after the first one or two of a number below 10,000.
@@ -117,7 +117,7 @@ impl ShortText {
     /// Prepends a group of `count` characters.
     #[inline(always)]
     #[tactic(auto, using(crate::proofs::Digits::moves))]
-    fn behind(self, group: u64, count: usize) -> Self
+    fn prepend(self, group: u64, count: usize) -> Self
         requires some { 1 ≤ count }
         requires most { count ≤ 4 }
         requires group { group < 2 ^ (8 * count) }
@@ -134,10 +134,10 @@ impl ShortText {
     /// Prepends the digits of a number below 10,000: two, then the last one or two.
     #[inline(always)]
     #[tactic(auto, using(crate::proofs::Digits::last_digits))]
-    fn behind_first(self, n: u64) -> Self
+    fn prepend_first(self, n: u64) -> Self
         requires small { n < 10000 }
         requires fits { self < 2 ^ 160 }
-        ensures { result ≡ number_behind self (decimal n) }
+        ensures { result ≡ prepended_number self (decimal n) }
     {
         // Products and shifts avoid an unpredictable branch.
         let pairs = count_pairs(n);
@@ -145,17 +145,17 @@ impl ShortText {
         let last = n - (n - n / 100) * pairs;
         let count = count_first(last);
         let group = (two << (8 * count)) + (pair(last) >> (8 * (2 - count)));
-        self.behind(group, count + 2 * pairs as usize)
+        self.prepend(group, count + 2 * pairs as usize)
     }
 
     /// Prepends a minus if `is_negative`.
     #[inline(always)]
-    fn behind_sign(self, is_negative: bool) -> Self
+    fn prepend_sign(self, is_negative: bool) -> Self
         requires { self < 2 ^ 160 }
-        ensures { result ≡ number_behind self (sign_text is_negative) }
+        ensures { result ≡ prepended_number self (sign_text is_negative) }
     {
         if is_negative {
-            self.behind(b'-' as u64, 1)
+            self.prepend(b'-' as u64, 1)
         } else {
             self
         }

@@ -1,12 +1,12 @@
 use Rattle.std.proofs.Common.{◌≡◌}
 use Rattle.std.specs.Fmt.{decimal}
-use Rattle.compact_ext.specs.Digits.{number_behind}
+use Rattle.compact_ext.specs.Digits.{prepended_number}
 use Rattle.compact_text.specs.WordBytes.{le_number}
 use Rattle.compact_ext.proofs.to_text.digits.digits_of.Given as goal
 
--- behind what is left of the number the text so far is the whole
+-- the text so far, with what is left of the number prepended, is the whole
 abbrev pub invariant-loop-rest : goal.invariant-loop-rest
-invariant-loop-rest l = number_behind l.text (decimal l.rest) ≡ le_number (decimal l.n)
+invariant-loop-rest l = prepended_number l.text (decimal l.rest) ≡ le_number (decimal l.n)
 
 abbrev pub decreases-loop-rest : goal.decreases-loop-rest
 decreases-loop-rest l = l.rest

@@ -6,4 +6,4 @@ use Rattle.compact_ext.proofs.to_text.digits.number_row.Goals as goal
 pub returns : goal.returns
 returns c =
     number-row c.args.is_negative c.args.magnitude _ _ _ _ c.packed.result c.ranges.magnitude.fits c.from.ensures c.count_digits.ensures.count c.digits_of.ensures
-    c.behind_sign.ensures (search rules) (λ i. search rules) c.packed.ensures
+    c.prepend_sign.ensures (search rules) (λ i. search rules) c.packed.ensures

@@ -1,7 +1,7 @@
 -- No bit is lost.
 use Rattle.std.proofs.Common.{arith}
 use Rattle.compact_ext.proofs.Digits.{moves}
-use Rattle.compact_ext.proofs.to_text.digits.ShortText.behind.Goals as goal
+use Rattle.compact_ext.proofs.to_text.digits.ShortText.prepend.Goals as goal
 
 pub overflow_add-result : goal.overflow_add-result
 overflow_add-result c =
