@@ -1,7 +1,7 @@
 //! A heap buffer: a text in a vector of bytes, whose capacity is the vector's.
-ghost use Rattle.std.specs.Prelude.{◌≡◌, ◌+◌, ◌-◌, ◌≤◌, ◌<◌, ◌^◌, [], ◌∷◌, ◌++◌, length, false, IfOk, OnOk, OnErr, IsSome, IsTrue, ◌↔◌, MatchOption};
+ghost use Rattle.std.specs.Prelude.{◌≡◌, ◌+◌, ◌-◌, ◌≤◌, ◌<◌, ◌^◌, [], ◌∷◌, ◌++◌, length, None, false, IfOk, OnOk, OnErr, IsSome, IsTrue, ◌↔◌, MatchOption};
 ghost use Rattle.std.specs.String.{string_bytes, string_capacity};
-ghost use Rattle.compact_repr.specs.Words.{size, utf8, text_of, IsText, ascii_lowercase, ascii_uppercase, IsBoundary, IsAsciiAt, text_before, substring, replaced_text};
+ghost use Rattle.compact_repr.specs.Words.{size, utf8, text_of, IsText, ascii_lowercase, ascii_uppercase, IsBoundary, IsAsciiAt, IsNotAsciiAt, text_before, substring, replaced_text};
 ghost use Rattle.compact_text.specs.Retain.{RetainsCharsTo};
 
 use compact_text::slices::ascii_at;
@@ -211,6 +211,7 @@ impl HeapBuffer {
     /// Removes and returns the character at byte `index`, a boundary, if it is ASCII. Otherwise, and at the end,
     /// returns `None` and changes nothing.
     #[inline]
+    #[tactic(auto, using(compact_text::proofs::Cuts::ascii_at_facts))]
     pub fn try_remove_ascii(&mut self, index: usize) -> Option<char>
         requires { IsBoundary self.old.text index }
         ensures removed { MatchOption result (self.new ≡ self.old)
@@ -220,6 +221,7 @@ impl HeapBuffer {
               text = replaced_text self.old.text index (index + 1) [];
               capacity = self.old.capacity;
             })) }
+        ensures not_ascii { result ≡ None → IsNotAsciiAt self.old.text index }
         ensures within { IsSome result → size self.new.text ≤ self.old.capacity }
     {
         let character = ascii_at(self.as_str().as_bytes(), index)?;

@@ -1,8 +1,8 @@
 //! An inline buffer: a text of at most 24 bytes, packed into the value itself.
 #![tactic(auto, using(crate::proofs::PackedFacts::packed_facts))]
 
-ghost use Rattle.std.specs.Prelude.{◌≡◌, ◌+◌, ◌-◌, ◌≤◌, ◌<◌, ℕ, List, [], ◌∷◌, ◌++◌, length, false, IsSome, IsTrue, ◌↔◌, MatchOption};
-ghost use Rattle.compact_repr.specs.Words.{size, utf8, text_of, IsText, ascii_lowercase, ascii_uppercase, IsBoundary, IsAsciiAt, text_before, replaced_text};
+ghost use Rattle.std.specs.Prelude.{◌≡◌, ◌+◌, ◌-◌, ◌≤◌, ◌<◌, ℕ, List, [], ◌∷◌, ◌++◌, length, None, false, IsSome, IsTrue, ◌↔◌, MatchOption};
+ghost use Rattle.compact_repr.specs.Words.{size, utf8, text_of, IsText, ascii_lowercase, ascii_uppercase, IsBoundary, IsAsciiAt, IsNotAsciiAt, text_before, replaced_text};
 ghost use Rattle.compact_repr.specs.Packed.{IsPackedFor};
 ghost use Rattle.compact_text.specs.Retain.{RetainsCharsTo};
 
@@ -150,10 +150,12 @@ impl InlineBuffer {
     /// Removes and returns the character at byte `index`, a boundary, if it is ASCII. Otherwise, and at the end,
     /// returns `None` and changes nothing.
     #[inline]
+    #[tactic(auto, using(compact_text::proofs::Cuts::ascii_at_facts))]
     pub fn try_remove_ascii(&mut self, index: usize) -> Option<char>
         requires { IsBoundary self.old index }
         ensures removed { MatchOption result (self.new ≡ self.old)
             (λ c. IsAsciiAt self.old index c × (self.new ≡ replaced_text self.old index (index + 1) [])) }
+        ensures not_ascii { result ≡ None → IsNotAsciiAt self.old index }
         ensures within { IsSome result → size self.new ≤ 24 }
     {
         let character = ascii_at(self.as_str().as_bytes(), index)?;

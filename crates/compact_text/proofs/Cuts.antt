@@ -9,7 +9,7 @@ use Rattle.std.specs.Str.{IsUtf8, IsCharBoundary}
 use lib.Dec.{leb}
 use lib.Utf8.{encode, encodes, scalar, scalars}
 use Rattle.compact_text.specs.Text.{size, text_of}
-use Rattle.compact_text.specs.Cut.{IsCut, IsBoundary, IsAsciiAt, is_boundary, text_before, text_after, replaced_text, CutIsBeforeAndAfter}
+use Rattle.compact_text.specs.Cut.{IsCut, IsBoundary, IsAsciiAt, IsNotAsciiAt, is_boundary, text_before, text_after, replaced_text, CutIsBeforeAndAfter}
 use Rattle.compact_text.proofs.TextFacts.{text_facts}
 use Rattle.compact_text.proofs.Texts.{length-utf8, size-text_of, size-append}
 
@@ -122,6 +122,10 @@ utf8-drop bytes p e u h = IsUtf8-drop bytes p u (boundary-bytes bytes p e u h)
 pub ascii_at-text : {t : List ℕ} (bytes : List ℕ) (p c : ℕ) → text_of bytes ≡ t → IsUtf8 bytes → IsBoundary t p → (len_utf8 c ≡ 1) × ((rest : List ℕ) × (text_of (drop p bytes) ≡ c ∷ rest)) → IsAsciiAt t p c
 ascii_at-text bytes p c e u h a = record { width = a.0; rest = a.1.0; text = sym (text_of-drop bytes p e u h) ∙ a.1.1 }
 
+pub ascii_at-none : {t : List ℕ} (bytes : List ℕ) (p : ℕ) → text_of bytes ≡ t → IsUtf8 bytes → IsBoundary t p
+    → ((c : ℕ) (rest : List ℕ) → text_of (drop p bytes) ≡ c ∷ rest → 128 ≤ c) → IsNotAsciiAt t p
+ascii_at-none bytes p e u h above = record { least = λ c rest is. above c rest (text_of-drop bytes p e u h ∙ is) }
+
 pub utf8-replaced : {t : List ℕ} (bytes s : List ℕ) (start end : ℕ) → text_of bytes ≡ t → IsUtf8 bytes → IsUtf8 s → IsBoundary t start → IsBoundary t end → IsUtf8 (replace_range bytes start end s)
 utf8-replaced bytes s start end e u v h k =
     IsUtf8-append _ _ (IsUtf8-append _ _ (utf8-take bytes start e u h) v) (utf8-drop bytes end e u k)
@@ -191,3 +195,5 @@ is_boundary-test true t p h = sym (eq-eqb _ _ (size-text_before t p (h.0 refl)))
 is_boundary-test false t p h = sym (ne_eqb _ _ (λ e. true≢false (sym (h.1 (boundary-from_size t p e)))))
 
 pub ruleset last_facts = (text_facts, size-last, boundary-last, text_before-last)
+
+pub ruleset ascii_at_facts = (text_facts, ascii_at-text, ascii_at-none)

@@ -1,6 +1,6 @@
 //! Edits in place, which never allocate and never move the text to another place.
 ghost use Rattle.std.specs.Prelude.{◌≡◌, ◌+◌, ◌-◌, ◌^◌, ◌≤◌, ◌<◌, [], ◌∷◌, ◌++◌, length, nat_eq, ◌||◌, IsTrue, false, ◌↔◌, IsSome, IfSome, None};
-ghost use Rattle.compact_repr.specs.Words.{size, text_of, ascii_lowercase, ascii_uppercase, IsBoundary, IsAsciiAt, substring, replaced_text, placed_text, IsOwned, fits_in_place, clear, truncate, zeroize, PopsChar};
+ghost use Rattle.compact_repr.specs.Words.{size, text_of, ascii_lowercase, ascii_uppercase, IsBoundary, IsAsciiAt, IsNotAsciiAt, substring, replaced_text, placed_text, IsOwned, fits_in_place, clear, truncate, zeroize, PopsChar};
 ghost use Rattle.compact_text.specs.Retain.{RetainsCharsTo};
 
 use crate::growth::Policy;
@@ -102,6 +102,7 @@ impl<P: Policy> Repr<P> {
             → self.new ≡ placed_text (replaced_text self.old.text index
             (index + 1) []) self.old.placement }
         ensures unchanged { result ≡ None → self.new ≡ self.old }
+        ensures not_ascii { IsOwned self.old → result ≡ None → IsNotAsciiAt self.old.text index }
     {
         match &mut self.buffer {
             Buffer::Static(_) => None,

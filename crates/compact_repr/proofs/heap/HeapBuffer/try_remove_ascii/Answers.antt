@@ -8,9 +8,3 @@ pub remove_ascii-requires-clause-next : goal.remove_ascii-requires-clause-next
 remove_ascii-requires-clause-next c =
     boundary-ascii _ c.args.index _ c.requires
     (ascii_at-text c.as_bytes.result.now c.args.index _ (rw c.as_bytes.ensures.value c.as_str.ensures.text) c.as_bytes.ensures.utf8 c.requires c.in_ok-character.ensures.text)
-
-pub returns-clause-removed : goal.returns-clause-removed
-returns-clause-removed c = (
-  ascii_at-text c.as_bytes.result.now c.args.index _ (rw c.as_bytes.ensures.value c.as_str.ensures.text) c.as_bytes.ensures.utf8 c.requires c.in_ok-character.ensures.text,
-  c.remove_ascii.ensures.removed,
-)
