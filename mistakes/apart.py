@@ -58,8 +58,8 @@ class Body:
         file, old, _ = self.changes[0]
         text = read(f"{crate}/{file}")
         above = list(re.finditer(r"\bfn (\w+)", text[: text.find(old) + len(old)]))
-        # A brace at the start of a line ends the function, or its `impl`: a constant or a ghost follows.
-        if not above or not file.startswith("src/") or "\n}" in text[above[-1].start() : text.find(old)]:
+        # A line that begins with `}` or `{}` ends the function, or its `impl`: a constant or a ghost follows.
+        if not above or not file.startswith("src/") or re.search(r"^{?}", text[above[-1].start() : text.find(old)], re.M):
             return None
         return file, above[-1].start(), above[-1][1]
 
@@ -83,9 +83,10 @@ def bodies_of(path):
 
 
 def check(crate, jobs):
-    """The output of a check of the crate, with `jobs` parts side by side."""
+    """The output of a check of the crate, with `jobs` parts side by side, and whether the crate is refused."""
     command = ["rt", "check", "--jobs", str(jobs)]
-    return subprocess.run(command, cwd=crate, stdin=subprocess.DEVNULL, stdout=subprocess.PIPE, stderr=subprocess.STDOUT, text=True, errors="replace").stdout
+    ended = subprocess.run(command, cwd=crate, stdin=subprocess.DEVNULL, stdout=subprocess.PIPE, stderr=subprocess.STDOUT, text=True, errors="replace")
+    return ended.stdout, ended.returncode != 0
 
 
 def files_below(folder):
@@ -116,11 +117,11 @@ def unproved(crate, bodies):
     try:
         for file, text in texts.items():
             write(f"{crate}/{file}", text)
-        said = check(crate, 1)
+        said, is_refused = check(crate, 1)
     finally:
         for file, text in was.items():
             write(f"{crate}/{file}", text)
-    return UNPROVED.findall(said), "\nlogic=proved" not in said
+    return UNPROVED.findall(said), is_refused
 
 
 def try_together(crate, bodies):
@@ -165,7 +166,7 @@ def copy_of_all(folder):
 def main(names):
     tasks = [(name, bodies) for name in names or sorted(os.listdir(f"{ROOT}/crates")) for bodies in files_of_bodies(name)]
     for name in sorted({name for name, _ in tasks}):
-        if "\nlogic=proved" not in check(f"{ROOT}/crates/{name}", JOBS):
+        if check(f"{ROOT}/crates/{name}", JOBS)[1]:
             sys.exit(f"{name} is not proved as it stands")
     copies = queue.Queue()
 
