@@ -1,5 +1,5 @@
 //! Functions of tokenizers, record readers and reports.
-ghost use Rattle.std.specs.Prelude.{◌≡◌, ◌+◌, ◌≤◌, [], ◌++◌, length, IfOk, OnOk, OnErr, IsOk, codes};
+ghost use Rattle.std.specs.Prelude.{◌≡◌, ◌+◌, ◌≤◌, ◌++◌, length, IfOk, OnOk, OnErr, IsOk, codes};
 ghost use Rattle.compact_str.specs.Text.{text_of, size};
 
 use compact_str::{CompactString, ReserveError};

@@ -1,5 +1,5 @@
 //! Reserving and shrinking.
-ghost use Rattle.std.specs.Prelude.{length, ◌≡◌, ◌*◌, ◌/◌, ◌<◌, ◌≤◌, ◌^◌, [], false, Some, IfOk, OnOk, OnErr, IsTrue};
+ghost use Rattle.std.specs.Prelude.{length, ◌≡◌, ◌*◌, ◌<◌, ◌≤◌, ◌^◌, [], false, Some, IfOk, OnOk, OnErr, IsTrue};
 ghost use Rattle.compact_repr.specs.Words.{size, text_of, placed_text, IsHeap, fits_in_place, inline_placement, heap_placement, WithCapacityAllocates, MakeOwnedAllocates, ReserveAllocates, new, reserve, make_owned, Shrinks};
 
 use crate::error::ReserveError;

@@ -1,5 +1,5 @@
 //! ASCII case.
-ghost use Rattle.std.specs.Prelude.{◌≡◌, ℕ, ◌≤◌, [], Some, IfOk, OnOk, OnErr, IsOk};
+ghost use Rattle.std.specs.Prelude.{◌≡◌, ℕ, ◌≤◌, Some, IfOk, OnOk, OnErr, IsOk};
 ghost use Rattle.compact_str.specs.Words.{size, ascii_lowercase, ascii_uppercase, IsBoundary, new, make_ascii_lowercase, make_ascii_uppercase, WithCapacityAllocates, MakeOwnedAllocates, IsOwned};
 
 use crate::string::PolicyString;

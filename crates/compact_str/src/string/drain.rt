@@ -1,5 +1,5 @@
 //! A draining iterator.
-ghost use Rattle.std.specs.Prelude.{◌≡◌, ℕ, ◌≤◌, ◌∷◌, List, length, [], Some, IfSome, true};
+ghost use Rattle.std.specs.Prelude.{◌≡◌, ℕ, ◌≤◌, ◌∷◌, List, length, Some, IfSome, true};
 ghost use Rattle.std.specs.Char.{len_utf8};
 ghost use Rattle.std.specs.Borrow.{sem, RestsIfErr};
 ghost use Rattle.compact_str.specs.Words.{size, utf8, text_of, substring, IsOwned};
@@ -43,8 +43,7 @@ pub struct Drain<'a, P: Policy> {
 }
 
 impl<P: Policy> PolicyString<P> {
-    ghost use Rattle.compact_str.specs.TotalRanges.{range_text, without_range};
-    ghost use Rattle.compact_str.specs.Drain.{drain_rest, value_after_drain, drain_lender, DrainsRange};
+    ghost use Rattle.compact_str.specs.Drain.{drain_lender, DrainsRange};
     ghost use Rattle.compact_str.specs.contracts.string.PolicyString.{the_row};
 
     /// Removes a range of bytes, which `check_range` must accept, and returns its characters as an iterator. The range

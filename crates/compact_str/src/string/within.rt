@@ -1,8 +1,8 @@
 //! Methods on Rust's ranges, such as `1..3`.
-ghost use Rattle.std.specs.Prelude.{◌≡◌, ◌-◌, ◌+◌, ◌≤◌, ◌++◌, [], Some, OnOk, OnErr, IsOk};
+ghost use Rattle.std.specs.Prelude.{◌≡◌, ◌-◌, ◌+◌, ◌≤◌, ◌++◌, Some, OnOk, OnErr, IsOk};
 ghost use Rattle.std.specs.Borrow.{sem, RestsIfErr};
 ghost use Rattle.std.specs.Range.Bound.{bound_map};
-ghost use Rattle.compact_str.specs.Words.{utf8, substring, push_str, replace_range, PushStrAllocates, HasRoomFor, infallible_capacity};
+ghost use Rattle.compact_str.specs.Words.{utf8, substring, push_str, PushStrAllocates, HasRoomFor, infallible_capacity};
 ghost use Rattle.compact_str.specs.Edits.{ReplacesRange};
 ghost use Rattle.compact_str.specs.Ranges.{IsRange, IsPart, range_start, range_end};
 
