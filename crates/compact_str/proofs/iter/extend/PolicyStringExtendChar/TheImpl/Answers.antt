@@ -2,9 +2,6 @@ use Rattle.compact_str.specs.Collect.{char_text}
 use Rattle.compact_str.proofs.Collecting.{extended-for_trait}
 use Rattle.compact_str.proofs.iter.extend.PolicyStringExtendChar.TheImpl.Goals as goal
 
-pub extend-asks : goal.extend-asks
-extend-asks g c = λ it gives. ((c.requires it gives).0, (c.requires it gives).1)
-
 pub extend-tells : goal.extend-tells
 extend-tells g c = record {
   ran = extended-for_trait g.U.IntoIterator.into_iter_gives g.U.IntoIter.Iterator.next_gives g.P.Policy.growth char_text _ _ _
