@@ -1,26 +1,15 @@
 -- Table 3-7 and the encodings of characters.
 use Rattle.std.proofs.Common.{◌≡◌, ℕ, ◌+◌, ◌-◌, ◌*◌, ◌/◌, ◌%◌, ◌<◌, ◌≤◌, ◌⊎◌, true, List, [], ◌∷◌, ◌++◌, refl, sym, ap, subst, ◌∙◌, arith, inl, inr, ⊎_elim, drop}
 use Rattle.std.specs.Char.{IsScalar, encode_utf8}
-use Rattle.std.proofs.lemmas.Bool.{cases_lt, cond-true, cond-false, lt-ltb, le-ltb}
+use Rattle.std.proofs.lemmas.Bool.{cases_lt, cond-true, lt-ltb, le-ltb}
 use Rattle.std.proofs.lemmas.Str.{encode_same}
 use lib.Utf8.{encode, scalar, scalar_cases, low_scalar}
+use Rattle.compact_text.proofs.Encodings.{encode_two, encode_three, encode_four}
 use Rattle.compact_codec.specs.Utf8Table.{ByteRange, TableRow, FitsRow, FitsSomeRow, sequence_table, trailing_bytes, byte_range, IsInByteRange, IsWellFormedSequence, IsOneCharacter, RowsAreApart, TableIsTheEncodings}
 
 pub encode_one : (c : ℕ) → c < 0x80 → encode c ≡ c ∷ []
 unfolding encode
 encode_one c h = cond-true _ _ _ (lt-ltb c 128 h)
-
-pub encode_two : (c : ℕ) → 0x80 ≤ c → c < 0x800 → encode c ≡ (192 + c / 64) ∷ (128 + c % 64) ∷ []
-unfolding encode
-encode_two c l h = cond-false _ _ _ (le-ltb c 128 l) ∙ cond-true _ _ _ (lt-ltb c 2048 h)
-
-pub encode_three : (c : ℕ) → 0x800 ≤ c → c < 0x1_0000 → encode c ≡ (224 + c / 4096) ∷ (128 + (c / 64) % 64) ∷ (128 + c % 64) ∷ []
-unfolding encode
-encode_three c l h = cond-false _ _ _ (le-ltb c 128 (omega arith)) ∙ cond-false _ _ _ (le-ltb c 2048 l) ∙ cond-true _ _ _ (lt-ltb c 65536 h)
-
-pub encode_four : (c : ℕ) → 0x1_0000 ≤ c → encode c ≡ (240 + c / 262144) ∷ (128 + (c / 4096) % 64) ∷ (128 + (c / 64) % 64) ∷ (128 + c % 64) ∷ []
-unfolding encode
-encode_four c l = cond-false _ _ _ (le-ltb c 128 (omega arith)) ∙ cond-false _ _ _ (le-ltb c 2048 (omega arith)) ∙ cond-false _ _ _ (le-ltb c 65536 l)
 
 pub high_scalar : (c : ℕ) → 0xE000 ≤ c → c < 0x11_0000 → scalar c ≡ true
 high_scalar c low high = grind (arith, le-ltb, lt-ltb)

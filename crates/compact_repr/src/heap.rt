@@ -1,11 +1,12 @@
 //! A heap buffer: a text in a vector of bytes, whose capacity is the vector's.
 ghost use Rattle.std.specs.Prelude.{◌≡◌, ◌+◌, ◌-◌, ◌≤◌, ◌<◌, ◌^◌, [], ◌∷◌, ◌++◌, length, None, false, IfOk, OnOk, OnErr, IsSome, IsTrue, ◌↔◌, MatchOption};
 ghost use Rattle.std.specs.String.{string_bytes, string_capacity};
+ghost use Rattle.std.specs.Char.{len_utf8};
 ghost use Rattle.compact_repr.specs.Words.{size, utf8, text_of, IsText, ascii_lowercase, ascii_uppercase, IsBoundary, IsAsciiAt, IsNotAsciiAt, text_before, substring, replaced_text};
 ghost use Rattle.compact_text.specs.Retain.{RetainsCharsTo};
 
 use compact_text::slices::ascii_at;
-use compact_text::str_parts::last_char;
+use compact_text::str_parts::split_last;
 use compact_text::{slices, vec};
 use std::alloc::{AllocError, Global};
 use std::marker::Model;
@@ -138,6 +139,24 @@ impl HeapBuffer {
         true
     }
 
+    /// Appends `character` if it is ASCII and fits, or if four bytes are free. Returns whether it did; otherwise changes
+    /// nothing.
+    #[inline(always)]
+    pub fn try_push(&mut self, character: char) -> bool
+        ensures fits { IsTrue result → size self.old.text + len_utf8 character ≤ self.old.capacity }
+        ensures pushed { IsTrue result
+            → self.new ≡ record {
+              text = self.old.text ++ character ∷ [];
+              capacity = self.old.capacity;
+            } }
+        ensures full { result ≡ false → self.new ≡ self.old }
+    {
+        if !vec::try_append_char(&mut self.bytes, character) {
+            return false;
+        }
+        true
+    }
+
     /// Appends the bytes from one boundary to another, for which there must be room.
     pub fn push_within(&mut self, start: usize, end: usize)
         requires order { start ≤ end }
@@ -266,14 +285,13 @@ impl HeapBuffer {
 
     /// Removes and returns the last character, or returns `None` if the text is empty. Keeps the capacity.
     #[inline]
-    #[tactic(auto, using(compact_text::proofs::Cuts::last_facts))]
     pub fn pop(&mut self) -> Option<char>
         ensures popped { MatchOption result ((self.old.text ≡ []) × (self.new ≡ self.old))
             (λ c. (self.old.text ≡ self.new.text ++ c ∷ []) × (self.new.capacity ≡ self.old.capacity)) }
         ensures within { IsSome result → size self.new.text ≤ self.old.capacity }
     {
-        let character = last_char(self.as_str())?;
-        self.truncate(self.len() - character.len_utf8());
+        let (index, character) = split_last(self.as_str())?;
+        self.truncate(index);
         Some(character)
     }
 

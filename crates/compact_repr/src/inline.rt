@@ -2,6 +2,7 @@
 #![tactic(auto, using(crate::proofs::PackedFacts::packed_facts))]
 
 ghost use Rattle.std.specs.Prelude.{◌≡◌, ◌+◌, ◌-◌, ◌≤◌, ◌<◌, ℕ, List, [], ◌∷◌, ◌++◌, length, None, false, IsSome, IsTrue, ◌↔◌, MatchOption};
+ghost use Rattle.std.specs.Char.{len_utf8};
 ghost use Rattle.compact_repr.specs.Words.{size, utf8, text_of, IsText, ascii_lowercase, ascii_uppercase, IsBoundary, IsAsciiAt, IsNotAsciiAt, text_before, replaced_text};
 ghost use Rattle.compact_repr.specs.Packed.{IsPackedFor};
 ghost use Rattle.compact_text.specs.Retain.{RetainsCharsTo};
@@ -10,7 +11,7 @@ mod compare;
 mod length;
 
 use compact_text::slices::{self, ascii_at};
-use compact_text::str_parts::last_char;
+use compact_text::str_parts::split_last;
 use compact_text::words::{insert_byte, remove_byte};
 use length::{is_packed, length_of, pack, with_len, with_len_below_24, write_len};
 use std::marker::Model;
@@ -98,6 +99,22 @@ impl InlineBuffer {
         }
         slices::write_short(&mut self.bytes, len, text.as_bytes());
         write_len(&mut self.bytes, len + text.len());
+        true
+    }
+
+    /// Appends `character` if it is ASCII and fits, or if four bytes are free. Returns whether it did; otherwise changes
+    /// nothing.
+    #[inline(always)]
+    pub fn try_push(&mut self, character: char) -> bool
+        ensures fits { IsTrue result → size self.old + len_utf8 character ≤ 24 }
+        ensures pushed { IsTrue result → self.new ≡ self.old ++ character ∷ [] }
+        ensures full { result ≡ false → self.new ≡ self.old }
+    {
+        let len = length_of(&self.bytes);
+        let Some(end) = slices::try_write_char(&mut self.bytes, len, character) else {
+            return false;
+        };
+        write_len(&mut self.bytes, end);
         true
     }
 
@@ -192,14 +209,13 @@ impl InlineBuffer {
 
     /// Removes and returns the last character, or returns `None` if the text is empty.
     #[inline]
-    #[tactic(auto, using(crate::proofs::PackedFacts::packed_facts, compact_text::proofs::Cuts::last_facts))]
     pub fn pop(&mut self) -> Option<char>
         ensures popped { MatchOption result ((self.old ≡ []) × (self.new ≡ self.old))
             (λ c. self.old ≡ self.new ++ c ∷ []) }
         ensures within { IsSome result → size self.new ≤ 24 }
     {
-        let character = last_char(self.as_str())?;
-        self.truncate(self.len() - character.len_utf8());
+        let (index, character) = split_last(self.as_str())?;
+        self.truncate(index);
         Some(character)
     }
 

@@ -119,13 +119,12 @@ impl StaticStr {
 
     /// Removes and returns the last character, or returns `None` if the text is empty.
     #[inline]
-    #[tactic(auto, using(compact_text::proofs::Cuts::last_facts))]
     pub fn pop(&mut self) -> Option<char>
         ensures { MatchOption result ((self.old ≡ []) × (self.new ≡ self.old))
             (λ c. self.old ≡ self.new ++ c ∷ []) }
     {
-        let character = str_parts::last_char(self.as_static_str())?;
-        *self = self.slice_to(self.len() - character.len_utf8());
+        let (index, character) = str_parts::split_last(self.as_static_str())?;
+        *self = self.slice_to(index);
         Some(character)
     }
 

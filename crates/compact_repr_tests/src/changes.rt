@@ -36,7 +36,7 @@ fn assert_chars(rt: &impl Abort, text: &Repr<Standard>, places: &[(usize, char)]
     for (index, character) in places {
         that(text.is_char_boundary(*index)).expect(rt, "it holds");
         that(*index < text.len()).expect(rt, "it holds");
-        assert_equal(rt, text.char_at(*index), *character);
+        assert_equal(rt, text.char_at(*index).0, *character);
     }
 }
 

@@ -187,16 +187,16 @@ the_first_place_that_differs_decides = refl
 
 -- removal of ranges
 
-b_is_a_part : range_text mixed 2 3 ≡ 98 ∷ []
+b_is_a_part : range_text mixed 3 2 3 ≡ 98 ∷ []
 b_is_a_part = refl
 
-nothing_stands_where_no_character_begins : range_text mixed 1 3 ≡ []
-nothing_stands_where_no_character_begins = refl
+nothing_stands_in_a_text_of_another_length : range_text mixed 4 2 3 ≡ []
+nothing_stands_in_a_text_of_another_length = refl
 
-b_is_taken_out_in_place : without_range (placed_text mixed inline_placement) 2 3 ≡ placed_text (0xE4 ∷ []) inline_placement
+b_is_taken_out_in_place : without_range (placed_text mixed inline_placement) 3 2 3 ≡ placed_text (0xE4 ∷ []) inline_placement
 b_is_taken_out_in_place = refl
 
-nothing_is_taken_out_of_a_static_text : without_range lasting_30 0 3 ≡ lasting_30
+nothing_is_taken_out_of_a_static_text : without_range lasting_30 30 0 3 ≡ lasting_30
 nothing_is_taken_out_of_a_static_text = refl
 
 -- collecting and joining

@@ -8,7 +8,7 @@ use Rattle.std.specs.Prelude.{IsTrue, OnOk, OnErr, option_map}
 use Rattle.std.specs.Char.{len_utf8}
 use Rattle.std.specs.Str.{IsUtf8}
 use Rattle.compact_repr.specs.Text.{size, text_of, utf8}
-use Rattle.compact_repr.specs.Cut.{IsCut, IsBoundary, IsAsciiAt, text_before, text_after, replaced_text}
+use Rattle.compact_repr.specs.Cut.{IsCut, IsBoundary, IsCharAt, IsAsciiAt, text_before, text_after, replaced_text}
 use Rattle.compact_repr.specs.Value.{PlacedText, placed_text, is_static, IsOwned}
 use Rattle.compact_repr.specs.Capacity.{Growth, fits_in_place, shortened_placement, owned_placement, make_owned_allocates, ReserveAllocates}
 use Rattle.compact_repr.specs.Calls.{truncate, insert_str, replace_range, replace_range_allocates, ReplaceRangeAllocates}
@@ -80,25 +80,31 @@ text_after-replaced_text t start end h =
 pub truncate-boundary : (v : PlacedText) (p : ℕ) → IsBoundary v.text p → truncate v p ≡ placed_text (text_before v.text p) (shortened_placement v (text_before v.text p))
 truncate-boundary v p h = grind (arith, common_steps, text_before-end)
 
--- an owned value without an ASCII character, in place
-pub removed-in_place : {E : Type 0} (g : Growth) (v w : PlacedText) (p c : ℕ) → IsBoundary v.text p → IsAsciiAt v.text p c
-    → is_static v.placement.place ≡ false → w ≡ placed_text (replaced_text v.text p (p + 1) []) v.placement → RemovesChar {E = E} g v p (Ok c) w
-removed-in_place g v w p c h a o s =
+-- an owned value without a character, in place
+pub removed_char-in_place : {E : Type 0} (g : Growth) (v w : PlacedText) (p c : ℕ) → IsBoundary v.text p → IsCharAt v.text p c
+    → is_static v.placement.place ≡ false → w ≡ placed_text (replaced_text v.text p (p + len_utf8 c) []) v.placement → RemovesChar {E = E} g v p (Ok c) w
+removed_char-in_place g v w p c h a o s =
     let rest : List ℕ = a.rest in
     let e : text_after v.text p ≡ c ∷ rest = a.text in
-    let width : p + 1 ≡ p + len_utf8 c = ap (λ (n : ℕ). p + n) (sym a.width) in
-    let next : text_after v.text (p + 1) ≡ rest = ap (text_after v.text) width ∙ text_after-next v.text rest p c h e in
-    let cut : replaced_text v.text p (p + 1) [] ≡ text_before v.text p ++ rest = rw (next, append-nil) refl in
+    let next : text_after v.text (p + len_utf8 c) ≡ rest = text_after-next v.text rest p c h e in
+    let cut : replaced_text v.text p (p + len_utf8 c) [] ≡ text_before v.text p ++ rest = rw (next, append-nil) refl in
     let owned_is : owned_placement g v ≡ Some v.placement = rw o refl in
-    let behind : text_after w.text p ≡ rest = ap (λ (x : PlacedText). text_after x.text p) s ∙ text_after-replaced_text v.text p (p + 1) h ∙ next in
+    let behind : text_after w.text p ≡ rest = ap (λ (x : PlacedText). text_after x.text p) s ∙ text_after-replaced_text v.text p (p + len_utf8 c) h ∙ next in
     record {
       ok = (rest, e, rw (owned_is, s, cut) refl);
-      text = ap (λ (x : PlacedText). x.text) s ∙ ap (λ n. replaced_text v.text p n []) width;
+      text = ap (λ (x : PlacedText). x.text) s;
       character = e ∙ ap (λ x. c ∷ x) (sym behind);
       succeeds = λ _. refl;
       succeeds_short = λ _. refl;
       err = tt;
     }
+
+-- or without an ASCII one
+pub removed-in_place : {E : Type 0} (g : Growth) (v w : PlacedText) (p c : ℕ) → IsBoundary v.text p → IsAsciiAt v.text p c
+    → is_static v.placement.place ≡ false → w ≡ placed_text (replaced_text v.text p (p + 1) []) v.placement → RemovesChar {E = E} g v p (Ok c) w
+removed-in_place g v w p c h a o s =
+    removed_char-in_place g v w p c h (record { rest = a.rest; text = a.text }) o
+    (s ∙ ap (λ (n : ℕ). placed_text (replaced_text v.text p (p + n) []) v.placement) (sym a.width))
 
 -- a value with an insertion
 pub insert_str-text : (g : Growth) (v w : PlacedText) (p : ℕ) (s : List ℕ) → insert_str g v p s ≡ Some w → w.text ≡ replaced_text v.text p p s
@@ -180,16 +186,16 @@ pub asks-by_nothing : (v : PlacedText) (i j : ℕ) → IsTrue (replace_range_all
 asks-by_nothing v i j h = grind (arith, common_steps)
 
 -- a removal of the character at a boundary
-pub replace_range-removes : {E : Type 0} (g : Growth) (v w : PlacedText) (rest : List ℕ) (p c n : ℕ) → IsBoundary v.text p → text_after v.text p ≡ c ∷ rest → n ≡ len_utf8 c
-    → replace_range g v p (p + n) [] ≡ Some w → RemovesChar {E = E} g v p (Ok c) w
+pub replace_range-removes : {E : Type 0} (g : Growth) (v w : PlacedText) (rest : List ℕ) (p c n : ℕ) → IsBoundary v.text p → text_after v.text p ≡ c ∷ rest → n ≡ p + len_utf8 c
+    → replace_range g v p n [] ≡ Some w → RemovesChar {E = E} g v p (Ok c) w
 replace_range-removes g v w rest p c n h e k o =
-    let next : text_after v.text (p + n) ≡ rest = ap (λ (m : ℕ). text_after v.text (p + m)) k ∙ text_after-next v.text rest p c h e in
-    let cut : replaced_text v.text p (p + n) [] ≡ text_before v.text p ++ rest = rw (next, append-nil) refl in
-    let text = range_replaced-text g v w p (p + n) [] o in
-    let behind : text_after w.text p ≡ rest = ap (λ t. text_after t p) text ∙ text_after-replaced_text v.text p (p + n) h ∙ next in
+    let next : text_after v.text n ≡ rest = ap (λ (m : ℕ). text_after v.text m) k ∙ text_after-next v.text rest p c h e in
+    let cut : replaced_text v.text p n [] ≡ text_before v.text p ++ rest = rw (next, append-nil) refl in
+    let text = range_replaced-text g v w p n [] o in
+    let behind : text_after w.text p ≡ rest = ap (λ t. text_after t p) text ∙ text_after-replaced_text v.text p n h ∙ next in
     record {
-      ok = (rest, e, ap (λ t. option_map (placed_text t) (owned_placement g v)) (sym cut) ∙ replace_range-by_nothing g v w p (p + n) o);
-      text = text ∙ ap (λ (m : ℕ). replaced_text v.text p (p + m) []) k;
+      ok = (rest, e, ap (λ t. option_map (placed_text t) (owned_placement g v)) (sym cut) ∙ replace_range-by_nothing g v w p n o);
+      text = text ∙ ap (λ (m : ℕ). replaced_text v.text p m []) k;
       character = e ∙ ap (λ x. c ∷ x) (sym behind);
       succeeds = λ _. refl;
       succeeds_short = λ _. refl;

@@ -1,17 +1,17 @@
 -- Room and bytes after an append.
-use Rattle.std.proofs.Common.{◌≡◌, Some, ℕ, ◌≤◌, List, [], ◌∷◌, ◌++◌, refl, ap, subst, ◌∙◌, arith, append-nil}
+use Rattle.std.proofs.Common.{◌≡◌, Some, true, ℕ, ◌≤◌, List, [], ◌∷◌, ◌++◌, refl, ap, subst, ◌∙◌, arith, append-nil}
 use Rattle.std.proofs.lemmas.Bool.{and_parts}
 use Rattle.std.proofs.lemmas.Grind.{common_steps}
 use Rattle.std.proofs.lemmas.Str.{encodes-append, encodes-chars}
-use Rattle.std.specs.Char.{encode_utf8}
+use Rattle.std.specs.Char.{encode_utf8, len_utf8}
 use Rattle.std.specs.Str.{IsUtf8}
 use Rattle.std.specs.Prelude.{max, if◌then◌else◌, Result, Ok, Err, OnErr, IsOk, IsTrue}
 use Rattle.compact_repr.specs.Text.{size, utf8, text_of}
-use Rattle.compact_repr.specs.Value.{Placement, PlacedText, is_static}
-use Rattle.compact_repr.specs.Capacity.{Growth, reserve_placement, reserve_allocates}
+use Rattle.compact_repr.specs.Value.{Placement, PlacedText, placed_text, is_static}
+use Rattle.compact_repr.specs.Capacity.{Growth, fits_in_place, reserve_placement, reserve_allocates}
 use Rattle.compact_repr.specs.Calls.{push_str, insert_str, push_str_allocates}
-use Rattle.compact_repr.proofs.Changes.{push_str-text}
-use Rattle.compact_str.specs.Room.{infallible_capacity, HasRoomFor}
+use Rattle.compact_repr.proofs.Changes.{push_str-text, push_str-in_place}
+use Rattle.compact_str.specs.Room.{infallible_capacity, HasRoomFor, PushesStr}
 
 reserve_placement-sure : (g : Growth) (v : PlacedText) (p : Placement) (n : ℕ) → reserve_placement g v n ≡ Some p → infallible_capacity v ≤ max 24 (if is_static p.place then 0 else p.capacity)
 reserve_placement-sure g v p n e = grind (arith, common_steps)
@@ -33,6 +33,14 @@ appended-bytes t old bytes e u = ap utf8 e ∙ encodes-append old (text_of bytes
 
 pub pushed-bytes : (t old : List ℕ) (c : ℕ) → t ≡ old ++ c ∷ [] → utf8 t ≡ utf8 old ++ encode_utf8 c
 pushed-bytes t old c e = ap utf8 e ∙ encodes-append old (c ∷ []) ∙ ap (λ x. utf8 old ++ x) (append-nil (encode_utf8 c))
+
+-- a character that is appended within the room
+pub pushed-in_place : {E : Type 0} (g : Growth) (v w : PlacedText) (c : ℕ) → fits_in_place v (len_utf8 c) ≡ true → w ≡ placed_text (v.text ++ c ∷ []) v.placement
+    → PushesStr {E = E} g v (c ∷ []) (encode_utf8 c) (Ok tt) w
+pushed-in_place g v w c fits is =
+    let done = push_str-in_place g v w (c ∷ []) (len_utf8 c) (omega arith) fits is in
+    let text = push_str-text g v w (c ∷ []) done in
+    record { ok = done; text = text; bytes = pushed-bytes w.text v.text c text; room = push_str-sure g v w (c ∷ []) done; succeeds = λ _. refl; err = tt }
 
 -- what fits never allocates, and so never fails
 asks-with_room : (v : PlacedText) (n : ℕ) → HasRoomFor v n → IsTrue (reserve_allocates v n) → ⊥

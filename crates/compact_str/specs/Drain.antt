@@ -13,11 +13,11 @@ use Rattle.compact_str.specs.declared.string.drain.Drain.{Drain}
 module _ {P : Type 0} {G : Ghosts P} where
   -- the characters still to come
   abbrev pub drain_rest : Drain P G → List ℕ
-  drain_rest d = range_text d.value.now.text d.rest_start d.rest_end
+  drain_rest d = range_text d.value.now.text d.len d.front d.back
 
   -- the lender once the drain is dropped
   abbrev pub value_after_drain : Drain P G → PlacedText
-  value_after_drain d = without_range d.value.now d.start d.end
+  value_after_drain d = without_range d.value.now d.len d.start d.end
 
   -- the lender
   abbrev pub drain_lender : Drain P G → GName

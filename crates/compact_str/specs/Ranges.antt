@@ -3,7 +3,7 @@ use Rattle.std.specs.Prelude.{◌≡◌, ℕ, ◌-◌, ◌≤◌, List, length}
 use Rattle.std.specs.declared.ops.Bound.{Bound}
 use Rattle.std.specs.Range.Bound.{start_index, end_index}
 use Rattle.compact_repr.specs.Text.{size, utf8, text_of}
-use Rattle.compact_repr.specs.Cut.{IsBoundary, substring}
+use Rattle.compact_repr.specs.Cut.{IsBoundary, text_before, substring}
 
 -- The byte positions of a range's ends. An excluded start and an included end are one past the bound; an open end is
 -- the end of t.
@@ -18,6 +18,10 @@ pub record IsRange (t : List ℕ) (start end : Bound ℕ) : Type 0 where
   pub order : range_start start ≤ range_end t end
   pub first : IsBoundary t (range_start start)
   pub last : IsBoundary t (range_end t end)
+
+-- the same of two positions, as a fact with one proof: what is before a boundary has so many bytes
+abbrev pub IsSpan : List ℕ → ℕ → ℕ → Type 0
+IsSpan t i j = (i ≤ j) × (size (text_before t i) ≡ i) × (size (text_before t j) ≡ j)
 
 -- these bytes are the part of t from i to j
 pub record IsPart (t : List ℕ) (i j : ℕ) (part : List ℕ) : Type 0 where

@@ -13,16 +13,22 @@ use std::alloc::Global;
 use std::marker::Model;
 use std::{fmt, mem};
 
+/// The block that collects pieces: a text within it is allocated once.
+pub const COLLECTED: usize = 1024;
+
+/// The block of a `Display`, which is zeroed at each `write!`: a number or a line fits.
+pub const SHOWN: usize = 256;
+
 /// A value, and a block of short pieces still to be appended to it. A contract sees the text of both. A text of at
-/// most 1024 bytes is allocated once, with the exact capacity.
-pub struct Builder<P: Policy> {
+/// most `N` bytes is allocated once, with the exact capacity.
+pub struct Builder<P: Policy, const N: usize> {
     value: PolicyString<P>,
-    block: StackBuffer,
+    block: StackBuffer<N>,
     // Whether a piece failed in `write_str`: a `Display` may ignore that and continue.
     is_refused: bool,
 }
 
-impl<P: Policy> Model for Builder<P> {
+impl<P: Policy, const N: usize> Model for Builder<P, N> {
     ghost use Rattle.std.specs.Prelude.{ℕ, List, ◌++◌};
     ghost use Rattle.compact_str.specs.FittedValues.{IsPlacedBySize};
 
@@ -34,7 +40,7 @@ impl<P: Policy> Model for Builder<P> {
 }
 
 /// A manual `Drop`: a derived one is expanded in the proof of every function that owns a builder.
-impl<P: Policy> Drop for Builder<P> {
+impl<P: Policy, const N: usize> Drop for Builder<P, N> {
     #[inline]
     fn drop(self) {
         let Builder {
@@ -47,7 +53,7 @@ impl<P: Policy> Drop for Builder<P> {
 }
 
 #[tactic(auto, using(crate::proofs::CollectFacts::builder_facts))]
-impl<P: Policy> Builder<P> {
+impl<P: Policy, const N: usize> Builder<P, N> {
     /// Returns an empty builder.
     #[inline]
     pub fn new(alloc: Global) -> Self
@@ -180,7 +186,7 @@ impl<P: Policy> Builder<P> {
     }
 }
 
-impl<P: Policy> fmt::Write for Builder<P> {
+impl<P: Policy, const N: usize> fmt::Write for Builder<P, N> {
     ghost write_str_gives = { Shows };
 
     /// Appends `text`.

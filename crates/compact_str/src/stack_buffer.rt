@@ -5,9 +5,6 @@ ghost use Rattle.compact_str.specs.Words.{size, utf8, text_of};
 use compact_text::slices;
 use std::marker::Model;
 
-/// The capacity of a [`StackBuffer`].
-const BLOCK_CAPACITY: usize = 1024;
-
 /// The capacity of a [`PaddedStr`].
 const PADDED_CAPACITY: usize = 16;
 
@@ -52,14 +49,14 @@ impl PaddedStr {
     }
 }
 
-/// A text of at most 1024 bytes, in which short pieces are collected.
+/// A text of at most `N` bytes, in which short pieces are collected. All of them are zeroed at first.
 #[derive(Drop)]
-pub struct StackBuffer {
-    bytes: [u8; 1024],
+pub struct StackBuffer<const N: usize> {
+    bytes: [u8; N],
     len: usize,
 }
 
-impl Model for StackBuffer {
+impl<const N: usize> Model for StackBuffer<N> {
     ghost use Rattle.std.specs.Prelude.{ℕ, List, take, ◌≤◌};
     ghost use Rattle.std.specs.Str.{IsUtf8};
     ghost use Rattle.compact_str.specs.Words.{text_of};
@@ -68,17 +65,17 @@ impl Model for StackBuffer {
 
     ghost view = { λ b. text_of (take b.len b.bytes) };
 
-    ghost invariant = { λ b. (b.len ≤ 1024) × IsUtf8 (take b.len b.bytes) };
+    ghost invariant = { λ b. (b.len ≤ N) × IsUtf8 (take b.len b.bytes) };
 }
 
-impl StackBuffer {
+impl<const N: usize> StackBuffer<N> {
     /// Returns an empty buffer.
     #[inline]
     pub fn empty() -> Self
         ensures { result ≡ [] }
     {
         StackBuffer {
-            bytes: [0; BLOCK_CAPACITY],
+            bytes: [0; N],
             len: 0,
         }
     }
@@ -95,11 +92,11 @@ impl StackBuffer {
     /// Appends `text`, or returns `false` if it does not fit.
     #[inline]
     pub fn try_push_str(&mut self, text: &str) -> bool
-        ensures fits { IsTrue result ↔ (size self.old + length text.now ≤ 1024) }
+        ensures fits { IsTrue result ↔ (size self.old + length text.now ≤ N) }
         ensures pushed { IsTrue result → self.new ≡ self.old ++ text_of text.now }
         ensures full { result ≡ false → self.new ≡ self.old }
     {
-        if text.len() > BLOCK_CAPACITY - self.len {
+        if text.len() > N - self.len {
             return false;
         }
         let end = self.len + text.len();
@@ -112,7 +109,7 @@ impl StackBuffer {
     /// free.
     #[inline(always)]
     pub fn try_push_separated(&mut self, separator: &PaddedStr, text: &str) -> bool
-        ensures fits { IsTrue result ↔ ((length text.now ≤ 32) × (size self.old + 48 ≤ 1024)) }
+        ensures fits { IsTrue result ↔ ((length text.now ≤ 32) × (size self.old + 48 ≤ N)) }
         ensures pushed { IsTrue result
             → self.new ≡ (self.old ++ separator.now) ++ text_of text.now }
         ensures full { result ≡ false → self.new ≡ self.old }
@@ -120,7 +117,7 @@ impl StackBuffer {
         if text.len() > slices::MAX_SHORT_LEN {
             return false;
         }
-        if self.len > BLOCK_CAPACITY - MAX_SEPARATED_LEN {
+        if N - self.len < MAX_SEPARATED_LEN {
             return false;
         }
         let start = self.len + separator.len;
@@ -134,11 +131,11 @@ impl StackBuffer {
     #[inline]
     pub fn try_push_ascii(&mut self, byte: u8) -> bool
         requires ascii { byte < 128 }
-        ensures fits { IsTrue result ↔ (size self.old + 1 ≤ 1024) }
+        ensures fits { IsTrue result ↔ (size self.old + 1 ≤ N) }
         ensures pushed { IsTrue result → self.new ≡ self.old ++ byte ∷ [] }
         ensures full { result ≡ false → self.new ≡ self.old }
     {
-        if self.len >= BLOCK_CAPACITY {
+        if self.len >= N {
             return false;
         }
         self.bytes[self.len] = byte;

@@ -157,16 +157,6 @@ pub text_of-cut_out : {t : List ℕ} (bytes : List ℕ) (start end : ℕ) → te
     → text_of (replace_range bytes start end []) ≡ replaced_text t start end []
 text_of-cut_out {t} bytes start end e u h k = text_of-replaced bytes [] start end e u IsUtf8-nil h k ∙ ap (λ (s : List ℕ). replaced_text t start end s) chars-nil
 
-pub size-last : (t front : List ℕ) (c : ℕ) → t ≡ front ++ c ∷ [] → len_utf8 c ≤ size t
-size-last t front c e =
-    let whole : size t ≡ size front + (len_utf8 c + 0) = ap size e ∙ size-append front (c ∷ []) in
-    omega (arith, whole)
-
-pub boundary-last : (t front : List ℕ) (c : ℕ) → t ≡ front ++ c ∷ [] → IsBoundary t (size t - len_utf8 c)
-boundary-last t front c e =
-    let whole : size t ≡ size front + (len_utf8 c + 0) = ap size e ∙ size-append front (c ∷ []) in
-    (front, c ∷ [], record { parts = e; position = omega (arith, whole) })
-
 -- the end of the character at a boundary is a boundary
 pub boundary-next : (t rest : List ℕ) (p c : ℕ) → IsBoundary t p → text_after t p ≡ c ∷ rest → IsBoundary t (p + len_utf8 c)
 boundary-next t rest p c h e =
@@ -181,11 +171,6 @@ text_after-next t rest p c h e =
     let position : size (text_before t p ++ c ∷ []) ≡ p + len_utf8 c = size-append (text_before t p) (c ∷ []) ∙ omega (arith, front) in
     ap (λ x. text_after x (p + len_utf8 c)) parts ∙ text_after-append (text_before t p ++ c ∷ []) rest (p + len_utf8 c) position
 
-pub text_before-last : (t front : List ℕ) (c : ℕ) → t ≡ front ++ c ∷ [] → text_before t (size t - len_utf8 c) ≡ front
-text_before-last t front c e =
-    let whole : size t ≡ size front + (len_utf8 c + 0) = ap size e ∙ size-append front (c ∷ []) in
-    ap (λ x. text_before x (size t - len_utf8 c)) e ∙ text_before-append front (c ∷ []) _ (omega (arith, whole))
-
 pub boundary-ascii : (t : List ℕ) (p c : ℕ) → IsBoundary t p → IsAsciiAt t p c → IsBoundary t (p + 1)
 boundary-ascii t p c h a = subst (λ (n : ℕ). IsBoundary t (p + n)) a.width (boundary-next t a.rest p c h a.text)
 
@@ -193,7 +178,5 @@ boundary-ascii t p c h a = subst (λ (n : ℕ). IsBoundary t (p + n)) a.width (b
 pub is_boundary-test : (b : Bool) (t : List ℕ) (p : ℕ) → (IsTrue b ↔ IsBoundary t p) → b ≡ is_boundary t p
 is_boundary-test true t p h = sym (eq-eqb _ _ (size-text_before t p (h.0 refl)))
 is_boundary-test false t p h = sym (ne_eqb _ _ (λ e. true≢false (sym (h.1 (boundary-from_size t p e)))))
-
-pub ruleset last_facts = (text_facts, size-last, boundary-last, text_before-last)
 
 pub ruleset ascii_at_facts = (text_facts, ascii_at-text, ascii_at-none)

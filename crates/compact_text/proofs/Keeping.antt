@@ -1,6 +1,6 @@
 -- Retaining characters in a slice of bytes.
-use Rattle.std.proofs.Common.{◌≡◌, ◌∙◌, refl, ap, sym, subst, arith, ℕ, ◌+◌, ◌-◌, ◌<◌, ◌≤◌, List, [], ◌∷◌, ◌++◌, length, take, drop, Bool, true, false, cond, inl, inr, append_assoc, append-nil}
-use Rattle.std.proofs.lemmas.List.{drop-drop, drop_all, get_or-drop}
+use Rattle.std.proofs.Common.{◌≡◌, ◌∙◌, refl, ap, sym, subst, arith, ℕ, ◌+◌, ◌-◌, ◌<◌, ◌≤◌, List, [], ◌∷◌, ◌++◌, length, take, drop, Bool, true, false, cond, inl, inr, append_assoc, append-nil, length-append}
+use Rattle.std.proofs.lemmas.List.{drop-drop, drop_all, get_or-drop, length-drop, take_at}
 use Rattle.std.proofs.lemmas.Bool.{cases_lt}
 use Rattle.std.proofs.lemmas.Str.{encode_ascii, byte_from_char, encodes-chars, len_utf8_ascii, drop_past_char, chars_past_char, IsUtf8-past_char, IsUtf8-append, IsUtf8-encode, chars-nil}
 use Rattle.std.specs.Char.{len_utf8, IsScalar}
@@ -59,17 +59,25 @@ abbrev pub Stands : {F : Type 0} → Mut F (ℕ × Unit {0}) Bool → F → List
 Stands g first whole f slice kept read =
     IsUtf8 (drop read slice) × IsUtf8 (take kept slice) × GoesOn g first whole f (text_of (take kept slice)) (text_of (drop read slice))
 
--- a character is tested, and written where the retained part ends if it is retained
+-- the bytes of the character that is next
+first_bytes : (slice : List ℕ) (read n c : ℕ) → read + n ≤ length slice → drop read slice ≡ encode c ++ drop (read + n) slice → take n (drop read slice) ≡ encode c
+first_bytes slice read n c within e =
+    let rest : List ℕ = drop (read + n) slice in
+    let width : n ≡ length (encode c) = omega (arith, within, ap length e, length-append (encode c) rest, length-drop read slice, length-drop (read + n) slice) in
+    ap (take n) e ∙ take_at (encode c) rest n (sym width)
+
+-- a character is tested, and moved to where the retained part ends if it is retained
 pub stands-next : {F : Type 0} (g : Mut F (ℕ × Unit {0}) Bool) (first f h : F) (whole slice now : List ℕ) (kept next read n c : ℕ) (said : Bool)
     → Called g f (c, tt) said h → IsScalar c → kept ≤ read → drop read slice ≡ encode c ++ drop (read + n) slice → IsUtf8 (drop (read + n) slice)
-    → take next now ≡ cond said (take kept slice ++ encode c) (take kept slice) → drop (kept + n) now ≡ drop (kept + n) slice
+    → read + n ≤ length slice → take next now ≡ cond said (take kept slice ++ take n (drop read slice)) (take kept slice) → drop (kept + n) now ≡ drop (kept + n) slice
     → Stands g first whole f slice kept read → Stands g first whole h now next (read + n)
-stands-next g first f h whole slice now kept next read n c true called s order e u front behind stands =
+stands-next g first f h whole slice now kept next read n c true called s order e u within front behind stands =
     let later : drop (read + n) now ≡ drop (read + n) slice = drop-later now slice (kept + n) (read + n) (omega (arith, order)) behind in
     let rest = chars_past_char (drop read slice) (drop (read + n) slice) c stands.0 e in
+    let put : take next now ≡ take kept slice ++ encode c = front ∙ ap (λ (l : List ℕ). take kept slice ++ l) (first_bytes slice read n c within e) in
     let on = goes_on-kept g first f h whole (text_of (drop read slice)) (text_of (drop (read + n) slice)) (text_of (take kept slice)) c rest called stands.2 in
-    rw (later, front, text_of-put (take kept slice) c s stands.1) (u, utf8-put (take kept slice) c s stands.1, on)
-stands-next g first f h whole slice now kept next read n c false called s order e u front behind stands =
+    rw (later, put, text_of-put (take kept slice) c s stands.1) (u, utf8-put (take kept slice) c s stands.1, on)
+stands-next g first f h whole slice now kept next read n c false called s order e u within front behind stands =
     let later : drop (read + n) now ≡ drop (read + n) slice = drop-later now slice (kept + n) (read + n) (omega (arith, order)) behind in
     let rest = chars_past_char (drop read slice) (drop (read + n) slice) c stands.0 e in
     let on = goes_on-dropped g first f h whole (text_of (drop read slice)) (text_of (drop (read + n) slice)) (text_of (take kept slice)) c rest called stands.2 in

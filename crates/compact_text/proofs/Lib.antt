@@ -1,4 +1,5 @@
 pub mod Texts
+pub mod Encodings
 pub mod Ascii
 pub mod Cuts
 pub mod Shifts

@@ -71,17 +71,17 @@ appended slice s len held =
     ap (λ x. take (len + length s) ((take len slice ++ x) ++ drop (len + length s) slice)) written
     ∙ take_at (take len slice ++ s) (drop (len + length s) slice) (len + length s) (length-append (take len slice) s ∙ omega (arith, length_front))
 
--- of 16 bytes that are written, the first count
-pub padded : (slice source chunk : List ℕ) (at count : ℕ) → count ≤ 16 → at + 16 ≤ length slice → chunk ≡ take 16 (drop 0 source) → length chunk ≡ 16
-    → take (at + count) (paste slice at chunk 16) ≡ take at slice ++ take count source
-padded slice source chunk at count most room e lanes =
-    let now : List ℕ = paste slice at chunk 16 in
+-- of n bytes that are written, the first count
+pub padded : (slice source chunk : List ℕ) (n at count : ℕ) → count ≤ n → at + n ≤ length slice → chunk ≡ take n (drop 0 source) → length chunk ≡ n
+    → take (at + count) (paste slice at chunk n) ≡ take at slice ++ take count source
+padded slice source chunk n at count most room e lanes =
+    let now : List ℕ = paste slice at chunk n in
     let front : List ℕ = take at slice in
-    let piece : List ℕ = take 16 chunk in
+    let piece : List ℕ = take n chunk in
     let length_front : length front ≡ at = length-take-le at slice (omega arith) in
-    let both : take (at + 16) now ≡ front ++ piece = take-paste slice at chunk 16 (omega arith) (omega (arith, lanes)) in
-    let wanted : take count piece ≡ take count source = take-take count 16 chunk most ∙ ap (take count) e ∙ take-take count 16 source most in
-    sym (take-take (at + count) (at + 16) now (omega arith))
+    let both : take (at + n) now ≡ front ++ piece = take-paste slice at chunk n (omega arith) (omega (arith, lanes)) in
+    let wanted : take count piece ≡ take count source = take-take count n chunk most ∙ ap (take count) e ∙ take-take count n source most in
+    sym (take-take (at + count) (at + n) now (omega arith))
     ∙ ap (take (at + count)) both
     ∙ take-add (front ++ piece) at count
     ∙ rw (take_at front piece at length_front, drop_at front piece at length_front) (ap (λ x. front ++ x) wanted)

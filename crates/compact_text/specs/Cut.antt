@@ -38,7 +38,12 @@ abbrev pub CutIsBeforeAndAfter : Type 0
 CutIsBeforeAndAfter =
     (t : List ℕ) (p : ℕ) (a b : List ℕ) → (IsCut t p a b ↔ ((a ≡ text_before t p) × (b ≡ text_after t p) × (size (text_before t p) ≡ p)))
 
--- the character of t at p is c, which is ASCII
+-- the character of t at p is c
+pub record IsCharAt (t : List ℕ) (p c : ℕ) : Type 0 where
+  pub rest : List ℕ
+  pub text : text_after t p ≡ c ∷ rest
+
+-- and ASCII
 pub record IsAsciiAt (t : List ℕ) (p c : ℕ) : Type 0 where
   pub width : len_utf8 c ≡ 1
   pub rest : List ℕ

@@ -1,5 +1,5 @@
 //! Edits of byte slices, in few wide reads and writes.
-ghost use Rattle.std.specs.Prelude.{◌≡◌, ◌+◌, ◌-◌, ◌≤◌, ◌<◌, ℕ, List, [], ◌∷◌, ◌++◌, length, take, drop, IfSome, IsSome, MatchOption};
+ghost use Rattle.std.specs.Prelude.{◌≡◌, ◌+◌, ◌-◌, ◌≤◌, ◌<◌, ℕ, List, [], ◌∷◌, ◌++◌, length, take, drop, None, IfSome, IsSome, MatchOption};
 ghost use Rattle.std.specs.Char.{len_utf8, encode_utf8, IsScalar};
 ghost use Rattle.std.specs.Str.{IsUtf8};
 ghost use Rattle.std.specs.List.{replace_range};
@@ -11,6 +11,7 @@ mod chunks;
 mod filter;
 mod moves;
 
+use crate::str_parts::encoded;
 pub use bytewise::{fill_zero, make_lowercase, make_uppercase};
 use chunks::{chunk, set_chunk};
 pub use filter::retain;
@@ -85,6 +86,41 @@ pub fn ascii_at(slice: &[u8], at: usize) -> Option<char>
         Some(char::from(byte))
     } else {
         None
+    }
+}
+
+/// Writes a character at `at` if four bytes are free there, or one if it is ASCII. Returns its end, or `None` if they are
+/// not free.
+#[inline(always)]
+pub fn try_write_char(slice: &mut [u8], at: usize, character: char) -> Option<usize>
+    requires { at ≤ length slice.old }
+    ensures written { IfSome result
+        (λ end. take end slice.new ≡ take at slice.old ++ encode_utf8 character) }
+    ensures end { IfSome result (λ end. end ≡ at + len_utf8 character) }
+    ensures within { IfSome result (λ end. end ≤ length slice.old) }
+    ensures full { result ≡ None → slice.new ≡ slice.old }
+{
+    if character.is_ascii() && at < slice.len() {
+        slice[at] = character as u8;
+        return Some(at + 1);
+    }
+    if slice.len() - at < 4 {
+        return None;
+    }
+    let (bytes, len) = encoded(character);
+    set_four(&mut slice[at..at + 4], bytes);
+    Some(at + len)
+}
+
+/// Replaces four bytes by one write.
+#[inline(always)]
+fn set_four(slice: &mut [u8], bytes: [u8; 4])
+    requires { length slice.old ≡ 4 }
+    ensures { slice.new ≡ bytes }
+{
+    match slice.first_chunk_mut::<4>() {
+        Some(chunk) => *chunk = bytes,
+        None => unreachable!(),
     }
 }
 

@@ -1,10 +1,9 @@
 //! Characters and parts of a `&str`, by byte position.
-ghost use Rattle.std.specs.Prelude.{◌≡◌, ◌-◌, ◌<◌, ◌≤◌, List, ℕ, [], ◌∷◌, ◌++◌, length, MatchOption, IsTrue, ◌↔◌};
-ghost use Rattle.std.specs.Char.{len_utf8};
+ghost use Rattle.std.specs.Prelude.{◌≡◌, ◌+◌, ◌-◌, ◌<◌, ◌≤◌, List, ℕ, [], ◌∷◌, ◌++◌, length, take, MatchOption, IsTrue, ◌↔◌};
+ghost use Rattle.std.specs.Char.{len_utf8, encode_utf8};
+ghost use Rattle.std.specs.Int.{w32, to_le_bytes};
 ghost use Rattle.compact_text.specs.Text.{text_of};
-ghost use Rattle.compact_text.specs.Cut.{IsBoundary, is_boundary, text_before, text_after, substring, CutIsBeforeAndAfter};
-
-use crate::slices::ascii_at;
+ghost use Rattle.compact_text.specs.Cut.{IsBoundary, IsCharAt, is_boundary, text_before, text_after, substring, CutIsBeforeAndAfter};
 
 /// Returns the part before a boundary.
 #[inline]
@@ -46,64 +45,96 @@ pub fn is_boundary(text: &str, index: usize) -> bool
     text.is_char_boundary(index)
 }
 
-/// Returns the character that begins at a boundary before the end.
+/// Returns the character that begins at a boundary before the end, and where it ends.
 #[inline]
-pub fn char_at(text: &str, index: usize) -> char
+pub fn char_at(text: &str, index: usize) -> (char, usize)
     requires boundary { IsBoundary (text_of text.now) index }
     requires within { index < length text.now }
-    ensures { (rest : List ℕ) × (text_after (text_of text.now) index ≡ result ∷ rest) }
+    ensures character { IsCharAt (text_of text.now) index result.0 }
+    ensures end { result.1 ≡ index + len_utf8 result.0 }
+    ensures next { IsBoundary (text_of text.now) result.1 }
 {
-    match text[index..].chars().next() {
-        Some(character) => character,
+    let mut chars = text[index..].chars();
+    match chars.next() {
+        Some(character) => (character, text.len() - chars.as_str().len()),
         None => unreachable!(),
     }
 }
 
-/// Returns the first character if it is ASCII. Returns `None` if it is not, or if the text is empty.
+/// Returns the first character, and where it ends, or `None` if the text is empty.
+#[inline]
+pub fn split_first(text: &str) -> Option<(char, usize)>
+    ensures { MatchOption result (text_of text.now ≡ [])
+        (λ first. (first.1 ≡ len_utf8 first.0)
+        × ((rest : List ℕ) × (text_of text.now ≡ first.0 ∷ rest))) }
+{
+    let mut after = text.chars();
+    match after.next() {
+        Some(character) => Some((character, text.len() - after.as_str().len())),
+        None => None,
+    }
+}
+
+/// Returns where the last character begins, and the character, or `None` if the text is empty.
+#[inline]
+pub fn split_last(text: &str) -> Option<(usize, char)>
+    ensures { MatchOption result (text_of text.now ≡ [])
+        (λ last. (text_of text.now ≡ text_before (text_of text.now) last.0 ++ last.1 ∷ [])
+        × IsBoundary (text_of text.now) last.0) }
+{
+    let mut front = text.chars();
+    match front.next_back() {
+        Some(character) => Some((front.as_str().len(), character)),
+        None => None,
+    }
+}
+
+/// Encodes a character: returns its 1 to 4 bytes, padded, and their number.
 #[inline(always)]
-pub fn first_ascii(text: &str) -> Option<char>
-    ensures { MatchOption result ((c : ℕ) (rest : List ℕ) → text_of text.now ≡ c ∷ rest → 128 ≤ c)
-        (λ c. (len_utf8 c ≡ 1) × ((rest : List ℕ) × (text_of text.now ≡ c ∷ rest))) }
+pub fn encoded(character: char) -> ([u8; 4], usize)
+    ensures bytes { take result.1 result.0 ≡ encode_utf8 character }
+    ensures len { result.1 ≡ len_utf8 character }
+    ensures most { result.1 ≤ 4 }
 {
-    ascii_at(text.as_bytes(), 0)
+    let (word, len) = encoded_word(character);
+    (word.to_le_bytes(), len)
 }
 
-/// Returns the first character, or `None` if the text is empty.
-#[inline]
-pub fn first_char(text: &str) -> Option<char>
-    ensures { MatchOption result (text_of text.now ≡ [])
-        (λ c. (rest : List ℕ) × (text_of text.now ≡ c ∷ rest)) }
+/// The same with the bytes as a word, so that they are stored by one write: a word that is read after its bytes were
+/// written one by one waits for them.
+#[inline(always)]
+fn encoded_word(character: char) -> (u32, usize)
+    ensures bytes { take result.1 (to_le_bytes w32 result.0) ≡ encode_utf8 character }
+    ensures len { result.1 ≡ len_utf8 character }
 {
-    match text.chars().next() {
-        Some(character) => Some(character),
-        None => None,
+    let code = character as u32;
+    if code < 0x80 {
+        return (code, 1);
     }
-}
-
-/// Returns the last character, or `None` if the text is empty.
-#[inline]
-pub fn last_char(text: &str) -> Option<char>
-    ensures { MatchOption result (text_of text.now ≡ [])
-        (λ c. (front : List ℕ) × (text_of text.now ≡ front ++ c ∷ [])) }
-{
-    let mut chars = text.chars();
-    match chars.next_back() {
-        Some(character) => {
-            // For the proof: the rest is a text.
-            let _front = chars.as_str();
-            Some(character)
-        }
-        None => None,
+    let last = (0x80 + code % 64) as u8;
+    if code < 0x800 {
+        let bytes = [(0xC0 + code / 64) as u8, last, 0, 0];
+        return (u32::from_le_bytes(bytes), 2);
     }
+    let third = (0x80 + code / 64 % 64) as u8;
+    if code < 0x1_0000 {
+        let bytes = [(0xE0 + code / 4096) as u8, third, last, 0];
+        return (u32::from_le_bytes(bytes), 3);
+    }
+    let second = (0x80 + code / 4096 % 64) as u8;
+    let bytes = [(0xF0 + code / 262144) as u8, second, third, last];
+    (u32::from_le_bytes(bytes), 4)
 }
 
 /// Encodes a character into the front of `bytes`, 1 to 4 bytes, and returns them as a text.
-#[inline]
+#[inline(always)]
 pub fn encode_char(character: char, bytes: &mut [u8; 4]) -> &str
     ensures text { text_of result.now ≡ character ∷ [] }
     ensures len { length result.now ≡ len_utf8 character }
 {
-    character.encode_utf8(bytes)
+    let (word, len) = encoded(character);
+    *bytes = word;
+    unsafe { std::str::from_utf8_unchecked(&bytes[..len]) }
 }
 
 /// A law; the function does nothing. The two parts of a cut text are the text before and the text after the position. A

@@ -1,11 +1,13 @@
 //! Appends within a vector's reserved capacity.
 //!
 //! A loop through a reference would reload the vector for each byte, so the vector is moved out first.
-ghost use Rattle.std.specs.Prelude.{◌≡◌, ◌+◌, ◌-◌, ◌<◌, ◌≤◌, ◌++◌, length, take, drop, replicate};
+ghost use Rattle.std.specs.Prelude.{◌≡◌, ◌+◌, ◌-◌, ◌<◌, ◌≤◌, ◌++◌, length, take, drop, replicate, IsTrue, false};
+ghost use Rattle.std.specs.Char.{len_utf8, encode_utf8};
 ghost use Rattle.std.specs.List.{replace_range};
 ghost use Rattle.std.specs.Vec.{vec_len, vec_capacity};
 
 use crate::slices;
+use crate::str_parts::encoded;
 use std::mem;
 
 /// The block size.
@@ -26,6 +28,43 @@ pub fn append_all(bytes: &mut Vec<u8>, source: &[u8])
     } else {
         append_long(bytes, source);
     }
+}
+
+/// Appends a character if four bytes are free, or one if it is ASCII. Returns whether they were; otherwise changes
+/// nothing.
+#[inline(always)]
+pub fn try_append_char(bytes: &mut Vec<u8>, character: char) -> bool
+    ensures fits { IsTrue result → vec_len bytes.old + len_utf8 character ≤ vec_capacity bytes.old }
+    ensures items { IsTrue result → bytes.new.items ≡ bytes.old.items ++ encode_utf8 character }
+    ensures capacity { vec_capacity bytes.new ≡ vec_capacity bytes.old }
+    ensures full { result ≡ false → bytes.new ≡ bytes.old }
+{
+    let room = bytes.capacity() - bytes.len();
+    if character.is_ascii() && room >= 1 {
+        bytes.push_reserved(character as u8);
+        return true;
+    }
+    if room < 4 {
+        return false;
+    }
+    let (piece, len) = encoded(character);
+    append_front(bytes, piece, len);
+    true
+}
+
+/// Appends the first `count` of four bytes, by one write.
+#[inline(always)]
+fn append_front(bytes: &mut Vec<u8>, piece: [u8; 4], count: usize)
+    requires most { count ≤ 4 }
+    requires room { vec_len bytes.old + 4 ≤ vec_capacity bytes.old }
+    ensures items { bytes.new.items ≡ bytes.old.items ++ take count piece }
+    ensures capacity { vec_capacity bytes.new ≡ vec_capacity bytes.old }
+{
+    let mut vec = take_vec(bytes);
+    let len = vec.len();
+    append_array::<4>(&mut vec, piece);
+    vec.truncate(len + count);
+    put_back(bytes, vec);
 }
 
 /// Appends at most 32 bytes.

@@ -36,13 +36,14 @@ pub fn is_packed(bytes: &[u8; 24]) -> bool
     }
 }
 
-/// Returns the length that the last byte encodes. Branch-free.
+/// Returns the length that the last byte encodes. Branch-free. Reads one byte, as `write_len` writes it: a read of the
+/// whole word would wait for that write.
 #[inline(always)]
 pub fn length_of(bytes: &[u8; 24]) -> usize
     requires { packed_len bytes.now ≤ 24 }
     ensures { result ≡ packed_len bytes.now }
 {
-    let len = last_byte(bytes).wrapping_sub(192);
+    let len = usize::from(bytes[INLINE_CAPACITY - 1]).wrapping_sub(192);
     if len < INLINE_CAPACITY {
         len
     } else {

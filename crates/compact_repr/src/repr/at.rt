@@ -1,7 +1,8 @@
 //! Characters and parts of a representation's text, by byte position.
-ghost use Rattle.std.specs.Prelude.{◌≡◌, ◌-◌, ◌<◌, ◌≤◌, ℕ, List, ◌∷◌, length, true, IsTrue, ◌↔◌, IfSome, IsSome, MatchOption};
+ghost use Rattle.std.specs.Prelude.{◌≡◌, ◌+◌, ◌-◌, ◌<◌, ◌≤◌, ℕ, List, ◌∷◌, length, true, IsTrue, ◌↔◌, IfSome, IsSome, MatchOption};
+ghost use Rattle.std.specs.Char.{len_utf8};
 ghost use Rattle.std.specs.Str.{IsCharBoundary};
-ghost use Rattle.compact_repr.specs.Words.{size, utf8, text_of, IsBoundary, text_after, substring, is_static, IsOwned, IsHeap};
+ghost use Rattle.compact_repr.specs.Words.{size, utf8, text_of, IsBoundary, IsCharAt, text_after, substring, is_static, IsOwned, IsHeap};
 
 use crate::growth::Policy;
 use crate::repr::{Buffer, Repr};
@@ -31,12 +32,14 @@ impl<P: Policy> Repr<P> {
         self.as_str().is_char_boundary(index)
     }
 
-    /// Returns the character that begins at byte `index`.
+    /// Returns the character that begins at byte `index`, and where it ends.
     #[inline]
-    pub fn char_at(&self, index: usize) -> char
+    pub fn char_at(&self, index: usize) -> (char, usize)
         requires boundary { IsBoundary self.now.text index }
         requires within { index < size self.now.text }
-        ensures { (rest : List ℕ) × (text_after self.now.text index ≡ result ∷ rest) }
+        ensures character { IsCharAt self.now.text index result.0 }
+        ensures end { result.1 ≡ index + len_utf8 result.0 }
+        ensures next { IsBoundary self.now.text result.1 }
     {
         str_parts::char_at(self.as_str(), index)
     }

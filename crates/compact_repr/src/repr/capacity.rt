@@ -41,7 +41,7 @@ impl<P: Policy> Repr<P> {
         }
     }
 
-    /// Reserves room that is lacking: moves a short text inline, and any other to a larger heap buffer.
+    /// Reserves room that is lacking.
     ///
     /// # Errors
     ///
@@ -49,6 +49,23 @@ impl<P: Policy> Repr<P> {
     #[cold]
     #[inline(never)]
     pub(super) fn make_room(&mut self, additional: usize) -> Result<(), ReserveError>
+        requires { fits_in_place self.old additional ≡ false }
+        ensures ok { OnOk result (reserve P.growth self.old additional ≡ Some self.new) }
+        ensures room { OnOk result (IsTrue (fits_in_place self.new additional)) }
+        ensures err { OnErr result
+            ((self.new ≡ self.old) × ReserveAllocates self.old additional) }
+        ensures small { size self.old.text < 2 ^ 63 }
+    {
+        self.make_room_here(additional)
+    }
+
+    /// `make_room`, inlined: moves a short text inline, and any other to a larger heap buffer.
+    ///
+    /// # Errors
+    ///
+    /// Returns [`ReserveError`] if that buffer cannot be allocated.
+    #[inline(always)]
+    pub(super) fn make_room_here(&mut self, additional: usize) -> Result<(), ReserveError>
         requires { fits_in_place self.old additional ≡ false }
         ensures ok { OnOk result (reserve P.growth self.old additional ≡ Some self.new) }
         ensures room { OnOk result (IsTrue (fits_in_place self.new additional)) }
@@ -121,6 +138,7 @@ impl<P: Policy> Repr<P> {
     }
 
     /// Moves the text, of at most 24 bytes, into the value itself.
+    #[inline]
     fn move_inline(&mut self)
         requires { size self.old.text ≤ 24 }
         ensures { self.new ≡ placed_text self.old.text inline_placement }
@@ -133,6 +151,7 @@ impl<P: Policy> Repr<P> {
     /// # Errors
     ///
     /// Returns [`ReserveError`] if that buffer cannot be allocated.
+    #[inline]
     fn move_to_heap(&mut self, capacity: usize) -> Result<(), ReserveError>
         requires fits { size self.old.text ≤ capacity }
         requires grows { IsHeap self.old

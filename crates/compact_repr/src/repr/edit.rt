@@ -1,13 +1,14 @@
 //! Edits in place, which never allocate and never move the text to another place.
 ghost use Rattle.std.specs.Prelude.{◌≡◌, ◌+◌, ◌-◌, ◌^◌, ◌≤◌, ◌<◌, [], ◌∷◌, ◌++◌, length, nat_eq, ◌||◌, IsTrue, false, ◌↔◌, IsSome, IfSome, None};
-ghost use Rattle.compact_repr.specs.Words.{size, text_of, ascii_lowercase, ascii_uppercase, IsBoundary, IsAsciiAt, IsNotAsciiAt, substring, replaced_text, placed_text, IsOwned, fits_in_place, clear, truncate, zeroize, PopsChar};
+ghost use Rattle.std.specs.Char.{len_utf8};
+ghost use Rattle.compact_repr.specs.Words.{size, text_of, ascii_lowercase, ascii_uppercase, IsBoundary, IsCharAt, IsAsciiAt, IsNotAsciiAt, substring, replaced_text, placed_text, IsOwned, fits_in_place, clear, truncate, zeroize, PopsChar};
 ghost use Rattle.compact_text.specs.Retain.{RetainsCharsTo};
 
 use crate::growth::Policy;
 use crate::inline::InlineBuffer;
 use crate::repr::{Buffer, Repr};
 use crate::static_str::StaticStr;
-use compact_text::str_parts::substring;
+use compact_text::str_parts::{char_at, substring};
 
 impl<P: Policy> Repr<P> {
     /// Appends `text` if the value is owned and has room. Returns whether it did; otherwise changes nothing.
@@ -21,6 +22,22 @@ impl<P: Policy> Repr<P> {
         match &mut self.buffer {
             Buffer::Inline(_, inline) => inline.try_push_str(text),
             Buffer::Heap(heap) => heap.try_push_str(text),
+            Buffer::Static(_) => false,
+        }
+    }
+
+    /// Appends `character` if the value is owned and has room, for any character unless this one is ASCII. Returns
+    /// whether it did; otherwise changes nothing.
+    #[inline(always)]
+    pub fn try_push(&mut self, character: char) -> bool
+        ensures fits { IsTrue result → IsTrue (fits_in_place self.old (len_utf8 character)) }
+        ensures pushed { IsTrue result
+            → self.new ≡ placed_text (self.old.text ++ character ∷ []) self.old.placement }
+        ensures full { result ≡ false → self.new ≡ self.old }
+    {
+        match &mut self.buffer {
+            Buffer::Inline(_, inline) => inline.try_push(character),
+            Buffer::Heap(heap) => heap.try_push(character),
             Buffer::Static(_) => false,
         }
     }
@@ -108,6 +125,35 @@ impl<P: Policy> Repr<P> {
             Buffer::Static(_) => None,
             Buffer::Inline(_, inline) => inline.try_remove_ascii(index),
             Buffer::Heap(heap) => heap.try_remove_ascii(index),
+        }
+    }
+
+    /// Removes and returns the character at byte `index`, a boundary before the end, if the value is owned. Otherwise
+    /// returns `None` and changes nothing. Keeps the place and the capacity.
+    #[inline]
+    pub fn try_remove(&mut self, index: usize) -> Option<char>
+        requires boundary { IsBoundary self.old.text index }
+        requires inside { index < size self.old.text }
+        ensures owned { IsSome result → IsOwned self.old }
+        ensures character { IfSome result (λ c. IsCharAt self.old.text index c) }
+        ensures removed { IfSome result
+            (λ c. self.new
+            ≡ placed_text (replaced_text self.old.text index
+            (index + len_utf8 c) []) self.old.placement) }
+        ensures unchanged { result ≡ None → self.new ≡ self.old }
+    {
+        match &mut self.buffer {
+            Buffer::Static(_) => None,
+            Buffer::Inline(_, inline) => {
+                let (character, end) = char_at(inline.as_str(), index);
+                inline.cut_out(index, end);
+                Some(character)
+            }
+            Buffer::Heap(heap) => {
+                let (character, end) = char_at(heap.as_str(), index);
+                heap.cut_out(index, end);
+                Some(character)
+            }
         }
     }
 

@@ -5,31 +5,26 @@ ghost use Rattle.compact_repr.specs.Words.{size, text_of, IsBoundary, substring,
 use crate::error::ReserveError;
 use crate::growth::Policy;
 use crate::repr::Repr;
-use compact_text::slices::MAX_SHORT_LEN;
 
 impl<P: Policy> Repr<P> {
-    /// Appends a `text` that is long or does not fit in place; reserves first if it does not fit. Not inlined, so that a
-    /// short append that fits calls nothing.
+    /// Appends a `text` that does not fit in place: reserves first. Not inlined, so that an append that fits stays short.
     ///
     /// # Errors
     ///
     /// Returns [`ReserveError`] if a new buffer cannot be allocated.
+    #[cold]
     #[inline(never)]
-    #[tactic(auto, using(crate::proofs::Changes::append_in_place_facts, crate::proofs::MoreRoom::slow_facts))]
+    #[tactic(auto, using(crate::proofs::MoreRoom::slow_facts))]
     pub fn push_str_slow(&mut self, text: &str) -> Result<(), ReserveError>
-        requires { length text.now ≤ 32 → fits_in_place self.old (length text.now) ≡ false }
+        requires { fits_in_place self.old (length text.now) ≡ false }
         ensures ok { OnOk result (push_str P.growth self.old (text_of text.now) ≡ Some self.new) }
         ensures err { OnErr result
             ((self.new ≡ self.old) × PushStrAllocates self.old (text_of text.now)) }
     {
-        // Only a long text has not been tried in place.
-        if text.len() > MAX_SHORT_LEN && self.try_push_str(text) {
-            return Ok(());
-        }
         if text.is_empty() {
             return Ok(());
         }
-        self.make_room(text.len())?;
+        self.make_room_here(text.len())?;
         if !self.try_push_str(text) {
             unreachable!();
         }

@@ -7,7 +7,7 @@ ghost use Rattle.compact_codec.specs.declared.utf16_bytes.ByteOrder.TheVariants.
 ghost use Rattle.compact_str.specs.FittedValues.{IsPlacedBySize, MakesText};
 ghost use Rattle.compact_str.specs.DecodeErrors.{IsUtf16Refusal, IsUtf16BytesRefusal, PairsEncode};
 
-use crate::builder::Builder;
+use crate::builder::{Builder, COLLECTED};
 use crate::decode::error::{FromUtf16Error, Utf16Error};
 use crate::decode::push_fitted;
 use crate::decode::utf16_block::{ROW, fill, utf8_room};
@@ -201,7 +201,7 @@ fn from_bytes_lossy(
 ) -> Result<CompactString, ReserveError>
     ensures { MakesText (utf16_bytes_lossy_text order bytes.now) result }
 {
-    let mut gathered = Builder::new(alloc);
+    let mut gathered: Builder<Standard, COLLECTED> = Builder::new(alloc);
     let mut rest = bytes;
     while !rest.is_empty() {
         let step = utf16_bytes::first_character(order, rest);

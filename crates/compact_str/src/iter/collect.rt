@@ -5,7 +5,7 @@ ghost use Rattle.compact_str.specs.Words.{size};
 ghost use Rattle.compact_str.specs.FittedValues.{IsPlacedBySize};
 ghost use Rattle.compact_str.specs.Collect.{OfIterator, OfItems, OfDrained, PassesInline, Collects};
 
-use crate::builder::Builder;
+use crate::builder::{Builder, COLLECTED};
 use crate::iter::AsText;
 use crate::iter::piece::Piece;
 use crate::string::PolicyString;
@@ -26,7 +26,7 @@ fn collect_pieces<P: Policy, T: Piece, U: IntoIterator<Item = T>>(
         (OfIterator U.into_iter_gives iter
         (λ it. PassesInline U.IntoIter.next_gives (flat_map T.text) it)) }
 {
-    let mut gathered = Builder::new(alloc);
+    let mut gathered: Builder<P, COLLECTED> = Builder::new(alloc);
     for piece in iter {
         piece.gather_into(&mut gathered)?;
     }

@@ -5,7 +5,7 @@ ghost use Rattle.compact_str.specs.Words.{text_of, utf8};
 ghost use Rattle.compact_str.specs.FittedValues.{IsPlacedBySize};
 ghost use Rattle.compact_str.specs.Collect.{PassesInline, Joins, join};
 
-use crate::builder::Builder;
+use crate::builder::{Builder, COLLECTED};
 use crate::iter::AsText;
 use crate::stack_buffer::PaddedStr;
 use crate::string::{CompactString, PolicyString};
@@ -86,7 +86,7 @@ fn join_pieces<P: Policy, T: AsText, I: Iterator<Item = T> + Drop>(
         (PassesInline I.next_gives (join (text_of separator.now) T.text) pieces) }
 {
     let mut pieces = pieces;
-    let mut gathered = Builder::new(alloc);
+    let mut gathered: Builder<P, COLLECTED> = Builder::new(alloc);
     let Some(first) = pieces.next() else {
         return gathered.finish();
     };

@@ -3,7 +3,7 @@ ghost use Rattle.std.specs.Prelude.{◌≡◌, ℕ, ◌+◌, ◌<◌, List, ◌+
 ghost use Rattle.compact_str.specs.Words.{size, push_str, PushStrAllocates, HasRoomFor};
 ghost use Rattle.compact_str.specs.Collect.{char_text};
 
-use crate::builder::Builder;
+use crate::builder::{Builder, COLLECTED};
 use crate::iter::AsText;
 use crate::string::PolicyString;
 use compact_repr::{Policy, ReserveError};
@@ -29,7 +29,10 @@ pub trait Piece: Drop {
     /// # Errors
     ///
     /// [`ReserveError`] if allocation fails. Never fails up to 24 bytes.
-    fn gather_into<P: Policy>(&self, gathered: &mut Builder<P>) -> Result<(), ReserveError>
+    fn gather_into<P: Policy>(
+        &self,
+        gathered: &mut Builder<P, COLLECTED>,
+    ) -> Result<(), ReserveError>
         ensures ok { OnOk result (gathered.new ≡ gathered.old ++ text self.now) }
         ensures err { OnErr result (24 < size gathered.old + size (text self.now)) };
 }
@@ -43,7 +46,10 @@ impl<T: AsText> Piece for T {
     }
 
     #[inline]
-    fn gather_into<P: Policy>(&self, gathered: &mut Builder<P>) -> Result<(), ReserveError> {
+    fn gather_into<P: Policy>(
+        &self,
+        gathered: &mut Builder<P, COLLECTED>,
+    ) -> Result<(), ReserveError> {
         gathered.push_str(self.text())
     }
 }
@@ -57,7 +63,10 @@ impl Piece for char {
     }
 
     #[inline]
-    fn gather_into<P: Policy>(&self, gathered: &mut Builder<P>) -> Result<(), ReserveError> {
+    fn gather_into<P: Policy>(
+        &self,
+        gathered: &mut Builder<P, COLLECTED>,
+    ) -> Result<(), ReserveError> {
         gathered.push(*self)
     }
 }
@@ -71,7 +80,10 @@ impl Piece for &char {
     }
 
     #[inline]
-    fn gather_into<P: Policy>(&self, gathered: &mut Builder<P>) -> Result<(), ReserveError> {
+    fn gather_into<P: Policy>(
+        &self,
+        gathered: &mut Builder<P, COLLECTED>,
+    ) -> Result<(), ReserveError> {
         gathered.push(**self)
     }
 }

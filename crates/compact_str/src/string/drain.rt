@@ -1,16 +1,13 @@
 //! A draining iterator.
-ghost use Rattle.std.specs.Prelude.{◌≡◌, ℕ, ◌≤◌, ◌∷◌, List, length, Some, IfSome, true};
+ghost use Rattle.std.specs.Prelude.{◌≡◌, ℕ, List, [], ◌∷◌, length, IfSome, MatchOption};
 ghost use Rattle.std.specs.Char.{len_utf8};
 ghost use Rattle.std.specs.Borrow.{sem, RestsIfErr};
-ghost use Rattle.compact_str.specs.Words.{size, utf8, text_of, substring, IsOwned};
-ghost use Rattle.compact_str.specs.Ranges.{IsRange, range_start, range_end};
-ghost use Rattle.compact_str.specs.TotalRanges.{is_range, IsAsciiRange};
-
-mod range;
+ghost use Rattle.compact_str.specs.Words.{size, utf8, text_of};
+ghost use Rattle.compact_str.specs.Ranges.{IsRange, IsSpan, range_start, range_end};
 
 use crate::string::PolicyString;
 use compact_repr::{Policy, ReserveError};
-use compact_text::str_parts::{first_ascii, last_char, substring};
+use compact_text::str_parts::{split_first, split_last, substring};
 use std::fmt;
 use std::fmt::{Debug, Display, Formatter, Write};
 use std::iter::FusedIterator;
@@ -21,25 +18,17 @@ use std::ops::Bound;
 /// Dropping it removes the whole range, even if it was not exhausted. Created by `drain`.
 pub struct Drain<'a, P: Policy> {
     value: &'a mut PolicyString<P>,
-    // The whole range, in bytes.
+    // The length of the text before the removal. The ghost fields hold after the drop too, when the positions may no
+    // longer be boundaries, so they speak of a text of this length alone.
+    len: usize,
+    // The range, in bytes.
     start: usize,
     end: usize,
-    // The length of the text before the removal. The ghost fields hold after the drop too, when the positions may no
-    // longer be boundaries, so they speak of a text of this length alone. While it has this length, neither a step nor
-    // the drop tests boundaries.
-    old_len: usize,
     // The part not returned yet.
-    rest_start: usize,
-    rest_end: usize,
-    // Whether the range is known to be ASCII. A loop over it then tests no widths, so the compiler may take several
-    // characters in one step.
-    is_ascii: bool,
-    ghost owned: { IsOwned value.now },
-    ghost within: { size value.now.text ≤ old_len },
-    ghost range: { size value.now.text ≡ old_len → is_range value.now.text rest_start rest_end ≡ true },
-    ghost span: { size value.now.text ≡ old_len → is_range value.now.text start end ≡ true },
-    ghost ascii: { size value.now.text ≡ old_len → is_ascii ≡ true
-        → IsAsciiRange value.now.text rest_start rest_end },
+    front: usize,
+    back: usize,
+    ghost range: { size value.now.text ≡ len → IsSpan value.now.text start end },
+    ghost rest: { size value.now.text ≡ len → IsSpan value.now.text front back },
 }
 
 impl<P: Policy> PolicyString<P> {
@@ -76,26 +65,23 @@ impl<P: Policy> PolicyString<P> {
         ensures drains { DrainsRange P.growth self.old self.entry.ghost_name (range_start start)
             (range_end self.old.text end) result }
     {
-        let Some((first, last)) = self.byte_range(start, end) else {
+        let Some((start, end)) = self.byte_range(start, end) else {
             unreachable!();
         };
-        let old_len = self.len();
         self.make_owned()?;
-        let is_ascii = self.is_short_ascii_range(first, last);
         Ok(Drain {
+            len: self.len(),
             value: self,
-            start: first,
-            end: last,
-            old_len,
-            rest_start: first,
-            rest_end: last,
-            is_ascii,
+            start,
+            end,
+            front: start,
+            back: end,
         })
     }
 }
 
 impl<P: Policy> Drain<'_, P> {
-    ghost use Rattle.compact_str.specs.Drain.{drain_rest, DrainsFront};
+    ghost use Rattle.compact_str.specs.Drain.{drain_rest};
 
     /// Returns the rest of the range as a `&str`.
     ///
@@ -107,48 +93,44 @@ impl<P: Policy> Drain<'_, P> {
     /// assert_eq!(rt; drain.next(), Some('a'));
     /// assert_eq!(rt; drain.as_str(), "ïve");
     /// ```
-    #[inline(always)]
+    #[inline]
+    #[tactic(auto, using(crate::proofs::Drains::drain_facts))]
     pub fn as_str(&self) -> &str
         ensures bytes { result.now ≡ utf8 (drain_rest self.now) }
         ensures text { text_of result.now ≡ drain_rest self.now }
         ensures len { length result.now ≡ size (drain_rest self.now) }
     {
-        // An inline text is short, so the hot loop reads only the heap.
-        match self.heap_rest() {
-            Some(rest) => rest,
-            None => self.value.cold_range_text(self.rest_start, self.rest_end),
-        }
+        self.rest_of(self.value.as_str())
     }
 
-    /// Like `as_str` for a heap string of the same length as when the drain was created; otherwise `None`.
+    /// Returns the rest, given the whole text.
     #[inline(always)]
     #[tactic(auto, using(crate::proofs::Drains::drain_facts))]
-    fn heap_rest(&self) -> Option<&str>
-        ensures text { IfSome result (λ s. text_of s.now ≡ drain_rest self.now) }
-        ensures len { IfSome result (λ s. length s.now ≡ size (drain_rest self.now)) }
-        ensures ascii { IfSome result
-            (λ s. self.now.is_ascii ≡ true → length (text_of s.now) ≡ size (text_of s.now)) }
+    fn rest_of<'t>(&self, text: &'t str) -> &'t str
+        requires { text_of text.now ≡ self.now.value.now.text }
+        ensures text { text_of result.now ≡ drain_rest self.now }
+        ensures len { length result.now ≡ size (drain_rest self.now) }
     {
-        let value = &*self.value;
-        if let Some(text) = value.repr.heap_str() {
-            if text.len() == self.old_len {
-                return Some(substring(text, self.rest_start, self.rest_end));
-            }
+        if text.len() == self.len {
+            substring(text, self.front, self.back)
+        } else {
+            ""
         }
-        None
     }
 
-    /// Returns the first character of the rest, of `width` bytes, and moves past it.
+    /// Returns the first character of the rest, and its width. A heap text has an arm of its own, so that a loop can
+    /// find the place once.
     #[inline(always)]
-    fn take_first(&mut self, character: char, width: usize) -> Option<char>
-        requires first { (rest : List ℕ) × (drain_rest self.old ≡ character ∷ rest) }
-        requires width { width ≡ len_utf8 character }
-        ensures { DrainsFront self.old result self.new }
+    fn first(&self) -> Option<(char, usize)>
+        ensures { MatchOption result (drain_rest self.now ≡ [])
+            (λ first. (first.1 ≡ len_utf8 first.0)
+            × ((rest : List ℕ) × (drain_rest self.now ≡ first.0 ∷ rest))) }
     {
-        // Shows the proof that the sum fits: the start is before the end.
-        let (start, end) = (self.rest_start, self.rest_end);
-        self.rest_start = start + width;
-        Some(character)
+        let value = &*self.value;
+        match value.repr.heap_str() {
+            Some(text) => split_first(self.rest_of(text)),
+            None => split_first(self.as_str()),
+        }
     }
 }
 
@@ -165,32 +147,15 @@ impl<P: Policy> Iterator for Drain<'_, P> {
     ghost remaining = { λ d. at_most (length (drain_rest d)) };
 
     #[inline(always)]
-    #[tactic(auto, using(compact_text::proofs::TextFacts::empty_facts))]
     fn next(&mut self) -> Option<char> {
-        if self.is_ascii {
-            if let Some(rest) = self.heap_rest() {
-                let letter = range::first_of_ascii(rest)?;
-                return self.take_first(letter, 1);
-            }
-        } else {
-            let rest = self.as_str();
-            if rest.is_empty() {
-                return None;
-            }
-            if let Some(character) = first_ascii(rest) {
-                return self.take_first(character, 1);
-            }
-        }
-        // Passes positions, so that the loop need not count what is left.
-        let word = self
-            .value
-            .first_char_packed(self.rest_start, self.rest_end)?;
-        let character = unsafe { char::from_u32_unchecked((word >> 32) as u32) };
-        self.take_first(character, range::width_of(word))
+        let (character, width) = self.first()?;
+        self.front += width;
+        Some(character)
     }
 
     /// Returns a quarter of the remaining bytes, rounded up, and all of them.
     #[inline]
+    #[tactic(auto, using(crate::proofs::Drains::count_facts))]
     fn size_hint(&self) -> (usize, Option<usize>)
         ensures lower { IsWithinCount result.0 (at_most (length (drain_rest self.now))) }
         ensures upper { IfSome result.1 (UpTo (at_most (length (drain_rest self.now)))) }
@@ -209,8 +174,8 @@ impl<P: Policy> DoubleEndedIterator for Drain<'_, P> {
 
     #[inline]
     fn next_back(&mut self) -> Option<char> {
-        let character = last_char(self.as_str())?;
-        self.rest_end -= character.len_utf8();
+        let (width, character) = split_last(self.as_str())?;
+        self.back = self.front + width;
         Some(character)
     }
 }
@@ -227,14 +192,15 @@ impl<P: Policy> Drop for Drain<'_, P> {
     {
         let Drain {
             value,
+            len,
             start,
             end,
-            old_len,
-            rest_start: _,
-            rest_end: _,
-            is_ascii: _,
+            front: _,
+            back: _,
         } = self;
-        value.remove_range(start, end, old_len);
+        if value.len() == len {
+            value.repr.try_cut_out(start, end);
+        }
     }
 }
 

@@ -151,11 +151,14 @@ impl<P: Policy> PolicyString<P> {
         requires within { index < size self.old.text }
         ensures { RemovesChar P.growth self.old index result self.new }
     {
+        if let Some(character) = self.repr.try_remove(index) {
+            return Ok(character);
+        }
         let len = self.repr.len();
         // Shows the proof that the end of the character is in the text.
         prove!(index < len);
-        let character = self.repr.char_at(index);
-        self.repr.cut_out(index, index + character.len_utf8())?;
+        let (character, end) = self.repr.char_at(index);
+        self.repr.cut_out(index, end)?;
         Ok(character)
     }
 

@@ -7,7 +7,6 @@ ghost use Rattle.compact_str.specs.Edits.{Writes};
 use crate::refused::Refused;
 use crate::string::PolicyString;
 use compact_repr::{Policy, ReserveError};
-use compact_text::slices::MAX_SHORT_LEN;
 use compact_text::str_parts::encode_char;
 use std::fmt;
 
@@ -31,7 +30,7 @@ impl<P: Policy> PolicyString<P> {
     pub fn push_str(&mut self, text: &str) -> Result<(), ReserveError>
         ensures { PushesStr P.growth self.old (text_of text.now) text.now result self.new }
     {
-        if text.len() <= MAX_SHORT_LEN && self.repr.try_push_str(text) {
+        if self.repr.try_push_str(text) {
             return Ok(());
         }
         self.repr.push_str_slow(text)
@@ -50,9 +49,23 @@ impl<P: Policy> PolicyString<P> {
     /// name.push('é')?;
     /// assert_eq!(rt; name.as_str(), "café");
     /// ```
-    #[inline]
+    #[inline(always)]
     #[tactic(auto, using(crate::proofs::EditFacts::character_facts))]
     pub fn push(&mut self, character: char) -> Result<(), ReserveError>
+        ensures pushes { PushesStr P.growth self.old (character ∷ []) (encode_utf8 character) result
+            self.new }
+        ensures succeeds { HasRoomFor self.old (len_utf8 character) → IsOk result }
+    {
+        if self.repr.try_push(character) {
+            return Ok(());
+        }
+        self.push_slow(character)
+    }
+
+    /// `push` of a character that `try_push` did not append. Not inlined, so that a loop of appends stays short.
+    #[inline(never)]
+    #[tactic(auto, using(crate::proofs::EditFacts::character_facts))]
+    fn push_slow(&mut self, character: char) -> Result<(), ReserveError>
         ensures pushes { PushesStr P.growth self.old (character ∷ []) (encode_utf8 character) result
             self.new }
         ensures succeeds { HasRoomFor self.old (len_utf8 character) → IsOk result }

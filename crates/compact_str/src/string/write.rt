@@ -2,7 +2,7 @@
 ghost use Rattle.std.specs.Fmt.{with_newline};
 ghost use Rattle.compact_str.specs.Shown.{PushesShown};
 
-use crate::builder::Builder;
+use crate::builder::{Builder, SHOWN};
 use crate::string::PolicyString;
 use compact_repr::{Policy, ReserveError};
 use std::fmt;
@@ -12,7 +12,7 @@ use std::fmt::{Display, Write};
 impl<P: Policy> PolicyString<P> {
     /// Appends what `value` displays, all of it or nothing, with the capacity of one `push_str`.
     ///
-    /// Formats on the stack first, and past 1024 bytes in a temporary heap buffer.
+    /// Formats on the stack first, and past 256 bytes in a temporary heap buffer.
     ///
     /// # Errors
     ///
@@ -29,7 +29,7 @@ impl<P: Policy> PolicyString<P> {
     pub fn write<D: Display + Drop>(&mut self, value: D) -> Result<(), ReserveError>
         ensures { PushesShown P.growth self.old (D.output value) result self.new }
     {
-        let mut shown = Builder::new(self.allocator());
+        let mut shown: Builder<P, SHOWN> = Builder::new(self.allocator());
         match shown.write(value) {
             Ok(()) => shown.push_onto(self),
             Err(fmt::Error) => Err(ReserveError),
@@ -73,7 +73,7 @@ impl<P: Policy> PolicyString<P> {
     pub fn writeln<D: Display + Drop>(&mut self, value: D) -> Result<(), ReserveError>
         ensures { PushesShown P.growth self.old (with_newline (D.output value)) result self.new }
     {
-        let mut shown = Builder::new(self.allocator());
+        let mut shown: Builder<P, SHOWN> = Builder::new(self.allocator());
         match shown.writeln(value) {
             Ok(()) => shown.push_onto(self),
             Err(fmt::Error) => Err(ReserveError),

@@ -5,7 +5,8 @@ ghost use Rattle.std.specs.Str.{IsUtf8};
 ghost use Rattle.compact_text.specs.Text.{text_of};
 ghost use Rattle.compact_text.specs.Retain.{RetainsCharsTo};
 
-use super::{ascii_at, write};
+use super::ascii_at;
+use super::moves::copy_both_ends;
 
 /// Moves to the front those characters of the first `len` bytes for which `keep` returns `true`; calls it once for
 /// each, in order. Returns their length in bytes.
@@ -40,13 +41,13 @@ fn move_retained<F: FnMut(char) -> bool>(slice: &mut [u8], keep: &mut F) -> usiz
         // Writes only after `keep` has returned: a position that depends on the result would delay the next read.
         while let Some(character) = ascii_at(slice, read) {
             let is_kept = keep(character);
-            kept = write_if(slice, kept, character, 1, is_kept);
+            kept = move_if(slice, read, kept, 1, is_kept);
             read += 1;
         }
         if read < slice.len() {
             let (character, width) = char_from(slice, read);
             let is_kept = keep(character);
-            kept = write_if(slice, kept, character, width, is_kept);
+            kept = move_if(slice, read, kept, width, is_kept);
             read += width;
         }
     }
@@ -60,6 +61,8 @@ fn char_from(slice: &[u8], at: usize) -> (char, usize)
     requires inside { at < length slice.now }
     ensures encoded { drop at slice.now ≡ encode_utf8 result.0 ++ drop (at + result.1) slice.now }
     ensures width { result.1 ≡ len_utf8 result.0 }
+    ensures least { 1 ≤ result.1 }
+    ensures most { result.1 ≤ 4 }
     ensures within { at + result.1 ≤ length slice.now }
     ensures rest { IsUtf8 (drop (at + result.1) slice.now) }
     ensures scalar { IsScalar result.0 }
@@ -68,44 +71,32 @@ fn char_from(slice: &[u8], at: usize) -> (char, usize)
     if byte < 128 {
         return (char::from(byte), 1);
     }
-    match unsafe { std::str::from_utf8_unchecked(&slice[at..]) }
-        .chars()
-        .next()
-    {
-        Some(character) => (character, character.len_utf8()),
+    let mut chars = unsafe { std::str::from_utf8_unchecked(&slice[at..]) }.chars();
+    match chars.next() {
+        Some(character) => (character, slice.len() - at - chars.as_str().len()),
         None => unreachable!(),
     }
 }
 
-/// Writes a character of `width` bytes at `at` if it is kept, and returns where the next one goes.
+/// Moves `width` bytes from `from` down to `to` if they are kept, and returns where the next ones go.
 #[inline(always)]
-fn write_if(slice: &mut [u8], at: usize, character: char, width: usize, is_kept: bool) -> usize
-    requires room { at + width ≤ length slice.old }
-    requires width { width ≡ len_utf8 character }
+fn move_if(slice: &mut [u8], from: usize, to: usize, width: usize, is_kept: bool) -> usize
+    requires order { to ≤ from }
+    requires source { from + width ≤ length slice.old }
+    requires least { 1 ≤ width }
+    requires most { width ≤ 4 }
     ensures front { take result slice.new
-        ≡ (if is_kept then take at slice.old ++ encode_utf8 character else take at slice.old) }
-    ensures after { drop (at + width) slice.new ≡ drop (at + width) slice.old }
-    ensures within { result ≤ at + width }
+        ≡ (if is_kept then take to slice.old ++ take width (drop from slice.old) else take to slice.old) }
+    ensures after { drop (to + width) slice.new ≡ drop (to + width) slice.old }
+    ensures within { result ≤ to + width }
 {
     if !is_kept {
-        return at;
+        return to;
     }
-    write_char(slice, at, character, width);
-    at + width
-}
-
-/// Writes a character of `width` bytes at `at`.
-#[inline(always)]
-fn write_char(slice: &mut [u8], at: usize, character: char, width: usize)
-    requires room { at + width ≤ length slice.old }
-    requires width { width ≡ len_utf8 character }
-    ensures front { take (at + width) slice.new ≡ take at slice.old ++ encode_utf8 character }
-    ensures after { drop (at + width) slice.new ≡ drop (at + width) slice.old }
-{
     if width == 1 {
-        slice[at] = character as u8;
-        return;
+        slice[to] = slice[from];
+        return to + 1;
     }
-    let mut bytes = [0; 4];
-    write(slice, at, character.encode_utf8(&mut bytes).as_bytes());
+    copy_both_ends::<2>(slice, from, to, width);
+    to + width
 }

@@ -138,7 +138,7 @@ fn copy_up_to_128(slice: &mut [u8], from: usize, to: usize, count: usize)
 
 /// Moves `count` bytes, `N` to `2 * N`, as the first `N` and the last `N`.
 #[inline(always)]
-fn copy_both_ends<const N: usize>(slice: &mut [u8], from: usize, to: usize, count: usize)
+pub fn copy_both_ends<const N: usize>(slice: &mut [u8], from: usize, to: usize, count: usize)
     requires least { N ≤ count }
     requires most { count ≤ N + N }
     requires source { from + count ≤ length slice.old }

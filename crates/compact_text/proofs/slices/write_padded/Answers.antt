@@ -5,4 +5,4 @@ use Rattle.compact_text.proofs.slices.write_padded.Goals as goal
 pub returns : goal.returns
 returns c =
     ap (take (c.args.at + c.args.count)) c.set_chunk.ensures
-    ∙ padded c.args.slice.now c.args.source.now c.chunk.result c.args.at c.args.count c.requires.most c.requires.target c.chunk.ensures.bytes c.chunk.ensures.lanes
+    ∙ padded c.args.slice.now c.args.source.now c.chunk.result 16 c.args.at c.args.count c.requires.most c.requires.target c.chunk.ensures.bytes c.chunk.ensures.lanes

@@ -1,5 +1,5 @@
 use Rattle.std.proofs.Common.{◌∙◌, ◌++◌, ap, sym, take, arith}
-use Rattle.compact_codec.proofs.Rows.{encode_two, encode_three, encode_four}
+use Rattle.compact_text.proofs.Encodings.{encode_two, encode_three, encode_four}
 use Rattle.compact_str.proofs.FilledRows.{two_behind, three_behind, four_behind}
 use Rattle.compact_str.proofs.decode.utf16_block.write_character.Goals as goal
 

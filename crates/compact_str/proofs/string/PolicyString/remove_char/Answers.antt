@@ -1,16 +1,18 @@
 -- The character that begins at the position, and what stands after it.
-use Rattle.compact_text.proofs.Cuts.{boundary-next}
-use Rattle.compact_str.proofs.Positions.{replace_range-removes}
+use Rattle.std.proofs.Common.{refl, ◌∙◌}
+use Rattle.compact_str.proofs.Positions.{removed_char-in_place, replace_range-removes}
 use Rattle.compact_str.proofs.string.PolicyString.remove_char.Goals as goal
 
-pub cut_out-requires-clause-last : goal.cut_out-requires-clause-last
-cut_out-requires-clause-last g c =
-    let next = c.char_at-character.ensures in
-    rw c.len_utf8.ensures.value (boundary-next c.self.inside.repr.text next.0 c.args.index _ (rw c.self.view_is c.requires.boundary) next.1)
+pub returns-in-Some : goal.returns-in-Some
+returns-in-Some g c =
+    let lost = c.in-Some.ensures in
+    rw (← c.self.view_is)
+    (removed_char-in_place g.P.Policy.growth c.self.inside.repr c.try_remove.new.self c.args.index c.in-Some.character (rw c.self.view_is c.requires.boundary) lost.character (lost.owned refl) lost.removed)
 
 pub returns : goal.returns
 returns g c =
     let next = c.char_at-character.ensures in
-    rw (← c.self.view_is)
-    (replace_range-removes g.P.Policy.growth c.self.inside.repr c.cut_out.new.self next.0 c.args.index c.char_at-character.result c.len_utf8.result (rw c.self.view_is c.requires.boundary) next.1
-    c.len_utf8.ensures.value c.in_ok-cut_out.ensures.ok)
+    let same = c.in_default.ensures.unchanged refl ∙ c.self.view_is in
+    rw (← same)
+    (replace_range-removes g.P.Policy.growth c.try_remove.new.self c.cut_out.new.self next.character.rest c.args.index c.char_at-character.result.0 c.char_at-character.result.1 (rw same c.requires.boundary)
+    next.character.text next.end c.in_ok-cut_out.ensures.ok)
