@@ -5,7 +5,8 @@ use Rattle.std.proofs.lemmas.Grind.{common_steps}
 use Rattle.compact_str.proofs.ForCallers.{size-append}
 use Rattle.compact_str.specs.Text.{size}
 use Rattle.compact_str.specs.Value.{Place, inline, heap, static, is_static, Placement, PlacedText}
-use Rattle.compact_str.specs.Capacity.{Growth, IsLawful, max_capacity, inline_placement, heap_placement, grown_capacity}
+use Rattle.compact_str.specs.Capacity.{Growth, IsLawful, inline_placement, heap_placement, grown_capacity}
+use Rattle.compact_str.specs.Words.{MAX_CAPACITY}
 use Rattle.compact_str.specs.Calls.{push_str}
 use Rattle.compact_edit.specs.Pushes.{same_place, bytes_moved_by_step}
 
@@ -14,7 +15,7 @@ pub record IsPaid (g : Growth) (p : Placement) (l m : ℕ) : Type 0 where
   pub owned : is_static p.place ≡ false
   pub fits : l ≤ p.capacity
   pub above : 24 ≤ p.capacity
-  pub below : p.capacity ≤ max_capacity
+  pub below : p.capacity ≤ MAX_CAPACITY
   pub capacity : p.capacity ≤ max g.least (g.numerator * l / g.denominator)
   pub by_text : (g.numerator - g.denominator) * m ≤ (g.numerator + g.denominator) * l
   pub by_room : (g.numerator - g.denominator) * m ≤ g.denominator * (p.capacity + 1 + l)
@@ -23,7 +24,7 @@ pub record IsPaid (g : Growth) (p : Placement) (l m : ℕ) : Type 0 where
 push_str-placement : (g : Growth) (v w : PlacedText) (s : List ℕ) → is_static v.placement.place ≡ false → 24 ≤ v.placement.capacity → size v.text ≤ v.placement.capacity
     → push_str g v s ≡ Some w
     → ((w.placement ≡ v.placement) × (size w.text ≡ size v.text + size s) × (size v.text + size s ≤ v.placement.capacity))
-    ⊎ ((w.placement ≡ heap_placement (grown_capacity g v (size s))) × (size w.text ≡ size v.text + size s) × (v.placement.capacity < size v.text + size s) × (grown_capacity g v (size s) ≤ max_capacity))
+    ⊎ ((w.placement ≡ heap_placement (grown_capacity g v (size s))) × (size w.text ≡ size v.text + size s) × (v.placement.capacity < size v.text + size s) × (grown_capacity g v (size s) ≤ MAX_CAPACITY))
 push_str-placement g v w s owned above fits e = grind (arith, common_steps, size-append)
 
 -- the arithmetic: d is the numerator minus the denominator q, and n more bytes do not fit the capacity c
@@ -70,7 +71,7 @@ paid-kept g p l n m law paid fits = record {
 }
 
 -- n more bytes that do not fit: l bytes are moved into a buffer of b bytes
-paid-grown_capacity : (g : Growth) (p : Placement) (l n m b : ℕ) → IsLawful g → IsPaid g p l m → p.capacity < l + n → b ≡ max g.least (max (l + n) (g.numerator * l / g.denominator)) → b ≤ max_capacity
+paid-grown_capacity : (g : Growth) (p : Placement) (l n m b : ℕ) → IsLawful g → IsPaid g p l m → p.capacity < l + n → b ≡ max g.least (max (l + n) (g.numerator * l / g.denominator)) → b ≤ MAX_CAPACITY
     → IsPaid g (heap_placement b) (l + n) (m + l)
 paid-grown_capacity g p l n m b law paid more is below =
     let d = g.numerator - g.denominator in

@@ -4,10 +4,24 @@ use Rattle.std.proofs.Common.{refl, append_assoc, subst, take, get_or, length}
 use Rattle.std.proofs.lemmas.List.{take_more}
 use Rattle.compact_str.specs.Value.{PlacedText}
 use Rattle.compact_str.specs.Capacity.{Growth}
+use Rattle.std.specs.Prelude.{Result, Ok, Err, OnOk, OnErr}
+use Rattle.std.specs.Char.{len_utf8}
+use Rattle.std.specs.Result.{MatchResult}
+use Rattle.compact_str.specs.Words.{PlacedFor, AllocatesFor, room_to_append}
+use Rattle.compact_str.specs.declared.ReserveError.{ReserveError}
+use Rattle.compact_str.proofs.Functions.{push-from, push_allocates-from}
 use Rattle.compact_edit.specs.declared.edit.Edit.{Edit}
+use Rattle.compact_edit.specs.declared.edit.Edit.TheVariants.{Push}
+use Rattle.compact_edit.specs.declared.edit.Reply.TheVariants.{Done, Refused}
 use Rattle.compact_edit.specs.declared.edit.Reply.{Reply}
 use Rattle.compact_edit.specs.Steps.{Step}
 use Rattle.compact_edit.specs.Runs.{Run, RunsTo}
+
+-- the step of a push, by its clauses
+pub push-step : {P : Type 0} (g : Growth) (v w : PlacedText) (c : ℕ) (r : Result (Unit {0}) ReserveError) (reply : Reply P) → OnOk r (w.text ≡ v.text ++ c ∷ []) → OnOk r (PlacedFor g v w (room_to_append (len_utf8 c)))
+    → OnErr r (AllocatesFor v (room_to_append (len_utf8 c))) → OnErr r (w ≡ v) → MatchResult r (λ _. reply ≡ Done) (λ e. reply ≡ Refused e) → Step g v (Push c) reply w
+push-step g v w c (Ok _) reply text place asks same is = rw is (tt, (refl, push-from g v w c text place))
+push-step g v w c (Err _) reply text place asks same is = rw is (same, tt, push_allocates-from v c asks)
 
 pub Run-append : {P : Type 0} (g : Growth) (v : PlacedText) (edits : List (Edit P)) (replies : List (Reply P)) (u w : PlacedText) (edit : Edit P) (reply : Reply P) → Run g v edits replies u → Step g u edit reply w → Run g v (edits ++ edit ∷ []) (replies ++ reply ∷ []) w
 Run-append g v [] [] u w edit reply run step = (w, subst (λ (x : PlacedText). Step g x edit reply w) run step, refl)

@@ -1,7 +1,7 @@
 //! Repeated pushes, with a count of the bytes moved.
-ghost use Rattle.std.specs.Prelude.{◌≡◌, ◌+◌, ◌-◌, ◌*◌, ◌/◌, ◌≤◌, flat_map, Some, max, IfOk, OnErr};
+ghost use Rattle.std.specs.Prelude.{◌≡◌, ◌+◌, ◌-◌, ◌*◌, ◌/◌, ◌≤◌, flat_map, Some, max, IfOk, OnOk, OnErr, IsTrue};
 ghost use Rattle.compact_str.specs.Text.{size, text_of};
-ghost use Rattle.compact_str.specs.Calls.{push_str, PushStrAllocates};
+ghost use Rattle.compact_str.specs.Calls.{push_str, push_str_allocates};
 ghost use Rattle.compact_edit.specs.Pushes.{PushesTo, bytes_moved_by_step};
 
 use compact_str::{Policy, PolicyString, ReserveError};
@@ -65,12 +65,12 @@ pub fn run_pushes<P: Policy>(alloc: Global, texts: &[&str]) -> PushReport<P>
 /// Pushes a text, and returns the number of bytes moved.
 ///
 /// Compares only the capacities: a push that changes the place changes the capacity too.
+#[tactic(auto, using(compact_str::proofs::Functions::functions))]
 fn push_counted<P: Policy>(value: &mut PolicyString<P>, text: &str) -> Result<u64, ReserveError>
-    ensures ok { IfOk result
-        (λ bytes. push_str P.growth value.old (text_of text.now) ≡ Some value.new) }
+    ensures ok { OnOk result (push_str P.growth value.old (text_of text.now) ≡ Some value.new) }
     ensures bytes { IfOk result (λ bytes. bytes ≡ bytes_moved_by_step value.old value.new) }
-    ensures err { OnErr result
-        ((value.new ≡ value.old) × PushStrAllocates value.old (text_of text.now)) }
+    ensures allocates { OnErr result (IsTrue (push_str_allocates value.old (text_of text.now))) }
+    ensures err { OnErr result (value.new ≡ value.old) }
 {
     let len = value.len();
     let capacity = value.capacity();

@@ -1,5 +1,5 @@
 //! Running edits.
-ghost use Rattle.std.specs.Prelude.{◌≡◌, ◌+◌, ◌≤◌, [], length, drop, Some, vec_len, vec_capacity, IfOk, OnOk, OnErr, IsOk, MatchResult};
+ghost use Rattle.std.specs.Prelude.{◌≡◌, ◌+◌, ◌≤◌, [], length, drop, Some, vec_len, vec_capacity, ◌<◌, IfOk, OnOk, OnErr, IsOk, MatchResult};
 ghost use Rattle.compact_str.specs.Text.{size};
 ghost use Rattle.compact_str.specs.Cut.{substring};
 ghost use Rattle.compact_str.specs.Calls.{new, replace_range, retain};
@@ -8,7 +8,7 @@ ghost use Rattle.std.specs.declared.ops.Bound.TheVariants.{Included, Excluded};
 ghost use Rattle.compact_str.specs.Ranges.{IsRange};
 ghost use Rattle.compact_edit.specs.Steps.{Step};
 ghost use Rattle.compact_edit.specs.Runs.{RunsTo};
-ghost use Rattle.compact_str.specs.Capacity.{WithCapacityAllocates, MakeOwnedAllocates};
+ghost use Rattle.compact_str.specs.Words.{AllocatesFor, INLINE_CAPACITY, owned};
 
 use crate::edit::{Edit, Reply};
 use compact_str::{Policy, PolicyString, ReserveError};
@@ -58,8 +58,8 @@ fn apply<P: Policy>(value: &mut PolicyString<P>, edit: &Edit<P>) -> Reply<P>
     ensures { Step P.growth value.old edit.now result value.new }
 {
     match edit {
-        Edit::Push(character) => reply_to(value.push(*character)),
-        Edit::PushStr(text) => reply_to(value.push_str(text)),
+        Edit::Push(character) => push(value, *character),
+        Edit::PushStr(text) => push_str(value, text),
         Edit::Pop => Reply::Char(value.pop()),
         Edit::Insert(index, character) => insert(value, *index, *character),
         Edit::InsertStr(index, text) => insert_str(value, *index, text),
@@ -93,6 +93,19 @@ fn apply<P: Policy>(value: &mut PolicyString<P>, edit: &Edit<P>) -> Reply<P>
     }
 }
 
+fn push<P: Policy>(value: &mut PolicyString<P>, character: char) -> Reply<P>
+    ensures { Step P.growth value.old (Edit.Push character) result value.new }
+{
+    reply_to(value.push(character))
+}
+
+#[tactic(auto, using(compact_str::proofs::Functions::functions))]
+fn push_str<P: Policy>(value: &mut PolicyString<P>, text: &str) -> Reply<P>
+    ensures { Step P.growth value.old (Edit.PushStr text.entry) result value.new }
+{
+    reply_to(value.push_str(text))
+}
+
 fn insert<P: Policy>(value: &mut PolicyString<P>, index: usize, character: char) -> Reply<P>
     ensures { Step P.growth value.old (Edit.Insert index character) result value.new }
 {
@@ -102,6 +115,7 @@ fn insert<P: Policy>(value: &mut PolicyString<P>, index: usize, character: char)
     reply_to(value.insert(index, character))
 }
 
+#[tactic(auto, using(compact_str::proofs::Functions::functions))]
 fn insert_str<P: Policy>(value: &mut PolicyString<P>, index: usize, text: &str) -> Reply<P>
     ensures { Step P.growth value.old (Edit.InsertStr index text.entry) result value.new }
 {
@@ -112,6 +126,7 @@ fn insert_str<P: Policy>(value: &mut PolicyString<P>, index: usize, text: &str) 
     Reply::BadPosition
 }
 
+#[tactic(auto, using(compact_str::proofs::Functions::functions))]
 fn remove<P: Policy>(value: &mut PolicyString<P>, index: usize) -> Reply<P>
     ensures { Step P.growth value.old (Edit.Remove index) result value.new }
 {
@@ -124,6 +139,7 @@ fn remove<P: Policy>(value: &mut PolicyString<P>, index: usize) -> Reply<P>
     }
 }
 
+#[tactic(auto, using(compact_str::proofs::Functions::functions))]
 fn truncate<P: Policy>(value: &mut PolicyString<P>, len: usize) -> Reply<P>
     ensures { Step P.growth value.old (Edit.Truncate len) result value.new }
 {
@@ -143,6 +159,7 @@ fn split_off<P: Policy>(value: &mut PolicyString<P>, index: usize) -> Reply<P>
     reply_with(value.split_off(index))
 }
 
+#[tactic(auto, using(compact_str::proofs::Functions::functions))]
 fn replace_range<P: Policy>(
     value: &mut PolicyString<P>,
     start: Bound<usize>,
@@ -185,8 +202,8 @@ fn copy_of_range<P: Policy>(
 ) -> Result<PolicyString<P>, ReserveError>
     requires { IsRange value.now.text (Included first) (Excluded last) }
     ensures ok { IfOk result (λ v. new P.growth (substring value.now.text first last) ≡ Some v) }
-    ensures err { OnErr result
-        (WithCapacityAllocates (size (substring value.now.text first last))) }
+    ensures allocates { OnErr result
+        (INLINE_CAPACITY < size (substring value.now.text first last)) }
 {
     PolicyString::new(
         value.allocator(),
@@ -202,7 +219,8 @@ fn take_out<P: Policy>(
 ) -> Result<(), ReserveError>
     requires { IsRange value.old.text (Included first) (Excluded last) }
     ensures ok { OnOk result (replace_range P.growth value.old first last [] ≡ Some value.new) }
-    ensures err { OnErr result ((value.new ≡ value.old) × MakeOwnedAllocates value.old) }
+    ensures allocates { OnErr result (AllocatesFor value.old owned) }
+    ensures err { OnErr result (value.new ≡ value.old) }
 {
     drop(value.drain(Bound::Included(first), Bound::Excluded(last))?);
     Ok(())
@@ -213,7 +231,8 @@ fn retain<P: Policy>(value: &mut PolicyString<P>, answers: &[bool]) -> Result<()
     ensures ok { OnOk result
         (retain P.growth value.old (retained_text answer_rule answers.now value.old.text)
         ≡ Some value.new) }
-    ensures err { OnErr result ((value.new ≡ value.old) × MakeOwnedAllocates value.old) }
+    ensures allocates { OnErr result (AllocatesFor value.old owned) }
+    ensures err { OnErr result (value.new ≡ value.old) }
 {
     let mut rest = answers;
     value.retain(|_| {

@@ -9,9 +9,9 @@ use Rattle.compact_str.specs.Text.{size, text_of}
 use Rattle.compact_repr.specs.Packed.{IsPackedFor, packed_bytes}
 use Rattle.compact_text.proofs.Texts.{size-text_of}
 use Rattle.compact_repr.proofs.PackedTexts.{stands-packed}
-use Rattle.compact_str.specs.Value.{placed_text}
+use Rattle.compact_str.specs.Value.{PlacedText}
 use Rattle.compact_str.specs.Capacity.{Growth, inline_placement}
-use Rattle.compact_str.specs.Calls.{new}
+use Rattle.compact_str.specs.Words.{IsPlacedAsNew}
 use Rattle.compact_ext.specs.Digits.{number_text}
 
 pub IsAscii-number : (s : Bool) (n : ℕ) → n < 2 ^ 64 → IsAscii (number_text s n)
@@ -41,7 +41,7 @@ size-number s n h =
     let few = length-number s n h in
     omega (arith, e, few)
 
-pub new-short : (g : Growth) (t : List ℕ) → size t ≤ 24 → new g t ≡ Some (placed_text t inline_placement)
-new-short g t h = grind (arith, common_steps)
+pub new-short : (g : Growth) (v : PlacedText) → size v.text ≤ 24 → v.placement ≡ inline_placement → IsPlacedAsNew g v
+new-short g v h e = grind (arith, common_steps)
 
 pub ruleset number_values = (size-number, new-short)

@@ -11,8 +11,8 @@ use Rattle.compact_ext.specs.Shown.{IsTextOf, bool_text}
 short-as : (g : Growth) (t : List ℕ) (P Q : Type 0) (r : Result PlacedText ToCompactStringError) → IsTextOf g t P r → (Q → P) → IsTextOf g t Q r
 short-as g t P Q r h f =
     record {
-      ok = h.ok;
       text = h.text;
+      place = h.place;
       inline = λ q. h.inline (f q);
       succeeds = λ q. h.succeeds (f q);
       err = h.err;

@@ -1,9 +1,9 @@
 //! Strings from formats.
-ghost use Rattle.std.specs.Prelude.{◌≡◌, IfOk, IfSome, IsTrue, OnOk, OnErr};
+ghost use Rattle.std.specs.Prelude.{◌≡◌, IfOk, IfSome, IsTrue, length, OnOk, OnErr};
 ghost use Rattle.compact_str.specs.Text.{text_of, utf8};
 ghost use Rattle.compact_str.specs.Edits.{Writes};
 ghost use Rattle.compact_str.specs.FittedValues.{IsPlacedBySize};
-ghost use Rattle.compact_str.specs.Calls.{PushStrAllocates};
+ghost use Rattle.compact_str.specs.Words.{AllocatesFor, room_to_append};
 
 use compact_str::{CompactString, Policy, ReserveError, Standard};
 use std::alloc::Global;
@@ -63,7 +63,8 @@ impl Write for Collector {
         ensures still { OnOk result (self.new.is_refused ≡ self.old.is_refused) }
         ensures err { OnErr result
             ((self.new.value ≡ self.old.value) × IsTrue self.new.is_refused) }
-        ensures asks { OnErr result (PushStrAllocates self.old.value (text_of s.now)) }
+        ensures allocates { OnErr result
+            (AllocatesFor self.old.value (room_to_append (length s.now))) }
     {
         match self.value.write_str(s) {
             Ok(()) => Ok(()),

@@ -1,7 +1,6 @@
 pub mod HeapTexts
 pub mod Strings
-pub mod Changes
-pub mod MoreRoom
+pub mod Placed
 pub mod ByteOrder
 pub mod PackedArrays
 pub mod PackedTexts

@@ -1,25 +1,23 @@
 -- The results of calls as functions of text and placement: None if the call must fail.
-use Rattle.std.specs.Prelude.{◌≡◌, ◌⊎◌, ℕ, ◌-◌, Bool, not, ◌&&◌, IsTrue, List, [], ◌∷◌, ◌++◌, Option, Some, None, option_map, nat_eq, nat_le, if◌then◌else◌}
+use Rattle.std.specs.Prelude.{◌≡◌, ◌⊎◌, ℕ, ◌-◌, Bool, IsTrue, List, [], ◌∷◌, ◌++◌, Option, Some, None, option_map, nat_le, if◌then◌else◌}
 use Rattle.compact_text.specs.Text.{size, ascii_lowercase, ascii_uppercase}
 use Rattle.compact_text.specs.Cut.{text_before, replaced_text}
 use Rattle.compact_repr.specs.Value.{PlacedText, placed_text, is_static}
-use Rattle.compact_repr.specs.Capacity.{Growth, inline_placement, new_placement, with_capacity_placement, owned_placement, make_owned_allocates, shortened_placement, reserve_placement, reserve_allocates, clone_placement, shrink_to_placement, shrink_to_allocates}
+use Rattle.compact_repr.specs.Capacity.{Growth, Need, owned, room, room_to_append, room_to_replace, placement_for, allocates_for, inline_placement, new_placement, with_capacity_placement, shortened_placement, clone_placement, shrink_to_placement, shrink_to_allocates}
 
 abbrev pub new : Growth → List ℕ → Option PlacedText
 new g t = option_map (placed_text t) (new_placement g t)
 
+-- v with the text t, once it has what is needed
+abbrev pub edited : Growth → PlacedText → Need → List ℕ → Option PlacedText
+edited g v need t = option_map (placed_text t) (placement_for g v need)
+
 -- v with s appended; an empty s changes nothing, not even a static place
 abbrev pub push_str : Growth → PlacedText → List ℕ → Option PlacedText
-push_str g v s =
-    if nat_eq (size s) 0 then Some v
-    else option_map (placed_text (v.text ++ s)) (reserve_placement g v (size s))
+push_str g v s = edited g v (room_to_append (size s)) (v.text ++ s)
 
--- `push_str` allocates a heap buffer
 abbrev pub push_str_allocates : PlacedText → List ℕ → Bool
-push_str_allocates v s = not (nat_eq (size s) 0) && reserve_allocates v (size s)
-
-abbrev pub PushStrAllocates : PlacedText → List ℕ → Type 0
-PushStrAllocates v s = IsTrue (push_str_allocates v s)
+push_str_allocates v s = allocates_for v (room_to_append (size s))
 
 -- v without text, in its place
 abbrev pub clear : PlacedText → PlacedText
@@ -27,13 +25,13 @@ clear v = placed_text [] (shortened_placement v [])
 
 -- v with room for n more bytes
 abbrev pub reserve : Growth → PlacedText → ℕ → Option PlacedText
-reserve g v n = option_map (placed_text v.text) (reserve_placement g v n)
+reserve g v n = edited g v (room n) v.text
 
 abbrev pub with_capacity : Growth → ℕ → Option PlacedText
 with_capacity g c = option_map (placed_text []) (with_capacity_placement g c)
 
 abbrev pub make_owned : Growth → PlacedText → Option PlacedText
-make_owned g v = option_map (placed_text v.text) (owned_placement g v)
+make_owned g v = edited g v owned v.text
 
 abbrev pub clone : Growth → PlacedText → Option PlacedText
 clone g v = option_map (placed_text v.text) (clone_placement g v)
@@ -50,29 +48,25 @@ truncate v p =
 
 -- v with s inserted, once there is room for s, even if s is empty
 abbrev pub insert_str : Growth → PlacedText → ℕ → List ℕ → Option PlacedText
-insert_str g v index s = option_map (placed_text (replaced_text v.text index index s)) (reserve_placement g v (size s))
+insert_str g v index s = edited g v (room (size s)) (replaced_text v.text index index s)
 
 -- v with a range replaced with s: owned if s is no longer than the range, else with room for the difference
 abbrev pub replace_range : Growth → PlacedText → ℕ → ℕ → List ℕ → Option PlacedText
-replace_range g v start end s =
-    option_map (placed_text (replaced_text v.text start end s)) (if nat_le (size s) (end - start) then owned_placement g v else reserve_placement g v (size s - (end - start)))
+replace_range g v start end s = edited g v (room_to_replace (end - start) (size s)) (replaced_text v.text start end s)
 
 abbrev pub replace_range_allocates : PlacedText → ℕ → ℕ → List ℕ → Bool
-replace_range_allocates v start end s = if nat_le (size s) (end - start) then make_owned_allocates v else reserve_allocates v (size s - (end - start))
-
-abbrev pub ReplaceRangeAllocates : PlacedText → ℕ → ℕ → List ℕ → Type 0
-ReplaceRangeAllocates v start end s = IsTrue (replace_range_allocates v start end s)
+replace_range_allocates v start end s = allocates_for v (room_to_replace (end - start) (size s))
 
 -- v made owned, with A to Z made lowercase, or a to z uppercase
 abbrev pub make_ascii_lowercase : Growth → PlacedText → Option PlacedText
-make_ascii_lowercase g v = option_map (placed_text (ascii_lowercase v.text)) (owned_placement g v)
+make_ascii_lowercase g v = edited g v owned (ascii_lowercase v.text)
 
 abbrev pub make_ascii_uppercase : Growth → PlacedText → Option PlacedText
-make_ascii_uppercase g v = option_map (placed_text (ascii_uppercase v.text)) (owned_placement g v)
+make_ascii_uppercase g v = edited g v owned (ascii_uppercase v.text)
 
 -- v made owned, with only the characters t of its text
 abbrev pub retain : Growth → PlacedText → List ℕ → Option PlacedText
-retain g v t = option_map (placed_text t) (owned_placement g v)
+retain g v t = edited g v owned t
 
 -- v without text: inline if static, else in its place
 abbrev pub zeroize : PlacedText → PlacedText

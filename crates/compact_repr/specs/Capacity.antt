@@ -1,5 +1,7 @@
 -- Place and capacity by text and growth policy, and the calls that allocate.
-use Rattle.std.specs.Prelude.{IsTrue, ℕ, ◌+◌, ◌*◌, ◌/◌, ◌<◌, ◌≤◌, Bool, ◌&&◌, not, List, Option, Some, None, max, min, nat_le, nat_lt, if◌then◌else◌}
+use Rattle.std.specs.Prelude.{IsTrue, ◌≡◌, ℕ, ◌+◌, ◌-◌, ◌*◌, ◌/◌, ◌<◌, ◌≤◌, Bool, false, ◌&&◌, not, List, Option, Some, None, max, min, nat_eq, nat_le, nat_lt, if◌then◌else◌}
+use Rattle.compact_repr.specs.declared.inline.TheConstants.{INLINE_CAPACITY}
+use Rattle.compact_repr.specs.declared.growth.TheConstants.{MAX_CAPACITY}
 use Rattle.compact_text.specs.Text.{size}
 use Rattle.compact_repr.specs.Value.{inline, heap, static, is_heap, is_static, Placement, PlacedText}
 
@@ -21,12 +23,8 @@ pub record IsLawful (g : Growth) : Type 0 where
 abbrev pub standard_growth : Growth
 standard_growth = record { least = 32; numerator = 3; denominator = 2 }
 
--- the largest capacity, 2 ^ 56 - 2
-abbrev pub max_capacity : ℕ
-max_capacity = 72057594037927934
-
 abbrev pub inline_placement : Placement
-inline_placement = record { place = inline; capacity = 24 }
+inline_placement = record { place = inline; capacity = INLINE_CAPACITY }
 
 abbrev pub heap_placement : ℕ → Placement
 heap_placement c = record { place = heap; capacity = c }
@@ -37,11 +35,11 @@ static_placement t = record { place = static; capacity = size t }
 
 -- a heap buffer of c bytes; None if that exceeds the limit
 abbrev pub checked_heap_placement : ℕ → Option Placement
-checked_heap_placement c = if nat_le c max_capacity then Some (heap_placement c) else None
+checked_heap_placement c = if nat_le c MAX_CAPACITY then Some (heap_placement c) else None
 
 -- new room for c bytes: inline if they fit, else on the heap
 abbrev pub with_capacity_placement : Growth → ℕ → Option Placement
-with_capacity_placement g c = if nat_le c 24 then Some inline_placement else checked_heap_placement (max g.least c)
+with_capacity_placement g c = if nat_le c INLINE_CAPACITY then Some inline_placement else checked_heap_placement (max g.least c)
 
 -- new room for t
 abbrev pub new_placement : Growth → List ℕ → Option Placement
@@ -71,35 +69,70 @@ grown_capacity g v n = max g.least (max (size v.text + n) (g.numerator * size v.
 abbrev pub reserve_placement : Growth → PlacedText → ℕ → Option Placement
 reserve_placement g v n =
     if fits_in_place v n then Some v.placement
-    else if nat_le (size v.text + n) 24 then Some inline_placement
+    else if nat_le (size v.text + n) INLINE_CAPACITY then Some inline_placement
     else checked_heap_placement (grown_capacity g v n)
 
 -- `with_capacity_placement`, `owned_placement` and `reserve_placement` allocate a heap buffer; if not, they never fail
 abbrev pub with_capacity_allocates : ℕ → Bool
-with_capacity_allocates c = not (nat_le c 24)
-
-abbrev pub WithCapacityAllocates : ℕ → Type 0
-WithCapacityAllocates c = IsTrue (with_capacity_allocates c)
+with_capacity_allocates c = not (nat_le c INLINE_CAPACITY)
 
 abbrev pub make_owned_allocates : PlacedText → Bool
 make_owned_allocates v = is_static v.placement.place && with_capacity_allocates (size v.text)
 
-abbrev pub MakeOwnedAllocates : PlacedText → Type 0
-MakeOwnedAllocates v = IsTrue (make_owned_allocates v)
-
 abbrev pub reserve_allocates : PlacedText → ℕ → Bool
 reserve_allocates v n = not (fits_in_place v n) && with_capacity_allocates (size v.text + n)
 
-abbrev pub ReserveAllocates : PlacedText → ℕ → Type 0
-ReserveAllocates v n = IsTrue (reserve_allocates v n)
+-- what an edit needs of the buffer: nothing, that the value is owned, or that it is owned with room for n more bytes
+pub data Need : Type 0 where
+  nothing : Need
+  owned : Need
+  room : ℕ → Need
+
+-- to append n bytes; none need nothing
+abbrev pub room_to_append : ℕ → Need
+room_to_append n = if nat_eq n 0 then nothing else room n
+
+-- to put m bytes in the place of n
+abbrev pub room_to_replace : ℕ → ℕ → Need
+room_to_replace n m = if nat_le m n then owned else room (m - n)
+
+-- v's placement once it has what is needed; None if that must fail
+abbrev pub placement_for : Growth → PlacedText → Need → Option Placement
+placement_for g v nothing = Some v.placement
+placement_for g v owned = owned_placement g v
+placement_for g v (room n) = reserve_placement g v n
+
+-- that allocates a heap buffer; if not, it never fails
+abbrev pub allocates_for : PlacedText → Need → Bool
+allocates_for v nothing = false
+allocates_for v owned = make_owned_allocates v
+allocates_for v (room n) = reserve_allocates v n
+
+-- w is placed as v is once it has what is needed
+abbrev pub PlacedFor : Growth → PlacedText → PlacedText → Need → Type 0
+PlacedFor g v w need = placement_for g v need ≡ Some w.placement
+
+abbrev pub AllocatesFor : PlacedText → Need → Type 0
+AllocatesFor v need = IsTrue (allocates_for v need)
+
+-- v is placed as `new` places its text, or `with_capacity` an empty one
+abbrev pub IsPlacedAsNew : Growth → PlacedText → Type 0
+IsPlacedAsNew g v = new_placement g v.text ≡ Some v.placement
+
+abbrev pub HasNewCapacity : Growth → ℕ → PlacedText → Type 0
+HasNewCapacity g c v = with_capacity_placement g c ≡ Some v.placement
+
+-- w has the place of v, and its capacity unless static
+abbrev pub KeepsPlace : PlacedText → PlacedText → Type 0
+KeepsPlace v w = w.placement ≡ shortened_placement v w.text
 
 -- a string literal: inline if it fits, else by reference
 abbrev pub const_new_placement : List ℕ → Placement
-const_new_placement t = if nat_le (size t) 24 then inline_placement else static_placement t
+const_new_placement t = if nat_le (size t) INLINE_CAPACITY then inline_placement else static_placement t
 
 -- a `String` of this capacity: inline if it fits, else in its own buffer
 abbrev pub from_string_placement : List ℕ → ℕ → Placement
-from_string_placement t capacity = if nat_le (size t) 24 then inline_placement else heap_placement capacity
+from_string_placement t capacity = if nat_le (size t) INLINE_CAPACITY then inline_placement else heap_placement capacity
 
 -- a clone's placement: a heap text gets that of a new value
 abbrev pub clone_placement : Growth → PlacedText → Option Placement
@@ -124,5 +157,5 @@ shrink_to_allocates g v n =
 abbrev pub shrink_to_placement : Growth → PlacedText → ℕ → Placement
 shrink_to_placement g v n =
     if not (is_heap v.placement.place) then v.placement
-    else if nat_le (shrink_to_capacity v n) 24 then inline_placement
+    else if nat_le (shrink_to_capacity v n) INLINE_CAPACITY then inline_placement
     else heap_placement (min (max g.least (shrink_to_capacity v n)) v.placement.capacity)

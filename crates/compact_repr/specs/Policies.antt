@@ -2,13 +2,14 @@
 use Rattle.std.proofs.Common.{◌≡◌, ◌+◌, Bool, true, ◌&&◌}
 use Rattle.std.specs.Prelude.{nat_le, nat_lt}
 use Rattle.std.proofs.lemmas.Bool.{and_parts, leb-true, ltb-true}
-use Rattle.compact_repr.specs.Capacity.{Growth, IsLawful, max_capacity}
+use Rattle.compact_repr.specs.Capacity.{Growth, IsLawful}
+use Rattle.compact_repr.specs.declared.growth.TheConstants.{MAX_CAPACITY}
 
 -- the facts of `IsLawful`, tested
 abbrev pub is_lawful : Growth → Bool
 is_lawful g =
     nat_le 25 g.least
-    && (nat_le g.least max_capacity && (nat_le 1 g.denominator && (nat_lt g.denominator g.numerator && nat_le (g.numerator + g.denominator) 255)))
+    && (nat_le g.least MAX_CAPACITY && (nat_le 1 g.denominator && (nat_lt g.denominator g.numerator && nat_le (g.numerator + g.denominator) 255)))
 
 pub IsLawful-test : (g : Growth) → is_lawful g ≡ true → IsLawful g
 IsLawful-test g test =

@@ -1,6 +1,6 @@
 //! Growth policies, and the capacity that a heap buffer grows to.
 ghost use Rattle.std.specs.Prelude.{◌≡◌, ℕ, ◌*◌, ◌/◌, ◌<◌, ◌^◌, max, nat_le, if◌then◌else◌, Some, None};
-ghost use Rattle.compact_repr.specs.Words.{Growth, IsLawful, standard_growth, max_capacity};
+ghost use Rattle.compact_repr.specs.Words.{Growth, IsLawful, standard_growth, MAX_CAPACITY};
 
 /// The least capacity of a heap buffer, and its growth factor, `NUM / DEN`.
 ///
@@ -68,7 +68,7 @@ pub fn grown_capacity<P: Policy>(len: usize, needed: usize) -> Option<usize>
     requires { len < 2 ^ 63 }
     ensures { let c = max P.growth.least
         (max needed (P.growth.numerator * len / P.growth.denominator))
-        in result ≡ (if nat_le c max_capacity then Some c else None) }
+        in result ≡ (if nat_le c MAX_CAPACITY then Some c else None) }
 {
     let Some(product) = len.checked_mul(P::NUM) else {
         return None;
@@ -79,7 +79,7 @@ pub fn grown_capacity<P: Policy>(len: usize, needed: usize) -> Option<usize>
 /// Returns the heap capacity for `wanted` bytes, at least the policy's least, or `None` if it exceeds `MAX_CAPACITY`.
 pub fn checked_capacity<P: Policy>(wanted: usize) -> Option<usize>
     ensures { let c = max P.growth.least wanted
-        in result ≡ (if nat_le c max_capacity then Some c else None) }
+        in result ≡ (if nat_le c MAX_CAPACITY then Some c else None) }
 {
     let capacity = wanted.max(P::MIN_HEAP);
     if capacity > MAX_CAPACITY {

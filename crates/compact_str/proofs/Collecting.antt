@@ -15,14 +15,17 @@ use Rattle.compact_repr.specs.Text.{size, text_of, utf8}
 use Rattle.compact_repr.specs.Cut.{IsBoundary, text_before}
 use Rattle.compact_text.proofs.Cuts.{text_before-append}
 use Rattle.compact_repr.specs.Value.{PlacedText}
-use Rattle.compact_repr.specs.Capacity.{Growth}
+use Rattle.compact_repr.specs.Capacity.{Growth, PlacedFor, room_to_append}
 use Rattle.compact_repr.specs.Calls.{push_str}
 use Rattle.compact_str.specs.Room.{HasRoomFor, infallible_capacity}
 use Rattle.compact_str.specs.FittedValues.{IsPlacedBySize}
 use Rattle.compact_str.specs.Collect.{Appends, AppendsAll, AppendsUpToRefused, PassesInline, GivesText, StopsWithout, Extends, Collects, char_text, join}
 use Rattle.compact_text.proofs.Texts.{size-append, size-text_of}
-use Rattle.compact_repr.proofs.Changes.{push_str-text}
+use Rattle.compact_repr.proofs.Placed.{push_str-text, edited-from_parts}
 use Rattle.compact_str.proofs.Rooms.{push_str-sure}
+
+pub pushed-from_parts : (g : Growth) (v w : PlacedText) (s : List ℕ) → w.text ≡ v.text ++ s → PlacedFor g v w (room_to_append (size s)) → push_str g v s ≡ Some w
+pushed-from_parts g v w s text place = edited-from_parts g v w (room_to_append (size s)) (v.text ++ s) text place
 
 -- one more item
 pub Appends-next : {T : Type 0} (g : Growth) (f : T → List ℕ) (v : PlacedText) (xs : List T) (u w : PlacedText) (x : T) → Appends g f v xs u → push_str g u (f x) ≡ Some w → Appends g f v (xs ++ x ∷ []) w
@@ -94,8 +97,8 @@ module _ {U S T E : Type 0} (becomes : U → S → Type 0) (steps : S → Option
       → (((it : S) → becomes iter it → HoldsAlong steps it (λ xs. HasRoomFor v (size (flat_map f xs)))) → IsOk r) → Stopped r
       → Extends becomes steps g f read iter v r w
   extended read same r done sure stopped = record {
-    ok = done;
     text = extended-ran read same r done;
+    pushes = done;
     boundary = extended-boundary r done stopped;
     front = extended-front r done stopped;
     room = extended-room r done stopped;
@@ -148,9 +151,9 @@ module _ {U S T E : Type 0} (becomes : U → S → Type 0) (steps : S → Option
   collected r all fitted stopped = record {
     ok = read-all r all;
     text = collected-ran r all;
-    fitted = fitted;
+    place = fitted;
     succeeds = collected-succeeds r (collected-err r stopped);
-    err = collected-err r stopped;
+    allocates = collected-err r stopped;
   }
 
 -- the same for the trait `FromIterator`: G holds of the value and the items, and F

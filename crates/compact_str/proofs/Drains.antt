@@ -3,29 +3,24 @@ use Rattle.std.proofs.Common.{◌≡◌, Some, ℕ, ◌+◌, ◌-◌, ◌*◌, �
 use Rattle.std.proofs.lemmas.Grind.{common_steps}
 use Rattle.std.proofs.lemmas.Bool.{cases_Bool, cond-true, cond-false, le-leb, eq-eqb, eqb-true, and_parts, and_from}
 use Rattle.std.proofs.lemmas.Str.{len_utf8_bounds}
-use Rattle.std.specs.Prelude.{Ok, nat_eq}
+use Rattle.std.specs.Prelude.{nat_eq}
 use Rattle.std.specs.Char.{len_utf8}
 use Rattle.compact_text.proofs.TextFacts.{text_facts}
 use Rattle.compact_repr.specs.Text.{size}
 use Rattle.compact_repr.specs.Cut.{IsBoundary, text_before, text_after, substring, replaced_text}
-use Rattle.compact_repr.specs.Value.{PlacedText, placed_text, is_static}
-use Rattle.compact_repr.specs.Capacity.{Growth, owned_placement}
-use Rattle.compact_repr.specs.Calls.{make_owned}
+use Rattle.compact_repr.specs.Value.{PlacedText, placed_text, is_static, IsOwned}
+use Rattle.compact_repr.specs.Capacity.{Growth, PlacedFor, owned}
 use Rattle.compact_text.proofs.Texts.{size-append}
 use Rattle.compact_text.proofs.Cuts.{text_before-text_after, size-text_before, boundary-from_size, size-replaced}
 use Rattle.compact_text.proofs.Middles.{substring-parts, parts-substring}
 use Rattle.compact_repr.specs.declared.growth.Policy.{Ghosts}
 use Rattle.compact_str.specs.declared.string.drain.Drain.{Drain}
 use Rattle.compact_str.specs.Ranges.{IsSpan}
-use Rattle.compact_str.specs.Drain.{drain_rest, drain_lender, DrainsRange}
+use Rattle.compact_str.specs.Drain.{drain_rest, value_after_drain}
 use Rattle.compact_str.specs.TotalRanges.{range_text, without_range}
-use Rattle.compact_str.proofs.AsciiCase.{make_owned-text}
 
-pub make_owned-owned_placement : (g : Growth) (v u : PlacedText) → make_owned g v ≡ Some u → is_static u.placement.place ≡ false
-make_owned-owned_placement g v u e = grind (arith, common_steps)
-
-make_owned-placement : (g : Growth) (v u : PlacedText) → make_owned g v ≡ Some u → owned_placement g v ≡ Some u.placement
-make_owned-placement g v u e = grind (arith, common_steps)
+pub placed-owned : (g : Growth) (v u : PlacedText) → PlacedFor g v u owned → is_static u.placement.place ≡ false
+placed-owned g v u e = grind (arith, common_steps)
 
 -- the ends of a span are boundaries
 pub span-ends : (t : List ℕ) (i j : ℕ) → IsSpan t i j → (i ≤ j) × IsBoundary t i × IsBoundary t j
@@ -108,7 +103,15 @@ module _ {P : Type 0} {G : Ghosts P} where
       (λ no. absurd (some-back r c (sym last.0 ∙ is ∙ cond-false _ _ _ no)))
       (cases_Bool (nat_eq (size t) d.len))
 
--- a removal that keeps the length keeps the text, so that a span stays one
+-- a removal keeps the placement
+without_range-placement : (v : PlacedText) (len i j : ℕ) → (without_range v len i j).placement ≡ v.placement
+without_range-placement v len i j =
+    ⊎_elim
+    (λ yes. ap (λ (w : PlacedText). w.placement) (cond-true _ _ _ yes))
+    (λ no. ap (λ (w : PlacedText). w.placement) (cond-false _ _ _ no))
+    (cases_Bool (not (is_static v.placement.place) && nat_eq (size v.text) len))
+
+-- and one that keeps the length keeps the text, so that a span stays one
 without_range-text : (v : PlacedText) (len i j : ℕ) → (size v.text ≡ len → IsSpan v.text i j)
     → size (without_range v len i j).text ≡ len → (without_range v len i j).text ≡ v.text
 without_range-text v len i j range same =
@@ -131,25 +134,21 @@ without_range-span v len i j front back range rest is =
     let same = without_range-text v len i j range is in
     subst (λ (t : List ℕ). IsSpan t front back) (sym same) (rest (subst (λ (t : List ℕ). size t ≡ len) same is))
 
--- the drain of a value made owned first
-pub drains-range : {P : Type 0} {G : Ghosts P} {E : Type 0} (g : Growth) (v u : PlacedText) (i j : ℕ) (d : Drain P G) → make_owned g v ≡ Some u
-    → i ≤ j → d.value.now ≡ u → d.len ≡ size u.text → d.start ≡ i → d.end ≡ j → d.front ≡ i → d.back ≡ j
-    → DrainsRange {E = E} g v (drain_lender d) i j (Ok d)
-drains-range g v u i j d o order now len first last front back =
-    let text = make_owned-text g v u o in
-    let own = make_owned-owned_placement g v u o in
-    let whole : nat_eq (size u.text) (size u.text) ≡ true = eq-eqb _ _ refl in
-    let left : without_range u (size u.text) i j ≡ placed_text (replaced_text v.text i j []) u.placement =
-    cond-true _ _ _ (and_from _ _ (ap not own) whole) ∙ ap (λ (t : List ℕ). placed_text (replaced_text t i j []) u.placement) text in
-    record {
-      same_reference = refl;
-      rest = rw (now, len, front, back) (cond-true _ _ _ whole ∙ ap (λ (t : List ℕ). substring t i j) text);
-      leaves = rw (now, len, first, last, left, make_owned-placement g v u o, le-leb 0 (j - i) (omega arith)) refl;
-      text = rw (now, len, first, last) (ap (λ (w : PlacedText). w.text) left);
-      succeeds = λ _. refl;
-      succeeds_short = λ _. refl;
-      err = tt;
-    }
+-- the drain of a value that was made owned first
+module _ {P : Type 0} {G : Ghosts P} (v u : PlacedText) (i j : ℕ) (d : Drain P G) where
+  pub drain-rest : u.text ≡ v.text → d.value.now ≡ u → d.len ≡ size u.text → d.front ≡ i → d.back ≡ j → drain_rest d ≡ substring v.text i j
+  drain-rest same now len front back =
+      rw (now, len, front, back) (cond-true _ _ _ (eq-eqb _ _ refl) ∙ ap (λ (t : List ℕ). substring t i j) same)
+
+  pub drain-leaves : u.text ≡ v.text → IsOwned u → d.value.now ≡ u → d.len ≡ size u.text → d.start ≡ i → d.end ≡ j → (value_after_drain d).text ≡ replaced_text v.text i j []
+  drain-leaves same own now len first last =
+      rw (now, len, first, last) (
+      ap (λ (w : PlacedText). w.text) (cond-true _ _ _ (and_from _ _ (ap not own) (eq-eqb _ _ refl)))
+      ∙ ap (λ (t : List ℕ). replaced_text t i j []) same
+      )
+
+  pub drain-place : (g : Growth) → PlacedFor g v u owned → d.value.now ≡ u → PlacedFor g v (value_after_drain d) owned
+  drain-place g placed now = rw now (placed ∙ ap Some (sym (without_range-placement u d.len d.start d.end)))
 
 -- a character has at least one byte
 pub length-least : (t : List ℕ) → length t ≤ size t
@@ -162,10 +161,10 @@ length-most (c ∷ cs) = omega (arith, len_utf8_bounds c, length-most cs)
 
 pub ruleset drain_facts = (text_facts, span-ends)
 
-pub ruleset owning_drain_facts = (text_facts, make_owned-text, ends-span, drains-range)
+pub ruleset owning_drain_facts = (text_facts, ends-span, drain-rest, drain-leaves, drain-place)
 
 pub ruleset without_range_facts = (drain_facts, without_range-span)
 
 pub ruleset count_facts = (text_facts, length-least, length-most)
 
-pub ruleset owned_facts = (text_facts, make_owned-text, make_owned-owned_placement)
+pub ruleset owned_facts = (text_facts, placed-owned)

@@ -1,37 +1,37 @@
 -- Sets of facts for the proofs of this crate, by kind of edit.
-use Rattle.std.proofs.lemmas.Str.{IsUtf8-string_bytes, length-encode}
+use Rattle.std.proofs.lemmas.Str.{IsUtf8-string_bytes, length-encode, encodes-chars}
 use Rattle.compact_text.proofs.TextFacts.{text_facts}
-use Rattle.compact_text.proofs.Texts.{empty_text}
-use Rattle.compact_repr.proofs.Changes.{push_str-text, push_str-in_place, replace_range-in_place}
+use Rattle.compact_repr.proofs.Placed.{append-in_place, insert-in_place, replace-in_place, owned-in_place}
 use Rattle.compact_text.proofs.Cuts.{boundary-within, size-text_after, boundary-next, text_after-next}
-use Rattle.compact_str.proofs.Positions.{truncate-last, removed-in_place, truncate-boundary, truncate-text, boundary-cut, asks-by_nothing, inserts_str, inserted-in_place, replaces_range}
-use Rattle.compact_str.proofs.Rooms.{push_str-sure, appended-bytes, pushed-bytes}
+use Rattle.compact_str.proofs.Positions.{truncate-text, boundary-cut, inserted-bytes, inserted-boundary, inserted-after, removed-character, removed-ascii, removed-ascii_character, removed-char_at}
+use Rattle.compact_str.proofs.Rooms.{append-sure, room-sure, appended-bytes, pushed-bytes}
 use Rattle.compact_text.proofs.AsciiCase.{boundary-lowercase, boundary-uppercase}
-use Rattle.compact_str.proofs.AsciiCase.{make_ascii_lowercase-owned, make_ascii_uppercase-owned, make_owned-text, new-lowercase, new-uppercase}
+use Rattle.compact_str.proofs.AsciiCase.{new-lowercase, new-uppercase}
 use Rattle.compact_str.proofs.Repeats.{repeated_text-none, repeated_text-one}
 
 -- append
-pub ruleset append_facts = (text_facts, empty_text, push_str-text, push_str-in_place, push_str-sure, appended-bytes)
+pub ruleset append_facts = (text_facts, append-in_place, append-sure, appended-bytes)
 
 -- append of a character
-pub ruleset character_facts = (text_facts, pushed-bytes, length-encode)
+pub ruleset character_facts = (text_facts, append-in_place, append-sure, pushed-bytes, length-encode)
 
 -- edits at a position
-pub ruleset position_facts =
-    (text_facts, boundary-within, size-text_after, removed-in_place, truncate-last, boundary-next, text_after-next, truncate-boundary, truncate-text, boundary-cut, asks-by_nothing)
+pub ruleset position_facts = (text_facts, boundary-within, size-text_after, boundary-next, text_after-next, truncate-text, boundary-cut)
 
 -- insertion
-pub ruleset insertion_facts =
-    (text_facts, inserts_str, inserted-in_place)
+pub ruleset insertion_facts = (text_facts, insert-in_place, room-sure, boundary-within, inserted-bytes, inserted-boundary, inserted-after, encodes-chars)
+
+-- removal
+pub ruleset removal_facts = (position_facts, owned-in_place, removed-character, removed-ascii, removed-ascii_character, removed-char_at)
 
 -- replacement
-pub ruleset replacement_facts = (text_facts, replace_range-in_place, replaces_range)
+pub ruleset replacement_facts = (text_facts, replace-in_place)
 
 -- repetition
 pub ruleset repeat_facts = (text_facts, repeated_text-none, repeated_text-one)
 
 -- change of ASCII case
-pub ruleset case_facts = (text_facts, make_ascii_lowercase-owned, make_ascii_uppercase-owned, make_owned-text, new-lowercase, new-uppercase, boundary-lowercase, boundary-uppercase)
+pub ruleset case_facts = (text_facts, new-lowercase, new-uppercase, boundary-lowercase, boundary-uppercase)
 
 -- conversion from `String`
 pub ruleset string_facts = (text_facts, IsUtf8-string_bytes)

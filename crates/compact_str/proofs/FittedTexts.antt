@@ -1,5 +1,5 @@
 -- A value that is collected stays placed by its size.
-use Rattle.std.proofs.Common.{◌≡◌, Some, ℕ, ◌+◌, ◌<◌, ◌≤◌, List, [], ◌∷◌, ◌++◌, length, false, IsTrue, refl, subst, sym, ap, ◌∙◌, arith, append_assoc, inl, inr}
+use Rattle.std.proofs.Common.{◌≡◌, ℕ, ◌+◌, ◌<◌, ◌≤◌, List, [], ◌∷◌, ◌++◌, length, false, refl, subst, sym, ap, ◌∙◌, arith, append_assoc, inl, inr}
 use Rattle.std.proofs.lemmas.Grind.{common_steps}
 use Rattle.std.proofs.lemmas.Bool.{cases_lt, true≢false}
 use Rattle.std.specs.Prelude.{Result, Ok, Err, IsErr}
@@ -9,23 +9,20 @@ use Rattle.std.proofs.lemmas.Str.{encodes-chars, scalars-chars}
 use Rattle.compact_text.proofs.TextFacts.{text_facts}
 use Rattle.compact_repr.specs.Text.{size, text_of}
 use Rattle.compact_repr.specs.Value.{PlacedText, placed_text, heap, is_heap}
-use Rattle.compact_repr.specs.Capacity.{Growth, inline_placement, with_capacity_allocates, from_string_placement}
-use Rattle.compact_repr.specs.Calls.{new, push_str, reserve}
+use Rattle.compact_repr.specs.Capacity.{Growth, inline_placement, from_string_placement, IsPlacedAsNew, PlacedFor, room, room_to_append}
 use Rattle.compact_text.proofs.Texts.{size-append, size-text_of}
-use Rattle.compact_repr.proofs.Changes.{push_str-text}
 use Rattle.compact_text.specs.Text.{replacement_character}
 use Rattle.compact_codec.specs.Utf8Text.{BytesEncode, replacement_text}
 use Rattle.compact_codec.proofs.LossyReading.{replacement_text-some}
 use Rattle.compact_str.specs.FittedValues.{IsPlacedBySize, MakesText}
-use Rattle.compact_str.proofs.Fitted.{fitted-push_str}
+use Rattle.compact_str.proofs.Fitted.{fitted-append}
 
 -- a text of more than 24 bytes on the heap
 heap-fitted : (v : PlacedText) → 24 < size v.text → v.placement.place ≡ heap → size v.text ≤ v.placement.capacity → IsPlacedBySize v
-heap-fitted v more place room = record { short = λ h. absurd (omega (arith, more, h)); long = λ _. (place, room) }
+heap-fitted v more place fits = record { short = λ h. absurd (omega (arith, more, h)); long = λ _. (place, fits) }
 
 -- reserving past 24 bytes moves to the heap
-reserve-heap : (g : Growth) (v u : PlacedText) (n : ℕ) → v.placement ≡ inline_placement → 24 < size v.text + n → reserve g v n ≡ Some u
-    → (u.placement.place ≡ heap) × (u.text ≡ v.text)
+reserve-heap : (g : Growth) (v u : PlacedText) (n : ℕ) → v.placement ≡ inline_placement → 24 < size v.text + n → PlacedFor g v u (room n) → u.placement.place ≡ heap
 reserve-heap g v u n p more e = grind (arith, common_steps)
 
 on_heap-inline_placement : (v : PlacedText) → IsPlacedBySize v → is_heap v.placement.place ≡ false → (size v.text ≤ 24) × (v.placement ≡ inline_placement)
@@ -35,31 +32,31 @@ on_heap-inline_placement v f h =
       | inl k ↦ absurd (true≢false (ap is_heap (sym (f.long k).0) ∙ h))
     ]
 
-grown-heap : (g : Growth) (u w : PlacedText) (s : List ℕ) → u.placement.place ≡ heap → 24 < size u.text + size s
-    → 0 < size s → push_str g u s ≡ Some w → (w.placement.place ≡ heap) × (size u.text + size s ≤ w.placement.capacity)
-grown-heap g u w s h more some e = grind (arith, common_steps)
+grown-heap : (g : Growth) (u w : PlacedText) (n : ℕ) → u.placement.place ≡ heap → 24 < size u.text + n → 0 < n → PlacedFor g u w (room_to_append n)
+    → (w.placement.place ≡ heap) × (size u.text + n ≤ w.placement.capacity)
+grown-heap g u w n h more some e = grind (arith, common_steps)
 
-pub reserve-fitted : (g : Growth) (v u w : PlacedText) (s : List ℕ) (n : ℕ) → IsPlacedBySize v → is_heap v.placement.place ≡ false
-    → 24 < size v.text + size s → size s ≤ n → reserve g v n ≡ Some u → push_str g u s ≡ Some w → IsPlacedBySize w
-reserve-fitted g v u w s n f h more room e k =
+pub reserve-fitted : (g : Growth) (v u w : PlacedText) (s : List ℕ) (n m : ℕ) → IsPlacedBySize v → is_heap v.placement.place ≡ false → 24 < size v.text + n → size s ≡ n → n ≤ m
+    → u.text ≡ v.text → PlacedFor g v u (room m) → w.text ≡ u.text ++ s → PlacedFor g u w (room_to_append n) → IsPlacedBySize w
+reserve-fitted g v u w s n m f h more k enough same e t a =
     let is = on_heap-inline_placement v f h in
-    let on_heap = reserve-heap g v u n is.1 (omega (arith, more, room)) e in
-    let longer : 24 < size u.text + size s = subst (λ (t : List ℕ). 24 < size t + size s) (sym on_heap.1) more in
-    let stands = grown-heap g u w s on_heap.0 longer (omega (arith, more, is.0)) k in
-    let long : size w.text ≡ size u.text + size s = ap size (push_str-text g u w s k) ∙ size-append u.text s in
-    heap-fitted w (omega (arith, long, longer)) stands.0 (omega (arith, long, stands.1))
+    let place = reserve-heap g v u m is.1 (omega (arith, more, enough)) e in
+    let old : size u.text ≡ size v.text = ap size same in
+    let stands = grown-heap g u w n place (omega (arith, old, more)) (omega (arith, more, is.0)) a in
+    let long : size w.text ≡ size u.text + n = ap size t ∙ size-append u.text s ∙ ap (λ (k : ℕ). size u.text + k) k in
+    heap-fitted w (omega (arith, long, old, more)) stands.0 (omega (arith, long, stands.1))
 
-pub ruleset fitted_facts = (text_facts, fitted-push_str, reserve-fitted)
+pub ruleset fitted_facts = (text_facts, fitted-append, reserve-fitted)
 
 -- a new value
-new-short : (g : Growth) (v : PlacedText) (t : List ℕ) → new g t ≡ Some v → size v.text ≤ 24 → v.placement ≡ inline_placement
-new-short g v t e h = grind (arith, common_steps)
+new-short : (g : Growth) (v : PlacedText) → IsPlacedAsNew g v → size v.text ≤ 24 → v.placement ≡ inline_placement
+new-short g v e h = grind (arith, common_steps)
 
-new-long : (g : Growth) (v : PlacedText) (t : List ℕ) → new g t ≡ Some v → 24 < size v.text → (v.placement.place ≡ heap) × (size v.text ≤ v.placement.capacity)
-new-long g v t e h = grind (arith, common_steps)
+new-long : (g : Growth) (v : PlacedText) → IsPlacedAsNew g v → 24 < size v.text → (v.placement.place ≡ heap) × (size v.text ≤ v.placement.capacity)
+new-long g v e h = grind (arith, common_steps)
 
-pub new-fitted : (g : Growth) (v : PlacedText) (t : List ℕ) → new g t ≡ Some v → IsPlacedBySize v
-new-fitted g v t e = record { short = new-short g v t e; long = new-long g v t e }
+pub new-fitted : (g : Growth) (v : PlacedText) → IsPlacedAsNew g v → IsPlacedBySize v
+new-fitted g v e = record { short = new-short g v e; long = new-long g v e }
 
 pub ruleset new_facts = (text_facts, new-fitted)
 
@@ -70,18 +67,15 @@ spelled-encoded bytes t is e = subst (BytesEncode bytes) (sym e) (scalars-chars 
 pub ruleset strict_facts = (text_facts, spelled-encoded)
 
 -- if a part allocates, so does the whole text
-pub part-asks : (t a p rest : List ℕ) (n : ℕ) → a ++ (p ++ rest) ≡ t → n ≡ size p → 24 < size a + n → IsTrue (with_capacity_allocates (size t))
+pub part-asks : (t a p rest : List ℕ) (n : ℕ) → a ++ (p ++ rest) ≡ t → n ≡ size p → 24 < size a + n → 24 < size t
 part-asks t a p rest n e k more =
     let long : size t ≡ size a + (size p + size rest) = ap size (sym e) ∙ size-append a (p ++ rest) ∙ ap (λ (n : ℕ). size a + n) (size-append p rest) in
-    grind (arith, common_steps)
+    omega (arith, long, k, more)
 
 -- up to 24 bytes nothing fails
-short-asks : (n : ℕ) → n ≤ 24 → IsTrue (with_capacity_allocates n) → ⊥
-short-asks n h asks = grind (arith, common_steps)
-
-pub refused-fitted : {E : Type 0} (t : List ℕ) (r : Result PlacedText E) → IsErr r → IsTrue (with_capacity_allocates (size t)) → MakesText t r
-refused-fitted t (Ok _) h asks = absurd (true≢false (sym h))
-refused-fitted t (Err _) h asks = record { text = tt; fitted = tt; succeeds = λ k. absurd (short-asks (size t) k asks); err = asks }
+pub refused-fitted : {E : Type 0} (t : List ℕ) (r : Result PlacedText E) → IsErr r → 24 < size t → MakesText t r
+refused-fitted t (Ok _) h past = absurd (true≢false (sym h))
+refused-fitted t (Err _) h past = record { text = tt; place = tt; succeeds = λ k. absurd (omega (arith, k, past)); allocates = past }
 
 -- so if a part is refused, the whole may be
 pub part-refused : {E : Type 0} (t a rest bytes : List ℕ) (r : Result PlacedText E) → IsErr r → a ++ (text_of bytes ++ rest) ≡ t → IsUtf8 bytes

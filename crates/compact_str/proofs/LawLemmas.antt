@@ -10,9 +10,9 @@ use Rattle.compact_repr.specs.Calls.{insert_str}
 use Rattle.compact_str.specs.Edits.{Removes, split_tail}
 use Rattle.compact_str.specs.Laws.{RemovalUndoesInsertion, TruncationUndoesAppend, AppendUndoesSplit, CloneIsEqual, DecodingUndoesEncoding}
 use Rattle.compact_codec.proofs.LossyReading.{utf8_lossy_text-IsUtf8}
-use Rattle.compact_repr.proofs.Changes.{push_str-text}
+use Rattle.compact_repr.proofs.Placed.{push_str-text, insert_str-text}
 use Rattle.compact_text.proofs.Cuts.{text_before-text_after, text_before-append, text_after-append, size-text_before, size-text_after, boundary-from_size}
-use Rattle.compact_str.proofs.Positions.{insert_str-text, boundary-seam, truncate-text}
+use Rattle.compact_str.proofs.Positions.{boundary-seam, truncate-text}
 
 insert_str-owned : (g : Growth) (v w : PlacedText) (p : ℕ) (s : List ℕ) → insert_str g v p s ≡ Some w → make_owned_allocates w ≡ false
 insert_str-owned g v w p s e = grind (arith, common_steps)

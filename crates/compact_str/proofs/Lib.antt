@@ -21,3 +21,4 @@ pub mod ForCallers
 pub mod Examples
 pub mod PartFacts
 pub mod RangeFacts
+pub mod Functions

@@ -4,9 +4,8 @@ use Rattle.std.proofs.Math.Nat.{mul-le-mul_left, mul-suc}
 use Rattle.std.proofs.lemmas.Grind.{common_steps}
 use Rattle.std.specs.Prelude.{IsTrue, not, ◌&&◌, nat_le}
 use Rattle.compact_repr.specs.Text.{size}
-use Rattle.compact_repr.specs.Value.{Placement, PlacedText, placed_text, is_static}
-use Rattle.compact_repr.specs.Capacity.{Growth, with_capacity_placement, fits_in_place}
-use Rattle.compact_repr.specs.Calls.{push_str, push_str_allocates}
+use Rattle.compact_repr.specs.Value.{Placement, PlacedText, is_static}
+use Rattle.compact_repr.specs.Capacity.{Growth, with_capacity_placement, fits_in_place, room_to_append, PlacedFor, AllocatesFor}
 use Rattle.compact_str.specs.Edits.{repeated_text}
 use Rattle.compact_text.proofs.Texts.{size-append, empty_text}
 
@@ -33,12 +32,12 @@ room_to_fill g v t i n e is h =
     with_capacity_placement-room g v.placement (size t * n) (size v.text + size t) e (omega (arith, more, filled, mul-suc (size t) i))
 
 -- an append that fits stays in place
-pub push_str-in_place : (g : Growth) (v w : PlacedText) (s : List ℕ) → push_str g v s ≡ Some w → IsTrue (fits_in_place v (size s)) → w ≡ placed_text (v.text ++ s) v.placement
-push_str-in_place g v w s e k = grind (arith, common_steps, empty_text, append-nil)
+pub append-stays : (g : Growth) (v w : PlacedText) (n : ℕ) → PlacedFor g v w (room_to_append n) → IsTrue (fits_in_place v n) → w.placement ≡ v.placement
+append-stays g v w n e k = grind (arith, common_steps)
 
 -- and never fails
-pub push-never_asks : (v : PlacedText) (s : List ℕ) → IsTrue (fits_in_place v (size s)) → IsTrue (push_str_allocates v s) → ⊥
-push-never_asks v s h k = grind (arith, common_steps)
+pub append-never_asks : (v : PlacedText) (n : ℕ) → IsTrue (fits_in_place v n) → AllocatesFor v (room_to_append n) → ⊥
+append-never_asks v n h k = grind (arith, common_steps)
 
 pub repeated_text-none : (n : ℕ) (t : List ℕ) → size t * n ≡ 0 → repeated_text n t ≡ []
 repeated_text-none n t e = empty_text (repeated_text n t) (size-repeated_text n t ∙ e)

@@ -4,11 +4,10 @@ use Rattle.std.proofs.lemmas.Str.{chars-nil, chars-append, encodes-append, encod
 use Rattle.std.specs.Fmt.{WritesInCalls, WritesText}
 use Rattle.std.specs.List.{FoldsTo, concat}
 use Rattle.std.specs.Str.{IsUtf8}
-use Rattle.compact_repr.specs.Text.{text_of, utf8}
+use Rattle.compact_repr.specs.Text.{size, text_of, utf8}
 use Rattle.compact_repr.specs.Value.{PlacedText}
-use Rattle.compact_repr.specs.Capacity.{Growth}
-use Rattle.compact_repr.specs.Calls.{push_str}
-use Rattle.compact_repr.proofs.Changes.{push_str-text}
+use Rattle.compact_repr.specs.Capacity.{Growth, room_to_append, PlacedFor}
+use Rattle.compact_text.proofs.Texts.{size-text_of}
 use Rattle.compact_str.specs.Shown.{Shows, PushesShown}
 
 -- the parts together are one text, appended to the text before
@@ -31,15 +30,15 @@ shown-whole t u bytes empty writes =
 
 -- so that is appended
 pub shown-pushed : {E : Type 0} (g : Growth) (v w : PlacedText) (t u : List ℕ) (o : Option (List ℕ)) (r : Result (Unit {0}) E)
-    → WritesText Shows t o u → t ≡ [] → OnOk r (push_str g v u ≡ Some w) → OnErr r (w ≡ v) → PushesShown g v o r w
-shown-pushed g v w t u None (Ok done) writes empty pushed same = record { ok = tt; text = tt; bytes = tt; err = tt }
-shown-pushed g v w t u (Some shown) (Ok done) writes empty pushed same =
+    → WritesText Shows t o u → t ≡ [] → OnOk r (w.text ≡ v.text ++ u) → OnOk r (PlacedFor g v w (room_to_append (size u))) → OnErr r (w ≡ v) → PushesShown g v o r w
+shown-pushed g v w t u None (Ok done) writes empty pushed placed same = record { text = tt; bytes = tt; place = tt; err = tt }
+shown-pushed g v w t u (Some shown) (Ok done) writes empty pushed placed same =
     let whole = shown-whole t u shown empty writes in
-    let text = push_str-text g v w u pushed ∙ ap (λ s. v.text ++ s) whole.1 in
+    let text = pushed ∙ ap (λ s. v.text ++ s) whole.1 in
     record {
-      ok = subst (λ s. push_str g v s ≡ Some w) whole.1 pushed;
       text = text;
+      place = subst (λ n. PlacedFor g v w (room_to_append n)) (ap size whole.1 ∙ size-text_of shown whole.0) placed;
       bytes = ap utf8 text ∙ encodes-append v.text (text_of shown) ∙ ap (λ bytes. utf8 v.text ++ bytes) (encodes-chars shown whole.0);
       err = tt;
     }
-shown-pushed g v w t u o (Err error) writes empty pushed same = record { ok = tt; text = tt; bytes = tt; err = same }
+shown-pushed g v w t u o (Err error) writes empty pushed placed same = record { text = tt; bytes = tt; place = tt; err = same }

@@ -8,7 +8,9 @@ use Rattle.compact_repr.specs.Text.{size, text_of, utf8}
 use Rattle.compact_repr.specs.Cut.{IsBoundary, text_before}
 use Rattle.compact_repr.specs.Value.{PlacedText}
 use Rattle.compact_repr.specs.Capacity.{Growth}
-use Rattle.compact_repr.specs.Calls.{push_str, PushStrAllocates}
+use Rattle.compact_repr.specs.declared.inline.TheConstants.{INLINE_CAPACITY}
+use Rattle.compact_repr.specs.Words.{AllocatesFor, room_to_append}
+use Rattle.compact_repr.specs.Calls.{push_str}
 use Rattle.compact_str.specs.Room.{HasRoomFor, infallible_capacity}
 use Rattle.compact_str.specs.FittedValues.{IsPlacedBySize}
 
@@ -53,11 +55,11 @@ module _ {S A : Type 0} (steps : S → Option A → S → Type 0) where
   -- the items before the one that fails are appended, and appending that one allocates
   abbrev pub AppendsUpToRefused : Growth → (A → List ℕ) → S → PlacedText → PlacedText → Type 0
   AppendsUpToRefused g text s v w =
-      (xs : List A) × (x : A) × (t : S) × YieldsThen steps s xs (Some x) t × Appends g text v xs w × PushStrAllocates w (text x)
+      (xs : List A) × (x : A) × (t : S) × YieldsThen steps s xs (Some x) t × Appends g text v xs w × AllocatesFor w (room_to_append (size (text x)))
 
   -- some items that came make a text of more than 24 bytes
   abbrev pub PassesInline : (List A → List ℕ) → S → Type 0
-  PassesInline text s = (xs : List A) × (t : S) × Yields steps s xs t × (24 < size (text xs))
+  PassesInline text s = (xs : List A) × (t : S) × Yields steps s xs t × (INLINE_CAPACITY < size (text xs))
 
   -- some items that came make a text that is not empty
   abbrev pub GivesText : (List A → List ℕ) → S → Type 0
@@ -72,17 +74,17 @@ module _ {S A : Type 0} (steps : S → Option A → S → Type 0) where
   pub record Joins {E : Type 0} (joined_text joined_bytes : List A → List ℕ) (it : S) (r : Result PlacedText E) : Type 0 where
     pub text : IfOk r (λ v. WholeRun steps it (λ run. v.text ≡ joined_text run.items))
     pub bytes : IfOk r (λ v. WholeRun steps it (λ run. utf8 v.text ≡ joined_bytes run.items))
-    pub fitted : IfOk r IsPlacedBySize
-    pub succeeds : HoldsAlong steps it (λ xs. size (joined_text xs) ≤ 24) → IsOk r
-    pub err : OnErr r (PassesInline joined_text it)
+    pub place : IfOk r IsPlacedBySize
+    pub succeeds : HoldsAlong steps it (λ xs. size (joined_text xs) ≤ INLINE_CAPACITY) → IsOk r
+    pub allocates : OnErr r (PassesInline joined_text it)
 
 -- the contracts of calls on an iterable, which `becomes` an iterator that gives items by `steps`
 module _ {U S A : Type 0} (becomes : U → S → Type 0) (steps : S → Option A → S → Type 0) where
   -- w is v with the texts of all items appended in turn; on failure, with those of the items before the one that failed
   pub record Extends {E : Type 0} (g : Growth) (item_text : A → List ℕ) (joined_text : List A → List ℕ) (iterable : U) (v : PlacedText)
       (r : Result (Unit {0}) E) (w : PlacedText) : Type 0 where
-    pub ok : OnOk r (OfIterator becomes iterable (λ it. AppendsAll steps g item_text it v w))
     pub text : OnOk r (OfItems becomes steps iterable (λ xs. w.text ≡ v.text ++ joined_text xs))
+    pub pushes : OnOk r (OfIterator becomes iterable (λ it. AppendsAll steps g item_text it v w))
     pub boundary : IsBoundary w.text (size v.text)
     pub front : text_before w.text (size v.text) ≡ v.text
     pub room : infallible_capacity v ≤ infallible_capacity w
@@ -93,9 +95,9 @@ module _ {U S A : Type 0} (becomes : U → S → Type 0) (steps : S → Option A
   pub record Collects {E : Type 0} (joined_text : List A → List ℕ) (iterable : U) (r : Result PlacedText E) : Type 0 where
     pub ok : IfOk r (λ v. OfDrained becomes steps iterable (λ xs. v.text ≡ joined_text xs))
     pub text : IfOk r (λ v. OfItems becomes steps iterable (λ xs. v.text ≡ joined_text xs))
-    pub fitted : IfOk r IsPlacedBySize
-    pub succeeds : OfAllItems becomes steps iterable (λ xs. size (joined_text xs) ≤ 24) → IsOk r
-    pub err : OnErr r (OfIterator becomes iterable (λ it. PassesInline steps joined_text it))
+    pub place : IfOk r IsPlacedBySize
+    pub succeeds : OfAllItems becomes steps iterable (λ xs. size (joined_text xs) ≤ INLINE_CAPACITY) → IsOk r
+    pub allocates : OnErr r (OfIterator becomes iterable (λ it. PassesInline steps joined_text it))
 
   -- t is s with the texts of all items appended; on failure, with those of the items before the one without room
   pub record ExtendsString {Z E : Type 0} (item_text : A → List ℕ) (iterable : U) (s : String Z) (r : Result (Unit {0}) E) (t : String Z) : Type 0 where

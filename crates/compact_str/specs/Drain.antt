@@ -1,11 +1,7 @@
 -- The state of a drain, and its steps.
-use Rattle.std.specs.Prelude.{◌≡◌, ℕ, ◌≤◌, List, [], ◌∷◌, ◌++◌, Option, Some, MatchOption, Result, IfOk, IsOk, OnErr}
+use Rattle.std.specs.Prelude.{◌≡◌, ℕ, List, [], ◌∷◌, ◌++◌, Option, MatchOption}
 use Rattle.std.specs.Borrow.{GName}
-use Rattle.compact_repr.specs.Text.{size}
-use Rattle.compact_repr.specs.Cut.{substring, replaced_text}
-use Rattle.compact_repr.specs.Value.{PlacedText, IsOwned}
-use Rattle.compact_repr.specs.Capacity.{Growth, MakeOwnedAllocates}
-use Rattle.compact_repr.specs.Calls.{replace_range}
+use Rattle.compact_repr.specs.Value.{PlacedText}
 use Rattle.compact_repr.specs.declared.growth.Policy.{Ghosts}
 use Rattle.compact_str.specs.TotalRanges.{range_text, without_range}
 use Rattle.compact_str.specs.declared.string.drain.Drain.{Drain}
@@ -34,13 +30,3 @@ module _ {P : Type 0} {G : Ghosts P} where
     pub lender : drain_lender new ≡ drain_lender old
     pub leaves : value_after_drain new ≡ value_after_drain old
     pub step : MatchOption item ((drain_rest old ≡ []) × (drain_rest new ≡ [])) (λ c. drain_rest old ≡ drain_rest new ++ c ∷ [])
-
-  -- r is the drain of the bytes from i to j of v, made owned first; fails only if that needs memory
-  pub record DrainsRange {E : Type 0} (g : Growth) (v : PlacedText) (lender : GName) (i j : ℕ) (r : Result (Drain P G) E) : Type 0 where
-    pub same_reference : IfOk r (λ d. drain_lender d ≡ lender)
-    pub rest : IfOk r (λ d. drain_rest d ≡ substring v.text i j)
-    pub leaves : IfOk r (λ d. replace_range g v i j [] ≡ Some (value_after_drain d))
-    pub text : IfOk r (λ d. (value_after_drain d).text ≡ replaced_text v.text i j [])
-    pub succeeds : IsOwned v → IsOk r
-    pub succeeds_short : size v.text ≤ 24 → IsOk r
-    pub err : OnErr r (MakeOwnedAllocates v)

@@ -1,9 +1,10 @@
 -- Conversion from a JSON value.
-use Rattle.std.specs.Prelude.{◌≡◌, ◌≤◌, ℕ, List, length, Result, IsOk, MatchResult, Some, Err, ⊤}
+use Rattle.std.specs.Prelude.{◌≡◌, ◌<◌, ◌≤◌, ℕ, List, length, Result, IsOk, MatchResult, Some, Err, ⊤}
 use Rattle.serde_json.specs.Data.{Data, null, boolean, number, string, array, object}
 use Rattle.compact_repr.specs.Text.{text_of}
 use Rattle.compact_repr.specs.Value.{PlacedText}
-use Rattle.compact_repr.specs.Capacity.{Growth, WithCapacityAllocates}
+use Rattle.compact_repr.specs.Capacity.{Growth}
+use Rattle.compact_repr.specs.declared.inline.TheConstants.{INLINE_CAPACITY}
 use Rattle.compact_repr.specs.Calls.{new}
 use Rattle.compact_str.specs.declared.string.json.FromJsonError.{FromJsonError}
 use Rattle.compact_str.specs.declared.string.json.FromJsonError.TheVariants.{NotAString, Reserve}
@@ -15,8 +16,8 @@ IsJsonReserve (Reserve _) = ⊤
 
 -- r is a new value with the text of a JSON string; never fails up to 24 bytes
 pub record ReadsString (g : Growth) (bytes : List ℕ) (r : Result PlacedText FromJsonError) : Type 0 where
-  pub outcome : MatchResult r (λ v. new g (text_of bytes) ≡ Some v) (λ e. IsJsonReserve e × WithCapacityAllocates (length bytes))
-  pub succeeds : length bytes ≤ 24 → IsOk r
+  pub outcome : MatchResult r (λ v. new g (text_of bytes) ≡ Some v) (λ e. IsJsonReserve e × (INLINE_CAPACITY < length bytes))
+  pub succeeds : length bytes ≤ INLINE_CAPACITY → IsOk r
 
 -- a string is copied, and every other JSON value gives `NotAString`
 abbrev pub ReadsJson : Growth → Data → Result PlacedText FromJsonError → Type 0

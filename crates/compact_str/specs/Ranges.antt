@@ -3,7 +3,7 @@ use Rattle.std.specs.Prelude.{◌≡◌, ℕ, ◌-◌, ◌≤◌, List, length}
 use Rattle.std.specs.declared.ops.Bound.{Bound}
 use Rattle.std.specs.Range.Bound.{start_index, end_index}
 use Rattle.compact_repr.specs.Text.{size, utf8, text_of}
-use Rattle.compact_repr.specs.Cut.{IsBoundary, text_before, substring}
+use Rattle.compact_repr.specs.Cut.{IsBoundary, text_before, substring, replaced_text}
 
 -- The byte positions of a range's ends. An excluded start and an included end are one past the bound; an open end is
 -- the end of t.
@@ -12,6 +12,16 @@ range_start start = start_index start
 
 abbrev pub range_end : List ℕ → Bound ℕ → ℕ
 range_end t end = end_index end (size t)
+
+-- the part in a range, its length in bytes, and t with the range replaced with s
+abbrev pub part_in : List ℕ → Bound ℕ → Bound ℕ → List ℕ
+part_in t start end = substring t (range_start start) (range_end t end)
+
+abbrev pub len_in : List ℕ → Bound ℕ → Bound ℕ → ℕ
+len_in t start end = range_end t end - range_start start
+
+abbrev pub replaced_in : List ℕ → Bound ℕ → Bound ℕ → List ℕ → List ℕ
+replaced_in t start end s = replaced_text t (range_start start) (range_end t end) s
 
 -- the start is not past the end, and both are boundaries of t
 pub record IsRange (t : List ℕ) (start end : Bound ℕ) : Type 0 where

@@ -1,11 +1,10 @@
 -- What a `Display` writes.
-use Rattle.std.specs.Prelude.{◌≡◌, ℕ, List, ◌++◌, Option, Some, IfSome, Result, OnOk, OnErr}
+use Rattle.std.specs.Prelude.{◌≡◌, ℕ, List, ◌++◌, Option, length, IfSome, Result, OnOk, OnErr}
 use Rattle.std.specs.Fmt.{AppendsText}
 use Rattle.std.specs.Str.{IsUtf8}
 use Rattle.compact_repr.specs.Text.{text_of, utf8}
 use Rattle.compact_repr.specs.Value.{PlacedText}
-use Rattle.compact_repr.specs.Capacity.{Growth}
-use Rattle.compact_repr.specs.Calls.{push_str}
+use Rattle.compact_repr.specs.Capacity.{Growth, room_to_append, PlacedFor}
 
 -- to a builder, a formatter writes valid bytes, which are appended to the text t and give u
 abbrev pub Shows : List ℕ → List ℕ → List ℕ → Type 0
@@ -13,7 +12,7 @@ Shows t bytes u = IsUtf8 bytes × (u ≡ t ++ text_of bytes)
 
 -- w is v with what a value shows appended, as by one `push_str`; on failure w is v
 pub record PushesShown {E : Type 0} (g : Growth) (v : PlacedText) (shown : Option (List ℕ)) (r : Result (Unit {0}) E) (w : PlacedText) : Type 0 where
-  pub ok : OnOk r (IfSome shown (λ s. push_str g v (text_of s) ≡ Some w))
   pub text : OnOk r (IfSome shown (λ s. w.text ≡ v.text ++ text_of s))
   pub bytes : OnOk r (AppendsText (utf8 v.text) (utf8 w.text) shown)
+  pub place : OnOk r (IfSome shown (λ s. PlacedFor g v w (room_to_append (length s))))
   pub err : OnErr r (w ≡ v)

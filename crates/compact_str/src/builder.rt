@@ -1,7 +1,7 @@
 //! A builder that collects short pieces on the stack before it appends them.
-ghost use Rattle.std.specs.Prelude.{◌≡◌, ◌+◌, ◌<◌, [], ◌∷◌, ◌++◌, length, Some, OnOk, OnErr, IfOk, IfSome};
+ghost use Rattle.std.specs.Prelude.{◌≡◌, ◌+◌, ◌<◌, [], ◌∷◌, ◌++◌, length, OnOk, OnErr, IfOk, IfSome};
 ghost use Rattle.std.specs.Char.{len_utf8};
-ghost use Rattle.compact_str.specs.Words.{size, text_of, push_str};
+ghost use Rattle.compact_str.specs.Words.{size, text_of, PlacedFor, room_to_append, INLINE_CAPACITY};
 ghost use Rattle.compact_str.specs.FittedValues.{IsPlacedBySize};
 ghost use Rattle.compact_str.specs.Shown.{Shows};
 
@@ -74,7 +74,7 @@ impl<P: Policy, const N: usize> Builder<P, N> {
     #[inline]
     pub fn push_str(&mut self, text: &str) -> Result<(), ReserveError>
         ensures ok { OnOk result (self.new ≡ self.old ++ text_of text.now) }
-        ensures err { OnErr result (24 < size self.old + length text.now) }
+        ensures err { OnErr result (INLINE_CAPACITY < size self.old + length text.now) }
     {
         if self.block.try_push_str(text) {
             return Ok(());
@@ -97,7 +97,8 @@ impl<P: Policy, const N: usize> Builder<P, N> {
         requires same { IfSome padded.now (λ p. p ≡ text_of separator.now) }
         ensures ok { OnOk result
             (self.new ≡ (self.old ++ text_of separator.now) ++ text_of text.now) }
-        ensures err { OnErr result (24 < size self.old + length separator.now + length text.now) }
+        ensures err { OnErr result
+            (INLINE_CAPACITY < size self.old + length separator.now + length text.now) }
     {
         if let Some(padded) = padded {
             if self.block.try_push_separated(padded, text) {
@@ -112,7 +113,8 @@ impl<P: Policy, const N: usize> Builder<P, N> {
     fn push_separately(&mut self, separator: &str, text: &str) -> Result<(), ReserveError>
         ensures ok { OnOk result
             (self.new ≡ (self.old ++ text_of separator.now) ++ text_of text.now) }
-        ensures err { OnErr result (24 < size self.old + length separator.now + length text.now) }
+        ensures err { OnErr result
+            (INLINE_CAPACITY < size self.old + length separator.now + length text.now) }
     {
         self.push_str(separator)?;
         self.push_str(text)
@@ -126,7 +128,7 @@ impl<P: Policy, const N: usize> Builder<P, N> {
     #[inline]
     pub fn push(&mut self, character: char) -> Result<(), ReserveError>
         ensures ok { OnOk result (self.new ≡ self.old ++ character ∷ []) }
-        ensures err { OnErr result (24 < size self.old + len_utf8 character) }
+        ensures err { OnErr result (INLINE_CAPACITY < size self.old + len_utf8 character) }
     {
         if character.is_ascii() && self.block.try_push_ascii(character as u8) {
             return Ok(());
@@ -140,7 +142,7 @@ impl<P: Policy, const N: usize> Builder<P, N> {
     #[inline(never)]
     fn flush_and_push(&mut self, text: &str) -> Result<(), ReserveError>
         ensures ok { OnOk result (self.new ≡ self.old ++ text_of text.now) }
-        ensures err { OnErr result (24 < size self.old + length text.now) }
+        ensures err { OnErr result (INLINE_CAPACITY < size self.old + length text.now) }
     {
         self.value.push_str(self.block.as_str())?;
         self.block.clear();
@@ -158,8 +160,8 @@ impl<P: Policy, const N: usize> Builder<P, N> {
     #[inline]
     pub fn finish(&mut self) -> Result<PolicyString<P>, ReserveError>
         ensures text { IfOk result (λ v. v.text ≡ self.old) }
-        ensures fitted { IfOk result IsPlacedBySize }
-        ensures err { OnErr result (24 < size self.old) }
+        ensures place { IfOk result IsPlacedBySize }
+        ensures err { OnErr result (INLINE_CAPACITY < size self.old) }
     {
         self.value.push_str(self.block.as_str())?;
         let nothing = PolicyString::default(self.value.allocator());
@@ -172,7 +174,9 @@ impl<P: Policy, const N: usize> Builder<P, N> {
     ///
     /// [`ReserveError`] if allocation fails, or failed in `write_str`. `target` is then unchanged.
     pub fn push_onto(&mut self, target: &mut PolicyString<P>) -> Result<(), ReserveError>
-        ensures ok { OnOk result (push_str P.growth target.old self.old ≡ Some target.new) }
+        ensures text { OnOk result (target.new.text ≡ target.old.text ++ self.old) }
+        ensures place { OnOk result
+            (PlacedFor P.growth target.old target.new (room_to_append (size self.old))) }
         ensures err { OnErr result (target.new ≡ target.old) }
     {
         if self.is_refused {

@@ -1,6 +1,6 @@
 //! Decoding UTF-8 and UTF-16.
 ghost use Rattle.std.specs.Prelude.{◌≡◌, ◌+◌, ◌<◌, ◌++◌, length, OnOk, OnErr};
-ghost use Rattle.compact_str.specs.Words.{size, text_of};
+ghost use Rattle.compact_str.specs.Words.{INLINE_CAPACITY, size, text_of};
 ghost use Rattle.compact_str.specs.FittedValues.{IsPlacedBySize};
 
 mod buf;
@@ -21,9 +21,9 @@ const REPLACEMENT: &str = "\u{FFFD}";
 #[tactic(auto, using(crate::proofs::FittedTexts::fitted_facts))]
 fn push_fitted(made: &mut CompactString, text: &str, more: usize) -> Result<(), ReserveError>
     requires { IsPlacedBySize made.old }
-    ensures fitted { OnOk result (IsPlacedBySize made.new) }
+    ensures place { OnOk result (IsPlacedBySize made.new) }
     ensures text { OnOk result (made.new.text ≡ made.old.text ++ text_of text.now) }
-    ensures err { OnErr result (24 < size made.old.text + length text.now) }
+    ensures err { OnErr result (INLINE_CAPACITY < size made.old.text + length text.now) }
 {
     if made.is_heap_allocated() || made.len() + text.len() <= INLINE_CAPACITY {
         return made.push_str(text);

@@ -1,6 +1,6 @@
 //! Reserving and shrinking.
-ghost use Rattle.std.specs.Prelude.{length, ◌≡◌, ◌*◌, ◌<◌, ◌≤◌, ◌^◌, [], false, Some, IfOk, OnOk, OnErr, IsTrue};
-ghost use Rattle.compact_repr.specs.Words.{size, text_of, placed_text, IsHeap, fits_in_place, inline_placement, heap_placement, WithCapacityAllocates, MakeOwnedAllocates, ReserveAllocates, new, reserve, make_owned, Shrinks};
+ghost use Rattle.std.specs.Prelude.{length, ◌≡◌, ◌*◌, ◌<◌, ◌≤◌, ◌^◌, [], false, IfOk, OnOk, OnErr, IsTrue};
+ghost use Rattle.compact_repr.specs.Words.{size, text_of, placed_text, IsHeap, fits_in_place, inline_placement, heap_placement, INLINE_CAPACITY, IsPlacedAsNew, PlacedFor, AllocatesFor, owned, room, Shrinks};
 
 use crate::error::ReserveError;
 use crate::growth::{Policy, grown_capacity};
@@ -8,7 +8,6 @@ use crate::heap::HeapBuffer;
 use crate::inline::{INLINE_CAPACITY, InlineBuffer};
 use crate::repr::{Buffer, Repr};
 use std::alloc::Global;
-/// The largest capacity, 2^56 - 2 bytes.
 
 impl<P: Policy> Repr<P> {
     /// Reserves room for `additional` more bytes.
@@ -18,10 +17,11 @@ impl<P: Policy> Repr<P> {
     /// Returns [`ReserveError`] if a new buffer cannot be allocated.
     #[inline]
     pub fn reserve(&mut self, additional: usize) -> Result<(), ReserveError>
-        ensures ok { OnOk result (reserve P.growth self.old additional ≡ Some self.new) }
+        ensures text { self.new.text ≡ self.old.text }
+        ensures place { OnOk result (PlacedFor P.growth self.old self.new (room additional)) }
         ensures room { OnOk result (IsTrue (fits_in_place self.new additional)) }
-        ensures err { OnErr result
-            ((self.new ≡ self.old) × ReserveAllocates self.old additional) }
+        ensures allocates { OnErr result (AllocatesFor self.old (room additional)) }
+        ensures err { OnErr result (self.new ≡ self.old) }
     {
         if self.fits_in_place(additional) {
             return Ok(());
@@ -50,10 +50,11 @@ impl<P: Policy> Repr<P> {
     #[inline(never)]
     pub(super) fn make_room(&mut self, additional: usize) -> Result<(), ReserveError>
         requires { fits_in_place self.old additional ≡ false }
-        ensures ok { OnOk result (reserve P.growth self.old additional ≡ Some self.new) }
+        ensures text { self.new.text ≡ self.old.text }
+        ensures place { OnOk result (PlacedFor P.growth self.old self.new (room additional)) }
         ensures room { OnOk result (IsTrue (fits_in_place self.new additional)) }
-        ensures err { OnErr result
-            ((self.new ≡ self.old) × ReserveAllocates self.old additional) }
+        ensures allocates { OnErr result (AllocatesFor self.old (room additional)) }
+        ensures err { OnErr result (self.new ≡ self.old) }
         ensures small { size self.old.text < 2 ^ 63 }
     {
         self.make_room_here(additional)
@@ -94,9 +95,11 @@ impl<P: Policy> Repr<P> {
     /// Returns [`ReserveError`] if the value is static and its copy cannot be allocated.
     #[inline(always)]
     pub fn make_owned(&mut self) -> Result<(), ReserveError>
-        ensures ok { OnOk result (make_owned P.growth self.old ≡ Some self.new) }
+        ensures text { self.new.text ≡ self.old.text }
+        ensures place { OnOk result (PlacedFor P.growth self.old self.new owned) }
         ensures room { OnOk result (IsTrue (fits_in_place self.new 0)) }
-        ensures err { OnErr result ((self.new ≡ self.old) × MakeOwnedAllocates self.old) }
+        ensures allocates { OnErr result (AllocatesFor self.old owned) }
+        ensures err { OnErr result (self.new ≡ self.old) }
     {
         let Buffer::Static(text) = &self.buffer else {
             return Ok(());
@@ -110,8 +113,9 @@ impl<P: Policy> Repr<P> {
     #[cold]
     #[inline(never)]
     fn copy_static(alloc: Global, text: &'static str) -> Result<Self, ReserveError>
-        ensures ok { IfOk result (λ r. new P.growth (text_of text.now) ≡ Some r) }
-        ensures err { OnErr result (WithCapacityAllocates (length text.now)) }
+        ensures text { IfOk result (λ r. r.text ≡ text_of text.now) }
+        ensures place { IfOk result (IsPlacedAsNew P.growth) }
+        ensures allocates { OnErr result (INLINE_CAPACITY < length text.now) }
     {
         Self::new(alloc, text)
     }
@@ -140,7 +144,7 @@ impl<P: Policy> Repr<P> {
     /// Moves the text, of at most 24 bytes, into the value itself.
     #[inline]
     fn move_inline(&mut self)
-        requires { size self.old.text ≤ 24 }
+        requires { size self.old.text ≤ INLINE_CAPACITY }
         ensures { self.new ≡ placed_text self.old.text inline_placement }
     {
         self.buffer = Buffer::Inline([], InlineBuffer::new(self.as_str()));

@@ -1,6 +1,6 @@
 //! Edits that may have to allocate: to reserve room, or to make the value owned.
-ghost use Rattle.std.specs.Prelude.{◌≡◌, ◌-◌, ◌^◌, ◌<◌, ◌≤◌, [], length, Some, OnOk, OnErr, false};
-ghost use Rattle.compact_repr.specs.Words.{size, text_of, IsBoundary, substring, fits_in_place, ReserveAllocates, push_str, insert_str, replace_range, PushStrAllocates, ReplaceRangeAllocates};
+ghost use Rattle.std.specs.Prelude.{◌≡◌, ◌-◌, ◌^◌, ◌<◌, ◌≤◌, [], ◌++◌, length, OnOk, OnErr, false};
+ghost use Rattle.compact_repr.specs.Words.{size, text_of, IsBoundary, substring, replaced_text, fits_in_place, PlacedFor, AllocatesFor, owned, room, room_to_append, room_to_replace};
 
 use crate::error::ReserveError;
 use crate::growth::Policy;
@@ -14,12 +14,15 @@ impl<P: Policy> Repr<P> {
     /// Returns [`ReserveError`] if a new buffer cannot be allocated.
     #[cold]
     #[inline(never)]
-    #[tactic(auto, using(crate::proofs::MoreRoom::slow_facts))]
+    #[tactic(auto, using(crate::proofs::Placed::placed_facts))]
     pub fn push_str_slow(&mut self, text: &str) -> Result<(), ReserveError>
         requires { fits_in_place self.old (length text.now) ≡ false }
-        ensures ok { OnOk result (push_str P.growth self.old (text_of text.now) ≡ Some self.new) }
-        ensures err { OnErr result
-            ((self.new ≡ self.old) × PushStrAllocates self.old (text_of text.now)) }
+        ensures text { OnOk result (self.new.text ≡ self.old.text ++ text_of text.now) }
+        ensures place { OnOk result
+            (PlacedFor P.growth self.old self.new (room_to_append (length text.now))) }
+        ensures allocates { OnErr result
+            (AllocatesFor self.old (room_to_append (length text.now))) }
+        ensures err { OnErr result (self.new ≡ self.old) }
     {
         if text.is_empty() {
             return Ok(());
@@ -39,14 +42,16 @@ impl<P: Policy> Repr<P> {
     /// Returns [`ReserveError`] if a new buffer cannot be allocated.
     #[cold]
     #[inline(never)]
-    #[tactic(auto, using(crate::proofs::MoreRoom::slow_facts))]
+    #[tactic(auto, using(crate::proofs::Placed::placed_facts))]
     pub fn insert_str_slow(&mut self, index: usize, text: &str) -> Result<(), ReserveError>
         requires full { fits_in_place self.old (length text.now) ≡ false }
         requires boundary { IsBoundary self.old.text index }
-        ensures ok { OnOk result
-            (insert_str P.growth self.old index (text_of text.now) ≡ Some self.new) }
-        ensures err { OnErr result
-            ((self.new ≡ self.old) × ReserveAllocates self.old (length text.now)) }
+        ensures text { OnOk result
+            (self.new.text ≡ replaced_text self.old.text index index (text_of text.now)) }
+        ensures place { OnOk result
+            (PlacedFor P.growth self.old self.new (room (length text.now))) }
+        ensures allocates { OnErr result (AllocatesFor self.old (room (length text.now))) }
+        ensures err { OnErr result (self.new ≡ self.old) }
         ensures small { size self.old.text < 2 ^ 63 }
     {
         self.make_room(text.len())?;
@@ -62,14 +67,15 @@ impl<P: Policy> Repr<P> {
     ///
     /// Returns [`ReserveError`] if a static value cannot be made owned.
     #[inline]
-    #[tactic(auto, using(crate::proofs::Changes::removal_facts))]
+    #[tactic(auto, using(crate::proofs::Placed::placed_facts))]
     pub fn cut_out(&mut self, start: usize, end: usize) -> Result<(), ReserveError>
         requires order { start ≤ end }
         requires first { IsBoundary self.old.text start }
         requires last { IsBoundary self.old.text end }
-        ensures ok { OnOk result (replace_range P.growth self.old start end [] ≡ Some self.new) }
-        ensures err { OnErr result
-            ((self.new ≡ self.old) × ReplaceRangeAllocates self.old start end []) }
+        ensures text { OnOk result (self.new.text ≡ replaced_text self.old.text start end []) }
+        ensures place { OnOk result (PlacedFor P.growth self.old self.new owned) }
+        ensures allocates { OnErr result (AllocatesFor self.old owned) }
+        ensures err { OnErr result (self.new ≡ self.old) }
     {
         if self.try_cut_out(start, end) {
             return Ok(());
@@ -85,17 +91,20 @@ impl<P: Policy> Repr<P> {
     /// Returns [`ReserveError`] if a new buffer cannot be allocated.
     #[cold]
     #[inline(never)]
-    #[tactic(auto, using(crate::proofs::MoreRoom::slow_facts))]
+    #[tactic(auto, using(crate::proofs::Placed::placed_facts))]
     pub fn replace_slow(&mut self, start: usize, end: usize, text: &str) -> Result<(), ReserveError>
         requires full { fits_in_place self.old (length text.now - (end - start)) ≡ false }
         requires order { start ≤ end }
         requires first { IsBoundary self.old.text start }
         requires last { IsBoundary self.old.text end }
-        ensures ok { OnOk result
-            (replace_range P.growth self.old start end (text_of text.now) ≡ Some self.new) }
-        ensures err { OnErr result
-            ((self.new ≡ self.old)
-            × ReplaceRangeAllocates self.old start end (text_of text.now)) }
+        ensures text { OnOk result
+            (self.new.text ≡ replaced_text self.old.text start end (text_of text.now)) }
+        ensures place { OnOk result
+            (PlacedFor P.growth self.old self.new
+            (room_to_replace (end - start) (length text.now))) }
+        ensures allocates { OnErr result
+            (AllocatesFor self.old (room_to_replace (end - start) (length text.now))) }
+        ensures err { OnErr result (self.new ≡ self.old) }
     {
         let replaced = end - start;
         if text.len() <= replaced {
@@ -114,15 +123,17 @@ impl<P: Policy> Repr<P> {
     /// # Errors
     ///
     /// Returns [`ReserveError`] if they do not fit and a larger buffer cannot be allocated.
+    #[tactic(auto, using(crate::proofs::Placed::part_facts))]
     pub fn push_within(&mut self, start: usize, end: usize) -> Result<(), ReserveError>
         requires order { start ≤ end }
         requires first { IsBoundary self.old.text start }
         requires last { IsBoundary self.old.text end }
-        ensures ok { OnOk result
-            (push_str P.growth self.old (substring self.old.text start end) ≡ Some self.new) }
-        ensures err { OnErr result
-            ((self.new ≡ self.old)
-            × PushStrAllocates self.old (substring self.old.text start end)) }
+        ensures text { OnOk result
+            (self.new.text ≡ self.old.text ++ substring self.old.text start end) }
+        ensures place { OnOk result
+            (PlacedFor P.growth self.old self.new (room_to_append (end - start))) }
+        ensures allocates { OnErr result (AllocatesFor self.old (room_to_append (end - start))) }
+        ensures err { OnErr result (self.new ≡ self.old) }
     {
         let len = end - start;
         if len == 0 {

@@ -1,7 +1,7 @@
 //! Creating a representation.
 ghost use Rattle.std.specs.Prelude.{◌≡◌, ◌<◌, ◌≤◌, ℕ, List, length, nat_eq, if◌then◌else◌, [], Some, IfOk, OnErr, MatchOption, string_bytes};
 ghost use Rattle.std.specs.String.{string_capacity};
-ghost use Rattle.compact_repr.specs.Words.{text_of, placed_text, inline_placement, heap_placement, const_new_placement, from_string_placement, WithCapacityAllocates, CloneAllocates, new, with_capacity, clone};
+ghost use Rattle.compact_repr.specs.Words.{text_of, placed_text, inline_placement, heap_placement, const_new_placement, from_string_placement, INLINE_CAPACITY, IsPlacedAsNew, HasNewCapacity, CloneAllocates, clone};
 ghost use Rattle.compact_repr.specs.Packed.{IsPackedFor};
 
 use crate::error::ReserveError;
@@ -28,8 +28,9 @@ impl<P: Policy> Repr<P> {
     /// Returns [`ReserveError`] if the heap buffer cannot be allocated.
     #[inline(always)]
     pub fn new(alloc: Global, text: &str) -> Result<Self, ReserveError>
-        ensures ok { IfOk result (λ r. new P.growth (text_of text.now) ≡ Some r) }
-        ensures err { OnErr result (WithCapacityAllocates (length text.now)) }
+        ensures text { IfOk result (λ r. r.text ≡ text_of text.now) }
+        ensures place { IfOk result (IsPlacedAsNew P.growth) }
+        ensures allocates { OnErr result (INLINE_CAPACITY < length text.now) }
     {
         if text.len() > INLINE_CAPACITY {
             let heap = Self::long_copy(alloc, text)?;
@@ -43,10 +44,10 @@ impl<P: Policy> Repr<P> {
     /// which avoids a store-forwarding stall.
     #[inline(never)]
     fn long_copy(alloc: Global, text: &str) -> Result<HeapBuffer, ReserveError>
-        requires { 24 < length text.now }
-        ensures { IfOk result
-            (λ h. new P.growth (text_of text.now)
-            ≡ Some (placed_text h.text (heap_placement h.capacity))) }
+        requires { INLINE_CAPACITY < length text.now }
+        ensures text { IfOk result (λ h. h.text ≡ text_of text.now) }
+        ensures place { IfOk result
+            (λ h. IsPlacedAsNew P.growth (placed_text h.text (heap_placement h.capacity))) }
     {
         // Not `checked_capacity`, whose `Option` would be tested once more.
         let capacity = text.len().max(P::MIN_HEAP);
@@ -85,8 +86,9 @@ impl<P: Policy> Repr<P> {
     ///
     /// Returns [`ReserveError`] if the heap buffer cannot be allocated.
     pub fn with_capacity(alloc: Global, capacity: usize) -> Result<Self, ReserveError>
-        ensures ok { IfOk result (λ r. with_capacity P.growth capacity ≡ Some r) }
-        ensures err { OnErr result (WithCapacityAllocates capacity) }
+        ensures text { IfOk result (λ r. r.text ≡ []) }
+        ensures place { IfOk result (HasNewCapacity P.growth capacity) }
+        ensures allocates { OnErr result (INLINE_CAPACITY < capacity) }
     {
         if capacity <= INLINE_CAPACITY {
             return Ok(Self::empty(alloc));
@@ -153,8 +155,8 @@ impl<P: Policy> Repr<P> {
     #[cold]
     #[inline(never)]
     fn short_copy(alloc: Global, text: &str) -> Self
-        requires { length text.now ≤ 24 }
-        ensures { new P.growth (text_of text.now) ≡ Some result }
+        requires { length text.now ≤ INLINE_CAPACITY }
+        ensures { result ≡ placed_text (text_of text.now) inline_placement }
     {
         Self::of(alloc, Buffer::Inline([], InlineBuffer::new(text)))
     }

@@ -1,7 +1,7 @@
 //! Decoding UTF-8 from a `Buf`.
 ghost use Rattle.std.specs.Prelude.{◌≡◌, ◌<◌, ◌≤◌, [], length, IfOk, IfErr, OnOk, OnErr, IsOk};
 ghost use Rattle.std.specs.Str.{IsUtf8};
-ghost use Rattle.compact_str.specs.Words.{text_of, WithCapacityAllocates};
+ghost use Rattle.compact_str.specs.Words.{INLINE_CAPACITY, text_of};
 ghost use Rattle.compact_codec.specs.Utf8Text.{BytesEncode};
 ghost use Rattle.compact_str.specs.FittedValues.{IsPlacedBySize};
 ghost use Rattle.compact_str.specs.DecodeErrors.{IsSuffixOf, IsUtf8BufRefusal};
@@ -34,10 +34,10 @@ impl PolicyString<Standard> {
     #[tactic(auto, using(crate::proofs::FittedTexts::buf_facts))]
     pub fn from_utf8_buf<B: Buf>(alloc: Global, buf: &mut B) -> Result<CompactString, FromUtf8Error>
         ensures text { IfOk result (λ v. BytesEncode (B.unread buf.old) v.text) }
-        ensures fitted { IfOk result IsPlacedBySize }
+        ensures place { IfOk result IsPlacedBySize }
         ensures consumed { OnOk result (B.unread buf.new ≡ []) }
         ensures kept { B.kept buf.new ≡ B.kept buf.old }
-        ensures succeeds { IsUtf8 (B.unread buf.old) → length (B.unread buf.old) ≤ 24
+        ensures succeeds { IsUtf8 (B.unread buf.old) → length (B.unread buf.old) ≤ INLINE_CAPACITY
             → IsOk result }
         ensures err { IfErr result (IsUtf8BufRefusal (B.unread buf.old) (B.unread buf.new)) }
     {
@@ -71,12 +71,12 @@ impl PolicyString<Standard> {
     ) -> Result<CompactString, ReserveError>
         requires { IsUtf8 (B.unread buf.old) }
         ensures text { IfOk result (λ v. v.text ≡ text_of (B.unread buf.old)) }
-        ensures fitted { IfOk result IsPlacedBySize }
+        ensures place { IfOk result IsPlacedBySize }
         ensures consumed { OnOk result (B.unread buf.new ≡ []) }
         ensures kept { B.kept buf.new ≡ B.kept buf.old }
-        ensures succeeds { length (B.unread buf.old) ≤ 24 → IsOk result }
+        ensures succeeds { length (B.unread buf.old) ≤ INLINE_CAPACITY → IsOk result }
         ensures err { OnErr result
-            (WithCapacityAllocates (length (B.unread buf.old))
+            ((INLINE_CAPACITY < length (B.unread buf.old))
             × IsSuffixOf (B.unread buf.new) (B.unread buf.old)) }
     {
         if buf.remaining() <= INLINE_CAPACITY {
@@ -92,7 +92,7 @@ impl PolicyString<Standard> {
 
 /// Reads all of `buf` into `row`, and returns the part that it fills.
 fn read_short<'a, B: Buf>(buf: &mut B, row: &'a mut [u8; INLINE_CAPACITY]) -> &'a [u8]
-    requires { length (B.unread buf.old) ≤ 24 }
+    requires { length (B.unread buf.old) ≤ INLINE_CAPACITY }
     ensures bytes { result.now ≡ B.unread buf.old }
     ensures consumed { B.unread buf.new ≡ [] }
     ensures kept { B.kept buf.new ≡ B.kept buf.old }

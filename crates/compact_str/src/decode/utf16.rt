@@ -1,6 +1,6 @@
 //! Decoding UTF-16, from units or pairs of bytes.
 ghost use Rattle.std.specs.Prelude.{◌<◌, ◌≤◌, ℕ, List, IfOk, IfErr, IsOk};
-ghost use Rattle.compact_str.specs.Words.{size};
+ghost use Rattle.compact_str.specs.Words.{INLINE_CAPACITY, size};
 ghost use Rattle.compact_codec.specs.Utf16Text.{UnitsEncode, utf16_lossy_text};
 ghost use Rattle.compact_codec.specs.Utf16Bytes.{utf16_bytes_lossy_text};
 ghost use Rattle.compact_codec.specs.declared.utf16_bytes.ByteOrder.TheVariants.{LittleEndian, BigEndian};
@@ -37,9 +37,9 @@ impl PolicyString<Standard> {
     #[tactic(auto, using(compact_codec::proofs::ForDecoders::strict_decoding))]
     pub fn from_utf16(alloc: Global, units: &[u16]) -> Result<CompactString, FromUtf16Error>
         ensures text { IfOk result (λ v. UnitsEncode units.now v.text) }
-        ensures fitted { IfOk result IsPlacedBySize }
-        ensures succeeds { (text : List ℕ) → UnitsEncode units.now text → size text ≤ 24
-            → IsOk result }
+        ensures place { IfOk result IsPlacedBySize }
+        ensures succeeds { (text : List ℕ) → UnitsEncode units.now text
+            → size text ≤ INLINE_CAPACITY → IsOk result }
         ensures err { IfErr result (IsUtf16Refusal units.now) }
     {
         if !utf16::is_utf16(units) {
@@ -100,9 +100,9 @@ impl PolicyString<Standard> {
     /// ```
     pub fn from_utf16le(alloc: Global, bytes: &[u8]) -> Result<CompactString, FromUtf16Error>
         ensures text { IfOk result (λ v. PairsEncode LittleEndian bytes.now v.text) }
-        ensures fitted { IfOk result IsPlacedBySize }
+        ensures place { IfOk result IsPlacedBySize }
         ensures succeeds { (text : List ℕ) → PairsEncode LittleEndian bytes.now text
-            → size text ≤ 24 → IsOk result }
+            → size text ≤ INLINE_CAPACITY → IsOk result }
         ensures err { IfErr result (IsUtf16BytesRefusal LittleEndian bytes.now) }
     {
         from_bytes(alloc, ByteOrder::LittleEndian, bytes)
@@ -123,9 +123,9 @@ impl PolicyString<Standard> {
     /// ```
     pub fn from_utf16be(alloc: Global, bytes: &[u8]) -> Result<CompactString, FromUtf16Error>
         ensures text { IfOk result (λ v. PairsEncode BigEndian bytes.now v.text) }
-        ensures fitted { IfOk result IsPlacedBySize }
-        ensures succeeds { (text : List ℕ) → PairsEncode BigEndian bytes.now text → size text ≤ 24
-            → IsOk result }
+        ensures place { IfOk result IsPlacedBySize }
+        ensures succeeds { (text : List ℕ) → PairsEncode BigEndian bytes.now text
+            → size text ≤ INLINE_CAPACITY → IsOk result }
         ensures err { IfErr result (IsUtf16BytesRefusal BigEndian bytes.now) }
     {
         from_bytes(alloc, ByteOrder::BigEndian, bytes)
@@ -178,9 +178,9 @@ fn from_bytes(
     bytes: &[u8],
 ) -> Result<CompactString, FromUtf16Error>
     ensures text { IfOk result (λ v. PairsEncode order bytes.now v.text) }
-    ensures fitted { IfOk result IsPlacedBySize }
-    ensures succeeds { (text : List ℕ) → PairsEncode order bytes.now text → size text ≤ 24
-        → IsOk result }
+    ensures place { IfOk result IsPlacedBySize }
+    ensures succeeds { (text : List ℕ) → PairsEncode order bytes.now text
+        → size text ≤ INLINE_CAPACITY → IsOk result }
     ensures err { IfErr result (IsUtf16BytesRefusal order bytes.now) }
 {
     if !utf16_bytes::is_utf16(order, bytes) {

@@ -1,7 +1,7 @@
 //! Decoding UTF-8 from a slice.
 ghost use Rattle.std.specs.Prelude.{◌≡◌, ◌<◌, ◌≤◌, length, IfOk, IfErr, OnOk, IsOk, Some};
 ghost use Rattle.std.specs.Str.{IsUtf8};
-ghost use Rattle.compact_str.specs.Words.{text_of, new};
+ghost use Rattle.compact_str.specs.Words.{text_of, utf8, INLINE_CAPACITY, IsPlacedAsNew, standard_growth};
 ghost use Rattle.compact_codec.specs.InvalidSequence.{IsUtf8Error};
 ghost use Rattle.compact_codec.specs.Utf8Text.{BytesEncode, utf8_lossy_text};
 ghost use Rattle.compact_str.specs.FittedValues.{MakesText};
@@ -36,12 +36,14 @@ impl PolicyString<Standard> {
     #[inline]
     #[tactic(auto, using(crate::proofs::FittedTexts::strict_facts))]
     pub fn from_utf8(alloc: Global, bytes: &[u8]) -> Result<CompactString, FromUtf8Error>
-        ensures ok { IfOk result
-            (λ v. new ⟦<Standard as Policy>⟧.growth (text_of bytes.now) ≡ Some v) }
+        // On success the bytes are valid, and are copied as by `new`.
         ensures text { IfOk result (λ v. v.text ≡ text_of bytes.now) }
         ensures encoded { IfOk result (λ v. BytesEncode bytes.now v.text) }
         ensures valid { OnOk result (IsUtf8 bytes.now) }
-        ensures succeeds { IsUtf8 bytes.now → length bytes.now ≤ 24 → IsOk result }
+        ensures place { IfOk result (IsPlacedAsNew standard_growth) }
+
+        // `Utf8` says where the bytes stop being valid. `Reserve` comes for valid ones past 24.
+        ensures succeeds { IsUtf8 bytes.now → length bytes.now ≤ INLINE_CAPACITY → IsOk result }
         ensures err { IfErr result (IsUtf8Refusal bytes.now) }
     {
         match utf8::validate(bytes) {
@@ -92,7 +94,7 @@ impl PolicyString<Standard> {
     #[inline]
     pub fn from_utf8_unchecked(alloc: Global, bytes: &[u8]) -> Result<CompactString, ReserveError>
         requires { IsUtf8 bytes.now }
-        ensures { CopiesText ⟦<Standard as Policy>⟧.growth bytes.now result }
+        ensures { CopiesText standard_growth bytes.now result }
     {
         Self::new(alloc, unsafe { std::str::from_utf8_unchecked(bytes) })
     }

@@ -1,9 +1,9 @@
 //! Collecting texts and characters.
-ghost use Rattle.std.specs.Prelude.{◌≡◌, ◌+◌, flat_map, fold, map, IfOk, OnErr};
+ghost use Rattle.std.specs.Prelude.{◌≡◌, ◌+◌, ◌≤◌, IsOk, flat_map, fold, map, IfOk, OnErr};
 ghost use Rattle.std.specs.Iterator.{IsFiniteIterable};
-ghost use Rattle.compact_str.specs.Words.{size};
+ghost use Rattle.compact_str.specs.Words.{INLINE_CAPACITY, size};
 ghost use Rattle.compact_str.specs.FittedValues.{IsPlacedBySize};
-ghost use Rattle.compact_str.specs.Collect.{OfIterator, OfItems, OfDrained, PassesInline, Collects};
+ghost use Rattle.compact_str.specs.Collect.{OfIterator, OfItems, OfAllItems, OfDrained, PassesInline, Collects};
 
 use crate::builder::{Builder, COLLECTED};
 use crate::iter::AsText;
@@ -21,7 +21,7 @@ fn collect_pieces<P: Policy, T: Piece, U: IntoIterator<Item = T>>(
     ensures ok { IfOk result
         (λ v. OfDrained U.into_iter_gives U.IntoIter.next_gives iter
         (λ xs. v.text ≡ flat_map T.text xs)) }
-    ensures fitted { IfOk result IsPlacedBySize }
+    ensures place { IfOk result IsPlacedBySize }
     ensures err { OnErr result
         (OfIterator U.into_iter_gives iter
         (λ it. PassesInline U.IntoIter.next_gives (flat_map T.text) it)) }
@@ -59,11 +59,25 @@ impl<P: Policy> PolicyString<P> {
     ) -> Result<Self, ReserveError>
         requires { IsFiniteIterable U.into_iter_gives U.IntoIter.can_next U.IntoIter.remaining
             texts }
-        ensures collects { Collects U.into_iter_gives U.IntoIter.next_gives (flat_map T.text) texts
-            result }
+
+        // On success the result has all texts.
+        ensures text { IfOk result
+            (λ v. OfItems U.into_iter_gives U.IntoIter.next_gives texts
+            (λ xs. v.text ≡ flat_map T.text xs)) }
+        ensures drained { IfOk result
+            (λ v. OfDrained U.into_iter_gives U.IntoIter.next_gives texts
+            (λ xs. v.text ≡ flat_map T.text xs)) }
         ensures size { IfOk result
             (λ v. OfItems U.into_iter_gives U.IntoIter.next_gives texts
             (λ xs. size v.text ≡ fold (λ n text. n + size (T.text text)) 0 xs)) }
+        ensures place { IfOk result IsPlacedBySize }
+
+        // It fails only past 24 bytes.
+        ensures succeeds { OfAllItems U.into_iter_gives U.IntoIter.next_gives texts
+            (λ xs. size (flat_map T.text xs) ≤ INLINE_CAPACITY) → IsOk result }
+        ensures allocates { OnErr result
+            (OfIterator U.into_iter_gives texts
+            (λ it. PassesInline U.IntoIter.next_gives (flat_map T.text) it)) }
     {
         collect_pieces(alloc, texts)
     }

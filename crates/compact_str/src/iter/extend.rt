@@ -1,8 +1,8 @@
 //! Appending the items of an iterator.
-ghost use Rattle.std.specs.Prelude.{flat_map, map, OnOk, OnErr, IsOk};
+ghost use Rattle.std.specs.Prelude.{◌≡◌, ◌≤◌, ◌++◌, flat_map, map, OnOk, OnErr, IsOk};
 ghost use Rattle.std.specs.Iterator.{IsFiniteIterable};
-ghost use Rattle.compact_str.specs.Words.{size, HasRoomFor};
-ghost use Rattle.compact_str.specs.Collect.{OfIterator, OfAllItems, Appends, AppendsAll, AppendsUpToRefused, Extends, char_text};
+ghost use Rattle.compact_str.specs.Words.{size, IsBoundary, text_before, infallible_capacity, HasRoomFor};
+ghost use Rattle.compact_str.specs.Collect.{OfIterator, OfItems, OfAllItems, Appends, AppendsAll, AppendsUpToRefused, Extends, char_text};
 
 use crate::iter::AsText;
 use crate::iter::piece::Piece;
@@ -53,8 +53,27 @@ impl<P: Policy> PolicyString<P> {
     ) -> Result<(), ReserveError>
         requires { IsFiniteIterable U.into_iter_gives U.IntoIter.can_next U.IntoIter.remaining
             texts }
-        ensures { Extends U.into_iter_gives U.IntoIter.next_gives P.growth T.text (flat_map T.text)
-            texts self.old result self.new }
+
+        // On success all texts are appended, each as by `push_str`.
+        ensures text { OnOk result
+            (OfItems U.into_iter_gives U.IntoIter.next_gives texts
+            (λ xs. self.new.text ≡ self.old.text ++ flat_map T.text xs)) }
+        ensures pushes { OnOk result
+            (OfIterator U.into_iter_gives texts
+            (λ it. AppendsAll U.IntoIter.next_gives P.growth T.text it self.old self.new)) }
+
+        // On failure too, the old text stays in front, and the capacity never shrinks.
+        ensures boundary { IsBoundary self.new.text (size self.old.text) }
+        ensures front { text_before self.new.text (size self.old.text) ≡ self.old.text }
+        ensures room { infallible_capacity self.old ≤ infallible_capacity self.new }
+
+        // It fails only at a text for which it must allocate, never if there is room for all.
+        ensures succeeds { OfAllItems U.into_iter_gives U.IntoIter.next_gives texts
+            (λ xs. HasRoomFor self.old (size (flat_map T.text xs))) → IsOk result }
+        ensures err { OnErr result
+            (OfIterator U.into_iter_gives texts
+            (λ it. AppendsUpToRefused U.IntoIter.next_gives P.growth T.text it self.old
+            self.new)) }
     {
         extend_pieces(self, texts)
     }

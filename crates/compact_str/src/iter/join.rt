@@ -81,7 +81,7 @@ fn join_pieces<P: Policy, T: AsText, I: Iterator<Item = T> + Drop>(
     ensures ok { IfOk result
         (λ v. (xs : List T) × Drains I.next_gives pieces xs
         × (v.text ≡ join (text_of separator.now) T.text xs)) }
-    ensures fitted { IfOk result IsPlacedBySize }
+    ensures place { IfOk result IsPlacedBySize }
     ensures err { OnErr result
         (PassesInline I.next_gives (join (text_of separator.now) T.text) pieces) }
 {

@@ -1,6 +1,6 @@
 //! Items to collect or append: texts and characters.
-ghost use Rattle.std.specs.Prelude.{◌≡◌, ℕ, ◌+◌, ◌<◌, List, ◌++◌, OnOk, OnErr, IsOk, Some};
-ghost use Rattle.compact_str.specs.Words.{size, push_str, PushStrAllocates, HasRoomFor};
+ghost use Rattle.std.specs.Prelude.{◌≡◌, ℕ, ◌+◌, ◌<◌, List, ◌++◌, OnOk, OnErr, IsOk};
+ghost use Rattle.compact_str.specs.Words.{INLINE_CAPACITY, size, PlacedFor, AllocatesFor, room_to_append, HasRoomFor};
 ghost use Rattle.compact_str.specs.Collect.{char_text};
 
 use crate::builder::{Builder, COLLECTED};
@@ -19,10 +19,13 @@ pub trait Piece: Drop {
     ///
     /// [`ReserveError`] as from `push_str`.
     fn push_to<P: Policy>(&self, value: &mut PolicyString<P>) -> Result<(), ReserveError>
-        ensures ok { OnOk result (push_str P.growth value.old (text self.now) ≡ Some value.new) }
+        ensures text { OnOk result (value.new.text ≡ value.old.text ++ text self.now) }
+        ensures place { OnOk result
+            (PlacedFor P.growth value.old value.new (room_to_append (size (text self.now)))) }
         ensures succeeds { HasRoomFor value.old (size (text self.now)) → IsOk result }
-        ensures err { OnErr result
-            ((value.new ≡ value.old) × PushStrAllocates value.old (text self.now)) };
+        ensures allocates { OnErr result
+            (AllocatesFor value.old (room_to_append (size (text self.now)))) }
+        ensures err { OnErr result (value.new ≡ value.old) };
 
     /// Appends the piece to a builder.
     ///
@@ -34,7 +37,7 @@ pub trait Piece: Drop {
         gathered: &mut Builder<P, COLLECTED>,
     ) -> Result<(), ReserveError>
         ensures ok { OnOk result (gathered.new ≡ gathered.old ++ text self.now) }
-        ensures err { OnErr result (24 < size gathered.old + size (text self.now)) };
+        ensures err { OnErr result (INLINE_CAPACITY < size gathered.old + size (text self.now)) };
 }
 
 impl<T: AsText> Piece for T {

@@ -120,7 +120,7 @@ impl<P: Policy> PolicyString<P> {
     /// assert!(rt; !CompactString::new(alloc, " ")?.is_empty());
     /// ```
     #[inline]
-    #[tactic(auto, using(crate::proofs::EditFacts::append_facts))]
+    #[tactic(auto, using(compact_text::proofs::Texts::empty_text))]
     pub fn is_empty(&self) -> bool
         ensures { IsTrue result ↔ (self.now.text ≡ []) }
     {

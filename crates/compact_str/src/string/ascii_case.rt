@@ -1,6 +1,6 @@
 //! ASCII case.
-ghost use Rattle.std.specs.Prelude.{◌≡◌, ℕ, ◌≤◌, Some, IfOk, OnOk, OnErr, IsOk};
-ghost use Rattle.compact_str.specs.Words.{size, ascii_lowercase, ascii_uppercase, IsBoundary, new, make_ascii_lowercase, make_ascii_uppercase, WithCapacityAllocates, MakeOwnedAllocates, IsOwned};
+ghost use Rattle.std.specs.Prelude.{◌≡◌, ℕ, ◌<◌, ◌≤◌, IfOk, OnOk, OnErr, IsOk};
+ghost use Rattle.compact_str.specs.Words.{size, ascii_lowercase, ascii_uppercase, IsBoundary, IsOwned, INLINE_CAPACITY, IsPlacedAsNew, PlacedFor, AllocatesFor, owned};
 
 use crate::string::PolicyString;
 use compact_repr::{Policy, ReserveError};
@@ -22,12 +22,16 @@ impl<P: Policy> PolicyString<P> {
     /// ```
     #[tactic(auto, using(crate::proofs::EditFacts::case_facts))]
     pub fn make_ascii_lowercase(&mut self) -> Result<(), ReserveError>
-        ensures ok { OnOk result (make_ascii_lowercase P.growth self.old ≡ Some self.new) }
+        // On success A to Z are made lower case. The string is owned.
         ensures text { OnOk result (self.new.text ≡ ascii_lowercase self.old.text) }
         ensures boundaries { (i : ℕ) → IsBoundary self.old.text i → IsBoundary self.new.text i }
+        ensures place { OnOk result (PlacedFor P.growth self.old self.new owned) }
+
+        // It fails only where a long static string must be copied, and then changes nothing.
         ensures succeeds { IsOwned self.old → IsOk result }
-        ensures succeeds_short { size self.old.text ≤ 24 → IsOk result }
-        ensures err { OnErr result ((self.new ≡ self.old) × MakeOwnedAllocates self.old) }
+        ensures succeeds_short { size self.old.text ≤ INLINE_CAPACITY → IsOk result }
+        ensures allocates { OnErr result (AllocatesFor self.old owned) }
+        ensures err { OnErr result (self.new ≡ self.old) }
     {
         self.repr.make_owned()?;
         self.repr.make_ascii_lowercase();
@@ -49,12 +53,16 @@ impl<P: Policy> PolicyString<P> {
     /// ```
     #[tactic(auto, using(crate::proofs::EditFacts::case_facts))]
     pub fn make_ascii_uppercase(&mut self) -> Result<(), ReserveError>
-        ensures ok { OnOk result (make_ascii_uppercase P.growth self.old ≡ Some self.new) }
+        // On success a to z are made upper case. The string is owned.
         ensures text { OnOk result (self.new.text ≡ ascii_uppercase self.old.text) }
         ensures boundaries { (i : ℕ) → IsBoundary self.old.text i → IsBoundary self.new.text i }
+        ensures place { OnOk result (PlacedFor P.growth self.old self.new owned) }
+
+        // It fails only where a long static string must be copied, and then changes nothing.
         ensures succeeds { IsOwned self.old → IsOk result }
-        ensures succeeds_short { size self.old.text ≤ 24 → IsOk result }
-        ensures err { OnErr result ((self.new ≡ self.old) × MakeOwnedAllocates self.old) }
+        ensures succeeds_short { size self.old.text ≤ INLINE_CAPACITY → IsOk result }
+        ensures allocates { OnErr result (AllocatesFor self.old owned) }
+        ensures err { OnErr result (self.new ≡ self.old) }
     {
         self.repr.make_owned()?;
         self.repr.make_ascii_uppercase();
@@ -75,10 +83,12 @@ impl<P: Policy> PolicyString<P> {
     /// ```
     #[tactic(auto, using(crate::proofs::EditFacts::case_facts))]
     pub fn to_ascii_lowercase(&self) -> Result<Self, ReserveError>
-        ensures ok { IfOk result (λ v. new P.growth (ascii_lowercase self.now.text) ≡ Some v) }
         ensures text { IfOk result (λ v. v.text ≡ ascii_lowercase self.now.text) }
-        ensures succeeds { size self.now.text ≤ 24 → IsOk result }
-        ensures err { OnErr result (WithCapacityAllocates (size self.now.text)) }
+        ensures place { IfOk result (IsPlacedAsNew P.growth) }
+
+        // It fails only past 24 bytes.
+        ensures succeeds { size self.now.text ≤ INLINE_CAPACITY → IsOk result }
+        ensures allocates { OnErr result (INLINE_CAPACITY < size self.now.text) }
     {
         let mut copy = Self::new(self.allocator(), self.as_str())?;
         copy.repr.make_ascii_lowercase();
@@ -99,10 +109,12 @@ impl<P: Policy> PolicyString<P> {
     /// ```
     #[tactic(auto, using(crate::proofs::EditFacts::case_facts))]
     pub fn to_ascii_uppercase(&self) -> Result<Self, ReserveError>
-        ensures ok { IfOk result (λ v. new P.growth (ascii_uppercase self.now.text) ≡ Some v) }
         ensures text { IfOk result (λ v. v.text ≡ ascii_uppercase self.now.text) }
-        ensures succeeds { size self.now.text ≤ 24 → IsOk result }
-        ensures err { OnErr result (WithCapacityAllocates (size self.now.text)) }
+        ensures place { IfOk result (IsPlacedAsNew P.growth) }
+
+        // It fails only past 24 bytes.
+        ensures succeeds { size self.now.text ≤ INLINE_CAPACITY → IsOk result }
+        ensures allocates { OnErr result (INLINE_CAPACITY < size self.now.text) }
     {
         let mut copy = Self::new(self.allocator(), self.as_str())?;
         copy.repr.make_ascii_uppercase();

@@ -1,6 +1,6 @@
 //! Reserving and shrinking.
-ghost use Rattle.std.specs.Prelude.{◌≡◌, Some, OnOk, OnErr};
-ghost use Rattle.compact_str.specs.Words.{make_owned, Shrinks, Reserves, MakeOwnedAllocates, IsOwned};
+ghost use Rattle.std.specs.Prelude.{◌≡◌, OnOk, OnErr, IsOk};
+ghost use Rattle.compact_str.specs.Words.{Shrinks, IsOwned, PlacedFor, AllocatesFor, owned, room, HasRoomFor};
 
 use crate::string::PolicyString;
 use compact_repr::{Policy, ReserveError};
@@ -24,7 +24,15 @@ impl<P: Policy> PolicyString<P> {
     /// ```
     #[inline]
     pub fn reserve(&mut self, additional: usize) -> Result<(), ReserveError>
-        ensures { Reserves P.growth self.old additional result self.new }
+        // The text stays. On success there is room for `additional` more bytes.
+        ensures text { self.new.text ≡ self.old.text }
+        ensures place { OnOk result (PlacedFor P.growth self.old self.new (room additional)) }
+        ensures room { OnOk result (HasRoomFor self.new additional) }
+
+        // It fails only where it must allocate, never if there is room, and then changes nothing.
+        ensures succeeds { HasRoomFor self.old additional → IsOk result }
+        ensures allocates { OnErr result (AllocatesFor self.old (room additional)) }
+        ensures err { OnErr result (self.new ≡ self.old) }
     {
         self.repr.reserve(additional)
     }
@@ -40,7 +48,12 @@ impl<P: Policy> PolicyString<P> {
     /// See [`reserve`].
     #[inline]
     pub fn try_reserve(&mut self, additional: usize) -> Result<(), ReserveError>
-        ensures { Reserves P.growth self.old additional result self.new }
+        ensures text { self.new.text ≡ self.old.text }
+        ensures place { OnOk result (PlacedFor P.growth self.old self.new (room additional)) }
+        ensures room { OnOk result (HasRoomFor self.new additional) }
+        ensures succeeds { HasRoomFor self.old additional → IsOk result }
+        ensures allocates { OnErr result (AllocatesFor self.old (room additional)) }
+        ensures err { OnErr result (self.new ≡ self.old) }
     {
         self.reserve(additional)
     }
@@ -90,10 +103,11 @@ impl<P: Policy> PolicyString<P> {
     #[inline(always)]
     #[tactic(auto, using(crate::proofs::Drains::owned_facts))]
     pub(crate) fn make_owned(&mut self) -> Result<(), ReserveError>
-        ensures ok { OnOk result (make_owned P.growth self.old ≡ Some self.new) }
         ensures text { self.new.text ≡ self.old.text }
+        ensures place { OnOk result (PlacedFor P.growth self.old self.new owned) }
         ensures owned { OnOk result (IsOwned self.new) }
-        ensures err { OnErr result ((self.new ≡ self.old) × MakeOwnedAllocates self.old) }
+        ensures allocates { OnErr result (AllocatesFor self.old owned) }
+        ensures err { OnErr result (self.new ≡ self.old) }
     {
         self.repr.make_owned()
     }

@@ -1,11 +1,11 @@
 //! Creating strings.
-ghost use Rattle.std.specs.Prelude.{◌≡◌, ◌<◌, ℕ, List, [], length, IfOk, IfErr, IsOk, ◌↔◌, MatchOption, MatchResult, string_bytes};
+ghost use Rattle.std.specs.Prelude.{◌≡◌, ◌<◌, ◌≤◌, ℕ, List, [], length, IfOk, IfErr, OnErr, IsOk, ◌↔◌, MatchOption, MatchResult, string_bytes};
 ghost use Rattle.std.specs.Str.{IsUtf8};
 ghost use Rattle.std.specs.Vec.{vec_capacity};
 ghost use Rattle.std.specs.String.{string_capacity, from_utf8_error_vec, from_utf8_error_cause};
 ghost use Rattle.std.specs.Box.{boxed_str_bytes};
 ghost use Rattle.std.specs.Cow.{cow_str_bytes};
-ghost use Rattle.compact_str.specs.Words.{text_of, utf8, placed_text, IsHeap, inline_placement, const_new_placement, from_string_placement, MakesEmpty};
+ghost use Rattle.compact_str.specs.Words.{text_of, utf8, placed_text, IsHeap, inline_placement, const_new_placement, from_string_placement, INLINE_CAPACITY, IsPlacedAsNew, HasNewCapacity, HasRoomFor};
 ghost use Rattle.compact_repr.specs.Packed.{IsPackedFor};
 ghost use Rattle.compact_str.specs.Conversions.{CopiesText, string_buffer_placement, TakesCow, IsFreeCow};
 ghost use Rattle.compact_str.specs.DecodeErrors.{IsErrorOf};
@@ -56,7 +56,14 @@ impl<P: Policy> PolicyString<P> {
     /// ```
     #[inline]
     pub fn new(alloc: Global, text: &str) -> Result<Self, ReserveError>
-        ensures { CopiesText P.growth text.now result }
+        // Inline up to 24 bytes, else on the heap, with at least the policy's least capacity.
+        ensures text { IfOk result (λ v. v.text ≡ text_of text.now) }
+        ensures bytes { IfOk result (λ v. utf8 v.text ≡ text.now) }
+        ensures place { IfOk result (IsPlacedAsNew P.growth) }
+
+        // It fails only past 24 bytes.
+        ensures succeeds { length text.now ≤ INLINE_CAPACITY → IsOk result }
+        ensures allocates { OnErr result (INLINE_CAPACITY < length text.now) }
     {
         match Repr::new(alloc, text) {
             Ok(repr) => Ok(PolicyString { repr }),
@@ -161,7 +168,14 @@ impl<P: Policy> PolicyString<P> {
     /// assert_eq!(rt; line.capacity(), 32);
     /// ```
     pub fn with_capacity(alloc: Global, capacity: usize) -> Result<Self, ReserveError>
-        ensures { MakesEmpty P.growth capacity result }
+        // Inline up to 24 bytes, else on the heap, with at least the policy's least capacity.
+        ensures text { IfOk result (λ v. v.text ≡ []) }
+        ensures place { IfOk result (HasNewCapacity P.growth capacity) }
+        ensures room { IfOk result (λ v. HasRoomFor v capacity) }
+
+        // It fails only past 24 bytes.
+        ensures succeeds { capacity ≤ INLINE_CAPACITY → IsOk result }
+        ensures allocates { OnErr result (INLINE_CAPACITY < capacity) }
     {
         match Repr::with_capacity(alloc, capacity) {
             Ok(repr) => Ok(PolicyString { repr }),
@@ -179,7 +193,11 @@ impl<P: Policy> PolicyString<P> {
     ///
     /// See [`with_capacity`].
     pub fn try_with_capacity(alloc: Global, capacity: usize) -> Result<Self, ReserveError>
-        ensures { MakesEmpty P.growth capacity result }
+        ensures text { IfOk result (λ v. v.text ≡ []) }
+        ensures place { IfOk result (HasNewCapacity P.growth capacity) }
+        ensures room { IfOk result (λ v. HasRoomFor v capacity) }
+        ensures succeeds { capacity ≤ INLINE_CAPACITY → IsOk result }
+        ensures allocates { OnErr result (INLINE_CAPACITY < capacity) }
     {
         Self::with_capacity(alloc, capacity)
     }

@@ -1,9 +1,9 @@
 //! A draining iterator.
-ghost use Rattle.std.specs.Prelude.{◌≡◌, ℕ, List, [], ◌∷◌, length, IfSome, MatchOption};
+ghost use Rattle.std.specs.Prelude.{◌≡◌, ℕ, ◌≤◌, List, [], ◌∷◌, length, IfSome, IfOk, IsOk, OnErr, MatchOption};
 ghost use Rattle.std.specs.Char.{len_utf8};
 ghost use Rattle.std.specs.Borrow.{sem, RestsIfErr};
-ghost use Rattle.compact_str.specs.Words.{size, utf8, text_of};
-ghost use Rattle.compact_str.specs.Ranges.{IsRange, IsSpan, range_start, range_end};
+ghost use Rattle.compact_str.specs.Words.{size, utf8, text_of, IsOwned, INLINE_CAPACITY, PlacedFor, AllocatesFor, owned};
+ghost use Rattle.compact_str.specs.Ranges.{IsRange, IsSpan, part_in, replaced_in};
 
 use crate::string::PolicyString;
 use compact_repr::{Policy, ReserveError};
@@ -32,7 +32,7 @@ pub struct Drain<'a, P: Policy> {
 }
 
 impl<P: Policy> PolicyString<P> {
-    ghost use Rattle.compact_str.specs.Drain.{drain_lender, DrainsRange};
+    ghost use Rattle.compact_str.specs.Drain.{drain_lender, drain_rest, value_after_drain};
     ghost use Rattle.compact_str.specs.contracts.string.PolicyString.{the_row};
 
     /// Removes a range of bytes, which `check_range` must accept, and returns its characters as an iterator. The range
@@ -59,11 +59,22 @@ impl<P: Policy> PolicyString<P> {
         end: Bound<usize>,
     ) -> Result<Drain<'_, P>, ReserveError>
         requires { IsRange self.old.text start end }
+
+        // On success the iterator has the range, and its drop leaves the rest of the string, owned.
+        ensures same_reference { IfOk result (λ d. drain_lender d ≡ self.entry.ghost_name) }
+        ensures rest { IfOk result (λ d. drain_rest d ≡ part_in self.old.text start end) }
+        ensures text { IfOk result
+            (λ d. (value_after_drain d).text ≡ replaced_in self.old.text start end []) }
+        ensures place { IfOk result
+            (λ d. PlacedFor P.growth self.old (value_after_drain d) owned) }
+
+        // It fails only where a long static string must be copied, and then changes nothing.
+        ensures succeeds { IsOwned self.old → IsOk result }
+        ensures succeeds_short { size self.old.text ≤ INLINE_CAPACITY → IsOk result }
+        ensures allocates { OnErr result (AllocatesFor self.old owned) }
         ensures* refused { sem 𝓛
             (RestsIfErr (the_row P.row P.Policy) self.entry drain_lender result
             (λ v. v ≡ self.old)) }
-        ensures drains { DrainsRange P.growth self.old self.entry.ghost_name (range_start start)
-            (range_end self.old.text end) result }
     {
         let Some((start, end)) = self.byte_range(start, end) else {
             unreachable!();

@@ -1,9 +1,10 @@
 //! Editing by byte position.
-ghost use Rattle.std.specs.Prelude.{◌≡◌, ℕ, ◌+◌, ◌-◌, ◌<◌, ◌≤◌, ◌∷◌, [], length, Some, None, IfOk, OnErr, IsOk, MatchOption};
+ghost use Rattle.std.specs.Prelude.{◌≡◌, ℕ, ◌+◌, ◌-◌, ◌^◌, ◌<◌, ◌≤◌, ◌∷◌, [], length, Some, None, IfOk, OnOk, OnErr, IsOk, MatchOption};
 ghost use Rattle.std.specs.Char.{len_utf8, encode_utf8};
-ghost use Rattle.compact_str.specs.Words.{size, text_of, IsCut, IsBoundary, insert_str, IsStatic};
-ghost use Rattle.compact_str.specs.Edits.{InsertsStr, RemovesChar, ReplacesRange, SplitsOff, SplitAllocates};
-ghost use Rattle.compact_str.specs.Ranges.{IsRange, IsPart, range_start, range_end};
+ghost use Rattle.std.specs.List.{insert_slice};
+ghost use Rattle.compact_str.specs.Words.{size, text_of, utf8, text_before, text_after, replaced_text, IsCut, IsBoundary, IsStatic, IsOwned, INLINE_CAPACITY, KeepsPlace, PlacedFor, AllocatesFor, owned, room, room_to_replace, HasRoomFor, infallible_capacity};
+ghost use Rattle.compact_str.specs.Edits.{IsPlacedAsTail, SplitAllocates};
+ghost use Rattle.compact_str.specs.Ranges.{IsRange, IsPart, range_start, range_end, len_in, replaced_in};
 
 use crate::string::PolicyString;
 use compact_repr::{Policy, Repr, ReserveError};
@@ -79,8 +80,23 @@ impl<P: Policy> PolicyString<P> {
     #[tactic(auto, using(crate::proofs::EditFacts::insertion_facts))]
     pub fn insert_str(&mut self, index: usize, text: &str) -> Result<(), ReserveError>
         requires { IsBoundary self.old.text index }
-        ensures { InsertsStr P.growth self.old index (text_of text.now) text.now (length text.now)
-            result self.new }
+
+        // On success `text` stands at `index`, between two boundaries. The capacity never shrinks.
+        ensures text { OnOk result
+            (self.new.text ≡ replaced_text self.old.text index index (text_of text.now)) }
+        ensures bytes { OnOk result
+            (utf8 self.new.text ≡ insert_slice (utf8 self.old.text) index text.now) }
+        ensures boundary { OnOk result (IsBoundary self.new.text index) }
+        ensures after { OnOk result (IsBoundary self.new.text (index + length text.now)) }
+        ensures after_fits { OnOk result (index + length text.now < 2 ^ 64) }
+        ensures place { OnOk result
+            (PlacedFor P.growth self.old self.new (room (length text.now))) }
+        ensures room { OnOk result (infallible_capacity self.old ≤ infallible_capacity self.new) }
+
+        // It fails only where it must allocate, never if there is room, and then changes nothing.
+        ensures succeeds { HasRoomFor self.old (length text.now) → IsOk result }
+        ensures allocates { OnErr result (AllocatesFor self.old (room (length text.now))) }
+        ensures err { OnErr result (self.new ≡ self.old) }
     {
         if self.repr.try_replace_range(index, index, text) {
             return Ok(());
@@ -106,8 +122,23 @@ impl<P: Policy> PolicyString<P> {
     #[tactic(auto, using(crate::proofs::EditFacts::insertion_facts))]
     pub fn insert(&mut self, index: usize, character: char) -> Result<(), ReserveError>
         requires { IsBoundary self.old.text index }
-        ensures { InsertsStr P.growth self.old index (character ∷ []) (encode_utf8 character)
-            (len_utf8 character) result self.new }
+
+        // On success `character` stands at `index`, between boundaries. The capacity never shrinks.
+        ensures text { OnOk result
+            (self.new.text ≡ replaced_text self.old.text index index (character ∷ [])) }
+        ensures bytes { OnOk result
+            (utf8 self.new.text ≡ insert_slice (utf8 self.old.text) index (encode_utf8 character)) }
+        ensures boundary { OnOk result (IsBoundary self.new.text index) }
+        ensures after { OnOk result (IsBoundary self.new.text (index + len_utf8 character)) }
+        ensures after_fits { OnOk result (index + len_utf8 character < 2 ^ 64) }
+        ensures place { OnOk result
+            (PlacedFor P.growth self.old self.new (room (len_utf8 character))) }
+        ensures room { OnOk result (infallible_capacity self.old ≤ infallible_capacity self.new) }
+
+        // It fails only where it must allocate, never if there is room, and then changes nothing.
+        ensures succeeds { HasRoomFor self.old (len_utf8 character) → IsOk result }
+        ensures allocates { OnErr result (AllocatesFor self.old (room (len_utf8 character))) }
+        ensures err { OnErr result (self.new ≡ self.old) }
     {
         if character.is_ascii() && self.repr.try_insert_ascii(index, character as u8) {
             return Ok(());
@@ -131,11 +162,23 @@ impl<P: Policy> PolicyString<P> {
     /// assert_eq!(rt; text.as_str(), "ab");
     /// ```
     #[inline]
-    #[tactic(auto, using(crate::proofs::EditFacts::position_facts))]
+    #[tactic(auto, using(crate::proofs::EditFacts::removal_facts))]
     pub fn remove(&mut self, index: usize) -> Result<char, ReserveError>
         requires boundary { IsBoundary self.old.text index }
         requires within { index < size self.old.text }
-        ensures { RemovesChar P.growth self.old index result self.new }
+
+        // On success the character at `index` is removed and returned. The string is owned.
+        ensures character { IfOk result
+            (λ c. text_after self.old.text index ≡ c ∷ text_after self.new.text index) }
+        ensures text { IfOk result
+            (λ c. self.new.text ≡ replaced_text self.old.text index (index + len_utf8 c) []) }
+        ensures place { OnOk result (PlacedFor P.growth self.old self.new owned) }
+
+        // It fails only where a long static string must be copied, and then changes nothing.
+        ensures succeeds { IsOwned self.old → IsOk result }
+        ensures succeeds_short { size self.old.text ≤ INLINE_CAPACITY → IsOk result }
+        ensures allocates { OnErr result (AllocatesFor self.old owned) }
+        ensures err { OnErr result (self.new ≡ self.old) }
     {
         if let Some(character) = self.repr.try_remove_ascii(index) {
             return Ok(character);
@@ -145,11 +188,17 @@ impl<P: Policy> PolicyString<P> {
 
     /// `remove` for any character and place.
     #[inline(never)]
-    #[tactic(auto, using(crate::proofs::EditFacts::position_facts))]
+    #[tactic(auto, using(crate::proofs::EditFacts::removal_facts))]
     fn remove_char(&mut self, index: usize) -> Result<char, ReserveError>
         requires boundary { IsBoundary self.old.text index }
         requires within { index < size self.old.text }
-        ensures { RemovesChar P.growth self.old index result self.new }
+        ensures character { IfOk result
+            (λ c. text_after self.old.text index ≡ c ∷ text_after self.new.text index) }
+        ensures text { IfOk result
+            (λ c. self.new.text ≡ replaced_text self.old.text index (index + len_utf8 c) []) }
+        ensures place { OnOk result (PlacedFor P.growth self.old self.new owned) }
+        ensures allocates { OnErr result (AllocatesFor self.old owned) }
+        ensures err { OnErr result (self.new ≡ self.old) }
     {
         if let Some(character) = self.repr.try_remove(index) {
             return Ok(character);
@@ -185,8 +234,23 @@ impl<P: Policy> PolicyString<P> {
         text: &str,
     ) -> Result<(), ReserveError>
         requires { IsRange self.old.text start end }
-        ensures { ReplacesRange P.growth self.old (range_start start) (range_end self.old.text end)
-            text.now result self.new }
+
+        // On success the range is replaced. The string is owned, with room for what it grew by.
+        ensures text { OnOk result
+            (self.new.text ≡ replaced_in self.old.text start end (text_of text.now)) }
+        ensures place { OnOk result
+            (PlacedFor P.growth self.old self.new
+            (room_to_replace (len_in self.old.text start end) (length text.now))) }
+
+        // It fails only where it must allocate, never if there is room, and then changes nothing.
+        ensures succeeds { HasRoomFor self.old (length text.now - len_in self.old.text start end)
+            → IsOk result }
+        ensures succeeds_owned { IsOwned self.old
+            → length text.now ≤ len_in self.old.text start end → IsOk result }
+        ensures allocates { OnErr result
+            (AllocatesFor self.old
+            (room_to_replace (len_in self.old.text start end) (length text.now))) }
+        ensures err { OnErr result (self.new ≡ self.old) }
     {
         let Some((first, last)) = self.byte_range(start, end) else {
             unreachable!();
@@ -216,13 +280,21 @@ impl<P: Policy> PolicyString<P> {
     #[tactic(auto, using(crate::proofs::EditFacts::position_facts))]
     pub fn split_off(&mut self, index: usize) -> Result<Self, ReserveError>
         requires { IsBoundary self.old.text index }
-        ensures ok { IfOk result (λ tail. SplitsOff P.growth self.old index tail self.new) }
+
+        // On success the rest is returned, and the string keeps what is before it, in its place.
+        ensures text { OnOk result (self.new.text ≡ text_before self.old.text index) }
+        ensures tail { IfOk result (λ tail. tail.text ≡ text_after self.old.text index) }
         ensures cut { IfOk result (λ tail. IsCut self.old.text index self.new.text tail.text) }
         ensures boundaries { IsOk result → (i : ℕ) → i ≤ index → IsBoundary self.old.text i
             → IsBoundary self.new.text i }
-        ensures succeeds { size self.old.text ≤ index + 24 → IsOk result }
+        ensures place { OnOk result (KeepsPlace self.old self.new) }
+        ensures tail_place { IfOk result (IsPlacedAsTail P.growth self.old) }
+
+        // It fails only if the rest is past 24 bytes and not static, and then changes nothing.
+        ensures succeeds { size self.old.text ≤ index + INLINE_CAPACITY → IsOk result }
         ensures succeeds_static { IsStatic self.old → IsOk result }
-        ensures err { OnErr result ((self.new ≡ self.old) × SplitAllocates self.old index) }
+        ensures allocates { OnErr result (SplitAllocates self.old index) }
+        ensures err { OnErr result (self.new ≡ self.old) }
     {
         let alloc = self.repr.allocator();
         let repr = match self.repr.static_suffix(index) {

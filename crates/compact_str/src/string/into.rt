@@ -5,7 +5,7 @@ ghost use Rattle.std.specs.String.{string_capacity};
 ghost use Rattle.std.specs.Box.{boxed_str_bytes};
 ghost use Rattle.std.specs.Rc.{rc_str_bytes};
 ghost use Rattle.std.specs.Cow.{cow_str_bytes, IsBorrowedStr};
-ghost use Rattle.compact_str.specs.Words.{size, utf8, text_of, IsInline, IsOwned, IsStatic, IsHeap, MakeOwnedAllocates};
+ghost use Rattle.compact_str.specs.Words.{size, utf8, text_of, IsInline, IsOwned, IsStatic, IsHeap, AllocatesFor, owned, INLINE_CAPACITY};
 ghost use Rattle.compact_str.specs.Conversions.{ConvertsTo};
 
 use crate::refused::Refused;
@@ -87,9 +87,9 @@ impl<P: Policy> PolicyString<P> {
     pub fn into_bytes(self) -> Result<SmallVec<u8, 24>, Refused<Self>>
         ensures bytes { IfOk result (λ v. v.items ≡ utf8 self.text) }
         ensures text { IfOk result (λ v. text_of v.items ≡ self.text) }
-        ensures succeeds { size self.text ≤ 24 → IsOk result }
+        ensures succeeds { size self.text ≤ INLINE_CAPACITY → IsOk result }
         ensures succeeds_owned { IsOwned self → IsOk result }
-        ensures err { IfErr result (λ e. (e.value ≡ self) × MakeOwnedAllocates self) }
+        ensures err { IfErr result (λ e. (e.value ≡ self) × AllocatesFor self owned) }
     {
         let PolicyString { repr } = self;
         match repr.into_heap_string() {

@@ -1,7 +1,7 @@
 //! Appending, popping and truncating.
-ghost use Rattle.std.specs.Prelude.{◌≡◌, ℕ, ◌<◌, ◌≤◌, ◌++◌, ◌∷◌, [], IsOk, MatchOption};
+ghost use Rattle.std.specs.Prelude.{◌≡◌, ℕ, ◌<◌, ◌≤◌, ◌++◌, ◌∷◌, [], length, IsOk, IfOk, IfErr, IfNone, OnOk, OnErr, OnSome, MatchOption};
 ghost use Rattle.std.specs.Char.{len_utf8, encode_utf8};
-ghost use Rattle.compact_str.specs.Words.{size, text_of, IsBoundary, text_before, clear, truncate, PopsChar, HasRoomFor, PushesStr, AddsStr};
+ghost use Rattle.compact_str.specs.Words.{size, text_of, utf8, IsBoundary, text_before, KeepsPlace, PlacedFor, AllocatesFor, room_to_append, HasRoomFor, infallible_capacity};
 ghost use Rattle.compact_str.specs.Edits.{Writes};
 
 use crate::refused::Refused;
@@ -28,7 +28,18 @@ impl<P: Policy> PolicyString<P> {
     #[inline]
     #[tactic(auto, using(crate::proofs::EditFacts::append_facts))]
     pub fn push_str(&mut self, text: &str) -> Result<(), ReserveError>
-        ensures { PushesStr P.growth self.old (text_of text.now) text.now result self.new }
+        // On success `text` is appended. The capacity never shrinks.
+        ensures text { OnOk result (self.new.text ≡ self.old.text ++ text_of text.now) }
+        ensures bytes { OnOk result (utf8 self.new.text ≡ utf8 self.old.text ++ text.now) }
+        ensures place { OnOk result
+            (PlacedFor P.growth self.old self.new (room_to_append (length text.now))) }
+        ensures room { OnOk result (infallible_capacity self.old ≤ infallible_capacity self.new) }
+
+        // It fails only where it must allocate, never if there is room, and then changes nothing.
+        ensures succeeds { HasRoomFor self.old (length text.now) → IsOk result }
+        ensures allocates { OnErr result
+            (AllocatesFor self.old (room_to_append (length text.now))) }
+        ensures err { OnErr result (self.new ≡ self.old) }
     {
         if self.repr.try_push_str(text) {
             return Ok(());
@@ -52,9 +63,19 @@ impl<P: Policy> PolicyString<P> {
     #[inline(always)]
     #[tactic(auto, using(crate::proofs::EditFacts::character_facts))]
     pub fn push(&mut self, character: char) -> Result<(), ReserveError>
-        ensures pushes { PushesStr P.growth self.old (character ∷ []) (encode_utf8 character) result
-            self.new }
+        // On success `character` is appended. The capacity never shrinks.
+        ensures text { OnOk result (self.new.text ≡ self.old.text ++ character ∷ []) }
+        ensures bytes { OnOk result
+            (utf8 self.new.text ≡ utf8 self.old.text ++ encode_utf8 character) }
+        ensures place { OnOk result
+            (PlacedFor P.growth self.old self.new (room_to_append (len_utf8 character))) }
+        ensures room { OnOk result (infallible_capacity self.old ≤ infallible_capacity self.new) }
+
+        // It fails only where it must allocate, never if there is room, and then changes nothing.
         ensures succeeds { HasRoomFor self.old (len_utf8 character) → IsOk result }
+        ensures allocates { OnErr result
+            (AllocatesFor self.old (room_to_append (len_utf8 character))) }
+        ensures err { OnErr result (self.new ≡ self.old) }
     {
         if self.repr.try_push(character) {
             return Ok(());
@@ -66,9 +87,12 @@ impl<P: Policy> PolicyString<P> {
     #[inline(never)]
     #[tactic(auto, using(crate::proofs::EditFacts::character_facts))]
     fn push_slow(&mut self, character: char) -> Result<(), ReserveError>
-        ensures pushes { PushesStr P.growth self.old (character ∷ []) (encode_utf8 character) result
-            self.new }
-        ensures succeeds { HasRoomFor self.old (len_utf8 character) → IsOk result }
+        ensures text { OnOk result (self.new.text ≡ self.old.text ++ character ∷ []) }
+        ensures place { OnOk result
+            (PlacedFor P.growth self.old self.new (room_to_append (len_utf8 character))) }
+        ensures allocates { OnErr result
+            (AllocatesFor self.old (room_to_append (len_utf8 character))) }
+        ensures err { OnErr result (self.new ≡ self.old) }
     {
         let mut bytes = [0; 4];
         self.push_str(encode_char(character, &mut bytes))
@@ -88,7 +112,17 @@ impl<P: Policy> PolicyString<P> {
     /// assert_eq!(rt; name.as_str(), "café");
     /// ```
     pub fn add_str(mut self, text: &str) -> Result<Self, Refused<Self>>
-        ensures { AddsStr P.growth self (text_of text.now) text.now result (λ e. e.value) }
+        // On success the result is the string with `text` appended. The capacity never shrinks.
+        ensures text { IfOk result (λ v. v.text ≡ self.text ++ text_of text.now) }
+        ensures bytes { IfOk result (λ v. utf8 v.text ≡ utf8 self.text ++ text.now) }
+        ensures place { IfOk result
+            (λ v. PlacedFor P.growth self v (room_to_append (length text.now))) }
+        ensures room { IfOk result (λ v. infallible_capacity self ≤ infallible_capacity v) }
+
+        // It fails only where it must allocate, never if there is room; the error has the string.
+        ensures succeeds { HasRoomFor self (length text.now) → IsOk result }
+        ensures allocates { OnErr result (AllocatesFor self (room_to_append (length text.now))) }
+        ensures err { IfErr result (λ e. e.value ≡ self) }
     {
         match self.push_str(text) {
             Ok(()) => Ok(self),
@@ -110,9 +144,11 @@ impl<P: Policy> PolicyString<P> {
     #[inline]
     #[tactic(auto, using(crate::proofs::EditFacts::position_facts))]
     pub fn pop(&mut self) -> Option<char>
-        ensures pops { PopsChar self.old result self.new }
+        // The last character is removed and returned, or the string is empty and stays.
         ensures text { MatchOption result (self.old.text ≡ [])
             (λ c. self.old.text ≡ self.new.text ++ c ∷ []) }
+        ensures place { OnSome result (KeepsPlace self.old self.new) }
+        ensures none { IfNone result (self.new ≡ self.old) }
     {
         self.repr.pop()
     }
@@ -136,8 +172,10 @@ impl<P: Policy> PolicyString<P> {
     #[tactic(auto, using(crate::proofs::EditFacts::position_facts))]
     pub fn truncate(&mut self, len: usize)
         requires { len < size self.old.text → IsBoundary self.old.text len }
-        ensures value { self.new ≡ truncate self.old len }
         ensures text { self.new.text ≡ text_before self.old.text len }
+        ensures place { KeepsPlace self.old self.new }
+
+        // A boundary of what is left stays one.
         ensures boundaries { (i : ℕ) → i ≤ len → IsBoundary self.old.text i
             → IsBoundary self.new.text i }
     {
@@ -157,8 +195,8 @@ impl<P: Policy> PolicyString<P> {
     /// ```
     #[inline]
     pub fn clear(&mut self)
-        ensures value { self.new ≡ clear self.old }
         ensures text { self.new.text ≡ [] }
+        ensures place { KeepsPlace self.old self.new }
     {
         self.repr.clear();
     }
@@ -175,8 +213,18 @@ impl<P: Policy> fmt::Write for PolicyString<P> {
     /// to the old length removes it.
     #[tactic(auto, using(crate::proofs::EditFacts::append_facts))]
     fn write_str(&mut self, text: &str) -> fmt::Result
-        ensures ok { IsOk result → Writes P.growth self.old text.now self.new }
-        ensures pushes { PushesStr P.growth self.old (text_of text.now) text.now result self.new }
+        ensures ok { OnOk result (Writes P.growth self.old text.now self.new) }
+
+        // As `push_str`.
+        ensures text { OnOk result (self.new.text ≡ self.old.text ++ text_of text.now) }
+        ensures bytes { OnOk result (utf8 self.new.text ≡ utf8 self.old.text ++ text.now) }
+        ensures place { OnOk result
+            (PlacedFor P.growth self.old self.new (room_to_append (length text.now))) }
+        ensures room { OnOk result (infallible_capacity self.old ≤ infallible_capacity self.new) }
+        ensures succeeds { HasRoomFor self.old (length text.now) → IsOk result }
+        ensures allocates { OnErr result
+            (AllocatesFor self.old (room_to_append (length text.now))) }
+        ensures err { OnErr result (self.new ≡ self.old) }
     {
         match self.push_str(text) {
             Ok(()) => Ok(()),

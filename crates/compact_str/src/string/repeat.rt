@@ -1,6 +1,6 @@
 //! Repeating a text.
 ghost use Rattle.std.specs.Prelude.{◌≡◌, ◌≤◌, ◌*◌, [], Some, IfOk, OnErr, IsOk};
-ghost use Rattle.compact_str.specs.Words.{size, placed_text, with_capacity_placement};
+ghost use Rattle.compact_str.specs.Words.{INLINE_CAPACITY, size, placed_text, with_capacity_placement};
 ghost use Rattle.compact_str.specs.Edits.{repeat, repeated_text, RepeatAllocates};
 
 use crate::string::PolicyString;
@@ -23,7 +23,7 @@ impl<P: Policy> PolicyString<P> {
     pub fn repeat(&self, count: usize) -> Result<Self, ReserveError>
         ensures ok { IfOk result (λ v. repeat P.growth self.now count ≡ Some v) }
         ensures text { IfOk result (λ v. v.text ≡ repeated_text count self.now.text) }
-        ensures succeeds { size self.now.text * count ≤ 24 → IsOk result }
+        ensures succeeds { size self.now.text * count ≤ INLINE_CAPACITY → IsOk result }
         ensures err { OnErr result (RepeatAllocates self.now count) }
     {
         if count == 1 && !self.is_empty() {

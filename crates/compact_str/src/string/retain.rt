@@ -1,6 +1,6 @@
 //! Removing characters by a predicate.
-ghost use Rattle.std.specs.Prelude.{◌≡◌, ◌≤◌, ℕ, Bool, Some, OnOk, OnErr, IsOk, filter};
-ghost use Rattle.compact_str.specs.Words.{size, owned_placement, MakeOwnedAllocates, IsOwned};
+ghost use Rattle.std.specs.Prelude.{◌≡◌, ◌≤◌, ℕ, Bool, OnOk, OnErr, IsOk, filter};
+ghost use Rattle.compact_str.specs.Words.{size, IsOwned, INLINE_CAPACITY, PlacedFor, AllocatesFor, owned};
 ghost use Rattle.compact_repr.specs.Retain.{RetainsCharsTo};
 ghost use Rattle.compact_str.specs.RetainRules.{RetainsChars, AgreesWith};
 
@@ -28,14 +28,18 @@ impl<P: Policy> PolicyString<P> {
     #[inline]
     pub fn retain<F: FnMut(char) -> bool>(&mut self, mut keep: F) -> Result<(), ReserveError>
         requires { F.IsAlwaysCallable keep }
+
+        // On success the characters for which `keep` said so stay, in order. The string is owned.
         ensures text { OnOk result (RetainsChars F.FnMut keep self.old.text self.new.text) }
         ensures filter { (says : ℕ → Bool) → AgreesWith F.FnMut says
             → OnOk result (self.new.text ≡ filter says self.old.text) }
-        ensures placement { OnOk result
-            (owned_placement P.growth self.old ≡ Some self.new.placement) }
+        ensures place { OnOk result (PlacedFor P.growth self.old self.new owned) }
+
+        // It fails only where a long static string must be copied, and then changes nothing.
         ensures succeeds { IsOwned self.old → IsOk result }
-        ensures succeeds_short { size self.old.text ≤ 24 → IsOk result }
-        ensures err { OnErr result ((self.new ≡ self.old) × MakeOwnedAllocates self.old) }
+        ensures succeeds_short { size self.old.text ≤ INLINE_CAPACITY → IsOk result }
+        ensures allocates { OnErr result (AllocatesFor self.old owned) }
+        ensures err { OnErr result (self.new ≡ self.old) }
     {
         self.retain_by(&mut keep)
     }
@@ -64,17 +68,21 @@ impl<P: Policy> PolicyString<P> {
     #[inline]
     pub fn retain_by<F: FnMut(char) -> bool>(&mut self, keep: &mut F) -> Result<(), ReserveError>
         requires { F.IsAlwaysCallable keep.old }
+
+        // On success the characters for which `keep` said so stay, in order. The string is owned.
         ensures text { OnOk result
             (RetainsCharsTo F.FnMut keep.old self.old.text self.new.text keep.new) }
         ensures filter { (says : ℕ → Bool) → AgreesWith F.FnMut says
             → OnOk result (self.new.text ≡ filter says self.old.text) }
-        ensures placement { OnOk result
-            (owned_placement P.growth self.old ≡ Some self.new.placement) }
-        ensures succeeds { IsOwned self.old → IsOk result }
-        ensures succeeds_short { size self.old.text ≤ 24 → IsOk result }
+        ensures place { OnOk result (PlacedFor P.growth self.old self.new owned) }
         ensures callable { F.IsAlwaysCallable keep.new }
+
+        // It fails only where a long static string must be copied, and then changes nothing.
+        ensures succeeds { IsOwned self.old → IsOk result }
+        ensures succeeds_short { size self.old.text ≤ INLINE_CAPACITY → IsOk result }
+        ensures allocates { OnErr result (AllocatesFor self.old owned) }
         ensures unasked { OnErr result (keep.new ≡ keep.old) }
-        ensures err { OnErr result ((self.new ≡ self.old) × MakeOwnedAllocates self.old) }
+        ensures err { OnErr result (self.new ≡ self.old) }
     {
         self.make_owned()?;
         self.repr.retain(keep);

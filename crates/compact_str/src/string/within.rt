@@ -1,10 +1,9 @@
 //! Methods on Rust's ranges, such as `1..3`.
-ghost use Rattle.std.specs.Prelude.{◌≡◌, ◌-◌, ◌+◌, ◌≤◌, ◌++◌, Some, OnOk, OnErr, IsOk};
+ghost use Rattle.std.specs.Prelude.{◌≡◌, ◌-◌, ◌+◌, ◌≤◌, ◌++◌, [], length, Some, IfOk, OnOk, OnErr, IsOk};
 ghost use Rattle.std.specs.Borrow.{sem, RestsIfErr};
 ghost use Rattle.std.specs.Range.Bound.{bound_map};
-ghost use Rattle.compact_str.specs.Words.{utf8, substring, push_str, PushStrAllocates, HasRoomFor, infallible_capacity};
-ghost use Rattle.compact_str.specs.Edits.{ReplacesRange};
-ghost use Rattle.compact_str.specs.Ranges.{IsRange, IsPart, range_start, range_end};
+ghost use Rattle.compact_str.specs.Words.{utf8, size, text_of, IsOwned, INLINE_CAPACITY, PlacedFor, AllocatesFor, owned, room_to_append, room_to_replace, HasRoomFor, infallible_capacity};
+ghost use Rattle.compact_str.specs.Ranges.{IsRange, IsPart, range_start, range_end, part_in, len_in, replaced_in};
 
 use crate::string::PolicyString;
 use crate::string::drain::Drain;
@@ -12,7 +11,7 @@ use compact_repr::{Policy, ReserveError};
 use std::ops::{Bound, RangeBounds};
 
 impl<P: Policy> PolicyString<P> {
-    ghost use Rattle.compact_str.specs.Drain.{drain_lender, DrainsRange};
+    ghost use Rattle.compact_str.specs.Drain.{drain_lender, drain_rest, value_after_drain};
     ghost use Rattle.compact_str.specs.contracts.string.PolicyString.{the_row};
 
     /// Returns the text in a range of bytes, like `range`.
@@ -52,12 +51,25 @@ impl<P: Policy> PolicyString<P> {
     ) -> Result<Drain<'_, P>, ReserveError>
         requires known { R.has_bounds range }
         requires range { IsRange self.old.text (R.start_bound range) (R.end_bound range) }
+
+        // On success the iterator has the range, and its drop leaves the rest of the string, owned.
+        ensures same_reference { IfOk result (λ d. drain_lender d ≡ self.entry.ghost_name) }
+        ensures rest { IfOk result
+            (λ d. drain_rest d
+            ≡ part_in self.old.text (R.start_bound range) (R.end_bound range)) }
+        ensures text { IfOk result
+            (λ d. (value_after_drain d).text
+            ≡ replaced_in self.old.text (R.start_bound range) (R.end_bound range) []) }
+        ensures place { IfOk result
+            (λ d. PlacedFor P.growth self.old (value_after_drain d) owned) }
+
+        // It fails only where a long static string must be copied, and then changes nothing.
+        ensures succeeds { IsOwned self.old → IsOk result }
+        ensures succeeds_short { size self.old.text ≤ INLINE_CAPACITY → IsOk result }
+        ensures allocates { OnErr result (AllocatesFor self.old owned) }
         ensures* refused { sem 𝓛
             (RestsIfErr (the_row P.row P.Policy) self.entry drain_lender result
             (λ v. v ≡ self.old)) }
-        ensures drains { DrainsRange P.growth self.old self.entry.ghost_name
-            (range_start (R.start_bound range)) (range_end self.old.text (R.end_bound range))
-            result }
     {
         let (start, end) = bounds(range);
         self.drain(start, end)
@@ -83,8 +95,27 @@ impl<P: Policy> PolicyString<P> {
     ) -> Result<(), ReserveError>
         requires known { R.has_bounds range }
         requires range { IsRange self.old.text (R.start_bound range) (R.end_bound range) }
-        ensures { ReplacesRange P.growth self.old (range_start (R.start_bound range))
-            (range_end self.old.text (R.end_bound range)) text.now result self.new }
+
+        // As `replace_range`.
+        ensures text { OnOk result
+            (self.new.text
+            ≡ replaced_in self.old.text (R.start_bound range) (R.end_bound range)
+            (text_of text.now)) }
+        ensures place { OnOk result
+            (PlacedFor P.growth self.old self.new
+            (room_to_replace (len_in self.old.text (R.start_bound range) (R.end_bound range))
+            (length text.now))) }
+        ensures succeeds { HasRoomFor self.old
+            (length text.now - len_in self.old.text (R.start_bound range) (R.end_bound range))
+            → IsOk result }
+        ensures succeeds_owned { IsOwned self.old
+            → length text.now ≤ len_in self.old.text (R.start_bound range) (R.end_bound range)
+            → IsOk result }
+        ensures allocates { OnErr result
+            (AllocatesFor self.old
+            (room_to_replace (len_in self.old.text (R.start_bound range) (R.end_bound range))
+            (length text.now))) }
+        ensures err { OnErr result (self.new ≡ self.old) }
     {
         let (start, end) = bounds(range);
         self.replace_range(start, end, text)
@@ -110,24 +141,26 @@ impl<P: Policy> PolicyString<P> {
     ) -> Result<(), ReserveError>
         requires known { R.has_bounds range }
         requires range { IsRange self.old.text (R.start_bound range) (R.end_bound range) }
-        ensures ok { OnOk result
-            (push_str P.growth self.old (substring self.old.text
-            (range_start (R.start_bound range)) (range_end self.old.text (R.end_bound range)))
-            ≡ Some self.new) }
+
+        // On success the part is appended. The capacity never shrinks.
         ensures text { OnOk result
-            (self.new.text ≡ self.old.text ++ substring self.old.text
-            (range_start (R.start_bound range)) (range_end self.old.text (R.end_bound range))) }
+            (self.new.text ≡ self.old.text
+            ++ part_in self.old.text (R.start_bound range) (R.end_bound range)) }
         ensures bytes { OnOk result
-            (utf8 self.new.text ≡ utf8 self.old.text ++ utf8 (substring self.old.text
-            (range_start (R.start_bound range)) (range_end self.old.text (R.end_bound range)))) }
+            (utf8 self.new.text ≡ utf8 self.old.text
+            ++ utf8 (part_in self.old.text (R.start_bound range) (R.end_bound range))) }
+        ensures place { OnOk result
+            (PlacedFor P.growth self.old self.new
+            (room_to_append (len_in self.old.text (R.start_bound range) (R.end_bound range)))) }
         ensures room { OnOk result (infallible_capacity self.old ≤ infallible_capacity self.new) }
+
+        // It fails only where it must allocate, never if there is room, and then changes nothing.
         ensures succeeds { HasRoomFor self.old
-            (range_end self.old.text (R.end_bound range) - range_start (R.start_bound range))
-            → IsOk result }
-        ensures err { OnErr result
-            ((self.new ≡ self.old)
-            × PushStrAllocates self.old (substring self.old.text
-            (range_start (R.start_bound range)) (range_end self.old.text (R.end_bound range)))) }
+            (len_in self.old.text (R.start_bound range) (R.end_bound range)) → IsOk result }
+        ensures allocates { OnErr result
+            (AllocatesFor self.old
+            (room_to_append (len_in self.old.text (R.start_bound range) (R.end_bound range)))) }
+        ensures err { OnErr result (self.new ≡ self.old) }
     {
         let (start, end) = bounds(range);
         let Some((first, last)) = self.byte_range(start, end) else {

@@ -20,9 +20,8 @@ loop-text-preserved g c =
             few = omega (arith, w.refused-is, i.few);
           }
       | in-Err w ↦
-          let e = w.in-Err.ensures.err in
           record {
-            run = pushes-refused _ _ _ _ _ _ _ _ _ _ _ w.in-Err.field-0 c.loop-text-test.true i.run e w.moved-is w.refused-is;
+            run = pushes-refused _ _ _ _ _ _ _ _ _ _ _ w.in-Err.field-0 c.loop-text-test.true i.run (w.in-Err.ensures.err, w.in-Err.ensures.allocates) w.moved-is w.refused-is;
             few = omega (arith, w.refused-is, i.few);
           }
     ]

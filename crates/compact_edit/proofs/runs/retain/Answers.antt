@@ -9,4 +9,4 @@ pub returns-clause-ok : goal.returns-clause-ok
 returns-clause-ok g c =
     let text : c.retain.new.self.text ≡ retained_text answer_rule c.args.answers.now c.args.value.now.text =
     kept-by_rule _ (λ f. (closure.captures f).rest.now) answer_rule (λ p x b q k. search rules) _ _ _ c.in_ok-retain.ensures.text in
-    rw c.in_ok-retain.ensures.placement (ap (λ (t : List ℕ). Some (placed_text t c.retain.new.self.placement)) (sym text))
+    rw c.in_ok-retain.ensures.place (ap (λ (t : List ℕ). Some (placed_text t c.retain.new.self.placement)) (sym text))

@@ -6,7 +6,7 @@ pub loop-made-preserved : goal.loop-made-preserved
 loop-made-preserved c =
     let some : 0 < length c.loop-made.chunk.invalid.now = search rules in
     record {
-      fitted = c.in_ok-push_fitted-2.ensures.fitted;
+      fitted = c.in_ok-push_fitted-2.ensures.place;
       text = chunk-read _ _ _ _ _ _ _ _ c.loop-made.invariant.text some c.first_chunk-chunk.ensures.lossy c.in_ok-push_fitted.ensures.text c.in_ok-push_fitted-2.ensures.text;
       whole = c.first_chunk-chunk.ensures.whole;
     }

@@ -1,5 +1,5 @@
 use Rattle.std.proofs.Common.{[], ◌∷◌, ◌++◌, sym, true≢false}
-use Rattle.compact_str.proofs.Collecting.{Appends-next, room-left, yields-next}
+use Rattle.compact_str.proofs.Collecting.{Appends-next, pushed-from_parts, room-left, yields-next}
 use Rattle.compact_str.proofs.iter.extend.extend_pieces.Goals as goal
 
 pub returns-in_err-push_to-clause-succeeds : goal.returns-in_err-push_to-clause-succeeds
@@ -15,4 +15,4 @@ returns-in_err-push_to-clause-succeeds g c = λ h.
 
 pub loop-piece-preserved : goal.loop-piece-preserved
 loop-piece-preserved g c =
-    Appends-next g.P.Policy.growth g.T.Piece.text _ c.loop-piece.yielded _ _ c.in-Some.piece c.loop-piece.invariant c.in_ok-push_to.ensures.ok
+    Appends-next g.P.Policy.growth g.T.Piece.text _ c.loop-piece.yielded _ _ c.in-Some.piece c.loop-piece.invariant (pushed-from_parts g.P.Policy.growth c.loop-piece.value _ (g.T.Piece.text c.in-Some.piece) c.in_ok-push_to.ensures.text c.in_ok-push_to.ensures.place)

@@ -2,7 +2,22 @@ use Rattle.std.proofs.Common.{flat_map, refl}
 use Rattle.compact_str.proofs.Collecting.{extended}
 use Rattle.compact_str.proofs.string.PolicyString.extend_texts.Goals as goal
 
-pub returns : goal.returns
-returns g c =
-    extended g.U.IntoIterator.into_iter_gives g.U.IntoIter.Iterator.next_gives g.P.Policy.growth g.T.AsText.text _ _ _ (flat_map g.T.AsText.text) (λ xs. refl)
-    c.extend_pieces.result c.extend_pieces.ensures.ok c.extend_pieces.ensures.succeeds c.extend_pieces.ensures.err
+pub returns-clause-text : goal.returns-clause-text
+returns-clause-text g c =
+    (extended g.U.IntoIterator.into_iter_gives g.U.IntoIter.Iterator.next_gives g.P.Policy.growth g.T.AsText.text _ _ _ (flat_map g.T.AsText.text) (λ xs. refl)
+    c.extend_pieces.result c.extend_pieces.ensures.ok c.extend_pieces.ensures.succeeds c.extend_pieces.ensures.err).text
+
+pub returns-clause-boundary : goal.returns-clause-boundary
+returns-clause-boundary g c =
+    (extended g.U.IntoIterator.into_iter_gives g.U.IntoIter.Iterator.next_gives g.P.Policy.growth g.T.AsText.text _ _ _ (flat_map g.T.AsText.text) (λ xs. refl)
+    c.extend_pieces.result c.extend_pieces.ensures.ok c.extend_pieces.ensures.succeeds c.extend_pieces.ensures.err).boundary
+
+pub returns-clause-front : goal.returns-clause-front
+returns-clause-front g c =
+    (extended g.U.IntoIterator.into_iter_gives g.U.IntoIter.Iterator.next_gives g.P.Policy.growth g.T.AsText.text _ _ _ (flat_map g.T.AsText.text) (λ xs. refl)
+    c.extend_pieces.result c.extend_pieces.ensures.ok c.extend_pieces.ensures.succeeds c.extend_pieces.ensures.err).front
+
+pub returns-clause-room : goal.returns-clause-room
+returns-clause-room g c =
+    (extended g.U.IntoIterator.into_iter_gives g.U.IntoIter.Iterator.next_gives g.P.Policy.growth g.T.AsText.text _ _ _ (flat_map g.T.AsText.text) (λ xs. refl)
+    c.extend_pieces.result c.extend_pieces.ensures.ok c.extend_pieces.ensures.succeeds c.extend_pieces.ensures.err).room

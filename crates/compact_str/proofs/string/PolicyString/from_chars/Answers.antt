@@ -5,4 +5,4 @@ use Rattle.compact_str.proofs.string.PolicyString.from_chars.Goals as goal
 pub returns : goal.returns
 returns g c =
     collected g.U.IntoIterator.into_iter_gives g.U.IntoIter.Iterator.next_gives char_text _ (λ xs. xs) each-alone c.collect_pieces.result
-    c.collect_pieces.ensures.ok c.collect_pieces.ensures.fitted c.collect_pieces.ensures.err
+    c.collect_pieces.ensures.ok c.collect_pieces.ensures.place c.collect_pieces.ensures.err

@@ -1,16 +1,23 @@
-use Rattle.std.proofs.Common.{◌+◌, ◌<◌, ◌^◌, length, refl, sym, ◌∙◌, arith}
-use Rattle.std.proofs.lemmas.Str.{encodes-chars}
+use Rattle.std.proofs.Common.{ap, refl}
+use Rattle.compact_repr.specs.Value.{PlacedText}
 use Rattle.compact_text.proofs.Texts.{size-text_of}
-use Rattle.compact_text.proofs.Cuts.{boundary-within}
-use Rattle.compact_str.proofs.Positions.{inserted-in_place}
+use Rattle.compact_str.proofs.Positions.{on_ok, inserted-boundary, inserted-after}
 use Rattle.compact_str.proofs.string.PolicyString.insert_str.Goals as goal
 
-pub returns-then-try_replace_range : goal.returns-then-try_replace_range
-returns-then-try_replace_range g c =
-    let ways = c.if-try_replace_range.ensures in
-    let fits = sym c.try_replace_range.ensures.fits ∙ c.if-try_replace_range.true in
-    let here = boundary-within c.args.self.now.text c.args.index c.requires in
-    let small : c.args.index + length c.args.text.now < 2 ^ 64 = omega (arith, here, rw c.self.view_is at ways.small refl) in
-    inserted-in_place g.P.Policy.growth c.args.self.now _ c.args.index _ _ _ _ (rw c.self.view_is at ways.replaced refl)
-    (rw c.self.view_is at fits) (omega arith) c.requires (encodes-chars c.args.text.now c.utf8.text)
-    (size-text_of c.args.text.now c.utf8.text) small
+pub returns-then-try_replace_range-clause-boundary : goal.returns-then-try_replace_range-clause-boundary
+returns-then-try_replace_range-clause-boundary g c =
+    let text = ap (λ (v : PlacedText). v.text) (rw c.self.view_is at c.if-try_replace_range.ensures.replaced refl) in
+    inserted-boundary c.args.self.now.text _ _ c.args.index text c.requires
+
+pub returns-then-try_replace_range-clause-after : goal.returns-then-try_replace_range-clause-after
+returns-then-try_replace_range-clause-after g c =
+    let text = ap (λ (v : PlacedText). v.text) (rw c.self.view_is at c.if-try_replace_range.ensures.replaced refl) in
+    inserted-after c.args.self.now.text _ _ c.args.index _ text c.requires (size-text_of c.args.text.now c.utf8.text)
+
+pub returns-clause-boundary : goal.returns-clause-boundary
+returns-clause-boundary g c =
+    on_ok c.insert_str_slow.result (λ text. inserted-boundary c.args.self.now.text _ _ c.args.index text c.requires) (rw c.self.view_is at rw (c.if-try_replace_range.ensures.full refl) at c.insert_str_slow.ensures.text)
+
+pub returns-clause-after : goal.returns-clause-after
+returns-clause-after g c =
+    on_ok c.insert_str_slow.result (λ text. inserted-after c.args.self.now.text _ _ c.args.index _ text c.requires (size-text_of c.args.text.now c.utf8.text)) (rw c.self.view_is at rw (c.if-try_replace_range.ensures.full refl) at c.insert_str_slow.ensures.text)

@@ -7,4 +7,4 @@ use Rattle.compact_str.proofs.iter.collect.PolicyStringFromIteratorRefChar.from_
 pub returns-in-Ok : goal.returns-in-Ok
 returns-in-Ok g c =
     collected g.U.IntoIterator.into_iter_gives g.U.IntoIter.Iterator.next_gives (λ (x : Bor ℕ). char_text x.now) _ (map (λ (x : Bor ℕ). x.now)) each-referred
-    (Ok c.in-Ok.value) c.in-Ok.ensures.ok c.in-Ok.ensures.fitted c.in-Ok.ensures.err
+    (Ok c.in-Ok.value) c.in-Ok.ensures.ok c.in-Ok.ensures.place c.in-Ok.ensures.err

@@ -15,7 +15,7 @@ returns g c =
       text = text;
       bytes = ran-bytes g.Self.Iterator.next_gives c.args.self (join between read) (join separator (λ x. utf8 (read x)))
           (λ xs. utf8-join read between xs ∙ ap (λ s. join s (λ x. utf8 (read x)) xs) (encodes-chars separator c.utf8.separator)) c.join_pieces.result text;
-      fitted = c.join_pieces.ensures.fitted;
+      place = c.join_pieces.ensures.place;
       succeeds = joined-succeeds g.Self.Iterator.next_gives c.args.self (join between read) c.join_pieces.result c.join_pieces.ensures.err;
-      err = c.join_pieces.ensures.err;
+      allocates = c.join_pieces.ensures.err;
     }
