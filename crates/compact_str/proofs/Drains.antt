@@ -138,12 +138,12 @@ without_range-span v len i j front back range rest is =
 module _ {P : Type 0} {G : Ghosts P} (v u : PlacedText) (i j : ℕ) (d : Drain P G) where
   pub drain-rest : u.text ≡ v.text → d.value.now ≡ u → d.len ≡ size u.text → d.front ≡ i → d.back ≡ j → drain_rest d ≡ substring v.text i j
   drain-rest same now len front back =
-      rw (now, len, front, back) (cond-true _ _ _ (eq-eqb _ _ refl) ∙ ap (λ (t : List ℕ). substring t i j) same)
+      rw (now, len, front, back) (cond-true _ _ [] (eq-eqb (size u.text) (size u.text) refl) ∙ ap (λ (t : List ℕ). substring t i j) same)
 
   pub drain-leaves : u.text ≡ v.text → IsOwned u → d.value.now ≡ u → d.len ≡ size u.text → d.start ≡ i → d.end ≡ j → (value_after_drain d).text ≡ replaced_text v.text i j []
   drain-leaves same own now len first last =
       rw (now, len, first, last) (
-      ap (λ (w : PlacedText). w.text) (cond-true _ _ _ (and_from _ _ (ap not own) (eq-eqb _ _ refl)))
+      ap (λ (w : PlacedText). w.text) (cond-true _ _ _ (and_from _ _ (ap not own) (eq-eqb (size u.text) (size u.text) refl)))
       ∙ ap (λ (t : List ℕ). replaced_text t i j []) same
       )
 

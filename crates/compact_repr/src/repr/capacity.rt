@@ -68,10 +68,11 @@ impl<P: Policy> Repr<P> {
     #[inline(always)]
     pub(super) fn make_room_here(&mut self, additional: usize) -> Result<(), ReserveError>
         requires { fits_in_place self.old additional ≡ false }
-        ensures ok { OnOk result (reserve P.growth self.old additional ≡ Some self.new) }
+        ensures text { self.new.text ≡ self.old.text }
+        ensures place { OnOk result (PlacedFor P.growth self.old self.new (room additional)) }
         ensures room { OnOk result (IsTrue (fits_in_place self.new additional)) }
-        ensures err { OnErr result
-            ((self.new ≡ self.old) × ReserveAllocates self.old additional) }
+        ensures allocates { OnErr result (AllocatesFor self.old (room additional)) }
+        ensures err { OnErr result (self.new ≡ self.old) }
         ensures small { size self.old.text < 2 ^ 63 }
     {
         let len = self.len();
