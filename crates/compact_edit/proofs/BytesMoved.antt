@@ -4,7 +4,7 @@ use Rattle.std.proofs.Math.Nat.{mul-le-mul_left, mul-le-mul_right}
 use Rattle.std.proofs.lemmas.Grind.{common_steps}
 use Rattle.compact_str.proofs.ForCallers.{size-append}
 use Rattle.compact_str.specs.Text.{size}
-use Rattle.compact_str.specs.Value.{Place, inline, heap, static, is_static, Placement, PlacedText}
+use Rattle.compact_str.specs.Value.{Place, inline, heap, static, is_static_place, Placement, PlacedText}
 use Rattle.compact_str.specs.Capacity.{Growth, IsLawful, inline_placement, heap_placement, grown_capacity}
 use Rattle.compact_str.specs.Words.{MAX_CAPACITY}
 use Rattle.compact_str.specs.Calls.{push_str}
@@ -12,7 +12,7 @@ use Rattle.compact_edit.specs.Pushes.{same_place, bytes_moved_by_step}
 
 -- the invariant after m bytes were moved for a text of l bytes
 pub record IsPaid (g : Growth) (p : Placement) (l m : ℕ) : Type 0 where
-  pub owned : is_static p.place ≡ false
+  pub owned : is_static_place p.place ≡ false
   pub fits : l ≤ p.capacity
   pub above : 24 ≤ p.capacity
   pub below : p.capacity ≤ MAX_CAPACITY
@@ -21,7 +21,7 @@ pub record IsPaid (g : Growth) (p : Placement) (l m : ℕ) : Type 0 where
   pub by_room : (g.numerator - g.denominator) * m ≤ g.denominator * (p.capacity + 1 + l)
 
 -- a push keeps the placement, or makes a larger buffer
-push_str-placement : (g : Growth) (v w : PlacedText) (s : List ℕ) → is_static v.placement.place ≡ false → 24 ≤ v.placement.capacity → size v.text ≤ v.placement.capacity
+push_str-placement : (g : Growth) (v w : PlacedText) (s : List ℕ) → is_static_place v.placement.place ≡ false → 24 ≤ v.placement.capacity → size v.text ≤ v.placement.capacity
     → push_str g v s ≡ Some w
     → ((w.placement ≡ v.placement) × (size w.text ≡ size v.text + size s) × (size v.text + size s ≤ v.placement.capacity))
     ⊎ ((w.placement ≡ heap_placement (grown_capacity g v (size s))) × (size w.text ≡ size v.text + size s) × (v.placement.capacity < size v.text + size s) × (grown_capacity g v (size s) ≤ MAX_CAPACITY))

@@ -1,6 +1,6 @@
 -- Worked examples of names and their numbers.
 use Rattle.std.proofs.Common.{◌≡◌, ℕ, List, [], ◌∷◌, None, slice_get, refl}
-use Rattle.compact_edit.specs.Names.{distinct_texts, AreNumbersOf, Takes}
+use Rattle.compact_edit.specs.Names.{distinct_texts, AreNumbersOf, InternsAll}
 
 abbrev a : List ℕ
 a = 97 ∷ []
@@ -26,5 +26,5 @@ past-the-last : slice_get (a ∷ b ∷ [] ∷ []) 3 ≡ None
 past-the-last = refl
 
 -- with the name b and the number 7 listed, a and b get 1 and 0
-taken-appended : Takes (b ∷ []) (a ∷ b ∷ []) (7 ∷ []) (b ∷ a ∷ []) (7 ∷ 1 ∷ 0 ∷ [])
+taken-appended : InternsAll (b ∷ []) (a ∷ b ∷ []) (7 ∷ []) (b ∷ a ∷ []) (7 ∷ 1 ∷ 0 ∷ [])
 taken-appended = record { names = refl; numbers = 1 ∷ 0 ∷ []; appended = refl; places = (refl, (refl, tt)) }

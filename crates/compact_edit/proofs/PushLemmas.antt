@@ -18,7 +18,7 @@ use Rattle.compact_edit.specs.declared.edit.Reply.TheVariants.{Done, Char, Text,
 use Rattle.compact_edit.specs.Steps.{Step}
 use Rattle.compact_edit.specs.Runs.{Run}
 use Rattle.compact_edit.proofs.BytesMoved.{IsPaid, bytes_moved_by_step-kept, paid-start, paid-push, paid-same}
-use Rattle.compact_edit.specs.Pushes.{bytes_moved_by_step, bytes_moved, refusal_count, PushesTo}
+use Rattle.compact_edit.specs.Pushes.{bytes_moved_by_step, bytes_moved, failure_count, PushesTo}
 
 -- the bytes that a run extended by an edit moves
 run-append : {P : Type 0} (g : Growth) (v : PlacedText) (edits : List (Edit P)) (replies : List (Reply P)) (u w : PlacedText) (edit : Edit P) (reply : Reply P) (run : Run g v edits replies u) → Step g u edit reply w
@@ -30,7 +30,7 @@ run-append g v (e ∷ es) (r ∷ rs) u w edit reply run step =
     let rest = run-append g run.0 es rs u w edit reply run.2 step in
     ((run.0, run.1, rest.0), omega (arith, rest.1))
 
-refusals-append : {P : Type 0} (rs ss : List (Reply P)) → refusal_count (rs ++ ss) ≡ refusal_count rs + refusal_count ss
+refusals-append : {P : Type 0} (rs ss : List (Reply P)) → failure_count (rs ++ ss) ≡ failure_count rs + failure_count ss
 refusals-append [] ss = omega arith
 refusals-append (Done ∷ rs) ss = omega (arith, refusals-append rs ss)
 refusals-append (Char c ∷ rs) ss = omega (arith, refusals-append rs ss)
@@ -40,11 +40,11 @@ refusals-append (Refused e ∷ rs) ss = omega (arith, refusals-append rs ss)
 
 -- one more text, with its step
 pushes-append : (P : Type 0) (g : Growth) (texts : List (Bor (List ℕ))) (text : Bor (List ℕ)) (v w : PlacedText) (m n k l : ℕ) (reply : Reply P)
-    → PushesTo P g texts v m k → Step g v (PushStr text) reply w → n ≡ m + bytes_moved_by_step v w → l ≡ k + refusal_count (reply ∷ []) → PushesTo P g (texts ++ text ∷ []) w n l
+    → PushesTo P g texts v m k → Step g v (PushStr text) reply w → n ≡ m + bytes_moved_by_step v w → l ≡ k + failure_count (reply ∷ []) → PushesTo P g (texts ++ text ∷ []) w n l
 pushes-append P g texts text v w m n k l reply runs step bytes count =
     let empty = placed_text [] inline_placement in
     let edits : List (Edit P) = map PushStr texts in
-    let Q : List (Edit P) → Type 0 = λ es. (replies : List (Reply P)) × (run : Run g empty es replies w) × (n ≡ bytes_moved g empty es replies w run) × (l ≡ refusal_count replies) in
+    let Q : List (Edit P) → Type 0 = λ es. (replies : List (Reply P)) × (run : Run g empty es replies w) × (n ≡ bytes_moved g empty es replies w run) × (l ≡ failure_count replies) in
     let more = run-append g empty edits runs.0 v w (PushStr text) reply runs.1 step in
     subst Q (sym (map-append PushStr texts (text ∷ []))) (
       runs.0 ++ reply ∷ [],
@@ -76,7 +76,7 @@ texts_of texts = flat_map (λ (text : Bor (List ℕ)). text_of text.now) texts
 size-texts : (t : Bor (List ℕ)) (ts : List (Bor (List ℕ))) → size (texts_of (t ∷ ts)) ≡ size (text_of t.now) + size (texts_of ts)
 size-texts t ts = ap size (flat_map-cons (λ (text : Bor (List ℕ)). text_of text.now) t ts) ∙ size-append (text_of t.now) (texts_of ts)
 
-run-text : {P : Type 0} (g : Growth) (v : PlacedText) (texts : List (Bor (List ℕ))) (replies : List (Reply P)) (w : PlacedText) → Run g v (map PushStr texts) replies w → refusal_count replies ≡ 0 → w.text ≡ v.text ++ texts_of texts
+run-text : {P : Type 0} (g : Growth) (v : PlacedText) (texts : List (Bor (List ℕ))) (replies : List (Reply P)) (w : PlacedText) → Run g v (map PushStr texts) replies w → failure_count replies ≡ 0 → w.text ≡ v.text ++ texts_of texts
 run-text g v [] [] w run none = rw (run, append-nil) refl
 run-text g v [] (r ∷ rs) w run none = absurd run
 run-text g v (t ∷ ts) [] w run none = absurd run
@@ -98,7 +98,7 @@ refused-long : (v : PlacedText) (s : List ℕ) → IsTrue (push_str_allocates v 
 refused-long v s asks = grind (arith, common_steps)
 
 -- texts of at most 24 bytes together stay inline, so no push fails
-run-fits : {P : Type 0} (g : Growth) (v : PlacedText) (texts : List (Bor (List ℕ))) (replies : List (Reply P)) (w : PlacedText) → Run g v (map PushStr texts) replies w → size v.text + size (texts_of texts) ≤ 24 → refusal_count replies ≡ 0
+run-fits : {P : Type 0} (g : Growth) (v : PlacedText) (texts : List (Bor (List ℕ))) (replies : List (Reply P)) (w : PlacedText) → Run g v (map PushStr texts) replies w → size v.text + size (texts_of texts) ≤ 24 → failure_count replies ≡ 0
 run-fits g v [] [] w run short = refl
 run-fits g v [] (r ∷ rs) w run short = absurd run
 run-fits g v (t ∷ ts) [] w run short = absurd run

@@ -10,7 +10,7 @@ use Rattle.compact_str.specs.Text.{text_of}
 use Rattle.compact_str.specs.Value.{PlacedText}
 use Rattle.compact_str.specs.Order.{same_text}
 use Rattle.compact_edit.specs.declared.intern.InternError.{InternError}
-use Rattle.compact_edit.specs.Names.{contains, distinct_texts, texts_of, AreNumbersOf, IsRefusal, Takes, StopsAt}
+use Rattle.compact_edit.specs.Names.{contains, distinct_texts, texts_of, AreNumbersOf, IsRefusal, InternsAll, InternsUpTo}
 use Rattle.compact_edit.proofs.KeyTexts.{texts, noted, distinct_texts-push, distinct_texts-texts, new-names}
 
 -- names stay distinct
@@ -64,7 +64,7 @@ numbers-more names after keep [] (m ∷ ms) t n are at = absurd are
 numbers-more names after keep (x ∷ xs) [] t n are at = absurd are
 numbers-more names after keep (x ∷ xs) (m ∷ ms) t n are at = (keep x m are.0, numbers-more names after keep xs ms t n are.1 at)
 
-pub takes-none : (before : List (List ℕ)) (listed : List ℕ) → distinct_texts before ≡ before → Takes before [] listed before listed
+pub takes-none : (before : List (List ℕ)) (listed : List ℕ) → distinct_texts before ≡ before → InternsAll before [] listed before listed
 takes-none before listed distinct = record {
   names = sym (ap distinct_texts (append-nil before) ∙ distinct);
   numbers = [];
@@ -73,8 +73,8 @@ takes-none before listed distinct = record {
 }
 
 pub takes-push : (before ts names after : List (List ℕ)) (listed mid now : List ℕ) (t : List ℕ) (n : ℕ)
-    → Takes before ts listed names mid → distinct_texts names ≡ names → after ≡ distinct_texts (names ++ t ∷ []) → slice_get after n ≡ Some t → now ≡ mid ++ n ∷ []
-    → Takes before (ts ++ t ∷ []) listed after now
+    → InternsAll before ts listed names mid → distinct_texts names ≡ names → after ≡ distinct_texts (names ++ t ∷ []) → slice_get after n ≡ Some t → now ≡ mid ++ n ∷ []
+    → InternsAll before (ts ++ t ∷ []) listed after now
 takes-push before ts names after listed mid now t n takes distinct is at pushed =
     let noting : after ≡ noted names t = is ∙ noted-distinct names t distinct in
     record {
@@ -86,9 +86,9 @@ takes-push before ts names after listed mid now t n takes distinct is at pushed 
 
 -- the first i texts, and then the next
 pub takes-more : (row : List (Bor (List ℕ))) (i : ℕ) (d : Bor (List ℕ)) (before names after : List (List ℕ)) (listed mid now : List ℕ) (n : ℕ)
-    → Takes before (texts_of (take i row)) listed names mid → i < length row → distinct_texts names ≡ names
+    → InternsAll before (texts_of (take i row)) listed names mid → i < length row → distinct_texts names ≡ names
     → after ≡ distinct_texts (names ++ text_of (get_or row i d).now ∷ []) → slice_get after n ≡ Some (text_of (get_or row i d).now) → now ≡ mid ++ n ∷ []
-    → Takes before (texts_of (take (i + 1) row)) listed after now
+    → InternsAll before (texts_of (take (i + 1) row)) listed after now
 takes-more row i d before names after listed mid now n takes within distinct is at pushed =
     let more : texts_of (take (i + 1) row) ≡ texts_of (take i row) ++ text_of (get_or row i d).now ∷ [] =
     ap texts_of (take_more row i d within) ∙ map-append (λ (t : Bor (List ℕ)). text_of t.now) (take i row) (get_or row i d ∷ []) in
@@ -96,8 +96,8 @@ takes-more row i d before names after listed mid now n takes within distinct is 
 
 -- the first i texts, and the next fails
 pub stops-at : (row : List (Bor (List ℕ))) (i : ℕ) (d : Bor (List ℕ)) (before names after : List (List ℕ)) (listed now : List ℕ) (error : InternError)
-    → Takes before (texts_of (take i row)) listed names now → i < length row → after ≡ names → IsRefusal names (text_of (get_or row i d).now) error
-    → StopsAt before (texts_of row) listed after now error
+    → InternsAll before (texts_of (take i row)) listed names now → i < length row → after ≡ names → IsRefusal names (text_of (get_or row i d).now) error
+    → InternsUpTo before (texts_of row) listed after now error
 stops-at row i d before names after listed now error takes within is why = record {
   taken_texts = texts_of (take i row);
   refused_text = text_of (get_or row i d).now;

@@ -24,7 +24,7 @@ abbrev pub AreNumbersOf : List (List ℕ) → List (List ℕ) → List ℕ → T
 AreNumbersOf names texts numbers = AllZip (λ t n. slice_get names n ≡ Some t) texts numbers
 
 -- all texts are interned: the names afterwards, and the numbers, after those that were listed
-pub record Takes (before texts : List (List ℕ)) (listed : List ℕ) (after : List (List ℕ)) (now_listed : List ℕ) : Type 0 where
+pub record InternsAll (before texts : List (List ℕ)) (listed : List ℕ) (after : List (List ℕ)) (now_listed : List ℕ) : Type 0 where
   pub names : after ≡ distinct_texts (before ++ texts)
   pub numbers : List ℕ
   pub appended : now_listed ≡ listed ++ numbers
@@ -36,25 +36,25 @@ IsRefusal names t (Reserve error) = (contains names t ≡ false) × (length name
 IsRefusal names t Full = (length names ≡ 4294967295) × (contains names t ≡ false)
 
 -- the texts before the first that fails are interned
-pub record StopsAt (before texts : List (List ℕ)) (listed : List ℕ) (after : List (List ℕ)) (now_listed : List ℕ) (error : InternError) : Type 0 where
+pub record InternsUpTo (before texts : List (List ℕ)) (listed : List ℕ) (after : List (List ℕ)) (now_listed : List ℕ) (error : InternError) : Type 0 where
   pub taken_texts : List (List ℕ)
   pub refused_text : List ℕ
   pub rest : List (List ℕ)
   pub parts : texts ≡ taken_texts ++ refused_text ∷ rest
-  pub takes : Takes before taken_texts listed after now_listed
+  pub takes : InternsAll before taken_texts listed after now_listed
   pub why : IsRefusal after refused_text error
 
 -- no text is interned: reserving room for the numbers failed, and the list is unchanged
-pub record FindsNoRoom (before texts : List (List ℕ)) (listed : Vec ℕ) (after : List (List ℕ)) (now_listed : Vec ℕ) (error : InternError) : Type 0 where
+pub record HasNoRoomForNumbers (before texts : List (List ℕ)) (listed : Vec ℕ) (after : List (List ℕ)) (now_listed : Vec ℕ) (error : InternError) : Type 0 where
   pub refused : error ≡ Reserve (record {})
   pub names : after ≡ before
   pub numbers : now_listed.items ≡ listed.items
   pub room : vec_capacity listed < vec_len listed + length texts
 
 -- not all texts are interned: there is no room for their numbers, or one fails
-abbrev pub StopsEarly : List (List ℕ) → List (List ℕ) → Vec ℕ → List (List ℕ) → Vec ℕ → InternError → Type 0
-StopsEarly before texts listed after now_listed error =
-    FindsNoRoom before texts listed after now_listed error ⊎ StopsAt before texts listed.items after now_listed.items error
+abbrev pub InternsSome : List (List ℕ) → List (List ℕ) → Vec ℕ → List (List ℕ) → Vec ℕ → InternError → Type 0
+InternsSome before texts listed after now_listed error =
+    HasNoRoomForNumbers before texts listed after now_listed error ⊎ InternsUpTo before texts listed.items after now_listed.items error
 
 abbrev pub texts_of : List (Bor (List ℕ)) → List (List ℕ)
 texts_of row = map (λ t. text_of t.now) row

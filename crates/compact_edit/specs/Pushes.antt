@@ -2,7 +2,7 @@
 use Rattle.std.specs.Prelude.{◌≡◌, ℕ, ◌+◌, List, [], ◌∷◌, Bool, not, ◌&&◌, map, nat_eq, if◌then◌else◌}
 use Rattle.std.specs.Borrow.{Bor}
 use Rattle.compact_str.specs.Text.{size}
-use Rattle.compact_str.specs.Value.{Place, inline, heap, static, is_heap, is_static, Placement, PlacedText, placed_text}
+use Rattle.compact_str.specs.Value.{Place, inline, heap, static, is_heap_place, is_static_place, Placement, PlacedText, placed_text}
 use Rattle.compact_str.specs.Capacity.{Growth, inline_placement}
 use Rattle.compact_edit.specs.declared.edit.Edit.{Edit}
 use Rattle.compact_edit.specs.declared.edit.Edit.TheVariants.{PushStr}
@@ -11,9 +11,9 @@ use Rattle.compact_edit.specs.declared.edit.Reply.TheVariants.{Done, Char, Text,
 use Rattle.compact_edit.specs.Runs.{Run}
 
 abbrev pub same_place : Place → Place → Bool
-same_place inline q = not (is_heap q) && not (is_static q)
-same_place heap q = is_heap q
-same_place static q = is_static q
+same_place inline q = not (is_heap_place q) && not (is_static_place q)
+same_place heap q = is_heap_place q
+same_place static q = is_static_place q
 
 abbrev pub same_placement : Placement → Placement → Bool
 same_placement p q = same_place p.place q.place && nat_eq p.capacity q.capacity
@@ -29,17 +29,17 @@ bytes_moved g v (edit ∷ edits) (reply ∷ replies) w run = bytes_moved_by_step
 bytes_moved g v [] (reply ∷ replies) w run = 0
 bytes_moved g v (edit ∷ edits) [] w run = 0
 
-abbrev pub refusal_count : {P : Type 0} → List (Reply P) → ℕ
-refusal_count [] = 0
-refusal_count (Done ∷ replies) = refusal_count replies
-refusal_count (Char c ∷ replies) = refusal_count replies
-refusal_count (Text t ∷ replies) = refusal_count replies
-refusal_count (BadPosition ∷ replies) = refusal_count replies
-refusal_count (Refused e ∷ replies) = 1 + refusal_count replies
+abbrev pub failure_count : {P : Type 0} → List (Reply P) → ℕ
+failure_count [] = 0
+failure_count (Done ∷ replies) = failure_count replies
+failure_count (Char c ∷ replies) = failure_count replies
+failure_count (Text t ∷ replies) = failure_count replies
+failure_count (BadPosition ∷ replies) = failure_count replies
+failure_count (Refused e ∷ replies) = 1 + failure_count replies
 
 -- the texts, pushed in order onto the empty value, leave w, with that many bytes moved and that many pushes failed
 abbrev pub PushesTo : (P : Type 0) → Growth → List (Bor (List ℕ)) → PlacedText → ℕ → ℕ → Type 0
 PushesTo P g texts w bytes count =
     let edits : List (Edit P) = map PushStr texts in
     let empty = placed_text [] inline_placement in
-    (replies : List (Reply P)) × (run : Run g empty edits replies w) × (bytes ≡ bytes_moved g empty edits replies w run) × (count ≡ refusal_count replies)
+    (replies : List (Reply P)) × (run : Run g empty edits replies w) × (bytes ≡ bytes_moved g empty edits replies w run) × (count ≡ failure_count replies)

@@ -6,7 +6,7 @@ use Rattle.compact_str.specs.Cut.{IsBoundary, substring}
 use Rattle.compact_str.specs.Value.{PlacedText}
 use Rattle.compact_str.specs.Capacity.{Growth, with_capacity_allocates, reserve_allocates, make_owned_allocates}
 use Rattle.compact_str.specs.Calls.{new, push_str, push_str_allocates, clear, reserve, truncate, Shrinks, insert_str, replace_range, replace_range_allocates, make_ascii_lowercase, make_ascii_uppercase, retain, zeroize, PopsChar}
-use Rattle.compact_str.specs.RetainRules.{retained_text, answer_rule}
+use Rattle.compact_str.specs.RetainRules.{retained_text, flag_rule}
 use Rattle.compact_str.specs.Clones.{clone_from, clone_from_allocates}
 use Rattle.compact_str.specs.Edits.{Removes, SplitsOff, split_allocates, repeat, repeat_allocates}
 use Rattle.compact_str.specs.Ranges.{IsRange, range_start, range_end}
@@ -65,35 +65,35 @@ abbrev pub EditAllocates : {P : Type 0} → PlacedText → Edit P → Type 0
 EditAllocates v edit = IsTrue (edit_allocates v edit)
 
 -- the reply and the value of an edit that succeeds
-abbrev pub EditDoes : {P : Type 0} → Growth → PlacedText → Edit P → Reply P → PlacedText → Type 0
-EditDoes g v (Push c) reply w = (reply ≡ Done) × (push_str g v (c ∷ []) ≡ Some w)
-EditDoes g v (PushStr s) reply w = (reply ≡ Done) × (push_str g v (text_of s.now) ≡ Some w)
-EditDoes g v Pop reply w = (c : Option ℕ) × (reply ≡ Char c) × PopsChar v c w
-EditDoes g v (Insert p c) reply w = (reply ≡ Done) × (insert_str g v p (c ∷ []) ≡ Some w)
-EditDoes g v (InsertStr p s) reply w = (reply ≡ Done) × (insert_str g v p (text_of s.now) ≡ Some w)
-EditDoes g v (Remove p) reply w = (c : ℕ) × (reply ≡ Char (Some c)) × Removes g v p c w
-EditDoes g v (Truncate n) reply w = (reply ≡ Done) × (w ≡ truncate v n)
-EditDoes g v Clear reply w = (reply ≡ Done) × (w ≡ clear v)
-EditDoes g v (SplitOff p) reply w = (tail : PlacedText) × (reply ≡ Text tail) × SplitsOff g v p tail w
-EditDoes g v (ReplaceRange start end s) reply w =
+abbrev pub EditGives : {P : Type 0} → Growth → PlacedText → Edit P → Reply P → PlacedText → Type 0
+EditGives g v (Push c) reply w = (reply ≡ Done) × (push_str g v (c ∷ []) ≡ Some w)
+EditGives g v (PushStr s) reply w = (reply ≡ Done) × (push_str g v (text_of s.now) ≡ Some w)
+EditGives g v Pop reply w = (c : Option ℕ) × (reply ≡ Char c) × PopsChar v c w
+EditGives g v (Insert p c) reply w = (reply ≡ Done) × (insert_str g v p (c ∷ []) ≡ Some w)
+EditGives g v (InsertStr p s) reply w = (reply ≡ Done) × (insert_str g v p (text_of s.now) ≡ Some w)
+EditGives g v (Remove p) reply w = (c : ℕ) × (reply ≡ Char (Some c)) × Removes g v p c w
+EditGives g v (Truncate n) reply w = (reply ≡ Done) × (w ≡ truncate v n)
+EditGives g v Clear reply w = (reply ≡ Done) × (w ≡ clear v)
+EditGives g v (SplitOff p) reply w = (tail : PlacedText) × (reply ≡ Text tail) × SplitsOff g v p tail w
+EditGives g v (ReplaceRange start end s) reply w =
     (reply ≡ Done) × (replace_range g v (range_start start) (range_end v.text end) (text_of s.now) ≡ Some w)
-EditDoes g v (Drain start end) reply w =
+EditGives g v (Drain start end) reply w =
     (range : PlacedText) × (reply ≡ Text range) × (new g (substring v.text (range_start start) (range_end v.text end)) ≡ Some range)
     × (replace_range g v (range_start start) (range_end v.text end) [] ≡ Some w)
-EditDoes g v (Retain answers) reply w = (reply ≡ Done) × (retain g v (retained_text answer_rule answers.now v.text) ≡ Some w)
-EditDoes g v (Reserve n) reply w = (reply ≡ Done) × (reserve g v n ≡ Some w)
-EditDoes g v (ShrinkTo n) reply w = (reply ≡ Done) × Shrinks g v n w
-EditDoes g v ShrinkToFit reply w = (reply ≡ Done) × Shrinks g v 0 w
-EditDoes g v MakeLower reply w = (reply ≡ Done) × (make_ascii_lowercase g v ≡ Some w)
-EditDoes g v MakeUpper reply w = (reply ≡ Done) × (make_ascii_uppercase g v ≡ Some w)
-EditDoes g v Zeroize reply w = (reply ≡ Done) × (w ≡ zeroize v)
-EditDoes g v (Repeat n) reply w = (all : PlacedText) × (reply ≡ Text all) × (repeat g v n ≡ Some all) × (w ≡ v)
-EditDoes g v (CloneFrom source) reply w = (reply ≡ Done) × (clone_from g v source.now ≡ Some w)
+EditGives g v (Retain answers) reply w = (reply ≡ Done) × (retain g v (retained_text flag_rule answers.now v.text) ≡ Some w)
+EditGives g v (Reserve n) reply w = (reply ≡ Done) × (reserve g v n ≡ Some w)
+EditGives g v (ShrinkTo n) reply w = (reply ≡ Done) × Shrinks g v n w
+EditGives g v ShrinkToFit reply w = (reply ≡ Done) × Shrinks g v 0 w
+EditGives g v MakeLower reply w = (reply ≡ Done) × (make_ascii_lowercase g v ≡ Some w)
+EditGives g v MakeUpper reply w = (reply ≡ Done) × (make_ascii_uppercase g v ≡ Some w)
+EditGives g v Zeroize reply w = (reply ≡ Done) × (w ≡ zeroize v)
+EditGives g v (Repeat n) reply w = (all : PlacedText) × (reply ≡ Text all) × (repeat g v n ≡ Some all) × (w ≡ v)
+EditGives g v (CloneFrom source) reply w = (reply ≡ Done) × (clone_from g v source.now ≡ Some w)
 
 -- the edit may turn v into w with this reply
 abbrev pub Step : {P : Type 0} → Growth → PlacedText → Edit P → Reply P → PlacedText → Type 0
 Step g v edit BadPosition w = (w ≡ v) × ¬ (IsLegal v edit)
 Step g v edit (Refused e) w = (w ≡ v) × IsLegal v edit × EditAllocates v edit
-Step g v edit Done w = IsLegal v edit × EditDoes g v edit Done w
-Step g v edit (Char c) w = IsLegal v edit × EditDoes g v edit (Char c) w
-Step g v edit (Text t) w = IsLegal v edit × EditDoes g v edit (Text t) w
+Step g v edit Done w = IsLegal v edit × EditGives g v edit Done w
+Step g v edit (Char c) w = IsLegal v edit × EditGives g v edit (Char c) w
+Step g v edit (Text t) w = IsLegal v edit × EditGives g v edit (Text t) w

@@ -2,7 +2,7 @@
 ghost use Rattle.std.specs.Prelude.{◌≡◌, ◌<◌, ◌≤◌, ◌↔◌, ℕ, List, [], ◌∷◌, ◌++◌, length, Some, IsOk, IsSome, IfOk, IfErr, OnOk, OnErr, option_map, slice_get};
 ghost use Rattle.std.specs.Prelude.{false};
 ghost use Rattle.compact_str.specs.Text.{text_of};
-ghost use Rattle.compact_edit.specs.Names.{distinct_texts, texts_of, contains, IsRefusal, Takes, StopsEarly};
+ghost use Rattle.compact_edit.specs.Names.{distinct_texts, texts_of, contains, IsRefusal, InternsAll, InternsSome};
 
 use compact_str::{CompactString, ReserveError};
 use indexmap::IndexSet;
@@ -199,9 +199,9 @@ impl Interner {
     /// ```
     #[tactic(auto, using(crate::proofs::NameFacts::list_facts))]
     pub fn intern_all(&mut self, texts: &[&str], numbers: &mut Vec<u32>) -> Result<(), InternError>
-        ensures ok { OnOk result (Takes self.old (texts_of texts.now) numbers.old.items
+        ensures ok { OnOk result (InternsAll self.old (texts_of texts.now) numbers.old.items
             self.new numbers.new.items) }
-        ensures err { IfErr result (StopsEarly self.old (texts_of texts.now) numbers.old
+        ensures err { IfErr result (InternsSome self.old (texts_of texts.now) numbers.old
             self.new numbers.new) }
         ensures kept { (n : ℕ) (name : List ℕ)
             → slice_get self.old n ≡ Some name → slice_get self.new n ≡ Some name }

@@ -3,7 +3,7 @@ ghost use Rattle.std.specs.Prelude.{◌≡◌, ◌+◌, ◌≤◌, [], length, d
 ghost use Rattle.compact_str.specs.Text.{size};
 ghost use Rattle.compact_str.specs.Cut.{substring};
 ghost use Rattle.compact_str.specs.Calls.{new, replace_range, retain};
-ghost use Rattle.compact_str.specs.RetainRules.{retained_text, answer_rule, next_answer};
+ghost use Rattle.compact_str.specs.RetainRules.{retained_text, flag_rule, next_flag};
 ghost use Rattle.std.specs.declared.ops.Bound.TheVariants.{Included, Excluded};
 ghost use Rattle.compact_str.specs.Ranges.{IsRange};
 ghost use Rattle.compact_edit.specs.Steps.{Step};
@@ -229,14 +229,14 @@ fn take_out<P: Policy>(
 /// Keeps the characters whose flag is `true`, and those with no flag.
 fn retain<P: Policy>(value: &mut PolicyString<P>, answers: &[bool]) -> Result<(), ReserveError>
     ensures ok { OnOk result
-        (retain P.growth value.old (retained_text answer_rule answers.now value.old.text)
+        (retain P.growth value.old (retained_text flag_rule answers.now value.old.text)
         ≡ Some value.new) }
     ensures allocates { OnErr result (AllocatesFor value.old owned) }
     ensures err { OnErr result (value.new ≡ value.old) }
 {
     let mut rest = answers;
     value.retain(|_| {
-        let (answer, others) = next_answer(rest);
+        let (answer, others) = next_flag(rest);
         rest = others;
         answer
     })?;
@@ -244,8 +244,8 @@ fn retain<P: Policy>(value: &mut PolicyString<P>, answers: &[bool]) -> Result<()
 }
 
 /// Splits off the first flag; it is `true` if there is none.
-fn next_answer(answers: &[bool]) -> (bool, &[bool])
-    ensures { (result.0 ≡ next_answer answers.now) × (result.1.now ≡ drop 1 answers.now) }
+fn next_flag(answers: &[bool]) -> (bool, &[bool])
+    ensures { (result.0 ≡ next_flag answers.now) × (result.1.now ≡ drop 1 answers.now) }
 {
     match answers.split_first() {
         Some((answer, others)) => (*answer, others),

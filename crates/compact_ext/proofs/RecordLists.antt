@@ -21,7 +21,7 @@ use Rattle.compact_ext.specs.declared.wire.records.Records.{Records}
 use Rattle.compact_ext.specs.WireRecords.HasTexts.{none, text, no_text}
 use Rattle.compact_ext.specs.Wire.{wire, HasForm, ReadFails, IsOutsideForm}
 use Rattle.compact_ext.proofs.WireForms.{form-whole, form-tells, length-wire, outside-form, told-text}
-use Rattle.compact_ext.specs.WireRecords.{records_left, unread_bytes, GivesRecord, GivesNext, FailsAfterTexts, FindsNoRoom, ShowsNoForm, forms_of, AreForms, ReadsIntoVec, TakesForms, TakesTexts, HasTexts, FailsWithin, HasBegun, HasMore, IsOutsideForms, IsPlacedAsRead, FitsForm, ReadsAllBack, ReadsNextBack, TakesForm}
+use Rattle.compact_ext.specs.WireRecords.{records_left, unread_bytes, GivesRecord, GivesNext, FailsAfterTexts, VecCannotGrow, BeginsWithNoForm, forms_of, AreForms, ReadsIntoVec, ConsumesForms, ConsumesTexts, HasTexts, FailsWithin, HasBegun, HasMore, IsOutsideForms, IsPlacedAsRead, FitsForm, ReadsAllBack, ReadsNextBack, ConsumesForm}
 
 -- a reader that failed before its first byte
 
@@ -89,23 +89,23 @@ pub ruleset record_steps = (failed-at_once, failed-unread, more-shown, gives-rec
 
 -- no whole form is at the front
 
-pub cut-shows_none : (shown : List ℕ) (n : ℕ) → n < 2 ^ 32 → to_le_bytes w32 n ≡ take 4 shown → length shown < 4 + n → ShowsNoForm shown
+pub cut-shows_none : (shown : List ℕ) (n : ℕ) → n < 2 ^ 32 → to_le_bytes w32 n ≡ take 4 shown → length shown < 4 + n → BeginsWithNoForm shown
 cut-shows_none shown n small head cut = λ (t : List ℕ) (form : HasForm t) (begins : StartsWith shown (wire t)).
     absurd (omega (arith, (form-whole shown t n small form.1 begins head).0, length-wire t, starts_with_length shown (wire t) begins, cut))
 
-pub broken-shows_none : (shown : List ℕ) (n : ℕ) → n < 2 ^ 32 → to_le_bytes w32 n ≡ take 4 shown → ¬ IsUtf8 (take n (drop 4 shown)) → ShowsNoForm shown
+pub broken-shows_none : (shown : List ℕ) (n : ℕ) → n < 2 ^ 32 → to_le_bytes w32 n ≡ take 4 shown → ¬ IsUtf8 (take n (drop 4 shown)) → BeginsWithNoForm shown
 broken-shows_none shown n small head broken = λ (t : List ℕ) (form : HasForm t) (begins : StartsWith shown (wire t)).
     broken (subst IsUtf8 (form-whole shown t n small form.1 begins head).1 (t, (form.0, refl)))
 
 -- texts consumed one after another
 
-pub takes-none : (known : Option (List ℕ)) → TakesForms known known []
+pub takes-none : (known : Option (List ℕ)) → ConsumesForms known known []
 takes-none known = record { forms = Consumes-nil known; fit = All-nil FitsForm; placed = All-nil IsPlacedAsRead }
 
 forms-last : (texts : List PlacedText) (v : PlacedText) → forms_of texts ++ wire v.text ≡ forms_of (texts ++ v ∷ [])
 forms-last texts v = ap (λ l. forms_of texts ++ l) (sym (append-nil (wire v.text))) ∙ sym (flat_map-append (λ (w : PlacedText). wire w.text) texts (v ∷ []))
 
-pub takes-more : (old mid new : Option (List ℕ)) (texts : List PlacedText) (v : PlacedText) → TakesForms old mid texts → TakesForm mid new v → TakesForms old new (texts ++ v ∷ [])
+pub takes-more : (old mid new : Option (List ℕ)) (texts : List PlacedText) (v : PlacedText) → ConsumesForms old mid texts → ConsumesForm mid new v → ConsumesForms old new (texts ++ v ∷ [])
 takes-more old mid new texts v took last = record {
   forms = subst (Consumes old new) (forms-last texts v) (Consumes-trans old mid new (forms_of texts) (wire v.text) took.forms last.form);
   fit = All-append FitsForm texts (v ∷ []) took.fit (All-cons FitsForm v [] last.fits (All-nil FitsForm));
@@ -113,7 +113,7 @@ takes-more old mid new texts v took last = record {
 }
 
 -- what is consumed up to the end is all
-pub takes-all : (old new : Option (List ℕ)) (texts : List PlacedText) → TakesForms old new texts → IsAtEnd new → AreForms old texts
+pub takes-all : (old new : Option (List ℕ)) (texts : List PlacedText) → ConsumesForms old new texts → IsAtEnd new → AreForms old texts
 takes-all None new texts took end = tt
 takes-all (Some xs) None texts took end = absurd took.forms
 takes-all (Some xs) (Some ys) texts took end = took.forms ∙ ap (λ l. forms_of texts ++ l) end ∙ append-nil (forms_of texts)
@@ -177,7 +177,7 @@ later-fails texts e forms f = left-fails f.mid f.took.forms f.fails
         one-fails texts rest left f.new e (fewer-left texts rest f.texts all) last is fails
 
 -- a form was consumed, so there is one
-some-taken : (texts : List (List ℕ)) (mid : Option (List ℕ)) (found : List PlacedText) (v : PlacedText) → All HasForm texts → TakesForms (Some (flat_map wire texts)) mid (found ++ v ∷ [])
+some-taken : (texts : List (List ℕ)) (mid : Option (List ℕ)) (found : List PlacedText) (v : PlacedText) → All HasForm texts → ConsumesForms (Some (flat_map wire texts)) mid (found ++ v ∷ [])
     → 0 < length texts
 some-taken [] None found v forms took = absurd took.forms
 some-taken [] (Some left) found v forms took =
@@ -188,9 +188,9 @@ some-taken [] (Some left) found v forms took =
 some-taken (t ∷ texts) mid found v forms took = omega arith
 
 abbrev Fails : Option (List ℕ) → WireError → Type 0
-Fails known e = FailsAfterTexts known e ⊎ FindsNoRoom known e
+Fails known e = FailsAfterTexts known e ⊎ VecCannotGrow known e
 
-room-fails : (texts : List (List ℕ)) (e : WireError) → All HasForm texts → FindsNoRoom (Some (flat_map wire texts)) e → IsOutsideForms texts e
+room-fails : (texts : List (List ℕ)) (e : WireError) → All HasForm texts → VecCannotGrow (Some (flat_map wire texts)) e → IsOutsideForms texts e
 room-fails texts e forms f = subst (IsOutsideForms texts) (sym f.refused) (some-taken texts f.mid f.texts f.last forms f.took)
 
 records-back : (known : Option (List ℕ)) (r : Result (Vec PlacedText) WireError) → IfOk r (λ all. AreForms known all.items) → IfOk r (λ all. All FitsForm all.items)
@@ -225,21 +225,21 @@ next-back remaining s t (Some (Err e)) gives = λ (text rest : List ℕ) (form :
 
 -- texts consumed one after another, with invalid forms between them
 
-pub passes-none : (old new : Option (List ℕ)) (texts : List PlacedText) → new ≡ old → texts ≡ [] → TakesTexts old new texts
+pub passes-none : (old new : Option (List ℕ)) (texts : List PlacedText) → new ≡ old → texts ≡ [] → ConsumesTexts old new texts
 passes-none old new texts same empty = record {
   taken_bytes = [];
   bytes = subst (λ (known : Option (List ℕ)). Consumes old known []) (sym same) (Consumes-nil old);
   has = subst (λ (l : List PlacedText). HasTexts [] (map (λ (v : PlacedText). v.text) l)) (sym empty) none;
 }
 
-pub passes-text : (old mid new : Option (List ℕ)) (texts : List PlacedText) (v : PlacedText) → TakesTexts old mid texts → TakesForm mid new v → TakesTexts old new (texts ++ v ∷ [])
+pub passes-text : (old mid new : Option (List ℕ)) (texts : List PlacedText) (v : PlacedText) → ConsumesTexts old mid texts → ConsumesForm mid new v → ConsumesTexts old new (texts ++ v ∷ [])
 passes-text old mid new texts v passed last = record {
   taken_bytes = passed.taken_bytes ++ wire v.text;
   bytes = Consumes-trans old mid new passed.taken_bytes (wire v.text) passed.bytes last.form;
   has = subst (HasTexts (passed.taken_bytes ++ wire v.text)) (sym (map-append (λ (w : PlacedText). w.text) texts (v ∷ []))) (text v.text last.fits passed.has);
 }
 
-pub passes-no_text : (old mid new : Option (List ℕ)) (texts : List PlacedText) → TakesTexts old mid texts → FailsWithin mid new Utf8 → TakesTexts old new texts
+pub passes-no_text : (old mid new : Option (List ℕ)) (texts : List PlacedText) → ConsumesTexts old mid texts → FailsWithin mid new Utf8 → ConsumesTexts old new texts
 passes-no_text old mid new texts passed fault = record {
   taken_bytes = passed.taken_bytes ++ fault.fails.taken_bytes;
   bytes = Consumes-trans old mid new passed.taken_bytes fault.fails.taken_bytes passed.bytes fault.fails.bytes;
@@ -247,7 +247,7 @@ passes-no_text old mid new texts passed fault = record {
 }
 
 -- what is consumed up to the end is all
-pub passes-all : (old new : Option (List ℕ)) (texts : List PlacedText) → TakesTexts old new texts → IsAtEnd new → IfSome old (λ bytes. HasTexts bytes (map (λ v. v.text) texts))
+pub passes-all : (old new : Option (List ℕ)) (texts : List PlacedText) → ConsumesTexts old new texts → IsAtEnd new → IfSome old (λ bytes. HasTexts bytes (map (λ v. v.text) texts))
 passes-all None new texts passed end = tt
 passes-all (Some xs) None texts passed end = absurd passed.bytes
 passes-all (Some xs) (Some ys) texts passed end =

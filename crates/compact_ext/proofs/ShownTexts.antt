@@ -5,10 +5,10 @@ use Rattle.compact_str.specs.Text.{text_of}
 use Rattle.compact_str.specs.Value.{PlacedText}
 use Rattle.compact_str.specs.Capacity.{Growth}
 use Rattle.compact_ext.specs.declared.format.ToCompactStringError.{ToCompactStringError}
-use Rattle.compact_ext.specs.Shown.{IsTextOf, bool_text}
+use Rattle.compact_ext.specs.Shown.{Converts, bool_text}
 
 -- if P implies that the text is short, `IsShort` may be P
-short-as : (g : Growth) (t : List ℕ) (P Q : Type 0) (r : Result PlacedText ToCompactStringError) → IsTextOf g t P r → (Q → P) → IsTextOf g t Q r
+short-as : (g : Growth) (t : List ℕ) (P Q : Type 0) (r : Result PlacedText ToCompactStringError) → Converts g t P r → (Q → P) → Converts g t Q r
 short-as g t P Q r h f =
     record {
       text = h.text;
@@ -18,8 +18,8 @@ short-as g t P Q r h f =
       err = h.err;
     }
 
-pub shown-as : (g : Growth) (t u : List ℕ) (P Q : Type 0) (r : Result PlacedText ToCompactStringError) → IsTextOf g t P r → t ≡ u → (Q → P) → IsTextOf g u Q r
-shown-as g t u P Q r h e f = subst (λ (x : List ℕ). IsTextOf g x Q r) e (short-as g t P Q r h f)
+pub shown-as : (g : Growth) (t u : List ℕ) (P Q : Type 0) (r : Result PlacedText ToCompactStringError) → Converts g t P r → t ≡ u → (Q → P) → Converts g u Q r
+shown-as g t u P Q r h e f = subst (λ (x : List ℕ). Converts g x Q r) e (short-as g t P Q r h f)
 
 pub text_of-bool : (b : Bool) → text_of (bool_text b) ≡ bool_text b
 unfolding chars

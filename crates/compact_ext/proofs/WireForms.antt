@@ -19,7 +19,7 @@ use Rattle.compact_str.specs.Value.{PlacedText}
 use Rattle.compact_text.proofs.Texts.{length-utf8}
 use Rattle.compact_ext.specs.declared.wire.WireError.{WireError}
 use Rattle.compact_ext.specs.declared.wire.WireError.TheVariants.{TooLong, UnexpectedEnd, Utf8, Io, WriteZero, Reserve}
-use Rattle.compact_ext.specs.Wire.{wire, claimed_len, WritesFront, IsWriterFault, WriteFails, IsUnfinished, IsReadFault, ReadFails, IsStop, StopsBelow, TextFails, IsOutsideForm, ReadsBack, FormTellsText}
+use Rattle.compact_ext.specs.Wire.{wire, claimed_len, WritesFront, IsWriterFault, WriteFails, IsUnfinished, IsReadFault, ReadFails, IsStop, StopsBelow, TextFails, IsOutsideForm, ReadsBack, FormHasOneText}
 
 -- valid bytes decode to a text
 pub made-text : (bytes t : List ℕ) → IsUtf8 bytes → t ≡ text_of bytes → IsText t
@@ -170,7 +170,7 @@ front-same t rest taken more len e =
     let same : length (wire t) ≡ length taken = omega (arith, length-wire t, len) in
     sym (take-append_seam (wire t) rest) ∙ ap (take (length (wire t))) e ∙ ap (λ n. take n (taken ++ more)) same ∙ take-append_seam taken more
 
-pub form-tells : FormTellsText
+pub form-tells : FormHasOneText
 form-tells t s rest more fits small e =
     let claim : size s ≡ size t = sym (from_le_bytes-to_le_bytes_4 (size s) small) ∙ claimed-front t rest (wire s) more fits (omega (arith, length-wire s)) e in
     let same : wire t ≡ wire s = front-same t rest (wire s) more (omega (arith, length-wire s, claim)) e in

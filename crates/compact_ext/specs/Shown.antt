@@ -13,7 +13,7 @@ IsFormatReserve (Reserve _) = ⊤
 IsFormatReserve (Fmt _) = ⊥
 
 -- r is a new value with the text t; if t is short, r is inline and never fails, else it fails only if it allocates
-pub record IsTextOf (g : Growth) (t : List ℕ) (IsShort : Type 0) (r : Result PlacedText ToCompactStringError) : Type 0 where
+pub record Converts (g : Growth) (t : List ℕ) (IsShort : Type 0) (r : Result PlacedText ToCompactStringError) : Type 0 where
   pub text : IfOk r (λ v. v.text ≡ t)
   pub place : IfOk r (IsPlacedAsNew g)
   pub inline : IsShort → IfOk r (λ v. v.placement ≡ inline_placement)

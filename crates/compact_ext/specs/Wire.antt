@@ -69,8 +69,8 @@ pub record ReadsBack (old new : Option (List ℕ)) (r : Result PlacedText WireEr
       → MatchResult r (λ v. (v.text ≡ t) × (new ≡ Some rest)) (IsOutsideForm (size t))
 
 -- the front of some bytes is the form of at most one text
-abbrev pub FormTellsText : Type 0
-FormTellsText = (t s rest more : List ℕ) → size t < 2 ^ 32 → size s < 2 ^ 32
+abbrev pub FormHasOneText : Type 0
+FormHasOneText = (t s rest more : List ℕ) → size t < 2 ^ 32 → size s < 2 ^ 32
     → wire t ++ rest ≡ wire s ++ more → (t ≡ s) × (rest ≡ more)
 
 -- the most bytes of the first allocation
@@ -96,7 +96,7 @@ pub record StopsBelow (old new : Option (List ℕ)) (n : ℕ) (e : WireError) : 
   pub cause : IsStop n new e
 
 -- n bytes were consumed, and are not valid UTF-8
-pub record TakesNoText (old new : Option (List ℕ)) (n : ℕ) : Type 0 where
+pub record ConsumesInvalid (old new : Option (List ℕ)) (n : ℕ) : Type 0 where
   pub taken_bytes : List ℕ
   pub bytes : Consumes old new taken_bytes
   pub all : length taken_bytes ≡ n
@@ -104,5 +104,5 @@ pub record TakesNoText (old new : Option (List ℕ)) (n : ℕ) : Type 0 where
 
 -- reading a text of n bytes fails
 abbrev pub TextFails : Option (List ℕ) → Option (List ℕ) → ℕ → WireError → Type 0
-TextFails old new n Utf8 = TakesNoText old new n
+TextFails old new n Utf8 = ConsumesInvalid old new n
 TextFails old new n e = StopsBelow old new n e

@@ -48,7 +48,7 @@ abbrev pub FitsForm : PlacedText → Type 0
 FitsForm v = HasForm v.text
 
 -- the form of v is consumed, and v is placed as by `read_wire`
-pub record TakesForm (old new : Option (List ℕ)) (v : PlacedText) : Type 0 where
+pub record ConsumesForm (old new : Option (List ℕ)) (v : PlacedText) : Type 0 where
   pub form : Consumes old new (wire v.text)
   pub fits : FitsForm v
   pub placed : IsPlacedAsRead v
@@ -62,7 +62,7 @@ pub record StaysAtEnd (old new : Option (List ℕ)) : Type 0 where
 abbrev pub GivesNext : Option (List ℕ) → Option (Result PlacedText WireError)
     → Option (List ℕ) → Type 0
 GivesNext old None new = StaysAtEnd old new
-GivesNext old (Some (Ok v)) new = TakesForm old new v
+GivesNext old (Some (Ok v)) new = ConsumesForm old new v
 GivesNext old (Some (Err e)) new = FailsWithin old new e
 
 -- The bytes still to be read after `next`. After an `Io` the iterator may have given up, so they are the reader's.
@@ -82,7 +82,7 @@ abbrev pub forms_of : List PlacedText → List ℕ
 forms_of texts = flat_map (λ v. wire v.text) texts
 
 -- the forms of these texts are consumed, and each is placed as by `read_wire`
-pub record TakesForms (old new : Option (List ℕ)) (texts : List PlacedText) : Type 0 where
+pub record ConsumesForms (old new : Option (List ℕ)) (texts : List PlacedText) : Type 0 where
   pub forms : Consumes old new (forms_of texts)
   pub fit : All FitsForm texts
   pub placed : All IsPlacedAsRead texts
@@ -92,15 +92,15 @@ pub record FailsAfterTexts (known : Option (List ℕ)) (e : WireError) : Type 0 
   pub texts : List PlacedText
   pub mid : Option (List ℕ)
   pub new : Option (List ℕ)
-  pub took : TakesForms known mid texts
+  pub took : ConsumesForms known mid texts
   pub fails : FailsWithin mid new e
 
 -- the forms of one text or more are consumed, and allocation failed, as for the vector
-pub record FindsNoRoom (known : Option (List ℕ)) (e : WireError) : Type 0 where
+pub record VecCannotGrow (known : Option (List ℕ)) (e : WireError) : Type 0 where
   pub texts : List PlacedText
   pub last : PlacedText
   pub mid : Option (List ℕ)
-  pub took : TakesForms known mid (texts ++ last ∷ [])
+  pub took : ConsumesForms known mid (texts ++ last ∷ [])
   pub refused : e ≡ Reserve (record {})
 
 -- all known bytes are the forms of these texts
@@ -108,14 +108,14 @@ abbrev pub AreForms : Option (List ℕ) → List PlacedText → Type 0
 AreForms known texts = IfSome known (λ bytes. bytes ≡ forms_of texts)
 
 -- the bytes begin with the form of v, and v is placed as by `read_wire`
-pub record ShowsForm (bytes : List ℕ) (v : PlacedText) : Type 0 where
+pub record BeginsWithForm (bytes : List ℕ) (v : PlacedText) : Type 0 where
   pub form : StartsWith bytes (wire v.text)
   pub fits : FitsForm v
   pub placed : IsPlacedAsRead v
 
 -- the bytes do not begin with a whole form
-abbrev pub ShowsNoForm : List ℕ → Type 0
-ShowsNoForm bytes = (t : List ℕ) → HasForm t → ¬ StartsWith bytes (wire t)
+abbrev pub BeginsWithNoForm : List ℕ → Type 0
+BeginsWithNoForm bytes = (t : List ℕ) → HasForm t → ¬ StartsWith bytes (wire t)
 
 -- if a form is next, its text is returned and the rest is left, or the error is not in the form
 abbrev pub ReadsNextBack : {R : Type 0} → (R → Option (List ℕ)) → Records R
@@ -143,22 +143,22 @@ pub record ReadsIntoVec (known : Option (List ℕ)) (r : Result (Vec PlacedText)
   pub fits : IfOk r (λ all. All FitsForm all.items)
   pub placement : IfOk r (λ all. All IsPlacedAsRead all.items)
   pub back : ReadsAllBack known r
-  pub err : IfErr r (λ e. FailsAfterTexts known e ⊎ FindsNoRoom known e)
+  pub err : IfErr r (λ e. FailsAfterTexts known e ⊎ VecCannotGrow known e)
 
 -- a whole form that is not valid UTF-8
-abbrev pub IsFormOfNoText : List ℕ → Type 0
-IsFormOfNoText form = (length form ≡ 4 + claimed_len form) × ¬ IsUtf8 (drop 4 form)
+abbrev pub IsInvalidForm : List ℕ → Type 0
+IsInvalidForm form = (length form ≡ 4 + claimed_len form) × ¬ IsUtf8 (drop 4 form)
 
 -- the bytes are a sequence of forms, and these are the texts of the valid ones
 pub data HasTexts : List ℕ → List (List ℕ) → Type 0 where
   none : HasTexts [] []
   text : {bytes : List ℕ} {texts : List (List ℕ)} (t : List ℕ) → HasForm t
       → HasTexts bytes texts → HasTexts (bytes ++ wire t) (texts ++ t ∷ [])
-  no_text : {bytes : List ℕ} {texts : List (List ℕ)} (form : List ℕ) → IsFormOfNoText form
+  no_text : {bytes : List ℕ} {texts : List (List ℕ)} (form : List ℕ) → IsInvalidForm form
       → HasTexts bytes texts → HasTexts (bytes ++ form) texts
 
 -- bytes that have these texts are consumed
-pub record TakesTexts (old new : Option (List ℕ)) (texts : List PlacedText) : Type 0 where
+pub record ConsumesTexts (old new : Option (List ℕ)) (texts : List PlacedText) : Type 0 where
   pub taken_bytes : List ℕ
   pub bytes : Consumes old new taken_bytes
   pub has : HasTexts taken_bytes (map (λ v. v.text) texts)

@@ -1,6 +1,6 @@
 //! Strings from numbers and other values.
 ghost use Rattle.std.specs.Prelude.{ℕ, List};
-ghost use Rattle.compact_ext.specs.Shown.{IsTextOf};
+ghost use Rattle.compact_ext.specs.Shown.{Converts};
 
 mod digits;
 mod integers;
@@ -44,7 +44,7 @@ pub trait ToCompactString {
     /// assert!(rt; !least.is_heap_allocated());
     /// ```
     fn to_compact_string(&self, alloc: Global) -> Result<CompactString, ToCompactStringError>
-        ensures { IsTextOf ⟦<Standard as Policy>⟧.growth (shown_text self.now)
+        ensures { Converts ⟦<Standard as Policy>⟧.growth (shown_text self.now)
             (IsShort self.now) result };
 
     /// Another name of `to_compact_string`. See [`to_compact_string`](Self::to_compact_string).
@@ -59,7 +59,7 @@ pub trait ToCompactString {
     ) -> Result<CompactString, ToCompactStringError>
     where
         Self: Sized,
-        ensures { IsTextOf ⟦<Standard as Policy>⟧.growth (shown_text self.now)
+        ensures { Converts ⟦<Standard as Policy>⟧.growth (shown_text self.now)
             (IsShort self.now) result }
     {
         self.to_compact_string(alloc)

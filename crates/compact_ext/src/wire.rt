@@ -7,7 +7,7 @@ mod records;
 mod write;
 
 ghost use Rattle.std.specs.Prelude.{◌≡◌};
-ghost use Rattle.compact_ext.specs.Wire.{FormTellsText};
+ghost use Rattle.compact_ext.specs.Wire.{FormHasOneText};
 
 use compact_str::ReserveError;
 pub use read::read_wire;
@@ -65,5 +65,5 @@ impl From<AllocError> for WireError {
 
 /// A law: a wire form determines its text and where it ends. So a sequence of forms is read in one way.
 pub fn a_form_tells_its_text()
-    ensures { FormTellsText }
+    ensures { FormHasOneText }
 {}

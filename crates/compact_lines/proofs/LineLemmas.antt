@@ -19,7 +19,7 @@ use Rattle.compact_edit.specs.declared.edit.Edit.{Edit}
 use Rattle.compact_edit.specs.declared.edit.Edit.TheVariants as edits
 use Rattle.compact_edit.specs.declared.edit.Reply.{Reply}
 use Rattle.compact_edit.specs.declared.edit.Reply.TheVariants.{Done, Char, Text, BadPosition, Refused}
-use Rattle.compact_edit.specs.Steps.{Step, IsLegal, edit_allocates, EditDoes}
+use Rattle.compact_edit.specs.Steps.{Step, IsLegal, edit_allocates, EditGives}
 use Rattle.compact_lines.specs.declared.command.Command.TheVariants as commands
 use Rattle.compact_lines.specs.declared.command.Command.{Command}
 use Rattle.compact_lines.specs.Sessions.{State, Executes, DoesOrRefuses, runs_edit, command_allocates}
@@ -154,7 +154,7 @@ value-stopped (Err e) g v w u command outcome old mid new does first same second
     }
 
 step-same : (g : Growth) (v w : PlacedText) (a b : Edit Standard) → (IsLegal v a → IsLegal v b) → (IsLegal v b → IsLegal v a)
-    → (IsTrue (edit_allocates v a) → IsTrue (edit_allocates v b)) → ((reply : Reply Standard) → EditDoes g v a reply w → EditDoes g v b reply w)
+    → (IsTrue (edit_allocates v a) → IsTrue (edit_allocates v b)) → ((reply : Reply Standard) → EditGives g v a reply w → EditGives g v b reply w)
     → (reply : Reply Standard) → Step g v a reply w → Step g v b reply w
 step-same g v w a b legal back asks does BadPosition step = (step.0, λ is. step.1 (back is))
 step-same g v w a b legal back asks does (Refused e) step = (step.0, legal step.1, asks step.2)

@@ -7,7 +7,7 @@ use Rattle.compact_repr.proofs.PackedTexts.{packed-last, packed-text}
 use Rattle.compact_text.specs.Text.{size, ascii_lowercase, ascii_uppercase}
 use Rattle.compact_text.specs.Cut.{text_before, text_after, substring, replaced_text}
 use Rattle.compact_repr.specs.Value.{PlacedText, placed_text}
-use Rattle.compact_repr.specs.Capacity.{Growth, inline_placement, heap_placement, static_placement, checked_heap_placement, with_capacity_placement, with_capacity_allocates, fits_in_place, reserve_placement, reserve_allocates, shortened_placement, owned_placement, make_owned_allocates, const_new_placement, from_string_placement, clone_placement, clone_allocates, shrink_to_placement, shrink_to_allocates}
+use Rattle.compact_repr.specs.Capacity.{Growth, inline_placement, heap_placement, static_placement, checked_heap_placement, with_capacity_placement, with_capacity_allocates, fits_in_place, reserve_placement, reserve_allocates, kept_placement, owned_placement, make_owned_allocates, const_new_placement, from_string_placement, clone_placement, clone_allocates, shrink_to_placement, shrink_to_allocates}
 use Rattle.compact_repr.specs.Calls.{new, push_str, push_str_allocates, clear, reserve, with_capacity, make_owned, clone, truncate, make_ascii_lowercase, make_ascii_uppercase, retain, zeroize}
 
 abbrev standard : Growth
@@ -193,7 +193,7 @@ no_room_is_made_past_the_max_capacity = refl
 an_empty_value_with_room_for_25_has_32 : with_capacity standard 25 ≡ Some (placed_text [] (heap_placement 32))
 an_empty_value_with_room_for_25_has_32 = refl
 
-a_shortened_heap_text_has_its_old_capacity : shortened_placement (heap 30 45) [] ≡ heap_placement 45
+a_shortened_heap_text_has_its_old_capacity : kept_placement (heap 30 45) [] ≡ heap_placement 45
 a_shortened_heap_text_has_its_old_capacity = refl
 
 -- packed bytes

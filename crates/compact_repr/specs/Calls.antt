@@ -2,8 +2,8 @@
 use Rattle.std.specs.Prelude.{◌≡◌, ◌⊎◌, ℕ, ◌-◌, Bool, IsTrue, List, [], ◌∷◌, ◌++◌, Option, Some, None, option_map, nat_le, if◌then◌else◌}
 use Rattle.compact_text.specs.Text.{size, ascii_lowercase, ascii_uppercase}
 use Rattle.compact_text.specs.Cut.{text_before, replaced_text}
-use Rattle.compact_repr.specs.Value.{PlacedText, placed_text, is_static}
-use Rattle.compact_repr.specs.Capacity.{Growth, Need, owned, room, room_to_append, room_to_replace, placement_for, allocates_for, inline_placement, new_placement, with_capacity_placement, shortened_placement, clone_placement, shrink_to_placement, shrink_to_allocates}
+use Rattle.compact_repr.specs.Value.{PlacedText, placed_text, is_static_place}
+use Rattle.compact_repr.specs.Capacity.{Growth, Need, owned, room, room_to_append, room_to_replace, placement_for, allocates_for, inline_placement, new_placement, with_capacity_placement, kept_placement, clone_placement, shrink_to_placement, shrink_to_allocates}
 
 abbrev pub new : Growth → List ℕ → Option PlacedText
 new g t = option_map (placed_text t) (new_placement g t)
@@ -21,7 +21,7 @@ push_str_allocates v s = allocates_for v (room_to_append (size s))
 
 -- v without text, in its place
 abbrev pub clear : PlacedText → PlacedText
-clear v = placed_text [] (shortened_placement v [])
+clear v = placed_text [] (kept_placement v [])
 
 -- v with room for n more bytes
 abbrev pub reserve : Growth → PlacedText → ℕ → Option PlacedText
@@ -44,7 +44,7 @@ Shrinks g v n w = (w ≡ placed_text v.text (shrink_to_placement g v n)) ⊎ ((w
 abbrev pub truncate : PlacedText → ℕ → PlacedText
 truncate v p =
     let t = if nat_le (size v.text) p then v.text else text_before v.text p in
-    placed_text t (shortened_placement v t)
+    placed_text t (kept_placement v t)
 
 -- v with s inserted, once there is room for s, even if s is empty
 abbrev pub insert_str : Growth → PlacedText → ℕ → List ℕ → Option PlacedText
@@ -70,9 +70,9 @@ retain g v t = edited g v owned t
 
 -- v without text: inline if static, else in its place
 abbrev pub zeroize : PlacedText → PlacedText
-zeroize v = placed_text [] (if is_static v.placement.place then inline_placement else v.placement)
+zeroize v = placed_text [] (if is_static_place v.placement.place then inline_placement else v.placement)
 
 -- v without its last character, in its place
 abbrev pub PopsChar : PlacedText → Option ℕ → PlacedText → Type 0
 PopsChar v None w = (v.text ≡ []) × (w ≡ v)
-PopsChar v (Some c) w = (front : List ℕ) × (v.text ≡ front ++ c ∷ []) × (w ≡ placed_text front (shortened_placement v front))
+PopsChar v (Some c) w = (front : List ℕ) × (v.text ≡ front ++ c ∷ []) × (w ≡ placed_text front (kept_placement v front))

@@ -3,7 +3,7 @@ use Rattle.std.specs.Prelude.{IsTrue, ◌≡◌, ℕ, ◌+◌, ◌-◌, ◌*◌,
 use Rattle.compact_repr.specs.declared.inline.TheConstants.{INLINE_CAPACITY}
 use Rattle.compact_repr.specs.declared.growth.TheConstants.{MAX_CAPACITY}
 use Rattle.compact_text.specs.Text.{size}
-use Rattle.compact_repr.specs.Value.{inline, heap, static, is_heap, is_static, Placement, PlacedText}
+use Rattle.compact_repr.specs.Value.{inline, heap, static, is_heap_place, is_static_place, Placement, PlacedText}
 
 -- the least capacity, and the growth factor
 pub record Growth : Type 0 where
@@ -46,20 +46,20 @@ abbrev pub new_placement : Growth → List ℕ → Option Placement
 new_placement g t = with_capacity_placement g (size t)
 
 -- v's placement with a shorter text t: the same place, and the same capacity if owned
-abbrev pub shortened_placement : PlacedText → List ℕ → Placement
-shortened_placement v t =
+abbrev pub kept_placement : PlacedText → List ℕ → Placement
+kept_placement v t =
     record {
       place = v.placement.place;
-      capacity = if is_static v.placement.place then size t else v.placement.capacity;
+      capacity = if is_static_place v.placement.place then size t else v.placement.capacity;
     }
 
 -- v's placement once owned: a static text is copied
 abbrev pub owned_placement : Growth → PlacedText → Option Placement
-owned_placement g v = if is_static v.placement.place then new_placement g v.text else Some v.placement
+owned_placement g v = if is_static_place v.placement.place then new_placement g v.text else Some v.placement
 
 -- v is owned and has room for n more bytes
 abbrev pub fits_in_place : PlacedText → ℕ → Bool
-fits_in_place v n = not (is_static v.placement.place) && nat_le (size v.text + n) v.placement.capacity
+fits_in_place v n = not (is_static_place v.placement.place) && nat_le (size v.text + n) v.placement.capacity
 
 -- the heap capacity for n more bytes: the greatest of what is needed, the grown text and the least
 abbrev pub grown_capacity : Growth → PlacedText → ℕ → ℕ
@@ -77,7 +77,7 @@ abbrev pub with_capacity_allocates : ℕ → Bool
 with_capacity_allocates c = not (nat_le c INLINE_CAPACITY)
 
 abbrev pub make_owned_allocates : PlacedText → Bool
-make_owned_allocates v = is_static v.placement.place && with_capacity_allocates (size v.text)
+make_owned_allocates v = is_static_place v.placement.place && with_capacity_allocates (size v.text)
 
 abbrev pub reserve_allocates : PlacedText → ℕ → Bool
 reserve_allocates v n = not (fits_in_place v n) && with_capacity_allocates (size v.text + n)
@@ -124,7 +124,7 @@ HasNewCapacity g c v = with_capacity_placement g c ≡ Some v.placement
 
 -- w has the place of v, and its capacity unless static
 abbrev pub KeepsPlace : PlacedText → PlacedText → Type 0
-KeepsPlace v w = w.placement ≡ shortened_placement v w.text
+KeepsPlace v w = w.placement ≡ kept_placement v w.text
 
 -- a string literal: inline if it fits, else by reference
 abbrev pub const_new_placement : List ℕ → Placement
@@ -136,10 +136,10 @@ from_string_placement t capacity = if nat_le (size t) INLINE_CAPACITY then inlin
 
 -- a clone's placement: a heap text gets that of a new value
 abbrev pub clone_placement : Growth → PlacedText → Option Placement
-clone_placement g v = if is_heap v.placement.place then new_placement g v.text else Some v.placement
+clone_placement g v = if is_heap_place v.placement.place then new_placement g v.text else Some v.placement
 
 abbrev pub clone_allocates : PlacedText → Bool
-clone_allocates v = is_heap v.placement.place && with_capacity_allocates (size v.text)
+clone_allocates v = is_heap_place v.placement.place && with_capacity_allocates (size v.text)
 
 abbrev pub CloneAllocates : PlacedText → Type 0
 CloneAllocates v = IsTrue (clone_allocates v)
@@ -151,11 +151,11 @@ shrink_to_capacity v n = max (size v.text) n
 -- a shrink to n allocates: the goal does not fit inline, and its capacity is below the present one
 abbrev pub shrink_to_allocates : Growth → PlacedText → ℕ → Bool
 shrink_to_allocates g v n =
-    is_heap v.placement.place && with_capacity_allocates (shrink_to_capacity v n) && nat_lt (max g.least (shrink_to_capacity v n)) v.placement.capacity
+    is_heap_place v.placement.place && with_capacity_allocates (shrink_to_capacity v n) && nat_lt (max g.least (shrink_to_capacity v n)) v.placement.capacity
 
 -- v's placement shrunk to n if allocation succeeds: only a heap buffer changes, and no capacity grows
 abbrev pub shrink_to_placement : Growth → PlacedText → ℕ → Placement
 shrink_to_placement g v n =
-    if not (is_heap v.placement.place) then v.placement
+    if not (is_heap_place v.placement.place) then v.placement
     else if nat_le (shrink_to_capacity v n) INLINE_CAPACITY then inline_placement
     else heap_placement (min (max g.least (shrink_to_capacity v n)) v.placement.capacity)

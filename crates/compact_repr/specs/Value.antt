@@ -8,15 +8,15 @@ pub data Place : Type 0 where
   heap : Place
   static : Place
 
-abbrev pub is_heap : Place → Bool
-is_heap inline = false
-is_heap heap = true
-is_heap static = false
+abbrev pub is_heap_place : Place → Bool
+is_heap_place inline = false
+is_heap_place heap = true
+is_heap_place static = false
 
-abbrev pub is_static : Place → Bool
-is_static inline = false
-is_static heap = false
-is_static static = true
+abbrev pub is_static_place : Place → Bool
+is_static_place inline = false
+is_static_place heap = false
+is_static_place static = true
 
 pub record Placement : Type 0 where
   pub place : Place
@@ -34,24 +34,24 @@ abbrev pub IsInline : PlacedText → Type 0
 IsInline v = v.placement.place ≡ inline
 
 abbrev pub IsHeap : PlacedText → Type 0
-IsHeap v = IsTrue (is_heap v.placement.place)
+IsHeap v = IsTrue (is_heap_place v.placement.place)
 
 abbrev pub IsStatic : PlacedText → Type 0
-IsStatic v = IsTrue (is_static v.placement.place)
+IsStatic v = IsTrue (is_static_place v.placement.place)
 
 abbrev pub IsOwned : PlacedText → Type 0
-IsOwned v = is_static v.placement.place ≡ false
+IsOwned v = is_static_place v.placement.place ≡ false
 
 -- the place with this capacity may hold that many bytes
-abbrev pub IsCapacityOf : Place → ℕ → ℕ → Type 0
-IsCapacityOf inline capacity bytes = (capacity ≡ 24) × (bytes ≤ 24)
-IsCapacityOf heap capacity bytes = bytes ≤ capacity
-IsCapacityOf static capacity bytes = capacity ≡ bytes
+abbrev pub CanHold : Place → ℕ → ℕ → Type 0
+CanHold inline capacity bytes = (capacity ≡ 24) × (bytes ≤ 24)
+CanHold heap capacity bytes = bytes ≤ capacity
+CanHold static capacity bytes = capacity ≡ bytes
 
 -- true of every value: an inline one has capacity 24, a static one its size
 pub record IsSound (v : PlacedText) : Type 0 where
   pub text : IsText v.text
-  pub fits : IsCapacityOf v.placement.place v.placement.capacity (size v.text)
+  pub fits : CanHold v.placement.place v.placement.capacity (size v.text)
 
 -- the view of a heap buffer: its text, and its capacity in bytes
 pub record HeapText : Type 0 where

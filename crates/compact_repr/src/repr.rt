@@ -1,7 +1,7 @@
 //! The representation: a buffer of one of three kinds, and the allocator it grows with.
 ghost use Rattle.std.specs.Prelude.{◌≡◌, ◌<◌, ◌≤◌, ◌^◌, ◌↔◌, IsSome, IfSome, false, IfOk, IfErr, string_bytes};
 ghost use Rattle.std.specs.String.{string_capacity};
-ghost use Rattle.compact_repr.specs.Words.{size, utf8, text_of, inline, is_heap, IsSound, IsStatic, IsHeap, IsInline};
+ghost use Rattle.compact_repr.specs.Words.{size, utf8, text_of, inline, is_heap_place, IsSound, IsStatic, IsHeap, IsInline};
 ghost use Rattle.compact_repr.specs.Packed.{IsPackedFor};
 ghost use Rattle.compact_repr.specs.BufferValue.{buffer_value, IsSoundBuffer};
 
@@ -121,7 +121,7 @@ impl<P: Policy> Repr<P> {
     /// Returns `true` if the text is in a heap buffer.
     #[inline]
     pub fn is_heap_allocated(&self) -> bool
-        ensures { result ≡ is_heap self.now.placement.place }
+        ensures { result ≡ is_heap_place self.now.placement.place }
     {
         matches!(&self.buffer, Buffer::Heap(_))
     }
@@ -149,7 +149,7 @@ impl<P: Policy> Repr<P> {
         ensures text { IfOk result (λ s. text_of (string_bytes s) ≡ self.text) }
         ensures capacity { IfOk result (λ s. self.placement.capacity ≤ string_capacity s) }
         ensures heap { IfOk result (λ _. IsHeap self) }
-        ensures back { IfErr result (λ r. (r ≡ self) × (is_heap self.placement.place ≡ false)) }
+        ensures back { IfErr result (λ r. (r ≡ self) × (is_heap_place self.placement.place ≡ false)) }
     {
         let alloc = self.alloc;
         match self.buffer {

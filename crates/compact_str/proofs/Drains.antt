@@ -8,7 +8,7 @@ use Rattle.std.specs.Char.{len_utf8}
 use Rattle.compact_text.proofs.TextFacts.{text_facts}
 use Rattle.compact_repr.specs.Text.{size}
 use Rattle.compact_repr.specs.Cut.{IsBoundary, text_before, text_after, substring, replaced_text}
-use Rattle.compact_repr.specs.Value.{PlacedText, placed_text, is_static, IsOwned}
+use Rattle.compact_repr.specs.Value.{PlacedText, placed_text, is_static_place, IsOwned}
 use Rattle.compact_repr.specs.Capacity.{Growth, PlacedFor, owned}
 use Rattle.compact_text.proofs.Texts.{size-append}
 use Rattle.compact_text.proofs.Cuts.{text_before-text_after, size-text_before, boundary-from_size, size-replaced}
@@ -19,7 +19,7 @@ use Rattle.compact_str.specs.Ranges.{IsSpan}
 use Rattle.compact_str.specs.Drain.{drain_rest, value_after_drain}
 use Rattle.compact_str.specs.TotalRanges.{range_text, without_range}
 
-pub placed-owned : (g : Growth) (v u : PlacedText) → PlacedFor g v u owned → is_static u.placement.place ≡ false
+pub placed-owned : (g : Growth) (v u : PlacedText) → PlacedFor g v u owned → is_static_place u.placement.place ≡ false
 placed-owned g v u e = grind (arith, common_steps)
 
 -- the ends of a span are boundaries
@@ -109,7 +109,7 @@ without_range-placement v len i j =
     ⊎_elim
     (λ yes. ap (λ (w : PlacedText). w.placement) (cond-true _ _ _ yes))
     (λ no. ap (λ (w : PlacedText). w.placement) (cond-false _ _ _ no))
-    (cases_Bool (not (is_static v.placement.place) && nat_eq (size v.text) len))
+    (cases_Bool (not (is_static_place v.placement.place) && nat_eq (size v.text) len))
 
 -- and one that keeps the length keeps the text, so that a span stays one
 without_range-text : (v : PlacedText) (len i j : ℕ) → (size v.text ≡ len → IsSpan v.text i j)
@@ -126,7 +126,7 @@ without_range-text v len i j range same =
     ap (λ (w : PlacedText). w.text) is
     ∙ rw empty (ap (λ (l : List ℕ). l ++ text_after v.text i) (append-nil (text_before v.text i)) ∙ sym (text_before-text_after v.text i)))
     (λ no. ap (λ (w : PlacedText). w.text) (cond-false _ _ _ no))
-    (cases_Bool (not (is_static v.placement.place) && nat_eq (size v.text) len))
+    (cases_Bool (not (is_static_place v.placement.place) && nat_eq (size v.text) len))
 
 pub without_range-span : (v : PlacedText) (len i j front back : ℕ) → (size v.text ≡ len → IsSpan v.text i j) → (size v.text ≡ len → IsSpan v.text front back)
     → size (without_range v len i j).text ≡ len → IsSpan (without_range v len i j).text front back

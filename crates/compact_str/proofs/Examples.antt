@@ -17,7 +17,7 @@ use Rattle.compact_str.specs.Order.{same_text, text_order, text_cmp}
 use Rattle.compact_str.specs.TotalRanges.{range_text, without_range}
 use Rattle.compact_str.specs.FittedValues.{IsPlacedBySize}
 use Rattle.compact_str.specs.Collect.{Appends, join, char_text}
-use Rattle.compact_str.specs.RetainRules.{retained_text, answer_rule}
+use Rattle.compact_str.specs.RetainRules.{retained_text, flag_rule}
 
 abbrev standard : Growth
 standard = record { least = 32; numerator = 3; denominator = 2 }
@@ -228,8 +228,8 @@ bytes_25_are_fitted_on_the_heap = record { short = λ h. absurd (omega (arith, h
 bytes_25_are_fitted_with_more_room : IsPlacedBySize (placed_text (letters 25) (heap_placement 100))
 bytes_25_are_fitted_with_more_room = record { short = λ h. absurd (omega (arith, h)); long = λ _. (refl, omega (arith)) }
 
-answers_keep_three_of_five : retained_text answer_rule (false ∷ true ∷ true ∷ false ∷ true ∷ []) (0xE4 ∷ 0x62 ∷ 0x1D11E ∷ 0x64 ∷ 0x20AC ∷ []) ≡ 0x62 ∷ 0x1D11E ∷ 0x20AC ∷ []
+answers_keep_three_of_five : retained_text flag_rule (false ∷ true ∷ true ∷ false ∷ true ∷ []) (0xE4 ∷ 0x62 ∷ 0x1D11E ∷ 0x64 ∷ 0x20AC ∷ []) ≡ 0x62 ∷ 0x1D11E ∷ 0x20AC ∷ []
 answers_keep_three_of_five = refl
 
-a_character_with_no_answer_stays : retained_text answer_rule (true ∷ false ∷ []) (0x41 ∷ 0x62 ∷ 0x43 ∷ []) ≡ 0x41 ∷ 0x43 ∷ []
+a_character_with_no_answer_stays : retained_text flag_rule (true ∷ false ∷ []) (0x41 ∷ 0x62 ∷ 0x43 ∷ []) ≡ 0x41 ∷ 0x43 ∷ []
 a_character_with_no_answer_stays = refl

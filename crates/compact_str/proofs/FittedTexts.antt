@@ -8,7 +8,7 @@ use Rattle.std.specs.Str.{chars, IsUtf8}
 use Rattle.std.proofs.lemmas.Str.{encodes-chars, scalars-chars}
 use Rattle.compact_text.proofs.TextFacts.{text_facts}
 use Rattle.compact_repr.specs.Text.{size, text_of}
-use Rattle.compact_repr.specs.Value.{PlacedText, placed_text, heap, is_heap}
+use Rattle.compact_repr.specs.Value.{PlacedText, placed_text, heap, is_heap_place}
 use Rattle.compact_repr.specs.Capacity.{Growth, inline_placement, from_string_placement, IsPlacedAsNew, PlacedFor, room, room_to_append}
 use Rattle.compact_text.proofs.Texts.{size-append, size-text_of}
 use Rattle.compact_text.specs.Text.{replacement_character}
@@ -25,18 +25,18 @@ heap-fitted v more place fits = record { short = λ h. absurd (omega (arith, mor
 reserve-heap : (g : Growth) (v u : PlacedText) (n : ℕ) → v.placement ≡ inline_placement → 24 < size v.text + n → PlacedFor g v u (room n) → u.placement.place ≡ heap
 reserve-heap g v u n p more e = grind (arith, common_steps)
 
-on_heap-inline_placement : (v : PlacedText) → IsPlacedBySize v → is_heap v.placement.place ≡ false → (size v.text ≤ 24) × (v.placement ≡ inline_placement)
+on_heap-inline_placement : (v : PlacedText) → IsPlacedBySize v → is_heap_place v.placement.place ≡ false → (size v.text ≤ 24) × (v.placement ≡ inline_placement)
 on_heap-inline_placement v f h =
     elim (cases_lt 24 (size v.text)) [
       | inr k ↦ (k, f.short k)
-      | inl k ↦ absurd (true≢false (ap is_heap (sym (f.long k).0) ∙ h))
+      | inl k ↦ absurd (true≢false (ap is_heap_place (sym (f.long k).0) ∙ h))
     ]
 
 grown-heap : (g : Growth) (u w : PlacedText) (n : ℕ) → u.placement.place ≡ heap → 24 < size u.text + n → 0 < n → PlacedFor g u w (room_to_append n)
     → (w.placement.place ≡ heap) × (size u.text + n ≤ w.placement.capacity)
 grown-heap g u w n h more some e = grind (arith, common_steps)
 
-pub reserve-fitted : (g : Growth) (v u w : PlacedText) (s : List ℕ) (n m : ℕ) → IsPlacedBySize v → is_heap v.placement.place ≡ false → 24 < size v.text + n → size s ≡ n → n ≤ m
+pub reserve-fitted : (g : Growth) (v u w : PlacedText) (s : List ℕ) (n m : ℕ) → IsPlacedBySize v → is_heap_place v.placement.place ≡ false → 24 < size v.text + n → size s ≡ n → n ≤ m
     → u.text ≡ v.text → PlacedFor g v u (room m) → w.text ≡ u.text ++ s → PlacedFor g u w (room_to_append n) → IsPlacedBySize w
 reserve-fitted g v u w s n m f h more k enough same e t a =
     let is = on_heap-inline_placement v f h in

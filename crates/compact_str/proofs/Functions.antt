@@ -8,7 +8,7 @@ use Rattle.compact_text.proofs.Cuts.{text_after-next}
 use Rattle.compact_repr.specs.Text.{size}
 use Rattle.compact_repr.specs.Cut.{IsBoundary, text_before, text_after, replaced_text}
 use Rattle.compact_repr.specs.Value.{PlacedText, placed_text}
-use Rattle.compact_repr.specs.Capacity.{Growth, owned, room, room_to_append, room_to_replace, shortened_placement, reserve_allocates, PlacedFor, AllocatesFor, KeepsPlace}
+use Rattle.compact_repr.specs.Capacity.{Growth, owned, room, room_to_append, room_to_replace, kept_placement, reserve_allocates, PlacedFor, AllocatesFor, KeepsPlace}
 use Rattle.compact_repr.specs.Calls.{push_str, push_str_allocates, insert_str, replace_range, replace_range_allocates, truncate}
 use Rattle.compact_str.specs.Edits.{Removes}
 use Rattle.compact_str.proofs.Positions.{truncate-text}
@@ -46,7 +46,7 @@ removes-from g v w p c h next text place =
 
 pub truncate-from : (v w : PlacedText) (p : ℕ) → w.text ≡ text_before v.text p → KeepsPlace v w → w ≡ truncate v p
 truncate-from v w p text keeps =
-    ap (placed_text w.text) keeps ∙ ap (λ t. placed_text t (shortened_placement v t)) (text ∙ sym (truncate-text v p))
+    ap (placed_text w.text) keeps ∙ ap (λ t. placed_text t (kept_placement v t)) (text ∙ sym (truncate-text v p))
 
 pub ruleset functions =
     (text_facts, push_str-from, push_str_allocates-from, push-from, push_allocates-from, insert_str-from, insert_str_allocates-from, replace_range-from, replace_range_allocates-from, removes-from, truncate-from)

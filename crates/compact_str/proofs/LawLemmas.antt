@@ -31,7 +31,7 @@ removal_undoes_insertion g v w p c h e =
     record {
       boundary = boundary;
       within = omega (arith, left, ap size rest, wide.0);
-      asks_nothing = insert_str-owned g v w p (c ∷ []) e;
+      allocates_nothing = insert_str-owned g v w p (c ∷ []) e;
       undoes =
           λ d u r.
           let same : d ∷ r.0 ≡ c ∷ text_after v.text p = sym r.1 ∙ rest in

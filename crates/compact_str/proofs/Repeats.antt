@@ -4,7 +4,7 @@ use Rattle.std.proofs.Math.Nat.{mul-le-mul_left, mul-suc}
 use Rattle.std.proofs.lemmas.Grind.{common_steps}
 use Rattle.std.specs.Prelude.{IsTrue, not, ◌&&◌, nat_le}
 use Rattle.compact_repr.specs.Text.{size}
-use Rattle.compact_repr.specs.Value.{Placement, PlacedText, is_static}
+use Rattle.compact_repr.specs.Value.{Placement, PlacedText, is_static_place}
 use Rattle.compact_repr.specs.Capacity.{Growth, with_capacity_placement, fits_in_place, room_to_append, PlacedFor, AllocatesFor}
 use Rattle.compact_str.specs.Edits.{repeated_text}
 use Rattle.compact_text.proofs.Texts.{size-append, empty_text}
@@ -21,7 +21,7 @@ size-repeated_text zero t = omega arith
 size-repeated_text (suc n) t = size-append t (repeated_text n t) ∙ ap (λ (k : ℕ). size t + k) (size-repeated_text n t) ∙ omega arith
 
 -- a capacity of n bytes has room for n bytes
-pub with_capacity_placement-room : (g : Growth) (p : Placement) (m k : ℕ) → with_capacity_placement g m ≡ Some p → k ≤ m → IsTrue (not (is_static p.place) && nat_le k p.capacity)
+pub with_capacity_placement-room : (g : Growth) (p : Placement) (m k : ℕ) → with_capacity_placement g m ≡ Some p → k ≤ m → IsTrue (not (is_static_place p.place) && nat_le k p.capacity)
 with_capacity_placement-room g p m k e h = grind (arith, common_steps)
 
 -- a value filled so far has room for one more copy

@@ -32,20 +32,20 @@ abbrev pub string_text : {Z : Type 0} → String Z → List ℕ
 string_text s = text_of (string_bytes s)
 
 -- P holds of the iterator that an iterable becomes
-abbrev pub OfIterator : {U S : Type 0} → (U → S → Type 0) → U → (S → Type 0) → Type 0
-OfIterator {S = S} becomes iterable P = (it : S) × becomes iterable it × P it
+abbrev pub ForIterator : {U S : Type 0} → (U → S → Type 0) → U → (S → Type 0) → Type 0
+ForIterator {S = S} becomes iterable P = (it : S) × becomes iterable it × P it
 
 -- P holds of the items of one whole run, by `Drains`
-abbrev pub OfDrained : {U S A : Type 0} → (U → S → Type 0) → (S → Option A → S → Type 0) → U → (List A → Type 0) → Type 0
-OfDrained {S = S} {A = A} becomes steps iterable P = (it : S) × (xs : List A) × becomes iterable it × Drains steps it xs × P xs
+abbrev pub ForDrained : {U S A : Type 0} → (U → S → Type 0) → (S → Option A → S → Type 0) → U → (List A → Type 0) → Type 0
+ForDrained {S = S} {A = A} becomes steps iterable P = (it : S) × (xs : List A) × becomes iterable it × Drains steps it xs × P xs
 
 -- the same by `WholeRun`, as std says it of its own iterators
-abbrev pub OfItems : {U S A : Type 0} → (U → S → Type 0) → (S → Option A → S → Type 0) → U → (List A → Type 0) → Type 0
-OfItems becomes steps iterable P = OfIterator becomes iterable (λ it. WholeRun steps it (λ run. P run.items))
+abbrev pub ForItems : {U S A : Type 0} → (U → S → Type 0) → (S → Option A → S → Type 0) → U → (List A → Type 0) → Type 0
+ForItems becomes steps iterable P = ForIterator becomes iterable (λ it. WholeRun steps it (λ run. P run.items))
 
 -- P holds of all items that may have come at any time
-abbrev pub OfAllItems : {U S A : Type 0} → (U → S → Type 0) → (S → Option A → S → Type 0) → U → (List A → Type 0) → Type 0
-OfAllItems {S = S} becomes steps iterable P = (it : S) → becomes iterable it → HoldsAlong steps it P
+abbrev pub ForAllItems : {U S A : Type 0} → (U → S → Type 0) → (S → Option A → S → Type 0) → U → (List A → Type 0) → Type 0
+ForAllItems {S = S} becomes steps iterable P = (it : S) → becomes iterable it → HoldsAlong steps it P
 
 module _ {S A : Type 0} (steps : S → Option A → S → Type 0) where
   -- all items are appended in turn
@@ -83,32 +83,32 @@ module _ {U S A : Type 0} (becomes : U → S → Type 0) (steps : S → Option A
   -- w is v with the texts of all items appended in turn; on failure, with those of the items before the one that failed
   pub record Extends {E : Type 0} (g : Growth) (item_text : A → List ℕ) (joined_text : List A → List ℕ) (iterable : U) (v : PlacedText)
       (r : Result (Unit {0}) E) (w : PlacedText) : Type 0 where
-    pub text : OnOk r (OfItems becomes steps iterable (λ xs. w.text ≡ v.text ++ joined_text xs))
-    pub pushes : OnOk r (OfIterator becomes iterable (λ it. AppendsAll steps g item_text it v w))
+    pub text : OnOk r (ForItems becomes steps iterable (λ xs. w.text ≡ v.text ++ joined_text xs))
+    pub pushes : OnOk r (ForIterator becomes iterable (λ it. AppendsAll steps g item_text it v w))
     pub boundary : IsBoundary w.text (size v.text)
     pub front : text_before w.text (size v.text) ≡ v.text
     pub room : infallible_capacity v ≤ infallible_capacity w
-    pub succeeds : OfAllItems becomes steps iterable (λ xs. HasRoomFor v (size (joined_text xs))) → IsOk r
-    pub err : OnErr r (OfIterator becomes iterable (λ it. AppendsUpToRefused steps g item_text it v w))
+    pub succeeds : ForAllItems becomes steps iterable (λ xs. HasRoomFor v (size (joined_text xs))) → IsOk r
+    pub err : OnErr r (ForIterator becomes iterable (λ it. AppendsUpToRefused steps g item_text it v w))
 
   -- r has the texts of all items, and is placed by its size; never fails up to 24 bytes
   pub record Collects {E : Type 0} (joined_text : List A → List ℕ) (iterable : U) (r : Result PlacedText E) : Type 0 where
-    pub ok : IfOk r (λ v. OfDrained becomes steps iterable (λ xs. v.text ≡ joined_text xs))
-    pub text : IfOk r (λ v. OfItems becomes steps iterable (λ xs. v.text ≡ joined_text xs))
+    pub ok : IfOk r (λ v. ForDrained becomes steps iterable (λ xs. v.text ≡ joined_text xs))
+    pub text : IfOk r (λ v. ForItems becomes steps iterable (λ xs. v.text ≡ joined_text xs))
     pub place : IfOk r IsPlacedBySize
-    pub succeeds : OfAllItems becomes steps iterable (λ xs. size (joined_text xs) ≤ INLINE_CAPACITY) → IsOk r
-    pub allocates : OnErr r (OfIterator becomes iterable (λ it. PassesInline steps joined_text it))
+    pub succeeds : ForAllItems becomes steps iterable (λ xs. size (joined_text xs) ≤ INLINE_CAPACITY) → IsOk r
+    pub allocates : OnErr r (ForIterator becomes iterable (λ it. PassesInline steps joined_text it))
 
   -- t is s with the texts of all items appended; on failure, with those of the items before the one without room
   pub record ExtendsString {Z E : Type 0} (item_text : A → List ℕ) (iterable : U) (s : String Z) (r : Result (Unit {0}) E) (t : String Z) : Type 0 where
-    pub ok : OnOk r (OfDrained becomes steps iterable (λ xs. string_text t ≡ string_text s ++ flat_map item_text xs))
-    pub text : OnOk r (OfItems becomes steps iterable (λ xs. string_text t ≡ string_text s ++ flat_map item_text xs))
+    pub ok : OnOk r (ForDrained becomes steps iterable (λ xs. string_text t ≡ string_text s ++ flat_map item_text xs))
+    pub text : OnOk r (ForItems becomes steps iterable (λ xs. string_text t ≡ string_text s ++ flat_map item_text xs))
     pub capacity : string_capacity s ≤ string_capacity t
-    pub succeeds : OfAllItems becomes steps iterable (λ xs. length (string_bytes s) + size (flat_map item_text xs) ≤ string_capacity s) → IsOk r
-    pub err : OnErr r (OfIterator becomes iterable (λ it. StopsWithout steps item_text it (string_capacity t) (string_text s) (string_text t)))
+    pub succeeds : ForAllItems becomes steps iterable (λ xs. length (string_bytes s) + size (flat_map item_text xs) ≤ string_capacity s) → IsOk r
+    pub err : OnErr r (ForIterator becomes iterable (λ it. StopsWithout steps item_text it (string_capacity t) (string_text s) (string_text t)))
 
   -- r has the texts of all items; never fails if all are empty
   pub record CollectsString {Z E : Type 0} (item_text : A → List ℕ) (iterable : U) (r : Result (String Z) E) : Type 0 where
-    pub text : IfOk r (λ s. OfDrained becomes steps iterable (λ xs. string_text s ≡ flat_map item_text xs))
-    pub succeeds : OfAllItems becomes steps iterable (λ xs. size (flat_map item_text xs) ≡ 0) → IsOk r
-    pub err : OnErr r (OfIterator becomes iterable (λ it. GivesText steps (flat_map item_text) it))
+    pub text : IfOk r (λ s. ForDrained becomes steps iterable (λ xs. string_text s ≡ flat_map item_text xs))
+    pub succeeds : ForAllItems becomes steps iterable (λ xs. size (flat_map item_text xs) ≡ 0) → IsOk r
+    pub err : OnErr r (ForIterator becomes iterable (λ it. GivesText steps (flat_map item_text) it))

@@ -4,7 +4,7 @@ use Rattle.std.specs.String.{string_capacity}
 use Rattle.std.specs.declared.borrow.CowStr.{CowStr}
 use Rattle.std.specs.declared.borrow.CowStr.TheVariants.{Borrowed, Owned}
 use Rattle.compact_repr.specs.Text.{text_of, utf8}
-use Rattle.compact_repr.specs.Value.{Placement, PlacedText, placed_text, is_heap, IsHeap}
+use Rattle.compact_repr.specs.Value.{Placement, PlacedText, placed_text, is_heap_place, IsHeap}
 use Rattle.compact_repr.specs.Capacity.{Growth, IsPlacedAsNew, inline_placement, heap_placement, from_string_placement}
 use Rattle.compact_repr.specs.declared.inline.TheConstants.{INLINE_CAPACITY}
 use Rattle.compact_repr.specs.Calls.{new}
@@ -23,16 +23,16 @@ abbrev pub string_buffer_placement : ℕ → Placement
 string_buffer_placement capacity = if nat_eq capacity 0 then inline_placement else heap_placement capacity
 
 -- a borrowed text is copied, which fails only if it allocates; the buffer of an owned one is reused
-abbrev pub TakesCow : {Z E : Type 0} → Growth → CowStr Z → Result PlacedText E → Type 0
-TakesCow g (Borrowed s) r = MatchResult r (λ v. new g (text_of s.now) ≡ Some v) (λ _. INLINE_CAPACITY < length s.now)
-TakesCow g (Owned s) r = IsOkAnd r (λ v. let t = text_of (string_bytes s) in v ≡ placed_text t (from_string_placement t (string_capacity s)))
+abbrev pub ConvertsCow : {Z E : Type 0} → Growth → CowStr Z → Result PlacedText E → Type 0
+ConvertsCow g (Borrowed s) r = MatchResult r (λ v. new g (text_of s.now) ≡ Some v) (λ _. INLINE_CAPACITY < length s.now)
+ConvertsCow g (Owned s) r = IsOkAnd r (λ v. let t = text_of (string_bytes s) in v ≡ placed_text t (from_string_placement t (string_capacity s)))
 
 -- r has the bytes of v, in the buffer of a heap value; any other may fail, and is then returned
 pub record ConvertsTo {T : Type 0} (bytes_of : T → List ℕ) (v : PlacedText) (r : Result T (Refused PlacedText)) : Type 0 where
   pub bytes : IfOk r (λ x. bytes_of x ≡ utf8 v.text)
   pub text : IfOk r (λ x. text_of (bytes_of x) ≡ v.text)
   pub succeeds : IsHeap v → IsOk r
-  pub err : IfErr r (λ e. (e.value ≡ v) × (is_heap v.placement.place ≡ false))
+  pub err : IfErr r (λ e. (e.value ≡ v) × (is_heap_place v.placement.place ≡ false))
 
 -- the conversion never fails: the text is owned, or has at most 24 bytes
 abbrev pub IsFreeCow : {Z : Type 0} → CowStr Z → Type 0

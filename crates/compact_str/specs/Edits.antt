@@ -3,9 +3,9 @@ use Rattle.std.specs.Prelude.{IsTrue, ◌≡◌, ℕ, ◌*◌, Bool, not, ◌&&�
 use Rattle.std.specs.Str.{IsUtf8}
 use Rattle.compact_repr.specs.Text.{size, text_of, utf8}
 use Rattle.compact_repr.specs.Cut.{text_before, text_after}
-use Rattle.compact_repr.specs.Value.{Placement, PlacedText, placed_text, is_static}
+use Rattle.compact_repr.specs.Value.{Placement, PlacedText, placed_text, is_static_place}
 use Rattle.compact_repr.specs.Calls.{push_str}
-use Rattle.compact_repr.specs.Capacity.{Growth, new_placement, with_capacity_placement, with_capacity_allocates, shortened_placement, owned_placement, const_new_placement, clone_placement, clone_allocates}
+use Rattle.compact_repr.specs.Capacity.{Growth, new_placement, with_capacity_placement, with_capacity_allocates, kept_placement, owned_placement, const_new_placement, clone_placement, clone_allocates}
 
 -- a formatter writes valid bytes, which are appended to v and give w
 pub record Writes (g : Growth) (v : PlacedText) (bytes : List ℕ) (w : PlacedText) : Type 0 where
@@ -20,7 +20,7 @@ Removes g v index c w =
 
 -- the placement of a tail that is split off: static if v is
 abbrev pub tail_placement : Growth → PlacedText → List ℕ → Option Placement
-tail_placement g v tail = if is_static v.placement.place then Some (const_new_placement tail) else new_placement g tail
+tail_placement g v tail = if is_static_place v.placement.place then Some (const_new_placement tail) else new_placement g tail
 
 -- the tail that is split off v is static if v is and it is long, else placed as new
 abbrev pub IsPlacedAsTail : Growth → PlacedText → PlacedText → Type 0
@@ -33,10 +33,10 @@ split_tail g v index = let tail = text_after v.text index in option_map (placed_
 -- v is split at a position: the tail is returned, and w is the part before it, in the place of v
 pub record SplitsOff (g : Growth) (v : PlacedText) (index : ℕ) (tail w : PlacedText) : Type 0 where
   pub leaves : split_tail g v index ≡ Some tail
-  pub stays : let front = text_before v.text index in w ≡ placed_text front (shortened_placement v front)
+  pub stays : let front = text_before v.text index in w ≡ placed_text front (kept_placement v front)
 
 abbrev pub split_allocates : PlacedText → ℕ → Bool
-split_allocates v index = not (is_static v.placement.place) && with_capacity_allocates (size (text_after v.text index))
+split_allocates v index = not (is_static_place v.placement.place) && with_capacity_allocates (size (text_after v.text index))
 
 abbrev pub SplitAllocates : PlacedText → ℕ → Type 0
 SplitAllocates v index = IsTrue (split_allocates v index)

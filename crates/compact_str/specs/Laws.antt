@@ -6,7 +6,7 @@ use Rattle.compact_repr.specs.Text.{size, utf8, text_of}
 use Rattle.compact_repr.specs.Cut.{IsBoundary, text_before}
 use Rattle.compact_repr.specs.Packed.{IsPackedFor}
 use Rattle.compact_repr.specs.Value.{PlacedText, placed_text, IsSound}
-use Rattle.compact_repr.specs.Capacity.{Growth, shortened_placement, make_owned_allocates}
+use Rattle.compact_repr.specs.Capacity.{Growth, kept_placement, make_owned_allocates}
 use Rattle.compact_repr.specs.Calls.{push_str, clone, truncate, insert_str}
 use Rattle.compact_str.specs.Edits.{Removes, split_tail}
 
@@ -14,7 +14,7 @@ use Rattle.compact_str.specs.Edits.{Removes, split_tail}
 pub record RemovalUndoes (g : Growth) (v w : PlacedText) (index c : ℕ) : Type 0 where
   pub boundary : IsBoundary w.text index
   pub within : index < size w.text
-  pub asks_nothing : make_owned_allocates w ≡ false
+  pub allocates_nothing : make_owned_allocates w ≡ false
   pub undoes : (d : ℕ) (u : PlacedText) → Removes g w index d u → (d ≡ c) × (u.text ≡ v.text)
 
 abbrev pub RemovalUndoesInsertion : Type 0
@@ -32,7 +32,7 @@ TruncationUndoesAppend =
 abbrev pub AppendUndoesSplit : Type 0
 AppendUndoesSplit =
     (g : Growth) (v tail w : PlacedText) (index : ℕ) → split_tail g v index ≡ Some tail
-    → push_str g (placed_text (text_before v.text index) (shortened_placement v (text_before v.text index))) tail.text ≡ Some w → w.text ≡ v.text
+    → push_str g (placed_text (text_before v.text index) (kept_placement v (text_before v.text index))) tail.text ≡ Some w → w.text ≡ v.text
 
 -- a clone has the text of its source
 abbrev pub CloneIsEqual : Type 0

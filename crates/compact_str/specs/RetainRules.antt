@@ -22,10 +22,10 @@ retain_state rule s [] = s
 retain_state rule s (c ∷ cs) = retain_state rule (rule s c).1 cs
 
 -- the first answer, or `true` if none is left
-abbrev pub next_answer : List Bool → Bool
-next_answer [] = true
-next_answer (answer ∷ answers) = answer
+abbrev pub next_flag : List Bool → Bool
+next_flag [] = true
+next_flag (answer ∷ answers) = answer
 
 -- the rule that follows a list of answers; a character past its end is kept
-abbrev pub answer_rule : List Bool → ℕ → Bool × List Bool
-answer_rule answers c = (next_answer answers, drop 1 answers)
+abbrev pub flag_rule : List Bool → ℕ → Bool × List Bool
+flag_rule answers c = (next_flag answers, drop 1 answers)

@@ -1,12 +1,12 @@
 -- Room for a text.
 use Rattle.std.specs.Prelude.{ℕ, ◌+◌, ◌≤◌, max, if◌then◌else◌}
 use Rattle.compact_repr.specs.Text.{size}
-use Rattle.compact_repr.specs.Value.{PlacedText, is_static}
+use Rattle.compact_repr.specs.Value.{PlacedText, is_static_place}
 use Rattle.compact_repr.specs.declared.inline.TheConstants.{INLINE_CAPACITY}
 
 -- the capacity that v owns
 abbrev pub own_capacity : PlacedText → ℕ
-own_capacity v = if is_static v.placement.place then 0 else v.placement.capacity
+own_capacity v = if is_static_place v.placement.place then 0 else v.placement.capacity
 
 -- the bytes that fit v without allocating: 24, or its own capacity if that is more
 abbrev pub infallible_capacity : PlacedText → ℕ

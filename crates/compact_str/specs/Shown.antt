@@ -7,11 +7,11 @@ use Rattle.compact_repr.specs.Value.{PlacedText}
 use Rattle.compact_repr.specs.Capacity.{Growth, room_to_append, PlacedFor}
 
 -- to a builder, a formatter writes valid bytes, which are appended to the text t and give u
-abbrev pub Shows : List ℕ → List ℕ → List ℕ → Type 0
-Shows t bytes u = IsUtf8 bytes × (u ≡ t ++ text_of bytes)
+abbrev pub WritesText : List ℕ → List ℕ → List ℕ → Type 0
+WritesText t bytes u = IsUtf8 bytes × (u ≡ t ++ text_of bytes)
 
 -- w is v with what a value shows appended, as by one `push_str`; on failure w is v
-pub record PushesShown {E : Type 0} (g : Growth) (v : PlacedText) (shown : Option (List ℕ)) (r : Result (Unit {0}) E) (w : PlacedText) : Type 0 where
+pub record PushesOutput {E : Type 0} (g : Growth) (v : PlacedText) (shown : Option (List ℕ)) (r : Result (Unit {0}) E) (w : PlacedText) : Type 0 where
   pub text : OnOk r (IfSome shown (λ s. w.text ≡ v.text ++ text_of s))
   pub bytes : OnOk r (AppendsText (utf8 v.text) (utf8 w.text) shown)
   pub place : OnOk r (IfSome shown (λ s. PlacedFor g v w (room_to_append (length s))))

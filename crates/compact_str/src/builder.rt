@@ -3,7 +3,7 @@ ghost use Rattle.std.specs.Prelude.{◌≡◌, ◌+◌, ◌<◌, [], ◌∷◌, 
 ghost use Rattle.std.specs.Char.{len_utf8};
 ghost use Rattle.compact_str.specs.Words.{size, text_of, PlacedFor, room_to_append, INLINE_CAPACITY};
 ghost use Rattle.compact_str.specs.FittedValues.{IsPlacedBySize};
-ghost use Rattle.compact_str.specs.Shown.{Shows};
+ghost use Rattle.compact_str.specs.Shown.{WritesText};
 
 use crate::stack_buffer::{PaddedStr, StackBuffer};
 use crate::string::PolicyString;
@@ -191,7 +191,7 @@ impl<P: Policy, const N: usize> Builder<P, N> {
 }
 
 impl<P: Policy, const N: usize> fmt::Write for Builder<P, N> {
-    ghost write_str_gives = { Shows };
+    ghost write_str_gives = { WritesText };
 
     /// Appends `text`.
     ///

@@ -5,7 +5,7 @@ use Rattle.std.specs.List.{All}
 use Rattle.std.specs.Char.{is_whitespace}
 use Rattle.std.specs.Char.Unicode.Alphabetic.{is_alphabetic}
 use Rattle.std.specs.Char.Unicode.Numeric.{is_numeric}
-use Rattle.compact_edit.specs.Names.{distinct_texts, Takes}
+use Rattle.compact_edit.specs.Names.{distinct_texts, InternsAll}
 use Rattle.compact_edit.specs.declared.intern.InternError.{InternError}
 use Rattle.compact_edit.specs.declared.intern.InternError.TheVariants.{Reserve, Full}
 use Rattle.compact_uses.specs.declared.tokenizer.Kind.{Kind}
@@ -59,7 +59,7 @@ ArePieces (token ∷ tokens) (piece ∷ pieces) rest text =
 pub record IsTokenized (before names : List (List ℕ)) (tokens : List Token) (rest text : List ℕ) : Type 0 where
   pub pieces : List (List ℕ)
   pub cut : ArePieces tokens pieces rest text
-  pub takes : Takes before pieces [] names (map (λ token. token.name) tokens)
+  pub takes : InternsAll before pieces [] names (map (λ token. token.name) tokens)
   pub distinct : distinct_texts names ≡ names
 
 -- the names are those before, and the texts of the first tokens of the text

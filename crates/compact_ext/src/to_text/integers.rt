@@ -4,7 +4,7 @@ ghost use Rattle.std.specs.Fmt.{decimal, signed_decimal};
 ghost use Rattle.compact_str.specs.Value.{placed_text};
 ghost use Rattle.compact_str.specs.Capacity.{inline_placement};
 ghost use Rattle.compact_ext.specs.Digits.{number_text};
-ghost use Rattle.compact_ext.specs.Shown.{IsTextOf};
+ghost use Rattle.compact_ext.specs.Shown.{Converts};
 
 use crate::format::ToCompactStringError;
 use crate::to_text::ToCompactString;
@@ -31,7 +31,7 @@ fn number_value(alloc: Global, magnitude: u64, is_negative: bool) -> CompactStri
 #[inline]
 #[tactic(auto, using(crate::proofs::NumberTexts::number_values))]
 pub fn unsigned(alloc: Global, n: u64) -> Result<CompactString, ToCompactStringError>
-    ensures { IsTextOf ⟦<Standard as Policy>⟧.growth (decimal n) ⊤ result }
+    ensures { Converts ⟦<Standard as Policy>⟧.growth (decimal n) ⊤ result }
 {
     Ok(number_value(alloc, n, false))
 }
@@ -44,7 +44,7 @@ pub fn unsigned(alloc: Global, n: u64) -> Result<CompactString, ToCompactStringE
 #[inline]
 #[tactic(auto, using(crate::proofs::NumberTexts::number_values))]
 pub fn signed(alloc: Global, n: i64) -> Result<CompactString, ToCompactStringError>
-    ensures { IsTextOf ⟦<Standard as Policy>⟧.growth (signed_decimal n) ⊤ result }
+    ensures { Converts ⟦<Standard as Policy>⟧.growth (signed_decimal n) ⊤ result }
 {
     Ok(number_value(alloc, n.unsigned_abs(), n < 0))
 }

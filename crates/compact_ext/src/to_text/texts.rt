@@ -3,7 +3,7 @@ ghost use Rattle.std.specs.Prelude.{◌≤◌, [], ◌∷◌, length, string_byt
 ghost use Rattle.std.specs.Box.{boxed_str_bytes};
 ghost use Rattle.std.specs.Cow.{cow_str_bytes};
 ghost use Rattle.compact_str.specs.Text.{text_of, size};
-ghost use Rattle.compact_ext.specs.Shown.{IsTextOf, bool_text};
+ghost use Rattle.compact_ext.specs.Shown.{Converts, bool_text};
 
 use crate::format::ToCompactStringError;
 use crate::to_text::ToCompactString;
@@ -19,7 +19,7 @@ use std::boxed::BoxedStr;
 /// `Reserve` if allocation fails. Never fails up to 24 bytes.
 #[inline]
 pub fn text_copy(alloc: Global, text: &str) -> Result<CompactString, ToCompactStringError>
-    ensures { IsTextOf ⟦<Standard as Policy>⟧.growth (text_of text.now)
+    ensures { Converts ⟦<Standard as Policy>⟧.growth (text_of text.now)
         (length text.now ≤ 24) result }
 {
     match CompactString::new(alloc, text) {

@@ -1,7 +1,7 @@
 //! Strings from integers of 128 bits, by the crate `itoa`.
 ghost use Rattle.std.specs.Prelude.{◌≤◌, length};
 ghost use Rattle.std.specs.Fmt.{decimal, signed_decimal};
-ghost use Rattle.compact_ext.specs.Shown.{IsTextOf};
+ghost use Rattle.compact_ext.specs.Shown.{Converts};
 
 use crate::format::ToCompactStringError;
 use crate::to_text::ToCompactString;
@@ -16,7 +16,7 @@ use std::alloc::Global;
 ///
 /// `Reserve` if allocation fails. Never fails up to 24 bytes.
 pub fn printed<I: Integer>(alloc: Global, n: I) -> Result<CompactString, ToCompactStringError>
-    ensures { IsTextOf ⟦<Standard as Policy>⟧.growth (I.text n) (length (I.text n) ≤ 24) result }
+    ensures { Converts ⟦<Standard as Policy>⟧.growth (I.text n) (length (I.text n) ≤ 24) result }
 {
     let mut buffer = Buffer::new();
     text_copy(alloc, buffer.format(n))

@@ -1,7 +1,7 @@
 //! An iterator over wire forms until the end of a reader.
 ghost use Rattle.std.specs.Prelude.{◌≡◌, ◌<◌, ◌≤◌, length, IfOk, MatchOption, OnErr, IsUtf8};
 ghost use Rattle.compact_str.specs.Text.{IsText, utf8};
-ghost use Rattle.compact_ext.specs.WireRecords.{records_left, calls_to_come, GivesNext, GivesRecord, IsPlacedAsRead, ReadsIntoVec, ShowsForm, ShowsNoForm};
+ghost use Rattle.compact_ext.specs.WireRecords.{records_left, calls_to_come, GivesNext, GivesRecord, IsPlacedAsRead, ReadsIntoVec, BeginsWithForm, BeginsWithNoForm};
 ghost use Rattle.compact_ext.specs.Wire.{claimed_len};
 
 use super::read::number_of;
@@ -143,7 +143,7 @@ fn next_record<R: BufRead>(
 #[inline]
 fn shown_text(alloc: Global, bytes: &[u8]) -> Result<Option<CompactString>, ReserveError>
     ensures shown { IfOk result (λ found.
-        MatchOption found (ShowsNoForm bytes.now) (ShowsForm bytes.now)) }
+        MatchOption found (BeginsWithNoForm bytes.now) (BeginsWithForm bytes.now)) }
     ensures err { OnErr result ((4 ≤ length bytes.now) × (24 < claimed_len bytes.now)) }
 {
     let Some((head, rest)) = bytes.split_first_chunk::<HEAD>() else {

@@ -2,7 +2,7 @@
 ghost use Rattle.std.specs.Prelude.{◌≡◌, ◌+◌, ◌-◌, ◌<◌, ◌≤◌, ℕ, List, ◌∷◌, length, true, IsTrue, ◌↔◌, IfSome, IsSome, MatchOption};
 ghost use Rattle.std.specs.Char.{len_utf8};
 ghost use Rattle.std.specs.Str.{IsCharBoundary};
-ghost use Rattle.compact_repr.specs.Words.{size, utf8, text_of, IsBoundary, IsCharAt, text_after, substring, is_static, IsOwned, IsHeap};
+ghost use Rattle.compact_repr.specs.Words.{size, utf8, text_of, IsBoundary, IsCharAt, text_after, substring, is_static_place, IsOwned, IsHeap};
 
 use crate::growth::Policy;
 use crate::repr::{Buffer, Repr};
@@ -71,7 +71,7 @@ impl<P: Policy> Repr<P> {
     pub fn static_suffix(&self, index: usize) -> Option<&'static str>
         requires { IsBoundary self.now.text index }
         ensures { MatchOption result (IsOwned self.now)
-            (λ s. (is_static self.now.placement.place ≡ true)
+            (λ s. (is_static_place self.now.placement.place ≡ true)
             × (text_of s.now ≡ text_after self.now.text index)) }
     {
         match &self.buffer {

@@ -3,7 +3,7 @@ ghost use Rattle.std.specs.Prelude.{◌≡◌, ◌+◌, ◌<◌, ◌≤◌, ◌+
 ghost use Rattle.std.specs.Iterator.{IsFiniteIterable};
 ghost use Rattle.std.specs.String.{string_capacity};
 ghost use Rattle.compact_str.specs.Words.{size, text_of};
-ghost use Rattle.compact_str.specs.Collect.{OfIterator, OfDrained, StopsWithout, ExtendsString, string_text};
+ghost use Rattle.compact_str.specs.Collect.{ForIterator, ForDrained, StopsWithout, ExtendsString, string_text};
 
 use crate::iter::AsText;
 use compact_repr::ReserveError;
@@ -45,11 +45,11 @@ fn append_texts<T: AsText, U: IntoIterator<Item = T>>(
 ) -> Result<(), ReserveError>
     requires { IsFiniteIterable U.into_iter_gives U.IntoIter.can_next U.IntoIter.remaining items }
     ensures ok { OnOk result
-        (OfDrained U.into_iter_gives U.IntoIter.next_gives items
+        (ForDrained U.into_iter_gives U.IntoIter.next_gives items
         (λ xs. string_text line.new ≡ string_text line.old ++ flat_map T.text xs)) }
     ensures capacity { string_capacity line.old ≤ string_capacity line.new }
     ensures err { OnErr result
-        (OfIterator U.into_iter_gives items
+        (ForIterator U.into_iter_gives items
         (λ it. StopsWithout U.IntoIter.next_gives T.text it (string_capacity line.new)
         (string_text line.old) (string_text line.new))) }
 {

@@ -3,7 +3,7 @@ ghost use Rattle.std.specs.Prelude.{◌≡◌, ◌+◌, ◌≤◌, IsOk, flat_ma
 ghost use Rattle.std.specs.Iterator.{IsFiniteIterable};
 ghost use Rattle.compact_str.specs.Words.{INLINE_CAPACITY, size};
 ghost use Rattle.compact_str.specs.FittedValues.{IsPlacedBySize};
-ghost use Rattle.compact_str.specs.Collect.{OfIterator, OfItems, OfAllItems, OfDrained, PassesInline, Collects};
+ghost use Rattle.compact_str.specs.Collect.{ForIterator, ForItems, ForAllItems, ForDrained, PassesInline, Collects};
 
 use crate::builder::{Builder, COLLECTED};
 use crate::iter::AsText;
@@ -19,11 +19,11 @@ fn collect_pieces<P: Policy, T: Piece, U: IntoIterator<Item = T>>(
 ) -> Result<PolicyString<P>, ReserveError>
     requires { IsFiniteIterable U.into_iter_gives U.IntoIter.can_next U.IntoIter.remaining iter }
     ensures ok { IfOk result
-        (λ v. OfDrained U.into_iter_gives U.IntoIter.next_gives iter
+        (λ v. ForDrained U.into_iter_gives U.IntoIter.next_gives iter
         (λ xs. v.text ≡ flat_map T.text xs)) }
     ensures place { IfOk result IsPlacedBySize }
     ensures err { OnErr result
-        (OfIterator U.into_iter_gives iter
+        (ForIterator U.into_iter_gives iter
         (λ it. PassesInline U.IntoIter.next_gives (flat_map T.text) it)) }
 {
     let mut gathered: Builder<P, COLLECTED> = Builder::new(alloc);
@@ -62,21 +62,21 @@ impl<P: Policy> PolicyString<P> {
 
         // On success the result has all texts.
         ensures text { IfOk result
-            (λ v. OfItems U.into_iter_gives U.IntoIter.next_gives texts
+            (λ v. ForItems U.into_iter_gives U.IntoIter.next_gives texts
             (λ xs. v.text ≡ flat_map T.text xs)) }
         ensures drained { IfOk result
-            (λ v. OfDrained U.into_iter_gives U.IntoIter.next_gives texts
+            (λ v. ForDrained U.into_iter_gives U.IntoIter.next_gives texts
             (λ xs. v.text ≡ flat_map T.text xs)) }
         ensures size { IfOk result
-            (λ v. OfItems U.into_iter_gives U.IntoIter.next_gives texts
+            (λ v. ForItems U.into_iter_gives U.IntoIter.next_gives texts
             (λ xs. size v.text ≡ fold (λ n text. n + size (T.text text)) 0 xs)) }
         ensures place { IfOk result IsPlacedBySize }
 
         // It fails only past 24 bytes.
-        ensures succeeds { OfAllItems U.into_iter_gives U.IntoIter.next_gives texts
+        ensures succeeds { ForAllItems U.into_iter_gives U.IntoIter.next_gives texts
             (λ xs. size (flat_map T.text xs) ≤ INLINE_CAPACITY) → IsOk result }
         ensures allocates { OnErr result
-            (OfIterator U.into_iter_gives texts
+            (ForIterator U.into_iter_gives texts
             (λ it. PassesInline U.IntoIter.next_gives (flat_map T.text) it)) }
     {
         collect_pieces(alloc, texts)

@@ -2,7 +2,7 @@
 ghost use Rattle.std.specs.Prelude.{◌≡◌, ◌≤◌, ◌++◌, flat_map, map, OnOk, OnErr, IsOk};
 ghost use Rattle.std.specs.Iterator.{IsFiniteIterable};
 ghost use Rattle.compact_str.specs.Words.{size, IsBoundary, text_before, infallible_capacity, HasRoomFor};
-ghost use Rattle.compact_str.specs.Collect.{OfIterator, OfItems, OfAllItems, Appends, AppendsAll, AppendsUpToRefused, Extends, char_text};
+ghost use Rattle.compact_str.specs.Collect.{ForIterator, ForItems, ForAllItems, Appends, AppendsAll, AppendsUpToRefused, Extends, char_text};
 
 use crate::iter::AsText;
 use crate::iter::piece::Piece;
@@ -17,12 +17,12 @@ fn extend_pieces<P: Policy, T: Piece, U: IntoIterator<Item = T>>(
 ) -> Result<(), ReserveError>
     requires { IsFiniteIterable U.into_iter_gives U.IntoIter.can_next U.IntoIter.remaining iter }
     ensures ok { OnOk result
-        (OfIterator U.into_iter_gives iter
+        (ForIterator U.into_iter_gives iter
         (λ it. AppendsAll U.IntoIter.next_gives P.growth T.text it value.old value.new)) }
-    ensures succeeds { OfAllItems U.into_iter_gives U.IntoIter.next_gives iter
+    ensures succeeds { ForAllItems U.into_iter_gives U.IntoIter.next_gives iter
         (λ xs. HasRoomFor value.old (size (flat_map T.text xs))) → IsOk result }
     ensures err { OnErr result
-        (OfIterator U.into_iter_gives iter
+        (ForIterator U.into_iter_gives iter
         (λ it. AppendsUpToRefused U.IntoIter.next_gives P.growth T.text it value.old
         value.new)) }
 {
@@ -56,10 +56,10 @@ impl<P: Policy> PolicyString<P> {
 
         // On success all texts are appended, each as by `push_str`.
         ensures text { OnOk result
-            (OfItems U.into_iter_gives U.IntoIter.next_gives texts
+            (ForItems U.into_iter_gives U.IntoIter.next_gives texts
             (λ xs. self.new.text ≡ self.old.text ++ flat_map T.text xs)) }
         ensures pushes { OnOk result
-            (OfIterator U.into_iter_gives texts
+            (ForIterator U.into_iter_gives texts
             (λ it. AppendsAll U.IntoIter.next_gives P.growth T.text it self.old self.new)) }
 
         // On failure too, the old text stays in front, and the capacity never shrinks.
@@ -68,10 +68,10 @@ impl<P: Policy> PolicyString<P> {
         ensures room { infallible_capacity self.old ≤ infallible_capacity self.new }
 
         // It fails only at a text for which it must allocate, never if there is room for all.
-        ensures succeeds { OfAllItems U.into_iter_gives U.IntoIter.next_gives texts
+        ensures succeeds { ForAllItems U.into_iter_gives U.IntoIter.next_gives texts
             (λ xs. HasRoomFor self.old (size (flat_map T.text xs))) → IsOk result }
         ensures err { OnErr result
-            (OfIterator U.into_iter_gives texts
+            (ForIterator U.into_iter_gives texts
             (λ it. AppendsUpToRefused U.IntoIter.next_gives P.growth T.text it self.old
             self.new)) }
     {

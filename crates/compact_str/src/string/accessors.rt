@@ -1,7 +1,7 @@
 //! Reading the text, its place and its capacity.
 ghost use Rattle.std.specs.Prelude.{◌≡◌, ℕ, ◌<◌, ◌^◌, ◌↔◌, [], length, IsTrue, IsSome, IfSome};
 ghost use Rattle.std.specs.Str.{IsCharBoundary, IsUtf8};
-ghost use Rattle.compact_str.specs.Words.{size, utf8, text_of, IsBoundary, inline, is_heap, IsSound, IsStatic, IsInline};
+ghost use Rattle.compact_str.specs.Words.{size, utf8, text_of, IsBoundary, inline, is_heap_place, IsSound, IsStatic, IsInline};
 ghost use Rattle.compact_repr.specs.Packed.{IsPackedFor};
 
 use crate::string::PolicyString;
@@ -146,7 +146,7 @@ impl<P: Policy> PolicyString<P> {
     /// See [`new`].
     #[inline]
     pub fn is_heap_allocated(&self) -> bool
-        ensures { result ≡ is_heap self.now.placement.place }
+        ensures { result ≡ is_heap_place self.now.placement.place }
     {
         self.repr.is_heap_allocated()
     }

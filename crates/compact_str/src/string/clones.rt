@@ -1,6 +1,6 @@
 //! Cloning.
 ghost use Rattle.std.specs.Prelude.{◌≡◌, ◌≤◌, Some, OnOk, OnErr, IsOk, IsTrue, not, false};
-ghost use Rattle.compact_str.specs.Words.{size, is_heap, clone_allocates, clone, infallible_capacity};
+ghost use Rattle.compact_str.specs.Words.{size, is_heap_place, clone_allocates, clone, infallible_capacity};
 ghost use Rattle.compact_str.specs.Clones.{clone_from, CloneFromAllocates};
 
 use crate::string::PolicyString;
@@ -49,7 +49,7 @@ impl<P: Policy> PolicyString<P> {
         ensures ok { OnOk result (clone_from P.growth self.old source.now ≡ Some self.new) }
         ensures text { OnOk result (self.new.text ≡ source.now.text) }
         ensures succeeds { size source.now.text ≤ infallible_capacity self.old → IsOk result }
-        ensures copies_in_place { is_heap source.now.placement.place ≡ false → IsOk result }
+        ensures copies_in_place { is_heap_place source.now.placement.place ≡ false → IsOk result }
         ensures err { OnErr result
             ((self.new ≡ self.old) × CloneFromAllocates self.old source.now) }
     {

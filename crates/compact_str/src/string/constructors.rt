@@ -7,7 +7,7 @@ ghost use Rattle.std.specs.Box.{boxed_str_bytes};
 ghost use Rattle.std.specs.Cow.{cow_str_bytes};
 ghost use Rattle.compact_str.specs.Words.{text_of, utf8, placed_text, IsHeap, inline_placement, const_new_placement, from_string_placement, INLINE_CAPACITY, IsPlacedAsNew, HasNewCapacity, HasRoomFor};
 ghost use Rattle.compact_repr.specs.Packed.{IsPackedFor};
-ghost use Rattle.compact_str.specs.Conversions.{CopiesText, string_buffer_placement, TakesCow, IsFreeCow};
+ghost use Rattle.compact_str.specs.Conversions.{CopiesText, string_buffer_placement, ConvertsCow, IsFreeCow};
 ghost use Rattle.compact_str.specs.DecodeErrors.{IsErrorOf};
 
 use crate::refused::Refused;
@@ -238,7 +238,7 @@ impl<P: Policy> PolicyString<P> {
     /// ```
     #[tactic(auto, using(crate::proofs::EditFacts::string_facts))]
     pub fn from_cow(alloc: Global, text: CowStr<'_>) -> Result<Self, ReserveError>
-        ensures takes { TakesCow P.growth text.entry result }
+        ensures takes { ConvertsCow P.growth text.entry result }
         ensures text { IfOk result (λ v. v.text ≡ text_of (cow_str_bytes text.entry)) }
         ensures bytes { IfOk result (λ v. utf8 v.text ≡ cow_str_bytes text.entry) }
         ensures succeeds { IsFreeCow text.entry → IsOk result }

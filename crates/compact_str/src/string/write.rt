@@ -1,6 +1,6 @@
 //! Appending formatted values.
 ghost use Rattle.std.specs.Fmt.{with_newline};
-ghost use Rattle.compact_str.specs.Shown.{PushesShown};
+ghost use Rattle.compact_str.specs.Shown.{PushesOutput};
 
 use crate::builder::{Builder, SHOWN};
 use crate::string::PolicyString;
@@ -27,7 +27,7 @@ impl<P: Policy> PolicyString<P> {
     /// assert_eq!(rt; line.as_str(), "n° 12");
     /// ```
     pub fn write<D: Display + Drop>(&mut self, value: D) -> Result<(), ReserveError>
-        ensures { PushesShown P.growth self.old (D.output value) result self.new }
+        ensures { PushesOutput P.growth self.old (D.output value) result self.new }
     {
         let mut shown: Builder<P, SHOWN> = Builder::new(self.allocator());
         match shown.write(value) {
@@ -52,7 +52,7 @@ impl<P: Policy> PolicyString<P> {
     /// ```
     #[inline]
     pub fn write_fmt<D: Display + Drop>(&mut self, value: D) -> Result<(), ReserveError>
-        ensures { PushesShown P.growth self.old (D.output value) result self.new }
+        ensures { PushesOutput P.growth self.old (D.output value) result self.new }
     {
         self.write(value)
     }
@@ -71,7 +71,7 @@ impl<P: Policy> PolicyString<P> {
     /// assert_eq!(rt; line.as_str(), "n° 12\n");
     /// ```
     pub fn writeln<D: Display + Drop>(&mut self, value: D) -> Result<(), ReserveError>
-        ensures { PushesShown P.growth self.old (with_newline (D.output value)) result self.new }
+        ensures { PushesOutput P.growth self.old (with_newline (D.output value)) result self.new }
     {
         let mut shown: Builder<P, SHOWN> = Builder::new(self.allocator());
         match shown.writeln(value) {

@@ -2,14 +2,14 @@ use Rattle.std.proofs.Common.{◌≡◌, ℕ, Some, true, length, refl, sym, ap,
 use Rattle.std.proofs.lemmas.Grind.{common_steps}
 use Rattle.std.specs.Prelude.{nat_eq, ◌||◌}
 use Rattle.compact_repr.specs.Text.{size}
-use Rattle.compact_repr.specs.Value.{PlacedText, placed_text, is_heap}
+use Rattle.compact_repr.specs.Value.{PlacedText, placed_text, is_heap_place}
 use Rattle.compact_repr.specs.Capacity.{Growth, fits_in_place}
 use Rattle.compact_repr.specs.Calls.{clear}
 use Rattle.compact_text.proofs.Texts.{length-utf8, empty_text}
 use Rattle.compact_str.specs.Clones.{clone_from}
 use Rattle.compact_str.proofs.string.PolicyString.clone_from.Goals as goal
 
-assigned : (g : Growth) (v s w : PlacedText) (n : ℕ) → is_heap s.placement.place ≡ true → size s.text ≡ n → (nat_eq n 0 || fits_in_place (clear v) n) ≡ true
+assigned : (g : Growth) (v s w : PlacedText) (n : ℕ) → is_heap_place s.placement.place ≡ true → size s.text ≡ n → (nat_eq n 0 || fits_in_place (clear v) n) ≡ true
     → w ≡ placed_text s.text (clear v).placement → clone_from g v s ≡ Some w
 assigned g v s w n heap long fits is = grind (arith, common_steps, empty_text)
 
@@ -18,7 +18,7 @@ returns-clause-ok g c =
     let here = c.in-Some.ensures in
     let text = here.text ∙ ap (λ (v : PlacedText). v.text) c.source.view_is in
     let long = ap (λ (v : PlacedText). size v.text) (sym c.source.view_is) ∙ sym (length-utf8 _) ∙ sym (ap length here.bytes) in
-    let heap = ap (λ (v : PlacedText). is_heap v.placement.place) (sym c.source.view_is) ∙ here.place.0 refl in
+    let heap = ap (λ (v : PlacedText). is_heap_place v.placement.place) (sym c.source.view_is) ∙ here.place.0 refl in
     assigned g.P.Policy.growth c.args.self.now c.args.source.now c.try_assign.new.self (length c.in-Some.text.now) heap long
     (rw (← c.self.view_is) (sym c.if-try_assign.ensures.fits))
     (rw (← c.self.view_is, ← text) (c.if-try_assign.ensures.assigned refl))

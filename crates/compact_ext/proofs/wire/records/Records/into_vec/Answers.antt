@@ -1,6 +1,6 @@
 use Rattle.std.proofs.Common.{◌≡◌, ◌∷◌, [], ◌++◌, Ok, Err, refl, sym, subst, inl, inr, rules}
 use Rattle.compact_ext.specs.declared.wire.WireError.TheVariants.{Reserve}
-use Rattle.compact_ext.specs.WireRecords.{TakesForms}
+use Rattle.compact_ext.specs.WireRecords.{ConsumesForms}
 use Rattle.compact_ext.proofs.RecordLists.{reads-all, takes-more, takes-all}
 use Rattle.compact_ext.proofs.wire.records.Records.into_vec.Goals as goal
 
@@ -9,7 +9,7 @@ pub loop-item-preserved : goal.loop-item-preserved
 loop-item-preserved g c =
     let took = rw c.in-Ok.is at c.in-Some.ensures.steps in
     let grown : c.push.new.self.items ≡ c.loop-item.texts.items ++ c.in-Ok.text ∷ [] = search rules in
-    subst (TakesForms _ _) (sym grown) (takes-more _ _ _ _ c.in-Ok.text c.loop-item.invariant took)
+    subst (ConsumesForms _ _) (sym grown) (takes-more _ _ _ _ c.in-Ok.text c.loop-item.invariant took)
 
 pub returns-then-is_err : goal.returns-then-is_err
 returns-then-is_err g c =
