@@ -9,23 +9,23 @@ use Rattle.compact_str.proofs.ForCallers.{written-text}
 use Rattle.compact_str.proofs.PartFacts.{written-bytes}
 use Rattle.compact_ext.specs.declared.format.Collector.{Collector}
 
-abbrev pub InternsAll : Growth → Collector → List ℕ → Collector → Type 0
-InternsAll g c bytes d = Writes g c.value bytes d.value
+abbrev pub CollectorWrites : Growth → Collector → List ℕ → Collector → Type 0
+CollectorWrites g c bytes d = Writes g c.value bytes d.value
 
-taken-parts : (g : Growth) (c d : Collector) (parts : List (List ℕ)) → FoldsTo (InternsAll g) c parts d → FoldsTo (Writes g) c.value parts d.value
+taken-parts : (g : Growth) (c d : Collector) (parts : List (List ℕ)) → FoldsTo (CollectorWrites g) c parts d → FoldsTo (Writes g) c.value parts d.value
 taken-parts g c d [] same = ap (λ (x : Collector). x.value) same
 taken-parts g c d (part ∷ parts) (x, first, rest) = (x.value, first, taken-parts g x d parts rest)
 
-taken : (g : Growth) (bytes : List ℕ) (c d : Collector) → WritesInCalls (InternsAll g) c bytes d → WritesInCalls (Writes g) c.value bytes d.value
+taken : (g : Growth) (bytes : List ℕ) (c d : Collector) → WritesInCalls (CollectorWrites g) c bytes d → WritesInCalls (Writes g) c.value bytes d.value
 taken g bytes c d h = record { parts = h.parts; calls = taken-parts g c d h.parts h.calls; whole = h.whole }
 
-pub taken-text : (g : Growth) (o : Option (List ℕ)) (c d : Collector) → WritesText (InternsAll g) c o d → c.value.text ≡ []
+pub taken-text : (g : Growth) (o : Option (List ℕ)) (c d : Collector) → WritesText (CollectorWrites g) c o d → c.value.text ≡ []
     → IfSome o (λ bytes. d.value.text ≡ text_of bytes)
 taken-text g None c d h e = tt
 taken-text g (Some bytes) c d h e =
     written-text g c.value d.value bytes (taken g bytes c d h) ∙ ap (λ (t : List ℕ). t ++ text_of bytes) e
 
-pub taken-bytes : (g : Growth) (o : Option (List ℕ)) (c d : Collector) → WritesText (InternsAll g) c o d → c.value.text ≡ []
+pub taken-bytes : (g : Growth) (o : Option (List ℕ)) (c d : Collector) → WritesText (CollectorWrites g) c o d → c.value.text ≡ []
     → IfSome o (λ bytes. utf8 d.value.text ≡ bytes)
 taken-bytes g None c d h e = tt
 taken-bytes g (Some bytes) c d h e =

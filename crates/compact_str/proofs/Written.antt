@@ -8,10 +8,10 @@ use Rattle.compact_repr.specs.Text.{size, text_of, utf8}
 use Rattle.compact_repr.specs.Value.{PlacedText}
 use Rattle.compact_repr.specs.Capacity.{Growth, room_to_append, PlacedFor}
 use Rattle.compact_text.proofs.Texts.{size-text_of}
-use Rattle.compact_str.specs.Shown.{WritesText, PushesOutput}
+use Rattle.compact_str.specs.Shown.{AppendsUtf8, PushesOutput}
 
 -- the parts together are one text, appended to the text before
-shown-parts : (t u : List ℕ) (parts : List (List ℕ)) → FoldsTo WritesText t parts u → WritesText t (concat parts) u
+shown-parts : (t u : List ℕ) (parts : List (List ℕ)) → FoldsTo AppendsUtf8 t parts u → AppendsUtf8 t (concat parts) u
 shown-parts t u [] same = (IsUtf8-nil, rw (chars-nil, append-nil) (sym same))
 shown-parts t u (part ∷ parts) (x, first, rest) =
     let others = shown-parts x u parts rest in (
@@ -23,14 +23,14 @@ shown-parts t u (part ∷ parts) (x, first, rest) =
     )
 
 -- from an empty text, it is just what was written
-shown-whole : (t u bytes : List ℕ) → t ≡ [] → WritesInCalls WritesText t bytes u → IsUtf8 bytes × (u ≡ text_of bytes)
+shown-whole : (t u bytes : List ℕ) → t ≡ [] → WritesInCalls AppendsUtf8 t bytes u → IsUtf8 bytes × (u ≡ text_of bytes)
 shown-whole t u bytes empty writes =
-    let all = subst (λ b. WritesText t b u) writes.whole (shown-parts t u writes.parts writes.calls) in
+    let all = subst (λ b. AppendsUtf8 t b u) writes.whole (shown-parts t u writes.parts writes.calls) in
     (all.0, all.1 ∙ ap (λ s. s ++ text_of bytes) empty)
 
 -- so that is appended
 pub shown-pushed : {E : Type 0} (g : Growth) (v w : PlacedText) (t u : List ℕ) (o : Option (List ℕ)) (r : Result (Unit {0}) E)
-    → WritesText WritesText t o u → t ≡ [] → OnOk r (w.text ≡ v.text ++ u) → OnOk r (PlacedFor g v w (room_to_append (size u))) → OnErr r (w ≡ v) → PushesOutput g v o r w
+    → WritesText AppendsUtf8 t o u → t ≡ [] → OnOk r (w.text ≡ v.text ++ u) → OnOk r (PlacedFor g v w (room_to_append (size u))) → OnErr r (w ≡ v) → PushesOutput g v o r w
 shown-pushed g v w t u None (Ok done) writes empty pushed placed same = record { text = tt; bytes = tt; place = tt; err = tt }
 shown-pushed g v w t u (Some shown) (Ok done) writes empty pushed placed same =
     let whole = shown-whole t u shown empty writes in

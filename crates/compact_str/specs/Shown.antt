@@ -7,8 +7,8 @@ use Rattle.compact_repr.specs.Value.{PlacedText}
 use Rattle.compact_repr.specs.Capacity.{Growth, room_to_append, PlacedFor}
 
 -- to a builder, a formatter writes valid bytes, which are appended to the text t and give u
-abbrev pub WritesText : List ℕ → List ℕ → List ℕ → Type 0
-WritesText t bytes u = IsUtf8 bytes × (u ≡ t ++ text_of bytes)
+abbrev pub AppendsUtf8 : List ℕ → List ℕ → List ℕ → Type 0
+AppendsUtf8 t bytes u = IsUtf8 bytes × (u ≡ t ++ text_of bytes)
 
 -- w is v with what a value shows appended, as by one `push_str`; on failure w is v
 pub record PushesOutput {E : Type 0} (g : Growth) (v : PlacedText) (shown : Option (List ℕ)) (r : Result (Unit {0}) E) (w : PlacedText) : Type 0 where

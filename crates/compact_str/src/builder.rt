@@ -3,7 +3,7 @@ ghost use Rattle.std.specs.Prelude.{◌≡◌, ◌+◌, ◌<◌, [], ◌∷◌, 
 ghost use Rattle.std.specs.Char.{len_utf8};
 ghost use Rattle.compact_str.specs.Words.{size, text_of, PlacedFor, room_to_append, INLINE_CAPACITY};
 ghost use Rattle.compact_str.specs.FittedValues.{IsPlacedBySize};
-ghost use Rattle.compact_str.specs.Shown.{WritesText};
+ghost use Rattle.compact_str.specs.Shown.{AppendsUtf8};
 
 use crate::stack_buffer::{PaddedStr, StackBuffer};
 use crate::string::PolicyString;
@@ -191,7 +191,7 @@ impl<P: Policy, const N: usize> Builder<P, N> {
 }
 
 impl<P: Policy, const N: usize> fmt::Write for Builder<P, N> {
-    ghost write_str_gives = { WritesText };
+    ghost write_str_gives = { AppendsUtf8 };
 
     /// Appends `text`.
     ///
