@@ -4,7 +4,7 @@ ghost use Rattle.std.specs.Prelude.{◌≡◌, ◌++◌, ◌∷◌, [], OnOk, On
 ghost use Rattle.compact_str.specs.Text.{ascii_lowercase};
 ghost use Rattle.compact_str.specs.Cut.{substring, replaced_text};
 ghost use Rattle.compact_str.specs.RetainRules.{retained_text, retain_state};
-ghost use Rattle.compact_str.specs.Ranges.{IsRange, range_start, range_end};
+ghost use Rattle.compact_str.specs.Ranges.{IsRange, span, range_start, range_end};
 
 use compact_str::{CompactString, ReserveError};
 use std::ops::Bound;
@@ -17,7 +17,7 @@ pub fn move_range(
     end: Bound<usize>,
     to: &mut CompactString,
 ) -> Result<(), ReserveError>
-    requires { IsRange from.old.text start end }
+    requires { IsRange from.old.text (span start end) }
     ensures moved { OnOk result
         (to.new.text ≡ to.old.text
         ++ substring from.old.text (range_start start) (range_end from.old.text end)) }
@@ -38,7 +38,7 @@ pub fn take_range(
     start: Bound<usize>,
     end: Bound<usize>,
 ) -> Result<Option<char>, ReserveError>
-    requires { IsRange value.old.text start end }
+    requires { IsRange value.old.text (span start end) }
     ensures left { OnOk result
         (value.new.text ≡ replaced_text value.old.text (range_start start)
         (range_end value.old.text end) []) }

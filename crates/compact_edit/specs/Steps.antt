@@ -9,7 +9,7 @@ use Rattle.compact_str.specs.Calls.{new, push_str, push_str_allocates, clear, re
 use Rattle.compact_str.specs.RetainRules.{retained_text, flag_rule}
 use Rattle.compact_str.specs.Clones.{clone_from, clone_from_allocates}
 use Rattle.compact_str.specs.Edits.{Removes, SplitsOff, split_allocates, repeat, repeat_allocates}
-use Rattle.compact_str.specs.Ranges.{IsRange, range_start, range_end}
+use Rattle.compact_str.specs.Ranges.{IsRange, span, range_start, range_end}
 use Rattle.compact_edit.specs.declared.edit.Edit.{Edit}
 use Rattle.compact_edit.specs.declared.edit.Edit.TheVariants.{Push, PushStr, Pop, Insert, InsertStr, Remove, Truncate, Clear, SplitOff, ReplaceRange, Drain, Retain, Reserve, ShrinkTo, ShrinkToFit, MakeLower, MakeUpper, Zeroize, Repeat, CloneFrom}
 use Rattle.compact_edit.specs.declared.edit.Reply.{Reply}
@@ -26,8 +26,8 @@ IsLegal v (Remove p) = (p < size v.text) × IsBoundary v.text p
 IsLegal v (Truncate n) = n < size v.text → IsBoundary v.text n
 IsLegal v Clear = Unit {0}
 IsLegal v (SplitOff p) = IsBoundary v.text p
-IsLegal v (ReplaceRange start end s) = IsRange v.text start end
-IsLegal v (Drain start end) = IsRange v.text start end
+IsLegal v (ReplaceRange start end s) = IsRange v.text (span start end)
+IsLegal v (Drain start end) = IsRange v.text (span start end)
 IsLegal v (Retain answers) = Unit {0}
 IsLegal v (Reserve n) = Unit {0}
 IsLegal v (ShrinkTo n) = Unit {0}

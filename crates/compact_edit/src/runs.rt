@@ -5,7 +5,7 @@ ghost use Rattle.compact_str.specs.Cut.{substring};
 ghost use Rattle.compact_str.specs.Calls.{new, replace_range, retain};
 ghost use Rattle.compact_str.specs.RetainRules.{retained_text, flag_rule, next_flag};
 ghost use Rattle.std.specs.declared.ops.Bound.TheVariants.{Included, Excluded};
-ghost use Rattle.compact_str.specs.Ranges.{IsRange};
+ghost use Rattle.compact_str.specs.Ranges.{IsRange, span};
 ghost use Rattle.compact_edit.specs.Steps.{Step};
 ghost use Rattle.compact_edit.specs.Runs.{RunsTo};
 ghost use Rattle.compact_str.specs.Words.{AllocatesFor, INLINE_CAPACITY, owned};
@@ -200,7 +200,7 @@ fn copy_of_range<P: Policy>(
     first: usize,
     last: usize,
 ) -> Result<PolicyString<P>, ReserveError>
-    requires { IsRange value.now.text (Included first) (Excluded last) }
+    requires { IsRange value.now.text (span (Included first) (Excluded last)) }
     ensures ok { IfOk result (λ v. new P.growth (substring value.now.text first last) ≡ Some v) }
     ensures allocates { OnErr result
         (INLINE_CAPACITY < size (substring value.now.text first last)) }
@@ -217,7 +217,7 @@ fn take_out<P: Policy>(
     first: usize,
     last: usize,
 ) -> Result<(), ReserveError>
-    requires { IsRange value.old.text (Included first) (Excluded last) }
+    requires { IsRange value.old.text (span (Included first) (Excluded last)) }
     ensures ok { OnOk result (replace_range P.growth value.old first last [] ≡ Some value.new) }
     ensures allocates { OnErr result (AllocatesFor value.old owned) }
     ensures err { OnErr result (value.new ≡ value.old) }

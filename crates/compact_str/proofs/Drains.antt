@@ -15,7 +15,7 @@ use Rattle.compact_text.proofs.Cuts.{text_before-text_after, size-text_before, b
 use Rattle.compact_text.proofs.Middles.{substring-parts, parts-substring}
 use Rattle.compact_repr.specs.declared.growth.Policy.{Ghosts}
 use Rattle.compact_str.specs.declared.string.drain.Drain.{Drain}
-use Rattle.compact_str.specs.Ranges.{IsSpan}
+use Rattle.compact_str.specs.Ranges.{AreRangeEnds}
 use Rattle.compact_str.specs.Drain.{drain_rest, value_after_drain}
 use Rattle.compact_str.specs.TotalRanges.{range_text, without_range}
 
@@ -23,14 +23,14 @@ pub placed-owned : (g : Growth) (v u : PlacedText) → PlacedFor g v u owned →
 placed-owned g v u e = grind (arith, common_steps)
 
 -- the ends of a span are boundaries
-pub span-ends : (t : List ℕ) (i j : ℕ) → IsSpan t i j → (i ≤ j) × IsBoundary t i × IsBoundary t j
+pub span-ends : (t : List ℕ) (i j : ℕ) → AreRangeEnds t i j → (i ≤ j) × IsBoundary t i × IsBoundary t j
 span-ends t i j span = (span.0, boundary-from_size t i span.1, boundary-from_size t j span.2)
 
-pub ends-span : (t : List ℕ) (i j : ℕ) → i ≤ j → IsBoundary t i → IsBoundary t j → IsSpan t i j
+pub ends-span : (t : List ℕ) (i j : ℕ) → i ≤ j → IsBoundary t i → IsBoundary t j → AreRangeEnds t i j
 ends-span t i j order first last = (order, size-text_before t i first, size-text_before t j last)
 
 -- and the text is what is before, in and after it
-span-parts : (t m : List ℕ) (i j : ℕ) → IsSpan t i j → substring t i j ≡ m → (t ≡ text_before t i ++ m ++ text_after t j) × (size m ≡ j - i)
+span-parts : (t m : List ℕ) (i j : ℕ) → AreRangeEnds t i j → substring t i j ≡ m → (t ≡ text_before t i ++ m ++ text_after t j) × (size m ≡ j - i)
 span-parts t m i j span e =
     let ends = span-ends t i j span in
     let cut = substring-parts t i j ends.1 ends.2 ends.0 in (
@@ -39,14 +39,14 @@ span-parts t m i j span e =
       ap size (sym e) ∙ cut.1,
     )
 
-parts-span : (t a m b : List ℕ) (i j : ℕ) → t ≡ a ++ m ++ b → size a ≡ i → size a + size m ≡ j → IsSpan t i j × (substring t i j ≡ m)
+parts-span : (t a m b : List ℕ) (i j : ℕ) → t ≡ a ++ m ++ b → size a ≡ i → size a + size m ≡ j → AreRangeEnds t i j × (substring t i j ≡ m)
 parts-span t a m b i j e first last =
     let three = parts-substring t a m b i j e first last in
     (ends-span t i j (omega (arith, first, last)) three.0 three.1, three.2)
 
 -- a span without its first character
-pub front-taken : (t r : List ℕ) (i j c : ℕ) → IsSpan t i j → substring t i j ≡ c ∷ r
-    → IsSpan t (i + len_utf8 c) j × (substring t (i + len_utf8 c) j ≡ r)
+pub front-taken : (t r : List ℕ) (i j c : ℕ) → AreRangeEnds t i j → substring t i j ≡ c ∷ r
+    → AreRangeEnds t (i + len_utf8 c) j × (substring t (i + len_utf8 c) j ≡ r)
 front-taken t r i j c span e =
     let cut = span-parts t (c ∷ r) i j span e in
     let parts : t ≡ (text_before t i ++ c ∷ []) ++ r ++ text_after t j =
@@ -55,8 +55,8 @@ front-taken t r i j c span e =
     parts-span t (text_before t i ++ c ∷ []) r (text_after t j) (i + len_utf8 c) j parts front (omega (arith, front, cut.1, span.0))
 
 -- or its last
-pub back-taken : (t r : List ℕ) (i j c : ℕ) → IsSpan t i j → substring t i j ≡ r ++ c ∷ []
-    → IsSpan t i (i + size r) × (substring t i (i + size r) ≡ r) × (i + size r ≤ j)
+pub back-taken : (t r : List ℕ) (i j c : ℕ) → AreRangeEnds t i j → substring t i j ≡ r ++ c ∷ []
+    → AreRangeEnds t i (i + size r) × (substring t i (i + size r) ≡ r) × (i + size r ≤ j)
 back-taken t r i j c span e =
     let cut = span-parts t (r ++ c ∷ []) i j span e in
     let parts : t ≡ text_before t i ++ r ++ (c ∷ [] ++ text_after t j) =
@@ -78,7 +78,7 @@ some-back r c e =
 module _ {P : Type 0} {G : Ghosts P} where
   -- what is left of a drain from whose rest the first character was read
   pub rest-front : (d : Drain P G) (s : List ℕ) (c width : ℕ) → s ≡ drain_rest d → (width ≡ len_utf8 c) × ((r : List ℕ) × (s ≡ c ∷ r))
-      → IsSpan d.value.now.text (d.front + width) d.back × (drain_rest d ≡ c ∷ range_text d.value.now.text d.len (d.front + width) d.back)
+      → AreRangeEnds d.value.now.text (d.front + width) d.back × (drain_rest d ≡ c ∷ range_text d.value.now.text d.len (d.front + width) d.back)
   rest-front d s c width is first =
       let t = d.value.now.text in
       ⊎_elim
@@ -90,7 +90,7 @@ module _ {P : Type 0} {G : Ghosts P} where
 
   -- or the last
   pub rest-back : (d : Drain P G) (s : List ℕ) (c width : ℕ) → s ≡ drain_rest d → (s ≡ text_before s width ++ c ∷ []) × IsBoundary s width
-      → IsSpan d.value.now.text d.front (d.front + width) × (drain_rest d ≡ range_text d.value.now.text d.len d.front (d.front + width) ++ c ∷ []) × (d.front + width ≤ d.back)
+      → AreRangeEnds d.value.now.text d.front (d.front + width) × (drain_rest d ≡ range_text d.value.now.text d.len d.front (d.front + width) ++ c ∷ []) × (d.front + width ≤ d.back)
   rest-back d s c width is last =
       let t = d.value.now.text in
       let r = text_before s width in
@@ -98,7 +98,7 @@ module _ {P : Type 0} {G : Ghosts P} where
       ⊎_elim
       (λ yes.
       let taken = back-taken t r d.front d.back c (d.rest (eqb-true _ _ yes)) (sym (cond-true _ _ _ yes) ∙ sym is ∙ last.0) in
-      let left = subst (λ (n : ℕ). IsSpan t d.front (d.front + n) × (substring t d.front (d.front + n) ≡ r) × (d.front + n ≤ d.back)) wide taken in
+      let left = subst (λ (n : ℕ). AreRangeEnds t d.front (d.front + n) × (substring t d.front (d.front + n) ≡ r) × (d.front + n ≤ d.back)) wide taken in
       (left.0, sym is ∙ last.0 ∙ ap (λ (l : List ℕ). l ++ c ∷ []) (sym (cond-true _ _ _ yes ∙ left.1)), left.2))
       (λ no. absurd (some-back r c (sym last.0 ∙ is ∙ cond-false _ _ _ no)))
       (cases_Bool (nat_eq (size t) d.len))
@@ -112,7 +112,7 @@ without_range-placement v len i j =
     (cases_Bool (not (is_static_place v.placement.place) && nat_eq (size v.text) len))
 
 -- and one that keeps the length keeps the text, so that a span stays one
-without_range-text : (v : PlacedText) (len i j : ℕ) → (size v.text ≡ len → IsSpan v.text i j)
+without_range-text : (v : PlacedText) (len i j : ℕ) → (size v.text ≡ len → AreRangeEnds v.text i j)
     → size (without_range v len i j).text ≡ len → (without_range v len i j).text ≡ v.text
 without_range-text v len i j range same =
     ⊎_elim
@@ -128,11 +128,11 @@ without_range-text v len i j range same =
     (λ no. ap (λ (w : PlacedText). w.text) (cond-false _ _ _ no))
     (cases_Bool (not (is_static_place v.placement.place) && nat_eq (size v.text) len))
 
-pub without_range-span : (v : PlacedText) (len i j front back : ℕ) → (size v.text ≡ len → IsSpan v.text i j) → (size v.text ≡ len → IsSpan v.text front back)
-    → size (without_range v len i j).text ≡ len → IsSpan (without_range v len i j).text front back
+pub without_range-span : (v : PlacedText) (len i j front back : ℕ) → (size v.text ≡ len → AreRangeEnds v.text i j) → (size v.text ≡ len → AreRangeEnds v.text front back)
+    → size (without_range v len i j).text ≡ len → AreRangeEnds (without_range v len i j).text front back
 without_range-span v len i j front back range rest is =
     let same = without_range-text v len i j range is in
-    subst (λ (t : List ℕ). IsSpan t front back) (sym same) (rest (subst (λ (t : List ℕ). size t ≡ len) same is))
+    subst (λ (t : List ℕ). AreRangeEnds t front back) (sym same) (rest (subst (λ (t : List ℕ). size t ≡ len) same is))
 
 -- the drain of a value that was made owned first
 module _ {P : Type 0} {G : Ghosts P} (v u : PlacedText) (i j : ℕ) (d : Drain P G) where

@@ -7,7 +7,7 @@ use Rattle.compact_str.proofs.Positions.{truncate-text, boundary-cut, inserted-b
 use Rattle.compact_str.proofs.Rooms.{append-sure, room-sure, appended-bytes, pushed-bytes}
 use Rattle.compact_text.proofs.AsciiCase.{boundary-lowercase, boundary-uppercase}
 use Rattle.compact_str.proofs.AsciiCase.{new-lowercase, new-uppercase}
-use Rattle.compact_str.proofs.Repeats.{repeated_text-none, repeated_text-one}
+use Rattle.compact_str.proofs.Repeats.{repeated_text-none, repeated_text-one, placed-once}
 
 -- append
 pub ruleset append_facts = (text_facts, append-in_place, append-sure, appended-bytes)
@@ -28,7 +28,7 @@ pub ruleset removal_facts = (position_facts, owned-in_place, removed-character, 
 pub ruleset replacement_facts = (text_facts, replace-in_place)
 
 -- repetition
-pub ruleset repeat_facts = (text_facts, repeated_text-none, repeated_text-one)
+pub ruleset repeat_facts = (text_facts, repeated_text-none, repeated_text-one, placed-once)
 
 -- change of ASCII case
 pub ruleset case_facts = (text_facts, new-lowercase, new-uppercase, boundary-lowercase, boundary-uppercase)

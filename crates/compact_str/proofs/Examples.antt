@@ -10,7 +10,7 @@ use Rattle.compact_str.specs.Room.{own_capacity, infallible_capacity}
 use Rattle.compact_repr.specs.Calls.{truncate, insert_str, replace_range}
 use Rattle.compact_str.specs.Edits.{Removes, split_tail, repeat}
 use Rattle.compact_str.specs.Clones.{clone_from}
-use Rattle.compact_str.specs.Ranges.{IsRange, range_start, range_end}
+use Rattle.compact_str.specs.Ranges.{IsRange, span, range_start, range_end}
 use Rattle.std.specs.Prelude.{true, false}
 use Rattle.std.specs.declared.cmp.Ordering.TheVariants.{Less, Equal, Greater}
 use Rattle.compact_str.specs.Order.{same_text, text_order, text_cmp}
@@ -126,7 +126,7 @@ boundary_2 = boundary-from_size mixed 2 refl
 boundary_3 : IsBoundary mixed 3
 boundary_3 = boundary-from_size mixed 3 refl
 
-no_range_starts_within_a_character : ¬ IsRange mixed (Included 1) Unbounded
+no_range_starts_within_a_character : ¬ IsRange mixed (span (Included 1) Unbounded)
 no_range_starts_within_a_character range = let within = size-text_before mixed 1 range.first in omega (arith, within)
 
 an_excluded_start_is_a_byte_after : range_start (Excluded 1) ≡ 2
@@ -135,7 +135,7 @@ an_excluded_start_is_a_byte_after = refl
 an_excluded_end_is_there : range_end mixed (Excluded 3) ≡ 3
 an_excluded_end_is_there = refl
 
-both_ends_excluded : IsRange mixed (Excluded 1) (Excluded 3)
+both_ends_excluded : IsRange mixed (span (Excluded 1) (Excluded 3))
 both_ends_excluded = record { order = omega arith; first = boundary_2; last = boundary_3 }
 
 an_open_start_is_0 : range_start Unbounded ≡ 0
@@ -144,19 +144,19 @@ an_open_start_is_0 = refl
 an_included_end_is_a_byte_after : range_end mixed (Included 2) ≡ 3
 an_included_end_is_a_byte_after = refl
 
-an_open_start_with_an_included_end : IsRange mixed Unbounded (Included 2)
+an_open_start_with_an_included_end : IsRange mixed (span Unbounded (Included 2))
 an_open_start_with_an_included_end = record { order = omega arith; first = boundary_0; last = boundary_3 }
 
 an_open_end_is_that_of_the_text : range_end mixed Unbounded ≡ 3
 an_open_end_is_that_of_the_text = refl
 
-the_empty_range_at_the_end : IsRange mixed (Included 3) Unbounded
+the_empty_range_at_the_end : IsRange mixed (span (Included 3) Unbounded)
 the_empty_range_at_the_end = record { order = omega arith; first = boundary_3; last = boundary_3 }
 
-no_range_ends_before_it_starts : ¬ IsRange mixed (Included 3) (Excluded 2)
+no_range_ends_before_it_starts : ¬ IsRange mixed (span (Included 3) (Excluded 2))
 no_range_ends_before_it_starts range = let order = range.order in omega (arith, order)
 
-no_range_ends_past_the_text : ¬ IsRange mixed Unbounded (Excluded 4)
+no_range_ends_past_the_text : ¬ IsRange mixed (span Unbounded (Excluded 4))
 no_range_ends_past_the_text range = let within = boundary-within mixed 4 range.last in omega (arith, within)
 
 -- equality and order

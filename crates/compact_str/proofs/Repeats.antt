@@ -6,7 +6,8 @@ use Rattle.std.specs.Prelude.{IsTrue, not, ◌&&◌, nat_le}
 use Rattle.compact_repr.specs.Text.{size}
 use Rattle.compact_repr.specs.Value.{Placement, PlacedText, is_static_place}
 use Rattle.compact_repr.specs.Capacity.{Growth, with_capacity_placement, fits_in_place, room_to_append, PlacedFor, AllocatesFor}
-use Rattle.compact_str.specs.Edits.{repeated_text}
+use Rattle.compact_repr.specs.Calls.{clone}
+use Rattle.compact_str.specs.Edits.{repeated_text, IsPlacedAsRepeated}
 use Rattle.compact_text.proofs.Texts.{size-append, empty_text}
 
 repeated_text-suc : (n : ℕ) (t : List ℕ) → repeated_text n t ++ t ≡ repeated_text (suc n) t
@@ -44,3 +45,7 @@ repeated_text-none n t e = empty_text (repeated_text n t) (size-repeated_text n 
 
 pub repeated_text-one : (t : List ℕ) → repeated_text 1 t ≡ t
 repeated_text-one t = append-nil t
+
+-- once, and not empty, is a clone
+pub placed-once : (g : Growth) (v w : PlacedText) (n : ℕ) → clone g v ≡ Some w → n ≡ 1 → (v.text ≡ [] → ⊥) → IsPlacedAsRepeated g v n w
+placed-once g v w n e once some = grind (arith, common_steps, empty_text)

@@ -27,12 +27,12 @@ abbrev pub ConvertsCow : {Z E : Type 0} → Growth → CowStr Z → Result Place
 ConvertsCow g (Borrowed s) r = MatchResult r (λ v. new g (text_of s.now) ≡ Some v) (λ _. INLINE_CAPACITY < length s.now)
 ConvertsCow g (Owned s) r = IsOkAnd r (λ v. let t = text_of (string_bytes s) in v ≡ placed_text t (from_string_placement t (string_capacity s)))
 
--- r has the bytes of v, in the buffer of a heap value; any other may fail, and is then returned
+-- what `into_string` ensures, for calls that convert v as it does
 pub record ConvertsTo {T : Type 0} (bytes_of : T → List ℕ) (v : PlacedText) (r : Result T (Refused PlacedText)) : Type 0 where
   pub bytes : IfOk r (λ x. bytes_of x ≡ utf8 v.text)
   pub text : IfOk r (λ x. text_of (bytes_of x) ≡ v.text)
   pub succeeds : IsHeap v → IsOk r
-  pub err : IfErr r (λ e. (e.value ≡ v) × (is_heap_place v.placement.place ≡ false))
+  pub err : IfErr r (λ e. e.value ≡ v)
 
 -- the conversion never fails: the text is owned, or has at most 24 bytes
 abbrev pub IsFreeCow : {Z : Type 0} → CowStr Z → Type 0

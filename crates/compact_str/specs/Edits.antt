@@ -50,10 +50,16 @@ repeated_text (suc n) t = t ++ repeated_text n t
 abbrev pub repeats_by_copy : PlacedText → ℕ → Bool
 repeats_by_copy v n = nat_eq n 1 && not (nat_eq (size v.text) 0)
 
--- v's text n times: a clone, or with new capacity, which is inline if the result is empty
+-- its placement: a clone's, or that of new capacity, which is inline if the result is empty
+abbrev pub repeat_placement : Growth → PlacedText → ℕ → Option Placement
+repeat_placement g v n = if repeats_by_copy v n then clone_placement g v else with_capacity_placement g (size v.text * n)
+
 abbrev pub repeat : Growth → PlacedText → ℕ → Option PlacedText
-repeat g v n =
-    option_map (placed_text (repeated_text n v.text)) (if repeats_by_copy v n then clone_placement g v else with_capacity_placement g (size v.text * n))
+repeat g v n = option_map (placed_text (repeated_text n v.text)) (repeat_placement g v n)
+
+-- w is placed as v repeated n times
+abbrev pub IsPlacedAsRepeated : Growth → PlacedText → ℕ → PlacedText → Type 0
+IsPlacedAsRepeated g v n w = repeat_placement g v n ≡ Some w.placement
 
 abbrev pub repeat_allocates : PlacedText → ℕ → Bool
 repeat_allocates v n = if repeats_by_copy v n then clone_allocates v else with_capacity_allocates (size v.text * n)

@@ -1,7 +1,7 @@
 //! Calls on a part of a value, as a Rust range.
 ghost use Rattle.std.specs.Prelude.{IfSome};
 ghost use Rattle.std.specs.declared.ops.Bound.TheVariants.{Included, Excluded};
-ghost use Rattle.compact_str.specs.Ranges.{IsRange};
+ghost use Rattle.compact_str.specs.Ranges.{IsRange, span};
 
 use crate::calls::done;
 use crate::notation::number;
@@ -37,7 +37,7 @@ pub fn reply_within(
 /// Parses the start and end of a range, if it is one of the text.
 fn range_of(value: &CompactString, range: &str) -> Option<(usize, usize)>
     ensures { IfSome result
-        (λ range. IsRange value.now.text (Included range.0) (Excluded range.1)) }
+        (λ range. IsRange value.now.text (span (Included range.0) (Excluded range.1))) }
 {
     let (start, end) = range.split_once("..")?;
     let (start, end) = (number(start)?, number(end)?);

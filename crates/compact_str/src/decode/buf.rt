@@ -33,10 +33,13 @@ impl PolicyString<Standard> {
     /// ```
     #[tactic(auto, using(crate::proofs::FittedTexts::buf_facts))]
     pub fn from_utf8_buf<B: Buf>(alloc: Global, buf: &mut B) -> Result<CompactString, FromUtf8Error>
+        // Decodes and consumes all bytes: inline up to 24 bytes, else on the heap.
         ensures text { IfOk result (λ v. BytesEncode (B.unread buf.old) v.text) }
         ensures place { IfOk result IsPlacedBySize }
         ensures consumed { OnOk result (B.unread buf.new ≡ []) }
         ensures kept { B.kept buf.new ≡ B.kept buf.old }
+
+        // `Utf8` if the bytes are invalid, all consumed; `Reserve` only for more than 24 bytes.
         ensures succeeds { IsUtf8 (B.unread buf.old) → length (B.unread buf.old) ≤ INLINE_CAPACITY
             → IsOk result }
         ensures err { IfErr result (IsUtf8BufRefusal (B.unread buf.old) (B.unread buf.new)) }
@@ -70,14 +73,16 @@ impl PolicyString<Standard> {
         buf: &mut B,
     ) -> Result<CompactString, ReserveError>
         requires { IsUtf8 (B.unread buf.old) }
+        // Decodes and consumes all bytes: inline up to 24 bytes, else on the heap.
         ensures text { IfOk result (λ v. v.text ≡ text_of (B.unread buf.old)) }
         ensures place { IfOk result IsPlacedBySize }
         ensures consumed { OnOk result (B.unread buf.new ≡ []) }
         ensures kept { B.kept buf.new ≡ B.kept buf.old }
+
+        // Never fails up to 24 bytes. On failure some bytes may have been consumed.
         ensures succeeds { length (B.unread buf.old) ≤ INLINE_CAPACITY → IsOk result }
-        ensures err { OnErr result
-            ((INLINE_CAPACITY < length (B.unread buf.old))
-            × IsSuffixOf (B.unread buf.new) (B.unread buf.old)) }
+        ensures allocates { OnErr result (INLINE_CAPACITY < length (B.unread buf.old)) }
+        ensures err { OnErr result (IsSuffixOf (B.unread buf.new) (B.unread buf.old)) }
     {
         if buf.remaining() <= INLINE_CAPACITY {
             let mut row = [0; INLINE_CAPACITY];

@@ -36,8 +36,11 @@ impl PolicyString<Standard> {
     /// ```
     #[tactic(auto, using(compact_codec::proofs::ForDecoders::strict_decoding))]
     pub fn from_utf16(alloc: Global, units: &[u16]) -> Result<CompactString, FromUtf16Error>
+        // Decodes valid units: inline up to 24 bytes, else on the heap.
         ensures text { IfOk result (λ v. UnitsEncode units.now v.text) }
         ensures place { IfOk result IsPlacedBySize }
+
+        // `Utf16` if the units are invalid; `NoRoom` only for more than 24 bytes of text.
         ensures succeeds { (text : List ℕ) → UnitsEncode units.now text
             → size text ≤ INLINE_CAPACITY → IsOk result }
         ensures err { IfErr result (IsUtf16Refusal units.now) }
@@ -66,6 +69,7 @@ impl PolicyString<Standard> {
     /// ```
     #[tactic(auto, using(compact_codec::proofs::ForDecoders::lossy_decoding, crate::proofs::FittedTexts::decoded_part_facts))]
     pub fn from_utf16_lossy(alloc: Global, units: &[u16]) -> Result<CompactString, ReserveError>
+        // As `from_utf8_lossy`.
         ensures { MakesText (utf16_lossy_text units.now) result }
     {
         let mut made = CompactString::default(alloc);
@@ -99,8 +103,11 @@ impl PolicyString<Standard> {
     /// assert_eq!(rt; euro.as_str(), "€");
     /// ```
     pub fn from_utf16le(alloc: Global, bytes: &[u8]) -> Result<CompactString, FromUtf16Error>
+        // Decodes valid units: inline up to 24 bytes, else on the heap.
         ensures text { IfOk result (λ v. PairsEncode LittleEndian bytes.now v.text) }
         ensures place { IfOk result IsPlacedBySize }
+
+        // `Utf16` if the units are invalid; `NoRoom` only for more than 24 bytes of text.
         ensures succeeds { (text : List ℕ) → PairsEncode LittleEndian bytes.now text
             → size text ≤ INLINE_CAPACITY → IsOk result }
         ensures err { IfErr result (IsUtf16BytesRefusal LittleEndian bytes.now) }
@@ -122,8 +129,11 @@ impl PolicyString<Standard> {
     /// assert_eq!(rt; euro.as_str(), "€");
     /// ```
     pub fn from_utf16be(alloc: Global, bytes: &[u8]) -> Result<CompactString, FromUtf16Error>
+        // Decodes valid units: inline up to 24 bytes, else on the heap.
         ensures text { IfOk result (λ v. PairsEncode BigEndian bytes.now v.text) }
         ensures place { IfOk result IsPlacedBySize }
+
+        // `Utf16` if the units are invalid; `NoRoom` only for more than 24 bytes of text.
         ensures succeeds { (text : List ℕ) → PairsEncode BigEndian bytes.now text
             → size text ≤ INLINE_CAPACITY → IsOk result }
         ensures err { IfErr result (IsUtf16BytesRefusal BigEndian bytes.now) }
@@ -145,6 +155,7 @@ impl PolicyString<Standard> {
     /// assert_eq!(rt; name.as_str(), "A\u{FFFD}");
     /// ```
     pub fn from_utf16le_lossy(alloc: Global, bytes: &[u8]) -> Result<CompactString, ReserveError>
+        // As `from_utf8_lossy`.
         ensures { MakesText (utf16_bytes_lossy_text LittleEndian bytes.now) result }
     {
         from_bytes_lossy(alloc, ByteOrder::LittleEndian, bytes)
@@ -164,6 +175,7 @@ impl PolicyString<Standard> {
     /// assert_eq!(rt; name.as_str(), "A\u{FFFD}");
     /// ```
     pub fn from_utf16be_lossy(alloc: Global, bytes: &[u8]) -> Result<CompactString, ReserveError>
+        // As `from_utf8_lossy`.
         ensures { MakesText (utf16_bytes_lossy_text BigEndian bytes.now) result }
     {
         from_bytes_lossy(alloc, ByteOrder::BigEndian, bytes)

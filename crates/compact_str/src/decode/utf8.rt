@@ -1,10 +1,10 @@
 //! Decoding UTF-8 from a slice.
-ghost use Rattle.std.specs.Prelude.{◌≡◌, ◌<◌, ◌≤◌, length, IfOk, IfErr, OnOk, IsOk, Some};
+ghost use Rattle.std.specs.Prelude.{◌≡◌, ◌<◌, ◌≤◌, length, IfOk, IfErr, OnOk, OnErr, IsOk, Some};
 ghost use Rattle.std.specs.Str.{IsUtf8};
-ghost use Rattle.compact_str.specs.Words.{text_of, utf8, INLINE_CAPACITY, IsPlacedAsNew, standard_growth};
+ghost use Rattle.compact_str.specs.Words.{size, text_of, utf8, INLINE_CAPACITY, IsPlacedAsNew, standard_growth};
 ghost use Rattle.compact_codec.specs.InvalidSequence.{IsUtf8Error};
 ghost use Rattle.compact_codec.specs.Utf8Text.{BytesEncode, utf8_lossy_text};
-ghost use Rattle.compact_str.specs.FittedValues.{MakesText};
+ghost use Rattle.compact_str.specs.FittedValues.{IsPlacedBySize, MakesText};
 ghost use Rattle.compact_str.specs.Conversions.{CopiesText};
 ghost use Rattle.compact_str.specs.DecodeErrors.{IsUtf8Refusal};
 
@@ -36,13 +36,13 @@ impl PolicyString<Standard> {
     #[inline]
     #[tactic(auto, using(crate::proofs::FittedTexts::strict_facts))]
     pub fn from_utf8(alloc: Global, bytes: &[u8]) -> Result<CompactString, FromUtf8Error>
-        // On success the bytes are valid, and are copied as by `new`.
+        // Copies valid bytes as `new` does.
         ensures text { IfOk result (λ v. v.text ≡ text_of bytes.now) }
         ensures encoded { IfOk result (λ v. BytesEncode bytes.now v.text) }
         ensures valid { OnOk result (IsUtf8 bytes.now) }
         ensures place { IfOk result (IsPlacedAsNew standard_growth) }
 
-        // `Utf8` says where the bytes stop being valid. `Reserve` comes for valid ones past 24.
+        // `Utf8` if the bytes are invalid, with the position; `Reserve` only for over 24 valid bytes.
         ensures succeeds { IsUtf8 bytes.now → length bytes.now ≤ INLINE_CAPACITY → IsOk result }
         ensures err { IfErr result (IsUtf8Refusal bytes.now) }
     {
@@ -77,7 +77,13 @@ impl PolicyString<Standard> {
     #[inline]
     #[tactic(auto, using(compact_codec::proofs::ForDecoders::lossy_decoding, crate::proofs::FittedTexts::new_facts))]
     pub fn from_utf8_lossy(alloc: Global, bytes: &[u8]) -> Result<CompactString, ReserveError>
-        ensures { MakesText (utf8_lossy_text bytes.now) result }
+        // Replaces each invalid sequence with U+FFFD: inline up to 24 bytes, else on the heap.
+        ensures text { IfOk result (λ v. v.text ≡ utf8_lossy_text bytes.now) }
+        ensures place { IfOk result IsPlacedBySize }
+
+        // Never fails up to 24 bytes of text.
+        ensures succeeds { size (utf8_lossy_text bytes.now) ≤ INLINE_CAPACITY → IsOk result }
+        ensures allocates { OnErr result (INLINE_CAPACITY < size (utf8_lossy_text bytes.now)) }
     {
         match utf8::validate(bytes) {
             Ok(text) => Self::new(alloc, text),
@@ -94,6 +100,7 @@ impl PolicyString<Standard> {
     #[inline]
     pub fn from_utf8_unchecked(alloc: Global, bytes: &[u8]) -> Result<CompactString, ReserveError>
         requires { IsUtf8 bytes.now }
+        // As `new`.
         ensures { CopiesText standard_growth bytes.now result }
     {
         Self::new(alloc, unsafe { std::str::from_utf8_unchecked(bytes) })

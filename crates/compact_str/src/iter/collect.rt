@@ -60,7 +60,7 @@ impl<P: Policy> PolicyString<P> {
         requires { IsFiniteIterable U.into_iter_gives U.IntoIter.can_next U.IntoIter.remaining
             texts }
 
-        // On success the result has all texts.
+        // Concatenates the texts: inline up to 24 bytes, else on the heap.
         ensures text { IfOk result
             (λ v. ForItems U.into_iter_gives U.IntoIter.next_gives texts
             (λ xs. v.text ≡ flat_map T.text xs)) }
@@ -72,7 +72,7 @@ impl<P: Policy> PolicyString<P> {
             (λ xs. size v.text ≡ fold (λ n text. n + size (T.text text)) 0 xs)) }
         ensures place { IfOk result IsPlacedBySize }
 
-        // It fails only past 24 bytes.
+        // Never fails up to 24 bytes.
         ensures succeeds { ForAllItems U.into_iter_gives U.IntoIter.next_gives texts
             (λ xs. size (flat_map T.text xs) ≤ INLINE_CAPACITY) → IsOk result }
         ensures allocates { OnErr result

@@ -54,7 +54,7 @@ impl<P: Policy> PolicyString<P> {
         requires { IsFiniteIterable U.into_iter_gives U.IntoIter.can_next U.IntoIter.remaining
             texts }
 
-        // On success all texts are appended, each as by `push_str`.
+        // Appends the texts in order, each as `push_str` does.
         ensures text { OnOk result
             (ForItems U.into_iter_gives U.IntoIter.next_gives texts
             (λ xs. self.new.text ≡ self.old.text ++ flat_map T.text xs)) }
@@ -62,12 +62,12 @@ impl<P: Policy> PolicyString<P> {
             (ForIterator U.into_iter_gives texts
             (λ it. AppendsAll U.IntoIter.next_gives P.growth T.text it self.old self.new)) }
 
-        // On failure too, the old text stays in front, and the capacity never shrinks.
+        // Keeps the old text at the front, even on failure. Never shrinks the capacity.
         ensures boundary { IsBoundary self.new.text (size self.old.text) }
         ensures front { text_before self.new.text (size self.old.text) ≡ self.old.text }
         ensures room { infallible_capacity self.old ≤ infallible_capacity self.new }
 
-        // It fails only at a text for which it must allocate, never if there is room for all.
+        // Fails only at a text for which it must allocate, never if there is room for all.
         ensures succeeds { ForAllItems U.into_iter_gives U.IntoIter.next_gives texts
             (λ xs. HasRoomFor self.old (size (flat_map T.text xs))) → IsOk result }
         ensures err { OnErr result

@@ -22,12 +22,12 @@ impl<P: Policy> PolicyString<P> {
     /// ```
     #[tactic(auto, using(crate::proofs::EditFacts::case_facts))]
     pub fn make_ascii_lowercase(&mut self) -> Result<(), ReserveError>
-        // On success A to Z are made lower case. The string is owned.
+        // Makes A to Z lowercase, and the string owned.
         ensures text { OnOk result (self.new.text ≡ ascii_lowercase self.old.text) }
         ensures boundaries { (i : ℕ) → IsBoundary self.old.text i → IsBoundary self.new.text i }
         ensures place { OnOk result (PlacedFor P.growth self.old self.new owned) }
 
-        // It fails only where a long static string must be copied, and then changes nothing.
+        // Fails only if a long static string must be copied. The string is then unchanged.
         ensures succeeds { IsOwned self.old → IsOk result }
         ensures succeeds_short { size self.old.text ≤ INLINE_CAPACITY → IsOk result }
         ensures allocates { OnErr result (AllocatesFor self.old owned) }
@@ -53,12 +53,12 @@ impl<P: Policy> PolicyString<P> {
     /// ```
     #[tactic(auto, using(crate::proofs::EditFacts::case_facts))]
     pub fn make_ascii_uppercase(&mut self) -> Result<(), ReserveError>
-        // On success a to z are made upper case. The string is owned.
+        // Makes a to z uppercase, and the string owned.
         ensures text { OnOk result (self.new.text ≡ ascii_uppercase self.old.text) }
         ensures boundaries { (i : ℕ) → IsBoundary self.old.text i → IsBoundary self.new.text i }
         ensures place { OnOk result (PlacedFor P.growth self.old self.new owned) }
 
-        // It fails only where a long static string must be copied, and then changes nothing.
+        // Fails only if a long static string must be copied. The string is then unchanged.
         ensures succeeds { IsOwned self.old → IsOk result }
         ensures succeeds_short { size self.old.text ≤ INLINE_CAPACITY → IsOk result }
         ensures allocates { OnErr result (AllocatesFor self.old owned) }
@@ -86,7 +86,7 @@ impl<P: Policy> PolicyString<P> {
         ensures text { IfOk result (λ v. v.text ≡ ascii_lowercase self.now.text) }
         ensures place { IfOk result (IsPlacedAsNew P.growth) }
 
-        // It fails only past 24 bytes.
+        // Never fails up to 24 bytes.
         ensures succeeds { size self.now.text ≤ INLINE_CAPACITY → IsOk result }
         ensures allocates { OnErr result (INLINE_CAPACITY < size self.now.text) }
     {
@@ -112,7 +112,7 @@ impl<P: Policy> PolicyString<P> {
         ensures text { IfOk result (λ v. v.text ≡ ascii_uppercase self.now.text) }
         ensures place { IfOk result (IsPlacedAsNew P.growth) }
 
-        // It fails only past 24 bytes.
+        // Never fails up to 24 bytes.
         ensures succeeds { size self.now.text ≤ INLINE_CAPACITY → IsOk result }
         ensures allocates { OnErr result (INLINE_CAPACITY < size self.now.text) }
     {

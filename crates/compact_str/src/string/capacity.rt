@@ -24,12 +24,12 @@ impl<P: Policy> PolicyString<P> {
     /// ```
     #[inline]
     pub fn reserve(&mut self, additional: usize) -> Result<(), ReserveError>
-        // The text stays. On success there is room for `additional` more bytes.
+        // Keeps the text, and makes room for `additional` more bytes.
         ensures text { self.new.text ≡ self.old.text }
         ensures place { OnOk result (PlacedFor P.growth self.old self.new (room additional)) }
         ensures room { OnOk result (HasRoomFor self.new additional) }
 
-        // It fails only where it must allocate, never if there is room, and then changes nothing.
+        // Fails only if it must allocate, never if there is room. The string is then unchanged.
         ensures succeeds { HasRoomFor self.old additional → IsOk result }
         ensures allocates { OnErr result (AllocatesFor self.old (room additional)) }
         ensures err { OnErr result (self.new ≡ self.old) }
@@ -48,6 +48,7 @@ impl<P: Policy> PolicyString<P> {
     /// See [`reserve`].
     #[inline]
     pub fn try_reserve(&mut self, additional: usize) -> Result<(), ReserveError>
+        // As `reserve`.
         ensures text { self.new.text ≡ self.old.text }
         ensures place { OnOk result (PlacedFor P.growth self.old self.new (room additional)) }
         ensures room { OnOk result (HasRoomFor self.new additional) }

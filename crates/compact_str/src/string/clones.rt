@@ -1,7 +1,7 @@
 //! Cloning.
-ghost use Rattle.std.specs.Prelude.{◌≡◌, ◌≤◌, Some, OnOk, OnErr, IsOk, IsTrue, not, false};
-ghost use Rattle.compact_str.specs.Words.{size, is_heap_place, clone_allocates, clone, infallible_capacity};
-ghost use Rattle.compact_str.specs.Clones.{clone_from, CloneFromAllocates};
+ghost use Rattle.std.specs.Prelude.{◌≡◌, ◌≤◌, Some, OnOk, OnErr, IsOk, IsTrue, not};
+ghost use Rattle.compact_str.specs.Words.{size, IsHeap, clone_allocates, clone, infallible_capacity};
+ghost use Rattle.compact_str.specs.Clones.{IsPlacedAsCloned, CloneFromAllocates};
 
 use crate::string::PolicyString;
 use compact_repr::{Policy, ReserveError};
@@ -46,12 +46,16 @@ impl<P: Policy> PolicyString<P> {
     /// assert_eq!(rt; target.capacity(), 100);
     /// ```
     pub fn clone_from(&mut self, source: &Self) -> Result<(), ReserveError>
-        ensures ok { OnOk result (clone_from P.growth self.old source.now ≡ Some self.new) }
+        // Takes over the text of `source`, in this string's buffer if `source` is on the heap and fits.
         ensures text { OnOk result (self.new.text ≡ source.now.text) }
+        ensures place { OnOk result
+            (IsPlacedAsCloned P.growth self.old source.now self.new) }
+
+        // Fails only if a `source` on the heap needs a new buffer. The string is then unchanged.
         ensures succeeds { size source.now.text ≤ infallible_capacity self.old → IsOk result }
-        ensures copies_in_place { is_heap_place source.now.placement.place ≡ false → IsOk result }
-        ensures err { OnErr result
-            ((self.new ≡ self.old) × CloneFromAllocates self.old source.now) }
+        ensures succeeds_unless_heap { ¬ IsHeap source.now → IsOk result }
+        ensures allocates { OnErr result (CloneFromAllocates self.old source.now) }
+        ensures err { OnErr result (self.new ≡ self.old) }
     {
         if let Some(text) = source.repr.heap_str()
             && self.repr.try_assign(text)

@@ -56,19 +56,17 @@ impl<P: Policy> PolicyString<P> {
     /// ```
     #[inline]
     pub fn new(alloc: Global, text: &str) -> Result<Self, ReserveError>
-        // Inline up to 24 bytes, else on the heap, with at least the policy's least capacity.
+        // Inline up to 24 bytes, else on the heap, with at least the policy's minimum capacity.
         ensures text { IfOk result (λ v. v.text ≡ text_of text.now) }
         ensures bytes { IfOk result (λ v. utf8 v.text ≡ text.now) }
         ensures place { IfOk result (IsPlacedAsNew P.growth) }
 
-        // It fails only past 24 bytes.
+        // Never fails up to 24 bytes.
         ensures succeeds { length text.now ≤ INLINE_CAPACITY → IsOk result }
         ensures allocates { OnErr result (INLINE_CAPACITY < length text.now) }
     {
-        match Repr::new(alloc, text) {
-            Ok(repr) => Ok(PolicyString { repr }),
-            Err(error) => Err(error),
-        }
+        let repr = Repr::new(alloc, text)?;
+        Ok(PolicyString { repr })
     }
 
     /// Same as `new`.
@@ -82,6 +80,7 @@ impl<P: Policy> PolicyString<P> {
     /// See [`new`].
     #[inline]
     pub fn try_new(alloc: Global, text: &str) -> Result<Self, ReserveError>
+        // As `new`.
         ensures { CopiesText P.growth text.now result }
     {
         Self::new(alloc, text)
@@ -98,9 +97,10 @@ impl<P: Policy> PolicyString<P> {
     /// See [`new`].
     #[inline]
     pub fn from_str(alloc: Global, text: &str) -> Result<Self, ReserveError>
+        // As `new`.
         ensures { CopiesText P.growth text.now result }
     {
-        Self::try_new(alloc, text)
+        Self::new(alloc, text)
     }
 
     /// Creates a string from a literal without allocating: inline up to 24 bytes, otherwise by reference.
@@ -168,19 +168,17 @@ impl<P: Policy> PolicyString<P> {
     /// assert_eq!(rt; line.capacity(), 32);
     /// ```
     pub fn with_capacity(alloc: Global, capacity: usize) -> Result<Self, ReserveError>
-        // Inline up to 24 bytes, else on the heap, with at least the policy's least capacity.
+        // Inline up to 24 bytes, else on the heap, with at least the policy's minimum capacity.
         ensures text { IfOk result (λ v. v.text ≡ []) }
         ensures place { IfOk result (HasNewCapacity P.growth capacity) }
         ensures room { IfOk result (λ v. HasRoomFor v capacity) }
 
-        // It fails only past 24 bytes.
+        // Never fails up to 24 bytes.
         ensures succeeds { capacity ≤ INLINE_CAPACITY → IsOk result }
         ensures allocates { OnErr result (INLINE_CAPACITY < capacity) }
     {
-        match Repr::with_capacity(alloc, capacity) {
-            Ok(repr) => Ok(PolicyString { repr }),
-            Err(error) => Err(error),
-        }
+        let repr = Repr::with_capacity(alloc, capacity)?;
+        Ok(PolicyString { repr })
     }
 
     /// Same as `with_capacity`.
@@ -193,6 +191,7 @@ impl<P: Policy> PolicyString<P> {
     ///
     /// See [`with_capacity`].
     pub fn try_with_capacity(alloc: Global, capacity: usize) -> Result<Self, ReserveError>
+        // As `with_capacity`.
         ensures text { IfOk result (λ v. v.text ≡ []) }
         ensures place { IfOk result (HasNewCapacity P.growth capacity) }
         ensures room { IfOk result (λ v. HasRoomFor v capacity) }
@@ -238,7 +237,8 @@ impl<P: Policy> PolicyString<P> {
     /// ```
     #[tactic(auto, using(crate::proofs::EditFacts::string_facts))]
     pub fn from_cow(alloc: Global, text: CowStr<'_>) -> Result<Self, ReserveError>
-        ensures takes { ConvertsCow P.growth text.entry result }
+        // Copies a borrowed text as `new` does, and reuses the buffer of an owned one.
+        ensures converts { ConvertsCow P.growth text.entry result }
         ensures text { IfOk result (λ v. v.text ≡ text_of (cow_str_bytes text.entry)) }
         ensures bytes { IfOk result (λ v. utf8 v.text ≡ cow_str_bytes text.entry) }
         ensures succeeds { IsFreeCow text.entry → IsOk result }
@@ -265,6 +265,7 @@ impl<P: Policy> PolicyString<P> {
     /// assert!(rt; !name.is_heap_allocated());
     /// ```
     pub fn from_boxed_str(alloc: Global, text: BoxedStr) -> Result<Self, Refused<BoxedStr>>
+        // As `new`. The error has the box.
         ensures copies { CopiesText P.growth (boxed_str_bytes text) result }
         ensures err { IfErr result (λ e. e.value ≡ text) }
     {

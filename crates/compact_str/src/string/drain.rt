@@ -3,7 +3,7 @@ ghost use Rattle.std.specs.Prelude.{◌≡◌, ℕ, ◌≤◌, List, [], ◌∷�
 ghost use Rattle.std.specs.Char.{len_utf8};
 ghost use Rattle.std.specs.Borrow.{sem, RestsIfErr};
 ghost use Rattle.compact_str.specs.Words.{size, utf8, text_of, IsOwned, INLINE_CAPACITY, PlacedFor, AllocatesFor, owned};
-ghost use Rattle.compact_str.specs.Ranges.{IsRange, IsSpan, part_in, replaced_in};
+ghost use Rattle.compact_str.specs.Ranges.{IsRange, AreRangeEnds, span, part_in, replaced_in};
 
 use crate::string::PolicyString;
 use compact_repr::{Policy, ReserveError};
@@ -27,8 +27,8 @@ pub struct Drain<'a, P: Policy> {
     // The part not returned yet.
     front: usize,
     back: usize,
-    ghost range: { size value.now.text ≡ len → IsSpan value.now.text start end },
-    ghost rest: { size value.now.text ≡ len → IsSpan value.now.text front back },
+    ghost range: { size value.now.text ≡ len → AreRangeEnds value.now.text start end },
+    ghost rest: { size value.now.text ≡ len → AreRangeEnds value.now.text front back },
 }
 
 impl<P: Policy> PolicyString<P> {
@@ -58,17 +58,17 @@ impl<P: Policy> PolicyString<P> {
         start: Bound<usize>,
         end: Bound<usize>,
     ) -> Result<Drain<'_, P>, ReserveError>
-        requires { IsRange self.old.text start end }
+        requires { IsRange self.old.text (span start end) }
 
-        // On success the iterator has the range, and its drop leaves the rest of the string, owned.
+        // Returns the characters of the range. Dropping the iterator removes the range.
         ensures same_reference { IfOk result (λ d. drain_lender d ≡ self.entry.ghost_name) }
-        ensures rest { IfOk result (λ d. drain_rest d ≡ part_in self.old.text start end) }
+        ensures rest { IfOk result (λ d. drain_rest d ≡ part_in self.old.text (span start end)) }
         ensures text { IfOk result
-            (λ d. (value_after_drain d).text ≡ replaced_in self.old.text start end []) }
+            (λ d. (value_after_drain d).text ≡ replaced_in self.old.text (span start end) []) }
         ensures place { IfOk result
             (λ d. PlacedFor P.growth self.old (value_after_drain d) owned) }
 
-        // It fails only where a long static string must be copied, and then changes nothing.
+        // Fails only if a long static string must be copied. The string is then unchanged.
         ensures succeeds { IsOwned self.old → IsOk result }
         ensures succeeds_short { size self.old.text ≤ INLINE_CAPACITY → IsOk result }
         ensures allocates { OnErr result (AllocatesFor self.old owned) }

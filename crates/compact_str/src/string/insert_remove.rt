@@ -4,7 +4,7 @@ ghost use Rattle.std.specs.Char.{len_utf8, encode_utf8};
 ghost use Rattle.std.specs.List.{insert_slice};
 ghost use Rattle.compact_str.specs.Words.{size, text_of, utf8, text_before, text_after, replaced_text, IsCut, IsBoundary, IsStatic, IsOwned, INLINE_CAPACITY, KeepsPlace, PlacedFor, AllocatesFor, owned, room, room_to_replace, HasRoomFor, infallible_capacity};
 ghost use Rattle.compact_str.specs.Edits.{IsPlacedAsTail, SplitAllocates};
-ghost use Rattle.compact_str.specs.Ranges.{IsRange, IsPart, range_start, range_end, len_in, replaced_in};
+ghost use Rattle.compact_str.specs.Ranges.{IsRange, span, range_start, range_end, part_in, len_in, replaced_in};
 
 use crate::string::PolicyString;
 use compact_repr::{Policy, Repr, ReserveError};
@@ -27,8 +27,8 @@ impl<P: Policy> PolicyString<P> {
     /// ```
     #[tactic(auto, using(crate::proofs::EditFacts::position_facts))]
     pub fn check_range(&self, start: Bound<usize>, end: Bound<usize>) -> Option<(usize, usize)>
-        ensures { MatchOption result (¬ IsRange self.now.text start end)
-            (λ range. IsRange self.now.text start end × (range.0 ≡ range_start start)
+        ensures { MatchOption result (¬ IsRange self.now.text (span start end))
+            (λ range. IsRange self.now.text (span start end) × (range.0 ≡ range_start start)
             × (range.1 ≡ range_end self.now.text end)) }
     {
         let (first, last) = self.byte_range(start, end)?;
@@ -50,8 +50,10 @@ impl<P: Policy> PolicyString<P> {
     /// ```
     #[tactic(auto, using(crate::proofs::EditFacts::position_facts))]
     pub fn range(&self, start: Bound<usize>, end: Bound<usize>) -> &str
-        requires { IsRange self.now.text start end }
-        ensures { IsPart self.now.text (range_start start) (range_end self.now.text end) result.now }
+        requires { IsRange self.now.text (span start end) }
+        ensures bytes { result.now ≡ utf8 (part_in self.now.text (span start end)) }
+        ensures text { text_of result.now ≡ part_in self.now.text (span start end) }
+        ensures len { length result.now ≡ len_in self.now.text (span start end) }
     {
         let Some((first, last)) = self.byte_range(start, end) else {
             unreachable!();
@@ -81,7 +83,7 @@ impl<P: Policy> PolicyString<P> {
     pub fn insert_str(&mut self, index: usize, text: &str) -> Result<(), ReserveError>
         requires { IsBoundary self.old.text index }
 
-        // On success `text` stands at `index`, between two boundaries. The capacity never shrinks.
+        // Inserts `text` at `index`, between two boundaries. Never shrinks the capacity.
         ensures text { OnOk result
             (self.new.text ≡ replaced_text self.old.text index index (text_of text.now)) }
         ensures bytes { OnOk result
@@ -93,7 +95,7 @@ impl<P: Policy> PolicyString<P> {
             (PlacedFor P.growth self.old self.new (room (length text.now))) }
         ensures room { OnOk result (infallible_capacity self.old ≤ infallible_capacity self.new) }
 
-        // It fails only where it must allocate, never if there is room, and then changes nothing.
+        // Fails only if it must allocate, never if there is room. The string is then unchanged.
         ensures succeeds { HasRoomFor self.old (length text.now) → IsOk result }
         ensures allocates { OnErr result (AllocatesFor self.old (room (length text.now))) }
         ensures err { OnErr result (self.new ≡ self.old) }
@@ -123,7 +125,7 @@ impl<P: Policy> PolicyString<P> {
     pub fn insert(&mut self, index: usize, character: char) -> Result<(), ReserveError>
         requires { IsBoundary self.old.text index }
 
-        // On success `character` stands at `index`, between boundaries. The capacity never shrinks.
+        // Inserts `character` at `index`, between two boundaries. Never shrinks the capacity.
         ensures text { OnOk result
             (self.new.text ≡ replaced_text self.old.text index index (character ∷ [])) }
         ensures bytes { OnOk result
@@ -135,7 +137,7 @@ impl<P: Policy> PolicyString<P> {
             (PlacedFor P.growth self.old self.new (room (len_utf8 character))) }
         ensures room { OnOk result (infallible_capacity self.old ≤ infallible_capacity self.new) }
 
-        // It fails only where it must allocate, never if there is room, and then changes nothing.
+        // Fails only if it must allocate, never if there is room. The string is then unchanged.
         ensures succeeds { HasRoomFor self.old (len_utf8 character) → IsOk result }
         ensures allocates { OnErr result (AllocatesFor self.old (room (len_utf8 character))) }
         ensures err { OnErr result (self.new ≡ self.old) }
@@ -167,14 +169,14 @@ impl<P: Policy> PolicyString<P> {
         requires boundary { IsBoundary self.old.text index }
         requires within { index < size self.old.text }
 
-        // On success the character at `index` is removed and returned. The string is owned.
+        // Removes and returns the character at `index`, and makes the string owned.
         ensures character { IfOk result
             (λ c. text_after self.old.text index ≡ c ∷ text_after self.new.text index) }
         ensures text { IfOk result
             (λ c. self.new.text ≡ replaced_text self.old.text index (index + len_utf8 c) []) }
         ensures place { OnOk result (PlacedFor P.growth self.old self.new owned) }
 
-        // It fails only where a long static string must be copied, and then changes nothing.
+        // Fails only if a long static string must be copied. The string is then unchanged.
         ensures succeeds { IsOwned self.old → IsOk result }
         ensures succeeds_short { size self.old.text ≤ INLINE_CAPACITY → IsOk result }
         ensures allocates { OnErr result (AllocatesFor self.old owned) }
@@ -233,23 +235,23 @@ impl<P: Policy> PolicyString<P> {
         end: Bound<usize>,
         text: &str,
     ) -> Result<(), ReserveError>
-        requires { IsRange self.old.text start end }
+        requires { IsRange self.old.text (span start end) }
 
-        // On success the range is replaced. The string is owned, with room for what it grew by.
+        // Replaces the range with `text`, and makes the string owned.
         ensures text { OnOk result
-            (self.new.text ≡ replaced_in self.old.text start end (text_of text.now)) }
+            (self.new.text ≡ replaced_in self.old.text (span start end) (text_of text.now)) }
         ensures place { OnOk result
             (PlacedFor P.growth self.old self.new
-            (room_to_replace (len_in self.old.text start end) (length text.now))) }
+            (room_to_replace (len_in self.old.text (span start end)) (length text.now))) }
 
-        // It fails only where it must allocate, never if there is room, and then changes nothing.
-        ensures succeeds { HasRoomFor self.old (length text.now - len_in self.old.text start end)
+        // Fails only if it must allocate, never if there is room. The string is then unchanged.
+        ensures succeeds { HasRoomFor self.old (length text.now - len_in self.old.text (span start end))
             → IsOk result }
         ensures succeeds_owned { IsOwned self.old
-            → length text.now ≤ len_in self.old.text start end → IsOk result }
+            → length text.now ≤ len_in self.old.text (span start end) → IsOk result }
         ensures allocates { OnErr result
             (AllocatesFor self.old
-            (room_to_replace (len_in self.old.text start end) (length text.now))) }
+            (room_to_replace (len_in self.old.text (span start end)) (length text.now))) }
         ensures err { OnErr result (self.new ≡ self.old) }
     {
         let Some((first, last)) = self.byte_range(start, end) else {
@@ -281,7 +283,7 @@ impl<P: Policy> PolicyString<P> {
     pub fn split_off(&mut self, index: usize) -> Result<Self, ReserveError>
         requires { IsBoundary self.old.text index }
 
-        // On success the rest is returned, and the string keeps what is before it, in its place.
+        // Returns the part from `index` on, and keeps the part before it in its place.
         ensures text { OnOk result (self.new.text ≡ text_before self.old.text index) }
         ensures tail { IfOk result (λ tail. tail.text ≡ text_after self.old.text index) }
         ensures cut { IfOk result (λ tail. IsCut self.old.text index self.new.text tail.text) }
@@ -290,7 +292,7 @@ impl<P: Policy> PolicyString<P> {
         ensures place { OnOk result (KeepsPlace self.old self.new) }
         ensures tail_place { IfOk result (IsPlacedAsTail P.growth self.old) }
 
-        // It fails only if the rest is past 24 bytes and not static, and then changes nothing.
+        // Fails only if a tail of more than 24 bytes must be copied. The string is then unchanged.
         ensures succeeds { size self.old.text ≤ index + INLINE_CAPACITY → IsOk result }
         ensures succeeds_static { IsStatic self.old → IsOk result }
         ensures allocates { OnErr result (SplitAllocates self.old index) }
@@ -313,7 +315,7 @@ impl<P: Policy> PolicyString<P> {
         start: Bound<usize>,
         end: Bound<usize>,
     ) -> Option<(usize, usize)>
-        ensures { MatchOption result (¬ IsRange self.now.text start end)
+        ensures { MatchOption result (¬ IsRange self.now.text (span start end))
             (λ range. (range.0 ≡ range_start start) × (range.1 ≡ range_end self.now.text end)) }
     {
         let first = match start {

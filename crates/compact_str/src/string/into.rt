@@ -1,5 +1,5 @@
 //! Conversions out of a string.
-ghost use Rattle.std.specs.Prelude.{◌≡◌, ◌≤◌, IfOk, IfErr, IsOk, string_bytes};
+ghost use Rattle.std.specs.Prelude.{◌≡◌, ◌≤◌, IfOk, IfErr, OnErr, IsOk, string_bytes};
 ghost use Rattle.std.specs.Vec.{vec_items, vec_capacity};
 ghost use Rattle.std.specs.String.{string_capacity};
 ghost use Rattle.std.specs.Box.{boxed_str_bytes};
@@ -31,9 +31,15 @@ impl<P: Policy> PolicyString<P> {
     /// assert_eq!(rt; text.as_str(), "café");
     /// ```
     pub fn into_string(self) -> Result<String, Refused<Self>>
-        ensures converts { ConvertsTo string_bytes self result }
+        // Returns the text. A heap string keeps its buffer.
+        ensures bytes { IfOk result (λ s. string_bytes s ≡ utf8 self.text) }
+        ensures text { IfOk result (λ s. text_of (string_bytes s) ≡ self.text) }
         ensures capacity { IsHeap self
             → IfOk result (λ s. self.placement.capacity ≤ string_capacity s) }
+
+        // Never fails for a heap string. The error has the string.
+        ensures succeeds { IsHeap self → IsOk result }
+        ensures err { IfErr result (λ e. e.value ≡ self) }
     {
         let PolicyString { repr } = self;
         match repr.into_heap_string() {
@@ -59,6 +65,7 @@ impl<P: Policy> PolicyString<P> {
     /// assert_eq!(rt; bytes.as_slice(), [0xC3, 0xA9].as_slice());
     /// ```
     pub fn into_vec(self) -> Result<Vec<u8>, Refused<Self>>
+        // As `into_string`.
         ensures converts { ConvertsTo vec_items self result }
         ensures capacity { IsHeap self
             → IfOk result (λ v. self.placement.capacity ≤ vec_capacity v) }
@@ -85,11 +92,15 @@ impl<P: Policy> PolicyString<P> {
     /// assert_eq!(rt; bytes.capacity(), 24);
     /// ```
     pub fn into_bytes(self) -> Result<SmallVec<u8, 24>, Refused<Self>>
+        // Returns the bytes of the text.
         ensures bytes { IfOk result (λ v. v.items ≡ utf8 self.text) }
         ensures text { IfOk result (λ v. text_of v.items ≡ self.text) }
+
+        // Fails only if a long static string must be copied. The error has the string.
         ensures succeeds { size self.text ≤ INLINE_CAPACITY → IsOk result }
         ensures succeeds_owned { IsOwned self → IsOk result }
-        ensures err { IfErr result (λ e. (e.value ≡ self) × AllocatesFor self owned) }
+        ensures allocates { OnErr result (AllocatesFor self owned) }
+        ensures err { IfErr result (λ e. e.value ≡ self) }
     {
         let PolicyString { repr } = self;
         match repr.into_heap_string() {
@@ -115,6 +126,7 @@ impl<P: Policy> PolicyString<P> {
     /// assert_eq!(rt; text.as_str(), "café");
     /// ```
     pub fn into_boxed_str(self) -> Result<BoxedStr, Refused<Self>>
+        // As `into_string`.
         ensures { ConvertsTo boxed_str_bytes self result }
     {
         match self.into_string() {
@@ -127,7 +139,7 @@ impl<P: Policy> PolicyString<P> {
     ///
     /// # Errors
     ///
-    /// [`Refused`] with the string, unchanged, if the copy cannot be allocated.
+    /// [`Refused`] with the string, unchanged, if the copy cannot be allocated. No clause says when that succeeds.
     ///
     /// # Examples
     ///
@@ -164,14 +176,17 @@ impl<P: Policy> PolicyString<P> {
     /// assert!(rt; matches!(cow, CowStr::Borrowed(_)));
     /// ```
     pub fn into_cow(self) -> Result<CowStr<'static>, Refused<Self>>
+        // Returns the text, borrowed from a static string and owned otherwise.
         ensures bytes { IfOk result (λ c. cow_str_bytes c ≡ utf8 self.text) }
         ensures text { IfOk result (λ c. text_of (cow_str_bytes c) ≡ self.text) }
         ensures borrowed { IsStatic self → IfOk result IsBorrowedStr }
-        ensures owned { IsOwned self
-            → IfOk result (λ c. ¬ IsBorrowedStr c) }
+        ensures owned { IsOwned self → IfOk result (λ c. ¬ IsBorrowedStr c) }
+
+        // Fails only if an inline string must be copied. The error has the string.
         ensures succeeds_static { IsStatic self → IsOk result }
         ensures succeeds_heap { IsHeap self → IsOk result }
-        ensures err { IfErr result (λ e. (e.value ≡ self) × IsInline self) }
+        ensures allocates { OnErr result (IsInline self) }
+        ensures err { IfErr result (λ e. e.value ≡ self) }
     {
         if let Some(text) = self.repr.as_static_str() {
             return Ok(CowStr::Borrowed(text));

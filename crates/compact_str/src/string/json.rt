@@ -37,7 +37,7 @@ impl<P: Policy> PolicyString<P> {
     ///
     /// # Errors
     ///
-    /// [`ReserveError`] if the copy cannot be allocated.
+    /// [`ReserveError`] if the copy cannot be allocated. No clause says when that succeeds.
     ///
     /// # Examples
     ///
@@ -73,9 +73,7 @@ impl<P: Policy> PolicyString<P> {
         let Some(text) = value.as_str() else {
             return Err(FromJsonError::NotAString);
         };
-        match Self::new(alloc, text) {
-            Ok(value) => Ok(value),
-            Err(error) => Err(FromJsonError::Reserve(error)),
-        }
+        let value = Self::new(alloc, text)?;
+        Ok(value)
     }
 }

@@ -28,14 +28,14 @@ impl<P: Policy> PolicyString<P> {
     #[inline]
     #[tactic(auto, using(crate::proofs::EditFacts::append_facts))]
     pub fn push_str(&mut self, text: &str) -> Result<(), ReserveError>
-        // On success `text` is appended. The capacity never shrinks.
+        // Appends `text`. Never shrinks the capacity.
         ensures text { OnOk result (self.new.text ≡ self.old.text ++ text_of text.now) }
         ensures bytes { OnOk result (utf8 self.new.text ≡ utf8 self.old.text ++ text.now) }
         ensures place { OnOk result
             (PlacedFor P.growth self.old self.new (room_to_append (length text.now))) }
         ensures room { OnOk result (infallible_capacity self.old ≤ infallible_capacity self.new) }
 
-        // It fails only where it must allocate, never if there is room, and then changes nothing.
+        // Fails only if it must allocate, never if there is room. The string is then unchanged.
         ensures succeeds { HasRoomFor self.old (length text.now) → IsOk result }
         ensures allocates { OnErr result
             (AllocatesFor self.old (room_to_append (length text.now))) }
@@ -63,7 +63,7 @@ impl<P: Policy> PolicyString<P> {
     #[inline(always)]
     #[tactic(auto, using(crate::proofs::EditFacts::character_facts))]
     pub fn push(&mut self, character: char) -> Result<(), ReserveError>
-        // On success `character` is appended. The capacity never shrinks.
+        // Appends `character`. Never shrinks the capacity.
         ensures text { OnOk result (self.new.text ≡ self.old.text ++ character ∷ []) }
         ensures bytes { OnOk result
             (utf8 self.new.text ≡ utf8 self.old.text ++ encode_utf8 character) }
@@ -71,7 +71,7 @@ impl<P: Policy> PolicyString<P> {
             (PlacedFor P.growth self.old self.new (room_to_append (len_utf8 character))) }
         ensures room { OnOk result (infallible_capacity self.old ≤ infallible_capacity self.new) }
 
-        // It fails only where it must allocate, never if there is room, and then changes nothing.
+        // Fails only if it must allocate, never if there is room. The string is then unchanged.
         ensures succeeds { HasRoomFor self.old (len_utf8 character) → IsOk result }
         ensures allocates { OnErr result
             (AllocatesFor self.old (room_to_append (len_utf8 character))) }
@@ -112,14 +112,14 @@ impl<P: Policy> PolicyString<P> {
     /// assert_eq!(rt; name.as_str(), "café");
     /// ```
     pub fn add_str(mut self, text: &str) -> Result<Self, Refused<Self>>
-        // On success the result is the string with `text` appended. The capacity never shrinks.
+        // Returns the string with `text` appended. Never shrinks the capacity.
         ensures text { IfOk result (λ v. v.text ≡ self.text ++ text_of text.now) }
         ensures bytes { IfOk result (λ v. utf8 v.text ≡ utf8 self.text ++ text.now) }
         ensures place { IfOk result
             (λ v. PlacedFor P.growth self v (room_to_append (length text.now))) }
         ensures room { IfOk result (λ v. infallible_capacity self ≤ infallible_capacity v) }
 
-        // It fails only where it must allocate, never if there is room; the error has the string.
+        // Fails only if it must allocate, never if there is room. The error has the string.
         ensures succeeds { HasRoomFor self (length text.now) → IsOk result }
         ensures allocates { OnErr result (AllocatesFor self (room_to_append (length text.now))) }
         ensures err { IfErr result (λ e. e.value ≡ self) }
@@ -144,7 +144,7 @@ impl<P: Policy> PolicyString<P> {
     #[inline]
     #[tactic(auto, using(crate::proofs::EditFacts::position_facts))]
     pub fn pop(&mut self) -> Option<char>
-        // The last character is removed and returned, or the string is empty and stays.
+        // Removes and returns the last character. Leaves an empty string unchanged.
         ensures text { MatchOption result (self.old.text ≡ [])
             (λ c. self.old.text ≡ self.new.text ++ c ∷ []) }
         ensures place { OnSome result (KeepsPlace self.old self.new) }
@@ -175,7 +175,7 @@ impl<P: Policy> PolicyString<P> {
         ensures text { self.new.text ≡ text_before self.old.text len }
         ensures place { KeepsPlace self.old self.new }
 
-        // A boundary of what is left stays one.
+        // Boundaries up to `len` remain boundaries.
         ensures boundaries { (i : ℕ) → i ≤ len → IsBoundary self.old.text i
             → IsBoundary self.new.text i }
     {

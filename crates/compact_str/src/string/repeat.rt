@@ -1,7 +1,7 @@
 //! Repeating a text.
 ghost use Rattle.std.specs.Prelude.{◌≡◌, ◌≤◌, ◌*◌, [], Some, IfOk, OnErr, IsOk};
 ghost use Rattle.compact_str.specs.Words.{INLINE_CAPACITY, size, placed_text, with_capacity_placement};
-ghost use Rattle.compact_str.specs.Edits.{repeat, repeated_text, RepeatAllocates};
+ghost use Rattle.compact_str.specs.Edits.{repeated_text, IsPlacedAsRepeated, RepeatAllocates};
 
 use crate::string::PolicyString;
 use compact_repr::{Policy, ReserveError};
@@ -21,16 +21,17 @@ impl<P: Policy> PolicyString<P> {
     /// ```
     #[tactic(auto, using(crate::proofs::EditFacts::repeat_facts))]
     pub fn repeat(&self, count: usize) -> Result<Self, ReserveError>
-        ensures ok { IfOk result (λ v. repeat P.growth self.now count ≡ Some v) }
+        // Repeats the text in one buffer, with capacity for it all. Once is a clone, unless empty.
         ensures text { IfOk result (λ v. v.text ≡ repeated_text count self.now.text) }
+        ensures place { IfOk result (IsPlacedAsRepeated P.growth self.now count) }
+
+        // Never fails if the result has at most 24 bytes.
         ensures succeeds { size self.now.text * count ≤ INLINE_CAPACITY → IsOk result }
-        ensures err { OnErr result (RepeatAllocates self.now count) }
+        ensures allocates { OnErr result (RepeatAllocates self.now count) }
     {
         if count == 1 && !self.is_empty() {
-            return match self.repr.try_clone() {
-                Ok(repr) => Ok(PolicyString { repr }),
-                Err(error) => Err(error),
-            };
+            let repr = self.repr.try_clone()?;
+            return Ok(PolicyString { repr });
         }
         let Some(total) = self.len().checked_mul(count) else {
             return Err(ReserveError);

@@ -3,7 +3,7 @@ ghost use Rattle.std.specs.Prelude.{◌≡◌, ◌-◌, ◌+◌, ◌≤◌, ◌+
 ghost use Rattle.std.specs.Borrow.{sem, RestsIfErr};
 ghost use Rattle.std.specs.Range.Bound.{bound_map};
 ghost use Rattle.compact_str.specs.Words.{utf8, size, text_of, IsOwned, INLINE_CAPACITY, PlacedFor, AllocatesFor, owned, room_to_append, room_to_replace, HasRoomFor, infallible_capacity};
-ghost use Rattle.compact_str.specs.Ranges.{IsRange, IsPart, range_start, range_end, part_in, len_in, replaced_in};
+ghost use Rattle.compact_str.specs.Ranges.{IsRange, span_of, part_in, len_in, replaced_in};
 
 use crate::string::PolicyString;
 use crate::string::drain::Drain;
@@ -24,9 +24,10 @@ impl<P: Policy> PolicyString<P> {
     /// ```
     pub fn range_within<R: RangeBounds<usize>>(&self, range: R) -> &str
         requires known { R.has_bounds range }
-        requires range { IsRange self.now.text (R.start_bound range) (R.end_bound range) }
-        ensures { IsPart self.now.text (range_start (R.start_bound range))
-            (range_end self.now.text (R.end_bound range)) result.now }
+        requires range { IsRange self.now.text (span_of R.RangeBounds range) }
+        ensures bytes { result.now ≡ utf8 (part_in self.now.text (span_of R.RangeBounds range)) }
+        ensures text { text_of result.now ≡ part_in self.now.text (span_of R.RangeBounds range) }
+        ensures len { length result.now ≡ len_in self.now.text (span_of R.RangeBounds range) }
     {
         let (start, end) = bounds(range);
         self.range(start, end)
@@ -50,20 +51,20 @@ impl<P: Policy> PolicyString<P> {
         range: R,
     ) -> Result<Drain<'_, P>, ReserveError>
         requires known { R.has_bounds range }
-        requires range { IsRange self.old.text (R.start_bound range) (R.end_bound range) }
+        requires range { IsRange self.old.text (span_of R.RangeBounds range) }
 
-        // On success the iterator has the range, and its drop leaves the rest of the string, owned.
+        // Returns the characters of the range. Dropping the iterator removes the range.
         ensures same_reference { IfOk result (λ d. drain_lender d ≡ self.entry.ghost_name) }
         ensures rest { IfOk result
             (λ d. drain_rest d
-            ≡ part_in self.old.text (R.start_bound range) (R.end_bound range)) }
+            ≡ part_in self.old.text (span_of R.RangeBounds range)) }
         ensures text { IfOk result
             (λ d. (value_after_drain d).text
-            ≡ replaced_in self.old.text (R.start_bound range) (R.end_bound range) []) }
+            ≡ replaced_in self.old.text (span_of R.RangeBounds range) []) }
         ensures place { IfOk result
             (λ d. PlacedFor P.growth self.old (value_after_drain d) owned) }
 
-        // It fails only where a long static string must be copied, and then changes nothing.
+        // Fails only if a long static string must be copied. The string is then unchanged.
         ensures succeeds { IsOwned self.old → IsOk result }
         ensures succeeds_short { size self.old.text ≤ INLINE_CAPACITY → IsOk result }
         ensures allocates { OnErr result (AllocatesFor self.old owned) }
@@ -94,26 +95,26 @@ impl<P: Policy> PolicyString<P> {
         text: &str,
     ) -> Result<(), ReserveError>
         requires known { R.has_bounds range }
-        requires range { IsRange self.old.text (R.start_bound range) (R.end_bound range) }
+        requires range { IsRange self.old.text (span_of R.RangeBounds range) }
 
         // As `replace_range`.
         ensures text { OnOk result
             (self.new.text
-            ≡ replaced_in self.old.text (R.start_bound range) (R.end_bound range)
+            ≡ replaced_in self.old.text (span_of R.RangeBounds range)
             (text_of text.now)) }
         ensures place { OnOk result
             (PlacedFor P.growth self.old self.new
-            (room_to_replace (len_in self.old.text (R.start_bound range) (R.end_bound range))
+            (room_to_replace (len_in self.old.text (span_of R.RangeBounds range))
             (length text.now))) }
         ensures succeeds { HasRoomFor self.old
-            (length text.now - len_in self.old.text (R.start_bound range) (R.end_bound range))
+            (length text.now - len_in self.old.text (span_of R.RangeBounds range))
             → IsOk result }
         ensures succeeds_owned { IsOwned self.old
-            → length text.now ≤ len_in self.old.text (R.start_bound range) (R.end_bound range)
+            → length text.now ≤ len_in self.old.text (span_of R.RangeBounds range)
             → IsOk result }
         ensures allocates { OnErr result
             (AllocatesFor self.old
-            (room_to_replace (len_in self.old.text (R.start_bound range) (R.end_bound range))
+            (room_to_replace (len_in self.old.text (span_of R.RangeBounds range))
             (length text.now))) }
         ensures err { OnErr result (self.new ≡ self.old) }
     {
@@ -140,26 +141,26 @@ impl<P: Policy> PolicyString<P> {
         range: R,
     ) -> Result<(), ReserveError>
         requires known { R.has_bounds range }
-        requires range { IsRange self.old.text (R.start_bound range) (R.end_bound range) }
+        requires range { IsRange self.old.text (span_of R.RangeBounds range) }
 
-        // On success the part is appended. The capacity never shrinks.
+        // Appends the part. Never shrinks the capacity.
         ensures text { OnOk result
             (self.new.text ≡ self.old.text
-            ++ part_in self.old.text (R.start_bound range) (R.end_bound range)) }
+            ++ part_in self.old.text (span_of R.RangeBounds range)) }
         ensures bytes { OnOk result
             (utf8 self.new.text ≡ utf8 self.old.text
-            ++ utf8 (part_in self.old.text (R.start_bound range) (R.end_bound range))) }
+            ++ utf8 (part_in self.old.text (span_of R.RangeBounds range))) }
         ensures place { OnOk result
             (PlacedFor P.growth self.old self.new
-            (room_to_append (len_in self.old.text (R.start_bound range) (R.end_bound range)))) }
+            (room_to_append (len_in self.old.text (span_of R.RangeBounds range)))) }
         ensures room { OnOk result (infallible_capacity self.old ≤ infallible_capacity self.new) }
 
-        // It fails only where it must allocate, never if there is room, and then changes nothing.
+        // Fails only if it must allocate, never if there is room. The string is then unchanged.
         ensures succeeds { HasRoomFor self.old
-            (len_in self.old.text (R.start_bound range) (R.end_bound range)) → IsOk result }
+            (len_in self.old.text (span_of R.RangeBounds range)) → IsOk result }
         ensures allocates { OnErr result
             (AllocatesFor self.old
-            (room_to_append (len_in self.old.text (R.start_bound range) (R.end_bound range)))) }
+            (room_to_append (len_in self.old.text (span_of R.RangeBounds range)))) }
         ensures err { OnErr result (self.new ≡ self.old) }
     {
         let (start, end) = bounds(range);

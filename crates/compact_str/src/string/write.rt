@@ -1,5 +1,7 @@
 //! Appending formatted values.
-ghost use Rattle.std.specs.Fmt.{with_newline};
+ghost use Rattle.std.specs.Prelude.{◌≡◌, ◌++◌, length, OnOk, OnErr, IfSome};
+ghost use Rattle.std.specs.Fmt.{AppendsText, with_newline};
+ghost use Rattle.compact_str.specs.Words.{text_of, utf8, PlacedFor, room_to_append};
 ghost use Rattle.compact_str.specs.Shown.{PushesOutput};
 
 use crate::builder::{Builder, SHOWN};
@@ -27,7 +29,17 @@ impl<P: Policy> PolicyString<P> {
     /// assert_eq!(rt; line.as_str(), "n° 12");
     /// ```
     pub fn write<D: Display + Drop>(&mut self, value: D) -> Result<(), ReserveError>
-        ensures { PushesOutput P.growth self.old (D.output value) result self.new }
+        // Appends what `value` displays, if its type says what that is.
+        ensures text { OnOk result
+            (IfSome (D.output value) (λ s. self.new.text ≡ self.old.text ++ text_of s)) }
+        ensures bytes { OnOk result
+            (AppendsText (utf8 self.old.text) (utf8 self.new.text) (D.output value)) }
+        ensures place { OnOk result
+            (IfSome (D.output value)
+            (λ s. PlacedFor P.growth self.old self.new (room_to_append (length s)))) }
+
+        // May fail in formatting too. The string is then unchanged.
+        ensures err { OnErr result (self.new ≡ self.old) }
     {
         let mut shown: Builder<P, SHOWN> = Builder::new(self.allocator());
         match shown.write(value) {
@@ -52,6 +64,7 @@ impl<P: Policy> PolicyString<P> {
     /// ```
     #[inline]
     pub fn write_fmt<D: Display + Drop>(&mut self, value: D) -> Result<(), ReserveError>
+        // As `write`.
         ensures { PushesOutput P.growth self.old (D.output value) result self.new }
     {
         self.write(value)
@@ -71,6 +84,7 @@ impl<P: Policy> PolicyString<P> {
     /// assert_eq!(rt; line.as_str(), "n° 12\n");
     /// ```
     pub fn writeln<D: Display + Drop>(&mut self, value: D) -> Result<(), ReserveError>
+        // As `write`, with a newline after it.
         ensures { PushesOutput P.growth self.old (with_newline (D.output value)) result self.new }
     {
         let mut shown: Builder<P, SHOWN> = Builder::new(self.allocator());
