@@ -19,7 +19,7 @@ use Rattle.compact_repr.specs.Capacity.{Growth, PlacedFor, room_to_append}
 use Rattle.compact_repr.specs.Calls.{push_str}
 use Rattle.compact_str.specs.Room.{HasRoomFor, infallible_capacity}
 use Rattle.compact_str.specs.FittedValues.{IsPlacedBySize}
-use Rattle.compact_str.specs.Collect.{Appends, AppendsAll, AppendsUpToRefused, PassesInline, GivesText, StopsWithout, Extends, Collects, char_text, join}
+use Rattle.compact_str.specs.Collect.{Appends, AppendsAll, AppendsUpToRefused, PassesInline, RunPassesInline, RunGivesText, StopsWithout, Extends, Collects, run_of, char_text, join}
 use Rattle.compact_text.proofs.Texts.{size-append, size-text_of}
 use Rattle.compact_repr.proofs.Placed.{push_str-text, edited-from_parts}
 use Rattle.compact_str.proofs.Rooms.{push_str-sure}
@@ -67,10 +67,10 @@ whole-run steps s xs P all holds = (run steps s xs true (to_end steps s xs all),
 -- the clauses of an extension with the result r, where `read` concatenates the items
 module _ {U S T E : Type 0} (becomes : U → S → Type 0) (steps : S → Option T → S → Type 0) (g : Growth) (f : T → List ℕ) (iter : U) (v w : PlacedText) where
   abbrev pub Extended : Result (Unit {0}) E → Type 0
-  Extended r = OnOk r ((it : S) × becomes iter it × AppendsAll steps g f it v w)
+  Extended r = OnOk r (AppendsAll (run_of becomes steps iter) g f v w)
 
   abbrev pub Stopped : Result (Unit {0}) E → Type 0
-  Stopped r = OnErr r ((it : S) × becomes iter it × AppendsUpToRefused steps g f it v w)
+  Stopped r = OnErr r (AppendsUpToRefused (run_of becomes steps iter) g f v w)
 
   -- the items are appended
   extended-ran : (read : List T → List ℕ) → ((xs : List T) → flat_map f xs ≡ read xs) → (r : Result (Unit {0}) E) → Extended r
@@ -95,7 +95,7 @@ module _ {U S T E : Type 0} (becomes : U → S → Type 0) (steps : S → Option
 
   pub extended : (read : List T → List ℕ) → ((xs : List T) → flat_map f xs ≡ read xs) → (r : Result (Unit {0}) E) → Extended r
       → (((it : S) → becomes iter it → HoldsAlong steps it (λ xs. HasRoomFor v (size (flat_map f xs)))) → IsOk r) → Stopped r
-      → Extends becomes steps g f read iter v r w
+      → Extends (run_of becomes steps iter) g f read v r w
   extended read same r done sure stopped = record {
     text = extended-ran read same r done;
     pushes = done;
@@ -123,7 +123,7 @@ module _ {U S T E : Type 0} (becomes : U → S → Type 0) (steps : S → Option
   Collected r = IfOk r (λ v. (it : S) × (xs : List T) × becomes iter it × Drains steps it xs × (v.text ≡ flat_map f xs))
 
   abbrev pub Overflowed : (List T → List ℕ) → Result PlacedText E → Type 0
-  Overflowed read r = OnErr r ((it : S) × becomes iter it × PassesInline steps read it)
+  Overflowed read r = OnErr r (RunPassesInline (run_of becomes steps iter) read)
 
   read-all : (r : Result PlacedText E) → Collected r → IfOk r (λ v. (it : S) × (xs : List T) × becomes iter it × Drains steps it xs × (v.text ≡ read xs))
   read-all (Ok v) (it, xs, b, d, e) = (it, xs, b, d, e ∙ same xs)
@@ -147,10 +147,10 @@ module _ {U S T E : Type 0} (becomes : U → S → Type 0) (steps : S → Option
   collected-succeeds (Ok v) e h = refl
   collected-succeeds (Err _) (it, b, o) h = absurd (omega (arith, h it b o.0 o.1 o.2, o.3))
 
-  pub collected : (r : Result PlacedText E) → Collected r → IfOk r IsPlacedBySize → Overflowed (flat_map f) r → Collects becomes steps read iter r
+  pub collected : (r : Result PlacedText E) → Collected r → IfOk r IsPlacedBySize → Overflowed (flat_map f) r → Collects (run_of becomes steps iter) read r
   collected r all fitted stopped = record {
-    ok = read-all r all;
     text = collected-ran r all;
+    drained = read-all r all;
     place = fitted;
     succeeds = collected-succeeds r (collected-err r stopped);
     allocates = collected-err r stopped;
@@ -280,7 +280,7 @@ module _ {U S T : Type 0} (becomes : U → S → Type 0) (steps : S → Option T
   strings-ran (Err _) h = tt
 
   -- never fails if all fit the capacity `first` at the call
-  pub strings-succeed : {E : Type 0} (first n : ℕ) (r : Result (Unit {0}) E) → size t ≡ n → first ≤ capacity → OnErr r ((it : S) × becomes iter it × StopsWithout steps f it capacity t u)
+  pub strings-succeed : {E : Type 0} (first n : ℕ) (r : Result (Unit {0}) E) → size t ≡ n → first ≤ capacity → OnErr r (StopsWithout (run_of becomes steps iter) f capacity t u)
       → ((it : S) → becomes iter it → HoldsAlong steps it (λ xs. n + size (flat_map f xs) ≤ first)) → IsOk r
   strings-succeed first n (Ok _) e grows o h = refl
   strings-succeed first n (Err _) e grows (it, b, o) h =
@@ -288,7 +288,7 @@ module _ {U S T : Type 0} (becomes : U → S → Type 0) (steps : S → Option T
       absurd (omega (arith, more, grows, size-next f o.0 o.1, o.5, ap size o.4, size-append t (flat_map f o.0), e))
 
   -- a `String` that was empty gets some text before the item that fails
-  pub stopped-gives : t ≡ [] → (it : S) × becomes iter it × StopsWithout steps f it capacity t u → (it : S) × becomes iter it × GivesText steps (flat_map f) it
+  pub stopped-gives : t ≡ [] → StopsWithout (run_of becomes steps iter) f capacity t u → RunGivesText (run_of becomes steps iter) (flat_map f)
   stopped-gives empty (it, b, o) =
       let so_far : u ≡ flat_map f o.0 = o.4 ∙ ap (λ l. l ++ flat_map f o.0) empty in
       (it, b, (o.0 ++ o.1 ∷ [], o.2, yields-next steps it o.3.0 o.2 o.0 o.1 o.3.1 o.3.2, omega (arith, size-next f o.0 o.1, o.5, ap size so_far)))

@@ -1,4 +1,5 @@
 //! Collecting, joining and extending.
+ghost use Rattle.compact_str.specs.Collect.{Run, run_of};
 
 mod append;
 mod as_text;
@@ -11,3 +12,13 @@ mod piece;
 pub use append::append_all;
 pub use as_text::AsText;
 pub use join::CompactStringExt;
+
+/// The items of an iterable, in contracts.
+pub trait Items: IntoIterator {
+    // The run of the iterator that it becomes.
+    ghost run: { Self → Run Self.Item };
+}
+
+impl<U: IntoIterator> Items for U {
+    ghost run = { λ iterable. run_of U.into_iter_gives U.IntoIter.next_gives iterable };
+}

@@ -1,11 +1,11 @@
 //! Appending texts to a `String`.
-ghost use Rattle.std.specs.Prelude.{◌≡◌, ◌+◌, ◌<◌, ◌≤◌, ◌++◌, flat_map, OnOk, OnErr, length};
+ghost use Rattle.std.specs.Prelude.{◌≡◌, ◌+◌, ◌<◌, ◌≤◌, ◌++◌, flat_map, OnOk, OnErr, IsOk, length, string_bytes};
 ghost use Rattle.std.specs.Iterator.{IsFiniteIterable};
 ghost use Rattle.std.specs.String.{string_capacity};
 ghost use Rattle.compact_str.specs.Words.{size, text_of};
-ghost use Rattle.compact_str.specs.Collect.{ForIterator, ForDrained, StopsWithout, ExtendsString, string_text};
+ghost use Rattle.compact_str.specs.Collect.{ForItems, ForDrained, ForAllItems, StopsWithout, string_text};
 
-use crate::iter::AsText;
+use crate::iter::{AsText, Items};
 use compact_repr::ReserveError;
 
 /// Appends each item of `items` to `line`. Never shrinks the capacity.
@@ -28,8 +28,22 @@ pub fn append_all<T: AsText, U: IntoIterator<Item = T>>(
     items: U,
 ) -> Result<(), ReserveError>
     requires { IsFiniteIterable U.into_iter_gives U.IntoIter.can_next U.IntoIter.remaining items }
-    ensures { ExtendsString U.into_iter_gives U.IntoIter.next_gives T.text items line.old result
-        line.new }
+    // Appends the texts in order. Never shrinks the capacity.
+    ensures text { OnOk result
+        (ForItems (⟦<U as Items>⟧.run items)
+        (λ xs. string_text line.new ≡ string_text line.old ++ flat_map T.text xs)) }
+    ensures drained { OnOk result
+        (ForDrained (⟦<U as Items>⟧.run items)
+        (λ xs. string_text line.new ≡ string_text line.old ++ flat_map T.text xs)) }
+    ensures capacity { string_capacity line.old ≤ string_capacity line.new }
+
+    // Fails only at a text that exceeds the capacity. Those before it are then appended.
+    ensures succeeds { ForAllItems (⟦<U as Items>⟧.run items)
+        (λ xs. length (string_bytes line.old) + size (flat_map T.text xs)
+        ≤ string_capacity line.old) → IsOk result }
+    ensures err { OnErr result
+        (StopsWithout (⟦<U as Items>⟧.run items) T.text (string_capacity line.new)
+        (string_text line.old) (string_text line.new)) }
 {
     append_texts(line, items)
 }
@@ -45,13 +59,12 @@ fn append_texts<T: AsText, U: IntoIterator<Item = T>>(
 ) -> Result<(), ReserveError>
     requires { IsFiniteIterable U.into_iter_gives U.IntoIter.can_next U.IntoIter.remaining items }
     ensures ok { OnOk result
-        (ForDrained U.into_iter_gives U.IntoIter.next_gives items
+        (ForDrained (⟦<U as Items>⟧.run items)
         (λ xs. string_text line.new ≡ string_text line.old ++ flat_map T.text xs)) }
     ensures capacity { string_capacity line.old ≤ string_capacity line.new }
     ensures err { OnErr result
-        (ForIterator U.into_iter_gives items
-        (λ it. StopsWithout U.IntoIter.next_gives T.text it (string_capacity line.new)
-        (string_text line.old) (string_text line.new))) }
+        (StopsWithout (⟦<U as Items>⟧.run items) T.text (string_capacity line.new)
+        (string_text line.old) (string_text line.new)) }
 {
     for item in items {
         append_text(line, item.text())?;

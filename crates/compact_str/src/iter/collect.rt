@@ -3,11 +3,11 @@ ghost use Rattle.std.specs.Prelude.{◌≡◌, ◌+◌, ◌≤◌, IsOk, flat_ma
 ghost use Rattle.std.specs.Iterator.{IsFiniteIterable};
 ghost use Rattle.compact_str.specs.Words.{INLINE_CAPACITY, size};
 ghost use Rattle.compact_str.specs.FittedValues.{IsPlacedBySize};
-ghost use Rattle.compact_str.specs.Collect.{ForIterator, ForItems, ForAllItems, ForDrained, PassesInline, Collects};
+ghost use Rattle.compact_str.specs.Collect.{ForItems, ForAllItems, ForDrained, RunPassesInline, Collects};
 
 use crate::builder::{Builder, COLLECTED};
-use crate::iter::AsText;
 use crate::iter::piece::Piece;
+use crate::iter::{AsText, Items};
 use crate::string::PolicyString;
 use compact_repr::{Policy, ReserveError};
 use std::alloc::{AllocError, Global};
@@ -19,12 +19,11 @@ fn collect_pieces<P: Policy, T: Piece, U: IntoIterator<Item = T>>(
 ) -> Result<PolicyString<P>, ReserveError>
     requires { IsFiniteIterable U.into_iter_gives U.IntoIter.can_next U.IntoIter.remaining iter }
     ensures ok { IfOk result
-        (λ v. ForDrained U.into_iter_gives U.IntoIter.next_gives iter
+        (λ v. ForDrained (⟦<U as Items>⟧.run iter)
         (λ xs. v.text ≡ flat_map T.text xs)) }
     ensures place { IfOk result IsPlacedBySize }
     ensures err { OnErr result
-        (ForIterator U.into_iter_gives iter
-        (λ it. PassesInline U.IntoIter.next_gives (flat_map T.text) it)) }
+        (RunPassesInline (⟦<U as Items>⟧.run iter) (flat_map T.text)) }
 {
     let mut gathered: Builder<P, COLLECTED> = Builder::new(alloc);
     for piece in iter {
@@ -62,22 +61,21 @@ impl<P: Policy> PolicyString<P> {
 
         // Concatenates the texts: inline up to 24 bytes, else on the heap.
         ensures text { IfOk result
-            (λ v. ForItems U.into_iter_gives U.IntoIter.next_gives texts
+            (λ v. ForItems (⟦<U as Items>⟧.run texts)
             (λ xs. v.text ≡ flat_map T.text xs)) }
         ensures drained { IfOk result
-            (λ v. ForDrained U.into_iter_gives U.IntoIter.next_gives texts
+            (λ v. ForDrained (⟦<U as Items>⟧.run texts)
             (λ xs. v.text ≡ flat_map T.text xs)) }
         ensures size { IfOk result
-            (λ v. ForItems U.into_iter_gives U.IntoIter.next_gives texts
+            (λ v. ForItems (⟦<U as Items>⟧.run texts)
             (λ xs. size v.text ≡ fold (λ n text. n + size (T.text text)) 0 xs)) }
         ensures place { IfOk result IsPlacedBySize }
 
         // Never fails up to 24 bytes.
-        ensures succeeds { ForAllItems U.into_iter_gives U.IntoIter.next_gives texts
+        ensures succeeds { ForAllItems (⟦<U as Items>⟧.run texts)
             (λ xs. size (flat_map T.text xs) ≤ INLINE_CAPACITY) → IsOk result }
         ensures allocates { OnErr result
-            (ForIterator U.into_iter_gives texts
-            (λ it. PassesInline U.IntoIter.next_gives (flat_map T.text) it)) }
+            (RunPassesInline (⟦<U as Items>⟧.run texts) (flat_map T.text)) }
     {
         collect_pieces(alloc, texts)
     }
@@ -100,7 +98,8 @@ impl<P: Policy> PolicyString<P> {
     ) -> Result<Self, ReserveError>
         requires { IsFiniteIterable U.into_iter_gives U.IntoIter.can_next U.IntoIter.remaining
             characters }
-        ensures { Collects U.into_iter_gives U.IntoIter.next_gives (λ xs. xs) characters result }
+        // As `from_texts`.
+        ensures { Collects (⟦<U as Items>⟧.run characters) (λ xs. xs) result }
     {
         collect_pieces(alloc, characters)
     }
@@ -119,7 +118,8 @@ impl<P: Policy, T: AsText> FromIterator<T> for PolicyString<P> {
     fn from_iter<U: IntoIterator<Item = T>>(alloc: Global, texts: U) -> Result<Self, AllocError>
         requires { IsFiniteIterable U.into_iter_gives U.IntoIter.can_next U.IntoIter.remaining
             texts }
-        ensures { Collects U.into_iter_gives U.IntoIter.next_gives (flat_map T.text) texts result }
+        // As `from_texts`.
+        ensures { Collects (⟦<U as Items>⟧.run texts) (flat_map T.text) result }
     {
         match Self::from_texts(alloc, texts) {
             Ok(value) => Ok(value),
@@ -144,7 +144,8 @@ impl<P: Policy> FromIterator<char> for PolicyString<P> {
     ) -> Result<Self, AllocError>
         requires { IsFiniteIterable U.into_iter_gives U.IntoIter.can_next U.IntoIter.remaining
             characters }
-        ensures { Collects U.into_iter_gives U.IntoIter.next_gives (λ xs. xs) characters result }
+        // As `from_texts`.
+        ensures { Collects (⟦<U as Items>⟧.run characters) (λ xs. xs) result }
     {
         match Self::from_chars(alloc, characters) {
             Ok(value) => Ok(value),
@@ -169,8 +170,8 @@ impl<'a, P: Policy> FromIterator<&'a char> for PolicyString<P> {
     ) -> Result<Self, AllocError>
         requires { IsFiniteIterable U.into_iter_gives U.IntoIter.can_next U.IntoIter.remaining
             references }
-        ensures { Collects U.into_iter_gives U.IntoIter.next_gives (map (λ c. c.now)) references
-            result }
+        // As `from_texts`.
+        ensures { Collects (⟦<U as Items>⟧.run references) (map (λ c. c.now)) result }
     {
         match collect_pieces(alloc, references) {
             Ok(value) => Ok(value),

@@ -2,10 +2,10 @@
 ghost use Rattle.std.specs.Prelude.{◌≡◌, ◌≤◌, ◌++◌, flat_map, map, OnOk, OnErr, IsOk};
 ghost use Rattle.std.specs.Iterator.{IsFiniteIterable};
 ghost use Rattle.compact_str.specs.Words.{size, IsBoundary, text_before, infallible_capacity, HasRoomFor};
-ghost use Rattle.compact_str.specs.Collect.{ForIterator, ForItems, ForAllItems, Appends, AppendsAll, AppendsUpToRefused, Extends, char_text};
+ghost use Rattle.compact_str.specs.Collect.{ForItems, ForAllItems, Appends, AppendsAll, AppendsUpToRefused, Extends, char_text};
 
-use crate::iter::AsText;
 use crate::iter::piece::Piece;
+use crate::iter::{AsText, Items};
 use crate::string::PolicyString;
 use compact_repr::{Policy, ReserveError};
 use std::alloc::AllocError;
@@ -17,14 +17,11 @@ fn extend_pieces<P: Policy, T: Piece, U: IntoIterator<Item = T>>(
 ) -> Result<(), ReserveError>
     requires { IsFiniteIterable U.into_iter_gives U.IntoIter.can_next U.IntoIter.remaining iter }
     ensures ok { OnOk result
-        (ForIterator U.into_iter_gives iter
-        (λ it. AppendsAll U.IntoIter.next_gives P.growth T.text it value.old value.new)) }
-    ensures succeeds { ForAllItems U.into_iter_gives U.IntoIter.next_gives iter
+        (AppendsAll (⟦<U as Items>⟧.run iter) P.growth T.text value.old value.new) }
+    ensures succeeds { ForAllItems (⟦<U as Items>⟧.run iter)
         (λ xs. HasRoomFor value.old (size (flat_map T.text xs))) → IsOk result }
     ensures err { OnErr result
-        (ForIterator U.into_iter_gives iter
-        (λ it. AppendsUpToRefused U.IntoIter.next_gives P.growth T.text it value.old
-        value.new)) }
+        (AppendsUpToRefused (⟦<U as Items>⟧.run iter) P.growth T.text value.old value.new) }
 {
     for piece in iter {
         piece.push_to(value)?;
@@ -56,11 +53,10 @@ impl<P: Policy> PolicyString<P> {
 
         // Appends the texts in order, each as `push_str` does.
         ensures text { OnOk result
-            (ForItems U.into_iter_gives U.IntoIter.next_gives texts
+            (ForItems (⟦<U as Items>⟧.run texts)
             (λ xs. self.new.text ≡ self.old.text ++ flat_map T.text xs)) }
         ensures pushes { OnOk result
-            (ForIterator U.into_iter_gives texts
-            (λ it. AppendsAll U.IntoIter.next_gives P.growth T.text it self.old self.new)) }
+            (AppendsAll (⟦<U as Items>⟧.run texts) P.growth T.text self.old self.new) }
 
         // Keeps the old text at the front, even on failure. Never shrinks the capacity.
         ensures boundary { IsBoundary self.new.text (size self.old.text) }
@@ -68,12 +64,10 @@ impl<P: Policy> PolicyString<P> {
         ensures room { infallible_capacity self.old ≤ infallible_capacity self.new }
 
         // Fails only at a text for which it must allocate, never if there is room for all.
-        ensures succeeds { ForAllItems U.into_iter_gives U.IntoIter.next_gives texts
+        ensures succeeds { ForAllItems (⟦<U as Items>⟧.run texts)
             (λ xs. HasRoomFor self.old (size (flat_map T.text xs))) → IsOk result }
         ensures err { OnErr result
-            (ForIterator U.into_iter_gives texts
-            (λ it. AppendsUpToRefused U.IntoIter.next_gives P.growth T.text it self.old
-            self.new)) }
+            (AppendsUpToRefused (⟦<U as Items>⟧.run texts) P.growth T.text self.old self.new) }
     {
         extend_pieces(self, texts)
     }
@@ -97,8 +91,8 @@ impl<P: Policy> PolicyString<P> {
     ) -> Result<(), ReserveError>
         requires { IsFiniteIterable U.into_iter_gives U.IntoIter.can_next U.IntoIter.remaining
             characters }
-        ensures { Extends U.into_iter_gives U.IntoIter.next_gives P.growth char_text (λ xs. xs)
-            characters self.old result self.new }
+        // As `extend_texts`.
+        ensures { Extends (⟦<U as Items>⟧.run characters) P.growth char_text (λ xs. xs) self.old result self.new }
     {
         extend_pieces(self, characters)
     }
@@ -115,8 +109,8 @@ impl<P: Policy, T: AsText> Extend<T> for PolicyString<P> {
     fn extend<U: IntoIterator<Item = T>>(&mut self, texts: U) -> Result<(), AllocError>
         requires { IsFiniteIterable U.into_iter_gives U.IntoIter.can_next U.IntoIter.remaining
             texts }
-        ensures { Extends U.into_iter_gives U.IntoIter.next_gives P.growth T.text (flat_map T.text)
-            texts self.old result self.new }
+        // As `extend_texts`.
+        ensures { Extends (⟦<U as Items>⟧.run texts) P.growth T.text (flat_map T.text) self.old result self.new }
     {
         match self.extend_texts(texts) {
             Ok(()) => Ok(()),
@@ -136,8 +130,8 @@ impl<P: Policy> Extend<char> for PolicyString<P> {
     fn extend<U: IntoIterator<Item = char>>(&mut self, characters: U) -> Result<(), AllocError>
         requires { IsFiniteIterable U.into_iter_gives U.IntoIter.can_next U.IntoIter.remaining
             characters }
-        ensures { Extends U.into_iter_gives U.IntoIter.next_gives P.growth char_text (λ xs. xs)
-            characters self.old result self.new }
+        // As `extend_texts`.
+        ensures { Extends (⟦<U as Items>⟧.run characters) P.growth char_text (λ xs. xs) self.old result self.new }
     {
         match self.extend_chars(characters) {
             Ok(()) => Ok(()),
@@ -157,8 +151,9 @@ impl<'a, P: Policy> Extend<&'a char> for PolicyString<P> {
     fn extend<U: IntoIterator<Item = &'a char>>(&mut self, references: U) -> Result<(), AllocError>
         requires { IsFiniteIterable U.into_iter_gives U.IntoIter.can_next U.IntoIter.remaining
             references }
-        ensures { Extends U.into_iter_gives U.IntoIter.next_gives P.growth (λ c. char_text c.now)
-            (map (λ c. c.now)) references self.old result self.new }
+        // As `extend_texts`.
+        ensures { Extends (⟦<U as Items>⟧.run references) P.growth (λ c. char_text c.now)
+            (map (λ c. c.now)) self.old result self.new }
     {
         match extend_pieces(self, references) {
             Ok(()) => Ok(()),

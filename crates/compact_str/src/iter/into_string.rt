@@ -1,9 +1,11 @@
 //! `Extend` and `FromIterator` of `String`, for values.
-ghost use Rattle.std.specs.Prelude.{◌≡◌, ◌++◌, flat_map};
+ghost use Rattle.std.specs.Prelude.{◌≡◌, ◌++◌, flat_map, IfOk, OnErr, IsOk};
+ghost use Rattle.compact_str.specs.Words.{size};
 ghost use Rattle.std.specs.Iterator.{IsFiniteIterable};
-ghost use Rattle.compact_str.specs.Collect.{ExtendsString, CollectsString, string_text};
+ghost use Rattle.compact_str.specs.Collect.{ForItems, ForDrained, ForAllItems, RunGivesText, ExtendsString, string_text};
 ghost use Rattle.compact_str.specs.Order.{text_in};
 
+use crate::iter::Items;
 use crate::iter::append::append_all;
 use crate::string::PolicyString;
 use compact_repr::Policy;
@@ -23,8 +25,8 @@ impl<P: Policy> Extend<PolicyString<P>> for String {
     ) -> Result<(), AllocError>
         requires { IsFiniteIterable U.into_iter_gives U.IntoIter.can_next U.IntoIter.remaining
             values }
-        ensures { ExtendsString U.into_iter_gives U.IntoIter.next_gives text_in values self.old result
-            self.new }
+        // As `append_all`.
+        ensures { ExtendsString (⟦<U as Items>⟧.run values) text_in self.old result self.new }
     {
         match append_all(self, values) {
             Ok(()) => Ok(()),
@@ -49,7 +51,19 @@ impl<P: Policy> FromIterator<PolicyString<P>> for String {
     ) -> Result<Self, AllocError>
         requires { IsFiniteIterable U.into_iter_gives U.IntoIter.can_next U.IntoIter.remaining
             values }
-        ensures { CollectsString U.into_iter_gives U.IntoIter.next_gives text_in values result }
+        // Concatenates the texts.
+        ensures text { IfOk result
+            (λ s. ForItems (⟦<U as Items>⟧.run values)
+            (λ xs. string_text s ≡ flat_map text_in xs)) }
+        ensures drained { IfOk result
+            (λ s. ForDrained (⟦<U as Items>⟧.run values)
+            (λ xs. string_text s ≡ flat_map text_in xs)) }
+
+        // Never fails if all are empty.
+        ensures succeeds { ForAllItems (⟦<U as Items>⟧.run values)
+            (λ xs. size (flat_map text_in xs) ≡ 0) → IsOk result }
+        ensures allocates { OnErr result
+            (RunGivesText (⟦<U as Items>⟧.run values) (flat_map text_in)) }
     {
         let mut line = String::new(alloc);
         match append_all(&mut line, values) {

@@ -6,17 +6,15 @@ use Rattle.compact_str.specs.Collect.{string_text}
 use Rattle.compact_str.proofs.Collecting.{strings-ran, strings-succeed}
 use Rattle.compact_str.proofs.iter.append.append_all.Goals as goal
 
-pub returns : goal.returns
-returns g c =
+pub returns-clause-text : goal.returns-clause-text
+returns-clause-text g c =
+    strings-ran g.U.IntoIterator.into_iter_gives g.U.IntoIter.Iterator.next_gives g.T.AsText.text _ (string_capacity c.append_texts.new.line)
+    (string_text c.args.line.now) _ c.append_texts.result c.append_texts.ensures.ok
+
+pub returns-clause-succeeds : goal.returns-clause-succeeds
+returns-clause-succeeds g c =
     let line = c.args.line.now in
     let longer = c.append_texts.new.line in
-    record {
-      ok = c.append_texts.ensures.ok;
-      text = strings-ran g.U.IntoIterator.into_iter_gives g.U.IntoIter.Iterator.next_gives g.T.AsText.text _ (string_capacity longer) (string_text line) _
-          c.append_texts.result c.append_texts.ensures.ok;
-      capacity = c.append_texts.ensures.capacity;
-      succeeds = strings-succeed g.U.IntoIterator.into_iter_gives g.U.IntoIter.Iterator.next_gives g.T.AsText.text c.args.items (string_capacity longer)
-          (string_text line) (string_text longer) (string_capacity line) _ c.append_texts.result (size-text_of (string_bytes line) (IsUtf8-string_bytes line))
-          c.append_texts.ensures.capacity c.append_texts.ensures.err;
-      err = c.append_texts.ensures.err;
-    }
+    strings-succeed g.U.IntoIterator.into_iter_gives g.U.IntoIter.Iterator.next_gives g.T.AsText.text c.args.items (string_capacity longer) (string_text line)
+    (string_text longer) (string_capacity line) _ c.append_texts.result (size-text_of (string_bytes line) (IsUtf8-string_bytes line))
+    c.append_texts.ensures.capacity c.append_texts.ensures.err

@@ -7,5 +7,5 @@ from_iter-asks g c = λ it gives. ((c.requires it gives).0, (c.requires it gives
 
 pub from_iter-tells : goal.from_iter-tells
 from_iter-tells g c = record {
-  ran = collected-for_trait (g.U.IntoIterator.into_iter_gives c.args.iter) g.U.IntoIter.Iterator.next_gives (λ _. ⊤) _ _ c.result c.ensures.ok c.ensures.place;
+  ran = collected-for_trait (g.U.IntoIterator.into_iter_gives c.args.iter) g.U.IntoIter.Iterator.next_gives (λ _. ⊤) _ _ c.result c.ensures.drained c.ensures.place;
 }
