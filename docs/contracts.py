@@ -30,7 +30,7 @@ file name the module of `specs/` that defines each word. Where a contract has no
 before it.
 """
 
-FUNCTION = re.compile(r"( *)(pub )?(?:const |final |unsafe )*fn (\w+)")
+FUNCTION = re.compile(r"((?:    )?)(pub(?:\(\w+\))? )?(?:const |final |unsafe )*fn (\w+)")
 BLOCK = re.compile(r"(?:pub )?(?:impl|trait)\b")
 
 # The members of an impl or a trait that are contracts: types, and ghosts except imports, private state and proofs.
@@ -64,11 +64,10 @@ class File:
             if BLOCK.match(self.source[at]):
                 at = self.read_block(at)
             elif FUNCTION.match(self.source[at]):
-                lines, end = self.read_function(at)
-                name = FUNCTION.match(self.source[at])[3]
-                if self.source[at].startswith("pub ") and name in exported:
+                indent, visibility, name = FUNCTION.match(self.source[at]).groups()
+                lines, at = self.read_function(at)
+                if not indent and visibility == "pub " and name in exported:
                     self.add([Call(name, lines)], [lines])
-                at = end
             else:
                 at += 1
 
@@ -89,16 +88,18 @@ class File:
         needs_pub, prefix = naming(" ".join(line.strip() for line in header))
         calls, parts, members = [], [], []
         while self.source[at] != "}":
-            function = FUNCTION.match(self.source[at])
-            if function:
+            if FUNCTION.match(self.source[at]):
+                _, visibility, name = FUNCTION.match(self.source[at]).groups()
                 lines, at = self.read_function(at)
-                if function[2] or not needs_pub:
-                    calls.append(Call(f"{prefix}::{function[3]}", lines))
+                if visibility == "pub " or not needs_pub:
+                    calls.append(Call(f"{prefix}::{name}", lines))
                     parts.append(lines)
             elif MEMBER.match(self.source[at]):
-                while not members or not members[-1].endswith(";") or MEMBER.match(self.source[at]):
-                    members.append(self.source[at])
-                    at += 1
+                end = at + 1
+                while not is_whole(self.source[at:end]):
+                    end += 1
+                members += self.source[at:end]
+                at = end
             else:
                 at += 1
         parts = [members] * bool(members) + parts
@@ -126,7 +127,7 @@ class File:
                 break
             if text != "{}":
                 lines.append(line)
-            if text == "{}" or text.endswith(";") and not text.startswith("//"):
+            if text == "{}" or is_whole(lines):
                 return self.explained(start, lines), at
         return self.explained(start, lines), self.source.index(indent + "}", at) + 1
 
@@ -144,6 +145,12 @@ class File:
         return textwrap.wrap(sentence, 100, initial_indent=slashes, subsequent_indent=slashes) + lines
 
 
+def is_whole(lines):
+    """Whether these lines end with the semicolon of an item."""
+    text = "\n".join(line for line in lines if not line.strip().startswith("//"))
+    return text.endswith(";") and text.count("{") == text.count("}")
+
+
 def naming(header):
     """Whether the public calls of an impl or a trait are those with a `pub`, and what their names begin with."""
     trait = re.match(r"(?:pub )?trait (\w+)", header)
@@ -153,7 +160,7 @@ def naming(header):
     while depth or header[at] != " ":
         depth += {"<": 1, ">": -1}.get(header[at], 0)
         at += 1
-    of, _, own = header[at + 1 :].removesuffix(" {").rpartition(" for ")
+    of, _, own = header[at + 1 :].removesuffix(" {").split(" where ")[0].rpartition(" for ")
     own = re.sub(r"<.*>", "", own)
     return (False, f"<{own} as {of}>") if of else (True, own)
 
