@@ -8,7 +8,7 @@
 //! - `utf16`: a slice of units at once, or character by character.
 //! - `utf16_bytes`: the same for bytes, two a unit, in little- or big-endian order.
 //!
-//! The definitions in `specs/` are the Unicode Standard's; docs/MODEL.md explains them.
+//! The definitions in `specs/` are the Unicode Standard's.
 #![tactic(auto)]
 
 pub mod utf16;

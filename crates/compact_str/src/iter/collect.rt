@@ -121,10 +121,7 @@ impl<P: Policy, T: AsText> FromIterator<T> for PolicyString<P> {
         // As `from_texts`.
         ensures { Collects (⟦<U as Items>⟧.run texts) (flat_map T.text) result }
     {
-        match Self::from_texts(alloc, texts) {
-            Ok(value) => Ok(value),
-            Err(ReserveError) => Err(AllocError),
-        }
+        Ok(Self::from_texts(alloc, texts)?)
     }
 }
 
@@ -147,10 +144,7 @@ impl<P: Policy> FromIterator<char> for PolicyString<P> {
         // As `from_texts`.
         ensures { Collects (⟦<U as Items>⟧.run characters) (λ xs. xs) result }
     {
-        match Self::from_chars(alloc, characters) {
-            Ok(value) => Ok(value),
-            Err(ReserveError) => Err(AllocError),
-        }
+        Ok(Self::from_chars(alloc, characters)?)
     }
 }
 
@@ -173,9 +167,6 @@ impl<'a, P: Policy> FromIterator<&'a char> for PolicyString<P> {
         // As `from_texts`.
         ensures { Collects (⟦<U as Items>⟧.run references) (map (λ c. c.now)) result }
     {
-        match collect_pieces(alloc, references) {
-            Ok(value) => Ok(value),
-            Err(ReserveError) => Err(AllocError),
-        }
+        Ok(collect_pieces(alloc, references)?)
     }
 }

@@ -92,7 +92,8 @@ impl<P: Policy> PolicyString<P> {
         requires { IsFiniteIterable U.into_iter_gives U.IntoIter.can_next U.IntoIter.remaining
             characters }
         // As `extend_texts`.
-        ensures { Extends (⟦<U as Items>⟧.run characters) P.growth char_text (λ xs. xs) self.old result self.new }
+        ensures { Extends (⟦<U as Items>⟧.run characters) P.growth char_text (λ xs. xs)
+            self.old result self.new }
     {
         extend_pieces(self, characters)
     }
@@ -110,12 +111,10 @@ impl<P: Policy, T: AsText> Extend<T> for PolicyString<P> {
         requires { IsFiniteIterable U.into_iter_gives U.IntoIter.can_next U.IntoIter.remaining
             texts }
         // As `extend_texts`.
-        ensures { Extends (⟦<U as Items>⟧.run texts) P.growth T.text (flat_map T.text) self.old result self.new }
+        ensures { Extends (⟦<U as Items>⟧.run texts) P.growth T.text (flat_map T.text)
+            self.old result self.new }
     {
-        match self.extend_texts(texts) {
-            Ok(()) => Ok(()),
-            Err(ReserveError) => Err(AllocError),
-        }
+        Ok(self.extend_texts(texts)?)
     }
 }
 
@@ -131,12 +130,10 @@ impl<P: Policy> Extend<char> for PolicyString<P> {
         requires { IsFiniteIterable U.into_iter_gives U.IntoIter.can_next U.IntoIter.remaining
             characters }
         // As `extend_texts`.
-        ensures { Extends (⟦<U as Items>⟧.run characters) P.growth char_text (λ xs. xs) self.old result self.new }
+        ensures { Extends (⟦<U as Items>⟧.run characters) P.growth char_text (λ xs. xs)
+            self.old result self.new }
     {
-        match self.extend_chars(characters) {
-            Ok(()) => Ok(()),
-            Err(ReserveError) => Err(AllocError),
-        }
+        Ok(self.extend_chars(characters)?)
     }
 }
 
@@ -155,9 +152,6 @@ impl<'a, P: Policy> Extend<&'a char> for PolicyString<P> {
         ensures { Extends (⟦<U as Items>⟧.run references) P.growth (λ c. char_text c.now)
             (map (λ c. c.now)) self.old result self.new }
     {
-        match extend_pieces(self, references) {
-            Ok(()) => Ok(()),
-            Err(_) => Err(AllocError),
-        }
+        Ok(extend_pieces(self, references)?)
     }
 }

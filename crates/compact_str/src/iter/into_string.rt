@@ -28,10 +28,7 @@ impl<P: Policy> Extend<PolicyString<P>> for String {
         // As `append_all`.
         ensures { ExtendsString (⟦<U as Items>⟧.run values) text_in self.old result self.new }
     {
-        match append_all(self, values) {
-            Ok(()) => Ok(()),
-            Err(_) => Err(AllocError),
-        }
+        Ok(append_all(self, values)?)
     }
 }
 

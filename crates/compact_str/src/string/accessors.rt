@@ -1,6 +1,7 @@
 //! Reading the text, its place and its capacity.
 ghost use Rattle.std.specs.Prelude.{◌≡◌, ℕ, ◌<◌, ◌^◌, ◌↔◌, [], length, IsTrue, IsSome, IfSome};
 ghost use Rattle.std.specs.Str.{IsCharBoundary, IsUtf8};
+ghost use Rattle.std.specs.Bool.{OnTrue};
 ghost use Rattle.compact_str.specs.Words.{size, utf8, text_of, IsBoundary, inline, is_heap_place, IsSound, IsStatic, IsInline};
 ghost use Rattle.compact_repr.specs.Packed.{IsPackedFor};
 
@@ -164,7 +165,7 @@ impl<P: Policy> PolicyString<P> {
     #[inline]
     pub fn is_char_boundary(&self, index: usize) -> bool
         ensures text { IsTrue result ↔ IsBoundary self.now.text index }
-        ensures bytes { IsTrue result → IsCharBoundary (utf8 self.now.text) index }
+        ensures bytes { OnTrue result (IsCharBoundary (utf8 self.now.text) index) }
     {
         self.repr.is_char_boundary(index)
     }

@@ -95,21 +95,4 @@ impl<P: Policy> PolicyString<P> {
     {
         self.repr.shrink_to(0);
     }
-
-    /// Makes a static string owned; leaves any other unchanged.
-    ///
-    /// # Errors
-    ///
-    /// [`ReserveError`] if copying a static string fails.
-    #[inline(always)]
-    #[tactic(auto, using(crate::proofs::Drains::owned_facts))]
-    pub(crate) fn make_owned(&mut self) -> Result<(), ReserveError>
-        ensures text { self.new.text ≡ self.old.text }
-        ensures place { OnOk result (PlacedFor P.growth self.old self.new owned) }
-        ensures owned { OnOk result (IsOwned self.new) }
-        ensures allocates { OnErr result (AllocatesFor self.old owned) }
-        ensures err { OnErr result (self.new ≡ self.old) }
-    {
-        self.repr.make_owned()
-    }
 }

@@ -20,10 +20,8 @@ impl<P: Policy> Clone for PolicyString<P> {
     /// `AllocError` if copying a heap string of more than 24 bytes fails.
     #[inline(always)]
     fn clone(&self) -> Result<Self, AllocError> {
-        match self.repr.try_clone() {
-            Ok(repr) => Ok(PolicyString { repr }),
-            Err(ReserveError) => Err(AllocError),
-        }
+        let repr = self.repr.try_clone()?;
+        Ok(PolicyString { repr })
     }
 }
 

@@ -79,7 +79,7 @@ impl<P: Policy> PolicyString<P> {
         let Some((start, end)) = self.byte_range(start, end) else {
             unreachable!();
         };
-        self.make_owned()?;
+        self.repr.make_owned()?;
         Ok(Drain {
             len: self.len(),
             value: self,

@@ -245,8 +245,8 @@ impl<P: Policy> PolicyString<P> {
             (room_to_replace (len_in self.old.text (span start end)) (length text.now))) }
 
         // Fails only if it must allocate, never if there is room. The string is then unchanged.
-        ensures succeeds { HasRoomFor self.old (length text.now - len_in self.old.text (span start end))
-            → IsOk result }
+        ensures succeeds { HasRoomFor self.old
+            (length text.now - len_in self.old.text (span start end)) → IsOk result }
         ensures succeeds_owned { IsOwned self.old
             → length text.now ≤ len_in self.old.text (span start end) → IsOk result }
         ensures allocates { OnErr result

@@ -70,10 +70,7 @@ impl<P: Policy> PolicyString<P> {
         ensures capacity { IsHeap self
             → IfOk result (λ v. self.placement.capacity ≤ vec_capacity v) }
     {
-        match self.into_string() {
-            Ok(text) => Ok(text.into_bytes()),
-            Err(back) => Err(back),
-        }
+        Ok(self.into_string()?.into_bytes())
     }
 
     /// Converts into a `SmallVec` with 24 bytes inline. Reuses a heap buffer of more than 24 bytes; otherwise copies.
@@ -129,17 +126,14 @@ impl<P: Policy> PolicyString<P> {
         // As `into_string`.
         ensures { ConvertsTo boxed_str_bytes self result }
     {
-        match self.into_string() {
-            Ok(text) => Ok(text.into_boxed_str()),
-            Err(back) => Err(back),
-        }
+        Ok(self.into_string()?.into_boxed_str())
     }
 
     /// Converts into an `RcStr`; always copies.
     ///
     /// # Errors
     ///
-    /// [`Refused`] with the string, unchanged, if the copy cannot be allocated. No clause says when that succeeds.
+    /// [`Refused`] with the string, unchanged, if the copy cannot be allocated. When it succeeds is tested, not proved.
     ///
     /// # Examples
     ///
@@ -191,10 +185,7 @@ impl<P: Policy> PolicyString<P> {
         if let Some(text) = self.repr.as_static_str() {
             return Ok(CowStr::Borrowed(text));
         }
-        match self.into_string() {
-            Ok(text) => Ok(CowStr::Owned(text)),
-            Err(back) => Err(back),
-        }
+        Ok(CowStr::Owned(self.into_string()?))
     }
 
     /// Returns the text as a borrowed `CowStr`.

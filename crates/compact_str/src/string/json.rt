@@ -37,7 +37,7 @@ impl<P: Policy> PolicyString<P> {
     ///
     /// # Errors
     ///
-    /// [`ReserveError`] if the copy cannot be allocated. No clause says when that succeeds.
+    /// [`ReserveError`] if the copy cannot be allocated. When it succeeds is tested, not proved.
     ///
     /// # Examples
     ///
@@ -73,7 +73,6 @@ impl<P: Policy> PolicyString<P> {
         let Some(text) = value.as_str() else {
             return Err(FromJsonError::NotAString);
         };
-        let value = Self::new(alloc, text)?;
-        Ok(value)
+        Ok(Self::new(alloc, text)?)
     }
 }

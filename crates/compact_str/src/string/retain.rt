@@ -84,7 +84,7 @@ impl<P: Policy> PolicyString<P> {
         ensures unasked { OnErr result (keep.new ≡ keep.old) }
         ensures err { OnErr result (self.new ≡ self.old) }
     {
-        self.make_owned()?;
+        self.repr.make_owned()?;
         self.repr.retain(keep);
         Ok(())
     }
