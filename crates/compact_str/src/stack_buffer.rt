@@ -1,6 +1,5 @@
 //! Text on the stack, which is collected before it is appended to a value.
 ghost use Rattle.std.specs.Prelude.{◌≡◌, ◌+◌, ◌≤◌, ◌<◌, [], ◌∷◌, ◌++◌, length, false, IfSome, IsSome, IsTrue, ◌↔◌};
-ghost use Rattle.std.specs.Bool.{OnTrue, OnFalse};
 ghost use Rattle.compact_str.specs.Words.{size, utf8, text_of};
 
 use compact_text::slices;
@@ -94,8 +93,8 @@ impl<const N: usize> StackBuffer<N> {
     #[inline]
     pub fn try_push_str(&mut self, text: &str) -> bool
         ensures fits { IsTrue result ↔ (size self.old + length text.now ≤ N) }
-        ensures pushed { OnTrue result (self.new ≡ self.old ++ text_of text.now) }
-        ensures full { OnFalse result (self.new ≡ self.old) }
+        ensures pushed { IsTrue result → self.new ≡ self.old ++ text_of text.now }
+        ensures full { result ≡ false → self.new ≡ self.old }
     {
         if text.len() > N - self.len {
             return false;
@@ -113,7 +112,7 @@ impl<const N: usize> StackBuffer<N> {
         ensures fits { IsTrue result ↔ ((length text.now ≤ 32) × (size self.old + 48 ≤ N)) }
         ensures pushed { IsTrue result
             → self.new ≡ (self.old ++ separator.now) ++ text_of text.now }
-        ensures full { OnFalse result (self.new ≡ self.old) }
+        ensures full { result ≡ false → self.new ≡ self.old }
     {
         if text.len() > slices::MAX_SHORT_LEN {
             return false;
@@ -133,8 +132,8 @@ impl<const N: usize> StackBuffer<N> {
     pub fn try_push_ascii(&mut self, byte: u8) -> bool
         requires ascii { byte < 128 }
         ensures fits { IsTrue result ↔ (size self.old + 1 ≤ N) }
-        ensures pushed { OnTrue result (self.new ≡ self.old ++ byte ∷ []) }
-        ensures full { OnFalse result (self.new ≡ self.old) }
+        ensures pushed { IsTrue result → self.new ≡ self.old ++ byte ∷ [] }
+        ensures full { result ≡ false → self.new ≡ self.old }
     {
         if self.len >= N {
             return false;

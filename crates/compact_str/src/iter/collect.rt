@@ -167,6 +167,9 @@ impl<'a, P: Policy> FromIterator<&'a char> for PolicyString<P> {
         // As `from_texts`.
         ensures { Collects (⟦<U as Items>⟧.run references) (map (λ c. c.now)) result }
     {
-        Ok(collect_pieces(alloc, references)?)
+        match collect_pieces(alloc, references) {
+            Ok(value) => Ok(value),
+            Err(ReserveError) => Err(AllocError),
+        }
     }
 }

@@ -152,6 +152,9 @@ impl<'a, P: Policy> Extend<&'a char> for PolicyString<P> {
         ensures { Extends (⟦<U as Items>⟧.run references) P.growth (λ c. char_text c.now)
             (map (λ c. c.now)) self.old result self.new }
     {
-        Ok(extend_pieces(self, references)?)
+        match extend_pieces(self, references) {
+            Ok(()) => Ok(()),
+            Err(_) => Err(AllocError),
+        }
     }
 }

@@ -7,5 +7,5 @@ use Rattle.compact_str.proofs.string.PolicyString.retain_by.Goals as goal
 
 pub returns-clause-filter : goal.returns-clause-filter
 returns-clause-filter g c = λ says obeys.
-    let same : c.self.inside.repr.text ≡ c.args.self.now.text = ap (λ (v : PlacedText). v.text) c.self.view_is ∙ c.make_owned.ensures.text in
+    let same : c.make_owned.new.self.text ≡ c.args.self.now.text = c.make_owned.ensures.text ∙ ap (λ (v : PlacedText). v.text) c.self.view_is in
     filters _ says obeys _ _ _ _ c.retain.ensures.text ∙ ap (filter says) same
