@@ -96,9 +96,9 @@ impl<P: Policy> PolicyString<P> {
     ///
     /// See [`new`].
     #[inline]
-    pub fn from_str(alloc: Global, text: &str) -> Result<Self, ReserveError>
+    pub fn from_str(alloc: Global, s: &str) -> Result<Self, ReserveError>
         // As `new`.
-        ensures { CopiesText P.growth text.now result }
+        ensures { CopiesText P.growth s.now result }
     {
         Self::new(alloc, text)
     }
