@@ -100,7 +100,7 @@ impl<P: Policy> PolicyString<P> {
         // As `new`.
         ensures { CopiesText P.growth s.now result }
     {
-        Self::new(alloc, text)
+        Self::new(alloc, s)
     }
 
     /// Creates a string from a literal without allocating: inline up to 24 bytes, otherwise by reference.
