@@ -5,9 +5,10 @@ ghost use Rattle.compact_str.specs.Words.{size, text_of, PlacedFor, room_to_appe
 ghost use Rattle.compact_str.specs.FittedValues.{IsPlacedBySize};
 ghost use Rattle.compact_str.specs.Shown.{AppendsUtf8};
 
+use crate::decode::push_fitted;
 use crate::stack_buffer::{PaddedStr, StackBuffer};
 use crate::string::PolicyString;
-use compact_repr::{INLINE_CAPACITY, Policy, ReserveError};
+use compact_repr::{Policy, ReserveError};
 use compact_text::str_parts::encode_char;
 use std::alloc::Global;
 use std::marker::Model;
@@ -144,13 +145,9 @@ impl<P: Policy, const N: usize> Builder<P, N> {
         ensures ok { OnOk result (self.new ≡ self.old ++ text_of text.now) }
         ensures err { OnErr result (INLINE_CAPACITY < size self.old + length text.now) }
     {
-        let block = self.block.as_str();
-        if self.value.len().saturating_add(block.len()) > INLINE_CAPACITY {
-            // As much may follow, and then needs no further allocation.
-            let more = block.len().saturating_add(text.len()).saturating_add(N);
-            self.value.reserve(more)?;
-        }
-        self.value.push_str(block)?;
+        // As much may follow, and then needs no further allocation.
+        let more = text.len().saturating_add(N);
+        push_fitted(&mut self.value, self.block.as_str(), more)?;
         self.block.clear();
         if self.block.try_push_str(text) {
             return Ok(());
@@ -191,12 +188,8 @@ impl<P: Policy, const N: usize> Builder<P, N> {
         if self.value.is_empty() {
             return target.push_str(self.block.as_str());
         }
-        let (value, block) = (self.value.as_str(), self.block.as_str());
-        target.reserve(value.len().saturating_add(block.len()))?;
-        if !target.repr.try_push_str(value) || !target.repr.try_push_str(block) {
-            unreachable!();
-        }
-        Ok(())
+        self.value.push_str(self.block.as_str())?;
+        target.push_str(self.value.as_str())
     }
 }
 
