@@ -9,8 +9,8 @@ pub mod utf16;
 mod utf16_block;
 pub mod utf8;
 
-use crate::string::CompactString;
-use compact_repr::{INLINE_CAPACITY, ReserveError};
+use crate::string::PolicyString;
+use compact_repr::{INLINE_CAPACITY, Policy, ReserveError};
 
 /// Replaces an invalid sequence.
 const REPLACEMENT: &str = "\u{FFFD}";
@@ -19,11 +19,16 @@ const REPLACEMENT: &str = "\u{FFFD}";
 /// bytes, for what the caller knows to follow.
 #[inline]
 #[tactic(auto, using(crate::proofs::FittedTexts::fitted_facts))]
-fn push_fitted(made: &mut CompactString, text: &str, more: usize) -> Result<(), ReserveError>
+pub fn push_fitted<P: Policy>(
+    made: &mut PolicyString<P>,
+    text: &str,
+    more: usize,
+) -> Result<(), ReserveError>
     requires { IsPlacedBySize made.old }
     ensures place { OnOk result (IsPlacedBySize made.new) }
     ensures text { OnOk result (made.new.text ≡ made.old.text ++ text_of text.now) }
-    ensures err { OnErr result (INLINE_CAPACITY < size made.old.text + length text.now) }
+    ensures allocates { OnErr result (INLINE_CAPACITY < size made.old.text + length text.now) }
+    ensures err { OnErr result (made.new ≡ made.old) }
 {
     if made.is_heap_allocated() || made.len() + text.len() <= INLINE_CAPACITY {
         return made.push_str(text);

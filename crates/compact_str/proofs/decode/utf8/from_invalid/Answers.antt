@@ -13,4 +13,4 @@ loop-made-preserved c =
 
 pub returns-in_err-push_fitted : goal.returns-in_err-push_fitted
 returns-in_err-push_fitted c =
-    part-refused _ _ _ c.loop-made.chunk.valid.now _ c.from_residual.ensures.0 c.loop-made.invariant.text (search rules) c.in_err-push_fitted.ensures.err
+    part-refused _ _ _ c.loop-made.chunk.valid.now _ c.from_residual.ensures.0 c.loop-made.invariant.text (search rules) c.in_err-push_fitted.ensures.allocates
