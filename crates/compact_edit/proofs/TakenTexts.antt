@@ -106,5 +106,5 @@ stops-at row i d before names after listed now error takes within is why = recor
       ap texts_of (sym (take-append-drop i row) ∙ ap (λ x. take i row ++ x) (drop_more row i d within))
       ∙ map-append (λ (t : Bor (List ℕ)). text_of t.now) (take i row) (get_or row i d ∷ drop (i + 1) row);
   takes = rw is takes;
-  why = rw is why;
+  cause = rw is why;
 }

@@ -5,6 +5,7 @@ use Rattle.std.specs.Global.{Vec}
 use Rattle.std.specs.List.{list_any, AllZip}
 use Rattle.std.specs.Cmp.Lexicographic.{pointwise}
 use Rattle.compact_str.specs.Text.{text_of}
+use Rattle.compact_edit.specs.declared.intern.TheConstants.{MAX_COUNT}
 use Rattle.compact_edit.specs.declared.intern.InternError.{InternError}
 use Rattle.compact_edit.specs.declared.intern.InternError.TheVariants.{Reserve, Full}
 
@@ -23,6 +24,11 @@ distinct_texts (t ∷ ts) = t ∷ texts_without t (distinct_texts ts)
 abbrev pub AreNumbersOf : List (List ℕ) → List (List ℕ) → List ℕ → Type 0
 AreNumbersOf names texts numbers = AllZip (λ t n. slice_get names n ≡ Some t) texts numbers
 
+-- the numbers of the texts are appended
+abbrev pub AppendsNumbersOf : List (List ℕ) → List (List ℕ) → List ℕ → List ℕ → Type 0
+AppendsNumbersOf names texts listed now_listed =
+    (numbers : List ℕ) × (now_listed ≡ listed ++ numbers) × AreNumbersOf names texts numbers
+
 -- all texts are interned: the names afterwards, and the numbers, after those that were listed
 pub record InternsAll (before texts : List (List ℕ)) (listed : List ℕ) (after : List (List ℕ)) (now_listed : List ℕ) : Type 0 where
   pub names : after ≡ distinct_texts (before ++ texts)
@@ -32,8 +38,8 @@ pub record InternsAll (before texts : List (List ℕ)) (listed : List ℕ) (afte
 
 -- the error of a new text: allocation failed with a number left, or no number is left
 abbrev pub IsRefusal : List (List ℕ) → List ℕ → InternError → Type 0
-IsRefusal names t (Reserve error) = (contains names t ≡ false) × (length names < 4294967295)
-IsRefusal names t Full = (length names ≡ 4294967295) × (contains names t ≡ false)
+IsRefusal names t (Reserve error) = (contains names t ≡ false) × (length names < MAX_COUNT)
+IsRefusal names t Full = (length names ≡ MAX_COUNT) × (contains names t ≡ false)
 
 -- the texts before the first that fails are interned
 pub record InternsUpTo (before texts : List (List ℕ)) (listed : List ℕ) (after : List (List ℕ)) (now_listed : List ℕ) (error : InternError) : Type 0 where
@@ -42,7 +48,7 @@ pub record InternsUpTo (before texts : List (List ℕ)) (listed : List ℕ) (aft
   pub rest : List (List ℕ)
   pub parts : texts ≡ taken_texts ++ refused_text ∷ rest
   pub takes : InternsAll before taken_texts listed after now_listed
-  pub why : IsRefusal after refused_text error
+  pub cause : IsRefusal after refused_text error
 
 -- no text is interned: reserving room for the numbers failed, and the list is unchanged
 pub record HasNoRoomForNumbers (before texts : List (List ℕ)) (listed : Vec ℕ) (after : List (List ℕ)) (now_listed : Vec ℕ) (error : InternError) : Type 0 where

@@ -2,7 +2,8 @@
 ghost use Rattle.std.specs.Prelude.{◌≡◌, ◌<◌, ◌≤◌, ◌↔◌, ℕ, List, [], ◌∷◌, ◌++◌, length, Some, IsOk, IsSome, IfOk, IfErr, OnOk, OnErr, option_map, slice_get};
 ghost use Rattle.std.specs.Prelude.{false};
 ghost use Rattle.compact_str.specs.Text.{text_of};
-ghost use Rattle.compact_edit.specs.Names.{distinct_texts, texts_of, contains, IsRefusal, InternsAll, InternsSome};
+ghost use Rattle.compact_edit.specs.declared.intern.TheConstants.{MAX_COUNT};
+ghost use Rattle.compact_edit.specs.Names.{distinct_texts, texts_of, contains, AppendsNumbersOf, IsRefusal, InternsSome};
 
 use compact_str::{CompactString, ReserveError};
 use indexmap::IndexSet;
@@ -32,8 +33,8 @@ impl From<ReserveError> for InternError {
     }
 }
 
-/// The most names of an interner, 2^32 - 1: the count is a `u32` as well.
-const MAX_COUNT: usize = 4294967295;
+/// The most names of an interner, 2^32 - 1: the count fits a `u32`, like each number.
+pub const MAX_COUNT: usize = 4294967295;
 
 /// A set of distinct texts, numbered from 0 in the order of their first occurrence. A number never changes.
 ///
@@ -61,12 +62,13 @@ impl Model for Interner {
     ghost use Rattle.std.specs.Prelude.{List, ℕ, map, length, ◌≤◌};
     ghost use Rattle.indexmap.specs.IndexSet.{IsUnique};
     ghost use Rattle.compact_str.specs.Order.{text_in, same_text};
+    ghost use Rattle.compact_edit.specs.declared.intern.TheConstants.{MAX_COUNT};
 
     ghost Value = { List (List ℕ) };
 
     ghost view = { λ s. map text_in s.names.keys };
 
-    ghost invariant = { λ s. IsUnique same_text s.names × (length s.names.keys ≤ 4294967295) };
+    ghost invariant = { λ s. IsUnique same_text s.names × (length s.names.keys ≤ MAX_COUNT) };
 }
 
 impl Interner {
@@ -96,7 +98,7 @@ impl Interner {
     pub fn len(&self) -> usize
         ensures len { result ≡ length self.now }
         ensures distinct { distinct_texts self.now ≡ self.now }
-        ensures small { result ≤ 4294967295 }
+        ensures small { result ≤ MAX_COUNT }
     {
         self.names.len()
     }
@@ -138,14 +140,18 @@ impl Interner {
     /// ```
     #[tactic(auto, using(crate::proofs::NameFacts::name_facts))]
     pub fn intern(&mut self, text: &str) -> Result<u32, InternError>
+        // On success `text` is a name, and its number is returned. Names keep their numbers.
         ensures names { OnOk result
             (self.new ≡ distinct_texts (self.old ++ text_of text.now ∷ [])) }
         ensures number { IfOk result (λ n. slice_get self.new n ≡ Some (text_of text.now)) }
         ensures kept { (n : ℕ) (name : List ℕ)
             → slice_get self.old n ≡ Some name → slice_get self.new n ≡ Some name }
+
+        // Fails only for a new text: if allocation fails, or all numbers are in use. The names are
+        // then unchanged.
         ensures succeeds { (n : ℕ) → slice_get self.old n ≡ Some (text_of text.now) → IsOk result }
+        ensures cause { IfErr result (IsRefusal self.old (text_of text.now)) }
         ensures err { OnErr result (self.new ≡ self.old) }
-        ensures why { IfErr result (IsRefusal self.old (text_of text.now)) }
     {
         if let Some(known) = self.names.get_index_of(text) {
             return Ok(known as u32);
@@ -164,16 +170,13 @@ impl Interner {
         ensures number { IfOk result (λ n. slice_get self.new n ≡ Some (text_of text.now)) }
         ensures kept { (n : ℕ) (name : List ℕ)
             → slice_get self.old n ≡ Some name → slice_get self.new n ≡ Some name }
+        ensures cause { IfErr result (IsRefusal self.old (text_of text.now)) }
         ensures err { OnErr result (self.new ≡ self.old) }
-        ensures why { IfErr result (IsRefusal self.old (text_of text.now)) }
     {
         if self.len() == MAX_COUNT {
             return Err(InternError::Full);
         }
-        let name = match CompactString::new(*self.names.allocator(), text) {
-            Ok(name) => name,
-            Err(error) => return Err(InternError::Reserve(error)),
-        };
+        let name = CompactString::new(*self.names.allocator(), text)?;
         let Ok((place, _)) = self.names.insert_full(name) else {
             return Err(InternError::Reserve(ReserveError));
         };
@@ -199,13 +202,18 @@ impl Interner {
     /// ```
     #[tactic(auto, using(crate::proofs::NameFacts::list_facts))]
     pub fn intern_all(&mut self, texts: &[&str], numbers: &mut Vec<u32>) -> Result<(), InternError>
-        ensures ok { OnOk result (InternsAll self.old (texts_of texts.now) numbers.old.items
-            self.new numbers.new.items) }
-        ensures err { IfErr result (InternsSome self.old (texts_of texts.now) numbers.old
-            self.new numbers.new) }
+        // On success all texts are names, and their numbers are appended. Names keep their numbers.
+        ensures names { OnOk result (self.new ≡ distinct_texts (self.old ++ texts_of texts.now)) }
+        ensures numbers { OnOk result
+            (AppendsNumbersOf self.new (texts_of texts.now) numbers.old.items numbers.new.items) }
         ensures kept { (n : ℕ) (name : List ℕ)
             → slice_get self.old n ≡ Some name → slice_get self.new n ≡ Some name }
-        ensures empty { texts.now ≡ [] → IsOk result }
+
+        // Fails if there is no room for the numbers, and then interns nothing; or at the first text for
+        // which `intern` fails, with the texts before it interned.
+        ensures succeeds { texts.now ≡ [] → IsOk result }
+        ensures err { IfErr result (InternsSome self.old (texts_of texts.now) numbers.old
+            self.new numbers.new) }
     {
         // For the proof: the names are distinct, even if `texts` is empty.
         let _distinct = self.len();
@@ -213,10 +221,8 @@ impl Interner {
             return Err(InternError::Reserve(ReserveError));
         }
         for text in texts {
-            match self.intern(text) {
-                Ok(number) => numbers.push_reserved(number),
-                Err(error) => return Err(error),
-            }
+            let number = self.intern(text)?;
+            numbers.push_reserved(number);
         }
         Ok(())
     }

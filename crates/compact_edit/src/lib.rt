@@ -15,6 +15,6 @@ mod pushes;
 mod runs;
 
 pub use edit::{Edit, Reply};
-pub use intern::{InternError, Interner};
+pub use intern::{InternError, Interner, MAX_COUNT};
 pub use pushes::{PushReport, run_pushes};
 pub use runs::run;

@@ -2,6 +2,7 @@
 ghost use Rattle.std.specs.Prelude.{◌≡◌, ◌+◌, ◌-◌, ◌*◌, ◌/◌, ◌≤◌, flat_map, Some, max, IfOk, OnOk, OnErr, IsTrue};
 ghost use Rattle.compact_str.specs.Text.{size, text_of};
 ghost use Rattle.compact_str.specs.Calls.{push_str, push_str_allocates};
+ghost use Rattle.compact_str.specs.Words.{INLINE_CAPACITY};
 ghost use Rattle.compact_edit.specs.Pushes.{PushesTo, bytes_moved_by_step};
 
 use compact_str::{Policy, PolicyString, ReserveError};
@@ -36,15 +37,20 @@ pub struct PushReport<P: Policy> {
 /// assert_eq!(rt; report.refused, 0);
 /// ```
 pub fn run_pushes<P: Policy>(alloc: Global, texts: &[&str]) -> PushReport<P>
+    // The value and the two counts are those of the pushes, one by one.
     ensures run { PushesTo P P.growth texts.now result.value result.moved result.refused }
     ensures text { result.refused ≡ 0
         → result.value.text ≡ flat_map (λ text. text_of text.now) texts.now }
-    ensures succeeds { size (flat_map (λ text. text_of text.now) texts.now) ≤ 24
-        → result.refused ≡ 0 }
+
+    // The bytes moved and the capacity are at most proportional to the final length.
     ensures moved { (P.growth.numerator - P.growth.denominator) * result.moved
         ≤ (P.growth.numerator + P.growth.denominator) * size result.value.text }
     ensures capacity { result.value.placement.capacity
         ≤ max P.growth.least (P.growth.numerator * size result.value.text / P.growth.denominator) }
+
+    // No push fails if all texts fit inline together.
+    ensures succeeds { size (flat_map (λ text. text_of text.now) texts.now) ≤ INLINE_CAPACITY
+        → result.refused ≡ 0 }
 {
     let mut value = PolicyString::<P>::default(alloc);
     let mut moved = 0;

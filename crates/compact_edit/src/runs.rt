@@ -37,14 +37,20 @@ pub fn run<P: Policy>(
     edits: &[Edit<P>],
     replies: &mut Vec<Reply<P>>,
 ) -> Result<(), ReserveError>
+    // On success each edit was run, in order, with one reply for each.
     ensures run { OnOk result
         (RunsTo P.growth value.old edits.now replies.old.items replies.new.items value.new) }
     ensures count { OnOk result (vec_len replies.new ≡ vec_len replies.old + length edits.now) }
+
+    // Fails only if it must allocate, for the replies. The value, the replies and their capacity are
+    // then unchanged.
     ensures succeeds { vec_len replies.old + length edits.now ≤ vec_capacity replies.old
         → IsOk result }
+    ensures succeeds_empty { edits.now ≡ [] → IsOk result }
+    ensures allocates { OnErr result
+        (vec_capacity replies.old < vec_len replies.old + length edits.now) }
     ensures err { OnErr result ((value.new ≡ value.old) × (replies.new.items ≡ replies.old.items)) }
-    ensures room { OnErr result (vec_capacity replies.new ≡ vec_capacity replies.old) }
-    ensures empty { edits.now ≡ [] → IsOk result }
+    ensures err_capacity { OnErr result (vec_capacity replies.new ≡ vec_capacity replies.old) }
 {
     replies.reserve(edits.len())?;
     for edit in edits {

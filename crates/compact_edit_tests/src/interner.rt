@@ -13,7 +13,7 @@ use std::process::Abort;
 /// The numbers already in a list.
 const EIGHT: [u32; 8] = [7, 6, 5, 4, 3, 2, 1, 0];
 
-/// 25 `a`s. A function, so that a proof need not carry each one.
+/// A name of 25 bytes, which is not inline. A function, so that a proof need not carry each one.
 fn long() -> &'static str {
     "zzzzzzzzzzzzzzzzzzzzzzzzz"
 }

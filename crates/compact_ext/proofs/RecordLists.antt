@@ -1,5 +1,5 @@
 -- Reading all forms up to the end of a reader.
-use Rattle.std.proofs.Common.{◌≡◌, ◌⊎◌, ℕ, ◌+◌, ◌<◌, ◌≤◌, ◌^◌, List, [], ◌∷◌, ◌++◌, length, take, drop, map, Option, None, Some, IfSome, Result, Ok, Err, IfOk, IfErr, refl, inl, inr, arith, sym, ap, subst, ◌∙◌, append_assoc, append-nil, length-append}
+use Rattle.std.proofs.Common.{◌≡◌, ℕ, ◌+◌, ◌<◌, ◌≤◌, ◌^◌, List, [], ◌∷◌, ◌++◌, length, take, drop, map, Option, None, Some, IfSome, Result, Ok, Err, IfOk, IfErr, refl, inl, inr, arith, sym, ap, subst, ◌∙◌, append_assoc, append-nil, length-append}
 use Rattle.std.specs.Prelude.{◌==◌, if◌then◌else◌, Bool, false}
 use Rattle.std.proofs.lemmas.Bool.Decides.{nat_tests}
 use Rattle.std.specs.Global.{Vec}
@@ -18,10 +18,10 @@ use Rattle.compact_str.specs.Value.{PlacedText}
 use Rattle.compact_ext.specs.declared.wire.WireError.{WireError}
 use Rattle.compact_ext.specs.declared.wire.WireError.TheVariants.{TooLong, UnexpectedEnd, Utf8, Io, WriteZero, Reserve}
 use Rattle.compact_ext.specs.declared.wire.records.Records.{Records}
-use Rattle.compact_ext.specs.WireRecords.HasTexts.{none, text, no_text}
+use Rattle.compact_ext.specs.WireRecords.HasTexts.{none, text, invalid}
 use Rattle.compact_ext.specs.Wire.{wire, HasForm, ReadFails, IsOutsideForm}
 use Rattle.compact_ext.proofs.WireForms.{form-whole, form-tells, length-wire, outside-form, told-text}
-use Rattle.compact_ext.specs.WireRecords.{records_left, unread_bytes, GivesRecord, GivesNext, FailsAfterTexts, VecCannotGrow, BeginsWithNoForm, forms_of, AreForms, ReadsIntoVec, ConsumesForms, ConsumesTexts, HasTexts, FailsWithin, HasBegun, HasMore, IsOutsideForms, IsPlacedAsRead, FitsForm, ReadsAllBack, ReadsNextBack, ConsumesForm}
+use Rattle.compact_ext.specs.WireRecords.{records_left, unread_bytes, GivesRecord, GivesNext, FailsAfterTexts, VecCannotGrow, BeginsWithNoForm, forms_of, AreForms, FailsAtSome, ConsumesForms, ConsumesTexts, HasTexts, FailsWithin, HasBegun, HasMore, IsOutsideForms, IsPlacedAsRead, FitsForm, ReadsAllBack, ReadsNextBack, ConsumesForm}
 
 -- a reader that failed before its first byte
 
@@ -187,14 +187,11 @@ some-taken [] (Some left) found v forms took =
     absurd (omega (arith, ap length took.forms, long, front, length-wire v.text))
 some-taken (t ∷ texts) mid found v forms took = omega arith
 
-abbrev Fails : Option (List ℕ) → WireError → Type 0
-Fails known e = FailsAfterTexts known e ⊎ VecCannotGrow known e
-
 room-fails : (texts : List (List ℕ)) (e : WireError) → All HasForm texts → VecCannotGrow (Some (flat_map wire texts)) e → IsOutsideForms texts e
 room-fails texts e forms f = subst (IsOutsideForms texts) (sym f.refused) (some-taken texts f.mid f.texts f.last forms f.took)
 
-records-back : (known : Option (List ℕ)) (r : Result (Vec PlacedText) WireError) → IfOk r (λ all. AreForms known all.items) → IfOk r (λ all. All FitsForm all.items)
-    → IfErr r (Fails known) → ReadsAllBack known r
+pub records-back : (known : Option (List ℕ)) (r : Result (Vec PlacedText) WireError) → IfOk r (λ all. AreForms known all.items) → IfOk r (λ all. All FitsForm all.items)
+    → IfErr r (FailsAtSome known) → ReadsAllBack known r
 records-back known (Ok all) took fits err = record {
   back = λ (texts : List (List ℕ)) (forms : All HasForm texts) (is : known ≡ Some (flat_map wire texts)).
       let whole = subst (λ o. IfSome o (λ bytes. bytes ≡ forms_of all.items)) is took in
@@ -203,15 +200,11 @@ records-back known (Ok all) took fits err = record {
 }
 records-back known (Err e) took fits err = record {
   back = λ (texts : List (List ℕ)) (forms : All HasForm texts) (is : known ≡ Some (flat_map wire texts)).
-      elim (subst (λ o. Fails o e) is err) [
+      elim (subst (λ o. FailsAtSome o e) is err) [
         | inl g ↦ later-fails texts e forms g
         | inr g ↦ room-fails texts e forms g
       ];
 }
-
-pub reads-all : (known : Option (List ℕ)) (r : Result (Vec PlacedText) WireError) → IfOk r (λ all. AreForms known all.items) → IfOk r (λ all. All FitsForm all.items)
-    → IfOk r (λ all. All IsPlacedAsRead all.items) → IfErr r (Fails known) → ReadsIntoVec known r
-reads-all known r took fits placed err = record { ok = took; fits = fits; placement = placed; back = records-back known r took fits err; err = err }
 
 -- the next text is that of the first form
 pub next-back : {R : Type 0} (remaining : R → Option (List ℕ)) (s t : Records R) (r : Option (Result PlacedText WireError)) → GivesRecord remaining s r t → ReadsNextBack remaining s r t
@@ -239,11 +232,11 @@ passes-text old mid new texts v passed last = record {
   has = subst (HasTexts (passed.taken_bytes ++ wire v.text)) (sym (map-append (λ (w : PlacedText). w.text) texts (v ∷ []))) (text v.text last.fits passed.has);
 }
 
-pub passes-no_text : (old mid new : Option (List ℕ)) (texts : List PlacedText) → ConsumesTexts old mid texts → FailsWithin mid new Utf8 → ConsumesTexts old new texts
-passes-no_text old mid new texts passed fault = record {
+pub passes-invalid : (old mid new : Option (List ℕ)) (texts : List PlacedText) → ConsumesTexts old mid texts → FailsWithin mid new Utf8 → ConsumesTexts old new texts
+passes-invalid old mid new texts passed fault = record {
   taken_bytes = passed.taken_bytes ++ fault.fails.taken_bytes;
   bytes = Consumes-trans old mid new passed.taken_bytes fault.fails.taken_bytes passed.bytes fault.fails.bytes;
-  has = no_text fault.fails.taken_bytes fault.fails.fault passed.has;
+  has = invalid fault.fails.taken_bytes fault.fails.fault passed.has;
 }
 
 -- what is consumed up to the end is all

@@ -1,27 +1,38 @@
 -- The same text in other words.
-use Rattle.std.proofs.Common.{◌≡◌, ℕ, Bool, true, false, List, Result, refl, subst}
-use Rattle.std.specs.Str.{chars}
+use Rattle.std.proofs.Common.{◌≡◌, ℕ, Bool, true, false, List, [], ◌∷◌, Result, codes, refl, subst, ap, sym, ◌∙◌}
+use Rattle.std.specs.Char.{encode_utf8}
+use Rattle.std.specs.Str.{chars, IsUtf8}
+use Rattle.std.proofs.lemmas.Str.{chars-nil, IsUtf8-nil}
+use Rattle.compact_text.proofs.Cuts.{text_of-last}
+use Rattle.compact_text.proofs.TextFacts.{text_facts}
 use Rattle.compact_str.specs.Text.{text_of}
 use Rattle.compact_str.specs.Value.{PlacedText}
-use Rattle.compact_str.specs.Capacity.{Growth}
 use Rattle.compact_ext.specs.declared.format.ToCompactStringError.{ToCompactStringError}
 use Rattle.compact_ext.specs.Shown.{Converts, bool_text}
 
--- if P implies that the text is short, `IsShort` may be P
-short-as : (g : Growth) (t : List ℕ) (P Q : Type 0) (r : Result PlacedText ToCompactStringError) → Converts g t P r → (Q → P) → Converts g t Q r
-short-as g t P Q r h f =
-    record {
-      text = h.text;
-      place = h.place;
-      inline = λ q. h.inline (f q);
-      succeeds = λ q. h.succeeds (f q);
-      err = h.err;
-    }
+-- a conversion to t is one to the same text u, short if Q implies what makes t short
+pub shown-as : (t u : List ℕ) (P Q : Type 0) (r : Result PlacedText ToCompactStringError) → Converts t P r → t ≡ u → (Q → P) → Converts u Q r
+shown-as t u P Q r h e f = subst (λ (x : List ℕ). Converts x Q r) e record {
+  text = h.text;
+  place = h.place;
+  inline = λ q. h.inline (f q);
+  succeeds = λ q. h.succeeds (f q);
+  allocates = h.allocates;
+  err = h.err;
+}
 
-pub shown-as : (g : Growth) (t u : List ℕ) (P Q : Type 0) (r : Result PlacedText ToCompactStringError) → Converts g t P r → t ≡ u → (Q → P) → Converts g u Q r
-shown-as g t u P Q r h e f = subst (λ (x : List ℕ). Converts g x Q r) e (short-as g t P Q r h f)
-
-pub text_of-bool : (b : Bool) → text_of (bool_text b) ≡ bool_text b
+text_of-bool : (b : Bool) → text_of (bool_text b) ≡ bool_text b
 unfolding chars
 text_of-bool true = refl
 text_of-bool false = refl
+
+pub shown-true : (b : Bool) → b ≡ true → text_of (codes "true") ≡ bool_text b
+shown-true b e = text_of-bool true ∙ ap bool_text (sym e)
+
+pub shown-false : (b : Bool) → b ≡ false → text_of (codes "false") ≡ bool_text b
+shown-false b e = text_of-bool false ∙ ap bool_text (sym e)
+
+pub shown-char : (c : ℕ) (bytes : List ℕ) → IsUtf8 bytes → bytes ≡ encode_utf8 c → text_of bytes ≡ c ∷ []
+shown-char c bytes is spelt = text_of-last bytes [] c is IsUtf8-nil spelt ∙ rw chars-nil refl
+
+pub ruleset shown_texts = (text_facts, shown-true, shown-false, shown-char)

@@ -13,7 +13,7 @@ use Rattle.compact_ext.specs.WireRecords.{ReadsAllBack}
 pub use Rattle.std.proofs.lemmas.List.Elements.{All-nil, All-cons}
 pub use Rattle.std.proofs.KnownBytes.{Appends-trans, Consumes-trans}
 pub use Rattle.compact_ext.proofs.WireForms.{length-wire}
-pub use Rattle.compact_ext.proofs.RecordLists.{next-back, passes-none, passes-text, passes-no_text, passes-all}
+pub use Rattle.compact_ext.proofs.RecordLists.{next-back, passes-none, passes-text, passes-invalid, passes-all}
 
 -- a text written to an empty buffer is read back
 pub sent-back : (t none sent bytes : List ℕ) (new : Option (List ℕ)) (r : Result PlacedText WireError) → ReadsBack (Some bytes) new r → bytes ≡ sent → sent ≡ none ++ wire t → none ≡ []
@@ -37,4 +37,4 @@ at-end (Some xs) shown h none = h none
 pub ruleset wire_facts = (Appends-trans, Consumes-trans, length-wire, sent-back, all-sent-back, at-end, append-nil, append_assoc, flat_map-append)
 
 -- the same for a loop over `Records` that skips invalid texts
-pub ruleset passed_texts = (passes-none, passes-text, passes-no_text, passes-all)
+pub ruleset passed_texts = (passes-none, passes-text, passes-invalid, passes-all)

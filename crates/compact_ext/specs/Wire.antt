@@ -3,6 +3,7 @@ use Rattle.std.specs.Prelude.{ℕ, ◌≡◌, ◌+◌, ◌*◌, ◌^◌, ◌≤�
 use Rattle.std.specs.Int.{w32, to_le_bytes, from_le_bytes}
 use Rattle.std.specs.Io.KnownBytes.{Appends, Consumes, Keeps, IsAtEnd}
 use Rattle.compact_str.specs.Text.{IsText, size, utf8}
+use Rattle.compact_str.specs.Words.{INLINE_CAPACITY}
 use Rattle.compact_str.specs.Value.{PlacedText}
 use Rattle.compact_ext.specs.declared.wire.WireError.{WireError}
 use Rattle.compact_ext.specs.declared.wire.WireError.TheVariants.{TooLong, UnexpectedEnd, Utf8, Io, WriteZero, Reserve}
@@ -47,7 +48,7 @@ abbrev pub IsReadFault : List ℕ → Option (List ℕ) → WireError → Type 0
 IsReadFault taken new UnexpectedEnd = IsUnfinished taken × IsAtEnd new
 IsReadFault taken new (Io _) = IsUnfinished taken
 IsReadFault taken new (Reserve _) =
-    (4 ≤ length taken) × (24 < claimed_len taken) × (length taken < 4 + claimed_len taken)
+    (4 ≤ length taken) × (INLINE_CAPACITY < claimed_len taken) × (length taken < 4 + claimed_len taken)
 IsReadFault taken new Utf8 = (length taken ≡ 4 + claimed_len taken) × ¬ IsUtf8 (drop 4 taken)
 IsReadFault taken new _ = ⊥
 
@@ -60,7 +61,7 @@ pub record ReadFails (old new : Option (List ℕ)) (e : WireError) : Type 0 wher
 -- an error that is not in a form of n bytes of text: the reader or an allocation failed
 abbrev pub IsOutsideForm : ℕ → WireError → Type 0
 IsOutsideForm n (Io _) = ⊤
-IsOutsideForm n (Reserve _) = 24 < n
+IsOutsideForm n (Reserve _) = INLINE_CAPACITY < n
 IsOutsideForm n _ = ⊥
 
 -- if the reader begins with a form, its text is read and the rest is left, or the error is not in the form
@@ -81,11 +82,11 @@ first_room = 1048576
 abbrev pub next_room : ℕ → ℕ → ℕ
 next_room filled len = min len (max first_room (2 * filled))
 
--- an error of reading n bytes before all have come; an allocation fails only past 24
+-- an error of reading n bytes before all have come; an allocation fails only if they do not fit inline
 abbrev pub IsStop : ℕ → Option (List ℕ) → WireError → Type 0
 IsStop n new UnexpectedEnd = IsAtEnd new
 IsStop n new (Io _) = ⊤
-IsStop n new (Reserve _) = 24 < n
+IsStop n new (Reserve _) = INLINE_CAPACITY < n
 IsStop n new _ = ⊥
 
 -- fewer than n bytes were consumed, and then reading failed

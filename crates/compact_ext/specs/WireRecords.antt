@@ -1,5 +1,5 @@
 -- Iterating over wire forms.
-use Rattle.std.specs.Prelude.{◌≡◌, ◌<◌, ◌==◌, ◌++◌, ◌+◌, ℕ, List, [], ◌∷◌, length, drop, map, if◌then◌else◌, Option, None, Some, Result, Ok, Err, IfOk, IfErr, IfSome, ◌⊎◌, MatchOption, MatchResult, flat_map, IsUtf8, ⊤}
+use Rattle.std.specs.Prelude.{◌≡◌, ◌<◌, ◌==◌, ◌++◌, ◌+◌, ℕ, List, [], ◌∷◌, length, drop, map, if◌then◌else◌, Option, None, Some, Result, Ok, Err, IfSome, ◌⊎◌, MatchOption, MatchResult, flat_map, IsUtf8, ⊤}
 use Rattle.std.specs.Global.{Vec}
 use Rattle.std.specs.Io.{StartsWith}
 use Rattle.std.specs.Io.KnownBytes.{Consumes, IsAtEnd, Keeps}
@@ -137,13 +137,9 @@ pub record ReadsAllBack (known : Option (List ℕ)) (r : Result (Vec PlacedText)
   pub back : (texts : List (List ℕ)) → All HasForm texts → known ≡ Some (flat_map wire texts)
       → MatchResult r (λ all. map (λ v. v.text) all.items ≡ texts) (IsOutsideForms texts)
 
--- `into_vec` reads all texts; or it fails after some, or the vector finds no room
-pub record ReadsIntoVec (known : Option (List ℕ)) (r : Result (Vec PlacedText) WireError) : Type 0 where
-  pub ok : IfOk r (λ all. AreForms known all.items)
-  pub fits : IfOk r (λ all. All FitsForm all.items)
-  pub placement : IfOk r (λ all. All IsPlacedAsRead all.items)
-  pub back : ReadsAllBack known r
-  pub err : IfErr r (λ e. FailsAfterTexts known e ⊎ VecCannotGrow known e)
+-- `into_vec` fails after some texts, or the vector finds no room
+abbrev pub FailsAtSome : Option (List ℕ) → WireError → Type 0
+FailsAtSome known e = FailsAfterTexts known e ⊎ VecCannotGrow known e
 
 -- a whole form that is not valid UTF-8
 abbrev pub IsInvalidForm : List ℕ → Type 0
@@ -154,7 +150,7 @@ pub data HasTexts : List ℕ → List (List ℕ) → Type 0 where
   none : HasTexts [] []
   text : {bytes : List ℕ} {texts : List (List ℕ)} (t : List ℕ) → HasForm t
       → HasTexts bytes texts → HasTexts (bytes ++ wire t) (texts ++ t ∷ [])
-  no_text : {bytes : List ℕ} {texts : List (List ℕ)} (form : List ℕ) → IsInvalidForm form
+  invalid : {bytes : List ℕ} {texts : List (List ℕ)} (form : List ℕ) → IsInvalidForm form
       → HasTexts bytes texts → HasTexts (bytes ++ form) texts
 
 -- bytes that have these texts are consumed

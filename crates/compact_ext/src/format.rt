@@ -3,9 +3,9 @@ ghost use Rattle.std.specs.Prelude.{◌≡◌, IfOk, IfSome, IsTrue, length, OnO
 ghost use Rattle.compact_str.specs.Text.{text_of, utf8};
 ghost use Rattle.compact_str.specs.Edits.{Writes};
 ghost use Rattle.compact_str.specs.FittedValues.{IsPlacedBySize};
-ghost use Rattle.compact_str.specs.Words.{AllocatesFor, room_to_append};
+ghost use Rattle.compact_str.specs.Words.{AllocatesFor, room_to_append, standard_growth};
 
-use compact_str::{CompactString, Policy, ReserveError, Standard};
+use compact_str::{CompactString, ReserveError};
 use std::alloc::Global;
 use std::fmt;
 use std::fmt::{Display, Write};
@@ -53,18 +53,16 @@ struct Collector {
 }
 
 impl Write for Collector {
-    ghost write_str_gives = { λ c bytes d.
-        Writes ⟦<Standard as Policy>⟧.growth c.value bytes d.value };
+    ghost write_str_gives = { λ c bytes d. Writes standard_growth c.value bytes d.value };
 
     #[inline]
     fn write_str(&mut self, s: &str) -> fmt::Result
-        ensures ok { OnOk result
-            (Writes ⟦<Standard as Policy>⟧.growth self.old.value s.now self.new.value) }
-        ensures still { OnOk result (self.new.is_refused ≡ self.old.is_refused) }
-        ensures err { OnErr result
-            ((self.new.value ≡ self.old.value) × IsTrue self.new.is_refused) }
+        ensures ok { OnOk result (Writes standard_growth self.old.value s.now self.new.value) }
+        ensures kept { OnOk result (self.new.is_refused ≡ self.old.is_refused) }
         ensures allocates { OnErr result
             (AllocatesFor self.old.value (room_to_append (length s.now))) }
+        ensures err { OnErr result
+            ((self.new.value ≡ self.old.value) × IsTrue self.new.is_refused) }
     {
         match self.value.write_str(s) {
             Ok(()) => Ok(()),
@@ -83,7 +81,7 @@ impl Write for Collector {
 /// - `Reserve` if allocation fails, even if `shown` ignores it.
 /// - `Fmt` if `shown` itself fails.
 ///
-/// What was written is dropped.
+/// What was written is dropped. No clause says when it succeeds: the contract of a `Display` does not.
 ///
 /// # Examples
 ///
@@ -96,9 +94,10 @@ pub fn collect_display<D: Display + Drop>(
     alloc: Global,
     shown: D,
 ) -> Result<CompactString, ToCompactStringError>
+    // On success the string is all that was written, if the contract of `D` says what that is.
     ensures text { IfOk result (λ v. IfSome (D.output shown) (λ bytes. v.text ≡ text_of bytes)) }
     ensures bytes { IfOk result (λ v. IfSome (D.output shown) (λ bytes. utf8 v.text ≡ bytes)) }
-    ensures fitted { IfOk result IsPlacedBySize }
+    ensures place { IfOk result IsPlacedBySize }
 {
     let mut collector = Collector {
         value: CompactString::default(alloc),
@@ -108,10 +107,8 @@ pub fn collect_display<D: Display + Drop>(
     if collector.is_refused {
         return Err(ToCompactStringError::Reserve(ReserveError));
     }
-    match written {
-        Ok(()) => Ok(collector.value),
-        Err(fmt::Error) => Err(ToCompactStringError::Fmt(fmt::Error)),
-    }
+    written?;
+    Ok(collector.value)
 }
 
 /// Formats into a new string, like `format!`.

@@ -1,6 +1,7 @@
 //! Strings from numbers and other values.
-ghost use Rattle.std.specs.Prelude.{ℕ, List};
-ghost use Rattle.compact_ext.specs.Shown.{Converts};
+ghost use Rattle.std.specs.Prelude.{◌≡◌, ◌<◌, ℕ, List, IfOk, IfErr, IsOk, OnErr};
+ghost use Rattle.compact_str.specs.Words.{INLINE_CAPACITY, IsPlacedAsNew, inline_placement, size, standard_growth};
+ghost use Rattle.compact_ext.specs.Shown.{IsFormatReserve};
 
 mod digits;
 mod integers;
@@ -10,7 +11,7 @@ mod texts;
 mod wide;
 
 use crate::format::ToCompactStringError;
-use compact_str::{CompactString, Policy, Standard};
+use compact_str::CompactString;
 pub use laws::{numbers_are_short, numbers_go_digit_by_digit};
 use std::alloc::Global;
 
@@ -44,8 +45,16 @@ pub trait ToCompactString {
     /// assert!(rt; !least.is_heap_allocated());
     /// ```
     fn to_compact_string(&self, alloc: Global) -> Result<CompactString, ToCompactStringError>
-        ensures { Converts ⟦<Standard as Policy>⟧.growth (shown_text self.now)
-            (IsShort self.now) result };
+        // Placed as by `CompactString::new`, and always inline if the value is short.
+        ensures text { IfOk result (λ v. v.text ≡ shown_text self.now) }
+        ensures place { IfOk result (IsPlacedAsNew standard_growth) }
+        ensures inline { IsShort self.now
+            → IfOk result (λ v. v.placement ≡ inline_placement) }
+
+        // Fails only past 24 bytes, never for a short value, and always with `Reserve`.
+        ensures succeeds { IsShort self.now → IsOk result }
+        ensures allocates { OnErr result (INLINE_CAPACITY < size (shown_text self.now)) }
+        ensures err { IfErr result IsFormatReserve };
 
     /// Another name of `to_compact_string`. See [`to_compact_string`](Self::to_compact_string).
     ///
@@ -59,8 +68,14 @@ pub trait ToCompactString {
     ) -> Result<CompactString, ToCompactStringError>
     where
         Self: Sized,
-        ensures { Converts ⟦<Standard as Policy>⟧.growth (shown_text self.now)
-            (IsShort self.now) result }
+        // As `to_compact_string`.
+        ensures text { IfOk result (λ v. v.text ≡ shown_text self.now) }
+        ensures place { IfOk result (IsPlacedAsNew standard_growth) }
+        ensures inline { IsShort self.now
+            → IfOk result (λ v. v.placement ≡ inline_placement) }
+        ensures succeeds { IsShort self.now → IsOk result }
+        ensures allocates { OnErr result (INLINE_CAPACITY < size (shown_text self.now)) }
+        ensures err { IfErr result IsFormatReserve }
     {
         self.to_compact_string(alloc)
     }

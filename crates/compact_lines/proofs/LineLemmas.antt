@@ -1,5 +1,5 @@
 -- Lines answered one by one.
-use Rattle.std.proofs.Common.{rules, codes, ◌≡◌, ℕ, ◌<◌, List, [], ◌∷◌, ◌++◌, ◌+◌, ◌-◌, length, take, drop, get_or, Option, Some, None, IfSome, sym, refl, ap, ◌∙◌, append_assoc, append-nil, take-append-drop, subst, IsTrue, Result, Ok, Err, OnOk, OnErr, Bool, true, inl, inr}
+use Rattle.std.proofs.Common.{rules, codes, ◌≡◌, ℕ, ◌<◌, List, [], ◌∷◌, ◌++◌, ◌+◌, ◌-◌, length, take, drop, get_or, Option, Some, None, IfSome, sym, refl, ap, ◌∙◌, append_assoc, append-nil, take-append-drop, subst, IsTrue, Result, Ok, Err, IfOk, OnOk, OnErr, Bool, ◌||◌, true, inl, inr}
 use Rattle.std.specs.Option.{option_map}
 use Rattle.std.specs.List.{concat}
 use Rattle.std.specs.Io.KnownBytes.{Appends, Keeps, IsAtEnd}
@@ -12,7 +12,7 @@ use Rattle.std.specs.Borrow.{Bor}
 use Rattle.std.proofs.lemmas.Str.{is_utf8-from_IsUtf8}
 use Rattle.compact_str.proofs.ForCallers.{invalid-is_utf8}
 use Rattle.compact_str.specs.Value.{PlacedText}
-use Rattle.compact_str.specs.Capacity.{Growth}
+use Rattle.compact_str.specs.Capacity.{Growth, standard_growth}
 use Rattle.compact_str.specs.declared.Standard.{Standard}
 use Rattle.compact_str.specs.declared.ReserveError.{ReserveError}
 use Rattle.compact_edit.specs.declared.edit.Edit.{Edit}
@@ -99,27 +99,34 @@ texts-stopped (Err e) texts i d old mid new within first front =
     subst (λ l. AppendsFront old new l) parts (front-second old mid new (bytes_of (take i texts)) (text ++ others) first (front-first mid new text others front))
 
 -- one more line is answered
-pub answers-more : (g : Growth) (v w u : State) (known left : Option (List ℕ)) (answers : List (List ℕ)) (line answer : List ℕ)
-    → AnswersLines g v known answers left w → IsFirstLine left line → AnswersLine g w line answer u
-    → AnswersLines g v known (answers ++ answer ∷ []) (option_map (λ bytes. drop_through 10 bytes) left) u
-answers-more g v w u known left [] line answer so_far first is =
+pub answers-more : (v w u : State) (known left : Option (List ℕ)) (answers : List (List ℕ)) (line answer : List ℕ)
+    → AnswersLines v known answers left w → IsFirstLine left line → AnswersLine w line answer u
+    → AnswersLines v known (answers ++ answer ∷ []) (option_map (λ bytes. drop_through 10 bytes) left) u
+answers-more v w u known left [] line answer so_far first is =
     (line, u, rw (sym so_far.0) first, rw (sym so_far.1) is, (ap (λ known. option_map (λ bytes. drop_through 10 bytes) known) so_far.0, refl))
-answers-more g v w u known left (a ∷ others) line answer so_far first is =
-    (so_far.0, so_far.1, so_far.2, so_far.3, answers-more g so_far.1 w u _ left others line answer so_far.4 first is)
+answers-more v w u known left (a ∷ others) line answer so_far first is =
+    (so_far.0, so_far.1, so_far.2, so_far.3, answers-more so_far.1 w u _ left others line answer so_far.4 first is)
 
 -- the first lines of the known bytes have these answers, and the remaining bytes are known
-abbrev pub AnswersSoFar : Growth → State → Option (List ℕ) → Option (List ℕ) → Option (List ℕ) → Option (List ℕ) → State → Type 0
-AnswersSoFar g v known now old new w =
-    (answers : List (List ℕ)) × (left : Option (List ℕ)) × AnswersLines g v known answers left w
+abbrev pub AnswersSoFar : State → Option (List ℕ) → Option (List ℕ) → Option (List ℕ) → Option (List ℕ) → State → Type 0
+AnswersSoFar v known now old new w =
+    (answers : List (List ℕ)) × (left : Option (List ℕ)) × AnswersLines v known answers left w
     × IfSome left (λ _. now ≡ left) × Appends old new (concat answers)
 
+-- an executed command does this, or is refused
+pub does-or-refuses : (v w : State) (command : Command) (outcome : Result (Reply Standard) ReserveError) → IfOk outcome (λ reply. Executes v.value command reply w.value)
+    → OnOk outcome (w.has_room ≡ (runs_edit command || v.has_room)) → OnErr outcome (IsTrue (command_allocates v.has_room command)) → OnErr outcome (w ≡ v)
+    → DoesOrRefuses v command outcome w
+does-or-refuses v w command (Ok reply) executes room allocates err = (executes, room)
+does-or-refuses v w command (Err e) executes room allocates err = (err, allocates)
+
 -- an executed command, both its lines written
-pub command-answered : {X E : Type 0} (r : Result X E) (g : Growth) (v w : State) (u : PlacedText) (command : Command) (outcome : Result (Reply Standard) ReserveError)
-    (old mid new : Option (List ℕ)) → DoesOrRefuses g v command outcome w
+pub command-answered : {X E : Type 0} (r : Result X E) (v w : State) (u : PlacedText) (command : Command) (outcome : Result (Reply Standard) ReserveError)
+    (old mid new : Option (List ℕ)) → DoesOrRefuses v command outcome w
     → Appends old mid (outcome_line outcome) → u ≡ w.value → OnOk r (Appends mid new (value_line u))
-    → OnOk r (AppendsAnswer g v (Some command) old new w)
-command-answered (Err e) g v w u command outcome old mid new does first same second = tt
-command-answered (Ok x) g v w u command outcome old mid new does first same second =
+    → OnOk r (AppendsAnswer v (Some command) old new w)
+command-answered (Err e) v w u command outcome old mid new does first same second = tt
+command-answered (Ok x) v w u command outcome old mid new does first same second =
     let line = rw same at second in
     record {
       answer = outcome_line outcome ++ value_line w.value;
@@ -129,23 +136,23 @@ command-answered (Ok x) g v w u command outcome old mid new does first same seco
 
 -- an executed command, its lines written in part
 
-pub outcome-stopped : {X E : Type 0} (r : Result X E) (g : Growth) (v w : State) (command : Command) (outcome : Result (Reply Standard) ReserveError) (old new : Option (List ℕ))
-    → DoesOrRefuses g v command outcome w
+pub outcome-stopped : {X E : Type 0} (r : Result X E) (v w : State) (command : Command) (outcome : Result (Reply Standard) ReserveError) (old new : Option (List ℕ))
+    → DoesOrRefuses v command outcome w
     → AppendsFront old new (outcome_line outcome)
-    → OnErr r (AppendsAnswerFront g v (Some command) old new w)
-outcome-stopped (Ok x) g v w command outcome old new does front = tt
-outcome-stopped (Err e) g v w command outcome old new does front = record {
+    → OnErr r (AppendsAnswerFront v (Some command) old new w)
+outcome-stopped (Ok x) v w command outcome old new does front = tt
+outcome-stopped (Err e) v w command outcome old new does front = record {
   answer = outcome_line outcome ++ value_line w.value;
   answers = (outcome, refl, does);
   written = front-first old new (outcome_line outcome) (value_line w.value) front;
 }
 
-pub value-stopped : {X E : Type 0} (r : Result X E) (g : Growth) (v w : State) (u : PlacedText) (command : Command) (outcome : Result (Reply Standard) ReserveError)
-    (old mid new : Option (List ℕ)) → DoesOrRefuses g v command outcome w
+pub value-stopped : {X E : Type 0} (r : Result X E) (v w : State) (u : PlacedText) (command : Command) (outcome : Result (Reply Standard) ReserveError)
+    (old mid new : Option (List ℕ)) → DoesOrRefuses v command outcome w
     → Appends old mid (outcome_line outcome) → u ≡ w.value → OnErr r (AppendsFront mid new (value_line u))
-    → OnErr r (AppendsAnswerFront g v (Some command) old new w)
-value-stopped (Ok x) g v w u command outcome old mid new does first same second = tt
-value-stopped (Err e) g v w u command outcome old mid new does first same second =
+    → OnErr r (AppendsAnswerFront v (Some command) old new w)
+value-stopped (Ok x) v w u command outcome old mid new does first same second = tt
+value-stopped (Err e) v w u command outcome old mid new does first same second =
     let line = rw same at second in
     record {
       answer = outcome_line outcome ++ value_line w.value;
@@ -176,13 +183,13 @@ step-itself g v w (edits.CloneFrom source) reply step =
     step-same g v w (edits.CloneFrom source) (edits.CloneFrom (reference_to source.now)) (λ l. l) (λ l. l) (λ t. t) (λ _ d. d) reply step
 step-itself g v w edit reply step = step
 
-executes-itself : (g : Growth) (v w : PlacedText) (command : Command) (reply : Reply Standard) → Executes g v command reply w
-    → Executes g v (command_itself command) reply w
-executes-itself g v w (commands.New s) reply does = does
-executes-itself g v w commands.Static reply does = does
-executes-itself g v w (commands.WithCapacity n) reply does = does
-executes-itself g v w (commands.CloneFrom s) reply does = does
-executes-itself g v w (commands.Edit edit) reply does = step-itself g v w edit reply does
+executes-itself : (v w : PlacedText) (command : Command) (reply : Reply Standard) → Executes v command reply w
+    → Executes v (command_itself command) reply w
+executes-itself v w (commands.New s) reply does = does
+executes-itself v w commands.Static reply does = does
+executes-itself v w (commands.WithCapacity n) reply does = does
+executes-itself v w (commands.CloneFrom s) reply does = does
+executes-itself v w (commands.Edit edit) reply does = step-itself standard_growth v w edit reply does
 
 asks-itself : (has_room : Bool) (command : Command) → command_allocates has_room (command_itself command) ≡ command_allocates has_room command
 asks-itself has_room (commands.New s) = refl
@@ -198,16 +205,16 @@ runs-itself (commands.WithCapacity n) = refl
 runs-itself (commands.CloneFrom s) = refl
 runs-itself (commands.Edit edit) = refl
 
-does-itself : (g : Growth) (v w : State) (command : Command) (outcome : Result (Reply Standard) ReserveError)
-    → DoesOrRefuses g v command outcome w → DoesOrRefuses g v (command_itself command) outcome w
-does-itself g v w command (Ok reply) does =
-    (executes-itself g v.value w.value command reply does.0, rw (runs-itself command) does.1)
-does-itself g v w command (Err e) does = (does.0, rw (asks-itself v.has_room command) does.1)
+does-itself : (v w : State) (command : Command) (outcome : Result (Reply Standard) ReserveError)
+    → DoesOrRefuses v command outcome w → DoesOrRefuses v (command_itself command) outcome w
+does-itself v w command (Ok reply) does =
+    (executes-itself v.value w.value command reply does.0, rw (runs-itself command) does.1)
+does-itself v w command (Err e) does = (does.0, rw (asks-itself v.has_room command) does.1)
 
-answered-itself : (g : Growth) (v w : State) (command : Option Command) (answer : List ℕ) → AnswersCommand g v command answer w
-    → AnswersCommand g v (option_map command_itself command) answer w
-answered-itself g v w None answer is = is
-answered-itself g v w (Some command) answer is = (is.0, is.1, does-itself g v w command is.0 is.2)
+answered-itself : (v w : State) (command : Option Command) (answer : List ℕ) → AnswersCommand v command answer w
+    → AnswersCommand v (option_map command_itself command) answer w
+answered-itself v w None answer is = is
+answered-itself v w (Some command) answer is = (is.0, is.1, does-itself v w command is.0 is.2)
 
 pub broken-line : (line : List ℕ) → ¬ (IsUtf8 line) → line_command line ≡ None
 broken-line line broken = rw (invalid-is_utf8 line broken) refl
@@ -221,30 +228,30 @@ text-line line text bits items command is same spelt read =
     rw told of_text
 
 -- the answer to a command answers its line
-pub command-of-line : {X E : Type 0} (r : Result X E) (g : Growth) (v w : State) (command : Option Command) (line : List ℕ) (old new : Option (List ℕ))
+pub command-of-line : {X E : Type 0} (r : Result X E) (v w : State) (command : Option Command) (line : List ℕ) (old new : Option (List ℕ))
     → line_command line ≡ option_map command_itself command
-    → OnOk r (AppendsAnswer g v command old new w) → OnOk r (AppendsAnswer g v (line_command line) old new w)
-command-of-line (Err e) g v w command line old new is answered = tt
-command-of-line (Ok x) g v w command line old new is answered =
-    record { answer = answered.answer; answers = rw is (answered-itself g v w command answered.answer answered.answers); written = answered.written }
+    → OnOk r (AppendsAnswer v command old new w) → OnOk r (AppendsAnswer v (line_command line) old new w)
+command-of-line (Err e) v w command line old new is answered = tt
+command-of-line (Ok x) v w command line old new is answered =
+    record { answer = answered.answer; answers = rw is (answered-itself v w command answered.answer answered.answers); written = answered.written }
 
-pub no-command : {X E : Type 0} (r : Result X E) (g : Growth) (v : State) (old new : Option (List ℕ)) → OnOk r (Appends old new (codes "?\n"))
-    → OnOk r (AppendsAnswer g v None old new v)
-no-command (Err e) g v old new wrote = tt
-no-command (Ok x) g v old new wrote = record { answer = codes "?\n"; answers = (refl, refl); written = wrote }
+pub no-command : {X E : Type 0} (r : Result X E) (v : State) (old new : Option (List ℕ)) → OnOk r (Appends old new (codes "?\n"))
+    → OnOk r (AppendsAnswer v None old new v)
+no-command (Err e) v old new wrote = tt
+no-command (Ok x) v old new wrote = record { answer = codes "?\n"; answers = (refl, refl); written = wrote }
 
 -- likewise a part of it
-pub part-of-line : {X E : Type 0} (r : Result X E) (g : Growth) (v w : State) (command : Option Command) (line : List ℕ) (old new : Option (List ℕ))
+pub part-of-line : {X E : Type 0} (r : Result X E) (v w : State) (command : Option Command) (line : List ℕ) (old new : Option (List ℕ))
     → line_command line ≡ option_map command_itself command
-    → OnErr r (AppendsAnswerFront g v command old new w) → OnErr r (AppendsPart g v line old new)
-part-of-line (Ok x) g v w command line old new is answered = tt
-part-of-line (Err e) g v w command line old new is answered =
-    inr (w, record { answer = answered.answer; answers = rw is (answered-itself g v w command answered.answer answered.answers); written = answered.written })
+    → OnErr r (AppendsAnswerFront v command old new w) → OnErr r (AppendsPart v line old new)
+part-of-line (Ok x) v w command line old new is answered = tt
+part-of-line (Err e) v w command line old new is answered =
+    inr (w, record { answer = answered.answer; answers = rw is (answered-itself v w command answered.answer answered.answers); written = answered.written })
 
-pub no-command-stopped : {X E : Type 0} (r : Result X E) (g : Growth) (v : State) (old new : Option (List ℕ)) → OnErr r (AppendsFront old new (codes "?\n"))
-    → OnErr r (AppendsAnswerFront g v None old new v)
-no-command-stopped (Ok x) g v old new wrote = tt
-no-command-stopped (Err e) g v old new wrote = record { answer = codes "?\n"; answers = (refl, refl); written = wrote }
+pub no-command-stopped : {X E : Type 0} (r : Result X E) (v : State) (old new : Option (List ℕ)) → OnErr r (AppendsFront old new (codes "?\n"))
+    → OnErr r (AppendsAnswerFront v None old new v)
+no-command-stopped (Ok x) v old new wrote = tt
+no-command-stopped (Err e) v old new wrote = record { answer = codes "?\n"; answers = (refl, refl); written = wrote }
 
 concat-snoc : (xss : List (List ℕ)) (ys : List ℕ) → concat (xss ++ ys ∷ []) ≡ concat xss ++ ys
 concat-snoc [] ys = append-nil ys
@@ -266,15 +273,15 @@ left-next : (now next left : Option (List ℕ)) → IfSome left (λ _. now ≡ l
 left-next now next None same drops = tt
 left-next now next (Some bytes) same drops = let dropped = rw same at drops in dropped
 
-pub so-far-more : (g : Growth) (v w u : State) (known now next old mid new kept : Option (List ℕ)) (taken line : List ℕ)
-    → AnswersSoFar g v known now old mid w → IfSome now (λ bytes. taken ≡ take_through 10 bytes) → 0 < length taken
+pub so-far-more : (v w u : State) (known now next old mid new kept : Option (List ℕ)) (taken line : List ℕ)
+    → AnswersSoFar v known now old mid w → IfSome now (λ bytes. taken ≡ take_through 10 bytes) → 0 < length taken
     → line ≡ strip_last 10 taken → DropsThrough now next 10
-    → AppendsAnswer g w (line_command line) mid new u → Keeps new kept
-    → AnswersSoFar g v known next old kept u
-so-far-more g v w u known now next old mid new kept taken line so_far takes some stripped drops answered keeps = (
+    → AppendsAnswer w (line_command line) mid new u → Keeps new kept
+    → AnswersSoFar v known next old kept u
+so-far-more v w u known now next old mid new kept taken line so_far takes some stripped drops answered keeps = (
   so_far.0 ++ answered.answer ∷ [],
   option_map (λ bytes. drop_through 10 bytes) so_far.1,
-  answers-more g v w u known so_far.1 so_far.0 line answered.answer so_far.2 (first-line now so_far.1 taken line so_far.3 takes some stripped) answered.answers,
+  answers-more v w u known so_far.1 so_far.0 line answered.answer so_far.2 (first-line now so_far.1 taken line so_far.3 takes some stripped) answered.answers,
   left-next now next so_far.1 so_far.3 drops,
   rw (concat-snoc so_far.0 answered.answer) (appends-kept old new kept (concat so_far.0 ++ answered.answer)
       (appends-both old mid new (concat so_far.0) answered.answer so_far.4 answered.written) keeps),
@@ -286,37 +293,37 @@ at-end now (Some bytes) same end = let here = rw same at end in here
 
 -- the session may stop before the first line, after some lines, or within an answer
 
-pub stopped-at-first : {X E : Type 0} (r : Result X E) (g : Growth) (v : State) (known old : Option (List ℕ)) → OnErr r (AppendsSomeAnswers g v known old old)
-stopped-at-first (Ok x) g v known old = tt
-stopped-at-first (Err e) g v known old =
+pub stopped-at-first : {X E : Type 0} (r : Result X E) (v : State) (known old : Option (List ℕ)) → OnErr r (AppendsSomeAnswers v known old old)
+stopped-at-first (Ok x) v known old = tt
+stopped-at-first (Err e) v known old =
     record { answers = []; left = known; last = v; lines = (refl, refl); written = front-none old old [] (Keeps-refl old) }
 
-pub stopped-so-far : (g : Growth) (v w : State) (known now old new : Option (List ℕ)) → AnswersSoFar g v known now old new w
-    → AppendsSomeAnswers g v known old new
-stopped-so-far g v w known now old new so_far =
+pub stopped-so-far : (v w : State) (known now old new : Option (List ℕ)) → AnswersSoFar v known now old new w
+    → AppendsSomeAnswers v known old new
+stopped-so-far v w known now old new so_far =
     record { answers = so_far.0; left = so_far.1; last = w; lines = so_far.2; written = front-all old new (concat so_far.0) so_far.4 }
 
-pub stopped-after : {X E : Type 0} (r : Result X E) (g : Growth) (v w : State) (known now old new : Option (List ℕ)) → AnswersSoFar g v known now old new w
-    → OnErr r (AppendsSomeAnswers g v known old new)
-stopped-after (Ok x) g v w known now old new so_far = tt
-stopped-after (Err e) g v w known now old new so_far = stopped-so-far g v w known now old new so_far
+pub stopped-after : {X E : Type 0} (r : Result X E) (v w : State) (known now old new : Option (List ℕ)) → AnswersSoFar v known now old new w
+    → OnErr r (AppendsSomeAnswers v known old new)
+stopped-after (Ok x) v w known now old new so_far = tt
+stopped-after (Err e) v w known now old new so_far = stopped-so-far v w known now old new so_far
 
-within-part : (g : Growth) (v w : State) (known now old mid new : Option (List ℕ)) (taken line : List ℕ)
-    → AnswersSoFar g v known now old mid w → IfSome now (λ bytes. taken ≡ take_through 10 bytes) → 0 < length taken
-    → line ≡ strip_last 10 taken → AppendsPart g w line mid new → AppendsSomeAnswers g v known old new
-within-part g v w known now old mid new taken line so_far takes some stripped (inl kept) =
-    stopped-so-far g v w known now old new (so_far.0, so_far.1, so_far.2, so_far.3, appends-kept old mid new (concat so_far.0) so_far.4 kept)
-within-part g v w known now old mid new taken line so_far takes some stripped (inr (u, part)) = record {
+within-part : (v w : State) (known now old mid new : Option (List ℕ)) (taken line : List ℕ)
+    → AnswersSoFar v known now old mid w → IfSome now (λ bytes. taken ≡ take_through 10 bytes) → 0 < length taken
+    → line ≡ strip_last 10 taken → AppendsPart w line mid new → AppendsSomeAnswers v known old new
+within-part v w known now old mid new taken line so_far takes some stripped (inl kept) =
+    stopped-so-far v w known now old new (so_far.0, so_far.1, so_far.2, so_far.3, appends-kept old mid new (concat so_far.0) so_far.4 kept)
+within-part v w known now old mid new taken line so_far takes some stripped (inr (u, part)) = record {
   answers = so_far.0 ++ part.answer ∷ [];
   left = option_map (λ bytes. drop_through 10 bytes) so_far.1;
   last = u;
-  lines = answers-more g v w u known so_far.1 so_far.0 line part.answer so_far.2 (first-line now so_far.1 taken line so_far.3 takes some stripped) part.answers;
+  lines = answers-more v w u known so_far.1 so_far.0 line part.answer so_far.2 (first-line now so_far.1 taken line so_far.3 takes some stripped) part.answers;
   written = rw (concat-snoc so_far.0 part.answer) (front-second old mid new (concat so_far.0) part.answer so_far.4 part.written);
 }
 
-pub stopped-within : {X E : Type 0} (r : Result X E) (g : Growth) (v w : State) (known now old mid new : Option (List ℕ)) (taken line : List ℕ)
-    → AnswersSoFar g v known now old mid w → IfSome now (λ bytes. taken ≡ take_through 10 bytes) → 0 < length taken
-    → line ≡ strip_last 10 taken → AppendsPart g w line mid new → OnErr r (AppendsSomeAnswers g v known old new)
-stopped-within (Ok x) g v w known now old mid new taken line so_far takes some stripped part = tt
-stopped-within (Err e) g v w known now old mid new taken line so_far takes some stripped part =
-    within-part g v w known now old mid new taken line so_far takes some stripped part
+pub stopped-within : {X E : Type 0} (r : Result X E) (v w : State) (known now old mid new : Option (List ℕ)) (taken line : List ℕ)
+    → AnswersSoFar v known now old mid w → IfSome now (λ bytes. taken ≡ take_through 10 bytes) → 0 < length taken
+    → line ≡ strip_last 10 taken → AppendsPart w line mid new → OnErr r (AppendsSomeAnswers v known old new)
+stopped-within (Ok x) v w known now old mid new taken line so_far takes some stripped part = tt
+stopped-within (Err e) v w known now old mid new taken line so_far takes some stripped part =
+    within-part v w known now old mid new taken line so_far takes some stripped part

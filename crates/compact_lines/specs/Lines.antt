@@ -9,7 +9,6 @@ use Rattle.std.specs.Io.BufRead.{first_piece, drop_through}
 use Rattle.std.specs.Io.KnownBytes.{IsAtEnd, Appends, Keeps}
 use Rattle.compact_str.specs.Text.{utf8, size}
 use Rattle.compact_str.specs.Value.{Place, inline, heap, static, PlacedText}
-use Rattle.compact_str.specs.Capacity.{Growth, standard_growth}
 use Rattle.compact_str.specs.declared.Standard.{Standard}
 use Rattle.compact_str.specs.declared.ReserveError.{ReserveError}
 use Rattle.compact_edit.specs.declared.edit.Reply.{Reply}
@@ -53,64 +52,64 @@ outcome_line (Ok reply) = reply_line reply
 outcome_line (Err e) = codes "refused\n"
 
 -- from s, the command may give this answer and state t; no command gives a mark and s
-abbrev pub AnswersCommand : Growth → State → Option Command → List ℕ → State → Type 0
-AnswersCommand g s None answer t = (answer ≡ codes "?\n") × (t ≡ s)
-AnswersCommand g s (Some command) answer t =
+abbrev pub AnswersCommand : State → Option Command → List ℕ → State → Type 0
+AnswersCommand s None answer t = (answer ≡ codes "?\n") × (t ≡ s)
+AnswersCommand s (Some command) answer t =
     (outcome : Result (Reply Standard) ReserveError) × (answer ≡ outcome_line outcome ++ value_line t.value)
-    × DoesOrRefuses g s command outcome t
+    × DoesOrRefuses s command outcome t
 
 -- the same for a line
-abbrev pub AnswersLine : Growth → State → List ℕ → List ℕ → State → Type 0
-AnswersLine g s line answer t = AnswersCommand g s (line_command line) answer t
+abbrev pub AnswersLine : State → List ℕ → List ℕ → State → Type 0
+AnswersLine s line answer t = AnswersCommand s (line_command line) answer t
 
 -- from s, a command leads to t, and the writer's bytes grew by its answer
-pub record AppendsAnswer (g : Growth) (s : State) (command : Option Command) (old new : Option (List ℕ)) (t : State) : Type 0 where
+pub record AppendsAnswer (s : State) (command : Option Command) (old new : Option (List ℕ)) (t : State) : Type 0 where
   pub answer : List ℕ
-  pub answers : AnswersCommand g s command answer t
+  pub answers : AnswersCommand s command answer t
   pub written : Appends old new answer
 
 -- the same, but by a prefix of the answer
-pub record AppendsAnswerFront (g : Growth) (s : State) (command : Option Command) (old new : Option (List ℕ)) (t : State) : Type 0 where
+pub record AppendsAnswerFront (s : State) (command : Option Command) (old new : Option (List ℕ)) (t : State) : Type 0 where
   pub answer : List ℕ
-  pub answers : AnswersCommand g s command answer t
+  pub answers : AnswersCommand s command answer t
   pub written : AppendsFront old new answer
 
 -- the writer's bytes are unchanged, or grew by a prefix of an answer to the line from s
-abbrev pub AppendsPart : Growth → State → List ℕ → Option (List ℕ) → Option (List ℕ) → Type 0
-AppendsPart g s line old new = Keeps old new ⊎ ((t : State) × AppendsAnswerFront g s (line_command line) old new t)
+abbrev pub AppendsPart : State → List ℕ → Option (List ℕ) → Option (List ℕ) → Type 0
+AppendsPart s line old new = Keeps old new ⊎ ((t : State) × AppendsAnswerFront s (line_command line) old new t)
 
 -- the line is the first of the known bytes
 abbrev pub IsFirstLine : Option (List ℕ) → List ℕ → Type 0
 IsFirstLine known line = IfSome known (λ bytes. (0 < length bytes) × (line ≡ first_piece 10 bytes))
 
 -- from s, the first lines of the known bytes may give these answers, one by one, and end with t and these bytes left
-abbrev pub AnswersLines : Growth → State → Option (List ℕ) → List (List ℕ) → Option (List ℕ) → State → Type 0
-AnswersLines g s known [] left t = (left ≡ known) × (t ≡ s)
-AnswersLines g s known (answer ∷ answers) left t =
-    (line : List ℕ) × (u : State) × IsFirstLine known line × AnswersLine g s line answer u
-    × AnswersLines g u (option_map (λ bytes. drop_through 10 bytes) known) answers left t
+abbrev pub AnswersLines : State → Option (List ℕ) → List (List ℕ) → Option (List ℕ) → State → Type 0
+AnswersLines s known [] left t = (left ≡ known) × (t ≡ s)
+AnswersLines s known (answer ∷ answers) left t =
+    (line : List ℕ) × (u : State) × IsFirstLine known line × AnswersLine s line answer u
+    × AnswersLines u (option_map (λ bytes. drop_through 10 bytes) known) answers left t
 
 -- from s, the writer's bytes grew by the answers to all lines of the known bytes, which end with t
-pub record AppendsAnswers (g : Growth) (s : State) (known old new : Option (List ℕ)) (t : State) : Type 0 where
+pub record AppendsAnswers (s : State) (known old new : Option (List ℕ)) (t : State) : Type 0 where
   pub answers : List (List ℕ)
   pub left : Option (List ℕ)
-  pub lines : AnswersLines g s known answers left t
+  pub lines : AnswersLines s known answers left t
   pub end : IsAtEnd left
   pub written : Appends old new (concat answers)
 
 -- from s, they grew by a prefix of the answers to some first lines, or none
-pub record AppendsSomeAnswers (g : Growth) (s : State) (known old new : Option (List ℕ)) : Type 0 where
+pub record AppendsSomeAnswers (s : State) (known old new : Option (List ℕ)) : Type 0 where
   pub answers : List (List ℕ)
   pub left : Option (List ℕ)
   pub last : State
-  pub lines : AnswersLines g s known answers left last
+  pub lines : AnswersLines s known answers left last
   pub written : AppendsFront old new (concat answers)
 
 -- from the empty value on, all lines of the known bytes were answered
 pub record AnswersInput (known old new : Option (List ℕ)) : Type 0 where
   pub last : State
-  pub all : AppendsAnswers standard_growth first_state known old new last
+  pub all : AppendsAnswers first_state known old new last
 
 -- from the empty value on, some first lines were answered, perhaps in part
 abbrev pub AnswersInPart : Option (List ℕ) → Option (List ℕ) → Option (List ℕ) → Type 0
-AnswersInPart known old new = AppendsSomeAnswers standard_growth first_state known old new
+AnswersInPart known old new = AppendsSomeAnswers first_state known old new

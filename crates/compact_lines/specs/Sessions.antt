@@ -3,7 +3,7 @@ use Rattle.std.specs.Prelude.{◌≡◌, Bool, true, false, not, [], ◌||◌, r
 use Rattle.std.specs.Borrow.{Bor}
 use Rattle.compact_str.specs.Text.{text_of}
 use Rattle.compact_str.specs.Value.{PlacedText, placed_text}
-use Rattle.compact_str.specs.Capacity.{Growth, inline_placement, static_placement, with_capacity_allocates}
+use Rattle.compact_str.specs.Capacity.{standard_growth, inline_placement, static_placement, with_capacity_allocates}
 use Rattle.compact_str.specs.Calls.{new, with_capacity}
 use Rattle.compact_str.specs.declared.Standard.{Standard}
 use Rattle.compact_str.specs.declared.ReserveError.{ReserveError}
@@ -24,13 +24,13 @@ abbrev pub first_state : State
 first_state = record { value = placed_text [] inline_placement; has_room = false }
 
 -- from v, the command may give this reply and the value w
-abbrev pub Executes : Growth → PlacedText → Command → Reply Standard → PlacedText → Type 0
-Executes g v (New s) reply w = (reply ≡ Done) × (new g (text_of s.now) ≡ Some w)
-Executes g v Static reply w = (reply ≡ Done) × (w.placement ≡ static_placement w.text) × (w.text ≡ replicate 30 97)
-Executes g v (WithCapacity n) reply w = (reply ≡ Done) × (with_capacity g n ≡ Some w)
-Executes g v (CloneFrom s) reply w =
-    (source : Bor PlacedText) × (new g (text_of s.now) ≡ Some source.now) × Step g v (edits.CloneFrom source) reply w
-Executes g v (Edit edit) reply w = Step g v edit reply w
+abbrev pub Executes : PlacedText → Command → Reply Standard → PlacedText → Type 0
+Executes v (New s) reply w = (reply ≡ Done) × (new standard_growth (text_of s.now) ≡ Some w)
+Executes v Static reply w = (reply ≡ Done) × (w.placement ≡ static_placement w.text) × (w.text ≡ replicate 30 97)
+Executes v (WithCapacity n) reply w = (reply ≡ Done) × (with_capacity standard_growth n ≡ Some w)
+Executes v (CloneFrom s) reply w =
+    (source : Bor PlacedText) × (new standard_growth (text_of s.now) ≡ Some source.now) × Step standard_growth v (edits.CloneFrom source) reply w
+Executes v (Edit edit) reply w = Step standard_growth v edit reply w
 
 -- the command runs an edit, whose reply needs room; that room is kept
 abbrev pub runs_edit : Command → Bool
@@ -47,7 +47,7 @@ command_allocates has_room (CloneFrom s) = with_capacity_allocates (length s.now
 command_allocates has_room (Edit edit) = not has_room
 
 -- from s, the command succeeds with a reply and leaves t, or an allocation fails and s is unchanged
-abbrev pub DoesOrRefuses : Growth → State → Command → Result (Reply Standard) ReserveError → State → Type 0
-DoesOrRefuses g s command (Ok reply) t =
-    Executes g s.value command reply t.value × (t.has_room ≡ (runs_edit command || s.has_room))
-DoesOrRefuses g s command (Err e) t = (t ≡ s) × IsTrue (command_allocates s.has_room command)
+abbrev pub DoesOrRefuses : State → Command → Result (Reply Standard) ReserveError → State → Type 0
+DoesOrRefuses s command (Ok reply) t =
+    Executes s.value command reply t.value × (t.has_room ≡ (runs_edit command || s.has_room))
+DoesOrRefuses s command (Err e) t = (t ≡ s) × IsTrue (command_allocates s.has_room command)

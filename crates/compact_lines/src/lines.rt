@@ -4,7 +4,6 @@ ghost use Rattle.std.specs.Fmt.{decimal};
 ghost use Rattle.std.specs.Io.BufRead.{strip_last};
 ghost use Rattle.std.specs.Io.KnownBytes.{Appends};
 ghost use Rattle.compact_str.specs.Text.{utf8};
-ghost use Rattle.compact_str.specs.Capacity.{standard_growth};
 ghost use Rattle.compact_lines.specs.Commands.{line_command};
 ghost use Rattle.compact_lines.specs.Lines.{AnswersInput, AnswersInPart, AppendsAnswer, AppendsAnswerFront, AppendsAnswers, AppendsFront, AppendsPart, AppendsSomeAnswers, outcome_line, place_word, reply_line, value_line};
 
@@ -30,6 +29,7 @@ use std::io::{BufRead, BufReader, Read, Write};
 /// the writer's are known too, that it has appended just these answers. 1 means that it has appended a prefix of the
 /// answers to some first lines.
 pub fn run_lines<R: Read, W: Write>(alloc: Global, reader: &mut R, writer: &mut W) -> u8
+    // 0 if all lines were answered, 1 if it stopped before or within an answer.
     ensures status { result ≤ 1 }
     ensures answers { result ≡ 0
         → AnswersInput (R.remaining reader.old) (W.contents writer.old) (W.contents writer.new) }
@@ -61,9 +61,9 @@ fn answer_lines<B: BufRead, W: Write>(
     reader: &mut B,
     writer: &mut W,
 ) -> io::Result<()>
-    ensures ok { OnOk result (AppendsAnswers standard_growth session.old
+    ensures ok { OnOk result (AppendsAnswers session.old
         (B.remaining reader.old) (W.contents writer.old) (W.contents writer.new) session.new) }
-    ensures err { OnErr result (AppendsSomeAnswers standard_growth session.old
+    ensures err { OnErr result (AppendsSomeAnswers session.old
         (B.remaining reader.old) (W.contents writer.old) (W.contents writer.new)) }
 {
     let mut line = Vec::new(alloc);
@@ -96,9 +96,9 @@ fn answer_line<W: Write>(
     line: &[u8],
     writer: &mut W,
 ) -> io::Result<()>
-    ensures ok { OnOk result (AppendsAnswer standard_growth session.old (line_command line.now)
+    ensures ok { OnOk result (AppendsAnswer session.old (line_command line.now)
         (W.contents writer.old) (W.contents writer.new) session.new) }
-    ensures err { OnErr result (AppendsPart standard_growth session.old line.now
+    ensures err { OnErr result (AppendsPart session.old line.now
         (W.contents writer.old) (W.contents writer.new)) }
 {
     let Ok(line) = std::str::from_utf8(line) else {
@@ -117,9 +117,9 @@ fn answer_command<W: Write>(
     command: Command,
     writer: &mut W,
 ) -> io::Result<()>
-    ensures ok { OnOk result (AppendsAnswer standard_growth session.old (Some command.entry)
+    ensures ok { OnOk result (AppendsAnswer session.old (Some command.entry)
         (W.contents writer.old) (W.contents writer.new) session.new) }
-    ensures err { OnErr result (AppendsAnswerFront standard_growth session.old (Some command.entry)
+    ensures err { OnErr result (AppendsAnswerFront session.old (Some command.entry)
         (W.contents writer.old) (W.contents writer.new) session.new) }
 {
     let outcome = session.execute(command);

@@ -1,11 +1,12 @@
 //! The value that the commands edit.
-ghost use Rattle.std.specs.Prelude.{◌≡◌, IfOk, OnOk, OnErr, IsTrue, IsFalse};
+ghost use Rattle.std.specs.Prelude.{◌≡◌, ◌||◌, IfOk, OnOk, OnErr, IsTrue, IsFalse};
+ghost use Rattle.compact_str.specs.Capacity.{standard_growth};
 ghost use Rattle.compact_edit.specs.Steps.{Step};
-ghost use Rattle.compact_lines.specs.Sessions.{DoesOrRefuses, first_state};
+ghost use Rattle.compact_lines.specs.Sessions.{Executes, command_allocates, first_state, runs_edit};
 
 use crate::command::Command;
 use compact_edit::{Edit, Reply, run};
-use compact_str::{CompactString, Policy, ReserveError, Standard};
+use compact_str::{CompactString, ReserveError, Standard};
 use std::alloc::Global;
 use std::marker::Model;
 
@@ -55,7 +56,16 @@ impl Session {
     /// [`ReserveError`] if allocation fails: for the value of `new`, `cap` or `clonefrom`, or for room for the reply
     /// to an edit, even one with a bad position. The session is then unchanged.
     pub fn execute(&mut self, command: Command) -> Result<Reply<Standard>, ReserveError>
-        ensures { DoesOrRefuses ⟦<Standard as Policy>⟧.growth self.old command.entry result self.new }
+        // On success the command was executed. Room for a reply is kept.
+        ensures executes { IfOk result (λ reply.
+            Executes self.old.value command.entry reply self.new.value) }
+        ensures room { OnOk result
+            (self.new.has_room ≡ (runs_edit command.entry || self.old.has_room)) }
+
+        // Fails only if it must allocate. The session is then unchanged.
+        ensures allocates { OnErr result
+            (IsTrue (command_allocates self.old.has_room command.entry)) }
+        ensures err { OnErr result (self.new ≡ self.old) }
     {
         match command {
             Command::New(text) => {
@@ -80,10 +90,11 @@ impl Session {
 
     /// Runs one edit and returns its reply.
     fn edit(&mut self, edit: Edit<Standard>) -> Result<Reply<Standard>, ReserveError>
-        ensures ok { IfOk result (λ reply.
-            Step ⟦<Standard as Policy>⟧.growth self.old.value edit.entry reply self.new.value) }
+        ensures steps { IfOk result (λ reply.
+            Step standard_growth self.old.value edit.entry reply self.new.value) }
         ensures room { OnOk result (IsTrue self.new.has_room) }
-        ensures err { OnErr result ((self.new ≡ self.old) × IsFalse self.old.has_room) }
+        ensures allocates { OnErr result (IsFalse self.old.has_room) }
+        ensures err { OnErr result (self.new ≡ self.old) }
     {
         self.replies.clear();
         run(&mut self.value, &[edit], &mut self.replies)?;

@@ -6,6 +6,7 @@ use Rattle.std.specs.Char.{is_whitespace}
 use Rattle.std.specs.Char.Unicode.Alphabetic.{is_alphabetic}
 use Rattle.std.specs.Char.Unicode.Numeric.{is_numeric}
 use Rattle.compact_edit.specs.Names.{distinct_texts, InternsAll}
+use Rattle.compact_edit.specs.declared.intern.TheConstants.{MAX_COUNT}
 use Rattle.compact_edit.specs.declared.intern.InternError.{InternError}
 use Rattle.compact_edit.specs.declared.intern.InternError.TheVariants.{Reserve, Full}
 use Rattle.compact_uses.specs.declared.tokenizer.Kind.{Kind}
@@ -69,4 +70,4 @@ IsPartlyTokenized before names text = (tokens : List Token) × (rest : List ℕ)
 -- the error of a failed tokenization: allocation failed, or no number is left
 abbrev pub IsTokenRefusal : List (List ℕ) → InternError → Type 0
 IsTokenRefusal names (Reserve error) = ⊤
-IsTokenRefusal names Full = length names ≡ 4294967295
+IsTokenRefusal names Full = length names ≡ MAX_COUNT

@@ -27,7 +27,7 @@ pub struct Entry {
 /// The tokens of `b a a`, where `b` is name 0 and `a` name 2, have the entries 2 of name 2 and 1 of name 0.
 pub fn ranking(alloc: Global, tokens: &[Token], names: u32) -> Result<Vec<Entry>, AllocError>
     ensures ranks { IfOk result (λ ranks. IsRanking (entries_before tokens.now names) ranks.items) }
-    ensures empty { names ≡ 0 → IsOk result }
+    ensures succeeds { names ≡ 0 → IsOk result }
 {
     let mut ranks = entries(alloc, tokens, names)?;
     ranks.sort_by_key(|entry| Reverse(entry.count))?;
@@ -37,7 +37,7 @@ pub fn ranking(alloc: Global, tokens: &[Token], names: u32) -> Result<Vec<Entry>
 /// Counts the words, in the order of their numbers. Never fails if `names` is 0.
 fn entries(alloc: Global, tokens: &[Token], names: u32) -> Result<Vec<Entry>, AllocError>
     ensures entries { IfOk result (λ entries. entries.items ≡ entries_before tokens.now names) }
-    ensures empty { names ≡ 0 → IsOk result }
+    ensures succeeds { names ≡ 0 → IsOk result }
 {
     if names == 0 {
         return Ok(Vec::new(alloc));

@@ -27,15 +27,13 @@ pub fn aligned_rows(
         ≡ map (λ fields. row_text (widths_of table.now) fields.items) table.now) }
     ensures widths { IfOk result
         (λ lines. All (λ line. length line.text ≡ row_width (widths_of table.now)) lines.items) }
-    ensures empty { table.now ≡ [] → IsOk result }
+    ensures succeeds { table.now ≡ [] → IsOk result }
 {
     let widths = widths_of(alloc, table)?;
     let mut lines = Vec::new(alloc);
     for fields in table {
         let line = row(alloc, fields, &widths)?;
-        if lines.push(line).is_err() {
-            return Err(ReserveError);
-        }
+        lines.push(line)?;
     }
     Ok(lines)
 }
@@ -43,13 +41,11 @@ pub fn aligned_rows(
 /// Returns the width of each column, in characters.
 fn widths_of(alloc: Global, table: &[Vec<CompactString>]) -> Result<Vec<usize>, ReserveError>
     ensures widths { IfOk result (λ widths. widths.items ≡ widths_of table.now) }
-    ensures empty { table.now ≡ [] → IsOk result }
+    ensures succeeds { table.now ≡ [] → IsOk result }
 {
     let mut widths = Vec::new(alloc);
     for column in 0..column_count(table) {
-        if widths.push(column_width(table, column)).is_err() {
-            return Err(ReserveError);
-        }
+        widths.push(column_width(table, column))?;
     }
     Ok(widths)
 }

@@ -48,16 +48,22 @@ pub fn tokenize(
     names: &mut Interner,
     text: &CompactString,
 ) -> Result<Vec<Token>, InternError>
+    // On success the tokens are all pieces of the text, and each number is that of its piece.
     ensures joined { IfOk result (λ tokens.
         flat_map (token_text names.new) tokens.items ≡ text.now.text) }
     ensures tokens { IfOk result (λ tokens.
         IsTokenized names.old names.new tokens.items [] text.now.text) }
+
+    // Names keep their numbers, and at most one comes for each character.
     ensures kept { (n : ℕ) (name : List ℕ)
         → slice_get names.old n ≡ Some name → slice_get names.new n ≡ Some name }
     ensures bound { length names.new ≤ length names.old + length text.now.text }
-    ensures empty { text.now.text ≡ [] → IsOk result }
-    ensures front { OnErr result (IsPartlyTokenized names.old names.new text.now.text) }
-    ensures err { IfErr result (IsTokenRefusal names.new) }
+
+    // Fails if it must allocate, or if all numbers are in use. The names then have the texts of the
+    // first tokens.
+    ensures succeeds { text.now.text ≡ [] → IsOk result }
+    ensures cause { IfErr result (IsTokenRefusal names.new) }
+    ensures err { OnErr result (IsPartlyTokenized names.old names.new text.now.text) }
 {
     // For the proof: the names are distinct, even if there is no token.
     let _distinct = names.len();

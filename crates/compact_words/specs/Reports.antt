@@ -7,6 +7,7 @@ use Rattle.compact_str.specs.Utf8Text.{utf8_lossy_text}
 use Rattle.compact_str.specs.Text.{ascii_lowercase, utf8}
 use Rattle.compact_str.specs.Value.{PlacedText}
 use Rattle.compact_str.specs.Order.{text_in}
+use Rattle.compact_edit.specs.declared.intern.TheConstants.{MAX_COUNT}
 use Rattle.compact_edit.specs.declared.intern.InternError.{InternError}
 use Rattle.compact_edit.specs.declared.intern.InternError.TheVariants.{Reserve, Full}
 use Rattle.compact_uses.specs.Tokens.{token_text, IsTokenized}
@@ -36,7 +37,7 @@ pub record IsReport (text : List ℕ) (most : ℕ) (lines : List (List ℕ)) : T
 -- why a text has no report: a failed allocation, or so many characters that its tokens may outnumber the numbers
 abbrev pub IsReportRefusal : List ℕ → InternError → Type 0
 IsReportRefusal text (Reserve error) = ⊤
-IsReportRefusal text Full = 4294967295 ≤ length text
+IsReportRefusal text Full = MAX_COUNT ≤ length text
 
 -- the text whose words are counted: invalid bytes as U+FFFD, ASCII in lowercase
 abbrev pub counted_text : List ℕ → List ℕ

@@ -9,7 +9,7 @@ ghost use Rattle.compact_ext.specs.Shown.{Converts};
 use crate::format::ToCompactStringError;
 use crate::to_text::ToCompactString;
 use crate::to_text::digits::number_row;
-use compact_str::{CompactString, Policy, Standard};
+use compact_str::CompactString;
 use std::alloc::Global;
 
 /// Returns an inline string of a number.
@@ -31,7 +31,8 @@ fn number_value(alloc: Global, magnitude: u64, is_negative: bool) -> CompactStri
 #[inline]
 #[tactic(auto, using(crate::proofs::NumberTexts::number_values))]
 pub fn unsigned(alloc: Global, n: u64) -> Result<CompactString, ToCompactStringError>
-    ensures { Converts ⟦<Standard as Policy>⟧.growth (decimal n) ⊤ result }
+    // As `ToCompactString::to_compact_string` of a short value.
+    ensures { Converts (decimal n) ⊤ result }
 {
     Ok(number_value(alloc, n, false))
 }
@@ -44,7 +45,8 @@ pub fn unsigned(alloc: Global, n: u64) -> Result<CompactString, ToCompactStringE
 #[inline]
 #[tactic(auto, using(crate::proofs::NumberTexts::number_values))]
 pub fn signed(alloc: Global, n: i64) -> Result<CompactString, ToCompactStringError>
-    ensures { Converts ⟦<Standard as Policy>⟧.growth (signed_decimal n) ⊤ result }
+    // As `ToCompactString::to_compact_string` of a short value.
+    ensures { Converts (signed_decimal n) ⊤ result }
 {
     Ok(number_value(alloc, n.unsigned_abs(), n < 0))
 }

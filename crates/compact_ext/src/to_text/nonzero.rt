@@ -2,6 +2,7 @@
 ghost use Rattle.std.specs.Prelude.{◌≤◌, length, ⊤};
 ghost use Rattle.std.specs.Fmt.{decimal, signed_decimal};
 ghost use Rattle.std.specs.Int.NonZero.{non_zero_u8_get, non_zero_u16_get, non_zero_u32_get, non_zero_u64_get, non_zero_u128_get, non_zero_usize_get, non_zero_i8_get, non_zero_i16_get, non_zero_i32_get, non_zero_i64_get, non_zero_i128_get, non_zero_isize_get};
+ghost use Rattle.compact_str.specs.Words.{INLINE_CAPACITY};
 
 use crate::format::ToCompactStringError;
 use crate::to_text::ToCompactString;
@@ -65,7 +66,7 @@ impl ToCompactString for NonZeroU64 {
 impl ToCompactString for NonZeroU128 {
     ghost shown_text = { λ n. decimal (non_zero_u128_get n) };
 
-    ghost IsShort = { λ n. length (decimal (non_zero_u128_get n)) ≤ 24 };
+    ghost IsShort = { λ n. length (decimal (non_zero_u128_get n)) ≤ INLINE_CAPACITY };
 
     #[inline]
     fn to_compact_string(&self, alloc: Global) -> Result<CompactString, ToCompactStringError> {
@@ -137,7 +138,7 @@ impl ToCompactString for NonZeroI64 {
 impl ToCompactString for NonZeroI128 {
     ghost shown_text = { λ n. signed_decimal (non_zero_i128_get n) };
 
-    ghost IsShort = { λ n. length (signed_decimal (non_zero_i128_get n)) ≤ 24 };
+    ghost IsShort = { λ n. length (signed_decimal (non_zero_i128_get n)) ≤ INLINE_CAPACITY };
 
     #[inline]
     fn to_compact_string(&self, alloc: Global) -> Result<CompactString, ToCompactStringError> {

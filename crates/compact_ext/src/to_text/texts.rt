@@ -2,12 +2,12 @@
 ghost use Rattle.std.specs.Prelude.{◌≤◌, [], ◌∷◌, length, string_bytes, ⊤};
 ghost use Rattle.std.specs.Box.{boxed_str_bytes};
 ghost use Rattle.std.specs.Cow.{cow_str_bytes};
-ghost use Rattle.compact_str.specs.Text.{text_of, size};
+ghost use Rattle.compact_str.specs.Words.{INLINE_CAPACITY, size, text_of};
 ghost use Rattle.compact_ext.specs.Shown.{Converts, bool_text};
 
 use crate::format::ToCompactStringError;
 use crate::to_text::ToCompactString;
-use compact_str::{CompactString, Policy, Standard};
+use compact_str::CompactString;
 use std::alloc::Global;
 use std::borrow::CowStr;
 use std::boxed::BoxedStr;
@@ -19,13 +19,10 @@ use std::boxed::BoxedStr;
 /// `Reserve` if allocation fails. Never fails up to 24 bytes.
 #[inline]
 pub fn text_copy(alloc: Global, text: &str) -> Result<CompactString, ToCompactStringError>
-    ensures { Converts ⟦<Standard as Policy>⟧.growth (text_of text.now)
-        (length text.now ≤ 24) result }
+    // As `ToCompactString::to_compact_string`.
+    ensures { Converts (text_of text.now) (length text.now ≤ INLINE_CAPACITY) result }
 {
-    match CompactString::new(alloc, text) {
-        Ok(value) => Ok(value),
-        Err(error) => Err(ToCompactStringError::Reserve(error)),
-    }
+    CompactString::new(alloc, text).map_err(ToCompactStringError::Reserve)
 }
 
 impl ToCompactString for bool {
@@ -34,6 +31,7 @@ impl ToCompactString for bool {
     ghost IsShort = { λ _. ⊤ };
 
     #[inline]
+    #[tactic(auto, using(crate::proofs::ShownTexts::shown_texts))]
     fn to_compact_string(&self, alloc: Global) -> Result<CompactString, ToCompactStringError> {
         if *self {
             text_copy(alloc, "true")
@@ -49,6 +47,7 @@ impl ToCompactString for char {
     ghost IsShort = { λ _. ⊤ };
 
     #[inline]
+    #[tactic(auto, using(crate::proofs::ShownTexts::shown_texts))]
     fn to_compact_string(&self, alloc: Global) -> Result<CompactString, ToCompactStringError> {
         let mut bytes = [0; 4];
         text_copy(alloc, self.encode_utf8(&mut bytes))
@@ -58,7 +57,7 @@ impl ToCompactString for char {
 impl ToCompactString for &str {
     ghost shown_text = { λ s. text_of s.now };
 
-    ghost IsShort = { λ s. length s.now ≤ 24 };
+    ghost IsShort = { λ s. length s.now ≤ INLINE_CAPACITY };
 
     #[inline]
     fn to_compact_string(&self, alloc: Global) -> Result<CompactString, ToCompactStringError> {
@@ -69,7 +68,7 @@ impl ToCompactString for &str {
 impl ToCompactString for String {
     ghost shown_text = { λ s. text_of (string_bytes s) };
 
-    ghost IsShort = { λ s. length (string_bytes s) ≤ 24 };
+    ghost IsShort = { λ s. length (string_bytes s) ≤ INLINE_CAPACITY };
 
     #[inline]
     fn to_compact_string(&self, alloc: Global) -> Result<CompactString, ToCompactStringError> {
@@ -80,7 +79,7 @@ impl ToCompactString for String {
 impl ToCompactString for BoxedStr {
     ghost shown_text = { λ s. text_of (boxed_str_bytes s) };
 
-    ghost IsShort = { λ s. length (boxed_str_bytes s) ≤ 24 };
+    ghost IsShort = { λ s. length (boxed_str_bytes s) ≤ INLINE_CAPACITY };
 
     #[inline]
     fn to_compact_string(&self, alloc: Global) -> Result<CompactString, ToCompactStringError> {
@@ -91,7 +90,7 @@ impl ToCompactString for BoxedStr {
 impl ToCompactString for CowStr<'_> {
     ghost shown_text = { λ s. text_of (cow_str_bytes s) };
 
-    ghost IsShort = { λ s. length (cow_str_bytes s) ≤ 24 };
+    ghost IsShort = { λ s. length (cow_str_bytes s) ≤ INLINE_CAPACITY };
 
     #[inline]
     fn to_compact_string(&self, alloc: Global) -> Result<CompactString, ToCompactStringError> {
@@ -102,7 +101,7 @@ impl ToCompactString for CowStr<'_> {
 impl ToCompactString for CompactString {
     ghost shown_text = { λ v. v.text };
 
-    ghost IsShort = { λ v. size v.text ≤ 24 };
+    ghost IsShort = { λ v. size v.text ≤ INLINE_CAPACITY };
 
     #[inline]
     fn to_compact_string(&self, alloc: Global) -> Result<CompactString, ToCompactStringError> {

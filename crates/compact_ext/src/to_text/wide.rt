@@ -1,12 +1,13 @@
 //! Strings from integers of 128 bits, by the crate `itoa`.
 ghost use Rattle.std.specs.Prelude.{◌≤◌, length};
 ghost use Rattle.std.specs.Fmt.{decimal, signed_decimal};
+ghost use Rattle.compact_str.specs.Words.{INLINE_CAPACITY};
 ghost use Rattle.compact_ext.specs.Shown.{Converts};
 
 use crate::format::ToCompactStringError;
 use crate::to_text::ToCompactString;
 use crate::to_text::texts::text_copy;
-use compact_str::{CompactString, Policy, Standard};
+use compact_str::CompactString;
 use itoa::{Buffer, Integer};
 use std::alloc::Global;
 
@@ -16,7 +17,8 @@ use std::alloc::Global;
 ///
 /// `Reserve` if allocation fails. Never fails up to 24 bytes.
 pub fn printed<I: Integer>(alloc: Global, n: I) -> Result<CompactString, ToCompactStringError>
-    ensures { Converts ⟦<Standard as Policy>⟧.growth (I.text n) (length (I.text n) ≤ 24) result }
+    // As `ToCompactString::to_compact_string`.
+    ensures { Converts (I.text n) (length (I.text n) ≤ INLINE_CAPACITY) result }
 {
     let mut buffer = Buffer::new();
     text_copy(alloc, buffer.format(n))
@@ -25,7 +27,7 @@ pub fn printed<I: Integer>(alloc: Global, n: I) -> Result<CompactString, ToCompa
 impl ToCompactString for u128 {
     ghost shown_text = { decimal };
 
-    ghost IsShort = { λ n. length (decimal n) ≤ 24 };
+    ghost IsShort = { λ n. length (decimal n) ≤ INLINE_CAPACITY };
 
     fn to_compact_string(&self, alloc: Global) -> Result<CompactString, ToCompactStringError> {
         let n: u128 = *self;
@@ -36,7 +38,7 @@ impl ToCompactString for u128 {
 impl ToCompactString for i128 {
     ghost shown_text = { signed_decimal };
 
-    ghost IsShort = { λ n. length (signed_decimal n) ≤ 24 };
+    ghost IsShort = { λ n. length (signed_decimal n) ≤ INLINE_CAPACITY };
 
     fn to_compact_string(&self, alloc: Global) -> Result<CompactString, ToCompactStringError> {
         let n: i128 = *self;

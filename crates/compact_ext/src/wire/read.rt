@@ -1,10 +1,12 @@
 //! Reading a wire form.
-ghost use Rattle.std.specs.Prelude.{◌≡◌, ◌+◌, ◌^◌, ◌<◌, ◌≤◌, length, take, IfOk, IfErr, OnOk, IsTrue, false, vec_len, IsUtf8};
+ghost use Rattle.std.specs.Prelude.{◌≡◌, ◌+◌, ◌^◌, ◌<◌, ◌≤◌, length, take, IfOk, IfErr, OnOk, vec_len, IsUtf8};
+ghost use Rattle.std.specs.Bool.{OnTrue, OnFalse};
 ghost use Rattle.std.specs.Int.{w32, to_le_bytes};
 ghost use Rattle.std.specs.Vec.{vec_capacity};
 ghost use Rattle.std.specs.Io.KnownBytes.{Consumes};
 ghost use Rattle.compact_str.specs.Text.{IsText, size, utf8};
 ghost use Rattle.compact_repr.specs.Packed.{packed_len};
+ghost use Rattle.compact_str.specs.Words.{INLINE_CAPACITY};
 ghost use Rattle.compact_str.specs.Capacity.{inline_placement, heap_placement, from_string_placement};
 ghost use Rattle.compact_ext.specs.declared.wire.WireError.TheVariants.{Utf8 as utf8_fault};
 ghost use Rattle.compact_ext.specs.Wire.{wire, HasForm, ReadFails, ReadsBack, StopsBelow, TextFails, next_room};
@@ -30,6 +32,8 @@ const FIRST_ROOM: usize = 1 << 20;
 /// - `Reserve` if allocation fails, past 24 bytes. Part of the form has been consumed, at least its length.
 /// - `Utf8` if the text is not valid UTF-8. Exactly its form has been consumed.
 ///
+/// No clause says when it succeeds, since any reader may fail.
+///
 /// # Examples
 ///
 /// ```
@@ -40,19 +44,20 @@ const FIRST_ROOM: usize = 1 << 20;
 /// ```
 #[inline]
 pub fn read_wire<R: Read>(alloc: Global, reader: &mut R) -> Result<CompactString, WireError>
-    ensures ok { IfOk result (λ v.
+    // On success just the form is consumed.
+    ensures consumed { IfOk result (λ v.
         Consumes (R.remaining reader.old) (R.remaining reader.new) (wire v.text)) }
     ensures fits { IfOk result (λ v. HasForm v.text) }
-    ensures placement { IfOk result
+    ensures place { IfOk result
         (λ v. v.placement ≡ from_string_placement v.text (size v.text)) }
+
+    // If the reader begins with a form, fails only if the reader or an allocation does. Else the
+    // error says what was consumed.
     ensures back { ReadsBack (R.remaining reader.old) (R.remaining reader.new) result }
     ensures err { IfErr result (λ e.
         ReadFails (R.remaining reader.old) (R.remaining reader.new) e) }
 {
-    let len = match read_len(reader) {
-        Ok(len) => len as usize,
-        Err(fault) => return Err(fault),
-    };
+    let len = read_len(reader)? as usize;
     if len <= INLINE_CAPACITY {
         read_short(alloc, len, reader)
     } else {
@@ -63,15 +68,13 @@ pub fn read_wire<R: Read>(alloc: Global, reader: &mut R) -> Result<CompactString
 /// Reads the length.
 #[inline]
 fn read_len<R: Read>(reader: &mut R) -> Result<u32, WireError>
-    ensures ok { IfOk result (λ len.
+    ensures consumed { IfOk result (λ len.
         Consumes (R.remaining reader.old) (R.remaining reader.new) (to_le_bytes w32 len)) }
     ensures err { IfErr result (λ e.
         ReadFails (R.remaining reader.old) (R.remaining reader.new) e) }
 {
     let mut head = [0u8; 4];
-    if let Err(fault) = fill(&mut head, reader) {
-        return Err(fault);
-    }
+    fill(&mut head, reader)?;
     Ok(number_of(head))
 }
 
@@ -90,19 +93,17 @@ fn read_short<R: Read>(
     len: usize,
     reader: &mut R,
 ) -> Result<CompactString, WireError>
-    requires { len ≤ 24 }
-    ensures ok { IfOk result (λ v.
+    requires { len ≤ INLINE_CAPACITY }
+    ensures consumed { IfOk result (λ v.
         Consumes (R.remaining reader.old) (R.remaining reader.new) (utf8 v.text)) }
     ensures text { IfOk result (λ v. IsText v.text) }
     ensures len { IfOk result (λ v. size v.text ≡ len) }
-    ensures placement { IfOk result (λ v. v.placement ≡ inline_placement) }
+    ensures place { IfOk result (λ v. v.placement ≡ inline_placement) }
     ensures err { IfErr result (λ e.
         TextFails (R.remaining reader.old) (R.remaining reader.new) len e) }
 {
     let mut room = [0u8; INLINE_CAPACITY];
-    if let Err(fault) = fill(&mut room[..len], reader) {
-        return Err(fault);
-    }
+    fill(&mut room[..len], reader)?;
     packed(alloc, &mut room, len)
 }
 
@@ -110,11 +111,11 @@ fn read_short<R: Read>(
 /// packed form, so this never allocates.
 #[inline]
 fn packed(alloc: Global, room: &mut [u8; 24], len: usize) -> Result<CompactString, WireError>
-    requires { len ≤ 24 }
-    ensures ok { IfOk result (λ v. utf8 v.text ≡ take len room.old) }
+    requires { len ≤ INLINE_CAPACITY }
+    ensures bytes { IfOk result (λ v. utf8 v.text ≡ take len room.old) }
     ensures text { IfOk result (λ v. IsText v.text) }
     ensures len { IfOk result (λ v. size v.text ≡ len) }
-    ensures placement { IfOk result (λ v. v.placement ≡ inline_placement) }
+    ensures place { IfOk result (λ v. v.placement ≡ inline_placement) }
     ensures err { IfErr result (λ e. (e ≡ utf8_fault) × ¬ IsUtf8 (take len room.old)) }
 {
     if !tell_len(room, len) {
@@ -130,10 +131,10 @@ fn packed(alloc: Global, room: &mut [u8; 24], len: usize) -> Result<CompactStrin
 /// text does, returns `false`.
 #[inline(always)]
 fn tell_len(room: &mut [u8; 24], len: usize) -> bool
-    requires { len ≤ 24 }
-    ensures told { IsTrue result → packed_len room.new ≡ len }
-    ensures front { IsTrue result → take len room.new ≡ take len room.old }
-    ensures no_text { result ≡ false → ¬ IsUtf8 (take len room.old) }
+    requires { len ≤ INLINE_CAPACITY }
+    ensures written { OnTrue result (packed_len room.new ≡ len) }
+    ensures front { OnTrue result (take len room.new ≡ take len room.old) }
+    ensures invalid { OnFalse result (¬ IsUtf8 (take len room.old)) }
 {
     if len < INLINE_CAPACITY {
         room[INLINE_CAPACITY - 1] = 192 + len as u8;
@@ -145,20 +146,17 @@ fn tell_len(room: &mut [u8; 24], len: usize) -> bool
 /// Reads a text of `len` bytes into the buffer that the string keeps.
 #[tactic(auto, using(crate::proofs::WireForms::made_texts))]
 fn read_long<R: Read>(alloc: Global, len: usize, reader: &mut R) -> Result<CompactString, WireError>
-    requires long { 24 < len }
+    requires long { INLINE_CAPACITY < len }
     requires fits { len < 2 ^ 32 }
-    ensures ok { IfOk result (λ v.
+    ensures consumed { IfOk result (λ v.
         Consumes (R.remaining reader.old) (R.remaining reader.new) (utf8 v.text)) }
     ensures text { IfOk result (λ v. IsText v.text) }
     ensures len { IfOk result (λ v. size v.text ≡ len) }
-    ensures placement { IfOk result (λ v. v.placement ≡ heap_placement len) }
+    ensures place { IfOk result (λ v. v.placement ≡ heap_placement len) }
     ensures err { IfErr result (λ e.
         TextFails (R.remaining reader.old) (R.remaining reader.new) len e) }
 {
-    let bytes = match read_bytes(alloc, len, reader) {
-        Ok(bytes) => bytes,
-        Err(fault) => return Err(fault),
-    };
+    let bytes = read_bytes(alloc, len, reader)?;
     if validate(&bytes).is_err() {
         return Err(WireError::Utf8);
     }
@@ -168,9 +166,9 @@ fn read_long<R: Read>(alloc: Global, len: usize, reader: &mut R) -> Result<Compa
 
 /// Reads `len` bytes, allocating in steps.
 fn read_bytes<R: Read>(alloc: Global, len: usize, reader: &mut R) -> Result<Vec<u8>, WireError>
-    requires long { 24 < len }
+    requires long { INLINE_CAPACITY < len }
     requires fits { len < 2 ^ 32 }
-    ensures ok { IfOk result (λ bytes.
+    ensures consumed { IfOk result (λ bytes.
         Consumes (R.remaining reader.old) (R.remaining reader.new) bytes.items) }
     ensures len { IfOk result (λ bytes. vec_len bytes ≡ len) }
     ensures capacity { IfOk result (λ bytes. vec_capacity bytes ≡ len) }
@@ -183,9 +181,7 @@ fn read_bytes<R: Read>(alloc: Global, len: usize, reader: &mut R) -> Result<Vec<
         if !make_room(&mut bytes, next_room(filled, len)) {
             return Err(WireError::Reserve(ReserveError));
         }
-        if let Err(fault) = fill(&mut bytes[filled..], reader) {
-            return Err(fault);
-        }
+        fill(&mut bytes[filled..], reader)?;
     }
     Ok(bytes)
 }
@@ -205,9 +201,9 @@ fn next_room(filled: usize, len: usize) -> usize
 fn make_room(bytes: &mut Vec<u8>, room: usize) -> bool
     requires { vec_len bytes.old < room }
     ensures front { take (vec_len bytes.old) bytes.new.items ≡ bytes.old.items }
-    ensures len { IsTrue result → vec_len bytes.new ≡ room }
-    ensures capacity { IsTrue result →
-        vec_capacity bytes.old ≤ room → vec_capacity bytes.new ≡ room }
+    ensures len { OnTrue result (vec_len bytes.new ≡ room) }
+    ensures capacity { OnTrue result
+        (vec_capacity bytes.old ≤ room → vec_capacity bytes.new ≡ room) }
 {
     if bytes.reserve_exact(room - bytes.len()).is_err() || bytes.resize(room, 0).is_err() {
         return false;
@@ -219,7 +215,7 @@ fn make_room(bytes: &mut Vec<u8>, room: usize) -> bool
 /// Fills `buffer` from the reader.
 #[inline]
 fn fill<R: Read>(buffer: &mut [u8], reader: &mut R) -> Result<(), WireError>
-    ensures ok { OnOk result
+    ensures consumed { OnOk result
         (Consumes (R.remaining reader.old) (R.remaining reader.new) buffer.new) }
     ensures len { length buffer.new ≡ length buffer.old }
     ensures err { IfErr result (λ e.

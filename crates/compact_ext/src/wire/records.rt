@@ -1,7 +1,9 @@
 //! An iterator over wire forms until the end of a reader.
-ghost use Rattle.std.specs.Prelude.{◌≡◌, ◌<◌, ◌≤◌, length, IfOk, MatchOption, OnErr, IsUtf8};
+ghost use Rattle.std.specs.Prelude.{◌≡◌, ◌<◌, ◌≤◌, length, IfOk, IfErr, MatchOption, OnErr, IsUtf8};
+ghost use Rattle.std.specs.List.{All};
 ghost use Rattle.compact_str.specs.Text.{IsText, utf8};
-ghost use Rattle.compact_ext.specs.WireRecords.{records_left, calls_to_come, GivesNext, GivesRecord, IsPlacedAsRead, ReadsIntoVec, BeginsWithForm, BeginsWithNoForm};
+ghost use Rattle.compact_str.specs.Words.{INLINE_CAPACITY};
+ghost use Rattle.compact_ext.specs.WireRecords.{records_left, calls_to_come, AreForms, FailsAtSome, FitsForm, GivesNext, GivesRecord, IsPlacedAsRead, ReadsAllBack, BeginsWithForm, BeginsWithNoForm};
 ghost use Rattle.compact_ext.specs.Wire.{claimed_len};
 
 use super::read::number_of;
@@ -61,7 +63,7 @@ impl<R: BufRead + Drop> Records<R> {
     ///
     /// The first error of `next`, or `Reserve` if the vector cannot grow. The strings before it are dropped. If only
     /// whole forms are left, it fails only if the reader or an allocation does; if none is left, only if the reader
-    /// does.
+    /// does. No clause says when it succeeds, since any reader may fail.
     ///
     /// # Examples
     ///
@@ -73,14 +75,20 @@ impl<R: BufRead + Drop> Records<R> {
     /// assert_eq!(rt; texts[1].as_str(), "");
     /// ```
     pub fn into_vec(self) -> Result<Vec<CompactString>, WireError>
-        ensures { ReadsIntoVec (records_left R.remaining self) result }
+        // On success the reader had the forms of these strings and no more, each placed as by
+        // `read_wire`.
+        ensures forms { IfOk result (λ all. AreForms (records_left R.remaining self) all.items) }
+        ensures fits { IfOk result (λ all. All FitsForm all.items) }
+        ensures place { IfOk result (λ all. All IsPlacedAsRead all.items) }
+
+        // If only whole forms are left, fails only if the reader or an allocation does. Else fails
+        // after the forms before the first error.
+        ensures back { ReadsAllBack (records_left R.remaining self) result }
+        ensures err { IfErr result (FailsAtSome (records_left R.remaining self)) }
     {
         let mut texts = Vec::new(self.alloc);
         for item in self {
-            let text = match item {
-                Ok(text) => text,
-                Err(fault) => return Err(fault),
-            };
+            let text = item?;
             if texts.push(text).is_err() {
                 return Err(WireError::Reserve(ReserveError));
             }
@@ -144,7 +152,8 @@ fn next_record<R: BufRead>(
 fn shown_text(alloc: Global, bytes: &[u8]) -> Result<Option<CompactString>, ReserveError>
     ensures shown { IfOk result (λ found.
         MatchOption found (BeginsWithNoForm bytes.now) (BeginsWithForm bytes.now)) }
-    ensures err { OnErr result ((4 ≤ length bytes.now) × (24 < claimed_len bytes.now)) }
+    ensures allocates { OnErr result
+        ((4 ≤ length bytes.now) × (INLINE_CAPACITY < claimed_len bytes.now)) }
 {
     let Some((head, rest)) = bytes.split_first_chunk::<HEAD>() else {
         return Ok(None);
@@ -153,10 +162,8 @@ fn shown_text(alloc: Global, bytes: &[u8]) -> Result<Option<CompactString>, Rese
     if len > rest.len() || !is_utf8(&rest[..len]) {
         return Ok(None);
     }
-    match copy_of(alloc, &rest[..len]) {
-        Ok(text) => Ok(Some(text)),
-        Err(error) => Err(error),
-    }
+    let text = copy_of(alloc, &rest[..len])?;
+    Ok(Some(text))
 }
 
 /// Copies valid UTF-8: inline up to 24 bytes, else on the heap with the exact capacity. Fails if allocation does.
@@ -166,8 +173,8 @@ fn copy_of(alloc: Global, bytes: &[u8]) -> Result<CompactString, ReserveError>
     requires { IsUtf8 bytes.now }
     ensures bytes { IfOk result (λ v. utf8 v.text ≡ bytes.now) }
     ensures text { IfOk result (λ v. IsText v.text) }
-    ensures placement { IfOk result IsPlacedAsRead }
-    ensures err { OnErr result (24 < length bytes.now) }
+    ensures place { IfOk result IsPlacedAsRead }
+    ensures allocates { OnErr result (INLINE_CAPACITY < length bytes.now) }
 {
     if bytes.len() <= INLINE_CAPACITY {
         return CompactString::from_utf8_unchecked(alloc, bytes);

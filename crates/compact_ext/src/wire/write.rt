@@ -18,6 +18,8 @@ use std::io::Write;
 /// - `Io` if the writer fails, or `WriteZero` if it accepts no bytes. Less than the form has been written, perhaps
 ///   nothing.
 ///
+/// No clause says when it succeeds, since any writer may fail.
+///
 /// # Examples
 ///
 /// ```
@@ -28,7 +30,9 @@ use std::io::Write;
 /// ```
 #[inline]
 pub fn write_wire<W: Write>(text: &CompactString, writer: &mut W) -> Result<(), WireError>
-    ensures ok { OnOk result
+    // On success the form is written. Fails without effect if the text is too long for a form, or
+    // after a part of the form, if the writer fails.
+    ensures written { OnOk result
         (Appends (W.contents writer.old) (W.contents writer.new) (wire text.now.text)) }
     ensures fits { OnOk result (size text.now.text < 2 ^ 32) }
     ensures sound { IsSound text.now }
@@ -39,16 +43,15 @@ pub fn write_wire<W: Write>(text: &CompactString, writer: &mut W) -> Result<(), 
     let Ok(len) = u32::try_from(text.len()) else {
         return Err(WireError::TooLong);
     };
-    if let Err(fault) = write_each(&len.to_le_bytes(), writer) {
-        return Err(fault);
-    }
+    write_each(&len.to_le_bytes(), writer)?;
     write_each(bytes, writer)
 }
 
 /// Writes all bytes, by no call if there are none.
 #[inline]
 fn write_each<W: Write>(bytes: &[u8], writer: &mut W) -> Result<(), WireError>
-    ensures ok { OnOk result (Appends (W.contents writer.old) (W.contents writer.new) bytes.now) }
+    ensures written { OnOk result
+        (Appends (W.contents writer.old) (W.contents writer.new) bytes.now) }
     ensures err { IfErr result (λ e.
         WritesFront (W.contents writer.old) (W.contents writer.new) bytes.now) }
     ensures fault { IfErr result IsWriterFault }

@@ -4,10 +4,10 @@ use Rattle.compact_str.specs.Value.{PlacedText}
 use Rattle.compact_ext.proofs.Collecting.{taken-text, taken-bytes}
 use Rattle.compact_ext.proofs.format.collect_display.Goals as goal
 
-pub returns-in-Ok-clause-text : goal.returns-in-Ok-clause-text
-returns-in-Ok-clause-text g c =
-    taken-text _ (g.D.Display.output c.args.shown) _ _ c.in-Ok.ensures.writes (ap (λ (v : PlacedText). v.text) c.default.ensures)
+pub returns-clause-text : goal.returns-clause-text
+returns-clause-text g c =
+    taken-text _ (g.D.Display.output c.args.shown) _ _ c.in_ok-written.ensures.writes (ap (λ (v : PlacedText). v.text) c.default.ensures)
 
-pub returns-in-Ok-clause-bytes : goal.returns-in-Ok-clause-bytes
-returns-in-Ok-clause-bytes g c =
-    taken-bytes _ (g.D.Display.output c.args.shown) _ _ c.in-Ok.ensures.writes (ap (λ (v : PlacedText). v.text) c.default.ensures)
+pub returns-clause-bytes : goal.returns-clause-bytes
+returns-clause-bytes g c =
+    taken-bytes _ (g.D.Display.output c.args.shown) _ _ c.in_ok-written.ensures.writes (ap (λ (v : PlacedText). v.text) c.default.ensures)

@@ -4,24 +4,24 @@ use Rattle.compact_lines.proofs.lines.answer_line.Goals as goal
 
 pub returns-in_default-clause-ok : goal.returns-in_default-clause-ok
 returns-in_default-clause-ok g c =
-    command-of-line _ _ _ _ None _ _ _ (broken-line _ c.in_default.ensures.cases.0) (no-command _ _ _ _ _ c.write_texts.ensures.ok)
+    command-of-line _ _ _ None _ _ _ (broken-line _ c.in_default.ensures.cases.0) (no-command _ _ _ _ c.write_texts.ensures.ok)
 
 pub returns-in_default-clause-err : goal.returns-in_default-clause-err
 returns-in_default-clause-err g c =
-    part-of-line _ _ _ _ None _ _ _ (broken-line _ c.in_default.ensures.cases.0) (no-command-stopped _ _ _ _ _ c.write_texts.ensures.err)
+    part-of-line _ _ _ None _ _ _ (broken-line _ c.in_default.ensures.cases.0) (no-command-stopped _ _ _ _ c.write_texts.ensures.err)
 
 pub returns-in_default-parse-clause-err : goal.returns-in_default-parse-clause-err
 returns-in_default-parse-clause-err g c =
     let read = rw c.in_default-parse.is at c.parse.ensures in
     let is = text-line _ _ _ _ None c.in-Ok.ensures.cases c.as_slice.ensures.value c.in_ok-answers.ensures read in
-    part-of-line _ _ _ _ None _ _ _ is (no-command-stopped _ _ _ _ _ c.write_texts-in_default-parse.ensures.err)
+    part-of-line _ _ _ None _ _ _ is (no-command-stopped _ _ _ _ c.write_texts-in_default-parse.ensures.err)
 
 pub returns-clause-ok : goal.returns-clause-ok
 returns-clause-ok g c =
     let is = text-line _ _ _ _ (Some c.in-Some.command) c.in-Ok.ensures.cases c.as_slice.ensures.value c.in_ok-answers.ensures c.in-Some.ensures in
-    command-of-line _ _ _ _ (Some c.in-Some.command) _ _ _ is c.answer_command.ensures.ok
+    command-of-line _ _ _ (Some c.in-Some.command) _ _ _ is c.answer_command.ensures.ok
 
 pub returns-clause-err : goal.returns-clause-err
 returns-clause-err g c =
     let is = text-line _ _ _ _ (Some c.in-Some.command) c.in-Ok.ensures.cases c.as_slice.ensures.value c.in_ok-answers.ensures c.in-Some.ensures in
-    part-of-line _ _ _ _ (Some c.in-Some.command) _ _ _ is c.answer_command.ensures.err
+    part-of-line _ _ _ (Some c.in-Some.command) _ _ _ is c.answer_command.ensures.err

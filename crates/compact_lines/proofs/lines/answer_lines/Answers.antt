@@ -11,22 +11,22 @@ loop-preserved g c =
     let takes = rw c.clear.ensures.items at c.in_ok-read_until.ensures.bytes in
     let some = some-read _ _ _ _ c.read_until.new.buf.ok.0 c.in_ok-read_until.ensures.ok c.if-branch-eq0.false in
     let stripped = c.without_end.ensures ∙ ap (λ t. strip_last 10 t) c.as_slice.ensures.value in
-    so-far-more _ _ _ _ _ _ _ _ _ _ _ _ _ c.loop.invariant takes some stripped c.in_ok-read_until.ensures.rest c.in_ok-answer_line.ensures.ok c.flush.ensures.bytes
+    so-far-more _ _ _ _ _ _ _ _ _ _ _ _ c.loop.invariant takes some stripped c.in_ok-read_until.ensures.rest c.in_ok-answer_line.ensures.ok c.flush.ensures.bytes
 
 pub returns-in_err-read_until-clause-err : goal.returns-in_err-read_until-clause-err
-returns-in_err-read_until-clause-err g c = stopped-after _ _ _ _ _ _ _ _ c.loop.invariant
+returns-in_err-read_until-clause-err g c = stopped-after _ _ _ _ _ _ _ c.loop.invariant
 
 pub returns-in_err-answer_line-clause-err : goal.returns-in_err-answer_line-clause-err
 returns-in_err-answer_line-clause-err g c =
     let takes = rw c.clear.ensures.items at c.in_ok-read_until.ensures.bytes in
     let some = some-read _ _ _ _ c.read_until.new.buf.ok.0 c.in_ok-read_until.ensures.ok c.if-branch-eq0.false in
     let stripped = c.without_end.ensures ∙ ap (λ t. strip_last 10 t) c.as_slice.ensures.value in
-    stopped-within _ _ _ _ _ _ _ _ _ _ _ c.loop.invariant takes some stripped c.in_err-answer_line.ensures.err
+    stopped-within _ _ _ _ _ _ _ _ _ _ c.loop.invariant takes some stripped c.in_err-answer_line.ensures.err
 
 pub returns-in_err-flush-clause-err : goal.returns-in_err-flush-clause-err
 returns-in_err-flush-clause-err g c =
     let takes = rw c.clear.ensures.items at c.in_ok-read_until.ensures.bytes in
     let some = some-read _ _ _ _ c.read_until.new.buf.ok.0 c.in_ok-read_until.ensures.ok c.if-branch-eq0.false in
     let stripped = c.without_end.ensures ∙ ap (λ t. strip_last 10 t) c.as_slice.ensures.value in
-    stopped-after _ _ _ _ _ _ _ _
-    (so-far-more _ _ _ _ _ _ _ _ _ _ _ _ _ c.loop.invariant takes some stripped c.in_ok-read_until.ensures.rest c.in_ok-answer_line.ensures.ok c.flush.ensures.bytes)
+    stopped-after _ _ _ _ _ _ _
+    (so-far-more _ _ _ _ _ _ _ _ _ _ _ _ c.loop.invariant takes some stripped c.in_ok-read_until.ensures.rest c.in_ok-answer_line.ensures.ok c.flush.ensures.bytes)

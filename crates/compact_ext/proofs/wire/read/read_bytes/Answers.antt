@@ -1,6 +1,12 @@
 use Rattle.std.proofs.Common.{ℕ, arith, length-take}
+use Rattle.std.proofs.lemmas.Result.{err_from_is_err_and}
 use Rattle.compact_ext.proofs.WireForms.{stops-later}
 use Rattle.compact_ext.proofs.wire.read.read_bytes.Goals as goal
 
-pub returns-in-Err-clause-err : goal.returns-in-Err-clause-err
-returns-in-Err-clause-err g c = stops-later _ _ _ c.loop-bytes.bytes.items _ c.args.len _ c.loop-bytes.invariant.2 c.in-Err.ensures.err (omega (arith, length-take {A = ℕ}))
+pub returns-in_err-fill-clause-err : goal.returns-in_err-fill-clause-err
+returns-in_err-fill-clause-err g c =
+    let (error, is, same) = err_from_is_err_and c.from_residual.result c.from_residual.ensures.1 in
+    let stops = c.in_err-fill.ensures.err in
+    let room = c.if-not-make_room.ensures.len in
+    rw (is, same)
+    (stops-later _ _ _ c.loop-bytes.bytes.items _ c.args.len _ c.loop-bytes.invariant.2 stops (omega (arith, length-take {A = ℕ}, room)))

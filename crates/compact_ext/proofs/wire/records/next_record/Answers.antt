@@ -17,14 +17,14 @@ returns-in-Ok-Some g c =
 pub returns-in-Err-shown_text : goal.returns-in-Err-shown_text
 returns-in-Err-shown_text g c =
     let filled = rw c.in-Ok.is at c.fill_buf.follows.holds-at-none in
-    let asked = c.in-Err-shown_text.ensures.err in
+    let long = c.in-Err-shown_text.ensures.allocates in
     record {
-      fails = head-taken _ _ _ _ c.in-Ok.bytes.now _ asked.0 asked.1 c.in-Ok.ensures.front c.in-Ok.ensures.end filled.0 filled.1 c.consume-in-Err-shown_text.ensures.bytes;
-      begun = more-shown _ c.in-Ok.bytes.now c.in-Ok.ensures.front (λ none. omega (arith, none, asked.0));
+      fails = head-taken _ _ _ _ c.in-Ok.bytes.now _ long.0 long.1 c.in-Ok.ensures.front c.in-Ok.ensures.end filled.0 filled.1 c.consume-in-Err-shown_text.ensures.bytes;
+      begun = more-shown _ c.in-Ok.bytes.now c.in-Ok.ensures.front (λ none. omega (arith, none, long.0));
     }
 
 pub returns-in-Ok-None : goal.returns-in-Ok-None
 returns-in-Ok-None g c =
     let filled = rw c.in-Ok.is at c.fill_buf.follows.holds-at-none in
     let more = more-shown _ c.in-Ok.bytes.now c.in-Ok.ensures.front (search rules) in
-    record-read _ _ _ c.read_wire.result filled.0 more c.read_wire.ensures.ok c.read_wire.ensures.fits c.read_wire.ensures.placement c.read_wire.ensures.err
+    record-read _ _ _ c.read_wire.result filled.0 more c.read_wire.ensures.consumed c.read_wire.ensures.fits c.read_wire.ensures.place c.read_wire.ensures.err

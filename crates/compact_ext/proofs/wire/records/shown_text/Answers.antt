@@ -7,15 +7,15 @@ use Rattle.compact_ext.proofs.RecordLists.{cut-shows_none, broken-shows_none}
 use Rattle.compact_ext.proofs.wire.records.shown_text.Goals as goal
 use Rattle.compact_ext.proofs.wire.records.shown_text.Goals.{then-len-rest-via-then-len-rest, then-len-rest-via-else-len-rest+then-not-is_utf8}
 
-pub returns-in-Ok-clause-shown : goal.returns-in-Ok-clause-shown
-returns-in-Ok-clause-shown c =
+pub returns-clause-shown : goal.returns-clause-shown
+returns-clause-shown c =
     let split = c.in-Some.ensures.cases in
     let len = c.number_of-len.result in
-    let made = c.in-Ok.ensures.bytes ∙ ap (take len) split.1 in
+    let made = c.in_ok-text.ensures.bytes ∙ ap (take len) split.1 in
     record {
-      form = form-shown c.args.bytes.now c.in-Ok.text.text len (c.number_of-len.ensures ∙ split.0) (omega (arith, split.2, c.if-len-rest.false)) made;
-      fits = (c.in-Ok.ensures.text, form-fits len c.in-Ok.text.text _ (search rules) (omega (arith, split.2, c.if-len-rest.false)) c.in-Ok.ensures.bytes);
-      placed = c.in-Ok.ensures.placement;
+      form = form-shown c.args.bytes.now c.in_ok-text.text.text len (c.number_of-len.ensures ∙ split.0) (omega (arith, split.2, c.if-len-rest.false)) made;
+      fits = (c.in_ok-text.ensures.text, form-fits len c.in_ok-text.text.text _ (search rules) (omega (arith, split.2, c.if-len-rest.false)) c.in_ok-text.ensures.bytes);
+      placed = c.in_ok-text.ensures.place;
     }
 
 -- a length beyond what is shown, or bytes that are no text
