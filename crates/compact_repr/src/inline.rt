@@ -125,11 +125,9 @@ impl InlineBuffer {
         requires order { start ≤ end }
         requires first { IsBoundary self.old start }
         requires last { IsBoundary self.old end }
-        ensures fits { IsTrue result ↔ (size self.old + length text.now ≤ 24 + (end - start)) }
+        ensures fits { IsTrue result ↔ (size self.old + (length text.now - (end - start)) ≤ 24) }
         ensures replaced { IsTrue result
             → self.new ≡ replaced_text self.old start end (text_of text.now) }
-        ensures within { size self.new ≤ 24 }
-        ensures short { size self.old ≤ 24 }
         ensures full { result ≡ false → self.new ≡ self.old }
     {
         let old_len = length_of(&self.bytes);
@@ -151,8 +149,6 @@ impl InlineBuffer {
         ensures fits { IsTrue result ↔ (size self.old + 1 ≤ 24) }
         ensures inserted { IsTrue result
             → self.new ≡ replaced_text self.old index index (byte ∷ []) }
-        ensures within { size self.new ≤ 24 }
-        ensures short { size self.old ≤ 24 }
         ensures full { result ≡ false → self.new ≡ self.old }
     {
         let len = length_of(&self.bytes);
@@ -173,7 +169,6 @@ impl InlineBuffer {
         ensures removed { MatchOption result (self.new ≡ self.old)
             (λ c. IsAsciiAt self.old index c × (self.new ≡ replaced_text self.old index (index + 1) [])) }
         ensures not_ascii { result ≡ None → IsNotAsciiAt self.old index }
-        ensures within { IsSome result → size self.new ≤ 24 }
     {
         let character = ascii_at(self.as_str().as_bytes(), index)?;
         self.remove_ascii(index);
@@ -185,8 +180,7 @@ impl InlineBuffer {
     fn remove_ascii(&mut self, index: usize)
         requires boundary { IsBoundary self.old index }
         requires next { IsBoundary self.old (index + 1) }
-        ensures removed { self.new ≡ replaced_text self.old index (index + 1) [] }
-        ensures within { size self.new ≤ 24 }
+        ensures { self.new ≡ replaced_text self.old index (index + 1) [] }
     {
         let len = length_of(&self.bytes);
         let array = remove_byte(&self.bytes, index);
@@ -199,8 +193,7 @@ impl InlineBuffer {
         requires order { start ≤ end }
         requires first { IsBoundary self.old start }
         requires last { IsBoundary self.old end }
-        ensures cut { self.new ≡ replaced_text self.old start end [] }
-        ensures within { size self.new ≤ 24 }
+        ensures { self.new ≡ replaced_text self.old start end [] }
     {
         let len = length_of(&self.bytes);
         slices::cut_out(&mut self.bytes, len, start, end);
@@ -210,9 +203,8 @@ impl InlineBuffer {
     /// Removes and returns the last character, or returns `None` if the text is empty.
     #[inline]
     pub fn pop(&mut self) -> Option<char>
-        ensures popped { MatchOption result ((self.old ≡ []) × (self.new ≡ self.old))
+        ensures { MatchOption result ((self.old ≡ []) × (self.new ≡ self.old))
             (λ c. self.old ≡ self.new ++ c ∷ []) }
-        ensures within { IsSome result → size self.new ≤ 24 }
     {
         let (index, character) = split_last(self.as_str())?;
         self.truncate(index);
@@ -224,7 +216,6 @@ impl InlineBuffer {
     pub fn try_assign(&mut self, text: &str) -> bool
         ensures fits { IsTrue result ↔ (length text.now ≤ 24) }
         ensures assigned { IsTrue result → self.new ≡ text_of text.now }
-        ensures within { IsTrue result → size self.new ≤ 24 }
         ensures full { result ≡ false → self.new ≡ self.old }
     {
         if text.len() > INLINE_CAPACITY {
@@ -238,8 +229,7 @@ impl InlineBuffer {
     #[inline]
     pub fn truncate(&mut self, len: usize)
         requires { IsBoundary self.old len }
-        ensures text { self.new ≡ text_before self.old len }
-        ensures fits { size self.new ≤ 24 }
+        ensures { self.new ≡ text_before self.old len }
     {
         write_len(&mut self.bytes, len);
     }
@@ -262,8 +252,7 @@ impl InlineBuffer {
 
     /// Makes A to Z lowercase.
     pub fn make_ascii_lowercase(&mut self)
-        ensures text { self.new ≡ ascii_lowercase self.old }
-        ensures fits { size self.new ≤ 24 }
+        ensures { self.new ≡ ascii_lowercase self.old }
     {
         let len = length_of(&self.bytes);
         slices::make_lowercase(&mut self.bytes, len);
@@ -272,8 +261,7 @@ impl InlineBuffer {
 
     /// Makes a to z uppercase.
     pub fn make_ascii_uppercase(&mut self)
-        ensures text { self.new ≡ ascii_uppercase self.old }
-        ensures fits { size self.new ≤ 24 }
+        ensures { self.new ≡ ascii_uppercase self.old }
     {
         let len = length_of(&self.bytes);
         slices::make_uppercase(&mut self.bytes, len);
@@ -286,7 +274,6 @@ impl InlineBuffer {
         requires { F.IsAlwaysCallable keep.old }
         ensures text { RetainsCharsTo F.FnMut keep.old self.old self.new keep.new }
         ensures callable { F.IsAlwaysCallable keep.new }
-        ensures fits { size self.new ≤ 24 }
     {
         let len = length_of(&self.bytes);
         let kept = slices::retain(&mut self.bytes, len, keep);

@@ -102,6 +102,8 @@ impl<P: Policy> Repr<P> {
         ensures allocates { OnErr result (AllocatesFor self.old owned) }
         ensures err { OnErr result (self.new ≡ self.old) }
     {
+        // Shows the proof that the text fits in the capacity.
+        let _len = self.len();
         let Buffer::Static(text) = &self.buffer else {
             return Ok(());
         };

@@ -1,7 +1,6 @@
 use Rattle.std.proofs.Common.{◌≡◌, [], ◌∙◌, ap, take, arith, refl}
 use Rattle.std.specs.List.{replace_range}
 use Rattle.compact_text.proofs.Cuts.{boundary-within, text_of-cut_out, utf8-cut_out}
-use Rattle.compact_text.proofs.Texts.{size-text_of}
 use Rattle.compact_repr.proofs.HeapTexts.{shown-text, shown-capacity, shown-size, written, whole}
 use Rattle.compact_repr.proofs.heap.HeapBuffer.cut_out.Goals as goal
 
@@ -18,9 +17,6 @@ overflow_sub-len c = omega (arith, shown-size _ c.self.view_is c.self.invariant,
 pub invariant_of-self : goal.invariant_of-self
 invariant_of-self c = rw (now c) (utf8-cut_out _ c.args.start c.args.end (shown-text _ c.self.view_is) c.self.invariant c.requires.first c.requires.last)
 
-pub returns-clause-cut : goal.returns-clause-cut
-returns-clause-cut c =
+pub returns : goal.returns
+returns c =
     rw (now c, text_of-cut_out _ c.args.start c.args.end (shown-text _ c.self.view_is) c.self.invariant c.requires.first c.requires.last, c.truncate.ensures.capacity, shown-capacity _ c.self.view_is) refl
-
-pub returns-clause-within : goal.returns-clause-within
-returns-clause-within c = omega (arith, size-text_of c.truncate.new.self.items (invariant_of-self c), shown-capacity _ c.self.view_is)

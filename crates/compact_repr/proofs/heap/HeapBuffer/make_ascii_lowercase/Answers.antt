@@ -1,7 +1,7 @@
 use Rattle.std.proofs.Common.{◌≡◌, ◌++◌, ◌∙◌, sym, take, drop, length, map, arith, refl}
 use Rattle.std.specs.Char.{to_ascii_lowercase}
-use Rattle.compact_repr.proofs.HeapTexts.{shown-text, shown-capacity, shown-size, written, whole}
-use Rattle.compact_text.proofs.AsciiCase.{utf8-lowercase, text_of-lowercase, size-lowercase}
+use Rattle.compact_repr.proofs.HeapTexts.{shown-text, shown-capacity, written, whole}
+use Rattle.compact_text.proofs.AsciiCase.{utf8-lowercase, text_of-lowercase}
 use Rattle.compact_repr.proofs.heap.HeapBuffer.make_ascii_lowercase.Goals as goal
 
 now : (c : goal.After-self-1)
@@ -15,10 +15,5 @@ now c =
 pub invariant_of-self : goal.invariant_of-self
 invariant_of-self c = rw (now c) (utf8-lowercase _ c.self.invariant)
 
-pub returns-clause-value : goal.returns-clause-value
-returns-clause-value c = rw (now c, text_of-lowercase _ (shown-text _ c.self.view_is) c.self.invariant, shown-capacity _ c.self.view_is) refl
-
-pub returns-clause-fits : goal.returns-clause-fits
-returns-clause-fits c =
-    rw (now c, text_of-lowercase _ (shown-text _ c.self.view_is) c.self.invariant)
-    (omega (arith, size-lowercase c.args.self.now.text, shown-size _ c.self.view_is c.self.invariant, shown-capacity _ c.self.view_is))
+pub returns : goal.returns
+returns c = rw (now c, text_of-lowercase _ (shown-text _ c.self.view_is) c.self.invariant, shown-capacity _ c.self.view_is) refl

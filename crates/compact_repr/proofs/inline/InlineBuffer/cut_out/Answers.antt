@@ -9,8 +9,8 @@ write_len-requires-clause-text c =
     rw (c.cut_out.ensures, c.length_of-len.ensures)
     (utf8-cut_out _ c.args.start c.args.end c.self.view_is (utf8-seen _ c.self.invariant) c.requires.first c.requires.last)
 
-pub returns-clause-cut : goal.returns-clause-cut
-returns-clause-cut c =
+pub returns : goal.returns
+returns c =
     packed-text _ _ c.write_len.ensures
     ∙ rw (c.cut_out.ensures, c.length_of-len.ensures)
     (text_of-cut_out _ c.args.start c.args.end c.self.view_is (utf8-seen _ c.self.invariant) c.requires.first c.requires.last)

@@ -7,6 +7,6 @@ use Rattle.compact_repr.proofs.inline.InlineBuffer.make_ascii_lowercase.Goals as
 pub write_len-requires-clause-text : goal.write_len-requires-clause-text
 write_len-requires-clause-text c = rw (c.make_lowercase.ensures.front, c.length_of-len.ensures) (utf8-lowercase _ (utf8-seen _ c.self.invariant))
 
-pub returns-clause-text : goal.returns-clause-text
-returns-clause-text c =
+pub returns : goal.returns
+returns c =
     packed-text _ _ c.write_len.ensures ∙ rw (c.make_lowercase.ensures.front, c.length_of-len.ensures) (text_of-lowercase _ c.self.view_is (utf8-seen _ c.self.invariant))

@@ -18,8 +18,8 @@ with_len_below_24-self-inside-requires-clause-text c =
 pub invariant_of-self : goal.invariant_of-self
 invariant_of-self c = packed-again _ _ c.with_len_below_24-self-inside.ensures
 
-pub returns-clause-removed : goal.returns-clause-removed
-returns-clause-removed c =
+pub returns : goal.returns
+returns c =
     let stands = len-seen _ c.self.view_is c.self.invariant in
     let most = len-fits _ c.self.view_is c.self.invariant in
     let within = boundary-within _ _ c.requires.next in
