@@ -3,7 +3,7 @@
 
 ghost use Rattle.std.specs.Prelude.{◌≡◌, ◌+◌, ◌-◌, ◌≤◌, ◌<◌, ℕ, List, [], ◌∷◌, ◌++◌, length, None, false, IsSome, IsTrue, ◌↔◌, MatchOption};
 ghost use Rattle.std.specs.Char.{len_utf8};
-ghost use Rattle.compact_repr.specs.Words.{size, utf8, text_of, IsText, ascii_lowercase, ascii_uppercase, IsBoundary, IsAsciiAt, IsNotAsciiAt, text_before, replaced_text};
+ghost use Rattle.compact_repr.specs.Words.{INLINE_CAPACITY, size, utf8, text_of, IsText, ascii_lowercase, ascii_uppercase, IsBoundary, IsAsciiAt, IsNotAsciiAt, text_before, replaced_text};
 ghost use Rattle.compact_repr.specs.Packed.{IsPackedFor};
 ghost use Rattle.compact_text.specs.Retain.{RetainsCharsTo};
 
@@ -51,7 +51,7 @@ impl InlineBuffer {
     /// Copies `text`.
     #[inline]
     pub fn new(text: &str) -> Self
-        requires { length text.now ≤ 24 }
+        requires { length text.now ≤ INLINE_CAPACITY }
         ensures { result ≡ text_of text.now }
     {
         InlineBuffer {
@@ -71,7 +71,7 @@ impl InlineBuffer {
     #[inline]
     pub fn len(&self) -> usize
         ensures value { result ≡ size self.now }
-        ensures fits { size self.now ≤ 24 }
+        ensures fits { size self.now ≤ INLINE_CAPACITY }
         ensures text { IsText self.now }
     {
         length_of(&self.bytes)
@@ -89,7 +89,7 @@ impl InlineBuffer {
     /// Appends `text` if it fits. Returns whether it did; otherwise changes nothing.
     #[inline]
     pub fn try_push_str(&mut self, text: &str) -> bool
-        ensures fits { IsTrue result ↔ (size self.old + length text.now ≤ 24) }
+        ensures fits { IsTrue result ↔ (size self.old + length text.now ≤ INLINE_CAPACITY) }
         ensures pushed { IsTrue result → self.new ≡ self.old ++ text_of text.now }
         ensures full { result ≡ false → self.new ≡ self.old }
     {
@@ -106,7 +106,7 @@ impl InlineBuffer {
     /// nothing.
     #[inline(always)]
     pub fn try_push(&mut self, character: char) -> bool
-        ensures fits { IsTrue result → size self.old + len_utf8 character ≤ 24 }
+        ensures fits { IsTrue result → size self.old + len_utf8 character ≤ INLINE_CAPACITY }
         ensures pushed { IsTrue result → self.new ≡ self.old ++ character ∷ [] }
         ensures full { result ≡ false → self.new ≡ self.old }
     {
@@ -125,7 +125,7 @@ impl InlineBuffer {
         requires order { start ≤ end }
         requires first { IsBoundary self.old start }
         requires last { IsBoundary self.old end }
-        ensures fits { IsTrue result ↔ (size self.old + (length text.now - (end - start)) ≤ 24) }
+        ensures fits { IsTrue result ↔ (size self.old + (length text.now - (end - start)) ≤ INLINE_CAPACITY) }
         ensures replaced { IsTrue result
             → self.new ≡ replaced_text self.old start end (text_of text.now) }
         ensures full { result ≡ false → self.new ≡ self.old }
@@ -146,7 +146,7 @@ impl InlineBuffer {
     pub fn try_insert_ascii(&mut self, index: usize, byte: u8) -> bool
         requires ascii { byte < 128 }
         requires boundary { IsBoundary self.old index }
-        ensures fits { IsTrue result ↔ (size self.old + 1 ≤ 24) }
+        ensures fits { IsTrue result ↔ (size self.old + 1 ≤ INLINE_CAPACITY) }
         ensures inserted { IsTrue result
             → self.new ≡ replaced_text self.old index index (byte ∷ []) }
         ensures full { result ≡ false → self.new ≡ self.old }
@@ -214,7 +214,7 @@ impl InlineBuffer {
     /// Replaces the whole text with `text` if it fits. Returns whether it did; otherwise changes nothing.
     #[inline]
     pub fn try_assign(&mut self, text: &str) -> bool
-        ensures fits { IsTrue result ↔ (length text.now ≤ 24) }
+        ensures fits { IsTrue result ↔ (length text.now ≤ INLINE_CAPACITY) }
         ensures assigned { IsTrue result → self.new ≡ text_of text.now }
         ensures full { result ≡ false → self.new ≡ self.old }
     {
