@@ -11,6 +11,9 @@ use compact_text::{slices, vec};
 use std::alloc::{AllocError, Global};
 use std::marker::Model;
 
+/// The length above which one call copies faster than blocks.
+const LONG: usize = 256;
+
 /// The bytes of the vector are the text. Its spare capacity may hold old bytes.
 ///
 /// Uses only calls that specify the vector's capacity exactly, so no field is needed for it.
@@ -55,6 +58,13 @@ impl HeapBuffer {
         requires { length text.now ≤ capacity }
         ensures { IfOk result (λ b. b ≡ record { text = text_of text.now; capacity = capacity }) }
     {
+        if text.len() > LONG && text.len() == capacity {
+            let bytes = Vec::from_slice(alloc, text.as_bytes())?;
+            // Always so; the contract of `from_slice` does not say it.
+            if bytes.capacity() == capacity {
+                return Ok(HeapBuffer { bytes });
+            }
+        }
         let mut bytes = Vec::with_capacity(alloc, capacity)?;
         vec::append_first(&mut bytes, text.as_bytes());
         Ok(HeapBuffer { bytes })

@@ -1,14 +1,14 @@
 //! Edits in place, which never allocate and never move the text to another place.
 ghost use Rattle.std.specs.Prelude.{◌≡◌, ◌+◌, ◌-◌, ◌^◌, ◌≤◌, ◌<◌, [], ◌∷◌, ◌++◌, length, nat_eq, ◌||◌, IsTrue, false, ◌↔◌, IsSome, IfSome, None};
 ghost use Rattle.std.specs.Char.{len_utf8};
-ghost use Rattle.compact_repr.specs.Words.{size, text_of, ascii_lowercase, ascii_uppercase, IsBoundary, IsCharAt, IsAsciiAt, IsNotAsciiAt, substring, replaced_text, placed_text, IsOwned, fits_in_place, clear, truncate, zeroize, PopsChar};
+ghost use Rattle.compact_repr.specs.Words.{size, text_of, ascii_lowercase, ascii_uppercase, IsBoundary, IsCharAt, IsAsciiAt, IsNotAsciiAt, replaced_text, placed_text, IsOwned, fits_in_place, clear, truncate, zeroize, PopsChar};
 ghost use Rattle.compact_text.specs.Retain.{RetainsCharsTo};
 
 use crate::growth::Policy;
 use crate::inline::InlineBuffer;
 use crate::repr::{Buffer, Repr};
 use crate::static_str::StaticStr;
-use compact_text::str_parts::{char_at, substring};
+use compact_text::str_parts::char_at;
 
 impl<P: Policy> Repr<P> {
     /// Appends `text` if the value is owned and has room. Returns whether it did; otherwise changes nothing.
@@ -282,28 +282,6 @@ impl<P: Policy> Repr<P> {
         match &mut self.buffer {
             Buffer::Inline(_, inline) => inline.retain(keep),
             Buffer::Heap(heap) => heap.retain(keep),
-            Buffer::Static(_) => unreachable!(),
-        }
-    }
-
-    /// Appends the bytes from one boundary to another, for which there must be room. Keeps the place and the capacity.
-    #[tactic(auto, using(compact_text::proofs::TextFacts::text_facts))]
-    pub(super) fn push_within_in_place(&mut self, start: usize, end: usize)
-        requires order { start ≤ end }
-        requires first { IsBoundary self.old.text start }
-        requires last { IsBoundary self.old.text end }
-        requires room { IsTrue (fits_in_place self.old (end - start)) }
-        ensures { self.new
-            ≡ placed_text (self.old.text ++ substring self.old.text start end) self.old.placement }
-    {
-        match &mut self.buffer {
-            Buffer::Inline(_, inline) => {
-                let copy = inline.clone();
-                if !inline.try_push_str(substring(copy.as_str(), start, end)) {
-                    unreachable!();
-                }
-            }
-            Buffer::Heap(heap) => heap.push_within(start, end),
             Buffer::Static(_) => unreachable!(),
         }
     }
