@@ -269,7 +269,7 @@ impl HeapBuffer {
 
     /// Removes the bytes from one boundary to another.
     #[inline(always)]
-    pub fn cut_out(&mut self, start: usize, end: usize)
+    pub fn remove_range(&mut self, start: usize, end: usize)
         requires order { start ≤ end }
         requires first { IsBoundary self.old.text start }
         requires last { IsBoundary self.old.text end }
@@ -280,7 +280,7 @@ impl HeapBuffer {
             } }
     {
         let len = self.bytes.len();
-        slices::cut_out(self.bytes.as_mut_slice(), len, start, end);
+        slices::remove_range(self.bytes.as_mut_slice(), len, start, end);
         self.bytes.truncate(len - (end - start));
     }
 

@@ -189,14 +189,14 @@ impl InlineBuffer {
 
     /// Removes the bytes from one boundary to another.
     #[inline(always)]
-    pub fn cut_out(&mut self, start: usize, end: usize)
+    pub fn remove_range(&mut self, start: usize, end: usize)
         requires order { start ≤ end }
         requires first { IsBoundary self.old start }
         requires last { IsBoundary self.old end }
         ensures { self.new ≡ replaced_text self.old start end [] }
     {
         let len = length_of(&self.bytes);
-        slices::cut_out(&mut self.bytes, len, start, end);
+        slices::remove_range(&mut self.bytes, len, start, end);
         write_len(&mut self.bytes, len - (end - start));
     }
 

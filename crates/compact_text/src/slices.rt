@@ -55,7 +55,7 @@ pub fn remove_byte(slice: &mut [u8], len: usize, index: usize)
 
 /// Removes the bytes from `start` to `end` from the first `len` bytes. Moves the tail once.
 #[inline(always)]
-pub fn cut_out(slice: &mut [u8], len: usize, start: usize, end: usize)
+pub fn remove_range(slice: &mut [u8], len: usize, start: usize, end: usize)
     requires order { start ≤ end }
     requires within { end ≤ len }
     requires long_enough { len ≤ length slice.old }

@@ -66,7 +66,7 @@ impl<P: Policy> Repr<P> {
     /// Removes the bytes from one boundary to another if the value is owned. Returns whether it did; otherwise changes
     /// nothing. Keeps the place and the capacity.
     #[inline(always)]
-    pub fn try_cut_out(&mut self, start: usize, end: usize) -> bool
+    pub fn try_remove_range(&mut self, start: usize, end: usize) -> bool
         requires order { start ≤ end }
         requires first { IsBoundary self.old.text start }
         requires last { IsBoundary self.old.text end }
@@ -78,11 +78,11 @@ impl<P: Policy> Repr<P> {
         match &mut self.buffer {
             Buffer::Static(_) => false,
             Buffer::Inline(_, inline) => {
-                inline.cut_out(start, end);
+                inline.remove_range(start, end);
                 true
             }
             Buffer::Heap(heap) => {
-                heap.cut_out(start, end);
+                heap.remove_range(start, end);
                 true
             }
         }
@@ -146,12 +146,12 @@ impl<P: Policy> Repr<P> {
             Buffer::Static(_) => None,
             Buffer::Inline(_, inline) => {
                 let (character, end) = char_at(inline.as_str(), index);
-                inline.cut_out(index, end);
+                inline.remove_range(index, end);
                 Some(character)
             }
             Buffer::Heap(heap) => {
                 let (character, end) = char_at(heap.as_str(), index);
-                heap.cut_out(index, end);
+                heap.remove_range(index, end);
                 Some(character)
             }
         }

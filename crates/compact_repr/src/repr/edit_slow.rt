@@ -69,7 +69,7 @@ impl<P: Policy> Repr<P> {
     /// Returns [`ReserveError`] if a static value cannot be made owned.
     #[inline]
     #[tactic(auto, using(crate::proofs::Placed::placed_facts))]
-    pub fn cut_out(&mut self, start: usize, end: usize) -> Result<(), ReserveError>
+    pub fn remove_range(&mut self, start: usize, end: usize) -> Result<(), ReserveError>
         requires order { start ≤ end }
         requires first { IsBoundary self.old.text start }
         requires last { IsBoundary self.old.text end }
@@ -78,7 +78,7 @@ impl<P: Policy> Repr<P> {
         ensures allocates { OnErr result (AllocatesFor self.old owned) }
         ensures err { OnErr result (self.new ≡ self.old) }
     {
-        if self.try_cut_out(start, end) {
+        if self.try_remove_range(start, end) {
             return Ok(());
         }
         self.replace_slow(start, end, "")
