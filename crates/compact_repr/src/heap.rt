@@ -2,10 +2,11 @@
 ghost use Rattle.std.specs.Prelude.{◌≡◌, ◌+◌, ◌-◌, ◌≤◌, ◌<◌, ◌^◌, [], ◌∷◌, ◌++◌, length, None, false, IfOk, OnOk, OnErr, IsSome, IsTrue, ◌↔◌, MatchOption};
 ghost use Rattle.std.specs.String.{string_bytes, string_capacity};
 ghost use Rattle.std.specs.Char.{len_utf8};
-ghost use Rattle.compact_repr.specs.Words.{size, utf8, text_of, IsText, ascii_lowercase, ascii_uppercase, IsBoundary, IsAsciiAt, IsNotAsciiAt, text_before, substring, replaced_text};
+ghost use Rattle.compact_repr.specs.Words.{size, utf8, text_of, IsText, IsBoundary, IsAsciiAt, IsNotAsciiAt, text_before, substring, replaced_text};
+ghost use Rattle.compact_text.specs.Case.{text_in_case};
 ghost use Rattle.compact_text.specs.Retain.{RetainsCharsTo};
 
-use compact_text::slices::ascii_at;
+use compact_text::slices::{Case, ascii_at};
 use compact_text::str_parts::split_last;
 use compact_text::{slices, vec};
 use std::alloc::{AllocError, Global};
@@ -341,22 +342,13 @@ impl HeapBuffer {
         self.bytes.clear();
     }
 
-    /// Makes A to Z lowercase. Keeps the capacity.
-    pub fn make_ascii_lowercase(&mut self)
+    /// Converts ASCII letters to upper or lower case. Keeps the capacity.
+    pub fn convert_case(&mut self, case: Case)
         ensures { self.new
-            ≡ record { text = ascii_lowercase self.old.text; capacity = self.old.capacity } }
+            ≡ record { text = text_in_case case self.old.text; capacity = self.old.capacity } }
     {
         let len = self.bytes.len();
-        slices::make_lowercase(self.bytes.as_mut_slice(), len);
-    }
-
-    /// Makes a to z uppercase. Keeps the capacity.
-    pub fn make_ascii_uppercase(&mut self)
-        ensures { self.new
-            ≡ record { text = ascii_uppercase self.old.text; capacity = self.old.capacity } }
-    {
-        let len = self.bytes.len();
-        slices::make_uppercase(self.bytes.as_mut_slice(), len);
+        slices::convert_case(self.bytes.as_mut_slice(), len, case);
     }
 
     /// Keeps the characters for which `keep` returns `true`; calls it once for each, in order. Keeps the capacity.

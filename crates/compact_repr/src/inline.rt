@@ -3,14 +3,15 @@
 
 ghost use Rattle.std.specs.Prelude.{◌≡◌, ◌+◌, ◌-◌, ◌≤◌, ◌<◌, ℕ, List, [], ◌∷◌, ◌++◌, length, None, false, IsSome, IsTrue, ◌↔◌, MatchOption};
 ghost use Rattle.std.specs.Char.{len_utf8};
-ghost use Rattle.compact_repr.specs.Words.{INLINE_CAPACITY, size, utf8, text_of, IsText, ascii_lowercase, ascii_uppercase, IsBoundary, IsAsciiAt, IsNotAsciiAt, text_before, replaced_text};
+ghost use Rattle.compact_repr.specs.Words.{INLINE_CAPACITY, size, utf8, text_of, IsText, IsBoundary, IsAsciiAt, IsNotAsciiAt, text_before, replaced_text};
 ghost use Rattle.compact_repr.specs.Packed.{IsPackedFor};
+ghost use Rattle.compact_text.specs.Case.{text_in_case};
 ghost use Rattle.compact_text.specs.Retain.{RetainsCharsTo};
 
 mod compare;
 mod length;
 
-use compact_text::slices::{self, ascii_at};
+use compact_text::slices::{self, Case, ascii_at};
 use compact_text::str_parts::split_last;
 use compact_text::words::{insert_byte, remove_byte};
 use length::{is_packed, length_of, pack, with_len, with_len_below_24, write_len};
@@ -250,21 +251,12 @@ impl InlineBuffer {
         write_len(&mut self.bytes, 0);
     }
 
-    /// Makes A to Z lowercase.
-    pub fn make_ascii_lowercase(&mut self)
-        ensures { self.new ≡ ascii_lowercase self.old }
+    /// Converts ASCII letters to upper or lower case.
+    pub fn convert_case(&mut self, case: Case)
+        ensures { self.new ≡ text_in_case case self.old }
     {
         let len = length_of(&self.bytes);
-        slices::make_lowercase(&mut self.bytes, len);
-        write_len(&mut self.bytes, len);
-    }
-
-    /// Makes a to z uppercase.
-    pub fn make_ascii_uppercase(&mut self)
-        ensures { self.new ≡ ascii_uppercase self.old }
-    {
-        let len = length_of(&self.bytes);
-        slices::make_uppercase(&mut self.bytes, len);
+        slices::convert_case(&mut self.bytes, len, case);
         write_len(&mut self.bytes, len);
     }
 

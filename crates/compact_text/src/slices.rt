@@ -12,7 +12,7 @@ mod filter;
 mod moves;
 
 use crate::str_parts::encoded;
-pub use bytewise::{fill_zero, make_lowercase, make_uppercase};
+pub use bytewise::{Case, convert_case, fill_zero};
 use chunks::{chunk, set_chunk};
 pub use filter::retain;
 use moves::{move_down, move_up, shift};

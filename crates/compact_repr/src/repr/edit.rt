@@ -1,13 +1,15 @@
 //! Edits in place, which never allocate and never move the text to another place.
 ghost use Rattle.std.specs.Prelude.{◌≡◌, ◌+◌, ◌-◌, ◌^◌, ◌≤◌, ◌<◌, [], ◌∷◌, ◌++◌, length, nat_eq, ◌||◌, IsTrue, false, ◌↔◌, IsSome, IfSome, None};
 ghost use Rattle.std.specs.Char.{len_utf8};
-ghost use Rattle.compact_repr.specs.Words.{size, text_of, ascii_lowercase, ascii_uppercase, IsBoundary, IsCharAt, IsAsciiAt, IsNotAsciiAt, replaced_text, placed_text, IsOwned, fits_in_place, clear, truncate, zeroize, PopsChar};
+ghost use Rattle.compact_repr.specs.Words.{size, text_of, IsBoundary, IsCharAt, IsAsciiAt, IsNotAsciiAt, replaced_text, placed_text, IsOwned, fits_in_place, clear, truncate, zeroize, PopsChar};
+ghost use Rattle.compact_text.specs.Case.{text_in_case};
 ghost use Rattle.compact_text.specs.Retain.{RetainsCharsTo};
 
 use crate::growth::Policy;
 use crate::inline::InlineBuffer;
 use crate::repr::{Buffer, Repr};
 use crate::static_str::StaticStr;
+use compact_text::slices::Case;
 use compact_text::str_parts::char_at;
 
 impl<P: Policy> Repr<P> {
@@ -233,26 +235,14 @@ impl<P: Policy> Repr<P> {
         }
     }
 
-    /// Makes A to Z lowercase in an owned value. Keeps the place and the capacity.
-    pub fn make_ascii_lowercase(&mut self)
+    /// Converts ASCII letters of an owned value to upper or lower case. Keeps the place and the capacity.
+    pub fn convert_case(&mut self, case: Case)
         requires { IsOwned self.old }
-        ensures { self.new ≡ placed_text (ascii_lowercase self.old.text) self.old.placement }
+        ensures { self.new ≡ placed_text (text_in_case case self.old.text) self.old.placement }
     {
         match &mut self.buffer {
-            Buffer::Inline(_, inline) => inline.make_ascii_lowercase(),
-            Buffer::Heap(heap) => heap.make_ascii_lowercase(),
-            Buffer::Static(_) => unreachable!(),
-        }
-    }
-
-    /// Makes a to z uppercase in an owned value. Keeps the place and the capacity.
-    pub fn make_ascii_uppercase(&mut self)
-        requires { IsOwned self.old }
-        ensures { self.new ≡ placed_text (ascii_uppercase self.old.text) self.old.placement }
-    {
-        match &mut self.buffer {
-            Buffer::Inline(_, inline) => inline.make_ascii_uppercase(),
-            Buffer::Heap(heap) => heap.make_ascii_uppercase(),
+            Buffer::Inline(_, inline) => inline.convert_case(case),
+            Buffer::Heap(heap) => heap.convert_case(case),
             Buffer::Static(_) => unreachable!(),
         }
     }
