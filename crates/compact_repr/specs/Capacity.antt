@@ -13,8 +13,8 @@ pub record Growth : Type 0 where
 
 -- the law of each policy
 pub record IsLawful (g : Growth) : Type 0 where
-  pub above_inline : 25 ≤ g.least
-  pub below_limit : g.least ≤ 72057594037927934
+  pub above_inline : INLINE_CAPACITY < g.least
+  pub below_limit : g.least ≤ MAX_CAPACITY
   pub divides : 1 ≤ g.denominator
   pub grows : g.denominator < g.numerator
   pub small : g.numerator + g.denominator ≤ 255

@@ -1,5 +1,6 @@
 -- Values: a text with a place and a capacity.
 use Rattle.std.specs.Prelude.{◌≡◌, ℕ, ◌≤◌, Bool, true, false, IsTrue, List}
+use Rattle.compact_repr.specs.declared.inline.TheConstants.{INLINE_CAPACITY}
 use Rattle.compact_text.specs.Text.{size, IsText}
 
 -- in the value itself, in a heap buffer, or static
@@ -44,11 +45,11 @@ IsOwned v = is_static_place v.placement.place ≡ false
 
 -- the place with this capacity may hold that many bytes
 abbrev pub CanHold : Place → ℕ → ℕ → Type 0
-CanHold inline capacity bytes = (capacity ≡ 24) × (bytes ≤ 24)
+CanHold inline capacity bytes = (capacity ≡ INLINE_CAPACITY) × (bytes ≤ INLINE_CAPACITY)
 CanHold heap capacity bytes = bytes ≤ capacity
 CanHold static capacity bytes = capacity ≡ bytes
 
--- true of every value: an inline one has capacity 24, a static one its size
+-- true of every value: an inline one has capacity `INLINE_CAPACITY`, a static one its size
 pub record IsSound (v : PlacedText) : Type 0 where
   pub text : IsText v.text
   pub fits : CanHold v.placement.place v.placement.capacity (size v.text)

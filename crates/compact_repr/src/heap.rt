@@ -2,14 +2,18 @@
 ghost use Rattle.std.specs.Prelude.{◌≡◌, ◌+◌, ◌-◌, ◌≤◌, ◌<◌, ◌^◌, [], ◌∷◌, ◌++◌, length, None, false, IfOk, OnOk, OnErr, IsSome, IsTrue, ◌↔◌, MatchOption};
 ghost use Rattle.std.specs.String.{string_bytes, string_capacity};
 ghost use Rattle.std.specs.Char.{len_utf8};
-ghost use Rattle.compact_repr.specs.Words.{size, utf8, text_of, IsText, ascii_lowercase, ascii_uppercase, IsBoundary, IsAsciiAt, IsNotAsciiAt, text_before, substring, replaced_text};
+ghost use Rattle.compact_repr.specs.Words.{size, utf8, text_of, IsText, IsBoundary, IsAsciiAt, IsNotAsciiAt, text_before, substring, replaced_text};
+ghost use Rattle.compact_text.specs.Case.{text_in_case};
 ghost use Rattle.compact_text.specs.Retain.{RetainsCharsTo};
 
-use compact_text::slices::ascii_at;
+use compact_text::slices::{Case, ascii_at};
 use compact_text::str_parts::split_last;
 use compact_text::{slices, vec};
 use std::alloc::{AllocError, Global};
 use std::marker::Model;
+
+/// The length above which one call copies faster than blocks.
+const LONG: usize = 256;
 
 /// The bytes of the vector are the text. Its spare capacity may hold old bytes.
 ///
@@ -55,6 +59,13 @@ impl HeapBuffer {
         requires { length text.now ≤ capacity }
         ensures { IfOk result (λ b. b ≡ record { text = text_of text.now; capacity = capacity }) }
     {
+        if text.len() > LONG && text.len() == capacity {
+            let bytes = Vec::from_slice(alloc, text.as_bytes())?;
+            // Always so; the contract of `from_slice` does not say it.
+            if bytes.capacity() == capacity {
+                return Ok(HeapBuffer { bytes });
+            }
+        }
         let mut bytes = Vec::with_capacity(alloc, capacity)?;
         vec::append_first(&mut bytes, text.as_bytes());
         Ok(HeapBuffer { bytes })
@@ -62,9 +73,8 @@ impl HeapBuffer {
 
     /// Reuses the buffer of `text`, with its capacity.
     pub fn from_string(text: String) -> Self
-        ensures value { result
+        ensures { result
             ≡ record { text = text_of (string_bytes text); capacity = string_capacity text } }
-        ensures fits { size result.text ≤ result.capacity }
     {
         let bytes = text.into_bytes();
         HeapBuffer { bytes }
@@ -163,12 +173,11 @@ impl HeapBuffer {
         requires first { IsBoundary self.old.text start }
         requires last { IsBoundary self.old.text end }
         requires room { size self.old.text + (end - start) ≤ self.old.capacity }
-        ensures pushed { self.new
+        ensures { self.new
             ≡ record {
               text = self.old.text ++ substring self.old.text start end;
               capacity = self.old.capacity;
             } }
-        ensures within { size self.new.text ≤ self.old.capacity }
     {
         vec::append_within(&mut self.bytes, start, end);
     }
@@ -181,14 +190,12 @@ impl HeapBuffer {
         requires first { IsBoundary self.old.text start }
         requires last { IsBoundary self.old.text end }
         ensures fits { IsTrue result
-            ↔ (size self.old.text + length text.now ≤ self.old.capacity + (end - start)) }
+            ↔ (size self.old.text + (length text.now - (end - start)) ≤ self.old.capacity) }
         ensures replaced { IsTrue result
             → self.new ≡ record {
               text = replaced_text self.old.text start end (text_of text.now);
               capacity = self.old.capacity;
             } }
-        ensures within { size self.new.text ≤ self.old.capacity }
-        ensures short { size self.old.text ≤ self.old.capacity }
         ensures small { size self.old.text < 2 ^ 63 }
         ensures full { result ≡ false → self.new ≡ self.old }
     {
@@ -212,8 +219,6 @@ impl HeapBuffer {
               text = replaced_text self.old.text index index (byte ∷ []);
               capacity = self.old.capacity;
             } }
-        ensures within { size self.new.text ≤ self.old.capacity }
-        ensures short { size self.old.text ≤ self.old.capacity }
         ensures small { size self.old.text < 2 ^ 63 }
         ensures full { result ≡ false → self.new ≡ self.old }
     {
@@ -241,7 +246,6 @@ impl HeapBuffer {
               capacity = self.old.capacity;
             })) }
         ensures not_ascii { result ≡ None → IsNotAsciiAt self.old.text index }
-        ensures within { IsSome result → size self.new.text ≤ self.old.capacity }
     {
         let character = ascii_at(self.as_str().as_bytes(), index)?;
         self.remove_ascii(index);
@@ -253,12 +257,11 @@ impl HeapBuffer {
     fn remove_ascii(&mut self, index: usize)
         requires boundary { IsBoundary self.old.text index }
         requires next { IsBoundary self.old.text (index + 1) }
-        ensures removed { self.new
+        ensures { self.new
             ≡ record {
               text = replaced_text self.old.text index (index + 1) [];
               capacity = self.old.capacity;
             } }
-        ensures within { size self.new.text ≤ self.old.capacity }
     {
         let len = self.bytes.len();
         slices::remove_byte(self.bytes.as_mut_slice(), len, index);
@@ -267,28 +270,26 @@ impl HeapBuffer {
 
     /// Removes the bytes from one boundary to another.
     #[inline(always)]
-    pub fn cut_out(&mut self, start: usize, end: usize)
+    pub fn remove_range(&mut self, start: usize, end: usize)
         requires order { start ≤ end }
         requires first { IsBoundary self.old.text start }
         requires last { IsBoundary self.old.text end }
-        ensures cut { self.new
+        ensures { self.new
             ≡ record {
               text = replaced_text self.old.text start end [];
               capacity = self.old.capacity;
             } }
-        ensures within { size self.new.text ≤ self.old.capacity }
     {
         let len = self.bytes.len();
-        slices::cut_out(self.bytes.as_mut_slice(), len, start, end);
+        slices::remove_range(self.bytes.as_mut_slice(), len, start, end);
         self.bytes.truncate(len - (end - start));
     }
 
     /// Removes and returns the last character, or returns `None` if the text is empty. Keeps the capacity.
     #[inline]
     pub fn pop(&mut self) -> Option<char>
-        ensures popped { MatchOption result ((self.old.text ≡ []) × (self.new ≡ self.old))
+        ensures { MatchOption result ((self.old.text ≡ []) × (self.new ≡ self.old))
             (λ c. (self.old.text ≡ self.new.text ++ c ∷ []) × (self.new.capacity ≡ self.old.capacity)) }
-        ensures within { IsSome result → size self.new.text ≤ self.old.capacity }
     {
         let (index, character) = split_last(self.as_str())?;
         self.truncate(index);
@@ -316,9 +317,8 @@ impl HeapBuffer {
     #[inline]
     pub fn truncate(&mut self, len: usize)
         requires { IsBoundary self.old.text len }
-        ensures value { self.new
+        ensures { self.new
             ≡ record { text = text_before self.old.text len; capacity = self.old.capacity } }
-        ensures fits { size self.new.text ≤ self.old.capacity }
     {
         self.bytes.truncate(len);
     }
@@ -342,24 +342,13 @@ impl HeapBuffer {
         self.bytes.clear();
     }
 
-    /// Makes A to Z lowercase. Keeps the capacity.
-    pub fn make_ascii_lowercase(&mut self)
-        ensures value { self.new
-            ≡ record { text = ascii_lowercase self.old.text; capacity = self.old.capacity } }
-        ensures fits { size self.new.text ≤ self.old.capacity }
+    /// Converts ASCII letters to upper or lower case. Keeps the capacity.
+    pub fn convert_case(&mut self, case: Case)
+        ensures { self.new
+            ≡ record { text = text_in_case case self.old.text; capacity = self.old.capacity } }
     {
         let len = self.bytes.len();
-        slices::make_lowercase(self.bytes.as_mut_slice(), len);
-    }
-
-    /// Makes a to z uppercase. Keeps the capacity.
-    pub fn make_ascii_uppercase(&mut self)
-        ensures value { self.new
-            ≡ record { text = ascii_uppercase self.old.text; capacity = self.old.capacity } }
-        ensures fits { size self.new.text ≤ self.old.capacity }
-    {
-        let len = self.bytes.len();
-        slices::make_uppercase(self.bytes.as_mut_slice(), len);
+        slices::convert_case(self.bytes.as_mut_slice(), len, case);
     }
 
     /// Keeps the characters for which `keep` returns `true`; calls it once for each, in order. Keeps the capacity.
@@ -369,7 +358,6 @@ impl HeapBuffer {
         ensures text { RetainsCharsTo F.FnMut keep.old self.old.text self.new.text keep.new }
         ensures callable { F.IsAlwaysCallable keep.new }
         ensures capacity { self.new.capacity ≡ self.old.capacity }
-        ensures fits { size self.new.text ≤ self.old.capacity }
     {
         let len = self.bytes.len();
         let kept = slices::retain(self.bytes.as_mut_slice(), len, keep);

@@ -3,14 +3,15 @@
 
 ghost use Rattle.std.specs.Prelude.{◌≡◌, ◌+◌, ◌-◌, ◌≤◌, ◌<◌, ℕ, List, [], ◌∷◌, ◌++◌, length, None, false, IsSome, IsTrue, ◌↔◌, MatchOption};
 ghost use Rattle.std.specs.Char.{len_utf8};
-ghost use Rattle.compact_repr.specs.Words.{size, utf8, text_of, IsText, ascii_lowercase, ascii_uppercase, IsBoundary, IsAsciiAt, IsNotAsciiAt, text_before, replaced_text};
+ghost use Rattle.compact_repr.specs.Words.{INLINE_CAPACITY, size, utf8, text_of, IsText, IsBoundary, IsAsciiAt, IsNotAsciiAt, text_before, replaced_text};
 ghost use Rattle.compact_repr.specs.Packed.{IsPackedFor};
+ghost use Rattle.compact_text.specs.Case.{text_in_case};
 ghost use Rattle.compact_text.specs.Retain.{RetainsCharsTo};
 
 mod compare;
 mod length;
 
-use compact_text::slices::{self, ascii_at};
+use compact_text::slices::{self, Case, ascii_at};
 use compact_text::str_parts::split_last;
 use compact_text::words::{insert_byte, remove_byte};
 use length::{is_packed, length_of, pack, with_len, with_len_below_24, write_len};
@@ -51,7 +52,7 @@ impl InlineBuffer {
     /// Copies `text`.
     #[inline]
     pub fn new(text: &str) -> Self
-        requires { length text.now ≤ 24 }
+        requires { length text.now ≤ INLINE_CAPACITY }
         ensures { result ≡ text_of text.now }
     {
         InlineBuffer {
@@ -71,7 +72,7 @@ impl InlineBuffer {
     #[inline]
     pub fn len(&self) -> usize
         ensures value { result ≡ size self.now }
-        ensures fits { size self.now ≤ 24 }
+        ensures fits { size self.now ≤ INLINE_CAPACITY }
         ensures text { IsText self.now }
     {
         length_of(&self.bytes)
@@ -89,7 +90,7 @@ impl InlineBuffer {
     /// Appends `text` if it fits. Returns whether it did; otherwise changes nothing.
     #[inline]
     pub fn try_push_str(&mut self, text: &str) -> bool
-        ensures fits { IsTrue result ↔ (size self.old + length text.now ≤ 24) }
+        ensures fits { IsTrue result ↔ (size self.old + length text.now ≤ INLINE_CAPACITY) }
         ensures pushed { IsTrue result → self.new ≡ self.old ++ text_of text.now }
         ensures full { result ≡ false → self.new ≡ self.old }
     {
@@ -106,7 +107,7 @@ impl InlineBuffer {
     /// nothing.
     #[inline(always)]
     pub fn try_push(&mut self, character: char) -> bool
-        ensures fits { IsTrue result → size self.old + len_utf8 character ≤ 24 }
+        ensures fits { IsTrue result → size self.old + len_utf8 character ≤ INLINE_CAPACITY }
         ensures pushed { IsTrue result → self.new ≡ self.old ++ character ∷ [] }
         ensures full { result ≡ false → self.new ≡ self.old }
     {
@@ -125,11 +126,9 @@ impl InlineBuffer {
         requires order { start ≤ end }
         requires first { IsBoundary self.old start }
         requires last { IsBoundary self.old end }
-        ensures fits { IsTrue result ↔ (size self.old + length text.now ≤ 24 + (end - start)) }
+        ensures fits { IsTrue result ↔ (size self.old + (length text.now - (end - start)) ≤ INLINE_CAPACITY) }
         ensures replaced { IsTrue result
             → self.new ≡ replaced_text self.old start end (text_of text.now) }
-        ensures within { size self.new ≤ 24 }
-        ensures short { size self.old ≤ 24 }
         ensures full { result ≡ false → self.new ≡ self.old }
     {
         let old_len = length_of(&self.bytes);
@@ -148,11 +147,9 @@ impl InlineBuffer {
     pub fn try_insert_ascii(&mut self, index: usize, byte: u8) -> bool
         requires ascii { byte < 128 }
         requires boundary { IsBoundary self.old index }
-        ensures fits { IsTrue result ↔ (size self.old + 1 ≤ 24) }
+        ensures fits { IsTrue result ↔ (size self.old + 1 ≤ INLINE_CAPACITY) }
         ensures inserted { IsTrue result
             → self.new ≡ replaced_text self.old index index (byte ∷ []) }
-        ensures within { size self.new ≤ 24 }
-        ensures short { size self.old ≤ 24 }
         ensures full { result ≡ false → self.new ≡ self.old }
     {
         let len = length_of(&self.bytes);
@@ -173,7 +170,6 @@ impl InlineBuffer {
         ensures removed { MatchOption result (self.new ≡ self.old)
             (λ c. IsAsciiAt self.old index c × (self.new ≡ replaced_text self.old index (index + 1) [])) }
         ensures not_ascii { result ≡ None → IsNotAsciiAt self.old index }
-        ensures within { IsSome result → size self.new ≤ 24 }
     {
         let character = ascii_at(self.as_str().as_bytes(), index)?;
         self.remove_ascii(index);
@@ -185,8 +181,7 @@ impl InlineBuffer {
     fn remove_ascii(&mut self, index: usize)
         requires boundary { IsBoundary self.old index }
         requires next { IsBoundary self.old (index + 1) }
-        ensures removed { self.new ≡ replaced_text self.old index (index + 1) [] }
-        ensures within { size self.new ≤ 24 }
+        ensures { self.new ≡ replaced_text self.old index (index + 1) [] }
     {
         let len = length_of(&self.bytes);
         let array = remove_byte(&self.bytes, index);
@@ -195,24 +190,22 @@ impl InlineBuffer {
 
     /// Removes the bytes from one boundary to another.
     #[inline(always)]
-    pub fn cut_out(&mut self, start: usize, end: usize)
+    pub fn remove_range(&mut self, start: usize, end: usize)
         requires order { start ≤ end }
         requires first { IsBoundary self.old start }
         requires last { IsBoundary self.old end }
-        ensures cut { self.new ≡ replaced_text self.old start end [] }
-        ensures within { size self.new ≤ 24 }
+        ensures { self.new ≡ replaced_text self.old start end [] }
     {
         let len = length_of(&self.bytes);
-        slices::cut_out(&mut self.bytes, len, start, end);
+        slices::remove_range(&mut self.bytes, len, start, end);
         write_len(&mut self.bytes, len - (end - start));
     }
 
     /// Removes and returns the last character, or returns `None` if the text is empty.
     #[inline]
     pub fn pop(&mut self) -> Option<char>
-        ensures popped { MatchOption result ((self.old ≡ []) × (self.new ≡ self.old))
+        ensures { MatchOption result ((self.old ≡ []) × (self.new ≡ self.old))
             (λ c. self.old ≡ self.new ++ c ∷ []) }
-        ensures within { IsSome result → size self.new ≤ 24 }
     {
         let (index, character) = split_last(self.as_str())?;
         self.truncate(index);
@@ -222,9 +215,8 @@ impl InlineBuffer {
     /// Replaces the whole text with `text` if it fits. Returns whether it did; otherwise changes nothing.
     #[inline]
     pub fn try_assign(&mut self, text: &str) -> bool
-        ensures fits { IsTrue result ↔ (length text.now ≤ 24) }
+        ensures fits { IsTrue result ↔ (length text.now ≤ INLINE_CAPACITY) }
         ensures assigned { IsTrue result → self.new ≡ text_of text.now }
-        ensures within { IsTrue result → size self.new ≤ 24 }
         ensures full { result ≡ false → self.new ≡ self.old }
     {
         if text.len() > INLINE_CAPACITY {
@@ -238,8 +230,7 @@ impl InlineBuffer {
     #[inline]
     pub fn truncate(&mut self, len: usize)
         requires { IsBoundary self.old len }
-        ensures text { self.new ≡ text_before self.old len }
-        ensures fits { size self.new ≤ 24 }
+        ensures { self.new ≡ text_before self.old len }
     {
         write_len(&mut self.bytes, len);
     }
@@ -260,23 +251,12 @@ impl InlineBuffer {
         write_len(&mut self.bytes, 0);
     }
 
-    /// Makes A to Z lowercase.
-    pub fn make_ascii_lowercase(&mut self)
-        ensures text { self.new ≡ ascii_lowercase self.old }
-        ensures fits { size self.new ≤ 24 }
+    /// Converts ASCII letters to upper or lower case.
+    pub fn convert_case(&mut self, case: Case)
+        ensures { self.new ≡ text_in_case case self.old }
     {
         let len = length_of(&self.bytes);
-        slices::make_lowercase(&mut self.bytes, len);
-        write_len(&mut self.bytes, len);
-    }
-
-    /// Makes a to z uppercase.
-    pub fn make_ascii_uppercase(&mut self)
-        ensures text { self.new ≡ ascii_uppercase self.old }
-        ensures fits { size self.new ≤ 24 }
-    {
-        let len = length_of(&self.bytes);
-        slices::make_uppercase(&mut self.bytes, len);
+        slices::convert_case(&mut self.bytes, len, case);
         write_len(&mut self.bytes, len);
     }
 
@@ -286,7 +266,6 @@ impl InlineBuffer {
         requires { F.IsAlwaysCallable keep.old }
         ensures text { RetainsCharsTo F.FnMut keep.old self.old self.new keep.new }
         ensures callable { F.IsAlwaysCallable keep.new }
-        ensures fits { size self.new ≤ 24 }
     {
         let len = length_of(&self.bytes);
         let kept = slices::retain(&mut self.bytes, len, keep);

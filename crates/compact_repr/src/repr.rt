@@ -3,7 +3,7 @@ ghost use Rattle.std.specs.Prelude.{◌≡◌, ◌<◌, ◌≤◌, ◌^◌, ◌�
 ghost use Rattle.std.specs.String.{string_capacity};
 ghost use Rattle.compact_repr.specs.Words.{size, utf8, text_of, inline, is_heap_place, IsSound, IsStatic, IsHeap, IsInline};
 ghost use Rattle.compact_repr.specs.Packed.{IsPackedFor};
-ghost use Rattle.compact_repr.specs.BufferValue.{buffer_value, IsSoundBuffer};
+ghost use Rattle.compact_repr.specs.BufferValue.{buffer_value};
 
 mod at;
 pub mod capacity;
@@ -40,17 +40,14 @@ impl<P: Policy> Model for Repr<P> {
 
     ghost Value = { PlacedText };
 
-    ghost use Rattle.compact_repr.specs.BufferValue.{buffer_value, IsSoundBuffer};
+    ghost use Rattle.compact_repr.specs.BufferValue.{buffer_value};
 
     ghost view = { λ r. buffer_value r.buffer };
-
-    ghost invariant = { λ r. IsSoundBuffer r.buffer };
 }
 
 impl<P: Policy> Repr<P> {
     #[inline]
     fn of(alloc: Global, buffer: Buffer) -> Self
-        requires { IsSoundBuffer buffer }
         ensures { result ≡ buffer_value buffer }
     {
         Repr {

@@ -64,7 +64,7 @@ fn assert_cut(rt: &impl Abort, text: &mut Repr<Standard>, steps: &[(usize, usize
         that(*start <= *end).expect(rt, "it holds");
         that(text.is_char_boundary(*start)).expect(rt, "it holds");
         that(text.is_char_boundary(*end)).expect(rt, "it holds");
-        assert_equal(rt, text.try_cut_out(*start, *end), *owned);
+        assert_equal(rt, text.try_remove_range(*start, *end), *owned);
         assert_equal(rt, text.as_str(), *outcome);
     }
 }
@@ -156,7 +156,7 @@ fn assert_digits(
     that(text.is_char_boundary(start)).expect(rt, "it holds");
     that(text.is_char_boundary(end)).expect(rt, "it holds");
     that(start <= end).expect(rt, "it holds");
-    assert_that(rt, text.try_cut_out(start, end));
+    assert_that(rt, text.try_remove_range(start, end));
     assert_that(rt, text.as_str().starts_with(front));
     assert_that(
         rt,
@@ -274,7 +274,7 @@ fn nothing_in_place_of_the_program(rt: HostRuntime) {
 
 /// A part is removed in each owned place.
 #[test]
-fn a_part_is_cut_out(rt: HostRuntime) {
+fn a_part_is_removed(rt: HostRuntime) {
     let rt = &rt;
     let alloc = rt.alloc();
     let mut text = copied(rt, alloc, "äb𝄞xyz");

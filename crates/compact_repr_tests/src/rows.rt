@@ -172,12 +172,12 @@ fn assert_cut(rt: &impl Abort, text: &mut Repr<Standard>, end: usize, tail: usiz
     that(10 <= end).expect(rt, "it holds");
     that(text.is_char_boundary(10)).expect(rt, "it holds");
     that(text.is_char_boundary(end)).expect(rt, "it holds");
-    assert_that(rt, text.try_cut_out(10, end));
+    assert_that(rt, text.try_remove_range(10, end));
     assert_bytes(rt, text.as_str().as_bytes(), 0, end, tail);
 }
 
 #[test]
-fn bytes_are_cut_out(rt: HostRuntime) {
+fn bytes_are_removed(rt: HostRuntime) {
     let rt = &rt;
     let alloc = rt.alloc();
     for end in [10, 11, 12, 13, 14, 15, 18, 80] {

@@ -1,21 +1,22 @@
 -- Repetition.
-use Rattle.std.proofs.Common.{◌≡◌, Some, ℕ, ◌+◌, ◌*◌, ◌<◌, ◌≤◌, List, [], ◌++◌, zero, suc, ap, sym, ◌∙◌, arith, append_assoc, append-nil, add-one}
-use Rattle.std.proofs.Math.Nat.{mul-le-mul_left, mul-suc}
+use Rattle.std.proofs.Common.{◌≡◌, Some, ℕ, ◌+◌, ◌-◌, ◌*◌, ◌≤◌, List, [], ◌++◌, zero, suc, refl, ap, sym, ◌∙◌, arith, append_assoc, append-nil}
+use Rattle.std.proofs.Math.Nat.{mul-le-mul_left, mul-add}
 use Rattle.std.proofs.lemmas.Grind.{common_steps}
 use Rattle.std.specs.Prelude.{IsTrue, not, ◌&&◌, nat_le}
 use Rattle.compact_repr.specs.Text.{size}
+use Rattle.compact_repr.specs.Cut.{IsBoundary, substring}
 use Rattle.compact_repr.specs.Value.{Placement, PlacedText, is_static_place}
 use Rattle.compact_repr.specs.Capacity.{Growth, with_capacity_placement, fits_in_place, room_to_append, PlacedFor, AllocatesFor}
 use Rattle.compact_repr.specs.Calls.{clone}
 use Rattle.compact_str.specs.Edits.{repeated_text, IsPlacedAsRepeated}
 use Rattle.compact_text.proofs.Texts.{size-append, empty_text}
+use Rattle.compact_text.proofs.Middles.{parts-substring}
 
-repeated_text-suc : (n : ℕ) (t : List ℕ) → repeated_text n t ++ t ≡ repeated_text (suc n) t
-repeated_text-suc zero t = sym (append-nil t)
-repeated_text-suc (suc n) t = append_assoc t (repeated_text n t) t ∙ ap (λ x. t ++ x) (repeated_text-suc n t)
-
-pub repeated_text-more : (n : ℕ) (t : List ℕ) → repeated_text n t ++ t ≡ repeated_text (n + 1) t
-repeated_text-more n t = repeated_text-suc n t ∙ ap (λ (k : ℕ). repeated_text k t) (sym (add-one n))
+pub repeated_text-add : (m n : ℕ) (t : List ℕ) → repeated_text (m + n) t ≡ repeated_text m t ++ repeated_text n t
+repeated_text-add zero n t = let none : 0 + n ≡ n = omega arith in ap (λ (k : ℕ). repeated_text k t) none
+repeated_text-add (suc m) n t =
+    let more : suc m + n ≡ suc (m + n) = omega arith in
+    ap (λ (k : ℕ). repeated_text k t) more ∙ ap (λ x. t ++ x) (repeated_text-add m n t) ∙ sym (append_assoc t (repeated_text m t) (repeated_text n t))
 
 pub size-repeated_text : (n : ℕ) (t : List ℕ) → size (repeated_text n t) ≡ size t * n
 size-repeated_text zero t = omega arith
@@ -25,12 +26,21 @@ size-repeated_text (suc n) t = size-append t (repeated_text n t) ∙ ap (λ (k :
 pub with_capacity_placement-room : (g : Growth) (p : Placement) (m k : ℕ) → with_capacity_placement g m ≡ Some p → k ≤ m → IsTrue (not (is_static_place p.place) && nat_le k p.capacity)
 with_capacity_placement-room g p m k e h = grind (arith, common_steps)
 
--- a value filled so far has room for one more copy
-pub room_to_fill : (g : Growth) (v : PlacedText) (t : List ℕ) (i n : ℕ) → with_capacity_placement g (size t * n) ≡ Some v.placement → v.text ≡ repeated_text i t → i < n → IsTrue (fits_in_place v (size t))
-room_to_fill g v t i n e is h =
-    let more : size t * suc i ≤ size t * n = mul-le-mul_left (size t) (omega arith) in
-    let filled : size v.text ≡ size t * i = ap size is ∙ size-repeated_text i t in
-    with_capacity_placement-room g v.placement (size t * n) (size v.text + size t) e (omega (arith, more, filled, mul-suc (size t) i))
+-- i copies of t, of so many bytes, have room for k more, which the first k are
+pub next_copies : (g : Growth) (v : PlacedText) (t : List ℕ) (bytes i k n : ℕ) → size t ≡ bytes → with_capacity_placement g (bytes * n) ≡ Some v.placement → v.text ≡ repeated_text i t → k ≤ i → i + k ≤ n
+    → IsBoundary v.text (bytes * k) × IsTrue (fits_in_place v (bytes * k - 0)) × (v.text ++ substring v.text 0 (bytes * k) ≡ repeated_text (i + k) t)
+next_copies g v t bytes i k n wide e is h within =
+    let split : i ≡ k + (i - k) = omega arith in
+    let parts = is ∙ ap (λ (m : ℕ). repeated_text m t) split ∙ repeated_text-add k (i - k) t in
+    let size_k : size (repeated_text k t) ≡ bytes * k = rw (← wide) (size-repeated_text k t) in
+    let width : 0 + size (repeated_text k t) ≡ bytes * k = omega (arith, size_k) in
+    let cut = parts-substring v.text [] (repeated_text k t) (repeated_text (i - k) t) 0 (bytes * k) parts refl width in
+    let more : bytes * (i + k) ≤ bytes * n = mul-le-mul_left bytes within in
+    let filled : size v.text ≡ bytes * i = ap size is ∙ rw (← wide) (size-repeated_text i t) in (
+      cut.1,
+      with_capacity_placement-room g v.placement (bytes * n) (size v.text + (bytes * k - 0)) e (omega (arith, more, filled, mul-add bytes i k)),
+      rw (cut.2, is) (sym (repeated_text-add i k t)),
+    )
 
 -- an append that fits stays in place
 pub append-stays : (g : Growth) (v w : PlacedText) (n : ℕ) → PlacedFor g v w (room_to_append n) → IsTrue (fits_in_place v n) → w.placement ≡ v.placement

@@ -1,13 +1,12 @@
 -- Inserting and removing an ASCII character, a byte that is its own character.
-use Rattle.std.proofs.Common.{◌≡◌, ℕ, ◌+◌, ◌<◌, List, [], ◌∷◌, ◌++◌, length, take, slice_set, zero, suc, ap, sym, ◌∙◌, arith}
+use Rattle.std.proofs.Common.{◌≡◌, ℕ, ◌+◌, ◌<◌, List, [], ◌∷◌, ◌++◌, length, take, slice_set, zero, suc, ap, ◌∙◌, arith}
 use Rattle.std.proofs.lemmas.List.{take_more_set}
 use Rattle.std.proofs.lemmas.Str.{IsUtf8-append, IsUtf8-from_ascii, chars-append, chars-IsAscii}
 use Rattle.std.specs.List.{replace_range}
 use Rattle.std.specs.Str.{IsUtf8, IsAscii}
-use Rattle.compact_text.specs.Text.{size, text_of}
+use Rattle.compact_text.specs.Text.{text_of}
 use Rattle.compact_text.specs.Cut.{IsBoundary, replaced_text}
-use Rattle.compact_text.proofs.Texts.{size-text_of}
-use Rattle.compact_text.proofs.Cuts.{size-replaced, text_of-replaced, utf8-replaced, text_of-cut_out, utf8-cut_out}
+use Rattle.compact_text.proofs.Cuts.{text_of-replaced, utf8-replaced}
 
 is_ascii : (byte : ℕ) → byte < 128 → IsAscii (byte ∷ [])
 is_ascii byte h zero = h
@@ -22,20 +21,6 @@ ascii-inserted {t} bytes index byte e u h b =
 pub utf8-ascii-inserted : {t : List ℕ} (bytes : List ℕ) (index byte : ℕ) → text_of bytes ≡ t → IsUtf8 bytes → byte < 128 → IsBoundary t index
     → IsUtf8 (replace_range bytes index index (byte ∷ []))
 utf8-ascii-inserted bytes index byte e u h b = utf8-replaced bytes (byte ∷ []) index index e u (IsUtf8-from_ascii _ (is_ascii byte h)) b b
-
-pub size-ascii-inserted : (t : List ℕ) (index byte : ℕ) → byte < 128 → IsBoundary t index → size (replaced_text t index index (byte ∷ [])) ≡ size t + 1
-size-ascii-inserted t index byte h b =
-    let whole = size-replaced t (byte ∷ []) index index b b (omega arith) in
-    let one : size (byte ∷ []) ≡ 1 = ap size (sym (chars-IsAscii _ (is_ascii byte h))) ∙ size-text_of (byte ∷ []) (IsUtf8-from_ascii _ (is_ascii byte h)) in
-    omega (arith, whole, one)
-
-pub ascii-removed : {t : List ℕ} (bytes : List ℕ) (index : ℕ) → text_of bytes ≡ t → IsUtf8 bytes → IsBoundary t index → IsBoundary t (index + 1)
-    → text_of (replace_range bytes index (index + 1) []) ≡ replaced_text t index (index + 1) []
-ascii-removed bytes index e u b n = text_of-cut_out bytes index (index + 1) e u b n
-
-pub utf8-ascii-removed : {t : List ℕ} (bytes : List ℕ) (index : ℕ) → text_of bytes ≡ t → IsUtf8 bytes → IsBoundary t index → IsBoundary t (index + 1)
-    → IsUtf8 (replace_range bytes index (index + 1) [])
-utf8-ascii-removed bytes index e u b n = utf8-cut_out bytes index (index + 1) e u b n
 
 -- one written after the first n bytes
 pub ascii-behind : (slice : List ℕ) (n byte : ℕ) → n < length slice → IsUtf8 (take n slice) → byte < 128 → IsUtf8 (take (n + 1) (slice_set slice n byte))

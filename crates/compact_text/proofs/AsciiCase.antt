@@ -10,6 +10,9 @@ use lib.Dec.{ltb}
 use lib.Utf8.{scalar, scalars, encode, encodes, next, low_scalar}
 use Rattle.compact_text.specs.Text.{size, text_of, ascii_lowercase, ascii_uppercase}
 use Rattle.compact_text.specs.Cut.{IsBoundary, text_before}
+use Rattle.compact_text.specs.Case.{in_case, text_in_case}
+use Rattle.compact_text.specs.declared.slices.bytewise.Case.{Case}
+use Rattle.compact_text.specs.declared.slices.bytewise.Case.TheVariants.{Lower, Upper}
 use Rattle.compact_text.proofs.Cuts.{size-text_before, boundary-from_size}
 
 -- f maps ASCII to ASCII, and changes nothing else
@@ -84,17 +87,19 @@ lowercase_high b h = (lowercase_is b).2 (omega arith)
 uppercase_high : (b : ℕ) → 128 ≤ b → to_ascii_uppercase b ≡ b
 uppercase_high b h = (uppercase_is b).2 (omega arith)
 
-pub utf8-lowercase : (bytes : List ℕ) → IsUtf8 bytes → IsUtf8 (map to_ascii_lowercase bytes)
-utf8-lowercase bytes u = utf8-changed to_ascii_lowercase lowercase_ascii lowercase_high bytes u
+ascii : (case : Case) (b : ℕ) → b < 128 → in_case case b < 128
+ascii Lower = lowercase_ascii
+ascii Upper = uppercase_ascii
 
-pub utf8-uppercase : (bytes : List ℕ) → IsUtf8 bytes → IsUtf8 (map to_ascii_uppercase bytes)
-utf8-uppercase bytes u = utf8-changed to_ascii_uppercase uppercase_ascii uppercase_high bytes u
+high : (case : Case) (b : ℕ) → 128 ≤ b → in_case case b ≡ b
+high Lower = lowercase_high
+high Upper = uppercase_high
 
-pub text_of-lowercase : {t : List ℕ} (bytes : List ℕ) → text_of bytes ≡ t → IsUtf8 bytes → text_of (map to_ascii_lowercase bytes) ≡ ascii_lowercase t
-text_of-lowercase bytes e u = text_of-changed to_ascii_lowercase lowercase_ascii lowercase_high bytes e u
+pub utf8-in_case : (case : Case) (bytes : List ℕ) → IsUtf8 bytes → IsUtf8 (map (in_case case) bytes)
+utf8-in_case case bytes u = utf8-changed (in_case case) (ascii case) (high case) bytes u
 
-pub text_of-uppercase : {t : List ℕ} (bytes : List ℕ) → text_of bytes ≡ t → IsUtf8 bytes → text_of (map to_ascii_uppercase bytes) ≡ ascii_uppercase t
-text_of-uppercase bytes e u = text_of-changed to_ascii_uppercase uppercase_ascii uppercase_high bytes e u
+pub text_of-in_case : {t : List ℕ} (case : Case) (bytes : List ℕ) → text_of bytes ≡ t → IsUtf8 bytes → text_of (map (in_case case) bytes) ≡ text_in_case case t
+text_of-in_case case bytes e u = text_of-changed (in_case case) (ascii case) (high case) bytes e u
 
 pub size-lowercase : (t : List ℕ) → size (ascii_lowercase t) ≡ size t
 size-lowercase t = size-changed to_ascii_lowercase lowercase_ascii lowercase_high t

@@ -150,12 +150,12 @@ text_of-next bytes rest p c u h e =
     sym (text_of-drop bytes p refl u h) ∙ chars_past_char (drop p bytes) rest c (IsUtf8-drop bytes p u (boundary-bytes bytes p refl u h)) e
 
 -- a part is removed
-pub utf8-cut_out : {t : List ℕ} (bytes : List ℕ) (start end : ℕ) → text_of bytes ≡ t → IsUtf8 bytes → IsBoundary t start → IsBoundary t end → IsUtf8 (replace_range bytes start end [])
-utf8-cut_out bytes start end e u h k = utf8-replaced bytes [] start end e u IsUtf8-nil h k
+pub utf8-removed : {t : List ℕ} (bytes : List ℕ) (start end : ℕ) → text_of bytes ≡ t → IsUtf8 bytes → IsBoundary t start → IsBoundary t end → IsUtf8 (replace_range bytes start end [])
+utf8-removed bytes start end e u h k = utf8-replaced bytes [] start end e u IsUtf8-nil h k
 
-pub text_of-cut_out : {t : List ℕ} (bytes : List ℕ) (start end : ℕ) → text_of bytes ≡ t → IsUtf8 bytes → IsBoundary t start → IsBoundary t end
+pub text_of-removed : {t : List ℕ} (bytes : List ℕ) (start end : ℕ) → text_of bytes ≡ t → IsUtf8 bytes → IsBoundary t start → IsBoundary t end
     → text_of (replace_range bytes start end []) ≡ replaced_text t start end []
-text_of-cut_out {t} bytes start end e u h k = text_of-replaced bytes [] start end e u IsUtf8-nil h k ∙ ap (λ (s : List ℕ). replaced_text t start end s) chars-nil
+text_of-removed {t} bytes start end e u h k = text_of-replaced bytes [] start end e u IsUtf8-nil h k ∙ ap (λ (s : List ℕ). replaced_text t start end s) chars-nil
 
 -- the end of the character at a boundary is a boundary
 pub boundary-next : (t rest : List ℕ) (p c : ℕ) → IsBoundary t p → text_after t p ≡ c ∷ rest → IsBoundary t (p + len_utf8 c)

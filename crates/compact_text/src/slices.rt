@@ -12,7 +12,7 @@ mod filter;
 mod moves;
 
 use crate::str_parts::encoded;
-pub use bytewise::{fill_zero, make_lowercase, make_uppercase};
+pub use bytewise::{Case, convert_case, fill_zero};
 use chunks::{chunk, set_chunk};
 pub use filter::retain;
 use moves::{move_down, move_up, shift};
@@ -55,7 +55,7 @@ pub fn remove_byte(slice: &mut [u8], len: usize, index: usize)
 
 /// Removes the bytes from `start` to `end` from the first `len` bytes. Moves the tail once.
 #[inline(always)]
-pub fn cut_out(slice: &mut [u8], len: usize, start: usize, end: usize)
+pub fn remove_range(slice: &mut [u8], len: usize, start: usize, end: usize)
     requires order { start ≤ end }
     requires within { end ≤ len }
     requires long_enough { len ≤ length slice.old }

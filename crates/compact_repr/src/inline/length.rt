@@ -3,7 +3,7 @@
 
 ghost use Rattle.std.specs.Prelude.{◌≡◌, ◌+◌, ◌*◌, ◌^◌, ◌≤◌, ◌<◌, length, take, bit_or, nat_lt, if◌then◌else◌, IsTrue, ◌↔◌};
 ghost use Rattle.std.specs.Str.{IsUtf8};
-ghost use Rattle.compact_repr.specs.Words.{text_of};
+ghost use Rattle.compact_repr.specs.Words.{INLINE_CAPACITY, text_of};
 ghost use Rattle.compact_repr.specs.Packed.{IsPackedFor, packed_len, packed_text, packed_bytes};
 
 use crate::inline::INLINE_CAPACITY;
@@ -40,7 +40,7 @@ pub fn is_packed(bytes: &[u8; 24]) -> bool
 /// whole word would wait for that write.
 #[inline(always)]
 pub fn length_of(bytes: &[u8; 24]) -> usize
-    requires { packed_len bytes.now ≤ 24 }
+    requires { packed_len bytes.now ≤ INLINE_CAPACITY }
     ensures { result ≡ packed_len bytes.now }
 {
     let len = usize::from(bytes[INLINE_CAPACITY - 1]).wrapping_sub(192);
@@ -54,7 +54,7 @@ pub fn length_of(bytes: &[u8; 24]) -> usize
 /// Writes the length of the text, which is at the front. Does nothing at 24 bytes, whose last byte is text.
 #[inline(always)]
 pub fn write_len(bytes: &mut [u8; 24], len: usize)
-    requires fits { len ≤ 24 }
+    requires fits { len ≤ INLINE_CAPACITY }
     requires text { IsUtf8 (take len bytes.old) }
     ensures { IsPackedFor bytes.new (text_of (take len bytes.old)) }
 {
@@ -66,7 +66,7 @@ pub fn write_len(bytes: &mut [u8; 24], len: usize)
 /// Returns the array with the length of the text at its front, which has less than 24 bytes, in its last word.
 #[inline(always)]
 pub fn with_len_below_24(array: &[u8; 24], len: usize) -> [u8; 24]
-    requires short { len < 24 }
+    requires short { len < INLINE_CAPACITY }
     requires text { IsUtf8 (take len array.now) }
     ensures { IsPackedFor result (text_of (take len array.now)) }
 {
@@ -76,7 +76,7 @@ pub fn with_len_below_24(array: &[u8; 24], len: usize) -> [u8; 24]
 /// Like `with_len_below_24`, for a text of up to 24 bytes. One of 24 bytes is returned unchanged.
 #[inline(always)]
 pub fn with_len(array: &[u8; 24], len: usize) -> [u8; 24]
-    requires fits { len ≤ 24 }
+    requires fits { len ≤ INLINE_CAPACITY }
     requires text { IsUtf8 (take len array.now) }
     ensures { IsPackedFor result (text_of (take len array.now)) }
 {
@@ -90,10 +90,10 @@ pub fn with_len(array: &[u8; 24], len: usize) -> [u8; 24]
 /// Returns the last word with the length as its last byte, unless the text has 24 bytes.
 #[inline(always)]
 fn with_length(word: u64, len: usize) -> u64
-    requires { len ≤ 24 }
-    ensures { result ≡ (if nat_lt len 24 then bit_or word ((192 + len) * 2 ^ 56) else word) }
+    requires { len ≤ INLINE_CAPACITY }
+    ensures { result ≡ (if nat_lt len INLINE_CAPACITY then bit_or word ((192 + len) * 2 ^ 56) else word) }
 {
-    if len < 24 {
+    if len < INLINE_CAPACITY {
         word | ((192 + len as u64) << 56)
     } else {
         word
@@ -105,7 +105,7 @@ fn with_length(word: u64, len: usize) -> u64
 /// Branch-free on the length from eight bytes on.
 #[inline]
 pub fn pack(text: &[u8]) -> [u8; 24]
-    requires { length text.now ≤ 24 }
+    requires { length text.now ≤ INLINE_CAPACITY }
     ensures { result ≡ packed_bytes text.now }
 {
     let len = text.len();

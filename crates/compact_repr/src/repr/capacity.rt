@@ -41,7 +41,7 @@ impl<P: Policy> Repr<P> {
         }
     }
 
-    /// Reserves room that is lacking.
+    /// Reserves room that is lacking: moves a short text inline, and any other to a larger heap buffer.
     ///
     /// # Errors
     ///
@@ -49,24 +49,6 @@ impl<P: Policy> Repr<P> {
     #[cold]
     #[inline(never)]
     pub(super) fn make_room(&mut self, additional: usize) -> Result<(), ReserveError>
-        requires { fits_in_place self.old additional ≡ false }
-        ensures text { self.new.text ≡ self.old.text }
-        ensures place { OnOk result (PlacedFor P.growth self.old self.new (room additional)) }
-        ensures room { OnOk result (IsTrue (fits_in_place self.new additional)) }
-        ensures allocates { OnErr result (AllocatesFor self.old (room additional)) }
-        ensures err { OnErr result (self.new ≡ self.old) }
-        ensures small { size self.old.text < 2 ^ 63 }
-    {
-        self.make_room_here(additional)
-    }
-
-    /// `make_room`, inlined: moves a short text inline, and any other to a larger heap buffer.
-    ///
-    /// # Errors
-    ///
-    /// Returns [`ReserveError`] if that buffer cannot be allocated.
-    #[inline(always)]
-    pub(super) fn make_room_here(&mut self, additional: usize) -> Result<(), ReserveError>
         requires { fits_in_place self.old additional ≡ false }
         ensures text { self.new.text ≡ self.old.text }
         ensures place { OnOk result (PlacedFor P.growth self.old self.new (room additional)) }
@@ -102,6 +84,8 @@ impl<P: Policy> Repr<P> {
         ensures allocates { OnErr result (AllocatesFor self.old owned) }
         ensures err { OnErr result (self.new ≡ self.old) }
     {
+        // Shows the proof that the text fits in the capacity.
+        let _len = self.len();
         let Buffer::Static(text) = &self.buffer else {
             return Ok(());
         };
@@ -164,22 +148,11 @@ impl<P: Policy> Repr<P> {
         ensures ok { OnOk result (self.new ≡ placed_text self.old.text (heap_placement capacity)) }
         ensures err { OnErr result (self.new ≡ self.old) }
     {
-        let heap = match &mut self.buffer {
-            Buffer::Heap(heap) => {
-                heap.grow(capacity)?;
-                return Ok(());
-            }
-            Buffer::Inline(_, inline) => HeapBuffer::copy_of(
-                self.alloc,
-                inline.as_str(),
-                capacity,
-            )?,
-            Buffer::Static(text) => HeapBuffer::copy_of(
-                self.alloc,
-                text.as_static_str(),
-                capacity,
-            )?,
-        };
+        if let Buffer::Heap(heap) = &mut self.buffer {
+            heap.grow(capacity)?;
+            return Ok(());
+        }
+        let heap = HeapBuffer::copy_of(self.alloc, self.as_str(), capacity)?;
         self.buffer = Buffer::Heap(heap);
         Ok(())
     }

@@ -1,14 +1,16 @@
 //! Edits in place, which never allocate and never move the text to another place.
 ghost use Rattle.std.specs.Prelude.{◌≡◌, ◌+◌, ◌-◌, ◌^◌, ◌≤◌, ◌<◌, [], ◌∷◌, ◌++◌, length, nat_eq, ◌||◌, IsTrue, false, ◌↔◌, IsSome, IfSome, None};
 ghost use Rattle.std.specs.Char.{len_utf8};
-ghost use Rattle.compact_repr.specs.Words.{size, text_of, ascii_lowercase, ascii_uppercase, IsBoundary, IsCharAt, IsAsciiAt, IsNotAsciiAt, substring, replaced_text, placed_text, IsOwned, fits_in_place, clear, truncate, zeroize, PopsChar};
+ghost use Rattle.compact_repr.specs.Words.{size, text_of, IsBoundary, IsCharAt, IsAsciiAt, IsNotAsciiAt, replaced_text, placed_text, IsOwned, fits_in_place, clear, truncate, zeroize, PopsChar};
+ghost use Rattle.compact_text.specs.Case.{text_in_case};
 ghost use Rattle.compact_text.specs.Retain.{RetainsCharsTo};
 
 use crate::growth::Policy;
 use crate::inline::InlineBuffer;
 use crate::repr::{Buffer, Repr};
 use crate::static_str::StaticStr;
-use compact_text::str_parts::{char_at, substring};
+use compact_text::slices::Case;
+use compact_text::str_parts::char_at;
 
 impl<P: Policy> Repr<P> {
     /// Appends `text` if the value is owned and has room. Returns whether it did; otherwise changes nothing.
@@ -66,7 +68,7 @@ impl<P: Policy> Repr<P> {
     /// Removes the bytes from one boundary to another if the value is owned. Returns whether it did; otherwise changes
     /// nothing. Keeps the place and the capacity.
     #[inline(always)]
-    pub fn try_cut_out(&mut self, start: usize, end: usize) -> bool
+    pub fn try_remove_range(&mut self, start: usize, end: usize) -> bool
         requires order { start ≤ end }
         requires first { IsBoundary self.old.text start }
         requires last { IsBoundary self.old.text end }
@@ -78,11 +80,11 @@ impl<P: Policy> Repr<P> {
         match &mut self.buffer {
             Buffer::Static(_) => false,
             Buffer::Inline(_, inline) => {
-                inline.cut_out(start, end);
+                inline.remove_range(start, end);
                 true
             }
             Buffer::Heap(heap) => {
-                heap.cut_out(start, end);
+                heap.remove_range(start, end);
                 true
             }
         }
@@ -146,12 +148,12 @@ impl<P: Policy> Repr<P> {
             Buffer::Static(_) => None,
             Buffer::Inline(_, inline) => {
                 let (character, end) = char_at(inline.as_str(), index);
-                inline.cut_out(index, end);
+                inline.remove_range(index, end);
                 Some(character)
             }
             Buffer::Heap(heap) => {
                 let (character, end) = char_at(heap.as_str(), index);
-                heap.cut_out(index, end);
+                heap.remove_range(index, end);
                 Some(character)
             }
         }
@@ -233,26 +235,14 @@ impl<P: Policy> Repr<P> {
         }
     }
 
-    /// Makes A to Z lowercase in an owned value. Keeps the place and the capacity.
-    pub fn make_ascii_lowercase(&mut self)
+    /// Converts ASCII letters of an owned value to upper or lower case. Keeps the place and the capacity.
+    pub fn convert_case(&mut self, case: Case)
         requires { IsOwned self.old }
-        ensures { self.new ≡ placed_text (ascii_lowercase self.old.text) self.old.placement }
+        ensures { self.new ≡ placed_text (text_in_case case self.old.text) self.old.placement }
     {
         match &mut self.buffer {
-            Buffer::Inline(_, inline) => inline.make_ascii_lowercase(),
-            Buffer::Heap(heap) => heap.make_ascii_lowercase(),
-            Buffer::Static(_) => unreachable!(),
-        }
-    }
-
-    /// Makes a to z uppercase in an owned value. Keeps the place and the capacity.
-    pub fn make_ascii_uppercase(&mut self)
-        requires { IsOwned self.old }
-        ensures { self.new ≡ placed_text (ascii_uppercase self.old.text) self.old.placement }
-    {
-        match &mut self.buffer {
-            Buffer::Inline(_, inline) => inline.make_ascii_uppercase(),
-            Buffer::Heap(heap) => heap.make_ascii_uppercase(),
+            Buffer::Inline(_, inline) => inline.convert_case(case),
+            Buffer::Heap(heap) => heap.convert_case(case),
             Buffer::Static(_) => unreachable!(),
         }
     }
@@ -282,28 +272,6 @@ impl<P: Policy> Repr<P> {
         match &mut self.buffer {
             Buffer::Inline(_, inline) => inline.retain(keep),
             Buffer::Heap(heap) => heap.retain(keep),
-            Buffer::Static(_) => unreachable!(),
-        }
-    }
-
-    /// Appends the bytes from one boundary to another, for which there must be room. Keeps the place and the capacity.
-    #[tactic(auto, using(compact_text::proofs::TextFacts::text_facts))]
-    pub(super) fn push_within_in_place(&mut self, start: usize, end: usize)
-        requires order { start ≤ end }
-        requires first { IsBoundary self.old.text start }
-        requires last { IsBoundary self.old.text end }
-        requires room { IsTrue (fits_in_place self.old (end - start)) }
-        ensures { self.new
-            ≡ placed_text (self.old.text ++ substring self.old.text start end) self.old.placement }
-    {
-        match &mut self.buffer {
-            Buffer::Inline(_, inline) => {
-                let copy = inline.clone();
-                if !inline.try_push_str(substring(copy.as_str(), start, end)) {
-                    unreachable!();
-                }
-            }
-            Buffer::Heap(heap) => heap.push_within(start, end),
             Buffer::Static(_) => unreachable!(),
         }
     }

@@ -4,7 +4,8 @@ ghost use Rattle.compact_repr.specs.Words.{size, text_of, IsBoundary, substring,
 
 use crate::error::ReserveError;
 use crate::growth::Policy;
-use crate::repr::Repr;
+use crate::repr::{Buffer, Repr};
+use compact_text::str_parts;
 
 impl<P: Policy> Repr<P> {
     /// Appends a `text` that does not fit in place: reserves first. Not inlined, so that an append that fits stays short.
@@ -27,7 +28,7 @@ impl<P: Policy> Repr<P> {
         if text.is_empty() {
             return Ok(());
         }
-        self.make_room_here(text.len())?;
+        self.make_room(text.len())?;
         if !self.try_push_str(text) {
             unreachable!();
         }
@@ -68,7 +69,7 @@ impl<P: Policy> Repr<P> {
     /// Returns [`ReserveError`] if a static value cannot be made owned.
     #[inline]
     #[tactic(auto, using(crate::proofs::Placed::placed_facts))]
-    pub fn cut_out(&mut self, start: usize, end: usize) -> Result<(), ReserveError>
+    pub fn remove_range(&mut self, start: usize, end: usize) -> Result<(), ReserveError>
         requires order { start ≤ end }
         requires first { IsBoundary self.old.text start }
         requires last { IsBoundary self.old.text end }
@@ -77,7 +78,7 @@ impl<P: Policy> Repr<P> {
         ensures allocates { OnErr result (AllocatesFor self.old owned) }
         ensures err { OnErr result (self.new ≡ self.old) }
     {
-        if self.try_cut_out(start, end) {
+        if self.try_remove_range(start, end) {
             return Ok(());
         }
         self.replace_slow(start, end, "")
@@ -140,7 +141,16 @@ impl<P: Policy> Repr<P> {
             return Ok(());
         }
         self.reserve(len)?;
-        self.push_within_in_place(start, end);
+        match &mut self.buffer {
+            Buffer::Inline(_, inline) => {
+                let copy = inline.clone();
+                if !inline.try_push_str(str_parts::substring(copy.as_str(), start, end)) {
+                    unreachable!();
+                }
+            }
+            Buffer::Heap(heap) => heap.push_within(start, end),
+            Buffer::Static(_) => unreachable!(),
+        }
         Ok(())
     }
 }

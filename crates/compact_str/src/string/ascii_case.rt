@@ -4,6 +4,7 @@ ghost use Rattle.compact_str.specs.Words.{size, ascii_lowercase, ascii_uppercase
 
 use crate::string::PolicyString;
 use compact_repr::{Policy, ReserveError};
+use compact_text::slices::Case;
 
 impl<P: Policy> PolicyString<P> {
     /// Converts A to Z to lower case in place. Other characters and all boundaries stay. A static string becomes owned
@@ -34,7 +35,7 @@ impl<P: Policy> PolicyString<P> {
         ensures err { OnErr result (self.new ≡ self.old) }
     {
         self.repr.make_owned()?;
-        self.repr.make_ascii_lowercase();
+        self.repr.convert_case(Case::Lower);
         Ok(())
     }
 
@@ -65,7 +66,7 @@ impl<P: Policy> PolicyString<P> {
         ensures err { OnErr result (self.new ≡ self.old) }
     {
         self.repr.make_owned()?;
-        self.repr.make_ascii_uppercase();
+        self.repr.convert_case(Case::Upper);
         Ok(())
     }
 
@@ -91,7 +92,7 @@ impl<P: Policy> PolicyString<P> {
         ensures allocates { OnErr result (INLINE_CAPACITY < size self.now.text) }
     {
         let mut copy = Self::new(self.allocator(), self.as_str())?;
-        copy.repr.make_ascii_lowercase();
+        copy.repr.convert_case(Case::Lower);
         Ok(copy)
     }
 
@@ -117,7 +118,7 @@ impl<P: Policy> PolicyString<P> {
         ensures allocates { OnErr result (INLINE_CAPACITY < size self.now.text) }
     {
         let mut copy = Self::new(self.allocator(), self.as_str())?;
-        copy.repr.make_ascii_uppercase();
+        copy.repr.convert_case(Case::Upper);
         Ok(copy)
     }
 }

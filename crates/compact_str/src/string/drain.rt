@@ -210,7 +210,7 @@ impl<P: Policy> Drop for Drain<'_, P> {
             back: _,
         } = self;
         if value.len() == len {
-            value.repr.try_cut_out(start, end);
+            value.repr.try_remove_range(start, end);
         }
     }
 }

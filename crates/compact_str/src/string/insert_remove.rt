@@ -209,7 +209,7 @@ impl<P: Policy> PolicyString<P> {
         // Shows the proof that the end of the character is in the text.
         prove!(index < len);
         let (character, end) = self.repr.char_at(index);
-        self.repr.cut_out(index, end)?;
+        self.repr.remove_range(index, end)?;
         Ok(character)
     }
 

@@ -1,6 +1,6 @@
 //! Repeating a text.
-ghost use Rattle.std.specs.Prelude.{◌≡◌, ◌≤◌, ◌*◌, [], Some, IfOk, OnErr, IsOk};
-ghost use Rattle.compact_str.specs.Words.{INLINE_CAPACITY, size, placed_text, with_capacity_placement};
+ghost use Rattle.std.specs.Prelude.{◌≡◌, ◌<◌, ◌≤◌, ◌*◌, [], length, Some, IfOk, OnErr, IsOk};
+ghost use Rattle.compact_str.specs.Words.{INLINE_CAPACITY, size, text_of, placed_text, with_capacity_placement};
 ghost use Rattle.compact_str.specs.Edits.{repeated_text, IsPlacedAsRepeated, RepeatAllocates};
 
 use crate::string::PolicyString;
@@ -41,22 +41,31 @@ impl<P: Policy> PolicyString<P> {
         if total == 0 {
             return Ok(all);
         }
-        all.fill(self, count);
+        all.fill(self.as_str(), count);
         Ok(all)
     }
 
-    /// Appends `piece` `count` times to an empty string with room for them all.
-    fn fill(&mut self, piece: &Self, count: usize)
+    /// Appends `piece` `count` times to an empty string with room for them all. Doubles what is there.
+    fn fill(&mut self, piece: &str, count: usize)
+        requires some { 0 < count }
         requires empty { self.old.text ≡ [] }
-        requires room { with_capacity_placement P.growth (size piece.now.text * count)
+        requires room { with_capacity_placement P.growth (length piece.now * count)
             ≡ Some self.old.placement }
-        ensures { self.new ≡ placed_text (repeated_text count piece.now.text) self.old.placement }
+        ensures { self.new
+            ≡ placed_text (repeated_text count (text_of piece.now)) self.old.placement }
     {
-        for _done in 0..count {
-            match self.push_str(piece.as_str()) {
+        match self.push_str(piece) {
+            Ok(()) => {}
+            Err(_) => unreachable!(),
+        }
+        let mut done = 1;
+        while done < count {
+            let more = done.min(count - done);
+            match self.repr.push_within(0, piece.len() * more) {
                 Ok(()) => {}
                 Err(_) => unreachable!(),
             }
+            done += more;
         }
     }
 }

@@ -1,6 +1,6 @@
 //! Changes of single bytes.
 ghost use Rattle.std.specs.Prelude.{◌≡◌, ◌≤◌, length, take, drop, map, replicate};
-ghost use Rattle.std.specs.Char.{to_ascii_lowercase, to_ascii_uppercase};
+ghost use Rattle.compact_text.specs.Case.{in_case};
 
 /// Fills the slice with zeros.
 #[inline]
@@ -10,22 +10,22 @@ pub fn fill_zero(slice: &mut [u8])
     slice.fill(0);
 }
 
-/// Makes A to Z lowercase in the first `len` bytes.
-#[inline]
-pub fn make_lowercase(slice: &mut [u8], len: usize)
-    requires { len ≤ length slice.old }
-    ensures front { take len slice.new ≡ map to_ascii_lowercase (take len slice.old) }
-    ensures after { drop len slice.new ≡ drop len slice.old }
-{
-    slice[..len].make_ascii_lowercase();
+/// The case of letters.
+#[derive(Clone, Copy)]
+pub enum Case {
+    Lower,
+    Upper,
 }
 
-/// Makes a to z uppercase in the first `len` bytes.
+/// Converts the ASCII letters among the first `len` bytes to upper or lower case.
 #[inline]
-pub fn make_uppercase(slice: &mut [u8], len: usize)
+pub fn convert_case(slice: &mut [u8], len: usize, case: Case)
     requires { len ≤ length slice.old }
-    ensures front { take len slice.new ≡ map to_ascii_uppercase (take len slice.old) }
+    ensures front { take len slice.new ≡ map (in_case case) (take len slice.old) }
     ensures after { drop len slice.new ≡ drop len slice.old }
 {
-    slice[..len].make_ascii_uppercase();
+    match case {
+        Case::Lower => slice[..len].make_ascii_lowercase(),
+        Case::Upper => slice[..len].make_ascii_uppercase(),
+    }
 }

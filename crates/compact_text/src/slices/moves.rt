@@ -15,6 +15,9 @@ pub fn shift(slice: &mut [u8], from: usize, to: usize, count: usize)
     requires target { to + count ≤ length slice.old }
     ensures { slice.new ≡ paste slice.old to (drop from slice.old) count }
 {
+    if from == to {
+        return;
+    }
     if count <= 2 * BLOCK {
         copy_up_to_128(slice, from, to, count);
     } else if from < to {
@@ -25,7 +28,7 @@ pub fn shift(slice: &mut [u8], from: usize, to: usize, count: usize)
             4 => move_up::<4>(slice, from, count),
             _ => shift_up(slice, from, to, count),
         }
-    } else if to < from {
+    } else {
         match from - to {
             1 => move_down::<1>(slice, to, count),
             2 => move_down::<2>(slice, to, count),

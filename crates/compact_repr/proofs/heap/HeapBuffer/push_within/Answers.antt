@@ -1,8 +1,7 @@
-use Rattle.std.proofs.Common.{arith, refl}
+use Rattle.std.proofs.Common.{refl}
 use Rattle.std.proofs.lemmas.Str.{IsUtf8-append, chars-append}
 use Rattle.compact_repr.proofs.HeapTexts.{shown-text, shown-capacity}
 use Rattle.compact_text.proofs.Middles.{part-text}
-use Rattle.compact_text.proofs.Texts.{size-text_of}
 use Rattle.compact_repr.proofs.heap.HeapBuffer.push_within.Goals as goal
 
 pub invariant_of-self : goal.invariant_of-self
@@ -10,8 +9,8 @@ invariant_of-self c =
     let part = part-text _ c.args.start c.args.end (shown-text _ c.self.view_is) c.self.invariant c.requires.first c.requires.last c.requires.order in
     rw c.append_within.ensures.items (IsUtf8-append _ _ c.self.invariant part.0)
 
-pub returns-clause-pushed : goal.returns-clause-pushed
-returns-clause-pushed c =
+pub returns : goal.returns
+returns c =
     let part = part-text _ c.args.start c.args.end (shown-text _ c.self.view_is) c.self.invariant c.requires.first c.requires.last c.requires.order in
     rw (
       c.append_within.ensures.items,
@@ -21,7 +20,3 @@ returns-clause-pushed c =
       c.append_within.ensures.capacity,
       shown-capacity _ c.self.view_is,
     ) refl
-
-pub returns-clause-within : goal.returns-clause-within
-returns-clause-within c =
-    omega (arith, size-text_of c.append_within.new.bytes.items (invariant_of-self c), c.append_within.ensures.capacity, shown-capacity _ c.self.view_is)

@@ -1,8 +1,7 @@
 use Rattle.std.proofs.Common.{◌≡◌, ◌+◌, [], ◌∷◌, ◌++◌, ◌∙◌, sym, ap, take, arith, refl}
 use Rattle.std.specs.List.{replace_range}
 use Rattle.std.proofs.lemmas.List.{take_at}
-use Rattle.compact_text.proofs.Ascii.{ascii-removed, utf8-ascii-removed}
-use Rattle.compact_text.proofs.Texts.{size-text_of}
+use Rattle.compact_text.proofs.Cuts.{text_of-removed, utf8-removed}
 use Rattle.compact_repr.proofs.HeapTexts.{shown-text, shown-capacity, written, whole}
 use Rattle.compact_repr.proofs.heap.HeapBuffer.remove_ascii.Goals as goal
 
@@ -16,11 +15,8 @@ now c =
     ∙ rw (c.as_mut_slice.ensures.value, c.len-len.ensures, whole c.self.inside.bytes.items c.self.inside.bytes.len (omega arith)) refl
 
 pub invariant_of-self : goal.invariant_of-self
-invariant_of-self c = rw (now c) (utf8-ascii-removed _ c.args.index (shown-text _ c.self.view_is) c.self.invariant c.requires.boundary c.requires.next)
+invariant_of-self c = rw (now c) (utf8-removed _ c.args.index (c.args.index + 1) (shown-text _ c.self.view_is) c.self.invariant c.requires.boundary c.requires.next)
 
-pub returns-clause-removed : goal.returns-clause-removed
-returns-clause-removed c =
-    rw (now c, ascii-removed _ c.args.index (shown-text _ c.self.view_is) c.self.invariant c.requires.boundary c.requires.next, c.take_last-last.ensures.capacity, shown-capacity _ c.self.view_is) refl
-
-pub returns-clause-within : goal.returns-clause-within
-returns-clause-within c = omega (arith, size-text_of c.take_last-last.new.self.items (invariant_of-self c), shown-capacity _ c.self.view_is)
+pub returns : goal.returns
+returns c =
+    rw (now c, text_of-removed _ c.args.index (c.args.index + 1) (shown-text _ c.self.view_is) c.self.invariant c.requires.boundary c.requires.next, c.take_last-last.ensures.capacity, shown-capacity _ c.self.view_is) refl

@@ -1,8 +1,8 @@
 use Rattle.std.proofs.Common.{◌≡◌, ◌+◌, [], ◌∷◌, ◌++◌, ◌∙◌, sym, take, drop, length, arith, refl}
 use Rattle.std.specs.List.{replace_range}
 use Rattle.std.proofs.lemmas.List.{take_at}
-use Rattle.compact_text.proofs.Ascii.{ascii-inserted, utf8-ascii-inserted, size-ascii-inserted}
-use Rattle.compact_repr.proofs.HeapTexts.{shown-text, shown-capacity, shown-size, written, whole}
+use Rattle.compact_text.proofs.Ascii.{ascii-inserted, utf8-ascii-inserted}
+use Rattle.compact_repr.proofs.HeapTexts.{shown-text, shown-capacity, written, whole}
 use Rattle.compact_repr.proofs.heap.HeapBuffer.try_insert_ascii.Goals as goal
 
 now : (c : goal.After-self-1)
@@ -20,8 +20,3 @@ invariant_of-self c = rw (now c) (utf8-ascii-inserted _ c.args.index c.args.byte
 pub returns-clause-inserted : goal.returns-clause-inserted
 returns-clause-inserted c _ =
     rw (now c, ascii-inserted _ c.args.index c.args.byte (shown-text _ c.self.view_is) c.self.invariant c.requires.ascii c.requires.boundary, c.push_reserved.ensures.capacity, shown-capacity _ c.self.view_is) refl
-
-pub returns-clause-within : goal.returns-clause-within
-returns-clause-within c =
-    rw (now c, ascii-inserted _ c.args.index c.args.byte (shown-text _ c.self.view_is) c.self.invariant c.requires.ascii c.requires.boundary)
-    (omega (arith, size-ascii-inserted c.args.self.now.text c.args.index c.args.byte c.requires.ascii c.requires.boundary, shown-size _ c.self.view_is c.self.invariant, shown-capacity _ c.self.view_is))

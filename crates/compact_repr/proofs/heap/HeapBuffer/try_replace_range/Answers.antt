@@ -1,5 +1,4 @@
-use Rattle.std.proofs.Common.{arith, refl}
-use Rattle.compact_text.proofs.Texts.{size-text_of}
+use Rattle.std.proofs.Common.{refl}
 use Rattle.compact_text.proofs.Cuts.{text_of-replaced, utf8-replaced}
 use Rattle.compact_repr.proofs.HeapTexts.{shown-text, shown-capacity}
 use Rattle.compact_repr.proofs.heap.HeapBuffer.try_replace_range.Goals as goal
@@ -11,6 +10,3 @@ pub returns-clause-replaced : goal.returns-clause-replaced
 returns-clause-replaced c _ =
     let spelled = text_of-replaced _ _ _ _ (shown-text _ c.self.view_is) c.self.invariant c.as_bytes.ensures.utf8 c.requires.first c.requires.last in
     rw (c.splice.ensures.items, spelled, c.splice.ensures.capacity, shown-capacity _ c.self.view_is, c.as_bytes.ensures.value) refl
-
-pub returns-clause-within : goal.returns-clause-within
-returns-clause-within c = omega (arith, size-text_of c.splice.new.bytes.items (invariant_of-self c), shown-capacity _ c.self.view_is)

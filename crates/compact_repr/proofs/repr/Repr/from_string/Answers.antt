@@ -10,4 +10,4 @@ returns g c =
     let bytes = size-string c.args.text in
     let len = c.args.text.bytes.ok in
     let long : 24 < size (text_of (string_bytes c.args.text)) = omega (arith, bytes, len.0) in
-    c.of-2.ensures ∙ rw (c.from_string.ensures.value, cond-false _ _ _ (lt-leb _ _ long)) refl
+    c.of-2.ensures ∙ rw (c.from_string.ensures, cond-false _ _ _ (lt-leb _ _ long)) refl

@@ -1,22 +1,31 @@
-use Rattle.std.proofs.Common.{ap, sym, ◌∙◌, subst, ℕ}
-use Rattle.std.specs.Prelude.{IsTrue}
+use Rattle.std.proofs.Common.{◌∙◌, arith}
 use Rattle.compact_text.proofs.Texts.{size-text_of}
-use Rattle.compact_repr.specs.Text.{size}
-use Rattle.compact_repr.specs.Capacity.{fits_in_place}
-use Rattle.compact_str.proofs.Repeats.{room_to_fill, append-never_asks, append-stays, repeated_text-more}
+use Rattle.compact_repr.specs.Text.{text_of}
+use Rattle.compact_str.proofs.Repeats.{next_copies, append-never_asks, append-stays}
 use Rattle.compact_str.proofs.string.PolicyString.fill.Goals as goal
 
-pub unreachable-requires : goal.unreachable-requires
-unreachable-requires g c =
-    let long = sym (size-text_of c.as_str.result.now c.as_str.utf8) ∙ ap size c.as_str.ensures.text in
-    let room = room_to_fill g.P.Policy.growth c.loop-done.self c.args.piece.now.text c.loop-done._done c.args.count (rw c.loop-done.invariant.placement c.requires.room) c.loop-done.invariant.text c.loop-done-test.true in
-    append-never_asks c.loop-done.self _ (subst (λ (n : ℕ). IsTrue (fits_in_place c.loop-done.self n)) (sym long) room) c.in-Err.ensures.allocates
+pub push_within-requires-clause-last : goal.push_within-requires-clause-last
+push_within-requires-clause-last g c =
+    let next = next_copies g.P.Policy.growth c.loop-done.self-inside.repr (text_of c.args.piece.now) _ c.loop-done.done c.min-more.result c.args.count
+    (size-text_of c.args.piece.now c.utf8.piece) (rw c.loop-done.invariant.placement c.requires.room) c.loop-done.invariant.text
+    (omega (arith, c.min-more.ensures)) (omega (arith, c.min-more.ensures)) in
+    next.0
+
+pub unreachable-requires-in-Err-push_within : goal.unreachable-requires-in-Err-push_within
+unreachable-requires-in-Err-push_within g c =
+    let next = next_copies g.P.Policy.growth c.loop-done.self-inside.repr (text_of c.args.piece.now) _ c.loop-done.done c.min-more.result c.args.count
+    (size-text_of c.args.piece.now c.utf8.piece) (rw c.loop-done.invariant.placement c.requires.room) c.loop-done.invariant.text
+    (omega (arith, c.min-more.ensures)) (omega (arith, c.min-more.ensures)) in
+    append-never_asks c.loop-done.self-inside.repr _ next.1 c.in-Err-push_within.ensures.allocates
 
 pub loop-done-preserved : goal.loop-done-preserved
 loop-done-preserved g c =
-    let long = sym (size-text_of c.as_str.result.now c.as_str.utf8) ∙ ap size c.as_str.ensures.text in
-    let room = room_to_fill g.P.Policy.growth c.loop-done.self c.args.piece.now.text c.loop-done._done c.args.count (rw c.loop-done.invariant.placement c.requires.room) c.loop-done.invariant.text c.loop-done-test.true in
+    let next = next_copies g.P.Policy.growth c.loop-done.self-inside.repr (text_of c.args.piece.now) _ c.loop-done.done c.min-more.result c.args.count
+    (size-text_of c.args.piece.now c.utf8.piece) (rw c.loop-done.invariant.placement c.requires.room) c.loop-done.invariant.text
+    (omega (arith, c.min-more.ensures)) (omega (arith, c.min-more.ensures)) in
     record {
-      text = c.in-Ok.ensures.text ∙ rw (c.as_str.ensures.text, c.loop-done.invariant.text) (repeated_text-more c.loop-done._done c.args.piece.now.text);
-      placement = append-stays g.P.Policy.growth c.loop-done.self c.push_str.new.self _ c.in-Ok.ensures.place (subst (λ (n : ℕ). IsTrue (fits_in_place c.loop-done.self n)) (sym long) room) ∙ c.loop-done.invariant.placement;
+      text = c.in-Ok-push_within.ensures.text ∙ next.2;
+      placement = append-stays g.P.Policy.growth c.loop-done.self-inside.repr c.push_within.new.self _ c.in-Ok-push_within.ensures.place next.1 ∙ c.loop-done.invariant.placement;
+      some = omega (arith, c.loop-done.invariant.some);
+      most = omega (arith, c.min-more.ensures);
     }
