@@ -14,6 +14,7 @@ use std::hash::Hash;
 /// After `insert`, `remove` at the same index may be called and never fails. It returns the character and restores the
 /// text.
 pub fn removal_undoes_insertion()
+    // `specs/Laws.antt` states this and the next laws in full.
     ensures { RemovalUndoesInsertion }
 {}
 
