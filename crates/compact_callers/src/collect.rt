@@ -7,7 +7,7 @@ ghost use Rattle.std.specs.String.{string_capacity};
 ghost use Rattle.compact_str.specs.Text.{text_of, size};
 ghost use Rattle.compact_str.specs.Order.{text_in};
 ghost use Rattle.compact_str.specs.Collect.{join};
-ghost use Rattle.compact_str.specs.FittedValues.{IsPlacedBySize};
+ghost use Rattle.compact_str.specs.Room.{IsPlacedBySize};
 
 use compact_str::{CompactString, CompactStringExt, ReserveError, append_all};
 use std::alloc::{AllocError, Global};

@@ -4,7 +4,7 @@
 ghost use Rattle.std.specs.Prelude.{◌≡◌, ◌≢◌, ◌↔◌, ◌++◌, IfSome, OnOk, OnErr, IsTrue, Some, true, false, codes, decimal, slice_get};
 ghost use Rattle.std.specs.Str.{trim};
 ghost use Rattle.compact_str.specs.Text.{text_of, utf8};
-ghost use Rattle.compact_str.specs.Trim.{IsBetweenWhitespace};
+ghost use Rattle.compact_str.specs.Ranges.{IsBetweenWhitespace};
 
 use compact_str::{CompactString, ReserveError};
 

@@ -7,8 +7,7 @@ use Rattle.compact_str.specs.Value.{PlacedText}
 use Rattle.compact_str.specs.Capacity.{Growth, with_capacity_allocates, reserve_allocates, make_owned_allocates}
 use Rattle.compact_str.specs.Calls.{new, push_str, push_str_allocates, clear, reserve, truncate, Shrinks, insert_str, replace_range, replace_range_allocates, make_ascii_lowercase, make_ascii_uppercase, retain, zeroize, PopsChar}
 use Rattle.compact_str.specs.RetainRules.{retained_text, flag_rule}
-use Rattle.compact_str.specs.Clones.{clone_from, clone_from_allocates}
-use Rattle.compact_str.specs.Edits.{Removes, SplitsOff, split_allocates, repeat, repeat_allocates}
+use Rattle.compact_str.specs.Edits.{clone_from, clone_from_allocates, Removes, SplitsOff, split_allocates, repeat, repeat_allocates}
 use Rattle.compact_str.specs.Ranges.{IsRange, span, range_start, range_end}
 use Rattle.compact_edit.specs.declared.edit.Edit.{Edit}
 use Rattle.compact_edit.specs.declared.edit.Edit.TheVariants.{Push, PushStr, Pop, Insert, InsertStr, Remove, Truncate, Clear, SplitOff, ReplaceRange, Drain, Retain, Reserve, ShrinkTo, ShrinkToFit, MakeLower, MakeUpper, Zeroize, Repeat, CloneFrom}

@@ -140,15 +140,15 @@ impl Interner {
     /// ```
     #[tactic(auto, using(crate::proofs::NameFacts::name_facts))]
     pub fn intern(&mut self, text: &str) -> Result<u32, InternError>
-        // On success `text` is a name, and its number is returned. Names keep their numbers.
+        // Returns the number of `text`, which becomes a name if it is new. Names keep their numbers.
         ensures names { OnOk result
             (self.new ≡ distinct_texts (self.old ++ text_of text.now ∷ [])) }
         ensures number { IfOk result (λ n. slice_get self.new n ≡ Some (text_of text.now)) }
         ensures kept { (n : ℕ) (name : List ℕ)
             → slice_get self.old n ≡ Some name → slice_get self.new n ≡ Some name }
 
-        // Fails only for a new text: if allocation fails, or all numbers are in use. The names are
-        // then unchanged.
+        // Fails only for a new text: `Reserve` if allocation fails, `Full` if all numbers are in use.
+        // The names are then unchanged.
         ensures succeeds { (n : ℕ) → slice_get self.old n ≡ Some (text_of text.now) → IsOk result }
         ensures cause { IfErr result (IsRefusal self.old (text_of text.now)) }
         ensures err { OnErr result (self.new ≡ self.old) }
@@ -202,7 +202,7 @@ impl Interner {
     /// ```
     #[tactic(auto, using(crate::proofs::NameFacts::list_facts))]
     pub fn intern_all(&mut self, texts: &[&str], numbers: &mut Vec<u32>) -> Result<(), InternError>
-        // On success all texts are names, and their numbers are appended. Names keep their numbers.
+        // Interns the texts, and appends their numbers. Names keep their numbers.
         ensures names { OnOk result (self.new ≡ distinct_texts (self.old ++ texts_of texts.now)) }
         ensures numbers { OnOk result
             (AppendsNumbersOf self.new (texts_of texts.now) numbers.old.items numbers.new.items) }

@@ -4,7 +4,7 @@ use Rattle.std.specs.List.{FoldsTo}
 use Rattle.std.specs.Fmt.{WritesInCalls, WritesText}
 use Rattle.compact_str.specs.Text.{text_of, utf8}
 use Rattle.compact_str.specs.Capacity.{Growth}
-use Rattle.compact_str.specs.Edits.{Writes}
+use Rattle.compact_str.specs.Output.{Writes}
 use Rattle.compact_str.proofs.ForCallers.{written-text}
 use Rattle.compact_str.proofs.PartFacts.{written-bytes}
 use Rattle.compact_ext.specs.declared.format.Collector.{Collector}

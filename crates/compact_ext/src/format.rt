@@ -1,8 +1,8 @@
 //! Strings from formats.
 ghost use Rattle.std.specs.Prelude.{◌≡◌, IfOk, IfSome, IsTrue, length, OnOk, OnErr};
 ghost use Rattle.compact_str.specs.Text.{text_of, utf8};
-ghost use Rattle.compact_str.specs.Edits.{Writes};
-ghost use Rattle.compact_str.specs.FittedValues.{IsPlacedBySize};
+ghost use Rattle.compact_str.specs.Output.{Writes};
+ghost use Rattle.compact_str.specs.Room.{IsPlacedBySize};
 ghost use Rattle.compact_str.specs.Words.{AllocatesFor, room_to_append, standard_growth};
 
 use compact_str::{CompactString, ReserveError};

@@ -17,8 +17,7 @@ use Rattle.compact_text.proofs.Cuts.{text_before-append}
 use Rattle.compact_repr.specs.Value.{PlacedText}
 use Rattle.compact_repr.specs.Capacity.{Growth, PlacedFor, room_to_append}
 use Rattle.compact_repr.specs.Calls.{push_str}
-use Rattle.compact_str.specs.Room.{HasRoomFor, infallible_capacity}
-use Rattle.compact_str.specs.FittedValues.{IsPlacedBySize}
+use Rattle.compact_str.specs.Room.{HasRoomFor, infallible_capacity, IsPlacedBySize}
 use Rattle.compact_str.specs.Collect.{Appends, AppendsAll, AppendsUpToRefused, PassesInline, RunPassesInline, RunGivesText, StopsWithout, Extends, Collects, run_of, char_text, join}
 use Rattle.compact_text.proofs.Texts.{size-append, size-text_of}
 use Rattle.compact_repr.proofs.Placed.{push_str-text, edited-from_parts}

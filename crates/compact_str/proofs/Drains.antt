@@ -16,8 +16,7 @@ use Rattle.compact_text.proofs.Middles.{substring-parts, parts-substring}
 use Rattle.compact_repr.specs.declared.growth.Policy.{Ghosts}
 use Rattle.compact_str.specs.declared.string.drain.Drain.{Drain}
 use Rattle.compact_str.specs.Ranges.{AreRangeEnds}
-use Rattle.compact_str.specs.Drain.{drain_rest, value_after_drain}
-use Rattle.compact_str.specs.TotalRanges.{range_text, without_range}
+use Rattle.compact_str.specs.Drain.{drain_rest, value_after_drain, range_text, without_range}
 
 pub placed-owned : (g : Growth) (v u : PlacedText) → PlacedFor g v u owned → is_static_place u.placement.place ≡ false
 placed-owned g v u e = grind (arith, common_steps)

@@ -1,21 +1,18 @@
 -- Worked examples of the definitions. The numbers come from the Rust crate and the Unicode Standard.
-use Rattle.std.specs.Prelude.{◌≡◌, ℕ, ◌*◌, List, [], ◌∷◌, ◌++◌, replicate, Some, None, refl}
+use Rattle.std.specs.Prelude.{◌≡◌, ℕ, ◌*◌, List, [], ◌∷◌, ◌++◌, replicate, Some, None, refl, true, false}
 use Rattle.std.proofs.Common.{arith}
 use Rattle.std.specs.declared.ops.Bound.TheVariants.{Included, Excluded, Unbounded}
 use Rattle.compact_repr.specs.Cut.{IsBoundary}
 use Rattle.compact_repr.specs.Value.{PlacedText, placed_text}
 use Rattle.compact_repr.specs.Capacity.{Growth, inline_placement, heap_placement, static_placement, with_capacity_placement}
 use Rattle.compact_text.proofs.Cuts.{size-text_before, boundary-within, boundary-from_size}
-use Rattle.compact_str.specs.Room.{own_capacity, infallible_capacity}
+use Rattle.compact_str.specs.Room.{own_capacity, infallible_capacity, IsPlacedBySize}
 use Rattle.compact_repr.specs.Calls.{truncate, insert_str, replace_range}
-use Rattle.compact_str.specs.Edits.{Removes, split_tail, repeat}
-use Rattle.compact_str.specs.Clones.{clone_from}
+use Rattle.compact_str.specs.Edits.{Removes, split_tail, repeat, clone_from}
 use Rattle.compact_str.specs.Ranges.{IsRange, span, range_start, range_end}
-use Rattle.std.specs.Prelude.{true, false}
 use Rattle.std.specs.declared.cmp.Ordering.TheVariants.{Less, Equal, Greater}
 use Rattle.compact_str.specs.Order.{same_text, text_order, text_cmp}
-use Rattle.compact_str.specs.TotalRanges.{range_text, without_range}
-use Rattle.compact_str.specs.FittedValues.{IsPlacedBySize}
+use Rattle.compact_str.specs.Drain.{range_text, without_range}
 use Rattle.compact_str.specs.Collect.{Appends, join, char_text}
 use Rattle.compact_str.specs.RetainRules.{retained_text, flag_rule}
 

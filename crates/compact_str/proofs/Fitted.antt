@@ -6,7 +6,7 @@ use Rattle.std.specs.Prelude.{Result, Ok, Err, OnOk, OnErr}
 use Rattle.compact_repr.specs.Text.{size}
 use Rattle.compact_repr.specs.Value.{PlacedText, placed_text, heap}
 use Rattle.compact_repr.specs.Capacity.{Growth, inline_placement, room_to_append, PlacedFor, AllocatesFor}
-use Rattle.compact_str.specs.FittedValues.{IsPlacedBySize}
+use Rattle.compact_str.specs.Room.{IsPlacedBySize}
 use Rattle.compact_text.proofs.Texts.{size-append}
 
 short-append : (g : Growth) (v w : PlacedText) (n : ℕ) → v.placement ≡ inline_placement → PlacedFor g v w (room_to_append n) → size v.text + n ≤ 24 → w.placement ≡ inline_placement

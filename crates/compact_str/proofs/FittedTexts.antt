@@ -14,7 +14,8 @@ use Rattle.compact_text.proofs.Texts.{size-append, size-text_of}
 use Rattle.compact_text.specs.Text.{replacement_character}
 use Rattle.compact_codec.specs.Utf8Text.{BytesEncode, replacement_text}
 use Rattle.compact_codec.proofs.LossyReading.{replacement_text-some}
-use Rattle.compact_str.specs.FittedValues.{IsPlacedBySize, MakesText}
+use Rattle.compact_str.specs.Room.{IsPlacedBySize}
+use Rattle.compact_str.specs.Decoding.{MakesText}
 use Rattle.compact_str.proofs.Fitted.{fitted-append}
 
 -- a text of more than 24 bytes on the heap

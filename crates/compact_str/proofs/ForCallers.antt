@@ -21,7 +21,7 @@ use Rattle.compact_repr.specs.Cut.{IsBoundary, text_before, text_after}
 use Rattle.compact_repr.specs.Packed.{IsPackedFor}
 use Rattle.compact_repr.specs.Value.{PlacedText}
 use Rattle.compact_repr.specs.Capacity.{Growth}
-use Rattle.compact_str.specs.Edits.{Writes}
+use Rattle.compact_str.specs.Output.{Writes}
 pub use Rattle.compact_text.proofs.Texts.{length-utf8, utf8-text_of, size-text_of, size-append, empty_text, text_of-empty}
 pub use Rattle.compact_repr.proofs.Placed.{push_str-text}
 pub use Rattle.compact_text.proofs.Cuts.{text_before-text_after, text_before-append, text_after-append, boundary-text, text_of-take, text_of-drop, boundary-within, size-text_before, size-text_after}

@@ -21,8 +21,8 @@ use lib.Utf8.{scalar, scalars, low_scalar}
 use Rattle.compact_repr.specs.Text.{text_of, utf8}
 use Rattle.compact_repr.specs.Value.{PlacedText}
 use Rattle.compact_repr.specs.Capacity.{Growth}
-use Rattle.compact_str.specs.Edits.{Writes}
-use Rattle.compact_str.specs.Trim.{IsBetweenWhitespace}
+use Rattle.compact_str.specs.Output.{Writes}
+use Rattle.compact_str.specs.Ranges.{IsBetweenWhitespace}
 use Rattle.compact_str.proofs.ForCallers.{written-text, text_of-one, text_of-two, text_of-three, text_of-four, text_of-decimal, text_of-decimal_append}
 
 -- the text before a character that was found, the character, and the text after it

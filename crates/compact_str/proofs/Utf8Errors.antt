@@ -4,7 +4,7 @@ use Rattle.std.specs.Str.{IsUtf8, valid_up_to, error_len}
 use Rattle.std.specs.Str.Lossy.{utf8_valid_len, utf8_error_len}
 use Rattle.std.specs.declared.str.Utf8Error.{Utf8Error}
 use Rattle.compact_codec.proofs.Parts.{error_is}
-use Rattle.compact_str.specs.DecodeErrors.{IsErrorOf}
+use Rattle.compact_str.specs.Decoding.{IsErrorOf}
 
 pub told-error : (bytes : List ℕ) (e : Utf8Error) → ¬ (IsUtf8 bytes) → valid_up_to e ≡ utf8_valid_len bytes
     → error_len e ≡ utf8_error_len (drop (utf8_valid_len bytes) bytes) → IsErrorOf bytes e

@@ -8,7 +8,7 @@ use Rattle.compact_repr.specs.Text.{size, text_of, utf8}
 use Rattle.compact_repr.specs.Value.{PlacedText}
 use Rattle.compact_repr.specs.Capacity.{Growth, room_to_append, PlacedFor}
 use Rattle.compact_text.proofs.Texts.{size-text_of}
-use Rattle.compact_str.specs.Shown.{AppendsUtf8, PushesOutput}
+use Rattle.compact_str.specs.Output.{AppendsUtf8, PushesOutput}
 
 -- the parts together are one text, appended to the text before
 shown-parts : (t u : List ℕ) (parts : List (List ℕ)) → FoldsTo AppendsUtf8 t parts u → AppendsUtf8 t (concat parts) u

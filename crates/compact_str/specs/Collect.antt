@@ -11,8 +11,7 @@ use Rattle.compact_repr.specs.Capacity.{Growth}
 use Rattle.compact_repr.specs.declared.inline.TheConstants.{INLINE_CAPACITY}
 use Rattle.compact_repr.specs.Words.{AllocatesFor, room_to_append}
 use Rattle.compact_repr.specs.Calls.{push_str}
-use Rattle.compact_str.specs.Room.{HasRoomFor, infallible_capacity}
-use Rattle.compact_str.specs.FittedValues.{IsPlacedBySize}
+use Rattle.compact_str.specs.Room.{HasRoomFor, infallible_capacity, IsPlacedBySize}
 
 -- w is v after `push_str` of the text of each item in turn
 abbrev pub Appends : {A : Type 0} → Growth → (A → List ℕ) → PlacedText → List A → PlacedText → Type 0

@@ -1,17 +1,10 @@
--- Results of edits by byte position, `None` if they fail.
+-- Results of edits by byte position, of clones and of repetition.
 use Rattle.std.specs.Prelude.{IsTrue, ◌≡◌, ℕ, ◌*◌, Bool, not, ◌&&◌, List, [], ◌∷◌, ◌++◌, Option, Some, option_map, nat_eq, zero, suc, if◌then◌else◌}
-use Rattle.std.specs.Str.{IsUtf8}
-use Rattle.compact_repr.specs.Text.{size, text_of, utf8}
+use Rattle.compact_repr.specs.Text.{size}
 use Rattle.compact_repr.specs.Cut.{text_before, text_after}
-use Rattle.compact_repr.specs.Value.{Placement, PlacedText, placed_text, is_static_place}
-use Rattle.compact_repr.specs.Calls.{push_str}
-use Rattle.compact_repr.specs.Capacity.{Growth, new_placement, with_capacity_placement, with_capacity_allocates, kept_placement, owned_placement, const_new_placement, clone_placement, clone_allocates}
-
--- a formatter writes valid bytes, which are appended to v and give w
-pub record Writes (g : Growth) (v : PlacedText) (bytes : List ℕ) (w : PlacedText) : Type 0 where
-  pub is_text : IsUtf8 bytes
-  pub value : push_str g v (text_of bytes) ≡ Some w
-  pub written : utf8 w.text ≡ utf8 v.text ++ bytes
+use Rattle.compact_repr.specs.Value.{Placement, PlacedText, placed_text, is_static_place, is_heap_place}
+use Rattle.compact_repr.specs.Calls.{clear}
+use Rattle.compact_repr.specs.Capacity.{Growth, new_placement, with_capacity_placement, with_capacity_allocates, kept_placement, owned_placement, const_new_placement, clone_placement, clone_allocates, room_to_append, placement_for, allocates_for}
 
 -- w is v made owned, without the character c at a position
 abbrev pub Removes : Growth → PlacedText → ℕ → ℕ → PlacedText → Type 0
@@ -66,3 +59,23 @@ repeat_allocates v n = if repeats_by_copy v n then clone_allocates v else with_c
 
 abbrev pub RepeatAllocates : PlacedText → ℕ → Type 0
 RepeatAllocates v n = IsTrue (repeat_allocates v n)
+
+-- the placement of v once w is cloned into it: an inline or static w brings its own, and a heap w has its text appended
+-- to v, once that is cleared
+abbrev pub clone_from_placement : Growth → PlacedText → PlacedText → Option Placement
+clone_from_placement g v w =
+    if is_heap_place w.placement.place then placement_for g (clear v) (room_to_append (size w.text)) else Some w.placement
+
+abbrev pub clone_from : Growth → PlacedText → PlacedText → Option PlacedText
+clone_from g v w = option_map (placed_text w.text) (clone_from_placement g v w)
+
+-- u is placed as v is once w is cloned into it
+abbrev pub IsPlacedAsCloned : Growth → PlacedText → PlacedText → PlacedText → Type 0
+IsPlacedAsCloned g v w u = clone_from_placement g v w ≡ Some u.placement
+
+-- that allocates a heap buffer; if not, it never fails
+abbrev pub clone_from_allocates : PlacedText → PlacedText → Bool
+clone_from_allocates v w = is_heap_place w.placement.place && allocates_for (clear v) (room_to_append (size w.text))
+
+abbrev pub CloneFromAllocates : PlacedText → PlacedText → Type 0
+CloneFromAllocates v w = IsTrue (clone_from_allocates v w)

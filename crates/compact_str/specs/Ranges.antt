@@ -1,10 +1,12 @@
--- Ranges of a text, in bytes.
-use Rattle.std.specs.Prelude.{◌≡◌, ℕ, ◌-◌, ◌≤◌, List}
+-- Parts of a text: ranges in bytes, and what is between white space.
+use Rattle.std.specs.Prelude.{◌≡◌, ℕ, ◌-◌, ◌≤◌, List, ◌++◌}
 use Rattle.std.specs.declared.ops.Bound.{Bound}
 use Rattle.std.specs.declared.ops.RangeBounds.{Ghosts}
 use Rattle.std.specs.Range.Bound.{start_index, end_index}
 use Rattle.compact_repr.specs.Text.{size}
 use Rattle.compact_repr.specs.Cut.{IsBoundary, text_before, substring, replaced_text}
+use Rattle.std.specs.List.{AllPass}
+use Rattle.std.specs.Char.{is_whitespace}
 
 -- a range, by its two bounds
 pub record Span : Type 0 where
@@ -45,3 +47,11 @@ pub record IsRange (t : List ℕ) (range : Span) : Type 0 where
 -- the same of two positions, as a fact with one proof: what is before a boundary has that many bytes
 abbrev pub AreRangeEnds : List ℕ → ℕ → ℕ → Type 0
 AreRangeEnds t i j = (i ≤ j) × (size (text_before t i) ≡ i) × (size (text_before t j) ≡ j)
+
+-- t is r between white space
+pub record IsBetweenWhitespace (t r : List ℕ) : Type 0 where
+  pub head : List ℕ
+  pub tail : List ℕ
+  pub whole : t ≡ head ++ r ++ tail
+  pub white_head : AllPass is_whitespace head
+  pub white_tail : AllPass is_whitespace tail

@@ -2,8 +2,8 @@
 ghost use Rattle.std.specs.Prelude.{◌≡◌, ◌+◌, ◌<◌, [], ◌∷◌, ◌++◌, length, OnOk, OnErr, IfOk, IfSome};
 ghost use Rattle.std.specs.Char.{len_utf8};
 ghost use Rattle.compact_str.specs.Words.{size, text_of, PlacedFor, room_to_append, INLINE_CAPACITY};
-ghost use Rattle.compact_str.specs.FittedValues.{IsPlacedBySize};
-ghost use Rattle.compact_str.specs.Shown.{AppendsUtf8};
+ghost use Rattle.compact_str.specs.Room.{IsPlacedBySize};
+ghost use Rattle.compact_str.specs.Output.{AppendsUtf8};
 
 use crate::decode::push_fitted;
 use crate::stack_buffer::{PaddedStr, StackBuffer};
@@ -31,7 +31,7 @@ pub struct Builder<P: Policy, const N: usize> {
 
 impl<P: Policy, const N: usize> Model for Builder<P, N> {
     ghost use Rattle.std.specs.Prelude.{ℕ, List, ◌++◌};
-    ghost use Rattle.compact_str.specs.FittedValues.{IsPlacedBySize};
+    ghost use Rattle.compact_str.specs.Room.{IsPlacedBySize};
 
     ghost Value = { List ℕ };
 

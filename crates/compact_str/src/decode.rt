@@ -1,7 +1,7 @@
 //! Decoding UTF-8 and UTF-16.
 ghost use Rattle.std.specs.Prelude.{◌≡◌, ◌+◌, ◌<◌, ◌++◌, length, OnOk, OnErr};
 ghost use Rattle.compact_str.specs.Words.{INLINE_CAPACITY, size, text_of};
-ghost use Rattle.compact_str.specs.FittedValues.{IsPlacedBySize};
+ghost use Rattle.compact_str.specs.Room.{IsPlacedBySize};
 
 mod buf;
 pub mod error;

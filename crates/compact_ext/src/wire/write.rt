@@ -30,12 +30,14 @@ use std::io::Write;
 /// ```
 #[inline]
 pub fn write_wire<W: Write>(text: &CompactString, writer: &mut W) -> Result<(), WireError>
-    // On success the form is written. Fails without effect if the text is too long for a form, or
-    // after a part of the form, if the writer fails.
+    // Writes the form of `text`.
     ensures written { OnOk result
         (Appends (W.contents writer.old) (W.contents writer.new) (wire text.now.text)) }
     ensures fits { OnOk result (size text.now.text < 2 ^ 32) }
     ensures sound { IsSound text.now }
+
+    // `TooLong` if the text has 2^32 bytes or more, and nothing is written. Otherwise the writer
+    // failed, and a part of the form is written, perhaps none of it.
     ensures err { IfErr result (λ e.
         WriteFails (W.contents writer.old) (W.contents writer.new) text.now.text e) }
 {

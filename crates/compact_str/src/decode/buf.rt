@@ -3,8 +3,8 @@ ghost use Rattle.std.specs.Prelude.{◌≡◌, ◌<◌, ◌≤◌, [], length, I
 ghost use Rattle.std.specs.Str.{IsUtf8};
 ghost use Rattle.compact_str.specs.Words.{INLINE_CAPACITY, text_of};
 ghost use Rattle.compact_codec.specs.Utf8Text.{BytesEncode};
-ghost use Rattle.compact_str.specs.FittedValues.{IsPlacedBySize};
-ghost use Rattle.compact_str.specs.DecodeErrors.{IsSuffixOf, IsUtf8BufRefusal};
+ghost use Rattle.compact_str.specs.Room.{IsPlacedBySize};
+ghost use Rattle.compact_str.specs.Decoding.{IsSuffixOf, IsUtf8BufRefusal};
 
 use crate::decode::error::FromUtf8Error;
 use crate::string::{CompactString, PolicyString};
@@ -39,7 +39,7 @@ impl PolicyString<Standard> {
         ensures consumed { OnOk result (B.unread buf.new ≡ []) }
         ensures kept { B.kept buf.new ≡ B.kept buf.old }
 
-        // `Utf8` if the bytes are invalid, all consumed; `Reserve` only for more than 24 bytes.
+        // `Utf8` if invalid, all consumed; `Reserve` only for over 24 bytes, some perhaps consumed.
         ensures succeeds { IsUtf8 (B.unread buf.old) → length (B.unread buf.old) ≤ INLINE_CAPACITY
             → IsOk result }
         ensures err { IfErr result (IsUtf8BufRefusal (B.unread buf.old) (B.unread buf.new)) }

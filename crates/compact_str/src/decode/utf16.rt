@@ -4,8 +4,8 @@ ghost use Rattle.compact_str.specs.Words.{INLINE_CAPACITY, size};
 ghost use Rattle.compact_codec.specs.Utf16Text.{UnitsEncode, utf16_lossy_text};
 ghost use Rattle.compact_codec.specs.Utf16Bytes.{utf16_bytes_lossy_text};
 ghost use Rattle.compact_codec.specs.declared.utf16_bytes.ByteOrder.TheVariants.{LittleEndian, BigEndian};
-ghost use Rattle.compact_str.specs.FittedValues.{IsPlacedBySize, MakesText};
-ghost use Rattle.compact_str.specs.DecodeErrors.{IsUtf16Refusal, IsUtf16BytesRefusal, PairsEncode};
+ghost use Rattle.compact_str.specs.Room.{IsPlacedBySize};
+ghost use Rattle.compact_str.specs.Decoding.{MakesText, IsUtf16Refusal, IsUtf16BytesRefusal, PairsEncode};
 
 use crate::builder::{Builder, COLLECTED};
 use crate::decode::error::{FromUtf16Error, Utf16Error};
@@ -40,7 +40,7 @@ impl PolicyString<Standard> {
         ensures text { IfOk result (λ v. UnitsEncode units.now v.text) }
         ensures place { IfOk result IsPlacedBySize }
 
-        // `Utf16` if the units are invalid; `NoRoom` only for more than 24 bytes of text.
+        // `Utf16` if the input is invalid; `Reserve` only for over 24 bytes of text.
         ensures succeeds { (text : List ℕ) → UnitsEncode units.now text
             → size text ≤ INLINE_CAPACITY → IsOk result }
         ensures err { IfErr result (IsUtf16Refusal units.now) }
@@ -107,7 +107,7 @@ impl PolicyString<Standard> {
         ensures text { IfOk result (λ v. PairsEncode LittleEndian bytes.now v.text) }
         ensures place { IfOk result IsPlacedBySize }
 
-        // `Utf16` if the units are invalid; `NoRoom` only for more than 24 bytes of text.
+        // `Utf16` if the input is invalid; `Reserve` only for over 24 bytes of text.
         ensures succeeds { (text : List ℕ) → PairsEncode LittleEndian bytes.now text
             → size text ≤ INLINE_CAPACITY → IsOk result }
         ensures err { IfErr result (IsUtf16BytesRefusal LittleEndian bytes.now) }
@@ -133,7 +133,7 @@ impl PolicyString<Standard> {
         ensures text { IfOk result (λ v. PairsEncode BigEndian bytes.now v.text) }
         ensures place { IfOk result IsPlacedBySize }
 
-        // `Utf16` if the units are invalid; `NoRoom` only for more than 24 bytes of text.
+        // `Utf16` if the input is invalid; `Reserve` only for over 24 bytes of text.
         ensures succeeds { (text : List ℕ) → PairsEncode BigEndian bytes.now text
             → size text ≤ INLINE_CAPACITY → IsOk result }
         ensures err { IfErr result (IsUtf16BytesRefusal BigEndian bytes.now) }

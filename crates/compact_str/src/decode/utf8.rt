@@ -4,9 +4,9 @@ ghost use Rattle.std.specs.Str.{IsUtf8};
 ghost use Rattle.compact_str.specs.Words.{size, text_of, utf8, INLINE_CAPACITY, IsPlacedAsNew, standard_growth};
 ghost use Rattle.compact_codec.specs.InvalidSequence.{IsUtf8Error};
 ghost use Rattle.compact_codec.specs.Utf8Text.{BytesEncode, utf8_lossy_text};
-ghost use Rattle.compact_str.specs.FittedValues.{IsPlacedBySize, MakesText};
+ghost use Rattle.compact_str.specs.Room.{IsPlacedBySize};
+ghost use Rattle.compact_str.specs.Decoding.{MakesText, IsUtf8Refusal};
 ghost use Rattle.compact_str.specs.Conversions.{CopiesText};
-ghost use Rattle.compact_str.specs.DecodeErrors.{IsUtf8Refusal};
 
 use crate::decode::error::FromUtf8Error;
 use crate::decode::{REPLACEMENT, push_fitted};

@@ -2,7 +2,7 @@
 ghost use Rattle.std.specs.Prelude.{◌≡◌, ◌+◌, ◌≤◌, IsOk, flat_map, fold, map, IfOk, OnErr};
 ghost use Rattle.std.specs.Iterator.{IsFiniteIterable};
 ghost use Rattle.compact_str.specs.Words.{INLINE_CAPACITY, size};
-ghost use Rattle.compact_str.specs.FittedValues.{IsPlacedBySize};
+ghost use Rattle.compact_str.specs.Room.{IsPlacedBySize};
 ghost use Rattle.compact_str.specs.Collect.{ForItems, ForAllItems, ForDrained, RunPassesInline, Collects};
 
 use crate::builder::{Builder, COLLECTED};

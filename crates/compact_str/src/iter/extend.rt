@@ -63,7 +63,7 @@ impl<P: Policy> PolicyString<P> {
         ensures front { text_before self.new.text (size self.old.text) ≡ self.old.text }
         ensures room { infallible_capacity self.old ≤ infallible_capacity self.new }
 
-        // Fails only at a text for which it must allocate, never if there is room for all.
+        // Fails at the first text that must allocate and cannot, never if there is room for all.
         ensures succeeds { ForAllItems (⟦<U as Items>⟧.run texts)
             (λ xs. HasRoomFor self.old (size (flat_map T.text xs))) → IsOk result }
         ensures err { OnErr result

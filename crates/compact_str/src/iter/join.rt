@@ -2,7 +2,7 @@
 ghost use Rattle.std.specs.Prelude.{◌≡◌, List, flat_map, IfOk, OnErr};
 ghost use Rattle.std.specs.Iterator.{Drains, IsFinite};
 ghost use Rattle.compact_str.specs.Words.{text_of, utf8};
-ghost use Rattle.compact_str.specs.FittedValues.{IsPlacedBySize};
+ghost use Rattle.compact_str.specs.Room.{IsPlacedBySize};
 ghost use Rattle.compact_str.specs.Collect.{PassesInline, Joins, join};
 
 use crate::builder::{Builder, COLLECTED};

@@ -23,12 +23,12 @@ impl<P: Policy> PolicyString<P> {
     /// ```
     #[tactic(auto, using(crate::proofs::EditFacts::case_facts))]
     pub fn make_ascii_lowercase(&mut self) -> Result<(), ReserveError>
-        // Makes A to Z lowercase, and the string owned.
+        // Makes A to Z lowercase. A static string becomes owned, and an owned one keeps its capacity.
         ensures text { OnOk result (self.new.text ≡ ascii_lowercase self.old.text) }
         ensures boundaries { (i : ℕ) → IsBoundary self.old.text i → IsBoundary self.new.text i }
         ensures place { OnOk result (PlacedFor P.growth self.old self.new owned) }
 
-        // Fails only if a long static string must be copied. The string is then unchanged.
+        // Fails only if copying a static string of over 24 bytes fails. It is then unchanged.
         ensures succeeds { IsOwned self.old → IsOk result }
         ensures succeeds_short { size self.old.text ≤ INLINE_CAPACITY → IsOk result }
         ensures allocates { OnErr result (AllocatesFor self.old owned) }
@@ -54,12 +54,12 @@ impl<P: Policy> PolicyString<P> {
     /// ```
     #[tactic(auto, using(crate::proofs::EditFacts::case_facts))]
     pub fn make_ascii_uppercase(&mut self) -> Result<(), ReserveError>
-        // Makes a to z uppercase, and the string owned.
+        // Makes a to z uppercase. A static string becomes owned, and an owned one keeps its capacity.
         ensures text { OnOk result (self.new.text ≡ ascii_uppercase self.old.text) }
         ensures boundaries { (i : ℕ) → IsBoundary self.old.text i → IsBoundary self.new.text i }
         ensures place { OnOk result (PlacedFor P.growth self.old self.new owned) }
 
-        // Fails only if a long static string must be copied. The string is then unchanged.
+        // Fails only if copying a static string of over 24 bytes fails. It is then unchanged.
         ensures succeeds { IsOwned self.old → IsOk result }
         ensures succeeds_short { size self.old.text ≤ INLINE_CAPACITY → IsOk result }
         ensures allocates { OnErr result (AllocatesFor self.old owned) }

@@ -29,7 +29,7 @@ impl<P: Policy> PolicyString<P> {
         ensures place { OnOk result (PlacedFor P.growth self.old self.new (room additional)) }
         ensures room { OnOk result (HasRoomFor self.new additional) }
 
-        // Fails only if it must allocate, never if there is room. The string is then unchanged.
+        // Fails only if allocation fails, never if there is room. The string is then unchanged.
         ensures succeeds { HasRoomFor self.old additional → IsOk result }
         ensures allocates { OnErr result (AllocatesFor self.old (room additional)) }
         ensures err { OnErr result (self.new ≡ self.old) }

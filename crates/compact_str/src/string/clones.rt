@@ -1,7 +1,7 @@
 //! Cloning.
 ghost use Rattle.std.specs.Prelude.{◌≡◌, ◌≤◌, Some, OnOk, OnErr, IsOk, IsTrue, not};
 ghost use Rattle.compact_str.specs.Words.{size, IsHeap, clone_allocates, clone, infallible_capacity};
-ghost use Rattle.compact_str.specs.Clones.{IsPlacedAsCloned, CloneFromAllocates};
+ghost use Rattle.compact_str.specs.Edits.{IsPlacedAsCloned, CloneFromAllocates};
 
 use crate::string::PolicyString;
 use compact_repr::{Policy, ReserveError};
@@ -44,12 +44,12 @@ impl<P: Policy> PolicyString<P> {
     /// assert_eq!(rt; target.capacity(), 100);
     /// ```
     pub fn clone_from(&mut self, source: &Self) -> Result<(), ReserveError>
-        // Takes over the text of `source`, in this string's buffer if `source` is on the heap and fits.
+        // Copies the text of `source`. If that is on the heap and fits, keeps place and capacity.
         ensures text { OnOk result (self.new.text ≡ source.now.text) }
         ensures place { OnOk result
             (IsPlacedAsCloned P.growth self.old source.now self.new) }
 
-        // Fails only if a `source` on the heap needs a new buffer. The string is then unchanged.
+        // Fails only if copying a heap `source` that does not fit fails. It is then unchanged.
         ensures succeeds { size source.now.text ≤ infallible_capacity self.old → IsOk result }
         ensures succeeds_unless_heap { ¬ IsHeap source.now → IsOk result }
         ensures allocates { OnErr result (CloneFromAllocates self.old source.now) }

@@ -8,7 +8,7 @@ ghost use Rattle.std.specs.Cow.{cow_str_bytes};
 ghost use Rattle.compact_str.specs.Words.{text_of, utf8, placed_text, IsHeap, inline_placement, const_new_placement, from_string_placement, INLINE_CAPACITY, IsPlacedAsNew, HasNewCapacity, HasRoomFor};
 ghost use Rattle.compact_repr.specs.Packed.{IsPackedFor};
 ghost use Rattle.compact_str.specs.Conversions.{CopiesText, string_buffer_placement, ConvertsCow, IsFreeCow};
-ghost use Rattle.compact_str.specs.DecodeErrors.{IsErrorOf};
+ghost use Rattle.compact_str.specs.Decoding.{IsErrorOf};
 
 use crate::refused::Refused;
 use crate::string::PolicyString;
@@ -265,7 +265,7 @@ impl<P: Policy> PolicyString<P> {
     /// assert!(rt; !name.is_heap_allocated());
     /// ```
     pub fn from_boxed_str(alloc: Global, text: BoxedStr) -> Result<Self, Refused<BoxedStr>>
-        // As `new`. The error has the box.
+        // Copies as `new` does, and frees the box. The error has the box.
         ensures copies { CopiesText P.growth (boxed_str_bytes text) result }
         ensures err { IfErr result (λ e. e.value ≡ text) }
     {

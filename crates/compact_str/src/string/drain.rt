@@ -68,11 +68,11 @@ impl<P: Policy> PolicyString<P> {
         ensures place { IfOk result
             (λ d. PlacedFor P.growth self.old (value_after_drain d) owned) }
 
-        // Fails only if a long static string must be copied. The string is then unchanged.
+        // Fails only if copying a static string of over 24 bytes fails. It is then unchanged.
         ensures succeeds { IsOwned self.old → IsOk result }
         ensures succeeds_short { size self.old.text ≤ INLINE_CAPACITY → IsOk result }
         ensures allocates { OnErr result (AllocatesFor self.old owned) }
-        ensures* refused { sem 𝓛
+        ensures* err { sem 𝓛
             (RestsIfErr (the_row P.row P.Policy) self.entry drain_lender result
             (λ v. v ≡ self.old)) }
     {

@@ -95,7 +95,7 @@ impl<P: Policy> PolicyString<P> {
             (PlacedFor P.growth self.old self.new (room (length text.now))) }
         ensures room { OnOk result (infallible_capacity self.old ≤ infallible_capacity self.new) }
 
-        // Fails only if it must allocate, never if there is room. The string is then unchanged.
+        // Fails only if allocation fails, never if there is room. The string is then unchanged.
         ensures succeeds { HasRoomFor self.old (length text.now) → IsOk result }
         ensures allocates { OnErr result (AllocatesFor self.old (room (length text.now))) }
         ensures err { OnErr result (self.new ≡ self.old) }
@@ -137,7 +137,7 @@ impl<P: Policy> PolicyString<P> {
             (PlacedFor P.growth self.old self.new (room (len_utf8 character))) }
         ensures room { OnOk result (infallible_capacity self.old ≤ infallible_capacity self.new) }
 
-        // Fails only if it must allocate, never if there is room. The string is then unchanged.
+        // Fails only if allocation fails, never if there is room. The string is then unchanged.
         ensures succeeds { HasRoomFor self.old (len_utf8 character) → IsOk result }
         ensures allocates { OnErr result (AllocatesFor self.old (room (len_utf8 character))) }
         ensures err { OnErr result (self.new ≡ self.old) }
@@ -169,14 +169,14 @@ impl<P: Policy> PolicyString<P> {
         requires boundary { IsBoundary self.old.text index }
         requires within { index < size self.old.text }
 
-        // Removes and returns the character at `index`, and makes the string owned.
+        // Removes and returns the character at `index`. A static string becomes owned.
         ensures character { IfOk result
             (λ c. text_after self.old.text index ≡ c ∷ text_after self.new.text index) }
         ensures text { IfOk result
             (λ c. self.new.text ≡ replaced_text self.old.text index (index + len_utf8 c) []) }
         ensures place { OnOk result (PlacedFor P.growth self.old self.new owned) }
 
-        // Fails only if a long static string must be copied. The string is then unchanged.
+        // Fails only if copying a static string of over 24 bytes fails. It is then unchanged.
         ensures succeeds { IsOwned self.old → IsOk result }
         ensures succeeds_short { size self.old.text ≤ INLINE_CAPACITY → IsOk result }
         ensures allocates { OnErr result (AllocatesFor self.old owned) }
@@ -237,14 +237,14 @@ impl<P: Policy> PolicyString<P> {
     ) -> Result<(), ReserveError>
         requires { IsRange self.old.text (span start end) }
 
-        // Replaces the range with `text`, and makes the string owned.
+        // Replaces the range with `text`. A static string becomes owned.
         ensures text { OnOk result
             (self.new.text ≡ replaced_in self.old.text (span start end) (text_of text.now)) }
         ensures place { OnOk result
             (PlacedFor P.growth self.old self.new
             (room_to_replace (len_in self.old.text (span start end)) (length text.now))) }
 
-        // Fails only if it must allocate, never if there is room. The string is then unchanged.
+        // Fails only if allocation fails, never if there is room. The string is then unchanged.
         ensures succeeds { HasRoomFor self.old
             (length text.now - len_in self.old.text (span start end)) → IsOk result }
         ensures succeeds_owned { IsOwned self.old
@@ -292,7 +292,7 @@ impl<P: Policy> PolicyString<P> {
         ensures place { OnOk result (KeepsPlace self.old self.new) }
         ensures tail_place { IfOk result (IsPlacedAsTail P.growth self.old) }
 
-        // Fails only if a tail of more than 24 bytes must be copied. The string is then unchanged.
+        // Fails only if copying a tail of over 24 bytes fails. The string is then unchanged.
         ensures succeeds { size self.old.text ≤ index + INLINE_CAPACITY → IsOk result }
         ensures succeeds_static { IsStatic self.old → IsOk result }
         ensures allocates { OnErr result (SplitAllocates self.old index) }

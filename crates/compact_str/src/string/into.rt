@@ -31,13 +31,13 @@ impl<P: Policy> PolicyString<P> {
     /// assert_eq!(rt; text.as_str(), "café");
     /// ```
     pub fn into_string(self) -> Result<String, Refused<Self>>
-        // Returns the text. A heap string keeps its buffer.
+        // Returns the text. A heap string keeps its buffer, and at least its capacity.
         ensures bytes { IfOk result (λ s. string_bytes s ≡ utf8 self.text) }
         ensures text { IfOk result (λ s. text_of (string_bytes s) ≡ self.text) }
         ensures capacity { IsHeap self
             → IfOk result (λ s. self.placement.capacity ≤ string_capacity s) }
 
-        // Never fails for a heap string. The error has the string.
+        // Fails only if copying an inline or static string fails. The error has the string.
         ensures succeeds { IsHeap self → IsOk result }
         ensures err { IfErr result (λ e. e.value ≡ self) }
     {
@@ -93,7 +93,7 @@ impl<P: Policy> PolicyString<P> {
         ensures bytes { IfOk result (λ v. v.items ≡ utf8 self.text) }
         ensures text { IfOk result (λ v. text_of v.items ≡ self.text) }
 
-        // Fails only if a long static string must be copied. The error has the string.
+        // Fails only if copying a static string of over 24 bytes fails. The error has the string.
         ensures succeeds { size self.text ≤ INLINE_CAPACITY → IsOk result }
         ensures succeeds_owned { IsOwned self → IsOk result }
         ensures allocates { OnErr result (AllocatesFor self owned) }
@@ -176,7 +176,7 @@ impl<P: Policy> PolicyString<P> {
         ensures borrowed { IsStatic self → IfOk result IsBorrowedStr }
         ensures owned { IsOwned self → IfOk result (λ c. ¬ IsBorrowedStr c) }
 
-        // Fails only if an inline string must be copied. The error has the string.
+        // Fails only if copying an inline string fails. The error has the string.
         ensures succeeds_static { IsStatic self → IsOk result }
         ensures succeeds_heap { IsHeap self → IsOk result }
         ensures allocates { OnErr result (IsInline self) }

@@ -3,7 +3,7 @@ ghost use Rattle.std.specs.Prelude.{◌≡◌, Some, IfOk};
 ghost use Rattle.serde_json.specs.View.{view as json_view};
 ghost use Rattle.serde_json.specs.Data.{string as json_string};
 ghost use Rattle.compact_str.specs.Words.{utf8};
-ghost use Rattle.compact_str.specs.Json.{ReadsJson};
+ghost use Rattle.compact_str.specs.Serde.{ReadsJson};
 
 use crate::string::PolicyString;
 use compact_repr::{Policy, ReserveError};

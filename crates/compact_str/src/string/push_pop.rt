@@ -2,7 +2,7 @@
 ghost use Rattle.std.specs.Prelude.{◌≡◌, ℕ, ◌<◌, ◌≤◌, ◌++◌, ◌∷◌, [], length, IsOk, IfOk, IfErr, IfNone, OnOk, OnErr, OnSome, MatchOption};
 ghost use Rattle.std.specs.Char.{len_utf8, encode_utf8};
 ghost use Rattle.compact_str.specs.Words.{size, text_of, utf8, IsBoundary, text_before, KeepsPlace, PlacedFor, AllocatesFor, room_to_append, HasRoomFor, infallible_capacity};
-ghost use Rattle.compact_str.specs.Edits.{Writes};
+ghost use Rattle.compact_str.specs.Output.{Writes};
 
 use crate::refused::Refused;
 use crate::string::PolicyString;
@@ -35,7 +35,7 @@ impl<P: Policy> PolicyString<P> {
             (PlacedFor P.growth self.old self.new (room_to_append (length text.now))) }
         ensures room { OnOk result (infallible_capacity self.old ≤ infallible_capacity self.new) }
 
-        // Fails only if it must allocate, never if there is room. The string is then unchanged.
+        // Fails only if allocation fails, never if there is room. The string is then unchanged.
         ensures succeeds { HasRoomFor self.old (length text.now) → IsOk result }
         ensures allocates { OnErr result
             (AllocatesFor self.old (room_to_append (length text.now))) }
@@ -71,7 +71,7 @@ impl<P: Policy> PolicyString<P> {
             (PlacedFor P.growth self.old self.new (room_to_append (len_utf8 character))) }
         ensures room { OnOk result (infallible_capacity self.old ≤ infallible_capacity self.new) }
 
-        // Fails only if it must allocate, never if there is room. The string is then unchanged.
+        // Fails only if allocation fails, never if there is room. The string is then unchanged.
         ensures succeeds { HasRoomFor self.old (len_utf8 character) → IsOk result }
         ensures allocates { OnErr result
             (AllocatesFor self.old (room_to_append (len_utf8 character))) }
@@ -119,7 +119,7 @@ impl<P: Policy> PolicyString<P> {
             (λ v. PlacedFor P.growth self v (room_to_append (length text.now))) }
         ensures room { IfOk result (λ v. infallible_capacity self ≤ infallible_capacity v) }
 
-        // Fails only if it must allocate, never if there is room. The error has the string.
+        // Fails only if allocation fails, never if there is room. The error has the string.
         ensures succeeds { HasRoomFor self (length text.now) → IsOk result }
         ensures allocates { OnErr result (AllocatesFor self (room_to_append (length text.now))) }
         ensures err { IfErr result (λ e. e.value ≡ self) }

@@ -29,13 +29,13 @@ impl<P: Policy> PolicyString<P> {
     pub fn retain<F: FnMut(char) -> bool>(&mut self, mut keep: F) -> Result<(), ReserveError>
         requires { F.IsAlwaysCallable keep }
 
-        // Keeps the characters for which `keep` returns `true`, in order. Makes the string owned.
+        // Keeps the characters for which `keep` returns `true`. A static string becomes owned.
         ensures text { OnOk result (RetainsChars F.FnMut keep self.old.text self.new.text) }
         ensures filter { (says : ℕ → Bool) → AgreesWith F.FnMut says
             → OnOk result (self.new.text ≡ filter says self.old.text) }
         ensures place { OnOk result (PlacedFor P.growth self.old self.new owned) }
 
-        // Fails only if a long static string must be copied. The string is then unchanged.
+        // Fails only if copying a static string of over 24 bytes fails. It is then unchanged.
         ensures succeeds { IsOwned self.old → IsOk result }
         ensures succeeds_short { size self.old.text ≤ INLINE_CAPACITY → IsOk result }
         ensures allocates { OnErr result (AllocatesFor self.old owned) }
@@ -69,7 +69,7 @@ impl<P: Policy> PolicyString<P> {
     pub fn retain_by<F: FnMut(char) -> bool>(&mut self, keep: &mut F) -> Result<(), ReserveError>
         requires { F.IsAlwaysCallable keep.old }
 
-        // Keeps the characters for which `keep` returns `true`, in order. Makes the string owned.
+        // Keeps the characters for which `keep` returns `true`. A static string becomes owned.
         ensures text { OnOk result
             (RetainsCharsTo F.FnMut keep.old self.old.text self.new.text keep.new) }
         ensures filter { (says : ℕ → Bool) → AgreesWith F.FnMut says
@@ -77,7 +77,7 @@ impl<P: Policy> PolicyString<P> {
         ensures place { OnOk result (PlacedFor P.growth self.old self.new owned) }
         ensures callable { F.IsAlwaysCallable keep.new }
 
-        // Fails only if a long static string must be copied. The string is then unchanged.
+        // Fails only if copying a static string of over 24 bytes fails. It is then unchanged.
         ensures succeeds { IsOwned self.old → IsOk result }
         ensures succeeds_short { size self.old.text ≤ INLINE_CAPACITY → IsOk result }
         ensures allocates { OnErr result (AllocatesFor self.old owned) }

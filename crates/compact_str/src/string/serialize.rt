@@ -2,7 +2,7 @@
 ghost use Rattle.std.specs.Prelude.{◌≡◌, IfOk, string_bytes};
 ghost use Rattle.serde.specs.Event.{Logs, text as text_event};
 ghost use Rattle.compact_str.specs.Words.{utf8};
-ghost use Rattle.compact_str.specs.GivenTexts.{IsGivenText};
+ghost use Rattle.compact_str.specs.Serde.{IsGivenText};
 
 use crate::string::PolicyString;
 use compact_repr::{Policy, ReserveError};

@@ -9,7 +9,7 @@ ghost use Rattle.std.proofs.Common.{ap, ◌∙◌};
 ghost use Rattle.std.specs.Str.{bytes_eq};
 ghost use Rattle.compact_str.specs.Words.{utf8};
 ghost use Rattle.compact_repr.proofs.ByteOrder.{utf8-same, utf8-order};
-ghost use Rattle.compact_str.specs.Lookups.{le_lt_trans};
+ghost use Rattle.compact_str.specs.SortedKeys.{le_lt_trans};
 
 use crate::string::PolicyString;
 use compact_repr::Policy;

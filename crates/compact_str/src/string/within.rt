@@ -64,11 +64,11 @@ impl<P: Policy> PolicyString<P> {
         ensures place { IfOk result
             (λ d. PlacedFor P.growth self.old (value_after_drain d) owned) }
 
-        // Fails only if a long static string must be copied. The string is then unchanged.
+        // Fails only if copying a static string of over 24 bytes fails. It is then unchanged.
         ensures succeeds { IsOwned self.old → IsOk result }
         ensures succeeds_short { size self.old.text ≤ INLINE_CAPACITY → IsOk result }
         ensures allocates { OnErr result (AllocatesFor self.old owned) }
-        ensures* refused { sem 𝓛
+        ensures* err { sem 𝓛
             (RestsIfErr (the_row P.row P.Policy) self.entry drain_lender result
             (λ v. v ≡ self.old)) }
     {
@@ -155,7 +155,7 @@ impl<P: Policy> PolicyString<P> {
             (room_to_append (len_in self.old.text (span_of R.RangeBounds range)))) }
         ensures room { OnOk result (infallible_capacity self.old ≤ infallible_capacity self.new) }
 
-        // Fails only if it must allocate, never if there is room. The string is then unchanged.
+        // Fails only if allocation fails, never if there is room. The string is then unchanged.
         ensures succeeds { HasRoomFor self.old
             (len_in self.old.text (span_of R.RangeBounds range)) → IsOk result }
         ensures allocates { OnErr result

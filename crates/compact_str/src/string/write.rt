@@ -2,7 +2,7 @@
 ghost use Rattle.std.specs.Prelude.{◌≡◌, ◌++◌, length, OnOk, OnErr, IfSome};
 ghost use Rattle.std.specs.Fmt.{AppendsText, with_newline};
 ghost use Rattle.compact_str.specs.Words.{text_of, utf8, PlacedFor, room_to_append};
-ghost use Rattle.compact_str.specs.Shown.{PushesOutput};
+ghost use Rattle.compact_str.specs.Output.{PushesOutput};
 
 use crate::builder::{Builder, SHOWN};
 use crate::string::PolicyString;

@@ -1,7 +1,7 @@
 use Rattle.std.proofs.Common.{◌≡◌, ◌+◌, ◌++◌, length}
 use Rattle.compact_repr.specs.Text.{text_of}
 use Rattle.compact_codec.specs.Utf8Text.{utf8_lossy_text, replacement_text}
-use Rattle.compact_str.specs.FittedValues.{IsPlacedBySize}
+use Rattle.compact_str.specs.Room.{IsPlacedBySize}
 use Rattle.compact_str.proofs.decode.utf8.from_invalid.Given as goal
 
 -- what was made and the text of what is left are the whole

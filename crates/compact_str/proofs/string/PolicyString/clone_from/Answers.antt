@@ -6,7 +6,7 @@ use Rattle.compact_repr.specs.Value.{PlacedText, placed_text, is_heap_place}
 use Rattle.compact_repr.specs.Capacity.{Growth, fits_in_place}
 use Rattle.compact_repr.specs.Calls.{clear}
 use Rattle.compact_text.proofs.Texts.{length-utf8, empty_text}
-use Rattle.compact_str.specs.Clones.{IsPlacedAsCloned}
+use Rattle.compact_str.specs.Edits.{IsPlacedAsCloned}
 use Rattle.compact_str.proofs.string.PolicyString.clone_from.Goals as goal
 
 assigned : (g : Growth) (v s w : PlacedText) (n : ℕ) → is_heap_place s.placement.place ≡ true → size s.text ≡ n → (nat_eq n 0 || fits_in_place (clear v) n) ≡ true

@@ -1,6 +1,6 @@
 use Rattle.std.proofs.Common.{◌≡◌, ◌++◌, length}
 use Rattle.compact_codec.specs.Utf16Text.{utf16_lossy_text}
-use Rattle.compact_str.specs.FittedValues.{IsPlacedBySize}
+use Rattle.compact_str.specs.Room.{IsPlacedBySize}
 use Rattle.compact_str.proofs.decode.utf16.PolicyString+Standard.from_utf16_lossy.Given as goal
 
 -- what was made and the text of what is left are the whole

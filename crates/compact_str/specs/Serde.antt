@@ -1,5 +1,6 @@
--- Conversion from a JSON value.
-use Rattle.std.specs.Prelude.{◌≡◌, ◌<◌, ◌≤◌, ℕ, List, length, Result, IsOk, MatchResult, Some, Err, ⊤}
+-- Values read by serde, and from a JSON value.
+use Rattle.std.specs.Prelude.{ℕ, List, ◌≡◌, ◌<◌, ◌≤◌, length, Result, IsOk, MatchResult, Some, Err, ⊤}
+use Rattle.serde.specs.Event.{Event, text}
 use Rattle.serde_json.specs.Data.{Data, null, boolean, number, string, array, object}
 use Rattle.compact_repr.specs.Text.{text_of}
 use Rattle.compact_repr.specs.Value.{PlacedText}
@@ -8,6 +9,12 @@ use Rattle.compact_repr.specs.declared.inline.TheConstants.{INLINE_CAPACITY}
 use Rattle.compact_repr.specs.Calls.{new}
 use Rattle.compact_str.specs.declared.string.json.FromJsonError.{FromJsonError}
 use Rattle.compact_str.specs.declared.string.json.FromJsonError.TheVariants.{NotAString, Reserve}
+
+-- The reader's relation `gives` holds of these bytes as a text, for some state, input and next state. A proof for
+-- every reader has this only of texts that its reader gave. Of a reader whose states are known, as JSON's, it holds of
+-- every text.
+abbrev pub IsGivenText : {F : Type 0} → (F → List ℕ → Event → F → Type 0) → List ℕ → Type 0
+IsGivenText {F} gives bytes = (old : F) × (input : List ℕ) × (new : F) × gives old input (text bytes) new
 
 -- allocation failed
 abbrev pub IsJsonReserve : FromJsonError → Type 0

@@ -1,17 +1,26 @@
--- Errors of the decoders.
-use Rattle.std.specs.Prelude.{◌≡◌, ◌<◌, ℕ, List, [], length, drop}
+-- Results of decoding, and the errors of the decoders.
+use Rattle.std.specs.Prelude.{◌≡◌, ◌<◌, ◌≤◌, ℕ, List, Result, IfOk, OnErr, IsOk, [], length, drop}
+use Rattle.compact_repr.specs.Text.{size}
+use Rattle.compact_repr.specs.Value.{PlacedText}
+use Rattle.compact_repr.specs.declared.inline.TheConstants.{INLINE_CAPACITY}
 use Rattle.std.specs.Str.{IsUtf8, valid_up_to, error_len}
 use Rattle.std.specs.declared.str.Utf8Error.{Utf8Error}
 use Rattle.compact_codec.specs.InvalidSequence.{IsUtf8Error}
 use Rattle.compact_codec.specs.Utf16Text.{IsUtf16, UnitsEncode}
 use Rattle.compact_codec.specs.Utf16Bytes.{units_of, ArePairs, IsUtf16Bytes}
 use Rattle.compact_codec.specs.declared.utf16_bytes.ByteOrder.{ByteOrder}
-use Rattle.compact_repr.specs.Text.{size}
 use Rattle.compact_str.specs.declared.decode.error.FromUtf8Error.{FromUtf8Error}
 use Rattle.compact_str.specs.declared.decode.error.FromUtf8Error.TheVariants.{Utf8, Reserve}
 use Rattle.compact_str.specs.declared.decode.error.FromUtf16Error.{FromUtf16Error}
 use Rattle.compact_str.specs.declared.decode.error.FromUtf16Error.TheVariants.{Utf16, Reserve as NoRoom}
-use Rattle.compact_repr.specs.declared.inline.TheConstants.{INLINE_CAPACITY}
+use Rattle.compact_str.specs.Room.{IsPlacedBySize}
+
+-- what `from_utf8_lossy` ensures of the text t, for calls that decode as it does
+pub record MakesText {E : Type 0} (t : List ℕ) (r : Result PlacedText E) : Type 0 where
+  pub text : IfOk r (λ v. v.text ≡ t)
+  pub place : IfOk r IsPlacedBySize
+  pub succeeds : size t ≤ INLINE_CAPACITY → IsOk r
+  pub allocates : OnErr r (INLINE_CAPACITY < size t)
 
 -- the bytes left once some are consumed
 abbrev pub IsSuffixOf : List ℕ → List ℕ → Type 0

@@ -1,10 +1,17 @@
--- What a `Display` writes.
-use Rattle.std.specs.Prelude.{◌≡◌, ℕ, List, ◌++◌, Option, length, IfSome, Result, OnOk, OnErr}
-use Rattle.std.specs.Fmt.{AppendsText}
+-- What a formatter or a `Display` writes.
+use Rattle.std.specs.Prelude.{◌≡◌, ℕ, List, ◌++◌, Option, Some, length, IfSome, Result, OnOk, OnErr}
 use Rattle.std.specs.Str.{IsUtf8}
 use Rattle.compact_repr.specs.Text.{text_of, utf8}
 use Rattle.compact_repr.specs.Value.{PlacedText}
+use Rattle.compact_repr.specs.Calls.{push_str}
 use Rattle.compact_repr.specs.Capacity.{Growth, room_to_append, PlacedFor}
+use Rattle.std.specs.Fmt.{AppendsText}
+
+-- a formatter writes valid bytes, which are appended to v and give w
+pub record Writes (g : Growth) (v : PlacedText) (bytes : List ℕ) (w : PlacedText) : Type 0 where
+  pub is_text : IsUtf8 bytes
+  pub value : push_str g v (text_of bytes) ≡ Some w
+  pub written : utf8 w.text ≡ utf8 v.text ++ bytes
 
 -- to a builder, a formatter writes valid bytes, which are appended to the text t and give u
 abbrev pub AppendsUtf8 : List ℕ → List ℕ → List ℕ → Type 0
