@@ -64,8 +64,8 @@ pub fn is_utf8(bytes: &[u8]) -> bool
     validate(bytes).is_ok()
 }
 
-/// `validate` of fewer bytes. Not inlined, so that `validate` of many bytes saves no registers for it.
-#[inline(never)]
+/// `validate` of fewer bytes. Always inlined, so that a short ASCII text takes no call.
+#[inline(always)]
 fn validate_short(bytes: &[u8]) -> Result<&str, Utf8Error>
     requires { length bytes.now < 64 }
     ensures { Validates bytes.now result }
@@ -77,7 +77,7 @@ fn validate_short(bytes: &[u8]) -> Result<&str, Utf8Error>
 }
 
 /// Returns `true` if the bytes are found to be ASCII; `false` for fewer than 4 bytes.
-#[inline]
+#[inline(always)]
 fn is_short_ascii(bytes: &[u8]) -> bool
     requires { length bytes.now < 64 }
     ensures { IsTrue result → IsUtf8 bytes.now }
