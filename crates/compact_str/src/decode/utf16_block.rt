@@ -1,15 +1,20 @@
 //! A buffer on the stack in which units become UTF-8.
-ghost use Rattle.std.specs.Prelude.{if◌then◌else◌, ◌≡◌, ◌+◌, ◌*◌, ◌<◌, ◌≤◌, ◌++◌, length, take, drop};
+ghost use Rattle.std.specs.Prelude.{if◌then◌else◌, ◌≡◌, ◌+◌, ◌*◌, ◌<◌, ◌≤◌, ◌++◌, length, take, drop, map, nat_le, ◌%◌, slice_index, IsTrue};
+ghost use Rattle.std.specs.List.{position_or_len};
 ghost use Rattle.std.specs.Char.{encode_utf8};
 ghost use Rattle.std.specs.Int.{is_in_range};
-ghost use Rattle.std.specs.Str.{IsUtf8};
+ghost use Rattle.std.specs.Str.{IsUtf8, IsAscii};
 ghost use Rattle.compact_str.specs.Words.{text_of};
 ghost use Rattle.compact_codec.specs.Utf16Text.{utf16_lossy_text};
 
 use compact_codec::utf16;
+use std::simd::prelude::*;
 
 /// The capacity of the buffer.
 pub const ROW: usize = 256;
+
+/// The number of ASCII units that are written at a time.
+const BLOCK: usize = 16;
 
 /// The result of `fill`.
 #[derive(Clone, Copy)]
@@ -34,9 +39,14 @@ pub fn fill(row: &mut [u8; 256], units: &[u16]) -> Filled
     let mut taken = 0;
     let mut len = 0;
     while taken < units.len() && len <= ROW - 4 {
+        let rest = &units[taken..];
         let unit = units[taken];
-        if is_surrogate(unit) {
-            let step = utf16::first_character(&units[taken..]);
+        if len <= ROW - BLOCK && begins_with_ascii(rest) {
+            let count = write_ascii(row, len, rest);
+            len += count;
+            taken += count;
+        } else if is_surrogate(unit) {
+            let step = utf16::first_character(rest);
             let character = step.character.unwrap_or(char::REPLACEMENT_CHARACTER);
             len = write_character(row, len, character);
             taken += step.taken;
@@ -46,6 +56,54 @@ pub fn fill(row: &mut [u8; 256], units: &[u16]) -> Filled
         }
     }
     Filled { taken, len }
+}
+
+/// Returns `true` if `units` has a block that begins with four ASCII units. Reads the four as one number, so that text in
+/// which a single ASCII character is followed by others takes no unpredictable branch.
+#[inline]
+fn begins_with_ascii(units: &[u16]) -> bool
+    ensures block { IsTrue result → 16 ≤ length units.now }
+    ensures first { IsTrue result → slice_index units.now 0 < 128 }
+{
+    units.len() >= BLOCK && (u16x4::from_slice(units) & u16x4::splat(0xFF80)).reduce_or() == 0
+}
+
+/// Writes the ASCII units at the front of the first block at `at`, and returns their number. Writes a whole block, to
+/// avoid a loop.
+#[inline]
+fn write_ascii(row: &mut [u8; 256], at: usize, units: &[u16]) -> usize
+    requires room { at + 16 ≤ 256 }
+    requires block { 16 ≤ length units.now }
+    requires first { slice_index units.now 0 < 128 }
+    ensures some { (0 < result) × (result ≤ 16) }
+    ensures bytes { take (at + result) row.new ≡ take at row.old ++ take result units.now }
+    ensures ascii { IsAscii (take result units.now) }
+{
+    let block = u16x16::from_slice(units);
+    let front = &mut row[at..at + BLOCK];
+    low_bytes(block).copy_to_slice(front);
+    ascii_count(block)
+}
+
+/// Returns each unit modulo 128, as a byte.
+#[inline(always)]
+fn low_bytes(block: u16x16) -> u8x16
+    ensures { result ≡ map (λ u. u % 128) block }
+{
+    (block & u16x16::splat(0x7F)).cast()
+}
+
+/// Returns the number of ASCII units before the first other one.
+#[inline(always)]
+fn ascii_count(block: u16x16) -> usize
+    ensures { result ≡ position_or_len (λ u. nat_le 128 u) block }
+{
+    let others = block.simd_ge(u16x16::splat(0x80)).to_bitmask();
+    if others == 0 {
+        BLOCK
+    } else {
+        others.trailing_zeros() as usize
+    }
 }
 
 /// Returns `true` if `unit` is a surrogate.
