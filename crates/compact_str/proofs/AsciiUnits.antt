@@ -1,20 +1,22 @@
 -- Units below 128, as bytes.
-use Rattle.std.proofs.Common.{◌≡◌, ℕ, suc, ◌+◌, ◌-◌, ◌%◌, ◌^◌, ◌<◌, ◌≤◌, Bool, true, false, cond, eqb, leb, eqb-true, eq-eqb, List, [], ◌∷◌, ◌++◌, map, length, take, drop, get_or, replicate, refl, sym, ap, subst, ◌∙◌, arith, w16, IsUtf8, inl, inr, append_assoc, take-append-drop, length-drop, bit_and, bit_or}
+use Rattle.std.proofs.Common.{◌≡◌, ℕ, suc, ◌+◌, ◌-◌, ◌%◌, ◌^◌, ◌<◌, ◌≤◌, Bool, true, false, cond, eqb, leb, eqb-true, eq-eqb, List, [], ◌∷◌, ◌++◌, map, length, take, drop, get_or, replicate, refl, sym, ap, subst, ◌∙◌, arith, w16, IsUtf8, append_assoc, take-append-drop, length-drop, bit_and, bit_or, Fits, not}
 use Rattle.std.proofs.Math.Seq.{take-append-add}
-use Rattle.std.specs.List.{position_or_len}
+use Rattle.std.specs.List.{position_or_len, prefix_len}
 use Rattle.std.specs.Str.{IsAscii}
-use Rattle.std.proofs.lemmas.Bool.{leb-false, cases_lt}
+use Rattle.std.proofs.lemmas.Bool.{lt-leb}
 use Rattle.std.proofs.lemmas.Nat.{le_or_l, le_or_r}
 use Rattle.std.proofs.lemmas.Nat.Bits.{and_high}
-use Rattle.std.proofs.lemmas.List.{length-map, take-map, take-take, get_or-take, get_or_past, length-take-le}
+use Rattle.std.proofs.lemmas.List.{length-map, take-map, take-take, length-take-le}
 use Rattle.std.proofs.lemmas.Slice.{take-put_mid}
-use Rattle.std.proofs.lemmas.Simd.{tops_compared, zip2_splat_left, mask_l-mod, first_set_mask_l, run_in_chunk_le, run_in_chunk_fails, put_chunk_whole, length-chunk}
+use Rattle.std.proofs.lemmas.Simd.{tops_compared, zip2_splat_left, mask_l-mod, first_set_mask_l, put_chunk_whole}
 use Rattle.std.proofs.lemmas.Str.{chars-append, chars-IsAscii, IsUtf8-append, IsUtf8-from_ascii}
 use Rattle.compact_repr.specs.Text.{text_of}
 use Rattle.compact_codec.specs.Utf16Text.{utf16_lossy_text}
+use Rattle.std.proofs.lemmas.List.Sums.{prefix_len-le-length}
+use Rattle.compact_codec.proofs.Parts.{front_is_ascii}
 use Rattle.compact_str.proofs.FilledRows.{own_step}
 use lib.Count.{count_trailing_zeros}
-use lib.Lanes.{fold_l, zip2, mask_l, top, chunk, put_chunk}
+use lib.Lanes.{fold_l, zip2, mask_l, top, put_chunk, Each1}
 use lib.Utf8.{low_scalar}
 use borrow.Rule.Slice.PartMut.{mid_of, put_mid}
 
@@ -45,28 +47,27 @@ some_wide block long some = sym (ap (λ b. cond b 16 (count_trailing_zeros 64 (w
     go false e = e
 
 -- the first four units have no bit from 128 on
-pub first_ascii : (units : List ℕ) → 4 ≤ length units → get_or units 0 0 < 2 ^ 16
-    → fold_l bit_or 0 (zip2 bit_and (take 4 units) (0xFF80 ∷ 0xFF80 ∷ 0xFF80 ∷ 0xFF80 ∷ [])) ≡ 0 → get_or units 0 0 < 128
-first_ascii [] long fits none = absurd (omega arith)
-first_ascii (a ∷ []) long fits none = absurd (omega arith)
-first_ascii (a ∷ b ∷ []) long fits none = absurd (omega arith)
-first_ascii (a ∷ b ∷ c ∷ []) long fits none = absurd (omega arith)
-first_ascii (a ∷ b ∷ c ∷ d ∷ rest) long fits none =
-    let low = bit_and a 0xFF80 in
-    let two = bit_or (bit_or 0 low) (bit_and b 0xFF80) in
-    let three = bit_or two (bit_and c 0xFF80) in
-    omega (arith, and_high a 9 7, le_or_r 0 low, le_or_l (bit_or 0 low) (bit_and b 0xFF80), le_or_l two (bit_and c 0xFF80),
-    le_or_l three (bit_and d 0xFF80), none, fits)
+or_grows : (all : ℕ) (xs : List ℕ) → all ≤ fold_l bit_or all xs
+or_grows all [] = omega arith
+or_grows all (x ∷ xs) = omega (arith, le_or_l all x, or_grows (bit_or all x) xs)
 
--- the units before it
-pub front_ascii : (units : List ℕ) (n : ℕ) → 16 ≤ length units → n ≡ position_or_len wide (chunk 0 16 units) → IsAscii (take n units)
-front_ascii units n room counted i = elim (cases_lt i n) [
-  | inl below ↦ subst (λ x. x < 128) (sym (get_or-take n units i 0 below))
-      (leb-false 128 (get_or units i 0) (run_in_chunk_fails wide units 0 16 n 0 (omega arith) counted i (omega arith) (omega arith)))
-  | inr past ↦
-      let few : n ≤ 16 = run_in_chunk_le wide units 0 16 n 0 (omega arith) counted in
-      subst (λ x. x < 128) (sym (get_or_past (take n units) i 0 (omega (arith, length-take-le n units (omega arith))))) (omega arith)
-]
+pub first_ascii : (block masks : List ℕ) → length block ≡ 16 → Each1 (Fits w16) block
+    → fold_l bit_or 0 (zip2 bit_and block (0xFF80 ∷ masks)) ≡ 0 → get_or block 0 0 < 128
+first_ascii [] masks long fits none = absurd (omega arith)
+first_ascii (a ∷ rest) masks long fits none =
+    let low = bit_and a 0xFF80 in
+    let in_unit : a < 2 ^ 16 = fits.0.fits in
+    omega (arith, in_unit, and_high a 9 7, le_or_r 0 low, or_grows (bit_or 0 low) (zip2 bit_and rest masks), none)
+
+-- a block that begins with ASCII has some
+pub count_some : (block : List ℕ) (n : ℕ) → length block ≡ 16 → get_or block 0 0 < 128 → n ≡ position_or_len wide block
+    → (0 < n) × (n ≤ 16)
+count_some [] n long low counted = absurd (omega arith)
+count_some (a ∷ rest) n long low counted =
+    let more = prefix_len (λ u. not (leb 128 u)) rest in
+    let one : prefix_len (λ u. not (leb 128 u)) (a ∷ rest) ≡ 1 + more =
+    ap (λ t. cond (not t) (1 + more) 0) (lt-leb 128 a low) in
+    (omega (arith, counted, one), omega (arith, counted, long, prefix_len-le-length (λ u. not (leb 128 u)) (a ∷ rest)))
 
 ascii_low : (xs : List ℕ) → IsAscii xs → map (λ u. u % 128) xs ≡ xs
 ascii_low [] all = refl
@@ -76,20 +77,22 @@ ascii_low (x ∷ xs) all =
     λ i. same i ∷ ascii_low xs (λ k. all (suc k)) i
 
 -- a block is stored, of which the first n units are ASCII
-pub block_behind : (row units low : List ℕ) (at k n : ℕ) → k ≡ 16 → at + 16 ≤ length row → 16 ≤ length units → n ≡ position_or_len wide (chunk 0 16 units)
-    → low ≡ map (λ u. u % 128) (chunk 0 16 units)
-    → take (at + n) (put_mid at k row (put_chunk 0 (mid_of at k row) low)) ≡ take at row ++ take n units
-block_behind row units low at k n k_is room long counted is =
-    let few : n ≤ 16 = run_in_chunk_le wide units 0 16 n 0 (omega arith) counted in
-    let full : length low ≡ 16 = ap length is ∙ length-map (chunk 0 16 units) (λ u. u % 128) ∙ length-chunk 0 16 units (omega arith) in
-    let held : length (mid_of at k row) ≡ length low = length-take-le k (drop at row) (omega (arith, length-drop at row)) ∙ k_is ∙ sym full in
-    let written : take (at + 16) (put_mid at k row low) ≡ take at row ++ low = take-put_mid at k row low (at + 16) (omega arith) (omega arith) in
-    let part : take n low ≡ take n units = ap (take n) is ∙ take-map (λ u. u % 128) n (chunk 0 16 units) ∙ ap (map (λ u. u % 128)) (take-take n 16 units few)
-    ∙ ascii_low (take n units) (front_ascii units n long counted) in
+pub block_behind : (row block low : List ℕ) (at k n : ℕ) → k ≡ 16 → at + 16 ≤ length row → length block ≡ 16
+    → n ≡ position_or_len wide block → low ≡ map (λ u. u % 128) block
+    → take (at + n) (put_mid at k row (put_chunk 0 (mid_of at k row) low)) ≡ take at row ++ take n block
+block_behind row block low at k n k_is room long counted is =
+    let few : n ≤ 16 = omega (arith, counted, long, prefix_len-le-length (λ u. not (leb 128 u)) block) in
+    let full : length low ≡ 16 = ap length is ∙ length-map block (λ u. u % 128) ∙ long in
+    let held : length (mid_of at k row) ≡ length low =
+    length-take-le k (drop at row) (omega (arith, length-drop at row)) ∙ k_is ∙ sym full in
+    let written : take (at + 16) (put_mid at k row low) ≡ take at row ++ low =
+    take-put_mid at k row low (at + 16) (omega arith) (omega arith) in
+    let part : take n low ≡ take n block = ap (take n) is ∙ take-map (λ u. u % 128) n block
+    ∙ ascii_low (take n block) (front_is_ascii block n counted) in
     ap (λ l. take (at + n) (put_mid at k row l)) (put_chunk_whole (mid_of at k row) low held)
     ∙ sym (take-take (at + n) (at + 16) (put_mid at k row low) (omega arith)) ∙ ap (take (at + n)) written
-    ∙ ap (λ m. take (m + n) (take at row ++ low)) (sym (length-take-le at row (omega arith))) ∙ take-append-add (take at row) low n
-    ∙ ap (λ l. take at row ++ l) part
+    ∙ ap (λ m. take (m + n) (take at row ++ low)) (sym (length-take-le at row (omega arith)))
+    ∙ take-append-add (take at row) low n ∙ ap (λ l. take at row ++ l) part
 
 -- the text of units that begin with ASCII
 ascii_text : (xs rest : List ℕ) → IsAscii xs → utf16_lossy_text (xs ++ rest) ≡ xs ++ utf16_lossy_text rest

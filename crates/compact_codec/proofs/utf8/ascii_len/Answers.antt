@@ -1,13 +1,14 @@
-use Rattle.std.proofs.Common.{◌≡◌, ℕ, ◌^◌, ◌%◌, ◌<◌, ◌≤◌, refl, not, cond, leb, List, length, map, take, get_or, replicate, ap, sym, ◌∙◌, subst, arith, inl, inr, w8, IsUtf8}
+use Rattle.std.proofs.Common.{◌≡◌, ℕ, ◌^◌, ◌%◌, ◌≤◌, refl, not, cond, leb, List, length, map, take, replicate, ap, sym, ◌∙◌, subst, arith, inl, inr, w8, IsUtf8}
 use Rattle.std.specs.List.{prefix_len}
 use Rattle.std.specs.Str.{IsAscii}
-use Rattle.std.proofs.lemmas.Bool.{cases_lt, cases_eq, leb-false, not-true}
-use Rattle.std.proofs.lemmas.List.{length-map, get_or-take, get_or_past, length-take, take-take, length-take-le}
-use Rattle.std.proofs.lemmas.List.Sums.{prefix_len_passes, prefix_len-le-length}
+use Rattle.std.proofs.lemmas.Bool.{cases_eq}
+use Rattle.std.proofs.lemmas.List.{length-map, take-take, length-take-le}
+use Rattle.std.proofs.lemmas.List.Sums.{prefix_len-le-length}
 use Rattle.std.proofs.lemmas.Simd.{tops_compared, zip2_splat_left, mask_l-mod, leading_from_mask_l, trailing_mask_l}
 use Rattle.std.proofs.lemmas.Str.{IsUtf8-from_ascii}
 use lib.Count.{count_trailing_zeros}
 use lib.Lanes.{zip2, mask_l, top}
+use Rattle.compact_codec.proofs.Parts.{front_is_ascii}
 use Rattle.compact_codec.proofs.utf8.ascii_len.Goals as goal
 
 mask_is : (block : List ℕ) → length block ≡ 64
@@ -25,14 +26,6 @@ unfolding count_trailing_zeros
 count_is block long = elim (cases_eq (mask_l (map (leb 128) block)) 0) [
   | inl none ↦ ap (count_trailing_zeros 64) none ∙ sym long ∙ sym (leading_from_mask_l (leb 128) block none)
   | inr some ↦ trailing_mask_l (leb 128) 64 block (omega arith) (omega arith)
-]
-
-front_is_ascii : (block : List ℕ) (n : ℕ) → n ≡ prefix_len (λ b. not (leb 128 b)) block → IsAscii (take n block)
-front_is_ascii block n counted i = elim (cases_lt i n) [
-  | inl below ↦ subst (λ (b : ℕ). b < 128) (sym (get_or-take n block i 0 below)) (leb-false 128 (get_or block i 0)
-      (not-true _ (prefix_len_passes (λ b. not (leb 128 b)) block i 0 (omega (arith, counted)))))
-  | inr past ↦ subst (λ (b : ℕ). b < 128)
-      (sym (get_or_past (take n block) i 0 (omega (arith, length-take n block)))) (omega arith)
 ]
 
 pub returns-clause-text : goal.returns-clause-text
