@@ -1,25 +1,24 @@
 -- For crates that decode a text by these steps. Use it at the decoder, as
 -- `#[tactic(auto, using(compact_codec::proofs::ForDecoders::lossy_decoding))]`.
-use Rattle.std.proofs.Common.{◌≡◌, ℕ, List, ◌++◌, length, IsUtf8, sym, ap, subst, ◌∙◌, append-nil}
+use Rattle.std.proofs.Common.{◌≡◌, ◌≤◌, ℕ, List, [], ◌++◌, length, drop, drop_of_length-le, refl, IsUtf8, sym, ap, subst, ◌∙◌, append-nil}
 use Rattle.compact_codec.specs.declared.utf16_bytes.ByteOrder.{ByteOrder}
 use Rattle.compact_codec.specs.Utf8Text.{BytesEncode, utf8_lossy_text}
 use Rattle.compact_codec.specs.Utf16Text.{UnitsEncode, IsUtf16, utf16_lossy_text}
 use Rattle.compact_codec.specs.Utf16Bytes.{units_of, IsUtf16Bytes, utf16_bytes_lossy_text}
 use Rattle.compact_codec.proofs.LossyReading.{utf8_lossy_text-IsUtf8, utf8_lossy_text-empty, utf8_lossy_text_of_text, replacement_text-none, replacement_text-some}
 use Rattle.compact_codec.proofs.UnitsReading.{utf16_lossy_text-empty, utf16_lossy_text_of_text}
-use Rattle.compact_codec.proofs.PairsReading.{utf16_bytes_lossy_text-empty, utf16_bytes_lossy_text_of_text}
+use Rattle.compact_codec.proofs.PairsReading.{utf16_bytes_lossy_text_of_text}
 
 -- the decoded text is the whole if nothing is left to read
 pub made-utf8_lossy_text : (made bytes : List ℕ) → length bytes ≡ 0 → made ++ utf8_lossy_text bytes ≡ made
 made-utf8_lossy_text made bytes none = ap (λ t. made ++ t) (utf8_lossy_text-empty bytes none) ∙ append-nil made
 
-pub made-utf16_lossy_text : (made units : List ℕ) → length units ≡ 0 → made ++ utf16_lossy_text units ≡ made
-made-utf16_lossy_text made units none = ap (λ t. made ++ t) (utf16_lossy_text-empty units none) ∙ append-nil made
+pub made-utf16_lossy_text : (made units : List ℕ) (at : ℕ) → length units ≤ at → made ++ utf16_lossy_text (drop at units) ≡ made
+made-utf16_lossy_text made units at past =
+    ap (λ l. made ++ utf16_lossy_text l) (drop_of_length-le units past) ∙ ap (λ t. made ++ t) (utf16_lossy_text-empty [] refl)
+    ∙ append-nil made
 
-pub made-utf16_bytes_lossy_text : (order : ByteOrder) (made bytes : List ℕ) → length bytes ≡ 0 → made ++ utf16_bytes_lossy_text order bytes ≡ made
-made-utf16_bytes_lossy_text order made bytes none = ap (λ t. made ++ t) (utf16_bytes_lossy_text-empty order bytes none) ∙ append-nil made
-
-pub ruleset lossy_decoding = (made-utf8_lossy_text, made-utf16_lossy_text, made-utf16_bytes_lossy_text, utf8_lossy_text-IsUtf8, replacement_text-none, replacement_text-some)
+pub ruleset lossy_decoding = (made-utf8_lossy_text, made-utf16_lossy_text, utf8_lossy_text-IsUtf8, replacement_text-none, replacement_text-some)
 
 -- for strict decoders: the text of validated bytes is the one they encode
 pub BytesEncode-utf8_lossy_text : (bytes : List ℕ) → IsUtf8 bytes → BytesEncode bytes (utf8_lossy_text bytes)

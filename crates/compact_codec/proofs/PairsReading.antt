@@ -1,15 +1,19 @@
 -- Bytes as units, two a unit.
-use Rattle.std.proofs.Common.{rules, ◌≡◌, ℕ, zero, suc, ◌+◌, ◌-◌, ◌*◌, ◌/◌, ◌%◌, ◌^◌, ◌<◌, ◌≤◌, true, false, List, [], ◌∷◌, ◌++◌, map, length, take, drop, Option, Some, None, refl, sym, ap, subst, ◌∙◌, arith, inl, inr, ⊎_elim, append-nil, length-drop, take_all, take-append-drop, take-add}
-use Rattle.std.specs.Prelude.{unwrap_or, is_some, IfNone, slice_get}
+use Rattle.std.proofs.Common.{◌↔◌, ◌≡◌, ℕ, zero, suc, ◌+◌, ◌*◌, ◌/◌, ◌%◌, ◌^◌, ◌<◌, ◌≤◌, List, [], ◌∷◌, ◌++◌, map, length, take, drop, refl, sym, ap, subst, ◌∙◌, arith, append-nil, length-drop, get_or}
+use Rattle.std.proofs.Common.{bit_or}
+use Rattle.std.specs.Int.Bits.{or_zero_l, or_zero_r}
+use Rattle.std.proofs.lemmas.Nat.{or_block}
+use Rattle.std.proofs.lemmas.List.{take-map, drop-map}
+use lib.Lanes.{digits_l, number_l}
+use Rattle.std.specs.Prelude.{unwrap_or}
 use Rattle.std.specs.List.{flat_map}
-use Rattle.std.proofs.lemmas.Bool.{true≢false, false≢true}
 use Rattle.std.proofs.lemmas.Str.{utf16_chars-nil}
 use Rattle.compact_codec.specs.declared.utf16_bytes.ByteOrder.{ByteOrder}
 use Rattle.compact_codec.specs.declared.utf16_bytes.ByteOrder.TheVariants.{LittleEndian, BigEndian}
 use Rattle.compact_text.specs.Text.{replacement_character}
-use Rattle.compact_codec.specs.Utf16Text.{AreUnits, IsUtf16, utf16_lossy_text, IsUtf16Step}
-use Rattle.compact_codec.specs.Utf16Bytes.{unit_of, unit_bytes, units_of, ArePairs, odd_byte_text, IsUtf16Bytes, utf16_bytes_lossy_text, BeginsWithInvalidBytes, IsUtf16BytesStep, AreBytes, PairsAreTheUnits, Utf16BytesLossyTextIsUnique, Utf16BytesLossyTextOfText}
-use Rattle.compact_codec.proofs.UnitsReading.{first_step_within, utf16_lossy_text-step, unpaired_is_no_text, rest_is_text, longer_is_text, utf16_lossy_text_is, utf16_lossy_text_of_text}
+use Rattle.compact_codec.specs.Utf16Text.{AreUnits, IsUtf16, utf16_lossy_text}
+use Rattle.compact_codec.specs.Utf16Bytes.{unit_of, unit_bytes, units_of, ArePairs, odd_byte_text, IsUtf16Bytes, utf16_bytes_lossy_text, AreBytes, PairsAreTheUnits, Utf16BytesLossyTextIsUnique, Utf16BytesLossyTextOfText}
+use Rattle.compact_codec.proofs.UnitsReading.{utf16_lossy_text_is, utf16_lossy_text_of_text}
 
 -- units and their bytes
 
@@ -90,123 +94,8 @@ take_pairs order (suc n) (suc (suc m)) (a ∷ b ∷ bytes) double within =
     let fits = later.0 in
     (omega arith, later.1, ap (λ l. unit_of order a b ∷ l) later.2, later.3, later.4)
 
-ArePairs-append : (xs ys : List ℕ) → ArePairs xs → ArePairs ys → ArePairs (xs ++ ys)
-ArePairs-append [] ys p q = q
-ArePairs-append (a ∷ []) ys p q = absurd p
-ArePairs-append (a ∷ b ∷ xs) ys p q = ArePairs-append xs ys p q
-
-ArePairs-rest : (xs ys : List ℕ) → ArePairs xs → ArePairs (xs ++ ys) → ArePairs ys
-ArePairs-rest [] ys p q = q
-ArePairs-rest (a ∷ []) ys p q = absurd p
-ArePairs-rest (a ∷ b ∷ xs) ys p q = ArePairs-rest xs ys p q
-
-units_of-append : (order : ByteOrder) (xs ys : List ℕ) → ArePairs xs → units_of order (xs ++ ys) ≡ units_of order xs ++ units_of order ys
-units_of-append order [] ys p = refl
-units_of-append order (a ∷ []) ys p = absurd p
-units_of-append order (a ∷ b ∷ xs) ys p = ap (λ l. unit_of order a b ∷ l) (units_of-append order xs ys p)
-
--- the step at the start
-
-pub units_at_start : (order : ByteOrder) (bytes : List ℕ) (first : ℕ) → slice_get (units_of order bytes) 0 ≡ Some first
-    → units_of order bytes ≡ first ∷ units_of order (drop 2 bytes)
-units_at_start order [] first is = cc
-units_at_start order (a ∷ []) first is = cc
-units_at_start order (a ∷ b ∷ bytes) first is = let same : unit_of order a b ≡ first = cc in ap (λ u. u ∷ units_of order bytes) same
-
--- a step over units, for their bytes
-pub record StepsOver (order : ByteOrder) (bytes : List ℕ) (o : Option ℕ) (n : ℕ) : Type 0 where
-  pub step : IsUtf16BytesStep order bytes o n
-  pub taken : (0 < n) × (n ≤ length bytes)
-  pub lossy : utf16_bytes_lossy_text order bytes ≡ unwrap_or o replacement_character ∷ utf16_bytes_lossy_text order (drop n bytes)
-  pub invalid : IfNone o (¬ (IsUtf16Bytes order bytes))
-
-abbrev step_of : (order : ByteOrder) (bytes : List ℕ) (o : Option ℕ) (n m : ℕ) → m ≡ 2 * n → IsUtf16Step (units_of order bytes) o n → IsUtf16BytesStep order bytes o m
-step_of order bytes (Some c) n m double is =
-    let pairs = take_pairs order n m bytes double is.1 in
-    (is.0, pairs.0, pairs.1, pairs.2 ∙ is.2)
-step_of order bytes None n m double is = let one = is.1 in inl (is.0, omega arith)
-
-none_is_invalid : (order : ByteOrder) (bytes : List ℕ) (o : Option ℕ) (n : ℕ) → IsUtf16Step (units_of order bytes) o n → IfNone o (¬ (IsUtf16Bytes order bytes))
-none_is_invalid order bytes (Some c) n is = search rules
-none_is_invalid order bytes None n is = λ text. unpaired_is_no_text (units_of order bytes) is.0 text.1
-
-pub steps_over : (order : ByteOrder) (bytes : List ℕ) (o : Option ℕ) (n m : ℕ) → m ≡ 2 * n → IsUtf16Step (units_of order bytes) o n → StepsOver order bytes o m
-unfolding utf16_bytes_lossy_text
-steps_over order bytes o n m double is =
-    let within = first_step_within (units_of order bytes) o n is in
-    let pairs = take_pairs order n m bytes double within.1 in
-    let fits = pairs.0 in
-    let some = within.0 in
-    record {
-      step = step_of order bytes o n m double is;
-      taken = (omega arith, omega arith);
-      lossy = ap (λ t. t ++ odd_byte_text bytes) (utf16_lossy_text-step (units_of order bytes) o n is)
-          ∙ (λ i. unwrap_or o replacement_character ∷ (utf16_lossy_text (sym pairs.3 i) ++ sym pairs.4 i));
-      invalid = none_is_invalid order bytes o n is;
-    }
-
-from_at : (bytes : List ℕ) (at : ℕ) → take (length bytes - at) (drop at bytes) ≡ drop at bytes
-from_at bytes at = take_all (length bytes - at) (drop at bytes) (omega (arith, length-drop at bytes))
-
-pub pair_step : (order : ByteOrder) (bytes : List ℕ) (first : ℕ) (second o : Option ℕ) (n : ℕ) → Some first ≡ slice_get (units_of order bytes) 0
-    → second ≡ slice_get (units_of order (take (length bytes - 2) (drop 2 bytes))) 0
-    → ((rest : List ℕ) → slice_get rest 0 ≡ second → IsUtf16Step (first ∷ rest) o n) → StepsOver order bytes o (2 * n)
-pair_step order bytes first second o n first_is second_is step =
-    let rest = units_of order (drop 2 bytes) in
-    let known : slice_get rest 0 ≡ second = ap (λ l. slice_get (units_of order l) 0) (sym (from_at bytes 2)) ∙ sym second_is in
-    steps_over order bytes o n (2 * n) refl (subst (λ l. IsUtf16Step l o n) (sym (units_at_start order bytes first (sym first_is))) (step rest known))
-
 utf16_lossy_text-nil : utf16_lossy_text [] ≡ []
 utf16_lossy_text-nil = ap (map (λ o. unwrap_or o 0xFFFD)) utf16_chars-nil
-
-pub odd_step : (order : ByteOrder) (bytes : List ℕ) → length bytes ≡ 1 → StepsOver order bytes None 1
-unfolding utf16_bytes_lossy_text
-odd_step order [] one = absurd (omega arith)
-odd_step order (a ∷ []) one = record {
-  step = inr (refl, refl);
-  taken = (omega arith, omega arith);
-  lossy = ap (λ t. t ++ replacement_character ∷ []) utf16_lossy_text-nil ∙ ap (λ t. replacement_character ∷ (t ++ [])) (sym utf16_lossy_text-nil);
-  invalid = λ text. text.0;
-}
-odd_step order (a ∷ b ∷ bytes) one = absurd (omega arith)
-
--- a step of validation
-
-rest_is_bytes : (order : ByteOrder) (xs ys : List ℕ) → IsUtf16Bytes order xs → IsUtf16Bytes order (xs ++ ys) → IsUtf16Bytes order ys
-rest_is_bytes order xs ys prefix whole =
-    (ArePairs-rest xs ys prefix.0 whole.0, rest_is_text (units_of order xs) (units_of order ys) prefix.1 (subst IsUtf16 (units_of-append order xs ys prefix.0) whole.1))
-
-invalid_is_no_text : (order : ByteOrder) (bytes : List ℕ) (n : ℕ) → BeginsWithInvalidBytes order bytes n → ¬ (IsUtf16Bytes order bytes)
-invalid_is_no_text order bytes n invalid text = ⊎_elim
-    (λ unpaired. unpaired_is_no_text (units_of order bytes) unpaired.0 text.1)
-    (λ odd. odd_is_no_text order bytes odd.0 text)
-    invalid
-  where
-    odd_is_no_text : (order : ByteOrder) (bytes : List ℕ) → length bytes ≡ 1 → ¬ (IsUtf16Bytes order bytes)
-    odd_is_no_text order [] one text = absurd (omega arith)
-    odd_is_no_text order (a ∷ []) one text = text.0
-    odd_is_no_text order (a ∷ b ∷ bytes) one text = absurd (omega arith)
-
-pub passed_step : (order : ByteOrder) (bytes : List ℕ) (at n : ℕ) (o : Option ℕ) → IsUtf16Bytes order (take at bytes) → is_some o ≡ true
-    → IsUtf16BytesStep order (take (length bytes - at) (drop at bytes)) o n → IsUtf16Bytes order (take (at + n) bytes)
-passed_step order bytes at n None prefix some is = absurd (false≢true some)
-passed_step order bytes at n (Some c) prefix some is =
-    let step = subst (λ l. IsUtf16BytesStep order l (Some c) n) (from_at bytes at) is in
-    let xs = take at bytes in
-    let ys = take n (drop at bytes) in
-    let longer : IsUtf16Bytes order (xs ++ ys) = (
-      ArePairs-append xs ys prefix.0 step.2,
-      subst IsUtf16 (sym (units_of-append order xs ys prefix.0)) (longer_is_text (units_of order xs) (units_of order ys) c prefix.1 step.0 step.3),
-    ) in
-    subst (IsUtf16Bytes order) (sym (take-add at n bytes)) longer
-
-pub stopped_step : (order : ByteOrder) (bytes : List ℕ) (at n : ℕ) (o : Option ℕ) → IsUtf16Bytes order (take at bytes) → is_some o ≡ false
-    → IsUtf16BytesStep order (take (length bytes - at) (drop at bytes)) o n → ¬ (IsUtf16Bytes order bytes)
-stopped_step order bytes at n None prefix none is whole =
-    let invalid = subst (λ l. BeginsWithInvalidBytes order l n) (from_at bytes at) is in
-    invalid_is_no_text order (drop at bytes) n invalid
-    (rest_is_bytes order (take at bytes) (drop at bytes) prefix (subst (IsUtf16Bytes order) (sym (take-append-drop at bytes)) whole))
-stopped_step order bytes at n (Some c) prefix none is whole = absurd (true≢false none)
 
 -- the bytes of a text's own units
 
@@ -220,6 +109,130 @@ unfolding utf16_bytes_lossy_text
 utf16_bytes_lossy_text_of_text order bytes text pairs is =
     ap (λ t. utf16_lossy_text (units_of order bytes) ++ t) (odd_byte_text-pairs bytes pairs) ∙ append-nil _ ∙ utf16_lossy_text_of_text (units_of order bytes) text is
 
-pub utf16_bytes_lossy_text-empty : (order : ByteOrder) (bytes : List ℕ) → length bytes ≡ 0 → utf16_bytes_lossy_text order bytes ≡ []
-utf16_bytes_lossy_text-empty order [] none = utf16_bytes_lossy_text_of_text order [] [] tt (refl, refl)
-utf16_bytes_lossy_text-empty order (b ∷ bytes) none = absurd (omega arith)
+-- the units by place
+
+pub units_count : (order : ByteOrder) (bytes : List ℕ) → length (units_of order bytes) ≡ length bytes / 2
+units_count order [] = refl
+units_count order (a ∷ []) = refl
+units_count order (a ∷ b ∷ bytes) = let later = units_count order bytes in omega arith
+
+pub unit_by_place : (order : ByteOrder) (bytes : List ℕ) (i j k : ℕ) → j ≡ 2 * i → k ≡ j + 1 → k < length bytes
+    → unit_of order (get_or bytes j 0) (get_or bytes k 0) ≡ get_or (units_of order bytes) i 0
+unit_by_place order [] i j k double next within = absurd (omega arith)
+unit_by_place order (a ∷ []) i j k double next within = absurd (omega arith)
+unit_by_place order (a ∷ b ∷ bytes) zero zero zero double next within = absurd (omega arith)
+unit_by_place order (a ∷ b ∷ bytes) zero zero (suc zero) double next within = refl
+unit_by_place order (a ∷ b ∷ bytes) zero zero (suc (suc k)) double next within = absurd (omega arith)
+unit_by_place order (a ∷ b ∷ bytes) zero (suc j) k double next within = absurd (omega arith)
+unit_by_place order (a ∷ b ∷ bytes) (suc i) zero k double next within = absurd (omega arith)
+unit_by_place order (a ∷ b ∷ bytes) (suc i) (suc zero) k double next within = absurd (omega arith)
+unit_by_place order (a ∷ b ∷ bytes) (suc i) (suc (suc j)) zero double next within = absurd (omega arith)
+unit_by_place order (a ∷ b ∷ bytes) (suc i) (suc (suc j)) (suc zero) double next within = absurd (omega arith)
+unit_by_place order (a ∷ b ∷ bytes) (suc i) (suc (suc j)) (suc (suc k)) double next within =
+    unit_by_place order bytes i j k (omega arith) (omega arith) (omega arith)
+
+get_or_same : (xs : List ℕ) (k d e : ℕ) → k < length xs → get_or xs k d ≡ get_or xs k e
+get_or_same [] k d e within = absurd (omega arith)
+get_or_same (x ∷ xs) zero d e within = refl
+get_or_same (x ∷ xs) (suc k) d e within = get_or_same xs k d e (omega arith)
+
+bytes_fit : (bytes : List ℕ) → ((i : ℕ) → get_or bytes i 0 < 256) → AreBytes bytes
+bytes_fit bytes fit k d within = subst (λ x. x < 256) (get_or_same bytes k 0 d within) (fit k)
+
+-- 16 bits of the number that the bytes make, from the lowest on, are the units
+digits_are : (n m : ℕ) (bytes : List ℕ) → m ≡ 2 * n → m ≤ length bytes → AreBytes bytes
+    → digits_l 65536 n (number_l 256 (take m bytes)) ≡ take n (units_of LittleEndian bytes)
+digits_are zero m bytes double within all = refl
+digits_are (suc n) zero bytes double within all = absurd (omega arith)
+digits_are (suc n) (suc zero) bytes double within all = absurd (omega arith)
+digits_are (suc n) (suc (suc m)) [] double within all = absurd (omega arith)
+digits_are (suc n) (suc (suc m)) (a ∷ []) double within all = absurd (omega arith)
+digits_are (suc n) (suc (suc m)) (a ∷ b ∷ bytes) double within all =
+    let rest = AreBytes-rest a (b ∷ bytes) all in
+    let number = number_l 256 (take m bytes) in
+    let a_fits = AreBytes-first a (b ∷ bytes) all in
+    let b_fits = AreBytes-first b bytes rest in
+    let low : (a + 256 * (b + 256 * number)) % 65536 ≡ a + b * 256 = omega (arith, a_fits, b_fits) in
+    let high : (a + 256 * (b + 256 * number)) / 65536 ≡ number = omega (arith, a_fits, b_fits) in
+    λ i. low i ∷ (ap (digits_l 65536 n) high ∙ digits_are n m bytes (omega arith) (omega arith) (AreBytes-rest b bytes rest)) i
+
+AreBytes-drop : (n : ℕ) (bytes : List ℕ) → AreBytes bytes → AreBytes (drop n bytes)
+AreBytes-drop zero bytes all = all
+AreBytes-drop (suc n) [] all = all
+AreBytes-drop (suc n) (b ∷ bytes) all = AreBytes-drop n bytes (AreBytes-rest b bytes all)
+
+pub low_block : (bytes : List ℕ) (at : ℕ) → ((i : ℕ) → get_or bytes i 0 < 256) → at + 16 ≤ length (units_of LittleEndian bytes)
+    → digits_l 65536 16 (number_l 256 (take 32 (drop (2 * at) bytes))) ≡ take 16 (drop at (units_of LittleEndian bytes))
+low_block bytes at fit within =
+    let whole = units_count LittleEndian bytes in
+    let pairs = take_pairs LittleEndian at (2 * at) bytes refl (omega arith) in
+    let long : 32 ≤ length (drop (2 * at) bytes) = omega (arith, length-drop (2 * at) bytes, whole, within) in
+    digits_are 16 32 (drop (2 * at) bytes) refl long (AreBytes-drop (2 * at) bytes (bytes_fit bytes fit)) ∙ ap (take 16) pairs.3
+
+-- the two bytes of a unit change places
+abbrev pub swapped : ℕ → ℕ
+swapped u = bit_or (u * 256 % 65536) (u / 256)
+
+swapped_unit : (a b : ℕ) → a < 256 → b < 256 → swapped (a + b * 256) ≡ a * 256 + b
+swapped_unit a b a_fits b_fits =
+    let high : (a + b * 256) * 256 % 65536 ≡ a * 256 = omega arith in
+    let low : (a + b * 256) / 256 ≡ b = omega arith in
+    let first : a * 256 ≡ a * 2 ^ 8 + 0 = omega arith in
+    let second : b ≡ 0 * 2 ^ 8 + b = omega arith in
+    let parts = or_block 8 a 0 0 b (omega arith) (omega (arith, b_fits)) in
+    (λ i. bit_or (high i) (low i)) ∙ (λ i. bit_or (first i) (second i)) ∙ omega (arith, parts, or_zero_r a, or_zero_l b)
+
+swapped_units : (bytes : List ℕ) → AreBytes bytes → map swapped (units_of LittleEndian bytes) ≡ units_of BigEndian bytes
+swapped_units [] all = refl
+swapped_units (a ∷ []) all = refl
+swapped_units (a ∷ b ∷ bytes) all =
+    let rest = AreBytes-rest a (b ∷ bytes) all in
+    let one = swapped_unit a b (AreBytes-first a (b ∷ bytes) all) (AreBytes-first b bytes rest) in
+    λ i. one i ∷ swapped_units bytes (AreBytes-rest b bytes rest) i
+
+pub high_block : (bytes : List ℕ) (at : ℕ) → ((i : ℕ) → get_or bytes i 0 < 256) → at + 16 ≤ length (units_of BigEndian bytes)
+    → map swapped (digits_l 65536 16 (number_l 256 (take 32 (drop (2 * at) bytes)))) ≡ take 16 (drop at (units_of BigEndian bytes))
+high_block bytes at fit within =
+    let low = units_of LittleEndian bytes in
+    ap (map swapped) (low_block bytes at fit (omega (arith, within, units_count BigEndian bytes, units_count LittleEndian bytes)))
+    ∙ sym (take-map swapped 16 (drop at low)) ∙ ap (take 16) (sym (drop-map swapped at low))
+    ∙ ap (λ l. take 16 (drop at l)) (swapped_units bytes (bytes_fit bytes fit))
+
+-- pairs have an even number of bytes
+pub pairs_if_even : (bytes : List ℕ) → length bytes % 2 ≡ 0 → ArePairs bytes
+pairs_if_even [] even = tt
+pairs_if_even (a ∷ []) even = absurd (omega arith)
+pairs_if_even (a ∷ b ∷ bytes) even = pairs_if_even bytes (omega arith)
+
+pub even_if_pairs : (bytes : List ℕ) → ArePairs bytes → length bytes % 2 ≡ 0
+even_if_pairs [] pairs = refl
+even_if_pairs (a ∷ []) pairs = absurd pairs
+even_if_pairs (a ∷ b ∷ bytes) pairs = let later = even_if_pairs bytes pairs in omega arith
+
+-- pairs encode a text if their units do
+pub pairs_encode : (order : ByteOrder) (bytes units : List ℕ) → length bytes % 2 ≡ 0 → units_of order bytes ≡ units
+    → IsUtf16 units ↔ IsUtf16Bytes order bytes
+pairs_encode order bytes units even same =
+    (λ text. (pairs_if_even bytes even, subst IsUtf16 (sym same) text), λ (pairs, text). subst IsUtf16 same text)
+
+-- the lossy text of bytes is that of their units, and U+FFFD for an odd last byte
+pub bytes_text : (order : ByteOrder) (bytes : List ℕ)
+    → utf16_bytes_lossy_text order bytes ≡ utf16_lossy_text (units_of order bytes) ++ odd_byte_text bytes
+unfolding utf16_bytes_lossy_text
+bytes_text order bytes = refl
+
+pub even_bytes_text : (order : ByteOrder) (bytes : List ℕ) → length bytes % 2 ≡ 0
+    → utf16_bytes_lossy_text order bytes ≡ utf16_lossy_text (units_of order bytes)
+even_bytes_text order bytes even =
+    bytes_text order bytes ∙ ap (λ t. utf16_lossy_text (units_of order bytes) ++ t) (odd_byte_text-pairs bytes (pairs_if_even bytes even))
+    ∙ append-nil _
+
+odd_byte_text-odd : (bytes : List ℕ) → (length bytes % 2 ≡ 0 → ⊥) → odd_byte_text bytes ≡ replacement_character ∷ []
+odd_byte_text-odd [] odd = absurd (odd refl)
+odd_byte_text-odd (a ∷ []) odd = refl
+odd_byte_text-odd (a ∷ b ∷ bytes) odd = odd_byte_text-odd bytes (λ even. odd (omega arith))
+
+pub odd_bytes_text : (order : ByteOrder) (bytes : List ℕ) → (length bytes % 2 ≡ 0 → ⊥)
+    → utf16_bytes_lossy_text order bytes ≡ utf16_lossy_text (units_of order bytes) ++ (replacement_character ∷ [])
+odd_bytes_text order bytes odd =
+    bytes_text order bytes ∙ ap (λ t. utf16_lossy_text (units_of order bytes) ++ t) (odd_byte_text-odd bytes odd)

@@ -1,13 +1,15 @@
 -- The longest valid prefix and the invalid sequence after it, beside std's definitions.
-use Rattle.std.proofs.Common.{◌≡◌, ℕ, zero, suc, ◌+◌, ◌<◌, ◌≤◌, ◌⊎◌, true, false, cond, List, [], ◌∷◌, length, take, drop, Option, Some, None, slice_index, IsUtf8, encode_utf8, refl, sym, ap, subst, ◌∙◌, arith, inl, inr, ⊎_elim, true≢false, append-nil, length-drop, take_all, take-add, min, ◌-◌, take-append-drop, drop-drop, take_at, le_refl}
+use Rattle.std.proofs.Common.{◌≡◌, ℕ, zero, suc, ◌+◌, ◌<◌, ◌≤◌, ◌⊎◌, true, false, cond, List, [], ◌∷◌, length, take, drop, Option, Some, None, slice_index, IsUtf8, encode_utf8, refl, sym, ap, subst, ◌∙◌, arith, inl, inr, ⊎_elim, true≢false, append-nil, length-drop, take_all, take-add, min, ◌-◌, take-append-drop, drop-drop, take_at, le_refl, not, leb, get_or}
 use Rattle.std.specs.Prelude.{◌==◌, nat_lt, IsNone}
 use Rattle.std.specs.Int.{is_in_range}
 use Rattle.std.specs.Str.{is_utf8, IsAscii}
 use Rattle.std.specs.Str.Lossy.{valid_len_up_to, utf8_valid_len, utf8_error_len, error_len_after_two, error_len_after_one, error_len_of_some}
-use Rattle.std.proofs.lemmas.Bool.{cases_Bool, cases_lt, cond-true, cond-false, cond_both, eqb-true, ltb-true, ltb-false, and_from}
+use Rattle.std.proofs.lemmas.Bool.{cases_Bool, cases_lt, cond-true, cond-false, cond_both, eqb-true, ltb-true, ltb-false, and_from, leb-false, not-true}
 use Rattle.std.proofs.lemmas.Bool.Decides.{nat_tests}
 use Rattle.std.proofs.lemmas.Str.{IsUtf8-from_is_utf8, is_utf8-from_IsUtf8, IsUtf8-append, IsUtf8-drop, IsAscii-append, IsAscii-take, IsUtf8-from_ascii, IsCharBoundary-from_take, length-encode, len_utf8_bounds}
-use Rattle.std.proofs.lemmas.List.{length-take, length-take-le, drop-take, take-take}
+use Rattle.std.proofs.lemmas.List.{length-take, length-take-le, drop-take, take-take, get_or-take, get_or_past}
+use Rattle.std.proofs.lemmas.List.Sums.{prefix_len_passes}
+use Rattle.std.specs.List.{prefix_len}
 use Rattle.compact_codec.specs.Utf8Table.{trailing_bytes, IsInByteRange, IsWellFormedSequence}
 use Rattle.compact_codec.specs.InvalidSequence.{IsLongestValidPrefix, IsPrefixOfSequence, IsUnconvertible, IsMaximalSubpart, IsErrorLen, IsUtf8Error, Utf8ErrorIsUnique}
 use Rattle.compact_codec.proofs.Rows.{character-IsWellFormedSequence}
@@ -335,6 +337,15 @@ longer_ascii bs at n prefix block = subst IsAscii (sym (take-add at n bs)) (IsAs
 
 pub ascii_prefix : (bs : List ℕ) (at last : ℕ) → last ≤ at → IsAscii (take at bs) → IsAscii (take last bs)
 ascii_prefix bs at last order prefix = subst IsAscii (take-take last at bs order) (IsAscii-take (take at bs) last prefix)
+
+-- the lanes of a vector before the first that is not below 128
+pub front_is_ascii : (lanes : List ℕ) (n : ℕ) → n ≡ prefix_len (λ x. not (leb 128 x)) lanes → IsAscii (take n lanes)
+front_is_ascii lanes n counted i = elim (cases_lt i n) [
+  | inl below ↦ subst (λ (x : ℕ). x < 128) (sym (get_or-take n lanes i 0 below)) (leb-false 128 (get_or lanes i 0)
+      (not-true _ (prefix_len_passes (λ x. not (leb 128 x)) lanes i 0 (omega (arith, counted)))))
+  | inr past ↦ subst (λ (x : ℕ). x < 128)
+      (sym (get_or_past (take n lanes) i 0 (omega (arith, length-take n lanes)))) (omega arith)
+]
 
 pub ascii_to_end : (bs : List ℕ) (at last n : ℕ) → last ≤ at → length bs ≤ last + n → IsAscii (take at bs) → IsAscii (take n (drop last bs)) → IsAscii (take (length bs) bs)
 ascii_to_end bs at last n order reaches prefix block =

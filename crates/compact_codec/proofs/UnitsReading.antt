@@ -1,16 +1,13 @@
 -- Units of UTF-16 as characters and unpaired surrogates.
-use Rattle.std.proofs.Common.{rules, ◌≡◌, ℕ, zero, suc, ◌+◌, ◌-◌, ◌*◌, ◌/◌, ◌%◌, ◌^◌, ◌<◌, ◌≤◌, ◌⊎◌, Bool, true, false, not, List, [], ◌∷◌, ◌++◌, map, length, take, drop, get_or, Option, Some, None, refl, sym, ap, subst, ◌∙◌, arith, inl, inr, ⊎_elim, append_assoc, append-nil, length-append, length-drop, take_all, take-append-drop, take-add, drop_at, get_or-drop, Bor}
-use Rattle.std.specs.Prelude.{unwrap_or, is_some, IfNone, slice_get, slice_index}
+use Rattle.std.proofs.Common.{rules, ◌≡◌, ℕ, zero, suc, ◌+◌, ◌-◌, ◌*◌, ◌/◌, ◌%◌, ◌^◌, ◌<◌, ◌≤◌, ◌⊎◌, Bool, true, false, not, List, [], ◌∷◌, ◌++◌, map, length, take, drop, get_or, Option, Some, None, refl, sym, ap, subst, ◌∙◌, arith, inl, inr, ⊎_elim, append_assoc, append-nil, length-append, length-drop, take_all, take-append-drop, take-add, drop_at, get_or-drop, drop-cons, add-one}
+use Rattle.std.specs.Prelude.{unwrap_or, is_some, IfNone, slice_get}
 use Rattle.std.specs.Char.{IsScalar}
 use Rattle.std.specs.Char.Escape.{encode_utf16}
 use Rattle.std.specs.Char.Utf16.{utf16_chars, lone_unit_char, surrogate_pair_char, has_unpaired_surrogate}
 use Rattle.std.specs.List.{flat_map, list_any}
 use Rattle.std.specs.Str.{all_scalars}
 use Rattle.std.proofs.str.Utf16.{IsPair, one_unit, two_units, lone_unit_char_low, lone_unit_char_high, lone_unit_char_surrogate}
-use Rattle.std.proofs.lemmas.Bool.{cases_lt, and_parts, and_from, true≢false, false≢true, ltb-true, ltb-false}
-use Rattle.std.proofs.lemmas.Option.{slice_get_past, slice_get_read}
-use Rattle.std.specs.Option.{option_copied}
-use Rattle.std.specs.Slice.{IsItemAt}
+use Rattle.std.proofs.lemmas.Bool.{cases_lt, and_parts, and_from, true≢false, false≢true}
 use Rattle.std.proofs.lemmas.Str.{utf16_chars-nil, utf16_chars_lone, utf16_chars_pair}
 use lib.Utf8.{scalar, scalar_cases, low_scalar}
 use Rattle.compact_text.specs.Text.{replacement_character}
@@ -294,16 +291,22 @@ pub stopped_step : (units : List ℕ) (at n : ℕ) (o : Option ℕ) → IsUtf16 
 stopped_step units at n None prefix none is = unpaired_after_prefix units at prefix (subst BeginsWithUnpairedSurrogate (from_at units at) is.0)
 stopped_step units at n (Some c) prefix none is = absurd (true≢false none)
 
--- the result of `get`, copied
-pub copied_item : (units : List ℕ) (i : ℕ) (r : Option (Bor ℕ)) → IsItemAt units i r → option_copied r ≡ slice_get units i
-copied_item units i None is = sym (slice_get_past units i (ltb-false _ _ (sym is.0)))
-copied_item units i (Some x) is = sym (slice_get_read units (length units) i x.now refl (ltb-true _ _ (sym is.0)) is.1)
+-- the unit after the first, if there is one
+pub unit_after : (units : List ℕ) (i : ℕ) (o : Option ℕ) → (i < length units → o ≡ Some (get_or units i 0))
+    → (length units ≤ i → o ≡ None) → slice_get (drop i units) 0 ≡ o
+unit_after [] zero o some none = sym (none (omega arith))
+unit_after [] (suc i) o some none = sym (none (omega arith))
+unit_after (u ∷ units) zero o some none = sym (some (omega arith))
+unit_after (u ∷ units) (suc i) o some none = unit_after units i o (λ h. some (omega arith)) (λ h. none (omega arith))
 
--- the step at the start, from the first unit and the second, if any
-pub step_at_start : (units : List ℕ) (second o : Option ℕ) (n : ℕ) → 0 < length units → second ≡ slice_get units 1
-    → ((rest : List ℕ) → slice_get rest 0 ≡ second → IsUtf16Step (slice_index units 0 ∷ rest) o n) → IsUtf16Step units o n
-step_at_start [] second o n some is known = absurd (omega arith)
-step_at_start (u ∷ units) second o n some is known = known units (sym is)
+-- the step at a place
+pub step_in : (units : List ℕ) (at u : ℕ) (second o : Option ℕ) (n : ℕ) → at < length units → u ≡ get_or units at 0
+    → slice_get (drop (at + 1) units) 0 ≡ second
+    → ((rest : List ℕ) → slice_get rest 0 ≡ second → IsUtf16Step (u ∷ rest) o n) → IsUtf16Step (drop at units) o n
+step_in units at u second o n within is known step =
+    let parts : drop at units ≡ u ∷ drop (at + 1) units =
+    rw add-one (drop-cons units at 0 within) ∙ ap (λ v. v ∷ drop (at + 1) units) (sym is) in
+    subst (λ l. IsUtf16Step l o n) (sym parts) (step (drop (at + 1) units) known)
 
 -- std's test for unpaired surrogates
 

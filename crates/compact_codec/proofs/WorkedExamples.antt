@@ -13,7 +13,7 @@ use Rattle.compact_codec.specs.Utf8Table.{IsWellFormedSequence}
 use Rattle.compact_codec.specs.InvalidSequence.{IsUtf8Error}
 use Rattle.compact_codec.specs.Utf8Text.{BytesEncode, utf8_lossy_text, IsUtf8LossyText, BeginsWithChunk}
 use Rattle.compact_codec.specs.Utf16Text.{utf16, UnitsEncode, IsUtf16, IsUtf16Step, utf16_lossy_text}
-use Rattle.compact_codec.specs.Utf16Bytes.{unit_bytes, units_of, IsUtf16Bytes, IsUtf16BytesStep, utf16_bytes_lossy_text}
+use Rattle.compact_codec.specs.Utf16Bytes.{unit_bytes, units_of, IsUtf16Bytes, utf16_bytes_lossy_text}
 use Rattle.compact_codec.proofs.Beginnings.{begins_well_formed, two_from}
 use Rattle.compact_codec.proofs.Parts.{error_is}
 use Rattle.compact_codec.proofs.LossyReading.{utf8_lossy_text_is, invalid_chunk}
@@ -202,12 +202,6 @@ step_of_pair = (refl, omega arith, refl)
 
 step_of_unpaired : IsUtf16Step (0xDC00 ∷ 0x0041 ∷ []) None 1
 step_of_unpaired = (inl (omega arith, omega arith), refl)
-
-step_of_pair_bytes : IsUtf16BytesStep LittleEndian (0x34 ∷ 0xD8 ∷ 0x1E ∷ 0xDD ∷ 0x41 ∷ []) (Some 0x1D11E) 4
-step_of_pair_bytes = (refl, omega arith, tt, refl)
-
-step_of_odd_byte : IsUtf16BytesStep LittleEndian (0x41 ∷ []) None 1
-step_of_odd_byte = inr (refl, refl)
 
 pair_bytes_are_text : IsUtf16Bytes BigEndian (0xD8 ∷ 0x34 ∷ 0xDD ∷ 0x1E ∷ [])
 pair_bytes_are_text = (tt, pair_is_text)

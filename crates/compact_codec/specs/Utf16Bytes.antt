@@ -1,12 +1,10 @@
 -- Bytes as units of UTF-16, two a unit (Unicode Standard, 3.10, D96 UTF-16BE and D97 UTF-16LE).
-use Rattle.std.specs.Prelude.{◌≡◌, ◌↔◌, ◌⊎◌, ℕ, ◌+◌, ◌*◌, ◌/◌, ◌%◌, ◌<◌, ◌≤◌, List, [], ◌∷◌, ◌++◌, length, take, Option, Some, None, All}
-use Rattle.std.specs.Char.{IsScalar}
-use Rattle.std.specs.Char.Escape.{encode_utf16}
+use Rattle.std.specs.Prelude.{◌≡◌, ◌↔◌, ℕ, ◌+◌, ◌*◌, ◌/◌, ◌%◌, ◌<◌, List, [], ◌∷◌, ◌++◌, All}
 use Rattle.std.specs.List.{flat_map}
 use Rattle.compact_codec.specs.declared.utf16_bytes.ByteOrder.{ByteOrder}
 use Rattle.compact_codec.specs.declared.utf16_bytes.ByteOrder.TheVariants.{LittleEndian, BigEndian}
 use Rattle.compact_text.specs.Text.{replacement_character}
-use Rattle.compact_codec.specs.Utf16Text.{UnitsEncode, IsUtf16, BeginsWithUnpairedSurrogate, IsUtf16LossyText, utf16_lossy_text}
+use Rattle.compact_codec.specs.Utf16Text.{UnitsEncode, IsUtf16, IsUtf16LossyText, utf16_lossy_text}
 
 -- the unit of two bytes: the low byte is first in little-endian order, the high byte in big-endian order
 abbrev pub unit_of : ByteOrder → ℕ → ℕ → ℕ
@@ -45,17 +43,6 @@ IsUtf16BytesLossyText order bytes text =
 
 unfoldable pub utf16_bytes_lossy_text : ByteOrder → List ℕ → List ℕ
 utf16_bytes_lossy_text order bytes = utf16_lossy_text (units_of order bytes) ++ odd_byte_text bytes
-
--- the first n bytes are an unpaired surrogate, or the odd last byte
-abbrev pub BeginsWithInvalidBytes : ByteOrder → List ℕ → ℕ → Type 0
-BeginsWithInvalidBytes order bytes n =
-    (BeginsWithUnpairedSurrogate (units_of order bytes) × (n ≡ 2)) ⊎ ((length bytes ≡ 1) × (n ≡ 1))
-
--- the first n bytes are this character, or invalid
-abbrev pub IsUtf16BytesStep : ByteOrder → List ℕ → Option ℕ → ℕ → Type 0
-IsUtf16BytesStep order bytes (Some c) n =
-    IsScalar c × (n ≤ length bytes) × ArePairs (take n bytes) × (units_of order (take n bytes) ≡ encode_utf16 c)
-IsUtf16BytesStep order bytes None n = BeginsWithInvalidBytes order bytes n
 
 abbrev pub AreBytes : List ℕ → Type 0
 AreBytes bytes = All (λ b. b < 256) bytes

@@ -1,8 +1,50 @@
 //! 16-bit units read as UTF-16 (Unicode Standard, 3.9).
-ghost use Rattle.std.specs.Prelude.{◌≡◌, ◌↔◌, ◌<◌, ◌≤◌, ◌∷◌, ℕ, List, drop, length, unwrap_or, slice_get, IfNone, IsTrue};
+ghost use Rattle.std.specs.Prelude.{◌≡◌, ◌↔◌, ◌+◌, ◌^◌, ◌<◌, ◌≤◌, ◌∷◌, ℕ, List, take, drop, length, unwrap_or, slice_get, slice_index, IfNone, IsTrue};
 ghost use Rattle.compact_text.specs.Text.{replacement_character};
 ghost use Rattle.std.specs.Char.Utf16.{is_high_surrogate, is_low_surrogate};
 ghost use Rattle.compact_codec.specs.Utf16Text.{IsUtf16, IsUtf16Step, utf16_lossy_text, UnitsEncodeOneText, Utf16HasNoUnpairedSurrogate, Utf16LossyTextIsUnique, Utf16LossyTextOfText};
+
+use std::simd::prelude::*;
+
+/// UTF-16 units that are read by position: those of a slice, or pairs of bytes.
+pub trait Units: Copy {
+    // The units.
+    ghost units: { Self → List ℕ };
+
+    /// Returns the number of units.
+    fn len(self) -> usize
+        ensures len { result ≡ length (units self) }
+        ensures few { result < 2 ^ 62 };
+
+    /// Returns the unit at `at`.
+    fn unit(self, at: usize) -> u16
+        requires { at < length (units self) }
+        ensures { result ≡ slice_index (units self) at };
+
+    /// Returns the 16 units from `at` on.
+    fn block(self, at: usize) -> u16x16
+        requires { at + 16 ≤ length (units self) }
+        ensures { result ≡ take 16 (drop at (units self)) };
+}
+
+impl Units for &[u16] {
+    ghost units = { λ s. s.now };
+
+    #[inline]
+    fn len(self) -> usize {
+        <[u16]>::len(self)
+    }
+
+    #[inline]
+    fn unit(self, at: usize) -> u16 {
+        self[at]
+    }
+
+    #[inline]
+    fn block(self, at: usize) -> u16x16 {
+        u16x16::from_slice(&self[at..])
+    }
+}
 
 /// One step of a decoder.
 #[derive(Clone, Copy, Debug, PartialEq, Eq)]
@@ -43,27 +85,30 @@ pub(crate) fn step_over(first: u16, second: Option<u16>) -> Utf16Step
     }
 }
 
-/// Decodes the first character, or returns `None` for an unpaired surrogate, of one unit.
+/// Decodes the character at `at`, or returns `None` for an unpaired surrogate, of one unit.
 ///
 /// # Examples
 ///
-/// `[0xD834, 0xDD1E]` is U+1D11E, of two units. `[0xD834, 0x0041]` begins with an unpaired surrogate.
+/// `[0xD834, 0xDD1E]` begins with U+1D11E, of two units. `[0xD834, 0x0041]` begins with an unpaired surrogate.
 #[inline]
-pub fn first_character(units: &[u16]) -> Utf16Step
-    requires { 0 < length units.now }
-    ensures step { IsUtf16Step units.now result.character result.taken }
-    ensures taken { (0 < result.taken) × (result.taken ≤ length units.now) }
+pub fn character_at<U: Units>(units: U, at: usize) -> Utf16Step
+    requires { at < length (U.units units) }
+    ensures taken { (0 < result.taken) × (at + result.taken ≤ length (U.units units)) }
     ensures few { result.taken ≤ 2 }
-    ensures lossy { utf16_lossy_text units.now
+    ensures lossy { utf16_lossy_text (drop at (U.units units))
         ≡ unwrap_or result.character replacement_character
-        ∷ utf16_lossy_text (drop result.taken units.now) }
-    ensures invalid { IfNone result.character (¬ (IsUtf16 units.now)) }
+        ∷ utf16_lossy_text (drop (at + result.taken) (U.units units)) }
 {
-    step_over(units[0], units.get(1).copied())
+    let len = units.len();
+    let second = if at + 1 < len {
+        Some(units.unit(at + 1))
+    } else {
+        None
+    };
+    step_over(units.unit(at), second)
 }
 
-/// Returns `true` if the units encode a text, that is, if no surrogate is unpaired. Never exits early, so that the loop
-/// vectorizes.
+/// Returns `true` if the units encode a text, that is, if no surrogate is unpaired.
 ///
 /// # Examples
 ///
@@ -71,11 +116,21 @@ pub fn first_character(units: &[u16]) -> Utf16Step
 pub fn is_utf16(units: &[u16]) -> bool
     ensures { IsTrue result ↔ IsUtf16 units.now }
 {
+    are_paired(units)
+}
+
+/// Returns `true` if no surrogate is unpaired. Never exits early, so that the loop vectorizes.
+pub fn are_paired<U: Units>(units: U) -> bool
+    ensures { IsTrue result ↔ IsUtf16 (U.units units) }
+{
     let mut after_high = false;
     let mut unpaired = false;
-    for &unit in units {
+    let mut at = 0;
+    while at < units.len() {
+        let unit = units.unit(at);
         unpaired |= after_high ^ is_low(unit);
         after_high = is_high(unit);
+        at += 1;
     }
     !unpaired && !after_high
 }

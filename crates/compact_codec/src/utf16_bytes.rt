@@ -1,9 +1,10 @@
 //! Bytes read as UTF-16, two bytes a unit; a byte order mark is a character (Unicode Standard, 3.10).
-ghost use Rattle.std.specs.Prelude.{◌≡◌, ◌↔◌, ◌<◌, ◌≤◌, ◌∷◌, drop, length, unwrap_or, slice_get, IsSome, IfNone, IsTrue};
-ghost use Rattle.compact_text.specs.Text.{replacement_character};
-ghost use Rattle.compact_codec.specs.Utf16Bytes.{unit_of, units_of, IsUtf16Bytes, IsUtf16BytesStep, utf16_bytes_lossy_text, PairsAreTheUnits, Utf16BytesLossyTextIsUnique, Utf16BytesLossyTextOfText};
+ghost use Rattle.std.specs.Prelude.{◌≡◌, ◌↔◌, ◌<◌, ℕ, slice_index, IsTrue};
+ghost use Rattle.compact_codec.specs.declared.utf16_bytes.ByteOrder.TheVariants.{LittleEndian, BigEndian};
+ghost use Rattle.compact_codec.specs.Utf16Bytes.{unit_of, units_of, IsUtf16Bytes, PairsAreTheUnits, Utf16BytesLossyTextIsUnique, Utf16BytesLossyTextOfText};
 
-use crate::utf16::{Utf16Step, step_over};
+use crate::utf16::{Units, are_paired};
+use std::simd::prelude::*;
 
 /// The order of the two bytes of a unit.
 #[derive(Clone, Copy, Debug, PartialEq, Eq)]
@@ -31,45 +32,82 @@ impl ByteOrder {
     }
 }
 
-/// Returns the first unit, or `None` if fewer than two bytes are left.
-#[inline]
-fn first_code_unit(order: ByteOrder, bytes: &[u8]) -> Option<u16>
-    ensures unit { result ≡ slice_get (units_of order bytes.now) 0 }
-    ensures some { IsSome result ↔ (2 ≤ length bytes.now) }
-{
-    if bytes.len() < 2 {
-        return None;
-    }
-    Some(order.code_unit(bytes[0], bytes[1]))
+/// Pairs of bytes, the low byte first. An odd last byte is no unit.
+#[derive(Clone, Copy)]
+pub struct LowFirst<'a> {
+    bytes: &'a [u8],
+    ghost fit: { (i : ℕ) → slice_index bytes.now i < 256 },
 }
 
-/// Decodes the first character, or returns `None` for an unpaired surrogate, of two bytes, or an odd last byte.
-///
-/// # Examples
-///
-/// In little-endian order `3D D8 6F` begins with an unpaired surrogate of two bytes, and ends with an odd byte.
-#[inline]
-pub fn first_character(order: ByteOrder, bytes: &[u8]) -> Utf16Step
-    requires { 0 < length bytes.now }
-    ensures step { IsUtf16BytesStep order bytes.now result.character result.taken }
-    ensures taken { (0 < result.taken) × (result.taken ≤ length bytes.now) }
-    ensures few { result.taken ≤ 4 }
-    ensures lossy { utf16_bytes_lossy_text order bytes.now
-        ≡ unwrap_or result.character replacement_character
-        ∷ utf16_bytes_lossy_text order (drop result.taken bytes.now) }
-    ensures invalid { IfNone result.character (¬ (IsUtf16Bytes order bytes.now)) }
-{
-    let Some(first) = first_code_unit(order, bytes) else {
-        return Utf16Step {
-            character: None,
-            taken: 1,
-        };
-    };
-    let second = first_code_unit(order, &bytes[2..]);
-    let step = step_over(first, second);
-    Utf16Step {
-        character: step.character,
-        taken: 2 * step.taken,
+impl<'a> LowFirst<'a> {
+    /// Reads pairs of bytes.
+    #[inline]
+    pub fn new(bytes: &'a [u8]) -> Self
+        ensures { result.bytes.now ≡ bytes.now }
+    {
+        LowFirst { bytes }
+    }
+}
+
+impl Units for LowFirst<'_> {
+    ghost units = { λ s. units_of LittleEndian s.bytes.now };
+
+    #[inline]
+    #[tactic(auto, using(crate::proofs::PairsReading::units_count))]
+    fn len(self) -> usize {
+        self.bytes.len() / 2
+    }
+
+    #[inline]
+    #[tactic(auto, using(crate::proofs::PairsReading::units_count))]
+    fn unit(self, at: usize) -> u16 {
+        ByteOrder::LittleEndian.code_unit(self.bytes[2 * at], self.bytes[2 * at + 1])
+    }
+
+    #[inline]
+    #[tactic(auto, using(crate::proofs::PairsReading::units_count))]
+    fn block(self, at: usize) -> u16x16 {
+        u16x16::from_le_bytes(u8x32::from_slice(&self.bytes[2 * at..]))
+    }
+}
+
+/// Pairs of bytes, the high byte first. An odd last byte is no unit.
+#[derive(Clone, Copy)]
+pub struct HighFirst<'a> {
+    bytes: &'a [u8],
+    ghost fit: { (i : ℕ) → slice_index bytes.now i < 256 },
+}
+
+impl<'a> HighFirst<'a> {
+    /// Reads pairs of bytes.
+    #[inline]
+    pub fn new(bytes: &'a [u8]) -> Self
+        ensures { result.bytes.now ≡ bytes.now }
+    {
+        HighFirst { bytes }
+    }
+}
+
+impl Units for HighFirst<'_> {
+    ghost units = { λ s. units_of BigEndian s.bytes.now };
+
+    #[inline]
+    #[tactic(auto, using(crate::proofs::PairsReading::units_count))]
+    fn len(self) -> usize {
+        self.bytes.len() / 2
+    }
+
+    #[inline]
+    #[tactic(auto, using(crate::proofs::PairsReading::units_count))]
+    fn unit(self, at: usize) -> u16 {
+        ByteOrder::BigEndian.code_unit(self.bytes[2 * at], self.bytes[2 * at + 1])
+    }
+
+    #[inline]
+    #[tactic(auto, using(crate::proofs::PairsReading::units_count))]
+    fn block(self, at: usize) -> u16x16 {
+        let swapped = u16x16::from_le_bytes(u8x32::from_slice(&self.bytes[2 * at..]));
+        (swapped << u16x16::splat(8)) | (swapped >> u16x16::splat(8))
     }
 }
 
@@ -81,15 +119,13 @@ pub fn first_character(order: ByteOrder, bytes: &[u8]) -> Utf16Step
 pub fn is_utf16(order: ByteOrder, bytes: &[u8]) -> bool
     ensures { IsTrue result ↔ IsUtf16Bytes order bytes.now }
 {
-    let mut at = 0;
-    while at < bytes.len() {
-        let step = first_character(order, &bytes[at..]);
-        if step.character.is_none() {
-            return false;
-        }
-        at += step.taken;
+    if bytes.len() % 2 != 0 {
+        return false;
     }
-    true
+    match order {
+        ByteOrder::LittleEndian => are_paired(LowFirst::new(bytes)),
+        ByteOrder::BigEndian => are_paired(HighFirst::new(bytes)),
+    }
 }
 
 /// A law: units written as bytes read back as those units, and pairs of bytes are those of their units.

@@ -43,7 +43,7 @@ pub fn validate(bytes: &[u8]) -> Result<&str, Utf8Error>
     }
     let letters = ascii_prefix_len(bytes);
     if letters < bytes.len() {
-        return validate_in_windows(bytes, letters);
+        return validate_long(bytes, letters);
     }
     Ok(unsafe { std::str::from_utf8_unchecked(bytes) })
 }
@@ -64,8 +64,8 @@ pub fn is_utf8(bytes: &[u8]) -> bool
     validate(bytes).is_ok()
 }
 
-/// `validate` of fewer bytes. Not inlined, so that `validate` of many bytes saves no registers for it.
-#[inline(never)]
+/// `validate` of fewer bytes. Always inlined, so that a short ASCII text takes no call.
+#[inline(always)]
 fn validate_short(bytes: &[u8]) -> Result<&str, Utf8Error>
     requires { length bytes.now < 64 }
     ensures { Validates bytes.now result }
@@ -77,7 +77,7 @@ fn validate_short(bytes: &[u8]) -> Result<&str, Utf8Error>
 }
 
 /// Returns `true` if the bytes are found to be ASCII; `false` for fewer than 4 bytes.
-#[inline]
+#[inline(always)]
 fn is_short_ascii(bytes: &[u8]) -> bool
     requires { length bytes.now < 64 }
     ensures { IsTrue result → IsUtf8 bytes.now }
@@ -149,33 +149,50 @@ fn is_ascii_block(block: u8x64) -> bool
     block.simd_ge(u8x64::splat(0x80)).to_bitmask() == 0
 }
 
-/// `validate`, given that the bytes before `at` are valid. Validates window by window.
-fn validate_in_windows(bytes: &[u8], at: usize) -> Result<&str, Utf8Error>
+/// `validate`, given that the bytes before `at` are valid. Validates large windows, and the first invalid one again in
+/// small windows.
+fn validate_long(bytes: &[u8], at: usize) -> Result<&str, Utf8Error>
     requires within { at ≤ length bytes.now }
     requires text { IsUtf8 (take at bytes.now) }
     ensures { Validates bytes.now result }
 {
-    let end = valid_len_in_windows(bytes, at);
-    if end < bytes.len() {
-        return validate_onward(bytes, end);
-    }
-    Ok(unsafe { std::str::from_utf8_unchecked(bytes) })
+    validate_in_windows(
+        bytes,
+        valid_len_in_windows(bytes, at, MAX_WINDOW_LEN),
+        BLOCK_LEN,
+    )
 }
 
-/// Returns the length of a valid prefix, in whole windows, given that the bytes before `from` are valid.
-fn valid_len_in_windows(bytes: &[u8], from: usize) -> usize
+/// `validate`, given that the bytes before `at` are valid. Validates windows of `width` bytes, each twice as wide as the
+/// one before, and from the first invalid one on in order, which is at most some twice the bytes before the error.
+fn validate_in_windows(bytes: &[u8], at: usize, width: usize) -> Result<&str, Utf8Error>
+    requires within { at ≤ length bytes.now }
+    requires text { IsUtf8 (take at bytes.now) }
+    requires wide { (64 ≤ width) × (width ≤ 8192) }
+    ensures { Validates bytes.now result }
+{
+    validate_from(bytes, valid_len_in_windows(bytes, at, width))
+}
+
+/// Returns the length of a valid prefix, in whole windows, given that the bytes before `from` are valid. The first
+/// window has `least` bytes, and each further one twice as many as the one before, up to `MAX_WINDOW_LEN`.
+fn valid_len_in_windows(bytes: &[u8], from: usize, least: usize) -> usize
     requires within { from ≤ length bytes.now }
     requires text { IsUtf8 (take from bytes.now) }
+    requires wide { (64 ≤ least) × (least ≤ 8192) }
     ensures within { result ≤ length bytes.now }
     ensures text { IsUtf8 (take result bytes.now) }
 {
     let mut at = from;
+    let mut width = least;
     while bytes.len() - at >= BLOCK_LEN {
-        let end = window_end(bytes, at, MAX_WINDOW_LEN);
-        if !simdutf8::is_utf8(&bytes[at..end]) {
+        let end = window_end(bytes, at, width);
+        let window = &bytes[at..end];
+        if !simdutf8::is_utf8(window) {
             break;
         }
         at = end;
+        width = (2 * width).min(MAX_WINDOW_LEN);
     }
     at
 }
@@ -203,65 +220,36 @@ fn back_in_character(bytes: &[u8], at: usize) -> usize
     if bytes[at] & 0xC0 == 0x80 { at - 1 } else { at }
 }
 
-/// `validate`, given that the bytes before `at` are valid and an error is likely to come soon.
+/// `validate`, given that an error is likely to come soon. Validates windows only if the block after the first ASCII
+/// bytes looks valid.
 #[inline]
-fn validate_onward(bytes: &[u8], at: usize) -> Result<&str, Utf8Error>
-    requires within { at ≤ length bytes.now }
-    requires text { IsUtf8 (take at bytes.now) }
+fn validate_to_error(bytes: &[u8]) -> Result<&str, Utf8Error>
     ensures { Validates bytes.now result }
 {
-    validate_from(bytes, valid_len_before_error(bytes, at))
+    if bytes.len() < BLOCK_LEN {
+        return validate_in_order(bytes);
+    }
+    let letters = ascii_len(bytes);
+    let at = valid_len_by_guess(bytes, letters);
+    if at - letters < BLOCK_LEN - 4 {
+        return validate_from(bytes, at);
+    }
+    validate_in_windows(bytes, at, BLOCK_LEN)
 }
 
-/// Returns the length of a valid prefix, given that the bytes before `from` are valid. If twice the next `BLOCK_LEN`
-/// bytes look valid, doubles the windows while they are, so that it validates only a few times the bytes before the
-/// error.
-fn valid_len_before_error(bytes: &[u8], from: usize) -> usize
-    requires within { from ≤ length bytes.now }
-    requires text { IsUtf8 (take from bytes.now) }
-    ensures within { result ≤ length bytes.now }
+/// Returns the length of the ASCII prefix of the first block.
+#[inline]
+fn ascii_len(bytes: &[u8]) -> usize
+    requires { 64 ≤ length bytes.now }
+    ensures few { result ≤ 64 }
     ensures text { IsUtf8 (take result bytes.now) }
 {
-    let mut at = valid_len_by_guess(bytes, valid_len_by_guess(bytes, from));
-    if at - from < 2 * (BLOCK_LEN - 4) {
-        return at;
-    }
-    let mut width = BLOCK_LEN;
-    while bytes.len() - at >= BLOCK_LEN {
-        let end = window_end(bytes, at, width);
-        let window = &bytes[at..end];
-        if !simdutf8::is_utf8(window) {
-            break;
-        }
-        at = end;
-        width = (2 * width).min(MAX_WINDOW_LEN);
-    }
-    valid_len_by_halves(bytes, at, width / 2)
+    let others = u8x64::from_slice(bytes).simd_ge(u8x64::splat(0x80));
+    others.to_bitmask().trailing_zeros() as usize
 }
 
-/// The same, given that the window from `from` on is invalid and `most` is half its width. Validates each half, or
-/// leaves it to the next.
-fn valid_len_by_halves(bytes: &[u8], from: usize, most: usize) -> usize
-    requires within { from ≤ length bytes.now }
-    requires text { IsUtf8 (take from bytes.now) }
-    requires wide { most ≤ 8192 }
-    ensures within { result ≤ length bytes.now }
-    ensures text { IsUtf8 (take result bytes.now) }
-{
-    let mut at = from;
-    let mut width = most;
-    while width >= BLOCK_LEN && bytes.len() - at >= BLOCK_LEN {
-        let end = window_end(bytes, at, width);
-        let half = &bytes[at..end];
-        if simdutf8::is_utf8(half) {
-            at = end;
-        }
-        width /= 2;
-    }
-    valid_len_by_guess(bytes, at)
-}
-
-/// The same, for a correct guess at the next `BLOCK_LEN` bytes.
+/// Returns the length of a valid prefix, given that the bytes before `from` are valid: to the end of a correct guess at
+/// the next `BLOCK_LEN` bytes, or else to `from`.
 fn valid_len_by_guess(bytes: &[u8], from: usize) -> usize
     requires within { from ≤ length bytes.now }
     requires text { IsUtf8 (take from bytes.now) }
@@ -400,7 +388,7 @@ pub fn first_chunk(bytes: &[u8]) -> Utf8Chunk<'_>
     ensures whole { length result.invalid.now ≡ 0 → length result.rest.now ≡ 0 }
     ensures shorter { 0 < length bytes.now → length result.rest.now < length bytes.now }
 {
-    match validate_onward(bytes, 0) {
+    match validate_to_error(bytes) {
         Ok(valid) => Utf8Chunk {
             valid,
             invalid: &[],

@@ -68,7 +68,7 @@ pub reach_at : (units : List ℕ) (at n : ℕ) → at ≤ length units → n ≤
 reach_at units at n from within = omega (arith, from, within, ap length (from_at units at), length-drop at units)
 
 -- a unit that is no surrogate is a character
-own_step : (u : ℕ) (units : List ℕ) → IsScalar u → u < 0x1_0000 → utf16_lossy_text (u ∷ units) ≡ u ∷ utf16_lossy_text units
+pub own_step : (u : ℕ) (units : List ℕ) → IsScalar u → u < 0x1_0000 → utf16_lossy_text (u ∷ units) ≡ u ∷ utf16_lossy_text units
 own_step u units is one = utf16_lossy_text-step (u ∷ units) (Some u) 1 (is, omega arith, sym (one_unit u one))
 
 pub unit_at : (units : List ℕ) (at u : ℕ) → at < length units → u ≡ get_or units at 0 → u < 0x1_0000 → is_in_range 0xD800 0xDFFF u ≡ false

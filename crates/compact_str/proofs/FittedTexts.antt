@@ -1,9 +1,8 @@
 -- A value that is collected stays placed by its size.
-use Rattle.std.proofs.Common.{◌≡◌, ℕ, ◌+◌, ◌<◌, ◌≤◌, List, [], ◌∷◌, ◌++◌, length, false, refl, subst, sym, ap, ◌∙◌, arith, append_assoc, inl, inr}
+use Rattle.std.proofs.Common.{append-nil, ◌%◌, ◌≡◌, ℕ, ◌+◌, ◌<◌, ◌≤◌, List, [], ◌∷◌, ◌++◌, length, false, refl, subst, sym, ap, ◌∙◌, arith, append_assoc, inl, inr}
 use Rattle.std.proofs.lemmas.Grind.{common_steps}
 use Rattle.std.proofs.lemmas.Bool.{cases_lt, true≢false}
 use Rattle.std.specs.Prelude.{Result, Ok, Err, IsErr}
-use Rattle.std.specs.Char.{len_utf8}
 use Rattle.std.specs.Str.{chars, IsUtf8}
 use Rattle.std.proofs.lemmas.Str.{encodes-chars, scalars-chars}
 use Rattle.compact_text.proofs.TextFacts.{text_facts}
@@ -12,6 +11,10 @@ use Rattle.compact_repr.specs.Value.{PlacedText, placed_text, heap, is_heap_plac
 use Rattle.compact_repr.specs.Capacity.{Growth, inline_placement, from_string_placement, IsPlacedAsNew, PlacedFor, room, room_to_append}
 use Rattle.compact_text.proofs.Texts.{size-append, size-text_of}
 use Rattle.compact_text.specs.Text.{replacement_character}
+use Rattle.compact_codec.specs.declared.utf16_bytes.ByteOrder.{ByteOrder}
+use Rattle.compact_codec.specs.Utf16Text.{utf16_lossy_text}
+use Rattle.compact_codec.specs.Utf16Bytes.{units_of, odd_byte_text, utf16_bytes_lossy_text}
+use Rattle.compact_codec.proofs.PairsReading.{bytes_text, odd_bytes_text}
 use Rattle.compact_codec.specs.Utf8Text.{BytesEncode, replacement_text}
 use Rattle.compact_codec.proofs.LossyReading.{replacement_text-some}
 use Rattle.compact_str.specs.Room.{IsPlacedBySize}
@@ -85,14 +88,32 @@ part-refused t a rest bytes r h e is more = refused-fitted t r h (part-asks t a 
 
 pub ruleset decoded_part_facts = (text_facts, part-asks)
 
--- the same of the first character of the rest
-pub first-refused : {E : Type 0} (t a left rest : List ℕ) (c d : ℕ) (r : Result PlacedText E) → IsErr r → a ++ left ≡ t → left ≡ d ∷ rest → c ≡ d
-    → 24 < size a + len_utf8 c → MakesText t r
-first-refused t a left rest c d r h e l same more = refused-fitted t r h (part-asks t a (d ∷ []) rest (len_utf8 c) (ap (λ (x : List ℕ). a ++ x) (sym l) ∙ e) (rw same (omega arith)) more)
+-- pairs of bytes, and U+FFFD for an odd last byte
+pub bytes_refused : {E : Type 0} (order : ByteOrder) (bytes : List ℕ) (r : Result PlacedText E) → IsErr r
+    → 24 < size (utf16_lossy_text (units_of order bytes)) → MakesText (utf16_bytes_lossy_text order bytes) r
+bytes_refused order bytes r h more =
+    refused-fitted _ r h (part-asks _ [] (utf16_lossy_text (units_of order bytes)) (odd_byte_text bytes) _ (sym (bytes_text order bytes)) refl (omega (arith, more)))
 
 mark-text : text_of (0xEF ∷ 0xBF ∷ 0xBD ∷ []) ≡ replacement_character ∷ []
 unfolding chars
 mark-text = refl
+
+odd_byte_made : (order : ByteOrder) (bytes a : List ℕ) → a ≡ utf16_lossy_text (units_of order bytes) → (length bytes % 2 ≡ 0 → ⊥)
+    → a ++ text_of (0xEF ∷ 0xBF ∷ 0xBD ∷ []) ≡ utf16_bytes_lossy_text order bytes
+odd_byte_made order bytes a e odd = (λ i. e i ++ mark-text i) ∙ sym (odd_bytes_text order bytes odd)
+
+pub odd_byte_refused : {E : Type 0} (order : ByteOrder) (bytes a : List ℕ) (r : Result PlacedText E) → IsErr r
+    → a ≡ utf16_lossy_text (units_of order bytes) → (length bytes % 2 ≡ 0 → ⊥) → 24 < size a + 3
+    → MakesText (utf16_bytes_lossy_text order bytes) r
+unfolding lib.Utf8.encode
+odd_byte_refused order bytes a r h e odd more =
+    let mark = 0xEF ∷ 0xBF ∷ 0xBD ∷ [] in
+    part-refused _ a [] mark r h (ap (λ t. a ++ t) (append-nil (text_of mark)) ∙ odd_byte_made order bytes a e odd)
+    (0xFFFD ∷ [], (refl, refl)) more
+
+pub odd_byte_read : (order : ByteOrder) (bytes a new : List ℕ) → a ≡ utf16_lossy_text (units_of order bytes) → (length bytes % 2 ≡ 0 → ⊥)
+    → new ≡ a ++ text_of (0xEF ∷ 0xBF ∷ 0xBD ∷ []) → new ≡ utf16_bytes_lossy_text order bytes
+odd_byte_read order bytes a new e odd n = n ∙ odd_byte_made order bytes a e odd
 
 -- a valid prefix and U+FFFD for the invalid sequence after it were appended
 pub chunk-read : (whole old half new front invalid rest more : List ℕ) → old ++ (front ++ (replacement_text invalid ++ rest)) ≡ whole → 0 < length invalid

@@ -5,6 +5,7 @@ pub mod Drains
 pub mod Kept
 pub mod Repeats
 pub mod Utf8Errors
+pub mod AsciiUnits
 pub mod FilledRows
 pub mod FittedTexts
 pub mod EditFacts

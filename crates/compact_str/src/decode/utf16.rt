@@ -2,18 +2,17 @@
 ghost use Rattle.std.specs.Prelude.{◌<◌, ◌≤◌, ℕ, List, IfOk, IfErr, IsOk};
 ghost use Rattle.compact_str.specs.Words.{INLINE_CAPACITY, size};
 ghost use Rattle.compact_codec.specs.Utf16Text.{UnitsEncode, utf16_lossy_text};
-ghost use Rattle.compact_codec.specs.Utf16Bytes.{utf16_bytes_lossy_text};
+ghost use Rattle.compact_codec.specs.Utf16Bytes.{units_of, utf16_bytes_lossy_text};
 ghost use Rattle.compact_codec.specs.declared.utf16_bytes.ByteOrder.TheVariants.{LittleEndian, BigEndian};
 ghost use Rattle.compact_str.specs.Room.{IsPlacedBySize};
 ghost use Rattle.compact_str.specs.Decoding.{MakesText, IsUtf16Refusal, IsUtf16BytesRefusal, PairsEncode};
 
-use crate::builder::{Builder, COLLECTED};
 use crate::decode::error::{FromUtf16Error, Utf16Error};
-use crate::decode::push_fitted;
 use crate::decode::utf16_block::{ROW, fill, utf8_room};
+use crate::decode::{REPLACEMENT, push_fitted};
 use crate::string::{CompactString, PolicyString};
-use compact_codec::utf16;
-use compact_codec::utf16_bytes::{self, ByteOrder};
+use compact_codec::utf16::{self, Units};
+use compact_codec::utf16_bytes::{self, ByteOrder, HighFirst, LowFirst};
 use compact_repr::{ReserveError, Standard};
 use std::alloc::Global;
 
@@ -67,26 +66,11 @@ impl PolicyString<Standard> {
     /// let name = CompactString::from_utf16_lossy(alloc, &[0xD834, 0x41])?;
     /// assert_eq!(rt; name.as_str(), "\u{FFFD}A");
     /// ```
-    #[tactic(auto, using(compact_codec::proofs::ForDecoders::lossy_decoding, crate::proofs::FittedTexts::decoded_part_facts))]
     pub fn from_utf16_lossy(alloc: Global, units: &[u16]) -> Result<CompactString, ReserveError>
         // As `from_utf8_lossy`.
         ensures { MakesText (utf16_lossy_text units.now) result }
     {
-        let mut made = CompactString::default(alloc);
-        let mut row = [0; ROW];
-        let mut rest = units;
-        while !rest.is_empty() {
-            let filled = fill(&mut row, rest);
-            rest = &rest[filled.taken..];
-            let room = if made.is_heap_allocated() {
-                0
-            } else {
-                utf8_room(rest)
-            };
-            let text = unsafe { std::str::from_utf8_unchecked(&row[..filled.len]) };
-            push_fitted(&mut made, text, room)?;
-        }
-        Ok(made)
+        from_units_lossy(alloc, units)
     }
 
     /// Like [`from_utf16`](Self::from_utf16), from pairs of bytes, the low byte first. Keeps a byte order mark.
@@ -205,7 +189,6 @@ fn from_bytes(
 }
 
 /// Converts pairs of bytes, replacing what is invalid with U+FFFD.
-#[tactic(auto, using(compact_codec::proofs::ForDecoders::lossy_decoding))]
 fn from_bytes_lossy(
     alloc: Global,
     order: ByteOrder,
@@ -213,12 +196,47 @@ fn from_bytes_lossy(
 ) -> Result<CompactString, ReserveError>
     ensures { MakesText (utf16_bytes_lossy_text order bytes.now) result }
 {
-    let mut gathered: Builder<Standard, COLLECTED> = Builder::new(alloc);
-    let mut rest = bytes;
-    while !rest.is_empty() {
-        let step = utf16_bytes::first_character(order, rest);
-        rest = &rest[step.taken..];
-        gathered.push(step.character.unwrap_or(char::REPLACEMENT_CHARACTER))?;
+    let mut made = from_pairs_lossy(alloc, order, bytes)?;
+    if bytes.len() % 2 != 0 {
+        push_fitted(&mut made, REPLACEMENT, 0)?;
+        return Ok(made);
     }
-    gathered.finish()
+    Ok(made)
+}
+
+/// The same, without an odd last byte.
+fn from_pairs_lossy(
+    alloc: Global,
+    order: ByteOrder,
+    bytes: &[u8],
+) -> Result<CompactString, ReserveError>
+    ensures { MakesText (utf16_lossy_text (units_of order bytes.now)) result }
+{
+    match order {
+        ByteOrder::LittleEndian => from_units_lossy(alloc, LowFirst::new(bytes)),
+        ByteOrder::BigEndian => from_units_lossy(alloc, HighFirst::new(bytes)),
+    }
+}
+
+/// Converts units, replacing each unpaired surrogate with U+FFFD.
+#[tactic(auto, using(compact_codec::proofs::ForDecoders::lossy_decoding, crate::proofs::FittedTexts::decoded_part_facts))]
+fn from_units_lossy<U: Units>(alloc: Global, units: U) -> Result<CompactString, ReserveError>
+    ensures { MakesText (utf16_lossy_text (U.units units)) result }
+{
+    let count = units.len();
+    let mut made = CompactString::default(alloc);
+    let mut row = [0; ROW];
+    let mut at = 0;
+    while at < count {
+        let filled = fill(&mut row, units, at);
+        at += filled.taken;
+        let room = if made.is_heap_allocated() {
+            0
+        } else {
+            utf8_room(units, at)
+        };
+        let text = unsafe { std::str::from_utf8_unchecked(&row[..filled.len]) };
+        push_fitted(&mut made, text, room)?;
+    }
+    Ok(made)
 }

@@ -1,51 +1,144 @@
 //! A buffer on the stack in which units become UTF-8.
-ghost use Rattle.std.specs.Prelude.{if◌then◌else◌, ◌≡◌, ◌+◌, ◌*◌, ◌<◌, ◌≤◌, ◌++◌, length, take, drop};
+ghost use Rattle.std.specs.Prelude.{if◌then◌else◌, ◌≡◌, ◌+◌, ◌*◌, ◌-◌, ◌<◌, ◌≤◌, ◌++◌, length, take, drop, map, nat_le, ◌%◌, slice_index, IsTrue};
+ghost use Rattle.std.specs.List.{position_or_len};
 ghost use Rattle.std.specs.Char.{encode_utf8};
 ghost use Rattle.std.specs.Int.{is_in_range};
-ghost use Rattle.std.specs.Str.{IsUtf8};
+ghost use Rattle.std.specs.Str.{IsUtf8, IsAscii};
 ghost use Rattle.compact_str.specs.Words.{text_of};
 ghost use Rattle.compact_codec.specs.Utf16Text.{utf16_lossy_text};
 
-use compact_codec::utf16;
+use compact_codec::utf16::{self, Units};
+use std::simd::prelude::*;
 
 /// The capacity of the buffer.
 pub const ROW: usize = 256;
 
-/// The result of `fill`.
+/// The number of ASCII units that are written at a time.
+const BLOCK: usize = 16;
+
+/// The bits that the first four units of a block have only if these are not all ASCII.
+const FIRST_FOUR: [u16; BLOCK] = [
+    0xFF80, 0xFF80, 0xFF80, 0xFF80, 0, 0, 0, 0, 0, 0, 0, 0, 0, 0, 0, 0,
+];
+
+/// How much was read and written.
 #[derive(Clone, Copy)]
 pub struct Filled {
     /// The number of units read.
     pub taken: usize,
-    /// The number of bytes written.
+    /// The number of bytes in the buffer.
     pub len: usize,
 }
 
-/// Writes the lossy text of `units` to the front of `row`, until they end or the next character may not fit.
+/// Writes the lossy text of the units from `from` on to the front of `row`, until they end or the next character may
+/// not fit.
 #[inline]
-pub fn fill(row: &mut [u8; 256], units: &[u16]) -> Filled
-    ensures taken { result.taken ≤ length units.now }
-    ensures some { 0 < length units.now → 0 < result.taken }
-    ensures few { result.taken ≤ 512 }
+pub fn fill<U: Units>(row: &mut [u8; 256], units: U, from: usize) -> Filled
+    requires { from ≤ length (U.units units) }
+    ensures taken { from + result.taken ≤ length (U.units units) }
+    ensures some { from < length (U.units units) → 0 < result.taken }
     ensures len { result.len ≤ 256 }
     ensures utf8 { IsUtf8 (take result.len row.new) }
     ensures text { text_of (take result.len row.new)
-        ++ utf16_lossy_text (drop result.taken units.now) ≡ utf16_lossy_text units.now }
+        ++ utf16_lossy_text (drop (from + result.taken) (U.units units))
+        ≡ utf16_lossy_text (drop from (U.units units)) }
 {
-    let mut taken = 0;
+    let count = units.len();
+    let mut at = from;
     let mut len = 0;
-    while taken < units.len() && len <= ROW - 4 {
-        let unit = units[taken];
-        if is_surrogate(unit) {
-            let step = utf16::first_character(&units[taken..]);
-            let character = step.character.unwrap_or(char::REPLACEMENT_CHARACTER);
-            len = write_character(row, len, character);
-            taken += step.taken;
+    while count - at >= BLOCK && len <= ROW - BLOCK {
+        let block = units.block(at);
+        if begins_with_ascii(block) {
+            let letters = write_ascii(row, len, block);
+            at += letters;
+            len += letters;
         } else {
-            len = write_unit(row, len, unit);
-            taken += 1;
+            let next = write_next(row, len, units, at);
+            at += next.taken;
+            len = next.len;
         }
     }
-    Filled { taken, len }
+    while at < count && len <= ROW - 4 {
+        let next = write_next(row, len, units, at);
+        at += next.taken;
+        len = next.len;
+    }
+    Filled {
+        taken: at - from,
+        len,
+    }
+}
+
+/// Returns `true` if the first four units are ASCII. Tests all four at once, since in text of other scripts a single
+/// ASCII character is common, and a branch on it is unpredictable.
+#[inline(always)]
+fn begins_with_ascii(block: u16x16) -> bool
+    ensures { IsTrue result → slice_index block 0 < 128 }
+{
+    (block & u16x16::from_array(FIRST_FOUR)).reduce_or() == 0
+}
+
+/// Writes the ASCII units at the front of the block at `at`, and returns their number. Writes a whole block, to avoid a
+/// loop.
+#[inline(always)]
+fn write_ascii(row: &mut [u8; 256], at: usize, block: u16x16) -> usize
+    requires room { at + 16 ≤ 256 }
+    requires first { slice_index block 0 < 128 }
+    ensures some { (0 < result) × (result ≤ 16) }
+    ensures bytes { take (at + result) row.new ≡ take at row.old ++ take result block }
+    ensures ascii { IsAscii (take result block) }
+{
+    let front = &mut row[at..at + BLOCK];
+    low_bytes(block).copy_to_slice(front);
+    ascii_count(block)
+}
+
+/// Returns each unit modulo 128, as a byte.
+#[inline(always)]
+fn low_bytes(block: u16x16) -> u8x16
+    ensures { result ≡ map (λ u. u % 128) block }
+{
+    (block & u16x16::splat(0x7F)).cast()
+}
+
+/// Returns the number of ASCII units before the first other one.
+#[inline(always)]
+fn ascii_count(block: u16x16) -> usize
+    ensures { result ≡ position_or_len (λ u. nat_le 128 u) block }
+{
+    let others = block.simd_ge(u16x16::splat(0x80)).to_bitmask();
+    if others == 0 {
+        BLOCK
+    } else {
+        others.trailing_zeros() as usize
+    }
+}
+
+/// Writes the next character, or U+FFFD for an unpaired surrogate, after the first `len` bytes.
+#[inline(always)]
+fn write_next<U: Units>(row: &mut [u8; 256], len: usize, units: U, at: usize) -> Filled
+    requires room { len + 4 ≤ 256 }
+    requires some { at < length (U.units units) }
+    requires utf8 { IsUtf8 (take len row.old) }
+    ensures taken { (0 < result.taken) × (at + result.taken ≤ length (U.units units)) }
+    ensures len { result.len ≤ len + 4 }
+    ensures utf8 { IsUtf8 (take result.len row.new) }
+    ensures text { text_of (take result.len row.new)
+        ++ utf16_lossy_text (drop (at + result.taken) (U.units units))
+        ≡ text_of (take len row.old) ++ utf16_lossy_text (drop at (U.units units)) }
+{
+    let unit = units.unit(at);
+    if !is_surrogate(unit) {
+        let end = write_unit(row, len, unit);
+        return Filled { taken: 1, len: end };
+    }
+    let step = utf16::character_at(units, at);
+    let character = step.character.unwrap_or(char::REPLACEMENT_CHARACTER);
+    let end = write_character(row, len, character);
+    Filled {
+        taken: step.taken,
+        len: end,
+    }
 }
 
 /// Returns `true` if `unit` is a surrogate.
@@ -113,15 +206,17 @@ fn write_character(row: &mut [u8; 256], at: usize, character: char) -> usize
     at + 4
 }
 
-/// Returns the length of `units` in UTF-8, or a few bytes less if they are invalid.
-pub fn utf8_room(units: &[u16]) -> usize
-    ensures { result ≤ 3 * length units.now }
+/// Returns the length of the units from `from` on in UTF-8, or a few bytes less if they are invalid.
+pub fn utf8_room<U: Units>(units: U, from: usize) -> usize
+    requires { from ≤ length (U.units units) }
+    ensures { result ≤ 3 * length (U.units units) }
 {
+    let count = units.len();
     let mut room = 0;
-    let mut at = 0;
-    while at < units.len() {
-        let end = units.len().min(at + 256);
-        room += usize::from(part_room(&units[at..end]));
+    let mut at = from;
+    while at < count {
+        let end = count.min(at + 256);
+        room += usize::from(part_room(units, at, end));
         at = end;
     }
     room
@@ -129,16 +224,21 @@ pub fn utf8_room(units: &[u16]) -> usize
 
 /// Returns the same for at most 256 units, whose sum fits a `u16`.
 #[inline]
-fn part_room(units: &[u16]) -> u16
-    requires { length units.now ≤ 256 }
-    ensures { result ≤ 3 * length units.now }
+fn part_room<U: Units>(units: U, from: usize, end: usize) -> u16
+    requires order { from ≤ end }
+    requires within { end ≤ length (U.units units) }
+    requires few { end ≤ from + 256 }
+    ensures { result ≤ 3 * (end - from) }
 {
     let mut room = 0;
-    for &unit in units {
+    let mut at = from;
+    while at < end {
+        let unit = units.unit(at);
         let wide = u16::from(unit >= 0x80);
         let wider = u16::from(unit >= 0x800);
         let paired = u16::from(is_surrogate(unit));
         room += 1 + wide + wider - paired;
+        at += 1;
     }
     room
 }

@@ -33,7 +33,7 @@ impl PolicyString<Standard> {
     /// let error = CompactString::from_utf8(alloc, b"a\xE2\x82").err();
     /// assert!(rt; error == Some(FromUtf8Error::Utf8 { valid_up_to: 1, error_len: None }));
     /// ```
-    #[inline]
+    #[inline(always)]
     #[tactic(auto, using(crate::proofs::FittedTexts::strict_facts))]
     pub fn from_utf8(alloc: Global, bytes: &[u8]) -> Result<CompactString, FromUtf8Error>
         // Copies valid bytes as `new` does.

@@ -1,18 +1,21 @@
-use Rattle.std.proofs.Common.{arith}
+use Rattle.std.proofs.Common.{sym}
 use Rattle.std.proofs.lemmas.Bool.{false≢true}
-use Rattle.compact_codec.proofs.PairsReading.{passed_step, stopped_step}
+use Rattle.compact_codec.specs.Utf16Bytes.{units_of}
+use Rattle.compact_codec.proofs.PairsReading.{even_if_pairs, pairs_encode}
 use Rattle.compact_codec.proofs.utf16_bytes.is_utf16.Goals as goal
 
-pub returns-then-is_none : goal.returns-then-is_none
-returns-then-is_none c =
-    let kept = c.loop-at.invariant in
-    let stopped = stopped_step c.args.order c.args.bytes.now c.loop-at.at _ _ kept.1 c.if-is_none.ensures c.first_character-step.ensures.step in
-    (λ yes. absurd (false≢true yes), λ text. absurd (stopped text))
+pub returns-then-bytes-ne0 : goal.returns-then-bytes-ne0
+returns-then-bytes-ne0 c =
+    (λ yes. absurd (false≢true yes), λ text. absurd (c.if-bytes-ne0.true (even_if_pairs c.args.bytes.now text.0)))
 
-pub loop-at-preserved : goal.loop-at-preserved
-loop-at-preserved c =
-    let kept = c.loop-at.invariant in
-    let taken = c.first_character-step.ensures.taken in (
-      omega arith,
-      passed_step c.args.order c.args.bytes.now c.loop-at.at _ _ kept.1 c.if-is_none.ensures c.first_character-step.ensures.step,
-    )
+pub returns-in-LittleEndian : goal.returns-in-LittleEndian
+returns-in-LittleEndian c =
+    let both = pairs_encode c.args.order c.args.bytes.now _ c.if-bytes-ne0.false
+    (λ i. units_of (c.in-LittleEndian.is i) (sym c.new.ensures i)) in
+    (λ yes. both.0 (c.are_paired.ensures.0 yes), λ text. c.are_paired.ensures.1 (both.1 text))
+
+pub returns-in-BigEndian : goal.returns-in-BigEndian
+returns-in-BigEndian c =
+    let both = pairs_encode c.args.order c.args.bytes.now _ c.if-bytes-ne0.false
+    (λ i. units_of (c.in-BigEndian.is i) (sym c.new-in-BigEndian.ensures i)) in
+    (λ yes. both.0 (c.are_paired-in-BigEndian.ensures.0 yes), λ text. c.are_paired-in-BigEndian.ensures.1 (both.1 text))

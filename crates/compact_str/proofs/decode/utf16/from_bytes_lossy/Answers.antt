@@ -1,6 +1,29 @@
-use Rattle.compact_str.proofs.FittedTexts.{first-refused}
+use Rattle.std.proofs.Common.{◌∙◌, refl, sym}
+use Rattle.compact_codec.proofs.PairsReading.{even_bytes_text}
+use Rattle.compact_str.proofs.FittedTexts.{bytes_refused, odd_byte_refused, odd_byte_read}
 use Rattle.compact_str.proofs.decode.utf16.from_bytes_lossy.Goals as goal
 
-pub returns-in_err-push : goal.returns-in_err-push
-returns-in_err-push c =
-    first-refused _ _ _ _ _ _ _ c.from_residual.ensures.0 c.loop-rest.invariant c.first_character-step.ensures.lossy c.unwrap_or.ensures c.in_err-push.ensures.err
+pub returns-in_err-made : goal.returns-in_err-made
+returns-in_err-made c =
+    bytes_refused c.args.order c.args.bytes.now _ c.from_residual.ensures.0 c.in_err-made.ensures.allocates
+
+pub returns-in_err-push_fitted : goal.returns-in_err-push_fitted
+returns-in_err-push_fitted c =
+    odd_byte_refused c.args.order c.args.bytes.now _ _ c.from_residual-in_err-push_fitted.ensures.0 c.in_ok-made.ensures.text
+    c.if-bytes-ne0.true c.in_err-push_fitted.ensures.err
+
+pub returns-then-bytes-ne0 : goal.returns-then-bytes-ne0
+returns-then-bytes-ne0 c = record {
+  text = odd_byte_read c.args.order c.args.bytes.now _ _ c.in_ok-made.ensures.text c.if-bytes-ne0.true c.in_ok-push_fitted.ensures.text;
+  place = c.in_ok-push_fitted.ensures.place;
+  succeeds = λ _. refl;
+  allocates = tt;
+}
+
+pub returns : goal.returns
+returns c = record {
+  text = c.in_ok-made.ensures.text ∙ sym (even_bytes_text c.args.order c.args.bytes.now c.if-bytes-ne0.false);
+  place = c.in_ok-made.ensures.place;
+  succeeds = λ _. refl;
+  allocates = tt;
+}

@@ -1,33 +1,30 @@
-use Rattle.std.proofs.Common.{◌<◌, ◌∙◌, arith, rules, refl, sym, get_or}
-use Rattle.std.specs.Char.{IsScalar}
-use Rattle.compact_str.proofs.FilledRows.{character_behind, front_at, reach_at, unit_at}
+use Rattle.std.proofs.Common.{◌≡◌, ◌+◌, ◌++◌, ◌∙◌, ap, subst, arith, sym, take, drop, drop-drop}
+use Rattle.std.specs.Str.{IsAscii}
+use Rattle.std.proofs.lemmas.List.{take-take}
+use Rattle.compact_repr.specs.Text.{text_of}
+use Rattle.compact_codec.specs.Utf16Text.{utf16_lossy_text}
+use Rattle.compact_str.proofs.AsciiUnits.{ascii_behind}
 use Rattle.compact_str.proofs.decode.utf16_block.fill.Goals as goal
 
-pub loop-taken-preserved-then-is_surrogate : goal.loop-taken-preserved-then-is_surrogate
-loop-taken-preserved-then-is_surrogate c =
-    let step = c.first_character-step.ensures in
-    let scalar : IsScalar c.unwrap_or-character.result = search rules in
-    let begins = front_at c.args.units.now c.loop-taken.taken c.first_character-step.result.taken c.unwrap_or-character.result _ step.lossy c.unwrap_or-character.ensures in
-    let written = character_behind _ _ _ _ _ _ c.loop-taken.invariant.text begins c.write_character-len.ensures.bytes c.loop-taken.invariant.utf8 scalar in
+pub loop-at-preserved-then-begins_with_ascii : goal.loop-at-preserved-then-begins_with_ascii
+loop-at-preserved-then-begins_with_ascii g c =
+    let units = g.U.Units.units c.args.units in
+    let at = c.loop-at.at in
+    let n = c.write_ascii-letters.result in
+    let kept = c.loop-at.invariant in
+    let some = c.write_ascii-letters.ensures.some in
+    let front = take c.loop-at.len c.loop-at.row in
+    let same : take n c.block-block.result ≡ take n (drop at units) =
+    ap (take n) c.block-block.ensures ∙ take-take n 16 (drop at units) some.1 in
+    let written = ascii_behind _ (drop at units) front _ n kept.text
+    (c.write_ascii-letters.ensures.bytes ∙ ap (λ l. front ++ l) same) kept.utf8
+    (subst IsAscii same c.write_ascii-letters.ensures.ascii) in
     record {
-      within = reach_at c.args.units.now c.loop-taken.taken c.first_character-step.result.taken c.loop-taken.invariant.within step.taken.1;
-      room = omega (arith, c.write_character-len.ensures.end.1);
-      few = omega (arith, c.write_character-len.ensures.end.0);
-      none = λ h. absurd (omega (arith, h, step.taken.0));
+      order = omega (arith, kept.order);
+      within = omega (arith, some.1, c.loop-at-test.true, c.len-count.ensures.len, kept.within);
+      room = omega (arith, some.1, c.if-len.true);
+      none = λ h. absurd (omega (arith, h, some.0, kept.order));
       utf8 = written.1;
-      text = written.0;
-    }
-
-pub loop-taken-preserved : goal.loop-taken-preserved
-loop-taken-preserved c =
-    let fits : get_or c.args.units.now c.loop-taken.taken 0 < 0x1_0000 = let f = c.type_inv.units c.loop-taken.taken in omega arith in
-    let begins = unit_at c.args.units.now c.loop-taken.taken _ c.loop-taken-test.true refl fits (sym c.is_surrogate.ensures ∙ c.if-is_surrogate.false) in
-    let written = character_behind _ _ _ _ _ _ c.loop-taken.invariant.text begins.0 c.write_unit-len.ensures.bytes c.loop-taken.invariant.utf8 begins.1 in
-    record {
-      within = omega arith;
-      room = omega (arith, c.write_unit-len.ensures.end.1);
-      few = omega (arith, c.write_unit-len.ensures.end.0);
-      none = λ h. absurd (omega (arith, h));
-      utf8 = written.1;
-      text = written.0;
+      text = ap (λ l. text_of (take (c.loop-at.len + n) c.write_ascii-letters.new.row) ++ utf16_lossy_text l)
+          (sym (drop-drop n at units)) ∙ written.0;
     }

@@ -1,5 +1,12 @@
-use Rattle.std.proofs.Common.{◌≤◌, ◌*◌}
+use Rattle.std.proofs.Common.{◌≤◌, ◌*◌, ◌-◌}
 use Rattle.compact_str.proofs.decode.utf16_block.part_room.Given as goal
 
-abbrev pub invariant-loop-unit : goal.invariant-loop-unit
-invariant-loop-unit l = l.room ≤ 3 * l.unit-index
+abbrev pub invariant-loop-at : goal.invariant-loop-at
+invariant-loop-at g l = record {
+  order : l.from ≤ l.at;
+  within : l.at ≤ l.end;
+  room : l.room ≤ 3 * (l.at - l.from);
+}
+
+abbrev pub decreases-loop-at : goal.decreases-loop-at
+decreases-loop-at g l = l.end - l.at
