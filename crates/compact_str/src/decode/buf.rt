@@ -42,7 +42,7 @@ impl PolicyString<Standard> {
         // `Utf8` if invalid, all consumed; `Reserve` only for over 24 bytes, some perhaps consumed.
         ensures succeeds { IsUtf8 (B.unread buf.old) → length (B.unread buf.old) ≤ INLINE_CAPACITY
             → IsOk result }
-        ensures err { IfErr result (IsUtf8BufRefusal (B.unread buf.old) (B.unread buf.new)) }
+        ensures cause { IfErr result (IsUtf8BufRefusal (B.unread buf.old) (B.unread buf.new)) }
     {
         if buf.remaining() <= INLINE_CAPACITY {
             let mut row = [0; INLINE_CAPACITY];

@@ -42,7 +42,7 @@ impl PolicyString<Standard> {
         // `Utf16` if the input is invalid; `Reserve` only for over 24 bytes of text.
         ensures succeeds { (text : List ℕ) → UnitsEncode units.now text
             → size text ≤ INLINE_CAPACITY → IsOk result }
-        ensures err { IfErr result (IsUtf16Refusal units.now) }
+        ensures cause { IfErr result (IsUtf16Refusal units.now) }
     {
         if !utf16::is_utf16(units) {
             return Err(FromUtf16Error::Utf16(Utf16Error));
@@ -94,7 +94,7 @@ impl PolicyString<Standard> {
         // `Utf16` if the input is invalid; `Reserve` only for over 24 bytes of text.
         ensures succeeds { (text : List ℕ) → PairsEncode LittleEndian bytes.now text
             → size text ≤ INLINE_CAPACITY → IsOk result }
-        ensures err { IfErr result (IsUtf16BytesRefusal LittleEndian bytes.now) }
+        ensures cause { IfErr result (IsUtf16BytesRefusal LittleEndian bytes.now) }
     {
         from_bytes(alloc, ByteOrder::LittleEndian, bytes)
     }
@@ -120,7 +120,7 @@ impl PolicyString<Standard> {
         // `Utf16` if the input is invalid; `Reserve` only for over 24 bytes of text.
         ensures succeeds { (text : List ℕ) → PairsEncode BigEndian bytes.now text
             → size text ≤ INLINE_CAPACITY → IsOk result }
-        ensures err { IfErr result (IsUtf16BytesRefusal BigEndian bytes.now) }
+        ensures cause { IfErr result (IsUtf16BytesRefusal BigEndian bytes.now) }
     {
         from_bytes(alloc, ByteOrder::BigEndian, bytes)
     }
@@ -177,7 +177,7 @@ fn from_bytes(
     ensures place { IfOk result IsPlacedBySize }
     ensures succeeds { (text : List ℕ) → PairsEncode order bytes.now text
         → size text ≤ INLINE_CAPACITY → IsOk result }
-    ensures err { IfErr result (IsUtf16BytesRefusal order bytes.now) }
+    ensures cause { IfErr result (IsUtf16BytesRefusal order bytes.now) }
 {
     if !utf16_bytes::is_utf16(order, bytes) {
         return Err(FromUtf16Error::Utf16(Utf16Error));

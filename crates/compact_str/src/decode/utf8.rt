@@ -44,7 +44,7 @@ impl PolicyString<Standard> {
 
         // `Utf8` if the bytes are invalid, with the position; `Reserve` only for over 24 valid bytes.
         ensures succeeds { IsUtf8 bytes.now → length bytes.now ≤ INLINE_CAPACITY → IsOk result }
-        ensures err { IfErr result (IsUtf8Refusal bytes.now) }
+        ensures cause { IfErr result (IsUtf8Refusal bytes.now) }
     {
         match utf8::validate(bytes) {
             Ok(text) => match Self::new(alloc, text) {

@@ -10,7 +10,7 @@ returns-in_err-made c =
 pub returns-in_err-push_fitted : goal.returns-in_err-push_fitted
 returns-in_err-push_fitted c =
     odd_byte_refused c.args.order c.args.bytes.now _ _ c.from_residual-in_err-push_fitted.ensures.0 c.in_ok-made.ensures.text
-    c.if-bytes-ne0.true c.in_err-push_fitted.ensures.err
+    c.if-bytes-ne0.true c.in_err-push_fitted.ensures.allocates
 
 pub returns-then-bytes-ne0 : goal.returns-then-bytes-ne0
 returns-then-bytes-ne0 c = record {
