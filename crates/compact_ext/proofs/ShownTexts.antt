@@ -11,7 +11,8 @@ use Rattle.compact_ext.specs.declared.format.ToCompactStringError.{ToCompactStri
 use Rattle.compact_ext.specs.Shown.{Converts, bool_text}
 
 -- a conversion to t is one to the same text u, short if Q implies what makes t short
-pub shown-as : (t u : List ℕ) (P Q : Type 0) (r : Result PlacedText ToCompactStringError) → Converts t P r → t ≡ u → (Q → P) → Converts u Q r
+pub shown-as : (t u : List ℕ) (P Q : Type 0) (r : Result PlacedText ToCompactStringError) → Converts t P r → t ≡ u
+    → (Q → P) → Converts u Q r
 shown-as t u P Q r h e f = subst (λ (x : List ℕ). Converts x Q r) e record {
   text = h.text;
   place = h.place;

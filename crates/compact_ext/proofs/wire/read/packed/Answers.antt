@@ -10,9 +10,11 @@ returns-in-Some-clause-bytes c =
 
 pub returns-in-Some-clause-len : goal.returns-in-Some-clause-len
 returns-in-Some-clause-len c =
-    sym (packed-len c.tell_len.new.room c.in-Some.value.text c.in-Some.ensures.value.0) ∙ c.if-not-tell_len.ensures.written
+    sym (packed-len c.tell_len.new.room c.in-Some.value.text c.in-Some.ensures.value.0)
+    ∙ c.if-not-tell_len.ensures.written
 
 pub returns-in-None-clause-err : goal.returns-in-None-clause-err
 returns-in-None-clause-err c =
     let told = c.if-not-tell_len.ensures in
-    (refl, no_text-front c.tell_len.new.room _ c.args.len (omega arith) c.requires told.written told.front c.in-None.ensures.value)
+    let none = c.in-None.ensures.value in
+    (refl, no_text-front c.tell_len.new.room _ c.args.len (omega arith) c.requires told.written told.front none)

@@ -8,5 +8,7 @@ returns-in_err-fill-clause-err g c =
     let (error, is, same) = err_from_is_err_and c.from_residual.result c.from_residual.ensures.1 in
     let stops = c.in_err-fill.ensures.err in
     let room = c.if-not-make_room.ensures.len in
+    let so_far = c.loop-bytes.bytes.items in
+    let took = c.loop-bytes.invariant.2 in
     rw (is, same)
-    (stops-later _ _ _ c.loop-bytes.bytes.items _ c.args.len _ c.loop-bytes.invariant.2 stops (omega (arith, length-take {A = ℕ}, room)))
+    (stops-later _ _ _ so_far _ c.args.len _ took stops (omega (arith, length-take {A = ℕ}, room)))

@@ -13,7 +13,8 @@ returns-in_err-write_each-clause-err g c =
     let fits : size text < 2 ^ 32 = omega arith in
     let (error, is, same) = err_from_is_err_and c.from_residual.result c.from_residual.ensures.1 in
     let front = front-first _ _ _ (utf8 text) c.in_err-write_each.ensures.err in
-    rw (is, same) (write-fails _ _ text _ fits (subst (WritesFront _ _) (ap (λ l. l ++ utf8 text) head) front) c.in_err-write_each.ensures.fault)
+    let part = subst (WritesFront _ _) (ap (λ l. l ++ utf8 text) head) front in
+    rw (is, same) (write-fails _ _ text _ fits part c.in_err-write_each.ensures.fault)
 
 pub returns-clause-err : goal.returns-clause-err
 returns-clause-err g c =

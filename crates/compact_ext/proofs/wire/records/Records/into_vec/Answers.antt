@@ -38,7 +38,8 @@ returns-then-is_err-clause-err g c =
     }
 
 pub returns-then-is_err-clause-back : goal.returns-then-is_err-clause-back
-returns-then-is_err-clause-back g c = records-back _ (Err (Reserve (record {}))) tt tt (returns-then-is_err-clause-err g c)
+returns-then-is_err-clause-back g c =
+    records-back _ (Err (Reserve (record {}))) tt tt (returns-then-is_err-clause-err g c)
 
 pub returns-clause-back : goal.returns-clause-back
 returns-clause-back g c =
