@@ -13,7 +13,7 @@ use std::alloc::{AllocError, Global};
 use std::marker::Model;
 
 /// The length above which one call copies faster than blocks.
-const LONG: usize = 256;
+const LONG: usize = 512;
 
 /// The bytes of the vector are the text. Its spare capacity may hold old bytes.
 ///
