@@ -13,12 +13,20 @@ use Rattle.compact_codec.proofs.PairsReading.{utf16_bytes_lossy_text_of_text}
 pub made-utf8_lossy_text : (made bytes : List ℕ) → length bytes ≡ 0 → made ++ utf8_lossy_text bytes ≡ made
 made-utf8_lossy_text made bytes none = ap (λ t. made ++ t) (utf8_lossy_text-empty bytes none) ∙ append-nil made
 
-pub made-utf16_lossy_text : (made units : List ℕ) (at : ℕ) → length units ≤ at → made ++ utf16_lossy_text (drop at units) ≡ made
+pub made-utf16_lossy_text : (made units : List ℕ) (at : ℕ) → length units ≤ at
+    → made ++ utf16_lossy_text (drop at units) ≡ made
 made-utf16_lossy_text made units at past =
-    ap (λ l. made ++ utf16_lossy_text l) (drop_of_length-le units past) ∙ ap (λ t. made ++ t) (utf16_lossy_text-empty [] refl)
+    ap (λ l. made ++ utf16_lossy_text l) (drop_of_length-le units past)
+    ∙ ap (λ t. made ++ t) (utf16_lossy_text-empty [] refl)
     ∙ append-nil made
 
-pub ruleset lossy_decoding = (made-utf8_lossy_text, made-utf16_lossy_text, utf8_lossy_text-IsUtf8, replacement_text-none, replacement_text-some)
+pub ruleset lossy_decoding = (
+  made-utf8_lossy_text,
+  made-utf16_lossy_text,
+  utf8_lossy_text-IsUtf8,
+  replacement_text-none,
+  replacement_text-some,
+)
 
 -- for strict decoders: the text of validated bytes is the one they encode
 pub BytesEncode-utf8_lossy_text : (bytes : List ℕ) → IsUtf8 bytes → BytesEncode bytes (utf8_lossy_text bytes)

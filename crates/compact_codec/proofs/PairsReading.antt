@@ -5,9 +5,7 @@ use Rattle.std.specs.Int.Bits.{or_zero_l, or_zero_r}
 use Rattle.std.proofs.lemmas.Nat.{or_block}
 use Rattle.std.proofs.lemmas.List.{take-map, drop-map}
 use lib.Lanes.{digits_l, number_l}
-use Rattle.std.specs.Prelude.{unwrap_or}
 use Rattle.std.specs.List.{flat_map}
-use Rattle.std.proofs.lemmas.Str.{utf16_chars-nil}
 use Rattle.compact_codec.specs.declared.utf16_bytes.ByteOrder.{ByteOrder}
 use Rattle.compact_codec.specs.declared.utf16_bytes.ByteOrder.TheVariants.{LittleEndian, BigEndian}
 use Rattle.compact_text.specs.Text.{replacement_character}
@@ -94,9 +92,6 @@ take_pairs order (suc n) (suc (suc m)) (a ∷ b ∷ bytes) double within =
     let fits = later.0 in
     (omega arith, later.1, ap (λ l. unit_of order a b ∷ l) later.2, later.3, later.4)
 
-utf16_lossy_text-nil : utf16_lossy_text [] ≡ []
-utf16_lossy_text-nil = ap (map (λ o. unwrap_or o 0xFFFD)) utf16_chars-nil
-
 -- the bytes of a text's own units
 
 odd_byte_text-pairs : (bytes : List ℕ) → ArePairs bytes → odd_byte_text bytes ≡ []
@@ -154,20 +149,23 @@ digits_are (suc n) (suc (suc m)) (a ∷ b ∷ bytes) double within all =
     let b_fits = AreBytes-first b bytes rest in
     let low : (a + 256 * (b + 256 * number)) % 65536 ≡ a + b * 256 = omega (arith, a_fits, b_fits) in
     let high : (a + 256 * (b + 256 * number)) / 65536 ≡ number = omega (arith, a_fits, b_fits) in
-    λ i. low i ∷ (ap (digits_l 65536 n) high ∙ digits_are n m bytes (omega arith) (omega arith) (AreBytes-rest b bytes rest)) i
+    λ i. low i ∷ (ap (digits_l 65536 n) high
+    ∙ digits_are n m bytes (omega arith) (omega arith) (AreBytes-rest b bytes rest)) i
 
 AreBytes-drop : (n : ℕ) (bytes : List ℕ) → AreBytes bytes → AreBytes (drop n bytes)
 AreBytes-drop zero bytes all = all
 AreBytes-drop (suc n) [] all = all
 AreBytes-drop (suc n) (b ∷ bytes) all = AreBytes-drop n bytes (AreBytes-rest b bytes all)
 
-pub low_block : (bytes : List ℕ) (at : ℕ) → ((i : ℕ) → get_or bytes i 0 < 256) → at + 16 ≤ length (units_of LittleEndian bytes)
+pub low_block : (bytes : List ℕ) (at : ℕ) → ((i : ℕ) → get_or bytes i 0 < 256)
+    → at + 16 ≤ length (units_of LittleEndian bytes)
     → digits_l 65536 16 (number_l 256 (take 32 (drop (2 * at) bytes))) ≡ take 16 (drop at (units_of LittleEndian bytes))
 low_block bytes at fit within =
     let whole = units_count LittleEndian bytes in
     let pairs = take_pairs LittleEndian at (2 * at) bytes refl (omega arith) in
     let long : 32 ≤ length (drop (2 * at) bytes) = omega (arith, length-drop (2 * at) bytes, whole, within) in
-    digits_are 16 32 (drop (2 * at) bytes) refl long (AreBytes-drop (2 * at) bytes (bytes_fit bytes fit)) ∙ ap (take 16) pairs.3
+    digits_are 16 32 (drop (2 * at) bytes) refl long (AreBytes-drop (2 * at) bytes (bytes_fit bytes fit))
+    ∙ ap (take 16) pairs.3
 
 -- the two bytes of a unit change places
 abbrev pub swapped : ℕ → ℕ
@@ -190,11 +188,14 @@ swapped_units (a ∷ b ∷ bytes) all =
     let one = swapped_unit a b (AreBytes-first a (b ∷ bytes) all) (AreBytes-first b bytes rest) in
     λ i. one i ∷ swapped_units bytes (AreBytes-rest b bytes rest) i
 
-pub high_block : (bytes : List ℕ) (at : ℕ) → ((i : ℕ) → get_or bytes i 0 < 256) → at + 16 ≤ length (units_of BigEndian bytes)
-    → map swapped (digits_l 65536 16 (number_l 256 (take 32 (drop (2 * at) bytes)))) ≡ take 16 (drop at (units_of BigEndian bytes))
+pub high_block : (bytes : List ℕ) (at : ℕ) → ((i : ℕ) → get_or bytes i 0 < 256)
+    → at + 16 ≤ length (units_of BigEndian bytes)
+    → map swapped (digits_l 65536 16 (number_l 256 (take 32 (drop (2 * at) bytes))))
+    ≡ take 16 (drop at (units_of BigEndian bytes))
 high_block bytes at fit within =
     let low = units_of LittleEndian bytes in
-    ap (map swapped) (low_block bytes at fit (omega (arith, within, units_count BigEndian bytes, units_count LittleEndian bytes)))
+    ap (map swapped) (low_block bytes at fit
+    (omega (arith, within, units_count BigEndian bytes, units_count LittleEndian bytes)))
     ∙ sym (take-map swapped 16 (drop at low)) ∙ ap (take 16) (sym (drop-map swapped at low))
     ∙ ap (λ l. take 16 (drop at l)) (swapped_units bytes (bytes_fit bytes fit))
 
@@ -224,7 +225,8 @@ bytes_text order bytes = refl
 pub even_bytes_text : (order : ByteOrder) (bytes : List ℕ) → length bytes % 2 ≡ 0
     → utf16_bytes_lossy_text order bytes ≡ utf16_lossy_text (units_of order bytes)
 even_bytes_text order bytes even =
-    bytes_text order bytes ∙ ap (λ t. utf16_lossy_text (units_of order bytes) ++ t) (odd_byte_text-pairs bytes (pairs_if_even bytes even))
+    bytes_text order bytes ∙ ap (λ t. utf16_lossy_text (units_of order bytes) ++ t)
+    (odd_byte_text-pairs bytes (pairs_if_even bytes even))
     ∙ append-nil _
 
 odd_byte_text-odd : (bytes : List ℕ) → (length bytes % 2 ≡ 0 → ⊥) → odd_byte_text bytes ≡ replacement_character ∷ []

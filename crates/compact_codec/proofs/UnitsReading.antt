@@ -1,13 +1,13 @@
 -- Units of UTF-16 as characters and unpaired surrogates.
-use Rattle.std.proofs.Common.{rules, ◌≡◌, ℕ, zero, suc, ◌+◌, ◌-◌, ◌*◌, ◌/◌, ◌%◌, ◌^◌, ◌<◌, ◌≤◌, ◌⊎◌, Bool, true, false, not, List, [], ◌∷◌, ◌++◌, map, length, take, drop, get_or, Option, Some, None, refl, sym, ap, subst, ◌∙◌, arith, inl, inr, ⊎_elim, append_assoc, append-nil, length-append, length-drop, take_all, take-append-drop, take-add, drop_at, get_or-drop, drop-cons, add-one}
-use Rattle.std.specs.Prelude.{unwrap_or, is_some, IfNone, slice_get}
+use Rattle.std.proofs.Common.{◌≡◌, ℕ, zero, suc, ◌+◌, ◌-◌, ◌*◌, ◌/◌, ◌%◌, ◌^◌, ◌<◌, ◌≤◌, ◌⊎◌, Bool, true, false, not, List, [], ◌∷◌, ◌++◌, map, length, take, drop, get_or, Option, Some, None, refl, sym, ap, subst, ◌∙◌, arith, inl, inr, ⊎_elim, append_assoc, append-nil, length-append, length-drop, take_all, take-append-drop, drop_at, get_or-drop, drop-cons, add-one}
+use Rattle.std.specs.Prelude.{unwrap_or, is_some, slice_get}
 use Rattle.std.specs.Char.{IsScalar}
 use Rattle.std.specs.Char.Escape.{encode_utf16}
 use Rattle.std.specs.Char.Utf16.{utf16_chars, lone_unit_char, surrogate_pair_char, has_unpaired_surrogate}
 use Rattle.std.specs.List.{flat_map, list_any}
 use Rattle.std.specs.Str.{all_scalars}
 use Rattle.std.proofs.str.Utf16.{IsPair, one_unit, two_units, lone_unit_char_low, lone_unit_char_high, lone_unit_char_surrogate}
-use Rattle.std.proofs.lemmas.Bool.{cases_lt, and_parts, and_from, true≢false, false≢true}
+use Rattle.std.proofs.lemmas.Bool.{cases_lt, and_parts, and_from, true≢false}
 use Rattle.std.proofs.lemmas.Str.{utf16_chars-nil, utf16_chars_lone, utf16_chars_pair}
 use lib.Utf8.{scalar, scalar_cases, low_scalar}
 use Rattle.compact_text.specs.Text.{replacement_character}
@@ -242,54 +242,9 @@ unpaired_is_no_text units unpaired (text, is) = by_text text is
     by_text [] is = subst BeginsWithUnpairedSurrogate (sym is.1) unpaired
     by_text (c ∷ text) is = unpaired_begins_none units c (flat_map encode_utf16 text) unpaired (and_parts _ _ is.0).0 (sym is.1)
 
-pub rest_is_text : (xs ys : List ℕ) → IsUtf16 xs → IsUtf16 (xs ++ ys) → IsUtf16 ys
-rest_is_text xs ys (text, is) (whole, are) = by_text text whole xs is.0 is.1 are.0 are.1
-  where
-    by_text : (text whole xs : List ℕ) → all_scalars text ≡ true → flat_map encode_utf16 text ≡ xs → all_scalars whole ≡ true → flat_map encode_utf16 whole ≡ xs ++ ys → IsUtf16 ys
-    by_text [] whole xs p e q f = (whole, (q, f ∙ ap (λ l. l ++ ys) (sym e)))
-    by_text (c ∷ text) [] xs p e q f =
-        absurd (omega (arith, ap length f, ap length e, length-append xs ys, length-append (encode_utf16 c) (flat_map encode_utf16 text), (length-encode_utf16 c).0))
-    by_text (c ∷ text) (d ∷ whole) xs p e q f =
-        let p_all = and_parts _ _ p in
-        let q_all = and_parts _ _ q in
-        let both = encode_utf16_same d c (flat_map encode_utf16 whole) (flat_map encode_utf16 text ++ ys) q_all.0 p_all.0
-        (f ∙ ap (λ l. l ++ ys) (sym e) ∙ append_assoc (encode_utf16 c) (flat_map encode_utf16 text) ys) in
-        by_text text whole (flat_map encode_utf16 text) p_all.1 refl q_all.1 both.1
-
-pub longer_is_text : (xs ys : List ℕ) (c : ℕ) → IsUtf16 xs → IsScalar c → ys ≡ encode_utf16 c → IsUtf16 (xs ++ ys)
-longer_is_text xs ys c (text, is) c_is ys_is = (text ++ c ∷ [], (all_of text is.0, parts_of text ∙ (λ i. is.1 i ++ sym ys_is i)))
-  where
-    all_of : (text : List ℕ) → all_scalars text ≡ true → all_scalars (text ++ c ∷ []) ≡ true
-    all_of [] all = and_from _ true c_is refl
-    all_of (d ∷ text) all = let both = and_parts _ _ all in and_from _ _ both.0 (all_of text both.1)
-
-    parts_of : (text : List ℕ) → flat_map encode_utf16 (text ++ c ∷ []) ≡ flat_map encode_utf16 text ++ encode_utf16 c
-    parts_of [] = append-nil (encode_utf16 c)
-    parts_of (d ∷ text) = ap (λ l. encode_utf16 d ++ l) (parts_of text) ∙ sym (append_assoc (encode_utf16 d) (flat_map encode_utf16 text) (encode_utf16 c))
-
-pub unpaired_after_prefix : (units : List ℕ) (n : ℕ) → IsUtf16 (take n units) → BeginsWithUnpairedSurrogate (drop n units) → ¬ (IsUtf16 units)
-unpaired_after_prefix units n prefix unpaired whole =
-    unpaired_is_no_text (drop n units) unpaired (rest_is_text (take n units) (drop n units) prefix (subst IsUtf16 (sym (take-append-drop n units)) whole))
-
-pub invalid_step : (units : List ℕ) (o : Option ℕ) (n : ℕ) → IsUtf16Step units o n → IfNone o (¬ (IsUtf16 units))
-invalid_step units (Some c) n is = search rules
-invalid_step units None n is = unpaired_is_no_text units is.0
-
 -- a step of validation, over the units from `at` on
 pub from_at : (units : List ℕ) (at : ℕ) → take (length units - at) (drop at units) ≡ drop at units
 from_at units at = take_all (length units - at) (drop at units) (omega (arith, length-drop at units))
-
-pub passed_step : (units : List ℕ) (at n : ℕ) (o : Option ℕ) → IsUtf16 (take at units) → is_some o ≡ true → IsUtf16Step (take (length units - at) (drop at units)) o n
-    → IsUtf16 (take (at + n) units)
-passed_step units at n None prefix some is = absurd (false≢true some)
-passed_step units at n (Some c) prefix some is =
-    let step = subst (λ l. IsUtf16Step l (Some c) n) (from_at units at) is in
-    subst IsUtf16 (sym (take-add at n units)) (longer_is_text (take at units) (take n (drop at units)) c prefix step.0 step.2)
-
-pub stopped_step : (units : List ℕ) (at n : ℕ) (o : Option ℕ) → IsUtf16 (take at units) → is_some o ≡ false
-    → IsUtf16Step (take (length units - at) (drop at units)) o n → ¬ (IsUtf16 units)
-stopped_step units at n None prefix none is = unpaired_after_prefix units at prefix (subst BeginsWithUnpairedSurrogate (from_at units at) is.0)
-stopped_step units at n (Some c) prefix none is = absurd (true≢false none)
 
 -- the unit after the first, if there is one
 pub unit_after : (units : List ℕ) (i : ℕ) (o : Option ℕ) → (i < length units → o ≡ Some (get_or units i 0))

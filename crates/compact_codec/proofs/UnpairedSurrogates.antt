@@ -104,10 +104,12 @@ unpaired_step units at unpaired after_high low high found within low_is high_is 
     ∙ (λ i. unpaired || (xor after_high (low_is i) || has_unpaired (high_is i) (drop (at + 1) units)))
     ∙ ap (λ l. unpaired || has_unpaired after_high l) (sym parts) ∙ so_far
 
-pub unpaired_end : (units : List ℕ) (at : ℕ) (unpaired after_high r : Bool) → length units ≤ at → ((k : ℕ) → k < at → get_or units k 0 < 2 ^ 16)
+pub unpaired_end : (units : List ℕ) (at : ℕ) (unpaired after_high r : Bool) → length units ≤ at
+    → ((k : ℕ) → k < at → get_or units k 0 < 2 ^ 16)
     → (unpaired || has_unpaired after_high (drop at units)) ≡ has_unpaired false units → r ≡ not (unpaired || after_high) → IsTrue r ↔ IsUtf16 units
 unpaired_end units at unpaired after_high r past fit found is =
-    let all : AreUnits units = λ k d within. subst (λ u. u < 2 ^ 16) (get_or_default units k 0 d within) (fit k (omega arith)) in
+    let all : AreUnits units = λ k d within. subst (λ u. u < 2 ^ 16) (get_or_default units k 0 d within)
+    (fit k (omega arith)) in
     let unpaired : (unpaired || after_high) ≡ has_unpaired_surrogate units =
     ap (λ l. unpaired || has_unpaired after_high l) (sym (drop_of_length-le units past)) ∙ found ∙ has_unpaired-is units all in
     let answer : r ≡ not (has_unpaired_surrogate units) = is ∙ ap not unpaired in

@@ -163,8 +163,9 @@ fn validate_long(bytes: &[u8], at: usize) -> Result<&str, Utf8Error>
     )
 }
 
-/// `validate`, given that the bytes before `at` are valid. Validates windows of `width` bytes, each twice as wide as the
-/// one before, and from the first invalid one on in order, which is at most some twice the bytes before the error.
+/// `validate`, given that the bytes before `at` are valid. Validates windows of `width` bytes, each twice as wide as
+/// the one before, and all in order from the first invalid one on, so it validates only a few times the bytes before the
+/// error.
 fn validate_in_windows(bytes: &[u8], at: usize, width: usize) -> Result<&str, Utf8Error>
     requires within { at ≤ length bytes.now }
     requires text { IsUtf8 (take at bytes.now) }

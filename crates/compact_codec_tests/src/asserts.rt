@@ -1,9 +1,7 @@
 //! Assertions that end the test on failure.
 
-ghost use Rattle.std.specs.Prelude.{◌<◌, length};
-
-use compact_asserts::{equal, that, that_for};
-use compact_codec::utf16::Utf16Step;
+use compact_asserts::{equal, that};
+use compact_codec::utf16::{Units, character_at};
 use std::fmt::Debug;
 use std::process::Abort;
 
@@ -17,24 +15,17 @@ pub fn assert_equal<T: PartialEq + Debug + Drop>(rt: &impl Abort, left: T, right
     equal(left, right).expect(rt, "equal");
 }
 
-/// Asserts that the input is read to its end in these steps: a character, or `None` for an invalid sequence, and the
-/// units or bytes it takes.
-pub fn assert_steps<T: Debug, F: Fn(&[T]) -> Utf16Step>(
-    rt: &impl Abort,
-    first_character: F,
-    input: &[T],
-    steps: &[(Option<char>, usize)],
-)
-    requires { (rest : _) → 0 < length rest.now → F.pre first_character rest }
-{
-    let mut rest = input;
+/// Asserts that the units are read to their end in these steps: a character, or `None` for an unpaired surrogate, and
+/// the units it takes.
+pub fn assert_steps<U: Units>(rt: &impl Abort, units: U, steps: &[(Option<char>, usize)]) {
+    let len = units.len();
+    let mut at = 0;
     for (character, taken) in steps {
-        that(!rest.is_empty()).expect(rt, "it holds");
-        let step = first_character(rest);
-        that_for(input, step.character == *character).expect(rt, "it holds");
+        that(at < len).expect(rt, "it holds");
+        let step = character_at(units, at);
+        assert_equal(rt, step.character, *character);
         assert_equal(rt, step.taken, *taken);
-        that(step.taken <= rest.len()).expect(rt, "it holds");
-        rest = &rest[step.taken..];
+        at += step.taken;
     }
-    assert_that(rt, rest.is_empty());
+    assert_equal(rt, at, len);
 }

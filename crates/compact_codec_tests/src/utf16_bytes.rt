@@ -2,51 +2,42 @@
 
 use crate::asserts::assert_steps;
 use compact_asserts::that_for;
-use compact_codec::utf16_bytes::{ByteOrder, first_character, is_utf16};
+use compact_codec::utf16_bytes::{ByteOrder, HighFirst, LowFirst, is_utf16};
 
 #[test]
 fn steps_in_each_order(rt: HostRuntime) {
-    let cases: [(ByteOrder, &[u8], &[(Option<char>, usize)]); 6] = [
-        (ByteOrder::LittleEndian, b"", &[]),
+    let low_first: [(&[u8], &[(Option<char>, usize)]); 4] = [
+        (b"", &[]),
+        (b"\x3D\xD8\x6F", &[(None, 1)]),
+        (b"\x41\x00\x42", &[(Some('A'), 1)]),
+        (b"\x3D\xD8\x6F\xDC", &[(Some('\u{1F46F}'), 2)]),
+    ];
+    for (bytes, steps) in low_first {
+        assert_steps(&rt, LowFirst::new(bytes), steps);
+    }
+    let high_first: [(&[u8], &[(Option<char>, usize)]); 2] = [
         (
-            ByteOrder::LittleEndian,
-            b"\x3D\xD8\x6F",
-            &[(None, 2), (None, 1)],
-        ),
-        (
-            ByteOrder::LittleEndian,
-            b"\x41\x00\x42",
-            &[(Some('A'), 2), (None, 1)],
-        ),
-        (
-            ByteOrder::LittleEndian,
-            b"\x3D\xD8\x6F\xDC",
-            &[(Some('\u{1F46F}'), 4)],
-        ),
-        (
-            ByteOrder::BigEndian,
             b"\xD8\x3D\xDC\x6F\x20\x0D\x26\x40\xDE\x0F",
             &[
-                (Some('\u{1F46F}'), 4),
-                (Some('\u{200D}'), 2),
-                (Some('\u{2640}'), 2),
-                (None, 2),
+                (Some('\u{1F46F}'), 2),
+                (Some('\u{200D}'), 1),
+                (Some('\u{2640}'), 1),
+                (None, 1),
             ],
         ),
         (
-            ByteOrder::BigEndian,
             b"\x00\xE4\x02\x04\x20\xAC\xFF\xFD\xD8\x34\xDD\x1E",
             &[
-                (Some('\u{E4}'), 2),
-                (Some('\u{204}'), 2),
-                (Some('\u{20AC}'), 2),
-                (Some('\u{FFFD}'), 2),
-                (Some('\u{1D11E}'), 4),
+                (Some('\u{E4}'), 1),
+                (Some('\u{204}'), 1),
+                (Some('\u{20AC}'), 1),
+                (Some('\u{FFFD}'), 1),
+                (Some('\u{1D11E}'), 2),
             ],
         ),
     ];
-    for (order, bytes, steps) in cases {
-        assert_steps(&rt, |rest| first_character(order, rest), bytes, steps);
+    for (bytes, steps) in high_first {
+        assert_steps(&rt, HighFirst::new(bytes), steps);
     }
 }
 

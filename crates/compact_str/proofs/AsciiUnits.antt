@@ -28,19 +28,25 @@ wide_mask block = mask_l (map (top 15) (zip2 (λ a b. cond (leb a b) (2 ^ 16 - 1
 
 wide_mask_is : (block : List ℕ) → length block ≡ 16 → wide_mask block ≡ mask_l (map wide block)
 wide_mask_is block long =
-    ap (λ ms. mask_l ms % 2 ^ 64) (tops_compared w16 leb (replicate 16 128) block ∙ zip2_splat_left leb 128 16 block long)
+    ap (λ ms. mask_l ms % 2 ^ 64) (tops_compared w16 leb (replicate 16 128) block
+    ∙ zip2_splat_left leb 128 16 block long)
     ∙ mask_l-mod (map wide block) 64 (omega (arith, length-map block wide, long))
 
 -- the first unit that is not below 128, by the mask
-pub first_wide : (block : List ℕ) → length block ≡ 16 → cond (eqb (wide_mask block) 0) 16 (count_trailing_zeros 64 (wide_mask block)) ≡ position_or_len wide block
+pub first_wide : (block : List ℕ) → length block ≡ 16
+    → cond (eqb (wide_mask block) 0) 16 (count_trailing_zeros 64 (wide_mask block)) ≡ position_or_len wide block
 first_wide block long =
-    ap (λ m. cond (eqb m 0) 16 (count_trailing_zeros 64 m)) (wide_mask_is block long) ∙ first_set_mask_l wide block 16 long (omega arith)
+    ap (λ m. cond (eqb m 0) 16 (count_trailing_zeros 64 m)) (wide_mask_is block long)
+    ∙ first_set_mask_l wide block 16 long (omega arith)
 
 pub none_wide : (block : List ℕ) → length block ≡ 16 → wide_mask block ≡ 0 → 16 ≡ position_or_len wide block
-none_wide block long none = sym (ap (λ b. cond b 16 (count_trailing_zeros 64 (wide_mask block))) (eq-eqb _ _ none)) ∙ first_wide block long
+none_wide block long none = sym (ap (λ b. cond b 16 (count_trailing_zeros 64 (wide_mask block))) (eq-eqb _ _ none))
+    ∙ first_wide block long
 
-pub some_wide : (block : List ℕ) → length block ≡ 16 → (wide_mask block ≡ 0 → ⊥) → count_trailing_zeros 64 (wide_mask block) ≡ position_or_len wide block
-some_wide block long some = sym (ap (λ b. cond b 16 (count_trailing_zeros 64 (wide_mask block))) (go (eqb (wide_mask block) 0) refl)) ∙ first_wide block long
+pub some_wide : (block : List ℕ) → length block ≡ 16 → (wide_mask block ≡ 0 → ⊥)
+    → count_trailing_zeros 64 (wide_mask block) ≡ position_or_len wide block
+some_wide block long some = sym (ap (λ b. cond b 16 (count_trailing_zeros 64 (wide_mask block)))
+    (go (eqb (wide_mask block) 0) refl)) ∙ first_wide block long
   where
     go : (t : Bool) → eqb (wide_mask block) 0 ≡ t → eqb (wide_mask block) 0 ≡ false
     go true e = absurd (some (eqb-true _ _ e))
@@ -99,15 +105,20 @@ ascii_text : (xs rest : List ℕ) → IsAscii xs → utf16_lossy_text (xs ++ res
 ascii_text [] rest all = refl
 ascii_text (x ∷ xs) rest all =
     let low : x < 128 = all 0 in
-    own_step x (xs ++ rest) (low_scalar x (omega arith)) (omega arith) ∙ ap (λ t. x ∷ t) (ascii_text xs rest (λ k. all (suc k)))
+    own_step x (xs ++ rest) (low_scalar x (omega arith)) (omega arith)
+    ∙ ap (λ t. x ∷ t) (ascii_text xs rest (λ k. all (suc k)))
 
-pub ascii_behind : (whole rest bytes next : List ℕ) (n : ℕ) → text_of bytes ++ utf16_lossy_text rest ≡ whole → next ≡ bytes ++ take n rest
+pub ascii_behind : (whole rest bytes next : List ℕ) (n : ℕ) → text_of bytes ++ utf16_lossy_text rest ≡ whole
+    → next ≡ bytes ++ take n rest
     → IsUtf8 bytes → IsAscii (take n rest) → (text_of next ++ utf16_lossy_text (drop n rest) ≡ whole) × IsUtf8 next
 ascii_behind whole rest bytes next n so_far is utf8 ascii =
     let front = take n rest in
     let left = utf16_lossy_text (drop n rest) in
-    let spelled : text_of next ≡ text_of bytes ++ front = ap text_of is ∙ chars-append bytes front utf8 ∙ ap (λ t. text_of bytes ++ t) (chars-IsAscii front ascii) in
-    let begins : utf16_lossy_text rest ≡ front ++ left = ap utf16_lossy_text (sym (take-append-drop n rest)) ∙ ascii_text front (drop n rest) ascii in (
-      ap (λ t. t ++ left) spelled ∙ append_assoc (text_of bytes) front left ∙ ap (λ t. text_of bytes ++ t) (sym begins) ∙ so_far,
+    let spelled : text_of next ≡ text_of bytes ++ front =
+    ap text_of is ∙ chars-append bytes front utf8 ∙ ap (λ t. text_of bytes ++ t) (chars-IsAscii front ascii) in
+    let begins : utf16_lossy_text rest ≡ front ++ left =
+    ap utf16_lossy_text (sym (take-append-drop n rest)) ∙ ascii_text front (drop n rest) ascii in (
+      ap (λ t. t ++ left) spelled ∙ append_assoc (text_of bytes) front left
+          ∙ ap (λ t. text_of bytes ++ t) (sym begins) ∙ so_far,
       subst IsUtf8 (sym is) (IsUtf8-append bytes front utf8 (IsUtf8-from_ascii front ascii)),
     )

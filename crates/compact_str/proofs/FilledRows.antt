@@ -1,5 +1,5 @@
 -- An array into which characters are written.
-use Rattle.std.proofs.Common.{◌≡◌, ◌⊎◌, ⊎_elim, inl, inr, true, false, cond, ltb, get_or, Some, drop-cons, add-one, ◌/◌, ◌%◌, ℕ, ◌+◌, ◌-◌, ◌<◌, ◌≤◌, List, [], ◌∷◌, ◌++◌, length, take, drop, set, length-set, refl, sym, ap, subst, ◌∙◌, arith, append-nil, append_assoc, drop-drop, length-drop}
+use Rattle.std.proofs.Common.{◌≡◌, ◌⊎◌, ⊎_elim, inl, inr, true, false, cond, ltb, get_or, Some, drop-cons, add-one, ◌/◌, ◌%◌, ℕ, ◌+◌, ◌<◌, ◌≤◌, List, [], ◌∷◌, ◌++◌, length, take, drop, set, length-set, refl, sym, ap, subst, ◌∙◌, arith, append-nil, append_assoc}
 use Rattle.std.specs.Char.{IsScalar, encode_utf8}
 use Rattle.std.specs.Str.{IsUtf8}
 use Rattle.std.specs.Int.{is_in_range}
@@ -7,7 +7,7 @@ use Rattle.std.proofs.lemmas.Grind.{take-set_at}
 use Rattle.std.proofs.lemmas.Str.{chars-append, chars-encodes, IsUtf8-append, IsUtf8-encode}
 use Rattle.compact_repr.specs.Text.{text_of}
 use Rattle.compact_codec.specs.Utf16Text.{utf16_lossy_text}
-use Rattle.compact_codec.proofs.UnitsReading.{from_at, utf16_lossy_text-step}
+use Rattle.compact_codec.proofs.UnitsReading.{utf16_lossy_text-step}
 use Rattle.compact_text.proofs.Encodings.{encode_two, encode_three}
 use Rattle.compact_codec.proofs.Rows.{encode_one, high_scalar}
 use Rattle.std.proofs.str.Utf16.{one_unit}
@@ -56,19 +56,10 @@ four_behind row i a b d e within =
     ∙ append_assoc (take i row) (a ∷ b ∷ d ∷ []) (e ∷ [])
 
 -- the first character of the units from `at` on, and its length
-pub front_at : (units : List ℕ) (at n c d : ℕ)
-    → utf16_lossy_text (take (length units - at) (drop at units)) ≡ d ∷ utf16_lossy_text (drop n (take (length units - at) (drop at units)))
-    → c ≡ d → utf16_lossy_text (drop at units) ≡ c ∷ utf16_lossy_text (drop (at + n) units)
-front_at units at n c d begins same =
-    let rest = from_at units at in
-    ap utf16_lossy_text (sym rest) ∙ begins
-    ∙ (λ i. sym same i ∷ utf16_lossy_text ((ap (drop n) rest ∙ drop-drop n at units) i))
-
-pub reach_at : (units : List ℕ) (at n : ℕ) → at ≤ length units → n ≤ length (take (length units - at) (drop at units)) → at + n ≤ length units
-reach_at units at n from within = omega (arith, from, within, ap length (from_at units at), length-drop at units)
 
 -- a unit that is no surrogate is a character
-pub own_step : (u : ℕ) (units : List ℕ) → IsScalar u → u < 0x1_0000 → utf16_lossy_text (u ∷ units) ≡ u ∷ utf16_lossy_text units
+pub own_step : (u : ℕ) (units : List ℕ) → IsScalar u → u < 0x1_0000
+    → utf16_lossy_text (u ∷ units) ≡ u ∷ utf16_lossy_text units
 own_step u units is one = utf16_lossy_text-step (u ∷ units) (Some u) 1 (is, omega arith, sym (one_unit u one))
 
 pub unit_at : (units : List ℕ) (at u : ℕ) → at < length units → u ≡ get_or units at 0 → u < 0x1_0000 → is_in_range 0xD800 0xDFFF u ≡ false

@@ -92,13 +92,15 @@ pub ruleset decoded_part_facts = (text_facts, part-asks)
 pub bytes_refused : {E : Type 0} (order : ByteOrder) (bytes : List ℕ) (r : Result PlacedText E) → IsErr r
     → 24 < size (utf16_lossy_text (units_of order bytes)) → MakesText (utf16_bytes_lossy_text order bytes) r
 bytes_refused order bytes r h more =
-    refused-fitted _ r h (part-asks _ [] (utf16_lossy_text (units_of order bytes)) (odd_byte_text bytes) _ (sym (bytes_text order bytes)) refl (omega (arith, more)))
+    refused-fitted _ r h (part-asks _ [] (utf16_lossy_text (units_of order bytes)) (odd_byte_text bytes) _
+    (sym (bytes_text order bytes)) refl (omega (arith, more)))
 
 mark-text : text_of (0xEF ∷ 0xBF ∷ 0xBD ∷ []) ≡ replacement_character ∷ []
 unfolding chars
 mark-text = refl
 
-odd_byte_made : (order : ByteOrder) (bytes a : List ℕ) → a ≡ utf16_lossy_text (units_of order bytes) → (length bytes % 2 ≡ 0 → ⊥)
+odd_byte_made : (order : ByteOrder) (bytes a : List ℕ) → a ≡ utf16_lossy_text (units_of order bytes)
+    → (length bytes % 2 ≡ 0 → ⊥)
     → a ++ text_of (0xEF ∷ 0xBF ∷ 0xBD ∷ []) ≡ utf16_bytes_lossy_text order bytes
 odd_byte_made order bytes a e odd = (λ i. e i ++ mark-text i) ∙ sym (odd_bytes_text order bytes odd)
 
@@ -111,7 +113,8 @@ odd_byte_refused order bytes a r h e odd more =
     part-refused _ a [] mark r h (ap (λ t. a ++ t) (append-nil (text_of mark)) ∙ odd_byte_made order bytes a e odd)
     (0xFFFD ∷ [], (refl, refl)) more
 
-pub odd_byte_read : (order : ByteOrder) (bytes a new : List ℕ) → a ≡ utf16_lossy_text (units_of order bytes) → (length bytes % 2 ≡ 0 → ⊥)
+pub odd_byte_read : (order : ByteOrder) (bytes a new : List ℕ) → a ≡ utf16_lossy_text (units_of order bytes)
+    → (length bytes % 2 ≡ 0 → ⊥)
     → new ≡ a ++ text_of (0xEF ∷ 0xBF ∷ 0xBD ∷ []) → new ≡ utf16_bytes_lossy_text order bytes
 odd_byte_read order bytes a new e odd n = n ∙ odd_byte_made order bytes a e odd
 

@@ -17,10 +17,13 @@ loop-at-preserved g c =
         | inl below ↦ kept.fit k below
         | inr from ↦
             let same : c.loop-at.at ≡ k = omega (arith, from, within) in
-            subst (λ (j : ℕ). get_or units j 0 < 2 ^ 16) same (subst (λ (u : ℕ). u < 2 ^ 16) c.unit-unit.ensures (omega (arith, c.unit-unit.type_inv)))
+            subst (λ (j : ℕ). get_or units j 0 < 2 ^ 16) same
+            (subst (λ (u : ℕ). u < 2 ^ 16) c.unit-unit.ensures (omega (arith, c.unit-unit.type_inv)))
       ];
-      found = unpaired_step units c.loop-at.at c.loop-at.unpaired c.loop-at.after_high c.is_low.result c.is_high-after_high.result _
-          (omega (arith, c.len.ensures.len, c.loop-at-test.true)) (c.is_low.ensures ∙ ap is_low_surrogate c.unit-unit.ensures)
+      found = unpaired_step units c.loop-at.at c.loop-at.unpaired c.loop-at.after_high
+          c.is_low.result c.is_high-after_high.result _
+          (omega (arith, c.len.ensures.len, c.loop-at-test.true))
+          (c.is_low.ensures ∙ ap is_low_surrogate c.unit-unit.ensures)
           (c.is_high-after_high.ensures ∙ ap is_high_surrogate c.unit-unit.ensures) kept.found;
     }
 

@@ -34,4 +34,5 @@ returns-clause-lossy g c =
     let units = g.U.Units.units c.args.units in
     let n = c.step_over.result.taken in
     utf16_lossy_text-step (drop c.args.at units) _ n (step_at g c)
-    ∙ ap (λ l. unwrap_or c.step_over.result.character replacement_character ∷ utf16_lossy_text l) (drop-drop n c.args.at units)
+    ∙ ap (λ l. unwrap_or c.step_over.result.character replacement_character ∷ utf16_lossy_text l)
+    (drop-drop n c.args.at units)

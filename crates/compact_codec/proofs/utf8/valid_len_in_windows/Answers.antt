@@ -9,6 +9,7 @@ loop-at-preserved c =
     let wide = c.loop-at.invariant.wide in
     record {
       within = c.window_end-end.ensures.within;
-      text = longer_window c.args.bytes.now c.loop-at.at c.window_end-end.result order c.loop-at.invariant.text (c.is_utf8.ensures.0 c.if-not-is_utf8.false);
+      text = longer_window c.args.bytes.now c.loop-at.at c.window_end-end.result order c.loop-at.invariant.text
+          (c.is_utf8.ensures.0 c.if-not-is_utf8.false);
       wide = (omega arith, omega arith);
     }

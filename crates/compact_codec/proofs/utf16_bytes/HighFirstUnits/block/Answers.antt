@@ -8,4 +8,5 @@ pub returns : goal.returns
 returns c =
     let bytes = c.args.self.bytes.now in
     let at = c.args.at in
-    ap (λ l. map swapped (digits_l 65536 16 (number_l 256 (take 32 l)))) (from_at bytes (2 * at)) ∙ high_block bytes at c.args.self.fit c.requires
+    ap (λ l. map swapped (digits_l 65536 16 (number_l 256 (take 32 l)))) (from_at bytes (2 * at))
+    ∙ high_block bytes at c.args.self.fit c.requires

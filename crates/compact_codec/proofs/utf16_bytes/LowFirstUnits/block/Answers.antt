@@ -8,4 +8,5 @@ pub returns : goal.returns
 returns c =
     let bytes = c.args.self.bytes.now in
     let at = c.args.at in
-    ap (λ l. digits_l 65536 16 (number_l 256 (take 32 l))) (from_at bytes (2 * at)) ∙ low_block bytes at c.args.self.fit c.requires
+    ap (λ l. digits_l 65536 16 (number_l 256 (take 32 l))) (from_at bytes (2 * at))
+    ∙ low_block bytes at c.args.self.fit c.requires

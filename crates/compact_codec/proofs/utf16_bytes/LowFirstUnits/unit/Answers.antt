@@ -8,4 +8,5 @@ returns c =
     let bytes = c.args.self.bytes.now in
     let at = c.args.at in
     c.code_unit.ensures
-    ∙ unit_by_place LittleEndian bytes at (2 * at) (2 * at + 1) refl refl (omega (arith, c.requires, units_count LittleEndian bytes))
+    ∙ unit_by_place LittleEndian bytes at (2 * at) (2 * at + 1) refl refl
+    (omega (arith, c.requires, units_count LittleEndian bytes))

@@ -9,12 +9,14 @@ returns-in_err-made c =
 
 pub returns-in_err-push_fitted : goal.returns-in_err-push_fitted
 returns-in_err-push_fitted c =
-    odd_byte_refused c.args.order c.args.bytes.now _ _ c.from_residual-in_err-push_fitted.ensures.0 c.in_ok-made.ensures.text
+    odd_byte_refused c.args.order c.args.bytes.now _ _ c.from_residual-in_err-push_fitted.ensures.0
+    c.in_ok-made.ensures.text
     c.if-bytes-ne0.true c.in_err-push_fitted.ensures.allocates
 
 pub returns-then-bytes-ne0 : goal.returns-then-bytes-ne0
 returns-then-bytes-ne0 c = record {
-  text = odd_byte_read c.args.order c.args.bytes.now _ _ c.in_ok-made.ensures.text c.if-bytes-ne0.true c.in_ok-push_fitted.ensures.text;
+  text = odd_byte_read c.args.order c.args.bytes.now _ _ c.in_ok-made.ensures.text
+      c.if-bytes-ne0.true c.in_ok-push_fitted.ensures.text;
   place = c.in_ok-push_fitted.ensures.place;
   succeeds = λ _. refl;
   allocates = tt;

@@ -5,7 +5,8 @@ use Rattle.compact_str.proofs.decode.utf16_block.low_bytes.Goals as goal
 
 pub overflow_cast-result : goal.overflow_cast-result
 overflow_cast-result c =
-    Each1-zip2 bit_and (Fits w8) c.args.block (replicate 16 127) (Each2-splat (λ a b. Fits w8 (bit_and a b)) c.args.block 16 127
+    Each1-zip2 bit_and (Fits w8) c.args.block (replicate 16 127)
+    (Each2-splat (λ a b. Fits w8 (bit_and a b)) c.args.block 16 127
     (Each1-all (λ a. Fits w8 (bit_and a 127)) (λ a. record { fits = omega (arith, and_le_r a 127) }) c.args.block))
 
 pub returns : goal.returns

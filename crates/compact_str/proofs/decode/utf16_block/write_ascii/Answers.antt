@@ -13,4 +13,5 @@ pub returns-clause-ascii : goal.returns-clause-ascii
 returns-clause-ascii c = front_is_ascii c.args.block c.ascii_count.result c.ascii_count.ensures
 
 pub returns-clause-some : goal.returns-clause-some
-returns-clause-some c = count_some c.args.block c.ascii_count.result c.fits-block.0 c.requires.first c.ascii_count.ensures
+returns-clause-some c =
+    count_some c.args.block c.ascii_count.result c.fits-block.0 c.requires.first c.ascii_count.ensures

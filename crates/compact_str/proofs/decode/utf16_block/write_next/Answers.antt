@@ -7,7 +7,8 @@ use Rattle.compact_str.proofs.decode.utf16_block.write_next.Given.{Over}
 use Rattle.compact_str.proofs.decode.utf16_block.write_next.Goals as goal
 
 unit_written : (g : Over) (c : goal.After-write_unit-end g)
-    → (text_of (take c.write_unit-end.result c.write_unit-end.new.row) ++ utf16_lossy_text (drop (c.args.at + 1) (g.U.Units.units c.args.units))
+    → (text_of (take c.write_unit-end.result c.write_unit-end.new.row) ++ utf16_lossy_text
+    (drop (c.args.at + 1) (g.U.Units.units c.args.units))
     ≡ text_of (take c.args.len c.args.row.now) ++ utf16_lossy_text (drop c.args.at (g.U.Units.units c.args.units)))
     × IsUtf8 (take c.write_unit-end.result c.write_unit-end.new.row)
 unit_written g c =
@@ -29,7 +30,9 @@ character_written : (g : Over) (c : goal.After-write_character-end g)
     × IsUtf8 (take c.write_character-end.result c.write_character-end.new.row)
 character_written g c =
     let scalar : IsScalar c.unwrap_or-character.result = search rules in
-    let begins = c.character_at-step.ensures.lossy ∙ ap (λ d. d ∷ utf16_lossy_text (drop (c.args.at + c.character_at-step.result.taken) (g.U.Units.units c.args.units)))
+    let begins = c.character_at-step.ensures.lossy
+    ∙ ap (λ d. d ∷ utf16_lossy_text (drop (c.args.at + c.character_at-step.result.taken)
+    (g.U.Units.units c.args.units)))
     (sym c.unwrap_or-character.ensures) in
     character_behind _ _ _ _ _ _ refl begins c.write_character-end.ensures.bytes c.requires.utf8 scalar
 
