@@ -35,6 +35,8 @@ pub struct Filled {
 #[inline]
 pub fn fill<U: Units>(row: &mut [u8; 256], units: U, from: usize) -> Filled
     requires { from ≤ length (U.units units) }
+
+    // The row begins with the lossy text of the units that were read, at least one.
     ensures taken { from + result.taken ≤ length (U.units units) }
     ensures some { from < length (U.units units) → 0 < result.taken }
     ensures len { result.len ≤ 256 }
