@@ -25,7 +25,8 @@ pub fn greeting(alloc: Global, name: &str) -> Result<CompactString, ReserveError
 
 /// Appends a character and a text.
 pub fn append_both(line: &mut CompactString, mark: char, text: &str) -> Result<(), ReserveError>
-    ensures { OnOk result (utf8 line.new.text ≡ utf8 line.old.text ++ encode_utf8 mark ++ text.now) }
+    ensures { OnOk result
+        (utf8 line.new.text ≡ utf8 line.old.text ++ encode_utf8 mark ++ text.now) }
 {
     line.push(mark)?;
     line.push_str(text)

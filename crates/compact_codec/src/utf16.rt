@@ -1,5 +1,5 @@
 //! 16-bit units read as UTF-16 (Unicode Standard, 3.9).
-ghost use Rattle.std.specs.Prelude.{◌≡◌, ◌↔◌, ◌+◌, ◌^◌, ◌<◌, ◌≤◌, ◌∷◌, ℕ, List, take, drop, length, unwrap_or, slice_get, slice_index, IfNone, IsTrue};
+ghost use Rattle.std.specs.Prelude.{◌≡◌, ◌↔◌, ◌+◌, ◌^◌, ◌<◌, ◌≤◌, ◌∷◌, ℕ, List, take, drop, length, unwrap_or, slice_get, slice_index, IsTrue};
 ghost use Rattle.compact_text.specs.Text.{replacement_character};
 ghost use Rattle.std.specs.Char.Utf16.{is_high_surrogate, is_low_surrogate};
 ghost use Rattle.compact_codec.specs.Utf16Text.{IsUtf16, IsUtf16Step, utf16_lossy_text, UnitsEncodeOneText, Utf16HasNoUnpairedSurrogate, Utf16LossyTextIsUnique, Utf16LossyTextOfText};

@@ -1,10 +1,10 @@
 -- Conversions to and from a value.
-use Rattle.std.specs.Prelude.{◌≡◌, ◌<◌, ◌≤◌, ℕ, List, length, false, nat_eq, if◌then◌else◌, Result, IfOk, IfErr, OnErr, IsOk, MatchResult, IsOkAnd, Some, string_bytes, ⊤}
+use Rattle.std.specs.Prelude.{◌≡◌, ◌<◌, ◌≤◌, ℕ, List, length, nat_eq, if◌then◌else◌, Result, IfOk, IfErr, OnErr, IsOk, MatchResult, IsOkAnd, Some, string_bytes, ⊤}
 use Rattle.std.specs.String.{string_capacity}
 use Rattle.std.specs.declared.borrow.CowStr.{CowStr}
 use Rattle.std.specs.declared.borrow.CowStr.TheVariants.{Borrowed, Owned}
 use Rattle.compact_repr.specs.Text.{text_of, utf8}
-use Rattle.compact_repr.specs.Value.{Placement, PlacedText, placed_text, is_heap_place, IsHeap}
+use Rattle.compact_repr.specs.Value.{Placement, PlacedText, placed_text, IsHeap}
 use Rattle.compact_repr.specs.Capacity.{Growth, IsPlacedAsNew, inline_placement, heap_placement, from_string_placement}
 use Rattle.compact_repr.specs.declared.inline.TheConstants.{INLINE_CAPACITY}
 use Rattle.compact_repr.specs.Calls.{new}

@@ -1,5 +1,5 @@
 //! Characters and parts of a representation's text, by byte position.
-ghost use Rattle.std.specs.Prelude.{◌≡◌, ◌+◌, ◌-◌, ◌<◌, ◌≤◌, ℕ, List, ◌∷◌, length, true, IsTrue, ◌↔◌, IfSome, IsSome, MatchOption};
+ghost use Rattle.std.specs.Prelude.{◌≡◌, ◌+◌, ◌-◌, ◌<◌, ◌≤◌, length, true, IsTrue, ◌↔◌, IfSome, IsSome, MatchOption};
 ghost use Rattle.std.specs.Char.{len_utf8};
 ghost use Rattle.std.specs.Str.{IsCharBoundary};
 ghost use Rattle.compact_repr.specs.Words.{size, utf8, text_of, IsBoundary, IsCharAt, text_after, substring, is_static_place, IsOwned, IsHeap};

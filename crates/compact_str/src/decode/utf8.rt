@@ -1,5 +1,5 @@
 //! Decoding UTF-8 from a slice.
-ghost use Rattle.std.specs.Prelude.{◌≡◌, ◌<◌, ◌≤◌, length, IfOk, IfErr, OnOk, OnErr, IsOk, Some};
+ghost use Rattle.std.specs.Prelude.{◌≡◌, ◌<◌, ◌≤◌, length, IfOk, IfErr, OnOk, OnErr, IsOk};
 ghost use Rattle.std.specs.Str.{IsUtf8};
 ghost use Rattle.compact_str.specs.Words.{size, text_of, utf8, INLINE_CAPACITY, IsPlacedAsNew, standard_growth};
 ghost use Rattle.compact_codec.specs.InvalidSequence.{IsUtf8Error};

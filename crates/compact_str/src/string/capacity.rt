@@ -1,6 +1,6 @@
 //! Reserving and shrinking.
 ghost use Rattle.std.specs.Prelude.{◌≡◌, OnOk, OnErr, IsOk};
-ghost use Rattle.compact_str.specs.Words.{Shrinks, IsOwned, PlacedFor, AllocatesFor, owned, room, HasRoomFor};
+ghost use Rattle.compact_str.specs.Words.{Shrinks, PlacedFor, AllocatesFor, room, HasRoomFor};
 
 use crate::string::PolicyString;
 use compact_repr::{Policy, ReserveError};

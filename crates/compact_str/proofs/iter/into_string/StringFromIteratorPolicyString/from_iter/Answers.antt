@@ -1,5 +1,5 @@
 -- What is appended to an empty `String` is all that it has.
-use Rattle.std.proofs.Common.{ℕ, List, ◌++◌, ◌≡◌, [], ap, refl, ◌∙◌, arith, flat_map, string_bytes}
+use Rattle.std.proofs.Common.{ℕ, List, ◌++◌, ◌≡◌, [], ap, ◌∙◌, arith, flat_map, string_bytes}
 use Rattle.std.proofs.lemmas.Str.{chars-nil}
 use Rattle.compact_repr.specs.Text.{text_of}
 use Rattle.compact_str.specs.Order.{text_in}
