@@ -37,13 +37,13 @@ pub fn run<P: Policy>(
     edits: &[Edit<P>],
     replies: &mut Vec<Reply<P>>,
 ) -> Result<(), ReserveError>
-    // On success each edit was run, in order, with one reply for each.
+    // Runs the edits in order, and appends one reply for each.
     ensures run { OnOk result
         (RunsTo P.growth value.old edits.now replies.old.items replies.new.items value.new) }
     ensures count { OnOk result (vec_len replies.new ≡ vec_len replies.old + length edits.now) }
 
-    // Fails only if it must allocate, for the replies. The value, the replies and their capacity are
-    // then unchanged.
+    // Fails only if room for the replies cannot be allocated. The value, the replies and their
+    // capacity are then unchanged.
     ensures succeeds { vec_len replies.old + length edits.now ≤ vec_capacity replies.old
         → IsOk result }
     ensures succeeds_empty { edits.now ≡ [] → IsOk result }

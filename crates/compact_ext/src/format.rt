@@ -94,7 +94,7 @@ pub fn collect_display<D: Display + Drop>(
     alloc: Global,
     shown: D,
 ) -> Result<CompactString, ToCompactStringError>
-    // On success the string is all that was written, if the contract of `D` says what that is.
+    // Returns all that was written, if the contract of `D` says what that is.
     ensures text { IfOk result (λ v. IfSome (D.output shown) (λ bytes. v.text ≡ text_of bytes)) }
     ensures bytes { IfOk result (λ v. IfSome (D.output shown) (λ bytes. utf8 v.text ≡ bytes)) }
     ensures place { IfOk result IsPlacedBySize }

@@ -56,13 +56,13 @@ impl Session {
     /// [`ReserveError`] if allocation fails: for the value of `new`, `cap` or `clonefrom`, or for room for the reply
     /// to an edit, even one with a bad position. The session is then unchanged.
     pub fn execute(&mut self, command: Command) -> Result<Reply<Standard>, ReserveError>
-        // On success the command was executed. Room for a reply is kept.
+        // Executes the command, and keeps room for a reply.
         ensures executes { IfOk result (λ reply.
             Executes self.old.value command.entry reply self.new.value) }
         ensures room { OnOk result
             (self.new.has_room ≡ (runs_edit command.entry || self.old.has_room)) }
 
-        // Fails only if it must allocate. The session is then unchanged.
+        // Fails only if allocation fails. The session is then unchanged.
         ensures allocates { OnErr result
             (IsTrue (command_allocates self.old.has_room command.entry)) }
         ensures err { OnErr result (self.new ≡ self.old) }

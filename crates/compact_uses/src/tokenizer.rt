@@ -48,7 +48,7 @@ pub fn tokenize(
     names: &mut Interner,
     text: &CompactString,
 ) -> Result<Vec<Token>, InternError>
-    // On success the tokens are all pieces of the text, and each number is that of its piece.
+    // Returns all pieces of the text in order, each with the number of its name.
     ensures joined { IfOk result (λ tokens.
         flat_map (token_text names.new) tokens.items ≡ text.now.text) }
     ensures tokens { IfOk result (λ tokens.
@@ -59,7 +59,7 @@ pub fn tokenize(
         → slice_get names.old n ≡ Some name → slice_get names.new n ≡ Some name }
     ensures bound { length names.new ≤ length names.old + length text.now.text }
 
-    // Fails if it must allocate, or if all numbers are in use. The names then have the texts of the
+    // Fails if allocation fails, or if all numbers are in use. The names then have the texts of the
     // first tokens.
     ensures succeeds { text.now.text ≡ [] → IsOk result }
     ensures cause { IfErr result (IsTokenRefusal names.new) }

@@ -44,15 +44,15 @@ const FIRST_ROOM: usize = 1 << 20;
 /// ```
 #[inline]
 pub fn read_wire<R: Read>(alloc: Global, reader: &mut R) -> Result<CompactString, WireError>
-    // On success just the form is consumed.
+    // Consumes just the form, and returns its text.
     ensures consumed { IfOk result (λ v.
         Consumes (R.remaining reader.old) (R.remaining reader.new) (wire v.text)) }
     ensures fits { IfOk result (λ v. HasForm v.text) }
     ensures place { IfOk result
         (λ v. v.placement ≡ from_string_placement v.text (size v.text)) }
 
-    // If the reader begins with a form, fails only if the reader or an allocation does. Else the
-    // error says what was consumed.
+    // If the reader begins with a form, fails only if the reader or an allocation does. Every error
+    // comes with what was consumed.
     ensures back { ReadsBack (R.remaining reader.old) (R.remaining reader.new) result }
     ensures err { IfErr result (λ e.
         ReadFails (R.remaining reader.old) (R.remaining reader.new) e) }

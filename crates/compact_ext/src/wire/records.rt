@@ -75,8 +75,7 @@ impl<R: BufRead + Drop> Records<R> {
     /// assert_eq!(rt; texts[1].as_str(), "");
     /// ```
     pub fn into_vec(self) -> Result<Vec<CompactString>, WireError>
-        // On success the reader had the forms of these strings and no more, each placed as by
-        // `read_wire`.
+        // Reads all forms to the end, and places each string as `read_wire` does.
         ensures forms { IfOk result (λ all. AreForms (records_left R.remaining self) all.items) }
         ensures fits { IfOk result (λ all. All FitsForm all.items) }
         ensures place { IfOk result (λ all. All IsPlacedAsRead all.items) }

@@ -37,7 +37,8 @@ pub fn append_all<T: AsText, U: IntoIterator<Item = T>>(
         (λ xs. string_text line.new ≡ string_text line.old ++ flat_map T.text xs)) }
     ensures capacity { string_capacity line.old ≤ string_capacity line.new }
 
-    // Fails only at a text that exceeds the capacity. Those before it are then appended.
+    // Fails only at a text for which the capacity must grow and cannot. Those before it are then
+    // appended.
     ensures succeeds { ForAllItems (⟦<U as Items>⟧.run items)
         (λ xs. length (string_bytes line.old) + size (flat_map T.text xs)
         ≤ string_capacity line.old) → IsOk result }

@@ -46,6 +46,7 @@ impl<P: Policy> PolicyString<P> {
     /// assert_eq!(rt; json.as_str(), Some("café"));
     /// ```
     pub fn to_json(&self) -> Result<Value, ReserveError>
+        // Returns a JSON string of the text. When it succeeds is tested, not proved.
         ensures { IfOk result (λ v. json_view v ≡ json_string (utf8 self.now.text)) }
     {
         match String::from_str(self.allocator(), self.as_str()) {
