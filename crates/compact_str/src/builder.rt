@@ -5,7 +5,6 @@ ghost use Rattle.compact_str.specs.Words.{size, text_of, PlacedFor, room_to_appe
 ghost use Rattle.compact_str.specs.Room.{IsPlacedBySize};
 ghost use Rattle.compact_str.specs.Output.{AppendsUtf8};
 
-use crate::decode::push_fitted;
 use crate::stack_buffer::{PaddedStr, StackBuffer};
 use crate::string::PolicyString;
 use compact_repr::{Policy, ReserveError};
@@ -145,9 +144,7 @@ impl<P: Policy, const N: usize> Builder<P, N> {
         ensures ok { OnOk result (self.new ≡ self.old ++ text_of text.now) }
         ensures err { OnErr result (INLINE_CAPACITY < size self.old + length text.now) }
     {
-        // As much may follow, and then needs no further allocation.
-        let more = text.len().saturating_add(N);
-        push_fitted(&mut self.value, self.block.as_str(), more)?;
+        self.value.push_str(self.block.as_str())?;
         self.block.clear();
         if self.block.try_push_str(text) {
             return Ok(());
