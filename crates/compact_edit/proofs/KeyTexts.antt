@@ -1,5 +1,5 @@
 -- The keys of a set of values, as texts: with one more key they are the distinct texts, by first occurrence.
-use Rattle.std.proofs.Common.{◌≡◌, ℕ, ◌<◌, List, [], ◌∷◌, ◌++◌, Bool, true, false, ◌||◌, if◌then◌else◌, IsTrue, nat_eq, map, position, slice_get, get_or, length, Some, refl, ap, ap₂, sym, ◌∙◌, arith}
+use Rattle.std.proofs.Common.{◌≡◌, ℕ, ◌<◌, List, [], ◌∷◌, ◌++◌, Bool, true, false, ◌||◌, if◌then◌else◌, IsTrue, nat_eq, map, position, slice_get, get_or, length, Some, zero, suc, refl, ap, ap₂, sym, ◌∙◌, arith}
 use Rattle.std.proofs.lemmas.Grind.{common_steps}
 use Rattle.std.proofs.lemmas.Option.{slice_get-map, slice_get-get_or}
 use Rattle.std.proofs.lemmas.List.{map-append}
@@ -110,6 +110,31 @@ position-bytes_eq bytes (k ∷ keys) i is_text at =
     let same : text_of bytes ≡ (get_or (k ∷ keys) i k).text =
     (bytes_decides (text_of bytes) (get_or (k ∷ keys) i k).text).0 (sym (bytes_eq-utf8 bytes (get_or (k ∷ keys) i k) is_text) ∙ found.1) in
     slice_get-map text_in (k ∷ keys) i ∙ ap (option_map text_in) (slice_get-get_or (k ∷ keys) i k found.0) ∙ ap Some (sym same)
+
+pub number-bytes_eq : (bytes : List ℕ) (keys : List PlacedText) → IsUtf8 bytes
+    → position (λ (k : PlacedText). bytes_eq bytes (utf8 k.text)) keys ≡ position (pointwise nat_eq (text_of bytes)) (texts keys)
+number-bytes_eq bytes [] is_text = refl
+number-bytes_eq bytes (k ∷ keys) is_text = grind (arith, common_steps, bytes_eq-utf8 bytes k is_text, number-bytes_eq bytes keys is_text)
+
+-- a text has one number
+
+not-before : (v : PlacedText) (keys : List PlacedText) (t : List ℕ) (n : ℕ) → AllByRecursion (λ k. same_text v k ≡ false) keys
+    → slice_get (texts keys) n ≡ Some t → pointwise nat_eq t v.text ≡ false
+not-before v [] t n apart at = grind (arith, common_steps)
+not-before v (k ∷ keys) t zero apart at =
+    let is : k.text ≡ t = cc in
+    nat_list_eq_equiv.symm t v.text ∙ ap (pointwise nat_eq v.text) (sym is) ∙ apart.0
+not-before v (k ∷ keys) t (suc n) apart at = not-before v keys t n apart.1 at
+
+pub known-number : (keys : List PlacedText) (t : List ℕ) (n : ℕ) → IsDistinct same_text keys → slice_get (texts keys) n ≡ Some t → position (pointwise nat_eq t) (texts keys) ≡ Some n
+unfolding IsDistinct
+known-number [] t n distinct at = grind (arith, common_steps)
+known-number (k ∷ keys) t zero distinct at =
+    let is : k.text ≡ t = cc in
+    let same : pointwise nat_eq t k.text ≡ true = ap (pointwise nat_eq t) is ∙ nat_list_eq_equiv.refl t in
+    grind (arith, common_steps, same)
+known-number (k ∷ keys) t (suc n) distinct at =
+    grind (arith, common_steps, not-before k keys t n distinct.0 at, known-number keys t n distinct.1 at)
 
 pub known-text : (keys : List PlacedText) (t : List ℕ) → IsDistinct same_text keys → contains (texts keys) t ≡ true → texts keys ≡ distinct_texts (texts keys ++ t ∷ [])
 known-text keys t distinct there =

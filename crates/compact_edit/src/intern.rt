@@ -1,13 +1,17 @@
 //! The interner: a number for each distinct text.
-ghost use Rattle.std.specs.Prelude.{◌≡◌, ◌<◌, ◌≤◌, ◌↔◌, ℕ, List, [], ◌∷◌, ◌++◌, length, Some, IsOk, IsSome, IfOk, IfErr, OnOk, OnErr, option_map, slice_get};
+ghost use Rattle.std.specs.Prelude.{◌≡◌, ◌<◌, ◌≤◌, ◌↔◌, ℕ, List, [], ◌∷◌, ◌++◌, length, map, Some, IsOk, IsSome, IsTrue, IfOk, IfErr, IfNone, IfSome, OnOk, OnErr, option_map, slice_get};
 ghost use Rattle.std.specs.Prelude.{false};
+ghost use Rattle.std.specs.Map.Iter.{ShowsInOrder, deref};
 ghost use Rattle.compact_str.specs.Text.{text_of};
+ghost use Rattle.compact_str.specs.Value.{PlacedText};
+ghost use Rattle.compact_str.specs.Order.{text_in};
 ghost use Rattle.compact_edit.specs.declared.intern.TheConstants.{MAX_COUNT};
 ghost use Rattle.compact_edit.specs.Names.{distinct_texts, texts_of, contains, AppendsNumbersOf, IsRefusal, InternsSome};
 
 use compact_str::{CompactString, ReserveError};
 use indexmap::IndexSet;
-use std::alloc::Global;
+use indexmap::set::Iter;
+use std::alloc::{AllocError, AllocFailed, Global};
 use std::marker::Model;
 use thiserror::Error;
 
@@ -27,9 +31,32 @@ impl From<ReserveError> for InternError {
 
     ghost from_gives = { λ e error. error ≡ Reserve e };
 
-    /// Wraps the error in `Reserve`.
+    /// The case `Reserve`.
     fn from(error: ReserveError) -> Self {
         InternError::Reserve(error)
+    }
+}
+
+impl From<AllocError> for InternError {
+    ghost use Rattle.compact_edit.specs.declared.intern.InternError.TheVariants.{Reserve};
+
+    ghost from_gives = { λ _ error. error ≡ Reserve (record {}) };
+
+    /// The case `Reserve`.
+    fn from(_error: AllocError) -> Self {
+        InternError::Reserve(ReserveError)
+    }
+}
+
+/// Drops the value that was not stored.
+impl<T: Drop> From<AllocFailed<T>> for InternError {
+    ghost use Rattle.compact_edit.specs.declared.intern.InternError.TheVariants.{Reserve};
+
+    ghost from_gives = { λ _ error. error ≡ Reserve (record {}) };
+
+    /// The case `Reserve`.
+    fn from(_failed: AllocFailed<T>) -> Self {
+        InternError::Reserve(ReserveError)
     }
 }
 
@@ -89,6 +116,39 @@ impl Interner {
         }
     }
 
+    /// Creates an empty interner with room for `capacity` names.
+    ///
+    /// # Errors
+    ///
+    /// [`ReserveError`] if the table cannot be allocated. Never fails for 0.
+    ///
+    /// # Examples
+    ///
+    /// ```
+    /// let mut names = Interner::with_capacity(alloc, 100)?;
+    /// assert_eq!(rt; names.intern("café")?, 0);
+    /// ```
+    pub fn with_capacity(alloc: Global, capacity: usize) -> Result<Interner, ReserveError>
+        ensures names { IfOk result (λ names. names ≡ []) }
+        ensures succeeds { capacity ≡ 0 → IsOk result }
+    {
+        let names = IndexSet::with_capacity(alloc, capacity)?;
+        Ok(Interner { names })
+    }
+
+    /// Returns `true` if there are no names.
+    ///
+    /// # Examples
+    ///
+    /// ```
+    /// assert!(rt; Interner::new(alloc).is_empty());
+    /// ```
+    pub fn is_empty(&self) -> bool
+        ensures { IsTrue result ↔ (self.now ≡ []) }
+    {
+        self.names.is_empty()
+    }
+
     /// Returns the number of names, at most 2^32 - 1.
     ///
     /// # Examples
@@ -119,6 +179,49 @@ impl Interner {
     {
         let name = self.names.get_index(number as usize)?;
         Some(name.as_str())
+    }
+
+    /// Returns the number of `text`, or `None` if it is no name. Adds nothing.
+    ///
+    /// # Examples
+    ///
+    /// ```
+    /// let mut names = Interner::new(alloc);
+    /// let number = names.intern("café")?;
+    /// assert_eq!(rt; names.number("café"), Some(number));
+    /// assert_eq!(rt; names.number("cafe"), None);
+    /// ```
+    #[tactic(auto, using(crate::proofs::NameFacts::name_facts))]
+    pub fn number(&self, text: &str) -> Option<u32>
+        ensures name { IfSome result (λ n. slice_get self.now n ≡ Some (text_of text.now)) }
+        ensures known { (n : ℕ) → slice_get self.now n ≡ Some (text_of text.now)
+            → result ≡ Some n }
+        ensures unknown { IfNone result (contains self.now (text_of text.now) ≡ false) }
+    {
+        match self.names.get_index_of(text) {
+            Some(known) => Some(known as u32),
+            None => None,
+        }
+    }
+
+    /// Returns an iterator over the names, in the order of their numbers.
+    ///
+    /// # Examples
+    ///
+    /// ```
+    /// let mut names = Interner::new(alloc);
+    /// names.intern("né")?;
+    /// names.intern("e")?;
+    /// let mut all = names.iter();
+    /// assert!(rt; all.next().is_some_and(|name| name.as_str() == "né"));
+    /// assert!(rt; all.next().is_some_and(|name| name.as_str() == "e"));
+    /// assert!(rt; all.next().is_none());
+    /// ```
+    pub fn iter(&self) -> Iter<'_, CompactString>
+        ensures names { map text_in result ≡ self.now }
+        ensures runs { ShowsInOrder (deref {X = PlacedText}) }
+    {
+        self.names.iter()
     }
 
     /// Returns the number of `text`. If `text` is new, it is copied and gets the next number. A known text is not

@@ -183,6 +183,7 @@ fn replace_range<P: Policy>(
 }
 
 /// Copies the range before the value becomes owned, so that nothing is changed if either fails.
+#[tactic(auto, using(compact_str::proofs::Functions::functions))]
 fn drain<P: Policy>(value: &mut PolicyString<P>, start: Bound<usize>, end: Bound<usize>) -> Reply<P>
     ensures { Step P.growth value.old (Edit.Drain start end) result value.new }
 {
@@ -193,7 +194,7 @@ fn drain<P: Policy>(value: &mut PolicyString<P>, start: Bound<usize>, end: Bound
         Ok(range) => range,
         Err(error) => return Reply::Refused(error),
     };
-    match take_out(value, first, last) {
+    match value.replace_range(Bound::Included(first), Bound::Excluded(last), "") {
         Ok(()) => Reply::Text(range),
         Err(error) => Reply::Refused(error),
     }
@@ -215,21 +216,6 @@ fn copy_of_range<P: Policy>(
         value.allocator(),
         value.range(Bound::Included(first), Bound::Excluded(last)),
     )
-}
-
-/// Removes a range.
-fn take_out<P: Policy>(
-    value: &mut PolicyString<P>,
-    first: usize,
-    last: usize,
-) -> Result<(), ReserveError>
-    requires { IsRange value.old.text (span (Included first) (Excluded last)) }
-    ensures ok { OnOk result (replace_range P.growth value.old first last [] ≡ Some value.new) }
-    ensures allocates { OnErr result (AllocatesFor value.old owned) }
-    ensures err { OnErr result (value.new ≡ value.old) }
-{
-    drop(value.drain(Bound::Included(first), Bound::Excluded(last))?);
-    Ok(())
 }
 
 /// Keeps the characters whose flag is `true`, and those with no flag.
