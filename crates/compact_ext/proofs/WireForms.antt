@@ -58,6 +58,8 @@ front-second old mid new head tail h w = record {
   bytes = Appends-trans old mid new head w.written_bytes h w.bytes;
 }
 
+pub ruleset fronts = (front-first, front-second)
+
 pub write-fails : (old new : Option (List ℕ)) (t : List ℕ) (e : WireError) → size t < 2 ^ 32 → WritesFront old new (wire t) → IsWriterFault e → WriteFails old new t e
 write-fails old new t TooLong h w f = absurd f
 write-fails old new t e h w f = (h, w, f)
