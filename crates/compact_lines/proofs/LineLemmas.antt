@@ -23,7 +23,7 @@ use Rattle.compact_edit.specs.Steps.{Step, IsLegal, edit_allocates, EditGives}
 use Rattle.compact_lines.specs.declared.command.Command.TheVariants as commands
 use Rattle.compact_lines.specs.declared.command.Command.{Command}
 use Rattle.compact_lines.specs.Sessions.{State, Executes, DoesOrRefuses, runs_edit, command_allocates}
-use Rattle.compact_lines.specs.Commands.{reference_to, line_command, command_itself, edit_itself, command_of, answers_of}
+use Rattle.compact_lines.specs.Commands.{reference_to, line_command, command_itself, edit_itself, command_of}
 use Rattle.compact_lines.specs.Lines.{AnswersCommand, outcome_line, value_line, AnswersLine, AnswersLines, IsFirstLine, bytes_of, AppendsFront, AppendsAnswer, AppendsAnswerFront, AppendsPart, AppendsSomeAnswers}
 
 -- two appends compose
@@ -189,6 +189,8 @@ executes-itself v w (commands.New s) reply does = does
 executes-itself v w commands.Static reply does = does
 executes-itself v w (commands.WithCapacity n) reply does = does
 executes-itself v w (commands.CloneFrom s) reply does = does
+executes-itself v w (commands.Retain flags) reply does =
+    rw (← does.1) (step-itself standard_growth v w (edits.Retain does.0) reply does.2)
 executes-itself v w (commands.Edit edit) reply does = step-itself standard_growth v w edit reply does
 
 asks-itself : (has_room : Bool) (command : Command) → command_allocates has_room (command_itself command) ≡ command_allocates has_room command
@@ -196,6 +198,7 @@ asks-itself has_room (commands.New s) = refl
 asks-itself has_room commands.Static = refl
 asks-itself has_room (commands.WithCapacity n) = refl
 asks-itself has_room (commands.CloneFrom s) = refl
+asks-itself has_room (commands.Retain flags) = refl
 asks-itself has_room (commands.Edit edit) = refl
 
 runs-itself : (command : Command) → runs_edit (command_itself command) ≡ runs_edit command
@@ -203,6 +206,7 @@ runs-itself (commands.New s) = refl
 runs-itself commands.Static = refl
 runs-itself (commands.WithCapacity n) = refl
 runs-itself (commands.CloneFrom s) = refl
+runs-itself (commands.Retain flags) = refl
 runs-itself (commands.Edit edit) = refl
 
 does-itself : (v w : State) (command : Command) (outcome : Result (Reply Standard) ReserveError)
@@ -220,11 +224,11 @@ pub broken-line : (line : List ℕ) → ¬ (IsUtf8 line) → line_command line �
 broken-line line broken = rw (invalid-is_utf8 line broken) refl
 
 -- reading the text of a line reads the line
-pub text-line : (line text : List ℕ) (bits items : List Bool) (command : Option Command) → (text ≡ line) × IsUtf8 line → bits ≡ items
-    → items ≡ answers_of text → option_map command_itself command ≡ command_of text bits → line_command line ≡ option_map command_itself command
-text-line line text bits items command is same spelt read =
+pub text-line : (line text : List ℕ) (command : Option Command) → (text ≡ line) × IsUtf8 line
+    → option_map command_itself command ≡ command_of text → line_command line ≡ option_map command_itself command
+text-line line text command is read =
     let told : is_utf8 line ≡ true = is_utf8-from_IsUtf8 line is.1 in
-    let of_text : command_of line (answers_of line) ≡ option_map command_itself command = rw (← is.0, ← spelt, ← same) (sym read) in
+    let of_text : command_of line ≡ option_map command_itself command = rw (← is.0) (sym read) in
     rw told of_text
 
 -- the answer to a command answers its line

@@ -28,10 +28,11 @@ edit_itself (edits.Retain answers) = edits.Retain (reference_to answers.now)
 edit_itself (edits.CloneFrom source) = edits.CloneFrom (reference_to source.now)
 edit_itself edit = edit
 
--- the same for a command
+-- the same for a command; `retain` is the edit with its flags
 abbrev pub command_itself : Command → Command
 command_itself (commands.New s) = commands.New (reference_to s.now)
 command_itself (commands.CloneFrom s) = commands.CloneFrom (reference_to s.now)
+command_itself (commands.Retain flags) = commands.Edit (edits.Retain (reference_to flags.items))
 command_itself (commands.Edit edit) = commands.Edit (edit_itself edit)
 command_itself command = command
 
@@ -124,52 +125,51 @@ abbrev pub drain_edit : List ℕ → Option (Edit Standard)
 drain_edit rest = and_then (rest_of rest) (λ end. and_then (start_of (word_of rest)) (λ start.
     option_map (λ end. edits.Drain start end) (end_of end)))
 
--- the edit of a word and the text after its space, with these answers if that is BITS
-abbrev pub field_edit : List ℕ → List ℕ → List Bool → Option (Edit Standard)
-field_edit word rest answers = row_of_word word (
+-- the edit of a word and the text after its space
+abbrev pub field_edit : List ℕ → List ℕ → Option (Edit Standard)
+field_edit word rest = row_of_word word (
     (codes "push", option_map (λ c. edits.Push c) (character_of rest))
     ∷ (codes "pushstr", Some (edits.PushStr (reference_to rest)))
     ∷ (codes "insert", insert_edit rest)
     ∷ (codes "insertstr", insert_str_edit rest)
     ∷ (codes "replace", replace_edit rest)
     ∷ (codes "drain", drain_edit rest)
-    ∷ (codes "retain", if are_bits rest then Some (edits.Retain (reference_to answers)) else None)
     ∷ (word, and_then (number_of rest) (number_edit word))
     ∷ [])
 
 -- the command of a line with no space: its TEXT or BITS is empty
-abbrev pub bare_command : List ℕ → List Bool → Option Command
-bare_command word answers = row_of_word word (
+abbrev pub bare_command : List ℕ → Option Command
+bare_command word = row_of_word word (
     (codes "new", Some (commands.New (reference_to [])))
     ∷ (codes "static", Some commands.Static)
     ∷ (codes "clonefrom", Some (commands.CloneFrom (reference_to [])))
     ∷ (codes "pushstr", Some (commands.Edit (edits.PushStr (reference_to []))))
-    ∷ (codes "retain", Some (commands.Edit (edits.Retain (reference_to answers))))
+    ∷ (codes "retain", Some (commands.Edit (edits.Retain (reference_to []))))
     ∷ (word, option_map commands.Edit (bare_edit word))
     ∷ [])
 
--- the command of a word and the text after its space
-abbrev pub field_command : List ℕ → List ℕ → List Bool → Option Command
-field_command word rest answers = row_of_word word (
+-- `retain` with BITS
+abbrev pub retain_command : List ℕ → Option Command
+retain_command bits = if are_bits bits then Some (commands.Edit (edits.Retain (reference_to (bits_of bits)))) else None
+
+-- any other command of a word and the text after its space
+abbrev pub field_command : List ℕ → List ℕ → Option Command
+field_command word rest = row_of_word word (
     (codes "new", Some (commands.New (reference_to rest)))
     ∷ (codes "cap", option_map (λ n. commands.WithCapacity n) (number_of rest))
     ∷ (codes "clonefrom", Some (commands.CloneFrom (reference_to rest)))
-    ∷ (word, option_map commands.Edit (field_edit word rest answers))
+    ∷ (word, option_map commands.Edit (field_edit word rest))
     ∷ [])
 
 -- the command of a word and the text after its space, if any
-abbrev pub command_with : List ℕ → Option (List ℕ) → List Bool → Option Command
-command_with word None answers = bare_command word answers
-command_with word (Some rest) answers = field_command word rest answers
+abbrev pub command_with : List ℕ → Option (List ℕ) → Option Command
+command_with word None = bare_command word
+command_with word (Some rest) = if bytes_eq word (codes "retain") then retain_command rest else field_command word rest
 
--- the command of a text, with these answers if it is a `retain`
-abbrev pub command_of : List ℕ → List Bool → Option Command
-command_of text answers = command_with (word_of text) (rest_of text) answers
-
--- the BITS of `retain`, or no answers
-abbrev pub answers_of : List ℕ → List Bool
-answers_of text = if bytes_eq (word_of text) (codes "retain") then bits_of (unwrap_or (rest_of text) []) else []
+-- the command of a text
+abbrev pub command_of : List ℕ → Option Command
+command_of text = command_with (word_of text) (rest_of text)
 
 -- the command of a line
 abbrev pub line_command : List ℕ → Option Command
-line_command line = if is_utf8 line then command_of line (answers_of line) else None
+line_command line = if is_utf8 line then command_of line else None

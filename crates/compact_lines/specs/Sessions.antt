@@ -1,5 +1,5 @@
 -- The effect of a command on the program's value.
-use Rattle.std.specs.Prelude.{◌≡◌, Bool, true, false, not, [], ◌||◌, replicate, length, Some, IsTrue, Result, Ok, Err}
+use Rattle.std.specs.Prelude.{◌≡◌, List, Bool, true, false, not, [], ◌||◌, replicate, length, Some, IsTrue, Result, Ok, Err}
 use Rattle.std.specs.Borrow.{Bor}
 use Rattle.compact_str.specs.Text.{text_of}
 use Rattle.compact_str.specs.Value.{PlacedText, placed_text}
@@ -12,7 +12,7 @@ use Rattle.compact_edit.specs.declared.edit.Reply.{Reply}
 use Rattle.compact_edit.specs.declared.edit.Reply.TheVariants.{Done}
 use Rattle.compact_edit.specs.Steps.{Step}
 use Rattle.compact_lines.specs.declared.command.Command.{Command}
-use Rattle.compact_lines.specs.declared.command.Command.TheVariants.{New, Static, WithCapacity, CloneFrom, Edit}
+use Rattle.compact_lines.specs.declared.command.Command.TheVariants.{New, Static, WithCapacity, CloneFrom, Retain, Edit}
 
 -- the value, and whether there is room for the reply to an edit
 pub record State : Type 0 where
@@ -30,11 +30,14 @@ Executes v Static reply w = (reply ≡ Done) × (w.placement ≡ static_placemen
 Executes v (WithCapacity n) reply w = (reply ≡ Done) × (with_capacity standard_growth n ≡ Some w)
 Executes v (CloneFrom s) reply w =
     (source : Bor PlacedText) × (new standard_growth (text_of s.now) ≡ Some source.now) × Step standard_growth v (edits.CloneFrom source) reply w
+Executes v (Retain flags) reply w =
+    (kept : Bor (List Bool)) × (kept.now ≡ flags.items) × Step standard_growth v (edits.Retain kept) reply w
 Executes v (Edit edit) reply w = Step standard_growth v edit reply w
 
 -- the command runs an edit, whose reply needs room; that room is kept
 abbrev pub runs_edit : Command → Bool
 runs_edit (CloneFrom s) = true
+runs_edit (Retain flags) = true
 runs_edit (Edit edit) = true
 runs_edit command = false
 
@@ -44,6 +47,7 @@ command_allocates has_room (New s) = with_capacity_allocates (length s.now)
 command_allocates has_room Static = false
 command_allocates has_room (WithCapacity n) = with_capacity_allocates n
 command_allocates has_room (CloneFrom s) = with_capacity_allocates (length s.now) || not has_room
+command_allocates has_room (Retain flags) = not has_room
 command_allocates has_room (Edit edit) = not has_room
 
 -- from s, the command succeeds with a reply and leaves t, or an allocation fails and s is unchanged

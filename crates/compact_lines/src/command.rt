@@ -3,7 +3,7 @@ ghost use Rattle.std.specs.Prelude.{◌≡◌, IfOk};
 ghost use Rattle.std.specs.Option.{option_map, option_copied};
 ghost use Rattle.std.specs.List.{list_all};
 ghost use Rattle.std.specs.Char.{is_ascii_digit};
-ghost use Rattle.compact_lines.specs.Commands.{command_itself, edit_itself, command_of, answers_of, bare_command, bare_edit, field_command, field_edit, number_edit, insert_edit, insert_str_edit, replace_edit, drain_edit, are_bits, word_of, rest_of, number_of, start_of, end_of, character_of};
+ghost use Rattle.compact_lines.specs.Commands.{command_itself, edit_itself, command_of, retain_command, bare_command, bare_edit, field_command, field_edit, number_edit, insert_edit, insert_str_edit, replace_edit, drain_edit, are_bits, word_of, rest_of, number_of, start_of, end_of, character_of};
 
 use compact_edit::Edit;
 use compact_str::Standard;
@@ -11,6 +11,7 @@ use std::alloc::{AllocError, Global};
 use std::ops::Bound;
 
 /// The command of a line.
+#[derive(Drop)]
 pub enum Command<'a> {
     /// Replaces the value by a new one with this text.
     New(&'a str),
@@ -20,52 +21,55 @@ pub enum Command<'a> {
     WithCapacity(usize),
     /// Replaces the value by a clone of a new one with this text.
     CloneFrom(&'a str),
+    /// Keeps the characters whose flag is `true`, and those without one.
+    Retain(Vec<bool>),
     /// Edits the value.
     Edit(Edit<'a, Standard>),
 }
 
-/// Returns the answers of a `retain` line: one for each byte after its space, `true` for 1. Any other line has none.
+/// Parses a line: a word and, after one space, its arguments. Returns `None` if the line is no command.
 ///
 /// # Errors
 ///
-/// `AllocError` if allocation fails.
-pub fn answers(alloc: Global, line: &str) -> Result<Vec<bool>, AllocError>
-    ensures { IfOk result (λ answers. answers.items ≡ answers_of line.now) }
-{
-    match first_word(line) {
-        ("retain", Some(bits)) => bits.bytes().map(|bit| bit == b'1').collect(alloc),
-        _ => Ok(Vec::new(alloc)),
-    }
-}
-
-/// Parses a line: a word and, after one space, its arguments. Returns `None` if the line is no command. `answers` must
-/// be those of the line.
+/// `AllocError` if the flags of a `retain` cannot be allocated.
 ///
 /// # Examples
 ///
 /// `pushstr abc` appends `abc`; `foo` is no command.
-pub fn parse<'a>(line: &'a str, answers: &'a [bool]) -> Option<Command<'a>>
-    ensures { option_map command_itself result ≡ command_of line.now answers.now }
+pub fn parse<'a>(alloc: Global, line: &'a str) -> Result<Option<Command<'a>>, AllocError>
+    ensures { IfOk result (λ command. option_map command_itself command ≡ command_of line.now) }
 {
     let (word, rest) = first_word(line);
     match rest {
-        None => parse_bare(word, answers),
-        Some(rest) => parse_fields(word, rest, answers),
+        None => Ok(parse_bare(alloc, word)),
+        Some(bits) if word == "retain" => parse_retain(alloc, bits),
+        Some(rest) => Ok(parse_fields(word, rest)),
     }
 }
 
 /// Parses a line of one word.
-fn parse_bare<'a>(word: &str, answers: &'a [bool]) -> Option<Command<'a>>
-    ensures { option_map command_itself result ≡ bare_command word.now answers.now }
+fn parse_bare<'a>(alloc: Global, word: &str) -> Option<Command<'a>>
+    ensures { option_map command_itself result ≡ bare_command word.now }
 {
     match word {
         "new" => Some(Command::New("")),
         "static" => Some(Command::Static),
         "clonefrom" => Some(Command::CloneFrom("")),
         "pushstr" => Some(Command::Edit(Edit::PushStr(""))),
-        "retain" => Some(Command::Edit(Edit::Retain(answers))),
+        "retain" => Some(Command::Retain(Vec::new(alloc))),
         _ => parse_bare_edit(word).map(Command::Edit),
     }
+}
+
+/// Parses the flags of a `retain`: one for each byte, `true` for 1.
+fn parse_retain<'a>(alloc: Global, bits: &str) -> Result<Option<Command<'a>>, AllocError>
+    ensures { IfOk result (λ command. option_map command_itself command ≡ retain_command bits.now) }
+{
+    if !are_bits(bits) {
+        return Ok(None);
+    }
+    let flags = bits.bytes().map(|bit| bit == b'1').collect(alloc)?;
+    Ok(Some(Command::Retain(flags)))
 }
 
 /// Parses an edit without arguments.
@@ -84,24 +88,20 @@ fn parse_bare_edit<'a>(word: &str) -> Option<Edit<'a, Standard>>
 }
 
 /// Parses a word and the text after its space.
-fn parse_fields<'a>(word: &str, rest: &'a str, answers: &'a [bool]) -> Option<Command<'a>>
-    ensures { option_map command_itself result ≡ field_command word.now rest.now answers.now }
+fn parse_fields<'a>(word: &str, rest: &'a str) -> Option<Command<'a>>
+    ensures { option_map command_itself result ≡ field_command word.now rest.now }
 {
     match word {
         "new" => Some(Command::New(rest)),
         "cap" => Some(Command::WithCapacity(number(rest)?)),
         "clonefrom" => Some(Command::CloneFrom(rest)),
-        _ => parse_field_edit(word, rest, answers).map(Command::Edit),
+        _ => parse_field_edit(word, rest).map(Command::Edit),
     }
 }
 
 /// Parses an edit from a word and the text after its space.
-fn parse_field_edit<'a>(
-    word: &str,
-    rest: &'a str,
-    answers: &'a [bool],
-) -> Option<Edit<'a, Standard>>
-    ensures { option_map edit_itself result ≡ field_edit word.now rest.now answers.now }
+fn parse_field_edit<'a>(word: &str, rest: &'a str) -> Option<Edit<'a, Standard>>
+    ensures { option_map edit_itself result ≡ field_edit word.now rest.now }
 {
     match word {
         "push" => Some(Edit::Push(character(rest)?)),
@@ -110,13 +110,6 @@ fn parse_field_edit<'a>(
         "insertstr" => parse_insert_str(rest),
         "replace" => parse_replace(rest),
         "drain" => parse_drain(rest),
-        "retain" => {
-            if are_bits(rest) {
-                Some(Edit::Retain(answers))
-            } else {
-                None
-            }
-        }
         _ => parse_number_edit(word, number(rest)?),
     }
 }

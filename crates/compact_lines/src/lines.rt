@@ -7,7 +7,7 @@ ghost use Rattle.compact_str.specs.Text.{utf8};
 ghost use Rattle.compact_lines.specs.Commands.{line_command};
 ghost use Rattle.compact_lines.specs.Lines.{AnswersInput, AnswersInPart, AppendsAnswer, AppendsAnswerFront, AppendsAnswers, AppendsFront, AppendsPart, AppendsSomeAnswers, outcome_line, place_word, reply_line, value_line};
 
-use crate::command::{Command, answers, parse};
+use crate::command::{Command, parse};
 use crate::session::Session;
 use crate::write::write_texts;
 use compact_edit::Reply;
@@ -104,11 +104,10 @@ fn answer_line<W: Write>(
     let Ok(line) = std::str::from_utf8(line) else {
         return write_texts(&["?\n"], writer);
     };
-    let answers = answers(alloc, line)?;
-    let Some(command) = parse(line, answers.as_slice()) else {
-        return write_texts(&["?\n"], writer);
-    };
-    answer_command(session, command, writer)
+    match parse(alloc, line)? {
+        Some(command) => answer_command(session, command, writer),
+        None => write_texts(&["?\n"], writer),
+    }
 }
 
 /// Runs a command and writes its two lines.

@@ -84,6 +84,7 @@ impl Session {
                 let source = CompactString::new(self.alloc, text)?;
                 self.edit(Edit::CloneFrom(&source))
             }
+            Command::Retain(flags) => self.edit(Edit::Retain(flags.as_slice())),
             Command::Edit(edit) => self.edit(edit),
         }
     }

@@ -10,18 +10,17 @@ pub returns-in_default-clause-err : goal.returns-in_default-clause-err
 returns-in_default-clause-err g c =
     part-of-line _ _ _ None _ _ _ (broken-line _ c.in_default.ensures.cases.0) (no-command-stopped _ _ _ _ c.write_texts.ensures.err)
 
-pub returns-in_default-parse-clause-err : goal.returns-in_default-parse-clause-err
-returns-in_default-parse-clause-err g c =
-    let read = rw c.in_default-parse.is at c.parse.ensures in
-    let is = text-line _ _ _ _ None c.in-Ok.ensures.cases c.as_slice.ensures.value c.in_ok-answers.ensures read in
-    part-of-line _ _ _ None _ _ _ is (no-command-stopped _ _ _ _ c.write_texts-in_default-parse.ensures.err)
-
-pub returns-clause-ok : goal.returns-clause-ok
-returns-clause-ok g c =
-    let is = text-line _ _ _ _ (Some c.in-Some.command) c.in-Ok.ensures.cases c.as_slice.ensures.value c.in_ok-answers.ensures c.in-Some.ensures in
+pub returns-in-Some-clause-ok : goal.returns-in-Some-clause-ok
+returns-in-Some-clause-ok g c =
+    let is = text-line _ _ (Some c.in-Some.command) c.in-Ok.ensures.cases (rw c.in-Some.is at c.in_ok-command.ensures) in
     command-of-line _ _ _ (Some c.in-Some.command) _ _ _ is c.answer_command.ensures.ok
 
-pub returns-clause-err : goal.returns-clause-err
-returns-clause-err g c =
-    let is = text-line _ _ _ _ (Some c.in-Some.command) c.in-Ok.ensures.cases c.as_slice.ensures.value c.in_ok-answers.ensures c.in-Some.ensures in
+pub returns-in-Some-clause-err : goal.returns-in-Some-clause-err
+returns-in-Some-clause-err g c =
+    let is = text-line _ _ (Some c.in-Some.command) c.in-Ok.ensures.cases (rw c.in-Some.is at c.in_ok-command.ensures) in
     part-of-line _ _ _ (Some c.in-Some.command) _ _ _ is c.answer_command.ensures.err
+
+pub returns-in-None-clause-err : goal.returns-in-None-clause-err
+returns-in-None-clause-err g c =
+    let is = text-line _ _ None c.in-Ok.ensures.cases (rw c.in-None.is at c.in_ok-command.ensures) in
+    part-of-line _ _ _ None _ _ _ is (no-command-stopped _ _ _ _ c.write_texts-in-None.ensures.err)
