@@ -3,6 +3,8 @@ use Rattle.std.specs.Prelude.{◌≡◌, ℕ, List, Bool, Result, IfOk, IfErr, O
 use Rattle.compact_str.specs.Text.{size}
 use Rattle.compact_str.specs.Value.{PlacedText}
 use Rattle.compact_str.specs.Words.{INLINE_CAPACITY, IsPlacedAsNew, inline_placement, standard_growth}
+use Rattle.std.specs.declared.io.ErrorKind.{ErrorKind}
+use Rattle.std.specs.declared.io.ErrorKind.TheVariants.{OutOfMemory, Other}
 use Rattle.compact_ext.specs.declared.format.ToCompactStringError.{ToCompactStringError}
 use Rattle.compact_ext.specs.declared.format.ToCompactStringError.TheVariants.{Reserve, Fmt}
 
@@ -10,6 +12,11 @@ use Rattle.compact_ext.specs.declared.format.ToCompactStringError.TheVariants.{R
 abbrev pub IsFormatReserve : ToCompactStringError → Type 0
 IsFormatReserve (Reserve _) = ⊤
 IsFormatReserve (Fmt _) = ⊥
+
+-- the kind of the `io::Error` that the error becomes
+abbrev pub format_error_kind : ToCompactStringError → ErrorKind
+format_error_kind (Reserve _) = OutOfMemory
+format_error_kind (Fmt _) = Other
 
 -- r is a conversion to the text t, as `ToCompactString::to_compact_string` spells it out
 pub record Converts (t : List ℕ) (IsShort : Type 0) (r : Result PlacedText ToCompactStringError) : Type 0 where

@@ -1,6 +1,7 @@
 //! Strings from numbers and formats, and a binary wire form for strings.
 #![tactic(auto, using(compact_text::proofs::TextFacts::text_facts))]
 
+mod error_conversions;
 mod format;
 mod to_text;
 pub mod wire;
