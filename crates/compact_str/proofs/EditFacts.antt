@@ -3,7 +3,7 @@ use Rattle.std.proofs.lemmas.Str.{IsUtf8-string_bytes, length-encode, encodes-ch
 use Rattle.compact_text.proofs.TextFacts.{text_facts}
 use Rattle.compact_repr.proofs.Placed.{append-in_place, insert-in_place, replace-in_place, owned-in_place}
 use Rattle.compact_text.proofs.Cuts.{boundary-within, size-text_after, boundary-next, text_after-next}
-use Rattle.compact_str.proofs.Positions.{truncate-text, boundary-cut, inserted-bytes, inserted-boundary, inserted-after, removed-character, removed-ascii, removed-ascii_character, removed-char_at}
+use Rattle.compact_str.proofs.Positions.{truncate-text, boundary-cut, before_bytes, after_bytes, truncated-bytes, inserted-bytes, inserted-boundary, inserted-after, removed-character, removed-ascii, removed-ascii_character, removed-char_at}
 use Rattle.compact_str.proofs.Rooms.{append-sure, room-sure, appended-bytes, pushed-bytes}
 use Rattle.compact_text.proofs.AsciiCase.{boundary-lowercase, boundary-uppercase}
 use Rattle.compact_str.proofs.AsciiCase.{new-lowercase, new-uppercase}
@@ -16,7 +16,7 @@ pub ruleset append_facts = (text_facts, append-in_place, append-sure, appended-b
 pub ruleset character_facts = (text_facts, append-in_place, append-sure, pushed-bytes, length-encode)
 
 -- edits at a position
-pub ruleset position_facts = (text_facts, boundary-within, size-text_after, boundary-next, text_after-next, truncate-text, boundary-cut)
+pub ruleset position_facts = (text_facts, boundary-within, size-text_after, boundary-next, text_after-next, truncate-text, boundary-cut, before_bytes, after_bytes, truncated-bytes, pushed-bytes)
 
 -- insertion
 pub ruleset insertion_facts = (text_facts, insert-in_place, room-sure, boundary-within, inserted-bytes, inserted-boundary, inserted-after, encodes-chars)

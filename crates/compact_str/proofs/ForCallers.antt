@@ -28,7 +28,7 @@ pub use Rattle.compact_text.proofs.Cuts.{text_before-text_after, text_before-app
 pub use Rattle.compact_repr.proofs.PackedTexts.{one_text}
 pub use Rattle.compact_repr.proofs.ByteOrder.{utf8-same}
 pub use Rattle.compact_str.proofs.Rooms.{appended-bytes, pushed-bytes}
-pub use Rattle.compact_str.proofs.Positions.{text_before-text_before, boundary-seam}
+pub use Rattle.compact_str.proofs.Positions.{text_before-text_before, boundary-seam, before_bytes, after_bytes, replaced-bytes}
 pub use Rattle.compact_str.proofs.Collecting.{join-map}
 pub use Rattle.compact_str.proofs.KeyFacts.{texts-from_same, same-from_texts, texts-from_equal}
 
@@ -142,7 +142,7 @@ utf8-signed z h = encodes-IsAscii (signed_decimal z) (IsAscii-signed z h)
 
 -- for callers with clauses on bytes, as `utf8 v.text ≡ string_bytes s`: the bytes after calls whose clauses are on
 -- characters, and that equal bytes are equal texts. Named beside `for_callers` or alone.
-pub ruleset in_bytes = (made-bytes, appended-bytes, pushed-bytes, utf8-decimal, utf8-signed, IsUtf8-string_bytes, IsUtf8-from_is_utf8, utf8-same, append_assoc)
+pub ruleset in_bytes = (made-bytes, appended-bytes, pushed-bytes, utf8-decimal, utf8-signed, IsUtf8-string_bytes, IsUtf8-from_is_utf8, utf8-same, before_bytes, after_bytes, replaced-bytes, append_assoc)
 
 -- for callers that decode bytes: valid bytes are their own lossy text, and std's test of validity
 pub invalid-is_utf8 : (bytes : List ℕ) → ¬ (IsUtf8 bytes) → is_utf8 bytes ≡ false

@@ -1,7 +1,7 @@
 -- Texts and values cut at a position.
-use Rattle.std.proofs.Common.{◌≡◌, ℕ, ◌+◌, ◌-◌, ◌≤◌, List, [], ◌∷◌, ◌++◌, take, drop, refl, ap, sym, subst, ◌∙◌, arith, append_assoc, append-nil, take_at, drop_at}
+use Rattle.std.proofs.Common.{◌≡◌, ℕ, ◌+◌, ◌-◌, ◌≤◌, List, [], ◌∷◌, ◌++◌, length, ◌<◌, ◌⊎◌, inl, inr, take, drop, take_all, refl, ap, sym, subst, ◌∙◌, arith, append_assoc, append-nil, take_at, drop_at}
 use Rattle.std.proofs.lemmas.Grind.{common_steps}
-use Rattle.std.proofs.lemmas.Bool.{cond-true, le-leb}
+use Rattle.std.proofs.lemmas.Bool.{cases_lt, cond-true, le-leb}
 use Rattle.std.proofs.lemmas.Bool.Decides.{nat_tests}
 use Rattle.std.proofs.lemmas.Str.{encodes-append}
 use Rattle.std.specs.Char.{len_utf8}
@@ -61,19 +61,39 @@ pub on_ok : {E P Q : Type 0} (r : Result (Unit {0}) E) → (P → Q) → OnOk r 
 on_ok (Ok _) f p = f p
 on_ok (Err _) f p = tt
 
+-- the bytes of the two parts of a text at a boundary
+module _ (t : List ℕ) (p : ℕ) (h : IsBoundary t p) where
+  parts : utf8 t ≡ utf8 (text_before t p) ++ utf8 (text_after t p)
+  parts = ap utf8 (text_before-text_after t p) ∙ encodes-append (text_before t p) (text_after t p)
+
+  long : length (utf8 (text_before t p)) ≡ p
+  long = length-utf8 (text_before t p) ∙ size-text_before t p h
+
+  pub before_bytes : utf8 (text_before t p) ≡ take p (utf8 t)
+  before_bytes = sym (ap (take p) parts ∙ take_at (utf8 (text_before t p)) (utf8 (text_after t p)) p long)
+
+  pub after_bytes : utf8 (text_after t p) ≡ drop p (utf8 t)
+  after_bytes = sym (ap (drop p) parts ∙ drop_at (utf8 (text_before t p)) (utf8 (text_after t p)) p long)
+
+-- the bytes of a prefix, which may be the whole text
+pub truncated-bytes : (t u : List ℕ) (p : ℕ) → u ≡ text_before t p → (p < size t → IsBoundary t p) → utf8 u ≡ take p (utf8 t)
+truncated-bytes t u p is within = ap utf8 is ∙ cases (cases_lt p (size t))
+  where
+    cases : (p < size t) ⊎ (size t ≤ p) → utf8 (text_before t p) ≡ take p (utf8 t)
+    cases (inl inside) = before_bytes t p (within inside)
+    cases (inr past) = ap utf8 (text_before-all t p past) ∙ sym (take_all p (utf8 t) (omega (arith, length-utf8 t, past)))
+
+-- the bytes of a text of which a part was replaced with s
+pub replaced-bytes : (t u s bytes : List ℕ) (p q : ℕ) → u ≡ replaced_text t p q s → IsBoundary t p → IsBoundary t q → utf8 s ≡ bytes → utf8 u ≡ take p (utf8 t) ++ bytes ++ drop q (utf8 t)
+replaced-bytes t u s bytes p q is h k encoded =
+    ap utf8 is
+    ∙ encodes-append (text_before t p ++ s) (text_after t q)
+    ∙ ap (λ x. x ++ utf8 (text_after t q)) (encodes-append (text_before t p) s)
+    ∙ rw (encoded, before_bytes t p h, after_bytes t q k) refl
+
 -- a text in which s was inserted: its bytes, and the boundaries round s
 pub inserted-bytes : (t u s bytes : List ℕ) (p : ℕ) → u ≡ replaced_text t p p s → IsBoundary t p → utf8 s ≡ bytes → utf8 u ≡ insert_slice (utf8 t) p bytes
-inserted-bytes t u s bytes p is h encoded =
-    let front = utf8 (text_before t p) in
-    let back = utf8 (text_after t p) in
-    let parts : utf8 t ≡ front ++ back = ap utf8 (text_before-text_after t p) ∙ encodes-append (text_before t p) (text_after t p) in
-    let long = length-utf8 (text_before t p) ∙ size-text_before t p h in
-    ap utf8 is
-    ∙ encodes-append (text_before t p ++ s) (text_after t p)
-    ∙ ap (λ x. x ++ back) (encodes-append (text_before t p) s)
-    ∙ ap (λ x. (front ++ x) ++ back) encoded
-    ∙ ap (λ x. (x ++ bytes) ++ back) (sym (ap (take p) parts ∙ take_at front back p long))
-    ∙ ap (λ x. (take p (utf8 t) ++ bytes) ++ x) (sym (ap (drop p) parts ∙ drop_at front back p long))
+inserted-bytes t u s bytes p is h encoded = replaced-bytes t u s bytes p p is h h encoded
 
 pub inserted-boundary : (t u s : List ℕ) (p : ℕ) → u ≡ replaced_text t p p s → IsBoundary t p → IsBoundary u p
 inserted-boundary t u s p is h = subst (λ (x : List ℕ). IsBoundary x p) (sym is) (replace_range-start t s p p h)

@@ -38,6 +38,7 @@ impl PolicyString<Standard> {
     pub fn from_utf8(alloc: Global, bytes: &[u8]) -> Result<CompactString, FromUtf8Error>
         // Copies valid bytes as `new` does.
         ensures text { IfOk result (λ v. v.text ≡ text_of bytes.now) }
+        ensures bytes { IfOk result (λ v. utf8 v.text ≡ bytes.now) }
         ensures encoded { IfOk result (λ v. BytesEncode bytes.now v.text) }
         ensures valid { OnOk result (IsUtf8 bytes.now) }
         ensures place { IfOk result (IsPlacedAsNew standard_growth) }

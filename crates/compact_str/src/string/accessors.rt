@@ -106,6 +106,7 @@ impl<P: Policy> PolicyString<P> {
     #[inline]
     pub fn len(&self) -> usize
         ensures value { result ≡ size self.now.text }
+        ensures bytes { result ≡ length (utf8 self.now.text) }
         ensures small { result < 2 ^ 63 }
         ensures sound { IsSound self.now }
     {

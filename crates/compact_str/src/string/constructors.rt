@@ -30,7 +30,8 @@ impl<P: Policy> PolicyString<P> {
     /// ```
     #[inline]
     pub fn default(alloc: Global) -> Self
-        ensures { result ≡ placed_text [] inline_placement }
+        ensures value { result ≡ placed_text [] inline_placement }
+        ensures bytes { utf8 result.text ≡ [] }
     {
         PolicyString {
             repr: Repr::empty(alloc),
@@ -277,8 +278,9 @@ impl<P: Policy> PolicyString<P> {
 }
 
 impl<P: Policy> From<String> for PolicyString<P> {
-    ghost from_gives = { λ s v. let t = text_of (string_bytes s) in v
-        ≡ placed_text t (from_string_placement t (string_capacity s)) };
+    ghost from_gives = { λ s v. let t = text_of (string_bytes s) in
+        (v ≡ placed_text t (from_string_placement t (string_capacity s)))
+        × (utf8 v.text ≡ string_bytes s) };
 
     /// Takes ownership of `text` without allocating. Up to 24 bytes it becomes inline and its buffer is freed;
     /// otherwise it keeps its buffer and capacity.
@@ -289,6 +291,7 @@ impl<P: Policy> From<String> for PolicyString<P> {
     /// let text = String::from_str(alloc, "Zoë")?;
     /// assert!(rt; !CompactString::from(text).is_heap_allocated());
     /// ```
+    #[tactic(auto, using(crate::proofs::ForCallers::in_bytes))]
     fn from(text: String) -> Self {
         PolicyString {
             repr: Repr::from_string(text),
@@ -300,8 +303,8 @@ impl<P: Policy> TryFrom<Vec<u8>> for PolicyString<P> {
     type Error = FromUtf8Error;
 
     ghost try_from_gives = { λ b r. (IsOk r ↔ IsUtf8 b.items) × MatchResult r
-        (λ v. let t = text_of b.items in v
-        ≡ placed_text t (from_string_placement t (vec_capacity b)))
+        (λ v. let t = text_of b.items in
+        (v ≡ placed_text t (from_string_placement t (vec_capacity b))) × (utf8 v.text ≡ b.items))
         (λ e. (from_utf8_error_vec e ≡ b) × IsErrorOf b.items (from_utf8_error_cause e)) };
 
     /// Takes ownership of UTF-8 bytes as `From<String>` does, without allocating.
@@ -329,7 +332,8 @@ impl<P: Policy> TryFrom<Vec<u8>> for PolicyString<P> {
 
 impl<P: Policy> From<BoxedStr> for PolicyString<P> {
     ghost from_gives = { λ b v. let t = text_of (boxed_str_bytes b) in
-        (v.text ≡ t) × ((capacity : ℕ) × (v ≡ placed_text t (from_string_placement t capacity))) };
+        (v.text ≡ t) × (utf8 v.text ≡ boxed_str_bytes b)
+        × ((capacity : ℕ) × (v ≡ placed_text t (from_string_placement t capacity))) };
 
     /// Takes ownership of `text` as `From<String>` does, with the capacity of the box. Never allocates, unlike
     /// `from_boxed_str`.

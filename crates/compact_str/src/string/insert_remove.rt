@@ -1,5 +1,5 @@
 //! Editing by byte position.
-ghost use Rattle.std.specs.Prelude.{◌≡◌, ℕ, ◌+◌, ◌-◌, ◌^◌, ◌<◌, ◌≤◌, ◌∷◌, [], length, Some, None, IfOk, OnOk, OnErr, IsOk, MatchOption};
+ghost use Rattle.std.specs.Prelude.{◌≡◌, ℕ, ◌+◌, ◌-◌, ◌^◌, ◌<◌, ◌≤◌, ◌∷◌, [], length, take, drop, Some, None, IfOk, OnOk, OnErr, IsOk, MatchOption};
 ghost use Rattle.std.specs.Char.{len_utf8, encode_utf8};
 ghost use Rattle.std.specs.List.{insert_slice};
 ghost use Rattle.compact_str.specs.Words.{size, text_of, utf8, text_before, text_after, replaced_text, IsCut, IsBoundary, IsStatic, IsOwned, INLINE_CAPACITY, KeepsPlace, PlacedFor, AllocatesFor, owned, room, room_to_replace, HasRoomFor, infallible_capacity};
@@ -285,7 +285,9 @@ impl<P: Policy> PolicyString<P> {
 
         // Returns the part from `index` on, and keeps the part before it in its place.
         ensures text { OnOk result (self.new.text ≡ text_before self.old.text index) }
+        ensures bytes { OnOk result (utf8 self.new.text ≡ take index (utf8 self.old.text)) }
         ensures tail { IfOk result (λ tail. tail.text ≡ text_after self.old.text index) }
+        ensures tail_bytes { IfOk result (λ tail. utf8 tail.text ≡ drop index (utf8 self.old.text)) }
         ensures cut { IfOk result (λ tail. IsCut self.old.text index self.new.text tail.text) }
         ensures boundaries { IsOk result → (i : ℕ) → i ≤ index → IsBoundary self.old.text i
             → IsBoundary self.new.text i }

@@ -1,5 +1,5 @@
 //! Appending, popping and truncating.
-ghost use Rattle.std.specs.Prelude.{◌≡◌, ℕ, ◌<◌, ◌≤◌, ◌++◌, ◌∷◌, [], length, IsOk, IfOk, IfErr, IfNone, OnOk, OnErr, OnSome, MatchOption};
+ghost use Rattle.std.specs.Prelude.{◌≡◌, ℕ, ◌<◌, ◌≤◌, ◌++◌, ◌∷◌, [], length, take, IsOk, IfOk, IfErr, IfNone, IfSome, OnOk, OnErr, OnSome, MatchOption};
 ghost use Rattle.std.specs.Char.{len_utf8, encode_utf8};
 ghost use Rattle.compact_str.specs.Words.{size, text_of, utf8, IsBoundary, text_before, KeepsPlace, PlacedFor, AllocatesFor, room_to_append, HasRoomFor, infallible_capacity};
 ghost use Rattle.compact_str.specs.Output.{Writes};
@@ -147,6 +147,8 @@ impl<P: Policy> PolicyString<P> {
         // Removes and returns the last character. Leaves an empty string unchanged.
         ensures text { MatchOption result (self.old.text ≡ [])
             (λ c. self.old.text ≡ self.new.text ++ c ∷ []) }
+        ensures bytes { IfSome result
+            (λ c. utf8 self.old.text ≡ utf8 self.new.text ++ encode_utf8 c) }
         ensures place { OnSome result (KeepsPlace self.old self.new) }
         ensures none { IfNone result (self.new ≡ self.old) }
     {
@@ -173,6 +175,7 @@ impl<P: Policy> PolicyString<P> {
     pub fn truncate(&mut self, len: usize)
         requires { len < size self.old.text → IsBoundary self.old.text len }
         ensures text { self.new.text ≡ text_before self.old.text len }
+        ensures bytes { utf8 self.new.text ≡ take len (utf8 self.old.text) }
         ensures place { KeepsPlace self.old self.new }
 
         // Boundaries up to `len` remain boundaries.
@@ -196,6 +199,7 @@ impl<P: Policy> PolicyString<P> {
     #[inline]
     pub fn clear(&mut self)
         ensures text { self.new.text ≡ [] }
+        ensures bytes { utf8 self.new.text ≡ [] }
         ensures place { KeepsPlace self.old self.new }
     {
         self.repr.clear();
