@@ -1,5 +1,5 @@
 //! Contracts stated in bytes, as those of `String` are.
-ghost use Rattle.std.specs.Prelude.{◌≡◌, ℕ, ◌++◌, codes, decimal, OnOk, IfOk, OnErr, take, drop, flat_map};
+ghost use Rattle.std.specs.Prelude.{◌≡◌, ◌≤◌, ℕ, ◌++◌, codes, decimal, OnOk, IfOk, OnErr, take, drop, flat_map};
 ghost use Rattle.std.specs.Char.{encode_utf8};
 ghost use Rattle.std.specs.Str.Replace.{ReplacesMatches};
 ghost use Rattle.std.specs.Cow.{cow_str_bytes};
@@ -61,8 +61,32 @@ pub fn heading(alloc: Global, text: CowStr<'_>) -> Result<CompactString, Reserve
     Ok(heading)
 }
 
-/// Replaces each comma by a semicolon.
+/// Shortens a line to its first `len` bytes, a boundary.
+pub fn shorten(line: &mut CompactString, len: usize)
+    requires { IsBoundary line.old.text len }
+    ensures { utf8 line.new.text ≡ take len (utf8 line.old.text) }
+{
+    line.truncate(len);
+}
+
+/// Replaces the bytes from one boundary to another.
 #[tactic(auto, using(compact_str::proofs::ForCallers::in_bytes))]
+pub fn overwrite(
+    line: &mut CompactString,
+    start: usize,
+    end: usize,
+    text: &str,
+) -> Result<(), ReserveError>
+    requires order { start ≤ end }
+    requires first { IsBoundary line.old.text start }
+    requires last { IsBoundary line.old.text end }
+    ensures { OnOk result (utf8 line.new.text
+        ≡ take start (utf8 line.old.text) ++ text.now ++ drop end (utf8 line.old.text)) }
+{
+    line.replace_within(start..end, text)
+}
+
+/// Replaces each comma by a semicolon.
 pub fn with_semicolons(alloc: Global, text: &str) -> Result<CompactString, AllocError>
     ensures { IfOk result (λ v. (n : ℕ) × ReplacesMatches ⟦<char as Pattern>⟧.find_in_gives
         ⟦<char as Pattern>⟧.same_pattern (codes ";") n 44 text.now (utf8 v.text)) }

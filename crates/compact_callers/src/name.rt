@@ -29,3 +29,11 @@ pub fn known(names: &mut Interner, number: u32, text: &str) -> u32
         Err(_) => unreachable!(),
     }
 }
+
+/// Returns the number of a known name, and adds nothing.
+pub fn number_of_known(names: &Interner, number: u32, text: &str) -> Option<u32>
+    requires { slice_get names.now number ≡ Some (text_of text.now) }
+    ensures { result ≡ Some number }
+{
+    names.number(text)
+}

@@ -4,7 +4,7 @@ use crate::asserts::assert_that;
 use compact_asserts::that;
 use compact_callers::in_bytes::{
     append_both, entry, greeting, heading, mark_at, marked, names_in_a_row, names_in_line,
-    port_part, port_text, with_semicolons,
+    overwrite, port_part, port_text, shorten, with_semicolons,
 };
 use compact_testing::seen::{is_heap, is_inline};
 use compact_testing::values::short;
@@ -50,4 +50,11 @@ fn texts_are_changed(rt: HostRuntime) {
     that(line.is_char_boundary(2)).expect(rt, "a boundary");
     mark_at(&mut line, 2, "§").expect(rt, "memory");
     assert_that(rt, is_inline(&line, "ä§€x"));
+    that(line.is_char_boundary(2)).expect(rt, "a boundary");
+    that(line.is_char_boundary(4)).expect(rt, "a boundary");
+    overwrite(&mut line, 2, 4, "!").expect(rt, "memory");
+    assert_that(rt, is_inline(&line, "ä!€x"));
+    that(line.is_char_boundary(3)).expect(rt, "a boundary");
+    shorten(&mut line, 3);
+    assert_that(rt, is_inline(&line, "ä!"));
 }

@@ -1,7 +1,7 @@
 //! Tests of the callers in `name.rt`.
 
 use crate::asserts::assert_equal;
-use compact_callers::name::{known, pair};
+use compact_callers::name::{known, number_of_known, pair};
 use compact_edit::Interner;
 
 #[test]
@@ -12,4 +12,5 @@ fn a_pair_has_two_numbers(rt: HostRuntime) {
     assert_equal(rt, numbers.0, 0);
     assert_equal(rt, numbers.1, 1);
     assert_equal(rt, known(&mut names, numbers.1, "b"), 1);
+    assert_equal(rt, number_of_known(&names, numbers.0, "a"), Some(0));
 }
