@@ -1,0 +1,4 @@
+//! The string type, which `bench/programs.py` replaces.
+
+pub use compact_str::CompactString as Text;
+pub use compact_str::ReserveError as Refused;
