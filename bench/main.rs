@@ -49,22 +49,22 @@ fn spent() -> f64 {
     time.seconds as f64 * 1e9 + time.nanoseconds as f64
 }
 
-/// The time of `n` operations less that of none, and their checksum.
-fn timed(run: &Run, n: u64) -> (f64, u64) {
+/// The time of `n` operations less that of none, this time, and the checksum.
+fn timed(run: &Run, n: u64) -> (f64, f64, u64) {
     let begun = spent();
     black_box(run(black_box(0)));
-    let made = spent();
+    let idle = spent() - begun;
     let sum = run(black_box(n));
-    (spent() - made - (made - begun), sum)
+    (spent() - begun - 2.0 * idle, idle, sum)
 }
 
-/// A number of operations that takes about `SPAN`.
+/// A number of operations that takes about `SPAN`, and more than making the inputs.
 fn operations(run: &Run) -> u64 {
     let mut n = 1;
     loop {
-        let (time, _) = timed(run, n);
-        if time > SPAN / 8.0 {
-            return ((n as f64 * SPAN / time) as u64).max(1);
+        let (time, idle, _) = timed(run, n);
+        if time > SPAN / 8.0 && time > idle {
+            return (n as f64 * SPAN.max(2.0 * idle) / time) as u64 + 1;
         }
         n *= 4;
     }
@@ -80,7 +80,7 @@ pub struct Measured {
 
 impl Measured {
     fn of(row: &Row, turns: usize) -> Self {
-        let n = row.runs[0].as_ref().map_or(1, operations);
+        let n = row.runs.iter().flatten().next().map_or(1, operations);
         let mut times = [const { Vec::new() }; 4];
         let mut sums = Vec::new();
         let mut kept = Vec::new();
@@ -90,7 +90,7 @@ impl Measured {
             kept.extend((0..3).map(|_| black_box(vec![0u8; 1000])));
             for (times, run) in times.iter_mut().zip(&row.runs) {
                 if let Some(run) = run {
-                    let (time, sum) = timed(run, n);
+                    let (time, _, sum) = timed(run, n);
                     sums.push(sum);
                     // The first turn only warms up.
                     if turn > 0 {

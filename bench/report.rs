@@ -49,10 +49,10 @@ pub fn line(row: &Measured) -> String {
     )
 }
 
-/// The geometric mean of numbers.
-pub fn mean(numbers: impl Iterator<Item = f64>) -> Option<f64> {
-    let (count, sum) = numbers.fold((0, 0.0), |(count, sum), number| (count + 1, sum + number.ln()));
-    (count > 0).then(|| (sum / f64::from(count)).exp())
+/// The geometric mean of ratios; those of rows with no other type are 0, and left out.
+pub fn mean(ratios: impl Iterator<Item = f64>) -> Option<f64> {
+    let logs: Vec<f64> = ratios.filter(|ratio| *ratio > 0.0).map(f64::ln).collect();
+    (!logs.is_empty()).then(|| (logs.iter().sum::<f64>() / logs.len() as f64).exp())
 }
 
 /// The rows, the slowest beside the best of Rust's types first.

@@ -108,6 +108,10 @@ macro_rules! rows {
                     run(|n| library::workloads::$workload(n)),
                 ],
             });)*
+            // A `String` is already one.
+            for row in rows.iter_mut().filter(|row| row.call == "into_string" && !row.input.is_empty()) {
+                row.runs[0] = None;
+            }
             rows
         }
     };

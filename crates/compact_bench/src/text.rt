@@ -64,6 +64,7 @@ pub trait Text: Clone + Eq + Ord + Hash {
 }
 
 impl Text for CompactString {
+    #[inline(always)]
     fn new(alloc: Global, text: &str) -> Result<Self, ReserveError> {
         CompactString::new(alloc, text)
     }
@@ -144,6 +145,7 @@ impl Text for CompactString {
         Ok(())
     }
 
+    #[inline(always)]
     fn remove(&mut self, at: usize) -> Result<char, ReserveError> {
         if at < self.len() && self.is_char_boundary(at) {
             self.remove(at)
@@ -160,6 +162,7 @@ impl Text for CompactString {
         }
     }
 
+    #[inline(always)]
     fn replace(&mut self, first: usize, last: usize, text: &str) -> Result<(), ReserveError> {
         let (start, end) = (Bound::Included(first), Bound::Excluded(last));
         if self.check_range(start, end).is_some() {
@@ -201,6 +204,7 @@ impl Text for CompactString {
 }
 
 impl Text for String {
+    #[inline(always)]
     fn new(alloc: Global, text: &str) -> Result<Self, ReserveError> {
         Ok(String::from_str(alloc, text)?)
     }
@@ -281,6 +285,7 @@ impl Text for String {
         Ok(())
     }
 
+    #[inline(always)]
     fn remove(&mut self, at: usize) -> Result<char, ReserveError> {
         if at < self.len() && self.is_char_boundary(at) {
             Ok(self.remove(at))
@@ -297,6 +302,7 @@ impl Text for String {
         }
     }
 
+    #[inline(always)]
     fn replace(&mut self, first: usize, last: usize, text: &str) -> Result<(), ReserveError> {
         if first <= last && self.is_char_boundary(first) && self.is_char_boundary(last) {
             self.replace_range(first..last, text)?;

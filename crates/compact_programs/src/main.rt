@@ -11,10 +11,9 @@ mod text;
 mod write;
 
 use std::alloc::Global;
-use std::io;
 use std::io::{BufWriter, Read, Write};
 use std::process::ExitCode;
-use std::{env, str};
+use std::{env, io, str};
 
 fn main(rt: HostRuntime) -> ExitCode {
     let Ok(mut arguments) = env::args(&rt) else {
