@@ -1,4 +1,11 @@
-//! The inputs of the workloads.
+//! The inputs: the same as those of `crates/compact_bench`, by the same generator.
+
+use std::collections::HashSet;
+
+/// The kinds of characters: ASCII letters, characters of two, three or four bytes, or half letters and half others.
+pub const KINDS: [&str; 5] = ["ascii", "two", "three", "four", "mixed"];
+pub const LETTERS: u32 = 0;
+pub const MIXED: u32 = 4;
 
 /// An xorshift generator.
 pub struct Generator {
@@ -21,52 +28,178 @@ impl Generator {
 
     /// Draws a number below `limit`.
     pub fn below(&mut self, limit: u32) -> u32 {
-        let high = self.next() >> 32;
-        ((high * u64::from(limit)) >> 32) as u32
+        (((self.next() >> 32) * u64::from(limit)) >> 32) as u32
     }
 
-    /// Draws a word of `len` letters.
-    pub fn word(&mut self, len: u32) -> String {
-        let mut word = String::new();
-        for _ in 0..len {
-            word.push(letter(self.below(26)));
+    fn character(&mut self, kind: u32) -> char {
+        match kind {
+            LETTERS => nth(LETTERS, self.below(26)),
+            MIXED => match self.below(8) {
+                0..=3 => nth(LETTERS, self.below(26)),
+                4 => 'ä',
+                5 => 'Σ',
+                6 => '€',
+                _ => '𝄞',
+            },
+            _ => nth(kind, self.below(32)),
         }
-        word
+    }
+
+    /// Draws a text of `len` bytes; where no character of its kind fits any more it ends in a's.
+    pub fn text(&mut self, kind: u32, len: u32) -> String {
+        let (len, width) = (len as usize, kind.min(3) as usize + 1);
+        let mut text = String::with_capacity(len);
+        while text.len() + width <= len {
+            text.push(self.character(kind));
+        }
+        while text.len() < len {
+            text.push('a');
+        }
+        text
+    }
+
+    /// Draws texts of `least` bytes and less than `span` more; of mixed characters all have `least`.
+    pub fn texts(&mut self, kind: u32, count: usize, least: u32, span: u32) -> Vec<String> {
+        let draw = |_| {
+            let more = if kind == MIXED { 0 } else { self.below(span) };
+            self.text(kind, least + more)
+        };
+        (0..count).map(draw).collect()
     }
 }
 
-/// Returns the letter at an index of the alphabet.
-pub fn letter(place: u32) -> char {
-    char::from(b'a' + place as u8)
+/// Returns the character at an index of those of a kind; of the mixed ones it has two bytes.
+pub fn nth(kind: u32, index: u32) -> char {
+    let first = [0x61, 0x430, 0x4e00, 0x1f600, 0xe4][kind as usize];
+    char::from_u32(first + index).expect("a character")
 }
 
-/// Draws words of at least `least` letters and less than `span` more.
+pub fn alphabet(kind: u32) -> Vec<char> {
+    (0..26).map(|index| nth(kind, index)).collect()
+}
+
 pub fn words(count: usize, least: u32, span: u32) -> Vec<String> {
-    words_from(&mut Generator::new(), count, least, span)
+    Generator::new().texts(LETTERS, count, least, span)
 }
 
-/// The same with a given generator.
-pub fn words_from(generator: &mut Generator, count: usize, least: u32, span: u32) -> Vec<String> {
-    let mut words = Vec::with_capacity(count);
-    for _ in 0..count {
-        let len = least + generator.below(span);
-        words.push(generator.word(len));
+/// Draws texts of a kind and a length: 64, or 16 of a thousand bytes or more.
+pub fn alike(kind: u32, len: u32) -> Vec<String> {
+    let count = if len < 1000 { 64 } else { 16 };
+    Generator::new().texts(kind, count, len, 1)
+}
+
+pub fn one(kind: u32, len: u32) -> Vec<String> {
+    vec![Generator::new().text(kind, len)]
+}
+
+/// Draws 16 texts of 1024 bytes of mixed characters.
+pub fn mixed() -> Vec<String> {
+    Generator::new().texts(MIXED, 16, 1024, 1)
+}
+
+/// A text, a range between characters in it, and a text for that range.
+pub struct Cut {
+    pub text: String,
+    pub first: usize,
+    pub last: usize,
+    pub piece: String,
+}
+
+/// Cuts each text at two hundredths of its length. The piece is from the third to the fourth.
+pub fn cuts(texts: Vec<String>, at: [usize; 4]) -> Vec<Cut> {
+    let cut = |text: String| {
+        let [first, last, from, to] = at.map(|hundredths| text.floor_char_boundary(text.len() * hundredths / 100));
+        let piece = text[from..to].to_string();
+        Cut {
+            text,
+            first,
+            last,
+            piece,
+        }
+    };
+    texts.into_iter().map(cut).collect()
+}
+
+pub fn rows(texts: Vec<String>) -> Vec<Vec<u8>> {
+    texts.into_iter().map(String::into_bytes).collect()
+}
+
+/// The bytes of the texts, with FF at each 64th byte, from index `first` on.
+pub fn faulty_rows(texts: Vec<String>, first: usize) -> Vec<Vec<u8>> {
+    let mut rows = rows(texts);
+    for row in &mut rows {
+        let places = row.iter_mut().skip(first).step_by(64);
+        places.for_each(|byte| *byte = 0xFF);
+    }
+    rows
+}
+
+pub fn units(texts: Vec<String>) -> Vec<Vec<u16>> {
+    let units = |text: &String| text.encode_utf16().collect();
+    texts.iter().map(units).collect()
+}
+
+/// The units as bytes, in one of the two orders.
+pub fn unit_bytes(texts: Vec<String>, order: fn(u16) -> [u8; 2]) -> Vec<Vec<u8>> {
+    let bytes = |row: Vec<u16>| row.into_iter().flat_map(order).collect();
+    units(texts).into_iter().map(bytes).collect()
+}
+
+/// Numbers of 1 to 64 bits, about as many of each length.
+pub fn shifted_numbers() -> Vec<u64> {
+    let mut generator = Generator::new();
+    let mut draw = || {
+        let number = generator.next();
+        number >> generator.below(64)
+    };
+    (0..4096).map(|_| draw()).collect()
+}
+
+/// Numbers of 1 to 20 digits, about as many of each length.
+pub fn numbers() -> Vec<u64> {
+    let mut generator = Generator::new();
+    let mut draw = || {
+        let least = 10u64.pow(generator.below(20));
+        let most = least.saturating_mul(9).min(u64::MAX - least);
+        least.wrapping_add(generator.next() % most)
+    };
+    (0..4096).map(|_| draw()).collect()
+}
+
+/// The number of words to intern.
+pub const INTERNED: u32 = 20_000;
+
+/// Draws distinct words of 1 to 12 letters.
+pub fn distinct_words(generator: &mut Generator) -> Vec<String> {
+    let mut known = HashSet::new();
+    let mut words = Vec::new();
+    for _ in 0..2 * INTERNED {
+        if words.len() < INTERNED as usize {
+            let len = 1 + generator.below(12);
+            let word = generator.text(LETTERS, len);
+            if known.insert(word.clone()) {
+                words.push(word);
+            }
+        }
     }
     words
 }
 
-pub const SHORT_TEXTS: usize = 4096;
-pub const LONG_TEXTS: usize = 1024;
-pub const PIECES: usize = 1024;
-
-pub fn short_texts() -> Vec<String> {
-    words(SHORT_TEXTS, 0, 25)
-}
-
-pub fn long_texts() -> Vec<String> {
-    words(LONG_TEXTS, 25, 176)
-}
-
-pub fn pieces() -> Vec<String> {
-    words(PIECES, 1, 16)
+/// Returns a text of 1 MiB: words of 1 to 12 letters, separated by white space, with some marks, numbers, and words
+/// with ä.
+pub fn prose() -> String {
+    let mut generator = Generator::new();
+    let words = generator.texts(LETTERS, 4096, 1, 12);
+    let mut text = String::with_capacity((1 << 20) + 32);
+    while text.len() < 1 << 20 {
+        text.push_str(&words[generator.below(4096) as usize]);
+        text.push_str(match generator.below(16) {
+            0 => ", ",
+            1 => ".\n",
+            2 => " 1789 ",
+            3 => "ä ",
+            _ => " ",
+        });
+    }
+    text
 }

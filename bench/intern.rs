@@ -1,20 +1,7 @@
-//! The workloads that intern words, alone and as tokens of a text, for Rust's types.
+//! An interner and a tokenizer over Rust's types.
 
-use crate::{Generator, Text, mix, words_from};
-use std::collections::HashSet;
+use std::collections::HashMap;
 use std::hash::{BuildHasherDefault, Hash, Hasher};
-
-/// The number of words to intern.
-const WORDS: u32 = 20_000;
-
-/// The number of draws for that many distinct words.
-const DRAWN: u32 = 40_000;
-
-/// The length of the prose in bytes, but for a few more.
-const PROSE: usize = 1 << 20;
-
-/// The number of words that the prose is made of.
-const PROSE_WORDS: u32 = 4096;
 
 /// The default hasher of this library's kit: multiplies 16 bytes at a time to 128 bits and joins the halves. So the
 /// benchmark compares types and tables, not hashers.
@@ -78,35 +65,13 @@ impl Hasher for Fold {
     }
 }
 
-/// The distinct words by first occurrence.
-#[cfg(feature = "peer")]
-pub struct Names<T>(indexmap::IndexSet<T, BuildHasherDefault<Fold>>);
+/// The distinct words with their numbers. Std has no ordered set, so no list of the words is kept: less work than an
+/// interner does.
+pub struct Names<T>(HashMap<T, u64, BuildHasherDefault<Fold>>);
 
-#[cfg(feature = "peer")]
 impl<T: Hash + Eq> Names<T> {
     pub fn new() -> Self {
-        Names(indexmap::IndexSet::default())
-    }
-
-    #[inline]
-    pub fn number(&mut self, name: T) -> u64 {
-        self.0.insert_full(name).0 as u64
-    }
-
-    fn len(&self) -> u64 {
-        self.0.len() as u64
-    }
-}
-
-/// The distinct words with their numbers. Std alone has no ordered set, so no list of the words is kept: less work
-/// than an interner does.
-#[cfg(not(feature = "peer"))]
-pub struct Names<T>(std::collections::HashMap<T, u64, BuildHasherDefault<Fold>>);
-
-#[cfg(not(feature = "peer"))]
-impl<T: Hash + Eq> Names<T> {
-    pub fn new() -> Self {
-        Names(std::collections::HashMap::default())
+        Names(HashMap::default())
     }
 
     #[inline]
@@ -115,78 +80,18 @@ impl<T: Hash + Eq> Names<T> {
         *self.0.entry(name).or_insert(next)
     }
 
-    fn len(&self) -> u64 {
+    pub fn len(&self) -> u64 {
         self.0.len() as u64
     }
 }
 
-pub fn intern<T: Text + Hash + Eq>(n: u64) -> u64 {
-    let mut generator = Generator::new();
-    let words = words_from(&mut generator, WORDS as usize, 1, 30);
-    interned::<T>(n, generator, &words)
-}
-
-pub fn intern_short<T: Text + Hash + Eq>(n: u64) -> u64 {
-    let mut generator = Generator::new();
-    let words = distinct_words(&mut generator);
-    interned::<T>(n, generator, &words)
-}
-
-fn interned<T: Text + Hash + Eq>(n: u64, mut generator: Generator, words: &[String]) -> u64 {
-    let mut names = Names::<T>::new();
-    (0..n).fold(0, |sum, _| {
-        let word = &words[generator.below(WORDS) as usize];
-        mix(sum, names.number(T::new(word)))
-    })
-}
-
-/// Draws distinct words of 1 to 12 letters.
-fn distinct_words(generator: &mut Generator) -> Vec<String> {
-    let mut known = HashSet::new();
-    let mut words = Vec::new();
-    for _ in 0..DRAWN {
-        if words.len() < WORDS as usize {
-            let len = 1 + generator.below(12);
-            let word = generator.word(len);
-            if known.insert(word.clone()) {
-                words.push(word);
-            }
-        }
-    }
-    words
-}
-
-/// Returns a text of 1 MiB: words of 1 to 12 letters, separated by white space, with some marks, numbers, and words
-/// with ä.
-fn prose() -> String {
-    let mut generator = Generator::new();
-    let words = words_from(&mut generator, PROSE_WORDS as usize, 1, 12);
-    let mut text = String::with_capacity(PROSE + 32);
-    while text.len() < PROSE {
-        text.push_str(&words[generator.below(PROSE_WORDS) as usize]);
-        text.push_str(match generator.below(16) {
-            0 => ", ",
-            1 => ".\n",
-            2 => " 1789 ",
-            3 => "ä ",
-            _ => " ",
-        });
-    }
-    text
-}
-
 /// The kind of a token.
 #[derive(Clone, Copy, PartialEq, Eq)]
-enum Kind {
+pub enum Kind {
     Word,
     Number,
     Space,
     Mark,
-}
-
-struct Token {
-    kind: Kind,
-    name: u64,
 }
 
 fn kind_of(character: char) -> Kind {
@@ -201,42 +106,24 @@ fn kind_of(character: char) -> Kind {
     }
 }
 
-/// `compact_uses::tokenize` for a type of Rust.
-fn tokenized<T: Text + Hash + Eq>(names: &mut Names<T>, text: &str) -> Vec<Token> {
+/// `compact_uses::tokenize` for a type of Rust: the kinds of the tokens and the numbers of their names.
+pub fn tokenized<T: for<'a> From<&'a str> + Hash + Eq>(names: &mut Names<T>, text: &str) -> Vec<(Kind, u64)> {
     let mut tokens = Vec::new();
     let mut start = 0;
     let mut kind = Kind::Mark;
+    let mut put = |kind, piece: &str| {
+        if !piece.is_empty() {
+            tokens.push((kind, names.number(T::from(piece))));
+        }
+    };
     for (at, character) in text.char_indices() {
         let next = kind_of(character);
-        if next == kind && kind != Kind::Mark {
-            continue;
+        if next != kind || kind == Kind::Mark {
+            put(kind, &text[start..at]);
+            start = at;
+            kind = next;
         }
-        put(names, &mut tokens, kind, &text[start..at]);
-        start = at;
-        kind = next;
     }
-    put(names, &mut tokens, kind, &text[start..]);
+    put(kind, &text[start..]);
     tokens
-}
-
-fn put<T: Text + Hash + Eq>(names: &mut Names<T>, tokens: &mut Vec<Token>, kind: Kind, piece: &str) {
-    if piece.is_empty() {
-        return;
-    }
-    let name = names.number(T::new(piece));
-    tokens.push(Token { kind, name });
-}
-
-pub fn tokenize<T: Text + Hash + Eq>(n: u64) -> u64 {
-    let text = prose();
-    let mut sum = 0;
-    for _ in 0..n {
-        let mut names = Names::<T>::new();
-        let tokens = tokenized(&mut names, &text);
-        for token in &tokens {
-            sum = mix(sum, token.name * 4 + token.kind as u64);
-        }
-        sum = mix(sum, names.len());
-    }
-    sum
 }

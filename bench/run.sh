@@ -1,27 +1,22 @@
 #!/usr/bin/env bash
-# Times this library's CompactString beside the String of Rust.
+# Times this library's CompactString beside the String of Rust and that of the kit.
 #
 #   bench/run.sh [FOLDER]
 #
-# Needs `rt`, `rustc` and `objcopy`. Proves and builds what it times, and prints a line for each workload, then a
-# table. From nothing the proofs take twelve to twenty minutes on four processors; once an earlier run has proved the
-# crates, in any checkout on the machine, it takes three to four minutes in all. A ratio is this library's time over
-# that of the other type: below 1 this library is faster. The status is 1 if two types differ in a checksum.
+# Needs `rt`, `rustc` and `objcopy`. Proves and builds what it times, and prints a line for each row, then the tables.
+# From nothing the proofs take twelve to twenty minutes on four processors. The status is 1 if two types differ in a
+# checksum. The head of main.rs has the environment, as BENCH_ONLY='push drain/ascii' and BENCH_TURNS=3.
 #
-# FOLDER has the source of the Rust crate compact_str, as a cargo package. With it the table has a column for that
-# crate too; this needs `cargo`. Cargo runs in FOLDER, so that the settings of a `.cargo/config.toml` in or above it
-# hold, such as a folder with its dependencies, except for `rustflags`; without such settings cargo fetches them as
-# usual. Nothing is written there.
+# FOLDER has the source of the Rust crate compact_str, as a cargo package, to time that crate too; this needs `cargo`.
+# Cargo runs in FOLDER, so that the settings of a `.cargo/config.toml` in or above it hold, such as a folder with its
+# dependencies, except for `rustflags`. Nothing is written there.
 #
-# The figures also go to docs/speed.txt, and as a picture to docs/speed.svg. BENCH_TURNS=1 in the environment times
-# each workload once and writes neither, to check that the checksums agree; BENCH_ONLY='intern join' runs only the
-# workloads whose names begin so.
+# The figures also go to docs/speed.txt, and as a picture to docs/speed.svg, if all rows ran in all turns.
 #
 # Each function of the library, of the program and of the Rust crate is aligned to 64 bytes. Compilers align functions
 # to 16, so that a loop of 21 bytes lies in one line of a processor's decoded instructions or in two, depending on
 # where the linker happens to place it: the same code takes up to a quarter longer. With BENCH_AS_LINKED=1 all
-# functions stay where the linker places them, and the figures go only to docs/speed_as_linked.txt. With
-# BENCH_FURTHER=16 those of the library begin 16 bytes after a multiple of 64, and the figures are not written to docs.
+# functions stay where the linker places them, and the figures go to docs/speed_as_linked.txt.
 #
 # Builds in bench/out and in the out/ folders of the crates.
 set -eu
@@ -40,42 +35,21 @@ if ! (cd "$bench/../crates/compact_bench" && rt lib) >"$built/rt.log" 2>&1; then
     cat "$built/rt.log" >&2
     exit 1
 fi
+docs=$(cd "$bench/../docs" && pwd)
 place=()
 if [ -z "${BENCH_AS_LINKED:-}" ]; then
     objcopy --set-section-alignment '.text*=64' "$library" "$built/libcompact_bench.a"
     library=$built/libcompact_bench.a
     place=(-C llvm-args=-align-all-functions=6)
+    export BENCH_TO=$docs/speed.txt BENCH_PICTURE=$docs/speed.svg
+else
+    export BENCH_TO=$docs/speed_as_linked.txt
 fi
-if [ -n "${BENCH_FURTHER:-}" ]; then
-    # All objects as one, with functions at multiples of 64 from its start, after as many bytes that nothing runs.
-    rm -rf "$built/further"
-    mkdir "$built/further"
-    (
-        cd "$built/further"
-        ar x "$library"
-        echo 'SECTIONS { .text 0 : SUBALIGN(64) { *(.text .text.*) } }' >whole.ld
-        ld -r -T whole.ld -o whole.o ./*.o
-        objcopy --set-section-alignment .text=16 whole.o
-        printf '.text\n.fill %d, 1, 0x90\n.section .note.GNU-stack, "", @progbits\n' "$BENCH_FURTHER" | as -o pad.o
-        ld -r -o further.o pad.o whole.o
-        objcopy --set-section-alignment .text=64 further.o
-        ar rcs libcompact_bench.a further.o
-    )
-    library=$built/further/libcompact_bench.a
-fi
-allocator=$(dirname "$(rt doc)")/c/liblibc_c.a
-link=(-C "link-arg=$library" -C "link-arg=$allocator")
-
-docs=$(cd "$bench/../docs" && pwd)
+link=(-C "link-arg=$library" -C "link-arg=$(dirname "$(rt doc)")/c/liblibc_c.a")
 processor=$(sed -n 's/^model name[^:]*: *//p' /proc/cpuinfo | head -n 1)
 numbers=$(sed -n 's/^cpu family[^:]*: */family /p; s/^model[[:space:]]*: */, model /p' /proc/cpuinfo | head -n 2 | tr -d '\n')
 BENCH_TOLD="$(date -u +%F), ${processor:-a processor with no name}${numbers:+ ($numbers)}"
 export BENCH_TOLD
-if [ -n "${BENCH_AS_LINKED:-}" ]; then
-    export BENCH_TO=$docs/speed_as_linked.txt
-elif [ -z "${BENCH_FURTHER:-}" ]; then
-    export BENCH_TO=$docs/speed.txt BENCH_PICTURE=$docs/speed.svg
-fi
 
 if [ -z "$crate" ]; then
     rustc --edition 2024 -C opt-level=3 -C codegen-units=1 -C lto=fat "${place[@]}" "${link[@]}" -o "$built/bench" "$bench/main.rs"
@@ -96,8 +70,8 @@ path = "../main.rs"
 peer = []
 
 [dependencies]
-compact_str = { path = "$crate" }
-indexmap = ">=1, <3"
+bytes = "1"
+compact_str = { path = "$crate", features = ["bytes"] }
 
 [profile.release]
 opt-level = 3

@@ -1,122 +1,90 @@
-//! The types, and what is seen of their values.
+//! The calls that have another name or form in each of Rust's types.
 
-use std::array;
-
-/// A type whose values hold a text.
-pub trait Held: Clone {
-    fn new(text: &str) -> Self;
-    fn as_bytes(&self) -> &[u8];
-}
-
-/// A string type of Rust, with the calls that the workloads make.
-pub trait Text: Held {
-    fn push_str(&mut self, text: &str);
-    fn insert(&mut self, at: usize, character: char);
-    fn remove(&mut self, at: usize) -> char;
-    fn replace(&mut self, first: usize, last: usize, text: &str);
-    fn clear(&mut self);
-    fn retain(&mut self, keep: impl FnMut(char) -> bool);
-    fn drained_sum(&mut self, first: usize, last: usize) -> u64;
-    fn make_ascii_uppercase(&mut self);
-    fn make_ascii_lowercase(&mut self);
-}
-
-macro_rules! text {
-    ($type:ty) => {
-        impl Held for $type {
-            #[inline]
-            fn new(text: &str) -> Self {
-                <$type>::from(text)
-            }
-
-            #[inline]
-            fn as_bytes(&self) -> &[u8] {
-                self.as_bytes()
-            }
-        }
-
-        impl Text for $type {
-            #[inline]
-            fn push_str(&mut self, text: &str) {
-                self.push_str(text);
-            }
-
-            #[inline]
-            fn insert(&mut self, at: usize, character: char) {
-                self.insert(at, character);
-            }
-
-            #[inline]
-            fn remove(&mut self, at: usize) -> char {
-                self.remove(at)
-            }
-
-            #[inline]
-            fn replace(&mut self, first: usize, last: usize, text: &str) {
-                self.replace_range(first..last, text);
-            }
-
-            #[inline]
-            fn clear(&mut self) {
-                self.clear();
-            }
-
-            #[inline]
-            fn retain(&mut self, keep: impl FnMut(char) -> bool) {
-                self.retain(keep);
-            }
-
-            #[inline]
-            fn drained_sum(&mut self, first: usize, last: usize) -> u64 {
-                self.drain(first..last).map(u64::from).sum()
-            }
-
-            #[inline]
-            fn make_ascii_uppercase(&mut self) {
-                str::make_ascii_uppercase(self);
-            }
-
-            #[inline]
-            fn make_ascii_lowercase(&mut self) {
-                str::make_ascii_lowercase(self);
-            }
-        }
+/// Declares functions.
+macro_rules! functions {
+    ($type:ty: $($name:ident($($argument:tt: $input:ty),*) = $run:expr;)*) => {
+        $(pub fn $name($($argument: $input),*) -> $type {
+            $run
+        })*
     };
 }
 
-text!(String);
-#[cfg(feature = "peer")]
-text!(compact_str::CompactString);
-
-/// Mixes a number into `sum`.
-pub fn mix(sum: u64, number: u64) -> u64 {
-    sum.wrapping_mul(31).wrapping_add(number)
+/// Reads a text of `len` bytes into a buffer of just that size.
+pub fn read_string(len: usize, reader: &mut impl std::io::Read) -> String {
+    let mut bytes = vec![0; len];
+    reader.read_exact(&mut bytes).expect("the bytes");
+    String::from_utf8(bytes).expect("a text")
 }
 
-/// Returns 256 times the length of a text plus its last byte, or 0 if it is empty.
-pub fn probe<T: Held>(value: &T) -> u64 {
-    let bytes = value.as_bytes();
-    let last = bytes.last().map_or(0, |&byte| u64::from(byte));
-    bytes.len() as u64 * 256 + last
-}
+/// Of `String`. Std's own calls for bytes of UTF-16 are unstable, and decode aligned units in place, as here.
+pub mod string {
+    pub use super::read_string as read;
+    use std::fmt::Display;
+    use std::hint::black_box;
 
-/// The latest values, each at its number modulo the length, and a checksum over those seen.
-///
-/// The length is in the type, so that no index is checked. This library proves that.
-pub struct Ring<T> {
-    values: [T; 64],
-    pub sum: u64,
-}
-
-impl<T: Held> Ring<T> {
-    pub fn new() -> Self {
-        let values = array::from_fn(|_| T::new(""));
-        Ring { values, sum: 0 }
+    functions! { String:
+        decode(bytes: &[u8]) = String::from(std::str::from_utf8(bytes).expect("a text"));
+        decode_lossy(bytes: &[u8]) = String::from_utf8_lossy(bytes).into_owned();
+        decode_buffers(parts: (&[u8], &[u8])) = String::from_utf8([parts.0, parts.1].concat()).expect("a text");
+        decode_units(units: &[u16]) = String::from_utf16(units).expect("a text");
+        decode_units_lossy(units: &[u16]) = String::from_utf16_lossy(units);
+        decode_le(bytes: &[u8]) = String::from_utf16(aligned(bytes)).expect("a text");
+        decode_le_lossy(bytes: &[u8]) = String::from_utf16_lossy(aligned(bytes));
+        shown(value: &impl Display) = value.to_string();
+        shown_pair(name: &str, number: u64) = format!("{}-{}", name, number);
+        joined(texts: &[String]) = texts.join(", ");
+        concatenated(texts: &[String]) = texts.concat();
+        repeated(value: &String) = value.repeat(8);
+        lowered(value: &String) = value.to_ascii_lowercase();
+        through_string(value: String) = black_box(value);
     }
 
-    #[inline]
-    pub fn put(&mut self, i: usize, value: T) {
-        self.values[i % 64] = value;
-        self.sum = mix(self.sum, probe(&self.values[(i + 57) % 64]));
+    pub fn decode_be(bytes: &[u8]) -> String {
+        let units = bytes.as_chunks().0.iter().map(|pair| u16::from_be_bytes(*pair));
+        char::decode_utf16(units).collect::<Result<_, _>>().expect("a text")
+    }
+
+    /// Bytes of a vector as units. Two bytes of any value are a unit.
+    fn aligned(bytes: &[u8]) -> &[u16] {
+        match unsafe { bytes.align_to() } {
+            ([], units, []) => units,
+            _ => panic!("bytes that are not aligned"),
+        }
+    }
+}
+
+/// Of the Rust crate's type.
+#[cfg(feature = "peer")]
+pub mod peer {
+    use bytes::Buf;
+    use compact_str::{CompactString, CompactStringExt, ToCompactString, format_compact};
+    use std::io::Read;
+
+    functions! { CompactString:
+        decode(bytes: &[u8]) = CompactString::from_utf8(bytes).expect("a text");
+        decode_lossy(bytes: &[u8]) = CompactString::from_utf8_lossy(bytes);
+        decode_buffers(parts: (&[u8], &[u8])) = CompactString::from_utf8_buf(&mut Buf::chain(parts.0, parts.1)).expect("a text");
+        decode_units(units: &[u16]) = CompactString::from_utf16(units).expect("a text");
+        decode_units_lossy(units: &[u16]) = CompactString::from_utf16_lossy(units);
+        decode_le(bytes: &[u8]) = CompactString::from_utf16le(bytes).expect("a text");
+        decode_le_lossy(bytes: &[u8]) = CompactString::from_utf16le_lossy(bytes);
+        decode_be(bytes: &[u8]) = CompactString::from_utf16be(bytes).expect("a text");
+        shown(value: &impl ToCompactString) = value.to_compact_string();
+        shown_pair(name: &str, number: u64) = format_compact!("{}-{}", name, number);
+        joined(texts: &[String]) = texts.iter().join_compact(", ");
+        concatenated(texts: &[String]) = texts.iter().concat_compact();
+        repeated(value: &CompactString) = value.repeat(8);
+        lowered(value: &CompactString) = value.to_ascii_lowercase();
+        through_string(value: CompactString) = CompactString::from(value.into_string());
+    }
+
+    /// As the crate's own reader of this form: a text that fits inline goes through a fixed buffer.
+    pub fn read(len: usize, reader: &mut impl Read) -> CompactString {
+        if len > 24 {
+            return CompactString::from(super::read_string(len, reader));
+        }
+        let mut room = [0; 24];
+        reader.read_exact(&mut room[..len]).expect("the bytes");
+        CompactString::from_utf8(&room[..len]).expect("a text")
     }
 }

@@ -1,190 +1,248 @@
-//! The inputs of the workloads.
-ghost use Rattle.std.specs.Prelude.{◌<◌};
+//! The inputs: texts of a kind of characters and of a length in bytes, drawn by a generator that starts alike each time.
 
-use crate::generator::Generator;
+use crate::text::Text;
 use compact_edit::{InternError, Interner};
 use compact_str::{CompactString, ReserveError};
 use std::alloc::Global;
 
-/// The number of short texts.
-pub const SHORT_TEXTS: usize = 4096;
+/// The kinds of characters: ASCII letters, characters of two, three or four bytes, or half letters and half others.
+pub const LETTERS: u32 = 0;
 
-/// The number of long texts.
-pub const LONG_TEXTS: usize = 1024;
+pub const MIXED: u32 = 4;
 
-/// The number of pieces.
-pub const PIECES: usize = 1024;
+/// An xorshift generator.
+#[derive(Drop)]
+pub struct Generator {
+    state: u64,
+}
 
-/// The number of numbers.
-pub const NUMBERS: usize = 4096;
+impl Generator {
+    /// Creates the generator, always with the same seed.
+    pub fn new() -> Self {
+        Generator {
+            state: 0x9e37_79b9_7f4a_7c15,
+        }
+    }
 
-/// The number of names.
-pub const NAMES: usize = 1024;
+    /// Returns the next number.
+    pub fn next(&mut self) -> u64 {
+        self.state ^= self.state << 13;
+        self.state ^= self.state >> 7;
+        self.state ^= self.state << 17;
+        self.state
+    }
 
-/// The number of records.
-pub const RECORDS: usize = 100;
+    /// Draws a number below `limit`.
+    pub fn below(&mut self, limit: u32) -> u32 {
+        let high = self.next() >> 32;
+        ((high * u64::from(limit)) >> 32) as u32
+    }
+
+    /// Draws a character of a kind.
+    fn character(&mut self, kind: u32) -> char {
+        match kind {
+            LETTERS => nth(LETTERS, self.below(26)),
+            MIXED => match self.below(8) {
+                0..=3 => nth(LETTERS, self.below(26)),
+                4 => 'ä',
+                5 => 'Σ',
+                6 => '€',
+                _ => '𝄞',
+            },
+            _ => nth(kind, self.below(32)),
+        }
+    }
+
+    /// Draws a text of `len` bytes; where no character of its kind fits any more it ends in a's.
+    pub fn text(&mut self, alloc: Global, kind: u32, len: u32) -> Result<String, ReserveError> {
+        let len = len as usize;
+        let width = u32::min(kind, 3) as usize + 1;
+        let mut text = String::with_capacity(alloc, len)?;
+        // Each iteration appends a character, so this is enough.
+        for _ in 0..len {
+            if text.len().saturating_add(width) <= len {
+                text.push(self.character(kind))?;
+            } else if text.len() < len {
+                text.push('a')?;
+            }
+        }
+        Ok(text)
+    }
+
+    /// Draws texts of `least` bytes and less than `span` more; of mixed characters all have `least`.
+    pub fn texts(
+        &mut self,
+        alloc: Global,
+        kind: u32,
+        count: usize,
+        least: u32,
+        span: u32,
+    ) -> Made<String> {
+        let mut texts = Vec::with_capacity(alloc, count)?;
+        for _ in 0..count {
+            let more = if kind == MIXED { 0 } else { self.below(span) };
+            put(
+                &mut texts,
+                self.text(alloc, kind, least.wrapping_add(more))?,
+            )?;
+        }
+        Ok(texts)
+    }
+}
+
+/// Returns the character at an index of those of a kind; of the mixed ones it has two bytes.
+pub fn nth(kind: u32, index: u32) -> char {
+    let first = match kind {
+        LETTERS => 0x61,
+        1 => 0x430,
+        2 => 0x4e00,
+        3 => 0x1f600,
+        _ => 0xe4,
+    };
+    char::from_u32(index.wrapping_add(first)).unwrap_or('a')
+}
+
+/// Returns the first 26 characters of a kind.
+pub fn alphabet(alloc: Global, kind: u32) -> Made<char> {
+    let mut characters = Vec::new(alloc);
+    for index in 0..26 {
+        put(&mut characters, nth(kind, index))?;
+    }
+    Ok(characters)
+}
+
+/// Inputs, or why there are none.
+pub type Made<T> = Result<Vec<T>, ReserveError>;
 
 /// Appends an item.
 pub fn put<T: Drop>(items: &mut Vec<T>, item: T) -> Result<(), ReserveError> {
-    match items.push(item) {
-        Ok(()) => Ok(()),
-        Err(_) => Err(ReserveError),
-    }
+    items.push(item).or(Err(ReserveError))
 }
 
-/// Draws a word of `len` letters.
-pub fn word(alloc: Global, generator: &mut Generator, len: u32) -> Result<String, ReserveError> {
-    let mut word = String::with_capacity(alloc, len as usize)?;
-    for _ in 0..len {
-        word.push(generator.letter())?;
-    }
-    Ok(word)
+/// Draws texts of letters.
+pub fn words(alloc: Global, count: usize, least: u32, span: u32) -> Made<String> {
+    Generator::new().texts(alloc, LETTERS, count, least, span)
 }
 
-/// Returns a value of `len` letters.
-pub fn letters(alloc: Global, len: u32) -> Result<CompactString, ReserveError> {
-    value(alloc, &mut Generator::new(), len)
+/// Draws texts of a kind and a length: 64, or 16 of a thousand bytes or more.
+pub fn alike(alloc: Global, kind: u32, len: u32) -> Made<String> {
+    let count = if len < 1000 { 64 } else { 16 };
+    Generator::new().texts(alloc, kind, count, len, 1)
 }
 
-/// The same with a given generator.
-pub fn value(
-    alloc: Global,
-    generator: &mut Generator,
-    len: u32,
-) -> Result<CompactString, ReserveError> {
-    let word = word(alloc, generator, len)?;
-    CompactString::new(alloc, word.as_str())
-}
-
-/// Draws words of at least `least` letters and less than `span` more.
-fn words(alloc: Global, count: usize, least: u32, span: u32) -> Result<Vec<String>, ReserveError>
-    requires { 0 < span }
-{
-    words_from(alloc, &mut Generator::new(), count, least, span)
-}
-
-/// The same with a given generator.
-fn words_from(
-    alloc: Global,
-    generator: &mut Generator,
-    count: usize,
-    least: u32,
-    span: u32,
-) -> Result<Vec<String>, ReserveError>
-    requires { 0 < span }
-{
-    let mut words = Vec::with_capacity(alloc, count)?;
-    for _ in 0..count {
-        let len = least.wrapping_add(generator.below(span));
-        put(&mut words, word(alloc, generator, len)?)?;
-    }
-    Ok(words)
-}
-
-/// Words of 0 to 24 letters.
-pub fn short_texts(alloc: Global) -> Result<Vec<String>, ReserveError> {
-    words(alloc, SHORT_TEXTS, 0, 25)
-}
-
-/// Words of 25 to 200 letters.
-pub fn long_texts(alloc: Global) -> Result<Vec<String>, ReserveError> {
-    words(alloc, LONG_TEXTS, 25, 176)
-}
-
-/// Words of 1 to 16 letters.
-pub fn pieces(alloc: Global) -> Result<Vec<String>, ReserveError> {
-    words(alloc, PIECES, 1, 16)
+/// Draws one text.
+pub fn one(alloc: Global, kind: u32, len: u32) -> Made<String> {
+    let mut texts = Vec::new(alloc);
+    put(&mut texts, Generator::new().text(alloc, kind, len)?)?;
+    Ok(texts)
 }
 
 /// Returns a value for each text: of itself, or at odd indices of the text `step` further on, 0 or 1.
 ///
 /// The first text follows the last.
-pub fn values_of(
-    alloc: Global,
-    texts: &[String],
-    step: usize,
-) -> Result<Vec<CompactString>, ReserveError> {
+pub fn values<T: Text>(alloc: Global, texts: &[String], step: usize) -> Made<T> {
     let mut values = Vec::with_capacity(alloc, texts.len())?;
     for place in 0..texts.len() {
         let other = place.wrapping_add(place & step);
         if let Some(text) = texts.get(other).or(texts.first()) {
-            put(&mut values, CompactString::new(alloc, text.as_str())?)?;
+            put(&mut values, T::new(alloc, text.as_str())?)?;
         }
     }
     Ok(values)
 }
 
-/// The number of texts to decode.
-pub const TEXTS: usize = 16;
-
-/// Words of 1024 letters.
-pub fn long_words(alloc: Global) -> Result<Vec<String>, ReserveError> {
-    words(alloc, TEXTS, 1024, 1)
+/// A text, a range between characters in it, a text for that range, and a character.
+#[derive(Drop)]
+pub struct Cut {
+    pub text: String,
+    pub first: usize,
+    pub last: usize,
+    pub piece: String,
+    pub character: char,
 }
 
-/// Words of 200 letters.
-pub fn lines(alloc: Global) -> Result<Vec<String>, ReserveError> {
-    words(alloc, TEXTS, 200, 1)
-}
-
-/// Texts of 1024 bytes: half their characters are ASCII, the others of two, three or four bytes.
-pub fn mixed_texts(alloc: Global) -> Result<Vec<String>, ReserveError> {
-    let mut generator = Generator::new();
-    let mut texts = Vec::new(alloc);
-    for _ in 0..TEXTS {
-        put(&mut texts, mixed(alloc, &mut generator)?)?;
+/// Cuts texts at two hundredths of their length. The piece is from the third to the fourth.
+pub fn cuts(alloc: Global, kind: u32, texts: Made<String>, at: [usize; 4]) -> Made<Cut> {
+    let mut cuts = Vec::new(alloc);
+    for text in &texts? {
+        put(&mut cuts, cut_one(alloc, kind, text.as_str(), at)?)?;
     }
-    Ok(texts)
+    Ok(cuts)
 }
 
-/// Draws one such text.
-fn mixed(alloc: Global, generator: &mut Generator) -> Result<String, ReserveError> {
-    let mut text = String::with_capacity(alloc, 1024)?;
-    // Each iteration appends a character, so this is enough.
-    for _ in 0..1024 {
-        if text.len() < 1021 {
-            text.push(mixed_character(generator))?;
-        } else if text.len() < 1024 {
-            text.push('a')?;
+fn cut_one(alloc: Global, kind: u32, text: &str, at: [usize; 4]) -> Result<Cut, ReserveError> {
+    let [first, last, from, to] = at;
+    let piece = text.get(boundary(text, from)..boundary(text, to));
+    Ok(Cut {
+        text: String::from_str(alloc, text)?,
+        first: boundary(text, first),
+        last: boundary(text, last),
+        piece: String::from_str(alloc, piece.unwrap_or(""))?,
+        character: nth(kind, 4),
+    })
+}
+
+/// Returns the last boundary up to that many hundredths of a text.
+fn boundary(text: &str, hundredths: usize) -> usize {
+    let mut at = text.len().wrapping_mul(hundredths) / 100;
+    for _ in 0..3 {
+        if !text.is_char_boundary(at) {
+            at = at.saturating_sub(1);
         }
     }
-    Ok(text)
+    at
 }
 
-/// Draws an ASCII letter half of the time, else ä, Σ, € or 𝄞.
-fn mixed_character(generator: &mut Generator) -> char {
-    match generator.below(8) {
-        0..=3 => generator.letter(),
-        4 => 'ä',
-        5 => 'Σ',
-        6 => '€',
-        _ => '𝄞',
+/// The first texts as one group.
+pub fn group(alloc: Global, texts: Made<String>, count: usize) -> Made<Vec<String>> {
+    let mut texts = texts?;
+    texts.truncate(count);
+    let mut groups = Vec::new(alloc);
+    put(&mut groups, texts)?;
+    Ok(groups)
+}
+
+/// A text and a number below a million.
+#[derive(Drop)]
+pub struct Named {
+    pub name: String,
+    pub number: u64,
+}
+
+/// The texts in turn, with 4096 numbers.
+pub fn with_numbers(alloc: Global, texts: Made<String>) -> Made<Named> {
+    let texts = texts?;
+    let mut all = Vec::new(alloc);
+    let mut numbers = numbers(alloc)?.into_iter();
+    for text in texts.iter().cycle().take(4096) {
+        let name = String::from_str(alloc, text.as_str())?;
+        let number = numbers.next().unwrap_or(0) % 1_000_000;
+        put(&mut all, Named { name, number })?;
     }
+    Ok(all)
 }
 
-/// The bytes of such texts.
-pub fn mixed_rows(alloc: Global) -> Result<Vec<Vec<u8>>, ReserveError> {
-    let mut generator = Generator::new();
+/// The bytes of the texts.
+pub fn rows(alloc: Global, texts: Made<String>) -> Made<Vec<u8>> {
     let mut rows = Vec::new(alloc);
-    for _ in 0..TEXTS {
-        put(&mut rows, mixed(alloc, &mut generator)?.into_bytes())?;
+    for text in &texts? {
+        put(&mut rows, Vec::from_slice(alloc, text.as_bytes())?)?;
     }
     Ok(rows)
 }
 
-/// The same, with FF at every 64th byte.
-pub fn invalid_rows(alloc: Global) -> Result<Vec<Vec<u8>>, ReserveError> {
-    let mut rows = mixed_rows(alloc)?;
+/// The same, with FF at each 64th byte, from index `first` on.
+pub fn faulty_rows(alloc: Global, texts: Made<String>, first: usize) -> Made<Vec<u8>> {
+    let mut rows = rows(alloc, texts)?;
     for row in rows.iter_mut() {
-        make_invalid(row);
+        spoil(row, first);
     }
     Ok(rows)
 }
 
-/// Sets every 64th byte to FF, from index 63 on.
-fn make_invalid(row: &mut [u8]) {
+fn spoil(row: &mut [u8], first: usize) {
     for place in 0..row.len() {
-        if place % 64 == 63
+        if place % 64 == first
             && let Some(byte) = row.get_mut(place)
         {
             *byte = 0xFF;
@@ -192,45 +250,50 @@ fn make_invalid(row: &mut [u8]) {
     }
 }
 
-/// The same as UTF-16 units.
-pub fn units(alloc: Global) -> Result<Vec<Vec<u16>>, ReserveError> {
-    let texts = mixed_texts(alloc)?;
+/// The UTF-16 units of the texts.
+pub fn units(alloc: Global, texts: Made<String>) -> Made<Vec<u16>> {
     let mut rows = Vec::new(alloc);
-    for text in &texts {
-        put(&mut rows, units_of(alloc, text.as_str())?)?;
+    for text in &texts? {
+        let mut row = Vec::new(alloc);
+        for unit in text.as_str().encode_utf16() {
+            put(&mut row, unit)?;
+        }
+        put(&mut rows, row)?;
     }
     Ok(rows)
 }
 
-fn units_of(alloc: Global, text: &str) -> Result<Vec<u16>, ReserveError> {
-    let mut row = Vec::new(alloc);
-    for unit in text.encode_utf16() {
-        put(&mut row, unit)?;
+/// The same as bytes, the lower one of each unit first, or the upper one.
+pub fn unit_bytes(alloc: Global, texts: Made<String>, upper_first: bool) -> Made<Vec<u8>> {
+    let mut rows = Vec::new(alloc);
+    for units in &units(alloc, texts)? {
+        let mut row = Vec::new(alloc);
+        for unit in units {
+            let [lower, upper] = unit.to_le_bytes();
+            put(&mut row, if upper_first { upper } else { lower })?;
+            put(&mut row, if upper_first { lower } else { upper })?;
+        }
+        put(&mut rows, row)?;
     }
-    Ok(row)
-}
-
-/// Words of 1 to 12 letters.
-pub fn names(alloc: Global) -> Result<Vec<String>, ReserveError> {
-    short_words(alloc, NAMES)
+    Ok(rows)
 }
 
 /// Numbers of 1 to 64 bits, about as many of each length.
-pub fn shifted_numbers(alloc: Global) -> Result<Vec<u64>, ReserveError> {
+pub fn shifted_numbers(alloc: Global) -> Made<u64> {
     let mut generator = Generator::new();
     let mut numbers = Vec::new(alloc);
-    for _ in 0..NUMBERS {
+    for _ in 0..4096 {
         let number = generator.next();
-        put(&mut numbers, number >> generator.below(64))?;
+        put(&mut numbers, number >> (generator.below(64) % 64))?;
     }
     Ok(numbers)
 }
 
 /// Numbers of 1 to 20 digits, about as many of each length.
-pub fn numbers(alloc: Global) -> Result<Vec<u64>, ReserveError> {
+pub fn numbers(alloc: Global) -> Made<u64> {
     let mut generator = Generator::new();
     let mut numbers = Vec::new(alloc);
-    for _ in 0..NUMBERS {
+    for _ in 0..4096 {
         let least = 10u64.wrapping_pow(generator.below(20));
         let most = least.saturating_mul(9).min(u64::MAX.wrapping_sub(least));
         put(
@@ -241,39 +304,18 @@ pub fn numbers(alloc: Global) -> Result<Vec<u64>, ReserveError> {
     Ok(numbers)
 }
 
-/// Words of 1 to 40 letters.
-pub fn records(alloc: Global) -> Result<Vec<String>, ReserveError> {
-    words(alloc, RECORDS, 1, 40)
-}
-
-/// `count` words of 1 to 12 letters.
-pub fn short_words(alloc: Global, count: usize) -> Result<Vec<String>, ReserveError> {
-    words(alloc, count, 1, 12)
-}
-
 /// The number of words to intern.
-pub const INTERNED_WORDS: u32 = 20_000;
+pub const INTERNED: u32 = 20_000;
 
-/// The number of draws for that many distinct words.
-const DRAWN_WORDS: u32 = 40_000;
-
-/// Words of 1 to 30 letters, some of which are the same.
-pub fn interned_words(
-    alloc: Global,
-    generator: &mut Generator,
-) -> Result<Vec<String>, ReserveError> {
-    words_from(alloc, generator, INTERNED_WORDS as usize, 1, 30)
-}
-
-/// Distinct words of 1 to 12 letters.
+/// Draws distinct words of 1 to 12 letters.
 pub fn distinct_words(
     alloc: Global,
     generator: &mut Generator,
 ) -> Result<Vec<String>, InternError> {
     let mut names = Interner::new(alloc);
     let mut words = Vec::new(alloc);
-    for _ in 0..DRAWN_WORDS {
-        if words.len() < INTERNED_WORDS as usize {
+    for _ in 0..2 * INTERNED {
+        if words.len() < INTERNED as usize {
             put_drawn(alloc, generator, &mut names, &mut words)?;
         }
     }
@@ -287,8 +329,8 @@ fn put_drawn(
     names: &mut Interner,
     words: &mut Vec<String>,
 ) -> Result<(), InternError> {
-    let len = 1 + generator.below(12);
-    let word = word(alloc, generator, len)?;
+    let len = generator.below(12).wrapping_add(1);
+    let word = generator.text(alloc, LETTERS, len)?;
     let number = names.intern(word.as_str())?;
     if number as usize == words.len() {
         put(words, word)?;
@@ -299,18 +341,15 @@ fn put_drawn(
 /// The length of the prose in bytes, but for a few more.
 const PROSE: usize = 1_048_576;
 
-/// The number of words that the prose is made of.
-const PROSE_WORDS: u32 = 4096;
-
 /// Returns a text of 1 MiB: words of 1 to 12 letters, separated by white space, with some marks, numbers, and words
 /// with ä.
 pub fn prose(alloc: Global) -> Result<CompactString, ReserveError> {
     let mut generator = Generator::new();
-    let words = words_from(alloc, &mut generator, PROSE_WORDS as usize, 1, 12)?;
+    let words = generator.texts(alloc, LETTERS, 4096, 1, 12)?;
     let mut text = CompactString::with_capacity(alloc, PROSE + 32)?;
     for _ in 0..PROSE {
         if text.len() < PROSE {
-            if let Some(word) = words.get(generator.below(PROSE_WORDS) as usize) {
+            if let Some(word) = words.get(generator.below(4096) as usize) {
                 text.push_str(word.as_str())?;
             }
             text.push_str(behind_word(&mut generator))?;

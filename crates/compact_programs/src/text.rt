@@ -1,0 +1,3 @@
+//! The string type, which `bench/programs.py` replaces.
+
+pub use compact_str::{CompactString as Text, ReserveError as Refused};
