@@ -4,7 +4,7 @@ use Prim.Native.Nat.{suc}
 use Rattle.std.specs.Prelude.{replicate, ◌⊎◌}
 use Rattle.std.specs.Str.{IsUtf8, IsAscii}
 use Rattle.std.proofs.lemmas.Bool.{lt-ltb, le-ltb, ltb-true, cond-true, cond-false, cond_both, cases_lt}
-use Rattle.std.proofs.lemmas.List.{append-nil, length-take-le, length-replicate, take_all, take_at, take-take, take-append-le, get_or_push, get_or-append-add, get_or-set_same, take-set-le, length-set}
+use Rattle.std.proofs.lemmas.List.{append-nil, length-take-le, length-replicate, take_all, take_at, take-take, get_or_push, get_or-append-add, get_or-set_same, take-set-le, length-set}
 use Rattle.std.proofs.lemmas.Str.{length-encode, len_utf8_bounds, encodes-chars, scalars-chars, chars-encodes, IsAscii-take, IsUtf8-from_ascii}
 use Rattle.std.proofs.lemmas.Str.Ascii.{IsAscii-more}
 use lib.Dec.{ltb}
@@ -149,18 +149,6 @@ stands-marked bytes n all short u =
     let same : length now ≡ 24 = length-set bytes 23 (192 + n) ∙ all in
     subst (λ (ys : List ℕ). IsPackedFor now (text_of ys)) front
     (stands-short now n same short (subst IsUtf8 (sym front) u) (get_or-set_same bytes 23 (192 + n) 0 (omega arith)))
-
--- the same for a new array
-pub stands-ended : (bytes : List ℕ) (n : ℕ) → length bytes ≡ 24 → n < 24 → IsUtf8 (take n bytes)
-    → IsPackedFor (take 23 bytes ++ (192 + n) ∷ []) (text_of (take n bytes))
-stands-ended bytes n all short u =
-    let before : List ℕ = take 23 bytes in
-    let now : List ℕ = before ++ (192 + n) ∷ [] in
-    let begun : length before ≡ 23 = length-take-le 23 bytes (omega arith) in
-    let front : take n now ≡ take n bytes = take-append-le n before ((192 + n) ∷ []) (omega (arith, begun)) ∙ take-take n 23 bytes (omega arith) in
-    let same : length now ≡ 24 = length-append before ((192 + n) ∷ []) ∙ omega (arith, begun) in
-    subst (λ (ys : List ℕ). IsPackedFor now (text_of ys)) front
-    (stands-short now n same short (subst IsUtf8 (sym front) u) (get_or_push before (192 + n) 0 23 begun))
 
 -- the encoded length is at most 24, and the first bytes are UTF-8
 pub stands-read : (bytes : List ℕ) → length bytes ≡ 24 → packed_len bytes ≤ 24 → IsUtf8 (take (packed_len bytes) bytes)

@@ -1,6 +1,6 @@
 -- What the clauses of this crate use most.
 pub use Rattle.compact_text.specs.Text.{IsText, ascii_lowercase, ascii_uppercase, size, text_of, utf8}
-pub use Rattle.compact_text.specs.Cut.{IsAsciiAt, IsBoundary, IsCharAt, IsNotAsciiAt, replaced_text, substring, text_after, text_before}
+pub use Rattle.compact_text.specs.Cut.{IsBoundary, IsCharAt, replaced_text, substring, text_after, text_before}
 pub use Rattle.compact_repr.specs.Value.{HeapText, IsHeap, IsInline, IsOwned, IsSound, IsStatic, PlacedText, inline, is_heap_place, is_static_place, placed_text}
 pub use Rattle.compact_repr.specs.declared.inline.TheConstants.{INLINE_CAPACITY}
 pub use Rattle.compact_repr.specs.declared.growth.TheConstants.{MAX_CAPACITY}

@@ -1,12 +1,12 @@
 //! A heap buffer: a text in a vector of bytes, whose capacity is the vector's.
-ghost use Rattle.std.specs.Prelude.{◌≡◌, ◌+◌, ◌-◌, ◌≤◌, ◌<◌, ◌^◌, [], ◌∷◌, ◌++◌, length, None, false, IfOk, OnOk, OnErr, IsTrue, ◌↔◌, MatchOption};
+ghost use Rattle.std.specs.Prelude.{◌≡◌, ◌+◌, ◌-◌, ◌≤◌, ◌<◌, ◌^◌, [], ◌∷◌, ◌++◌, length, false, IfOk, OnOk, OnErr, IsTrue, ◌↔◌, MatchOption};
 ghost use Rattle.std.specs.String.{string_bytes, string_capacity};
 ghost use Rattle.std.specs.Char.{len_utf8};
-ghost use Rattle.compact_repr.specs.Words.{size, utf8, text_of, IsText, IsBoundary, IsAsciiAt, IsNotAsciiAt, text_before, substring, replaced_text};
+ghost use Rattle.compact_repr.specs.Words.{size, utf8, text_of, IsText, IsBoundary, text_before, substring, replaced_text};
 ghost use Rattle.compact_text.specs.Case.{text_in_case};
 ghost use Rattle.compact_text.specs.Retain.{RetainsCharsTo};
 
-use compact_text::slices::{Case, ascii_at};
+use compact_text::slices::Case;
 use compact_text::str_parts::split_last;
 use compact_text::{slices, vec};
 use std::alloc::{AllocError, Global};
@@ -207,65 +207,27 @@ impl HeapBuffer {
         true
     }
 
-    /// Inserts an ASCII character at byte `index`, a boundary, if it fits, without allocating. Returns whether it did;
+    /// Inserts `text`, 1 to 4 bytes, at byte `index`, a boundary, if it fits, without allocating. Returns whether it did;
     /// otherwise changes nothing.
-    #[inline]
-    pub fn try_insert_ascii(&mut self, index: usize, byte: u8) -> bool
-        requires ascii { byte < 128 }
+    #[inline(always)]
+    pub fn try_insert_short(&mut self, index: usize, text: &str) -> bool
+        requires least { 1 ≤ length text.now }
+        requires most { length text.now ≤ 4 }
         requires boundary { IsBoundary self.old.text index }
-        ensures fits { IsTrue result ↔ (size self.old.text + 1 ≤ self.old.capacity) }
+        ensures fits { IsTrue result ↔ (size self.old.text + length text.now ≤ self.old.capacity) }
         ensures inserted { IsTrue result
             → self.new ≡ record {
-              text = replaced_text self.old.text index index (byte ∷ []);
+              text = replaced_text self.old.text index index (text_of text.now);
               capacity = self.old.capacity;
             } }
         ensures small { size self.old.text < 2 ^ 63 }
         ensures full { result ≡ false → self.new ≡ self.old }
     {
-        let len = self.bytes.len();
-        if len >= self.bytes.capacity() {
+        if !self.has_room(text.len()) {
             return false;
         }
-        // Only lengthens the vector; the value is overwritten.
-        self.bytes.push_reserved(byte);
-        slices::insert_byte(self.bytes.as_mut_slice(), len, index, byte);
+        vec::insert_short(&mut self.bytes, index, text.as_bytes());
         true
-    }
-
-    /// Removes and returns the character at byte `index`, a boundary, if it is ASCII. Otherwise, and at the end,
-    /// returns `None` and changes nothing.
-    #[inline]
-    #[tactic(auto, using(compact_text::proofs::Cuts::ascii_at_facts))]
-    pub fn try_remove_ascii(&mut self, index: usize) -> Option<char>
-        requires { IsBoundary self.old.text index }
-        ensures removed { MatchOption result (self.new ≡ self.old)
-            (λ c. IsAsciiAt self.old.text index c
-            × (self.new
-            ≡ record {
-              text = replaced_text self.old.text index (index + 1) [];
-              capacity = self.old.capacity;
-            })) }
-        ensures not_ascii { result ≡ None → IsNotAsciiAt self.old.text index }
-    {
-        let character = ascii_at(self.as_str().as_bytes(), index)?;
-        self.remove_ascii(index);
-        Some(character)
-    }
-
-    /// Removes the ASCII character at byte `index`, a boundary.
-    #[inline]
-    fn remove_ascii(&mut self, index: usize)
-        requires boundary { IsBoundary self.old.text index }
-        requires next { IsBoundary self.old.text (index + 1) }
-        ensures { self.new
-            ≡ record {
-              text = replaced_text self.old.text index (index + 1) [];
-              capacity = self.old.capacity;
-            } }
-    {
-        let len = self.bytes.len();
-        slices::remove_byte(self.bytes.as_mut_slice(), len, index);
-        let _last = self.bytes.take_last();
     }
 
     /// Removes the bytes from one boundary to another.

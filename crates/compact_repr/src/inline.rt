@@ -1,9 +1,9 @@
 //! An inline buffer: a text of at most 24 bytes, packed into the value itself.
 #![tactic(auto, using(crate::proofs::PackedFacts::packed_facts))]
 
-ghost use Rattle.std.specs.Prelude.{◌≡◌, ◌+◌, ◌-◌, ◌≤◌, ◌<◌, ℕ, List, [], ◌∷◌, ◌++◌, length, None, false, IsTrue, ◌↔◌, MatchOption};
+ghost use Rattle.std.specs.Prelude.{◌≡◌, ◌+◌, ◌-◌, ◌≤◌, ℕ, List, [], ◌∷◌, ◌++◌, length, false, IsTrue, ◌↔◌, MatchOption};
 ghost use Rattle.std.specs.Char.{len_utf8};
-ghost use Rattle.compact_repr.specs.Words.{INLINE_CAPACITY, size, utf8, text_of, IsText, IsBoundary, IsAsciiAt, IsNotAsciiAt, text_before, replaced_text};
+ghost use Rattle.compact_repr.specs.Words.{INLINE_CAPACITY, size, utf8, text_of, IsText, IsBoundary, text_before, replaced_text};
 ghost use Rattle.compact_repr.specs.Packed.{IsPackedFor};
 ghost use Rattle.compact_text.specs.Case.{text_in_case};
 ghost use Rattle.compact_text.specs.Retain.{RetainsCharsTo};
@@ -11,10 +11,9 @@ ghost use Rattle.compact_text.specs.Retain.{RetainsCharsTo};
 mod compare;
 mod length;
 
-use compact_text::slices::{self, Case, ascii_at};
+use compact_text::slices::{self, Case};
 use compact_text::str_parts::split_last;
-use compact_text::words::{insert_byte, remove_byte};
-use length::{is_packed, length_of, pack, with_len, with_len_below_24, write_len};
+use length::{is_packed, length_of, pack, write_len};
 use std::marker::Model;
 
 /// The most bytes of an inline text.
@@ -136,56 +135,9 @@ impl InlineBuffer {
         if len > INLINE_CAPACITY {
             return false;
         }
-        slices::splice(&mut self.bytes, old_len, start, end, text.as_bytes());
+        slices::splice_short(&mut self.bytes, old_len, start, end, text.as_bytes());
         write_len(&mut self.bytes, len);
         true
-    }
-
-    /// Inserts an ASCII character at byte `index`, a boundary, if it fits. Shifts by words. Returns whether it did;
-    /// otherwise changes nothing.
-    #[inline]
-    pub fn try_insert_ascii(&mut self, index: usize, byte: u8) -> bool
-        requires ascii { byte < 128 }
-        requires boundary { IsBoundary self.old index }
-        ensures fits { IsTrue result ↔ (size self.old + 1 ≤ INLINE_CAPACITY) }
-        ensures inserted { IsTrue result
-            → self.new ≡ replaced_text self.old index index (byte ∷ []) }
-        ensures full { result ≡ false → self.new ≡ self.old }
-    {
-        let len = length_of(&self.bytes);
-        if len >= INLINE_CAPACITY {
-            return false;
-        }
-        let array = insert_byte(&self.bytes, index, byte);
-        self.bytes = with_len(&array, len + 1);
-        true
-    }
-
-    /// Removes and returns the character at byte `index`, a boundary, if it is ASCII. Otherwise, and at the end,
-    /// returns `None` and changes nothing.
-    #[inline]
-    #[tactic(auto, using(compact_text::proofs::Cuts::ascii_at_facts))]
-    pub fn try_remove_ascii(&mut self, index: usize) -> Option<char>
-        requires { IsBoundary self.old index }
-        ensures removed { MatchOption result (self.new ≡ self.old)
-            (λ c. IsAsciiAt self.old index c × (self.new ≡ replaced_text self.old index (index + 1) [])) }
-        ensures not_ascii { result ≡ None → IsNotAsciiAt self.old index }
-    {
-        let character = ascii_at(self.as_str().as_bytes(), index)?;
-        self.remove_ascii(index);
-        Some(character)
-    }
-
-    /// Removes the ASCII character at byte `index`, a boundary. Shifts by words.
-    #[inline]
-    fn remove_ascii(&mut self, index: usize)
-        requires boundary { IsBoundary self.old index }
-        requires next { IsBoundary self.old (index + 1) }
-        ensures { self.new ≡ replaced_text self.old index (index + 1) [] }
-    {
-        let len = length_of(&self.bytes);
-        let array = remove_byte(&self.bytes, index);
-        self.bytes = with_len_below_24(&array, len - 1);
     }
 
     /// Removes the bytes from one boundary to another.
@@ -197,7 +149,7 @@ impl InlineBuffer {
         ensures { self.new ≡ replaced_text self.old start end [] }
     {
         let len = length_of(&self.bytes);
-        slices::remove_range(&mut self.bytes, len, start, end);
+        slices::remove_range_short(&mut self.bytes, len, start, end);
         write_len(&mut self.bytes, len - (end - start));
     }
 

@@ -31,29 +31,21 @@ fn assert_truncated(rt: &impl Abort, text: &mut Repr<Standard>, steps: &[(usize,
     }
 }
 
-/// Asserts which characters begin at some positions.
-fn assert_chars(rt: &impl Abort, text: &Repr<Standard>, places: &[(usize, char)]) {
-    for (index, character) in places {
-        that(text.is_char_boundary(*index)).expect(rt, "it holds");
-        that(*index < text.len()).expect(rt, "it holds");
-        assert_equal(rt, text.char_at(*index).0, *character);
-    }
-}
-
 /// Inserts dashes in turn, and asserts whether each fits, and the result.
 fn assert_dashes(rt: &impl Abort, text: &mut Repr<Standard>, steps: &[(usize, bool, &str)]) {
     for (index, fits, outcome) in steps {
         that(text.is_char_boundary(*index)).expect(rt, "it holds");
-        assert_equal(rt, text.try_insert_ascii(*index, b'-'), *fits);
+        assert_equal(rt, text.try_insert(*index, '-'), *fits);
         assert_equal(rt, text.as_str(), *outcome);
     }
 }
 
-/// Removes one-byte characters in turn, and asserts whether the text is owned, and the result.
+/// Removes characters in turn, and asserts whether the text is owned, and the result.
 fn assert_removed(rt: &impl Abort, text: &mut Repr<Standard>, steps: &[(usize, bool, &str)]) {
     for (index, owned, outcome) in steps {
         that(text.is_char_boundary(*index)).expect(rt, "it holds");
-        assert_equal(rt, text.try_remove_ascii(*index).is_some(), *owned);
+        that(*index < text.len()).expect(rt, "it holds");
+        assert_equal(rt, text.try_remove(*index).is_some(), *owned);
         assert_equal(rt, text.as_str(), *outcome);
     }
 }
@@ -80,7 +72,6 @@ fn inline(rt: HostRuntime) {
         )
         .expect(rt, "it holds");
     }
-    assert_chars(rt, &text, &[(0, 'ä'), (2, 'b'), (3, '𝄞')]);
     assert_equal(rt, text.pop(), Some('𝄞'));
     assert_that(rt, text.try_push_str("𝄞"));
     assert_replaced(
@@ -118,7 +109,6 @@ fn heap(rt: HostRuntime) {
     );
     assert_equal(rt, text.pop(), Some('ß'));
     assert_that(rt, text.try_push_str("ß"));
-    assert_chars(rt, &text, &[(2, 'y')]);
     assert_truncated(rt, &mut text, &[(4, "äyz")]);
     assert_equal(rt, text.capacity(), 32);
 }
@@ -185,7 +175,6 @@ fn long_tail(rt: HostRuntime) {
 fn of_the_program(rt: HostRuntime) {
     let rt = &rt;
     let mut text = borrowed(rt.alloc(), "äb𝄞 and so on, past the inline capacity");
-    assert_chars(rt, &text, &[(0, 'ä'), (3, '𝄞'), (16, 'n')]);
     that(text.is_char_boundary(3)).expect(rt, "it holds");
     assert_equal(
         rt,

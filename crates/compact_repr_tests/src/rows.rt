@@ -149,10 +149,11 @@ fn bytes_are_exchanged(rt: HostRuntime) {
 /// Inserts a byte after the tenth, and removes it.
 fn assert_one_byte(rt: &impl Abort, text: &mut Repr<Standard>, tail: usize) {
     that(text.is_char_boundary(10)).expect(rt, "it holds");
-    assert_that(rt, text.try_insert_ascii(10, b'a'));
+    assert_that(rt, text.try_insert(10, 'a'));
     assert_bytes(rt, text.as_str().as_bytes(), 1, 10, tail);
     that(text.is_char_boundary(10)).expect(rt, "it holds");
-    assert_equal(rt, text.try_remove_ascii(10), Some('a'));
+    that(10 < text.len()).expect(rt, "it holds");
+    assert_equal(rt, text.try_remove(10), Some('a'));
     assert_bytes(rt, text.as_str().as_bytes(), 0, 10, tail);
 }
 

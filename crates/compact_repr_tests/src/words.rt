@@ -66,7 +66,7 @@ fn a_byte_is_put_in(rt: HostRuntime) {
     ] {
         let mut text = copied(rt, rt.alloc(), "abcdefghijklmnopqrstuvw");
         that(text.is_char_boundary(at)).expect(rt, "it holds");
-        assert_that(rt, text.try_insert_ascii(at, b'-'));
+        assert_that(rt, text.try_insert(at, '-'));
         that_for(at, text.packed() == Some(*row)).expect(rt, "it holds");
     }
 }
@@ -74,7 +74,8 @@ fn a_byte_is_put_in(rt: HostRuntime) {
 /// Removes the byte at a position.
 fn remove(rt: &impl Abort, text: &mut Repr<Standard>, at: usize) {
     that(text.is_char_boundary(at)).expect(rt, "it holds");
-    assert_that(rt, text.try_remove_ascii(at).is_some());
+    that(at < text.len()).expect(rt, "it holds");
+    assert_that(rt, text.try_remove(at).is_some());
 }
 
 /// Removes a second byte, so that a mark takes the place of another. What is before the mark, after the text, is

@@ -4,11 +4,11 @@ use Rattle.std.proofs.lemmas.Grind.{common_steps}
 use Rattle.std.proofs.lemmas.Bool.{cases_lt, cond-true, le-leb}
 use Rattle.std.proofs.lemmas.Bool.Decides.{nat_tests}
 use Rattle.std.proofs.lemmas.Str.{encodes-append}
-use Rattle.std.specs.Char.{len_utf8}
+use Rattle.std.specs.Char.{len_utf8, encode_utf8}
 use Rattle.std.specs.Prelude.{Result, Ok, Err, OnOk}
 use Rattle.std.specs.List.{insert_slice}
 use Rattle.compact_repr.specs.Text.{size, utf8}
-use Rattle.compact_repr.specs.Cut.{IsCut, IsBoundary, IsCharAt, IsAsciiAt, text_before, text_after, replaced_text}
+use Rattle.compact_repr.specs.Cut.{IsCut, IsBoundary, IsCharAt, text_before, text_after, replaced_text}
 use Rattle.compact_repr.specs.Value.{PlacedText}
 use Rattle.compact_repr.specs.Calls.{truncate}
 use Rattle.compact_text.proofs.Texts.{length-utf8, size-append}
@@ -101,16 +101,17 @@ inserted-boundary t u s p is h = subst (λ (x : List ℕ). IsBoundary x p) (sym 
 pub inserted-after : (t u s : List ℕ) (p n : ℕ) → u ≡ replaced_text t p p s → IsBoundary t p → size s ≡ n → IsBoundary u (p + n)
 inserted-after t u s p n is h long = subst (λ (x : List ℕ). IsBoundary x (p + n)) (sym is) (replace_range-end t s p p (p + n) n h long refl)
 
+-- a text in which a character was inserted
+pub inserted-character : (t u : List ℕ) (p c : ℕ) → u ≡ replaced_text t p p (c ∷ []) → IsBoundary t p → utf8 u ≡ insert_slice (utf8 t) p (encode_utf8 c)
+inserted-character t u p c is h = inserted-bytes t u (c ∷ []) (encode_utf8 c) p is h (append-nil (encode_utf8 c))
+
+pub inserted-character_after : (t u : List ℕ) (p c : ℕ) → u ≡ replaced_text t p p (c ∷ []) → IsBoundary t p → IsBoundary u (p + len_utf8 c)
+inserted-character_after t u p c is h = inserted-after t u (c ∷ []) p (len_utf8 c) is h (omega arith)
+
 -- a text without the character at a boundary
 pub removed-character : (t u rest : List ℕ) (p c : ℕ) → u ≡ replaced_text t p (p + len_utf8 c) [] → IsBoundary t p → text_after t p ≡ c ∷ rest → text_after t p ≡ c ∷ text_after u p
 removed-character t u rest p c is h e =
     e ∙ ap (λ x. c ∷ x) (sym (ap (λ x. text_after x p) is ∙ text_after-replaced_text t p (p + len_utf8 c) h ∙ text_after-next t rest p c h e))
-
-pub removed-ascii : (t u : List ℕ) (p c : ℕ) → u ≡ replaced_text t p (p + 1) [] → IsAsciiAt t p c → u ≡ replaced_text t p (p + len_utf8 c) []
-removed-ascii t u p c is a = is ∙ ap (λ (n : ℕ). replaced_text t p (p + n) []) (sym a.width)
-
-pub removed-ascii_character : (t u : List ℕ) (p c : ℕ) → u ≡ replaced_text t p (p + 1) [] → IsBoundary t p → IsAsciiAt t p c → text_after t p ≡ c ∷ text_after u p
-removed-ascii_character t u p c is h a = removed-character t u a.rest p c (removed-ascii t u p c is a) h a.text
 
 pub removed-char_at : (t u : List ℕ) (p c : ℕ) → u ≡ replaced_text t p (p + len_utf8 c) [] → IsBoundary t p → IsCharAt t p c → text_after t p ≡ c ∷ text_after u p
 removed-char_at t u p c is h a = removed-character t u a.rest p c is h a.text

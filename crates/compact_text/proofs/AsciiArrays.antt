@@ -8,7 +8,7 @@ use Rattle.std.proofs.lemmas.List.{length-take-le, length-drop}
 use Rattle.std.proofs.lemmas.Str.{IsAscii-append}
 use Rattle.std.proofs.Math.Seq.{take-append-add}
 use Rattle.compact_text.specs.WordBytes.{word_bytes}
-use Rattle.compact_text.proofs.ChangedArrays.{array_is_three}
+use Rattle.compact_text.proofs.WordArrays.{array_is_three}
 
 -- the mask has the top bit of each byte, so the word has none
 no_bit : (word mask k : ℕ) → bit_and word mask ≡ 0 → bit_at mask k ≡ 1 → word / 2 ^ k % 2 ≡ 0

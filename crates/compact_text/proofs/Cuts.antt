@@ -9,8 +9,7 @@ use Rattle.std.specs.Str.{IsUtf8, IsCharBoundary}
 use lib.Dec.{leb}
 use lib.Utf8.{encode, encodes, scalar, scalars}
 use Rattle.compact_text.specs.Text.{size, text_of}
-use Rattle.compact_text.specs.Cut.{IsCut, IsBoundary, IsAsciiAt, IsNotAsciiAt, is_boundary, text_before, text_after, replaced_text, CutIsBeforeAndAfter}
-use Rattle.compact_text.proofs.TextFacts.{text_facts}
+use Rattle.compact_text.specs.Cut.{IsCut, IsBoundary, is_boundary, text_before, text_after, replaced_text, CutIsBeforeAndAfter}
 use Rattle.compact_text.proofs.Texts.{length-utf8, size-text_of, size-append}
 
 pub text_before-text_after : (t : List ℕ) (p : ℕ) → t ≡ text_before t p ++ text_after t p
@@ -119,13 +118,6 @@ utf8-take bytes p e u h = IsUtf8-take bytes p u (boundary-bytes bytes p e u h)
 pub utf8-drop : {t : List ℕ} (bytes : List ℕ) (p : ℕ) → text_of bytes ≡ t → IsUtf8 bytes → IsBoundary t p → IsUtf8 (drop p bytes)
 utf8-drop bytes p e u h = IsUtf8-drop bytes p u (boundary-bytes bytes p e u h)
 
-pub ascii_at-text : {t : List ℕ} (bytes : List ℕ) (p c : ℕ) → text_of bytes ≡ t → IsUtf8 bytes → IsBoundary t p → (len_utf8 c ≡ 1) × ((rest : List ℕ) × (text_of (drop p bytes) ≡ c ∷ rest)) → IsAsciiAt t p c
-ascii_at-text bytes p c e u h a = record { width = a.0; rest = a.1.0; text = sym (text_of-drop bytes p e u h) ∙ a.1.1 }
-
-pub ascii_at-none : {t : List ℕ} (bytes : List ℕ) (p : ℕ) → text_of bytes ≡ t → IsUtf8 bytes → IsBoundary t p
-    → ((c : ℕ) (rest : List ℕ) → text_of (drop p bytes) ≡ c ∷ rest → 128 ≤ c) → IsNotAsciiAt t p
-ascii_at-none bytes p e u h above = record { least = λ c rest is. above c rest (text_of-drop bytes p e u h ∙ is) }
-
 pub utf8-replaced : {t : List ℕ} (bytes s : List ℕ) (start end : ℕ) → text_of bytes ≡ t → IsUtf8 bytes → IsUtf8 s → IsBoundary t start → IsBoundary t end → IsUtf8 (replace_range bytes start end s)
 utf8-replaced bytes s start end e u v h k =
     IsUtf8-append _ _ (IsUtf8-append _ _ (utf8-take bytes start e u h) v) (utf8-drop bytes end e u k)
@@ -171,12 +163,7 @@ text_after-next t rest p c h e =
     let position : size (text_before t p ++ c ∷ []) ≡ p + len_utf8 c = size-append (text_before t p) (c ∷ []) ∙ omega (arith, front) in
     ap (λ x. text_after x (p + len_utf8 c)) parts ∙ text_after-append (text_before t p ++ c ∷ []) rest (p + len_utf8 c) position
 
-pub boundary-ascii : (t : List ℕ) (p c : ℕ) → IsBoundary t p → IsAsciiAt t p c → IsBoundary t (p + 1)
-boundary-ascii t p c h a = subst (λ (n : ℕ). IsBoundary t (p + n)) a.width (boundary-next t a.rest p c h a.text)
-
 -- a test of a boundary is `is_boundary`
 pub is_boundary-test : (b : Bool) (t : List ℕ) (p : ℕ) → (IsTrue b ↔ IsBoundary t p) → b ≡ is_boundary t p
 is_boundary-test true t p h = sym (eq-eqb _ _ (size-text_before t p (h.0 refl)))
 is_boundary-test false t p h = sym (ne_eqb _ _ (λ e. true≢false (sym (h.1 (boundary-from_size t p e)))))
-
-pub ruleset ascii_at_facts = (text_facts, ascii_at-text, ascii_at-none)

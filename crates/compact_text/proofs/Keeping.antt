@@ -1,14 +1,11 @@
 -- Retaining characters in a slice of bytes.
-use Rattle.std.proofs.Common.{◌≡◌, ◌∙◌, refl, ap, sym, subst, arith, ℕ, ◌+◌, ◌-◌, ◌<◌, ◌≤◌, List, [], ◌∷◌, ◌++◌, length, take, drop, Bool, true, false, cond, inl, inr, append_assoc, append-nil, length-append}
-use Rattle.std.proofs.lemmas.List.{drop-drop, drop_all, get_or-drop, length-drop, take_at}
-use Rattle.std.proofs.lemmas.Bool.{cases_lt}
-use Rattle.std.proofs.lemmas.Str.{encode_ascii, byte_from_char, encodes-chars, len_utf8_ascii, drop_past_char, chars_past_char, IsUtf8-past_char, IsUtf8-append, IsUtf8-encode, chars-nil}
+use Rattle.std.proofs.Common.{◌≡◌, ◌∙◌, refl, ap, sym, subst, arith, ℕ, ◌+◌, ◌-◌, ◌≤◌, List, [], ◌∷◌, ◌++◌, length, take, drop, Bool, true, false, cond, append_assoc, append-nil, length-append}
+use Rattle.std.proofs.lemmas.List.{drop-drop, drop_all, length-drop, take_at}
+use Rattle.std.proofs.lemmas.Str.{drop_past_char, chars_past_char, IsUtf8-past_char, IsUtf8-append, IsUtf8-encode, chars-nil}
 use Rattle.std.specs.Char.{len_utf8, IsScalar}
 use Rattle.std.specs.Fn.{Called, Mut}
 use Rattle.std.specs.Str.{IsUtf8}
-use lib.ListN.{get_or}
-use Rattle.std.proofs.Math.Seq.{drop-cons}
-use lib.Utf8.{encode, encodes}
+use lib.Utf8.{encode}
 use Rattle.compact_text.specs.Text.{text_of}
 use Rattle.compact_text.specs.Retain.{RetainsCharsTo}
 use Rattle.compact_text.proofs.Cuts.{text_of-last}
@@ -87,30 +84,3 @@ pub stands-last : {F : Type 0} (g : Mut F (ℕ × Unit {0}) Bool) (first f : F) 
 stands-last g first f whole slice kept read h stands =
     let none : text_of (drop read slice) ≡ [] = ap (λ (l : List ℕ). text_of l) (drop_all read slice h) ∙ chars-nil in
     goes_on-end g first f whole (text_of (take kept slice)) (subst (λ (l : List ℕ). GoesOn g first whole f (text_of (take kept slice)) l) none stands.2)
-
-pub first_ascii : {text : List ℕ} (bytes : List ℕ) (b c : ℕ) → bytes ≡ text → IsUtf8 text → 0 < length bytes → b ≡ get_or bytes 0 0 → b < 128 → c ≡ b
-    → (len_utf8 c ≡ 1) × ((rest : List ℕ) × (text_of text ≡ c ∷ rest))
-first_ascii {text} bytes b c e u some is low same =
-    let head : bytes ≡ b ∷ drop 1 bytes = drop-cons bytes 0 0 some ∙ ap (λ (x : ℕ). x ∷ drop 1 bytes) (sym is) in
-    let split : text ≡ encode c ++ drop 1 bytes =
-    sym e ∙ head ∙ ap (λ (l : List ℕ). l ++ drop 1 bytes) (sym (encode_ascii b low)) ∙ ap (λ (x : ℕ). encode x ++ drop 1 bytes) (sym same) in
-    (len_utf8_ascii c (omega (arith, same, low)), (text_of (drop 1 bytes), chars_past_char text (drop 1 bytes) c u split))
-
-pub first_past_ascii : {text : List ℕ} (bytes : List ℕ) (b : ℕ) → bytes ≡ text → IsUtf8 text → b ≡ get_or bytes 0 0 → 128 ≤ b
-    → (c : ℕ) (rest : List ℕ) → text_of text ≡ c ∷ rest → 128 ≤ c
-first_past_ascii {text} bytes b e u is high c rest split =
-    let spelled : bytes ≡ encode c ++ encodes rest = e ∙ sym (encodes-chars text u) ∙ ap encodes split in
-    elim (cases_lt c 128) [
-      | inl low ↦ absurd (omega (arith, is, high, low, byte_from_char bytes (encodes rest) c spelled low))
-      | inr h ↦ h
-    ]
-
-pub none-at_end : (bytes : List ℕ) (at : ℕ) → length bytes ≤ at → (c : ℕ) (rest : List ℕ) → text_of (drop at bytes) ≡ c ∷ rest → 128 ≤ c
-none-at_end bytes at ended c rest split =
-    let none : [] ≡ c ∷ rest = sym chars-nil ∙ sym (ap (λ (l : List ℕ). text_of l) (drop_all at bytes ended)) ∙ split in
-    omega (arith, ap length none)
-
-pub past_ascii-at : (bytes : List ℕ) (at : ℕ) → IsUtf8 (drop at bytes) → 128 ≤ get_or bytes at 0 → (c : ℕ) (rest : List ℕ) → text_of (drop at bytes) ≡ c ∷ rest → 128 ≤ c
-past_ascii-at bytes at u high =
-    let same : get_or (drop at bytes) 0 0 ≡ get_or bytes at 0 = grind (arith, get_or-drop) in
-    first_past_ascii (drop at bytes) (get_or (drop at bytes) 0 0) refl u refl (omega (arith, same, high))

@@ -13,7 +13,5 @@ pub mod Keeping
 pub mod Middles
 pub mod Numbers
 pub mod WordArrays
-pub mod ChangedWords
-pub mod ChangedArrays
 pub mod SameArrays
 pub mod AsciiArrays

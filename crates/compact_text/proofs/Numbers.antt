@@ -7,7 +7,7 @@ use Rattle.std.specs.Int.{to_le_bytes, from_le_bytes, w64}
 use Rattle.std.specs.Int.Bits.{or_zero_l, or_zero_r, or_self, or_shifted_r}
 use Rattle.std.proofs.Math.Nat.{mul_assoc, mod-eq_of_lt}
 use Rattle.std.proofs.lemmas.Nat.{pow-add, pow_pos, shr_high, mod_low, or_block, le_bytes_8, from_le_bytes-to_le_bytes_8}
-use Rattle.std.proofs.lemmas.List.{length-take-le, length-drop, length-replicate, take-append-drop, take-take, drop-take, take_all, drop_all, take_at, drop-drop, get_or-drop}
+use Rattle.std.proofs.lemmas.List.{length-take-le, length-drop, length-replicate, take-append-drop, take-take, drop-take, take_all, drop_all, drop-drop, get_or-drop}
 use Rattle.compact_text.specs.WordBytes.{le_number, word_bytes}
 
 -- the items of an array of bytes
@@ -247,22 +247,9 @@ word_bytes-with_last word byte seven small =
     let eight : length (front ++ byte ∷ []) ≡ 8 = length-append front (byte ∷ []) ∙ omega (arith, length_front) in
     ap word_bytes (or_shifted_r byte 56 word seven ∙ sym both) ∙ word_bytes-le_number (front ++ byte ∷ []) each eight
 
-pub word_bytes-other_last : (word byte given : ℕ) → word < 2 ^ 64 → byte < 256 → given ≡ byte
-    → word_bytes (bit_or (word % 2 ^ 56) (given * 2 ^ 56 % 2 ^ 64)) ≡ take 7 (word_bytes word) ++ byte ∷ []
-word_bytes-other_last word byte given fits small is =
-    let kept : given * 2 ^ 56 % 2 ^ 64 ≡ byte * 2 ^ 56 = ap (λ (n : ℕ). n * 2 ^ 56 % 2 ^ 64) is ∙ mod-eq_of_lt (omega arith) in
-    let bytes : List ℕ = word_bytes word in
-    let front : List ℕ = take 7 bytes in
-    let all : AllBytes bytes = AllBytes-word_bytes word in
-    let length_front : length front ≡ 7 = length-take-le 7 bytes (omega (arith, length-word_bytes word)) in
-    let low : word % 2 ^ 56 ≡ le_number front =
-    ap (λ (n : ℕ). n % 2 ^ 56) (sym (le_number-word_bytes word fits)) ∙ le_number-take 7 bytes all (omega (arith, length-word_bytes word)) in
-    let spelled : word_bytes (word % 2 ^ 56) ≡ front ++ replicate (8 - length front) 0 =
-    ap word_bytes low ∙ word_bytes-number_short front (AllBytes-take 7 bytes all) (omega (arith, length_front)) in
-    ap (λ (n : ℕ). word_bytes (bit_or (word % 2 ^ 56) n)) kept
-    ∙ word_bytes-with_last (word % 2 ^ 56) byte (omega arith) small
-    ∙ ap (λ (ys : List ℕ). take 7 ys ++ byte ∷ []) spelled
-    ∙ ap (λ (ys : List ℕ). ys ++ byte ∷ []) (take_at front (replicate (8 - length front) 0) 7 length_front)
+pub word_bytes-high : (word : ℕ) → word < 2 ^ 64 → drop 7 (word_bytes word) ≡ word / 2 ^ 56 ∷ []
+unfolding word_bytes
+word_bytes-high word fits = let same : word / 2 ^ 56 % 256 ≡ word / 2 ^ 56 = omega arith in ap (λ (n : ℕ). n ∷ []) same
 
 -- three words as one number
 pub three-words : (a b c : ℕ) → a < 2 ^ 64 → b < 2 ^ 64 → c < 2 ^ 64

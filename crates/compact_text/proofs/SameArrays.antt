@@ -1,7 +1,7 @@
 -- Arrays of 24 bytes with the same three words.
 use Rattle.std.proofs.Common.{◌≡◌, ℕ, List, length, take, drop, sym, ap, ◌∙◌}
 use Rattle.compact_text.specs.WordBytes.{word_bytes}
-use Rattle.compact_text.proofs.ChangedArrays.{array_is_three}
+use Rattle.compact_text.proofs.WordArrays.{array_is_three}
 
 pub same_rows : (array other : List ℕ) (a b c x y z : ℕ) → length array ≡ 24 → length other ≡ 24
     → word_bytes a ≡ take 8 array → word_bytes b ≡ take 8 (drop 8 array) → word_bytes c ≡ take 8 (drop 16 array)

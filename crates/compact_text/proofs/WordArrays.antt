@@ -1,9 +1,19 @@
 -- Arrays of 24 bytes as three words.
 use Rattle.std.proofs.Common.{◌≡◌, ℕ, ◌+◌, ◌-◌, ◌≤◌, List, ◌++◌, length, take, drop, refl, ap, sym, ◌∙◌, arith, append_assoc}
 use Rattle.std.specs.Prelude.{replicate}
-use Rattle.std.proofs.lemmas.List.{length-drop, take-append-drop, drop-drop, replicate-append-replicate}
+use Rattle.std.proofs.lemmas.List.{length-drop, take-append-drop, take_all, drop-drop, replicate-append-replicate}
 use Rattle.compact_text.specs.WordBytes.{le_number, word_bytes}
 use Rattle.compact_text.proofs.Numbers.{AllBytes, AllBytes-drop, word_bytes-number_short}
+
+-- the words of an array
+pub array_is_three : (xs x y z : List ℕ) → length xs ≡ 24 → x ≡ take 8 xs → y ≡ take 8 (drop 8 xs) → z ≡ take 8 (drop 16 xs) → x ++ y ++ z ≡ xs
+array_is_three xs x y z long first second third =
+    let last : take 8 (drop 16 xs) ≡ drop 16 xs = take_all 8 (drop 16 xs) (omega (arith, length-drop 16 xs)) in
+    let whole : take 8 xs ++ (take 8 (drop 8 xs) ++ drop 16 xs) ≡ xs =
+    ap (λ (ys : List ℕ). take 8 xs ++ (take 8 (drop 8 xs) ++ ys)) (sym (drop-drop 8 8 xs))
+    ∙ ap (λ (ys : List ℕ). take 8 xs ++ ys) (take-append-drop 8 (drop 8 xs))
+    ∙ take-append-drop 8 xs in
+    rw (first, second, third, last, append_assoc (take 8 xs) (take 8 (drop 8 xs)) (drop 16 xs)) whole
 
 abbrev zeros : ℕ → List ℕ
 zeros n = replicate n 0

@@ -1,5 +1,5 @@
 -- Cuts of a text between two characters, at a position in bytes of UTF-8.
-use Rattle.std.specs.Prelude.{◌≡◌, ◌≤◌, ℕ, ◌-◌, List, [], ◌∷◌, ◌++◌, if◌then◌else◌, Bool, nat_eq, nat_le, ◌↔◌}
+use Rattle.std.specs.Prelude.{◌≡◌, ℕ, ◌-◌, List, [], ◌∷◌, ◌++◌, if◌then◌else◌, Bool, nat_eq, nat_le, ◌↔◌}
 use Rattle.std.specs.Char.{len_utf8}
 use Rattle.compact_text.specs.Text.{size}
 
@@ -42,13 +42,3 @@ CutIsBeforeAndAfter =
 pub record IsCharAt (t : List ℕ) (p c : ℕ) : Type 0 where
   pub rest : List ℕ
   pub text : text_after t p ≡ c ∷ rest
-
--- and ASCII
-pub record IsAsciiAt (t : List ℕ) (p c : ℕ) : Type 0 where
-  pub width : len_utf8 c ≡ 1
-  pub rest : List ℕ
-  pub text : text_after t p ≡ c ∷ rest
-
--- no ASCII character of t is at p
-pub record IsNotAsciiAt (t : List ℕ) (p : ℕ) : Type 0 where
-  pub least : (c : ℕ) (rest : List ℕ) → text_after t p ≡ c ∷ rest → 128 ≤ c

@@ -1,10 +1,8 @@
 //! Edits of byte slices, in few wide reads and writes.
-ghost use Rattle.std.specs.Prelude.{◌≡◌, ◌+◌, ◌-◌, ◌≤◌, ◌<◌, ℕ, List, [], ◌∷◌, ◌++◌, length, take, drop, None, IfSome, IsSome, MatchOption};
-ghost use Rattle.std.specs.Char.{len_utf8, encode_utf8, IsScalar};
-ghost use Rattle.std.specs.Str.{IsUtf8};
+ghost use Rattle.std.specs.Prelude.{◌≡◌, ◌+◌, ◌-◌, ◌≤◌, [], ◌++◌, length, take, drop, None, IfSome};
+ghost use Rattle.std.specs.Char.{len_utf8, encode_utf8};
 ghost use Rattle.std.specs.List.{replace_range};
 ghost use lib.Seq.{paste};
-ghost use Rattle.compact_text.specs.Text.{text_of};
 
 mod bytewise;
 mod chunks;
@@ -15,7 +13,7 @@ use crate::str_parts::encoded;
 pub use bytewise::{Case, convert_case, fill_zero};
 use chunks::{chunk, set_chunk};
 pub use filter::retain;
-use moves::{move_down, move_up, shift};
+use moves::{move_up, shift, shift_short};
 
 /// Replaces the bytes from `start` to `end` of the first `len` bytes with `source`. Moves the tail once.
 #[inline]
@@ -31,26 +29,33 @@ pub fn splice(slice: &mut [u8], len: usize, start: usize, end: usize, source: &[
     write(slice, start, source);
 }
 
-/// Inserts `byte` at `index` into the first `len` bytes; later ones move up by one.
+/// `splice` of at most 32 bytes by at most 32, without a loop or a call.
 #[inline(always)]
-pub fn insert_byte(slice: &mut [u8], len: usize, index: usize, byte: u8)
-    requires within { index ≤ len }
-    requires long_enough { len < length slice.old }
-    ensures { take (len + 1) slice.new
-        ≡ replace_range (take len slice.old) index index (byte ∷ []) }
+pub fn splice_short(slice: &mut [u8], len: usize, start: usize, end: usize, source: &[u8])
+    requires order { start ≤ end }
+    requires within { end ≤ len }
+    requires long_enough { len ≤ length slice.old }
+    requires short { len ≤ 32 }
+    requires short_source { length source.now ≤ 32 }
+    requires room { len + length source.now ≤ length slice.old + (end - start) }
+    ensures { take (len - (end - start) + length source.now) slice.new
+        ≡ replace_range (take len slice.old) start end source.now }
 {
-    move_up::<1>(slice, index, len - index);
-    write(slice, index, &[byte]);
+    shift_short(slice, end, start + source.len(), len - end);
+    write_short(slice, start, source);
 }
 
-/// Removes the byte at `index` from the first `len` bytes; later ones move down by one.
+/// Inserts `source`, which has `N` bytes, at `index` into the first `len` bytes. The later ones move up by a known
+/// distance.
 #[inline(always)]
-pub fn remove_byte(slice: &mut [u8], len: usize, index: usize)
-    requires within { index < len }
-    requires long_enough { len ≤ length slice.old }
-    ensures { take (len - 1) slice.new ≡ replace_range (take len slice.old) index (index + 1) [] }
+pub fn insert_part<const N: usize>(slice: &mut [u8], len: usize, index: usize, source: &[u8])
+    requires source { length source.now ≡ N }
+    requires within { index ≤ len }
+    requires long_enough { len + N ≤ length slice.old }
+    ensures { take (len + N) slice.new ≡ replace_range (take len slice.old) index index source.now }
 {
-    move_down::<1>(slice, index, len - index - 1);
+    move_up::<N>(slice, index, len - index);
+    write(slice, index, source);
 }
 
 /// Removes the bytes from `start` to `end` from the first `len` bytes. Moves the tail once.
@@ -65,28 +70,17 @@ pub fn remove_range(slice: &mut [u8], len: usize, start: usize, end: usize)
     shift(slice, end, start, len - end);
 }
 
-/// Returns the character at `at`, a boundary of a text, if it is ASCII. Otherwise, and at the end, returns `None`.
+/// `remove_range` of at most 32 bytes, without a loop or a call.
 #[inline(always)]
-pub fn ascii_at(slice: &[u8], at: usize) -> Option<char>
-    requires utf8 { IsUtf8 (drop at slice.now) }
-    ensures encoded { IfSome result
-        (λ c. drop at slice.now ≡ encode_utf8 c ++ drop (at + 1) slice.now) }
-    ensures within { IsSome result → at + 1 ≤ length slice.now }
-    ensures rest { IsSome result → IsUtf8 (drop (at + 1) slice.now) }
-    ensures scalar { IfSome result (λ c. IsScalar c) }
-    ensures text { MatchOption result
-        ((c : ℕ) (rest : List ℕ) → text_of (drop at slice.now) ≡ c ∷ rest → 128 ≤ c)
-        (λ c. (len_utf8 c ≡ 1) × ((rest : List ℕ) × (text_of (drop at slice.now) ≡ c ∷ rest))) }
+pub fn remove_range_short(slice: &mut [u8], len: usize, start: usize, end: usize)
+    requires order { start ≤ end }
+    requires within { end ≤ len }
+    requires long_enough { len ≤ length slice.old }
+    requires short { len ≤ 32 }
+    ensures { take (len - (end - start)) slice.new
+        ≡ replace_range (take len slice.old) start end [] }
 {
-    if at >= slice.len() {
-        return None;
-    }
-    let byte = slice[at];
-    if byte < 128 {
-        Some(char::from(byte))
-    } else {
-        None
-    }
+    shift_short(slice, end, start, len - end);
 }
 
 /// Writes a character at `at` if four bytes are free there, or one if it is ASCII. Returns its end, or `None` if they are

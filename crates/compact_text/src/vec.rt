@@ -164,6 +164,41 @@ pub fn splice(bytes: &mut Vec<u8>, start: usize, end: usize, source: &[u8])
     }
 }
 
+/// Inserts `source`, 1 to 4 bytes, at `index`.
+#[inline(always)]
+pub fn insert_short(bytes: &mut Vec<u8>, index: usize, source: &[u8])
+    requires least { 1 ≤ length source.now }
+    requires most { length source.now ≤ 4 }
+    requires within { index ≤ vec_len bytes.old }
+    requires room { vec_len bytes.old + length source.now ≤ vec_capacity bytes.old }
+    ensures items { bytes.new.items ≡ replace_range bytes.old.items index index source.now }
+    ensures capacity { vec_capacity bytes.new ≡ vec_capacity bytes.old }
+{
+    match source.len() {
+        1 => insert_part::<1>(bytes, index, source),
+        2 => insert_part::<2>(bytes, index, source),
+        3 => insert_part::<3>(bytes, index, source),
+        _ => insert_part::<4>(bytes, index, source),
+    }
+}
+
+/// Inserts `source`, which has `N` bytes, at `index`.
+#[inline(always)]
+fn insert_part<const N: usize>(bytes: &mut Vec<u8>, index: usize, source: &[u8])
+    requires source { length source.now ≡ N }
+    requires within { index ≤ vec_len bytes.old }
+    requires room { vec_len bytes.old + N ≤ vec_capacity bytes.old }
+    ensures items { bytes.new.items ≡ replace_range bytes.old.items index index source.now }
+    ensures capacity { vec_capacity bytes.new ≡ vec_capacity bytes.old }
+{
+    let mut vec = take_vec(bytes);
+    let len = vec.len();
+    // Only lengthens the vector; the values are overwritten.
+    append_array::<N>(&mut vec, array_at::<N>(source, 0));
+    slices::insert_part::<N>(vec.as_mut_slice(), len, index, source);
+    put_back(bytes, vec);
+}
+
 /// Appends zeros up to a length of `len` bytes: one block if that is enough and has room, otherwise one by one.
 #[inline(always)]
 pub fn append_zeros(bytes: &mut Vec<u8>, len: usize)

@@ -139,19 +139,6 @@ pub fn last_byte(array: &[u8; 24]) -> usize
     usize::from(high_byte(load8(array, 16)))
 }
 
-/// Replaces the last byte. Writes whole words: a word read after a write of one of its bytes stalls.
-#[inline(always)]
-pub fn with_last_byte(array: &[u8; 24], last: u8) -> [u8; 24]
-    ensures { result ≡ take 23 array.now ++ last ∷ [] }
-{
-    let third = load8(array, 16) % 0x100_0000_0000_0000;
-    array_of_words(
-        load8(array, 0),
-        load8(array, 8),
-        third | (u64::from(last) << 56),
-    )
-}
-
 /// The highest bit of each byte of a word.
 const HIGH_BITS: u64 = 0x8080_8080_8080_8080;
 
@@ -165,96 +152,10 @@ pub fn first_23_are_ascii(array: &[u8; 24]) -> bool
         & (load8(array, 16) % 0x100_0000_0000_0000 & HIGH_BITS == 0)
 }
 
-/// Returns the factor of the byte at `at` in a word.
-#[inline(always)]
-fn place_value(at: usize) -> u64
-    requires { at < 8 }
-    ensures { result ≡ 2 ^ (8 * at) }
-{
-    1 << (8 * at)
-}
-
 /// Returns the last byte of a word.
 #[inline(always)]
 pub fn high_byte(word: u64) -> u8
     ensures { drop 7 (word_bytes word) ≡ result ∷ [] }
 {
     (word >> 56) as u8
-}
-
-/// Inserts `byte` at `at`, shifting later bytes up and dropping the last. The three parts share no byte, so no sum
-/// wraps.
-#[inline(always)]
-fn word_insert_byte(word: u64, at: usize, byte: u8) -> u64
-    requires { at < 8 }
-    ensures { word_bytes result
-        ≡ take at (word_bytes word) ++ byte ∷ take (7 - at) (drop at (word_bytes word)) }
-{
-    let before = word % place_value(at);
-    before
-        .wrapping_add(u64::from(byte) << (8 * at))
-        .wrapping_add((word - before) << 8)
-}
-
-/// Removes the byte at `at`, shifting later bytes down and appending the first of `next`. The three parts share no
-/// byte, so no sum wraps.
-#[inline(always)]
-fn word_remove_byte(word: u64, at: usize, next: u64) -> u64
-    requires { at < 8 }
-    ensures { word_bytes result
-        ≡ take at (word_bytes word) ++ drop (at + 1) (word_bytes word) ++ take 1 (word_bytes next) }
-{
-    let weight = place_value(at);
-    let down = word >> 8;
-    (word % weight)
-        .wrapping_add(down - down % weight)
-        .wrapping_add(next << 56)
-}
-
-/// Inserts `byte` at `at`, shifting later bytes up and dropping the last.
-#[inline]
-pub fn insert_byte(array: &[u8; 24], at: usize, byte: u8) -> [u8; 24]
-    requires { at < 24 }
-    ensures { result ≡ take at array.now ++ byte ∷ take (23 - at) (drop at array.now) }
-{
-    let first = load8(array, 0);
-    let second = load8(array, 8);
-    let third = load8(array, 16);
-    match at / 8 {
-        0 => array_of_words(
-            word_insert_byte(first, at, byte),
-            word_insert_byte(second, 0, high_byte(first)),
-            word_insert_byte(third, 0, high_byte(second)),
-        ),
-        1 => array_of_words(
-            first,
-            word_insert_byte(second, at - 8, byte),
-            word_insert_byte(third, 0, high_byte(second)),
-        ),
-        _ => array_of_words(first, second, word_insert_byte(third, at - 16, byte)),
-    }
-}
-
-/// Removes the byte at `at`, shifting later bytes down and appending a zero.
-#[inline]
-pub fn remove_byte(array: &[u8; 24], at: usize) -> [u8; 24]
-    requires { at < 24 }
-    ensures { result ≡ take at array.now ++ drop (at + 1) array.now ++ 0 ∷ [] }
-{
-    let first = load8(array, 0);
-    let second = load8(array, 8);
-    let third = load8(array, 16);
-    match at / 8 {
-        0 => array_of_words(
-            word_remove_byte(first, at, second),
-            word_remove_byte(second, 0, third),
-            word_remove_byte(third, 0, 0),
-        ),
-        1 => array_of_words(
-            first,
-            word_remove_byte(second, at - 8, third),
-            word_remove_byte(third, 0, 0),
-        ),
-        _ => array_of_words(first, second, word_remove_byte(third, at - 16, 0)),
-    }
 }

@@ -9,7 +9,6 @@ ghost use Rattle.compact_repr.specs.Packed.{IsPackedFor, packed_len, packed_text
 use crate::inline::INLINE_CAPACITY;
 use compact_text::words::{
     array_of_words, first_23_are_ascii, last_byte, load_up_to_8, load8, second_word, third_word,
-    with_last_byte,
 };
 
 /// The largest last byte of a packed text: after a text of 23 bytes.
@@ -60,30 +59,6 @@ pub fn write_len(bytes: &mut [u8; 24], len: usize)
 {
     if len < INLINE_CAPACITY {
         bytes[INLINE_CAPACITY - 1] = 192 + len as u8;
-    }
-}
-
-/// Returns the array with the length of the text at its front, which has less than 24 bytes, in its last word.
-#[inline(always)]
-pub fn with_len_below_24(array: &[u8; 24], len: usize) -> [u8; 24]
-    requires short { len < INLINE_CAPACITY }
-    requires text { IsUtf8 (take len array.now) }
-    ensures { IsPackedFor result (text_of (take len array.now)) }
-{
-    with_last_byte(array, 192 + len as u8)
-}
-
-/// Like `with_len_below_24`, for a text of up to 24 bytes. One of 24 bytes is returned unchanged.
-#[inline(always)]
-pub fn with_len(array: &[u8; 24], len: usize) -> [u8; 24]
-    requires fits { len ≤ INLINE_CAPACITY }
-    requires text { IsUtf8 (take len array.now) }
-    ensures { IsPackedFor result (text_of (take len array.now)) }
-{
-    if len < INLINE_CAPACITY {
-        with_len_below_24(array, len)
-    } else {
-        *array
     }
 }
 

@@ -32,18 +32,6 @@ impl<P: Policy> Repr<P> {
         self.as_str().is_char_boundary(index)
     }
 
-    /// Returns the character that begins at byte `index`, and where it ends.
-    #[inline]
-    pub fn char_at(&self, index: usize) -> (char, usize)
-        requires boundary { IsBoundary self.now.text index }
-        requires within { index < size self.now.text }
-        ensures character { IsCharAt self.now.text index result.0 }
-        ensures end { result.1 ≡ index + len_utf8 result.0 }
-        ensures next { IsBoundary self.now.text result.1 }
-    {
-        str_parts::char_at(self.as_str(), index)
-    }
-
     /// Returns the text from byte `index` on.
     #[inline]
     pub fn suffix(&self, index: usize) -> &str

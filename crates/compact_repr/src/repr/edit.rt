@@ -1,7 +1,7 @@
 //! Edits in place, which never allocate and never move the text to another place.
 ghost use Rattle.std.specs.Prelude.{◌≡◌, ◌+◌, ◌-◌, ◌^◌, ◌≤◌, ◌<◌, [], ◌∷◌, ◌++◌, length, nat_eq, ◌||◌, IsTrue, false, ◌↔◌, IsSome, IfSome, None};
 ghost use Rattle.std.specs.Char.{len_utf8};
-ghost use Rattle.compact_repr.specs.Words.{size, text_of, IsBoundary, IsCharAt, IsAsciiAt, IsNotAsciiAt, replaced_text, placed_text, IsOwned, fits_in_place, clear, truncate, zeroize, PopsChar};
+ghost use Rattle.compact_repr.specs.Words.{size, text_of, IsBoundary, IsCharAt, replaced_text, placed_text, IsOwned, fits_in_place, clear, truncate, zeroize, PopsChar};
 ghost use Rattle.compact_text.specs.Case.{text_in_case};
 ghost use Rattle.compact_text.specs.Retain.{RetainsCharsTo};
 
@@ -10,7 +10,7 @@ use crate::inline::InlineBuffer;
 use crate::repr::{Buffer, Repr};
 use crate::static_str::StaticStr;
 use compact_text::slices::Case;
-use compact_text::str_parts::char_at;
+use compact_text::str_parts::{char_at, encode_char};
 
 impl<P: Policy> Repr<P> {
     /// Appends `text` if the value is owned and has room. Returns whether it did; otherwise changes nothing.
@@ -90,53 +90,34 @@ impl<P: Policy> Repr<P> {
         }
     }
 
-    /// Inserts an ASCII character at byte `index`, a boundary, if the value is owned and has room. Returns whether it
-    /// did; otherwise changes nothing.
-    #[inline]
-    pub fn try_insert_ascii(&mut self, index: usize, byte: u8) -> bool
-        requires ascii { byte < 128 }
-        requires boundary { IsBoundary self.old.text index }
-        ensures fits { result ≡ fits_in_place self.old 1 }
+    /// Inserts `character` at byte `index`, a boundary, if the value is owned and has room. Returns whether it did;
+    /// otherwise changes nothing. Keeps the place and the capacity.
+    #[inline(always)]
+    pub fn try_insert(&mut self, index: usize, character: char) -> bool
+        requires { IsBoundary self.old.text index }
+        ensures fits { result ≡ fits_in_place self.old (len_utf8 character) }
         ensures small { IsTrue result → size self.old.text < 2 ^ 63 }
         ensures inserted { IsTrue result
             → self.new ≡ placed_text (replaced_text self.old.text index index
-            (byte ∷ [])) self.old.placement }
+            (character ∷ [])) self.old.placement }
         ensures full { result ≡ false → self.new ≡ self.old }
     {
+        let mut bytes = [0; 4];
+        let text = encode_char(character, &mut bytes);
         match &mut self.buffer {
             Buffer::Static(_) => false,
-            Buffer::Inline(_, inline) => inline.try_insert_ascii(index, byte),
-            Buffer::Heap(heap) => heap.try_insert_ascii(index, byte),
-        }
-    }
-
-    /// Removes and returns the character at byte `index`, a boundary, if it is ASCII and the value is owned. Otherwise
-    /// returns `None` and changes nothing. Keeps the place and the capacity.
-    #[inline]
-    pub fn try_remove_ascii(&mut self, index: usize) -> Option<char>
-        requires { IsBoundary self.old.text index }
-        ensures owned { IsSome result → IsOwned self.old }
-        ensures character { IfSome result (λ c. IsAsciiAt self.old.text index c) }
-        ensures removed { IsSome result
-            → self.new ≡ placed_text (replaced_text self.old.text index
-            (index + 1) []) self.old.placement }
-        ensures unchanged { result ≡ None → self.new ≡ self.old }
-        ensures not_ascii { IsOwned self.old → result ≡ None → IsNotAsciiAt self.old.text index }
-    {
-        match &mut self.buffer {
-            Buffer::Static(_) => None,
-            Buffer::Inline(_, inline) => inline.try_remove_ascii(index),
-            Buffer::Heap(heap) => heap.try_remove_ascii(index),
+            Buffer::Inline(_, inline) => inline.try_replace_range(index, index, text),
+            Buffer::Heap(heap) => heap.try_insert_short(index, text),
         }
     }
 
     /// Removes and returns the character at byte `index`, a boundary before the end, if the value is owned. Otherwise
     /// returns `None` and changes nothing. Keeps the place and the capacity.
-    #[inline]
+    #[inline(always)]
     pub fn try_remove(&mut self, index: usize) -> Option<char>
         requires boundary { IsBoundary self.old.text index }
         requires inside { index < size self.old.text }
-        ensures owned { IsSome result → IsOwned self.old }
+        ensures owned { IsSome result ↔ IsOwned self.old }
         ensures character { IfSome result (λ c. IsCharAt self.old.text index c) }
         ensures removed { IfSome result
             (λ c. self.new

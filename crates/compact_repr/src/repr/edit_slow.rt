@@ -1,11 +1,12 @@
 //! Edits that may have to allocate: to reserve room, or to make the value owned.
-ghost use Rattle.std.specs.Prelude.{◌≡◌, ◌-◌, ◌^◌, ◌<◌, ◌≤◌, [], ◌++◌, length, OnOk, OnErr, false};
-ghost use Rattle.compact_repr.specs.Words.{size, text_of, IsBoundary, substring, replaced_text, fits_in_place, PlacedFor, AllocatesFor, owned, room, room_to_append, room_to_replace};
+ghost use Rattle.std.specs.Prelude.{◌≡◌, ◌+◌, ◌-◌, ◌^◌, ◌<◌, ◌≤◌, [], ◌∷◌, ◌++◌, length, IfOk, OnOk, OnErr, false};
+ghost use Rattle.std.specs.Char.{len_utf8};
+ghost use Rattle.compact_repr.specs.Words.{size, text_of, IsBoundary, IsCharAt, substring, replaced_text, fits_in_place, PlacedFor, AllocatesFor, owned, room, room_to_append, room_to_replace};
 
 use crate::error::ReserveError;
 use crate::growth::Policy;
 use crate::repr::{Buffer, Repr};
-use compact_text::str_parts;
+use compact_text::str_parts::{self, encode_char};
 
 impl<P: Policy> Repr<P> {
     /// Appends a `text` that does not fit in place: reserves first. Not inlined, so that an append that fits stays short.
@@ -62,26 +63,50 @@ impl<P: Policy> Repr<P> {
         Ok(())
     }
 
-    /// Removes the bytes from one boundary to another. A static value becomes owned first.
+    /// Inserts a character that does not fit in place at byte `index`, a boundary.
+    ///
+    /// # Errors
+    ///
+    /// Returns [`ReserveError`] if a new buffer cannot be allocated.
+    #[cold]
+    #[inline(never)]
+    pub fn insert_slow(&mut self, index: usize, character: char) -> Result<(), ReserveError>
+        requires full { fits_in_place self.old (len_utf8 character) ≡ false }
+        requires boundary { IsBoundary self.old.text index }
+        ensures text { OnOk result
+            (self.new.text ≡ replaced_text self.old.text index index (character ∷ [])) }
+        ensures place { OnOk result (PlacedFor P.growth self.old self.new (room (len_utf8 character))) }
+        ensures allocates { OnErr result (AllocatesFor self.old (room (len_utf8 character))) }
+        ensures err { OnErr result (self.new ≡ self.old) }
+        ensures small { size self.old.text < 2 ^ 63 }
+    {
+        let mut bytes = [0; 4];
+        self.insert_str_slow(index, encode_char(character, &mut bytes))
+    }
+
+    /// Removes and returns the character at byte `index`, a boundary before the end. A static value becomes owned first.
     ///
     /// # Errors
     ///
     /// Returns [`ReserveError`] if a static value cannot be made owned.
-    #[inline]
+    #[cold]
+    #[inline(never)]
     #[tactic(auto, using(crate::proofs::Placed::placed_facts))]
-    pub fn remove_range(&mut self, start: usize, end: usize) -> Result<(), ReserveError>
-        requires order { start ≤ end }
-        requires first { IsBoundary self.old.text start }
-        requires last { IsBoundary self.old.text end }
-        ensures text { OnOk result (self.new.text ≡ replaced_text self.old.text start end []) }
+    pub fn remove_slow(&mut self, index: usize) -> Result<char, ReserveError>
+        requires boundary { IsBoundary self.old.text index }
+        requires inside { index < size self.old.text }
+        ensures character { IfOk result (λ c. IsCharAt self.old.text index c) }
+        ensures text { IfOk result
+            (λ c. self.new.text ≡ replaced_text self.old.text index (index + len_utf8 c) []) }
         ensures place { OnOk result (PlacedFor P.growth self.old self.new owned) }
         ensures allocates { OnErr result (AllocatesFor self.old owned) }
         ensures err { OnErr result (self.new ≡ self.old) }
     {
-        if self.try_remove_range(start, end) {
-            return Ok(());
-        }
-        self.replace_slow(start, end, "")
+        self.make_owned()?;
+        let Some(character) = self.try_remove(index) else {
+            unreachable!();
+        };
+        Ok(character)
     }
 
     /// Replaces the bytes from one boundary to another with a `text` that does not fit in place. Makes the value owned

@@ -8,7 +8,7 @@ ghost use Rattle.compact_str.specs.Ranges.{IsRange, span, range_start, range_end
 
 use crate::string::PolicyString;
 use compact_repr::{Policy, Repr, ReserveError};
-use compact_text::str_parts::{encode_char, is_boundary};
+use compact_text::str_parts::is_boundary;
 use std::ops::Bound;
 
 impl<P: Policy> PolicyString<P> {
@@ -121,7 +121,7 @@ impl<P: Policy> PolicyString<P> {
     /// assert_eq!(rt; text.as_str(), "aé!b");
     /// ```
     #[inline]
-    #[tactic(auto, using(crate::proofs::EditFacts::insertion_facts))]
+    #[tactic(auto, using(crate::proofs::EditFacts::character_insertion_facts))]
     pub fn insert(&mut self, index: usize, character: char) -> Result<(), ReserveError>
         requires { IsBoundary self.old.text index }
 
@@ -142,11 +142,10 @@ impl<P: Policy> PolicyString<P> {
         ensures allocates { OnErr result (AllocatesFor self.old (room (len_utf8 character))) }
         ensures err { OnErr result (self.new ≡ self.old) }
     {
-        if character.is_ascii() && self.repr.try_insert_ascii(index, character as u8) {
+        if self.repr.try_insert(index, character) {
             return Ok(());
         }
-        let mut bytes = [0; 4];
-        self.insert_str(index, encode_char(character, &mut bytes))
+        self.repr.insert_slow(index, character)
     }
 
     /// Removes and returns the character at byte `index`, a character boundary below the length. A static string
@@ -182,35 +181,10 @@ impl<P: Policy> PolicyString<P> {
         ensures allocates { OnErr result (AllocatesFor self.old owned) }
         ensures err { OnErr result (self.new ≡ self.old) }
     {
-        if let Some(character) = self.repr.try_remove_ascii(index) {
-            return Ok(character);
-        }
-        self.remove_char(index)
-    }
-
-    /// `remove` for any character and place.
-    #[inline(never)]
-    #[tactic(auto, using(crate::proofs::EditFacts::removal_facts))]
-    fn remove_char(&mut self, index: usize) -> Result<char, ReserveError>
-        requires boundary { IsBoundary self.old.text index }
-        requires within { index < size self.old.text }
-        ensures character { IfOk result
-            (λ c. text_after self.old.text index ≡ c ∷ text_after self.new.text index) }
-        ensures text { IfOk result
-            (λ c. self.new.text ≡ replaced_text self.old.text index (index + len_utf8 c) []) }
-        ensures place { OnOk result (PlacedFor P.growth self.old self.new owned) }
-        ensures allocates { OnErr result (AllocatesFor self.old owned) }
-        ensures err { OnErr result (self.new ≡ self.old) }
-    {
         if let Some(character) = self.repr.try_remove(index) {
             return Ok(character);
         }
-        let len = self.repr.len();
-        // Shows the proof that the end of the character is in the text.
-        prove!(index < len);
-        let (character, end) = self.repr.char_at(index);
-        self.repr.remove_range(index, end)?;
-        Ok(character)
+        self.repr.remove_slow(index)
     }
 
     /// Replaces a range of bytes, which `check_range` must accept. A static string becomes owned. Reserves the

@@ -1,11 +1,10 @@
 //! Retaining characters of a text in a slice.
-ghost use Rattle.std.specs.Prelude.{◌≡◌, ◌+◌, ◌≤◌, ◌<◌, ◌++◌, length, take, drop, if◌then◌else◌};
+ghost use Rattle.std.specs.Prelude.{◌≡◌, ◌+◌, ◌≤◌, ◌<◌, ◌++◌, length, take, drop, if◌then◌else◌, IfSome, IsSome};
 ghost use Rattle.std.specs.Char.{len_utf8, encode_utf8, IsScalar};
 ghost use Rattle.std.specs.Str.{IsUtf8};
 ghost use Rattle.compact_text.specs.Text.{text_of};
 ghost use Rattle.compact_text.specs.Retain.{RetainsCharsTo};
 
-use super::ascii_at;
 use super::moves::copy_both_ends;
 
 /// Moves to the front those characters of the first `len` bytes for which `keep` returns `true`; calls it once for
@@ -52,6 +51,27 @@ fn move_retained<F: FnMut(char) -> bool>(slice: &mut [u8], keep: &mut F) -> usiz
         }
     }
     kept
+}
+
+/// Returns the character at `at`, a boundary of a text, if it is ASCII. Otherwise, and at the end, returns `None`.
+#[inline(always)]
+fn ascii_at(slice: &[u8], at: usize) -> Option<char>
+    requires utf8 { IsUtf8 (drop at slice.now) }
+    ensures encoded { IfSome result
+        (λ c. drop at slice.now ≡ encode_utf8 c ++ drop (at + 1) slice.now) }
+    ensures within { IsSome result → at + 1 ≤ length slice.now }
+    ensures rest { IsSome result → IsUtf8 (drop (at + 1) slice.now) }
+    ensures scalar { IfSome result (λ c. IsScalar c) }
+{
+    if at >= slice.len() {
+        return None;
+    }
+    let byte = slice[at];
+    if byte < 128 {
+        Some(char::from(byte))
+    } else {
+        None
+    }
 }
 
 /// Returns the character that begins at `at`, and its length in bytes.

@@ -126,7 +126,20 @@ fn copy_up_to_128(slice: &mut [u8], from: usize, to: usize, count: usize)
         copy_both_ends::<64>(slice, from, to, count);
     } else if count >= 32 {
         copy_both_ends::<32>(slice, from, to, count);
-    } else if count >= 16 {
+    } else {
+        shift_short(slice, from, to, count);
+    }
+}
+
+/// Moves at most 32 bytes: their first and their last 16, 8, 4, 2 or 1, without a loop or a call.
+#[inline(always)]
+pub fn shift_short(slice: &mut [u8], from: usize, to: usize, count: usize)
+    requires short { count ≤ 32 }
+    requires source { from + count ≤ length slice.old }
+    requires target { to + count ≤ length slice.old }
+    ensures { slice.new ≡ paste slice.old to (drop from slice.old) count }
+{
+    if count >= 16 {
         copy_both_ends::<16>(slice, from, to, count);
     } else if count >= 8 {
         copy_both_ends::<8>(slice, from, to, count);

@@ -7,11 +7,11 @@ use Rattle.compact_repr.proofs.inline.InlineBuffer.try_replace_range.Goals as go
 
 pub write_len-requires-clause-text : goal.write_len-requires-clause-text
 write_len-requires-clause-text c =
-    rw (← c.as_bytes.ensures.value, c.splice.ensures, c.length_of-old_len.ensures)
+    rw (← c.as_bytes.ensures.value, c.splice_short.ensures, c.length_of-old_len.ensures)
     (utf8-replaced _ _ _ _ c.self.view_is (utf8-seen _ c.self.invariant) c.as_bytes.ensures.utf8 c.requires.first c.requires.last)
 
 pub returns-clause-replaced : goal.returns-clause-replaced
 returns-clause-replaced c _ =
     packed-text _ _ c.write_len.ensures
-    ∙ rw (← c.as_bytes.ensures.value, c.splice.ensures, c.length_of-old_len.ensures)
+    ∙ rw (← c.as_bytes.ensures.value, c.splice_short.ensures, c.length_of-old_len.ensures)
     (text_of-replaced _ _ _ _ c.self.view_is (utf8-seen _ c.self.invariant) c.as_bytes.ensures.utf8 c.requires.first c.requires.last)
