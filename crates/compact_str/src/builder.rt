@@ -182,11 +182,13 @@ impl<P: Policy, const N: usize> Builder<P, N> {
         if self.is_refused {
             return Err(ReserveError);
         }
+        let block = self.block.as_str();
         if self.value.is_empty() {
-            return target.push_str(self.block.as_str());
+            return target.push_str(block);
         }
-        self.value.push_str(self.block.as_str())?;
-        target.push_str(self.value.as_str())
+        target.reserve(self.value.len() + block.len())?;
+        target.push_str(self.value.as_str())?;
+        target.push_str(block)
     }
 }
 
