@@ -1,11 +1,11 @@
 -- A value that is collected by appends.
-use Rattle.std.proofs.Common.{◌≡◌, ℕ, ◌+◌, ◌<◌, ◌≤◌, List, [], ◌++◌, refl, ap, sym, subst, ◌∙◌, arith, inl, inr, true}
+use Rattle.std.proofs.Common.{◌≡◌, ℕ, ◌+◌, ◌<◌, ◌≤◌, List, [], ◌++◌, refl, ap, sym, subst, ◌∙◌, arith, inl, inr}
 use Rattle.std.proofs.lemmas.Grind.{common_steps}
 use Rattle.std.proofs.lemmas.Bool.{cases_lt}
 use Rattle.std.specs.Prelude.{Result, Ok, Err, OnOk, OnErr}
 use Rattle.compact_repr.specs.Text.{size}
 use Rattle.compact_repr.specs.Value.{PlacedText, placed_text, heap}
-use Rattle.compact_repr.specs.Capacity.{Growth, inline_placement, fits_in_place, room, room_to_append, PlacedFor, AllocatesFor}
+use Rattle.compact_repr.specs.Capacity.{Growth, inline_placement, room, room_to_append, PlacedFor, AllocatesFor}
 use Rattle.compact_str.specs.Room.{IsPlacedBySize}
 use Rattle.compact_text.proofs.Texts.{size-append, empty_text}
 
@@ -46,14 +46,9 @@ fitted-tried g v w s n (Ok _) f k t e same = fitted-append g v w s n f t k e
 fitted-tried g v w s n (Err _) f k t e same = subst IsPlacedBySize (sym same) f
 
 -- room for two texts is made once, and then both are appended
-reserved-fits : (g : Growth) (v u : PlacedText) (n : ℕ) → u.text ≡ v.text → PlacedFor g v u (room n) → fits_in_place u n ≡ true
-reserved-fits g v u n e k = grind (arith, common_steps)
-
-kept-append : (g : Growth) (u w : PlacedText) (n k : ℕ) → fits_in_place u k ≡ true → n ≤ k → PlacedFor g u w (room_to_append n) → w.placement ≡ u.placement
-kept-append g u w n k fits order e = grind (arith, common_steps)
-
-fits-rest : (u w : PlacedText) (n m : ℕ) → fits_in_place u (n + m) ≡ true → w.placement ≡ u.placement → size w.text ≡ size u.text + n → fits_in_place w m ≡ true
-fits-rest u w n m fits e k = grind (arith, common_steps)
+in-room : (g : Growth) (v u w x : PlacedText) (n m k : ℕ) → u.text ≡ v.text → PlacedFor g v u (room k) → size w.text ≡ size u.text + n → w.placement ≡ u.placement → n + m ≤ k
+    → PlacedFor g w x (room_to_append m) → x.placement ≡ u.placement
+in-room g v u w x n m k same made long is order e = grind (arith, common_steps)
 
 some-append : (g : Growth) (v u x : PlacedText) (n : ℕ) → (n ≡ 0 → ⊥) → PlacedFor g v u (room n) → x.placement ≡ u.placement → PlacedFor g v x (room_to_append n)
 some-append g v u x n some made e = grind (arith, common_steps)
@@ -62,9 +57,8 @@ pub reserved-appends : {E : Type 0} (g : Growth) (v u w x : PlacedText) (a b t :
     → PlacedFor g v u (room k) → w.text ≡ u.text ++ a → PlacedFor g u w (room_to_append n) → OnOk r (PlacedFor g w x (room_to_append m)) → OnOk r (PlacedFor g v x (room_to_append (size t)))
 reserved-appends g v u w x a b t n m k (Err _) whole some i j both same made pushed e f = tt
 reserved-appends g v u w x a b t n m k (Ok _) whole some i j both same made pushed e f =
-    let fits = subst (λ (k : ℕ). fits_in_place u k ≡ true) both (reserved-fits g v u k same made) in
-    let first = kept-append g u w n (n + m) fits (omega arith) e in
     let long : size w.text ≡ size u.text + n = ap size pushed ∙ size-append u.text a ∙ ap (λ (k : ℕ). size u.text + k) (sym i) in
-    let second = kept-append g w x m m (fits-rest u w n m fits first long) (omega arith) f in
+    let first = in-room g v u u w 0 n k same made (omega arith) refl (omega (arith, both)) e in
+    let second = in-room g v u w x n m k same made long first (omega (arith, both)) f in
     let all : k ≡ size t = both ∙ (λ l. i l + j l) ∙ sym (size-append a b) ∙ ap size whole in
-    subst (λ (k : ℕ). PlacedFor g v x (room_to_append k)) all (some-append g v u x k (λ h. some (empty_text a (omega (arith, h, i, both)))) made (second ∙ first))
+    subst (λ (k : ℕ). PlacedFor g v x (room_to_append k)) all (some-append g v u x k (λ h. some (empty_text a (omega (arith, h, i, both)))) made second)
