@@ -5,6 +5,7 @@ ghost use Rattle.compact_str.specs.Words.{size, text_of, PlacedFor, room_to_appe
 ghost use Rattle.compact_str.specs.Room.{IsPlacedBySize};
 ghost use Rattle.compact_str.specs.Output.{AppendsUtf8};
 
+use crate::decode::push_fitted;
 use crate::stack_buffer::{PaddedStr, StackBuffer};
 use crate::string::PolicyString;
 use compact_repr::{Policy, ReserveError};
@@ -137,14 +138,16 @@ impl<P: Policy, const N: usize> Builder<P, N> {
         self.push_str(encode_char(character, &mut bytes))
     }
 
-    /// Appends the block to the value, and then pushes `text`.
+    /// Appends the block to the value, and then pushes `text`. What a small block lacks of 1024 bytes is reserved too, so
+    /// that the value grows less often.
     #[cold]
     #[inline(never)]
     fn flush_and_push(&mut self, text: &str) -> Result<(), ReserveError>
         ensures ok { OnOk result (self.new ≡ self.old ++ text_of text.now) }
         ensures err { OnErr result (INLINE_CAPACITY < size self.old + length text.now) }
     {
-        self.value.push_str(self.block.as_str())?;
+        let more = COLLECTED.saturating_sub(N);
+        push_fitted(&mut self.value, self.block.as_str(), more)?;
         self.block.clear();
         if self.block.try_push_str(text) {
             return Ok(());
@@ -182,11 +185,13 @@ impl<P: Policy, const N: usize> Builder<P, N> {
         if self.is_refused {
             return Err(ReserveError);
         }
+        let block = self.block.as_str();
         if self.value.is_empty() {
-            return target.push_str(self.block.as_str());
+            return target.push_str(block);
         }
-        self.value.push_str(self.block.as_str())?;
-        target.push_str(self.value.as_str())
+        target.reserve(self.value.len() + block.len())?;
+        target.push_str(self.value.as_str())?;
+        target.push_str(block)
     }
 }
 
