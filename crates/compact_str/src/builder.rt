@@ -138,8 +138,8 @@ impl<P: Policy, const N: usize> Builder<P, N> {
         self.push_str(encode_char(character, &mut bytes))
     }
 
-    /// Appends the block to the value, and then pushes `text`. What a small block lacks of 1024 bytes is reserved too, so
-    /// that the value grows less often.
+    /// Appends the block to the value, and then pushes `text`. A value of a block below 1024 bytes is temporary, so more
+    /// is reserved: up to 1024 bytes in all, or one block after a long text.
     #[cold]
     #[inline(never)]
     fn flush_and_push(&mut self, text: &str) -> Result<(), ReserveError>
@@ -152,7 +152,7 @@ impl<P: Policy, const N: usize> Builder<P, N> {
         if self.block.try_push_str(text) {
             return Ok(());
         }
-        self.value.push_str(text)
+        push_fitted(&mut self.value, text, more.min(N))
     }
 
     /// Returns the value, and leaves an unspecified one. Takes a reference, since a move would copy the block.
@@ -185,13 +185,11 @@ impl<P: Policy, const N: usize> Builder<P, N> {
         if self.is_refused {
             return Err(ReserveError);
         }
-        let block = self.block.as_str();
         if self.value.is_empty() {
-            return target.push_str(block);
+            return target.push_str(self.block.as_str());
         }
-        target.reserve(self.value.len() + block.len())?;
-        target.push_str(self.value.as_str())?;
-        target.push_str(block)
+        self.value.push_str(self.block.as_str())?;
+        target.push_str(self.value.as_str())
     }
 }
 
