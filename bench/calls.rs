@@ -257,13 +257,13 @@ fn wired(n: u64, texts: Vec<String>, writes: bool, reads: bool) -> u64 {
     })
 }
 
-/// Interns words drawn from some that a generator has drawn.
-fn interned(n: u64, draw: impl Fn(&mut Generator) -> Vec<String>) -> u64 {
+/// Interns words drawn from 20,000 of at most `longest` letters.
+fn interned(n: u64, longest: u32) -> u64 {
     let mut generator = Generator::new();
-    let words = draw(&mut generator);
+    let words = generator.texts(LETTERS, 20_000, 1, longest);
     let mut names = Names::<Text>::new();
     (0..n).fold(0, |sum, _| {
-        let word = &words[generator.below(INTERNED) as usize];
+        let word = &words[generator.below(20_000) as usize];
         mix(sum, names.number(Text::from(word.as_str())))
     })
 }

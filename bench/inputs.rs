@@ -1,7 +1,5 @@
 //! The inputs: the same as those of `crates/compact_bench`, by the same generator.
 
-use std::collections::HashSet;
-
 /// The kinds of characters: ASCII letters, characters of two, three or four bytes, or half letters and half others.
 pub const KINDS: [&str; 5] = ["ascii", "two", "three", "four", "mixed"];
 pub const LETTERS: u32 = 0;
@@ -164,25 +162,6 @@ pub fn numbers() -> Vec<u64> {
         least.wrapping_add(generator.next() % most)
     };
     (0..4096).map(|_| draw()).collect()
-}
-
-/// The number of words to intern.
-pub const INTERNED: u32 = 20_000;
-
-/// Draws distinct words of 1 to 12 letters.
-pub fn distinct_words(generator: &mut Generator) -> Vec<String> {
-    let mut known = HashSet::new();
-    let mut words = Vec::new();
-    for _ in 0..2 * INTERNED {
-        if words.len() < INTERNED as usize {
-            let len = 1 + generator.below(12);
-            let word = generator.text(LETTERS, len);
-            if known.insert(word.clone()) {
-                words.push(word);
-            }
-        }
-    }
-    words
 }
 
 /// Returns a text of 1 MiB: words of 1 to 12 letters, separated by white space, with some marks, numbers, and words

@@ -5,28 +5,18 @@ use crate::table::library::workloads::size_of_value;
 use crate::table::{KIT, OURS, TYPES};
 use std::mem::size_of;
 
-/// Aligns rows in columns: the first to the left, the others to the right if they are numbers.
+/// Aligns rows in columns.
 fn columns(rows: &[Vec<String>]) -> String {
-    let count = rows.iter().map(Vec::len).max().unwrap_or(0);
     let width = |column: usize| {
         let cells = rows.iter().filter_map(|row| row.get(column));
         cells.map(|cell| cell.chars().count()).max().unwrap_or(0)
     };
-    let widths: Vec<usize> = (0..count).map(width).collect();
-    let mut text = String::new();
-    for row in rows {
-        let cells = row.iter().zip(&widths).map(|(cell, width)| {
-            if cell.parse::<f64>().is_ok() {
-                format!("{cell:>width$}")
-            } else {
-                format!("{cell:<width$}")
-            }
-        });
-        let cells: Vec<String> = cells.collect();
-        text += cells.join("  ").trim_end();
-        text.push('\n');
-    }
-    text
+    let line = |row: &Vec<String>| {
+        let cells = row.iter().enumerate();
+        let cells = cells.map(|(column, cell)| format!("{cell:<0$}", width(column)));
+        cells.collect::<Vec<_>>().join("  ").trim_end().to_string() + "\n"
+    };
+    rows.iter().map(line).collect()
 }
 
 fn figure(number: Option<f64>) -> String {
@@ -86,24 +76,15 @@ pub fn calls<'a>(measured: &[&'a Measured]) -> Vec<(&'static str, Vec<&'a Measur
 
 /// The geometric means of the ratios by call, and of all calls.
 fn means(measured: &[&Measured]) -> String {
-    let mut rows = vec![
-        ["call", "rows", "to String", "to Rust crate", "to best", "to kit's"]
-            .map(String::from)
-            .to_vec(),
-    ];
+    let head = ["call", "rows", "to String", "to Rust crate", "to best", "to kit's"];
+    let mut rows = vec![head.map(String::from).to_vec()];
     let mut all = calls(measured);
     all.push(("all", measured.to_vec()));
     for (call, of_call) in all {
         let to = |place: usize| figure(mean(of_call.iter().filter_map(|row| row.ratio(place))));
         let best = figure(mean(of_call.iter().map(|row| row.to_best())));
-        rows.push(vec![
-            call.to_string(),
-            of_call.len().to_string(),
-            to(0),
-            to(1),
-            best,
-            to(KIT),
-        ]);
+        let count = of_call.len().to_string();
+        rows.push(vec![call.to_string(), count, to(0), to(1), best, to(KIT)]);
     }
     columns(&rows)
 }
@@ -114,16 +95,9 @@ fn sizes() -> String {
     let peer = size_of::<compact_str::CompactString>().to_string();
     #[cfg(not(feature = "peer"))]
     let peer = String::from("-");
-    let ours = size_of_value().to_string();
-    columns(&[
-        vec![
-            String::from("memory"),
-            TYPES[0].into(),
-            TYPES[1].into(),
-            TYPES[OURS].into(),
-        ],
-        vec![String::from("a value"), size_of::<String>().to_string(), peer, ours],
-    ])
+    let (string, ours) = (size_of::<String>().to_string(), size_of_value().to_string());
+    let head = ["memory", TYPES[0], TYPES[1], TYPES[OURS]].map(String::from);
+    columns(&[head.to_vec(), vec![String::from("a value"), string, peer, ours]])
 }
 
 /// All tables.

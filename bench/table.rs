@@ -231,8 +231,8 @@ rows! {
         wire = wired(n, words(100, 1, 40), true, true);
         collect_chars = changing(n, &one(LETTERS, 1024), |value, text| *value = text.chars().collect());
         join = changing(n, &[words(100, 1, 12)], |value, texts| *value = joined(texts));
-        intern = interned(n, |generator| generator.texts(LETTERS, INTERNED as usize, 1, 30));
-        intern_short = interned(n, distinct_words);
+        intern = interned(n, 30);
+        intern_short = interned(n, 12);
         tokenize = tokens(n, prose());
     }
 }

@@ -1,7 +1,6 @@
 //! The inputs: texts of a kind of characters and of a length in bytes, drawn by a generator that starts alike each time.
 
 use crate::text::Text;
-use compact_edit::{InternError, Interner};
 use compact_str::{CompactString, ReserveError};
 use std::alloc::Global;
 
@@ -235,19 +234,11 @@ pub fn rows(alloc: Global, texts: Made<String>) -> Made<Vec<u8>> {
 pub fn faulty_rows(alloc: Global, texts: Made<String>, first: usize) -> Made<Vec<u8>> {
     let mut rows = rows(alloc, texts)?;
     for row in rows.iter_mut() {
-        spoil(row, first);
-    }
-    Ok(rows)
-}
-
-fn spoil(row: &mut [u8], first: usize) {
-    for place in 0..row.len() {
-        if place % 64 == first
-            && let Some(byte) = row.get_mut(place)
-        {
+        for byte in row.iter_mut().skip(first).step_by(64) {
             *byte = 0xFF;
         }
     }
+    Ok(rows)
 }
 
 /// The UTF-16 units of the texts.
@@ -302,40 +293,6 @@ pub fn numbers(alloc: Global) -> Made<u64> {
         )?;
     }
     Ok(numbers)
-}
-
-/// The number of words to intern.
-pub const INTERNED: u32 = 20_000;
-
-/// Draws distinct words of 1 to 12 letters.
-pub fn distinct_words(
-    alloc: Global,
-    generator: &mut Generator,
-) -> Result<Vec<String>, InternError> {
-    let mut names = Interner::new(alloc);
-    let mut words = Vec::new(alloc);
-    for _ in 0..2 * INTERNED {
-        if words.len() < INTERNED as usize {
-            put_drawn(alloc, generator, &mut names, &mut words)?;
-        }
-    }
-    Ok(words)
-}
-
-/// Draws a word, and appends it unless it is already there.
-fn put_drawn(
-    alloc: Global,
-    generator: &mut Generator,
-    names: &mut Interner,
-    words: &mut Vec<String>,
-) -> Result<(), InternError> {
-    let len = generator.below(12).wrapping_add(1);
-    let word = generator.text(alloc, LETTERS, len)?;
-    let number = names.intern(word.as_str())?;
-    if number as usize == words.len() {
-        put(words, word)?;
-    }
-    Ok(())
 }
 
 /// The length of the prose in bytes, but for a few more.

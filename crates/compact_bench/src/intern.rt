@@ -1,23 +1,20 @@
 //! Interning words, alone and as tokens of a text.
 
-use crate::inputs::{Generator, INTERNED, LETTERS, distinct_words, prose};
+use crate::inputs::{Generator, LETTERS, prose};
 use crate::run::mix;
 use compact_edit::{InternError, Interner};
 use compact_str::CompactString;
 use compact_uses::{Kind, Token, tokenize};
 use std::alloc::Global;
 
-/// Interns random words.
-fn interned(
-    alloc: Global,
-    n: u64,
-    words: &[String],
-    mut generator: Generator,
-) -> Result<u64, InternError> {
+/// Interns words drawn from 20,000 of at most `longest` letters.
+fn interned(alloc: Global, n: u64, longest: u32) -> Result<u64, InternError> {
+    let mut generator = Generator::new();
+    let words = generator.texts(alloc, LETTERS, 20_000, 1, longest)?;
     let mut names = Interner::new(alloc);
     let mut sum = 0;
     for _ in 0..n {
-        if let Some(word) = words.get(generator.below(INTERNED) as usize) {
+        if let Some(word) = words.get(generator.below(20_000) as usize) {
             let number = names.intern(word.as_str())?;
             sum = mix(sum, u64::from(number));
         }
@@ -55,24 +52,14 @@ fn mixed(tokens: &[Token], sum: u64) -> u64 {
     sum
 }
 
-/// Interns words of 1 to 30 letters, drawn from 20000.
 #[unsafe(no_mangle)]
 pub extern "C" fn cs_bench_intern(alloc: Global, n: u64) -> u64 {
-    let mut generator = Generator::new();
-    let Ok(words) = generator.texts(alloc, LETTERS, INTERNED as usize, 1, 30) else {
-        return u64::MAX;
-    };
-    interned(alloc, n, &words, generator).unwrap_or(u64::MAX)
+    interned(alloc, n, 30).unwrap_or(u64::MAX)
 }
 
-/// Interns words of 1 to 12 letters, drawn from 20000 distinct ones.
 #[unsafe(no_mangle)]
 pub extern "C" fn cs_bench_intern_short(alloc: Global, n: u64) -> u64 {
-    let mut generator = Generator::new();
-    let Ok(words) = distinct_words(alloc, &mut generator) else {
-        return u64::MAX;
-    };
-    interned(alloc, n, &words, generator).unwrap_or(u64::MAX)
+    interned(alloc, n, 12).unwrap_or(u64::MAX)
 }
 
 /// Cuts a text of 1 MiB into tokens, each of which is interned.
