@@ -1,5 +1,5 @@
 //! The interner: a number for each distinct text.
-ghost use Rattle.std.specs.Prelude.{◌≡◌, ◌<◌, ◌≤◌, ◌↔◌, ℕ, List, [], ◌∷◌, ◌++◌, length, map, Some, IsOk, IsSome, IsTrue, IfOk, IfErr, IfNone, IfSome, OnOk, OnErr, option_map, slice_get};
+ghost use Rattle.std.specs.Prelude.{◌≡◌, ◌<◌, ◌≤◌, ◌↔◌, ℕ, List, [], ◌∷◌, ◌++◌, length, map, Some, IsOk, IsSome, IsTrue, IfOk, IfErr, IfNone, IfSome, OnOk, OnErr, option_map, slice_get, vec_capacity};
 ghost use Rattle.std.specs.Prelude.{false};
 ghost use Rattle.std.specs.Map.Iter.{ShowsInOrder, deref};
 ghost use Rattle.compact_str.specs.Text.{text_of};
@@ -305,10 +305,12 @@ impl Interner {
     /// ```
     #[tactic(auto, using(crate::proofs::NameFacts::list_facts))]
     pub fn intern_all(&mut self, texts: &[&str], numbers: &mut Vec<u32>) -> Result<(), InternError>
-        // Interns the texts, and appends their numbers. Names keep their numbers.
+        // Interns the texts, and appends their numbers. Names keep their numbers, and `numbers` its
+        // capacity.
         ensures names { OnOk result (self.new ≡ distinct_texts (self.old ++ texts_of texts.now)) }
         ensures numbers { OnOk result
             (AppendsNumbersOf self.new (texts_of texts.now) numbers.old.items numbers.new.items) }
+        ensures room { vec_capacity numbers.old ≤ vec_capacity numbers.new }
         ensures kept { (n : ℕ) (name : List ℕ)
             → slice_get self.old n ≡ Some name → slice_get self.new n ≡ Some name }
 

@@ -37,10 +37,12 @@ pub fn run<P: Policy>(
     edits: &[Edit<P>],
     replies: &mut Vec<Reply<P>>,
 ) -> Result<(), ReserveError>
-    // Runs the edits in order, and appends one reply for each.
+    // Runs the edits in order, and appends one reply for each. Never shrinks the capacity of
+    // `replies`.
     ensures run { OnOk result
         (RunsTo P.growth value.old edits.now replies.old.items replies.new.items value.new) }
     ensures count { OnOk result (vec_len replies.new ≡ vec_len replies.old + length edits.now) }
+    ensures room { vec_capacity replies.old ≤ vec_capacity replies.new }
 
     // Fails only if room for the replies cannot be allocated. The value, the replies and their
     // capacity are then unchanged.

@@ -7,5 +7,6 @@ abbrev pub invariant-loop-edit : goal.invariant-loop-edit
 invariant-loop-edit g l = record {
   count : vec_len l.replies ≡ vec_len l.fn.replies + l.edit-index;
   room : vec_len l.replies + (length l.edits - l.edit-index) ≤ vec_capacity l.replies;
+  capacity : vec_capacity l.fn.replies ≤ vec_capacity l.replies;
   run : RunsTo g.P.Policy.growth l.fn.value (take l.edit-index l.edits) l.fn.replies.items l.replies.items l.value;
 }

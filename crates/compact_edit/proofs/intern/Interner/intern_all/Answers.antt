@@ -17,6 +17,7 @@ loop-text-preserved c =
     let so_far = c.loop-text.invariant in
     record {
       room = omega arith;
+      capacity = omega arith;
       distinct = still-distinct _ _ _ known.names so_far.distinct;
       takes =
           takes-more _ _ _ _ _ _ _ _ _ _ so_far.takes c.loop-text-test.true so_far.distinct known.names known.number

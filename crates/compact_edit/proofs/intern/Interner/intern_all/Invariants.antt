@@ -6,6 +6,7 @@ use Rattle.compact_edit.proofs.intern.Interner.intern_all.Given as goal
 abbrev pub invariant-loop-text : goal.invariant-loop-text
 invariant-loop-text l = record {
   room : vec_len l.numbers + (length l.texts - l.text-index) ≤ vec_capacity l.numbers;
+  capacity : vec_capacity l.fn.numbers ≤ vec_capacity l.numbers;
   distinct : distinct_texts l.self ≡ l.self;
   takes : InternsAll l.fn.self (texts_of (take l.text-index l.texts)) l.fn.numbers.items l.self l.numbers.items;
   kept : (n : ℕ) (name : List ℕ) → slice_get l.fn.self n ≡ Some name → slice_get l.self n ≡ Some name;
