@@ -120,7 +120,7 @@ impl<P: Policy> PolicyString<P> {
     /// text.insert(3, '!')?;
     /// assert_eq!(rt; text.as_str(), "aé!b");
     /// ```
-    #[inline]
+    #[inline(always)]
     #[tactic(auto, using(crate::proofs::EditFacts::character_insertion_facts))]
     pub fn insert(&mut self, index: usize, character: char) -> Result<(), ReserveError>
         requires { IsBoundary self.old.text index }
@@ -162,7 +162,7 @@ impl<P: Policy> PolicyString<P> {
     /// assert_eq!(rt; text.remove(1)?, 'é');
     /// assert_eq!(rt; text.as_str(), "ab");
     /// ```
-    #[inline]
+    #[inline(always)]
     #[tactic(auto, using(crate::proofs::EditFacts::removal_facts))]
     pub fn remove(&mut self, index: usize) -> Result<char, ReserveError>
         requires boundary { IsBoundary self.old.text index }
