@@ -58,13 +58,14 @@ fn timed(run: &Run, n: u64) -> (f64, f64, u64) {
     (spent() - begun - 2.0 * idle, idle, sum)
 }
 
-/// A number of operations that takes about `SPAN`, and more than making the inputs.
+/// A number of operations that takes about `SPAN`, and far more than making the inputs.
 fn operations(run: &Run) -> u64 {
     let mut n = 1;
     loop {
-        let (time, idle, _) = timed(run, n);
-        if time > SPAN / 8.0 && time > idle {
-            return (n as f64 * SPAN.max(2.0 * idle) / time) as u64 + 1;
+        let ((one, idle, _), (other, _, _)) = (timed(run, n), timed(run, n));
+        let time = one.min(other);
+        if time > SPAN / 8.0 && time > 2.0 * idle {
+            return (n as f64 * SPAN.max(4.0 * idle) / time) as u64 + 1;
         }
         n *= 4;
     }
