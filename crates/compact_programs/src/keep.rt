@@ -1,8 +1,7 @@
-//! A program that keeps texts: the words of the input in a map, sorted by count.
+//! A program that keeps texts: it sorts the words of the input, and counts those that are equal.
 
 use crate::text::{Refused, Text};
 use std::alloc::Global;
-use std::collections::HashMap;
 use std::io;
 use std::io::Write;
 
@@ -23,36 +22,35 @@ pub fn count<W: Write>(alloc: Global, input: &str, writer: &mut W) -> io::Result
 
 /// Returns the distinct words with their counts, in ascending order.
 fn ranked(alloc: Global, input: &str) -> Result<Vec<(u64, Text)>, Refused> {
+    let mut words = words(alloc, input)?;
+    words.sort_unstable();
     let mut rows = Vec::new(alloc);
-    for (word, count) in counted(alloc, input)? {
-        if rows.push((count, word)).is_err() {
-            return Err(Refused);
-        }
+    for word in words {
+        count_word(&mut rows, word)?;
     }
     rows.sort_unstable();
     Ok(rows)
 }
 
-fn counted(alloc: Global, input: &str) -> Result<HashMap<Text, u64>, Refused> {
-    let mut counts = HashMap::new(alloc);
+fn words(alloc: Global, input: &str) -> Result<Vec<Text>, Refused> {
+    let mut words = Vec::new(alloc);
     for word in input.split_whitespace() {
-        let word = Text::from_str(alloc, word)?;
-        if add_one(&mut counts, word).is_err() {
+        if words.push(Text::from_str(alloc, word)?).is_err() {
             return Err(Refused);
         }
     }
-    Ok(counts)
+    Ok(words)
 }
 
-/// Counts a word.
-fn add_one(counts: &mut HashMap<Text, u64>, word: Text) -> Result<(), Refused> {
-    match counts.get_mut(&word) {
-        Some(count) => *count = count.wrapping_add(1),
-        None => {
-            if counts.insert(word, 1).is_err() {
-                return Err(Refused);
-            }
-        }
+/// Counts a word, of which all that are equal come in a row.
+fn count_word(rows: &mut Vec<(u64, Text)>, word: Text) -> Result<(), Refused> {
+    let is_same = match rows.last() {
+        Some((_, last)) => *last == word,
+        None => false,
+    };
+    if is_same && let Some(row) = rows.last_mut() {
+        row.0 = row.0.wrapping_add(1);
+        return Ok(());
     }
-    Ok(())
+    rows.push((1, word)).or(Err(Refused))
 }
