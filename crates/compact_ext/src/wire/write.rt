@@ -6,8 +6,7 @@ ghost use Rattle.compact_str.specs.Value.{IsSound};
 ghost use Rattle.compact_ext.specs.Wire.{wire, WriteFails, WritesFront, IsWriterFault};
 
 use super::WireError;
-use compact_str::{CompactString, INLINE_CAPACITY};
-use compact_text::slices;
+use compact_str::CompactString;
 use std::io::Write;
 
 /// Writes the wire form of `text`: its length in bytes as four bytes, the low one first, and then its bytes. Writes in
@@ -49,10 +48,7 @@ pub fn write_wire<W: Write>(text: &CompactString, writer: &mut W) -> Result<(), 
     write_form(&len.to_le_bytes(), bytes, writer)
 }
 
-/// The length of the form of a text of 24 bytes.
-const SHORT_FORM: usize = 28;
-
-/// Writes the length and then the text: together if the text is short, which takes one call.
+/// Writes the length and then the text.
 #[inline]
 #[tactic(auto, using(crate::proofs::WireForms::fronts))]
 fn write_form<W: Write>(head: &[u8; 4], bytes: &[u8], writer: &mut W) -> Result<(), WireError>
@@ -62,12 +58,6 @@ fn write_form<W: Write>(head: &[u8; 4], bytes: &[u8], writer: &mut W) -> Result<
         WritesFront (W.contents writer.old) (W.contents writer.new) (head.now ++ bytes.now)) }
     ensures fault { IfErr result IsWriterFault }
 {
-    if bytes.len() <= INLINE_CAPACITY {
-        let mut form = [0; SHORT_FORM];
-        slices::write_short(&mut form, 0, head);
-        slices::write_short(&mut form, 4, bytes);
-        return write_each(&form[..4 + bytes.len()], writer);
-    }
     write_each(head, writer)?;
     write_each(bytes, writer)
 }
