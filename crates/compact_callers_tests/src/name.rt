@@ -11,6 +11,6 @@ fn a_pair_has_two_numbers(rt: HostRuntime) {
     let numbers = pair(&mut names, "a", "b").expect(rt, "memory");
     assert_equal(rt, numbers.0, 0);
     assert_equal(rt, numbers.1, 1);
-    assert_equal(rt, known(&mut names, numbers.1, "b"), 1);
     assert_equal(rt, number_of_known(&names, numbers.0, "a"), Some(0));
+    assert_equal(rt, known(&mut names, numbers.1, "b"), 1);
 }
