@@ -34,7 +34,7 @@ def broken(page):
         target = page.parent / name if name else page
         if not target.exists() or (anchor and anchor not in anchors(target)):
             yield link
-    for name in re.findall(r"\b(?:bench|crates|docs|mistakes|replay)/[\w/]+\.[a-z]+\b", text):
+    for name in re.findall(r"\b(?:bench|docs|replay)/[\w/]+\.[a-z]+\b", text):
         if not (ROOT / name).exists():
             yield name
 
