@@ -1,6 +1,6 @@
 //! Random lines of the program.
 //!
-//! No line is omitted for a difference between the two libraries: docs/DIFFERENCES.md lists only other calls, and
+//! No line is omitted for a difference between the two libraries: docs/STRING.md lists only other calls, and
 //! capacities past the limit, where both fail.
 
 /// Characters of one to four bytes.
