@@ -1,4 +1,4 @@
-//! Texts of formats, with ample memory.
+//! Texts of formats.
 
 use crate::asserts::{assert_equal, assert_that};
 use compact_asserts::that_for;
@@ -30,7 +30,7 @@ fn text_of(rt: &impl Abort, made: Made) -> CompactString {
 }
 
 /// Asserts that a format made this text, inline. Takes ownership of the result.
-pub fn is(rt: &impl Abort, made: Made, text: &str) {
+fn is(rt: &impl Abort, made: Made, text: &str) {
     that_for(text, is_inline(&text_of(rt, made), text)).expect(rt, "it holds");
 }
 
@@ -72,6 +72,17 @@ fn twenty_four_bytes_stand_inline_and_more_on_the_heap(rt: HostRuntime) {
     let text = text_of(rt, format_compact!(in alloc; "{}{}", letters(20), 12345));
     assert_that(rt, text.is_heap_allocated());
     assert_equal(rt, text.as_str(), "aaaaaaaaaaaaaaaaaaaa12345");
+}
+
+#[test]
+fn a_long_format_is_made(rt: HostRuntime) {
+    let rt = &rt;
+    let alloc = rt.alloc();
+    let text = text_of(rt, format_compact!(in alloc; "{:>5000}|{:>5000}", 7, 8));
+    assert_equal(rt, text.len(), 10_001);
+    assert_that(rt, text.starts_with("  "));
+    assert_that(rt, text.ends_with("  8"));
+    assert_equal(rt, text.find("7|"), Some(4999));
 }
 
 #[test]

@@ -1,4 +1,4 @@
-//! Texts of numbers and other values, with ample memory.
+//! Texts of numbers and other values.
 
 use crate::asserts::{assert_equal, assert_that};
 use compact_ext::ToCompactString;

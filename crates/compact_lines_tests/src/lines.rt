@@ -176,6 +176,19 @@ fn a_line_of_a_million_bytes_is_read(rt: HostRuntime) {
 }
 
 #[test]
+fn a_thousand_flags_are_read(rt: HostRuntime) {
+    let rt = &rt;
+    let alloc = rt.alloc();
+    let mut input = Vec::new(alloc);
+    input
+        .extend_from_slice(b"new abc\nretain 010")
+        .expect(rt, "memory");
+    input.resize(1018, b'1').expect(rt, "memory");
+    let printed = b"done\ninline 3 24 abc\ndone\ninline 1 24 b\n";
+    assert_prints(rt, alloc, &input, printed);
+}
+
+#[test]
 fn a_failing_reader_is_told(rt: HostRuntime) {
     let alloc = rt.alloc();
     let mut output = Vec::new(alloc);

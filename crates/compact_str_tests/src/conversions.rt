@@ -51,6 +51,24 @@ fn boxes_and_shared_texts_have_the_text(rt: HostRuntime) {
     assert_equal(rt, shared.as_str(), letters(30));
 }
 
+#[test]
+fn an_empty_value_is_converted(rt: HostRuntime) {
+    let rt = &rt;
+    let alloc = rt.alloc();
+    let text = short(alloc, "").into_string().expect(rt, "memory");
+    assert_equal(rt, text.len(), 0);
+    let bytes = short(alloc, "").into_vec().expect(rt, "memory");
+    assert_equal(rt, bytes.len(), 0);
+    let boxed = short(alloc, "").into_boxed_str().expect(rt, "memory");
+    assert_equal(rt, boxed.as_str(), "");
+    let shared = short(alloc, "").into_rc().expect(rt, "memory");
+    assert_equal(rt, shared.as_str(), "");
+    let cow = short(alloc, "").into_cow().expect(rt, "memory");
+    assert_equal(rt, cow.as_str(), "");
+    let json = json_of(rt, &short(alloc, ""));
+    assert_equal(rt, json.as_str(), Some(""));
+}
+
 /// Asserts a text, and whether it is borrowed.
 fn is_lent(rt: &impl Abort, cow: CowStr<'_>, text: &str, is_borrowed: bool) {
     assert_that(rt, matches!(cow, CowStr::Borrowed(_)) == is_borrowed);

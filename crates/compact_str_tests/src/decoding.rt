@@ -5,7 +5,6 @@ use crate::made::{assert_made_inline, assert_shown};
 use bytes::Buf;
 use compact_asserts::that_for;
 use compact_str::{CompactString, FromUtf8Error, FromUtf16Error, ReserveError, Utf16Error};
-use compact_testing::memory::take_all;
 use compact_testing::values::letters;
 use std::alloc::Global;
 use std::process::Abort;
@@ -186,29 +185,6 @@ fn a_buffer_that_is_known_to_be_a_text_is_read_to_its_end(rt: HostRuntime) {
     let made = CompactString::from_utf8_buf_unchecked(rt.alloc(), &mut known);
     assert_made_inline(&rt, made, "abc");
     assert_equal(&rt, known.remaining(), 0);
-}
-
-/// Slices are validated before allocating; a buffer is read first.
-#[test]
-fn errors_are_told_before_memory_is_asked_for(rt: HostRuntime) {
-    let rt = &rt;
-    let alloc = rt.alloc();
-    let hog = take_all(alloc).expect(rt, "room for the list of blocks");
-    let error = CompactString::from_utf8(alloc, b"aaaaaaaaaaaaaaaaaaaaaaaaaaaaa\xFF").err();
-    assert_that(
-        rt,
-        error
-            == Some(FromUtf8Error::Utf8 {
-                valid_up_to: 29,
-                error_len: Some(1),
-            }),
-    );
-    assert_no_text(rt, CompactString::from_utf16(alloc, &[0xDC00; 30]));
-    assert_no_text(rt, CompactString::from_utf16le(alloc, &[0x61; 59]));
-    let mut invalid = b"\xFFaaaaaaaaaaaaaaaaaaaaaaaaaaaaa".as_slice();
-    let refused = CompactString::from_utf8_buf(alloc, &mut invalid).err();
-    assert_that(rt, refused == Some(FromUtf8Error::Reserve(ReserveError)));
-    drop(hog);
 }
 
 #[test]

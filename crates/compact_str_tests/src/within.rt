@@ -2,7 +2,6 @@
 
 use crate::asserts::{assert_equal, assert_heap, assert_inline, assert_that};
 use compact_asserts::that;
-use compact_testing::memory::take_all;
 use compact_testing::seen::is_static;
 use compact_testing::values::{lasting, letters, short, value_of};
 use std::ops::Bound::{Excluded, Included, Unbounded};
@@ -90,32 +89,4 @@ fn a_static_value_is_copied_for_a_range(rt: HostRuntime) {
     that(value.check_range(Unbounded, Excluded(1)).is_some()).expect(rt, "it holds");
     value.extend_from_within(..1).expect(rt, "memory");
     assert_heap(rt, &value, 45, letters(31));
-}
-
-#[test]
-fn a_refused_range_changes_nothing(rt: HostRuntime) {
-    let rt = &rt;
-    let alloc = rt.alloc();
-    let mut value = lasting(alloc, 30);
-    that(value.check_range(Unbounded, Excluded(1)).is_some()).expect(rt, "it holds");
-    let hog = take_all(alloc).expect(rt, "room for the list of blocks");
-    let extended = value.extend_from_within(..1).is_err();
-    that(value.check_range(Unbounded, Excluded(1)).is_some()).expect(rt, "it holds");
-    let replaced = value.replace_within(..1, "b").is_err();
-    drop(hog);
-    assert_that(rt, extended && replaced);
-    assert_that(rt, is_static(&value, letters(30)));
-}
-
-#[test]
-fn a_refused_drain_of_a_range_changes_nothing(rt: HostRuntime) {
-    let rt = &rt;
-    let alloc = rt.alloc();
-    let mut value = lasting(alloc, 30);
-    let hog = take_all(alloc).expect(rt, "room for the list of blocks");
-    that(value.check_range(Unbounded, Excluded(1)).is_some()).expect(rt, "it holds");
-    let drained = value.drain_within(..1).is_err();
-    drop(hog);
-    assert_that(rt, drained);
-    assert_that(rt, is_static(&value, letters(30)));
 }

@@ -1,10 +1,11 @@
 //! Texts of formats when allocations fail, beyond what `compact_table_tests` tries of each call.
 
 use crate::asserts::{assert_equal, assert_that};
-use crate::formats::is;
+use compact_asserts::that_for;
 use compact_ext::{ToCompactString, ToCompactStringError, format_compact};
 use compact_str::{CompactString, ReserveError};
 use compact_testing::memory::take_all;
+use compact_testing::seen::is_inline;
 use compact_testing::values::{letters, string_with_room};
 use std::alloc::Global;
 use std::borrow::CowStr;
@@ -20,13 +21,18 @@ struct Hiding(usize);
 impl Display for Hiding {
     fn fmt<W: fmt::Write>(&self, f: &mut fmt::Formatter<W>) -> fmt::Result {
         for _ in 0..self.0 {
-            let _refused = f.write_str(letters(30)).is_err();
+            let _failed = f.write_str(letters(30)).is_err();
         }
         Ok(())
     }
 }
 
-fn is_refused(made: Result<CompactString, ToCompactStringError>) -> bool {
+/// Asserts that a format made this text, inline. Takes ownership of the result.
+fn is(rt: &impl Abort, made: Result<CompactString, ToCompactStringError>, text: &str) {
+    that_for(text, is_inline(&made.expect(rt, "memory"), text)).expect(rt, "it holds");
+}
+
+fn fails_to_allocate(made: Result<CompactString, ToCompactStringError>) -> bool {
     made.err() == Some(ToCompactStringError::Reserve(ReserveError))
 }
 
@@ -46,9 +52,9 @@ fn formats_and_strings_of_24_bytes_need_no_memory(rt: HostRuntime) {
 }
 
 /// Asserts that both calls on a value fail.
-fn assert_refused<T: ToCompactString>(rt: &impl Abort, alloc: Global, value: &T) {
-    assert_that(rt, is_refused(value.to_compact_string(alloc)));
-    assert_that(rt, is_refused(value.try_to_compact_string(alloc)));
+fn assert_fails<T: ToCompactString>(rt: &impl Abort, alloc: Global, value: &T) {
+    assert_that(rt, fails_to_allocate(value.to_compact_string(alloc)));
+    assert_that(rt, fails_to_allocate(value.try_to_compact_string(alloc)));
 }
 
 #[test]
@@ -64,18 +70,24 @@ fn boxes_and_cows_of_24_bytes_need_no_memory(rt: HostRuntime) {
         CowStr::Borrowed(letters(24)).to_compact_string(alloc),
         letters(24),
     );
-    assert_refused(rt, alloc, &long);
-    assert_refused(rt, alloc, &CowStr::Borrowed(letters(30)));
+    assert_fails(rt, alloc, &long);
+    assert_fails(rt, alloc, &CowStr::Borrowed(letters(30)));
     drop(hog);
 }
 
 #[test]
-fn a_refusal_that_is_hidden_is_told(rt: HostRuntime) {
+fn a_failure_that_a_display_hides_is_reported(rt: HostRuntime) {
     let rt = &rt;
     let alloc = rt.alloc();
     let hog = take_all(alloc).expect(rt, "room for the list of blocks");
-    assert_that(rt, is_refused(format_compact!(in alloc; "{}", Hiding(1))));
-    assert_that(rt, is_refused(format_compact!(in alloc; "{}a", Hiding(2))));
+    assert_that(
+        rt,
+        fails_to_allocate(format_compact!(in alloc; "{}", Hiding(1))),
+    );
+    assert_that(
+        rt,
+        fails_to_allocate(format_compact!(in alloc; "{}a", Hiding(2))),
+    );
     drop(hog);
     let text = format_compact!(in alloc; "{}", Hiding(2)).expect(rt, "memory");
     assert_equal(rt, text.as_str(), letters(60));

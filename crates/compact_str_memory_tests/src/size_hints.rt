@@ -1,8 +1,8 @@
-//! Items with a useless or too large hint, with ample memory: each call depends only on the items.
+//! Items with a useless or too large hint: each call depends only on the items.
 
 use crate::asserts::{assert_equal, assert_inline, assert_that};
 use crate::hints::with_hint;
-use crate::made::{assert_made, values_of};
+use crate::made::assert_made;
 use compact_str::{CompactString, CompactStringExt, append_all};
 use compact_testing::seen::is_at;
 use compact_testing::values::{letters, short};
@@ -126,25 +126,6 @@ pub fn assert_appended(
     line.clear();
 }
 
-#[test]
-fn short_texts_are_what_the_items_give(rt: HostRuntime) {
-    let alloc = rt.alloc();
-    for too_much in [false, true] {
-        assert_collected(&rt, alloc, too_much);
-        assert_extended(&rt, alloc, too_much);
-    }
-}
-
-#[test]
-fn a_string_is_given_what_the_items_give(rt: HostRuntime) {
-    let alloc = rt.alloc();
-    let values = values_of(&rt, alloc, &["a", "", "bc"]);
-    let mut line = String::new(alloc);
-    assert_appended(&rt, &mut line, &values, false);
-    assert_appended(&rt, &mut line, &values, true);
-    assert_equal(&rt, line.len(), 0);
-}
-
 /// Asserts results of more than 24 bytes, on the heap.
 fn assert_long(rt: &impl Abort, alloc: Global, too_much: bool) {
     let texts = [letters(20), "", letters(5)];
@@ -155,7 +136,7 @@ fn assert_long(rt: &impl Abort, alloc: Global, too_much: bool) {
 }
 
 #[test]
-fn long_texts_are_what_the_items_give(rt: HostRuntime) {
+fn a_long_text_depends_on_the_items_alone(rt: HostRuntime) {
     let alloc = rt.alloc();
     assert_long(&rt, alloc, false);
     assert_long(&rt, alloc, true);
@@ -185,7 +166,7 @@ fn assert_room(rt: &impl Abort, alloc: Global, too_much: bool) {
 }
 
 #[test]
-fn an_extension_makes_room_for_what_came(rt: HostRuntime) {
+fn an_extension_makes_room_item_by_item(rt: HostRuntime) {
     let alloc = rt.alloc();
     assert_room(&rt, alloc, false);
     assert_room(&rt, alloc, true);

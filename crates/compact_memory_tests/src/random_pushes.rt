@@ -111,7 +111,7 @@ fn random_lists_in_large_buffers(rt: HostRuntime) {
 }
 
 #[test]
-fn random_lists_with_no_memory(rt: HostRuntime) {
+fn random_lists_without_memory(rt: HostRuntime) {
     let alloc = rt.alloc();
     let hog = take_all(alloc).expect(&rt, "room for the list of blocks");
     let standard = total::<Standard>(alloc);

@@ -2,7 +2,7 @@
 
 use crate::asserts::{assert_equal, assert_inline};
 use crate::hints::with_hint;
-use crate::made::{assert_refused, values_of};
+use crate::made::{assert_fails, values_of};
 use crate::size_hints::{
     assert_appended, assert_characters, assert_collected, assert_extended, assert_joined,
     assert_texts,
@@ -14,7 +14,7 @@ use std::alloc::Global;
 use std::process::Abort;
 
 #[test]
-fn no_hint_asks_for_memory(rt: HostRuntime) {
+fn no_hint_makes_a_call_allocate(rt: HostRuntime) {
     let rt = &rt;
     let alloc = rt.alloc();
     let hog = take_all(alloc).expect(rt, "room for the list of blocks");
@@ -26,7 +26,7 @@ fn no_hint_asks_for_memory(rt: HostRuntime) {
 }
 
 #[test]
-fn a_string_with_room_is_given_the_texts(rt: HostRuntime) {
+fn texts_are_appended_to_a_string_that_has_room(rt: HostRuntime) {
     let rt = &rt;
     let alloc = rt.alloc();
     let values = values_of(rt, alloc, &["a", "bc"]);
@@ -39,18 +39,18 @@ fn a_string_with_room_is_given_the_texts(rt: HostRuntime) {
 }
 
 /// Asserts that more than 24 bytes of texts or characters fail.
-fn assert_long_refused(rt: &impl Abort, alloc: Global, too_much: bool) {
+fn assert_long_fails(rt: &impl Abort, alloc: Global, too_much: bool) {
     assert_texts(rt, alloc, &[letters(20), letters(5)], None, too_much);
     assert_joined(rt, alloc, &["a", "b"], letters(23), None, too_much);
     assert_characters(rt, alloc, &['€'; 9], None, too_much);
 }
 
 #[test]
-fn more_than_24_bytes_are_refused(rt: HostRuntime) {
+fn more_than_24_bytes_fail(rt: HostRuntime) {
     let alloc = rt.alloc();
     let hog = take_all(alloc).expect(&rt, "room for the list of blocks");
     for too_much in [false, true] {
-        assert_long_refused(&rt, alloc, too_much);
+        assert_long_fails(&rt, alloc, too_much);
     }
     drop(hog);
 }
@@ -59,25 +59,25 @@ fn more_than_24_bytes_are_refused(rt: HostRuntime) {
 fn assert_stops(rt: &impl Abort, alloc: Global, too_much: bool) {
     let mut value = CompactString::default(alloc);
     let texts = [letters(20), letters(4), "b", ""];
-    assert_refused(
+    assert_fails(
         rt,
         "extend_texts",
         value.extend_texts(with_hint(&texts, too_much)),
     );
     assert_inline(rt, &value, letters(24));
-    assert_refused(
+    assert_fails(
         rt,
         "extend, texts",
         value.extend(with_hint(&["", "b"], too_much)),
     );
-    assert_refused(
+    assert_fails(
         rt,
         "extend, characters",
         value.extend(with_hint(&['b'], too_much)),
     );
     assert_inline(rt, &value, letters(24));
     let mut value = CompactString::default(alloc);
-    assert_refused(
+    assert_fails(
         rt,
         "extend_chars",
         value.extend_chars(with_hint(&['€'; 9], too_much).copied()),
@@ -86,7 +86,7 @@ fn assert_stops(rt: &impl Abort, alloc: Global, too_much: bool) {
 }
 
 #[test]
-fn an_extension_stops_at_what_is_refused(rt: HostRuntime) {
+fn an_extension_stops_at_the_item_that_fails(rt: HostRuntime) {
     let alloc = rt.alloc();
     let hog = take_all(alloc).expect(&rt, "room for the list of blocks");
     assert_stops(&rt, alloc, false);
@@ -101,7 +101,7 @@ fn assert_append_stops(
     values: &[CompactString],
     too_much: bool,
 ) {
-    assert_refused(
+    assert_fails(
         rt,
         "append_all",
         append_all(line, with_hint(values, too_much)),
@@ -111,7 +111,7 @@ fn assert_append_stops(
 }
 
 #[test]
-fn a_string_stops_at_the_value_that_is_refused(rt: HostRuntime) {
+fn an_append_to_a_string_stops_at_the_value_that_fails(rt: HostRuntime) {
     let rt = &rt;
     let alloc = rt.alloc();
     let values = values_of(rt, alloc, &["ab", letters(80), "c"]);

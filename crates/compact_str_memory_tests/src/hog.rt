@@ -11,7 +11,7 @@ fn has_memory(alloc: Global) -> bool {
 }
 
 #[test]
-fn each_request_is_refused_until_the_hog_is_dropped(rt: HostRuntime) {
+fn every_allocation_fails_until_the_hog_is_dropped(rt: HostRuntime) {
     let rt = &rt;
     let alloc = rt.alloc();
     let hog = take_all(alloc).expect(rt, "room for the list of blocks");
