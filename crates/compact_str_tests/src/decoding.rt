@@ -60,8 +60,46 @@ fn invalid_bytes_are_told_and_replaced(rt: HostRuntime) {
         ),
         (b"\xE1\x80\x41".as_slice(), 0, Some(2), "\u{FFFD}A"),
         (b"\x61\xE2\x82".as_slice(), 1, None, "a\u{FFFD}"),
+        (
+            b"\xE0\x80\x80".as_slice(),
+            0,
+            Some(1),
+            "\u{FFFD}\u{FFFD}\u{FFFD}",
+        ),
+        (b"\xF0\x9F\x91\x41".as_slice(), 0, Some(3), "\u{FFFD}A"),
+        (b"\xE2\x82\xAC\xFF".as_slice(), 3, Some(1), "€\u{FFFD}"),
     ] {
         assert_invalid(&rt, rt.alloc(), bytes, valid_up_to, error_len, text);
+    }
+}
+
+/// The Standard's examples (3.9, Tables 3-8 to 3-11): forms that are too long, surrogates, other bytes that begin no
+/// sequence, and sequences cut short.
+#[test]
+fn the_examples_of_the_standard(rt: HostRuntime) {
+    for (bytes, error_len, text) in [
+        (
+            b"\xC0\xAF\xE0\x80\xBF\xF0\x81\x82\x41".as_slice(),
+            1,
+            "\u{FFFD}\u{FFFD}\u{FFFD}\u{FFFD}\u{FFFD}\u{FFFD}\u{FFFD}\u{FFFD}A",
+        ),
+        (
+            b"\xED\xA0\x80\xED\xBF\xBF\xED\xAF\x41".as_slice(),
+            1,
+            "\u{FFFD}\u{FFFD}\u{FFFD}\u{FFFD}\u{FFFD}\u{FFFD}\u{FFFD}\u{FFFD}A",
+        ),
+        (
+            b"\xF4\x91\x92\x93\xFF\x41\x80\xBF\x42".as_slice(),
+            1,
+            "\u{FFFD}\u{FFFD}\u{FFFD}\u{FFFD}\u{FFFD}A\u{FFFD}\u{FFFD}B",
+        ),
+        (
+            b"\xE1\x80\xE2\xF0\x91\x92\xF1\xBF\x41".as_slice(),
+            2,
+            "\u{FFFD}\u{FFFD}\u{FFFD}\u{FFFD}A",
+        ),
+    ] {
+        assert_invalid(&rt, rt.alloc(), bytes, 0, Some(error_len), text);
     }
 }
 

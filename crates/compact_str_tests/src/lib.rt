@@ -31,13 +31,13 @@ mod long_texts;
 #[cfg(test)]
 mod made;
 #[cfg(test)]
+mod moved_bytes;
+#[cfg(test)]
 mod packed;
 #[cfg(test)]
 mod positions;
 #[cfg(test)]
 mod removals;
-#[cfg(test)]
-mod within;
 #[cfg(test)]
 mod written;
 #[cfg(test)]

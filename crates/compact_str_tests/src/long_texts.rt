@@ -2,7 +2,7 @@
 
 use crate::asserts::{assert_equal, assert_that};
 use bytes::Buf;
-use compact_str::CompactString;
+use compact_str::{CompactString, FromUtf8Error};
 use std::alloc::Global;
 use std::process::Abort;
 
@@ -81,4 +81,42 @@ fn a_long_json_string_is_read(rt: HostRuntime) {
     let json = serde_json::to_string(alloc, &long(rt, alloc)).expect(rt, "memory");
     let read: Result<CompactString, serde_json::Error> = serde_json::from_str(alloc, json.as_str());
     assert_long(rt, alloc, read);
+}
+
+/// Asserts the error of invalid bytes.
+fn assert_error(rt: &impl Abort, alloc: Global, bytes: &[u8], wanted: (usize, Option<usize>)) {
+    let (valid_up_to, error_len) = wanted;
+    let error = FromUtf8Error::Utf8 {
+        valid_up_to,
+        error_len,
+    };
+    assert_that(
+        rt,
+        CompactString::from_utf8(alloc, bytes).err() == Some(error),
+    );
+}
+
+/// Sets a byte.
+fn set(rt: &impl Abort, bytes: &mut [u8], place: usize, byte: u8) {
+    *bytes.get_mut(place).expect(rt, "a place") = byte;
+}
+
+#[test]
+fn long_bytes_are_validated_to_their_end(rt: HostRuntime) {
+    let rt = &rt;
+    let alloc = rt.alloc();
+    let mut bytes = [b'a'; 20000];
+    // A character across the end of the first 8192 bytes.
+    set(rt, &mut bytes, 8190, 0xE2);
+    set(rt, &mut bytes, 8191, 0x82);
+    set(rt, &mut bytes, 8192, 0xAC);
+    assert_that(rt, CompactString::from_utf8(alloc, &bytes).is_ok());
+    set(rt, &mut bytes, 19999, 0xE2);
+    assert_error(rt, alloc, &bytes, (19999, None));
+    set(rt, &mut bytes, 15000, 0xF4);
+    set(rt, &mut bytes, 15001, 0x90);
+    assert_error(rt, alloc, &bytes, (15000, Some(1)));
+    set(rt, &mut bytes, 64, 0xE1);
+    set(rt, &mut bytes, 65, 0x80);
+    assert_error(rt, alloc, &bytes, (64, Some(2)));
 }
