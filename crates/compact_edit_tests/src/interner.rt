@@ -145,7 +145,7 @@ fn many_words_are_numbered_as_in_a_plain_list(rt: HostRuntime) {
 }
 
 #[test]
-fn refusals_are_shown_so(rt: HostRuntime) {
+fn errors_have_these_texts(rt: HostRuntime) {
     let rt = &rt;
     let alloc = rt.alloc();
     let shown = format!(in alloc; "{}", InternError::Full);

@@ -51,7 +51,7 @@ fn assert_pushed_inline<P: Policy>(rt: &impl Abort, alloc: Global, texts: &[&str
 }
 
 #[test]
-fn each_growth_moves_the_text_that_stood(rt: HostRuntime) {
+fn each_growth_moves_the_text(rt: HostRuntime) {
     let rt = &rt;
     let alloc = rt.alloc();
     let texts = [

@@ -53,7 +53,7 @@ fn assert_not_collected<R: BufRead + Drop>(rt: &impl Abort, alloc: Global, reade
 }
 
 #[test]
-fn each_record_comes_in_its_turn(rt: HostRuntime) {
+fn records_are_read_in_order(rt: HostRuntime) {
     let mut records = Records::new(rt.alloc(), RECORDS.as_slice());
     assert_texts(&rt, &mut records, &["a", "", "Hi"]);
     assert_end(&rt, &mut records);
@@ -127,7 +127,7 @@ fn assert_broken_and_a(rt: &impl Abort, alloc: Global, bytes: &[u8]) {
 }
 
 #[test]
-fn after_a_text_that_is_none_the_next_comes(rt: HostRuntime) {
+fn after_an_invalid_text_the_next_is_read(rt: HostRuntime) {
     let bytes = b"\x01\0\0\0\xFF\x01\0\0\0a";
     assert_broken_and_a(&rt, rt.alloc(), bytes);
     assert_not_collected(&rt, rt.alloc(), bytes.as_slice(), "utf8");
@@ -200,7 +200,7 @@ fn assert_broken_and_another(rt: &impl Abort, alloc: Global, len: usize, at: usi
 }
 
 #[test]
-fn after_bytes_that_are_no_text_the_next_comes(rt: HostRuntime) {
+fn after_invalid_bytes_the_next_is_read(rt: HostRuntime) {
     for len in [1usize, 3, 4, 7, 8, 15, 16, 23, 24, 25, 31, 32, 63, 64, 80] {
         for at in [0, len / 2, len.saturating_sub(1)] {
             assert_broken_and_another(&rt, rt.alloc(), len, at);
@@ -209,7 +209,7 @@ fn after_bytes_that_are_no_text_the_next_comes(rt: HostRuntime) {
 }
 
 #[test]
-fn a_failure_between_records_is_told(rt: HostRuntime) {
+fn a_failed_read_between_records_is_reported(rt: HostRuntime) {
     for kind in [ErrorKind::Other, ErrorKind::Interrupted] {
         assert_failure(&rt, rt.alloc(), kind);
     }

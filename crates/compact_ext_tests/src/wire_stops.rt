@@ -41,7 +41,7 @@ fn assert_byte_by_byte(rt: &impl Abort, alloc: Global, count: u8, place: &str, c
 }
 
 #[test]
-fn a_text_comes_byte_by_byte(rt: HostRuntime) {
+fn a_text_is_read_byte_by_byte(rt: HostRuntime) {
     assert_byte_by_byte(&rt, rt.alloc(), 24, "inline", 24);
     assert_byte_by_byte(&rt, rt.alloc(), 25, "heap", 25);
 }
@@ -55,7 +55,7 @@ fn assert_broken(rt: &impl Abort, alloc: Global, bytes: &[u8], left: usize) {
 }
 
 #[test]
-fn broken_bytes_come_one_by_one(rt: HostRuntime) {
+fn invalid_bytes_are_read_one_by_one(rt: HostRuntime) {
     let rt = &rt;
     let alloc = rt.alloc();
     assert_broken(rt, alloc, b"\x02\0\0\0\xC0\x80", 0);

@@ -80,7 +80,7 @@ fn after_a_failed_allocation_the_end_of_a_buffer_can_be_read(rt: HostRuntime) {
 }
 
 /// Asserts that units are invalid.
-fn assert_no_text(rt: &impl Abort, made: Result<CompactString, FromUtf16Error>) {
+fn assert_invalid_units(rt: &impl Abort, made: Result<CompactString, FromUtf16Error>) {
     assert_that(rt, matches!(made, Err(FromUtf16Error::Utf16(_))));
 }
 
@@ -92,8 +92,8 @@ fn invalid_slices_are_reported_before_an_allocation(rt: HostRuntime) {
     let hog = take_all(alloc).expect(rt, "room for the list of blocks");
     let error = CompactString::from_utf8(alloc, b"aaaaaaaaaaaaaaaaaaaaaaaaaaaaa\xFF").err();
     assert_that(rt, error == error_at(29, Some(1)));
-    assert_no_text(rt, CompactString::from_utf16(alloc, &[0xDC00; 30]));
-    assert_no_text(rt, CompactString::from_utf16le(alloc, &[0x61; 59]));
+    assert_invalid_units(rt, CompactString::from_utf16(alloc, &[0xDC00; 30]));
+    assert_invalid_units(rt, CompactString::from_utf16le(alloc, &[0x61; 59]));
     let mut invalid = b"\xFFaaaaaaaaaaaaaaaaaaaaaaaaaaaaa".as_slice();
     let failed = CompactString::from_utf8_buf(alloc, &mut invalid).err();
     assert_that(rt, failed == Some(FromUtf8Error::Reserve(ReserveError)));

@@ -47,7 +47,7 @@ fn assert_read(rt: &impl Abort, alloc: Global, text: &str) {
 }
 
 #[test]
-fn a_text_is_read_wherever_it_is_parted(rt: HostRuntime) {
+fn a_text_is_read_wherever_it_is_split(rt: HostRuntime) {
     let rt = &rt;
     let alloc = rt.alloc();
     assert_read(rt, alloc, "");
@@ -75,7 +75,7 @@ fn error_at(valid_up_to: usize, error_len: Option<usize>) -> FromUtf8Error {
 }
 
 #[test]
-fn invalid_bytes_have_one_error_wherever_they_are_parted(rt: HostRuntime) {
+fn invalid_bytes_have_one_error_wherever_they_are_split(rt: HostRuntime) {
     let rt = &rt;
     let alloc = rt.alloc();
     assert_invalid(rt, alloc, b"\xE2\x82A", error_at(0, Some(2)));

@@ -80,7 +80,7 @@ fn texts_by_value_are_items_of_the_traits(rt: HostRuntime) {
 }
 
 #[test]
-fn values_are_put_behind_a_string(rt: HostRuntime) {
+fn values_are_appended_to_a_string(rt: HostRuntime) {
     let rt = &rt;
     let alloc = rt.alloc();
     let mut line = String::from_str(alloc, "a").expect(rt, "memory");

@@ -70,7 +70,7 @@ fn an_empty_value_is_converted(rt: HostRuntime) {
 }
 
 /// Asserts a text, and whether it is borrowed.
-fn is_lent(rt: &impl Abort, cow: CowStr<'_>, text: &str, is_borrowed: bool) {
+fn assert_cow(rt: &impl Abort, cow: CowStr<'_>, text: &str, is_borrowed: bool) {
     assert_that(rt, matches!(cow, CowStr::Borrowed(_)) == is_borrowed);
     assert_equal(rt, cow.as_str(), text);
 }
@@ -80,12 +80,12 @@ fn a_static_text_is_borrowed_and_others_are_owned(rt: HostRuntime) {
     let rt = &rt;
     let alloc = rt.alloc();
     let cow = lasting(alloc, 30).into_cow().expect(rt, "memory");
-    is_lent(rt, cow, letters(30), true);
+    assert_cow(rt, cow, letters(30), true);
     let cow = short(alloc, "äb").into_cow().expect(rt, "memory");
-    is_lent(rt, cow, "äb", false);
+    assert_cow(rt, cow, "äb", false);
     let value = shortened(rt, alloc);
-    is_lent(rt, value.as_cow(), "äb", true);
-    is_lent(rt, value.into_cow().expect(rt, "memory"), "äb", false);
+    assert_cow(rt, value.as_cow(), "äb", true);
+    assert_cow(rt, value.into_cow().expect(rt, "memory"), "äb", false);
 }
 
 /// Converts a text to a JSON value.
@@ -131,7 +131,7 @@ fn is_no_string(rt: &impl Abort, alloc: Global, text: &str) {
 }
 
 #[test]
-fn only_a_json_string_is_taken(rt: HostRuntime) {
+fn only_a_json_string_is_converted(rt: HostRuntime) {
     let rt = &rt;
     let alloc = rt.alloc();
     let json = json_in(rt, alloc, "\"abc\"");

@@ -30,7 +30,7 @@ fn assert_invalid(
 }
 
 #[test]
-fn invalid_bytes_are_told_and_replaced(rt: HostRuntime) {
+fn invalid_bytes_are_reported_and_replaced(rt: HostRuntime) {
     for (bytes, valid_up_to, error_len, text) in [
         (
             b"\0\0\0\0\0\0\0\0\0\0\0\0\0\0\0\0\0\0\0\0\0\0\0\xC0".as_slice(),
@@ -131,7 +131,7 @@ fn assert_forms(
 }
 
 #[test]
-fn each_form_of_a_text_is_taken(rt: HostRuntime) {
+fn each_form_of_a_text_is_decoded(rt: HostRuntime) {
     for (text, units, little, big) in [
         ("", [].as_slice(), b"".as_slice(), b"".as_slice()),
         (
@@ -166,7 +166,7 @@ fn assert_unpaired(rt: &impl Abort, alloc: Global, units: &[u16], text: &str) {
 }
 
 #[test]
-fn unpaired_surrogates_are_told_and_replaced(rt: HostRuntime) {
+fn unpaired_surrogates_are_reported_and_replaced(rt: HostRuntime) {
     for (units, text) in [
         (
             [0xD834, 0xDD1E, 0x6D, 0x75, 0x73, 0xDD1E, 0x69, 0x63, 0xD834].as_slice(),
@@ -180,7 +180,7 @@ fn unpaired_surrogates_are_told_and_replaced(rt: HostRuntime) {
 }
 
 #[test]
-fn units_of_a_text_are_taken(rt: HostRuntime) {
+fn units_of_a_text_are_decoded(rt: HostRuntime) {
     let alloc = rt.alloc();
     assert_made_inline(
         &rt,
@@ -196,23 +196,23 @@ fn units_of_a_text_are_taken(rt: HostRuntime) {
 }
 
 /// Asserts that units are invalid.
-fn assert_no_text(rt: &impl Abort, made: Result<CompactString, FromUtf16Error>) {
+fn assert_invalid_units(rt: &impl Abort, made: Result<CompactString, FromUtf16Error>) {
     assert_that(rt, matches!(made, Err(FromUtf16Error::Utf16(_))));
 }
 
 #[test]
-fn invalid_bytes_of_units_are_told_and_replaced(rt: HostRuntime) {
+fn invalid_bytes_of_units_are_reported_and_replaced(rt: HostRuntime) {
     let rt = &rt;
     let alloc = rt.alloc();
     for (odd, text) in [
         (b"\x3D\xD8\x6F".as_slice(), "\u{FFFD}\u{FFFD}"),
         (b"A\0B".as_slice(), "A\u{FFFD}"),
     ] {
-        assert_no_text(rt, CompactString::from_utf16le(alloc, odd));
+        assert_invalid_units(rt, CompactString::from_utf16le(alloc, odd));
         assert_made_inline(rt, CompactString::from_utf16le_lossy(alloc, odd), text);
     }
     let unpaired = b"\xD8\x3D\xDC\x6F\x20\x0D\x26\x40\xDE\x0F";
-    assert_no_text(rt, CompactString::from_utf16be(alloc, unpaired));
+    assert_invalid_units(rt, CompactString::from_utf16be(alloc, unpaired));
     let text = "\u{1F46F}\u{200D}\u{2640}\u{FFFD}";
     assert_made_inline(rt, CompactString::from_utf16be_lossy(alloc, unpaired), text);
 }
@@ -226,7 +226,7 @@ fn a_buffer_that_is_known_to_be_a_text_is_read_to_its_end(rt: HostRuntime) {
 }
 
 #[test]
-fn errors_show_these_texts(rt: HostRuntime) {
+fn errors_have_these_texts(rt: HostRuntime) {
     let alloc = rt.alloc();
     let invalid = FromUtf8Error::Utf8 {
         valid_up_to: 0,
@@ -239,7 +239,7 @@ fn errors_show_these_texts(rt: HostRuntime) {
 }
 
 #[test]
-fn refusals_show_this_text(rt: HostRuntime) {
+fn failed_allocations_have_this_text(rt: HostRuntime) {
     let alloc = rt.alloc();
     let text = "Cannot allocate memory to hold CompactString";
     let refused = FromUtf8Error::from(ReserveError);

@@ -46,7 +46,7 @@ fn assert_drained(
 }
 
 #[test]
-fn a_drain_gives_its_characters_from_both_ends(rt: HostRuntime) {
+fn a_drain_returns_characters_from_both_ends(rt: HostRuntime) {
     let mut value = short(rt.alloc(), "Hello, world!");
     assert_drained(&rt, &mut value, (5, 12), (',', " worl", 'd'), "Hello!");
     assert_inline(&rt, &value, "Hello!");
@@ -75,7 +75,7 @@ fn a_drain_counts_what_is_left(rt: HostRuntime) {
 }
 
 #[test]
-fn a_drain_shows_what_is_not_taken_yet(rt: HostRuntime) {
+fn a_drain_shows_what_is_left(rt: HostRuntime) {
     let rt = &rt;
     let mut value = short(rt.alloc(), "Hello, world!");
     let mut drained = greeted(rt, &mut value);
@@ -146,7 +146,7 @@ fn the_ends_of_a_drain_meet(rt: HostRuntime) {
 }
 
 #[test]
-fn a_drain_of_a_long_text_gives_its_characters(rt: HostRuntime) {
+fn a_drain_of_a_long_text_returns_its_characters(rt: HostRuntime) {
     let rt = &rt;
     let alloc = rt.alloc();
     let mut value = value_of(alloc, "abcdefghijklmnopqrstuvwxyzABCD").expect(rt, "memory");
@@ -160,7 +160,7 @@ fn a_drain_of_a_long_text_gives_its_characters(rt: HostRuntime) {
 }
 
 #[test]
-fn retain_asks_once_for_each_character(rt: HostRuntime) {
+fn retain_calls_its_closure_once_for_each_character(rt: HostRuntime) {
     let mut value = short(rt.alloc(), "äb𝄞d€");
     let mut asked: usize = 0;
     let kept = value.retain(|character| {
