@@ -1,9 +1,33 @@
-//! Positions and ranges in a value. Edits at positions are in the table of `compact_table_tests`.
+//! Positions and ranges in a value, and splits of static strings. Edits at positions are in the table of `compact_table_tests`.
 
-use crate::asserts::assert_equal;
+use crate::asserts::{assert_equal, assert_inline, assert_that};
 use compact_asserts::{that, that_for};
-use compact_testing::values::short;
+use compact_str::CompactString;
+use compact_testing::seen::is_static;
+use compact_testing::values::{lasting, letters, short};
 use std::ops::Bound::{Excluded, Included, Unbounded};
+use std::process::Abort;
+
+/// Splits at a position that is checked first.
+fn split(rt: &impl Abort, value: &mut CompactString, index: usize) -> CompactString {
+    that(value.is_char_boundary(index)).expect(rt, "it holds");
+    value.split_off(index).expect(rt, "memory")
+}
+
+#[test]
+fn literals_are_split(rt: HostRuntime) {
+    let rt = &rt;
+    let alloc = rt.alloc();
+    let mut value = CompactString::const_new(alloc, "Hello, world!");
+    assert_inline(rt, &split(rt, &mut value, 5), ", world!");
+    assert_inline(rt, &value, "Hello");
+    let mut value = lasting(alloc, 30);
+    assert_that(rt, is_static(&split(rt, &mut value, 3), letters(27)));
+    assert_that(rt, is_static(&value, letters(3)));
+    let mut value = lasting(alloc, 30);
+    assert_inline(rt, &split(rt, &mut value, 6), letters(24));
+    assert_that(rt, is_static(&value, letters(6)));
+}
 
 #[test]
 fn boundaries_are_where_characters_begin_and_end(rt: HostRuntime) {
