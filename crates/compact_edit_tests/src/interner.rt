@@ -1,17 +1,12 @@
-//! The interner: numbers and names, no memory, and many words compared with a plain list.
+//! The interner: numbers and names, and many words compared with a plain list.
 
 use crate::asserts::{assert_equal, assert_that};
 use compact_asserts::that;
 use compact_edit::{InternError, Interner};
 use compact_str::ReserveError;
-use compact_testing::memory::take_all;
 use compact_testing::random::Random;
-use compact_testing::values::letters;
 use std::alloc::Global;
 use std::process::Abort;
-
-/// The numbers already in a list.
-const EIGHT: [u32; 8] = [7, 6, 5, 4, 3, 2, 1, 0];
 
 /// A name of 25 bytes, which is not inline. A function, so that a proof need not carry each one.
 fn long() -> &'static str {
@@ -28,17 +23,17 @@ fn assert_count(rt: &impl Abort, names: &Interner, count: usize) {
     assert_equal(rt, names.len(), count);
 }
 
-/// Interns a text, with ample memory.
+/// Interns a text.
 fn number_of(rt: &impl Abort, names: &mut Interner, text: &str) -> u32 {
     names.intern(text).expect(rt, "memory")
 }
 
-/// Asserts the number of a text, with ample memory.
+/// Asserts the number of a text.
 fn is_number(rt: &impl Abort, names: &mut Interner, text: &str, number: u32) {
     assert_equal(rt, number_of(rt, names, text), number);
 }
 
-/// Asserts `numbers` after those of `texts` are appended, with ample memory.
+/// Asserts `numbers` after those of `texts` are appended.
 fn are_numbers(
     rt: &impl Abort,
     names: &mut Interner,
@@ -48,38 +43,6 @@ fn are_numbers(
 ) {
     names.intern_all(texts, numbers).expect(rt, "memory");
     assert_equal(rt, numbers.as_slice(), wanted);
-}
-
-/// Returns eight numbers in a list that is full.
-fn eight_numbers(rt: &impl Abort, alloc: Global) -> Vec<u32> {
-    let mut numbers = Vec::with_capacity(alloc, 8).expect(rt, "memory");
-    for number in EIGHT {
-        numbers.push(number).expect(rt, "memory");
-    }
-    numbers
-}
-
-/// Asserts that a list of texts fails when no memory is left.
-fn is_refused(
-    rt: &impl Abort,
-    alloc: Global,
-    names: &mut Interner,
-    texts: &[&str],
-    numbers: &mut Vec<u32>,
-) {
-    let hog = take_all(alloc).expect(rt, "room for the list of blocks");
-    let taken = names.intern_all(texts, numbers);
-    drop(hog);
-    assert_that(rt, matches!(taken, Err(InternError::Reserve(_))));
-}
-
-/// Asserts that a text fails for lack of memory, leaving `count` names.
-fn assert_refused(rt: &impl Abort, names: &mut Interner, text: &str, count: usize) {
-    assert_that(
-        rt,
-        matches!(names.intern(text), Err(InternError::Reserve(_))),
-    );
-    assert_equal(rt, names.len(), count);
 }
 
 #[test]
@@ -110,74 +73,6 @@ fn numbers_are_appended_to_those_in_the_list(rt: HostRuntime) {
     are_numbers(rt, &mut names, &texts, &mut numbers, &[0, 1, 0, 2, 2, 3, 1]);
     are_numbers(rt, &mut names, &[], &mut numbers, &[0, 1, 0, 2, 2, 3, 1]);
     assert_count(rt, &names, 4);
-}
-
-#[test]
-fn a_short_name_needs_no_memory_and_a_long_text_does(rt: HostRuntime) {
-    let rt = &rt;
-    let alloc = rt.alloc();
-    let mut names = Interner::new(alloc);
-    number_of(rt, &mut names, "a");
-    number_of(rt, &mut names, "b");
-    number_of(rt, &mut names, "");
-    number_of(rt, &mut names, long());
-    let hog = take_all(alloc).expect(rt, "room for the list of blocks");
-    is_number(rt, &mut names, "a", 0);
-    assert_refused(rt, &mut names, letters(30), 4);
-    is_number(rt, &mut names, long(), 3);
-    drop(hog);
-    assert_name(rt, &names, 3, Some(long()));
-    is_number(rt, &mut names, letters(30), 4);
-}
-
-#[test]
-fn the_table_of_the_names_is_refused(rt: HostRuntime) {
-    let alloc = rt.alloc();
-    let mut names = Interner::new(alloc);
-    let hog = take_all(alloc).expect(&rt, "room for the list of blocks");
-    assert_refused(&rt, &mut names, "a", 0);
-    drop(hog);
-    is_number(&rt, &mut names, "a", 0);
-}
-
-#[test]
-fn the_table_is_refused_behind_the_copy_of_a_text(rt: HostRuntime) {
-    let rt = &rt;
-    let alloc = rt.alloc();
-    let mut names = Interner::new(alloc);
-    let room = Vec::<u8>::with_capacity(alloc, 32).expect(rt, "a spare block");
-    let hog = take_all(alloc).expect(rt, "room for the list of blocks");
-    drop(room);
-    assert_refused(rt, &mut names, letters(30), 0);
-    drop(hog);
-    is_number(rt, &mut names, letters(30), 0);
-}
-
-#[test]
-fn with_no_room_for_the_numbers_nothing_is_taken(rt: HostRuntime) {
-    let rt = &rt;
-    let alloc = rt.alloc();
-    let mut names = Interner::new(alloc);
-    let mut numbers = eight_numbers(rt, alloc);
-    number_of(rt, &mut names, "a");
-    is_refused(rt, alloc, &mut names, &["a", "b"], &mut numbers);
-    assert_equal(rt, numbers.as_slice(), EIGHT.as_slice());
-    assert_count(rt, &names, 1);
-}
-
-#[test]
-fn the_texts_before_a_refused_one_are_taken(rt: HostRuntime) {
-    let rt = &rt;
-    let alloc = rt.alloc();
-    let mut names = Interner::new(alloc);
-    let mut numbers = Vec::with_capacity(alloc, 8).expect(rt, "memory");
-    numbers.push(7).expect(rt, "memory");
-    number_of(rt, &mut names, "a");
-    number_of(rt, &mut names, "b");
-    let texts = ["b", "a", letters(30), "b"];
-    is_refused(rt, alloc, &mut names, &texts, &mut numbers);
-    assert_equal(rt, numbers.as_slice(), [7, 1, 0].as_slice());
-    assert_count(rt, &names, 2);
 }
 
 /// Returns the word of a number: every third one has more than 24 bytes.
@@ -250,7 +145,7 @@ fn many_words_are_numbered_as_in_a_plain_list(rt: HostRuntime) {
 }
 
 #[test]
-fn refusals_are_shown_so(rt: HostRuntime) {
+fn errors_have_these_texts(rt: HostRuntime) {
     let rt = &rt;
     let alloc = rt.alloc();
     let shown = format!(in alloc; "{}", InternError::Full);
@@ -260,4 +155,12 @@ fn refusals_are_shown_so(rt: HostRuntime) {
     let shown = format!(in alloc; "{refused}");
     let text = "Cannot allocate memory to hold CompactString";
     assert_equal(rt, shown.expect(rt, "memory").as_str(), text);
+}
+
+#[test]
+fn an_interner_with_capacity_is_empty(rt: HostRuntime) {
+    let rt = &rt;
+    let mut names = Interner::with_capacity(rt.alloc(), 100).expect(rt, "memory");
+    assert_that(rt, names.is_empty());
+    is_number(rt, &mut names, "a", 0);
 }

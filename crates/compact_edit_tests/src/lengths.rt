@@ -52,7 +52,7 @@ fn a_cut_or_a_shrink_past_the_text_is_done(rt: HostRuntime) {
 }
 
 #[test]
-fn room_past_the_limit_is_refused(rt: HostRuntime) {
+fn capacities_past_the_limit_fail(rt: HostRuntime) {
     let edits = [
         Edit::Repeat(usize::MAX),
         Edit::Repeat(72_057_594_037_927_935),

@@ -13,8 +13,6 @@ mod lengths;
 #[cfg(test)]
 mod push_reports;
 #[cfg(test)]
-mod random_pushes;
-#[cfg(test)]
 mod replies;
 #[cfg(test)]
 mod runs;

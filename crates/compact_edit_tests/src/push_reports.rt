@@ -4,20 +4,19 @@ use crate::asserts::{assert_equal, assert_that};
 use compact_asserts::that;
 use compact_edit::{PushReport, run_pushes};
 use compact_str::{Policy, PolicyString, Standard};
-use compact_testing::memory::take_all;
 use compact_testing::policies::{Double, Large, Slow};
 use compact_testing::seen::{is_heap, is_inline};
 use compact_testing::values::{append, letters};
 use std::alloc::Global;
 use std::process::Abort;
 
-/// Inserts `a` at a boundary, with ample memory.
+/// Inserts `a` at a boundary.
 fn insert<P: Policy>(rt: &impl Abort, value: &mut PolicyString<P>, index: usize) {
     that(value.is_char_boundary(index)).expect(rt, "it holds");
     value.insert(index, 'a').expect(rt, "memory");
 }
 
-/// Removes the first `a`, with ample memory.
+/// Removes the first `a`.
 fn remove_first<P: Policy>(rt: &impl Abort, value: &mut PolicyString<P>) {
     that(0 < value.len()).expect(rt, "it holds");
     that(value.is_char_boundary(0)).expect(rt, "it holds");
@@ -52,7 +51,7 @@ fn assert_pushed_inline<P: Policy>(rt: &impl Abort, alloc: Global, texts: &[&str
 }
 
 #[test]
-fn each_growth_moves_the_text_that_stood(rt: HostRuntime) {
+fn each_growth_moves_the_text(rt: HostRuntime) {
     let rt = &rt;
     let alloc = rt.alloc();
     let texts = [
@@ -128,47 +127,6 @@ fn a_shrink_keeps_the_least_capacity(rt: HostRuntime) {
     assert_that(rt, is_heap(&value, 8192, letters(30)));
     value.shrink_to_fit();
     assert_that(rt, is_heap(&value, 4096, letters(30)));
-}
-
-/// Asserts that one of some texts fails with only one block of `room` bytes free, how many `a`s that block then has,
-/// and how many bytes were moved.
-fn assert_one_refused(
-    rt: &impl Abort,
-    alloc: Global,
-    texts: &[&str],
-    room: usize,
-    count: usize,
-    moved: u64,
-) {
-    let block = Vec::<u8>::with_capacity(alloc, room).expect(rt, "a spare block");
-    let hog = take_all(alloc).expect(rt, "room for the list of blocks");
-    drop(block);
-    let report = run_pushes::<Standard>(alloc, texts);
-    drop(hog);
-    assert_that(rt, is_heap(&report.value, room, letters(count)));
-    assert_counts(rt, &report, moved, 1);
-}
-
-#[test]
-fn pushes_around_a_refused_one_are_done(rt: HostRuntime) {
-    for (texts, room, count, moved) in [
-        ([letters(24), letters(40), "a"].as_slice(), 36, 25, 24),
-        ([letters(70), letters(30)].as_slice(), 32, 30, 0),
-        ([letters(30), letters(30)].as_slice(), 32, 30, 0),
-    ] {
-        assert_one_refused(&rt, rt.alloc(), texts, room, count, moved);
-    }
-}
-
-#[test]
-fn only_what_fits_inline_is_pushed_with_no_memory(rt: HostRuntime) {
-    let alloc = rt.alloc();
-    let texts = [letters(20), letters(5), letters(4), "a", ""];
-    let hog = take_all(alloc).expect(&rt, "room for the list of blocks");
-    let report = run_pushes::<Slow>(alloc, &texts);
-    drop(hog);
-    assert_that(&rt, is_inline(&report.value, letters(24)));
-    assert_counts(&rt, &report, 0, 2);
 }
 
 #[test]

@@ -1,64 +1,50 @@
-//! Runs of edits, with ample memory and with none.
+//! Runs of edits.
 
 use crate::asserts::{assert_equal, assert_that};
-use crate::replies::assert_all;
 use compact_edit::{Edit, Reply, run};
 use compact_str::{CompactString, Standard};
-use compact_testing::memory::take_all;
-use compact_testing::seen::{is_at, is_heap, is_inline, is_static};
-use compact_testing::values::{lasting, letters, short, value_of};
+use compact_testing::seen::{is_heap, is_inline};
+use compact_testing::values::{letters, short};
 use std::alloc::Global;
 use std::ops::Bound::{Excluded, Included};
 use std::process::Abort;
 
-/// Returns room for `count` replies.
-fn room_for(rt: &impl Abort, alloc: Global, count: usize) -> Vec<Reply<Standard>> {
-    Vec::with_capacity(alloc, count).expect(rt, "memory")
-}
-
-/// Runs edits, with room for their replies.
-fn run_all(
-    rt: &impl Abort,
-    value: &mut CompactString,
-    edits: &[Edit<Standard>],
-    replies: &mut Vec<Reply<Standard>>,
-) {
-    run(value, edits, replies).expect(rt, "room for the replies");
-}
-
-/// Runs edits, with ample memory, and asserts that each reply has this name.
-fn run_anew(
+/// Runs edits, and returns their replies.
+fn replies_to(
     rt: &impl Abort,
     alloc: Global,
     value: &mut CompactString,
     edits: &[Edit<Standard>],
-    name: &str,
-) {
+) -> Vec<Reply<Standard>> {
     let mut replies = Vec::new(alloc);
     run(value, edits, &mut replies).expect(rt, "memory");
-    assert_all(rt, &replies, edits.len(), name);
+    replies
 }
 
 #[test]
 fn each_edit_of_a_list_is_run(rt: HostRuntime) {
+    let rt = &rt;
     let alloc = rt.alloc();
     let mut value = short(alloc, letters(3));
     let edits = [Edit::PushStr("a"), Edit::Reserve(100), Edit::ShrinkTo(50)];
-    run_anew(&rt, alloc, &mut value, &edits, "done");
-    assert_that(&rt, is_heap(&value, 50, letters(4)));
+    let replies = replies_to(rt, alloc, &mut value, &edits);
+    let all = matches!(replies.as_slice(), [Reply::Done, Reply::Done, Reply::Done]);
+    assert_that(rt, all);
+    assert_that(rt, is_heap(&value, 50, letters(4)));
 }
 
 #[test]
 fn a_position_within_a_character_is_bad(rt: HostRuntime) {
+    let rt = &rt;
     let alloc = rt.alloc();
     let mut value = short(alloc, "🦄");
-    let edits = [Edit::Insert(1, 'x')];
-    run_anew(&rt, alloc, &mut value, &edits, "bad position");
-    assert_that(&rt, is_inline(&value, "🦄"));
+    let replies = replies_to(rt, alloc, &mut value, &[Edit::Insert(1, 'x')]);
+    assert_that(rt, matches!(replies.as_slice(), [Reply::BadPosition]));
+    assert_that(rt, is_inline(&value, "🦄"));
 }
 
 /// Asserts that the only reply is this text, inline.
-fn is_answered(rt: &impl Abort, replies: &[Reply<Standard>], text: &str) {
+fn assert_text(rt: &impl Abort, replies: &[Reply<Standard>], text: &str) {
     let is = matches!(replies, [Reply::Text(given)] if is_inline(given, text));
     assert_that(rt, is);
 }
@@ -68,40 +54,15 @@ fn a_range_is_drained(rt: HostRuntime) {
     let rt = &rt;
     let alloc = rt.alloc();
     let mut value = short(alloc, "Hello, world!");
-    let mut replies = Vec::new(alloc);
-    run_drain(rt, &mut value, 5, 12, &mut replies);
-    is_answered(rt, &replies, ", world");
+    let edits = [Edit::Drain(Included(5), Excluded(12))];
+    let replies = replies_to(rt, alloc, &mut value, &edits);
+    assert_text(rt, &replies, ", world");
     assert_that(rt, is_inline(&value, "Hello!"));
-}
-
-/// Returns 40 replies with no room for nine more, even if an allocator rounds up.
-fn forty_replies(rt: &impl Abort, alloc: Global) -> Vec<Reply<Standard>> {
-    let mut replies = Vec::with_capacity(alloc, 40).expect(rt, "memory");
-    for _ in 0..40 {
-        replies.push(Reply::Done).expect(rt, "memory");
-    }
-    replies
-}
-
-/// Asserts that no edit of a list of nine is run.
-fn is_not_begun(rt: &impl Abort, value: &mut CompactString, replies: &mut Vec<Reply<Standard>>) {
-    let edits: [Edit<Standard>; 9] = [
-        Edit::Clear,
-        Edit::Clear,
-        Edit::Clear,
-        Edit::Clear,
-        Edit::Clear,
-        Edit::Clear,
-        Edit::Clear,
-        Edit::Clear,
-        Edit::PushStr("x"),
-    ];
-    assert_that(rt, run(value, &edits, replies).is_err());
 }
 
 /// Returns a list of replies that fills its capacity.
 fn full_replies(rt: &impl Abort, alloc: Global) -> Vec<Reply<Standard>> {
-    let mut replies = room_for(rt, alloc, 4);
+    let mut replies = Vec::with_capacity(alloc, 4).expect(rt, "memory");
     for _ in 0..replies.capacity() {
         replies.push(Reply::Done).expect(rt, "memory");
     }
@@ -109,133 +70,28 @@ fn full_replies(rt: &impl Abort, alloc: Global) -> Vec<Reply<Standard>> {
 }
 
 #[test]
-fn an_edit_with_no_room_for_its_reply_is_not_run(rt: HostRuntime) {
+fn a_full_list_of_replies_grows(rt: HostRuntime) {
     let rt = &rt;
     let alloc = rt.alloc();
-    let mut value = short(alloc, "abc");
+    let mut value = short(alloc, "ab");
     let mut replies = full_replies(rt, alloc);
-    let hog = take_all(alloc).expect(rt, "room for the list of blocks");
-    let outcome = run(&mut value, &[Edit::Clear], &mut replies);
-    drop(hog);
-    assert_that(rt, outcome.is_err());
-    assert_that(rt, is_inline(&value, "abc"));
-    assert_all(rt, &replies, 4, "done");
-}
-
-/// An empty list needs no room.
-#[test]
-fn a_run_with_no_room_for_replies_runs_nothing(rt: HostRuntime) {
-    let rt = &rt;
-    let alloc = rt.alloc();
-    let mut value = short(alloc, "abc");
-    let mut replies = forty_replies(rt, alloc);
-    let hog = take_all(alloc).expect(rt, "room for the list of blocks");
-    is_not_begun(rt, &mut value, &mut replies);
-    run_all(rt, &mut value, &[], &mut replies);
-    drop(hog);
-    assert_that(rt, is_inline(&value, "abc"));
-    assert_all(rt, &replies, 40, "done");
-}
-
-/// A text of 29 bytes, of which the first two are one character.
-fn text() -> &'static str {
-    "äaaaaaaaaaaaaaaaaaaaaaaaaaaa"
-}
-
-/// Runs edits past the end of that text and within its first character.
-fn tells_bad_positions(
-    rt: &impl Abort,
-    value: &mut CompactString,
-    replies: &mut Vec<Reply<Standard>>,
-) {
-    let edits = [
-        Edit::Insert(30, 'b'),
-        Edit::SplitOff(30),
-        Edit::Insert(1, 'b'),
-        Edit::InsertStr(1, ""),
-        Edit::Remove(1),
-        Edit::ReplaceRange(Included(1), Excluded(2), ""),
-    ];
-    run_all(rt, value, &edits, replies);
+    let count = replies.len();
+    let edits = [Edit::Pop, Edit::Clear];
+    run(&mut value, &edits, &mut replies).expect(rt, "memory");
+    let added = replies.get(count..).unwrap_or(&[]);
+    let are = matches!(added, [Reply::Char(Some('b')), Reply::Done]);
+    assert_that(rt, are);
+    assert_that(rt, is_inline(&value, ""));
 }
 
 #[test]
-fn a_bad_position_is_told_before_a_refusal(rt: HostRuntime) {
+fn replies_that_fit_keep_the_capacity_of_their_list(rt: HostRuntime) {
     let rt = &rt;
     let alloc = rt.alloc();
-    let mut lasting = CompactString::const_new(alloc, text());
-    let mut made = value_of(alloc, text()).expect(rt, "memory");
-    let mut replies = room_for(rt, alloc, 12);
-    let hog = take_all(alloc).expect(rt, "room for the list of blocks");
-    tells_bad_positions(rt, &mut lasting, &mut replies);
-    tells_bad_positions(rt, &mut made, &mut replies);
-    drop(hog);
-    assert_that(rt, is_at(&lasting, "static", 29, text()));
-    assert_that(rt, is_at(&made, "heap", 32, text()));
-    assert_all(rt, &replies, 12, "bad position");
-}
-
-/// Asserts whether an edit failed.
-fn was_refused(rt: &impl Abort, replies: &[Reply<Standard>], place: usize, refused: bool) {
-    let reply = replies.get(place).expect(rt, "a reply");
-    assert_equal(rt, matches!(reply, Reply::Refused(_)), refused);
-}
-
-/// Runs the edit `Drain` of a range.
-fn run_drain(
-    rt: &impl Abort,
-    value: &mut CompactString,
-    first: usize,
-    last: usize,
-    replies: &mut Vec<Reply<Standard>>,
-) {
-    let edits = [Edit::Drain(Included(first), Excluded(last))];
-    run_all(rt, value, &edits, replies);
-}
-
-#[test]
-fn the_answer_of_a_drain_is_refused(rt: HostRuntime) {
-    let rt = &rt;
-    let alloc = rt.alloc();
-    let mut value = value_of(alloc, letters(60)).expect(rt, "memory");
-    let mut replies = room_for(rt, alloc, 2);
-    let hog = take_all(alloc).expect(rt, "room for the list of blocks");
-    run_drain(rt, &mut value, 0, 25, &mut replies);
-    run_drain(rt, &mut value, 0, 24, &mut replies);
-    drop(hog);
-    was_refused(rt, replies.as_slice(), 0, true);
-    was_refused(rt, replies.as_slice(), 1, false);
-    assert_that(rt, is_heap(&value, 60, letters(36)));
-}
-
-#[test]
-fn a_drain_that_makes_its_answer_finds_no_room_for_its_text(rt: HostRuntime) {
-    let rt = &rt;
-    let alloc = rt.alloc();
-    let mut value = lasting(alloc, 80);
-    let mut replies = room_for(rt, alloc, 1);
-    let block = Vec::<u8>::with_capacity(alloc, 32).expect(rt, "a spare block");
-    let hog = take_all(alloc).expect(rt, "room for the list of blocks");
-    drop(block);
-    run_drain(rt, &mut value, 0, 30, &mut replies);
-    drop(hog);
-    was_refused(rt, replies.as_slice(), 0, true);
-    assert_that(rt, is_static(&value, letters(80)));
-}
-
-#[test]
-fn a_drain_of_60_bytes_is_refused_at_each_request(rt: HostRuntime) {
-    let rt = &rt;
-    let alloc = rt.alloc();
-    let mut value = lasting(alloc, 60);
-    let mut replies = room_for(rt, alloc, 2);
-    let block = Vec::<u8>::with_capacity(alloc, 32).expect(rt, "a spare block");
-    let hog = take_all(alloc).expect(rt, "room for the list of blocks");
-    run_drain(rt, &mut value, 0, 30, &mut replies);
-    drop(block);
-    run_drain(rt, &mut value, 0, 30, &mut replies);
-    drop(hog);
-    was_refused(rt, replies.as_slice(), 0, true);
-    was_refused(rt, replies.as_slice(), 1, true);
-    assert_that(rt, is_static(&value, letters(60)));
+    let mut value = short(alloc, "ab");
+    let mut replies = Vec::with_capacity(alloc, 4).expect(rt, "memory");
+    let capacity = replies.capacity();
+    let edits = [Edit::Pop, Edit::Clear];
+    run(&mut value, &edits, &mut replies).expect(rt, "memory");
+    assert_equal(rt, replies.capacity(), capacity);
 }

@@ -1,4 +1,4 @@
-//! Texts of formats, with ample memory.
+//! Texts of formats.
 
 use crate::asserts::{assert_equal, assert_that};
 use compact_asserts::that_for;
@@ -30,7 +30,7 @@ fn text_of(rt: &impl Abort, made: Made) -> CompactString {
 }
 
 /// Asserts that a format made this text, inline. Takes ownership of the result.
-pub fn is(rt: &impl Abort, made: Made, text: &str) {
+fn is(rt: &impl Abort, made: Made, text: &str) {
     that_for(text, is_inline(&text_of(rt, made), text)).expect(rt, "it holds");
 }
 
@@ -64,7 +64,7 @@ fn arguments_may_have_names(rt: HostRuntime) {
 }
 
 #[test]
-fn twenty_four_bytes_stand_inline_and_more_on_the_heap(rt: HostRuntime) {
+fn up_to_24_bytes_are_inline_and_more_on_the_heap(rt: HostRuntime) {
     let rt = &rt;
     let alloc = rt.alloc();
     let made = format_compact!(in alloc; "{}{}", letters(20), 1234);
@@ -75,7 +75,18 @@ fn twenty_four_bytes_stand_inline_and_more_on_the_heap(rt: HostRuntime) {
 }
 
 #[test]
-fn what_fails_by_itself_is_no_refusal(rt: HostRuntime) {
+fn a_long_format_is_made(rt: HostRuntime) {
+    let rt = &rt;
+    let alloc = rt.alloc();
+    let text = text_of(rt, format_compact!(in alloc; "{:>5000}|{:>5000}", 7, 8));
+    assert_equal(rt, text.len(), 10_001);
+    assert_that(rt, text.starts_with("  "));
+    assert_that(rt, text.ends_with("  8"));
+    assert_equal(rt, text.find('|'), Some(5000));
+}
+
+#[test]
+fn a_display_that_fails_is_no_failed_allocation(rt: HostRuntime) {
     let alloc = rt.alloc();
     let failed = format_compact!(in alloc; "{Failing}");
     assert_that(
@@ -90,7 +101,7 @@ fn what_fails_by_itself_is_no_refusal(rt: HostRuntime) {
 }
 
 #[test]
-fn errors_are_made_so(rt: HostRuntime) {
+fn errors_are_converted(rt: HostRuntime) {
     let refused = ToCompactStringError::from(ReserveError);
     let failed = ToCompactStringError::from(fmt::Error);
     assert_that(&rt, refused == ToCompactStringError::Reserve(ReserveError));
@@ -105,7 +116,7 @@ fn is_shown(rt: &impl Abort, alloc: Global, error: ToCompactStringError, text: &
 }
 
 #[test]
-fn errors_are_shown_so(rt: HostRuntime) {
+fn errors_have_these_texts(rt: HostRuntime) {
     let alloc = rt.alloc();
     let refused = ToCompactStringError::from(ReserveError);
     let text = "Cannot allocate memory to hold CompactString";

@@ -6,8 +6,6 @@ mod asserts;
 #[cfg(test)]
 mod formats;
 #[cfg(test)]
-mod formats_refused;
-#[cfg(test)]
 mod number_values;
 #[cfg(test)]
 mod numbers;
@@ -16,10 +14,6 @@ mod wire;
 #[cfg(test)]
 mod wire_forms;
 #[cfg(test)]
-mod wire_letters;
-#[cfg(test)]
 mod wire_records;
-#[cfg(test)]
-mod wire_refused;
 #[cfg(test)]
 mod wire_stops;

@@ -1,4 +1,4 @@
-//! Texts of numbers and other values, with ample memory.
+//! Texts of numbers and other values.
 
 use crate::asserts::{assert_equal, assert_that};
 use compact_ext::ToCompactString;
@@ -140,7 +140,7 @@ fn assert_packed(rt: &impl Abort, value: &CompactString, bytes: &[u8; 24]) {
 }
 
 #[test]
-fn numbers_are_packed_so(rt: HostRuntime) {
+fn numbers_have_these_bytes(rt: HostRuntime) {
     let rt = &rt;
     let alloc = rt.alloc();
     let two = b"42\0\0\0\0\0\0\0\0\0\0\0\0\0\0\0\0\0\0\0\0\0\xc2";

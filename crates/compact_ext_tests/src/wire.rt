@@ -3,7 +3,6 @@
 
 use crate::asserts::{assert_equal, assert_that};
 use crate::wire_forms::{assert_writes, end_of, form_of, form_of_letters};
-use crate::wire_letters::Letters;
 use compact_ext::wire::{WireError, read_wire, write_wire};
 use compact_str::{CompactString, ReserveError};
 use compact_testing::pieces::{Narrow, Pieces, Stop};
@@ -41,6 +40,17 @@ fn long_texts_are_written(rt: HostRuntime) {
         let form = form_of_letters(&rt, alloc, len);
         assert_written(&rt, alloc, letters(len as usize), &form);
     }
+}
+
+#[test]
+fn a_text_of_100000_bytes_is_written(rt: HostRuntime) {
+    let rt = &rt;
+    let alloc = rt.alloc();
+    let text = short(alloc, "a").repeat(100_000).expect(rt, "memory");
+    let mut written = Vec::new(alloc);
+    assert_that(rt, write_wire(&text, &mut written).is_ok());
+    assert_equal(rt, written.len(), 100_004);
+    assert_equal(rt, written.get(..5), Some(b"\xA0\x86\x01\0a".as_slice()));
 }
 
 #[test]
@@ -172,20 +182,6 @@ fn an_empty_text_needs_four_bytes(rt: HostRuntime) {
         "done",
         &four,
     );
-}
-
-#[test]
-fn a_long_text_is_read_in_rooms(rt: HostRuntime) {
-    let rt = &rt;
-    let alloc = rt.alloc();
-    let mut short = Letters::new(0x0010_0001, 1_048_576);
-    assert_equal(rt, end_of(&read_wire(alloc, &mut short)), "end");
-    assert_equal(rt, short.given, 4 + 1_048_576);
-    let mut whole = Letters::new(0x0010_0001, 1_048_577);
-    let text = read_wire(alloc, &mut whole).expect(rt, "a text");
-    assert_that(rt, text.is_heap_allocated());
-    assert_equal(rt, text.len(), 1_048_577);
-    assert_equal(rt, text.capacity(), 1_048_577);
 }
 
 #[test]

@@ -4,7 +4,6 @@ use crate::asserts::{assert_equal, assert_that};
 use crate::wire_forms::end_of;
 use compact_ext::wire::{Records, WireError};
 use compact_str::CompactString;
-use compact_testing::memory::take_all;
 use compact_testing::pieces::{Pieces, Stop};
 use compact_testing::seen::{is_at, is_inline};
 use compact_testing::values::letters;
@@ -54,7 +53,7 @@ fn assert_not_collected<R: BufRead + Drop>(rt: &impl Abort, alloc: Global, reade
 }
 
 #[test]
-fn each_record_comes_in_its_turn(rt: HostRuntime) {
+fn records_are_read_in_order(rt: HostRuntime) {
     let mut records = Records::new(rt.alloc(), RECORDS.as_slice());
     assert_texts(&rt, &mut records, &["a", "", "Hi"]);
     assert_end(&rt, &mut records);
@@ -128,7 +127,7 @@ fn assert_broken_and_a(rt: &impl Abort, alloc: Global, bytes: &[u8]) {
 }
 
 #[test]
-fn after_a_text_that_is_none_the_next_comes(rt: HostRuntime) {
+fn after_an_invalid_text_the_next_is_read(rt: HostRuntime) {
     let bytes = b"\x01\0\0\0\xFF\x01\0\0\0a";
     assert_broken_and_a(&rt, rt.alloc(), bytes);
     assert_not_collected(&rt, rt.alloc(), bytes.as_slice(), "utf8");
@@ -201,7 +200,7 @@ fn assert_broken_and_another(rt: &impl Abort, alloc: Global, len: usize, at: usi
 }
 
 #[test]
-fn after_bytes_that_are_no_text_the_next_comes(rt: HostRuntime) {
+fn after_invalid_bytes_the_next_is_read(rt: HostRuntime) {
     for len in [1usize, 3, 4, 7, 8, 15, 16, 23, 24, 25, 31, 32, 63, 64, 80] {
         for at in [0, len / 2, len.saturating_sub(1)] {
             assert_broken_and_another(&rt, rt.alloc(), len, at);
@@ -209,41 +208,34 @@ fn after_bytes_that_are_no_text_the_next_comes(rt: HostRuntime) {
     }
 }
 
-/// Asserts that the first record fails, and that five of `b` and one of `a` come after its length.
-fn assert_unread(rt: &impl Abort, alloc: Global, bytes: &[u8]) {
-    let mut records = Records::new(alloc, bytes);
-    assert_next_fault(rt, &mut records, "reserve");
-    assert_texts(rt, &mut records, &["b", "b", "b", "b", "b", "a"]);
-    assert_end(rt, &mut records);
-}
-
-// The text contains five forms of `b`. When it fails, only its length is consumed, so they are read as records.
 #[test]
-fn where_room_is_refused_the_text_stays_unread(rt: HostRuntime) {
-    let alloc = rt.alloc();
-    let bytes = with_another(
-        &rt,
-        alloc,
-        b"\x01\0\0\0b\x01\0\0\0b\x01\0\0\0b\x01\0\0\0b\x01\0\0\0b",
-    );
-    let hog = take_all(alloc).expect(&rt, "room for the list of blocks");
-    assert_unread(&rt, alloc, &bytes);
-    drop(hog);
-}
-
-#[test]
-fn a_failure_between_records_is_told(rt: HostRuntime) {
+fn a_failed_read_between_records_is_reported(rt: HostRuntime) {
     for kind in [ErrorKind::Other, ErrorKind::Interrupted] {
         assert_failure(&rt, rt.alloc(), kind);
     }
 }
 
 #[test]
-fn records_need_memory_only_where_they_are_collected(rt: HostRuntime) {
+fn after_a_failed_read_the_records_continue(rt: HostRuntime) {
+    let rt = &rt;
     let alloc = rt.alloc();
-    let hog = take_all(alloc).expect(&rt, "room for the list of blocks");
-    let mut records = Records::new(alloc, RECORDS.as_slice());
-    assert_texts(&rt, &mut records, &["a", "", "Hi"]);
-    assert_not_collected(&rt, alloc, RECORDS.as_slice(), "reserve");
-    drop(hog);
+    let pieces = Pieces::new(&RECORDS, 5, Stop::Fails(2, ErrorKind::Other));
+    let reader = BufReader::with_capacity(alloc, 8, pieces).expect(rt, "a buffer");
+    let mut records = Records::new(alloc, reader);
+    assert_next(rt, &mut records, "a");
+    assert_next_fault(rt, &mut records, "io");
+    assert_texts(rt, &mut records, &["", "Hi"]);
+    assert_end(rt, &mut records);
+}
+
+#[test]
+fn a_thousand_records_are_collected(rt: HostRuntime) {
+    let rt = &rt;
+    let alloc = rt.alloc();
+    let mut bytes = Vec::new(alloc);
+    for _ in 0..1000 {
+        bytes.extend_from_slice(b"\x01\0\0\0a").expect(rt, "memory");
+    }
+    let records = read_records(alloc, bytes.as_slice()).expect(rt, "records");
+    assert_equal(rt, records.len(), 1000);
 }

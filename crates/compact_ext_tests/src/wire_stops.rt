@@ -2,13 +2,13 @@
 
 use crate::asserts::{assert_equal, assert_that};
 use crate::wire_forms::{assert_writes, end_of, form_of_letters};
-use compact_ext::wire::read_wire;
+use compact_ext::wire::{Records, WireError, read_wire, write_wire};
 use compact_str::CompactString;
 use compact_testing::pieces::{Narrow, Pieces, Stop};
 use compact_testing::seen::is_at;
 use compact_testing::values::{letters, value_of};
 use std::alloc::Global;
-use std::io::ErrorKind;
+use std::io::{BufReader, ErrorKind};
 use std::process::Abort;
 
 /// Asserts that each prefix of a form ends too early, and is read whole.
@@ -41,7 +41,7 @@ fn assert_byte_by_byte(rt: &impl Abort, alloc: Global, count: u8, place: &str, c
 }
 
 #[test]
-fn a_text_comes_byte_by_byte(rt: HostRuntime) {
+fn a_text_is_read_byte_by_byte(rt: HostRuntime) {
     assert_byte_by_byte(&rt, rt.alloc(), 24, "inline", 24);
     assert_byte_by_byte(&rt, rt.alloc(), 25, "heap", 25);
 }
@@ -55,7 +55,7 @@ fn assert_broken(rt: &impl Abort, alloc: Global, bytes: &[u8], left: usize) {
 }
 
 #[test]
-fn broken_bytes_come_one_by_one(rt: HostRuntime) {
+fn invalid_bytes_are_read_one_by_one(rt: HostRuntime) {
     let rt = &rt;
     let alloc = rt.alloc();
     assert_broken(rt, alloc, b"\x02\0\0\0\xC0\x80", 0);
@@ -115,4 +115,59 @@ fn the_greatest_length_needs_its_bytes(rt: HostRuntime) {
     for count in 0..4 {
         assert_claimed(&rt, rt.alloc(), count);
     }
+}
+
+/// Returns the kind of the error of the reader or writer.
+fn kind_of<T>(ended: &Result<T, WireError>) -> Option<ErrorKind> {
+    match ended {
+        Err(WireError::Io(error)) => Some(error.kind()),
+        _ => None,
+    }
+}
+
+/// Asserts that `read_wire`, `write_wire` and `Records` return the error of a call that fails with this kind.
+fn assert_kind(rt: &impl Abort, alloc: Global, kind: ErrorKind) {
+    let form = form_of_letters(rt, alloc, 30);
+    let mut reader = Pieces::new(&form, 30, Stop::Fails(2, kind));
+    assert_that(rt, kind_of(&read_wire(alloc, &mut reader)) == Some(kind));
+    let text = value_of(alloc, letters(30)).expect(rt, "memory");
+    let mut writer = Narrow::new(256, 256, Stop::Fails(2, kind));
+    assert_that(rt, kind_of(&write_wire(&text, &mut writer)) == Some(kind));
+    let pieces = Pieces::new(&form, 30, Stop::Fails(1, kind));
+    let reader = BufReader::with_capacity(alloc, 8, pieces).expect(rt, "a buffer");
+    let item = Records::new(alloc, reader).next().expect(rt, "no end");
+    assert_that(rt, kind_of(&item) == Some(kind));
+}
+
+#[test]
+fn the_error_of_a_reader_or_writer_is_returned(rt: HostRuntime) {
+    for kind in [
+        ErrorKind::Interrupted,
+        ErrorKind::TimedOut,
+        ErrorKind::OutOfMemory,
+    ] {
+        assert_kind(&rt, rt.alloc(), kind);
+    }
+}
+
+#[test]
+fn a_reader_that_has_all_bytes_is_called_twice(rt: HostRuntime) {
+    let rt = &rt;
+    let alloc = rt.alloc();
+    for count in [24, 80] {
+        let form = form_of_letters(rt, alloc, count);
+        let mut reader = Pieces::new(&form, 100, Stop::Never);
+        assert_that(rt, read_wire(alloc, &mut reader).is_ok());
+        assert_equal(rt, reader.calls, 2);
+    }
+}
+
+#[test]
+fn a_writer_that_takes_all_bytes_is_called_twice(rt: HostRuntime) {
+    let rt = &rt;
+    let alloc = rt.alloc();
+    let text = value_of(alloc, letters(80)).expect(rt, "memory");
+    let writer = Narrow::new(256, 256, Stop::Breaks(3, ErrorKind::Other));
+    let form = form_of_letters(rt, alloc, 80);
+    assert_writes(rt, &text, writer, "done", &form);
 }

@@ -52,7 +52,7 @@ fn a_reader_that_fails_leaves_the_answers_before(rt: HostRuntime) {
 }
 
 #[test]
-fn a_reader_that_is_interrupted_is_asked_again(rt: HostRuntime) {
+fn an_interrupted_read_is_repeated(rt: HostRuntime) {
     for call in 1..INPUT.len() + 2 {
         let stop = Stop::Fails(call, ErrorKind::Interrupted);
         assert_read(&rt, rt.alloc(), stop, 0, WHOLE);
@@ -106,7 +106,7 @@ fn a_flush_that_fails_ends_the_session(rt: HostRuntime) {
 }
 
 #[test]
-fn no_input_is_answered_by_nothing(rt: HostRuntime) {
+fn no_input_prints_nothing(rt: HostRuntime) {
     let mut reader = Pieces::new(b"", 1, Stop::Never);
     let mut writer = Narrow::new(256, 1, Stop::Fails(1, ErrorKind::Other));
     assert_equal(&rt, run_lines(rt.alloc(), &mut reader, &mut writer), 0);

@@ -145,6 +145,6 @@ done\n\
 inline 3 24 abc\n";
 
 #[test]
-fn capacities_are_told(rt: HostRuntime) {
+fn capacities_are_printed(rt: HostRuntime) {
     assert_sessions(&rt, rt.alloc(), GROWTH);
 }

@@ -1,5 +1,4 @@
-//! Tests of `compact_lines`: sessions of lines, lines that are no commands, readers and writers that stop, and no
-//! memory.
+//! Tests of `compact_lines`: sessions of lines, lines that are no commands, and readers and writers that stop.
 #![tactic(auto)]
 
 #[cfg(test)]
@@ -12,8 +11,6 @@ mod growth;
 mod lines;
 #[cfg(test)]
 mod no_commands;
-#[cfg(test)]
-mod no_memory;
 #[cfg(test)]
 mod removals;
 #[cfg(test)]

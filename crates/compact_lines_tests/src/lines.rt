@@ -116,12 +116,12 @@ done\n\
 heap 3 43 abc\n";
 
 #[test]
-fn commands_are_answered(rt: HostRuntime) {
+fn commands_print_their_outcome(rt: HostRuntime) {
     assert_sessions(&rt, rt.alloc(), COMMANDS);
 }
 
 #[test]
-fn bytes_that_are_no_text_are_no_command(rt: HostRuntime) {
+fn invalid_bytes_are_no_command(rt: HostRuntime) {
     assert_prints(
         &rt,
         rt.alloc(),
@@ -176,7 +176,20 @@ fn a_line_of_a_million_bytes_is_read(rt: HostRuntime) {
 }
 
 #[test]
-fn a_failing_reader_is_told(rt: HostRuntime) {
+fn a_thousand_flags_are_read(rt: HostRuntime) {
+    let rt = &rt;
+    let alloc = rt.alloc();
+    let mut input = Vec::new(alloc);
+    input
+        .extend_from_slice(b"new abc\nretain 010")
+        .expect(rt, "memory");
+    input.resize(1018, b'1').expect(rt, "memory");
+    let printed = b"done\ninline 3 24 abc\ndone\ninline 1 24 b\n";
+    assert_prints(rt, alloc, &input, printed);
+}
+
+#[test]
+fn a_failing_reader_ends_with_1(rt: HostRuntime) {
     let alloc = rt.alloc();
     let mut output = Vec::new(alloc);
     assert_equal(&rt, run_lines(alloc, &mut Broken, &mut output), 1);
@@ -189,7 +202,7 @@ fn status_of_unwritten(alloc: Global, mut input: &[u8]) -> u8 {
 }
 
 #[test]
-fn a_failing_writer_is_told_where_it_is_written_to(rt: HostRuntime) {
+fn a_failing_writer_ends_with_1_once_it_is_used(rt: HostRuntime) {
     let alloc = rt.alloc();
     assert_equal(&rt, status_of_unwritten(alloc, b"clear\n"), 1);
     assert_equal(&rt, status_of_unwritten(alloc, b"foo\n"), 1);

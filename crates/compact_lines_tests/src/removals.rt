@@ -86,6 +86,6 @@ inline 4 24 Äxy\n\
 ?\n";
 
 #[test]
-fn removals_are_answered(rt: HostRuntime) {
+fn removals_print_their_outcome(rt: HostRuntime) {
     assert_sessions(&rt, rt.alloc(), REMOVALS);
 }

@@ -270,6 +270,6 @@ char b\n\
 inline 2 24 ä\n";
 
 #[test]
-fn edits_are_answered(rt: HostRuntime) {
+fn edits_print_their_outcome(rt: HostRuntime) {
     assert_sessions(&rt, rt.alloc(), EDITS);
 }

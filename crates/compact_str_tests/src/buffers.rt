@@ -4,8 +4,6 @@ use crate::asserts::{assert_equal, assert_fitted, assert_that};
 use crate::drips::Drips;
 use bytes::Buf;
 use compact_str::{CompactString, FromUtf8Error};
-use compact_testing::memory::take_all;
-use compact_testing::values::letters;
 use std::alloc::Global;
 use std::process::Abort;
 
@@ -49,7 +47,7 @@ fn assert_read(rt: &impl Abort, alloc: Global, text: &str) {
 }
 
 #[test]
-fn a_text_is_read_wherever_it_is_parted(rt: HostRuntime) {
+fn a_text_is_read_wherever_it_is_split(rt: HostRuntime) {
     let rt = &rt;
     let alloc = rt.alloc();
     assert_read(rt, alloc, "");
@@ -77,7 +75,7 @@ fn error_at(valid_up_to: usize, error_len: Option<usize>) -> FromUtf8Error {
 }
 
 #[test]
-fn invalid_bytes_have_one_error_wherever_they_are_parted(rt: HostRuntime) {
+fn invalid_bytes_have_one_error_wherever_they_are_split(rt: HostRuntime) {
     let rt = &rt;
     let alloc = rt.alloc();
     assert_invalid(rt, alloc, b"\xE2\x82A", error_at(0, Some(2)));
@@ -87,45 +85,4 @@ fn invalid_bytes_have_one_error_wherever_they_are_parted(rt: HostRuntime) {
     assert_invalid(rt, alloc, short, error_at(23, Some(1)));
     let long = b"aaaaaaaaaaaaaaaaaaaaaaaa\xF4\x90\x80\x80";
     assert_invalid(rt, alloc, long, error_at(24, Some(1)));
-}
-
-#[test]
-fn drips_of_24_bytes_need_no_memory(rt: HostRuntime) {
-    let rt = &rt;
-    let alloc = rt.alloc();
-    let hog = take_all(alloc).expect(rt, "room for the list of blocks");
-    assert_read(rt, alloc, "€€€€€€€€");
-    assert_invalid(rt, alloc, b"a\xF0\x9F\x92", error_at(1, None));
-    let mut drips = Drips {
-        rest: letters(25).as_bytes(),
-    };
-    let made = CompactString::from_utf8_buf(alloc, &mut drips);
-    assert_that(rt, matches!(made, Err(FromUtf8Error::Reserve(_))));
-    drop(hog);
-}
-
-/// Asserts that reading this ASCII text fails with no memory, leaving a suffix, which can be read once there is
-/// memory.
-fn assert_end_remains<B: Buf>(rt: &impl Abort, alloc: Global, buf: &mut B, text: &str) {
-    let hog = take_all(alloc).expect(rt, "room for the list of blocks");
-    let made = CompactString::from_utf8_buf(alloc, buf);
-    drop(hog);
-    assert_that(rt, matches!(made, Err(FromUtf8Error::Reserve(_))));
-    let len = buf.remaining();
-    let rest = read_whole(rt, alloc, buf).ok().expect(rt, "a text");
-    assert_equal(rt, rest.len(), len);
-    assert_that(rt, text.ends_with(rest.as_str()));
-}
-
-#[test]
-fn an_end_of_a_buffer_remains_where_memory_fails(rt: HostRuntime) {
-    let rt = &rt;
-    let alloc = rt.alloc();
-    let text = "abcdefghijklmnopqrstuvwxyzABCD";
-    let (first, second) = (b"abcdefghi".as_slice(), b"jklmnopqrstuvwxyzABCD".as_slice());
-    assert_end_remains(rt, alloc, &mut Buf::chain(first, second), text);
-    let mut drips = Drips {
-        rest: text.as_bytes(),
-    };
-    assert_end_remains(rt, alloc, &mut drips, text);
 }

@@ -14,7 +14,7 @@ fn an_append_grows_the_buffer_by_half(rt: HostRuntime) {
 }
 
 #[test]
-fn room_is_given_back(rt: HostRuntime) {
+fn the_capacity_shrinks(rt: HostRuntime) {
     let rt = &rt;
     let mut value = with_room(rt.alloc(), 100).expect(rt, "memory");
     append(&mut value, letters(40)).expect(rt, "memory");
@@ -30,7 +30,7 @@ fn has_room(alloc: Global, capacity: usize) -> bool {
 }
 
 #[test]
-fn what_goes_past_the_limit_is_refused_with_ample_memory(rt: HostRuntime) {
+fn capacities_past_the_limit_fail(rt: HostRuntime) {
     let rt = &rt;
     let alloc = rt.alloc();
     assert_that(rt, has_room(alloc, 100));

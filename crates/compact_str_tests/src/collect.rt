@@ -3,7 +3,7 @@
 use crate::asserts::{assert_equal, assert_inline};
 use crate::made::{assert_made_inline, values_of};
 use compact_str::{AsText, CompactString, CompactStringExt, append_all};
-use compact_testing::values::letters;
+use compact_testing::values::{letters, string_with_room};
 use std::alloc::Global;
 use std::borrow::CowStr;
 use std::boxed::BoxedStr;
@@ -80,7 +80,7 @@ fn texts_by_value_are_items_of_the_traits(rt: HostRuntime) {
 }
 
 #[test]
-fn values_are_put_behind_a_string(rt: HostRuntime) {
+fn values_are_appended_to_a_string(rt: HostRuntime) {
     let rt = &rt;
     let alloc = rt.alloc();
     let mut line = String::from_str(alloc, "a").expect(rt, "memory");
@@ -100,4 +100,15 @@ fn a_string_is_extended_by_values_and_collected_of_them(rt: HostRuntime) {
     let values = values_of(rt, alloc, &["b", ""]);
     let whole: String = values.into_iter().collect(alloc).expect(rt, "memory");
     assert_equal(rt, whole.as_str(), "b");
+}
+
+#[test]
+fn an_append_that_fits_keeps_the_capacity_of_a_string(rt: HostRuntime) {
+    let rt = &rt;
+    let alloc = rt.alloc();
+    let mut line = string_with_room(alloc, 40, "a").expect(rt, "memory");
+    let values = values_of(rt, alloc, &["é", letters(37)]);
+    append_all(&mut line, values).expect(rt, "memory");
+    assert_equal(rt, line.len(), 40);
+    assert_equal(rt, line.capacity(), 40);
 }

@@ -39,7 +39,7 @@ fn assert_less(rt: &impl Abort, value: &CompactString, other: &CompactString) {
 }
 
 #[test]
-fn places_and_capacities_have_no_part(rt: HostRuntime) {
+fn places_and_capacities_are_ignored(rt: HostRuntime) {
     let rt = &rt;
     let alloc = rt.alloc();
     let borrowed = lasting(alloc, 30);
@@ -61,7 +61,7 @@ fn cut_to_3(rt: &impl Abort, value: &mut CompactString) {
 }
 
 #[test]
-fn what_stood_behind_a_text_has_no_part(rt: HostRuntime) {
+fn old_bytes_after_the_text_are_ignored(rt: HostRuntime) {
     let rt = &rt;
     let alloc = rt.alloc();
     let plain = short(alloc, "äb");

@@ -23,13 +23,7 @@ fn texts_of_the_program_are_static_if_they_are_long(rt: HostRuntime) {
 type Placement = (&'static str, usize);
 
 /// Asserts the placement of a string with this capacity after each conversion from it.
-fn assert_taken_over(
-    rt: &impl Abort,
-    alloc: Global,
-    room: usize,
-    text: &str,
-    placement: Placement,
-) {
+fn assert_reused(rt: &impl Abort, alloc: Global, room: usize, text: &str, placement: Placement) {
     let (place, capacity) = placement;
     let string = string_with_room(alloc, room, text).expect(rt, "memory");
     let value = CompactString::from(string);
@@ -40,14 +34,14 @@ fn assert_taken_over(
 }
 
 #[test]
-fn strings_are_taken_over_or_move_inline(rt: HostRuntime) {
+fn strings_keep_their_buffer_or_move_inline(rt: HostRuntime) {
     let rt = &rt;
     let alloc = rt.alloc();
-    assert_taken_over(rt, alloc, 100, "", ("inline", 24));
-    assert_taken_over(rt, alloc, 256, "abc", ("inline", 24));
-    assert_taken_over(rt, alloc, 30, letters(30), ("heap", 30));
-    assert_taken_over(rt, alloc, 31, letters(30), ("heap", 31));
-    assert_taken_over(rt, alloc, 100, letters(30), ("heap", 100));
+    assert_reused(rt, alloc, 100, "", ("inline", 24));
+    assert_reused(rt, alloc, 256, "abc", ("inline", 24));
+    assert_reused(rt, alloc, 30, letters(30), ("heap", 30));
+    assert_reused(rt, alloc, 31, letters(30), ("heap", 31));
+    assert_reused(rt, alloc, 100, letters(30), ("heap", 100));
 }
 
 /// The same for a vector of bytes and a box.
@@ -68,7 +62,7 @@ fn assert_bytes_and_box(
 }
 
 #[test]
-fn bytes_and_boxes_are_taken_over_or_move_inline(rt: HostRuntime) {
+fn bytes_and_boxes_keep_their_buffer_or_move_inline(rt: HostRuntime) {
     let rt = &rt;
     let alloc = rt.alloc();
     assert_bytes_and_box(rt, alloc, 100, "", ("inline", 24));
@@ -78,7 +72,7 @@ fn bytes_and_boxes_are_taken_over_or_move_inline(rt: HostRuntime) {
 }
 
 /// Asserts that bytes are not valid UTF-8 and are returned unchanged.
-fn are_no_text(rt: &impl Abort, alloc: Global, bytes: &[u8]) {
+fn assert_invalid(rt: &impl Abort, alloc: Global, bytes: &[u8]) {
     let vector = Vec::from_slice(alloc, bytes).expect(rt, "memory");
     match CompactString::try_from(vector) {
         Ok(_) => panic!(rt; "these bytes are no text"),
@@ -87,15 +81,15 @@ fn are_no_text(rt: &impl Abort, alloc: Global, bytes: &[u8]) {
 }
 
 #[test]
-fn bytes_that_are_no_text_come_back(rt: HostRuntime) {
+fn invalid_bytes_are_returned(rt: HostRuntime) {
     let alloc = rt.alloc();
-    are_no_text(&rt, alloc, &[0xc3]);
-    are_no_text(&rt, alloc, &[0x61, 0xff]);
-    are_no_text(&rt, alloc, &[0xed, 0xa0, 0x80]);
+    assert_invalid(&rt, alloc, &[0xc3]);
+    assert_invalid(&rt, alloc, &[0x61, 0xff]);
+    assert_invalid(&rt, alloc, &[0xed, 0xa0, 0x80]);
 }
 
 #[test]
-fn string_buffers_are_taken_over_with_short_texts_too(rt: HostRuntime) {
+fn a_string_buffer_is_kept_even_if_short(rt: HostRuntime) {
     let alloc = rt.alloc();
     let none = CompactString::from_string_buffer(string_with_room(alloc, 100, "").expect(
         &rt, "memory",

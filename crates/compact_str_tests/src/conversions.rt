@@ -51,8 +51,26 @@ fn boxes_and_shared_texts_have_the_text(rt: HostRuntime) {
     assert_equal(rt, shared.as_str(), letters(30));
 }
 
+#[test]
+fn an_empty_value_is_converted(rt: HostRuntime) {
+    let rt = &rt;
+    let alloc = rt.alloc();
+    let text = short(alloc, "").into_string().expect(rt, "memory");
+    assert_equal(rt, text.len(), 0);
+    let bytes = short(alloc, "").into_vec().expect(rt, "memory");
+    assert_equal(rt, bytes.len(), 0);
+    let boxed = short(alloc, "").into_boxed_str().expect(rt, "memory");
+    assert_equal(rt, boxed.as_str(), "");
+    let shared = short(alloc, "").into_rc().expect(rt, "memory");
+    assert_equal(rt, shared.as_str(), "");
+    let cow = short(alloc, "").into_cow().expect(rt, "memory");
+    assert_equal(rt, cow.as_str(), "");
+    let json = json_of(rt, &short(alloc, ""));
+    assert_equal(rt, json.as_str(), Some(""));
+}
+
 /// Asserts a text, and whether it is borrowed.
-fn is_lent(rt: &impl Abort, cow: CowStr<'_>, text: &str, is_borrowed: bool) {
+fn assert_cow(rt: &impl Abort, cow: CowStr<'_>, text: &str, is_borrowed: bool) {
     assert_that(rt, matches!(cow, CowStr::Borrowed(_)) == is_borrowed);
     assert_equal(rt, cow.as_str(), text);
 }
@@ -62,12 +80,12 @@ fn a_static_text_is_borrowed_and_others_are_owned(rt: HostRuntime) {
     let rt = &rt;
     let alloc = rt.alloc();
     let cow = lasting(alloc, 30).into_cow().expect(rt, "memory");
-    is_lent(rt, cow, letters(30), true);
+    assert_cow(rt, cow, letters(30), true);
     let cow = short(alloc, "äb").into_cow().expect(rt, "memory");
-    is_lent(rt, cow, "äb", false);
+    assert_cow(rt, cow, "äb", false);
     let value = shortened(rt, alloc);
-    is_lent(rt, value.as_cow(), "äb", true);
-    is_lent(rt, value.into_cow().expect(rt, "memory"), "äb", false);
+    assert_cow(rt, value.as_cow(), "äb", true);
+    assert_cow(rt, value.into_cow().expect(rt, "memory"), "äb", false);
 }
 
 /// Converts a text to a JSON value.
@@ -113,7 +131,7 @@ fn is_no_string(rt: &impl Abort, alloc: Global, text: &str) {
 }
 
 #[test]
-fn only_a_json_string_is_taken(rt: HostRuntime) {
+fn only_a_json_string_is_converted(rt: HostRuntime) {
     let rt = &rt;
     let alloc = rt.alloc();
     let json = json_in(rt, alloc, "\"abc\"");

@@ -5,7 +5,6 @@ use crate::made::{assert_made_inline, assert_shown};
 use bytes::Buf;
 use compact_asserts::that_for;
 use compact_str::{CompactString, FromUtf8Error, FromUtf16Error, ReserveError, Utf16Error};
-use compact_testing::memory::take_all;
 use compact_testing::values::letters;
 use std::alloc::Global;
 use std::process::Abort;
@@ -31,7 +30,7 @@ fn assert_invalid(
 }
 
 #[test]
-fn invalid_bytes_are_told_and_replaced(rt: HostRuntime) {
+fn invalid_bytes_are_reported_and_replaced(rt: HostRuntime) {
     for (bytes, valid_up_to, error_len, text) in [
         (
             b"\0\0\0\0\0\0\0\0\0\0\0\0\0\0\0\0\0\0\0\0\0\0\0\xC0".as_slice(),
@@ -61,8 +60,46 @@ fn invalid_bytes_are_told_and_replaced(rt: HostRuntime) {
         ),
         (b"\xE1\x80\x41".as_slice(), 0, Some(2), "\u{FFFD}A"),
         (b"\x61\xE2\x82".as_slice(), 1, None, "a\u{FFFD}"),
+        (
+            b"\xE0\x80\x80".as_slice(),
+            0,
+            Some(1),
+            "\u{FFFD}\u{FFFD}\u{FFFD}",
+        ),
+        (b"\xF0\x9F\x91\x41".as_slice(), 0, Some(3), "\u{FFFD}A"),
+        (b"\xE2\x82\xAC\xFF".as_slice(), 3, Some(1), "€\u{FFFD}"),
     ] {
         assert_invalid(&rt, rt.alloc(), bytes, valid_up_to, error_len, text);
+    }
+}
+
+/// The Standard's examples (3.9, Tables 3-8 to 3-11): forms that are too long, surrogates, other bytes that begin no
+/// sequence, and sequences cut short.
+#[test]
+fn the_examples_of_the_standard(rt: HostRuntime) {
+    for (bytes, error_len, text) in [
+        (
+            b"\xC0\xAF\xE0\x80\xBF\xF0\x81\x82\x41".as_slice(),
+            1,
+            "\u{FFFD}\u{FFFD}\u{FFFD}\u{FFFD}\u{FFFD}\u{FFFD}\u{FFFD}\u{FFFD}A",
+        ),
+        (
+            b"\xED\xA0\x80\xED\xBF\xBF\xED\xAF\x41".as_slice(),
+            1,
+            "\u{FFFD}\u{FFFD}\u{FFFD}\u{FFFD}\u{FFFD}\u{FFFD}\u{FFFD}\u{FFFD}A",
+        ),
+        (
+            b"\xF4\x91\x92\x93\xFF\x41\x80\xBF\x42".as_slice(),
+            1,
+            "\u{FFFD}\u{FFFD}\u{FFFD}\u{FFFD}\u{FFFD}A\u{FFFD}\u{FFFD}B",
+        ),
+        (
+            b"\xE1\x80\xE2\xF0\x91\x92\xF1\xBF\x41".as_slice(),
+            2,
+            "\u{FFFD}\u{FFFD}\u{FFFD}\u{FFFD}A",
+        ),
+    ] {
+        assert_invalid(&rt, rt.alloc(), bytes, 0, Some(error_len), text);
     }
 }
 
@@ -94,7 +131,7 @@ fn assert_forms(
 }
 
 #[test]
-fn each_form_of_a_text_is_taken(rt: HostRuntime) {
+fn each_form_of_a_text_is_decoded(rt: HostRuntime) {
     for (text, units, little, big) in [
         ("", [].as_slice(), b"".as_slice(), b"".as_slice()),
         (
@@ -129,7 +166,7 @@ fn assert_unpaired(rt: &impl Abort, alloc: Global, units: &[u16], text: &str) {
 }
 
 #[test]
-fn unpaired_surrogates_are_told_and_replaced(rt: HostRuntime) {
+fn unpaired_surrogates_are_reported_and_replaced(rt: HostRuntime) {
     for (units, text) in [
         (
             [0xD834, 0xDD1E, 0x6D, 0x75, 0x73, 0xDD1E, 0x69, 0x63, 0xD834].as_slice(),
@@ -143,7 +180,7 @@ fn unpaired_surrogates_are_told_and_replaced(rt: HostRuntime) {
 }
 
 #[test]
-fn units_of_a_text_are_taken(rt: HostRuntime) {
+fn units_of_a_text_are_decoded(rt: HostRuntime) {
     let alloc = rt.alloc();
     assert_made_inline(
         &rt,
@@ -159,23 +196,23 @@ fn units_of_a_text_are_taken(rt: HostRuntime) {
 }
 
 /// Asserts that units are invalid.
-fn assert_no_text(rt: &impl Abort, made: Result<CompactString, FromUtf16Error>) {
+fn assert_invalid_units(rt: &impl Abort, made: Result<CompactString, FromUtf16Error>) {
     assert_that(rt, matches!(made, Err(FromUtf16Error::Utf16(_))));
 }
 
 #[test]
-fn invalid_bytes_of_units_are_told_and_replaced(rt: HostRuntime) {
+fn invalid_bytes_of_units_are_reported_and_replaced(rt: HostRuntime) {
     let rt = &rt;
     let alloc = rt.alloc();
     for (odd, text) in [
         (b"\x3D\xD8\x6F".as_slice(), "\u{FFFD}\u{FFFD}"),
         (b"A\0B".as_slice(), "A\u{FFFD}"),
     ] {
-        assert_no_text(rt, CompactString::from_utf16le(alloc, odd));
+        assert_invalid_units(rt, CompactString::from_utf16le(alloc, odd));
         assert_made_inline(rt, CompactString::from_utf16le_lossy(alloc, odd), text);
     }
     let unpaired = b"\xD8\x3D\xDC\x6F\x20\x0D\x26\x40\xDE\x0F";
-    assert_no_text(rt, CompactString::from_utf16be(alloc, unpaired));
+    assert_invalid_units(rt, CompactString::from_utf16be(alloc, unpaired));
     let text = "\u{1F46F}\u{200D}\u{2640}\u{FFFD}";
     assert_made_inline(rt, CompactString::from_utf16be_lossy(alloc, unpaired), text);
 }
@@ -188,31 +225,8 @@ fn a_buffer_that_is_known_to_be_a_text_is_read_to_its_end(rt: HostRuntime) {
     assert_equal(&rt, known.remaining(), 0);
 }
 
-/// Slices are validated before allocating; a buffer is read first.
 #[test]
-fn errors_are_told_before_memory_is_asked_for(rt: HostRuntime) {
-    let rt = &rt;
-    let alloc = rt.alloc();
-    let hog = take_all(alloc).expect(rt, "room for the list of blocks");
-    let error = CompactString::from_utf8(alloc, b"aaaaaaaaaaaaaaaaaaaaaaaaaaaaa\xFF").err();
-    assert_that(
-        rt,
-        error
-            == Some(FromUtf8Error::Utf8 {
-                valid_up_to: 29,
-                error_len: Some(1),
-            }),
-    );
-    assert_no_text(rt, CompactString::from_utf16(alloc, &[0xDC00; 30]));
-    assert_no_text(rt, CompactString::from_utf16le(alloc, &[0x61; 59]));
-    let mut invalid = b"\xFFaaaaaaaaaaaaaaaaaaaaaaaaaaaaa".as_slice();
-    let refused = CompactString::from_utf8_buf(alloc, &mut invalid).err();
-    assert_that(rt, refused == Some(FromUtf8Error::Reserve(ReserveError)));
-    drop(hog);
-}
-
-#[test]
-fn errors_show_these_texts(rt: HostRuntime) {
+fn errors_have_these_texts(rt: HostRuntime) {
     let alloc = rt.alloc();
     let invalid = FromUtf8Error::Utf8 {
         valid_up_to: 0,
@@ -225,7 +239,7 @@ fn errors_show_these_texts(rt: HostRuntime) {
 }
 
 #[test]
-fn refusals_show_this_text(rt: HostRuntime) {
+fn failed_allocations_have_this_text(rt: HostRuntime) {
     let alloc = rt.alloc();
     let text = "Cannot allocate memory to hold CompactString";
     let refused = FromUtf8Error::from(ReserveError);

@@ -53,17 +53,29 @@ fn all_inputs_of_two_bytes(rt: HostRuntime) {
     let rt = &rt;
     let alloc = rt.alloc();
     let mut texts = 0u32;
+    let mut invalid_at_first = 0u32;
+    let mut invalid_at_second = 0u32;
+    let mut open_at_first = 0u32;
+    let mut open_at_second = 0u32;
     let mut sum = 0;
     for first in 0..=255 {
         for second in 0..=255 {
             let error = error_of(rt, alloc, &[first, second]);
-            if error == 255 {
-                texts = texts.wrapping_add(1);
+            match error {
+                255 => texts = texts.wrapping_add(1),
+                0 => open_at_first = open_at_first.wrapping_add(1),
+                1..=7 => invalid_at_first = invalid_at_first.wrapping_add(1),
+                8 => open_at_second = open_at_second.wrapping_add(1),
+                _ => invalid_at_second = invalid_at_second.wrapping_add(1),
             }
             sum = mix_lossy(rt, alloc, mix(sum, error), &[first, second]);
         }
     }
     assert_equal(rt, texts, 18304);
+    assert_equal(rt, invalid_at_first, 29632);
+    assert_equal(rt, invalid_at_second, 9856);
+    assert_equal(rt, open_at_first, 1216);
+    assert_equal(rt, open_at_second, 6528);
     assert_equal(rt, sum, 0x0020_fb58_2b7c_9240);
 }
 

@@ -98,7 +98,7 @@ fn escapes_that_no_writer_makes_are_read(rt: HostRuntime) {
 }
 
 #[test]
-fn texts_in_a_row_are_read_in_order(rt: HostRuntime) {
+fn texts_of_a_list_are_read_in_order(rt: HostRuntime) {
     let texts = ["a\n", "b", "c\n"];
     let row: Vec<CompactString> = serde_json::from_str(rt.alloc(), r#"["a\n","b","c\n"]"#).expect(
         &rt,
@@ -108,7 +108,7 @@ fn texts_in_a_row_are_read_in_order(rt: HostRuntime) {
 }
 
 /// Asserts that a JSON text is not a valid string.
-fn is_no_text(rt: &impl Abort, alloc: Global, json: &str) {
+fn assert_unread(rt: &impl Abort, alloc: Global, json: &str) {
     let read: Result<CompactString, serde_json::Error> = serde_json::from_str(alloc, json);
     assert_that(rt, read.is_err());
 }
@@ -125,6 +125,6 @@ fn only_a_json_string_is_read(rt: HostRuntime) {
         "",
         "\"\\ud834\"",
     ] {
-        is_no_text(&rt, rt.alloc(), json);
+        assert_unread(&rt, rt.alloc(), json);
     }
 }

@@ -53,7 +53,7 @@ fn debug_quotes_and_escapes(rt: HostRuntime) {
 }
 
 #[test]
-fn errors_are_shown_so(rt: HostRuntime) {
+fn errors_have_these_texts(rt: HostRuntime) {
     let rt = &rt;
     let alloc = rt.alloc();
     let text = "Cannot allocate memory to hold CompactString";

@@ -1,5 +1,5 @@
 //! Tests of `compact_str`: making, decoding, collecting, editing, splitting, comparing, formatting and converting
-//! values; also with no memory left, wrong size hints, and bytes in pieces.
+//! values; also bytes in pieces.
 #![tactic(auto)]
 
 #[cfg(test)]
@@ -27,25 +27,17 @@ mod fields;
 #[cfg(test)]
 mod formatting;
 #[cfg(test)]
-mod hints;
-#[cfg(test)]
-mod hog;
+mod long_texts;
 #[cfg(test)]
 mod made;
+#[cfg(test)]
+mod moved_bytes;
 #[cfg(test)]
 mod packed;
 #[cfg(test)]
 mod positions;
 #[cfg(test)]
-mod read_fields;
-#[cfg(test)]
 mod removals;
-#[cfg(test)]
-mod size_hints;
-#[cfg(test)]
-mod size_hints_refused;
-#[cfg(test)]
-mod within;
 #[cfg(test)]
 mod written;
 #[cfg(test)]

@@ -3,7 +3,7 @@
 use crate::asserts::assert_equal;
 use compact_asserts::that_for;
 use compact_str::CompactString;
-use compact_testing::seen::{is_fitted, is_inline};
+use compact_testing::seen::is_inline;
 use std::alloc::{AllocError, Global};
 use std::process::Abort;
 
@@ -15,41 +15,6 @@ pub fn assert_made_inline<E: Drop>(rt: &impl Abort, made: Result<CompactString, 
 /// Asserts the result of a format.
 pub fn assert_shown(rt: &impl Abort, made: Result<String, AllocError>, text: &str) {
     assert_equal(rt, made.expect(rt, "memory").as_str(), text);
-}
-
-/// Asserts that the named call failed.
-pub fn assert_refused<T: Drop, E: Drop>(rt: &impl Abort, call: &str, made: Result<T, E>) {
-    that_for(call, made.is_err()).expect(rt, "it holds");
-}
-
-/// Asserts that the named call made a text, inline up to 24 bytes and else on the heap; or, if `None`, that it failed.
-pub fn assert_made<E: Drop>(
-    rt: &impl Abort,
-    call: &str,
-    made: Result<CompactString, E>,
-    wanted: Option<&str>,
-) {
-    that_for(call, is_wanted(made, wanted)).expect(rt, "it holds");
-}
-
-/// Returns `true` if the result is the expected one.
-fn is_wanted<E: Drop>(made: Result<CompactString, E>, wanted: Option<&str>) -> bool {
-    match made {
-        Ok(value) => match wanted {
-            Some(text) => is_placed(&value, text),
-            None => false,
-        },
-        Err(_) => wanted.is_none(),
-    }
-}
-
-/// Returns `true` if a value owns this text, in the place for its length.
-fn is_placed(value: &CompactString, text: &str) -> bool {
-    if text.len() <= 24 {
-        is_inline(value, text)
-    } else {
-        is_fitted(value, text)
-    }
 }
 
 /// Creates values from literals.

@@ -49,16 +49,16 @@ fn is_packed_anew(rt: &impl Abort, alloc: Global, value: &CompactString) {
 }
 
 /// Asserts the bytes of an inline value.
-fn has_row(rt: &impl Abort, value: &CompactString, row: &[u8; 24]) {
+fn assert_packed_bytes(rt: &impl Abort, value: &CompactString, row: &[u8; 24]) {
     assert_equal(rt, &bytes_of(rt, value), row);
 }
 
 #[test]
-fn rows_of_made_values(rt: HostRuntime) {
+fn new_values_have_these_bytes(rt: HostRuntime) {
     let rt = &rt;
     let alloc = rt.alloc();
     let empty = b"\0\0\0\0\0\0\0\0\0\0\0\0\0\0\0\0\0\0\0\0\0\0\0\xC0";
-    has_row(rt, &CompactString::default(alloc), empty);
+    assert_packed_bytes(rt, &CompactString::default(alloc), empty);
     for (text, row) in [
         ("", empty),
         ("hello world", b"hello world\0\0\0\0\0\0\0\0\0\0\0\0\xCB"),
@@ -66,7 +66,7 @@ fn rows_of_made_values(rt: HostRuntime) {
         (letters(23), b"aaaaaaaaaaaaaaaaaaaaaaa\xD7"),
         ("i am 24 characters long!", b"i am 24 characters long!"),
     ] {
-        has_row(rt, &value_of(alloc, text).expect(rt, "memory"), row);
+        assert_packed_bytes(rt, &value_of(alloc, text).expect(rt, "memory"), row);
     }
 }
 
@@ -99,7 +99,7 @@ fn only_inline_values_have_the_bytes(rt: HostRuntime) {
 }
 
 #[test]
-fn bytes_that_stand_for_a_text_are_read(rt: HostRuntime) {
+fn bytes_of_a_text_are_read(rt: HostRuntime) {
     let rt = &rt;
     let alloc = rt.alloc();
     assert_inline(rt, &read(rt, alloc, &[0x61; 24]), letters(24));
@@ -112,7 +112,7 @@ fn bytes_that_stand_for_a_text_are_read(rt: HostRuntime) {
 }
 
 #[test]
-fn bytes_that_stand_for_no_text_are_refused(rt: HostRuntime) {
+fn invalid_bytes_are_rejected(rt: HostRuntime) {
     let alloc = rt.alloc();
     for (first, last) in [(0, 0xD8), (0, 0xFF), (0xFF, 0xC1)] {
         let mut row = [0; 24];
@@ -158,7 +158,7 @@ fn each_length_is_cut(rt: HostRuntime) {
 }
 
 #[test]
-fn what_stands_behind_a_text_is_not_read(rt: HostRuntime) {
+fn bytes_after_the_text_are_ignored(rt: HostRuntime) {
     let alloc = rt.alloc();
     for count in 0..24u8 {
         let mut row = [0xFF; 24];
@@ -173,29 +173,29 @@ fn what_stands_behind_a_text_is_not_read(rt: HostRuntime) {
 }
 
 /// Wipes a value, and asserts the bytes of the empty text.
-fn is_wiped(rt: &impl Abort, alloc: Global, mut value: CompactString) {
+fn assert_zeroized(rt: &impl Abort, alloc: Global, mut value: CompactString) {
     value.zeroize();
     assert_inline(rt, &value, "");
     let row = b"\0\0\0\0\0\0\0\0\0\0\0\0\0\0\0\0\0\0\0\0\0\0\0\xC0";
-    has_row(rt, &value, row);
+    assert_packed_bytes(rt, &value, row);
     append(&mut value, "ab").expect(rt, "memory");
     is_packed(rt, alloc, &value);
 }
 
 #[test]
-fn a_wiped_value_has_zeros_and_the_mark_of_no_text(rt: HostRuntime) {
+fn a_zeroized_value_has_the_bytes_of_the_empty_text(rt: HostRuntime) {
     let rt = &rt;
     let alloc = rt.alloc();
     for count in 0..25 {
-        is_wiped(
+        assert_zeroized(
             rt,
             alloc,
             value_of(alloc, letters(count)).expect(rt, "memory"),
         );
         let mut cut = value_of(alloc, letters(24)).expect(rt, "memory");
         truncate(rt, &mut cut, count);
-        is_wiped(rt, alloc, cut);
+        assert_zeroized(rt, alloc, cut);
     }
-    is_wiped(rt, alloc, value_of(alloc, "€€€€€€€€").expect(rt, "memory"));
-    is_wiped(rt, alloc, lasting(alloc, 30));
+    assert_zeroized(rt, alloc, value_of(alloc, "€€€€€€€€").expect(rt, "memory"));
+    assert_zeroized(rt, alloc, lasting(alloc, 30));
 }

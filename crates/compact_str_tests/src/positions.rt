@@ -1,4 +1,4 @@
-//! Positions in a value, and splits of static strings. Edits at positions are in the table of `compact_table_tests`.
+//! Positions and ranges in a value, and splits of static strings. Edits at positions are in the table of `compact_table_tests`.
 
 use crate::asserts::{assert_equal, assert_inline, assert_that};
 use compact_asserts::{that, that_for};
@@ -15,7 +15,7 @@ fn split(rt: &impl Abort, value: &mut CompactString, index: usize) -> CompactStr
 }
 
 #[test]
-fn texts_of_the_program_are_split(rt: HostRuntime) {
+fn literals_are_split(rt: HostRuntime) {
     let rt = &rt;
     let alloc = rt.alloc();
     let mut value = CompactString::const_new(alloc, "Hello, world!");
@@ -63,4 +63,20 @@ fn bounds_make_a_range_or_none(rt: HostRuntime) {
     ] {
         assert_equal(&rt, value.check_range(start, end), range);
     }
+}
+
+#[test]
+fn a_range_is_a_part(rt: HostRuntime) {
+    let rt = &rt;
+    let value = short(rt.alloc(), "aäb");
+    that(value.check_range(Included(1), Excluded(3)).is_some()).expect(rt, "it holds");
+    assert_equal(rt, value.range_within(1..3), "ä");
+    that(value.check_range(Included(1), Included(2)).is_some()).expect(rt, "it holds");
+    assert_equal(rt, value.range_within(1..=2), "ä");
+    that(value.check_range(Unbounded, Excluded(1)).is_some()).expect(rt, "it holds");
+    assert_equal(rt, value.range_within(..1), "a");
+    that(value.check_range(Included(3), Unbounded).is_some()).expect(rt, "it holds");
+    assert_equal(rt, value.range_within(3..), "b");
+    that(value.check_range(Unbounded, Unbounded).is_some()).expect(rt, "it holds");
+    assert_equal(rt, value.range_within(..), "aäb");
 }

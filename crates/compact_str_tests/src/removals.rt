@@ -1,11 +1,10 @@
 //! Removing and changing parts of a text.
 
-use crate::asserts::{assert_equal, assert_inline, assert_that};
+use crate::asserts::{assert_equal, assert_heap, assert_inline, assert_that};
 use compact_asserts::{that, that_for};
 use compact_str::{CompactString, Drain, Standard};
-use compact_testing::memory::take_all;
-use compact_testing::seen::{is_at, is_static};
-use compact_testing::values::{lasting, letters, place_of, short, value_of};
+use compact_testing::seen::is_at;
+use compact_testing::values::{place_of, short, value_of};
 use std::ops::Bound;
 use std::ops::Bound::{Excluded, Included, Unbounded};
 use std::process::Abort;
@@ -47,7 +46,7 @@ fn assert_drained(
 }
 
 #[test]
-fn a_drain_gives_its_characters_from_both_ends(rt: HostRuntime) {
+fn a_drain_returns_characters_from_both_ends(rt: HostRuntime) {
     let mut value = short(rt.alloc(), "Hello, world!");
     assert_drained(&rt, &mut value, (5, 12), (',', " worl", 'd'), "Hello!");
     assert_inline(&rt, &value, "Hello!");
@@ -76,7 +75,7 @@ fn a_drain_counts_what_is_left(rt: HostRuntime) {
 }
 
 #[test]
-fn a_drain_shows_what_is_not_taken_yet(rt: HostRuntime) {
+fn a_drain_shows_what_is_left(rt: HostRuntime) {
     let rt = &rt;
     let mut value = short(rt.alloc(), "Hello, world!");
     let mut drained = greeted(rt, &mut value);
@@ -112,6 +111,17 @@ fn a_drain_prints_what_is_left(rt: HostRuntime) {
 }
 
 #[test]
+fn the_debug_of_a_drain_escapes(rt: HostRuntime) {
+    let alloc = rt.alloc();
+    let mut value = short(alloc, "a\"b\nc");
+    let mut printed = short(alloc, "");
+    let drained = drain(&rt, &mut value, Included(1), Excluded(4));
+    assert_that(&rt, write!(printed, "{drained:?}").is_ok());
+    drop(drained);
+    assert_inline(&rt, &printed, "Drain(\"\\\"b\\n\")");
+}
+
+#[test]
 fn the_ends_of_a_drain_meet(rt: HostRuntime) {
     let rt = &rt;
     let mut value = short(rt.alloc(), "𝄞🦄𝄢");
@@ -136,7 +146,7 @@ fn the_ends_of_a_drain_meet(rt: HostRuntime) {
 }
 
 #[test]
-fn a_drain_of_a_long_text_gives_its_characters(rt: HostRuntime) {
+fn a_drain_of_a_long_text_returns_its_characters(rt: HostRuntime) {
     let rt = &rt;
     let alloc = rt.alloc();
     let mut value = value_of(alloc, "abcdefghijklmnopqrstuvwxyzABCD").expect(rt, "memory");
@@ -150,7 +160,7 @@ fn a_drain_of_a_long_text_gives_its_characters(rt: HostRuntime) {
 }
 
 #[test]
-fn retain_asks_once_for_each_character(rt: HostRuntime) {
+fn retain_calls_its_closure_once_for_each_character(rt: HostRuntime) {
     let mut value = short(rt.alloc(), "äb𝄞d€");
     let mut asked: usize = 0;
     let kept = value.retain(|character| {
@@ -163,18 +173,18 @@ fn retain_asks_once_for_each_character(rt: HostRuntime) {
 }
 
 #[test]
-fn a_refusal_of_retain_has_asked_nothing(rt: HostRuntime) {
+fn retain_calls_its_closure_in_order_on_the_heap(rt: HostRuntime) {
     let rt = &rt;
-    let alloc = rt.alloc();
-    let mut value = lasting(alloc, 30);
-    let hog = take_all(alloc).expect(rt, "room for the list of blocks");
-    let mut asked = false;
-    let kept = value.retain(|_| {
-        asked = true;
-        false
+    let text = "abcdefghijklmnopqrstuvwxyzäö€𝄞";
+    let mut value = value_of(rt.alloc(), text).expect(rt, "memory");
+    let mut expected = text.chars();
+    let mut in_order = true;
+    let kept = value.retain(|character| {
+        in_order = in_order && expected.next() == Some(character);
+        !character.is_ascii()
     });
-    drop(hog);
-    assert_that(rt, kept.is_err());
-    assert_that(rt, !asked);
-    assert_that(rt, is_static(&value, letters(30)));
+    assert_that(rt, kept.is_ok());
+    assert_that(rt, in_order);
+    assert_equal(rt, expected.next(), None);
+    assert_heap(rt, &value, 37, "äö€𝄞");
 }

@@ -2,9 +2,8 @@
 
 use crate::asserts::{assert_equal, assert_heap, assert_inline, assert_that};
 use compact_str::{CompactString, ReserveError};
-use compact_testing::memory::take_all;
 use compact_testing::seen::is_static;
-use compact_testing::values::{lasting, letters, short, value_of, with_room};
+use compact_testing::values::{lasting, letters, short};
 use std::fmt;
 use std::fmt::Display;
 
@@ -16,19 +15,6 @@ impl Display for Half {
     fn fmt<W: fmt::Write>(&self, f: &mut fmt::Formatter<W>) -> fmt::Result {
         f.write_str("a")?;
         Err(fmt::Error)
-    }
-}
-
-/// Writes 80 characters twenty times, and returns `Ok` even if that fails.
-#[derive(Drop)]
-struct Hiding;
-
-impl Display for Hiding {
-    fn fmt<W: fmt::Write>(&self, f: &mut fmt::Formatter<W>) -> fmt::Result {
-        for _ in 0..20 {
-            let _refused = f.write_str(letters(80)).is_err();
-        }
-        Ok(())
     }
 }
 
@@ -87,42 +73,4 @@ fn a_write_that_fails_by_itself_changes_nothing(rt: HostRuntime) {
     let mut text = lasting(alloc, 30);
     assert_equal(rt, text.write(Half), Err(ReserveError));
     assert_that(rt, is_static(&text, letters(30)));
-}
-
-#[test]
-fn a_refused_write_changes_nothing(rt: HostRuntime) {
-    let rt = &rt;
-    let alloc = rt.alloc();
-    let mut text = lasting(alloc, 30);
-    let mut full = short(alloc, letters(24));
-    let mut long = value_of(alloc, letters(30)).expect(rt, "memory");
-    let mut roomy = with_room(alloc, 3000).expect(rt, "memory");
-    let hog = take_all(alloc).expect(rt, "room for the list of blocks");
-    let in_static = write!(text, "{}", 1).is_err();
-    let in_inline = full.write(1).is_err();
-    let in_heap = write!(long, "{}{}", 'a', "aa").is_err();
-    let fits = write!(long, "{}", "aa").is_ok();
-    let past_the_block = write!(roomy, "{:>1100}", 7).is_err();
-    let fits_the_block = write!(roomy, "{}", "ab").is_ok();
-    drop(hog);
-    assert_that(rt, in_static && in_inline && in_heap && fits);
-    assert_that(rt, past_the_block && fits_the_block);
-    assert_that(rt, is_static(&text, letters(30)));
-    assert_inline(rt, &full, letters(24));
-    assert_heap(rt, &long, 32, letters(32));
-    assert_heap(rt, &roomy, 3000, "ab");
-}
-
-#[test]
-fn a_refusal_that_is_hidden_is_told(rt: HostRuntime) {
-    let rt = &rt;
-    let alloc = rt.alloc();
-    let mut roomy = with_room(alloc, 3000).expect(rt, "memory");
-    let hog = take_all(alloc).expect(rt, "room for the list of blocks");
-    let refused = roomy.write(Hiding).is_err();
-    drop(hog);
-    assert_that(rt, refused);
-    assert_heap(rt, &roomy, 3000, "");
-    roomy.write(Hiding).expect(rt, "memory");
-    assert_equal(rt, roomy.len(), 1600);
 }

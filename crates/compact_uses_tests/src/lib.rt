@@ -1,4 +1,4 @@
-//! Tests of the programs to copy: their results, also with no memory left, and over readers that stop.
+//! Tests of the programs to copy: their results, also over readers that stop.
 #![tactic(auto)]
 
 #[cfg(test)]

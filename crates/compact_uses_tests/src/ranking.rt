@@ -1,7 +1,6 @@
 //! Ranking words by frequency.
 
 use compact_asserts::that;
-use compact_testing::memory::take_all;
 use compact_uses::{Entry, Kind, Token, ranking};
 
 /// Creates a word from its number.
@@ -34,15 +33,4 @@ fn the_most_frequent_word_stands_first(rt: HostRuntime) {
     that(is_entry(ranks.first(), 2, 1)).expect(rt, "the one that stands twice");
     that(is_entry(ranks.get(1), 1, 0)).expect(rt, "the lower number");
     that(is_entry(ranks.get(2), 1, 3)).expect(rt, "the higher number");
-}
-
-#[test]
-fn a_ranking_of_no_names_needs_no_memory(rt: HostRuntime) {
-    let alloc = rt.alloc();
-    let hog = take_all(alloc).expect(&rt, "room for the list of blocks");
-    let of_none = ranking(alloc, &[], 0);
-    let of_one = ranking(alloc, &[word(0)], 1);
-    drop(hog);
-    that(of_none.is_ok()).expect(&rt, "no names");
-    that(of_one.is_err()).expect(&rt, "one name");
 }

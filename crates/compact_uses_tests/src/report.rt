@@ -1,8 +1,7 @@
-//! The report: columns counted in characters, records that are too short, and no memory.
+//! The report: columns counted in characters, and records that are too short.
 
-use crate::asserts::{assert_equal, assert_that};
+use crate::asserts::assert_equal;
 use compact_str::CompactString;
-use compact_testing::memory::take_all;
 use compact_testing::values::value_of;
 use compact_uses::aligned_rows;
 use std::alloc::Global;
@@ -44,17 +43,4 @@ fn columns_are_as_wide_as_their_longest_field_in_characters(rt: HostRuntime) {
 fn no_records_have_no_lines(rt: HostRuntime) {
     let lines = aligned_rows(rt.alloc(), &[]).expect(&rt, "memory");
     assert_equal(&rt, lines.len(), 0);
-}
-
-#[test]
-fn a_refused_report_leaves_the_records(rt: HostRuntime) {
-    let rt = &rt;
-    let alloc = rt.alloc();
-    let table = [fields_of(rt, alloc, &["a", "b"])];
-    let hog = take_all(alloc).expect(rt, "room for the list of blocks");
-    let lines = aligned_rows(alloc, &table);
-    drop(hog);
-    assert_that(rt, lines.is_err());
-    let lines = aligned_rows(alloc, &table).expect(rt, "memory");
-    assert_line(rt, &lines, 0, "| a | b |");
 }

@@ -1,9 +1,8 @@
-//! The tokenizer: characters of each width, and no memory.
+//! The tokenizer: characters of each width.
 
 use crate::asserts::{assert_equal, assert_that};
-use compact_edit::{InternError, Interner};
-use compact_testing::memory::take_all;
-use compact_testing::values::{letters, value_of};
+use compact_edit::Interner;
+use compact_testing::values::value_of;
 use compact_uses::{Kind, Token, tokenize};
 use std::alloc::Global;
 use std::process::Abort;
@@ -13,7 +12,7 @@ fn assert_token(rt: &impl Abort, token: Option<Token>, kind: Kind, name: u32) {
     assert_that(rt, token == Some(Token { kind, name }));
 }
 
-/// Tokenizes a text, with ample memory.
+/// Tokenizes a text.
 fn tokens_of(rt: &impl Abort, alloc: Global, names: &mut Interner, text: &str) -> Vec<Token> {
     tokenize(alloc, names, &value_of(alloc, text).expect(rt, "memory")).expect(rt, "memory")
 }
@@ -65,26 +64,4 @@ fn an_empty_text_has_no_tokens(rt: HostRuntime) {
     let tokens = tokens_of(&rt, alloc, &mut names, "");
     assert_equal(&rt, tokens.len(), 0);
     assert_equal(&rt, names.len(), 0);
-}
-
-/// Asserts that a text fails without memory, keeping the one name.
-fn is_refused(rt: &impl Abort, alloc: Global, names: &mut Interner, text: &str) {
-    let text = value_of(alloc, text).expect(rt, "memory");
-    let hog = take_all(alloc).expect(rt, "room for the list of blocks");
-    let tokens = tokenize(alloc, names, &text);
-    drop(hog);
-    assert_that(rt, matches!(tokens, Err(InternError::Reserve(_))));
-    assert_equal(rt, names.name(0), Some("ab"));
-    assert_equal(rt, names.len(), 1);
-}
-
-#[test]
-fn a_refused_list_of_tokens_or_a_long_word_leaves_the_names(rt: HostRuntime) {
-    let rt = &rt;
-    let alloc = rt.alloc();
-    let mut names = Interner::new(alloc);
-    assert_equal(rt, names.intern("ab").expect(rt, "memory"), 0);
-    for text in ["ab ab", letters(30)] {
-        is_refused(rt, alloc, &mut names, text);
-    }
 }

@@ -1,0 +1,101 @@
+//! Decoding with no memory: bytes in two pieces, and which error comes first.
+
+use crate::asserts::{assert_equal, assert_fitted, assert_that};
+use bytes::Buf;
+use compact_str::{CompactString, FromUtf8Error, FromUtf16Error, ReserveError};
+use compact_testing::memory::take_all;
+use compact_testing::values::letters;
+use std::alloc::Global;
+use std::process::Abort;
+
+/// Reads a buffer, and asserts that nothing remains.
+fn read_whole<B: Buf>(
+    rt: &impl Abort,
+    alloc: Global,
+    buf: &mut B,
+) -> Result<CompactString, FromUtf8Error> {
+    let made = CompactString::from_utf8_buf(alloc, buf);
+    assert_equal(rt, buf.remaining(), 0);
+    made
+}
+
+/// Reads bytes as two pieces.
+fn of_two(
+    rt: &impl Abort,
+    alloc: Global,
+    bytes: &[u8],
+    place: usize,
+) -> Result<CompactString, FromUtf8Error> {
+    let first = bytes.get(..place).unwrap_or(&[]);
+    let second = bytes.get(place..).unwrap_or(&[]);
+    read_whole(rt, alloc, &mut Buf::chain(first, second))
+}
+
+/// Asserts that this text is read wherever it is split.
+fn assert_read(rt: &impl Abort, alloc: Global, text: &str) {
+    for place in 0..text.len() + 1 {
+        let made = of_two(rt, alloc, text.as_bytes(), place);
+        assert_fitted(rt, &made.ok().expect(rt, "a text"), text);
+    }
+}
+
+/// Returns an error at a byte, with the length of the invalid sequence, or `None` for an unexpected end.
+fn error_at(valid_up_to: usize, error_len: Option<usize>) -> Option<FromUtf8Error> {
+    Some(FromUtf8Error::Utf8 {
+        valid_up_to,
+        error_len,
+    })
+}
+
+#[test]
+fn pieces_of_24_bytes_need_no_memory(rt: HostRuntime) {
+    let rt = &rt;
+    let alloc = rt.alloc();
+    let hog = take_all(alloc).expect(rt, "room for the list of blocks");
+    assert_read(rt, alloc, "€€€€€€€€");
+    let invalid = of_two(rt, alloc, b"a\xF0\x9F\x92", 2).err();
+    assert_that(rt, invalid == error_at(1, None));
+    let mut long = Buf::chain(letters(12).as_bytes(), letters(13).as_bytes());
+    let made = CompactString::from_utf8_buf(alloc, &mut long);
+    assert_that(rt, matches!(made, Err(FromUtf8Error::Reserve(_))));
+    drop(hog);
+}
+
+#[test]
+fn after_a_failed_allocation_the_end_of_a_buffer_can_be_read(rt: HostRuntime) {
+    let rt = &rt;
+    let alloc = rt.alloc();
+    let mut buf = Buf::chain(b"abcdefghi".as_slice(), b"jklmnopqrstuvwxyzABCD".as_slice());
+    let hog = take_all(alloc).expect(rt, "room for the list of blocks");
+    let made = CompactString::from_utf8_buf(alloc, &mut buf);
+    drop(hog);
+    assert_that(rt, matches!(made, Err(FromUtf8Error::Reserve(_))));
+    let len = buf.remaining();
+    let rest = read_whole(rt, alloc, &mut buf).ok().expect(rt, "a text");
+    assert_equal(rt, rest.len(), len);
+    assert_that(
+        rt,
+        "abcdefghijklmnopqrstuvwxyzABCD".ends_with(rest.as_str()),
+    );
+}
+
+/// Asserts that units are invalid.
+fn assert_invalid_units(rt: &impl Abort, made: Result<CompactString, FromUtf16Error>) {
+    assert_that(rt, matches!(made, Err(FromUtf16Error::Utf16(_))));
+}
+
+/// Slices are validated before allocating; a buffer is read first.
+#[test]
+fn invalid_slices_are_reported_before_an_allocation(rt: HostRuntime) {
+    let rt = &rt;
+    let alloc = rt.alloc();
+    let hog = take_all(alloc).expect(rt, "room for the list of blocks");
+    let error = CompactString::from_utf8(alloc, b"aaaaaaaaaaaaaaaaaaaaaaaaaaaaa\xFF").err();
+    assert_that(rt, error == error_at(29, Some(1)));
+    assert_invalid_units(rt, CompactString::from_utf16(alloc, &[0xDC00; 30]));
+    assert_invalid_units(rt, CompactString::from_utf16le(alloc, &[0x61; 59]));
+    let mut invalid = b"\xFFaaaaaaaaaaaaaaaaaaaaaaaaaaaaa".as_slice();
+    let failed = CompactString::from_utf8_buf(alloc, &mut invalid).err();
+    assert_that(rt, failed == Some(FromUtf8Error::Reserve(ReserveError)));
+    drop(hog);
+}

@@ -1,0 +1,21 @@
+//! Tests of `compact_str` with all memory taken. Under `rt try --test` those fail, since its checks allocate.
+#![tactic(auto)]
+
+#[cfg(test)]
+mod asserts;
+#[cfg(test)]
+mod decoding;
+#[cfg(test)]
+mod edits;
+#[cfg(test)]
+mod hints;
+#[cfg(test)]
+mod hog;
+#[cfg(test)]
+mod made;
+#[cfg(test)]
+mod read_fields;
+#[cfg(test)]
+mod size_hints;
+#[cfg(test)]
+mod size_hints_no_memory;
