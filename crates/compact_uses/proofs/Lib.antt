@@ -1,9 +1,5 @@
 pub mod PieceLemmas
 pub mod TokenLemmas
 pub mod RowLemmas
-pub mod LineReading
-pub mod LineParts
-pub mod LineLaws
-pub mod LineExamples
 pub mod RecordLemmas
 pub mod CountLemmas

@@ -1,6 +1,4 @@
 pub mod Tokens
 pub mod Columns
-pub mod Lines
-pub mod Reading
-pub mod RecordLines
+pub mod Records
 pub mod Entries

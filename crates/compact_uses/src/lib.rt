@@ -7,9 +7,6 @@ mod report;
 mod tokenizer;
 
 pub use entries::{Entry, ranking};
-pub use records::{
-    Fault, LineError, RecordsCause, RecordsError, each_line_reads_or_breaks, fields_of,
-    fields_read_as_written, plain_fields_read_as_themselves, quoted_line, read_records,
-};
+pub use records::read_records;
 pub use report::aligned_rows;
 pub use tokenizer::{Kind, Token, tokenize};

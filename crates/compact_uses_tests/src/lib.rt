@@ -6,8 +6,6 @@ mod asserts;
 #[cfg(test)]
 mod ranking;
 #[cfg(test)]
-mod record_stops;
-#[cfg(test)]
 mod records;
 #[cfg(test)]
 mod report;
