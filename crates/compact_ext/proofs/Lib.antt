@@ -9,3 +9,4 @@ pub mod PackedRooms
 pub mod RecordLists
 pub mod WireFacts
 pub mod WireExamples
+pub mod TakenLines

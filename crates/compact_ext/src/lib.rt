@@ -3,8 +3,10 @@
 
 mod error_conversions;
 mod format;
+mod lines;
 mod to_text;
 pub mod wire;
 
 pub use format::{ToCompactStringError, collect_display};
+pub use lines::{ReadLineError, read_line};
 pub use to_text::{ToCompactString, numbers_are_short, numbers_go_digit_by_digit};

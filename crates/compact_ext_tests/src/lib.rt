@@ -10,6 +10,8 @@ mod number_values;
 #[cfg(test)]
 mod numbers;
 #[cfg(test)]
+mod read_line;
+#[cfg(test)]
 mod wire;
 #[cfg(test)]
 mod wire_forms;
