@@ -85,7 +85,7 @@ struct Reading {
 /// # Examples
 ///
 /// With the separator `,` the line `a,"b,""c"` has the fields `a` and `b,"c`.
-#[tactic(auto, using(compact_str::proofs::ForCallers::characters_left))]
+#[tactic(auto, using(compact_str::proofs::ForCallers::character_loop_facts))]
 pub fn fields_of(
     alloc: Global,
     separator: char,

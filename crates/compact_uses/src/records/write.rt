@@ -16,7 +16,7 @@ use std::alloc::Global;
 /// # Examples
 ///
 /// With the separator `,` the fields `a` and `b"` are written as `"a","b"""`.
-#[tactic(auto, using(std::proofs::lemmas::Grind::common_steps, compact_str::proofs::ForCallers::characters_left))]
+#[tactic(auto, using(std::proofs::lemmas::Grind::common_steps, compact_str::proofs::ForCallers::character_loop_facts))]
 pub fn quoted_line(
     alloc: Global,
     separator: char,
@@ -41,7 +41,7 @@ pub fn quoted_line(
 }
 
 /// Appends a field in quotes.
-#[tactic(auto, using(compact_str::proofs::ForCallers::characters_left))]
+#[tactic(auto, using(compact_str::proofs::ForCallers::character_loop_facts))]
 fn push_quoted(line: &mut CompactString, field: &CompactString) -> Result<(), ReserveError>
     ensures text { OnOk result (line.new.text ≡ line.old.text ++ quoted_field field.now.text) }
     ensures succeeds { size line.old.text + size (quoted_field field.now.text) ≤ 24 → IsOk result }
