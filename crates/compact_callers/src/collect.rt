@@ -1,5 +1,5 @@
 //! Collecting, joining and extending.
-#![tactic(auto, using(compact_str::proofs::ForCallers::for_callers))]
+#![tactic(auto, using(compact_str::proofs::ForCallers::caller_facts))]
 
 ghost use Rattle.std.specs.Prelude.{◌≡◌, ◌+◌, ◌≤◌, ◌++◌, [], map, flat_map, fold, filter, ◌==◌, not, IfOk, OnOk, OnErr, codes, string_bytes};
 ghost use Rattle.std.specs.Char.{to_ascii_uppercase};

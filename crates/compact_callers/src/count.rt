@@ -1,5 +1,5 @@
 //! Word counts in maps, and lookups by text after a change to a map or set.
-#![tactic(auto, using(compact_str::proofs::TextKeys::text_keys))]
+#![tactic(auto, using(compact_str::proofs::TextKeys::map_facts))]
 
 ghost use Rattle.std.specs.Prelude.{◌≡◌, ℕ, List, Some, None, IfOk, OnOk, codes, ◌||◌, if◌then◌else◌, bytes_eq, count_by, unwrap_or};
 ghost use Rattle.std.specs.Map.{update};

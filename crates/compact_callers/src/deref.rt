@@ -1,5 +1,5 @@
 //! `&str` methods on a value, and functions that take a `&str`, as written for a `String`.
-#![tactic(auto, using(compact_str::proofs::ForCallers::for_callers))]
+#![tactic(auto, using(compact_str::proofs::ForCallers::caller_facts))]
 
 ghost use Rattle.std.specs.Prelude.{◌≡◌, ◌+◌, ◌^◌, ◌≤◌, ◌++◌, length, IfOk, OnOk, OnErr, IsOk, MatchOption, codes};
 ghost use Rattle.compact_str.specs.Text.{text_of, size};

@@ -70,7 +70,7 @@ pub fn shorten(line: &mut CompactString, len: usize)
 }
 
 /// Replaces the bytes from one boundary to another.
-#[tactic(auto, using(compact_str::proofs::ForCallers::in_bytes))]
+#[tactic(auto, using(compact_str::proofs::ForCallers::caller_facts))]
 pub fn overwrite(
     line: &mut CompactString,
     start: usize,
@@ -95,7 +95,7 @@ pub fn with_semicolons(alloc: Global, text: &str) -> Result<CompactString, Alloc
 }
 
 /// Formats a port.
-#[tactic(auto, using(compact_str::proofs::ForCallers::in_bytes))]
+#[tactic(auto, using(compact_str::proofs::ForCallers::caller_facts))]
 pub fn port_text(alloc: Global, port: u16) -> Result<CompactString, ToCompactStringError>
     ensures { IfOk result (λ v. utf8 v.text ≡ decimal port) }
 {
@@ -103,7 +103,7 @@ pub fn port_text(alloc: Global, port: u16) -> Result<CompactString, ToCompactStr
 }
 
 /// Formats a port after a colon.
-#[tactic(auto, using(compact_str::proofs::ForCallers::in_bytes))]
+#[tactic(auto, using(compact_str::proofs::ForCallers::caller_facts))]
 pub fn port_part(alloc: Global, port: u16) -> Result<CompactString, ToCompactStringError>
     ensures { IfOk result (λ v. utf8 v.text ≡ codes ":" ++ decimal port) }
 {
@@ -114,7 +114,7 @@ pub fn port_part(alloc: Global, port: u16) -> Result<CompactString, ToCompactStr
 }
 
 /// Joins names in one line.
-#[tactic(auto, using(compact_str::proofs::ForCallers::for_callers))]
+#[tactic(auto, using(compact_str::proofs::ForCallers::caller_facts))]
 pub fn names_in_line(
     alloc: Global,
     names: &[CompactString],
@@ -127,7 +127,7 @@ pub fn names_in_line(
 }
 
 /// Concatenates names.
-#[tactic(auto, using(compact_str::proofs::ForCallers::for_callers))]
+#[tactic(auto, using(compact_str::proofs::ForCallers::caller_facts))]
 pub fn names_in_a_row(alloc: Global, names: &[CompactString]) -> Result<CompactString, ReserveError>
     ensures { IfOk result (λ v. utf8 v.text ≡ flat_map (λ name. utf8 name.text) names.now) }
 {

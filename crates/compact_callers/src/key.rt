@@ -13,7 +13,7 @@ use std::cmp::Ordering;
 use std::collections::{BTreeMap, HashMap};
 
 /// Returns `true` if a word is the keyword.
-#[tactic(auto, using(compact_str::proofs::ForCallers::for_callers))]
+#[tactic(auto, using(compact_str::proofs::ForCallers::caller_facts))]
 pub fn is_keyword(word: &CompactString, keyword: &CompactString) -> bool
     ensures { IsTrue result ↔ (word.now.text ≡ keyword.now.text) }
 {
@@ -29,7 +29,7 @@ pub fn comes_first(first: &CompactString, second: &CompactString) -> bool
 
 /// Searches a sorted slice for a word. `Err` is where it could be inserted: the words before are less, those from
 /// there on greater.
-#[tactic(auto, using(compact_str::proofs::ForCallers::for_callers))]
+#[tactic(auto, using(compact_str::proofs::ForCallers::caller_facts))]
 pub fn place_of(words: &[CompactString], word: &CompactString) -> Result<usize, usize>
     requires { IsSorted text_cmp words.now }
     ensures found { IfOk result (HoldsAt (λ w. w.text ≡ word.now.text) words.now) }

@@ -1,5 +1,5 @@
 //! Map lookups by `&str`, without making a value.
-#![tactic(auto, using(compact_str::proofs::ForCallers::for_callers))]
+#![tactic(auto, using(compact_str::proofs::ForCallers::caller_facts))]
 
 ghost use Rattle.std.specs.Prelude.{◌≡◌};
 ghost use Rattle.std.specs.Option.{unwrap_or};

@@ -1,5 +1,5 @@
 //! Values moved out with `take`, in small vectors, and made from bytes and boxes without a copy.
-#![tactic(auto, using(compact_str::proofs::ForCallers::for_callers))]
+#![tactic(auto, using(compact_str::proofs::ForCallers::caller_facts))]
 
 ghost use Rattle.std.specs.Prelude.{◌≡◌, [], ◌∷◌, IfOk, IfErr, OnOk, OnErr, IsOk, length};
 ghost use Rattle.std.specs.Str.{IsUtf8};

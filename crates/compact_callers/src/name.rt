@@ -1,5 +1,5 @@
 //! Callers of the interner.
-#![tactic(auto, using(compact_str::proofs::ForCallers::for_callers))]
+#![tactic(auto, using(compact_str::proofs::ForCallers::caller_facts))]
 
 ghost use Rattle.std.specs.Prelude.{◌≡◌, ◌≤◌, length, slice_get, Some, IfOk};
 ghost use Rattle.compact_str.specs.Text.{text_of};

@@ -8,7 +8,7 @@ use compact_str::CompactString;
 use std::alloc::Global;
 
 /// Writes a key as an array and reads it back. Returns `None` only if the key is not inline.
-#[tactic(auto, using(compact_str::proofs::ForCallers::for_callers))]
+#[tactic(auto, using(compact_str::proofs::ForCallers::caller_facts))]
 pub fn through_a_row(alloc: Global, key: &CompactString) -> Option<CompactString>
     ensures text { IfSome result (λ copy. copy.text ≡ key.now.text) }
     ensures inline { IfSome result (λ copy. copy.placement ≡ inline_placement) }
@@ -19,7 +19,7 @@ pub fn through_a_row(alloc: Global, key: &CompactString) -> Option<CompactString
 }
 
 /// Returns `true` if two keys are inline with the same bytes; then their texts are equal.
-#[tactic(auto, using(compact_str::proofs::ForCallers::for_callers))]
+#[tactic(auto, using(compact_str::proofs::ForCallers::caller_facts))]
 pub fn have_same_row(first: &CompactString, second: &CompactString) -> bool
     ensures { IsTrue result → (first.now.text ≡ second.now.text) }
 {
@@ -33,7 +33,7 @@ pub fn have_same_row(first: &CompactString, second: &CompactString) -> bool
 }
 
 /// Normalizes an array, zeroing the padding. Returns `None` if it holds no text.
-#[tactic(auto, using(compact_str::proofs::ForCallers::for_callers))]
+#[tactic(auto, using(compact_str::proofs::ForCallers::caller_facts))]
 pub fn cleaned(alloc: Global, row: &[u8; 24]) -> Option<[u8; 24]>
     ensures { IfSome result (λ clean. (t : List ℕ) → IsPackedFor row.now t → IsPackedFor clean t) }
 {

@@ -1,5 +1,5 @@
 //! Splitting a text and formatting one. Each contract names the parts.
-#![tactic(auto, using(compact_str::proofs::ForCallers::for_callers, compact_str::proofs::PartFacts::part_facts))]
+#![tactic(auto, using(compact_str::proofs::ForCallers::caller_facts))]
 
 ghost use Rattle.std.specs.Prelude.{◌≡◌, ◌≢◌, ◌↔◌, ◌++◌, IfSome, OnOk, OnErr, IsTrue, Some, true, false, codes, decimal, slice_get};
 ghost use Rattle.std.specs.Str.{trim};
@@ -9,7 +9,6 @@ ghost use Rattle.compact_str.specs.Ranges.{IsBetweenWhitespace};
 use compact_str::{CompactString, ReserveError};
 
 /// Appends an address. Its contract joins from the right, as a formatter does.
-#[tactic(auto, using(compact_str::proofs::ForCallers::for_callers))]
 pub fn append_address(
     line: &mut CompactString,
     scheme: &str,
@@ -25,7 +24,6 @@ pub fn append_address(
 }
 
 /// Appends a request. The contract is in bytes, so no proof reads it as characters.
-#[tactic(auto, using(compact_str::proofs::PartFacts::part_facts))]
 pub fn append_request(
     line: &mut CompactString,
     method: &str,
@@ -40,7 +38,6 @@ pub fn append_request(
 }
 
 /// Appends a line of a list, or leaves the text unchanged.
-#[tactic(auto, using(compact_str::proofs::PartFacts::part_facts))]
 pub fn append_line(line: &mut CompactString, name: &str, count: u64) -> Result<(), ReserveError>
     ensures bytes { OnOk result (utf8 line.new.text
         ≡ utf8 line.old.text ++ (name.now ++ (codes ": " ++ (decimal count ++ codes "\n")))) }
@@ -58,7 +55,7 @@ pub fn append_shown(line: &mut CompactString, text: &str) -> Result<(), ReserveE
 }
 
 /// Returns `true` if a word is `"abc"`.
-#[tactic(auto, using(compact_str::proofs::PartFacts::words))]
+#[tactic(auto, using(compact_str::proofs::PartFacts::literal_facts))]
 pub fn is_abc(word: &CompactString) -> bool
     ensures { IsTrue result ↔ (word.now.text ≡ codes "abc") }
 {
@@ -66,7 +63,7 @@ pub fn is_abc(word: &CompactString) -> bool
 }
 
 /// Returns `true` if a word is not `"naïve"`.
-#[tactic(auto, using(compact_str::proofs::PartFacts::words))]
+#[tactic(auto, using(compact_str::proofs::PartFacts::literal_facts))]
 pub fn is_not_naive(word: &CompactString) -> bool
     ensures { IsTrue result ↔ (word.now.text ≢ codes "naïve") }
 {
@@ -74,7 +71,7 @@ pub fn is_not_naive(word: &CompactString) -> bool
 }
 
 /// Returns `true` if a header names the encoding of a body.
-#[tactic(auto, using(compact_str::proofs::PartFacts::words))]
+#[tactic(auto, using(compact_str::proofs::PartFacts::literal_facts))]
 pub fn is_encoding_header(name: &CompactString) -> bool
     ensures { IsTrue result ↔ (name.now.text ≡ codes "content-transfer-encoding") }
 {
@@ -82,7 +79,7 @@ pub fn is_encoding_header(name: &CompactString) -> bool
 }
 
 /// Parses a yes or no.
-#[tactic(auto, using(compact_str::proofs::PartFacts::words))]
+#[tactic(auto, using(compact_str::proofs::PartFacts::literal_facts))]
 pub fn answer_in(word: &CompactString) -> Option<bool>
     ensures yes { result ≡ Some true ↔ (word.now.text ≡ codes "yes") }
     ensures no { result ≡ Some false ↔ (word.now.text ≡ codes "no") }
@@ -164,7 +161,7 @@ pub fn first_two_bytes(line: &CompactString) -> &str {
 }
 
 /// Appends an address with all its parts.
-#[tactic(auto, using(compact_str::proofs::PartFacts::many_parts))]
+#[tactic(auto, using(compact_str::proofs::PartFacts::long_write_facts))]
 pub fn append_whole_address(
     line: &mut CompactString,
     scheme: &str,

@@ -10,7 +10,7 @@ use compact_str::{CompactString, ReserveError};
 use std::ops::Bound;
 
 /// Moves a range of one text to the end of another, then appends a mark to the first.
-#[tactic(auto, using(compact_str::proofs::ForCallers::for_callers))]
+#[tactic(auto, using(compact_str::proofs::ForCallers::caller_facts))]
 pub fn move_range(
     from: &mut CompactString,
     start: Bound<usize>,
@@ -32,7 +32,7 @@ pub fn move_range(
 }
 
 /// Removes a range and returns its last character.
-#[tactic(auto, using(compact_str::proofs::ForCallers::for_callers))]
+#[tactic(auto, using(compact_str::proofs::ForCallers::caller_facts))]
 pub fn take_range(
     value: &mut CompactString,
     start: Bound<usize>,

@@ -1,5 +1,5 @@
 //! Callers of the tokenizer.
-#![tactic(auto, using(compact_str::proofs::ForCallers::for_callers))]
+#![tactic(auto, using(compact_str::proofs::ForCallers::caller_facts))]
 
 ghost use Rattle.std.specs.Prelude.{◌≡◌, ◌-◌, ◌≤◌, ℕ, List, [], length, map, flat_map, slice_get, Some, IfOk, IsOk, OnOk, OnErr};
 ghost use Rattle.compact_uses.specs.Tokens.{IsTokenized, IsPartlyTokenized, token_text};

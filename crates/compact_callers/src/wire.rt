@@ -150,7 +150,7 @@ pub fn next_text<R: BufRead + Drop>(
 }
 
 /// Reads the texts until the end, skipping records that are not valid UTF-8.
-#[tactic(auto, using(compact_ext::proofs::WireFacts::passed_texts))]
+#[tactic(auto, using(compact_ext::proofs::WireFacts::passed_text_facts))]
 pub fn read_texts<R: BufRead + Drop>(
     alloc: Global,
     reader: R,

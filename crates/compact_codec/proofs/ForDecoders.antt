@@ -1,5 +1,5 @@
 -- For crates that decode a text by these steps. Use it at the decoder, as
--- `#[tactic(auto, using(compact_codec::proofs::ForDecoders::lossy_decoding))]`.
+-- `#[tactic(auto, using(compact_codec::proofs::ForDecoders::lossy_decoding_facts))]`.
 use Rattle.std.proofs.Common.{◌≡◌, ◌≤◌, ℕ, List, [], ◌++◌, length, drop, drop_of_length-le, refl, IsUtf8, sym, ap, subst, ◌∙◌, append-nil}
 use Rattle.compact_codec.specs.declared.utf16_bytes.ByteOrder.{ByteOrder}
 use Rattle.compact_codec.specs.Utf8Text.{BytesEncode, utf8_lossy_text}
@@ -20,7 +20,7 @@ made-utf16_lossy_text made units at past =
     ∙ ap (λ t. made ++ t) (utf16_lossy_text-empty [] refl)
     ∙ append-nil made
 
-pub ruleset lossy_decoding = (
+pub ruleset lossy_decoding_facts = (
   made-utf8_lossy_text,
   made-utf16_lossy_text,
   utf8_lossy_text-IsUtf8,
@@ -38,4 +38,4 @@ UnitsEncode-utf16_lossy_text units (text, is) = subst (UnitsEncode units) (sym (
 pub UnitsEncode-utf16_bytes_lossy_text : (order : ByteOrder) (bytes : List ℕ) → IsUtf16Bytes order bytes → UnitsEncode (units_of order bytes) (utf16_bytes_lossy_text order bytes)
 UnitsEncode-utf16_bytes_lossy_text order bytes (pairs, (text, is)) = subst (UnitsEncode (units_of order bytes)) (sym (utf16_bytes_lossy_text_of_text order bytes text pairs is)) is
 
-pub ruleset strict_decoding = (lossy_decoding, utf8_lossy_text_of_text, utf16_lossy_text_of_text, utf16_bytes_lossy_text_of_text, BytesEncode-utf8_lossy_text, UnitsEncode-utf16_lossy_text, UnitsEncode-utf16_bytes_lossy_text)
+pub ruleset strict_decoding_facts = (lossy_decoding_facts, utf8_lossy_text_of_text, utf16_lossy_text_of_text, utf16_bytes_lossy_text_of_text, BytesEncode-utf8_lossy_text, UnitsEncode-utf16_lossy_text, UnitsEncode-utf16_bytes_lossy_text)

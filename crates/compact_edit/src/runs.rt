@@ -203,7 +203,7 @@ fn drain<P: Policy>(value: &mut PolicyString<P>, start: Bound<usize>, end: Bound
 }
 
 /// Copies a range into a new value.
-#[tactic(auto, using(compact_str::proofs::ForCallers::for_callers))]
+#[tactic(auto, using(compact_str::proofs::ForCallers::caller_facts))]
 fn copy_of_range<P: Policy>(
     value: &PolicyString<P>,
     first: usize,

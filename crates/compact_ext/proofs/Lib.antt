@@ -2,7 +2,6 @@ pub mod NumberTexts
 pub mod Digits
 pub mod ShownTexts
 pub mod Collecting
-pub mod ForCallers
 pub mod Examples
 pub mod WireForms
 pub mod PackedRooms

@@ -37,4 +37,4 @@ at-end (Some xs) shown h none = h none
 pub ruleset wire_facts = (Appends-trans, Consumes-trans, length-wire, sent-back, all-sent-back, at-end, append-nil, append_assoc, flat_map-append)
 
 -- the same for a loop over `Records` that skips invalid texts
-pub ruleset passed_texts = (passes-none, passes-text, passes-invalid, passes-all)
+pub ruleset passed_text_facts = (passes-none, passes-text, passes-invalid, passes-all)

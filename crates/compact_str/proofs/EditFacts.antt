@@ -3,7 +3,7 @@ use Rattle.std.proofs.lemmas.Str.{IsUtf8-string_bytes, length-encode, encodes-ch
 use Rattle.compact_text.proofs.TextFacts.{text_facts}
 use Rattle.compact_repr.proofs.Placed.{append-in_place, insert-in_place, replace-in_place, owned-in_place}
 use Rattle.compact_text.proofs.Cuts.{boundary-within, size-text_after, boundary-next, text_after-next}
-use Rattle.compact_str.proofs.Positions.{truncate-text, boundary-cut, before_bytes, after_bytes, truncated-bytes, inserted-bytes, inserted-boundary, inserted-after, inserted-character, inserted-character_after, removed-character, removed-char_at}
+use Rattle.compact_str.proofs.Positions.{truncate-text, boundary-cut, before_bytes, after_bytes, truncated-bytes, inserted-bytes, inserted-boundary, inserted-after, inserted-character, inserted-character_after, removed-character, removed-char_at, removed-bytes, replaced-bytes}
 use Rattle.compact_str.proofs.Rooms.{append-sure, room-sure, appended-bytes, pushed-bytes}
 use Rattle.compact_text.proofs.AsciiCase.{boundary-lowercase, boundary-uppercase}
 use Rattle.compact_str.proofs.AsciiCase.{new-lowercase, new-uppercase}
@@ -25,10 +25,10 @@ pub ruleset insertion_facts = (text_facts, insert-in_place, room-sure, boundary-
 pub ruleset character_insertion_facts = (text_facts, insert-in_place, room-sure, boundary-within, inserted-boundary, inserted-character, inserted-character_after)
 
 -- removal
-pub ruleset removal_facts = (position_facts, owned-in_place, removed-character, removed-char_at)
+pub ruleset removal_facts = (position_facts, owned-in_place, removed-character, removed-char_at, removed-bytes)
 
 -- replacement
-pub ruleset replacement_facts = (text_facts, replace-in_place)
+pub ruleset replacement_facts = (text_facts, replace-in_place, replaced-bytes)
 
 -- repetition
 pub ruleset repeat_facts = (text_facts, repeated_text-none, repeated_text-one, placed-once)

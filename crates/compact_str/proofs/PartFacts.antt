@@ -1,9 +1,9 @@
--- For crates that call this one: three rulesets.
--- `part_facts`, beside `ForCallers::for_callers`: the text on both sides of a character that was found, or of what
--- `trim` returns, and what a formatter wrote, in bytes.
--- `many_parts`, alone, for a `write!` of up to twelve values: with all of `for_callers` a proof reaches its limit of
+-- For crates that call this one.
+-- `part_facts`, of which `ForCallers::caller_facts` has all: the text on both sides of a character that was found, or of
+-- what `trim` returns, and what a formatter wrote, in bytes.
+-- `long_write_facts`, alone, for a `write!` of up to twelve values: with all of `caller_facts` a proof reaches its limit of
 -- instances. Past twelve pieces, values and literals together, `format_args!` nests, hence `append_assoc`.
--- `words`, without the two: the characters of a literal of any length, and `==` with one.
+-- `literal_facts`, alone: the characters of a literal of any length, and `==` with one.
 use Rattle.std.proofs.Common.{◌≡◌, ◌≢◌, ◌⊎◌, inl, inr, ℕ, List, Bool, true, false, ◌&&◌, [], ◌++◌, ◌∷◌, nat_eq, nat_lt, drop, take, refl, ap, sym, subst, ◌∙◌, ◌<◌, arith, append_assoc, append-nil}
 use Rattle.std.proofs.lemmas.Bool.{false≢true, ltb-true, not-false}
 use Rattle.std.proofs.lemmas.Bool.Decides.{nat_tests}
@@ -23,7 +23,7 @@ use Rattle.compact_repr.specs.Value.{PlacedText}
 use Rattle.compact_repr.specs.Capacity.{Growth}
 use Rattle.compact_str.specs.Output.{Writes}
 use Rattle.compact_str.specs.Ranges.{IsBetweenWhitespace}
-use Rattle.compact_str.proofs.ForCallers.{written-text, text_of-one, text_of-two, text_of-three, text_of-four, text_of-decimal, text_of-decimal_append}
+use Rattle.compact_str.proofs.Literals.{written-text, text_of-one, text_of-two, text_of-three, text_of-four, text_of-decimal, text_of-decimal_append}
 
 -- the text before a character that was found, the character, and the text after it
 pub cut-text : (t s : List ℕ) (c i j : ℕ) → HasCharAt c s i j → text_of s ≡ t → IsUtf8 s → IsCharBoundary s i
@@ -118,7 +118,7 @@ trimmed-text t s r (m, n, cut, before, behind, starts, ends) e u =
 
 pub ruleset part_facts = (cut-text, cut-at, trimmed-text, written-bytes, append-nil)
 
-pub ruleset many_parts = (
+pub ruleset long_write_facts = (
   written-text,
   written-bytes,
   chars-append,
@@ -131,4 +131,4 @@ pub ruleset many_parts = (
   text_of-decimal_append,
 )
 
-pub ruleset words = (word-told, text_of-plain, chars-nil, text_of-one, text_of-two, text_of-three, text_of-four)
+pub ruleset literal_facts = (word-told, text_of-plain, chars-nil, text_of-one, text_of-two, text_of-three, text_of-four)

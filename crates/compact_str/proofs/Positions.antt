@@ -6,13 +6,13 @@ use Rattle.std.proofs.lemmas.Bool.Decides.{nat_tests}
 use Rattle.std.proofs.lemmas.Str.{encodes-append}
 use Rattle.std.specs.Char.{len_utf8, encode_utf8}
 use Rattle.std.specs.Prelude.{Result, Ok, Err, OnOk}
-use Rattle.std.specs.List.{insert_slice}
+use Rattle.std.specs.List.{insert_slice, remove_range}
 use Rattle.compact_repr.specs.Text.{size, utf8}
 use Rattle.compact_repr.specs.Cut.{IsCut, IsBoundary, IsCharAt, text_before, text_after, replaced_text}
 use Rattle.compact_repr.specs.Value.{PlacedText}
 use Rattle.compact_repr.specs.Calls.{truncate}
 use Rattle.compact_text.proofs.Texts.{length-utf8, size-append}
-use Rattle.compact_text.proofs.Cuts.{boundary-from_size, text_after-next, text_before-text_after, text_after-append, size-text_before}
+use Rattle.compact_text.proofs.Cuts.{boundary-from_size, boundary-next, text_after-next, text_before-text_after, text_after-append, size-text_before}
 
 -- the prefix up to a position past the end is the whole
 pub text_before-all : (t : List ℕ) (p : ℕ) → size t ≤ p → text_before t p ≡ t
@@ -115,3 +115,10 @@ removed-character t u rest p c is h e =
 
 pub removed-char_at : (t u : List ℕ) (p c : ℕ) → u ≡ replaced_text t p (p + len_utf8 c) [] → IsBoundary t p → IsCharAt t p c → text_after t p ≡ c ∷ text_after u p
 removed-char_at t u p c is h a = removed-character t u a.rest p c is h a.text
+
+-- the bytes of a text without the part between two boundaries, and without the character at one
+pub cut-bytes : (t u : List ℕ) (p q : ℕ) → u ≡ replaced_text t p q [] → IsBoundary t p → IsBoundary t q → utf8 u ≡ remove_range (utf8 t) p q
+cut-bytes t u p q is h k = replaced-bytes t u [] [] p q is h k refl ∙ ap (λ x. x ++ drop q (utf8 t)) (append-nil (take p (utf8 t)))
+
+pub removed-bytes : (t u : List ℕ) (p c : ℕ) → u ≡ replaced_text t p (p + len_utf8 c) [] → IsBoundary t p → IsCharAt t p c → utf8 u ≡ remove_range (utf8 t) p (p + len_utf8 c)
+removed-bytes t u p c is h a = cut-bytes t u p (p + len_utf8 c) is h (boundary-next t a.rest p c h a.text)

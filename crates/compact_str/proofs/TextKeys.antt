@@ -1,6 +1,6 @@
 -- For callers: what a map or set of values has at any bytes, before and after a call that changes one key. A call by a
 -- value compares characters, and one by a `&str` bytes. Named at the caller, as `#[tactic(auto,
--- using(compact_str::proofs::TextKeys::text_keys))]`. After std's `Map.Text`.
+-- using(compact_str::proofs::TextKeys::map_facts))]`. After std's `Map.Text`.
 use Rattle.std.proofs.Common.{◌≡◌, ℕ, Bool, true, false, cond, List, ◌∷◌, Option, Bor, BTreeMap, BTreeSet, HashMap, HashSet, refl, sym, ap, subst₂, ◌∙◌, ◌⊎◌, ◌≢◌, inl, inr, ⊎_elim, bytes_eq}
 use Rattle.std.specs.Map.{lookup, update, IsKeyTest, AreApart, KeepsOthers}
 use Rattle.std.specs.Set.{KeepsOthers as KeepsOtherKeys}
@@ -217,7 +217,7 @@ module _ (c : ℕ) (cs : List ℕ) (xs : List PlacedText) where
   btree_set_literal = refl
 
 -- the last five are for a count or total of each key, in a loop
-pub ruleset text_keys = (
+pub ruleset map_facts = (
   hash_map_key_same,
   hash_map_key_after,
   btree_map_key_same,

@@ -1,5 +1,5 @@
 //! Small programs to copy, each with what it does as a theorem.
-#![tactic(auto, using(compact_str::proofs::ForCallers::for_callers))]
+#![tactic(auto, using(compact_str::proofs::ForCallers::caller_facts))]
 
 mod entries;
 mod records;

@@ -50,7 +50,7 @@ pub fn read_records<R: Read + Drop>(
 }
 
 /// Copies the fields of a record.
-#[tactic(auto, using(compact_str::proofs::ForCallers::for_callers, crate::proofs::RecordLemmas::field_facts))]
+#[tactic(auto, using(compact_str::proofs::ForCallers::caller_facts, crate::proofs::RecordLemmas::field_facts))]
 fn fields_of(alloc: Global, row: &StringRecord) -> Result<Vec<CompactString>, ReserveError>
     ensures { IfOk result (λ fields. map bytes_in fields.items ≡ fields_of row.now) }
 {

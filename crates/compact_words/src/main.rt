@@ -1,5 +1,5 @@
 //! Reads a text on standard input, and prints its ten most frequent words with their counts, in columns.
-#![tactic(auto, using(compact_str::proofs::ForCallers::for_callers))]
+#![tactic(auto, using(compact_str::proofs::ForCallers::caller_facts))]
 
 ghost use Rattle.std.specs.Prelude.{map, IfSome, OnOk};
 ghost use Rattle.std.specs.Io.KnownBytes.{Appends};

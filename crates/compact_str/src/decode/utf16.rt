@@ -33,7 +33,7 @@ impl PolicyString<Standard> {
     /// let unpaired = CompactString::from_utf16(alloc, &[0xD834, 0x41]);
     /// assert!(rt; matches!(unpaired, Err(FromUtf16Error::Utf16(_))));
     /// ```
-    #[tactic(auto, using(compact_codec::proofs::ForDecoders::strict_decoding))]
+    #[tactic(auto, using(compact_codec::proofs::ForDecoders::strict_decoding_facts))]
     pub fn from_utf16(alloc: Global, units: &[u16]) -> Result<CompactString, FromUtf16Error>
         // Decodes valid units: inline up to 24 bytes, else on the heap.
         ensures text { IfOk result (λ v. UnitsEncode units.now v.text) }
@@ -167,7 +167,7 @@ impl PolicyString<Standard> {
 }
 
 /// Converts pairs of bytes, in either order.
-#[tactic(auto, using(compact_codec::proofs::ForDecoders::strict_decoding))]
+#[tactic(auto, using(compact_codec::proofs::ForDecoders::strict_decoding_facts))]
 fn from_bytes(
     alloc: Global,
     order: ByteOrder,
@@ -219,7 +219,7 @@ fn from_pairs_lossy(
 }
 
 /// Converts units, replacing each unpaired surrogate with U+FFFD.
-#[tactic(auto, using(compact_codec::proofs::ForDecoders::lossy_decoding, crate::proofs::FittedTexts::decoded_part_facts))]
+#[tactic(auto, using(compact_codec::proofs::ForDecoders::lossy_decoding_facts, crate::proofs::FittedTexts::decoded_part_facts))]
 fn from_units_lossy<U: Units>(alloc: Global, units: U) -> Result<CompactString, ReserveError>
     ensures { MakesText (utf16_lossy_text (U.units units)) result }
 {

@@ -76,7 +76,7 @@ impl PolicyString<Standard> {
     /// assert_eq!(rt; name.as_str(), "\u{FFFD}\u{FFFD}");
     /// ```
     #[inline]
-    #[tactic(auto, using(compact_codec::proofs::ForDecoders::lossy_decoding, crate::proofs::FittedTexts::new_facts))]
+    #[tactic(auto, using(compact_codec::proofs::ForDecoders::lossy_decoding_facts, crate::proofs::FittedTexts::new_facts))]
     pub fn from_utf8_lossy(alloc: Global, bytes: &[u8]) -> Result<CompactString, ReserveError>
         // Replaces each invalid sequence with U+FFFD: inline up to 24 bytes, else on the heap.
         ensures text { IfOk result (λ v. v.text ≡ utf8_lossy_text bytes.now) }
@@ -109,7 +109,7 @@ impl PolicyString<Standard> {
 }
 
 /// Converts invalid bytes, chunk by chunk, from their first error on.
-#[tactic(auto, using(compact_codec::proofs::ForDecoders::lossy_decoding, crate::proofs::FittedTexts::decoded_part_facts))]
+#[tactic(auto, using(compact_codec::proofs::ForDecoders::lossy_decoding_facts, crate::proofs::FittedTexts::decoded_part_facts))]
 fn from_invalid(
     alloc: Global,
     bytes: &[u8],

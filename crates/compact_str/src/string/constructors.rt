@@ -291,7 +291,7 @@ impl<P: Policy> From<String> for PolicyString<P> {
     /// let text = String::from_str(alloc, "Zoë")?;
     /// assert!(rt; !CompactString::from(text).is_heap_allocated());
     /// ```
-    #[tactic(auto, using(crate::proofs::ForCallers::in_bytes))]
+    #[tactic(auto, using(crate::proofs::ForCallers::byte_facts))]
     fn from(text: String) -> Self {
         PolicyString {
             repr: Repr::from_string(text),

@@ -1,7 +1,7 @@
 //! Editing by byte position.
 ghost use Rattle.std.specs.Prelude.{◌≡◌, ℕ, ◌+◌, ◌-◌, ◌^◌, ◌<◌, ◌≤◌, ◌∷◌, [], length, take, drop, Some, None, IfOk, OnOk, OnErr, IsOk, MatchOption};
 ghost use Rattle.std.specs.Char.{len_utf8, encode_utf8};
-ghost use Rattle.std.specs.List.{insert_slice};
+ghost use Rattle.std.specs.List.{insert_slice, remove_range, replace_range};
 ghost use Rattle.compact_str.specs.Words.{size, text_of, utf8, text_before, text_after, replaced_text, IsCut, IsBoundary, IsStatic, IsOwned, INLINE_CAPACITY, KeepsPlace, PlacedFor, AllocatesFor, owned, room, room_to_replace, HasRoomFor, infallible_capacity};
 ghost use Rattle.compact_str.specs.Edits.{IsPlacedAsTail, SplitAllocates};
 ghost use Rattle.compact_str.specs.Ranges.{IsRange, span, range_start, range_end, part_in, len_in, replaced_in};
@@ -173,6 +173,8 @@ impl<P: Policy> PolicyString<P> {
             (λ c. text_after self.old.text index ≡ c ∷ text_after self.new.text index) }
         ensures text { IfOk result
             (λ c. self.new.text ≡ replaced_text self.old.text index (index + len_utf8 c) []) }
+        ensures bytes { IfOk result (λ c. utf8 self.new.text
+            ≡ remove_range (utf8 self.old.text) index (index + len_utf8 c)) }
         ensures place { OnOk result (PlacedFor P.growth self.old self.new owned) }
 
         // Fails only if copying a static string of over 24 bytes fails. It is then unchanged.
@@ -214,6 +216,9 @@ impl<P: Policy> PolicyString<P> {
         // Replaces the range with `text`. A static string becomes owned.
         ensures text { OnOk result
             (self.new.text ≡ replaced_in self.old.text (span start end) (text_of text.now)) }
+        ensures bytes { OnOk result (utf8 self.new.text
+            ≡ replace_range (utf8 self.old.text) (range_start start)
+            (range_end self.old.text end) text.now) }
         ensures place { OnOk result
             (PlacedFor P.growth self.old self.new
             (room_to_replace (len_in self.old.text (span start end)) (length text.now))) }

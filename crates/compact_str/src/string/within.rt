@@ -1,9 +1,10 @@
 //! Methods on Rust's ranges, such as `1..3`.
 ghost use Rattle.std.specs.Prelude.{◌≡◌, ◌-◌, ◌+◌, ◌≤◌, ◌++◌, [], length, Some, IfOk, OnOk, OnErr, IsOk};
 ghost use Rattle.std.specs.Borrow.{sem, RestsIfErr};
+ghost use Rattle.std.specs.List.{replace_range};
 ghost use Rattle.std.specs.Range.Bound.{bound_map};
 ghost use Rattle.compact_str.specs.Words.{utf8, size, text_of, IsOwned, INLINE_CAPACITY, PlacedFor, AllocatesFor, owned, room_to_append, room_to_replace, HasRoomFor, infallible_capacity};
-ghost use Rattle.compact_str.specs.Ranges.{IsRange, span_of, part_in, len_in, replaced_in};
+ghost use Rattle.compact_str.specs.Ranges.{IsRange, span_of, range_start, range_end, part_in, len_in, replaced_in};
 
 use crate::string::PolicyString;
 use crate::string::drain::Drain;
@@ -102,6 +103,9 @@ impl<P: Policy> PolicyString<P> {
             (self.new.text
             ≡ replaced_in self.old.text (span_of R.RangeBounds range)
             (text_of text.now)) }
+        ensures bytes { OnOk result (utf8 self.new.text
+            ≡ replace_range (utf8 self.old.text) (range_start (span_of R.RangeBounds range).start)
+            (range_end self.old.text (span_of R.RangeBounds range).end) text.now) }
         ensures place { OnOk result
             (PlacedFor P.growth self.old self.new
             (room_to_replace (len_in self.old.text (span_of R.RangeBounds range))
