@@ -17,8 +17,8 @@ use std::{fmt, mem};
 /// The block that collects pieces: a text within it is allocated once.
 pub const COLLECTED: usize = 1024;
 
-/// The block of a `Display`, which is zeroed at each `write!`: a number or a line fits.
-pub const SHOWN: usize = 256;
+/// The block of a `Display`, zeroed at each `write!`: with the fields after it 256 bytes at most, and so without a call.
+pub const SHOWN: usize = 240;
 
 /// A value, and a block of short pieces still to be appended to it. A contract sees the text of both. A text of at
 /// most `N` bytes is allocated once, with the exact capacity.

@@ -39,12 +39,14 @@ pub fn try_append_char(bytes: &mut Vec<u8>, character: char) -> bool
     ensures capacity { vec_capacity bytes.new ≡ vec_capacity bytes.old }
     ensures full { result ≡ false → bytes.new ≡ bytes.old }
 {
-    let room = bytes.capacity() - bytes.len();
-    if character.is_ascii() && room >= 1 {
+    if character.is_ascii() {
+        if bytes.len() == bytes.capacity() {
+            return false;
+        }
         bytes.push_reserved(character as u8);
         return true;
     }
-    if room < 4 {
+    if bytes.capacity() - bytes.len() < 4 {
         return false;
     }
     let (piece, len) = encoded(character);

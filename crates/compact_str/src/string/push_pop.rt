@@ -85,7 +85,7 @@ impl<P: Policy> PolicyString<P> {
 
     /// `push` of a character that `try_push` did not append. Not inlined, so that a loop of appends stays short.
     #[inline(never)]
-    #[tactic(auto, using(crate::proofs::EditFacts::character_facts))]
+    #[tactic(auto, using(compact_repr::proofs::Placed::placed_facts))]
     fn push_slow(&mut self, character: char) -> Result<(), ReserveError>
         ensures text { OnOk result (self.new.text ≡ self.old.text ++ character ∷ []) }
         ensures place { OnOk result
@@ -95,7 +95,12 @@ impl<P: Policy> PolicyString<P> {
         ensures err { OnErr result (self.new ≡ self.old) }
     {
         let mut bytes = [0; 4];
-        self.push_str(encode_char(character, &mut bytes))
+        let text = encode_char(character, &mut bytes);
+        self.repr.reserve(text.len())?;
+        if !self.repr.try_push_str(text) {
+            unreachable!();
+        }
+        Ok(())
     }
 
     /// Appends `text` and returns the string, like Rust's `+`.

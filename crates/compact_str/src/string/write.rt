@@ -14,7 +14,7 @@ use std::fmt::{Display, Write};
 impl<P: Policy> PolicyString<P> {
     /// Appends what `value` displays, all of it or nothing, with the capacity of one `push_str`.
     ///
-    /// Formats on the stack first, and past 256 bytes in a temporary heap buffer.
+    /// Formats on the stack first, and past 240 bytes in a temporary heap buffer.
     ///
     /// # Errors
     ///
