@@ -1,6 +1,6 @@
 -- Fields of a record, and records read one by one.
 use Rattle.std.proofs.Common.{◌≡◌, ◌⊎◌, ℕ, ◌+◌, ◌<◌, zero, suc, List, [], ◌∷◌, ◌++◌, Option, Some, None, IfSome, map}
-use Rattle.std.proofs.Common.{take, length, true, false, refl, ap, sym, ◌∙◌, inl, inr, append_assoc, append-nil}
+use Rattle.std.proofs.Common.{take, length, true, false, refl, ap, sym, ◌∙◌, inl, inr, append_assoc}
 use Rattle.std.proofs.Common.{add-one, arith}
 use Rattle.std.proofs.Math.Seq.{take-append_seam}
 use Rattle.std.proofs.lemmas.List.{map-append}
@@ -8,7 +8,7 @@ use Rattle.std.proofs.lemmas.Option.{IfSome_then}
 use Rattle.std.specs.Global.{Vec}
 use Rattle.std.specs.Option.{option_map}
 use Rattle.csv.specs.Reading.{Reached, ReadRecord, Ready, default_config, source_of, strip_bom}
-use Rattle.csv.specs.Records.{Row, field_at, field_count, fields_of}
+use Rattle.csv.specs.Records.{Row, field_at, fields_of}
 use Rattle.csv.specs.declared.parser.State.TheVariants as st
 use Rattle.csv.specs.declared.reader.Reader.{Reader}
 use Rattle.csv.specs.declared.reader.Trim.TheVariants as trim
