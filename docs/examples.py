@@ -32,7 +32,7 @@ CRATES = ["compact_str", "compact_ext", "compact_edit"]
 
 # The crate of tests, and the libraries that an example may name.
 TESTS = "compact_examples_tests"
-LIBRARIES = "compact_repr compact_str compact_ext compact_edit anyhow bytes indexmap serde serde_json smallvec"
+LIBRARIES = "compact_str compact_ext compact_edit anyhow bytes indexmap serde serde_json smallvec"
 
 # What every example has in scope. It may import other names itself, or these once more.
 IMPORTS = """

@@ -5,15 +5,12 @@
 //! `specs/Value.antt`.
 #![tactic(auto, using(compact_text::proofs::TextFacts::text_facts))]
 
-mod error;
-mod error_conversions;
 mod growth;
 mod heap;
 mod inline;
 mod repr;
 mod static_str;
 
-pub use error::ReserveError;
 pub use growth::{MAX_CAPACITY, Policy, Standard, standard_grows_by_half};
 pub use inline::INLINE_CAPACITY;
 pub use repr::Repr;

@@ -6,9 +6,10 @@ ghost use Rattle.compact_str.specs.Room.{IsPlacedBySize};
 ghost use Rattle.compact_str.specs.Output.{AppendsUtf8};
 
 use crate::decode::push_fitted;
+use crate::error::ReserveError;
 use crate::stack_buffer::{PaddedStr, StackBuffer};
 use crate::string::PolicyString;
-use compact_repr::{Policy, ReserveError};
+use compact_repr::Policy;
 use compact_text::str_parts::encode_char;
 use std::alloc::Global;
 use std::marker::Model;

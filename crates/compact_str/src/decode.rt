@@ -9,8 +9,9 @@ pub mod utf16;
 mod utf16_block;
 pub mod utf8;
 
+use crate::error::ReserveError;
 use crate::string::PolicyString;
-use compact_repr::{INLINE_CAPACITY, Policy, ReserveError};
+use compact_repr::{INLINE_CAPACITY, Policy};
 
 /// Replaces an invalid sequence.
 const REPLACEMENT: &str = "\u{FFFD}";

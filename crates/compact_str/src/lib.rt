@@ -8,16 +8,17 @@
 
 mod builder;
 mod decode;
+mod error;
+mod error_conversions;
 mod iter;
 mod laws;
 mod refused;
 mod stack_buffer;
 mod string;
 
-pub use compact_repr::{
-    INLINE_CAPACITY, MAX_CAPACITY, Policy, ReserveError, Standard, standard_grows_by_half,
-};
+pub use compact_repr::{INLINE_CAPACITY, MAX_CAPACITY, Policy, Standard, standard_grows_by_half};
 pub use decode::error::{FromUtf8Error, FromUtf16Error, Utf16Error};
+pub use error::ReserveError;
 pub use iter::{AsText, CompactStringExt, append_all};
 pub use laws::{
     append_undoes_split, byte_order_is_text_order, clone_is_equal, decoding_undoes_encoding,

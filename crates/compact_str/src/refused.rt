@@ -3,7 +3,7 @@ ghost use Rattle.std.specs.Prelude.{◌≡◌, alloc_error};
 ghost use Rattle.std.specs.IoError.{error_kind};
 ghost use Rattle.std.specs.declared.io.ErrorKind.TheVariants.{OutOfMemory};
 
-use compact_repr::ReserveError;
+use crate::error::ReserveError;
 use std::alloc::AllocError;
 use std::{fmt, io};
 

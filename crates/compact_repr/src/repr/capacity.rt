@@ -2,21 +2,20 @@
 ghost use Rattle.std.specs.Prelude.{length, ◌≡◌, ◌*◌, ◌<◌, ◌≤◌, ◌^◌, [], false, IfOk, OnOk, OnErr, IsTrue};
 ghost use Rattle.compact_repr.specs.Words.{size, text_of, placed_text, IsHeap, fits_in_place, inline_placement, heap_placement, INLINE_CAPACITY, IsPlacedAsNew, PlacedFor, AllocatesFor, owned, room, Shrinks};
 
-use crate::error::ReserveError;
 use crate::growth::{Policy, grown_capacity};
 use crate::heap::HeapBuffer;
 use crate::inline::{INLINE_CAPACITY, InlineBuffer};
 use crate::repr::{Buffer, Repr};
-use std::alloc::Global;
+use std::alloc::{AllocError, Global};
 
 impl<P: Policy> Repr<P> {
     /// Reserves room for `additional` more bytes.
     ///
     /// # Errors
     ///
-    /// Returns [`ReserveError`] if a new buffer cannot be allocated.
+    /// Returns `AllocError` if a new buffer cannot be allocated.
     #[inline]
-    pub fn reserve(&mut self, additional: usize) -> Result<(), ReserveError>
+    pub fn reserve(&mut self, additional: usize) -> Result<(), AllocError>
         ensures text { self.new.text ≡ self.old.text }
         ensures place { OnOk result (PlacedFor P.growth self.old self.new (room additional)) }
         ensures room { OnOk result (IsTrue (fits_in_place self.new additional)) }
@@ -45,10 +44,10 @@ impl<P: Policy> Repr<P> {
     ///
     /// # Errors
     ///
-    /// Returns [`ReserveError`] if that buffer cannot be allocated.
+    /// Returns `AllocError` if that buffer cannot be allocated.
     #[cold]
     #[inline(never)]
-    pub(super) fn make_room(&mut self, additional: usize) -> Result<(), ReserveError>
+    pub(super) fn make_room(&mut self, additional: usize) -> Result<(), AllocError>
         requires { fits_in_place self.old additional ≡ false }
         ensures text { self.new.text ≡ self.old.text }
         ensures place { OnOk result (PlacedFor P.growth self.old self.new (room additional)) }
@@ -59,14 +58,14 @@ impl<P: Policy> Repr<P> {
     {
         let len = self.len();
         let Some(needed) = len.checked_add(additional) else {
-            return Err(ReserveError);
+            return Err(AllocError);
         };
         if needed <= INLINE_CAPACITY {
             self.move_inline();
             return Ok(());
         }
         let Some(capacity) = grown_capacity::<P>(len, needed) else {
-            return Err(ReserveError);
+            return Err(AllocError);
         };
         self.move_to_heap(capacity)
     }
@@ -75,9 +74,9 @@ impl<P: Policy> Repr<P> {
     ///
     /// # Errors
     ///
-    /// Returns [`ReserveError`] if the value is static and its copy cannot be allocated.
+    /// Returns `AllocError` if the value is static and its copy cannot be allocated.
     #[inline(always)]
-    pub fn make_owned(&mut self) -> Result<(), ReserveError>
+    pub fn make_owned(&mut self) -> Result<(), AllocError>
         ensures text { self.new.text ≡ self.old.text }
         ensures place { OnOk result (PlacedFor P.growth self.old self.new owned) }
         ensures room { OnOk result (IsTrue (fits_in_place self.new 0)) }
@@ -97,7 +96,7 @@ impl<P: Policy> Repr<P> {
     /// `new` for `make_owned`. Not inlined, so that an owned value pays nothing for it.
     #[cold]
     #[inline(never)]
-    fn copy_static(alloc: Global, text: &'static str) -> Result<Self, ReserveError>
+    fn copy_static(alloc: Global, text: &'static str) -> Result<Self, AllocError>
         ensures text { IfOk result (λ r. r.text ≡ text_of text.now) }
         ensures place { IfOk result (IsPlacedAsNew P.growth) }
         ensures allocates { OnErr result (INLINE_CAPACITY < length text.now) }
@@ -139,9 +138,9 @@ impl<P: Policy> Repr<P> {
     ///
     /// # Errors
     ///
-    /// Returns [`ReserveError`] if that buffer cannot be allocated.
+    /// Returns `AllocError` if that buffer cannot be allocated.
     #[inline]
-    fn move_to_heap(&mut self, capacity: usize) -> Result<(), ReserveError>
+    fn move_to_heap(&mut self, capacity: usize) -> Result<(), AllocError>
         requires fits { size self.old.text ≤ capacity }
         requires grows { IsHeap self.old
             → self.old.placement.capacity ≤ capacity }

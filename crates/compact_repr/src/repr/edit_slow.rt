@@ -3,21 +3,21 @@ ghost use Rattle.std.specs.Prelude.{◌≡◌, ◌+◌, ◌-◌, ◌^◌, ◌<�
 ghost use Rattle.std.specs.Char.{len_utf8};
 ghost use Rattle.compact_repr.specs.Words.{size, text_of, IsBoundary, IsCharAt, substring, replaced_text, fits_in_place, PlacedFor, AllocatesFor, owned, room, room_to_append, room_to_replace};
 
-use crate::error::ReserveError;
 use crate::growth::Policy;
 use crate::repr::{Buffer, Repr};
 use compact_text::str_parts::{self, encode_char};
+use std::alloc::AllocError;
 
 impl<P: Policy> Repr<P> {
     /// Appends a `text` that does not fit in place: reserves first. Not inlined, so that an append that fits stays short.
     ///
     /// # Errors
     ///
-    /// Returns [`ReserveError`] if a new buffer cannot be allocated.
+    /// Returns `AllocError` if a new buffer cannot be allocated.
     #[cold]
     #[inline(never)]
     #[tactic(auto, using(crate::proofs::Placed::placed_facts))]
-    pub fn push_str_slow(&mut self, text: &str) -> Result<(), ReserveError>
+    pub fn push_str_slow(&mut self, text: &str) -> Result<(), AllocError>
         requires { fits_in_place self.old (length text.now) ≡ false }
         ensures text { OnOk result (self.new.text ≡ self.old.text ++ text_of text.now) }
         ensures place { OnOk result
@@ -41,11 +41,11 @@ impl<P: Policy> Repr<P> {
     ///
     /// # Errors
     ///
-    /// Returns [`ReserveError`] if a new buffer cannot be allocated.
+    /// Returns `AllocError` if a new buffer cannot be allocated.
     #[cold]
     #[inline(never)]
     #[tactic(auto, using(crate::proofs::Placed::placed_facts))]
-    pub fn insert_str_slow(&mut self, index: usize, text: &str) -> Result<(), ReserveError>
+    pub fn insert_str_slow(&mut self, index: usize, text: &str) -> Result<(), AllocError>
         requires full { fits_in_place self.old (length text.now) ≡ false }
         requires boundary { IsBoundary self.old.text index }
         ensures text { OnOk result
@@ -67,10 +67,10 @@ impl<P: Policy> Repr<P> {
     ///
     /// # Errors
     ///
-    /// Returns [`ReserveError`] if a new buffer cannot be allocated.
+    /// Returns `AllocError` if a new buffer cannot be allocated.
     #[cold]
     #[inline(never)]
-    pub fn insert_slow(&mut self, index: usize, character: char) -> Result<(), ReserveError>
+    pub fn insert_slow(&mut self, index: usize, character: char) -> Result<(), AllocError>
         requires full { fits_in_place self.old (len_utf8 character) ≡ false }
         requires boundary { IsBoundary self.old.text index }
         ensures text { OnOk result
@@ -88,11 +88,11 @@ impl<P: Policy> Repr<P> {
     ///
     /// # Errors
     ///
-    /// Returns [`ReserveError`] if a static value cannot be made owned.
+    /// Returns `AllocError` if a static value cannot be made owned.
     #[cold]
     #[inline(never)]
     #[tactic(auto, using(crate::proofs::Placed::placed_facts))]
-    pub fn remove_slow(&mut self, index: usize) -> Result<char, ReserveError>
+    pub fn remove_slow(&mut self, index: usize) -> Result<char, AllocError>
         requires boundary { IsBoundary self.old.text index }
         requires inside { index < size self.old.text }
         ensures character { IfOk result (λ c. IsCharAt self.old.text index c) }
@@ -114,11 +114,11 @@ impl<P: Policy> Repr<P> {
     ///
     /// # Errors
     ///
-    /// Returns [`ReserveError`] if a new buffer cannot be allocated.
+    /// Returns `AllocError` if a new buffer cannot be allocated.
     #[cold]
     #[inline(never)]
     #[tactic(auto, using(crate::proofs::Placed::placed_facts))]
-    pub fn replace_slow(&mut self, start: usize, end: usize, text: &str) -> Result<(), ReserveError>
+    pub fn replace_slow(&mut self, start: usize, end: usize, text: &str) -> Result<(), AllocError>
         requires full { fits_in_place self.old (length text.now - (end - start)) ≡ false }
         requires order { start ≤ end }
         requires first { IsBoundary self.old.text start }
@@ -148,9 +148,9 @@ impl<P: Policy> Repr<P> {
     ///
     /// # Errors
     ///
-    /// Returns [`ReserveError`] if they do not fit and a larger buffer cannot be allocated.
+    /// Returns `AllocError` if they do not fit and a larger buffer cannot be allocated.
     #[tactic(auto, using(crate::proofs::Placed::part_facts))]
-    pub fn push_within(&mut self, start: usize, end: usize) -> Result<(), ReserveError>
+    pub fn push_within(&mut self, start: usize, end: usize) -> Result<(), AllocError>
         requires order { start ≤ end }
         requires first { IsBoundary self.old.text start }
         requires last { IsBoundary self.old.text end }

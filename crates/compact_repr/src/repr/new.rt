@@ -4,13 +4,12 @@ ghost use Rattle.std.specs.String.{string_capacity};
 ghost use Rattle.compact_repr.specs.Words.{text_of, placed_text, inline_placement, heap_placement, const_new_placement, from_string_placement, INLINE_CAPACITY, IsPlacedAsNew, HasNewCapacity, CloneAllocates, clone};
 ghost use Rattle.compact_repr.specs.Packed.{IsPackedFor};
 
-use crate::error::ReserveError;
 use crate::growth::{MAX_CAPACITY, Policy, checked_capacity};
 use crate::heap::HeapBuffer;
 use crate::inline::{INLINE_CAPACITY, InlineBuffer};
 use crate::repr::{Buffer, Repr};
 use crate::static_str::StaticStr;
-use std::alloc::Global;
+use std::alloc::{AllocError, Global};
 
 impl<P: Policy> Repr<P> {
     /// Creates an empty inline text.
@@ -25,9 +24,9 @@ impl<P: Policy> Repr<P> {
     ///
     /// # Errors
     ///
-    /// Returns [`ReserveError`] if the heap buffer cannot be allocated.
+    /// Returns `AllocError` if the heap buffer cannot be allocated.
     #[inline(always)]
-    pub fn new(alloc: Global, text: &str) -> Result<Self, ReserveError>
+    pub fn new(alloc: Global, text: &str) -> Result<Self, AllocError>
         ensures text { IfOk result (λ r. r.text ≡ text_of text.now) }
         ensures place { IfOk result (IsPlacedAsNew P.growth) }
         ensures allocates { OnErr result (INLINE_CAPACITY < length text.now) }
@@ -43,7 +42,7 @@ impl<P: Policy> Repr<P> {
     /// Copies a `text` of more than 24 bytes. Not inlined, so that the short case can be. Returns only the buffer,
     /// which avoids a store-forwarding stall.
     #[inline(never)]
-    fn long_copy(alloc: Global, text: &str) -> Result<HeapBuffer, ReserveError>
+    fn long_copy(alloc: Global, text: &str) -> Result<HeapBuffer, AllocError>
         requires { INLINE_CAPACITY < length text.now }
         ensures text { IfOk result (λ h. h.text ≡ text_of text.now) }
         ensures place { IfOk result
@@ -52,7 +51,7 @@ impl<P: Policy> Repr<P> {
         // Not `checked_capacity`, whose `Option` would be tested once more.
         let capacity = text.len().max(P::MIN_HEAP);
         if capacity > MAX_CAPACITY {
-            return Err(ReserveError);
+            return Err(AllocError);
         }
         let heap = HeapBuffer::copy_of(alloc, text, capacity)?;
         Ok(heap)
@@ -84,8 +83,8 @@ impl<P: Policy> Repr<P> {
     ///
     /// # Errors
     ///
-    /// Returns [`ReserveError`] if the heap buffer cannot be allocated.
-    pub fn with_capacity(alloc: Global, capacity: usize) -> Result<Self, ReserveError>
+    /// Returns `AllocError` if the heap buffer cannot be allocated.
+    pub fn with_capacity(alloc: Global, capacity: usize) -> Result<Self, AllocError>
         ensures text { IfOk result (λ r. r.text ≡ []) }
         ensures place { IfOk result (HasNewCapacity P.growth capacity) }
         ensures allocates { OnErr result (INLINE_CAPACITY < capacity) }
@@ -94,7 +93,7 @@ impl<P: Policy> Repr<P> {
             return Ok(Self::empty(alloc));
         }
         let Some(capacity) = checked_capacity::<P>(capacity) else {
-            return Err(ReserveError);
+            return Err(AllocError);
         };
         let heap = HeapBuffer::with_capacity(alloc, capacity)?;
         Ok(Self::of(alloc, Buffer::Heap(heap)))
@@ -131,9 +130,9 @@ impl<P: Policy> Repr<P> {
     ///
     /// # Errors
     ///
-    /// Returns [`ReserveError`] if the new buffer cannot be allocated.
+    /// Returns `AllocError` if the new buffer cannot be allocated.
     #[inline(always)]
-    pub fn try_clone(&self) -> Result<Self, ReserveError>
+    pub fn try_clone(&self) -> Result<Self, AllocError>
         ensures ok { IfOk result (λ r. clone P.growth self.now ≡ Some r) }
         ensures err { OnErr result (CloneAllocates self.now) }
     {

@@ -7,10 +7,11 @@ ghost use Rattle.compact_str.specs.Room.{IsPlacedBySize};
 ghost use Rattle.compact_str.specs.Decoding.{IsSuffixOf, IsUtf8BufRefusal};
 
 use crate::decode::error::FromUtf8Error;
+use crate::error::ReserveError;
 use crate::string::{CompactString, PolicyString};
 use bytes::Buf;
 use compact_codec::utf8;
-use compact_repr::{INLINE_CAPACITY, ReserveError, Standard};
+use compact_repr::{INLINE_CAPACITY, Standard};
 use std::alloc::Global;
 
 impl PolicyString<Standard> {

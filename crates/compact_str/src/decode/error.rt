@@ -1,7 +1,7 @@
 //! Errors of the decoders.
 ghost use Rattle.std.specs.Prelude.{◌≡◌};
 
-use compact_repr::ReserveError;
+use crate::error::ReserveError;
 use thiserror::Error;
 
 /// The error of `from_utf8` and `from_utf8_buf`.

@@ -10,10 +10,11 @@ ghost use Rattle.compact_str.specs.Decoding.{MakesText, IsUtf16Refusal, IsUtf16B
 use crate::decode::error::{FromUtf16Error, Utf16Error};
 use crate::decode::utf16_block::{ROW, fill, utf8_room};
 use crate::decode::{REPLACEMENT, push_fitted};
+use crate::error::ReserveError;
 use crate::string::{CompactString, PolicyString};
 use compact_codec::utf16::{self, Units};
 use compact_codec::utf16_bytes::{self, ByteOrder, HighFirst, LowFirst};
-use compact_repr::{ReserveError, Standard};
+use compact_repr::Standard;
 use std::alloc::Global;
 
 impl PolicyString<Standard> {

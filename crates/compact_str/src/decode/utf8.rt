@@ -10,9 +10,10 @@ ghost use Rattle.compact_str.specs.Conversions.{CopiesText};
 
 use crate::decode::error::FromUtf8Error;
 use crate::decode::{REPLACEMENT, push_fitted};
+use crate::error::ReserveError;
 use crate::string::{CompactString, PolicyString};
 use compact_codec::utf8::{self, Utf8Error};
-use compact_repr::{Policy, ReserveError, Standard};
+use compact_repr::{Policy, Standard};
 use std::alloc::Global;
 
 impl PolicyString<Standard> {

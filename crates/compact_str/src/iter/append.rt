@@ -5,8 +5,8 @@ ghost use Rattle.std.specs.String.{string_capacity};
 ghost use Rattle.compact_str.specs.Words.{size, text_of};
 ghost use Rattle.compact_str.specs.Collect.{ForItems, ForDrained, ForAllItems, StopsWithout, string_text};
 
+use crate::error::ReserveError;
 use crate::iter::{AsText, Items};
-use compact_repr::ReserveError;
 
 /// Appends each item of `items` to `line`. Never shrinks the capacity.
 ///

@@ -6,10 +6,11 @@ ghost use Rattle.compact_str.specs.Room.{IsPlacedBySize};
 ghost use Rattle.compact_str.specs.Collect.{ForItems, ForAllItems, ForDrained, RunPassesInline, Collects};
 
 use crate::builder::{Builder, COLLECTED};
+use crate::error::ReserveError;
 use crate::iter::piece::Piece;
 use crate::iter::{AsText, Items};
 use crate::string::PolicyString;
-use compact_repr::{Policy, ReserveError};
+use compact_repr::Policy;
 use std::alloc::{AllocError, Global};
 
 /// Concatenates the pieces.

@@ -4,10 +4,11 @@ ghost use Rattle.std.specs.Iterator.{IsFiniteIterable};
 ghost use Rattle.compact_str.specs.Words.{size, IsBoundary, text_before, infallible_capacity, HasRoomFor};
 ghost use Rattle.compact_str.specs.Collect.{ForItems, ForAllItems, Appends, AppendsAll, AppendsUpToRefused, Extends, char_text};
 
+use crate::error::ReserveError;
 use crate::iter::piece::Piece;
 use crate::iter::{AsText, Items};
 use crate::string::PolicyString;
-use compact_repr::{Policy, ReserveError};
+use compact_repr::Policy;
 use std::alloc::AllocError;
 
 /// Appends each piece, and stops at the first error.

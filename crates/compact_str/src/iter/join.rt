@@ -6,10 +6,11 @@ ghost use Rattle.compact_str.specs.Room.{IsPlacedBySize};
 ghost use Rattle.compact_str.specs.Collect.{PassesInline, Joins, join};
 
 use crate::builder::{Builder, COLLECTED};
+use crate::error::ReserveError;
 use crate::iter::AsText;
 use crate::stack_buffer::PaddedStr;
 use crate::string::{CompactString, PolicyString};
-use compact_repr::{Policy, ReserveError};
+use compact_repr::Policy;
 use std::alloc::Global;
 
 /// Concatenating and joining, for iterators of texts.

@@ -4,9 +4,10 @@ ghost use Rattle.compact_str.specs.Words.{INLINE_CAPACITY, size, PlacedFor, Allo
 ghost use Rattle.compact_str.specs.Collect.{char_text};
 
 use crate::builder::{Builder, COLLECTED};
+use crate::error::ReserveError;
 use crate::iter::AsText;
 use crate::string::PolicyString;
-use compact_repr::{Policy, ReserveError};
+use compact_repr::Policy;
 
 /// A text or a character, which is appended as a whole.
 pub trait Piece: Drop {

@@ -2,8 +2,9 @@
 ghost use Rattle.std.specs.Prelude.{◌≡◌, ℕ, ◌<◌, ◌≤◌, IfOk, OnOk, OnErr, IsOk};
 ghost use Rattle.compact_str.specs.Words.{size, ascii_lowercase, ascii_uppercase, IsBoundary, IsOwned, INLINE_CAPACITY, IsPlacedAsNew, PlacedFor, AllocatesFor, owned};
 
+use crate::error::ReserveError;
 use crate::string::PolicyString;
-use compact_repr::{Policy, ReserveError};
+use compact_repr::Policy;
 use compact_text::slices::Case;
 
 impl<P: Policy> PolicyString<P> {

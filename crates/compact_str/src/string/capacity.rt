@@ -2,8 +2,9 @@
 ghost use Rattle.std.specs.Prelude.{◌≡◌, OnOk, OnErr, IsOk};
 ghost use Rattle.compact_str.specs.Words.{Shrinks, PlacedFor, AllocatesFor, room, HasRoomFor};
 
+use crate::error::ReserveError;
 use crate::string::PolicyString;
-use compact_repr::{Policy, ReserveError};
+use compact_repr::Policy;
 
 impl<P: Policy> PolicyString<P> {
     /// Reserves room for `additional` more bytes. Does nothing if an owned string has it.
@@ -34,7 +35,7 @@ impl<P: Policy> PolicyString<P> {
         ensures allocates { OnErr result (AllocatesFor self.old (room additional)) }
         ensures err { OnErr result (self.new ≡ self.old) }
     {
-        self.repr.reserve(additional)
+        Ok(self.repr.reserve(additional)?)
     }
 
     /// Same as `reserve`.

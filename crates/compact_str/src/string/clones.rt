@@ -3,8 +3,9 @@ ghost use Rattle.std.specs.Prelude.{◌≡◌, ◌≤◌, Some, OnOk, OnErr, IsO
 ghost use Rattle.compact_str.specs.Words.{size, IsHeap, clone_allocates, clone, infallible_capacity};
 ghost use Rattle.compact_str.specs.Edits.{IsPlacedAsCloned, CloneFromAllocates};
 
+use crate::error::ReserveError;
 use crate::string::PolicyString;
-use compact_repr::{Policy, ReserveError};
+use compact_repr::Policy;
 use std::alloc::AllocError;
 
 impl<P: Policy> Clone for PolicyString<P> {

@@ -10,9 +10,10 @@ ghost use Rattle.compact_repr.specs.Packed.{IsPackedFor};
 ghost use Rattle.compact_str.specs.Conversions.{CopiesText, string_buffer_placement, ConvertsCow, IsFreeCow};
 ghost use Rattle.compact_str.specs.Decoding.{IsErrorOf};
 
+use crate::error::ReserveError;
 use crate::refused::Refused;
 use crate::string::PolicyString;
-use compact_repr::{Policy, Repr, ReserveError};
+use compact_repr::{Policy, Repr};
 use std::alloc::Global;
 use std::borrow::CowStr;
 use std::boxed::BoxedStr;

@@ -5,8 +5,9 @@ ghost use Rattle.std.specs.Borrow.{sem, RestsIfErr};
 ghost use Rattle.compact_str.specs.Words.{size, utf8, text_of, IsOwned, INLINE_CAPACITY, PlacedFor, AllocatesFor, owned};
 ghost use Rattle.compact_str.specs.Ranges.{IsRange, AreRangeEnds, span, part_in, replaced_in};
 
+use crate::error::ReserveError;
 use crate::string::PolicyString;
-use compact_repr::{Policy, ReserveError};
+use compact_repr::Policy;
 use compact_text::str_parts::{split_first, split_last, substring};
 use std::fmt;
 use std::fmt::{Debug, Display, Formatter, Write};

@@ -6,8 +6,9 @@ ghost use Rattle.compact_str.specs.Words.{size, text_of, utf8, text_before, text
 ghost use Rattle.compact_str.specs.Edits.{IsPlacedAsTail, SplitAllocates};
 ghost use Rattle.compact_str.specs.Ranges.{IsRange, span, range_start, range_end, part_in, len_in, replaced_in};
 
+use crate::error::ReserveError;
 use crate::string::PolicyString;
-use compact_repr::{Policy, Repr, ReserveError};
+use compact_repr::{Policy, Repr};
 use compact_text::str_parts::is_boundary;
 use std::ops::Bound;
 
@@ -103,7 +104,7 @@ impl<P: Policy> PolicyString<P> {
         if self.repr.try_replace_range(index, index, text) {
             return Ok(());
         }
-        self.repr.insert_str_slow(index, text)
+        Ok(self.repr.insert_str_slow(index, text)?)
     }
 
     /// Inserts a character at byte `index`, like `insert_str`. The next position is `index + character.len_utf8()`.
@@ -145,7 +146,7 @@ impl<P: Policy> PolicyString<P> {
         if self.repr.try_insert(index, character) {
             return Ok(());
         }
-        self.repr.insert_slow(index, character)
+        Ok(self.repr.insert_slow(index, character)?)
     }
 
     /// Removes and returns the character at byte `index`, a character boundary below the length. A static string
@@ -184,7 +185,7 @@ impl<P: Policy> PolicyString<P> {
         if let Some(character) = self.repr.try_remove(index) {
             return Ok(character);
         }
-        self.repr.remove_slow(index)
+        Ok(self.repr.remove_slow(index)?)
     }
 
     /// Replaces a range of bytes, which `check_range` must accept. A static string becomes owned. Reserves the
@@ -234,7 +235,7 @@ impl<P: Policy> PolicyString<P> {
         if self.repr.try_replace_range(first, last, text) {
             return Ok(());
         }
-        self.repr.replace_slow(first, last, text)
+        Ok(self.repr.replace_slow(first, last, text)?)
     }
 
     /// Splits the string at byte `index`, which must be a character boundary. Keeps `[0, index)` in its place and

@@ -8,9 +8,10 @@ ghost use Rattle.std.specs.Cow.{cow_str_bytes, IsBorrowedStr};
 ghost use Rattle.compact_str.specs.Words.{size, utf8, text_of, IsInline, IsOwned, IsStatic, IsHeap, AllocatesFor, owned, INLINE_CAPACITY};
 ghost use Rattle.compact_str.specs.Conversions.{ConvertsTo};
 
+use crate::error::ReserveError;
 use crate::refused::Refused;
 use crate::string::PolicyString;
-use compact_repr::{Policy, Repr, ReserveError};
+use compact_repr::{Policy, Repr};
 use smallvec::SmallVec;
 use std::borrow::CowStr;
 use std::boxed::BoxedStr;

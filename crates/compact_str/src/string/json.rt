@@ -5,8 +5,9 @@ ghost use Rattle.serde_json.specs.Data.{string as json_string};
 ghost use Rattle.compact_str.specs.Words.{utf8};
 ghost use Rattle.compact_str.specs.Serde.{ReadsJson};
 
+use crate::error::ReserveError;
 use crate::string::PolicyString;
-use compact_repr::{Policy, ReserveError};
+use compact_repr::Policy;
 use serde_json::Value;
 use std::alloc::Global;
 use thiserror::Error;

@@ -4,9 +4,10 @@ ghost use Rattle.std.specs.Char.{len_utf8, encode_utf8};
 ghost use Rattle.compact_str.specs.Words.{size, text_of, utf8, IsBoundary, text_before, KeepsPlace, PlacedFor, AllocatesFor, room_to_append, HasRoomFor, infallible_capacity};
 ghost use Rattle.compact_str.specs.Output.{Writes};
 
+use crate::error::ReserveError;
 use crate::refused::Refused;
 use crate::string::PolicyString;
-use compact_repr::{Policy, ReserveError};
+use compact_repr::Policy;
 use compact_text::str_parts::encode_char;
 use std::fmt;
 
@@ -44,7 +45,7 @@ impl<P: Policy> PolicyString<P> {
         if self.repr.try_push_str(text) {
             return Ok(());
         }
-        self.repr.push_str_slow(text)
+        Ok(self.repr.push_str_slow(text)?)
     }
 
     /// Appends a character, 1 to 4 bytes, like `push_str`.

@@ -3,8 +3,9 @@ ghost use Rattle.std.specs.Prelude.{◌≡◌, ◌<◌, ◌≤◌, ◌*◌, [], 
 ghost use Rattle.compact_str.specs.Words.{INLINE_CAPACITY, size, text_of, placed_text, with_capacity_placement};
 ghost use Rattle.compact_str.specs.Edits.{repeated_text, IsPlacedAsRepeated, RepeatAllocates};
 
+use crate::error::ReserveError;
 use crate::string::PolicyString;
-use compact_repr::{Policy, ReserveError};
+use compact_repr::Policy;
 
 impl<P: Policy> PolicyString<P> {
     /// Returns the text repeated `count` times, in one buffer. `repeat(1)` is a clone; an empty result is inline.

@@ -4,8 +4,9 @@ ghost use Rattle.compact_str.specs.Words.{size, IsOwned, INLINE_CAPACITY, Placed
 ghost use Rattle.compact_repr.specs.Retain.{RetainsCharsTo};
 ghost use Rattle.compact_str.specs.RetainRules.{RetainsChars, AgreesWith};
 
+use crate::error::ReserveError;
 use crate::string::PolicyString;
-use compact_repr::{Policy, ReserveError};
+use compact_repr::Policy;
 
 impl<P: Policy> PolicyString<P> {
     /// Retains only the characters for which `keep`, called once for each in order, returns `true`. A static string

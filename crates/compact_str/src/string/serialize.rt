@@ -4,8 +4,9 @@ ghost use Rattle.serde.specs.Event.{Logs, text as text_event};
 ghost use Rattle.compact_str.specs.Words.{utf8};
 ghost use Rattle.compact_str.specs.Serde.{IsGivenText};
 
+use crate::error::ReserveError;
 use crate::string::PolicyString;
-use compact_repr::{Policy, ReserveError};
+use compact_repr::Policy;
 use serde::{
     Described, Deserialize, DeserializeOwned, Deserializer, Format, Serialize, Serializer,
 };

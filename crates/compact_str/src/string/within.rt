@@ -5,9 +5,10 @@ ghost use Rattle.std.specs.Range.Bound.{bound_map};
 ghost use Rattle.compact_str.specs.Words.{utf8, size, text_of, IsOwned, INLINE_CAPACITY, PlacedFor, AllocatesFor, owned, room_to_append, room_to_replace, HasRoomFor, infallible_capacity};
 ghost use Rattle.compact_str.specs.Ranges.{IsRange, span_of, part_in, len_in, replaced_in};
 
+use crate::error::ReserveError;
 use crate::string::PolicyString;
 use crate::string::drain::Drain;
-use compact_repr::{Policy, ReserveError};
+use compact_repr::Policy;
 use std::ops::{Bound, RangeBounds};
 
 impl<P: Policy> PolicyString<P> {
@@ -167,7 +168,7 @@ impl<P: Policy> PolicyString<P> {
         let Some((first, last)) = self.byte_range(start, end) else {
             unreachable!();
         };
-        self.repr.push_within(first, last)
+        Ok(self.repr.push_within(first, last)?)
     }
 }
 

@@ -5,8 +5,9 @@ ghost use Rattle.compact_str.specs.Words.{text_of, utf8, PlacedFor, room_to_appe
 ghost use Rattle.compact_str.specs.Output.{PushesOutput};
 
 use crate::builder::{Builder, SHOWN};
+use crate::error::ReserveError;
 use crate::string::PolicyString;
-use compact_repr::{Policy, ReserveError};
+use compact_repr::Policy;
 use std::fmt;
 use std::fmt::{Display, Write};
 
