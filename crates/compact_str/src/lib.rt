@@ -16,9 +16,7 @@ mod refused;
 mod stack_buffer;
 mod string;
 
-pub use compact_repr::{
-    INLINE_CAPACITY, MAX_CAPACITY, Policy, Standard, standard_grows_by_half,
-};
+pub use compact_repr::{INLINE_CAPACITY, MAX_CAPACITY, Policy, Standard, standard_grows_by_half};
 pub use decode::error::{FromUtf8Error, FromUtf16Error, Utf16Error};
 pub use error::ReserveError;
 pub use iter::{AsText, CompactStringExt, append_all};
