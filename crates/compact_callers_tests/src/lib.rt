@@ -20,11 +20,15 @@ mod key;
 #[cfg(test)]
 mod lender;
 #[cfg(test)]
+mod lines_read;
+#[cfg(test)]
 mod lookup;
 #[cfg(test)]
 mod made;
 #[cfg(test)]
 mod name;
+#[cfg(test)]
+mod one_error;
 #[cfg(test)]
 mod packed;
 #[cfg(test)]

@@ -8,17 +8,23 @@ pub returns-in_err-appended-clause-cause : goal.returns-in_err-appended-clause-c
 returns-in_err-appended-clause-cause g c =
     let filled = rw c.in-Ok.is at c.fill_buf.follows.holds-at-none in
     let shown = c.in-Ok.shown.now in
-    let taken = line-shown _ _ _ _ shown c.in-Some.len c.in-Some.ensures c.in-Ok.ensures.front c.in-Ok.ensures.end filled.0 filled.1 c.consume.ensures.bytes in
+    let look = c.in-Ok.ensures in
+    let len = c.in-Some.len in
+    let taken =
+    line-shown _ _ _ _ shown len c.in-Some.ensures look.front look.end filled.0 filled.1 c.consume.ensures.bytes in
     let (error, is, same) = err_from_is_err_and c.from_residual.result c.from_residual.ensures.1 in
-    rw (is, same) (fails-after _ _ c.args.line.now (take c.in-Some.len shown) _ taken c.in_err-appended.ensures.cause)
+    rw (is, same) (fails-after _ _ c.args.line.now (take len shown) _ taken c.in_err-appended.ensures.cause)
 
 pub returns-clause-line : goal.returns-clause-line
 returns-clause-line g c =
     let filled = rw c.in-Ok.is at c.fill_buf.follows.holds-at-none in
     let shown = c.in-Ok.shown.now in
+    let look = c.in-Ok.ensures in
+    let len = c.in-Some.len in
     record {
-      line = take c.in-Some.len shown;
-      len = length-take-le c.in-Some.len shown c.in-Some.ensures.within;
-      taken = line-shown _ _ _ _ shown c.in-Some.len c.in-Some.ensures c.in-Ok.ensures.front c.in-Ok.ensures.end filled.0 filled.1 c.consume.ensures.bytes;
+      line = take len shown;
+      len = length-take-le len shown c.in-Some.ensures.within;
+      taken =
+          line-shown _ _ _ _ shown len c.in-Some.ensures look.front look.end filled.0 filled.1 c.consume.ensures.bytes;
       appended = c.in_ok-appended.ensures.ok;
     }
