@@ -132,7 +132,7 @@ impl<P: Policy, const N: usize> Builder<P, N> {
         ensures ok { OnOk result (self.new ≡ self.old ++ character ∷ []) }
         ensures err { OnErr result (INLINE_CAPACITY < size self.old + len_utf8 character) }
     {
-        if character.is_ascii() && self.block.try_push_ascii(character as u8) {
+        if self.block.try_push(character) {
             return Ok(());
         }
         let mut bytes = [0; 4];

@@ -1,5 +1,5 @@
 //! Text on the stack, which is collected before it is appended to a value.
-ghost use Rattle.std.specs.Prelude.{◌≡◌, ◌+◌, ◌≤◌, ◌<◌, [], ◌∷◌, ◌++◌, length, false, IfSome, IsSome, IsTrue, ◌↔◌};
+ghost use Rattle.std.specs.Prelude.{◌≡◌, ◌+◌, ◌≤◌, [], ◌∷◌, ◌++◌, length, false, IfSome, IsSome, IsTrue, ◌↔◌};
 ghost use Rattle.compact_str.specs.Words.{size, utf8, text_of};
 
 use compact_text::slices;
@@ -127,19 +127,16 @@ impl<const N: usize> StackBuffer<N> {
         true
     }
 
-    /// Appends an ASCII character, or returns `false` if the buffer is full.
+    /// Appends `character` if it is ASCII and fits, or if four bytes are free; otherwise returns `false`.
     #[inline]
-    pub fn try_push_ascii(&mut self, byte: u8) -> bool
-        requires ascii { byte < 128 }
-        ensures fits { IsTrue result ↔ (size self.old + 1 ≤ N) }
-        ensures pushed { IsTrue result → self.new ≡ self.old ++ byte ∷ [] }
+    pub fn try_push(&mut self, character: char) -> bool
+        ensures pushed { IsTrue result → self.new ≡ self.old ++ character ∷ [] }
         ensures full { result ≡ false → self.new ≡ self.old }
     {
-        if self.len >= N {
+        let Some(end) = slices::try_write_char(&mut self.bytes, self.len, character) else {
             return false;
-        }
-        self.bytes[self.len] = byte;
-        self.len += 1;
+        };
+        self.len = end;
         true
     }
 
