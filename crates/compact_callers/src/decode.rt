@@ -16,7 +16,7 @@ pub fn invalid_rows(alloc: Global, rows: &[&[u8]]) -> usize
 }
 
 /// Returns `true` if the bytes are not valid UTF-8.
-#[tactic(auto, using(compact_str::proofs::ForCallers::caller_facts))]
+#[tactic(auto, using(compact_str::proofs::ForCallers::decoding_facts))]
 fn is_invalid(alloc: Global, bytes: &[u8]) -> bool
     ensures { result ≡ not (is_utf8 bytes.now) }
 {
@@ -27,7 +27,7 @@ fn is_invalid(alloc: Global, bytes: &[u8]) -> bool
 }
 
 /// Decodes a name, replacing invalid sequences, and returns whether there were any.
-#[tactic(auto, using(compact_str::proofs::ForCallers::caller_facts))]
+#[tactic(auto, using(compact_str::proofs::ForCallers::caller_facts, compact_str::proofs::ForCallers::decoding_facts))]
 pub fn decoded_name(alloc: Global, bytes: &[u8]) -> Result<(CompactString, bool), ReserveError>
     ensures text { IfOk result (λ answer. answer.0.text ≡ utf8_lossy_text bytes.now) }
     ensures invalid { IfOk result (λ answer. IsTrue answer.1 ↔ ¬ (IsUtf8 bytes.now)) }
@@ -44,7 +44,7 @@ pub fn decoded_name(alloc: Global, bytes: &[u8]) -> Result<(CompactString, bool)
 }
 
 /// Copies a text by way of its bytes; never fails as invalid.
-#[tactic(auto, using(compact_str::proofs::ForCallers::caller_facts))]
+#[tactic(auto, using(compact_str::proofs::ForCallers::caller_facts, compact_str::proofs::ForCallers::decoding_facts))]
 pub fn through_bytes(alloc: Global, value: &CompactString) -> Result<CompactString, ReserveError>
     ensures text { IfOk result (λ copy. copy.text ≡ value.now.text) }
     ensures succeeds { size value.now.text ≤ 24 → IsOk result }

@@ -70,7 +70,7 @@ pub fn shorten(line: &mut CompactString, len: usize)
 }
 
 /// Replaces the bytes from one boundary to another.
-#[tactic(auto, using(compact_str::proofs::ForCallers::caller_facts))]
+#[tactic(auto, using(compact_str::proofs::ForCallers::byte_facts))]
 pub fn overwrite(
     line: &mut CompactString,
     start: usize,
@@ -95,7 +95,7 @@ pub fn with_semicolons(alloc: Global, text: &str) -> Result<CompactString, Alloc
 }
 
 /// Formats a port.
-#[tactic(auto, using(compact_str::proofs::ForCallers::caller_facts))]
+#[tactic(auto, using(compact_str::proofs::ForCallers::byte_facts))]
 pub fn port_text(alloc: Global, port: u16) -> Result<CompactString, ToCompactStringError>
     ensures { IfOk result (λ v. utf8 v.text ≡ decimal port) }
 {
@@ -103,7 +103,7 @@ pub fn port_text(alloc: Global, port: u16) -> Result<CompactString, ToCompactStr
 }
 
 /// Formats a port after a colon.
-#[tactic(auto, using(compact_str::proofs::ForCallers::caller_facts))]
+#[tactic(auto, using(compact_str::proofs::ForCallers::byte_facts))]
 pub fn port_part(alloc: Global, port: u16) -> Result<CompactString, ToCompactStringError>
     ensures { IfOk result (λ v. utf8 v.text ≡ codes ":" ++ decimal port) }
 {

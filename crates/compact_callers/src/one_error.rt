@@ -1,5 +1,5 @@
 //! Functions that format, append and intern under one error type, by `?` alone.
-#![tactic(auto, using(compact_str::proofs::ForCallers::caller_facts))]
+#![tactic(auto, using(compact_str::proofs::ForCallers::caller_facts, compact_ext::proofs::ForCallers::shown_facts))]
 
 ghost use Rattle.std.specs.Prelude.{◌≡◌, ◌++◌, ◌∷◌, [], ℕ, Some, OnOk, codes, decimal, slice_get};
 ghost use Rattle.compact_str.specs.Text.{text_of};

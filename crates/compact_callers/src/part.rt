@@ -1,5 +1,5 @@
 //! Splitting a text and formatting one. Each contract names the parts.
-#![tactic(auto, using(compact_str::proofs::ForCallers::caller_facts))]
+#![tactic(auto, using(compact_str::proofs::ForCallers::caller_facts, compact_str::proofs::PartFacts::part_facts))]
 
 ghost use Rattle.std.specs.Prelude.{◌≡◌, ◌≢◌, ◌↔◌, ◌++◌, IfSome, OnOk, OnErr, IsTrue, Some, true, false, codes, decimal, slice_get};
 ghost use Rattle.std.specs.Str.{trim};
@@ -9,6 +9,7 @@ ghost use Rattle.compact_str.specs.Ranges.{IsBetweenWhitespace};
 use compact_str::{CompactString, ReserveError};
 
 /// Appends an address. Its contract joins from the right, as a formatter does.
+#[tactic(auto, using(compact_str::proofs::ForCallers::caller_facts))]
 pub fn append_address(
     line: &mut CompactString,
     scheme: &str,
@@ -24,6 +25,7 @@ pub fn append_address(
 }
 
 /// Appends a request. The contract is in bytes, so no proof reads it as characters.
+#[tactic(auto, using(compact_str::proofs::PartFacts::part_facts))]
 pub fn append_request(
     line: &mut CompactString,
     method: &str,
@@ -38,6 +40,7 @@ pub fn append_request(
 }
 
 /// Appends a line of a list, or leaves the text unchanged.
+#[tactic(auto, using(compact_str::proofs::PartFacts::part_facts))]
 pub fn append_line(line: &mut CompactString, name: &str, count: u64) -> Result<(), ReserveError>
     ensures bytes { OnOk result (utf8 line.new.text
         ≡ utf8 line.old.text ++ (name.now ++ (codes ": " ++ (decimal count ++ codes "\n")))) }

@@ -29,7 +29,7 @@ pub fn cover(line: &mut CompactString, start: usize, end: usize) -> Result<(), R
 }
 
 /// Appends the part of a line from `start` once more.
-#[tactic(auto, using(compact_str::proofs::ForCallers::caller_facts))]
+#[tactic(auto, using(compact_str::proofs::RangeFacts::range_facts))]
 pub fn repeat_from(line: &mut CompactString, start: usize) -> Result<(), ReserveError>
     requires { IsBoundary line.old.text start }
     ensures text { OnOk result (line.new.text

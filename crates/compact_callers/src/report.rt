@@ -1,5 +1,5 @@
 //! The writer of a report. The invariant of the loop in `report` is in a proof file.
-#![tactic(auto, using(compact_str::proofs::ForCallers::caller_facts))]
+#![tactic(auto, using(compact_str::proofs::ForCallers::caller_facts, compact_ext::proofs::ForCallers::shown_facts))]
 
 ghost use Rattle.std.specs.Prelude.{◌≡◌, ◌++◌, IfOk, OnOk};
 ghost use Rattle.compact_callers.specs.Reports.{row_line, lines_of, report_of};

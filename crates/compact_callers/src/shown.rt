@@ -1,5 +1,5 @@
 //! Numbers and formats as texts.
-#![tactic(auto, using(compact_str::proofs::ForCallers::caller_facts))]
+#![tactic(auto, using(compact_str::proofs::ForCallers::caller_facts, compact_ext::proofs::ForCallers::shown_facts))]
 
 ghost use Rattle.std.specs.Prelude.{◌≡◌, ◌++◌, ◌∷◌, IfOk, codes, decimal};
 ghost use Rattle.std.specs.Fmt.{signed_decimal};
@@ -22,6 +22,7 @@ pub fn key_of(alloc: Global, number: u64) -> CompactString
 }
 
 /// Formats a temperature with its unit.
+#[tactic(auto, using(compact_str::proofs::PartFacts::literal_facts, compact_ext::proofs::ForCallers::shown_facts))]
 pub fn temperature(alloc: Global, degrees: i32) -> Result<CompactString, ToCompactStringError>
     ensures { IfOk result (λ v. v.text ≡ signed_decimal degrees ++ codes " °C") }
 {

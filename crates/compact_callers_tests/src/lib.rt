@@ -2,17 +2,25 @@
 #![tactic(auto)]
 
 #[cfg(test)]
+mod adapted;
+#[cfg(test)]
 mod asserts;
 #[cfg(test)]
 mod bytes;
 #[cfg(test)]
 mod count;
 #[cfg(test)]
+mod cuts;
+#[cfg(test)]
 mod deref;
 #[cfg(test)]
 mod error;
 #[cfg(test)]
 mod field;
+#[cfg(test)]
+mod fields;
+#[cfg(test)]
+mod hole;
 #[cfg(test)]
 mod iterator;
 #[cfg(test)]
@@ -27,6 +35,8 @@ mod lookup;
 mod made;
 #[cfg(test)]
 mod name;
+#[cfg(test)]
+mod numbered;
 #[cfg(test)]
 mod one_error;
 #[cfg(test)]
@@ -45,6 +55,8 @@ mod read;
 mod removal;
 #[cfg(test)]
 mod run;
+#[cfg(test)]
+mod sorted;
 #[cfg(test)]
 mod text;
 #[cfg(test)]

@@ -7,3 +7,4 @@ pub mod KeyTexts
 pub mod TakenTexts
 pub mod NameFacts
 pub mod NameExamples
+pub mod ForCallers

@@ -2,6 +2,7 @@ pub mod NumberTexts
 pub mod Digits
 pub mod ShownTexts
 pub mod Collecting
+pub mod ForCallers
 pub mod Examples
 pub mod WireForms
 pub mod PackedRooms

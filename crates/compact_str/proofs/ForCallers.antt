@@ -1,6 +1,6 @@
--- For crates that call this one: what the clauses of several calls imply together. `caller_facts` is the set for all that
--- is no loop, named at the crate's root as `#![tactic(auto, using(compact_str::proofs::ForCallers::caller_facts))]` or above
--- one function. `character_loop_facts` is for a loop over the characters of a text.
+-- For crates that call this one: what the clauses of several calls imply together. `caller_facts` is named at the crate's root,
+-- as `#![tactic(auto, using(compact_str::proofs::ForCallers::caller_facts))]`, or above one function, and the others beside it
+-- or alone.
 use Rattle.std.proofs.Common.{◌≡◌, ℕ, Bool, IsTrue, false, nat_eq, ◌+◌, ◌^◌, ◌<◌, List, [], ◌∷◌, ◌++◌, drop, ap, sym, subst, ◌∙◌, append_assoc, append-nil}
 pub use Rattle.std.proofs.lemmas.Str.{chars_from_encodes}
 use Rattle.std.proofs.lemmas.Str.{chars-nil, chars-append, chars_past_char, encodes-chars, encodes-IsAscii, IsUtf8-string_bytes, IsUtf8-append, IsUtf8-drop, IsUtf8-from_is_utf8, is_utf8-from_IsUtf8}
@@ -26,11 +26,9 @@ pub use Rattle.compact_repr.proofs.ByteOrder.{utf8-same}
 pub use Rattle.compact_str.proofs.Rooms.{appended-bytes, pushed-bytes}
 pub use Rattle.compact_str.proofs.Positions.{text_before-text_before, boundary-seam, before_bytes, after_bytes, replaced-bytes, cut-bytes}
 pub use Rattle.compact_str.proofs.Collecting.{join-map}
-pub use Rattle.compact_str.proofs.KeyFacts.{texts-from_same, same-from_texts, texts-from_equal, increasing-from_sorted}
-pub use Rattle.compact_str.proofs.Literals.{written-text, text_of-one, text_of-two, text_of-three, text_of-four, text_of-decimal, text_of-decimal_append, text_of-signed, text_of-signed_append, text_of-char}
+pub use Rattle.compact_str.proofs.KeyFacts.{texts-from_same, same-from_texts, texts-from_equal}
+pub use Rattle.compact_str.proofs.Literals.{written-text, text_of-one, text_of-two, text_of-three, text_of-four, text_of-decimal, text_of-decimal_append, text_of-char}
 use Rattle.compact_str.proofs.Encoded.{encoded_facts}
-use Rattle.compact_str.proofs.PartFacts.{part_facts}
-use Rattle.compact_str.proofs.RangeFacts.{range_facts}
 
 -- the text from the place that `find` returned is the character and the rest. `as_str` says that boundaries are before
 -- and after it
@@ -67,20 +65,8 @@ utf8-signed z h = encodes-IsAscii (signed_decimal z) (IsAscii-signed z h)
 pub invalid-is_utf8 : (bytes : List ℕ) → ¬ (IsUtf8 bytes) → is_utf8 bytes ≡ false
 invalid-is_utf8 bytes none = false_from_ne_true (is_utf8 bytes) (λ t. none (IsUtf8-from_is_utf8 bytes t))
 
--- clauses in bytes, as `utf8 v.text ≡ string_bytes s`: the bytes after a call whose clauses are in characters, and that
--- equal bytes are equal texts
-pub ruleset byte_facts = (made-bytes, appended-bytes, pushed-bytes, utf8-decimal, utf8-signed, IsUtf8-string_bytes, IsUtf8-from_is_utf8, utf8-same, before_bytes, after_bytes, replaced-bytes, cut-bytes, append_assoc)
-
--- decoded bytes: valid ones are their own lossy text, and std's test of validity
-pub ruleset decoding_facts = (utf8_lossy_text-IsUtf8, is_utf8-from_IsUtf8, invalid-is_utf8)
-
--- all of them
+-- clauses in characters, and most others
 pub ruleset caller_facts = (
-  encoded_facts,
-  byte_facts,
-  decoding_facts,
-  part_facts,
-  range_facts,
   length-utf8,
   utf8-text_of,
   size-text_of,
@@ -88,9 +74,11 @@ pub ruleset caller_facts = (
   chars-nil,
   chars-append,
   IsUtf8-append,
+  append_assoc,
   text_before-append,
   text_after-append,
   text_before-text_before,
+  boundary-within,
   written-text,
   found-text,
   text_of-one,
@@ -99,9 +87,6 @@ pub ruleset caller_facts = (
   text_of-four,
   text_of-decimal,
   text_of-decimal_append,
-  text_of-signed,
-  text_of-signed_append,
-  text_of-char,
   one_text,
   same-packed,
   texts-from_same,
@@ -109,8 +94,14 @@ pub ruleset caller_facts = (
   texts-from_equal,
   chars_from_encodes,
   join-map,
-  increasing-from_sorted,
 )
+
+-- clauses in bytes, as `utf8 v.text ≡ string_bytes s`: the bytes after a call whose clauses are in characters, boundaries of the
+-- bytes, and that equal bytes are equal texts. Named beside `caller_facts` or alone.
+pub ruleset byte_facts = (encoded_facts, made-bytes, appended-bytes, pushed-bytes, utf8-decimal, utf8-signed, IsUtf8-string_bytes, IsUtf8-from_is_utf8, utf8-same, before_bytes, after_bytes, replaced-bytes, cut-bytes, append_assoc)
+
+-- decoded bytes: valid ones are their own lossy text, and std's test of validity
+pub ruleset decoding_facts = (utf8_lossy_text-IsUtf8, is_utf8-from_IsUtf8, invalid-is_utf8)
 
 -- for a loop over `chars`, where the invariant says what holds with the characters left, `text_of (chars_rest l.c-iterator)`:
 -- the next one, and the end

@@ -2,11 +2,9 @@
 use Rattle.std.proofs.Common.{◌≡◌, ℕ, ◌+◌, ◌-◌, ◌*◌, ◌^◌, ◌<◌, ◌≤◌, List, [], ◌∷◌, ◌++◌, refl, ap, sym, ◌∙◌, arith, append_assoc, append-nil}
 use Rattle.std.proofs.lemmas.Str.{chars-nil, chars-append, chars_past_char, chars-IsAscii, IsUtf8-nil, IsUtf8-append, IsUtf8-encode, IsUtf8-from_ascii}
 use Rattle.std.proofs.lemmas.Bool.Decides.{nat_tests}
-use Rattle.std.proofs.lemmas.Fmt.{IsAscii-decimal, IsAscii-signed}
-use lib.IntN.{ℤ}
-use lib.Signed.{mag}
+use Rattle.std.proofs.lemmas.Fmt.{IsAscii-decimal}
 use Rattle.std.specs.Char.{IsScalar, encode_utf8}
-use Rattle.std.specs.Fmt.{WritesInCalls, decimal, signed_decimal}
+use Rattle.std.specs.Fmt.{WritesInCalls, decimal}
 use Rattle.std.specs.Str.{IsUtf8, chars, chars_after}
 use Rattle.std.specs.List.{FoldsTo, concat}
 use Rattle.compact_repr.specs.Text.{text_of}
@@ -61,13 +59,6 @@ text_of-decimal n h = chars-IsAscii (decimal n) (IsAscii-decimal n h)
 pub text_of-decimal_append : (n : ℕ) (bytes : List ℕ) → n < 2 ^ 64 → text_of (decimal n ++ bytes) ≡ decimal n ++ text_of bytes
 text_of-decimal_append n bytes h =
     chars-append (decimal n) bytes (IsUtf8-from_ascii (decimal n) (IsAscii-decimal n h)) ∙ ap (λ t. t ++ text_of bytes) (text_of-decimal n h)
-
-pub text_of-signed : (z : ℤ) → mag z < 2 ^ 63 → text_of (signed_decimal z) ≡ signed_decimal z
-text_of-signed z h = chars-IsAscii (signed_decimal z) (IsAscii-signed z h)
-
-pub text_of-signed_append : (z : ℤ) (bytes : List ℕ) → mag z < 2 ^ 63 → text_of (signed_decimal z ++ bytes) ≡ signed_decimal z ++ text_of bytes
-text_of-signed_append z bytes h =
-    chars-append (signed_decimal z) bytes (IsUtf8-from_ascii (signed_decimal z) (IsAscii-signed z h)) ∙ ap (λ t. t ++ text_of bytes) (text_of-signed z h)
 
 -- the bytes of a character decode to it
 pub text_of-char : (c : ℕ) (bytes : List ℕ) → IsScalar c → text_of (encode_utf8 c ++ bytes) ≡ c ∷ text_of bytes

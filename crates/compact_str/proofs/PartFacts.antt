@@ -1,9 +1,9 @@
--- For crates that call this one.
--- `part_facts`, of which `ForCallers::caller_facts` has all: the text on both sides of a character that was found, or of
--- what `trim` returns, and what a formatter wrote, in bytes.
+-- For crates that call this one: three rulesets.
+-- `part_facts`, beside `ForCallers::caller_facts`: the text on both sides of a character that was found, or of what
+-- `trim` returns, and what a formatter wrote, in bytes.
 -- `long_write_facts`, alone, for a `write!` of up to twelve values: with all of `caller_facts` a proof reaches its limit of
 -- instances. Past twelve pieces, values and literals together, `format_args!` nests, hence `append_assoc`.
--- `literal_facts`, alone: the characters of a literal of any length, and `==` with one.
+-- `literal_facts`, without the two: the characters of a literal of any length, and `==` with one.
 use Rattle.std.proofs.Common.{◌≡◌, ◌≢◌, ◌⊎◌, inl, inr, ℕ, List, Bool, true, false, ◌&&◌, [], ◌++◌, ◌∷◌, nat_eq, nat_lt, drop, take, refl, ap, sym, subst, ◌∙◌, ◌<◌, arith, append_assoc, append-nil}
 use Rattle.std.proofs.lemmas.Bool.{false≢true, ltb-true, not-false}
 use Rattle.std.proofs.lemmas.Bool.Decides.{nat_tests}

@@ -1,5 +1,5 @@
 -- For crates that call this one with a range that is open at an end, as `3..`: the start of a text and its end are
--- boundaries. `ForCallers::caller_facts` has these facts.
+-- boundaries. `range_facts` is named at the caller, beside `ForCallers::caller_facts` if a literal is inserted.
 use Rattle.std.proofs.Common.{ℕ, List, [], sym, refl, append-nil}
 use Rattle.compact_repr.specs.Text.{size}
 use Rattle.compact_repr.specs.Cut.{IsBoundary}

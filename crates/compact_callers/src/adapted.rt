@@ -1,0 +1,24 @@
+//! Collecting what an adapter of `chars` returns. Both need an answer of two lines.
+
+ghost use Rattle.std.specs.Prelude.{◌≡◌, map, take, nat_eq, IfOk, if◌then◌else◌};
+ghost use Rattle.compact_str.specs.Text.{text_of};
+
+use compact_str::CompactString;
+use std::alloc::{AllocError, Global};
+
+/// Returns the first characters of a line.
+pub fn front(alloc: Global, line: &str, count: usize) -> Result<CompactString, AllocError>
+    ensures { IfOk result (λ v. v.text ≡ take count (text_of line.now)) }
+{
+    line.chars().take(count).collect(alloc)
+}
+
+/// Replaces each space with a dash.
+pub fn dashed(alloc: Global, line: &str) -> Result<CompactString, AllocError>
+    ensures { IfOk result
+        (λ v. v.text ≡ map (λ c. if nat_eq c 32 then 45 else c) (text_of line.now)) }
+{
+    line.chars()
+        .map(|c| if c == ' ' { '-' } else { c })
+        .collect(alloc)
+}

@@ -1,0 +1,17 @@
+//! Tests of the callers in `adapted.rt`.
+
+use crate::asserts::assert_that;
+use compact_callers::adapted::{dashed, front};
+use compact_testing::seen::is_inline;
+
+#[test]
+fn adapted_characters_are_collected(rt: HostRuntime) {
+    let rt = &rt;
+    let alloc = rt.alloc();
+    let line = front(alloc, "né à Zoë", 4).expect(rt, "memory");
+    assert_that(rt, is_inline(&line, "né à"));
+    let line = front(alloc, "né", 4).expect(rt, "memory");
+    assert_that(rt, is_inline(&line, "né"));
+    let line = dashed(alloc, "a é b").expect(rt, "memory");
+    assert_that(rt, is_inline(&line, "a-é-b"));
+}
