@@ -12,7 +12,7 @@ fn probe(value: &Text) -> u64 {
     value.len() as u64 * 256 + last
 }
 
-/// Puts what is made of each input in turn into a ring of the latest 64 values, and mixes an earlier one into the sum.
+/// Stores what is made of each input in turn in a ring of the latest 64 values, and mixes an earlier one into the sum.
 ///
 /// The length of the ring is in its type, so that no index is checked. This library proves that.
 fn ringed<I>(n: u64, inputs: &[I], made: impl Fn(&I) -> Text) -> u64 {

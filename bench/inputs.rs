@@ -1,6 +1,6 @@
 //! The inputs: the same as those of `crates/compact_bench`, by the same generator.
 
-/// The kinds of characters: ASCII letters, characters of two, three or four bytes, or half letters and half others.
+/// The kinds of characters: ASCII, characters of two, three or four bytes, or half ASCII and half others.
 pub const KINDS: [&str; 5] = ["ascii", "two", "three", "four", "mixed"];
 pub const LETTERS: u32 = 0;
 pub const MIXED: u32 = 4;
@@ -143,7 +143,7 @@ pub fn unit_bytes(texts: Vec<String>, order: fn(u16) -> [u8; 2]) -> Vec<Vec<u8>>
     units(texts).into_iter().map(bytes).collect()
 }
 
-/// Numbers of 1 to 64 bits, about as many of each length.
+/// Numbers of 1 to 64 bits, each length about equally often.
 pub fn shifted_numbers() -> Vec<u64> {
     let mut generator = Generator::new();
     let mut draw = || {
@@ -153,7 +153,7 @@ pub fn shifted_numbers() -> Vec<u64> {
     (0..4096).map(|_| draw()).collect()
 }
 
-/// Numbers of 1 to 20 digits, about as many of each length.
+/// Numbers of 1 to 20 digits, each length about equally often.
 pub fn numbers() -> Vec<u64> {
     let mut generator = Generator::new();
     let mut draw = || {

@@ -42,7 +42,7 @@ IMPORTS = """
     std::ops::Bound std::ops::Bound::{Excluded,Included,Unbounded} bytes::Buf indexmap::{IndexMap,IndexSet}
 """
 
-# What stands before an example and after it. Each is one line, since it takes the place of a line of backticks.
+# The lines before an example and after it. Each is one line, since it takes the place of a line of backticks.
 BEFORE = "mod line_{line} {{ {uses} fn example(alloc: Global, rt: &impl Abort) -> anyhow::Result<()> {{"
 AFTER = "Ok(()) } #[test] fn passes(rt: HostRuntime) -> anyhow::Result<()> { example(rt.alloc(), &rt) } }"
 

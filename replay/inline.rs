@@ -106,7 +106,7 @@ enum Answer {
     BadPosition,
 }
 
-/// The greatest length that an edit can give.
+/// The greatest length that an edit can lead to.
 fn len_after(edit: &Edit, len: usize) -> usize {
     match edit {
         Edit::PushStr(text) | Edit::InsertStr(_, text) => len + text.len(),

@@ -1,4 +1,4 @@
-//! The lines of the program, answered by the Rust crate compact_str.
+//! The lines of the program, run by the Rust crate compact_str.
 //!
 //! `replay answer` reads lines from standard input and answers each as `run_lines` of this repository does. `replay
 //! make SEED COUNT INPUT OUTPUT` writes COUNT random lines to one file and their answers to another.

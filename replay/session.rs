@@ -75,7 +75,7 @@ impl Session {
         &self.value
     }
 
-    /// Runs a line, and writes its answer and the value.
+    /// Runs a line, and writes its result and the value.
     pub fn answer(&mut self, line: &[u8], output: &mut impl Write) -> io::Result<()> {
         let Some(answer) = str::from_utf8(line).ok().and_then(|line| self.execute(line)) else {
             return output.write_all(b"?\n");
@@ -91,7 +91,7 @@ impl Session {
         writeln!(output, "{answer}\n{place} {len} {capacity} {}", self.value)
     }
 
-    /// Runs a line, and returns its answer, or `None` if it is no command.
+    /// Runs a line, and returns its result, or `None` if it is no command.
     fn execute(&mut self, line: &str) -> Option<String> {
         let (name, rest) = Rest(Some(line)).word()?;
         match name {

@@ -6,7 +6,8 @@ use crate::decode::{
 };
 use crate::edit::{Drain, DropDrain, InsertStr, RemoveFirst, Replace, Retain, SplitOff};
 use crate::inputs::{
-    Cut, Named, alike, cuts, faulty_rows, group, one, rows, unit_bytes, units, with_numbers,
+    Cut, Named, alike, byte_texts, cuts, faulty_byte_texts, group, one, unit_bytes, units,
+    with_numbers,
 };
 use crate::loops::{changed, converted, equal, hashed, inserted_removed, ordered, wired};
 use crate::make::{
@@ -200,19 +201,19 @@ pub extern "C" fn cs_change_case(alloc: Global, n: u64, kit: u32, kind: u32, len
 #[unsafe(no_mangle)]
 pub extern "C" fn cs_from_utf8(alloc: Global, n: u64, kit: u32, kind: u32, len: u32) -> u64 {
     let texts = alike(alloc, kind, len);
-    either::<Decode, Vec<u8>>(alloc, n, kit, rows(alloc, texts), RING)
+    either::<Decode, Vec<u8>>(alloc, n, kit, byte_texts(alloc, texts), RING)
 }
 
 #[unsafe(no_mangle)]
 pub extern "C" fn cs_from_utf8_lossy(alloc: Global, n: u64, kit: u32, kind: u32, len: u32) -> u64 {
     let texts = alike(alloc, kind, len);
-    either::<DecodeLossy, Vec<u8>>(alloc, n, kit, rows(alloc, texts), RING)
+    either::<DecodeLossy, Vec<u8>>(alloc, n, kit, byte_texts(alloc, texts), RING)
 }
 
 #[unsafe(no_mangle)]
 pub extern "C" fn cs_from_faulty_utf8(alloc: Global, n: u64, kit: u32, kind: u32, len: u32) -> u64 {
     let texts = alike(alloc, kind, len);
-    either::<DecodeLossy, Vec<u8>>(alloc, n, kit, faulty_rows(alloc, texts, 5), RING)
+    either::<DecodeLossy, Vec<u8>>(alloc, n, kit, faulty_byte_texts(alloc, texts, 5), RING)
 }
 
 #[unsafe(no_mangle)]
@@ -229,7 +230,7 @@ pub extern "C" fn cs_from_utf16_lossy(alloc: Global, n: u64, kit: u32, kind: u32
 
 #[unsafe(no_mangle)]
 pub extern "C" fn cs_from_utf8_buf(alloc: Global, n: u64, kind: u32, len: u32) -> u64 {
-    ours::<DecodeBuffers, Vec<u8>>(alloc, n, rows(alloc, alike(alloc, kind, len)), RING)
+    ours::<DecodeBuffers, Vec<u8>>(alloc, n, byte_texts(alloc, alike(alloc, kind, len)), RING)
 }
 
 #[unsafe(no_mangle)]

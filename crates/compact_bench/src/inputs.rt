@@ -4,7 +4,7 @@ use crate::text::Text;
 use compact_str::{CompactString, ReserveError};
 use std::alloc::Global;
 
-/// The kinds of characters: ASCII letters, characters of two, three or four bytes, or half letters and half others.
+/// The kinds of characters: ASCII, characters of two, three or four bytes, or half ASCII and half others.
 pub const LETTERS: u32 = 0;
 
 pub const MIXED: u32 = 4;
@@ -80,7 +80,7 @@ impl Generator {
         let mut texts = Vec::with_capacity(alloc, count)?;
         for _ in 0..count {
             let more = if kind == MIXED { 0 } else { self.below(span) };
-            put(
+            push_item(
                 &mut texts,
                 self.text(alloc, kind, least.wrapping_add(more))?,
             )?;
@@ -105,20 +105,20 @@ pub fn nth(kind: u32, index: u32) -> char {
 pub fn alphabet(alloc: Global, kind: u32) -> Made<char> {
     let mut characters = Vec::new(alloc);
     for index in 0..26 {
-        put(&mut characters, nth(kind, index))?;
+        push_item(&mut characters, nth(kind, index))?;
     }
     Ok(characters)
 }
 
-/// Inputs, or why there are none.
+/// Inputs, or the error of making them.
 pub type Made<T> = Result<Vec<T>, ReserveError>;
 
 /// Appends an item.
-pub fn put<T: Drop>(items: &mut Vec<T>, item: T) -> Result<(), ReserveError> {
+pub fn push_item<T: Drop>(items: &mut Vec<T>, item: T) -> Result<(), ReserveError> {
     items.push(item).or(Err(ReserveError))
 }
 
-/// Draws texts of letters.
+/// Draws ASCII texts.
 pub fn words(alloc: Global, count: usize, least: u32, span: u32) -> Made<String> {
     Generator::new().texts(alloc, LETTERS, count, least, span)
 }
@@ -132,7 +132,7 @@ pub fn alike(alloc: Global, kind: u32, len: u32) -> Made<String> {
 /// Draws one text.
 pub fn one(alloc: Global, kind: u32, len: u32) -> Made<String> {
     let mut texts = Vec::new(alloc);
-    put(&mut texts, Generator::new().text(alloc, kind, len)?)?;
+    push_item(&mut texts, Generator::new().text(alloc, kind, len)?)?;
     Ok(texts)
 }
 
@@ -144,7 +144,7 @@ pub fn values<T: Text>(alloc: Global, texts: &[String], step: usize) -> Made<T> 
     for place in 0..texts.len() {
         let other = place.wrapping_add(place & step);
         if let Some(text) = texts.get(other).or(texts.first()) {
-            put(&mut values, T::new(alloc, text.as_str())?)?;
+            push_item(&mut values, T::new(alloc, text.as_str())?)?;
         }
     }
     Ok(values)
@@ -164,7 +164,7 @@ pub struct Cut {
 pub fn cuts(alloc: Global, kind: u32, texts: Made<String>, at: [usize; 4]) -> Made<Cut> {
     let mut cuts = Vec::new(alloc);
     for text in &texts? {
-        put(&mut cuts, cut_one(alloc, kind, text.as_str(), at)?)?;
+        push_item(&mut cuts, cut_one(alloc, kind, text.as_str(), at)?)?;
     }
     Ok(cuts)
 }
@@ -197,7 +197,7 @@ pub fn group(alloc: Global, texts: Made<String>, count: usize) -> Made<Vec<Strin
     let mut texts = texts?;
     texts.truncate(count);
     let mut groups = Vec::new(alloc);
-    put(&mut groups, texts)?;
+    push_item(&mut groups, texts)?;
     Ok(groups)
 }
 
@@ -216,23 +216,23 @@ pub fn with_numbers(alloc: Global, texts: Made<String>) -> Made<Named> {
     for text in texts.iter().cycle().take(4096) {
         let name = String::from_str(alloc, text.as_str())?;
         let number = numbers.next().unwrap_or(0) % 1_000_000;
-        put(&mut all, Named { name, number })?;
+        push_item(&mut all, Named { name, number })?;
     }
     Ok(all)
 }
 
 /// The bytes of the texts.
-pub fn rows(alloc: Global, texts: Made<String>) -> Made<Vec<u8>> {
+pub fn byte_texts(alloc: Global, texts: Made<String>) -> Made<Vec<u8>> {
     let mut rows = Vec::new(alloc);
     for text in &texts? {
-        put(&mut rows, Vec::from_slice(alloc, text.as_bytes())?)?;
+        push_item(&mut rows, Vec::from_slice(alloc, text.as_bytes())?)?;
     }
     Ok(rows)
 }
 
 /// The same, with FF at each 64th byte, from index `first` on.
-pub fn faulty_rows(alloc: Global, texts: Made<String>, first: usize) -> Made<Vec<u8>> {
-    let mut rows = rows(alloc, texts)?;
+pub fn faulty_byte_texts(alloc: Global, texts: Made<String>, first: usize) -> Made<Vec<u8>> {
+    let mut rows = byte_texts(alloc, texts)?;
     for row in rows.iter_mut() {
         for byte in row.iter_mut().skip(first).step_by(64) {
             *byte = 0xFF;
@@ -247,9 +247,9 @@ pub fn units(alloc: Global, texts: Made<String>) -> Made<Vec<u16>> {
     for text in &texts? {
         let mut row = Vec::new(alloc);
         for unit in text.as_str().encode_utf16() {
-            put(&mut row, unit)?;
+            push_item(&mut row, unit)?;
         }
-        put(&mut rows, row)?;
+        push_item(&mut rows, row)?;
     }
     Ok(rows)
 }
@@ -261,33 +261,33 @@ pub fn unit_bytes(alloc: Global, texts: Made<String>, upper_first: bool) -> Made
         let mut row = Vec::new(alloc);
         for unit in units {
             let [lower, upper] = unit.to_le_bytes();
-            put(&mut row, if upper_first { upper } else { lower })?;
-            put(&mut row, if upper_first { lower } else { upper })?;
+            push_item(&mut row, if upper_first { upper } else { lower })?;
+            push_item(&mut row, if upper_first { lower } else { upper })?;
         }
-        put(&mut rows, row)?;
+        push_item(&mut rows, row)?;
     }
     Ok(rows)
 }
 
-/// Numbers of 1 to 64 bits, about as many of each length.
+/// Numbers of 1 to 64 bits, each length about equally often.
 pub fn shifted_numbers(alloc: Global) -> Made<u64> {
     let mut generator = Generator::new();
     let mut numbers = Vec::new(alloc);
     for _ in 0..4096 {
         let number = generator.next();
-        put(&mut numbers, number >> (generator.below(64) % 64))?;
+        push_item(&mut numbers, number >> (generator.below(64) % 64))?;
     }
     Ok(numbers)
 }
 
-/// Numbers of 1 to 20 digits, about as many of each length.
+/// Numbers of 1 to 20 digits, each length about equally often.
 pub fn numbers(alloc: Global) -> Made<u64> {
     let mut generator = Generator::new();
     let mut numbers = Vec::new(alloc);
     for _ in 0..4096 {
         let least = 10u64.wrapping_pow(generator.below(20));
         let most = least.saturating_mul(9).min(u64::MAX.wrapping_sub(least));
-        put(
+        push_item(
             &mut numbers,
             least.wrapping_add(generator.next() % most.max(1)),
         )?;
@@ -309,14 +309,14 @@ pub fn prose(alloc: Global) -> Result<CompactString, ReserveError> {
             if let Some(word) = words.get(generator.below(4096) as usize) {
                 text.push_str(word.as_str())?;
             }
-            text.push_str(behind_word(&mut generator))?;
+            text.push_str(word_separator(&mut generator))?;
         }
     }
     Ok(text)
 }
 
 /// Draws what follows a word of the prose.
-fn behind_word(generator: &mut Generator) -> &'static str {
+fn word_separator(generator: &mut Generator) -> &'static str {
     match generator.below(16) {
         0 => ", ",
         1 => ".\n",

@@ -3,8 +3,8 @@
 use crate::decode::{Decode, DecodeLossy, DecodeUnits};
 use crate::edit::{Drain, Retain, RetainTwo};
 use crate::inputs::{
-    Cut, Generator, LETTERS, MIXED, Made, Named, cuts, faulty_rows, group, numbers, one, rows,
-    shifted_numbers, units, with_numbers, words,
+    Cut, Generator, LETTERS, MIXED, Made, Named, byte_texts, cuts, faulty_byte_texts, group,
+    numbers, one, shifted_numbers, units, with_numbers, words,
 };
 use crate::loops::{
     built, changed, converted, equal, hashed, inserted_removed, ordered, replaced, wired,
@@ -112,22 +112,22 @@ pub extern "C" fn cs_bench_change_letters(alloc: Global, n: u64) -> u64 {
 
 #[unsafe(no_mangle)]
 pub extern "C" fn cs_bench_utf8_ascii(alloc: Global, n: u64) -> u64 {
-    ours::<Decode, Vec<u8>>(alloc, n, rows(alloc, words(alloc, 16, 1024, 1)), RING)
+    ours::<Decode, Vec<u8>>(alloc, n, byte_texts(alloc, words(alloc, 16, 1024, 1)), RING)
 }
 
 #[unsafe(no_mangle)]
 pub extern "C" fn cs_bench_utf8_mixed(alloc: Global, n: u64) -> u64 {
-    ours::<Decode, Vec<u8>>(alloc, n, rows(alloc, mixed(alloc)), RING)
+    ours::<Decode, Vec<u8>>(alloc, n, byte_texts(alloc, mixed(alloc)), RING)
 }
 
 #[unsafe(no_mangle)]
 pub extern "C" fn cs_bench_utf8_lossy(alloc: Global, n: u64) -> u64 {
-    ours::<DecodeLossy, Vec<u8>>(alloc, n, faulty_rows(alloc, mixed(alloc), 63), RING)
+    ours::<DecodeLossy, Vec<u8>>(alloc, n, faulty_byte_texts(alloc, mixed(alloc), 63), RING)
 }
 
 #[unsafe(no_mangle)]
 pub extern "C" fn cs_bench_utf8_lossy_valid(alloc: Global, n: u64) -> u64 {
-    ours::<DecodeLossy, Vec<u8>>(alloc, n, rows(alloc, mixed(alloc)), RING)
+    ours::<DecodeLossy, Vec<u8>>(alloc, n, byte_texts(alloc, mixed(alloc)), RING)
 }
 
 #[unsafe(no_mangle)]

@@ -84,7 +84,7 @@ pub fn gathered_words(alloc: Global, words: &[&str]) -> Result<CompactString, Al
 }
 
 /// Copies a line character by character.
-pub fn letter_by_letter(alloc: Global, line: &str) -> Result<CompactString, ReserveError>
+pub fn character_by_character(alloc: Global, line: &str) -> Result<CompactString, ReserveError>
     ensures { IfOk result (λ v. v.text ≡ text_of line.now) }
 {
     CompactString::from_chars(alloc, line.chars())
@@ -122,7 +122,7 @@ pub fn append_all_or_none(line: &mut CompactString, fields: &[&str]) -> Result<(
 }
 
 /// Appends the characters of a name.
-pub fn append_letters(line: &mut CompactString, name: &str) -> Result<(), ReserveError>
+pub fn append_characters(line: &mut CompactString, name: &str) -> Result<(), ReserveError>
     ensures { OnOk result (line.new.text ≡ line.old.text ++ text_of name.now) }
 {
     line.extend_chars(name.chars())

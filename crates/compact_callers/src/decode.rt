@@ -9,7 +9,7 @@ use std::alloc::Global;
 
 /// Counts the invalid byte strings of a list. One whose allocation fails is not counted.
 #[tactic(auto)]
-pub fn invalid_rows(alloc: Global, rows: &[&[u8]]) -> usize
+pub fn invalid_count(alloc: Global, rows: &[&[u8]]) -> usize
     ensures { result ≡ length (filter (λ row. not (is_utf8 row.now)) rows.now) }
 {
     rows.iter().filter(|row| is_invalid(alloc, **row)).count()

@@ -128,7 +128,10 @@ pub fn names_in_line(
 
 /// Concatenates names.
 #[tactic(auto, using(compact_str::proofs::ForCallers::caller_facts))]
-pub fn names_in_a_row(alloc: Global, names: &[CompactString]) -> Result<CompactString, ReserveError>
+pub fn concatenated_names(
+    alloc: Global,
+    names: &[CompactString],
+) -> Result<CompactString, ReserveError>
     ensures { IfOk result (λ v. utf8 v.text ≡ flat_map (λ name. utf8 name.text) names.now) }
 {
     names.iter().concat_compact(alloc)

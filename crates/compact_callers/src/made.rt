@@ -25,8 +25,8 @@ pub fn take_line(line: &mut CompactString) -> Result<CompactString, AllocError>
     mem::try_take(line)
 }
 
-/// Returns a row of two names; up to four need no allocation.
-pub fn row_of(
+/// Returns a list of two names; up to four need no allocation.
+pub fn small_list_of(
     alloc: Global,
     first: CompactString,
     second: CompactString,

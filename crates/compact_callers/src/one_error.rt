@@ -50,11 +50,7 @@ pub enum LabelError {
 }
 
 /// Appends a number in brackets, with an error of its own.
-pub fn append_number(
-    alloc: Global,
-    line: &mut CompactString,
-    number: u64,
-) -> Result<(), LabelError>
+pub fn append_number(alloc: Global, line: &mut CompactString, number: u64) -> Result<(), LabelError>
     ensures { OnOk result (line.new.text
         ≡ line.old.text ++ codes "[" ++ decimal number ++ codes "]") }
 {

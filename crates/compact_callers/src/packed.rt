@@ -9,7 +9,7 @@ use std::alloc::Global;
 
 /// Writes a key as an array and reads it back. Returns `None` only if the key is not inline.
 #[tactic(auto, using(compact_str::proofs::ForCallers::caller_facts))]
-pub fn through_a_row(alloc: Global, key: &CompactString) -> Option<CompactString>
+pub fn through_packed_bytes(alloc: Global, key: &CompactString) -> Option<CompactString>
     ensures text { IfSome result (λ copy. copy.text ≡ key.now.text) }
     ensures inline { IfSome result (λ copy. copy.placement ≡ inline_placement) }
     ensures succeeds { IsInline key.now → IsSome result }
@@ -20,7 +20,7 @@ pub fn through_a_row(alloc: Global, key: &CompactString) -> Option<CompactString
 
 /// Returns `true` if two keys are inline with the same bytes; then their texts are equal.
 #[tactic(auto, using(compact_str::proofs::ForCallers::caller_facts))]
-pub fn have_same_row(first: &CompactString, second: &CompactString) -> bool
+pub fn have_same_bytes(first: &CompactString, second: &CompactString) -> bool
     ensures { IsTrue result → (first.now.text ≡ second.now.text) }
 {
     let Some(row) = first.packed() else {

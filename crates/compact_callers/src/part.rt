@@ -81,9 +81,9 @@ pub fn is_encoding_header(name: &CompactString) -> bool
     name.as_str() == "content-transfer-encoding"
 }
 
-/// Parses a yes or no.
+/// Parses `yes` or `no`.
 #[tactic(auto, using(compact_str::proofs::PartFacts::literal_facts))]
-pub fn answer_in(word: &CompactString) -> Option<bool>
+pub fn yes_or_no(word: &CompactString) -> Option<bool>
     ensures yes { result ≡ Some true ↔ (word.now.text ≡ codes "yes") }
     ensures no { result ≡ Some false ↔ (word.now.text ≡ codes "no") }
 {

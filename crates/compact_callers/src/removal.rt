@@ -1,4 +1,4 @@
-//! Removing parts of a text. Only `every_second` and `every_second_told`, whose closures have state, need a proof
+//! Removing parts of a text. Only `every_second` and `every_second_counted`, whose closures have state, need a proof
 //! file.
 ghost use Rattle.std.specs.Prelude.{◌≡◌, ◌++◌, ◌∷◌, [], OnOk, OnErr, IfOk, not, false, filter, ◌==◌};
 ghost use Rattle.compact_str.specs.Text.{ascii_lowercase};
@@ -92,7 +92,7 @@ pub fn every_second(line: &mut CompactString) -> Result<(), ReserveError>
 }
 
 /// The same, and returns `true` if the last character was kept; `false` if the text is empty.
-pub fn every_second_told(line: &mut CompactString) -> Result<bool, ReserveError>
+pub fn every_second_counted(line: &mut CompactString) -> Result<bool, ReserveError>
     ensures text { OnOk result
         (line.new.text ≡ retained_text (λ kept c. (not kept, not kept)) false line.old.text) }
     ensures last { IfOk result

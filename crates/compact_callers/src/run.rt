@@ -9,7 +9,7 @@ use compact_edit::{Edit, Reply, run};
 use compact_str::{CompactString, Policy, PolicyString, ReserveError};
 use std::alloc::Global;
 
-/// Puts brackets around a text by two edits, and returns `true` if both succeed.
+/// Encloses a text in brackets by two edits, and returns `true` if both succeed.
 pub fn bracket(alloc: Global, value: &mut CompactString) -> Result<bool, ReserveError>
     ensures { OnErr result (value.new ≡ value.old) }
 {

@@ -2,7 +2,7 @@
 
 use crate::asserts::assert_that;
 use compact_callers::adapted::{dashed, front};
-use compact_testing::seen::is_inline;
+use compact_testing::checks::is_inline;
 
 #[test]
 fn adapted_characters_are_collected(rt: HostRuntime) {

@@ -3,10 +3,10 @@
 use crate::asserts::assert_that;
 use compact_asserts::that;
 use compact_callers::in_bytes::{
-    append_both, entry, greeting, heading, mark_at, marked, names_in_a_row, names_in_line,
+    append_both, concatenated_names, entry, greeting, heading, mark_at, marked, names_in_line,
     overwrite, port_part, port_text, shorten, with_semicolons,
 };
-use compact_testing::seen::{is_heap, is_inline};
+use compact_testing::checks::{is_heap, is_inline};
 use compact_testing::values::short;
 use std::borrow::CowStr;
 
@@ -37,7 +37,7 @@ fn names_are_joined(rt: HostRuntime) {
     let names = [short(alloc, "ä"), short(alloc, ""), short(alloc, "b")];
     let line = names_in_line(alloc, &names, "→").expect(rt, "memory");
     assert_that(rt, is_inline(&line, "ä→→b"));
-    let row = names_in_a_row(alloc, &names).expect(rt, "memory");
+    let row = concatenated_names(alloc, &names).expect(rt, "memory");
     assert_that(rt, is_inline(&row, "äb"));
 }
 

@@ -3,7 +3,7 @@
 use crate::asserts::{assert_equal, assert_that};
 use compact_asserts::that;
 use compact_callers::cuts::{bytes_of, cut, front_of, remove_at, remove_part, split};
-use compact_testing::seen::is_inline;
+use compact_testing::checks::is_inline;
 use compact_testing::values::short;
 
 #[test]

@@ -5,7 +5,7 @@ use compact_callers::deref::{
     append_other, bytes_of_both, characters_of, filled_lines, longest_word, number_in, shown_name,
     split_at_equals, weight_of, with_commas,
 };
-use compact_testing::seen::is_inline;
+use compact_testing::checks::is_inline;
 use compact_testing::values::short;
 
 #[test]
@@ -20,7 +20,7 @@ fn a_field_is_split(rt: HostRuntime) {
 }
 
 #[test]
-fn a_value_is_handed_on_as_a_text(rt: HostRuntime) {
+fn a_value_is_passed_as_a_str(rt: HostRuntime) {
     let rt = &rt;
     let alloc = rt.alloc();
     let mut line = short(alloc, "é");

@@ -5,7 +5,7 @@ use compact_callers::error::{
     add_checked, add_name, add_named, add_read, add_short_name, marked_bytes, marked_line,
     marked_output, write_marked,
 };
-use compact_testing::seen::{are_texts, is_inline};
+use compact_testing::checks::{are_texts, is_inline};
 use compact_testing::values::{short, value_of};
 
 #[test]

@@ -2,7 +2,7 @@
 
 use crate::asserts::{assert_equal, assert_that};
 use compact_callers::field::{read_name, read_person, write_person};
-use compact_testing::seen::is_inline;
+use compact_testing::checks::is_inline;
 use compact_testing::values::short;
 
 /// A person with a name on the heap and no note.

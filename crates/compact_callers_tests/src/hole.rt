@@ -2,7 +2,7 @@
 
 use crate::asserts::assert_that;
 use compact_callers::hole::{address, append_field};
-use compact_testing::seen::is_inline;
+use compact_testing::checks::is_inline;
 use compact_testing::values::short;
 
 #[test]

@@ -5,7 +5,7 @@ use compact_callers::iterator::{
     append_fields, long_names, names_by_reference, names_of, path, whole,
 };
 use compact_str::CompactString;
-use compact_testing::seen::is_fitted;
+use compact_testing::checks::is_fitted;
 use compact_testing::values::{short, value_of};
 
 #[test]

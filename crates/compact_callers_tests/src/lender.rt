@@ -3,7 +3,7 @@
 use crate::asserts::{assert_equal, assert_that};
 use compact_callers::lender::{emptied, start_anew, take_out, try_to_empty, was_emptied};
 use compact_str::CompactString;
-use compact_testing::seen::{is_inline, is_static};
+use compact_testing::checks::{is_inline, is_static};
 
 #[test]
 fn a_lent_value_is_emptied(rt: HostRuntime) {

@@ -2,7 +2,7 @@
 
 use crate::asserts::{assert_equal, assert_that};
 use compact_callers::lines_read::{first_line, longest_line, next_pair};
-use compact_testing::seen::is_inline;
+use compact_testing::checks::is_inline;
 use compact_testing::values::short;
 
 #[test]
@@ -12,9 +12,15 @@ fn pairs_of_lines_are_read(rt: HostRuntime) {
     let mut reader: &[u8] = b"a\n1\n\xC3\xA9\n22";
     let mut key = short(alloc, "old");
     let mut value = short(alloc, "old");
-    assert_that(rt, next_pair(&mut reader, &mut key, &mut value).expect(rt, "a pair"));
+    assert_that(
+        rt,
+        next_pair(&mut reader, &mut key, &mut value).expect(rt, "a pair"),
+    );
     assert_that(rt, is_inline(&key, "a\n") && is_inline(&value, "1\n"));
-    assert_that(rt, next_pair(&mut reader, &mut key, &mut value).expect(rt, "a pair"));
+    assert_that(
+        rt,
+        next_pair(&mut reader, &mut key, &mut value).expect(rt, "a pair"),
+    );
     assert_that(rt, is_inline(&key, "é\n") && is_inline(&value, "22"));
     let more = next_pair(&mut reader, &mut key, &mut value).expect(rt, "no pair");
     assert_that(rt, !more && is_inline(&key, ""));
@@ -26,7 +32,11 @@ fn the_longest_line_is_measured(rt: HostRuntime) {
     let alloc = rt.alloc();
     let mut reader: &[u8] = b"a\n\xC3\xA9\xC3\xA9\n\nabc";
     assert_equal(rt, longest_line(alloc, &mut reader).expect(rt, "lines"), 5);
-    assert_equal(rt, longest_line(alloc, &mut reader).expect(rt, "no lines"), 0);
+    assert_equal(
+        rt,
+        longest_line(alloc, &mut reader).expect(rt, "no lines"),
+        0,
+    );
     let mut reader: &[u8] = b"a\n\xFF\nb\n";
     assert_that(rt, longest_line(alloc, &mut reader).is_err());
     assert_equal(rt, longest_line(alloc, &mut reader).expect(rt, "a line"), 2);

@@ -3,7 +3,7 @@
 use crate::asserts::{assert_equal, assert_that};
 use compact_callers::one_error::{add_name, add_number, append_cell, append_field, append_number};
 use compact_edit::Interner;
-use compact_testing::seen::{are_texts, is_inline};
+use compact_testing::checks::{are_texts, is_inline};
 use compact_testing::values::short;
 
 #[test]

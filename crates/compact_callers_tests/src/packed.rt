@@ -1,30 +1,33 @@
 //! Tests of the callers in `packed.rt`.
 
 use crate::asserts::{assert_equal, assert_that};
-use compact_callers::packed::{cleaned, have_same_row, through_a_row};
-use compact_testing::seen::is_inline;
+use compact_callers::packed::{cleaned, have_same_bytes, through_packed_bytes};
+use compact_testing::checks::is_inline;
 use compact_testing::values::{lasting, short};
 
 #[test]
-fn a_key_goes_through_a_row(rt: HostRuntime) {
+fn a_key_goes_through_packed_bytes(rt: HostRuntime) {
     let alloc = rt.alloc();
     let key = short(alloc, "größe");
-    let copy = through_a_row(alloc, &key).expect(&rt, "an inline key");
+    let copy = through_packed_bytes(alloc, &key).expect(&rt, "an inline key");
     assert_that(&rt, is_inline(&copy, "größe"));
-    assert_that(&rt, through_a_row(alloc, &lasting(alloc, 30)).is_none());
+    assert_that(
+        &rt,
+        through_packed_bytes(alloc, &lasting(alloc, 30)).is_none(),
+    );
 }
 
 #[test]
-fn equal_rows_are_equal_keys(rt: HostRuntime) {
+fn equal_packed_bytes_are_equal_keys(rt: HostRuntime) {
     let alloc = rt.alloc();
     let key = short(alloc, "key");
-    assert_that(&rt, have_same_row(&key, &short(alloc, "key")));
-    assert_that(&rt, !have_same_row(&key, &short(alloc, "keys")));
-    assert_that(&rt, !have_same_row(&key, &lasting(alloc, 30)));
+    assert_that(&rt, have_same_bytes(&key, &short(alloc, "key")));
+    assert_that(&rt, !have_same_bytes(&key, &short(alloc, "keys")));
+    assert_that(&rt, !have_same_bytes(&key, &lasting(alloc, 30)));
 }
 
 #[test]
-fn what_stands_behind_a_text_is_cleaned(rt: HostRuntime) {
+fn spare_bytes_are_zeroed(rt: HostRuntime) {
     let mut row = [0xFF; 24];
     row[0] = 0x61;
     row[23] = 0xC1;

@@ -2,9 +2,9 @@
 
 use crate::asserts::{assert_equal, assert_that};
 use compact_callers::part::{
-    answer_in, append_address, append_line, append_request, append_shown, append_whole_address,
-    first_of, first_two_bytes, is_abc, is_encoding_header, is_not_naive, key_and_value,
-    number_and_name, sides_of_arrow, sides_of_dash, trimmed, unmarked,
+    append_address, append_line, append_request, append_shown, append_whole_address, first_of,
+    first_two_bytes, is_abc, is_encoding_header, is_not_naive, key_and_value, number_and_name,
+    sides_of_arrow, sides_of_dash, trimmed, unmarked, yes_or_no,
 };
 use compact_testing::values::{short, value_of};
 
@@ -60,11 +60,11 @@ fn a_word_is_known(rt: HostRuntime) {
 }
 
 #[test]
-fn an_answer_is_read(rt: HostRuntime) {
+fn yes_and_no_are_read(rt: HostRuntime) {
     let alloc = rt.alloc();
-    assert_equal(&rt, answer_in(&short(alloc, "yes")), Some(true));
-    assert_equal(&rt, answer_in(&short(alloc, "no")), Some(false));
-    assert_equal(&rt, answer_in(&short(alloc, "yes!")), None);
+    assert_equal(&rt, yes_or_no(&short(alloc, "yes")), Some(true));
+    assert_equal(&rt, yes_or_no(&short(alloc, "no")), Some(false));
+    assert_equal(&rt, yes_or_no(&short(alloc, "yes!")), None);
 }
 
 #[test]
@@ -92,7 +92,7 @@ fn any_text_is_cut_at_a_sign_past_ascii(rt: HostRuntime) {
 }
 
 #[test]
-fn what_stands_at_the_ends_is_left_out(rt: HostRuntime) {
+fn whitespace_at_the_ends_is_trimmed(rt: HostRuntime) {
     let rt = &rt;
     let alloc = rt.alloc();
     let name = short(alloc, "x-é");

@@ -6,8 +6,8 @@ use compact_callers::plain::{
     append_count, append_pair, append_record, append_report, split_and_join, split_field, type_two,
     with_suffix,
 };
-use compact_testing::seen::{is_heap, is_inline};
-use compact_testing::values::{letters, short, with_room};
+use compact_testing::checks::{is_heap, is_inline};
+use compact_testing::values::{ascii_text, short, with_room};
 
 #[test]
 fn a_report_is_written_past_ascii(rt: HostRuntime) {
@@ -33,8 +33,8 @@ fn a_record_is_appended_in_one_piece(rt: HostRuntime) {
 #[test]
 fn a_pair_is_appended(rt: HostRuntime) {
     let mut line = with_room(rt.alloc(), 40).expect(&rt, "memory");
-    append_pair(&mut line, letters(12), letters(13)).expect(&rt, "memory");
-    assert_that(&rt, is_heap(&line, 40, letters(25)));
+    append_pair(&mut line, ascii_text(12), ascii_text(13)).expect(&rt, "memory");
+    assert_that(&rt, is_heap(&line, 40, ascii_text(25)));
 }
 
 #[test]

@@ -34,7 +34,7 @@ fn an_end_is_repeated(rt: HostRuntime) {
 }
 
 #[test]
-fn a_part_stands_between_boundaries(rt: HostRuntime) {
+fn a_part_is_between_boundaries(rt: HostRuntime) {
     let rt = &rt;
     let line = short(rt.alloc(), "aäb");
     assert_equal(rt, part_between(&line, 1, 3), Some("ä"));

@@ -2,7 +2,7 @@
 
 use crate::asserts::{assert_equal, assert_that};
 use compact_callers::read::{greet, next_line, what_is_left};
-use compact_testing::seen::is_inline;
+use compact_testing::checks::is_inline;
 use compact_testing::values::short;
 
 #[test]

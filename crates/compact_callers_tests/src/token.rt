@@ -18,7 +18,7 @@ fn a_text_is_learnt_once(rt: HostRuntime) {
 }
 
 #[test]
-fn a_text_is_a_row_of_numbers(rt: HostRuntime) {
+fn a_text_is_a_list_of_numbers(rt: HostRuntime) {
     let alloc = rt.alloc();
     let mut names = Interner::new(alloc);
     let text = short(alloc, "ab, 12 ab");

@@ -7,15 +7,15 @@ use compact_callers::wire::{
 };
 use compact_ext::wire::{Records, WireError};
 use compact_str::CompactString;
-use compact_testing::seen::{is_fitted, is_inline};
-use compact_testing::values::{letters, short, value_of};
+use compact_testing::checks::{is_fitted, is_inline};
+use compact_testing::values::{ascii_text, short, value_of};
 use std::process::Abort;
 
 /// The forms of `a`, of the empty text and of `Hi`.
 const RECORDS: [u8; 15] = [1, 0, 0, 0, 0x61, 0, 0, 0, 0, 2, 0, 0, 0, 0x48, 0x69];
 
 #[test]
-fn a_reader_tells_its_next_record_and_its_end(rt: HostRuntime) {
+fn a_reader_returns_its_next_record_and_its_end(rt: HostRuntime) {
     let rt = &rt;
     let alloc = rt.alloc();
     let mut rest: &[u8] = &RECORDS;
@@ -64,7 +64,7 @@ fn expect_three(rt: &impl Abort, texts: Vec<CompactString>) {
 }
 
 #[test]
-fn a_cut_behind_what_is_no_text_is_told(rt: HostRuntime) {
+fn a_cut_after_an_invalid_text_is_reported(rt: HostRuntime) {
     let cut = MIXED.get(..25).expect(&rt, "bytes");
     let found = read_texts(rt.alloc(), cut);
     assert_that(&rt, matches!(found, Err(WireError::UnexpectedEnd)));
@@ -89,17 +89,17 @@ fn a_field_is_sent_and_received(rt: HostRuntime) {
     let alloc = rt.alloc();
     let mut bytes = Vec::new(alloc);
     let name = short(alloc, "name");
-    let long = value_of(alloc, letters(30)).expect(rt, "memory");
+    let long = value_of(alloc, ascii_text(30)).expect(rt, "memory");
     send_field(&name, &long, &mut bytes).expect(rt, "memory");
     assert_equal(rt, bytes.len(), 42);
     let mut rest = bytes.as_slice();
     let (key, value) = receive_field(alloc, &mut rest).expect(rt, "a field");
     assert_that(rt, is_inline(&key, "name"));
-    assert_that(rt, is_fitted(&value, letters(30)));
+    assert_that(rt, is_fitted(&value, ascii_text(30)));
     let back = sent_and_received(alloc, &value).expect(rt, "a text");
     assert_that(rt, back == value);
     let both = pair_sent_and_received(alloc, &name, &value).expect(rt, "two texts");
     assert_equal(rt, both.len(), 2);
     assert_that(rt, is_inline(&both[0], "name"));
-    assert_that(rt, is_fitted(&both[1], letters(30)));
+    assert_that(rt, is_fitted(&both[1], ascii_text(30)));
 }

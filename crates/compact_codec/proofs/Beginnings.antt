@@ -1,10 +1,12 @@
 -- Beginnings of well-formed sequences, by their first four bytes.
-use Rattle.std.proofs.Common.{◌≡◌, ℕ, ◌≤◌, ◌⊎◌, Bool, true, List, [], ◌∷◌, ◌++◌, sym, subst, arith, inl, inr, ⊎_elim, append-nil}
+use Rattle.std.proofs.Common.{◌≡◌, ℕ, ◌≤◌, ◌⊎◌, Bool, true, List, [], ◌∷◌, ◌++◌, sym, subst, arith, inl, inr, ⊎_elim}
+use Rattle.std.proofs.Common.{append-nil}
 use Rattle.std.proofs.lemmas.Bool.{cases_lt}
 use Rattle.std.proofs.lemmas.Bool.Decides.{nat_tests}
 use Rattle.std.specs.Int.{is_in_range}
 use Rattle.std.specs.Str.Lossy.{second_byte_min, second_byte_max}
-use Rattle.compact_codec.specs.Utf8Table.{TableRow, FitsRow, FitsSomeRow, sequence_table, trailing_bytes, IsInByteRange, IsWellFormedSequence}
+use Rattle.compact_codec.specs.Utf8Table.{TableRow, FitsRow, FitsSomeRow, sequence_table, trailing_bytes, IsInByteRange}
+use Rattle.compact_codec.specs.Utf8Table.{IsWellFormedSequence}
 use Rattle.compact_codec.specs.InvalidSequence.{IsPrefixOfSequence}
 
 -- the bytes fit the start of a row
@@ -42,9 +44,11 @@ completed_row (r ∷ rs) (b ∷ bs) h f = let rest = completed_row rs bs h.1 f.1
 
 begins_one : (rows : List TableRow) (bs more : List ℕ) → FitsSomeRow rows (bs ++ more) → BeginsOneOf rows bs
 begins_one [] bs more f = f
-begins_one (row ∷ rows) bs more f = ⊎_elim (λ here. inl (begins_row row bs more here)) (λ later. inr (begins_one rows bs more later)) f
+begins_one (row ∷ rows) bs more f = ⊎_elim (λ here. inl (begins_row row bs more here))
+    (λ later. inr (begins_one rows bs more later)) f
 
-completed_one : (rows : List TableRow) (bs : List ℕ) → AllHaveBytes rows → BeginsOneOf rows bs → (more : List ℕ) × FitsSomeRow rows (bs ++ more)
+completed_one : (rows : List TableRow) (bs : List ℕ) → AllHaveBytes rows → BeginsOneOf rows bs
+    → (more : List ℕ) × FitsSomeRow rows (bs ++ more)
 completed_one [] bs h f = absurd f
 completed_one (row ∷ rows) bs h f = ⊎_elim
     (λ here. let rest = completed_row row bs h.0 here in (rest.0, inl rest.1))
@@ -70,7 +74,13 @@ begins_to bs h =
               (omega arith, (omega arith, two)),
               (
                 (omega arith, three),
-                ((omega arith, (omega arith, three)), ((omega arith, (omega arith, three)), ((omega arith, (omega arith, three)), tt))),
+                (
+                  (omega arith, (omega arith, three)),
+                  (
+                    (omega arith, (omega arith, three)),
+                    ((omega arith, (omega arith, three)), tt),
+                  ),
+                ),
               ),
             ),
           ),
@@ -88,7 +98,8 @@ follows a b = is_in_range (second_byte_min a) (second_byte_max a) b
 
 -- the row of a first byte
 row_cases : (a : ℕ) → Leads a
-    → ((0xC2 ≤ a) × (a ≤ 0xDF)) ⊎ ((a ≡ 0xE0) ⊎ (((0xE1 ≤ a) × (a ≤ 0xEC)) ⊎ ((a ≡ 0xED) ⊎ (((0xEE ≤ a) × (a ≤ 0xEF)) ⊎ ((a ≡ 0xF0) ⊎ (((0xF1 ≤ a) × (a ≤ 0xF3)) ⊎ (a ≡ 0xF4)))))))
+    → ((0xC2 ≤ a) × (a ≤ 0xDF)) ⊎ ((a ≡ 0xE0) ⊎ (((0xE1 ≤ a) × (a ≤ 0xEC))
+    ⊎ ((a ≡ 0xED) ⊎ (((0xEE ≤ a) × (a ≤ 0xEF)) ⊎ ((a ≡ 0xF0) ⊎ (((0xF1 ≤ a) × (a ≤ 0xF3)) ⊎ (a ≡ 0xF4)))))))
 row_cases a h =
     ⊎_elim (λ l1. inl (omega arith, omega arith)) (λ g1.
     ⊎_elim (λ l2. inr (inl (omega arith))) (λ g2.
@@ -120,26 +131,42 @@ one_begins a h = begins_to (a ∷ [])
 
 pub two_begin : (a b : ℕ) → Leads a → follows a b ≡ true → IsPrefixOfSequence (a ∷ b ∷ [])
 two_begin a b h f = begins_to (a ∷ b ∷ [])
-    (⊎_elim (λ is. let second : (0x80 ≤ b) × (b ≤ 0xBF) = grind (arith, nat_tests) in inr (inl (((omega arith, omega arith), (second, tt)))))
-    (⊎_elim (λ is. let second : (0xA0 ≤ b) × (b ≤ 0xBF) = grind (arith, nat_tests) in inr (inr (inl (((omega arith, omega arith), (second, tt))))))
-    (⊎_elim (λ is. let second : (0x80 ≤ b) × (b ≤ 0xBF) = grind (arith, nat_tests) in inr (inr (inr (inl (((omega arith, omega arith), (second, tt)))))))
-    (⊎_elim (λ is. let second : (0x80 ≤ b) × (b ≤ 0x9F) = grind (arith, nat_tests) in inr (inr (inr (inr (inl (((omega arith, omega arith), (second, tt))))))))
-    (⊎_elim (λ is. let second : (0x80 ≤ b) × (b ≤ 0xBF) = grind (arith, nat_tests) in inr (inr (inr (inr (inr (inl (((omega arith, omega arith), (second, tt)))))))))
-    (⊎_elim (λ is. let second : (0x90 ≤ b) × (b ≤ 0xBF) = grind (arith, nat_tests) in inr (inr (inr (inr (inr (inr (inl (((omega arith, omega arith), (second, tt))))))))))
-    (⊎_elim (λ is. let second : (0x80 ≤ b) × (b ≤ 0xBF) = grind (arith, nat_tests) in inr (inr (inr (inr (inr (inr (inr (inl (((omega arith, omega arith), (second, tt)))))))))))
-    ((λ is. let second : (0x80 ≤ b) × (b ≤ 0x8F) = grind (arith, nat_tests) in inr (inr (inr (inr (inr (inr (inr (inr (inl (((omega arith, omega arith), (second, tt)))))))))))))))))))
+    (⊎_elim (λ is. let second : (0x80 ≤ b) × (b ≤ 0xBF) = grind (arith, nat_tests) in
+    inr (inl (((omega arith, omega arith), (second, tt)))))
+    (⊎_elim (λ is. let second : (0xA0 ≤ b) × (b ≤ 0xBF) = grind (arith, nat_tests) in
+    inr (inr (inl (((omega arith, omega arith), (second, tt))))))
+    (⊎_elim (λ is. let second : (0x80 ≤ b) × (b ≤ 0xBF) = grind (arith, nat_tests) in
+    inr (inr (inr (inl (((omega arith, omega arith), (second, tt)))))))
+    (⊎_elim (λ is. let second : (0x80 ≤ b) × (b ≤ 0x9F) = grind (arith, nat_tests) in
+    inr (inr (inr (inr (inl (((omega arith, omega arith), (second, tt))))))))
+    (⊎_elim (λ is. let second : (0x80 ≤ b) × (b ≤ 0xBF) = grind (arith, nat_tests) in
+    inr (inr (inr (inr (inr (inl (((omega arith, omega arith), (second, tt)))))))))
+    (⊎_elim (λ is. let second : (0x90 ≤ b) × (b ≤ 0xBF) = grind (arith, nat_tests) in
+    inr (inr (inr (inr (inr (inr (inl (((omega arith, omega arith), (second, tt))))))))))
+    (⊎_elim (λ is. let second : (0x80 ≤ b) × (b ≤ 0xBF) = grind (arith, nat_tests) in
+    inr (inr (inr (inr (inr (inr (inr (inl (((omega arith, omega arith), (second, tt)))))))))))
+    ((λ is. let second : (0x80 ≤ b) × (b ≤ 0x8F) = grind (arith, nat_tests) in
+    inr (inr (inr (inr (inr (inr (inr (inr (inl (((omega arith, omega arith), (second, tt)))))))))))))))))))
     (row_cases a h))
 
-pub three_begin : (a b d : ℕ) → 0xE0 ≤ a → Leads a → follows a b ≡ true → IsInByteRange trailing_bytes d → IsPrefixOfSequence (a ∷ b ∷ d ∷ [])
+pub three_begin : (a b d : ℕ) → 0xE0 ≤ a → Leads a → follows a b ≡ true → IsInByteRange trailing_bytes d
+    → IsPrefixOfSequence (a ∷ b ∷ d ∷ [])
 three_begin a b d wide h f id = begins_to (a ∷ b ∷ d ∷ [])
     (⊎_elim (λ is. absurd (omega arith))
-    (⊎_elim (λ is. let second : (0xA0 ≤ b) × (b ≤ 0xBF) = grind (arith, nat_tests) in inr (inr (inl (((omega arith, omega arith), (second, (id, tt)))))))
-    (⊎_elim (λ is. let second : (0x80 ≤ b) × (b ≤ 0xBF) = grind (arith, nat_tests) in inr (inr (inr (inl (((omega arith, omega arith), (second, (id, tt))))))))
-    (⊎_elim (λ is. let second : (0x80 ≤ b) × (b ≤ 0x9F) = grind (arith, nat_tests) in inr (inr (inr (inr (inl (((omega arith, omega arith), (second, (id, tt)))))))))
-    (⊎_elim (λ is. let second : (0x80 ≤ b) × (b ≤ 0xBF) = grind (arith, nat_tests) in inr (inr (inr (inr (inr (inl (((omega arith, omega arith), (second, (id, tt))))))))))
-    (⊎_elim (λ is. let second : (0x90 ≤ b) × (b ≤ 0xBF) = grind (arith, nat_tests) in inr (inr (inr (inr (inr (inr (inl (((omega arith, omega arith), (second, (id, tt)))))))))))
-    (⊎_elim (λ is. let second : (0x80 ≤ b) × (b ≤ 0xBF) = grind (arith, nat_tests) in inr (inr (inr (inr (inr (inr (inr (inl (((omega arith, omega arith), (second, (id, tt))))))))))))
-    ((λ is. let second : (0x80 ≤ b) × (b ≤ 0x8F) = grind (arith, nat_tests) in inr (inr (inr (inr (inr (inr (inr (inr (inl (((omega arith, omega arith), (second, (id, tt))))))))))))))))))))
+    (⊎_elim (λ is. let second : (0xA0 ≤ b) × (b ≤ 0xBF) = grind (arith, nat_tests) in
+    inr (inr (inl (((omega arith, omega arith), (second, (id, tt)))))))
+    (⊎_elim (λ is. let second : (0x80 ≤ b) × (b ≤ 0xBF) = grind (arith, nat_tests) in
+    inr (inr (inr (inl (((omega arith, omega arith), (second, (id, tt))))))))
+    (⊎_elim (λ is. let second : (0x80 ≤ b) × (b ≤ 0x9F) = grind (arith, nat_tests) in
+    inr (inr (inr (inr (inl (((omega arith, omega arith), (second, (id, tt)))))))))
+    (⊎_elim (λ is. let second : (0x80 ≤ b) × (b ≤ 0xBF) = grind (arith, nat_tests) in
+    inr (inr (inr (inr (inr (inl (((omega arith, omega arith), (second, (id, tt))))))))))
+    (⊎_elim (λ is. let second : (0x90 ≤ b) × (b ≤ 0xBF) = grind (arith, nat_tests) in
+    inr (inr (inr (inr (inr (inr (inl (((omega arith, omega arith), (second, (id, tt)))))))))))
+    (⊎_elim (λ is. let second : (0x80 ≤ b) × (b ≤ 0xBF) = grind (arith, nat_tests) in
+    inr (inr (inr (inr (inr (inr (inr (inl (((omega arith, omega arith), (second, (id, tt))))))))))))
+    ((λ is. let second : (0x80 ≤ b) × (b ≤ 0x8F) = grind (arith, nat_tests) in
+    inr (inr (inr (inr (inr (inr (inr (inr (inl (((omega arith, omega arith), (second, (id, tt))))))))))))))))))))
     (row_cases a h))
 
 pub one_from : (a : ℕ) → IsPrefixOfSequence (a ∷ []) → (a ≤ 0x7F) ⊎ Leads a
@@ -170,7 +197,8 @@ two_from a b rest h =
     ((λ none. absurd none))))))))))
     (begins_from (a ∷ b ∷ rest) h)
 
-pub three_from : (a b d : ℕ) (rest : List ℕ) → IsPrefixOfSequence (a ∷ b ∷ d ∷ rest) → (0xE0 ≤ a) × IsInByteRange trailing_bytes d
+pub three_from : (a b d : ℕ) (rest : List ℕ) → IsPrefixOfSequence (a ∷ b ∷ d ∷ rest)
+    → (0xE0 ≤ a) × IsInByteRange trailing_bytes d
 three_from a b d rest h =
     ⊎_elim (λ f. absurd f.1)
     (⊎_elim (λ f. absurd f.1.1)
@@ -184,7 +212,8 @@ three_from a b d rest h =
     ((λ none. absurd none))))))))))
     (begins_from (a ∷ b ∷ d ∷ rest) h)
 
-pub four_from : (a b d e : ℕ) (rest : List ℕ) → IsPrefixOfSequence (a ∷ b ∷ d ∷ e ∷ rest) → IsWellFormedSequence (a ∷ b ∷ d ∷ e ∷ [])
+pub four_from : (a b d e : ℕ) (rest : List ℕ) → IsPrefixOfSequence (a ∷ b ∷ d ∷ e ∷ rest)
+    → IsWellFormedSequence (a ∷ b ∷ d ∷ e ∷ [])
 four_from a b d e rest h =
     ⊎_elim (λ f. absurd f.1)
     (⊎_elim (λ f. absurd f.1.1)

@@ -1,9 +1,9 @@
 pub mod Rows
 pub mod Beginnings
-pub mod Parts
+pub mod InvalidSequenceLemmas
 pub mod UnpairedSurrogates
-pub mod LossyReading
-pub mod UnitsReading
-pub mod PairsReading
+pub mod Utf8TextLemmas
+pub mod Utf16TextLemmas
+pub mod Utf16BytesLemmas
 pub mod WorkedExamples
 pub mod ForDecoders

@@ -1,5 +1,6 @@
 -- Errors of UTF-8: the longest valid prefix and the invalid sequence after it (Unicode Standard, 3.9, D93a and D93b).
-use Rattle.std.specs.Prelude.{◌≡◌, ◌↔◌, ◌⊎◌, ℕ, ◌<◌, ◌≤◌, List, ◌++◌, length, take, drop, Option, IsNone, Result, IsOk, IfOk, IfErr, OnErr, unwrap_or}
+use Rattle.std.specs.Prelude.{◌≡◌, ◌↔◌, ◌⊎◌, ℕ, ◌<◌, ◌≤◌, List, ◌++◌, length, take, drop, Option, IsNone, Result, IsOk}
+use Rattle.std.specs.Prelude.{IfOk, IfErr, OnErr, unwrap_or}
 use denote.Ref.{Bor}
 use Rattle.std.specs.Str.{IsUtf8}
 use Rattle.std.specs.Str.Lossy.{utf8_valid_len, utf8_error_len}

@@ -53,19 +53,19 @@ impl Units for LowFirst<'_> {
     ghost units = { λ s. units_of LittleEndian s.bytes.now };
 
     #[inline]
-    #[tactic(auto, using(crate::proofs::PairsReading::units_count))]
+    #[tactic(auto, using(crate::proofs::Utf16BytesLemmas::units_count))]
     fn len(self) -> usize {
         self.bytes.len() / 2
     }
 
     #[inline]
-    #[tactic(auto, using(crate::proofs::PairsReading::units_count))]
+    #[tactic(auto, using(crate::proofs::Utf16BytesLemmas::units_count))]
     fn unit(self, at: usize) -> u16 {
         ByteOrder::LittleEndian.code_unit(self.bytes[2 * at], self.bytes[2 * at + 1])
     }
 
     #[inline]
-    #[tactic(auto, using(crate::proofs::PairsReading::units_count))]
+    #[tactic(auto, using(crate::proofs::Utf16BytesLemmas::units_count))]
     fn block(self, at: usize) -> u16x16 {
         u16x16::from_le_bytes(u8x32::from_slice(&self.bytes[2 * at..]))
     }
@@ -92,19 +92,19 @@ impl Units for HighFirst<'_> {
     ghost units = { λ s. units_of BigEndian s.bytes.now };
 
     #[inline]
-    #[tactic(auto, using(crate::proofs::PairsReading::units_count))]
+    #[tactic(auto, using(crate::proofs::Utf16BytesLemmas::units_count))]
     fn len(self) -> usize {
         self.bytes.len() / 2
     }
 
     #[inline]
-    #[tactic(auto, using(crate::proofs::PairsReading::units_count))]
+    #[tactic(auto, using(crate::proofs::Utf16BytesLemmas::units_count))]
     fn unit(self, at: usize) -> u16 {
         ByteOrder::BigEndian.code_unit(self.bytes[2 * at], self.bytes[2 * at + 1])
     }
 
     #[inline]
-    #[tactic(auto, using(crate::proofs::PairsReading::units_count))]
+    #[tactic(auto, using(crate::proofs::Utf16BytesLemmas::units_count))]
     fn block(self, at: usize) -> u16x16 {
         let swapped = u16x16::from_le_bytes(u8x32::from_slice(&self.bytes[2 * at..]));
         (swapped << u16x16::splat(8)) | (swapped >> u16x16::splat(8))

@@ -176,7 +176,7 @@ fn validate_in_windows(bytes: &[u8], at: usize, width: usize) -> Result<&str, Ut
 }
 
 /// Returns the length of a valid prefix, in whole windows, given that the bytes before `from` are valid. The first
-/// window has `least` bytes, and each further one twice as many as the one before, up to `MAX_WINDOW_LEN`.
+/// window has `least` bytes, and each further one twice the one before, up to `MAX_WINDOW_LEN`.
 fn valid_len_in_windows(bytes: &[u8], from: usize, least: usize) -> usize
     requires within { from ≤ length bytes.now }
     requires text { IsUtf8 (take from bytes.now) }
@@ -209,12 +209,12 @@ fn window_end(bytes: &[u8], at: usize, width: usize) -> usize
     if bytes.len() - at <= width {
         return bytes.len();
     }
-    let end = back_in_character(bytes, at + width);
-    back_in_character(bytes, back_in_character(bytes, end))
+    let end = char_start_before(bytes, at + width);
+    char_start_before(bytes, char_start_before(bytes, end))
 }
 
-/// Steps back one byte if no character can begin at this one.
-fn back_in_character(bytes: &[u8], at: usize) -> usize
+/// Steps back over a continuation byte.
+fn char_start_before(bytes: &[u8], at: usize) -> usize
     requires { (0 < at) × (at < length bytes.now) }
     ensures { (result ≤ at) × (at ≤ result + 1) }
 {
@@ -330,7 +330,7 @@ fn validate_in_order(bytes: &[u8]) -> Result<&str, Utf8Error>
     }
 }
 
-/// One step of a lossy decoder, and the rest.
+/// A valid prefix, the invalid sequence after it, and the remaining bytes.
 #[derive(Clone, Copy, Debug, PartialEq, Eq)]
 pub struct Utf8Chunk<'a> {
     /// The longest valid prefix.
@@ -341,8 +341,7 @@ pub struct Utf8Chunk<'a> {
     pub rest: &'a [u8],
 }
 
-/// Returns the first chunk of bytes whose error is known. Validates nothing again, so that a decoder can find the error
-/// by `validate`.
+/// Returns the first chunk of bytes whose error is known. Does not validate again: `error` must be that of `validate`.
 ///
 /// # Examples
 ///
@@ -369,7 +368,7 @@ pub fn chunk_at(bytes: &[u8], error: Utf8Error) -> Utf8Chunk<'_>
     }
 }
 
-/// Returns the first chunk of the bytes, of three empty parts if there are none.
+/// Returns the first chunk, which is empty if `bytes` is.
 ///
 /// Validates only a few times the bytes before the error, so that a decoder can call it after each invalid sequence.
 /// For mostly valid bytes, `validate` and `chunk_at` are faster.

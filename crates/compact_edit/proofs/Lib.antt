@@ -3,8 +3,8 @@ pub mod Examples
 pub mod BytesMoved
 pub mod PushLemmas
 pub mod PushExamples
-pub mod KeyTexts
-pub mod TakenTexts
+pub mod NameLemmas
+pub mod InternLemmas
 pub mod NameFacts
 pub mod NameExamples
 pub mod ForCallers

@@ -18,22 +18,36 @@ use Rattle.compact_edit.specs.Steps.{Step}
 use Rattle.compact_edit.specs.Runs.{Run, RunsTo}
 
 -- the step of a push, by its clauses
-pub push-step : {P : Type 0} (g : Growth) (v w : PlacedText) (c : ℕ) (r : Result (Unit {0}) ReserveError) (reply : Reply P) → OnOk r (w.text ≡ v.text ++ c ∷ []) → OnOk r (PlacedFor g v w (room_to_append (len_utf8 c)))
-    → OnErr r (AllocatesFor v (room_to_append (len_utf8 c))) → OnErr r (w ≡ v) → MatchResult r (λ _. reply ≡ Done) (λ e. reply ≡ Refused e) → Step g v (Push c) reply w
+pub push-step : {P : Type 0} (g : Growth) (v w : PlacedText) (c : ℕ) (r : Result (Unit {0}) ReserveError)
+    (reply : Reply P) → OnOk r (w.text ≡ v.text ++ c ∷ []) → OnOk r (PlacedFor g v w (room_to_append (len_utf8 c)))
+    → OnErr r (AllocatesFor v (room_to_append (len_utf8 c))) → OnErr r (w ≡ v)
+    → MatchResult r (λ _. reply ≡ Done) (λ e. reply ≡ Refused e) → Step g v (Push c) reply w
 push-step g v w c (Ok _) reply text place asks same is = rw is (tt, (refl, push-from g v w c text place))
 push-step g v w c (Err _) reply text place asks same is = rw is (same, tt, push_allocates-from v c asks)
 
-pub Run-append : {P : Type 0} (g : Growth) (v : PlacedText) (edits : List (Edit P)) (replies : List (Reply P)) (u w : PlacedText) (edit : Edit P) (reply : Reply P) → Run g v edits replies u → Step g u edit reply w → Run g v (edits ++ edit ∷ []) (replies ++ reply ∷ []) w
+pub Run-append : {P : Type 0} (g : Growth) (v : PlacedText) (edits : List (Edit P)) (replies : List (Reply P))
+    (u w : PlacedText) (edit : Edit P) (reply : Reply P) → Run g v edits replies u → Step g u edit reply w
+    → Run g v (edits ++ edit ∷ []) (replies ++ reply ∷ []) w
 Run-append g v [] [] u w edit reply run step = (w, subst (λ (x : PlacedText). Step g x edit reply w) run step, refl)
 Run-append g v [] (r ∷ rs) u w edit reply run step = absurd run
 Run-append g v (e ∷ es) [] u w edit reply run step = absurd run
-Run-append g v (e ∷ es) (r ∷ rs) u w edit reply run step = (run.0, run.1, Run-append g run.0 es rs u w edit reply run.2 step)
+Run-append g v (e ∷ es) (r ∷ rs) u w edit reply run step = (
+  run.0,
+  run.1,
+  Run-append g run.0 es rs u w edit reply run.2 step,
+)
 
-pub RunsTo-append : {P : Type 0} (g : Growth) (v : PlacedText) (edits : List (Edit P)) (before after : List (Reply P)) (u w : PlacedText) (edit : Edit P) (reply : Reply P) → RunsTo g v edits before after u → Step g u edit reply w → RunsTo g v (edits ++ edit ∷ []) before (after ++ reply ∷ []) w
+pub RunsTo-append : {P : Type 0} (g : Growth) (v : PlacedText) (edits : List (Edit P)) (before after : List (Reply P))
+    (u w : PlacedText) (edit : Edit P) (reply : Reply P) → RunsTo g v edits before after u → Step g u edit reply w
+    → RunsTo g v (edits ++ edit ∷ []) before (after ++ reply ∷ []) w
 RunsTo-append g v edits before after u w edit reply runs step =
     (runs.0 ++ reply ∷ [], rw (runs.1, append_assoc) refl, Run-append g v edits runs.0 u w edit reply runs.2 step)
 
 -- the run of the first i edits, and a step of the next
-pub RunsTo-take_more : {P : Type 0} (g : Growth) (v : PlacedText) (edits : List (Edit P)) (i : ℕ) (edit : Edit P) (before after : List (Reply P)) (u w : PlacedText) (reply : Reply P) → i < length edits → edit ≡ get_or edits i edit → RunsTo g v (take i edits) before after u → Step g u edit reply w → RunsTo g v (take (i + 1) edits) before (after ++ reply ∷ []) w
+pub RunsTo-take_more : {P : Type 0} (g : Growth) (v : PlacedText) (edits : List (Edit P)) (i : ℕ) (edit : Edit P)
+    (before after : List (Reply P)) (u w : PlacedText) (reply : Reply P) → i < length edits
+    → edit ≡ get_or edits i edit → RunsTo g v (take i edits) before after u → Step g u edit reply w
+    → RunsTo g v (take (i + 1) edits) before (after ++ reply ∷ []) w
 RunsTo-take_more g v edits i edit before after u w reply h is runs step =
-    rw (take_more edits i edit h) (RunsTo-append g v (take i edits) before after u w (get_or edits i edit) reply runs (subst (λ (e : _). Step g u e reply w) is step))
+    rw (take_more edits i edit h) (RunsTo-append g v (take i edits) before after u w (get_or edits i edit) reply runs
+    (subst (λ (e : _). Step g u e reply w) is step))

@@ -1,5 +1,6 @@
 -- Names by first occurrence, and their numbers.
-use Rattle.std.specs.Prelude.{◌≡◌, ◌<◌, ◌+◌, ◌⊎◌, ℕ, List, [], ◌∷◌, ◌++◌, Bool, false, not, filter, length, map, nat_eq, slice_get, vec_len, vec_capacity, Some}
+use Rattle.std.specs.Prelude.{◌≡◌, ◌<◌, ◌+◌, ◌⊎◌, ℕ, List, [], ◌∷◌, ◌++◌, Bool, false, not, filter, length, map, nat_eq}
+use Rattle.std.specs.Prelude.{slice_get, vec_len, vec_capacity, Some}
 use Rattle.std.specs.Borrow.{Bor}
 use Rattle.std.specs.Global.{Vec}
 use Rattle.std.specs.List.{list_any, AllZip}
@@ -30,7 +31,8 @@ AppendsNumbersOf names texts listed now_listed =
     (numbers : List ℕ) × (now_listed ≡ listed ++ numbers) × AreNumbersOf names texts numbers
 
 -- all texts are interned: the names afterwards, and the numbers, after those that were listed
-pub record InternsAll (before texts : List (List ℕ)) (listed : List ℕ) (after : List (List ℕ)) (now_listed : List ℕ) : Type 0 where
+pub record InternsAll (before texts : List (List ℕ)) (listed : List ℕ) (after : List (List ℕ))
+    (now_listed : List ℕ) : Type 0 where
   pub names : after ≡ distinct_texts (before ++ texts)
   pub numbers : List ℕ
   pub appended : now_listed ≡ listed ++ numbers
@@ -42,7 +44,8 @@ IsRefusal names t (Reserve error) = (contains names t ≡ false) × (length name
 IsRefusal names t Full = (length names ≡ MAX_COUNT) × (contains names t ≡ false)
 
 -- the texts before the first that fails are interned
-pub record InternsUpTo (before texts : List (List ℕ)) (listed : List ℕ) (after : List (List ℕ)) (now_listed : List ℕ) (error : InternError) : Type 0 where
+pub record InternsUpTo (before texts : List (List ℕ)) (listed : List ℕ) (after : List (List ℕ)) (now_listed : List ℕ)
+    (error : InternError) : Type 0 where
   pub taken_texts : List (List ℕ)
   pub refused_text : List ℕ
   pub rest : List (List ℕ)
@@ -51,7 +54,8 @@ pub record InternsUpTo (before texts : List (List ℕ)) (listed : List ℕ) (aft
   pub cause : IsRefusal after refused_text error
 
 -- no text is interned: reserving room for the numbers failed, and the list is unchanged
-pub record HasNoRoomForNumbers (before texts : List (List ℕ)) (listed : Vec ℕ) (after : List (List ℕ)) (now_listed : Vec ℕ) (error : InternError) : Type 0 where
+pub record HasNoRoomForNumbers (before texts : List (List ℕ)) (listed : Vec ℕ) (after : List (List ℕ))
+    (now_listed : Vec ℕ) (error : InternError) : Type 0 where
   pub refused : error ≡ Reserve (record {})
   pub names : after ≡ before
   pub numbers : now_listed.items ≡ listed.items
@@ -60,7 +64,8 @@ pub record HasNoRoomForNumbers (before texts : List (List ℕ)) (listed : Vec �
 -- not all texts are interned: there is no room for their numbers, or one fails
 abbrev pub InternsSome : List (List ℕ) → List (List ℕ) → Vec ℕ → List (List ℕ) → Vec ℕ → InternError → Type 0
 InternsSome before texts listed after now_listed error =
-    HasNoRoomForNumbers before texts listed after now_listed error ⊎ InternsUpTo before texts listed.items after now_listed.items error
+    HasNoRoomForNumbers before texts listed after now_listed error
+    ⊎ InternsUpTo before texts listed.items after now_listed.items error
 
 abbrev pub texts_of : List (Bor (List ℕ)) → List (List ℕ)
 texts_of row = map (λ t. text_of t.now) row

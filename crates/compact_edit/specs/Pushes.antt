@@ -2,7 +2,8 @@
 use Rattle.std.specs.Prelude.{◌≡◌, ℕ, ◌+◌, List, [], ◌∷◌, Bool, not, ◌&&◌, map, nat_eq, if◌then◌else◌}
 use Rattle.std.specs.Borrow.{Bor}
 use Rattle.compact_str.specs.Text.{size}
-use Rattle.compact_str.specs.Value.{Place, inline, heap, static, is_heap_place, is_static_place, Placement, PlacedText, placed_text}
+use Rattle.compact_str.specs.Value.{Place, inline, heap, static, is_heap_place, is_static_place, Placement, PlacedText}
+use Rattle.compact_str.specs.Value.{placed_text}
 use Rattle.compact_str.specs.Capacity.{Growth, inline_placement}
 use Rattle.compact_edit.specs.declared.edit.Edit.{Edit}
 use Rattle.compact_edit.specs.declared.edit.Edit.TheVariants.{PushStr}
@@ -23,9 +24,11 @@ abbrev pub bytes_moved_by_step : PlacedText → PlacedText → ℕ
 bytes_moved_by_step v w = if same_placement v.placement w.placement then 0 else size v.text
 
 -- their sum over a run
-abbrev pub bytes_moved : {P : Type 0} (g : Growth) (v : PlacedText) (edits : List (Edit P)) (replies : List (Reply P)) (w : PlacedText) → Run g v edits replies w → ℕ
+abbrev pub bytes_moved : {P : Type 0} (g : Growth) (v : PlacedText) (edits : List (Edit P)) (replies : List (Reply P))
+    (w : PlacedText) → Run g v edits replies w → ℕ
 bytes_moved g v [] [] w run = 0
-bytes_moved g v (edit ∷ edits) (reply ∷ replies) w run = bytes_moved_by_step v run.0 + bytes_moved g run.0 edits replies w run.2
+bytes_moved g v (edit ∷ edits) (reply ∷ replies) w run = bytes_moved_by_step v run.0
+    + bytes_moved g run.0 edits replies w run.2
 bytes_moved g v [] (reply ∷ replies) w run = 0
 bytes_moved g v (edit ∷ edits) [] w run = 0
 
@@ -42,4 +45,5 @@ abbrev pub PushesTo : (P : Type 0) → Growth → List (Bor (List ℕ)) → Plac
 PushesTo P g texts w bytes count =
     let edits : List (Edit P) = map PushStr texts in
     let empty = placed_text [] inline_placement in
-    (replies : List (Reply P)) × (run : Run g empty edits replies w) × (bytes ≡ bytes_moved g empty edits replies w run) × (count ≡ failure_count replies)
+    (replies : List (Reply P)) × (run : Run g empty edits replies w)
+    × (bytes ≡ bytes_moved g empty edits replies w run) × (count ≡ failure_count replies)

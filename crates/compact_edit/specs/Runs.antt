@@ -14,5 +14,6 @@ Run g v [] (reply ∷ replies) w = ⊥
 Run g v (edit ∷ edits) [] w = ⊥
 
 -- the replies after those of the list are a run
-abbrev pub RunsTo : {P : Type 0} → Growth → PlacedText → List (Edit P) → List (Reply P) → List (Reply P) → PlacedText → Type 0
+abbrev pub RunsTo : {P : Type 0} → Growth → PlacedText → List (Edit P) → List (Reply P) → List (Reply P) → PlacedText
+    → Type 0
 RunsTo {P} g v edits before after w = (replies : List (Reply P)) × (after ≡ before ++ replies) × Run g v edits replies w

@@ -5,12 +5,18 @@ use Rattle.compact_str.specs.Text.{text_of, size}
 use Rattle.compact_str.specs.Cut.{IsBoundary, substring}
 use Rattle.compact_str.specs.Value.{PlacedText}
 use Rattle.compact_str.specs.Capacity.{Growth, with_capacity_allocates, reserve_allocates, make_owned_allocates}
-use Rattle.compact_str.specs.Calls.{new, push_str, push_str_allocates, clear, reserve, truncate, Shrinks, insert_str, replace_range, replace_range_allocates, make_ascii_lowercase, make_ascii_uppercase, retain, zeroize, PopsChar}
+use Rattle.compact_str.specs.Calls.{new, push_str, push_str_allocates, clear, reserve, truncate, Shrinks, insert_str}
+use Rattle.compact_str.specs.Calls.{replace_range, replace_range_allocates, make_ascii_lowercase, make_ascii_uppercase}
+use Rattle.compact_str.specs.Calls.{retain, zeroize, PopsChar}
 use Rattle.compact_str.specs.RetainRules.{retained_text, flag_rule}
-use Rattle.compact_str.specs.Edits.{clone_from, clone_from_allocates, Removes, SplitsOff, split_allocates, repeat, repeat_allocates}
+use Rattle.compact_str.specs.Edits.{clone_from, clone_from_allocates, Removes, SplitsOff, split_allocates, repeat}
+use Rattle.compact_str.specs.Edits.{repeat_allocates}
 use Rattle.compact_str.specs.Ranges.{IsRange, span, range_start, range_end}
 use Rattle.compact_edit.specs.declared.edit.Edit.{Edit}
-use Rattle.compact_edit.specs.declared.edit.Edit.TheVariants.{Push, PushStr, Pop, Insert, InsertStr, Remove, Truncate, Clear, SplitOff, ReplaceRange, Drain, Retain, Reserve, ShrinkTo, ShrinkToFit, MakeLower, MakeUpper, Zeroize, Repeat, CloneFrom}
+use Rattle.compact_edit.specs.declared.edit.Edit.TheVariants.{Push, PushStr, Pop, Insert, InsertStr, Remove, Truncate}
+use Rattle.compact_edit.specs.declared.edit.Edit.TheVariants.{Clear, SplitOff, ReplaceRange, Drain, Retain, Reserve}
+use Rattle.compact_edit.specs.declared.edit.Edit.TheVariants.{ShrinkTo, ShrinkToFit, MakeLower, MakeUpper, Zeroize}
+use Rattle.compact_edit.specs.declared.edit.Edit.TheVariants.{Repeat, CloneFrom}
 use Rattle.compact_edit.specs.declared.edit.Reply.{Reply}
 use Rattle.compact_edit.specs.declared.edit.Reply.TheVariants.{Done, Char, Text, BadPosition, Refused}
 
@@ -27,7 +33,7 @@ IsLegal v Clear = Unit {0}
 IsLegal v (SplitOff p) = IsBoundary v.text p
 IsLegal v (ReplaceRange start end s) = IsRange v.text (span start end)
 IsLegal v (Drain start end) = IsRange v.text (span start end)
-IsLegal v (Retain answers) = Unit {0}
+IsLegal v (Retain flags) = Unit {0}
 IsLegal v (Reserve n) = Unit {0}
 IsLegal v (ShrinkTo n) = Unit {0}
 IsLegal v ShrinkToFit = Unit {0}
@@ -48,9 +54,11 @@ edit_allocates v (Remove p) = make_owned_allocates v
 edit_allocates v (Truncate n) = false
 edit_allocates v Clear = false
 edit_allocates v (SplitOff p) = split_allocates v p
-edit_allocates v (ReplaceRange start end s) = replace_range_allocates v (range_start start) (range_end v.text end) (text_of s.now)
-edit_allocates v (Drain start end) = with_capacity_allocates (size (substring v.text (range_start start) (range_end v.text end))) || make_owned_allocates v
-edit_allocates v (Retain answers) = make_owned_allocates v
+edit_allocates v (ReplaceRange start end s) = replace_range_allocates v (range_start start) (range_end v.text end)
+    (text_of s.now)
+edit_allocates v (Drain start end) = with_capacity_allocates
+    (size (substring v.text (range_start start) (range_end v.text end))) || make_owned_allocates v
+edit_allocates v (Retain flags) = make_owned_allocates v
 edit_allocates v (Reserve n) = reserve_allocates v n
 edit_allocates v (ShrinkTo n) = false
 edit_allocates v ShrinkToFit = false
@@ -77,9 +85,10 @@ EditGives g v (SplitOff p) reply w = (tail : PlacedText) × (reply ≡ Text tail
 EditGives g v (ReplaceRange start end s) reply w =
     (reply ≡ Done) × (replace_range g v (range_start start) (range_end v.text end) (text_of s.now) ≡ Some w)
 EditGives g v (Drain start end) reply w =
-    (range : PlacedText) × (reply ≡ Text range) × (new g (substring v.text (range_start start) (range_end v.text end)) ≡ Some range)
+    (range : PlacedText) × (reply ≡ Text range) × (new g (substring v.text (range_start start) (range_end v.text end))
+    ≡ Some range)
     × (replace_range g v (range_start start) (range_end v.text end) [] ≡ Some w)
-EditGives g v (Retain answers) reply w = (reply ≡ Done) × (retain g v (retained_text flag_rule answers.now v.text) ≡ Some w)
+EditGives g v (Retain flags) reply w = (reply ≡ Done) × (retain g v (retained_text flag_rule flags.now v.text) ≡ Some w)
 EditGives g v (Reserve n) reply w = (reply ≡ Done) × (reserve g v n ≡ Some w)
 EditGives g v (ShrinkTo n) reply w = (reply ≡ Done) × Shrinks g v n w
 EditGives g v ShrinkToFit reply w = (reply ≡ Done) × Shrinks g v 0 w

@@ -262,7 +262,7 @@ impl Interner {
         self.add(text)
     }
 
-    /// Appends a new text. Not inlined, so that the lookup saves no register for it.
+    /// Appends a new text. Not inlined, so that the lookup stays short.
     #[cold]
     #[inline(never)]
     #[tactic(auto, using(crate::proofs::NameFacts::name_facts))]

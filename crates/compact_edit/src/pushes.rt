@@ -19,8 +19,8 @@ pub struct PushReport<P: Policy> {
     pub refused: usize,
 }
 
-/// Pushes each text onto an empty value, in order. A push that fails changes nothing, and the next one goes on. Only a
-/// push that allocates can fail, so none does if the texts have at most 24 bytes together.
+/// Pushes each text onto an empty value, in order. A failed push leaves the string unchanged; the next one is still
+/// tried. Only a push that allocates can fail, so none does if the texts have at most 24 bytes together.
 ///
 /// For a policy that grows by p/q from at least h bytes, and N bytes in the end, `(p - q) * moved` is at most
 /// `(p + q) * N`, and the capacity at most the greater of h and `p * N / q`. Under `Standard`, `moved` is at most five
@@ -56,7 +56,7 @@ pub fn run_pushes<P: Policy>(alloc: Global, texts: &[&str]) -> PushReport<P>
     let mut moved = 0;
     let mut refused = 0;
     for text in texts {
-        match push_counted(&mut value, text) {
+        match push_and_count(&mut value, text) {
             Ok(bytes) => moved += bytes,
             Err(_) => refused += 1,
         }
@@ -72,7 +72,7 @@ pub fn run_pushes<P: Policy>(alloc: Global, texts: &[&str]) -> PushReport<P>
 ///
 /// Compares only the capacities: a push that changes the place changes the capacity too.
 #[tactic(auto, using(compact_str::proofs::Functions::functions))]
-fn push_counted<P: Policy>(value: &mut PolicyString<P>, text: &str) -> Result<u64, ReserveError>
+fn push_and_count<P: Policy>(value: &mut PolicyString<P>, text: &str) -> Result<u64, ReserveError>
     ensures ok { OnOk result (push_str P.growth value.old (text_of text.now) ≡ Some value.new) }
     ensures bytes { IfOk result (λ bytes. bytes ≡ bytes_moved_by_step value.old value.new) }
     ensures allocates { OnErr result (IsTrue (push_str_allocates value.old (text_of text.now))) }

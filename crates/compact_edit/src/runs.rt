@@ -80,8 +80,8 @@ fn apply<P: Policy>(value: &mut PolicyString<P>, edit: &Edit<P>) -> Reply<P>
         Edit::SplitOff(index) => split_off(value, *index),
         Edit::ReplaceRange(start, end, text) => replace_range(value, *start, *end, text),
         Edit::Drain(start, end) => drain(value, *start, *end),
-        Edit::Retain(answers) => reply_to(retain(value, answers)),
-        Edit::Reserve(additional) => reply_to(value.reserve(*additional)),
+        Edit::Retain(flags) => done_reply(retain(value, flags)),
+        Edit::Reserve(additional) => done_reply(value.reserve(*additional)),
         Edit::ShrinkTo(min_capacity) => {
             value.shrink_to(*min_capacity);
             Reply::Done
@@ -90,28 +90,28 @@ fn apply<P: Policy>(value: &mut PolicyString<P>, edit: &Edit<P>) -> Reply<P>
             value.shrink_to_fit();
             Reply::Done
         }
-        Edit::MakeLower => reply_to(value.make_ascii_lowercase()),
-        Edit::MakeUpper => reply_to(value.make_ascii_uppercase()),
+        Edit::MakeLower => done_reply(value.make_ascii_lowercase()),
+        Edit::MakeUpper => done_reply(value.make_ascii_uppercase()),
         Edit::Zeroize => {
             value.zeroize();
             Reply::Done
         }
-        Edit::Repeat(count) => reply_with(value.repeat(*count)),
-        Edit::CloneFrom(source) => reply_to(value.clone_from(source)),
+        Edit::Repeat(count) => text_reply(value.repeat(*count)),
+        Edit::CloneFrom(source) => done_reply(value.clone_from(source)),
     }
 }
 
 fn push<P: Policy>(value: &mut PolicyString<P>, character: char) -> Reply<P>
     ensures { Step P.growth value.old (Edit.Push character) result value.new }
 {
-    reply_to(value.push(character))
+    done_reply(value.push(character))
 }
 
 #[tactic(auto, using(compact_str::proofs::Functions::functions))]
 fn push_str<P: Policy>(value: &mut PolicyString<P>, text: &str) -> Reply<P>
     ensures { Step P.growth value.old (Edit.PushStr text.entry) result value.new }
 {
-    reply_to(value.push_str(text))
+    done_reply(value.push_str(text))
 }
 
 fn insert<P: Policy>(value: &mut PolicyString<P>, index: usize, character: char) -> Reply<P>
@@ -120,7 +120,7 @@ fn insert<P: Policy>(value: &mut PolicyString<P>, index: usize, character: char)
     if !value.is_char_boundary(index) {
         return Reply::BadPosition;
     }
-    reply_to(value.insert(index, character))
+    done_reply(value.insert(index, character))
 }
 
 #[tactic(auto, using(compact_str::proofs::Functions::functions))]
@@ -129,7 +129,7 @@ fn insert_str<P: Policy>(value: &mut PolicyString<P>, index: usize, text: &str) 
 {
     let is_boundary = value.is_char_boundary(index);
     if is_boundary {
-        return reply_to(value.insert_str(index, text));
+        return done_reply(value.insert_str(index, text));
     }
     Reply::BadPosition
 }
@@ -164,7 +164,7 @@ fn split_off<P: Policy>(value: &mut PolicyString<P>, index: usize) -> Reply<P>
     if !value.is_char_boundary(index) {
         return Reply::BadPosition;
     }
-    reply_with(value.split_off(index))
+    text_reply(value.split_off(index))
 }
 
 #[tactic(auto, using(compact_str::proofs::Functions::functions))]
@@ -178,13 +178,13 @@ fn replace_range<P: Policy>(
 {
     match value.check_range(start, end) {
         Some((first, last)) => {
-            reply_to(value.replace_range(Bound::Included(first), Bound::Excluded(last), text))
+            done_reply(value.replace_range(Bound::Included(first), Bound::Excluded(last), text))
         }
         None => Reply::BadPosition,
     }
 }
 
-/// Copies the range before the value becomes owned, so that nothing is changed if either fails.
+/// Copies the range before the value becomes owned, so that a failure of either leaves it unchanged.
 #[tactic(auto, using(compact_str::proofs::Functions::functions))]
 fn drain<P: Policy>(value: &mut PolicyString<P>, start: Bound<usize>, end: Bound<usize>) -> Reply<P>
     ensures { Step P.growth value.old (Edit.Drain start end) result value.new }
@@ -221,34 +221,34 @@ fn copy_of_range<P: Policy>(
 }
 
 /// Keeps the characters whose flag is `true`, and those with no flag.
-fn retain<P: Policy>(value: &mut PolicyString<P>, answers: &[bool]) -> Result<(), ReserveError>
+fn retain<P: Policy>(value: &mut PolicyString<P>, flags: &[bool]) -> Result<(), ReserveError>
     ensures ok { OnOk result
-        (retain P.growth value.old (retained_text flag_rule answers.now value.old.text)
+        (retain P.growth value.old (retained_text flag_rule flags.now value.old.text)
         ≡ Some value.new) }
     ensures allocates { OnErr result (AllocatesFor value.old owned) }
     ensures err { OnErr result (value.new ≡ value.old) }
 {
-    let mut rest = answers;
+    let mut rest = flags;
     value.retain(|_| {
-        let (answer, others) = next_flag(rest);
+        let (flag, others) = next_flag(rest);
         rest = others;
-        answer
+        flag
     })?;
     Ok(())
 }
 
 /// Splits off the first flag; it is `true` if there is none.
-fn next_flag(answers: &[bool]) -> (bool, &[bool])
-    ensures { (result.0 ≡ next_flag answers.now) × (result.1.now ≡ drop 1 answers.now) }
+fn next_flag(flags: &[bool]) -> (bool, &[bool])
+    ensures { (result.0 ≡ next_flag flags.now) × (result.1.now ≡ drop 1 flags.now) }
 {
-    match answers.split_first() {
-        Some((answer, others)) => (*answer, others),
-        None => (true, answers),
+    match flags.split_first() {
+        Some((flag, others)) => (*flag, others),
+        None => (true, flags),
     }
 }
 
 /// Converts the result of an edit that returns nothing.
-fn reply_to<P: Policy>(outcome: Result<(), ReserveError>) -> Reply<P>
+fn done_reply<P: Policy>(outcome: Result<(), ReserveError>) -> Reply<P>
     ensures { MatchResult outcome (λ _. result ≡ Reply.Done) (λ e. result ≡ Reply.Refused e) }
 {
     match outcome {
@@ -258,7 +258,7 @@ fn reply_to<P: Policy>(outcome: Result<(), ReserveError>) -> Reply<P>
 }
 
 /// Converts the result of an edit that returns a text.
-fn reply_with<P: Policy>(outcome: Result<PolicyString<P>, ReserveError>) -> Reply<P>
+fn text_reply<P: Policy>(outcome: Result<PolicyString<P>, ReserveError>) -> Reply<P>
     ensures { MatchResult outcome (λ t. result ≡ Reply.Text t) (λ e. result ≡ Reply.Refused e) }
 {
     match outcome {

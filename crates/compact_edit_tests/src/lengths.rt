@@ -4,7 +4,7 @@ use crate::asserts::assert_that;
 use crate::replies::assert_all;
 use compact_edit::{Edit, run};
 use compact_str::Standard;
-use compact_testing::seen::is_inline;
+use compact_testing::checks::is_inline;
 use compact_testing::values::short;
 use std::alloc::Global;
 use std::ops::Bound::{Excluded, Included, Unbounded};

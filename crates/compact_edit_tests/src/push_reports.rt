@@ -4,9 +4,9 @@ use crate::asserts::{assert_equal, assert_that};
 use compact_asserts::that;
 use compact_edit::{PushReport, run_pushes};
 use compact_str::{Policy, PolicyString, Standard};
+use compact_testing::checks::{is_heap, is_inline};
 use compact_testing::policies::{Double, Large, Slow};
-use compact_testing::seen::{is_heap, is_inline};
-use compact_testing::values::{append, letters};
+use compact_testing::values::{append, ascii_text};
 use std::alloc::Global;
 use std::process::Abort;
 
@@ -39,7 +39,7 @@ fn assert_pushed<P: Policy>(
     moved: u64,
 ) {
     let report = run_pushes::<P>(alloc, texts);
-    assert_that(rt, is_heap(&report.value, capacity, letters(count)));
+    assert_that(rt, is_heap(&report.value, capacity, ascii_text(count)));
     assert_counts(rt, &report, moved, 0);
 }
 
@@ -55,14 +55,14 @@ fn each_growth_moves_the_text(rt: HostRuntime) {
     let rt = &rt;
     let alloc = rt.alloc();
     let texts = [
-        letters(24),
-        letters(1),
-        letters(12),
-        letters(1),
-        letters(18),
-        letters(2),
+        ascii_text(24),
+        ascii_text(1),
+        ascii_text(12),
+        ascii_text(1),
+        ascii_text(18),
+        ascii_text(2),
     ];
-    assert_pushed_inline::<Standard>(rt, alloc, &texts[..1], letters(24));
+    assert_pushed_inline::<Standard>(rt, alloc, &texts[..1], ascii_text(24));
     assert_pushed::<Standard>(rt, alloc, &texts[..2], 36, 25, 24);
     assert_pushed::<Standard>(rt, alloc, &texts[..3], 37, 37, 49);
     assert_pushed::<Standard>(rt, alloc, &texts[..4], 55, 38, 86);
@@ -95,8 +95,8 @@ fn a_thousand_bytes_are_pushed_one_by_one(rt: HostRuntime) {
 fn buffers_double(rt: HostRuntime) {
     let rt = &rt;
     let alloc = rt.alloc();
-    let texts = [letters(24), "a", letters(24), "a", "a"];
-    assert_pushed_inline::<Double>(rt, alloc, &texts[..1], letters(24));
+    let texts = [ascii_text(24), "a", ascii_text(24), "a", "a"];
+    assert_pushed_inline::<Double>(rt, alloc, &texts[..1], ascii_text(24));
     assert_pushed::<Double>(rt, alloc, &texts[..2], 48, 25, 24);
     assert_pushed::<Double>(rt, alloc, &texts[..3], 50, 49, 49);
     assert_pushed::<Double>(rt, alloc, &texts[..4], 50, 50, 49);
@@ -107,15 +107,15 @@ fn buffers_double(rt: HostRuntime) {
 fn buffers_grow_by_a_quarter(rt: HostRuntime) {
     let rt = &rt;
     let alloc = rt.alloc();
-    assert_pushed::<Slow>(rt, alloc, &[letters(25)], 25, 25, 0);
-    assert_pushed::<Slow>(rt, alloc, &[letters(25), "a"], 31, 26, 25);
-    let made = PolicyString::<Slow>::new(alloc, letters(25));
-    assert_that(rt, is_heap(&made.expect(rt, "memory"), 25, letters(25)));
+    assert_pushed::<Slow>(rt, alloc, &[ascii_text(25)], 25, 25, 0);
+    assert_pushed::<Slow>(rt, alloc, &[ascii_text(25), "a"], 31, 26, 25);
+    let made = PolicyString::<Slow>::new(alloc, ascii_text(25));
+    assert_that(rt, is_heap(&made.expect(rt, "memory"), 25, ascii_text(25)));
 }
 
 #[test]
 fn a_first_buffer_is_large(rt: HostRuntime) {
-    assert_pushed::<Large>(&rt, rt.alloc(), &[letters(25)], 4096, 25, 0);
+    assert_pushed::<Large>(&rt, rt.alloc(), &[ascii_text(25)], 4096, 25, 0);
 }
 
 #[test]
@@ -123,25 +123,25 @@ fn a_shrink_keeps_the_least_capacity(rt: HostRuntime) {
     let rt = &rt;
     let made = PolicyString::<Large>::with_capacity(rt.alloc(), 8192);
     let mut value = made.expect(rt, "memory");
-    append(&mut value, letters(30)).expect(rt, "memory");
-    assert_that(rt, is_heap(&value, 8192, letters(30)));
+    append(&mut value, ascii_text(30)).expect(rt, "memory");
+    assert_that(rt, is_heap(&value, 8192, ascii_text(30)));
     value.shrink_to_fit();
-    assert_that(rt, is_heap(&value, 4096, letters(30)));
+    assert_that(rt, is_heap(&value, 4096, ascii_text(30)));
 }
 
 #[test]
 fn another_policy_owns_in_its_own_least_buffer(rt: HostRuntime) {
     let rt = &rt;
-    let mut value = PolicyString::<Large>::const_new(rt.alloc(), letters(30));
+    let mut value = PolicyString::<Large>::const_new(rt.alloc(), ascii_text(30));
     remove_first(rt, &mut value);
-    assert_that(rt, is_heap(&value, 4096, letters(29)));
+    assert_that(rt, is_heap(&value, 4096, ascii_text(29)));
     insert(rt, &mut value, 0);
-    assert_that(rt, is_heap(&value, 4096, letters(30)));
+    assert_that(rt, is_heap(&value, 4096, ascii_text(30)));
 }
 
 #[test]
 fn another_policy_inserts_in_its_own_least_buffer(rt: HostRuntime) {
-    let mut value = PolicyString::<Large>::const_new(rt.alloc(), letters(30));
+    let mut value = PolicyString::<Large>::const_new(rt.alloc(), ascii_text(30));
     insert(&rt, &mut value, 30);
-    assert_that(&rt, is_heap(&value, 4096, letters(31)));
+    assert_that(&rt, is_heap(&value, 4096, ascii_text(31)));
 }

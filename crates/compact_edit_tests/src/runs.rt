@@ -3,8 +3,8 @@
 use crate::asserts::{assert_equal, assert_that};
 use compact_edit::{Edit, Reply, run};
 use compact_str::{CompactString, Standard};
-use compact_testing::seen::{is_heap, is_inline};
-use compact_testing::values::{letters, short};
+use compact_testing::checks::{is_heap, is_inline};
+use compact_testing::values::{ascii_text, short};
 use std::alloc::Global;
 use std::ops::Bound::{Excluded, Included};
 use std::process::Abort;
@@ -25,12 +25,12 @@ fn replies_to(
 fn each_edit_of_a_list_is_run(rt: HostRuntime) {
     let rt = &rt;
     let alloc = rt.alloc();
-    let mut value = short(alloc, letters(3));
+    let mut value = short(alloc, ascii_text(3));
     let edits = [Edit::PushStr("a"), Edit::Reserve(100), Edit::ShrinkTo(50)];
     let replies = replies_to(rt, alloc, &mut value, &edits);
     let all = matches!(replies.as_slice(), [Reply::Done, Reply::Done, Reply::Done]);
     assert_that(rt, all);
-    assert_that(rt, is_heap(&value, 50, letters(4)));
+    assert_that(rt, is_heap(&value, 50, ascii_text(4)));
 }
 
 #[test]

@@ -26,7 +26,8 @@ the_greatest_of_64_bits : decimal 18446744073709551615 ≡ codes "18446744073709
 unfolding digits
 the_greatest_of_64_bits = refl
 
-the_greatest_of_128_bits : decimal 340282366920938463463374607431768211455 ≡ codes "340282366920938463463374607431768211455"
+the_greatest_of_128_bits : decimal 340282366920938463463374607431768211455
+    ≡ codes "340282366920938463463374607431768211455"
 unfolding digits
 the_greatest_of_128_bits = refl
 
@@ -42,7 +43,8 @@ the_least_of_64_bits : signed_decimal (negsuc 9223372036854775807) ≡ codes "-9
 unfolding digits
 the_least_of_64_bits = refl
 
-the_least_of_128_bits : signed_decimal (negsuc 170141183460469231731687303715884105727) ≡ codes "-170141183460469231731687303715884105728"
+the_least_of_128_bits : signed_decimal (negsuc 170141183460469231731687303715884105727)
+    ≡ codes "-170141183460469231731687303715884105728"
 unfolding digits
 the_least_of_128_bits = refl
 
@@ -59,17 +61,20 @@ seven_has_three_noughts_before_it = refl
 two_before_three_are_five : prepended_number (le_number (codes "345")) (codes "12") ≡ le_number (codes "12345")
 two_before_three_are_five = refl
 
-twenty_characters_stand_inline : new standard (signed_decimal (negsuc 9223372036854775807)) ≡ Some (placed_text (codes "-9223372036854775808") inline_placement)
+twenty_characters_are_inline : new standard (signed_decimal (negsuc 9223372036854775807))
+    ≡ Some (placed_text (codes "-9223372036854775808") inline_placement)
 unfolding digits
-twenty_characters_stand_inline = refl
+twenty_characters_are_inline = refl
 
-forty_characters_stand_on_the_heap : new standard (signed_decimal (negsuc 170141183460469231731687303715884105727)) ≡ Some (placed_text (codes "-170141183460469231731687303715884105728") (heap_placement 40))
+forty_characters_are_on_the_heap : new standard (signed_decimal (negsuc 170141183460469231731687303715884105727))
+    ≡ Some (placed_text (codes "-170141183460469231731687303715884105728") (heap_placement 40))
 unfolding digits
-forty_characters_stand_on_the_heap = refl
+forty_characters_are_on_the_heap = refl
 
-thirty_nine_characters_stand_on_the_heap : new standard (decimal 340282366920938463463374607431768211455) ≡ Some (placed_text (codes "340282366920938463463374607431768211455") (heap_placement 39))
+thirty_nine_characters_are_on_the_heap : new standard (decimal 340282366920938463463374607431768211455)
+    ≡ Some (placed_text (codes "340282366920938463463374607431768211455") (heap_placement 39))
 unfolding digits
-thirty_nine_characters_stand_on_the_heap = refl
+thirty_nine_characters_are_on_the_heap = refl
 
 the_texts_of_a_bool : bool_text true ≡ codes "true"
 the_texts_of_a_bool = refl

@@ -15,8 +15,10 @@ pub use Rattle.compact_str.proofs.ForCallers.{text_of-char}
 pub text_of-signed : (z : ℤ) → mag z < 2 ^ 63 → text_of (signed_decimal z) ≡ signed_decimal z
 text_of-signed z h = chars-IsAscii (signed_decimal z) (IsAscii-signed z h)
 
-pub text_of-signed_append : (z : ℤ) (bytes : List ℕ) → mag z < 2 ^ 63 → text_of (signed_decimal z ++ bytes) ≡ signed_decimal z ++ text_of bytes
+pub text_of-signed_append : (z : ℤ) (bytes : List ℕ) → mag z < 2 ^ 63
+    → text_of (signed_decimal z ++ bytes) ≡ signed_decimal z ++ text_of bytes
 text_of-signed_append z bytes h =
-    chars-append (signed_decimal z) bytes (IsUtf8-from_ascii (signed_decimal z) (IsAscii-signed z h)) ∙ ap (λ t. t ++ text_of bytes) (text_of-signed z h)
+    chars-append (signed_decimal z) bytes (IsUtf8-from_ascii (signed_decimal z) (IsAscii-signed z h))
+    ∙ ap (λ t. t ++ text_of bytes) (text_of-signed z h)
 
 pub ruleset shown_facts = (text_of-char, text_of-signed, text_of-signed_append)

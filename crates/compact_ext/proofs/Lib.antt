@@ -1,12 +1,12 @@
 pub mod NumberTexts
 pub mod Digits
-pub mod ShownTexts
-pub mod Collecting
+pub mod TextCopyLemmas
+pub mod FormatLemmas
 pub mod ForCallers
 pub mod Examples
-pub mod WireForms
-pub mod PackedRooms
-pub mod RecordLists
+pub mod WireLemmas
+pub mod PackedBuffers
+pub mod WireRecordLemmas
 pub mod WireFacts
 pub mod WireExamples
 pub mod TakenLines

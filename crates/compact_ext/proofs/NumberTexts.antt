@@ -8,7 +8,7 @@ use Rattle.std.specs.Str.{IsAscii, IsUtf8}
 use Rattle.compact_str.specs.Text.{size, text_of}
 use Rattle.compact_repr.specs.Packed.{IsPackedFor, packed_bytes}
 use Rattle.compact_text.proofs.Texts.{size-text_of}
-use Rattle.compact_repr.proofs.PackedTexts.{stands-packed}
+use Rattle.compact_repr.proofs.PackedTexts.{packs-text}
 use Rattle.compact_str.specs.Value.{PlacedText}
 use Rattle.compact_str.specs.Capacity.{Growth, inline_placement}
 use Rattle.compact_str.specs.Words.{IsPlacedAsNew}
@@ -29,11 +29,14 @@ pub text_of-number : (s : Bool) (n : ℕ) → n < 2 ^ 64 → text_of (number_tex
 text_of-number s n h = chars-IsAscii _ (IsAscii-number s n h)
 
 -- the packed bytes of a number are those of its text
-pub number-stands : (s : Bool) (n : ℕ) (row : List ℕ) → n < 2 ^ 64 → row ≡ packed_bytes (number_text s n) → IsPackedFor row (number_text s n)
-number-stands s n row h e =
+pub number-is_packed : (s : Bool) (n : ℕ) (row : List ℕ) → n < 2 ^ 64 → row ≡ packed_bytes (number_text s n)
+    → IsPackedFor row (number_text s n)
+number-is_packed s n row h e =
     let few : length (number_text s n) ≤ 21 = length-number s n h in
-    let stands : IsPackedFor (packed_bytes (number_text s n)) (text_of (number_text s n)) = stands-packed (number_text s n) (IsUtf8-number s n h) (omega arith) in
-    subst (λ (bytes : List ℕ). IsPackedFor bytes (number_text s n)) (sym e) (subst (λ (t : List ℕ). IsPackedFor (packed_bytes (number_text s n)) t) (text_of-number s n h) stands)
+    let stands : IsPackedFor (packed_bytes (number_text s n)) (text_of (number_text s n)) =
+    packs-text (number_text s n) (IsUtf8-number s n h) (omega arith) in
+    subst (λ (bytes : List ℕ). IsPackedFor bytes (number_text s n)) (sym e)
+    (subst (λ (t : List ℕ). IsPackedFor (packed_bytes (number_text s n)) t) (text_of-number s n h) stands)
 
 pub size-number : (s : Bool) (n : ℕ) → n < 2 ^ 64 → size (number_text s n) ≤ 21
 size-number s n h =
@@ -44,4 +47,4 @@ size-number s n h =
 pub new-short : (g : Growth) (v : PlacedText) → size v.text ≤ 24 → v.placement ≡ inline_placement → IsPlacedAsNew g v
 new-short g v h e = grind (arith, common_steps)
 
-pub ruleset number_values = (size-number, new-short)
+pub ruleset number_facts = (size-number, new-short)

@@ -1,5 +1,6 @@
 -- The wire form of a text, and the results of writing and reading it.
-use Rattle.std.specs.Prelude.{ℕ, ◌≡◌, ◌+◌, ◌*◌, ◌^◌, ◌≤◌, ◌<◌, List, ◌++◌, length, take, drop, min, max, Option, Some, Result, MatchResult, IsUtf8, ⊤}
+use Rattle.std.specs.Prelude.{ℕ, ◌≡◌, ◌+◌, ◌*◌, ◌^◌, ◌≤◌, ◌<◌, List, ◌++◌, length, take, drop, min, max, Option, Some}
+use Rattle.std.specs.Prelude.{Result, MatchResult, IsUtf8, ⊤}
 use Rattle.std.specs.Int.{w32, to_le_bytes, from_le_bytes}
 use Rattle.std.specs.Io.KnownBytes.{Appends, Consumes, Keeps, IsAtEnd}
 use Rattle.compact_str.specs.Text.{IsText, size, utf8}

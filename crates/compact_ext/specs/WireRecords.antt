@@ -1,5 +1,6 @@
 -- Iterating over wire forms.
-use Rattle.std.specs.Prelude.{◌≡◌, ◌<◌, ◌==◌, ◌++◌, ◌+◌, ℕ, List, [], ◌∷◌, length, drop, map, if◌then◌else◌, Option, None, Some, Result, Ok, Err, IfSome, ◌⊎◌, MatchOption, MatchResult, flat_map, IsUtf8, ⊤}
+use Rattle.std.specs.Prelude.{◌≡◌, ◌<◌, ◌==◌, ◌++◌, ◌+◌, ℕ, List, [], ◌∷◌, length, drop, map, if◌then◌else◌, Option}
+use Rattle.std.specs.Prelude.{None, Some, Result, Ok, Err, IfSome, ◌⊎◌, MatchOption, MatchResult, flat_map, IsUtf8, ⊤}
 use Rattle.std.specs.Global.{Vec}
 use Rattle.std.specs.Io.{StartsWith}
 use Rattle.std.specs.Io.KnownBytes.{Consumes, IsAtEnd, Keeps}

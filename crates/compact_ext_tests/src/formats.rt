@@ -4,8 +4,8 @@ use crate::asserts::{assert_equal, assert_that};
 use compact_asserts::that_for;
 use compact_ext::{ToCompactStringError, format_compact};
 use compact_str::{CompactString, ReserveError};
-use compact_testing::seen::is_inline;
-use compact_testing::values::letters;
+use compact_testing::checks::is_inline;
+use compact_testing::values::ascii_text;
 use std::alloc::Global;
 use std::fmt;
 use std::fmt::Display;
@@ -67,9 +67,9 @@ fn arguments_may_have_names(rt: HostRuntime) {
 fn up_to_24_bytes_are_inline_and_more_on_the_heap(rt: HostRuntime) {
     let rt = &rt;
     let alloc = rt.alloc();
-    let made = format_compact!(in alloc; "{}{}", letters(20), 1234);
+    let made = format_compact!(in alloc; "{}{}", ascii_text(20), 1234);
     is(rt, made, "aaaaaaaaaaaaaaaaaaaa1234");
-    let text = text_of(rt, format_compact!(in alloc; "{}{}", letters(20), 12345));
+    let text = text_of(rt, format_compact!(in alloc; "{}{}", ascii_text(20), 12345));
     assert_that(rt, text.is_heap_allocated());
     assert_equal(rt, text.as_str(), "aaaaaaaaaaaaaaaaaaaa12345");
 }
@@ -93,7 +93,7 @@ fn a_display_that_fails_is_no_failed_allocation(rt: HostRuntime) {
         &rt,
         failed.err() == Some(ToCompactStringError::Fmt(fmt::Error)),
     );
-    let failed = format_compact!(in alloc; "{}{}", letters(40), Failing);
+    let failed = format_compact!(in alloc; "{}{}", ascii_text(40), Failing);
     assert_that(
         &rt,
         failed.err() == Some(ToCompactStringError::Fmt(fmt::Error)),

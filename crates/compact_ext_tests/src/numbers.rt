@@ -3,8 +3,8 @@
 use crate::asserts::{assert_equal, assert_that};
 use compact_ext::ToCompactString;
 use compact_str::CompactString;
-use compact_testing::seen::{is_at, is_heap, is_inline};
-use compact_testing::values::{letters, short, string_with_room};
+use compact_testing::checks::{is_at, is_heap, is_inline};
+use compact_testing::values::{ascii_text, short, string_with_room};
 use std::alloc::Global;
 use std::borrow::CowStr;
 use std::boxed::BoxedStr;
@@ -117,7 +117,7 @@ fn other_values_have_these_texts(rt: HostRuntime) {
 
 /// Asserts the text of a value of 30 characters, on the heap with the minimum capacity.
 fn assert_thirty<T: ToCompactString + Drop>(rt: &impl Abort, alloc: Global, value: T) {
-    assert_that(rt, is_heap(&shown(rt, alloc, value), 32, letters(30)));
+    assert_that(rt, is_heap(&shown(rt, alloc, value), 32, ascii_text(30)));
 }
 
 #[test]
@@ -126,12 +126,12 @@ fn boxes_and_cows_have_these_texts(rt: HostRuntime) {
     let alloc = rt.alloc();
     let short = BoxedStr::from_str(alloc, "äb").expect(rt, "memory");
     assert_shown(rt, alloc, short, "äb");
-    let long = BoxedStr::from_str(alloc, letters(30)).expect(rt, "memory");
+    let long = BoxedStr::from_str(alloc, ascii_text(30)).expect(rt, "memory");
     assert_thirty(rt, alloc, long);
     let owned = string_with_room(alloc, 256, "abc").expect(rt, "memory");
     assert_shown(rt, alloc, CowStr::Owned(owned), "abc");
     assert_shown(rt, alloc, CowStr::Borrowed("äb"), "äb");
-    assert_thirty(rt, alloc, CowStr::Borrowed(letters(30)));
+    assert_thirty(rt, alloc, CowStr::Borrowed(ascii_text(30)));
 }
 
 /// Asserts the bytes of an inline value.

@@ -3,9 +3,9 @@
 use crate::asserts::{assert_equal, assert_that};
 use compact_ext::{ReadLineError, read_line};
 use compact_str::CompactString;
-use compact_testing::pieces::{Pieces, Stop};
-use compact_testing::seen::{is_at, is_inline};
-use compact_testing::values::{lasting, letters, short};
+use compact_testing::checks::{is_at, is_inline};
+use compact_testing::stopping_io::{Pieces, Stop};
+use compact_testing::values::{ascii_text, lasting, short};
 use std::alloc::Global;
 use std::io;
 use std::io::{BufRead, BufReader, ErrorKind};
@@ -73,7 +73,7 @@ fn an_empty_input_has_no_line(rt: HostRuntime) {
     let rt = &rt;
     let mut line = lasting(rt.alloc(), 30);
     let mut reader = b"".as_slice();
-    assert_reads(rt, &mut reader, &mut line, 0, letters(30));
+    assert_reads(rt, &mut reader, &mut line, 0, ascii_text(30));
     assert_that(rt, line.as_static_str().is_some());
 }
 
@@ -96,12 +96,18 @@ fn a_string_is_used_again(rt: HostRuntime) {
     let alloc = rt.alloc();
     let mut reader = b"aaaaaaaaaaaaaaaaaaaaaaaaaaaaa\naaaaaaaaaaaaaaa".as_slice();
     let mut line = lasting(alloc, 0);
-    assert_reads(rt, &mut reader, &mut line, 30, "aaaaaaaaaaaaaaaaaaaaaaaaaaaaa\n");
+    assert_reads(
+        rt,
+        &mut reader,
+        &mut line,
+        30,
+        "aaaaaaaaaaaaaaaaaaaaaaaaaaaaa\n",
+    );
     assert_that(rt, line.is_heap_allocated());
     let capacity = line.capacity();
     line.clear();
-    assert_reads(rt, &mut reader, &mut line, 15, letters(15));
-    assert_that(rt, is_at(&line, "heap", capacity, letters(15)));
+    assert_reads(rt, &mut reader, &mut line, 15, ascii_text(15));
+    assert_that(rt, is_at(&line, "heap", capacity, ascii_text(15)));
 }
 
 #[test]

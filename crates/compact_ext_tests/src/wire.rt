@@ -2,12 +2,12 @@
 //! hand from the definition of the form.
 
 use crate::asserts::{assert_equal, assert_that};
-use crate::wire_forms::{assert_writes, end_of, form_of, form_of_letters};
+use crate::wire_forms::{assert_writes, end_of, form_of, form_of_ascii};
 use compact_ext::wire::{WireError, read_wire, write_wire};
 use compact_str::{CompactString, ReserveError};
-use compact_testing::pieces::{Narrow, Pieces, Stop};
-use compact_testing::seen::is_inline;
-use compact_testing::values::{letters, short, value_of};
+use compact_testing::checks::is_inline;
+use compact_testing::stopping_io::{Narrow, Pieces, Stop};
+use compact_testing::values::{ascii_text, short, value_of};
 use std::alloc::Global;
 use std::io;
 use std::io::ErrorKind;
@@ -37,8 +37,8 @@ fn short_texts_are_written(rt: HostRuntime) {
 fn long_texts_are_written(rt: HostRuntime) {
     let alloc = rt.alloc();
     for len in [25u8, 55] {
-        let form = form_of_letters(&rt, alloc, len);
-        assert_written(&rt, alloc, letters(len as usize), &form);
+        let form = form_of_ascii(&rt, alloc, len);
+        assert_written(&rt, alloc, ascii_text(len as usize), &form);
     }
 }
 
@@ -87,7 +87,7 @@ fn an_input_that_is_no_form_has_a_fault(rt: HostRuntime) {
     ] {
         assert_no_form(rt, alloc, bytes, fault);
     }
-    let form = form_of_letters(rt, alloc, 55);
+    let form = form_of_ascii(rt, alloc, 55);
     assert_equal(rt, form.len(), 59);
     assert_no_form(rt, alloc, form.get(..58).unwrap_or(&[]), "end");
 }
@@ -140,7 +140,7 @@ fn assert_each_stop(rt: &impl Abort, alloc: Global, form: &[u8]) {
 fn no_read_is_tried_again(rt: HostRuntime) {
     let alloc = rt.alloc();
     assert_each_stop(&rt, alloc, &[2, 0, 0, 0, 0x48, 0x69]);
-    let form = form_of_letters(&rt, alloc, 55);
+    let form = form_of_ascii(&rt, alloc, 55);
     assert_each_stop(&rt, alloc, &form);
 }
 
@@ -191,7 +191,7 @@ fn texts_of_each_length_come_back(rt: HostRuntime) {
     let mut bytes = Vec::new(alloc);
     for count in 0..80 {
         let sent = write_wire(
-            &value_of(alloc, letters(count)).expect(rt, "memory"),
+            &value_of(alloc, ascii_text(count)).expect(rt, "memory"),
             &mut bytes,
         );
         assert_that(rt, sent.is_ok());
@@ -199,7 +199,7 @@ fn texts_of_each_length_come_back(rt: HostRuntime) {
     let mut rest = bytes.as_slice();
     for count in 0..80 {
         let text = read_wire(alloc, &mut rest).expect(rt, "a text");
-        assert_equal(rt, text.as_str(), letters(count));
+        assert_equal(rt, text.as_str(), ascii_text(count));
         assert_that(rt, text.is_heap_allocated() == (count > 24));
     }
     assert_equal(rt, rest.len(), 0);

@@ -3,7 +3,7 @@
 use crate::asserts::assert_equal;
 use compact_ext::wire::{WireError, write_wire};
 use compact_str::CompactString;
-use compact_testing::pieces::Narrow;
+use compact_testing::stopping_io::Narrow;
 use std::alloc::Global;
 use std::process::Abort;
 
@@ -50,6 +50,6 @@ pub fn form_of(rt: &impl Abort, alloc: Global, len: u8, letter: &[u8], count: us
 }
 
 /// Builds the form of `count` times `a`, at most 255.
-pub fn form_of_letters(rt: &impl Abort, alloc: Global, count: u8) -> Vec<u8> {
+pub fn form_of_ascii(rt: &impl Abort, alloc: Global, count: u8) -> Vec<u8> {
     form_of(rt, alloc, count, b"a", count as usize)
 }

@@ -4,9 +4,9 @@ use crate::asserts::{assert_equal, assert_that};
 use crate::wire_forms::end_of;
 use compact_ext::wire::{Records, WireError};
 use compact_str::CompactString;
-use compact_testing::pieces::{Pieces, Stop};
-use compact_testing::seen::{is_at, is_inline};
-use compact_testing::values::letters;
+use compact_testing::checks::{is_at, is_inline};
+use compact_testing::stopping_io::{Pieces, Stop};
+use compact_testing::values::ascii_text;
 use std::alloc::Global;
 use std::io::{BufRead, BufReader, ErrorKind};
 use std::process::Abort;
@@ -182,10 +182,10 @@ fn long_records_have_just_their_room(rt: HostRuntime) {
     let rt = &rt;
     let alloc = rt.alloc();
     for len in [25, 31, 32, 33, 63, 64, 80] {
-        let bytes = with_another(rt, alloc, letters(len).as_bytes());
-        assert_long_and_another(rt, alloc, bytes.as_slice(), letters(len));
+        let bytes = with_another(rt, alloc, ascii_text(len).as_bytes());
+        assert_long_and_another(rt, alloc, bytes.as_slice(), ascii_text(len));
         let reader = BufReader::with_capacity(alloc, 8, bytes.as_slice()).expect(rt, "a buffer");
-        assert_long_and_another(rt, alloc, reader, letters(len));
+        assert_long_and_another(rt, alloc, reader, ascii_text(len));
     }
 }
 

@@ -1,12 +1,12 @@
 //! Wire forms in pieces: a reader that ends at each of its bytes, and a writer that stops at each.
 
 use crate::asserts::{assert_equal, assert_that};
-use crate::wire_forms::{assert_writes, end_of, form_of_letters};
+use crate::wire_forms::{assert_writes, end_of, form_of_ascii};
 use compact_ext::wire::{Records, WireError, read_wire, write_wire};
 use compact_str::CompactString;
-use compact_testing::pieces::{Narrow, Pieces, Stop};
-use compact_testing::seen::is_at;
-use compact_testing::values::{letters, value_of};
+use compact_testing::checks::is_at;
+use compact_testing::stopping_io::{Narrow, Pieces, Stop};
+use compact_testing::values::{ascii_text, value_of};
 use std::alloc::Global;
 use std::io::{BufReader, ErrorKind};
 use std::process::Abort;
@@ -24,20 +24,23 @@ fn assert_beginnings(rt: &impl Abort, alloc: Global, form: &[u8], step: usize) {
 fn each_beginning_of_a_form_ends_too_early(rt: HostRuntime) {
     let rt = &rt;
     let alloc = rt.alloc();
-    let short = form_of_letters(rt, alloc, 24);
+    let short = form_of_ascii(rt, alloc, 24);
     assert_equal(rt, short.len(), 28);
     assert_beginnings(rt, alloc, &short, 1);
     assert_beginnings(rt, alloc, &short, 5);
-    let long = form_of_letters(rt, alloc, 30);
+    let long = form_of_ascii(rt, alloc, 30);
     assert_beginnings(rt, alloc, &long, 1);
     assert_beginnings(rt, alloc, &long, 5);
 }
 
 /// Asserts the place of a text of `count` bytes that is read byte by byte.
 fn assert_byte_by_byte(rt: &impl Abort, alloc: Global, count: u8, place: &str, capacity: usize) {
-    let form = form_of_letters(rt, alloc, count);
+    let form = form_of_ascii(rt, alloc, count);
     let text = read_wire(alloc, &mut Pieces::new(&form, 1, Stop::Never)).expect(rt, "a text");
-    assert_that(rt, is_at(&text, place, capacity, letters(count as usize)));
+    assert_that(
+        rt,
+        is_at(&text, place, capacity, ascii_text(count as usize)),
+    );
 }
 
 #[test]
@@ -78,8 +81,8 @@ fn assert_sent(rt: &impl Abort, text: &CompactString, stop: Stop, end: &str, out
 fn a_long_text_stops_at_each_byte(rt: HostRuntime) {
     let rt = &rt;
     let alloc = rt.alloc();
-    let text = value_of(alloc, letters(30)).expect(rt, "memory");
-    let form = form_of_letters(rt, alloc, 30);
+    let text = value_of(alloc, ascii_text(30)).expect(rt, "memory");
+    let form = form_of_ascii(rt, alloc, 30);
     assert_sent(rt, &text, Stop::Never, "done", &form);
     for call in 1..form.len() + 1 {
         let out = form.get(..call - 1).unwrap_or(&[]);
@@ -127,10 +130,10 @@ fn kind_of<T>(ended: &Result<T, WireError>) -> Option<ErrorKind> {
 
 /// Asserts that `read_wire`, `write_wire` and `Records` return the error of a call that fails with this kind.
 fn assert_kind(rt: &impl Abort, alloc: Global, kind: ErrorKind) {
-    let form = form_of_letters(rt, alloc, 30);
+    let form = form_of_ascii(rt, alloc, 30);
     let mut reader = Pieces::new(&form, 30, Stop::Fails(2, kind));
     assert_that(rt, kind_of(&read_wire(alloc, &mut reader)) == Some(kind));
-    let text = value_of(alloc, letters(30)).expect(rt, "memory");
+    let text = value_of(alloc, ascii_text(30)).expect(rt, "memory");
     let mut writer = Narrow::new(256, 256, Stop::Fails(2, kind));
     assert_that(rt, kind_of(&write_wire(&text, &mut writer)) == Some(kind));
     let pieces = Pieces::new(&form, 30, Stop::Fails(1, kind));
@@ -155,7 +158,7 @@ fn a_reader_that_has_all_bytes_is_called_twice(rt: HostRuntime) {
     let rt = &rt;
     let alloc = rt.alloc();
     for count in [24, 80] {
-        let form = form_of_letters(rt, alloc, count);
+        let form = form_of_ascii(rt, alloc, count);
         let mut reader = Pieces::new(&form, 100, Stop::Never);
         assert_that(rt, read_wire(alloc, &mut reader).is_ok());
         assert_equal(rt, reader.calls, 2);
@@ -166,8 +169,8 @@ fn a_reader_that_has_all_bytes_is_called_twice(rt: HostRuntime) {
 fn a_writer_that_takes_all_bytes_is_called_twice(rt: HostRuntime) {
     let rt = &rt;
     let alloc = rt.alloc();
-    let text = value_of(alloc, letters(80)).expect(rt, "memory");
+    let text = value_of(alloc, ascii_text(80)).expect(rt, "memory");
     let writer = Narrow::new(256, 256, Stop::Breaks(3, ErrorKind::Other));
-    let form = form_of_letters(rt, alloc, 80);
+    let form = form_of_ascii(rt, alloc, 80);
     assert_writes(rt, &text, writer, "done", &form);
 }

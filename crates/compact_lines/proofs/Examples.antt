@@ -27,7 +27,8 @@ pub line-clonefrom : line_command (codes "clonefrom x") ≡ Some (commands.Clone
 unfolding is_utf8 chars lib.Utf8.encode
 line-clonefrom = refl
 
-pub line-pushstr : line_command (codes "pushstr  x ") ≡ Some (commands.Edit (edits.PushStr (reference_to (codes " x "))))
+pub line-pushstr : line_command (codes "pushstr  x ") ≡ Some
+    (commands.Edit (edits.PushStr (reference_to (codes " x "))))
 unfolding is_utf8 chars lib.Utf8.encode
 line-pushstr = refl
 
@@ -56,11 +57,13 @@ pub line-insert : line_command (codes "insert 3 z") ≡ Some (commands.Edit (edi
 unfolding is_utf8 chars lib.Utf8.encode
 line-insert = refl
 
-pub line-insertstr : line_command (codes "insertstr 10 a b") ≡ Some (commands.Edit (edits.InsertStr 10 (reference_to (codes "a b"))))
+pub line-insertstr : line_command (codes "insertstr 10 a b")
+    ≡ Some (commands.Edit (edits.InsertStr 10 (reference_to (codes "a b"))))
 unfolding is_utf8 chars lib.Utf8.encode
 line-insertstr = refl
 
-pub line-insertstr-no_text : line_command (codes "insertstr 3") ≡ Some (commands.Edit (edits.InsertStr 3 (reference_to [])))
+pub line-insertstr-no_text : line_command (codes "insertstr 3")
+    ≡ Some (commands.Edit (edits.InsertStr 3 (reference_to [])))
 unfolding is_utf8 chars lib.Utf8.encode
 line-insertstr-no_text = refl
 
@@ -84,11 +87,13 @@ pub line-repeat : line_command (codes "repeat 2") ≡ Some (commands.Edit (edits
 unfolding is_utf8 chars lib.Utf8.encode
 line-repeat = refl
 
-pub line-replace : line_command (codes "replace 1 - xy") ≡ Some (commands.Edit (edits.ReplaceRange (Included 1) Unbounded (reference_to (codes "xy"))))
+pub line-replace : line_command (codes "replace 1 - xy") ≡ Some
+    (commands.Edit (edits.ReplaceRange (Included 1) Unbounded (reference_to (codes "xy"))))
 unfolding is_utf8 chars lib.Utf8.encode
 line-replace = refl
 
-pub line-replace-no_text : line_command (codes "replace - 4") ≡ Some (commands.Edit (edits.ReplaceRange Unbounded (Excluded 4) (reference_to [])))
+pub line-replace-no_text : line_command (codes "replace - 4")
+    ≡ Some (commands.Edit (edits.ReplaceRange Unbounded (Excluded 4) (reference_to [])))
 unfolding is_utf8 chars lib.Utf8.encode
 line-replace-no_text = refl
 
@@ -96,7 +101,8 @@ pub line-drain : line_command (codes "drain 2 5") ≡ Some (commands.Edit (edits
 unfolding is_utf8 chars lib.Utf8.encode
 line-drain = refl
 
-pub line-retain : line_command (codes "retain 101") ≡ Some (commands.Edit (edits.Retain (reference_to (true ∷ false ∷ true ∷ []))))
+pub line-retain : line_command (codes "retain 101") ≡ Some (commands.Edit
+    (edits.Retain (reference_to (true ∷ false ∷ true ∷ []))))
 unfolding is_utf8 chars lib.Utf8.encode
 line-retain = refl
 
@@ -120,7 +126,8 @@ pub line-reserve : line_command (codes "reserve 64") ≡ Some (commands.Edit (ed
 unfolding is_utf8 chars lib.Utf8.encode
 line-reserve = refl
 
-pub line-shrinkto-greatest : line_command (codes "shrinkto 18446744073709551615") ≡ Some (commands.Edit (edits.ShrinkTo 18446744073709551615))
+pub line-shrinkto-greatest : line_command (codes "shrinkto 18446744073709551615")
+    ≡ Some (commands.Edit (edits.ShrinkTo 18446744073709551615))
 unfolding is_utf8 chars lib.Utf8.encode
 line-shrinkto-greatest = refl
 
@@ -148,9 +155,9 @@ pub none-trailing-space : line_command (codes "clear ") ≡ None
 unfolding is_utf8 chars lib.Utf8.encode
 none-trailing-space = refl
 
-pub none-bad-answer : line_command (codes "retain 012") ≡ None
+pub none-bad-flag : line_command (codes "retain 012") ≡ None
 unfolding is_utf8 chars lib.Utf8.encode
-none-bad-answer = refl
+none-bad-flag = refl
 
 pub none-two-characters : line_command (codes "push ab") ≡ None
 unfolding is_utf8 chars lib.Utf8.encode

@@ -1,5 +1,6 @@
 -- The command of a line, if it is one.
-use Rattle.std.specs.Prelude.{ℕ, ◌+◌, ◌^◌, Bool, ◌&&◌, ◌||◌, List, [], ◌∷◌, ◌==◌, nat_lt, map, length, drop, codes, Option, Some, None, if◌then◌else◌}
+use Rattle.std.specs.Prelude.{ℕ, ◌+◌, ◌^◌, Bool, ◌&&◌, ◌||◌, List, [], ◌∷◌, ◌==◌, nat_lt, map, length, drop, codes}
+use Rattle.std.specs.Prelude.{Option, Some, None, if◌then◌else◌}
 use Rattle.std.specs.Option.{option_map, unwrap_or}
 use Rattle.std.specs.Borrow.{Bor}
 use Rattle.std.specs.List.{before_first, position, list_all}
@@ -24,7 +25,7 @@ abbrev pub edit_itself : Edit Standard → Edit Standard
 edit_itself (edits.PushStr s) = edits.PushStr (reference_to s.now)
 edit_itself (edits.InsertStr p s) = edits.InsertStr p (reference_to s.now)
 edit_itself (edits.ReplaceRange start end s) = edits.ReplaceRange start end (reference_to s.now)
-edit_itself (edits.Retain answers) = edits.Retain (reference_to answers.now)
+edit_itself (edits.Retain flags) = edits.Retain (reference_to flags.now)
 edit_itself (edits.CloneFrom source) = edits.CloneFrom (reference_to source.now)
 edit_itself edit = edit
 
@@ -113,12 +114,14 @@ insert_edit rest = and_then (number_of (word_of rest)) (λ p. and_then (rest_of 
 
 -- N TEXT
 abbrev pub insert_str_edit : List ℕ → Option (Edit Standard)
-insert_str_edit rest = option_map (λ p. edits.InsertStr p (reference_to (unwrap_or (rest_of rest) []))) (number_of (word_of rest))
+insert_str_edit rest = option_map (λ p. edits.InsertStr p (reference_to (unwrap_or (rest_of rest) [])))
+    (number_of (word_of rest))
 
 -- S E TEXT
 abbrev pub replace_edit : List ℕ → Option (Edit Standard)
 replace_edit rest = and_then (rest_of rest) (λ ends. and_then (start_of (word_of rest)) (λ start.
-    option_map (λ end. edits.ReplaceRange start end (reference_to (unwrap_or (rest_of ends) []))) (end_of (word_of ends))))
+    option_map (λ end. edits.ReplaceRange start end (reference_to (unwrap_or (rest_of ends) [])))
+    (end_of (word_of ends))))
 
 -- S E
 abbrev pub drain_edit : List ℕ → Option (Edit Standard)

@@ -1,5 +1,6 @@
--- The answers to the lines of the input. A line ends with the byte 10, which the last may lack.
-use Rattle.std.specs.Prelude.{◌≡◌, ◌<◌, ℕ, List, [], ◌∷◌, ◌++◌, ◌⊎◌, length, flat_map, codes, Option, None, Some, IfSome, Result, Ok, Err}
+-- The output for the lines of the input. A line ends with the byte 10, which the last may lack.
+use Rattle.std.specs.Prelude.{◌≡◌, ◌<◌, ℕ, List, [], ◌∷◌, ◌++◌, ◌⊎◌, length, flat_map, codes, Option, None, Some}
+use Rattle.std.specs.Prelude.{IfSome, Result, Ok, Err}
 use Rattle.std.specs.Borrow.{Bor}
 use Rattle.std.specs.Option.{option_map}
 use Rattle.std.specs.List.{concat}
@@ -51,7 +52,7 @@ abbrev pub outcome_line : Result (Reply Standard) ReserveError → List ℕ
 outcome_line (Ok reply) = reply_line reply
 outcome_line (Err e) = codes "refused\n"
 
--- from s, the command may give this answer and state t; no command gives a mark and s
+-- from s, the command may write this line and lead to t; a line that is no command writes a mark and leaves s
 abbrev pub AnswersCommand : State → Option Command → List ℕ → State → Type 0
 AnswersCommand s None answer t = (answer ≡ codes "?\n") × (t ≡ s)
 AnswersCommand s (Some command) answer t =
@@ -62,19 +63,20 @@ AnswersCommand s (Some command) answer t =
 abbrev pub AnswersLine : State → List ℕ → List ℕ → State → Type 0
 AnswersLine s line answer t = AnswersCommand s (line_command line) answer t
 
--- from s, a command leads to t, and the writer's bytes grew by its answer
+-- from s, a command leads to t, and the writer's bytes grew by its output
 pub record AppendsAnswer (s : State) (command : Option Command) (old new : Option (List ℕ)) (t : State) : Type 0 where
   pub answer : List ℕ
   pub answers : AnswersCommand s command answer t
   pub written : Appends old new answer
 
--- the same, but by a prefix of the answer
-pub record AppendsAnswerFront (s : State) (command : Option Command) (old new : Option (List ℕ)) (t : State) : Type 0 where
+-- the same, but by a prefix of the output
+pub record AppendsAnswerFront (s : State) (command : Option Command) (old new : Option (List ℕ)) (t : State) : Type
+    0 where
   pub answer : List ℕ
   pub answers : AnswersCommand s command answer t
   pub written : AppendsFront old new answer
 
--- the writer's bytes are unchanged, or grew by a prefix of an answer to the line from s
+-- the writer's bytes are unchanged, or grew by a prefix of the output for the line from s
 abbrev pub AppendsPart : State → List ℕ → Option (List ℕ) → Option (List ℕ) → Type 0
 AppendsPart s line old new = Keeps old new ⊎ ((t : State) × AppendsAnswerFront s (line_command line) old new t)
 
@@ -82,14 +84,14 @@ AppendsPart s line old new = Keeps old new ⊎ ((t : State) × AppendsAnswerFron
 abbrev pub IsFirstLine : Option (List ℕ) → List ℕ → Type 0
 IsFirstLine known line = IfSome known (λ bytes. (0 < length bytes) × (line ≡ first_piece 10 bytes))
 
--- from s, the first lines of the known bytes may give these answers, one by one, and end with t and these bytes left
+-- from s, the first lines of the known bytes may write these, one by one, and end with t and these bytes left
 abbrev pub AnswersLines : State → Option (List ℕ) → List (List ℕ) → Option (List ℕ) → State → Type 0
 AnswersLines s known [] left t = (left ≡ known) × (t ≡ s)
 AnswersLines s known (answer ∷ answers) left t =
     (line : List ℕ) × (u : State) × IsFirstLine known line × AnswersLine s line answer u
     × AnswersLines u (option_map (λ bytes. drop_through 10 bytes) known) answers left t
 
--- from s, the writer's bytes grew by the answers to all lines of the known bytes, which end with t
+-- from s, the writer's bytes grew by the output for all lines of the known bytes, which end with t
 pub record AppendsAnswers (s : State) (known old new : Option (List ℕ)) (t : State) : Type 0 where
   pub answers : List (List ℕ)
   pub left : Option (List ℕ)
@@ -97,7 +99,7 @@ pub record AppendsAnswers (s : State) (known old new : Option (List ℕ)) (t : S
   pub end : IsAtEnd left
   pub written : Appends old new (concat answers)
 
--- from s, they grew by a prefix of the answers to some first lines, or none
+-- from s, they grew by a prefix of the output for some first lines, or none
 pub record AppendsSomeAnswers (s : State) (known old new : Option (List ℕ)) : Type 0 where
   pub answers : List (List ℕ)
   pub left : Option (List ℕ)
@@ -105,11 +107,11 @@ pub record AppendsSomeAnswers (s : State) (known old new : Option (List ℕ)) : 
   pub lines : AnswersLines s known answers left last
   pub written : AppendsFront old new (concat answers)
 
--- from the empty value on, all lines of the known bytes were answered
+-- from the empty value on, all lines of the known bytes were run
 pub record AnswersInput (known old new : Option (List ℕ)) : Type 0 where
   pub last : State
   pub all : AppendsAnswers first_state known old new last
 
--- from the empty value on, some first lines were answered, perhaps in part
+-- from the empty value on, some first lines were run, perhaps in part
 abbrev pub AnswersInPart : Option (List ℕ) → Option (List ℕ) → Option (List ℕ) → Type 0
 AnswersInPart known old new = AppendsSomeAnswers first_state known old new

@@ -1,5 +1,6 @@
 -- The effect of a command on the program's value.
-use Rattle.std.specs.Prelude.{◌≡◌, List, Bool, true, false, not, [], ◌||◌, replicate, length, Some, IsTrue, Result, Ok, Err}
+use Rattle.std.specs.Prelude.{◌≡◌, List, Bool, true, false, not, [], ◌||◌, replicate, length, Some, IsTrue, Result, Ok}
+use Rattle.std.specs.Prelude.{Err}
 use Rattle.std.specs.Borrow.{Bor}
 use Rattle.compact_str.specs.Text.{text_of}
 use Rattle.compact_str.specs.Value.{PlacedText, placed_text}
@@ -23,13 +24,14 @@ pub record State : Type 0 where
 abbrev pub first_state : State
 first_state = record { value = placed_text [] inline_placement; has_room = false }
 
--- from v, the command may give this reply and the value w
+-- from v, the command may return this reply and lead to w
 abbrev pub Executes : PlacedText → Command → Reply Standard → PlacedText → Type 0
 Executes v (New s) reply w = (reply ≡ Done) × (new standard_growth (text_of s.now) ≡ Some w)
 Executes v Static reply w = (reply ≡ Done) × (w.placement ≡ static_placement w.text) × (w.text ≡ replicate 30 97)
 Executes v (WithCapacity n) reply w = (reply ≡ Done) × (with_capacity standard_growth n ≡ Some w)
 Executes v (CloneFrom s) reply w =
-    (source : Bor PlacedText) × (new standard_growth (text_of s.now) ≡ Some source.now) × Step standard_growth v (edits.CloneFrom source) reply w
+    (source : Bor PlacedText) × (new standard_growth (text_of s.now) ≡ Some source.now)
+    × Step standard_growth v (edits.CloneFrom source) reply w
 Executes v (Retain flags) reply w =
     (kept : Bor (List Bool)) × (kept.now ≡ flags.items) × Step standard_growth v (edits.Retain kept) reply w
 Executes v (Edit edit) reply w = Step standard_growth v edit reply w

@@ -1,4 +1,4 @@
-//! Answering the lines of a reader on a writer.
+//! Running commands from a reader, and writing their results.
 ghost use Rattle.std.specs.Prelude.{◌≡◌, ◌≤◌, OnErr, OnOk, Some};
 ghost use Rattle.std.specs.Fmt.{decimal};
 ghost use Rattle.std.specs.Io.BufRead.{strip_last};
@@ -22,28 +22,26 @@ use std::io::{BufRead, BufReader, Read, Write};
 ///
 /// A command writes two lines: its outcome, and the value as `PLACE LENGTH CAPACITY TEXT`. The outcome is `refused` if
 /// allocation fails, for a value or for room for the reply to an edit; the first edit makes that room, and it is kept.
-/// A line that is no command writes the one line `?` and changes nothing. Each answer is written in pieces, then
-/// flushed.
+/// For an unknown command, writes the one line `?`. The output of a line is written in pieces, then flushed.
 ///
-/// If the reader's bytes are known, 0 means that all their lines were answered, one by one from the empty value on; if
-/// the writer's are known too, that it has appended just these answers. 1 means that it has appended a prefix of the
-/// answers to some first lines.
+/// If the reader's bytes are known, 0 means that all their lines were run, one by one from the empty value; if the
+/// writer's are known too, that their output was appended, and nothing else. 1 means that a prefix of it was.
 pub fn run_lines<R: Read, W: Write>(alloc: Global, reader: &mut R, writer: &mut W) -> u8
-    // 0 if all lines were answered, 1 if it stopped before or within an answer.
+    // 0 if all lines were run, 1 if it stopped before a line or within its output.
     ensures status { result ≤ 1 }
     ensures answers { result ≡ 0
         → AnswersInput (R.remaining reader.old) (W.contents writer.old) (W.contents writer.new) }
     ensures stopped { result ≡ 1
         → AnswersInPart (R.remaining reader.old) (W.contents writer.old) (W.contents writer.new) }
 {
-    match answer_input(alloc, reader, writer) {
+    match run_reader(alloc, reader, writer) {
         Ok(()) => 0,
         Err(_) => 1,
     }
 }
 
-/// Answers each line of a reader, starting from the empty value.
-fn answer_input<R: Read, W: Write>(alloc: Global, reader: &mut R, writer: &mut W) -> io::Result<()>
+/// Runs each line of a reader, starting from the empty value.
+fn run_reader<R: Read, W: Write>(alloc: Global, reader: &mut R, writer: &mut W) -> io::Result<()>
     ensures ok { OnOk result
         (AnswersInput (R.remaining reader.old) (W.contents writer.old) (W.contents writer.new)) }
     ensures err { OnErr result
@@ -51,11 +49,11 @@ fn answer_input<R: Read, W: Write>(alloc: Global, reader: &mut R, writer: &mut W
 {
     let mut reader = BufReader::new(alloc, reader)?;
     let mut session = Session::new(alloc);
-    answer_lines(alloc, &mut session, &mut reader, writer)
+    run_each_line(alloc, &mut session, &mut reader, writer)
 }
 
-/// Answers each line, flushing before the next is read.
-fn answer_lines<B: BufRead, W: Write>(
+/// Runs each line, flushing before the next is read.
+fn run_each_line<B: BufRead, W: Write>(
     alloc: Global,
     session: &mut Session,
     reader: &mut B,
@@ -72,7 +70,7 @@ fn answer_lines<B: BufRead, W: Write>(
         if reader.read_until(b'\n', &mut line)? == 0 {
             return Ok(());
         }
-        answer_line(alloc, session, without_end(line.as_slice()), writer)?;
+        run_line(alloc, session, without_end(line.as_slice()), writer)?;
         writer.flush()?;
     }
     // Unreachable in practice: no program runs for that many lines.
@@ -90,7 +88,7 @@ fn without_end(line: &[u8]) -> &[u8]
     }
 }
 
-fn answer_line<W: Write>(
+fn run_line<W: Write>(
     alloc: Global,
     session: &mut Session,
     line: &[u8],
@@ -105,17 +103,13 @@ fn answer_line<W: Write>(
         return write_texts(&["?\n"], writer);
     };
     match parse(alloc, line)? {
-        Some(command) => answer_command(session, command, writer),
+        Some(command) => run_command(session, command, writer),
         None => write_texts(&["?\n"], writer),
     }
 }
 
 /// Runs a command and writes its two lines.
-fn answer_command<W: Write>(
-    session: &mut Session,
-    command: Command,
-    writer: &mut W,
-) -> io::Result<()>
+fn run_command<W: Write>(session: &mut Session, command: Command, writer: &mut W) -> io::Result<()>
     ensures ok { OnOk result (AppendsAnswer session.old (Some command.entry)
         (W.contents writer.old) (W.contents writer.new) session.new) }
     ensures err { OnErr result (AppendsAnswerFront session.old (Some command.entry)

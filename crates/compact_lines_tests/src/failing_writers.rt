@@ -2,7 +2,7 @@
 
 use crate::asserts::assert_equal;
 use compact_lines::run_lines;
-use compact_testing::pieces::{Narrow, Pieces, Stop};
+use compact_testing::stopping_io::{Narrow, Pieces, Stop};
 use std::alloc::Global;
 use std::io::ErrorKind;
 use std::process::Abort;
@@ -10,7 +10,7 @@ use std::process::Abort;
 /// Three commands and a line that is no command: lines of 8, 8, 1 and 7 bytes.
 const INPUT: &[u8] = b"new abc\npush \xC3\xA4\n\nrepeat\n";
 
-/// The bytes read before one more line is answered, and the output then.
+/// The bytes read before one more line is run, and the output then.
 const ANSWERS: [(usize, &str); 5] = [
     (0, ""),
     (8, "done\ninline 3 24 abc\n"),
@@ -42,7 +42,7 @@ fn assert_read(rt: &impl Abort, alloc: Global, stop: Stop, status: u8, written: 
 }
 
 #[test]
-fn a_reader_that_fails_leaves_the_answers_before(rt: HostRuntime) {
+fn a_reader_that_fails_leaves_the_earlier_output(rt: HostRuntime) {
     let alloc = rt.alloc();
     for given in 0..INPUT.len() + 1 {
         let stop = Stop::Fails(given + 1, ErrorKind::Other);

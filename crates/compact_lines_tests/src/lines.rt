@@ -148,7 +148,7 @@ fn the_last_line_may_lack_its_end(rt: HostRuntime) {
 }
 
 /// The line `pushstr` with a million `a`s.
-fn a_million_letters(rt: &impl Abort, alloc: Global) -> Vec<u8> {
+fn a_million_characters(rt: &impl Abort, alloc: Global) -> Vec<u8> {
     let mut line = Vec::with_capacity(alloc, 1_000_009).expect(rt, "memory");
     line.extend_from_slice(b"pushstr ").expect(rt, "memory");
     for _ in 0..1_000_000 {
@@ -162,7 +162,7 @@ fn a_million_letters(rt: &impl Abort, alloc: Global) -> Vec<u8> {
 fn a_line_of_a_million_bytes_is_read(rt: HostRuntime) {
     let rt = &rt;
     let alloc = rt.alloc();
-    let input = a_million_letters(rt, alloc);
+    let input = a_million_characters(rt, alloc);
     let mut output = Vec::new(alloc);
     assert_equal(rt, run_lines(alloc, &mut input.as_slice(), &mut output), 0);
     // `done`, then place, length and capacity are 26 bytes; the text and its newline follow.

@@ -95,6 +95,6 @@ done\n\
 inline 1 24 a\n";
 
 #[test]
-fn the_bounds_of_a_command_are_told(rt: HostRuntime) {
+fn commands_at_their_bounds_are_run(rt: HostRuntime) {
     assert_sessions(&rt, rt.alloc(), BOUNDS);
 }

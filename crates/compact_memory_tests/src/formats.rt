@@ -4,9 +4,9 @@ use crate::asserts::{assert_equal, assert_that};
 use compact_asserts::that_for;
 use compact_ext::{ToCompactString, ToCompactStringError, format_compact};
 use compact_str::{CompactString, ReserveError};
+use compact_testing::checks::is_inline;
 use compact_testing::memory::take_all;
-use compact_testing::seen::is_inline;
-use compact_testing::values::{letters, string_with_room};
+use compact_testing::values::{ascii_text, string_with_room};
 use std::alloc::Global;
 use std::borrow::CowStr;
 use std::boxed::BoxedStr;
@@ -21,7 +21,7 @@ struct Hiding(usize);
 impl Display for Hiding {
     fn fmt<W: fmt::Write>(&self, f: &mut fmt::Formatter<W>) -> fmt::Result {
         for _ in 0..self.0 {
-            let _failed = f.write_str(letters(30)).is_err();
+            let _failed = f.write_str(ascii_text(30)).is_err();
         }
         Ok(())
     }
@@ -61,17 +61,17 @@ fn assert_fails<T: ToCompactString>(rt: &impl Abort, alloc: Global, value: &T) {
 fn boxes_and_cows_of_24_bytes_need_no_memory(rt: HostRuntime) {
     let rt = &rt;
     let alloc = rt.alloc();
-    let short = BoxedStr::from_str(alloc, letters(24)).expect(rt, "memory");
-    let long = BoxedStr::from_str(alloc, letters(30)).expect(rt, "memory");
+    let short = BoxedStr::from_str(alloc, ascii_text(24)).expect(rt, "memory");
+    let long = BoxedStr::from_str(alloc, ascii_text(30)).expect(rt, "memory");
     let hog = take_all(alloc).expect(rt, "room for the list of blocks");
-    is(rt, short.to_compact_string(alloc), letters(24));
+    is(rt, short.to_compact_string(alloc), ascii_text(24));
     is(
         rt,
-        CowStr::Borrowed(letters(24)).to_compact_string(alloc),
-        letters(24),
+        CowStr::Borrowed(ascii_text(24)).to_compact_string(alloc),
+        ascii_text(24),
     );
     assert_fails(rt, alloc, &long);
-    assert_fails(rt, alloc, &CowStr::Borrowed(letters(30)));
+    assert_fails(rt, alloc, &CowStr::Borrowed(ascii_text(30)));
     drop(hog);
 }
 
@@ -90,6 +90,6 @@ fn a_failure_that_a_display_hides_is_reported(rt: HostRuntime) {
     );
     drop(hog);
     let text = format_compact!(in alloc; "{}", Hiding(2)).expect(rt, "memory");
-    assert_equal(rt, text.as_str(), letters(60));
+    assert_equal(rt, text.as_str(), ascii_text(60));
     assert_that(rt, text.is_heap_allocated());
 }

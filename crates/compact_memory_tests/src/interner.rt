@@ -3,7 +3,7 @@
 use crate::asserts::{assert_equal, assert_that};
 use compact_edit::{InternError, Interner};
 use compact_testing::memory::take_all;
-use compact_testing::values::letters;
+use compact_testing::values::ascii_text;
 use std::alloc::Global;
 use std::process::Abort;
 
@@ -49,11 +49,11 @@ fn a_name_already_in_the_table_needs_no_memory(rt: HostRuntime) {
     is_number(rt, &mut names, long(), 3);
     let hog = take_all(alloc).expect(rt, "room for the list of blocks");
     is_number(rt, &mut names, "a", 0);
-    assert_fails(rt, &mut names, letters(30), 4);
+    assert_fails(rt, &mut names, ascii_text(30), 4);
     is_number(rt, &mut names, long(), 3);
     drop(hog);
     assert_equal(rt, names.name(3), Some(long()));
-    is_number(rt, &mut names, letters(30), 4);
+    is_number(rt, &mut names, ascii_text(30), 4);
 }
 
 #[test]
@@ -74,9 +74,9 @@ fn the_table_cannot_be_allocated_after_the_copy_of_a_text(rt: HostRuntime) {
     let room = Vec::<u8>::with_capacity(alloc, 32).expect(rt, "a spare block");
     let hog = take_all(alloc).expect(rt, "room for the list of blocks");
     drop(room);
-    assert_fails(rt, &mut names, letters(30), 0);
+    assert_fails(rt, &mut names, ascii_text(30), 0);
     drop(hog);
-    is_number(rt, &mut names, letters(30), 0);
+    is_number(rt, &mut names, ascii_text(30), 0);
 }
 
 /// Returns the numbers 0 to 7 in a list that is full.
@@ -109,7 +109,7 @@ fn the_texts_before_the_one_that_fails_have_their_numbers(rt: HostRuntime) {
     numbers.push(7).expect(rt, "memory");
     is_number(rt, &mut names, "a", 0);
     is_number(rt, &mut names, "b", 1);
-    let texts = ["b", "a", letters(30), "b"];
+    let texts = ["b", "a", ascii_text(30), "b"];
     assert_all_fails(rt, alloc, &mut names, &texts, &mut numbers);
     assert_equal(rt, numbers.as_slice(), [7, 1, 0].as_slice());
     assert_equal(rt, names.len(), 2);

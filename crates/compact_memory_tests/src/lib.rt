@@ -5,11 +5,11 @@
 #[cfg(test)]
 mod asserts;
 #[cfg(test)]
+mod endless_reader;
+#[cfg(test)]
 mod formats;
 #[cfg(test)]
 mod interner;
-#[cfg(test)]
-mod letters;
 #[cfg(test)]
 mod pushes;
 #[cfg(test)]

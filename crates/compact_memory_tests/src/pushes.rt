@@ -3,10 +3,10 @@
 use crate::asserts::{assert_equal, assert_that};
 use compact_edit::{PushReport, run_pushes};
 use compact_str::{Policy, Standard};
+use compact_testing::checks::{is_heap, is_inline};
 use compact_testing::memory::take_all;
 use compact_testing::policies::Slow;
-use compact_testing::seen::{is_heap, is_inline};
-use compact_testing::values::letters;
+use compact_testing::values::ascii_text;
 use std::alloc::Global;
 use std::process::Abort;
 
@@ -31,16 +31,16 @@ fn assert_one_fails(
     drop(block);
     let report = run_pushes::<Standard>(alloc, texts);
     drop(hog);
-    assert_that(rt, is_heap(&report.value, room, letters(count)));
+    assert_that(rt, is_heap(&report.value, room, ascii_text(count)));
     assert_counts(rt, &report, moved, 1);
 }
 
 #[test]
 fn the_pushes_before_and_after_one_that_fails_succeed(rt: HostRuntime) {
     for (texts, room, count, moved) in [
-        ([letters(24), letters(40), "a"].as_slice(), 36, 25, 24),
-        ([letters(70), letters(30)].as_slice(), 32, 30, 0),
-        ([letters(30), letters(30)].as_slice(), 32, 30, 0),
+        ([ascii_text(24), ascii_text(40), "a"].as_slice(), 36, 25, 24),
+        ([ascii_text(70), ascii_text(30)].as_slice(), 32, 30, 0),
+        ([ascii_text(30), ascii_text(30)].as_slice(), 32, 30, 0),
     ] {
         assert_one_fails(&rt, rt.alloc(), texts, room, count, moved);
     }
@@ -49,10 +49,10 @@ fn the_pushes_before_and_after_one_that_fails_succeed(rt: HostRuntime) {
 #[test]
 fn without_memory_only_what_fits_inline_is_pushed(rt: HostRuntime) {
     let alloc = rt.alloc();
-    let texts = [letters(20), letters(5), letters(4), "a", ""];
+    let texts = [ascii_text(20), ascii_text(5), ascii_text(4), "a", ""];
     let hog = take_all(alloc).expect(&rt, "room for the list of blocks");
     let report = run_pushes::<Slow>(alloc, &texts);
     drop(hog);
-    assert_that(&rt, is_inline(&report.value, letters(24)));
+    assert_that(&rt, is_inline(&report.value, ascii_text(24)));
     assert_counts(&rt, &report, 0, 2);
 }

@@ -7,14 +7,14 @@ use compact_str::{Policy, Standard};
 use compact_testing::memory::take_all;
 use compact_testing::policies::{Double, Large, Slow};
 use compact_testing::random::Random;
-use compact_testing::values::letters;
+use compact_testing::values::ascii_text;
 use std::alloc::Global;
 use std::process::Abort;
 
 /// Returns a text of `size` bytes, at most 40: of characters of one to four bytes if they fit exactly, else of `a`s.
 fn text_of(size: usize) -> &'static str {
     const MIXED: &str = "aé€𝄞aé€𝄞aé€𝄞aé€𝄞";
-    MIXED.get(..size).unwrap_or(letters(size))
+    MIXED.get(..size).unwrap_or(ascii_text(size))
 }
 
 /// The sums of 200 reports, and a checksum over each.

@@ -3,9 +3,9 @@
 use crate::asserts::{assert_equal, assert_that};
 use compact_edit::{Edit, Reply, run};
 use compact_str::{CompactString, Standard};
+use compact_testing::checks::{is_at, is_heap, is_inline, is_static};
 use compact_testing::memory::take_all;
-use compact_testing::seen::{is_at, is_heap, is_inline, is_static};
-use compact_testing::values::{lasting, letters, short, value_of};
+use compact_testing::values::{ascii_text, lasting, short, value_of};
 use std::alloc::Global;
 use std::ops::Bound::{Excluded, Included};
 use std::process::Abort;
@@ -159,7 +159,7 @@ fn assert_failed(rt: &impl Abort, replies: &[Reply<Standard>], place: usize, fai
 fn a_drain_fails_if_its_reply_needs_the_heap(rt: HostRuntime) {
     let rt = &rt;
     let alloc = rt.alloc();
-    let mut value = value_of(alloc, letters(60)).expect(rt, "memory");
+    let mut value = value_of(alloc, ascii_text(60)).expect(rt, "memory");
     let mut replies = room_for(rt, alloc, 2);
     let hog = take_all(alloc).expect(rt, "room for the list of blocks");
     run_drain(rt, &mut value, 0, 25, &mut replies);
@@ -167,7 +167,7 @@ fn a_drain_fails_if_its_reply_needs_the_heap(rt: HostRuntime) {
     drop(hog);
     assert_failed(rt, replies.as_slice(), 0, true);
     assert_failed(rt, replies.as_slice(), 1, false);
-    assert_that(rt, is_heap(&value, 60, letters(36)));
+    assert_that(rt, is_heap(&value, 60, ascii_text(36)));
 }
 
 #[test]
@@ -182,7 +182,7 @@ fn a_drain_that_has_its_reply_fails_to_copy_the_rest(rt: HostRuntime) {
     run_drain(rt, &mut value, 0, 30, &mut replies);
     drop(hog);
     assert_failed(rt, replies.as_slice(), 0, true);
-    assert_that(rt, is_static(&value, letters(80)));
+    assert_that(rt, is_static(&value, ascii_text(80)));
 }
 
 #[test]
@@ -199,5 +199,5 @@ fn a_drain_of_60_bytes_fails_at_each_allocation(rt: HostRuntime) {
     drop(hog);
     assert_failed(rt, replies.as_slice(), 0, true);
     assert_failed(rt, replies.as_slice(), 1, true);
-    assert_that(rt, is_static(&value, letters(60)));
+    assert_that(rt, is_static(&value, ascii_text(60)));
 }

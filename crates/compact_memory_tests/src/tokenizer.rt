@@ -3,7 +3,7 @@
 use crate::asserts::{assert_equal, assert_that};
 use compact_edit::{InternError, Interner};
 use compact_testing::memory::take_all;
-use compact_testing::values::{letters, value_of};
+use compact_testing::values::{ascii_text, value_of};
 use compact_uses::tokenize;
 use std::alloc::Global;
 use std::process::Abort;
@@ -25,7 +25,7 @@ fn a_tokenizer_that_fails_leaves_the_names(rt: HostRuntime) {
     let alloc = rt.alloc();
     let mut names = Interner::new(alloc);
     assert_equal(rt, names.intern("ab").expect(rt, "memory"), 0);
-    for text in ["ab ab", letters(30)] {
+    for text in ["ab ab", ascii_text(30)] {
         assert_fails(rt, alloc, &mut names, text);
     }
 }

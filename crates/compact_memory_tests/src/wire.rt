@@ -1,10 +1,10 @@
 //! The wire form with no memory. The bytes read until an allocation fails show how much was being allocated.
 
 use crate::asserts::{assert_equal, assert_that};
-use crate::letters::Letters;
+use crate::endless_reader::EndlessReader;
 use compact_ext::wire::{Records, WireError, read_wire, write_wire};
+use compact_testing::checks::is_inline;
 use compact_testing::memory::take_all;
-use compact_testing::seen::is_inline;
 use compact_testing::values::short;
 use std::alloc::Global;
 use std::process::Abort;
@@ -19,7 +19,7 @@ fn assert_fails<T>(rt: &impl Abort, made: &Result<T, WireError>) {
 /// Asserts that the allocation for a text of `len` bytes fails after the reader has given `given`, including the
 /// length.
 fn assert_stops(rt: &impl Abort, alloc: Global, len: u32, given: usize) {
-    let mut reader = Letters::new(len, 16 * MEGABYTE);
+    let mut reader = EndlessReader::new(len, 16 * MEGABYTE);
     assert_fails(rt, &read_wire(alloc, &mut reader));
     assert_equal(rt, reader.given, given);
 }
@@ -79,11 +79,11 @@ fn a_vector_that_cannot_grow_is_a_writer_that_fails(rt: HostRuntime) {
 fn a_long_text_is_read_in_several_steps(rt: HostRuntime) {
     let rt = &rt;
     let alloc = rt.alloc();
-    let mut short = Letters::new(0x0010_0001, 1_048_576);
+    let mut short = EndlessReader::new(0x0010_0001, 1_048_576);
     let ended = read_wire(alloc, &mut short);
     assert_that(rt, matches!(ended, Err(WireError::UnexpectedEnd)));
     assert_equal(rt, short.given, 4 + 1_048_576);
-    let mut whole = Letters::new(0x0010_0001, 1_048_577);
+    let mut whole = EndlessReader::new(0x0010_0001, 1_048_577);
     let text = read_wire(alloc, &mut whole).expect(rt, "a text");
     assert_that(rt, text.is_heap_allocated());
     assert_equal(rt, text.len(), 1_048_577);

@@ -1,4 +1,4 @@
-//! A program that builds texts character by character: it decodes `%41` and `+`, and lowers ASCII letters.
+//! A program that builds texts character by character: it decodes `%41` and `+`, and lowers ASCII characters.
 
 use crate::text::{Refused, Text};
 use std::alloc::Global;
@@ -39,7 +39,7 @@ fn decoded_line(alloc: Global, line: &str) -> Result<Text, Refused> {
     Ok(decoded)
 }
 
-/// Returns what a character that is not escaped stands for.
+/// Returns the character that an escape denotes.
 fn plain(character: char) -> char {
     if character == '+' {
         ' '

@@ -1,5 +1,6 @@
 -- UTF-8 preserves order: the bytes of two texts compare as their characters do. Holds of any two lists of numbers.
-use Rattle.std.proofs.Common.{◌≡◌, ℕ, zero, suc, ◌+◌, ◌/◌, ◌<◌, ◌≤◌, List, [], ◌∷◌, ◌++◌, refl, sym, ap, ap₂, ◌∙◌, arith, Ordering, inl, inr, length, slice_index_or}
+use Rattle.std.proofs.Common.{◌≡◌, ℕ, zero, suc, ◌+◌, ◌/◌, ◌<◌, ◌≤◌, List, [], ◌∷◌, ◌++◌, refl, sym, ap, ap₂, ◌∙◌}
+use Rattle.std.proofs.Common.{arith, Ordering, inl, inr, length, slice_index_or}
 use Rattle.std.specs.Prelude.{nat_eq, ◌≢◌}
 use Rattle.std.specs.declared.cmp.Ordering.TheVariants.{Less, Equal, Greater}
 use Rattle.std.specs.Ordering.{nat_cmp, ordering_then, ordering_reverse, is_eq}
@@ -14,7 +15,8 @@ list_cmp = slice_cmp nat_cmp
 
 -- the first numbers decide, or else the rests
 
-then_rest : (x y : ℕ) (xs ys : List ℕ) {o : Ordering} → nat_cmp x y ≡ o → list_cmp (x ∷ xs) (y ∷ ys) ≡ ordering_then o (list_cmp xs ys)
+then_rest : (x y : ℕ) (xs ys : List ℕ) {o : Ordering} → nat_cmp x y ≡ o
+    → list_cmp (x ∷ xs) (y ∷ ys) ≡ ordering_then o (list_cmp xs ys)
 then_rest x y xs ys e = ap (λ (o : Ordering). ordering_then o (list_cmp xs ys)) e
 
 first_less : (x y : ℕ) (xs ys : List ℕ) → x < y → list_cmp (x ∷ xs) (y ∷ ys) ≡ Less
@@ -42,18 +44,22 @@ abbrev head : ℕ → ℕ → ℕ → ℕ
 head zero lead c = lead + c
 head (suc count) lead c = head count lead (c / 64)
 
-heads_less : (m n lead mark c d : ℕ) (xs ys : List ℕ) → head m lead c < head n mark d → list_cmp (spread m lead c xs) (spread n mark d ys) ≡ Less
+heads_less : (m n lead mark c d : ℕ) (xs ys : List ℕ) → head m lead c < head n mark d
+    → list_cmp (spread m lead c xs) (spread n mark d ys) ≡ Less
 heads_less zero zero lead mark c d xs ys h = first_less (lead + c) (mark + d) xs ys h
 heads_less zero (suc n) lead mark c d xs ys h = heads_less zero n lead mark c (d / 64) xs (next d ∷ ys) h
 heads_less (suc m) n lead mark c d xs ys h = heads_less m n lead mark (c / 64) d (next c ∷ xs) ys h
 
 -- with the same count and mark, the characters decide, or else the rests
-spread_same : (count lead c d : ℕ) (xs ys : List ℕ) → c ≡ d → list_cmp (spread count lead c xs) (spread count lead d ys) ≡ list_cmp xs ys
+spread_same : (count lead c d : ℕ) (xs ys : List ℕ) → c ≡ d → list_cmp (spread count lead c xs)
+    (spread count lead d ys) ≡ list_cmp xs ys
 spread_same zero lead c d xs ys e = first_same (lead + c) (lead + d) xs ys (omega (arith, e))
 spread_same (suc count) lead c d xs ys e =
-    spread_same count lead (c / 64) (d / 64) (next c ∷ xs) (next d ∷ ys) (omega (arith, e)) ∙ first_same (next c) (next d) xs ys (omega (arith, e))
+    spread_same count lead (c / 64) (d / 64) (next c ∷ xs) (next d ∷ ys) (omega (arith, e))
+    ∙ first_same (next c) (next d) xs ys (omega (arith, e))
 
-spread_less : (count lead c d : ℕ) (xs ys : List ℕ) → c < d → list_cmp (spread count lead c xs) (spread count lead d ys) ≡ Less
+spread_less : (count lead c d : ℕ) (xs ys : List ℕ) → c < d → list_cmp (spread count lead c xs)
+    (spread count lead d ys) ≡ Less
 spread_less zero lead c d xs ys h = first_less (lead + c) (lead + d) xs ys (omega (arith, h))
 spread_less (suc count) lead c d xs ys h = elim (cases_lt (c / 64) (d / 64)) [
   | inl less ↦ spread_less count lead (c / 64) (d / 64) (next c ∷ xs) (next d ∷ ys) less
@@ -93,13 +99,17 @@ lead_of (four _) = 240
 
 encode-spread : (c : ℕ) (w : Width c) (rest : List ℕ) → encode c ++ rest ≡ spread (count_of w) (lead_of w) c rest
 unfolding encode count_of lead_of
-encode-spread c (one h) rest = ap (λ l. l ++ rest) (cond-true _ _ _ (lt-ltb c 128 h)) ∙ ap (λ (x : ℕ). x ∷ rest) (omega arith)
-encode-spread c (two l h) rest = ap (λ l. l ++ rest) (cond-false _ _ _ (le-ltb c 128 l) ∙ cond-true _ _ _ (lt-ltb c 2048 h))
+encode-spread c (one h) rest = ap (λ l. l ++ rest) (cond-true _ _ _ (lt-ltb c 128 h))
+    ∙ ap (λ (x : ℕ). x ∷ rest) (omega arith)
+encode-spread c (two l h) rest = ap (λ l. l ++ rest) (cond-false _ _ _ (le-ltb c 128 l)
+    ∙ cond-true _ _ _ (lt-ltb c 2048 h))
 encode-spread c (three l h) rest =
-    ap (λ l. l ++ rest) (cond-false _ _ _ (le-ltb c 128 (omega arith)) ∙ cond-false _ _ _ (le-ltb c 2048 l) ∙ cond-true _ _ _ (lt-ltb c 65536 h))
+    ap (λ l. l ++ rest) (cond-false _ _ _ (le-ltb c 128 (omega arith)) ∙ cond-false _ _ _ (le-ltb c 2048 l)
+    ∙ cond-true _ _ _ (lt-ltb c 65536 h))
     ∙ ap (λ (x : ℕ). x ∷ next (c / 64) ∷ next c ∷ rest) (omega arith)
 encode-spread c (four l) rest =
-    ap (λ l. l ++ rest) (cond-false _ _ _ (le-ltb c 128 (omega arith)) ∙ cond-false _ _ _ (le-ltb c 2048 (omega arith)) ∙ cond-false _ _ _ (le-ltb c 65536 l))
+    ap (λ l. l ++ rest) (cond-false _ _ _ (le-ltb c 128 (omega arith))
+    ∙ cond-false _ _ _ (le-ltb c 2048 (omega arith)) ∙ cond-false _ _ _ (le-ltb c 65536 l))
     ∙ ap₂ (λ (x y : ℕ). x ∷ y ∷ next (c / 64) ∷ next c ∷ rest) (omega arith) (omega arith)
 
 -- the lesser of two characters has fewer bytes and a lesser first byte, or as many bytes
@@ -124,7 +134,8 @@ spreads_less c d (four a) (two _ b) xs ys h = absurd (omega arith)
 spreads_less c d (four a) (three _ b) xs ys h = absurd (omega arith)
 
 encode-less : (c d : ℕ) (xs ys : List ℕ) → c < d → list_cmp (encode c ++ xs) (encode d ++ ys) ≡ Less
-encode-less c d xs ys h = rw (encode-spread c (width c) xs, encode-spread d (width d) ys) (spreads_less c d (width c) (width d) xs ys h)
+encode-less c d xs ys h = rw (encode-spread c (width c) xs, encode-spread d (width d) ys)
+    (spreads_less c d (width c) (width d) xs ys h)
 
 -- each character has a byte
 nil-spread : (count lead c : ℕ) (xs : List ℕ) → list_cmp [] (spread count lead c xs) ≡ Less
@@ -143,7 +154,8 @@ utf8-order (c ∷ s) (d ∷ t) = elim (cases_order c d) [
   | inr apart ↦ elim apart [
     | inl less ↦ encode-less c d (utf8 s) (utf8 t) less ∙ sym (first_less c d s t less)
     | inr less ↦
-        turned (utf8 (c ∷ s)) (utf8 (d ∷ t)) (encode-less d c (utf8 t) (utf8 s) less) ∙ sym (turned (c ∷ s) (d ∷ t) (first_less d c t s less))
+        turned (utf8 (c ∷ s)) (utf8 (d ∷ t)) (encode-less d c (utf8 t) (utf8 s) less)
+        ∙ sym (turned (c ∷ s) (d ∷ t) (first_less d c t s less))
   ]
 ]
 
@@ -159,7 +171,8 @@ first-decides (x ∷ xs) (y ∷ ys) some also apart = elim (cases_order x y) [
   | inl same ↦ absurd (apart same)
   | inr other ↦ elim other [
     | inl less ↦ first_less x y xs ys less ∙ sym (cond-true _ _ _ (lt-ltb x y less))
-    | inr less ↦ turned (x ∷ xs) (y ∷ ys) (first_less y x ys xs less) ∙ sym (nat_cmp_total.antisymm x y ∙ ap ordering_reverse (cond-true _ _ _ (lt-ltb y x less)))
+    | inr less ↦ turned (x ∷ xs) (y ∷ ys) (first_less y x ys xs less)
+        ∙ sym (nat_cmp_total.antisymm x y ∙ ap ordering_reverse (cond-true _ _ _ (lt-ltb y x less)))
   ]
 ]
 

@@ -1,6 +1,6 @@
 pub mod HeapTexts
-pub mod Strings
-pub mod Placed
+pub mod ReusedBuffers
+pub mod PlacementLemmas
 pub mod ByteOrder
 pub mod PackedArrays
 pub mod PackedTexts

@@ -1,9 +1,12 @@
 -- The results of calls as functions of text and placement: None if the call must fail.
-use Rattle.std.specs.Prelude.{◌≡◌, ◌⊎◌, ℕ, ◌-◌, Bool, IsTrue, List, [], ◌∷◌, ◌++◌, Option, Some, None, option_map, nat_le, if◌then◌else◌}
+use Rattle.std.specs.Prelude.{◌≡◌, ◌⊎◌, ℕ, ◌-◌, Bool, IsTrue, List, [], ◌∷◌, ◌++◌, Option, Some, None, option_map}
+use Rattle.std.specs.Prelude.{nat_le, if◌then◌else◌}
 use Rattle.compact_text.specs.Text.{size, ascii_lowercase, ascii_uppercase}
 use Rattle.compact_text.specs.Cut.{text_before, replaced_text}
 use Rattle.compact_repr.specs.Value.{PlacedText, placed_text, is_static_place}
-use Rattle.compact_repr.specs.Capacity.{Growth, Need, owned, room, room_to_append, room_to_replace, placement_for, allocates_for, inline_placement, new_placement, with_capacity_placement, kept_placement, clone_placement, shrink_to_placement, shrink_to_allocates}
+use Rattle.compact_repr.specs.Capacity.{Growth, Need, owned, room, room_to_append, room_to_replace, placement_for}
+use Rattle.compact_repr.specs.Capacity.{allocates_for, inline_placement, new_placement, with_capacity_placement}
+use Rattle.compact_repr.specs.Capacity.{kept_placement, clone_placement, shrink_to_placement, shrink_to_allocates}
 
 abbrev pub new : Growth → List ℕ → Option PlacedText
 new g t = option_map (placed_text t) (new_placement g t)

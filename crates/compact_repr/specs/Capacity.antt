@@ -1,5 +1,6 @@
 -- Place and capacity by text and growth policy, and the calls that allocate.
-use Rattle.std.specs.Prelude.{IsTrue, ◌≡◌, ℕ, ◌+◌, ◌-◌, ◌*◌, ◌/◌, ◌<◌, ◌≤◌, Bool, false, ◌&&◌, not, List, Option, Some, None, max, min, nat_eq, nat_le, nat_lt, if◌then◌else◌}
+use Rattle.std.specs.Prelude.{IsTrue, ◌≡◌, ℕ, ◌+◌, ◌-◌, ◌*◌, ◌/◌, ◌<◌, ◌≤◌, Bool, false, ◌&&◌, not, List, Option, Some}
+use Rattle.std.specs.Prelude.{None, max, min, nat_eq, nat_le, nat_lt, if◌then◌else◌}
 use Rattle.compact_repr.specs.declared.inline.TheConstants.{INLINE_CAPACITY}
 use Rattle.compact_repr.specs.declared.growth.TheConstants.{MAX_CAPACITY}
 use Rattle.compact_text.specs.Text.{size}
@@ -29,7 +30,7 @@ inline_placement = record { place = inline; capacity = INLINE_CAPACITY }
 abbrev pub heap_placement : ℕ → Placement
 heap_placement c = record { place = heap; capacity = c }
 
--- by reference, with just the bytes of t
+-- static: the capacity is the length
 abbrev pub static_placement : List ℕ → Placement
 static_placement t = record { place = static; capacity = size t }
 
@@ -92,7 +93,7 @@ pub data Need : Type 0 where
 abbrev pub room_to_append : ℕ → Need
 room_to_append n = if nat_eq n 0 then nothing else room n
 
--- to put m bytes in the place of n
+-- to replace n bytes with m
 abbrev pub room_to_replace : ℕ → ℕ → Need
 room_to_replace n m = if nat_le m n then owned else room (m - n)
 
@@ -134,7 +135,7 @@ const_new_placement t = if nat_le (size t) INLINE_CAPACITY then inline_placement
 abbrev pub from_string_placement : List ℕ → ℕ → Placement
 from_string_placement t capacity = if nat_le (size t) INLINE_CAPACITY then inline_placement else heap_placement capacity
 
--- a clone's placement: a heap text gets that of a new value
+-- the placement of a clone: as by `new` if on the heap, else unchanged
 abbrev pub clone_placement : Growth → PlacedText → Option Placement
 clone_placement g v = if is_heap_place v.placement.place then new_placement g v.text else Some v.placement
 
@@ -151,7 +152,8 @@ shrink_to_capacity v n = max (size v.text) n
 -- a shrink to n allocates: the goal does not fit inline, and its capacity is below the present one
 abbrev pub shrink_to_allocates : Growth → PlacedText → ℕ → Bool
 shrink_to_allocates g v n =
-    is_heap_place v.placement.place && with_capacity_allocates (shrink_to_capacity v n) && nat_lt (max g.least (shrink_to_capacity v n)) v.placement.capacity
+    is_heap_place v.placement.place && with_capacity_allocates (shrink_to_capacity v n) && nat_lt
+    (max g.least (shrink_to_capacity v n)) v.placement.capacity
 
 -- v's placement shrunk to n if allocation succeeds: only a heap buffer changes, and no capacity grows
 abbrev pub shrink_to_placement : Growth → PlacedText → ℕ → Placement

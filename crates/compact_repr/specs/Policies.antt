@@ -10,7 +10,8 @@ use Rattle.compact_repr.specs.declared.growth.TheConstants.{MAX_CAPACITY}
 abbrev pub is_lawful : Growth → Bool
 is_lawful g =
     nat_lt INLINE_CAPACITY g.least
-    && (nat_le g.least MAX_CAPACITY && (nat_le 1 g.denominator && (nat_lt g.denominator g.numerator && nat_le (g.numerator + g.denominator) 255)))
+    && (nat_le g.least MAX_CAPACITY && (nat_le 1 g.denominator &&
+    (nat_lt g.denominator g.numerator && nat_le (g.numerator + g.denominator) 255)))
 
 pub IsLawful-test : (g : Growth) → is_lawful g ≡ true → IsLawful g
 IsLawful-test g test =

@@ -43,7 +43,7 @@ IsStatic v = IsTrue (is_static_place v.placement.place)
 abbrev pub IsOwned : PlacedText → Type 0
 IsOwned v = is_static_place v.placement.place ≡ false
 
--- the place with this capacity may hold that many bytes
+-- a text of this size is valid in this place, with this capacity
 abbrev pub CanHold : Place → ℕ → ℕ → Type 0
 CanHold inline capacity bytes = (capacity ≡ INLINE_CAPACITY) × (bytes ≤ INLINE_CAPACITY)
 CanHold heap capacity bytes = bytes ≤ capacity

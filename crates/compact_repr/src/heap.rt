@@ -67,7 +67,7 @@ impl HeapBuffer {
             }
         }
         let mut bytes = Vec::with_capacity(alloc, capacity)?;
-        vec::append_first(&mut bytes, text.as_bytes());
+        vec::append_to_local(&mut bytes, text.as_bytes());
         Ok(HeapBuffer { bytes })
     }
 
@@ -120,7 +120,7 @@ impl HeapBuffer {
     ///
     /// # Errors
     ///
-    /// Returns `AllocError` if no memory is found. Nothing is changed then.
+    /// Returns `AllocError` if no memory is found; the buffer is then unchanged.
     pub fn grow(&mut self, capacity: usize) -> Result<(), AllocError>
         requires { self.old.capacity ≤ capacity }
         ensures ok { OnOk result (self.new ≡ record { text = self.old.text; capacity = capacity }) }
@@ -145,7 +145,7 @@ impl HeapBuffer {
         if !self.has_room(text.len()) {
             return false;
         }
-        vec::append_all(&mut self.bytes, text.as_bytes());
+        vec::append_slice(&mut self.bytes, text.as_bytes());
         true
     }
 
@@ -271,7 +271,7 @@ impl HeapBuffer {
             return false;
         }
         self.bytes.clear();
-        vec::append_all(&mut self.bytes, text.as_bytes());
+        vec::append_slice(&mut self.bytes, text.as_bytes());
         true
     }
 
@@ -304,7 +304,7 @@ impl HeapBuffer {
         self.bytes.clear();
     }
 
-    /// Converts ASCII letters to upper or lower case. Keeps the capacity.
+    /// Converts ASCII characters to upper or lower case. Keeps the capacity.
     pub fn convert_case(&mut self, case: Case)
         ensures { self.new
             ≡ record { text = text_in_case case self.old.text; capacity = self.old.capacity } }

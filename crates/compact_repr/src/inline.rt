@@ -13,7 +13,7 @@ mod length;
 
 use compact_text::slices::{self, Case};
 use compact_text::str_parts::split_last;
-use length::{is_packed, length_of, pack, write_len};
+use length::{decode_len, is_packed, pack, write_len};
 use std::marker::Model;
 
 /// The most bytes of an inline text.
@@ -74,7 +74,7 @@ impl InlineBuffer {
         ensures fits { size self.now ≤ INLINE_CAPACITY }
         ensures text { IsText self.now }
     {
-        length_of(&self.bytes)
+        decode_len(&self.bytes)
     }
 
     /// Returns the text.
@@ -83,7 +83,7 @@ impl InlineBuffer {
         ensures bytes { result.now ≡ utf8 self.now }
         ensures text { text_of result.now ≡ self.now }
     {
-        unsafe { std::str::from_utf8_unchecked(&self.bytes[..length_of(&self.bytes)]) }
+        unsafe { std::str::from_utf8_unchecked(&self.bytes[..decode_len(&self.bytes)]) }
     }
 
     /// Appends `text` if it fits. Returns whether it did; otherwise changes nothing.
@@ -93,7 +93,7 @@ impl InlineBuffer {
         ensures pushed { IsTrue result → self.new ≡ self.old ++ text_of text.now }
         ensures full { result ≡ false → self.new ≡ self.old }
     {
-        let len = length_of(&self.bytes);
+        let len = decode_len(&self.bytes);
         if text.len() > INLINE_CAPACITY - len {
             return false;
         }
@@ -110,7 +110,7 @@ impl InlineBuffer {
         ensures pushed { IsTrue result → self.new ≡ self.old ++ character ∷ [] }
         ensures full { result ≡ false → self.new ≡ self.old }
     {
-        let len = length_of(&self.bytes);
+        let len = decode_len(&self.bytes);
         let Some(end) = slices::try_write_char(&mut self.bytes, len, character) else {
             return false;
         };
@@ -130,7 +130,7 @@ impl InlineBuffer {
             → self.new ≡ replaced_text self.old start end (text_of text.now) }
         ensures full { result ≡ false → self.new ≡ self.old }
     {
-        let old_len = length_of(&self.bytes);
+        let old_len = decode_len(&self.bytes);
         let len = old_len - (end - start) + text.len();
         if len > INLINE_CAPACITY {
             return false;
@@ -148,7 +148,7 @@ impl InlineBuffer {
         requires last { IsBoundary self.old end }
         ensures { self.new ≡ replaced_text self.old start end [] }
     {
-        let len = length_of(&self.bytes);
+        let len = decode_len(&self.bytes);
         slices::remove_range_short(&mut self.bytes, len, start, end);
         write_len(&mut self.bytes, len - (end - start));
     }
@@ -203,11 +203,11 @@ impl InlineBuffer {
         write_len(&mut self.bytes, 0);
     }
 
-    /// Converts ASCII letters to upper or lower case.
+    /// Converts ASCII characters to upper or lower case.
     pub fn convert_case(&mut self, case: Case)
         ensures { self.new ≡ text_in_case case self.old }
     {
-        let len = length_of(&self.bytes);
+        let len = decode_len(&self.bytes);
         slices::convert_case(&mut self.bytes, len, case);
         write_len(&mut self.bytes, len);
     }
@@ -219,7 +219,7 @@ impl InlineBuffer {
         ensures text { RetainsCharsTo F.FnMut keep.old self.old self.new keep.new }
         ensures callable { F.IsAlwaysCallable keep.new }
     {
-        let len = length_of(&self.bytes);
+        let len = decode_len(&self.bytes);
         let kept = slices::retain(&mut self.bytes, len, keep);
         write_len(&mut self.bytes, kept);
     }

@@ -5,12 +5,12 @@ ghost use Rattle.compact_repr.specs.Words.{size, utf8, text_of, inline, is_heap_
 ghost use Rattle.compact_repr.specs.Packed.{IsPackedFor};
 ghost use Rattle.compact_repr.specs.BufferValue.{buffer_value};
 
-mod at;
 pub mod capacity;
 mod compare;
 pub mod edit;
 mod edit_slow;
 mod new;
+mod parts;
 
 use crate::growth::Policy;
 use crate::heap::HeapBuffer;
@@ -47,7 +47,7 @@ impl<P: Policy> Model for Repr<P> {
 
 impl<P: Policy> Repr<P> {
     #[inline]
-    fn of(alloc: Global, buffer: Buffer) -> Self
+    fn from_buffer(alloc: Global, buffer: Buffer) -> Self
         ensures { result ≡ buffer_value buffer }
     {
         Repr {
@@ -151,8 +151,8 @@ impl<P: Policy> Repr<P> {
         let alloc = self.alloc;
         match self.buffer {
             Buffer::Heap(heap) => Ok(heap.into_string()),
-            Buffer::Inline(_, inline) => Err(Self::of(alloc, Buffer::Inline([], inline))),
-            Buffer::Static(text) => Err(Self::of(alloc, Buffer::Static(text))),
+            Buffer::Inline(_, inline) => Err(Self::from_buffer(alloc, Buffer::Inline([], inline))),
+            Buffer::Static(text) => Err(Self::from_buffer(alloc, Buffer::Static(text))),
         }
     }
 }

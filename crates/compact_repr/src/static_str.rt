@@ -11,7 +11,7 @@ use compact_text::str_parts;
 use std::marker::Model;
 use std::{slice, str};
 
-/// The right to read `'static` bytes. Takes no memory.
+/// A zero-sized permission to read `'static` bytes.
 #[derive(Drop)]
 struct StaticLoan {
     ghost bytes: { Bor (List ℕ) },

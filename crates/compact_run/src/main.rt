@@ -1,4 +1,4 @@
-//! Runs the commands of standard input, and answers on standard output.
+//! Runs the commands of standard input, and writes their results to standard output.
 #![tactic(auto)]
 
 use compact_lines::run_lines;
@@ -8,7 +8,7 @@ use std::process::ExitCode;
 
 fn main(rt: HostRuntime) -> ExitCode {
     let mut reader = rt.stdin();
-    // An answer is written in pieces; `run_lines` flushes after each line.
+    // The output of a line is written in pieces; `run_lines` flushes after each line.
     let Ok(mut writer) = BufWriter::new(rt.alloc(), io::writer(&rt)) else {
         return ExitCode::FAILURE;
     };

@@ -1,5 +1,8 @@
 -- Units below 128, as bytes.
-use Rattle.std.proofs.Common.{◌≡◌, ℕ, suc, ◌+◌, ◌-◌, ◌%◌, ◌^◌, ◌<◌, ◌≤◌, Bool, true, false, cond, eqb, leb, eqb-true, eq-eqb, List, [], ◌∷◌, ◌++◌, map, length, take, drop, get_or, replicate, refl, sym, ap, subst, ◌∙◌, arith, w16, IsUtf8, append_assoc, take-append-drop, length-drop, bit_and, bit_or, Fits, not}
+use Rattle.std.proofs.Common.{◌≡◌, ℕ, suc, ◌+◌, ◌-◌, ◌%◌, ◌^◌, ◌<◌, ◌≤◌, Bool, true, false, cond, eqb, leb, eqb-true}
+use Rattle.std.proofs.Common.{eq-eqb, List, [], ◌∷◌, ◌++◌, map, length, take, drop, get_or, replicate, refl, sym, ap}
+use Rattle.std.proofs.Common.{subst, ◌∙◌, arith, w16, IsUtf8, append_assoc, take-append-drop, length-drop, bit_and}
+use Rattle.std.proofs.Common.{bit_or, Fits, not}
 use Rattle.std.proofs.Math.Seq.{take-append-add}
 use Rattle.std.specs.List.{position_or_len, prefix_len}
 use Rattle.std.specs.Str.{IsAscii}
@@ -13,8 +16,8 @@ use Rattle.std.proofs.lemmas.Str.{chars-append, chars-IsAscii, IsUtf8-append, Is
 use Rattle.compact_repr.specs.Text.{text_of}
 use Rattle.compact_codec.specs.Utf16Text.{utf16_lossy_text}
 use Rattle.std.proofs.lemmas.List.Sums.{prefix_len-le-length}
-use Rattle.compact_codec.proofs.Parts.{front_is_ascii}
-use Rattle.compact_str.proofs.FilledRows.{own_step}
+use Rattle.compact_codec.proofs.InvalidSequenceLemmas.{front_is_ascii}
+use Rattle.compact_str.proofs.CharacterWrites.{own_step}
 use lib.Count.{count_trailing_zeros}
 use lib.Lanes.{fold_l, zip2, mask_l, top, put_chunk, Each1}
 use lib.Utf8.{low_scalar}
@@ -83,10 +86,10 @@ ascii_low (x ∷ xs) all =
     λ i. same i ∷ ascii_low xs (λ k. all (suc k)) i
 
 -- a block is stored, of which the first n units are ASCII
-pub block_behind : (row block low : List ℕ) (at k n : ℕ) → k ≡ 16 → at + 16 ≤ length row → length block ≡ 16
+pub block_after : (row block low : List ℕ) (at k n : ℕ) → k ≡ 16 → at + 16 ≤ length row → length block ≡ 16
     → n ≡ position_or_len wide block → low ≡ map (λ u. u % 128) block
     → take (at + n) (put_mid at k row (put_chunk 0 (mid_of at k row) low)) ≡ take at row ++ take n block
-block_behind row block low at k n k_is room long counted is =
+block_after row block low at k n k_is room long counted is =
     let few : n ≤ 16 = omega (arith, counted, long, prefix_len-le-length (λ u. not (leb 128 u)) block) in
     let full : length low ≡ 16 = ap length is ∙ length-map block (λ u. u % 128) ∙ long in
     let held : length (mid_of at k row) ≡ length low =
@@ -108,10 +111,10 @@ ascii_text (x ∷ xs) rest all =
     own_step x (xs ++ rest) (low_scalar x (omega arith)) (omega arith)
     ∙ ap (λ t. x ∷ t) (ascii_text xs rest (λ k. all (suc k)))
 
-pub ascii_behind : (whole rest bytes next : List ℕ) (n : ℕ) → text_of bytes ++ utf16_lossy_text rest ≡ whole
+pub ascii_after : (whole rest bytes next : List ℕ) (n : ℕ) → text_of bytes ++ utf16_lossy_text rest ≡ whole
     → next ≡ bytes ++ take n rest
     → IsUtf8 bytes → IsAscii (take n rest) → (text_of next ++ utf16_lossy_text (drop n rest) ≡ whole) × IsUtf8 next
-ascii_behind whole rest bytes next n so_far is utf8 ascii =
+ascii_after whole rest bytes next n so_far is utf8 ascii =
     let front = take n rest in
     let left = utf16_lossy_text (drop n rest) in
     let spelled : text_of next ≡ text_of bytes ++ front =

@@ -4,8 +4,9 @@ use Rattle.std.proofs.Common.{arith}
 use Rattle.std.specs.declared.ops.Bound.TheVariants.{Included, Excluded, Unbounded}
 use Rattle.compact_repr.specs.Cut.{IsBoundary}
 use Rattle.compact_repr.specs.Value.{PlacedText, placed_text}
-use Rattle.compact_repr.specs.Capacity.{Growth, inline_placement, heap_placement, static_placement, with_capacity_placement}
-use Rattle.compact_text.proofs.Cuts.{size-text_before, boundary-within, boundary-from_size}
+use Rattle.compact_repr.specs.Capacity.{Growth, inline_placement, heap_placement, static_placement}
+use Rattle.compact_repr.specs.Capacity.{with_capacity_placement}
+use Rattle.compact_text.proofs.CutLemmas.{size-text_before, boundary-within, boundary-from_size}
 use Rattle.compact_str.specs.Room.{own_capacity, infallible_capacity, IsPlacedBySize}
 use Rattle.compact_repr.specs.Calls.{truncate, insert_str, replace_range}
 use Rattle.compact_str.specs.Edits.{Removes, split_tail, repeat, clone_from}
@@ -20,12 +21,12 @@ abbrev standard : Growth
 standard = record { least = 32; numerator = 3; denominator = 2 }
 
 -- n times `a`
-abbrev letters : ℕ → List ℕ
-letters n = replicate n 97
+abbrev sample : ℕ → List ℕ
+sample n = replicate n 97
 
 -- a static string of 30 bytes
 abbrev lasting_30 : PlacedText
-lasting_30 = placed_text (letters 30) (static_placement (letters 30))
+lasting_30 = placed_text (sample 30) (static_placement (sample 30))
 
 abbrev abc : List ℕ
 abc = 97 ∷ 98 ∷ 99 ∷ []
@@ -36,40 +37,48 @@ mixed = 0xE4 ∷ 98 ∷ []
 
 -- insertion and replacement
 
-an_empty_insertion_makes_room_by_growth : insert_str standard lasting_30 0 [] ≡ Some (placed_text (letters 30) (heap_placement 45))
+an_empty_insertion_makes_room_by_growth : insert_str standard lasting_30 0 []
+    ≡ Some (placed_text (sample 30) (heap_placement 45))
 an_empty_insertion_makes_room_by_growth = refl
 
-an_empty_replacement_only_makes_it_owned : replace_range standard lasting_30 0 0 [] ≡ Some (placed_text (letters 30) (heap_placement 32))
+an_empty_replacement_only_makes_it_owned : replace_range standard lasting_30 0 0 []
+    ≡ Some (placed_text (sample 30) (heap_placement 32))
 an_empty_replacement_only_makes_it_owned = refl
 
-a_longer_replacement_makes_room_for_the_difference : replace_range standard (placed_text (letters 24) inline_placement) 0 2 (letters 4) ≡ Some (placed_text (letters 26) (heap_placement 36))
+a_longer_replacement_makes_room_for_the_difference : replace_range standard (placed_text (sample 24) inline_placement)
+    0 2 (sample 4) ≡ Some (placed_text (sample 26) (heap_placement 36))
 a_longer_replacement_makes_room_for_the_difference = refl
 
-a_replacement_of_equal_size_stays_in_place : replace_range standard (placed_text (letters 30) (heap_placement 30)) 0 3 abc ≡ Some (placed_text (97 ∷ 98 ∷ 99 ∷ letters 27) (heap_placement 30))
+a_replacement_of_equal_size_stays_in_place : replace_range standard (placed_text (sample 30) (heap_placement 30)) 0 3
+    abc ≡ Some (placed_text (97 ∷ 98 ∷ 99 ∷ sample 27) (heap_placement 30))
 a_replacement_of_equal_size_stays_in_place = refl
 
 -- removal
 
-removal_copies_a_static_text : Removes standard lasting_30 0 97 (placed_text (letters 29) (heap_placement 32))
-removal_copies_a_static_text = (letters 29, refl, refl)
+removal_copies_a_static_text : Removes standard lasting_30 0 97 (placed_text (sample 29) (heap_placement 32))
+removal_copies_a_static_text = (sample 29, refl, refl)
 
 -- a split
 
-a_long_tail_stays_static : split_tail standard lasting_30 3 ≡ Some (placed_text (letters 27) (static_placement (letters 27)))
+a_long_tail_stays_static : split_tail standard lasting_30 3 ≡ Some
+    (placed_text (sample 27) (static_placement (sample 27)))
 a_long_tail_stays_static = refl
 
-a_front_stays_static : truncate lasting_30 3 ≡ placed_text (letters 3) (static_placement (letters 3))
+a_front_stays_static : truncate lasting_30 3 ≡ placed_text (sample 3) (static_placement (sample 3))
 a_front_stays_static = refl
 
-a_short_tail_is_inline : split_tail standard lasting_30 6 ≡ Some (placed_text (letters 24) inline_placement)
+a_short_tail_is_inline : split_tail standard lasting_30 6 ≡ Some (placed_text (sample 24) inline_placement)
 a_short_tail_is_inline = refl
 
-a_tail_of_a_heap_text_is_made_anew : split_tail standard (placed_text (letters 40) (heap_placement 100)) 10 ≡ Some (placed_text (letters 30) (heap_placement 32))
+a_tail_of_a_heap_text_is_made_anew : split_tail standard (placed_text (sample 40) (heap_placement 100)) 10
+    ≡ Some (placed_text (sample 30) (heap_placement 32))
 a_tail_of_a_heap_text_is_made_anew = refl
 
 -- repetition
 
-abc_nine_times : repeat standard (placed_text abc inline_placement) 9 ≡ Some (placed_text (97 ∷ 98 ∷ 99 ∷ 97 ∷ 98 ∷ 99 ∷ 97 ∷ 98 ∷ 99 ∷ 97 ∷ 98 ∷ 99 ∷ 97 ∷ 98 ∷ 99 ∷ 97 ∷ 98 ∷ 99 ∷ 97 ∷ 98 ∷ 99 ∷ 97 ∷ 98 ∷ 99 ∷ 97 ∷ 98 ∷ 99 ∷ []) (heap_placement 32))
+abc_nine_times : repeat standard (placed_text abc inline_placement) 9
+    ≡ Some (placed_text (97 ∷ 98 ∷ 99 ∷ 97 ∷ 98 ∷ 99 ∷ 97 ∷ 98 ∷ 99 ∷ 97 ∷ 98 ∷ 99 ∷ 97 ∷ 98 ∷ 99 ∷ 97 ∷ 98 ∷ 99 ∷ 97
+    ∷ 98 ∷ 99 ∷ 97 ∷ 98 ∷ 99 ∷ 97 ∷ 98 ∷ 99 ∷ []) (heap_placement 32))
 abc_nine_times = refl
 
 no_times_is_empty_and_inline : repeat standard lasting_30 0 ≡ Some (placed_text [] inline_placement)
@@ -78,7 +87,8 @@ no_times_is_empty_and_inline = refl
 once_is_a_clone : repeat standard lasting_30 1 ≡ Some lasting_30
 once_is_a_clone = refl
 
-once_of_an_empty_text_is_inline : repeat standard (placed_text [] (heap_placement 100)) 1 ≡ Some (placed_text [] inline_placement)
+once_of_an_empty_text_is_inline : repeat standard (placed_text [] (heap_placement 100)) 1
+    ≡ Some (placed_text [] inline_placement)
 once_of_an_empty_text_is_inline = refl
 
 two_bytes_as_often_as_can_be_counted_are_refused : with_capacity_placement standard (2 * 18446744073709551615) ≡ None
@@ -86,16 +96,20 @@ two_bytes_as_often_as_can_be_counted_are_refused = refl
 
 -- `clone_from`
 
-an_inline_source_brings_its_place : clone_from standard (placed_text (letters 30) (heap_placement 100)) (placed_text abc inline_placement) ≡ Some (placed_text abc inline_placement)
+an_inline_source_brings_its_place : clone_from standard (placed_text (sample 30) (heap_placement 100))
+    (placed_text abc inline_placement) ≡ Some (placed_text abc inline_placement)
 an_inline_source_brings_its_place = refl
 
-a_static_source_brings_its_place : clone_from standard (placed_text (letters 30) (heap_placement 100)) lasting_30 ≡ Some lasting_30
+a_static_source_brings_its_place : clone_from standard (placed_text (sample 30) (heap_placement 100)) lasting_30
+    ≡ Some lasting_30
 a_static_source_brings_its_place = refl
 
-an_empty_heap_source_clears_a_static_target : clone_from standard lasting_30 (placed_text [] (heap_placement 100)) ≡ Some (placed_text [] (static_placement []))
+an_empty_heap_source_clears_a_static_target : clone_from standard lasting_30 (placed_text [] (heap_placement 100))
+    ≡ Some (placed_text [] (static_placement []))
 an_empty_heap_source_clears_a_static_target = refl
 
-a_heap_source_fits_a_heap_target : clone_from standard (placed_text abc (heap_placement 100)) (placed_text (letters 30) (heap_placement 30)) ≡ Some (placed_text (letters 30) (heap_placement 100))
+a_heap_source_fits_a_heap_target : clone_from standard (placed_text abc (heap_placement 100))
+    (placed_text (sample 30) (heap_placement 30)) ≡ Some (placed_text (sample 30) (heap_placement 100))
 a_heap_source_fits_a_heap_target = refl
 
 -- room
@@ -103,11 +117,11 @@ a_heap_source_fits_a_heap_target = refl
 a_static_text_owns_no_room : own_capacity lasting_30 ≡ 0
 a_static_text_owns_no_room = refl
 
-but_24_bytes_are_sure : infallible_capacity lasting_30 ≡ 24
-but_24_bytes_are_sure = refl
+a_static_text_has_24_infallible_bytes : infallible_capacity lasting_30 ≡ 24
+a_static_text_has_24_infallible_bytes = refl
 
-a_heap_buffer_is_sure : infallible_capacity (placed_text abc (heap_placement 100)) ≡ 100
-a_heap_buffer_is_sure = refl
+a_heap_buffer_is_infallible : infallible_capacity (placed_text abc (heap_placement 100)) ≡ 100
+a_heap_buffer_is_infallible = refl
 
 a_small_heap_buffer_gives_way_to_24_bytes : infallible_capacity (placed_text abc (heap_placement 5)) ≡ 24
 a_small_heap_buffer_gives_way_to_24_bytes = refl
@@ -158,13 +172,14 @@ no_range_ends_past_the_text range = let within = boundary-within mixed 4 range.l
 
 -- equality and order
 
-places_and_capacities_have_no_part : same_text lasting_30 (placed_text (letters 30) (heap_placement 45)) ≡ true
+places_and_capacities_have_no_part : same_text lasting_30 (placed_text (sample 30) (heap_placement 45)) ≡ true
 places_and_capacities_have_no_part = refl
 
-a_front_is_not_the_same : same_text (placed_text (letters 2) inline_placement) (placed_text (letters 3) inline_placement) ≡ false
+a_front_is_not_the_same : same_text (placed_text (sample 2) inline_placement)
+    (placed_text (sample 3) inline_placement) ≡ false
 a_front_is_not_the_same = refl
 
-places_have_no_part_in_the_order : text_cmp lasting_30 (placed_text (letters 30) (heap_placement 45)) ≡ Equal
+places_have_no_part_in_the_order : text_cmp lasting_30 (placed_text (sample 30) (heap_placement 45)) ≡ Equal
 places_have_no_part_in_the_order = refl
 
 the_empty_text_is_first : text_order [] (97 ∷ []) ≡ Less
@@ -187,10 +202,11 @@ the_first_place_that_differs_decides = refl
 b_is_a_part : range_text mixed 3 2 3 ≡ 98 ∷ []
 b_is_a_part = refl
 
-nothing_stands_in_a_text_of_another_length : range_text mixed 4 2 3 ≡ []
-nothing_stands_in_a_text_of_another_length = refl
+a_text_of_another_length_has_no_range : range_text mixed 4 2 3 ≡ []
+a_text_of_another_length_has_no_range = refl
 
-b_is_taken_out_in_place : without_range (placed_text mixed inline_placement) 3 2 3 ≡ placed_text (0xE4 ∷ []) inline_placement
+b_is_taken_out_in_place : without_range (placed_text mixed inline_placement) 3 2 3
+    ≡ placed_text (0xE4 ∷ []) inline_placement
 b_is_taken_out_in_place = refl
 
 nothing_is_taken_out_of_a_static_text : without_range lasting_30 30 0 3 ≡ lasting_30
@@ -198,8 +214,8 @@ nothing_is_taken_out_of_a_static_text = refl
 
 -- collecting and joining
 
-a_separator_stands_between_each_two : join (44 ∷ 32 ∷ []) char_text abc ≡ 97 ∷ 44 ∷ 32 ∷ 98 ∷ 44 ∷ 32 ∷ 99 ∷ []
-a_separator_stands_between_each_two = refl
+a_separator_is_between_each_two : join (44 ∷ 32 ∷ []) char_text abc ≡ 97 ∷ 44 ∷ 32 ∷ 98 ∷ 44 ∷ 32 ∷ 99 ∷ []
+a_separator_is_between_each_two = refl
 
 an_empty_item_keeps_its_separator : join (45 ∷ []) (λ t. t) (abc ∷ [] ∷ []) ≡ 97 ∷ 98 ∷ 99 ∷ 45 ∷ []
 an_empty_item_keeps_its_separator = refl
@@ -213,20 +229,23 @@ nothing_is_joined_to_nothing = refl
 an_empty_item_leaves_a_static_value : Appends standard (λ t. t) lasting_30 ([] ∷ []) lasting_30
 an_empty_item_leaves_a_static_value = (lasting_30, refl, refl)
 
-another_moves_it_by_growth : Appends standard (λ t. t) lasting_30 ([] ∷ (98 ∷ []) ∷ []) (placed_text (letters 30 ++ 98 ∷ []) (heap_placement 45))
-another_moves_it_by_growth = (lasting_30, refl, (placed_text (letters 30 ++ 98 ∷ []) (heap_placement 45), refl, refl))
+another_moves_it_by_growth : Appends standard (λ t. t) lasting_30 ([] ∷ (98 ∷ []) ∷ [])
+    (placed_text (sample 30 ++ 98 ∷ []) (heap_placement 45))
+another_moves_it_by_growth = (lasting_30, refl, (placed_text (sample 30 ++ 98 ∷ []) (heap_placement 45), refl, refl))
 
-bytes_24_are_fitted_inline : IsPlacedBySize (placed_text (letters 24) inline_placement)
-bytes_24_are_fitted_inline = record { short = λ _. refl; long = λ h. absurd (omega (arith, h)) }
+bytes_24_are_inline : IsPlacedBySize (placed_text (sample 24) inline_placement)
+bytes_24_are_inline = record { short = λ _. refl; long = λ h. absurd (omega (arith, h)) }
 
-bytes_25_are_fitted_on_the_heap : IsPlacedBySize (placed_text (letters 25) (heap_placement 32))
-bytes_25_are_fitted_on_the_heap = record { short = λ h. absurd (omega (arith, h)); long = λ _. (refl, omega (arith)) }
+bytes_25_are_on_the_heap : IsPlacedBySize (placed_text (sample 25) (heap_placement 32))
+bytes_25_are_on_the_heap = record { short = λ h. absurd (omega (arith, h)); long = λ _. (refl, omega (arith)) }
 
-bytes_25_are_fitted_with_more_room : IsPlacedBySize (placed_text (letters 25) (heap_placement 100))
-bytes_25_are_fitted_with_more_room = record { short = λ h. absurd (omega (arith, h)); long = λ _. (refl, omega (arith)) }
+bytes_25_may_have_more_room : IsPlacedBySize (placed_text (sample 25) (heap_placement 100))
+bytes_25_may_have_more_room = record { short = λ h. absurd (omega (arith, h)); long = λ _. (refl, omega (arith)) }
 
-answers_keep_three_of_five : retained_text flag_rule (false ∷ true ∷ true ∷ false ∷ true ∷ []) (0xE4 ∷ 0x62 ∷ 0x1D11E ∷ 0x64 ∷ 0x20AC ∷ []) ≡ 0x62 ∷ 0x1D11E ∷ 0x20AC ∷ []
-answers_keep_three_of_five = refl
+flags_keep_three_of_five : retained_text flag_rule (false ∷ true ∷ true ∷ false ∷ true ∷ [])
+    (0xE4 ∷ 0x62 ∷ 0x1D11E ∷ 0x64 ∷ 0x20AC ∷ []) ≡ 0x62 ∷ 0x1D11E ∷ 0x20AC ∷ []
+flags_keep_three_of_five = refl
 
-a_character_with_no_answer_stays : retained_text flag_rule (true ∷ false ∷ []) (0x41 ∷ 0x62 ∷ 0x43 ∷ []) ≡ 0x41 ∷ 0x43 ∷ []
-a_character_with_no_answer_stays = refl
+a_character_with_no_flag_stays : retained_text flag_rule (true ∷ false ∷ []) (0x41 ∷ 0x62 ∷ 0x43 ∷ [])
+    ≡ 0x41 ∷ 0x43 ∷ []
+a_character_with_no_flag_stays = refl

@@ -24,13 +24,16 @@ pub texts-from_equal : (v w : PlacedText) → text_cmp v w ≡ Equal → v.text 
 texts-from_equal v w e = exact_bytes v.text w.text e
 
 -- for a proof by hand: sorted values are in strictly increasing order after `dedup`
-pub increasing-from_sorted : (xs ys : List PlacedText) → IsFiltered (DiffersFromLast same_text) [] xs ys → IsSorted text_cmp xs → IsStrictlySortedBy text_cmp ys
+pub increasing-from_sorted : (xs ys : List PlacedText) → IsFiltered (DiffersFromLast same_text) [] xs ys
+    → IsSorted text_cmp xs → IsStrictlySortedBy text_cmp ys
 increasing-from_sorted xs ys kept sorted =
-    let distinct = IsStrictlySortedBy-dedup (on_total text_in nat_list_cmp_total) (λ (x y : PlacedText). texts_ties x.text y.text) xs sorted in
+    let distinct = IsStrictlySortedBy-dedup (on_total text_in nat_list_cmp_total)
+    (λ (x y : PlacedText). texts_ties x.text y.text) xs sorted in
     subst (λ (zs : List PlacedText). IsStrictlySortedBy text_cmp zs) (sym (dedup_is same_text xs ys kept)) distinct
 
 -- a sorted slice can be searched for any of its values
-pub searchable-texts : (row : List PlacedText) (x : PlacedText) → IsSorted text_cmp row → IsNonDecreasingBy (λ y. ordering_index (text_cmp y x)) row
+pub searchable-texts : (row : List PlacedText) (x : PlacedText) → IsSorted text_cmp row
+    → IsNonDecreasingBy (λ y. ordering_index (text_cmp y x)) row
 searchable-texts row x sorted = searchable_from_sorted nat_list_cmp_total text_in row x.text sorted
 
 pub ruleset search_facts = (searchable-texts)

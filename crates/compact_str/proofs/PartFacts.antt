@@ -1,14 +1,17 @@
 -- For crates that call this one: three rulesets.
 -- `part_facts`, beside `ForCallers::caller_facts`: the text on both sides of a character that was found, or of what
 -- `trim` returns, and what a formatter wrote, in bytes.
--- `long_write_facts`, alone, for a `write!` of up to twelve values: with all of `caller_facts` a proof reaches its limit of
+-- `long_write_facts`, alone, for a `write!` of up to twelve values: with all of `caller_facts` a proof reaches its
+-- limit of
 -- instances. Past twelve pieces, values and literals together, `format_args!` nests, hence `append_assoc`.
 -- `literal_facts`, without the two: the characters of a literal of any length, and `==` with one.
-use Rattle.std.proofs.Common.{◌≡◌, ◌≢◌, ◌⊎◌, inl, inr, ℕ, List, Bool, true, false, ◌&&◌, [], ◌++◌, ◌∷◌, nat_eq, nat_lt, drop, take, refl, ap, sym, subst, ◌∙◌, ◌<◌, arith, append_assoc, append-nil}
+use Rattle.std.proofs.Common.{◌≡◌, ◌≢◌, ◌⊎◌, inl, inr, ℕ, List, Bool, true, false, ◌&&◌, [], ◌++◌, ◌∷◌, nat_eq, nat_lt}
+use Rattle.std.proofs.Common.{drop, take, refl, ap, sym, subst, ◌∙◌, ◌<◌, arith, append_assoc, append-nil}
 use Rattle.std.proofs.lemmas.Bool.{false≢true, ltb-true, not-false}
 use Rattle.std.proofs.lemmas.Bool.Decides.{nat_tests}
 use Rattle.std.proofs.lemmas.List.Elements.{All-nil, All-cons}
-use Rattle.std.proofs.lemmas.Str.{chars-append, chars-encodes, chars-nil, encodes-chars, chars_past_char, IsCharBoundary-from_drop, IsUtf8-append, IsUtf8-drop, IsUtf8-encode, IsUtf8-take}
+use Rattle.std.proofs.lemmas.Str.{chars-append, chars-encodes, chars-nil, encodes-chars, chars_past_char}
+use Rattle.std.proofs.lemmas.Str.{IsCharBoundary-from_drop, IsUtf8-append, IsUtf8-drop, IsUtf8-encode, IsUtf8-take}
 use Rattle.std.proofs.lemmas.List.{take-append-drop}
 use Rattle.std.specs.Cmp.Lexicographic.{same_text, bytes_decides}
 use Rattle.std.specs.Fmt.{WritesInCalls}
@@ -23,7 +26,8 @@ use Rattle.compact_repr.specs.Value.{PlacedText}
 use Rattle.compact_repr.specs.Capacity.{Growth}
 use Rattle.compact_str.specs.Output.{Writes}
 use Rattle.compact_str.specs.Ranges.{IsBetweenWhitespace}
-use Rattle.compact_str.proofs.Literals.{written-text, text_of-one, text_of-two, text_of-three, text_of-four, text_of-decimal, text_of-decimal_append}
+use Rattle.compact_str.proofs.Literals.{written-text, text_of-one, text_of-two, text_of-three, text_of-four}
+use Rattle.compact_str.proofs.Literals.{text_of-decimal, text_of-decimal_append}
 
 -- the text before a character that was found, the character, and the text after it
 pub cut-text : (t s : List ℕ) (c i j : ℕ) → HasCharAt c s i j → text_of s ≡ t → IsUtf8 s → IsCharBoundary s i
@@ -40,28 +44,39 @@ pub cut-at : (t s : List ℕ) (c i j : ℕ) → HasCharAt c s i j → text_of s 
     → t ≡ text_of (take i s) ++ c ∷ text_of (drop j s)
 cut-at t s c i j h e u is_scalar =
     let behind : IsUtf8 (drop j s) = IsUtf8-drop s j u (subst (λ (n : ℕ). IsCharBoundary s n) (sym h.ends) h.after) in
-    let rest : IsUtf8 (drop i s) = subst IsUtf8 (sym h.split) (IsUtf8-append (encode_utf8 c) (drop j s) (IsUtf8-encode c is_scalar) behind) in
+    let rest : IsUtf8 (drop i s) = subst IsUtf8 (sym h.split)
+    (IsUtf8-append (encode_utf8 c) (drop j s) (IsUtf8-encode c is_scalar) behind) in
     cut-text t s c i j h e u (IsCharBoundary-from_drop s i (omega (arith, h.after.0)) rest)
 
 -- what a formatter wrote, in bytes, in any number of parts
-written-parts : (g : Growth) (v w : PlacedText) (parts : List (List ℕ)) → FoldsTo (Writes g) v parts w → utf8 w.text ≡ utf8 v.text ++ concat parts
+written-parts : (g : Growth) (v w : PlacedText) (parts : List (List ℕ)) → FoldsTo (Writes g) v parts w
+    → utf8 w.text ≡ utf8 v.text ++ concat parts
 written-parts g v w [] same = ap (λ (x : PlacedText). utf8 x.text) (sym same) ∙ sym (append-nil (utf8 v.text))
 written-parts g v w (part ∷ parts) (x, first, rest) =
-    written-parts g x w parts rest ∙ ap (λ bytes. bytes ++ concat parts) first.written ∙ append_assoc (utf8 v.text) part (concat parts)
+    written-parts g x w parts rest ∙ ap (λ bytes. bytes ++ concat parts) first.written
+    ∙ append_assoc (utf8 v.text) part (concat parts)
 
-pub written-bytes : (g : Growth) (v w : PlacedText) (bytes : List ℕ) → WritesInCalls (Writes g) v bytes w → utf8 w.text ≡ utf8 v.text ++ bytes
-written-bytes g v w bytes writes = written-parts g v w writes.parts writes.calls ∙ ap (λ x. utf8 v.text ++ x) writes.whole
+pub written-bytes : (g : Growth) (v w : PlacedText) (bytes : List ℕ) → WritesInCalls (Writes g) v bytes w
+    → utf8 w.text ≡ utf8 v.text ++ bytes
+written-bytes g v w bytes writes = written-parts g v w writes.parts writes.calls
+    ∙ ap (λ x. utf8 v.text ++ x) writes.whole
 
 -- two texts have the same bytes just if they have the same characters
-told : (s literal : List ℕ) (same : Bool) → same ≡ pointwise nat_eq s literal → IsUtf8 s → IsUtf8 literal
-    → ((pointwise nat_eq s literal ≡ true) × (text_of s ≡ text_of literal)) ⊎ ((pointwise nat_eq s literal ≡ false) × (text_of s ≢ text_of literal))
-told s literal true test u v = inl (sym test, ap text_of (same_text s literal test))
-told s literal false test u v =
-    inr (sym test, λ is. false≢true (test ∙ (bytes_decides s literal).1 (sym (encodes-chars s u) ∙ ap utf8 is ∙ encodes-chars literal v)))
+compared : (s literal : List ℕ) (same : Bool) → same ≡ pointwise nat_eq s literal → IsUtf8 s → IsUtf8 literal
+    → ((pointwise nat_eq s literal ≡ true) × (text_of s ≡ text_of literal))
+    ⊎ ((pointwise nat_eq s literal ≡ false) × (text_of s ≢ text_of literal))
+compared s literal true test u v = inl (sym test, ap text_of (same_text s literal test))
+compared s literal false test u v =
+    inr (
+      sym test,
+      λ is. false≢true (test ∙ (bytes_decides s literal).1
+          (sym (encodes-chars s u) ∙ ap utf8 is ∙ encodes-chars literal v)),
+    )
 
-pub word-told : (s literal : List ℕ) → IsUtf8 s → IsUtf8 literal
-    → ((pointwise nat_eq s literal ≡ true) × (text_of s ≡ text_of literal)) ⊎ ((pointwise nat_eq s literal ≡ false) × (text_of s ≢ text_of literal))
-word-told s literal u v = told s literal (pointwise nat_eq s literal) refl u v
+pub word-compared : (s literal : List ℕ) → IsUtf8 s → IsUtf8 literal
+    → ((pointwise nat_eq s literal ≡ true) × (text_of s ≡ text_of literal))
+    ⊎ ((pointwise nat_eq s literal ≡ false) × (text_of s ≢ text_of literal))
+word-compared s literal u v = compared s literal (pointwise nat_eq s literal) refl u v
 
 -- an ASCII literal of any length is its own text; the test computes
 abbrev pub is_plain : List ℕ → Bool
@@ -92,16 +107,21 @@ white-parts (c ∷ cs) (first, rest) =
     let white : is_whitespace c ≡ true = not-false (is_whitespace c) first in
     (rw (white-scalar c white) others.0, All-cons (λ (d : ℕ). is_whitespace d ≡ true) c cs white others.1)
 
-white-text : (bytes : List ℕ) → NoCharPasses is_not_whitespace bytes → IsUtf8 bytes × AllPass is_whitespace (text_of bytes)
+white-text : (bytes : List ℕ) → NoCharPasses is_not_whitespace bytes
+    → IsUtf8 bytes × AllPass is_whitespace (text_of bytes)
 white-text bytes (cs, spelled, none) =
-    let parts = white-parts cs none in
-    ((cs, (parts.0, spelled)), subst (λ (t : List ℕ). AllPass is_whitespace t) (sym (chars-encodes cs parts.0) ∙ ap text_of spelled) parts.1)
+    let parts = white-parts cs none in (
+      (cs, (parts.0, spelled)),
+      subst (λ (t : List ℕ). AllPass is_whitespace t)
+          (sym (chars-encodes cs parts.0) ∙ ap text_of spelled) parts.1,
+    )
 
 pub trimmed-text : (t s r : List ℕ) → IsTrim s r → text_of s ≡ t → IsUtf8 r → IsBetweenWhitespace t (text_of r)
 trimmed-text t s r (m, n, cut, before, behind, starts, ends) e u =
     let head = white-text (take m s) before in
     let tail = white-text (drop n (drop m s)) behind in
-    let rest : drop m s ≡ r ++ drop n (drop m s) = sym (take-append-drop n (drop m s)) ∙ ap (λ x. x ++ drop n (drop m s)) (sym cut) in
+    let rest : drop m s ≡ r ++ drop n (drop m s) = sym (take-append-drop n (drop m s))
+    ∙ ap (λ x. x ++ drop n (drop m s)) (sym cut) in
     let whole : s ≡ take m s ++ (r ++ drop n (drop m s)) = sym (take-append-drop m s) ∙ ap (λ x. take m s ++ x) rest in
     record {
       head = text_of (take m s);
@@ -131,4 +151,12 @@ pub ruleset long_write_facts = (
   text_of-decimal_append,
 )
 
-pub ruleset literal_facts = (word-told, text_of-plain, chars-nil, text_of-one, text_of-two, text_of-three, text_of-four)
+pub ruleset literal_facts = (
+  word-compared,
+  text_of-plain,
+  chars-nil,
+  text_of-one,
+  text_of-two,
+  text_of-three,
+  text_of-four,
+)

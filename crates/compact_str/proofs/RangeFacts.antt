@@ -3,7 +3,7 @@
 use Rattle.std.proofs.Common.{ℕ, List, [], sym, refl, append-nil}
 use Rattle.compact_repr.specs.Text.{size}
 use Rattle.compact_repr.specs.Cut.{IsBoundary}
-use Rattle.compact_text.proofs.Cuts.{boundary-within}
+use Rattle.compact_text.proofs.CutLemmas.{boundary-within}
 
 pub boundary-start : (t : List ℕ) → IsBoundary t 0
 boundary-start t = ([], t, record { parts = refl; position = refl })

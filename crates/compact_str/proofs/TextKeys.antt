@@ -1,7 +1,8 @@
 -- For callers: what a map or set of values has at any bytes, before and after a call that changes one key. A call by a
 -- value compares characters, and one by a `&str` bytes. Named at the caller, as `#[tactic(auto,
 -- using(compact_str::proofs::TextKeys::map_facts))]`. After std's `Map.Text`.
-use Rattle.std.proofs.Common.{◌≡◌, ℕ, Bool, true, false, cond, List, ◌∷◌, Option, Bor, BTreeMap, BTreeSet, HashMap, HashSet, refl, sym, ap, subst₂, ◌∙◌, ◌⊎◌, ◌≢◌, inl, inr, ⊎_elim, bytes_eq}
+use Rattle.std.proofs.Common.{◌≡◌, ℕ, Bool, true, false, cond, List, ◌∷◌, Option, Bor, BTreeMap, BTreeSet, HashMap}
+use Rattle.std.proofs.Common.{HashSet, refl, sym, ap, subst₂, ◌∙◌, ◌⊎◌, ◌≢◌, inl, inr, ⊎_elim, bytes_eq}
 use Rattle.std.specs.Map.{lookup, update, IsKeyTest, AreApart, KeepsOthers}
 use Rattle.std.specs.Set.{KeepsOthers as KeepsOtherKeys}
 use Rattle.std.specs.BTreeMap.{is_at}
@@ -45,17 +46,20 @@ one_sorted_key : (cs : List ℕ) → IsKeyTest (eq_by_cmp text_cmp) (is_at (byte
 one_sorted_key cs = subst₂ IsKeyTest (sym tied-is) (sym (bytes_cmp-is cs)) (one_key cs)
 
 other_key : (bs cs : List ℕ) → bytes_eq bs cs ≡ false → AreApart (has_bytes bs) (has_bytes cs)
-other_key bs cs n k y = nat_list_eq_equiv.symm cs (utf8 k.text) ∙ sym (nat_list_eq_equiv.congr bs (utf8 k.text) cs y) ∙ n
+other_key bs cs n k y = nat_list_eq_equiv.symm cs (utf8 k.text) ∙ sym (nat_list_eq_equiv.congr bs (utf8 k.text) cs y)
+    ∙ n
 
 -- the other keys are unchanged
 
-kept_entries : {X : Type 0} (eq : PlacedText → PlacedText → Bool) (test query : PlacedText → Bool) (old new : List (PlacedText × X))
+kept_entries : {X : Type 0} (eq : PlacedText → PlacedText → Bool) (test query : PlacedText → Bool)
+    (old new : List (PlacedText × X))
     → KeepsOthers eq test old new → IsKeyTest eq query → AreApart test query → lookup query new ≡ lookup query old
 unfolding KeepsOthers
 kept_entries eq test query old new h one other = h query one other
 
 kept_keys : (eq : PlacedText → PlacedText → Bool) (test query : PlacedText → Bool) (old new : List PlacedText)
-    → KeepsOtherKeys eq test old new → IsKeyTest eq query → AreApart test query → list_any query new ≡ list_any query old
+    → KeepsOtherKeys eq test old new → IsKeyTest eq query → AreApart test query
+    → list_any query new ≡ list_any query old
 unfolding KeepsOtherKeys
 kept_keys eq test query old new h one other = h query one other
 
@@ -68,14 +72,16 @@ module _ {A W : Type 0} (find : (PlacedText → Bool) → List A → W) (test qu
   -- The first two parts show `grind` the calls to match
   abbrev pub FindsAfter : Type 0 → List ℕ → List ℕ → List A → List A → Type 0
   FindsAfter Kept bs cs old new = Kept × (find query new ≡ find query new)
-      × (((bytes_eq cs bs ≡ true) × (bytes_eq bs cs ≡ true) × (cs ≡ bs) × (find query new ≡ find test new) × (find query old ≡ find test old))
+      × (((bytes_eq cs bs ≡ true) × (bytes_eq bs cs ≡ true) × (cs ≡ bs) × (find query new ≡ find test new)
+      × (find query old ≡ find test old))
       ⊎ ((bytes_eq cs bs ≡ false) × (bytes_eq bs cs ≡ false) × (cs ≢ bs) × (find query new ≡ find query old)))
 
   module _ (bs cs : List ℕ) (by : test ≡ has_bytes bs) (for : query ≡ has_bytes cs) where
     finds_same : (xs : List A) → cs ≡ bs → FindsSame cs xs
     finds_same xs e = (ap (λ t. find t xs) (by ∙ ap has_bytes (sym e) ∙ sym for), nat_list_eq_equiv.refl cs)
 
-    finds_after : (Kept : Type 0) (old new : List A) → (AreApart test query → find query new ≡ find query old) → Kept → FindsAfter Kept bs cs old new
+    finds_after : (Kept : Type 0) (old new : List A) → (AreApart test query → find query new ≡ find query old) → Kept
+        → FindsAfter Kept bs cs old new
     finds_after Kept old new others kept =
         let turned = nat_list_eq_equiv.symm bs cs in (
           kept,
@@ -84,121 +90,180 @@ module _ {A W : Type 0} (find : (PlacedText → Bool) → List A → W) (test qu
               (λ y. let e = (bytes_decides cs bs).0 y in
               let found : query ≡ test = for ∙ ap has_bytes e ∙ sym by in
               inl (y, turned ∙ y, e, ap (λ t. find t new) found, ap (λ t. find t old) found))
-              (λ n. inr (n, turned ∙ n, λ e. false≢true (sym n ∙ (bytes_decides cs bs).1 e), others (subst₂ AreApart (sym by) (sym for) (other_key bs cs (turned ∙ n)))))
+              (λ n. inr (
+                n,
+                turned ∙ n,
+                λ e. false≢true (sym n ∙ (bytes_decides cs bs).1 e),
+                others (subst₂ AreApart (sym by) (sym for) (other_key bs cs (turned ∙ n))),
+              ))
               (cases_Bool (bytes_eq cs bs)),
         )
 
-module _ {A W : Type 0} (find : (PlacedText → Bool) → List A → W) (query : List ℕ → PlacedText → Bool) (for : (cs : List ℕ) → query cs ≡ has_bytes cs)
+module _ {A W : Type 0} (find : (PlacedText → Bool) → List A → W) (query : List ℕ → PlacedText → Bool)
+    (for : (cs : List ℕ) → query cs ≡ has_bytes cs)
     (test : PlacedText → Bool) (bs : List ℕ) (by : test ≡ has_bytes bs) where
   -- w is found at the bytes bs, and the old values at others
-  updated : (old new : List A) (w : W) → find test new ≡ w → ((cs : List ℕ) → AreApart test (query cs) → find (query cs) new ≡ find (query cs) old)
+  updated : (old new : List A) (w : W) → find test new ≡ w → ((cs : List ℕ) → AreApart test (query cs)
+      → find (query cs) new ≡ find (query cs) old)
       → (cs : List ℕ) → find (query cs) new ≡ cond (bytes_eq bs cs) w (find (query cs) old)
   updated old new w here others cs =
       ⊎_elim
-      (λ y. ap (λ t. find t new) (for cs ∙ ap has_bytes (sym ((bytes_decides bs cs).0 y)) ∙ sym by) ∙ here ∙ sym (cond-true (bytes_eq bs cs) w (find (query cs) old) y))
-      (λ n. others cs (subst₂ AreApart (sym by) (sym (for cs)) (other_key bs cs n)) ∙ sym (cond-false (bytes_eq bs cs) w (find (query cs) old) n))
+      (λ y. ap (λ t. find t new) (for cs ∙ ap has_bytes (sym ((bytes_decides bs cs).0 y)) ∙ sym by) ∙ here
+      ∙ sym (cond-true (bytes_eq bs cs) w (find (query cs) old) y))
+      (λ n. others cs (subst₂ AreApart (sym by) (sym (for cs)) (other_key bs cs n))
+      ∙ sym (cond-false (bytes_eq bs cs) w (find (query cs) old) n))
       (cases_Bool (bytes_eq bs cs))
 
 -- For a proof by hand: the clause `updates` of a call at a key k, and at bytes bs. Those of `HashMap` and `HashSet`
 -- serve for `IndexMap` and `IndexSet`.
 
 module _ (k : PlacedText) where
-  pub hash_map_updates_key : {X S : Type 0} (m n : HashMap PlacedText X S) (w : Option X) → hash_map.UpdatesBy same_text (same_text k) m n w
+  pub hash_map_updates_key : {X S : Type 0} (m n : HashMap PlacedText X S) (w : Option X)
+      → hash_map.UpdatesBy same_text (same_text k) m n w
       → (cs : List ℕ) → hashed.get_by_text n cs ≡ update bytes_eq (hashed.get_by_text m) (utf8 k.text) w cs
-  hash_map_updates_key m n w h = updated lookup has_bytes (λ cs. refl) _ (utf8 k.text) (same_text-is k) m.entries n.entries w h.1 (λ cs. kept_entries same_text _ _ m.entries n.entries h.3 (one_key cs))
+  hash_map_updates_key m n w h = updated lookup has_bytes (λ cs. refl) _ (utf8 k.text) (same_text-is k) m.entries
+      n.entries w h.1 (λ cs. kept_entries same_text _ _ m.entries n.entries h.3 (one_key cs))
 
-  pub btree_map_updates_key : {X : Type 0} (m n : BTreeMap PlacedText X) (w : Option X) → btree_map.UpdatesBy text_cmp (text_cmp k) m n w
+  pub btree_map_updates_key : {X : Type 0} (m n : BTreeMap PlacedText X) (w : Option X)
+      → btree_map.UpdatesBy text_cmp (text_cmp k) m n w
       → (cs : List ℕ) → sorted.get_by_text n cs ≡ update bytes_eq (sorted.get_by_text m) (utf8 k.text) w cs
-  btree_map_updates_key m n w h = updated lookup (λ cs. is_at (bytes_cmp cs)) bytes_cmp-is _ (utf8 k.text) (text_cmp-is k) m.entries n.entries w h.1 (λ cs. kept_entries (eq_by_cmp text_cmp) _ _ m.entries n.entries h.3 (one_sorted_key cs))
+  btree_map_updates_key m n w h = updated lookup (λ cs. is_at (bytes_cmp cs)) bytes_cmp-is _ (utf8 k.text)
+      (text_cmp-is k) m.entries n.entries w h.1 (λ cs. kept_entries (eq_by_cmp text_cmp) _ _ m.entries n.entries h.3
+      (one_sorted_key cs))
 
-  pub hash_set_updates_key : {S : Type 0} (m n : HashSet PlacedText S) (w : Bool) → hash_set.UpdatesBy same_text (same_text k) m n w
+  pub hash_set_updates_key : {S : Type 0} (m n : HashSet PlacedText S) (w : Bool)
+      → hash_set.UpdatesBy same_text (same_text k) m n w
       → (cs : List ℕ) → hashed.contains_text n cs ≡ cond (bytes_eq (utf8 k.text) cs) w (hashed.contains_text m cs)
-  hash_set_updates_key m n w h = updated list_any has_bytes (λ cs. refl) _ (utf8 k.text) (same_text-is k) m.keys n.keys w h.1 (λ cs. kept_keys same_text _ _ m.keys n.keys h.3 (one_key cs))
+  hash_set_updates_key m n w h = updated list_any has_bytes (λ cs. refl) _ (utf8 k.text) (same_text-is k) m.keys
+      n.keys w h.1 (λ cs. kept_keys same_text _ _ m.keys n.keys h.3 (one_key cs))
 
   pub btree_set_updates_key : (m n : BTreeSet PlacedText) (w : Bool) → btree_set.UpdatesBy text_cmp (text_cmp k) m n w
       → (cs : List ℕ) → sorted.contains_text n cs ≡ cond (bytes_eq (utf8 k.text) cs) w (sorted.contains_text m cs)
-  btree_set_updates_key m n w h = updated list_any (λ cs. is_at (bytes_cmp cs)) bytes_cmp-is _ (utf8 k.text) (text_cmp-is k) m.keys n.keys w h.1 (λ cs. kept_keys (eq_by_cmp text_cmp) _ _ m.keys n.keys h.3 (one_sorted_key cs))
+  btree_set_updates_key m n w h = updated list_any (λ cs. is_at (bytes_cmp cs)) bytes_cmp-is _ (utf8 k.text)
+      (text_cmp-is k) m.keys n.keys w h.1 (λ cs. kept_keys (eq_by_cmp text_cmp) _ _ m.keys n.keys h.3
+      (one_sorted_key cs))
 
 module _ (bs : List ℕ) where
-  pub hash_map_updates_text : {X S : Type 0} (m n : HashMap PlacedText X S) (w : Option X) → hash_map.UpdatesBy same_text (has_bytes bs) m n w
+  pub hash_map_updates_text : {X S : Type 0} (m n : HashMap PlacedText X S) (w : Option X)
+      → hash_map.UpdatesBy same_text (has_bytes bs) m n w
       → (cs : List ℕ) → hashed.get_by_text n cs ≡ update bytes_eq (hashed.get_by_text m) bs w cs
-  hash_map_updates_text m n w h = updated lookup has_bytes (λ cs. refl) _ bs refl m.entries n.entries w h.1 (λ cs. kept_entries same_text _ _ m.entries n.entries h.3 (one_key cs))
+  hash_map_updates_text m n w h = updated lookup has_bytes (λ cs. refl) _ bs refl m.entries n.entries w h.1
+      (λ cs. kept_entries same_text _ _ m.entries n.entries h.3 (one_key cs))
 
-  pub btree_map_updates_text : {X : Type 0} (m n : BTreeMap PlacedText X) (w : Option X) → btree_map.UpdatesBy text_cmp (bytes_cmp bs) m n w
+  pub btree_map_updates_text : {X : Type 0} (m n : BTreeMap PlacedText X) (w : Option X)
+      → btree_map.UpdatesBy text_cmp (bytes_cmp bs) m n w
       → (cs : List ℕ) → sorted.get_by_text n cs ≡ update bytes_eq (sorted.get_by_text m) bs w cs
-  btree_map_updates_text m n w h = updated lookup (λ cs. is_at (bytes_cmp cs)) bytes_cmp-is _ bs (bytes_cmp-is bs) m.entries n.entries w h.1 (λ cs. kept_entries (eq_by_cmp text_cmp) _ _ m.entries n.entries h.3 (one_sorted_key cs))
+  btree_map_updates_text m n w h = updated lookup (λ cs. is_at (bytes_cmp cs)) bytes_cmp-is _ bs (bytes_cmp-is bs)
+      m.entries n.entries w h.1 (λ cs. kept_entries (eq_by_cmp text_cmp) _ _ m.entries n.entries h.3
+      (one_sorted_key cs))
 
-  pub hash_set_updates_text : {S : Type 0} (m n : HashSet PlacedText S) (w : Bool) → hash_set.UpdatesBy same_text (has_bytes bs) m n w
+  pub hash_set_updates_text : {S : Type 0} (m n : HashSet PlacedText S) (w : Bool)
+      → hash_set.UpdatesBy same_text (has_bytes bs) m n w
       → (cs : List ℕ) → hashed.contains_text n cs ≡ cond (bytes_eq bs cs) w (hashed.contains_text m cs)
-  hash_set_updates_text m n w h = updated list_any has_bytes (λ cs. refl) _ bs refl m.keys n.keys w h.1 (λ cs. kept_keys same_text _ _ m.keys n.keys h.3 (one_key cs))
+  hash_set_updates_text m n w h = updated list_any has_bytes (λ cs. refl) _ bs refl m.keys n.keys w h.1
+      (λ cs. kept_keys same_text _ _ m.keys n.keys h.3 (one_key cs))
 
-  pub btree_set_updates_text : (m n : BTreeSet PlacedText) (w : Bool) → btree_set.UpdatesBy text_cmp (bytes_cmp bs) m n w
+  pub btree_set_updates_text : (m n : BTreeSet PlacedText) (w : Bool)
+      → btree_set.UpdatesBy text_cmp (bytes_cmp bs) m n w
       → (cs : List ℕ) → sorted.contains_text n cs ≡ cond (bytes_eq bs cs) w (sorted.contains_text m cs)
-  btree_set_updates_text m n w h = updated list_any (λ cs. is_at (bytes_cmp cs)) bytes_cmp-is _ bs (bytes_cmp-is bs) m.keys n.keys w h.1 (λ cs. kept_keys (eq_by_cmp text_cmp) _ _ m.keys n.keys h.3 (one_sorted_key cs))
+  btree_set_updates_text m n w h = updated list_any (λ cs. is_at (bytes_cmp cs)) bytes_cmp-is _ bs (bytes_cmp-is bs)
+      m.keys n.keys w h.1 (λ cs. kept_keys (eq_by_cmp text_cmp) _ _ m.keys n.keys h.3 (one_sorted_key cs))
 
 -- for `grind`: at a key k, as for `insert` and `entry`
 
 module _ {X : Type 0} (k : PlacedText) (cs : List ℕ) where
-  pub hash_map_key_same : (xs : List (PlacedText × X)) → cs ≡ utf8 k.text → FindsSame lookup (same_text k) (has_bytes cs) cs xs
+  pub hash_map_key_same : (xs : List (PlacedText × X)) → cs ≡ utf8 k.text
+      → FindsSame lookup (same_text k) (has_bytes cs) cs xs
   hash_map_key_same = finds_same lookup _ _ (utf8 k.text) cs (same_text-is k) refl
 
   pub hash_map_key_after : (old new : List (PlacedText × X)) → KeepsOthers same_text (same_text k) old new
-      → FindsAfter lookup (same_text k) (has_bytes cs) (KeepsOthers same_text (same_text k) old new) (utf8 k.text) cs old new
-  hash_map_key_after old new h = finds_after lookup _ _ (utf8 k.text) cs (same_text-is k) refl _ old new (kept_entries same_text _ _ old new h (one_key cs)) h
+      → FindsAfter lookup (same_text k) (has_bytes cs) (KeepsOthers same_text (same_text k) old new) (utf8 k.text) cs
+      old new
+  hash_map_key_after old new h = finds_after lookup _ _ (utf8 k.text) cs (same_text-is k) refl _ old new
+      (kept_entries same_text _ _ old new h (one_key cs)) h
 
-  pub btree_map_key_same : (xs : List (PlacedText × X)) → cs ≡ utf8 k.text → FindsSame lookup (is_at (text_cmp k)) (is_at (bytes_cmp cs)) cs xs
+  pub btree_map_key_same : (xs : List (PlacedText × X)) → cs ≡ utf8 k.text
+      → FindsSame lookup (is_at (text_cmp k)) (is_at (bytes_cmp cs)) cs xs
   btree_map_key_same = finds_same lookup _ _ (utf8 k.text) cs (text_cmp-is k) (bytes_cmp-is cs)
 
-  pub btree_map_key_after : (old new : List (PlacedText × X)) → KeepsOthers (eq_by_cmp text_cmp) (is_at (text_cmp k)) old new
-      → FindsAfter lookup (is_at (text_cmp k)) (is_at (bytes_cmp cs)) (KeepsOthers (eq_by_cmp text_cmp) (is_at (text_cmp k)) old new) (utf8 k.text) cs old new
-  btree_map_key_after old new h = finds_after lookup _ _ (utf8 k.text) cs (text_cmp-is k) (bytes_cmp-is cs) _ old new (kept_entries (eq_by_cmp text_cmp) _ _ old new h (one_sorted_key cs)) h
+  pub btree_map_key_after : (old new : List (PlacedText × X))
+      → KeepsOthers (eq_by_cmp text_cmp) (is_at (text_cmp k)) old new
+      → FindsAfter lookup (is_at (text_cmp k)) (is_at (bytes_cmp cs))
+      (KeepsOthers (eq_by_cmp text_cmp) (is_at (text_cmp k)) old new) (utf8 k.text) cs old new
+  btree_map_key_after old new h = finds_after lookup _ _ (utf8 k.text) cs (text_cmp-is k) (bytes_cmp-is cs) _ old new
+      (kept_entries (eq_by_cmp text_cmp) _ _ old new h (one_sorted_key cs)) h
 
 module _ (k : PlacedText) (cs : List ℕ) where
-  pub hash_set_key_same : (xs : List PlacedText) → cs ≡ utf8 k.text → FindsSame list_any (same_text k) (has_bytes cs) cs xs
+  pub hash_set_key_same : (xs : List PlacedText) → cs ≡ utf8 k.text
+      → FindsSame list_any (same_text k) (has_bytes cs) cs xs
   hash_set_key_same = finds_same list_any _ _ (utf8 k.text) cs (same_text-is k) refl
 
   pub hash_set_key_after : (old new : List PlacedText) → KeepsOtherKeys same_text (same_text k) old new
-      → FindsAfter list_any (same_text k) (has_bytes cs) (KeepsOtherKeys same_text (same_text k) old new) (utf8 k.text) cs old new
-  hash_set_key_after old new h = finds_after list_any _ _ (utf8 k.text) cs (same_text-is k) refl _ old new (kept_keys same_text _ _ old new h (one_key cs)) h
+      → FindsAfter list_any (same_text k) (has_bytes cs) (KeepsOtherKeys same_text (same_text k) old new)
+      (utf8 k.text) cs old new
+  hash_set_key_after old new h = finds_after list_any _ _ (utf8 k.text) cs (same_text-is k) refl _ old new
+      (kept_keys same_text _ _ old new h (one_key cs)) h
 
-  pub btree_set_key_same : (xs : List PlacedText) → cs ≡ utf8 k.text → FindsSame list_any (is_at (text_cmp k)) (is_at (bytes_cmp cs)) cs xs
+  pub btree_set_key_same : (xs : List PlacedText) → cs ≡ utf8 k.text
+      → FindsSame list_any (is_at (text_cmp k)) (is_at (bytes_cmp cs)) cs xs
   btree_set_key_same = finds_same list_any _ _ (utf8 k.text) cs (text_cmp-is k) (bytes_cmp-is cs)
 
-  pub btree_set_key_after : (old new : List PlacedText) → KeepsOtherKeys (eq_by_cmp text_cmp) (is_at (text_cmp k)) old new
-      → FindsAfter list_any (is_at (text_cmp k)) (is_at (bytes_cmp cs)) (KeepsOtherKeys (eq_by_cmp text_cmp) (is_at (text_cmp k)) old new) (utf8 k.text) cs old new
-  btree_set_key_after old new h = finds_after list_any _ _ (utf8 k.text) cs (text_cmp-is k) (bytes_cmp-is cs) _ old new (kept_keys (eq_by_cmp text_cmp) _ _ old new h (one_sorted_key cs)) h
+  pub btree_set_key_after : (old new : List PlacedText) → KeepsOtherKeys (eq_by_cmp text_cmp) (is_at (text_cmp k)) old
+      new
+      → FindsAfter list_any (is_at (text_cmp k)) (is_at (bytes_cmp cs))
+      (KeepsOtherKeys (eq_by_cmp text_cmp) (is_at (text_cmp k)) old new) (utf8 k.text) cs old new
+  btree_set_key_after old new h = finds_after list_any _ _ (utf8 k.text) cs (text_cmp-is k) (bytes_cmp-is cs) _ old
+      new (kept_keys (eq_by_cmp text_cmp) _ _ old new h (one_sorted_key cs)) h
 
 -- at a `&str` q, as for `get`, `get_mut` and `remove`
 
 module _ {X : Type 0} (q : Bor (List ℕ)) (cs : List ℕ) where
-  pub hash_map_text_same : (xs : List (PlacedText × X)) → cs ≡ q.now → FindsSame lookup (λ k. bytes_eq q.now (utf8 k.text)) (has_bytes cs) cs xs
+  pub hash_map_text_same : (xs : List (PlacedText × X)) → cs ≡ q.now
+      → FindsSame lookup (λ k. bytes_eq q.now (utf8 k.text)) (has_bytes cs) cs xs
   hash_map_text_same = finds_same lookup _ _ q.now cs refl refl
 
-  pub hash_map_text_after : (old new : List (PlacedText × X)) → KeepsOthers same_text (λ k. bytes_eq q.now (utf8 k.text)) old new
-      → FindsAfter lookup (λ k. bytes_eq q.now (utf8 k.text)) (has_bytes cs) (KeepsOthers same_text (λ k. bytes_eq q.now (utf8 k.text)) old new) q.now cs old new
-  hash_map_text_after old new h = finds_after lookup _ _ q.now cs refl refl _ old new (kept_entries same_text _ _ old new h (one_key cs)) h
+  pub hash_map_text_after : (old new : List (PlacedText × X))
+      → KeepsOthers same_text (λ k. bytes_eq q.now (utf8 k.text)) old new
+      → FindsAfter lookup (λ k. bytes_eq q.now (utf8 k.text)) (has_bytes cs)
+      (KeepsOthers same_text (λ k. bytes_eq q.now (utf8 k.text)) old new) q.now cs old new
+  hash_map_text_after old new h = finds_after lookup _ _ q.now cs refl refl _ old new
+      (kept_entries same_text _ _ old new h (one_key cs)) h
 
-  pub btree_map_text_same : (xs : List (PlacedText × X)) → cs ≡ q.now → FindsSame lookup (is_at (λ k. slice_cmp nat_cmp q.now (utf8 k.text))) (is_at (bytes_cmp cs)) cs xs
+  pub btree_map_text_same : (xs : List (PlacedText × X)) → cs ≡ q.now
+      → FindsSame lookup (is_at (λ k. slice_cmp nat_cmp q.now (utf8 k.text))) (is_at (bytes_cmp cs)) cs xs
   btree_map_text_same = finds_same lookup _ _ q.now cs (bytes_cmp-is q.now) (bytes_cmp-is cs)
 
-  pub btree_map_text_after : (old new : List (PlacedText × X)) → KeepsOthers (eq_by_cmp text_cmp) (is_at (λ k. slice_cmp nat_cmp q.now (utf8 k.text))) old new
-      → FindsAfter lookup (is_at (λ k. slice_cmp nat_cmp q.now (utf8 k.text))) (is_at (bytes_cmp cs)) (KeepsOthers (eq_by_cmp text_cmp) (is_at (λ k. slice_cmp nat_cmp q.now (utf8 k.text))) old new) q.now cs old new
-  btree_map_text_after old new h = finds_after lookup _ _ q.now cs (bytes_cmp-is q.now) (bytes_cmp-is cs) _ old new (kept_entries (eq_by_cmp text_cmp) _ _ old new h (one_sorted_key cs)) h
+  pub btree_map_text_after : (old new : List (PlacedText × X))
+      → KeepsOthers (eq_by_cmp text_cmp) (is_at (λ k. slice_cmp nat_cmp q.now (utf8 k.text))) old new
+      → FindsAfter lookup (is_at (λ k. slice_cmp nat_cmp q.now (utf8 k.text))) (is_at (bytes_cmp cs))
+      (KeepsOthers (eq_by_cmp text_cmp) (is_at (λ k. slice_cmp nat_cmp q.now (utf8 k.text))) old new) q.now cs old
+      new
+  btree_map_text_after old new h = finds_after lookup _ _ q.now cs (bytes_cmp-is q.now) (bytes_cmp-is cs) _ old new
+      (kept_entries (eq_by_cmp text_cmp) _ _ old new h (one_sorted_key cs)) h
 
 module _ (q : Bor (List ℕ)) (cs : List ℕ) where
-  pub hash_set_text_same : (xs : List PlacedText) → cs ≡ q.now → FindsSame list_any (λ k. bytes_eq q.now (utf8 k.text)) (has_bytes cs) cs xs
+  pub hash_set_text_same : (xs : List PlacedText) → cs ≡ q.now
+      → FindsSame list_any (λ k. bytes_eq q.now (utf8 k.text)) (has_bytes cs) cs xs
   hash_set_text_same = finds_same list_any _ _ q.now cs refl refl
 
-  pub hash_set_text_after : (old new : List PlacedText) → KeepsOtherKeys same_text (λ k. bytes_eq q.now (utf8 k.text)) old new
-      → FindsAfter list_any (λ k. bytes_eq q.now (utf8 k.text)) (has_bytes cs) (KeepsOtherKeys same_text (λ k. bytes_eq q.now (utf8 k.text)) old new) q.now cs old new
-  hash_set_text_after old new h = finds_after list_any _ _ q.now cs refl refl _ old new (kept_keys same_text _ _ old new h (one_key cs)) h
+  pub hash_set_text_after : (old new : List PlacedText) → KeepsOtherKeys same_text (λ k. bytes_eq q.now (utf8 k.text))
+      old new
+      → FindsAfter list_any (λ k. bytes_eq q.now (utf8 k.text)) (has_bytes cs)
+      (KeepsOtherKeys same_text (λ k. bytes_eq q.now (utf8 k.text)) old new) q.now cs old new
+  hash_set_text_after old new h = finds_after list_any _ _ q.now cs refl refl _ old new
+      (kept_keys same_text _ _ old new h (one_key cs)) h
 
-  pub btree_set_text_same : (xs : List PlacedText) → cs ≡ q.now → FindsSame list_any (is_at (λ k. slice_cmp nat_cmp q.now (utf8 k.text))) (is_at (bytes_cmp cs)) cs xs
+  pub btree_set_text_same : (xs : List PlacedText) → cs ≡ q.now
+      → FindsSame list_any (is_at (λ k. slice_cmp nat_cmp q.now (utf8 k.text))) (is_at (bytes_cmp cs)) cs xs
   btree_set_text_same = finds_same list_any _ _ q.now cs (bytes_cmp-is q.now) (bytes_cmp-is cs)
 
-  pub btree_set_text_after : (old new : List PlacedText) → KeepsOtherKeys (eq_by_cmp text_cmp) (is_at (λ k. slice_cmp nat_cmp q.now (utf8 k.text))) old new
-      → FindsAfter list_any (is_at (λ k. slice_cmp nat_cmp q.now (utf8 k.text))) (is_at (bytes_cmp cs)) (KeepsOtherKeys (eq_by_cmp text_cmp) (is_at (λ k. slice_cmp nat_cmp q.now (utf8 k.text))) old new) q.now cs old new
-  btree_set_text_after old new h = finds_after list_any _ _ q.now cs (bytes_cmp-is q.now) (bytes_cmp-is cs) _ old new (kept_keys (eq_by_cmp text_cmp) _ _ old new h (one_sorted_key cs)) h
+  pub btree_set_text_after : (old new : List PlacedText) → KeepsOtherKeys (eq_by_cmp text_cmp)
+      (is_at (λ k. slice_cmp nat_cmp q.now (utf8 k.text))) old new
+      → FindsAfter list_any (is_at (λ k. slice_cmp nat_cmp q.now (utf8 k.text))) (is_at (bytes_cmp cs))
+      (KeepsOtherKeys (eq_by_cmp text_cmp) (is_at (λ k. slice_cmp nat_cmp q.now (utf8 k.text))) old new) q.now cs
+      old new
+  btree_set_text_after old new h = finds_after list_any _ _ q.now cs (bytes_cmp-is q.now) (bytes_cmp-is cs) _ old new
+      (kept_keys (eq_by_cmp text_cmp) _ _ old new h (one_sorted_key cs)) h
 
 -- `grind` computes the test of a literal, as in `get("abc")`; these restore the name of the test
 
@@ -206,14 +271,16 @@ module _ {X : Type 0} (c : ℕ) (cs : List ℕ) (xs : List (PlacedText × X)) wh
   pub hash_map_literal : lookup (λ k. bytes_eq (c ∷ cs) (utf8 k.text)) xs ≡ lookup (has_bytes (c ∷ cs)) xs
   hash_map_literal = refl
 
-  pub btree_map_literal : lookup (is_at (λ k. slice_cmp nat_cmp (c ∷ cs) (utf8 k.text))) xs ≡ lookup (is_at (bytes_cmp (c ∷ cs))) xs
+  pub btree_map_literal : lookup (is_at (λ k. slice_cmp nat_cmp (c ∷ cs) (utf8 k.text))) xs
+      ≡ lookup (is_at (bytes_cmp (c ∷ cs))) xs
   btree_map_literal = refl
 
 module _ (c : ℕ) (cs : List ℕ) (xs : List PlacedText) where
   pub hash_set_literal : list_any (λ k. bytes_eq (c ∷ cs) (utf8 k.text)) xs ≡ list_any (has_bytes (c ∷ cs)) xs
   hash_set_literal = refl
 
-  pub btree_set_literal : list_any (is_at (λ k. slice_cmp nat_cmp (c ∷ cs) (utf8 k.text))) xs ≡ list_any (is_at (bytes_cmp (c ∷ cs))) xs
+  pub btree_set_literal : list_any (is_at (λ k. slice_cmp nat_cmp (c ∷ cs) (utf8 k.text))) xs
+      ≡ list_any (is_at (bytes_cmp (c ∷ cs))) xs
   btree_set_literal = refl
 
 -- the last five are for a count or total of each key, in a loop

@@ -1,5 +1,6 @@
 -- Texts that are collected, joined and appended.
-use Rattle.std.specs.Prelude.{◌≡◌, ℕ, ◌+◌, ◌<◌, ◌≤◌, List, [], ◌∷◌, ◌++◌, Option, Some, length, drop, flat_map, Result, IfOk, OnOk, OnErr, IsOk, string_bytes}
+use Rattle.std.specs.Prelude.{◌≡◌, ℕ, ◌+◌, ◌<◌, ◌≤◌, List, [], ◌∷◌, ◌++◌, Option, Some, length, drop, flat_map, Result}
+use Rattle.std.specs.Prelude.{IfOk, OnOk, OnErr, IsOk, string_bytes}
 use Rattle.std.specs.Iterator.{Drains, HoldsAlong, Yields, YieldsThen}
 use Rattle.std.specs.Iterator.Runs.{WholeRun}
 use Rattle.std.specs.String.{string_capacity}
@@ -18,7 +19,7 @@ abbrev pub Appends : {A : Type 0} → Growth → (A → List ℕ) → PlacedText
 Appends g text v [] w = w ≡ v
 Appends g text v (x ∷ xs) w = (u : PlacedText) × (push_str g v (text x) ≡ Some u) × Appends g text u xs w
 
--- the texts of the items with a separator between each two: before each but the first
+-- the texts of the items, separated
 abbrev pub join : {A : Type 0} → List ℕ → (A → List ℕ) → List A → List ℕ
 join separator text xs = drop (length separator) (flat_map (λ x. separator ++ text x) xs)
 
@@ -75,7 +76,8 @@ RunPassesInline run text = ForIterator run (λ it. PassesInline run.steps text i
 
 -- some items that came make a text that is not empty
 abbrev pub RunGivesText : {A : Type 0} → Run A → (List A → List ℕ) → Type 0
-RunGivesText {A} run text = ForIterator run (λ it. (xs : List A) × (t : run.State) × Yields run.steps it xs t × (0 < size (text xs)))
+RunGivesText {A} run text = ForIterator run (λ it. (xs : List A) × (t : run.State) × Yields run.steps it xs t
+    × (0 < size (text xs)))
 
 -- the items before the one that fails are appended to a text t, which gives u, and that one exceeds the capacity
 abbrev pub StopsWithout : {A : Type 0} → Run A → (A → List ℕ) → ℕ → List ℕ → List ℕ → Type 0
@@ -83,8 +85,10 @@ StopsWithout {A} run text capacity t u =
     ForIterator run (λ it. (xs : List A) × (x : A) × (r : run.State) × YieldsThen run.steps it xs (Some x) r
     × (u ≡ t ++ flat_map text xs) × (capacity < size u + size (text x)))
 
--- what `concat_compact` and `join_compact` ensure: r has the texts of all items of an iterator, and is placed by its size
-pub record Joins {S A E : Type 0} (steps : S → Option A → S → Type 0) (joined_text joined_bytes : List A → List ℕ) (it : S) (r : Result PlacedText E) : Type 0 where
+-- what `concat_compact` and `join_compact` ensure: r has the texts of all items of an iterator, and is placed by its
+-- size
+pub record Joins {S A E : Type 0} (steps : S → Option A → S → Type 0) (joined_text joined_bytes : List A → List ℕ)
+    (it : S) (r : Result PlacedText E) : Type 0 where
   pub text : IfOk r (λ v. WholeRun steps it (λ whole. v.text ≡ joined_text whole.items))
   pub bytes : IfOk r (λ v. WholeRun steps it (λ whole. utf8 v.text ≡ joined_bytes whole.items))
   pub place : IfOk r IsPlacedBySize
@@ -92,7 +96,8 @@ pub record Joins {S A E : Type 0} (steps : S → Option A → S → Type 0) (joi
   pub allocates : OnErr r (PassesInline steps joined_text it)
 
 -- what `extend_texts` ensures, of items that are read as `item_text`, and all together as `joined_text`
-pub record Extends {A E : Type 0} (run : Run A) (g : Growth) (item_text : A → List ℕ) (joined_text : List A → List ℕ) (v : PlacedText)
+pub record Extends {A E : Type 0} (run : Run A) (g : Growth) (item_text : A → List ℕ) (joined_text : List A → List ℕ)
+    (v : PlacedText)
     (r : Result (Unit {0}) E) (w : PlacedText) : Type 0 where
   pub text : OnOk r (ForItems run (λ xs. w.text ≡ v.text ++ joined_text xs))
   pub pushes : OnOk r (AppendsAll run g item_text v w)
@@ -103,7 +108,8 @@ pub record Extends {A E : Type 0} (run : Run A) (g : Growth) (item_text : A → 
   pub err : OnErr r (AppendsUpToRefused run g item_text v w)
 
 -- what `from_texts` ensures, of items that are read together as `joined_text`
-pub record Collects {A E : Type 0} (run : Run A) (joined_text : List A → List ℕ) (r : Result PlacedText E) : Type 0 where
+pub record Collects {A E : Type 0} (run : Run A) (joined_text : List A → List ℕ) (r : Result PlacedText E) : Type
+    0 where
   pub text : IfOk r (λ v. ForItems run (λ xs. v.text ≡ joined_text xs))
   pub drained : IfOk r (λ v. ForDrained run (λ xs. v.text ≡ joined_text xs))
   pub place : IfOk r IsPlacedBySize
@@ -111,9 +117,11 @@ pub record Collects {A E : Type 0} (run : Run A) (joined_text : List A → List 
   pub allocates : OnErr r (RunPassesInline run joined_text)
 
 -- what `append_all` ensures, of items that are read as `item_text`
-pub record ExtendsString {A Z E : Type 0} (run : Run A) (item_text : A → List ℕ) (s : String Z) (r : Result (Unit {0}) E) (t : String Z) : Type 0 where
+pub record ExtendsString {A Z E : Type 0} (run : Run A) (item_text : A → List ℕ) (s : String Z)
+    (r : Result (Unit {0}) E) (t : String Z) : Type 0 where
   pub text : OnOk r (ForItems run (λ xs. string_text t ≡ string_text s ++ flat_map item_text xs))
   pub drained : OnOk r (ForDrained run (λ xs. string_text t ≡ string_text s ++ flat_map item_text xs))
   pub capacity : string_capacity s ≤ string_capacity t
-  pub succeeds : ForAllItems run (λ xs. length (string_bytes s) + size (flat_map item_text xs) ≤ string_capacity s) → IsOk r
+  pub succeeds : ForAllItems run (λ xs. length (string_bytes s) + size (flat_map item_text xs) ≤ string_capacity s)
+      → IsOk r
   pub err : OnErr r (StopsWithout run item_text (string_capacity t) (string_text s) (string_text t))

@@ -1,5 +1,6 @@
 -- Conversions to and from a value.
-use Rattle.std.specs.Prelude.{◌≡◌, ◌<◌, ◌≤◌, ℕ, List, length, nat_eq, if◌then◌else◌, Result, IfOk, IfErr, OnErr, IsOk, MatchResult, IsOkAnd, Some, string_bytes, ⊤}
+use Rattle.std.specs.Prelude.{◌≡◌, ◌<◌, ◌≤◌, ℕ, List, length, nat_eq, if◌then◌else◌, Result, IfOk, IfErr, OnErr, IsOk}
+use Rattle.std.specs.Prelude.{MatchResult, IsOkAnd, Some, string_bytes, ⊤}
 use Rattle.std.specs.String.{string_capacity}
 use Rattle.std.specs.declared.borrow.CowStr.{CowStr}
 use Rattle.std.specs.declared.borrow.CowStr.TheVariants.{Borrowed, Owned}
@@ -18,17 +19,19 @@ pub record CopiesText {E : Type 0} (g : Growth) (s : List ℕ) (r : Result Place
   pub succeeds : length s ≤ INLINE_CAPACITY → IsOk r
   pub allocates : OnErr r (INLINE_CAPACITY < length s)
 
--- the buffer of a `String` of this capacity, even for a short text; inline if there is none
+-- the buffer of a `String` of this capacity, even for a short text; inline if the capacity is 0
 abbrev pub string_buffer_placement : ℕ → Placement
 string_buffer_placement capacity = if nat_eq capacity 0 then inline_placement else heap_placement capacity
 
 -- a borrowed text is copied, which fails only if it allocates; the buffer of an owned one is reused
 abbrev pub ConvertsCow : {Z E : Type 0} → Growth → CowStr Z → Result PlacedText E → Type 0
 ConvertsCow g (Borrowed s) r = MatchResult r (λ v. new g (text_of s.now) ≡ Some v) (λ _. INLINE_CAPACITY < length s.now)
-ConvertsCow g (Owned s) r = IsOkAnd r (λ v. let t = text_of (string_bytes s) in v ≡ placed_text t (from_string_placement t (string_capacity s)))
+ConvertsCow g (Owned s) r = IsOkAnd r (λ v. let t = text_of (string_bytes s) in
+    v ≡ placed_text t (from_string_placement t (string_capacity s)))
 
 -- what `into_string` ensures, for calls that convert v as it does
-pub record ConvertsTo {T : Type 0} (bytes_of : T → List ℕ) (v : PlacedText) (r : Result T (Refused PlacedText)) : Type 0 where
+pub record ConvertsTo {T : Type 0} (bytes_of : T → List ℕ) (v : PlacedText) (r : Result T (Refused PlacedText)) : Type
+    0 where
   pub bytes : IfOk r (λ x. bytes_of x ≡ utf8 v.text)
   pub text : IfOk r (λ x. text_of (bytes_of x) ≡ v.text)
   pub succeeds : IsHeap v → IsOk r

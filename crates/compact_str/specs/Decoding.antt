@@ -37,7 +37,8 @@ IsUtf8Refusal bytes (Reserve _) = IsUtf8 bytes × (INLINE_CAPACITY < length byte
 
 -- all bytes of a reader were consumed and are invalid; or some were consumed, and allocation failed before validation
 abbrev pub IsUtf8BufRefusal : List ℕ → List ℕ → FromUtf8Error → Type 0
-IsUtf8BufRefusal bytes left (Utf8 valid_up_to error_len) = ¬ (IsUtf8 bytes) × IsUtf8Error bytes valid_up_to error_len × (left ≡ [])
+IsUtf8BufRefusal bytes left (Utf8 valid_up_to error_len) = ¬ (IsUtf8 bytes) × IsUtf8Error bytes valid_up_to error_len
+    × (left ≡ [])
 IsUtf8BufRefusal bytes left (Reserve _) = (INLINE_CAPACITY < length bytes) × IsSuffixOf left bytes
 
 -- the units are invalid; or they are valid, and allocation failed

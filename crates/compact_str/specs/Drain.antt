@@ -14,7 +14,8 @@ range_text t len i j = if nat_eq (size t) len then substring t i j else []
 -- v without the part from i to j, in its place; v if it has not this length or is static
 abbrev pub without_range : PlacedText → ℕ → ℕ → ℕ → PlacedText
 without_range v len i j =
-    if not (is_static_place v.placement.place) && nat_eq (size v.text) len then placed_text (replaced_text v.text i j []) v.placement else v
+    if not (is_static_place v.placement.place) && nat_eq (size v.text) len then placed_text
+    (replaced_text v.text i j []) v.placement else v
 
 module _ {P : Type 0} {G : Ghosts P} where
   -- the characters still to come
@@ -33,10 +34,12 @@ module _ {P : Type 0} {G : Ghosts P} where
   pub record DrainsFront (old : Drain P G) (item : Option ℕ) (new : Drain P G) : Type 0 where
     pub lender : drain_lender new ≡ drain_lender old
     pub leaves : value_after_drain new ≡ value_after_drain old
-    pub step : MatchOption item ((drain_rest old ≡ []) × (drain_rest new ≡ [])) (λ c. drain_rest old ≡ c ∷ drain_rest new)
+    pub step : MatchOption item ((drain_rest old ≡ []) × (drain_rest new ≡ []))
+        (λ c. drain_rest old ≡ c ∷ drain_rest new)
 
   -- `next_back` returns the last
   pub record DrainsBack (old : Drain P G) (item : Option ℕ) (new : Drain P G) : Type 0 where
     pub lender : drain_lender new ≡ drain_lender old
     pub leaves : value_after_drain new ≡ value_after_drain old
-    pub step : MatchOption item ((drain_rest old ≡ []) × (drain_rest new ≡ [])) (λ c. drain_rest old ≡ drain_rest new ++ c ∷ [])
+    pub step : MatchOption item ((drain_rest old ≡ []) × (drain_rest new ≡ []))
+        (λ c. drain_rest old ≡ drain_rest new ++ c ∷ [])

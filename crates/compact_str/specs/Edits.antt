@@ -1,19 +1,24 @@
 -- Results of edits by byte position, of clones and of repetition.
-use Rattle.std.specs.Prelude.{IsTrue, ◌≡◌, ℕ, ◌*◌, Bool, not, ◌&&◌, List, [], ◌∷◌, ◌++◌, Option, Some, option_map, nat_eq, zero, suc, if◌then◌else◌}
+use Rattle.std.specs.Prelude.{IsTrue, ◌≡◌, ℕ, ◌*◌, Bool, not, ◌&&◌, List, [], ◌∷◌, ◌++◌, Option, Some, option_map}
+use Rattle.std.specs.Prelude.{nat_eq, zero, suc, if◌then◌else◌}
 use Rattle.compact_repr.specs.Text.{size}
 use Rattle.compact_repr.specs.Cut.{text_before, text_after}
 use Rattle.compact_repr.specs.Value.{Placement, PlacedText, placed_text, is_static_place, is_heap_place}
 use Rattle.compact_repr.specs.Calls.{clear}
-use Rattle.compact_repr.specs.Capacity.{Growth, new_placement, with_capacity_placement, with_capacity_allocates, kept_placement, owned_placement, const_new_placement, clone_placement, clone_allocates, room_to_append, placement_for, allocates_for}
+use Rattle.compact_repr.specs.Capacity.{Growth, new_placement, with_capacity_placement, with_capacity_allocates}
+use Rattle.compact_repr.specs.Capacity.{kept_placement, owned_placement, const_new_placement, clone_placement}
+use Rattle.compact_repr.specs.Capacity.{clone_allocates, room_to_append, placement_for, allocates_for}
 
 -- w is v made owned, without the character c at a position
 abbrev pub Removes : Growth → PlacedText → ℕ → ℕ → PlacedText → Type 0
 Removes g v index c w =
-    (rest : List ℕ) × (text_after v.text index ≡ c ∷ rest) × (option_map (placed_text (text_before v.text index ++ rest)) (owned_placement g v) ≡ Some w)
+    (rest : List ℕ) × (text_after v.text index ≡ c ∷ rest)
+    × (option_map (placed_text (text_before v.text index ++ rest)) (owned_placement g v) ≡ Some w)
 
 -- the placement of a tail that is split off: static if v is
 abbrev pub tail_placement : Growth → PlacedText → List ℕ → Option Placement
-tail_placement g v tail = if is_static_place v.placement.place then Some (const_new_placement tail) else new_placement g tail
+tail_placement g v tail = if is_static_place v.placement.place then Some (const_new_placement tail) else new_placement
+    g tail
 
 -- the tail that is split off v is static if v is and it is long, else placed as new
 abbrev pub IsPlacedAsTail : Growth → PlacedText → PlacedText → Type 0
@@ -29,7 +34,8 @@ pub record SplitsOff (g : Growth) (v : PlacedText) (index : ℕ) (tail w : Place
   pub stays : let front = text_before v.text index in w ≡ placed_text front (kept_placement v front)
 
 abbrev pub split_allocates : PlacedText → ℕ → Bool
-split_allocates v index = not (is_static_place v.placement.place) && with_capacity_allocates (size (text_after v.text index))
+split_allocates v index = not (is_static_place v.placement.place) && with_capacity_allocates
+    (size (text_after v.text index))
 
 abbrev pub SplitAllocates : PlacedText → ℕ → Type 0
 SplitAllocates v index = IsTrue (split_allocates v index)
@@ -45,7 +51,8 @@ repeats_by_copy v n = nat_eq n 1 && not (nat_eq (size v.text) 0)
 
 -- its placement: a clone's, or that of new capacity, which is inline if the result is empty
 abbrev pub repeat_placement : Growth → PlacedText → ℕ → Option Placement
-repeat_placement g v n = if repeats_by_copy v n then clone_placement g v else with_capacity_placement g (size v.text * n)
+repeat_placement g v n = if repeats_by_copy v n then clone_placement g v else with_capacity_placement g
+    (size v.text * n)
 
 abbrev pub repeat : Growth → PlacedText → ℕ → Option PlacedText
 repeat g v n = option_map (placed_text (repeated_text n v.text)) (repeat_placement g v n)
@@ -64,7 +71,8 @@ RepeatAllocates v n = IsTrue (repeat_allocates v n)
 -- to v, once that is cleared
 abbrev pub clone_from_placement : Growth → PlacedText → PlacedText → Option Placement
 clone_from_placement g v w =
-    if is_heap_place w.placement.place then placement_for g (clear v) (room_to_append (size w.text)) else Some w.placement
+    if is_heap_place w.placement.place then placement_for g (clear v) (room_to_append (size w.text)) else Some
+    w.placement
 
 abbrev pub clone_from : Growth → PlacedText → PlacedText → Option PlacedText
 clone_from g v w = option_map (placed_text w.text) (clone_from_placement g v w)

@@ -14,18 +14,19 @@ AgreesWith {F} test says = (p : F) (c : ℕ) (b : Bool) (q : F) → Called test 
 -- the characters that a rule keeps: from a state and a character it decides whether to keep that, and the next state
 abbrev pub retained_text : {S : Type 0} → (S → ℕ → Bool × S) → S → List ℕ → List ℕ
 retained_text rule s [] = []
-retained_text rule s (c ∷ cs) = if (rule s c).0 then c ∷ retained_text rule (rule s c).1 cs else retained_text rule (rule s c).1 cs
+retained_text rule s (c ∷ cs) = if (rule s c).0 then c ∷ retained_text rule (rule s c).1 cs else retained_text rule
+    (rule s c).1 cs
 
 -- its final state
 abbrev pub retain_state : {S : Type 0} → (S → ℕ → Bool × S) → S → List ℕ → S
 retain_state rule s [] = s
 retain_state rule s (c ∷ cs) = retain_state rule (rule s c).1 cs
 
--- the first answer, or `true` if none is left
+-- the first flag, or `true` if none is left
 abbrev pub next_flag : List Bool → Bool
 next_flag [] = true
-next_flag (answer ∷ answers) = answer
+next_flag (flag ∷ flags) = flag
 
--- the rule that follows a list of answers; a character past its end is kept
+-- the rule that follows a list of flags; a character past its end is kept
 abbrev pub flag_rule : List Bool → ℕ → Bool × List Bool
-flag_rule answers c = (next_flag answers, drop 1 answers)
+flag_rule flags c = (next_flag flags, drop 1 flags)

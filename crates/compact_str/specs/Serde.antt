@@ -26,7 +26,7 @@ pub record ReadsString (g : Growth) (bytes : List ℕ) (r : Result PlacedText Fr
   pub outcome : MatchResult r (λ v. new g (text_of bytes) ≡ Some v) (λ e. IsJsonReserve e × (INLINE_CAPACITY < length bytes))
   pub succeeds : length bytes ≤ INLINE_CAPACITY → IsOk r
 
--- a string is copied, and every other JSON value gives `NotAString`
+-- a string is copied, and every other JSON value fails with `NotAString`
 abbrev pub ReadsJson : Growth → Data → Result PlacedText FromJsonError → Type 0
 ReadsJson g (string bytes) r = ReadsString g bytes r
 ReadsJson g null r = r ≡ Err NotAString

@@ -5,7 +5,7 @@ ghost use Rattle.compact_str.specs.Words.{size, text_of, PlacedFor, room_to_appe
 ghost use Rattle.compact_str.specs.Room.{IsPlacedBySize};
 ghost use Rattle.compact_str.specs.Output.{AppendsUtf8};
 
-use crate::decode::push_fitted;
+use crate::decode::push_or_reserve;
 use crate::error::ReserveError;
 use crate::stack_buffer::{PaddedStr, StackBuffer};
 use crate::string::PolicyString;
@@ -21,8 +21,8 @@ pub const COLLECTED: usize = 1024;
 /// The block of a `Display`, zeroed at each `write!`: with the fields after it 256 bytes at most, and so without a call.
 pub const SHOWN: usize = 240;
 
-/// A value, and a block of short pieces still to be appended to it. A contract sees the text of both. A text of at
-/// most `N` bytes is allocated once, with the exact capacity.
+/// A string under construction, and a stack buffer of pieces not yet appended. A contract sees the text of both. A text
+/// of at most `N` bytes is allocated once, with the exact capacity.
 pub struct Builder<P: Policy, const N: usize> {
     value: PolicyString<P>,
     block: StackBuffer<N>,
@@ -81,7 +81,7 @@ impl<P: Policy, const N: usize> Builder<P, N> {
         if self.block.try_push_str(text) {
             return Ok(());
         }
-        self.flush_and_push(text)
+        self.push_str_slow(text)
     }
 
     /// Appends `separator` and then `text`. `padded` is the same separator, if it is short.
@@ -107,12 +107,12 @@ impl<P: Policy, const N: usize> Builder<P, N> {
                 return Ok(());
             }
         }
-        self.push_separately(separator, text)
+        self.push_separated_slow(separator, text)
     }
 
     /// The slow path of `push_separated`.
     #[inline(never)]
-    fn push_separately(&mut self, separator: &str, text: &str) -> Result<(), ReserveError>
+    fn push_separated_slow(&mut self, separator: &str, text: &str) -> Result<(), ReserveError>
         ensures ok { OnOk result
             (self.new ≡ (self.old ++ text_of separator.now) ++ text_of text.now) }
         ensures err { OnErr result
@@ -143,20 +143,20 @@ impl<P: Policy, const N: usize> Builder<P, N> {
     /// is reserved: up to 1024 bytes in all, or one block after a long text.
     #[cold]
     #[inline(never)]
-    fn flush_and_push(&mut self, text: &str) -> Result<(), ReserveError>
+    fn push_str_slow(&mut self, text: &str) -> Result<(), ReserveError>
         ensures ok { OnOk result (self.new ≡ self.old ++ text_of text.now) }
         ensures err { OnErr result (INLINE_CAPACITY < size self.old + length text.now) }
     {
         let more = COLLECTED.saturating_sub(N);
-        push_fitted(&mut self.value, self.block.as_str(), more)?;
+        push_or_reserve(&mut self.value, self.block.as_str(), more)?;
         self.block.clear();
         if self.block.try_push_str(text) {
             return Ok(());
         }
-        push_fitted(&mut self.value, text, more.min(N))
+        push_or_reserve(&mut self.value, text, more.min(N))
     }
 
-    /// Returns the value, and leaves an unspecified one. Takes a reference, since a move would copy the block.
+    /// Returns the string. Takes `&mut self`, since moving would copy the buffer; the builder must not be used again.
     ///
     /// # Errors
     ///

@@ -16,11 +16,10 @@ use compact_repr::{INLINE_CAPACITY, Policy};
 /// Replaces an invalid sequence.
 const REPLACEMENT: &str = "\u{FFFD}";
 
-/// Appends `text` to a value placed by its size, which stays so. A value that moves to the heap also reserves `more`
-/// bytes, for what the caller knows to follow.
+/// Appends `text`. On the first allocation also reserves `more` bytes.
 #[inline]
-#[tactic(auto, using(crate::proofs::FittedTexts::fitted_facts))]
-pub fn push_fitted<P: Policy>(
+#[tactic(auto, using(crate::proofs::DecodedValues::by_size_facts))]
+pub fn push_or_reserve<P: Policy>(
     made: &mut PolicyString<P>,
     text: &str,
     more: usize,

@@ -1,7 +1,6 @@
 //! Conversions of `ReserveError`, other than that from `AllocError`.
 //!
-//! A separate file, since a contract imports all that its file imports: a program that needs no conversion loads
-//! none of these types.
+//! In a separate file, so that programs without conversions need not load these types.
 ghost use Rattle.std.specs.Prelude.{◌≡◌, alloc_error};
 ghost use Rattle.std.specs.IoError.{error_kind};
 ghost use Rattle.std.specs.declared.io.ErrorKind.TheVariants.{OutOfMemory};

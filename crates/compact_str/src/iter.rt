@@ -1,17 +1,16 @@
 //! Collecting, joining and extending.
 ghost use Rattle.compact_str.specs.Collect.{Run, run_of};
 
-mod append;
 mod as_text;
 mod collect;
+mod element;
 mod extend;
-mod into_string;
 mod join;
-mod piece;
+mod string;
 
-pub use append::append_all;
 pub use as_text::AsText;
 pub use join::CompactStringExt;
+pub use string::append_all;
 
 /// The items of an iterable, in contracts.
 pub trait Items: IntoIterator {

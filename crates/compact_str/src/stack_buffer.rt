@@ -11,7 +11,7 @@ const PADDED_CAPACITY: usize = 16;
 /// The most bytes that `try_push_separated` writes.
 const MAX_SEPARATED_LEN: usize = PADDED_CAPACITY + slices::MAX_SHORT_LEN;
 
-/// A text of at most 16 bytes, padded with zeros so that all 16 are written whatever its length.
+/// A separator of at most 16 bytes, zero-padded so that copies have a fixed size.
 #[derive(Drop)]
 pub struct PaddedStr {
     bytes: [u8; 16],

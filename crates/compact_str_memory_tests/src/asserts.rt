@@ -2,7 +2,7 @@
 
 use compact_asserts::{equal, that};
 use compact_str::CompactString;
-use compact_testing::seen::{is_fitted, is_heap, is_inline};
+use compact_testing::checks::{is_fitted, is_heap, is_inline};
 use std::fmt::Debug;
 use std::process::Abort;
 

@@ -4,7 +4,7 @@ use crate::asserts::{assert_equal, assert_fitted, assert_that};
 use bytes::Buf;
 use compact_str::{CompactString, FromUtf8Error, FromUtf16Error, ReserveError};
 use compact_testing::memory::take_all;
-use compact_testing::values::letters;
+use compact_testing::values::ascii_text;
 use std::alloc::Global;
 use std::process::Abort;
 
@@ -55,7 +55,7 @@ fn pieces_of_24_bytes_need_no_memory(rt: HostRuntime) {
     assert_read(rt, alloc, "€€€€€€€€");
     let invalid = of_two(rt, alloc, b"a\xF0\x9F\x92", 2).err();
     assert_that(rt, invalid == error_at(1, None));
-    let mut long = Buf::chain(letters(12).as_bytes(), letters(13).as_bytes());
+    let mut long = Buf::chain(ascii_text(12).as_bytes(), ascii_text(13).as_bytes());
     let made = CompactString::from_utf8_buf(alloc, &mut long);
     assert_that(rt, matches!(made, Err(FromUtf8Error::Reserve(_))));
     drop(hog);

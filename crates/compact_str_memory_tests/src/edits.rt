@@ -2,9 +2,9 @@
 
 use crate::asserts::{assert_equal, assert_heap, assert_inline, assert_that};
 use compact_str::append_all;
+use compact_testing::checks::is_static;
 use compact_testing::memory::take_all;
-use compact_testing::seen::is_static;
-use compact_testing::values::{lasting, letters, short, string_with_room, with_room};
+use compact_testing::values::{ascii_text, lasting, short, string_with_room, with_room};
 use std::fmt;
 use std::fmt::Display;
 
@@ -15,7 +15,7 @@ struct Hiding;
 impl Display for Hiding {
     fn fmt<W: fmt::Write>(&self, f: &mut fmt::Formatter<W>) -> fmt::Result {
         for _ in 0..20 {
-            let _failed = f.write_str(letters(80)).is_err();
+            let _failed = f.write_str(ascii_text(80)).is_err();
         }
         Ok(())
     }
@@ -35,7 +35,7 @@ fn a_retain_that_fails_has_not_called_its_closure(rt: HostRuntime) {
     drop(hog);
     assert_that(rt, kept.is_err());
     assert_that(rt, !called);
-    assert_that(rt, is_static(&value, letters(30)));
+    assert_that(rt, is_static(&value, ascii_text(30)));
 }
 
 #[test]
@@ -70,7 +70,7 @@ fn an_extension_that_fails_leaves_the_later_items(rt: HostRuntime) {
     let rt = &rt;
     let alloc = rt.alloc();
     let mut value = short(alloc, "a");
-    let texts = ["b", letters(30), "c"];
+    let texts = ["b", ascii_text(30), "c"];
     let mut items = texts.iter();
     let hog = take_all(alloc).expect(rt, "room for the list of blocks");
     let failed = value.extend_texts(&mut items).is_err();
@@ -86,7 +86,7 @@ fn an_append_to_a_string_that_fails_leaves_the_later_items(rt: HostRuntime) {
     let rt = &rt;
     let alloc = rt.alloc();
     let mut line = string_with_room(alloc, 8, "a").expect(rt, "memory");
-    let texts = ["b", letters(30), "c"];
+    let texts = ["b", ascii_text(30), "c"];
     let mut items = texts.iter();
     let hog = take_all(alloc).expect(rt, "room for the list of blocks");
     let failed = append_all(&mut line, &mut items).is_err();

@@ -2,19 +2,19 @@
 #![tactic(auto)]
 
 #[cfg(test)]
+mod all_memory;
+#[cfg(test)]
 mod asserts;
 #[cfg(test)]
 mod decoding;
 #[cfg(test)]
 mod edits;
 #[cfg(test)]
-mod hints;
-#[cfg(test)]
-mod hog;
-#[cfg(test)]
-mod made;
+mod hinting_iterator;
 #[cfg(test)]
 mod read_fields;
+#[cfg(test)]
+mod results;
 #[cfg(test)]
 mod size_hints;
 #[cfg(test)]

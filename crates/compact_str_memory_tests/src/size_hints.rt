@@ -1,11 +1,11 @@
 //! Items with a useless or too large hint: each call depends only on the items.
 
 use crate::asserts::{assert_equal, assert_inline, assert_that};
-use crate::hints::with_hint;
-use crate::made::assert_made;
+use crate::hinting_iterator::with_hint;
+use crate::results::assert_made;
 use compact_str::{CompactString, CompactStringExt, append_all};
-use compact_testing::seen::is_at;
-use compact_testing::values::{letters, short};
+use compact_testing::checks::is_at;
+use compact_testing::values::{ascii_text, short};
 use std::alloc::Global;
 use std::process::Abort;
 
@@ -94,7 +94,7 @@ pub fn assert_collected(rt: &impl Abort, alloc: Global, too_much: bool) {
 pub fn assert_extended(rt: &impl Abort, alloc: Global, too_much: bool) {
     let mut value = CompactString::default(alloc);
     let characters = ['ä', '€'];
-    let texts = [letters(5), "", letters(5)];
+    let texts = [ascii_text(5), "", ascii_text(5)];
     value
         .extend_chars(with_hint(&characters, too_much).copied())
         .expect(rt, "no memory is needed");
@@ -128,10 +128,10 @@ pub fn assert_appended(
 
 /// Asserts results of more than 24 bytes, on the heap.
 fn assert_long(rt: &impl Abort, alloc: Global, too_much: bool) {
-    let texts = [letters(20), "", letters(5)];
-    assert_texts(rt, alloc, &texts, Some(letters(25)), too_much);
-    let joined = Some(letters(45));
-    assert_joined(rt, alloc, &texts, letters(10), joined, too_much);
+    let texts = [ascii_text(20), "", ascii_text(5)];
+    assert_texts(rt, alloc, &texts, Some(ascii_text(25)), too_much);
+    let joined = Some(ascii_text(45));
+    assert_joined(rt, alloc, &texts, ascii_text(10), joined, too_much);
     assert_characters(rt, alloc, &['€'; 9], Some("€€€€€€€€€"), too_much);
 }
 
@@ -145,24 +145,24 @@ fn a_long_text_depends_on_the_items_alone(rt: HostRuntime) {
 /// Extends a static string of 30 bytes by nothing and by one character, and 24 bytes by one character: room is made
 /// item by item, growing by half.
 fn assert_room(rt: &impl Abort, alloc: Global, too_much: bool) {
-    let mut value = CompactString::const_new(alloc, letters(30));
+    let mut value = CompactString::const_new(alloc, ascii_text(30));
     value
         .extend_texts(with_hint(&["", ""], too_much))
         .expect(rt, "no memory is needed");
-    assert_that(rt, is_at(&value, "static", 30, letters(30)));
+    assert_that(rt, is_at(&value, "static", 30, ascii_text(30)));
     value
         .extend_texts(with_hint(&["a"], too_much))
         .expect(rt, "memory");
-    assert_that(rt, is_at(&value, "heap", 45, letters(31)));
-    let mut value = short(alloc, letters(24));
+    assert_that(rt, is_at(&value, "heap", 45, ascii_text(31)));
+    let mut value = short(alloc, ascii_text(24));
     value
         .extend_chars(with_hint(&['a'], too_much).copied())
         .expect(rt, "memory");
-    assert_that(rt, is_at(&value, "heap", 36, letters(25)));
+    assert_that(rt, is_at(&value, "heap", 36, ascii_text(25)));
     value
         .extend(with_hint(&["a", ""], too_much))
         .expect(rt, "memory");
-    assert_that(rt, is_at(&value, "heap", 36, letters(26)));
+    assert_that(rt, is_at(&value, "heap", 36, ascii_text(26)));
 }
 
 #[test]

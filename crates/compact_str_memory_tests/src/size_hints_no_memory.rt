@@ -1,15 +1,15 @@
 //! The same with no memory: up to 24 bytes succeed and more fail, whatever the hint.
 
 use crate::asserts::{assert_equal, assert_inline};
-use crate::hints::with_hint;
-use crate::made::{assert_fails, values_of};
+use crate::hinting_iterator::with_hint;
+use crate::results::{assert_fails, values_of};
 use crate::size_hints::{
     assert_appended, assert_characters, assert_collected, assert_extended, assert_joined,
     assert_texts,
 };
 use compact_str::{CompactString, append_all};
 use compact_testing::memory::take_all;
-use compact_testing::values::letters;
+use compact_testing::values::ascii_text;
 use std::alloc::Global;
 use std::process::Abort;
 
@@ -40,8 +40,8 @@ fn texts_are_appended_to_a_string_that_has_room(rt: HostRuntime) {
 
 /// Asserts that more than 24 bytes of texts or characters fail.
 fn assert_long_fails(rt: &impl Abort, alloc: Global, too_much: bool) {
-    assert_texts(rt, alloc, &[letters(20), letters(5)], None, too_much);
-    assert_joined(rt, alloc, &["a", "b"], letters(23), None, too_much);
+    assert_texts(rt, alloc, &[ascii_text(20), ascii_text(5)], None, too_much);
+    assert_joined(rt, alloc, &["a", "b"], ascii_text(23), None, too_much);
     assert_characters(rt, alloc, &['€'; 9], None, too_much);
 }
 
@@ -58,13 +58,13 @@ fn more_than_24_bytes_fail(rt: HostRuntime) {
 /// Asserts that an extension stops at the first item that fails, keeping those before it.
 fn assert_stops(rt: &impl Abort, alloc: Global, too_much: bool) {
     let mut value = CompactString::default(alloc);
-    let texts = [letters(20), letters(4), "b", ""];
+    let texts = [ascii_text(20), ascii_text(4), "b", ""];
     assert_fails(
         rt,
         "extend_texts",
         value.extend_texts(with_hint(&texts, too_much)),
     );
-    assert_inline(rt, &value, letters(24));
+    assert_inline(rt, &value, ascii_text(24));
     assert_fails(
         rt,
         "extend, texts",
@@ -75,7 +75,7 @@ fn assert_stops(rt: &impl Abort, alloc: Global, too_much: bool) {
         "extend, characters",
         value.extend(with_hint(&['b'], too_much)),
     );
-    assert_inline(rt, &value, letters(24));
+    assert_inline(rt, &value, ascii_text(24));
     let mut value = CompactString::default(alloc);
     assert_fails(
         rt,
@@ -114,7 +114,7 @@ fn assert_append_stops(
 fn an_append_to_a_string_stops_at_the_value_that_fails(rt: HostRuntime) {
     let rt = &rt;
     let alloc = rt.alloc();
-    let values = values_of(rt, alloc, &["ab", letters(80), "c"]);
+    let values = values_of(rt, alloc, &["ab", ascii_text(80), "c"]);
     let mut line = String::with_capacity(alloc, 40).expect(rt, "memory");
     let hog = take_all(alloc).expect(rt, "room for the list of blocks");
     assert_append_stops(rt, &mut line, &values, false);

@@ -1,7 +1,7 @@
 //! Buffers in pieces, split at every place.
 
 use crate::asserts::{assert_equal, assert_fitted, assert_that};
-use crate::drips::Drips;
+use crate::one_byte_buf::OneByteBuf;
 use bytes::Buf;
 use compact_str::{CompactString, FromUtf8Error};
 use std::alloc::Global;
@@ -32,7 +32,7 @@ fn of_two(
 
 /// Reads bytes one at a time.
 fn of_drips(rt: &impl Abort, alloc: Global, bytes: &[u8]) -> Result<CompactString, FromUtf8Error> {
-    read_whole(rt, alloc, &mut Drips { rest: bytes })
+    read_whole(rt, alloc, &mut OneByteBuf { rest: bytes })
 }
 
 /// Asserts that a text is read wherever it is split.
@@ -58,7 +58,7 @@ fn a_text_is_read_wherever_it_is_split(rt: HostRuntime) {
     assert_read(rt, alloc, "aä€𝄞aä€𝄞aä€𝄞aä€𝄞");
 }
 
-/// Asserts that invalid bytes give one error wherever they are split.
+/// Asserts that invalid bytes have one error wherever they are split.
 fn assert_invalid(rt: &impl Abort, alloc: Global, bytes: &[u8], error: FromUtf8Error) {
     for place in 0..bytes.len() + 1 {
         assert_that(rt, of_two(rt, alloc, bytes, place).err() == Some(error));

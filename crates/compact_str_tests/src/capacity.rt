@@ -3,25 +3,25 @@
 
 use crate::asserts::{assert_heap, assert_inline, assert_that};
 use compact_str::CompactString;
-use compact_testing::values::{append, letters, short, with_room};
+use compact_testing::values::{append, ascii_text, short, with_room};
 use std::alloc::Global;
 
 #[test]
 fn an_append_grows_the_buffer_by_half(rt: HostRuntime) {
-    let mut value = short(rt.alloc(), letters(24));
+    let mut value = short(rt.alloc(), ascii_text(24));
     append(&mut value, "a").expect(&rt, "memory");
-    assert_heap(&rt, &value, 36, letters(25));
+    assert_heap(&rt, &value, 36, ascii_text(25));
 }
 
 #[test]
 fn the_capacity_shrinks(rt: HostRuntime) {
     let rt = &rt;
     let mut value = with_room(rt.alloc(), 100).expect(rt, "memory");
-    append(&mut value, letters(40)).expect(rt, "memory");
+    append(&mut value, ascii_text(40)).expect(rt, "memory");
     value.shrink_to(50);
-    assert_heap(rt, &value, 50, letters(40));
+    assert_heap(rt, &value, 50, ascii_text(40));
     value.shrink_to_fit();
-    assert_heap(rt, &value, 40, letters(40));
+    assert_heap(rt, &value, 40, ascii_text(40));
 }
 
 /// Returns `true` if an empty value can have this capacity.

@@ -1,9 +1,9 @@
 //! Collecting, joining and extending. Values were worked out by hand from the rules.
 
 use crate::asserts::{assert_equal, assert_inline};
-use crate::made::{assert_made_inline, values_of};
+use crate::results::{assert_made_inline, values_of};
 use compact_str::{AsText, CompactString, CompactStringExt, append_all};
-use compact_testing::values::{letters, string_with_room};
+use compact_testing::values::{ascii_text, string_with_room};
 use std::alloc::Global;
 use std::borrow::CowStr;
 use std::boxed::BoxedStr;
@@ -84,7 +84,7 @@ fn values_are_appended_to_a_string(rt: HostRuntime) {
     let rt = &rt;
     let alloc = rt.alloc();
     let mut line = String::from_str(alloc, "a").expect(rt, "memory");
-    let values = values_of(rt, alloc, &["b", letters(30)]);
+    let values = values_of(rt, alloc, &["b", ascii_text(30)]);
     append_all(&mut line, values).expect(rt, "memory");
     assert_equal(rt, line.as_str(), "abaaaaaaaaaaaaaaaaaaaaaaaaaaaaaa");
 }
@@ -94,7 +94,7 @@ fn a_string_is_extended_by_values_and_collected_of_them(rt: HostRuntime) {
     let rt = &rt;
     let alloc = rt.alloc();
     let mut line = String::from_str(alloc, "a").expect(rt, "memory");
-    let values = values_of(rt, alloc, &["é", letters(30)]);
+    let values = values_of(rt, alloc, &["é", ascii_text(30)]);
     line.extend(values).expect(rt, "memory");
     assert_equal(rt, line.as_str(), "aéaaaaaaaaaaaaaaaaaaaaaaaaaaaaaa");
     let values = values_of(rt, alloc, &["b", ""]);
@@ -107,7 +107,7 @@ fn an_append_that_fits_keeps_the_capacity_of_a_string(rt: HostRuntime) {
     let rt = &rt;
     let alloc = rt.alloc();
     let mut line = string_with_room(alloc, 40, "a").expect(rt, "memory");
-    let values = values_of(rt, alloc, &["é", letters(37)]);
+    let values = values_of(rt, alloc, &["é", ascii_text(37)]);
     append_all(&mut line, values).expect(rt, "memory");
     assert_equal(rt, line.len(), 40);
     assert_equal(rt, line.capacity(), 40);

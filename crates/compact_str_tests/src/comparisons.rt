@@ -4,9 +4,9 @@
 use crate::asserts::{assert_equal, assert_heap, assert_that};
 use compact_asserts::that;
 use compact_str::CompactString;
-use compact_testing::seen::{hash_of, is_static};
+use compact_testing::checks::{hash_of, is_static};
 use compact_testing::values::{
-    append, lasting, letters, short, string_with_room, value_of, with_room,
+    append, ascii_text, lasting, short, string_with_room, value_of, with_room,
 };
 use std::alloc::{AllocError, Global};
 use std::cmp::Ordering;
@@ -43,12 +43,12 @@ fn places_and_capacities_are_ignored(rt: HostRuntime) {
     let rt = &rt;
     let alloc = rt.alloc();
     let borrowed = lasting(alloc, 30);
-    let made = value_of(alloc, letters(30)).expect(rt, "memory");
-    let text = string_with_room(alloc, 90, letters(30)).expect(rt, "memory");
+    let made = value_of(alloc, ascii_text(30)).expect(rt, "memory");
+    let text = string_with_room(alloc, 90, ascii_text(30)).expect(rt, "memory");
     let taken_over = CompactString::from_string_buffer(text);
-    assert_that(rt, is_static(&borrowed, letters(30)));
-    assert_heap(rt, &made, 32, letters(30));
-    assert_heap(rt, &taken_over, 90, letters(30));
+    assert_that(rt, is_static(&borrowed, ascii_text(30)));
+    assert_heap(rt, &made, 32, ascii_text(30));
+    assert_heap(rt, &taken_over, 90, ascii_text(30));
     assert_same(rt, &borrowed, &made);
     assert_same(rt, &made, &taken_over);
     assert_same(rt, &taken_over, &borrowed);
@@ -93,8 +93,8 @@ fn the_first_place_that_differs_decides_at_any_length(rt: HostRuntime) {
     let rt = &rt;
     let alloc = rt.alloc();
     for count in 0..40 {
-        let mut less = value_of(alloc, letters(count)).expect(rt, "memory");
-        let mut greater = value_of(alloc, letters(count)).expect(rt, "memory");
+        let mut less = value_of(alloc, ascii_text(count)).expect(rt, "memory");
+        let mut greater = value_of(alloc, ascii_text(count)).expect(rt, "memory");
         assert_same(rt, &less, &greater);
         append(&mut less, "\u{ffff}zz").expect(rt, "memory");
         assert_less(rt, &greater, &less);
@@ -107,7 +107,7 @@ fn the_first_place_that_differs_decides_at_any_length(rt: HostRuntime) {
 fn a_value_hashes_as_its_str(rt: HostRuntime) {
     let alloc = rt.alloc();
     for count in 0..65 {
-        let text = letters(count);
+        let text = ascii_text(count);
         assert_equal(
             &rt,
             hash_of(&value_of(alloc, text).expect(&rt, "memory")),
@@ -145,11 +145,11 @@ const CHARACTERS: [char; 16] = [
     '\u{10ffff}',
 ];
 
-/// Draws a text of up to 8 characters, after 26 letters in every fourth.
+/// Draws a text of up to 8 characters, after 26 ASCII characters in every fourth.
 fn next_text(rt: &impl Abort, alloc: Global, state: &mut u64) -> CompactString {
     let mut text = CompactString::default(alloc);
     if next(state) % 4 == 0 {
-        append(&mut text, letters(26)).expect(rt, "memory");
+        append(&mut text, ascii_text(26)).expect(rt, "memory");
     }
     for _ in 0..next(state) % 9 {
         let character = CHARACTERS[(next(state) % 16) as usize];

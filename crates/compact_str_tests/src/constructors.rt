@@ -2,8 +2,8 @@
 
 use crate::asserts::{assert_equal, assert_heap, assert_inline, assert_that};
 use compact_str::CompactString;
-use compact_testing::seen::{is_at, is_static};
-use compact_testing::values::{lasting, letters, string_with_room};
+use compact_testing::checks::{is_at, is_static};
+use compact_testing::values::{ascii_text, lasting, string_with_room};
 use std::alloc::Global;
 use std::borrow::CowStr;
 use std::mem::size_of;
@@ -13,8 +13,8 @@ use std::process::Abort;
 fn texts_of_the_program_are_static_if_they_are_long(rt: HostRuntime) {
     let alloc = rt.alloc();
     let value = lasting(alloc, 30);
-    assert_that(&rt, is_static(&value, letters(30)));
-    assert_equal(&rt, value.as_static_str(), Some(letters(30)));
+    assert_that(&rt, is_static(&value, ascii_text(30)));
+    assert_equal(&rt, value.as_static_str(), Some(ascii_text(30)));
     let short = CompactString::const_new(alloc, "abc");
     assert_inline(&rt, &short, "abc");
 }
@@ -39,9 +39,9 @@ fn strings_keep_their_buffer_or_move_inline(rt: HostRuntime) {
     let alloc = rt.alloc();
     assert_reused(rt, alloc, 100, "", ("inline", 24));
     assert_reused(rt, alloc, 256, "abc", ("inline", 24));
-    assert_reused(rt, alloc, 30, letters(30), ("heap", 30));
-    assert_reused(rt, alloc, 31, letters(30), ("heap", 31));
-    assert_reused(rt, alloc, 100, letters(30), ("heap", 100));
+    assert_reused(rt, alloc, 30, ascii_text(30), ("heap", 30));
+    assert_reused(rt, alloc, 31, ascii_text(30), ("heap", 31));
+    assert_reused(rt, alloc, 100, ascii_text(30), ("heap", 100));
 }
 
 /// The same for a vector of bytes and a box.
@@ -67,8 +67,8 @@ fn bytes_and_boxes_keep_their_buffer_or_move_inline(rt: HostRuntime) {
     let alloc = rt.alloc();
     assert_bytes_and_box(rt, alloc, 100, "", ("inline", 24));
     assert_bytes_and_box(rt, alloc, 256, "abc", ("inline", 24));
-    assert_bytes_and_box(rt, alloc, 90, letters(30), ("heap", 90));
-    assert_bytes_and_box(rt, alloc, 100, letters(40), ("heap", 100));
+    assert_bytes_and_box(rt, alloc, 90, ascii_text(30), ("heap", 90));
+    assert_bytes_and_box(rt, alloc, 100, ascii_text(40), ("heap", 100));
 }
 
 /// Asserts that bytes are not valid UTF-8 and are returned unchanged.
@@ -94,7 +94,7 @@ fn a_string_buffer_is_kept_even_if_short(rt: HostRuntime) {
     let none = CompactString::from_string_buffer(string_with_room(alloc, 100, "").expect(
         &rt, "memory",
     ));
-    assert_heap(&rt, &none, 100, letters(0));
+    assert_heap(&rt, &none, 100, ascii_text(0));
     let unbuffered = CompactString::from_string_buffer(String::new(alloc));
     assert_inline(&rt, &unbuffered, "");
 }

@@ -3,7 +3,7 @@
 use crate::asserts::{assert_equal, assert_heap, assert_inline, assert_that};
 use compact_asserts::{that, that_for};
 use compact_str::{CompactString, FromJsonError};
-use compact_testing::values::{lasting, letters, short, string_with_room, with_room};
+use compact_testing::values::{ascii_text, lasting, short, string_with_room, with_room};
 use serde_json::Value;
 use std::alloc::Global;
 use std::borrow::CowStr;
@@ -24,12 +24,12 @@ fn shortened(rt: &impl Abort, alloc: Global) -> CompactString {
 fn what_leaves_has_this_room(rt: HostRuntime) {
     let rt = &rt;
     let alloc = rt.alloc();
-    let text = string_with_room(alloc, 90, letters(30)).expect(rt, "memory");
+    let text = string_with_room(alloc, 90, ascii_text(30)).expect(rt, "memory");
     let value = CompactString::from_string_buffer(text);
     let text = value.into_string().expect(rt, "memory");
     assert_equal(rt, text.capacity(), 90);
     let value = CompactString::from_string_buffer(text);
-    assert_heap(rt, &value, 90, letters(30));
+    assert_heap(rt, &value, 90, ascii_text(30));
     let bytes = value.into_vec().expect(rt, "memory");
     assert_equal(rt, bytes.capacity(), 90);
     let bytes = short(alloc, "äb").into_bytes().expect(rt, "memory");
@@ -48,7 +48,7 @@ fn boxes_and_shared_texts_have_the_text(rt: HostRuntime) {
     let shared = shortened(rt, alloc).into_rc().expect(rt, "memory");
     assert_equal(rt, shared.as_str(), "äb");
     let shared = lasting(alloc, 30).into_rc().expect(rt, "memory");
-    assert_equal(rt, shared.as_str(), letters(30));
+    assert_equal(rt, shared.as_str(), ascii_text(30));
 }
 
 #[test]
@@ -80,7 +80,7 @@ fn a_static_text_is_borrowed_and_others_are_owned(rt: HostRuntime) {
     let rt = &rt;
     let alloc = rt.alloc();
     let cow = lasting(alloc, 30).into_cow().expect(rt, "memory");
-    assert_cow(rt, cow, letters(30), true);
+    assert_cow(rt, cow, ascii_text(30), true);
     let cow = short(alloc, "äb").into_cow().expect(rt, "memory");
     assert_cow(rt, cow, "äb", false);
     let value = shortened(rt, alloc);
@@ -115,7 +115,7 @@ fn a_value_is_a_json_string(rt: HostRuntime) {
     is_printed(rt, alloc, short(alloc, "abc"), "\"abc\"");
     is_printed(rt, alloc, short(alloc, "ä\"\n"), "\"ä\\\"\\n\"");
     let json = json_of(rt, &lasting(alloc, 30));
-    assert_heap(rt, &value_in(rt, alloc, &json), 32, letters(30));
+    assert_heap(rt, &value_in(rt, alloc, &json), 32, ascii_text(30));
 }
 
 /// Parses a JSON value.

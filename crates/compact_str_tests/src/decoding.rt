@@ -1,11 +1,11 @@
 //! Decoding bytes and UTF-16 units. Texts and errors are those of the Unicode Standard, worked out by hand.
 
 use crate::asserts::{assert_equal, assert_that};
-use crate::made::{assert_made_inline, assert_shown};
+use crate::results::{assert_made_inline, assert_shown};
 use bytes::Buf;
 use compact_asserts::that_for;
 use compact_str::{CompactString, FromUtf8Error, FromUtf16Error, ReserveError, Utf16Error};
-use compact_testing::values::letters;
+use compact_testing::values::ascii_text;
 use std::alloc::Global;
 use std::process::Abort;
 
@@ -104,9 +104,9 @@ fn the_examples_of_the_standard(rt: HostRuntime) {
 }
 
 /// Asserts a heap text of 30 `a`s.
-fn assert_letters<E: Drop>(rt: &impl Abort, made: Result<CompactString, E>) {
+fn assert_ascii<E: Drop>(rt: &impl Abort, made: Result<CompactString, E>) {
     let made = made.ok().expect(rt, "a text");
-    assert_equal(rt, made.as_str(), letters(30));
+    assert_equal(rt, made.as_str(), ascii_text(30));
     assert_that(rt, made.is_heap_allocated());
 }
 
@@ -192,7 +192,7 @@ fn units_of_a_text_are_decoded(rt: HostRuntime) {
         CompactString::from_utf16(alloc, &[0x20AC; 8]),
         "€€€€€€€€",
     );
-    assert_letters(&rt, CompactString::from_utf16(alloc, &[0x61; 30]));
+    assert_ascii(&rt, CompactString::from_utf16(alloc, &[0x61; 30]));
 }
 
 /// Asserts that units are invalid.

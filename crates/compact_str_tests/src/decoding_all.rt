@@ -129,7 +129,7 @@ impl Generator {
         (self.state >> 32).wrapping_mul(limit) >> 32
     }
 
-    /// Draws a byte at the bounds, or one time in four an ASCII letter.
+    /// Draws a byte at the bounds, or one time in four an ASCII byte.
     fn byte(&mut self) -> u8 {
         if self.below(4) == 0 {
             ((self.below(26) % 26) as u8).wrapping_add(b'A')

@@ -2,12 +2,12 @@
 
 use crate::asserts::{assert_equal, assert_fitted, assert_that};
 use compact_str::CompactString;
-use compact_testing::seen::are_texts;
+use compact_testing::checks::are_texts;
 use compact_testing::values::{append, lasting, value_of};
 use std::alloc::Global;
 use std::process::Abort;
 
-/// Returns a text of `count` bytes: `x`s, then as many characters as fit.
+/// Returns a text of `count` bytes: `x`s, then characters while they fit.
 fn filled(rt: &impl Abort, alloc: Global, character: &str, count: usize) -> CompactString {
     let mut text = value_of(alloc, "").expect(rt, "memory");
     let width = character.len().max(1);

@@ -1,9 +1,9 @@
 //! `Debug` and `Display`. Expected is what Rust prints for a `str`.
 
 use crate::asserts::assert_that;
-use crate::made::assert_shown;
+use crate::results::assert_shown;
 use compact_str::{CompactString, FromJsonError, ReserveError};
-use compact_testing::values::{lasting, letters, short};
+use compact_testing::values::{ascii_text, lasting, short};
 
 #[test]
 fn a_value_is_shown_as_its_text(rt: HostRuntime) {
@@ -13,7 +13,7 @@ fn a_value_is_shown_as_its_text(rt: HostRuntime) {
     assert_shown(rt, format!(in alloc; "{value}"), "äb");
     assert_shown(rt, format!(in alloc; "<{value}>"), "<äb>");
     let long = lasting(alloc, 40);
-    assert_shown(rt, format!(in alloc; "{long}"), letters(40));
+    assert_shown(rt, format!(in alloc; "{long}"), ascii_text(40));
     let empty = CompactString::default(alloc);
     assert_shown(rt, format!(in alloc; "{empty}"), "");
 }

@@ -21,23 +21,23 @@ mod decoding;
 #[cfg(test)]
 mod decoding_all;
 #[cfg(test)]
-mod drips;
-#[cfg(test)]
 mod fields;
 #[cfg(test)]
 mod formatting;
 #[cfg(test)]
 mod long_texts;
 #[cfg(test)]
-mod made;
-#[cfg(test)]
 mod moved_bytes;
+#[cfg(test)]
+mod one_byte_buf;
 #[cfg(test)]
 mod packed;
 #[cfg(test)]
 mod positions;
 #[cfg(test)]
 mod removals;
+#[cfg(test)]
+mod results;
 #[cfg(test)]
 mod written;
 #[cfg(test)]

@@ -3,7 +3,7 @@
 use crate::asserts::{assert_equal, assert_inline, assert_that};
 use compact_asserts::that;
 use compact_str::CompactString;
-use compact_testing::values::{append, lasting, letters, value_of, with_room};
+use compact_testing::values::{append, ascii_text, lasting, value_of, with_room};
 use std::alloc::Global;
 use std::process::Abort;
 
@@ -62,8 +62,8 @@ fn new_values_have_these_bytes(rt: HostRuntime) {
     for (text, row) in [
         ("", empty),
         ("hello world", b"hello world\0\0\0\0\0\0\0\0\0\0\0\0\xCB"),
-        (letters(16), b"aaaaaaaaaaaaaaaa\0\0\0\0\0\0\0\xD0"),
-        (letters(23), b"aaaaaaaaaaaaaaaaaaaaaaa\xD7"),
+        (ascii_text(16), b"aaaaaaaaaaaaaaaa\0\0\0\0\0\0\0\xD0"),
+        (ascii_text(23), b"aaaaaaaaaaaaaaaaaaaaaaa\xD7"),
         ("i am 24 characters long!", b"i am 24 characters long!"),
     ] {
         assert_packed_bytes(rt, &value_of(alloc, text).expect(rt, "memory"), row);
@@ -76,7 +76,7 @@ fn the_last_byte_of_24_is_of_the_text_or_its_length(rt: HostRuntime) {
     let alloc = rt.alloc();
     let euros = bytes_of(rt, &value_of(alloc, "€€€€€€€€").expect(rt, "memory"));
     assert_equal(rt, euros[23], 0xAC);
-    let mut cut = value_of(alloc, letters(24)).expect(rt, "memory");
+    let mut cut = value_of(alloc, ascii_text(24)).expect(rt, "memory");
     truncate(rt, &mut cut, 3);
     assert_equal(rt, bytes_of(rt, &cut)[23], 0xC3);
     is_packed(rt, alloc, &cut);
@@ -92,17 +92,25 @@ fn only_inline_values_have_the_bytes(rt: HostRuntime) {
     let rt = &rt;
     let alloc = rt.alloc();
     has_bytes(rt, lasting(alloc, 25), false);
-    has_bytes(rt, value_of(alloc, letters(25)).expect(rt, "memory"), false);
+    has_bytes(
+        rt,
+        value_of(alloc, ascii_text(25)).expect(rt, "memory"),
+        false,
+    );
     has_bytes(rt, with_room(alloc, 25).expect(rt, "memory"), false);
     has_bytes(rt, lasting(alloc, 24), true);
-    has_bytes(rt, value_of(alloc, letters(24)).expect(rt, "memory"), true);
+    has_bytes(
+        rt,
+        value_of(alloc, ascii_text(24)).expect(rt, "memory"),
+        true,
+    );
 }
 
 #[test]
 fn bytes_of_a_text_are_read(rt: HostRuntime) {
     let rt = &rt;
     let alloc = rt.alloc();
-    assert_inline(rt, &read(rt, alloc, &[0x61; 24]), letters(24));
+    assert_inline(rt, &read(rt, alloc, &[0x61; 24]), ascii_text(24));
     let mut row = [0xFF; 24];
     row[0] = 0x61;
     row[23] = 0xC1;
@@ -167,7 +175,7 @@ fn bytes_after_the_text_are_ignored(rt: HostRuntime) {
             row[place] = 0x61;
         }
         let value = read(&rt, alloc, &row);
-        assert_inline(&rt, &value, letters(count as usize));
+        assert_inline(&rt, &value, ascii_text(count as usize));
         is_packed_anew(&rt, alloc, &value);
     }
 }
@@ -190,9 +198,9 @@ fn a_zeroized_value_has_the_bytes_of_the_empty_text(rt: HostRuntime) {
         assert_zeroized(
             rt,
             alloc,
-            value_of(alloc, letters(count)).expect(rt, "memory"),
+            value_of(alloc, ascii_text(count)).expect(rt, "memory"),
         );
-        let mut cut = value_of(alloc, letters(24)).expect(rt, "memory");
+        let mut cut = value_of(alloc, ascii_text(24)).expect(rt, "memory");
         truncate(rt, &mut cut, count);
         assert_zeroized(rt, alloc, cut);
     }

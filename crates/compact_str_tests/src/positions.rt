@@ -3,8 +3,8 @@
 use crate::asserts::{assert_equal, assert_inline, assert_that};
 use compact_asserts::{that, that_for};
 use compact_str::CompactString;
-use compact_testing::seen::is_static;
-use compact_testing::values::{lasting, letters, short};
+use compact_testing::checks::is_static;
+use compact_testing::values::{ascii_text, lasting, short};
 use std::ops::Bound::{Excluded, Included, Unbounded};
 use std::process::Abort;
 
@@ -22,11 +22,11 @@ fn literals_are_split(rt: HostRuntime) {
     assert_inline(rt, &split(rt, &mut value, 5), ", world!");
     assert_inline(rt, &value, "Hello");
     let mut value = lasting(alloc, 30);
-    assert_that(rt, is_static(&split(rt, &mut value, 3), letters(27)));
-    assert_that(rt, is_static(&value, letters(3)));
+    assert_that(rt, is_static(&split(rt, &mut value, 3), ascii_text(27)));
+    assert_that(rt, is_static(&value, ascii_text(3)));
     let mut value = lasting(alloc, 30);
-    assert_inline(rt, &split(rt, &mut value, 6), letters(24));
-    assert_that(rt, is_static(&value, letters(6)));
+    assert_inline(rt, &split(rt, &mut value, 6), ascii_text(24));
+    assert_that(rt, is_static(&value, ascii_text(6)));
 }
 
 #[test]

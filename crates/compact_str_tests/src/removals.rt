@@ -3,7 +3,7 @@
 use crate::asserts::{assert_equal, assert_heap, assert_inline, assert_that};
 use compact_asserts::{that, that_for};
 use compact_str::{CompactString, Drain, Standard};
-use compact_testing::seen::is_at;
+use compact_testing::checks::is_at;
 use compact_testing::values::{place_of, short, value_of};
 use std::ops::Bound;
 use std::ops::Bound::{Excluded, Included, Unbounded};

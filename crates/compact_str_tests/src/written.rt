@@ -2,8 +2,8 @@
 
 use crate::asserts::{assert_equal, assert_heap, assert_inline, assert_that};
 use compact_str::{CompactString, ReserveError};
-use compact_testing::seen::is_static;
-use compact_testing::values::{lasting, letters, short};
+use compact_testing::checks::is_static;
+use compact_testing::values::{ascii_text, lasting, short};
 use std::fmt;
 use std::fmt::Display;
 
@@ -41,14 +41,14 @@ fn what_is_shown_is_appended(rt: HostRuntime) {
 fn a_write_grows_once_as_an_append_does(rt: HostRuntime) {
     let rt = &rt;
     let alloc = rt.alloc();
-    let mut full = short(alloc, letters(24));
+    let mut full = short(alloc, ascii_text(24));
     write!(full, "{}{}", 'a', "aaaaaaaaaa").expect(rt, "memory");
-    assert_heap(rt, &full, 36, letters(35));
+    assert_heap(rt, &full, 36, ascii_text(35));
     let mut text = lasting(alloc, 30);
     write!(text, "{}", "").expect(rt, "memory");
-    assert_that(rt, is_static(&text, letters(30)));
+    assert_that(rt, is_static(&text, ascii_text(30)));
     write!(text, "{}", 'a').expect(rt, "memory");
-    assert_heap(rt, &text, 45, letters(31));
+    assert_heap(rt, &text, 45, ascii_text(31));
 }
 
 #[test]
@@ -72,5 +72,5 @@ fn a_write_that_fails_by_itself_changes_nothing(rt: HostRuntime) {
     assert_inline(rt, &line, "ä");
     let mut text = lasting(alloc, 30);
     assert_equal(rt, text.write(Half), Err(ReserveError));
-    assert_that(rt, is_static(&text, letters(30)));
+    assert_that(rt, is_static(&text, ascii_text(30)));
 }

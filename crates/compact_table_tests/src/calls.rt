@@ -1,7 +1,7 @@
 //! Calls on a value that are no edits, or an edit under another name.
 
-use crate::edits::{answers_of, call};
-use crate::notation::number;
+use crate::edits::{call, flags_of};
+use crate::long_texts::number;
 use crate::table::Case;
 use crate::within::reply_within;
 use compact_edit::{Edit, Reply, run};
@@ -21,7 +21,7 @@ pub enum By<'a, 'b> {
     Name,
 }
 
-/// Makes a call and returns the reply that `run` gives for an edit. Needs room in `replies`.
+/// Makes a call and returns the reply of `run` for an edit. Needs room in `replies`.
 pub fn reply(
     case: &Case<'_>,
     by: By<'_, '_>,
@@ -62,7 +62,7 @@ fn named(case: &Case<'_>, value: &mut CompactString) -> Reply<Standard> {
         "to_ascii_uppercase" => given(value.to_ascii_uppercase()),
         "to_compact_string" => shown(value.to_compact_string(value.allocator())),
         "try_to_compact_string" => shown(value.try_to_compact_string(value.allocator())),
-        "retain_by" => retain_by(value, answers_of(first).unwrap_or(&[])),
+        "retain_by" => retain_by(value, flags_of(first).unwrap_or(&[])),
         name => reply_within(name, value, first, last),
     }
 }
@@ -96,12 +96,12 @@ fn shown(outcome: Result<CompactString, ToCompactStringError>) -> Reply<Standard
 
 /// Retains by a borrowed closure. Returns a bad position, which no case expects, if it fails after calling the
 /// closure.
-fn retain_by(value: &mut CompactString, answers: &[bool]) -> Reply<Standard> {
+fn retain_by(value: &mut CompactString, flags: &[bool]) -> Reply<Standard> {
     let mut next = 0;
     let mut keep = |_| {
-        let answer = answers.get(next).copied().unwrap_or(true);
-        next = usize::min(next, answers.len()) + 1;
-        answer
+        let flag = flags.get(next).copied().unwrap_or(true);
+        next = usize::min(next, flags.len()) + 1;
+        flag
     };
     let outcome = value.retain_by(&mut keep);
     if outcome.is_err() && next > 0 {

@@ -1,9 +1,9 @@
 //! Making values from bytes or UTF-16 units.
 
-use crate::making::value_or_refused;
-use crate::showing::show;
+use crate::constructors::value_or_refused;
+use crate::formatting::show;
 use crate::table::Case;
-use crate::trial::Made;
+use crate::try_line::Made;
 use bytes::Buf;
 use compact_str::{CompactString, FromUtf8Error, FromUtf16Error};
 use std::alloc::Global;

@@ -1,8 +1,8 @@
 //! Edits: parsed from a line, and made by their methods.
 
 use crate::calls::{done, given};
-use crate::listed::Listed;
-use crate::notation::number;
+use crate::long_texts::number;
+use crate::owned_operands::Listed;
 use crate::table::{character, first_word, text_of};
 use compact_edit::{Edit, Reply};
 use compact_str::{CompactString, Standard};
@@ -27,11 +27,11 @@ pub fn edit_of<'a>(call: &'a str, listed: &'a Listed) -> Option<Edit<'a, Standar
 }
 
 fn retain_of<'a>(word: &str) -> Option<Edit<'a, Standard>> {
-    Some(Edit::Retain(answers_of(text_of(word))?))
+    Some(Edit::Retain(flags_of(text_of(word))?))
 }
 
 /// Returns whether each of the first characters is kept, from a word of 1s and 0s.
-pub fn answers_of(word: &str) -> Option<&'static [bool]> {
+pub fn flags_of(word: &str) -> Option<&'static [bool]> {
     match word {
         "" => Some(&[]),
         "0" => Some(&[false]),
@@ -90,13 +90,13 @@ fn range(word: &str) -> Option<(Bound<usize>, Bound<usize>)> {
     Some((start, end))
 }
 
-/// Makes an edit by its method, and returns the reply that `run` gives.
+/// Makes an edit by its method, and returns the reply of `run`.
 pub fn call(edit: &Edit<'_, Standard>, value: &mut CompactString) -> Reply<Standard> {
     match edit {
         Edit::Push(character) => done(value.push(*character)),
         Edit::PushStr(text) => done(value.push_str(text)),
         Edit::Pop => Reply::Char(value.pop()),
-        Edit::Retain(answers) => retain(value, answers),
+        Edit::Retain(flags) => retain(value, flags),
         Edit::Reserve(additional) => done(value.reserve(*additional)),
         Edit::MakeLower => done(value.make_ascii_lowercase()),
         Edit::MakeUpper => done(value.make_ascii_uppercase()),
@@ -166,12 +166,12 @@ fn drain(value: &mut CompactString, start: Bound<usize>, end: Bound<usize>) -> R
     }
 }
 
-fn retain(value: &mut CompactString, answers: &[bool]) -> Reply<Standard> {
+fn retain(value: &mut CompactString, flags: &[bool]) -> Reply<Standard> {
     let mut next = 0;
     let outcome = value.retain(|_| {
-        let answer = answers.get(next).copied().unwrap_or(true);
-        next = usize::min(next, answers.len()) + 1;
-        answer
+        let flag = flags.get(next).copied().unwrap_or(true);
+        next = usize::min(next, flags.len()) + 1;
+        flag
     });
     done(outcome)
 }

@@ -5,7 +5,7 @@
 //! instead, and the number of cases. Its status is 1 if one does not hold. A line reads
 //!
 //! ```text
-//! START | CALL OPERANDS | ASKS | ANSWER | AFTER
+//! START | CALL OPERANDS | ALLOCATIONS | RESULT | AFTER
 //! heap | push_str 0123456789*4 | more 70 | done | heap 70 a..D+0123456789*4
 //! ```
 //!
@@ -13,40 +13,40 @@
 //! capacity and text afterwards. Each time an allocation fails the value must be unchanged. The head of the table says
 //! what each field may hold. Blank lines, and those that begin with `#`, are no cases.
 //!
-//! Cases that no line can express are functions of the modules `apart`, `apart_free`, `numbers`, `interned`, `strings`
-//! and `records`.
+//! Cases that no line can express are functions of the modules `allocating_cases`, `free_cases`, `numbers`, `interner`,
+//! `strings` and `records`.
 #![tactic(auto)]
 
-mod apart;
-mod apart_free;
+mod allocating_cases;
 mod calls;
+mod constructors;
+mod conversions;
 mod decoding;
 mod edits;
-mod extended;
-mod faults;
-mod interned;
-mod listed;
-mod making;
+mod extending;
+mod failed_cases;
+mod formatting;
+mod free_cases;
+mod interner;
+mod long_texts;
 mod memory;
-mod notation;
 mod numbers;
+mod owned_operands;
 mod records;
-mod showing;
 mod strings;
 mod table;
-mod trial;
+mod try_line;
 mod values;
-mod ways_out;
 mod within;
 
-use faults::Faults;
-use notation::expanded;
+use failed_cases::Faults;
+use long_texts::expanded;
 use std::alloc::Global;
 use std::io;
 use std::io::{Read, Write};
 use std::process::ExitCode;
 use table::{Case, read_case};
-use trial::Trial;
+use try_line::Trial;
 
 fn main(rt: HostRuntime) -> ExitCode {
     let mut reader = rt.stdin();

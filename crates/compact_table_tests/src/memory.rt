@@ -4,7 +4,7 @@ use std::alloc::{AllocError, Global};
 
 /// An allocation of a call, in bytes.
 #[derive(Clone, Copy)]
-pub enum Ask {
+pub enum Allocation {
     /// A new buffer.
     New(usize),
     /// More room in an existing buffer, which moves.
@@ -29,7 +29,7 @@ const STOCK_OF_SMALL: usize = 2000;
 /// The greatest step of small blocks.
 const SMALL: usize = 8;
 
-/// The blocks of a step that must be left for one more case; none needs as many.
+/// The blocks of a step that must be left for one more case; none needs that many.
 const LEAST: usize = 40;
 
 /// The C library sets the first seven free blocks of a step aside for new buffers; a growing buffer takes the next.
@@ -70,10 +70,10 @@ impl Ration {
     }
 
     /// Grants one allocation. If no block is left, grants nothing, and the call fails again.
-    pub fn grant(&mut self, ask: Ask) {
-        match ask {
-            Ask::New(size) => self.give_back(size),
-            Ask::More(size) => {
+    pub fn grant(&mut self, allocation: Allocation) {
+        match allocation {
+            Allocation::New(size) => self.give_back(size),
+            Allocation::More(size) => {
                 for _ in 0..FOR_MORE {
                     self.give_back(size);
                 }
@@ -82,9 +82,9 @@ impl Ration {
     }
 
     /// Grants the first `count` allocations.
-    pub fn grant_first(&mut self, asks: &[Ask], count: usize) {
-        for ask in asks.get(..count).unwrap_or(asks) {
-            self.grant(*ask);
+    pub fn grant_first(&mut self, allocations: &[Allocation], count: usize) {
+        for allocation in allocations.get(..count).unwrap_or(allocations) {
+            self.grant(*allocation);
         }
     }
 

@@ -1,6 +1,6 @@
 //! Texts of numbers of up to 64 bits, of a `bool` and of a `char`; every allocation fails.
 
-use crate::faults::Faults;
+use crate::failed_cases::Faults;
 use crate::values::{inline, is_seen};
 use compact_ext::{ToCompactString, ToCompactStringError};
 use compact_str::CompactString;

@@ -1,10 +1,10 @@
 //! Texts of a reader collected into a vector. If an allocation fails, a prefix of the bytes is consumed.
 
-use crate::apart::tell;
-use crate::faults::Faults;
-use crate::memory::Ask::{More, New};
-use crate::memory::{Ask, Ration};
-use crate::values::{digits, heap, inline, is_seen, letters};
+use crate::allocating_cases::report_case;
+use crate::failed_cases::Faults;
+use crate::memory::Allocation::{More, New};
+use crate::memory::{Allocation, Ration};
+use crate::values::{ascii_text, digits, heap, inline, is_seen};
 use compact_ext::wire::{Records, WireError};
 use compact_str::CompactString;
 use std::alloc::Global;
@@ -14,11 +14,11 @@ const FORMS: &[u8] =
     b"\x03\0\0\0abc\x1E\0\0\0abcdefghijklmnopqrstuvwxyzABCD\x28\0\0\x000123456789012345678901234567890123456789\0\0\0\0\x01\0\0\0b";
 
 /// The allocations: a vector of four values, the two long texts, and a vector of eight.
-const ASKS: [Ask; 4] = [New(128), New(30), New(40), More(256)];
+const ASKS: [Allocation; 4] = [New(128), New(30), New(40), More(256)];
 
 /// Runs these cases.
 pub fn cases(alloc: Global, ration: &mut Ration, faults: &mut Faults) {
-    tell(
+    report_case(
         fail_in_turn(alloc, ration),
         ration,
         faults,
@@ -57,7 +57,7 @@ fn are_texts_or_refused(outcome: Result<Vec<CompactString>, WireError>, is_whole
 fn are_texts(texts: &[CompactString]) -> bool {
     let wanted = [
         inline("abc"),
-        heap(30, letters(0, 30)),
+        heap(30, ascii_text(0, 30)),
         heap(40, digits()),
         inline(""),
         inline("b"),

@@ -1,9 +1,9 @@
 //! Values appended to a `String` or collected into one. If an allocation fails, it has the earlier texts.
 
-use crate::apart::tell;
-use crate::faults::Faults;
-use crate::memory::Ask::{More, New};
-use crate::memory::{Ask, Ration};
+use crate::allocating_cases::report_case;
+use crate::failed_cases::Faults;
+use crate::memory::Allocation::{More, New};
+use crate::memory::{Allocation, Ration};
 use crate::values::Start;
 use compact_str::{CompactString, append_all};
 use std::alloc::{AllocError, Global};
@@ -20,7 +20,7 @@ enum Way {
 const TEXT: &str = "abcabcdefghijklmnopqrstuvwxyzABCDabcdefghijklmnopqrstuvwxyzABCD";
 
 /// The allocations of an empty `String` to which these three texts are appended.
-const ASKS: [Ask; 3] = [New(8), More(33), More(66)];
+const ASKS: [Allocation; 3] = [New(8), More(33), More(66)];
 
 /// Runs these cases.
 pub fn cases(alloc: Global, ration: &mut Ration, faults: &mut Faults) {
@@ -29,7 +29,7 @@ pub fn cases(alloc: Global, ration: &mut Ration, faults: &mut Faults) {
         (Way::Extend, "a string is extended by values"),
         (Way::Collect, "a string is collected of values"),
     ] {
-        tell(fails_in_turn(alloc, ration, way), ration, faults, name);
+        report_case(fails_in_turn(alloc, ration, way), ration, faults, name);
     }
 }
 

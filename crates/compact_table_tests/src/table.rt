@@ -1,8 +1,8 @@
 //! Parsing a line of the table.
 
-use crate::listed::{Listed, make_listed};
-use crate::memory::Ask;
-use crate::notation::{halves_at, number};
+use crate::long_texts::{halves_at, number};
+use crate::memory::Allocation;
+use crate::owned_operands::{Listed, make_listed};
 use crate::values::{Seen, Start, fitted, fixed, heap, inline};
 use compact_edit::Reply;
 use compact_str::Standard;
@@ -11,7 +11,7 @@ use std::mem::size_of;
 
 /// The result of a successful call, which also determines how it is tried.
 #[derive(Clone, Copy)]
-pub enum Answer<'a> {
+pub enum Expected<'a> {
     /// A call on a value that returns nothing.
     Done,
     /// A call on a value that returns a character.
@@ -45,8 +45,8 @@ pub struct Case<'a> {
     /// The words after the name.
     pub operands: Vec<&'a str>,
     pub listed: Listed,
-    pub asks: Vec<Ask>,
-    pub answer: Answer<'a>,
+    pub allocations: Vec<Allocation>,
+    pub expected: Expected<'a>,
     /// The value after the call; for `Kept`, after none of the allocations is granted, after one, and so on.
     pub states: Vec<Seen<'a>>,
 }
@@ -56,7 +56,7 @@ impl<'a> Case<'a> {
     fn read(&mut self, fields: Fields<'a>) -> bool {
         let (_, operands) = first_word(fields.call);
         read_operands(&mut self.operands, operands)
-            && read_asks(&mut self.asks, fields.asks)
+            && read_allocations(&mut self.allocations, fields.allocations)
             && read_states(&mut self.states, fields.after)
     }
 
@@ -71,8 +71,8 @@ impl<'a> Case<'a> {
 struct Fields<'a> {
     start: &'a str,
     call: &'a str,
-    asks: &'a str,
-    answer: &'a str,
+    allocations: &'a str,
+    expected: &'a str,
     after: &'a str,
 }
 
@@ -86,13 +86,13 @@ pub fn read_case<'a>(alloc: Global, line: &'a str, text: &'a str) -> Option<Case
 fn fields_of(text: &str) -> Option<Fields<'_>> {
     let (start, rest) = halves_at(text, '|')?;
     let (call, rest) = halves_at(rest, '|')?;
-    let (asks, rest) = halves_at(rest, '|')?;
-    let (answer, after) = halves_at(rest, '|')?;
+    let (allocations, rest) = halves_at(rest, '|')?;
+    let (expected, after) = halves_at(rest, '|')?;
     Some(Fields {
         start: start.trim(),
         call: call.trim(),
-        asks: asks.trim(),
-        answer: answer.trim(),
+        allocations: allocations.trim(),
+        expected: expected.trim(),
         after: after.trim(),
     })
 }
@@ -100,7 +100,7 @@ fn fields_of(text: &str) -> Option<Fields<'_>> {
 /// Makes a case whose lists are not parsed yet.
 fn begin_case<'a>(alloc: Global, line: &'a str, fields: Fields<'a>) -> Option<Case<'a>> {
     let start = start_of(fields.start)?;
-    let answer = answer_of(fields.answer)?;
+    let expected = expected_of(fields.expected)?;
     let (name, operands) = first_word(fields.call);
     let listed = make_listed(alloc, name, operands)?;
     Some(Case {
@@ -110,13 +110,13 @@ fn begin_case<'a>(alloc: Global, line: &'a str, fields: Fields<'a>) -> Option<Ca
         name,
         operands: Vec::new(alloc),
         listed,
-        asks: Vec::new(alloc),
-        answer,
+        allocations: Vec::new(alloc),
+        expected,
         states: Vec::new(alloc),
     })
 }
 
-/// Parses the value to start from; `-` is none.
+/// Parses the value to start from; `-` means no value.
 fn start_of(field: &str) -> Option<Option<Start<'_>>> {
     if field == "-" {
         return Some(None);
@@ -150,15 +150,15 @@ pub fn text_of(word: &str) -> &str {
 }
 
 /// Parses the allocations.
-fn read_asks(asks: &mut Vec<Ask>, field: &str) -> bool {
+fn read_allocations(allocations: &mut Vec<Allocation>, field: &str) -> bool {
     if field.is_empty() {
         return true;
     }
     for part in field.split(',') {
-        let Some(ask) = ask_of(part.trim()) else {
+        let Some(allocation) = allocation_of(part.trim()) else {
             return false;
         };
-        if asks.push(ask).is_err() {
+        if allocations.push(allocation).is_err() {
             return false;
         }
     }
@@ -166,46 +166,46 @@ fn read_asks(asks: &mut Vec<Ask>, field: &str) -> bool {
 }
 
 /// Parses an allocation. `replies` is what an empty list of replies allocates for two: room for four.
-fn ask_of(part: &str) -> Option<Ask> {
+fn allocation_of(part: &str) -> Option<Allocation> {
     if part == "replies" {
-        return Some(Ask::New(size_of::<Reply<Standard>>().saturating_mul(4)));
+        return Some(Allocation::New(size_of::<Reply<Standard>>().saturating_mul(4)));
     }
     let (kind, size) = halves_at(part, ' ')?;
     let size = number(size)?;
     match kind {
-        "new" => Some(Ask::New(size)),
-        "more" => Some(Ask::More(size)),
+        "new" => Some(Allocation::New(size)),
+        "more" => Some(Allocation::More(size)),
         _ => None,
     }
 }
 
 /// Parses a result.
-fn answer_of(field: &str) -> Option<Answer<'_>> {
+fn expected_of(field: &str) -> Option<Expected<'_>> {
     match field {
-        "done" => Some(Answer::Done),
-        "no char" => Some(Answer::Char(None)),
-        "made" => Some(Answer::Made),
-        "kept" => Some(Answer::Kept),
-        "unrun" => Some(Answer::Unrun),
-        "bad position" => Some(Answer::BadPosition),
-        "too large" => Some(Answer::TooLarge),
-        _ => long_answer_of(field),
+        "done" => Some(Expected::Done),
+        "no char" => Some(Expected::Char(None)),
+        "made" => Some(Expected::Made),
+        "kept" => Some(Expected::Kept),
+        "unrun" => Some(Expected::Unrun),
+        "bad position" => Some(Expected::BadPosition),
+        "too large" => Some(Expected::TooLarge),
+        _ => long_expected_of(field),
     }
 }
 
 /// Parses a result with a value.
-fn long_answer_of(field: &str) -> Option<Answer<'_>> {
+fn long_expected_of(field: &str) -> Option<Expected<'_>> {
     let (kind, rest) = halves_at(field, ' ')?;
     match kind {
-        "char" => Some(Answer::Char(Some(character(rest)?))),
-        "text" => Some(Answer::Text(seen_of(rest)?)),
-        "left" => Some(Answer::Left(text_of(rest))),
-        "refused" => Some(Answer::Refused(number(rest)?)),
+        "char" => Some(Expected::Char(Some(character(rest)?))),
+        "text" => Some(Expected::Text(seen_of(rest)?)),
+        "left" => Some(Expected::Left(text_of(rest))),
+        "refused" => Some(Expected::Refused(number(rest)?)),
         _ => None,
     }
 }
 
-/// Parses the values after a call, one more allocation granted after each `/`. `-` is none.
+/// Parses the values after a call, one more allocation granted after each `/`. `-` means no value.
 fn read_states<'a>(states: &mut Vec<Seen<'a>>, field: &'a str) -> bool {
     if field == "-" {
         return true;

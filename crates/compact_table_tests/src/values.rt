@@ -2,13 +2,13 @@
 //!
 //! No function here has a clause, so other proofs know nothing of the values they look at.
 
-use crate::memory::{Ask, Ration};
+use crate::memory::{Allocation, Ration};
 use compact_str::CompactString;
 use compact_testing::values::{append, place_of, string_with_room, with_room};
 use std::alloc::Global;
 
 /// Returns a range of the ASCII letters, lowercase first, followed by the ten digits.
-pub fn letters(from: usize, to: usize) -> &'static str {
+pub fn ascii_text(from: usize, to: usize) -> &'static str {
     const LETTERS: &str = "abcdefghijklmnopqrstuvwxyzABCDEFGHIJKLMNOPQRSTUVWXYZ0123456789";
     LETTERS.get(from..to).unwrap_or("")
 }
@@ -64,8 +64,8 @@ impl<'a> Start<'a> {
     pub fn make(self, ration: &mut Ration, alloc: Global) -> Option<CompactString> {
         match self {
             Start::Seen(seen) => made(seen, ration, alloc),
-            Start::Inline => copied(alloc, letters(0, 3)),
-            Start::FullInline => copied(alloc, letters(0, 24)),
+            Start::Inline => copied(alloc, ascii_text(0, 3)),
+            Start::FullInline => copied(alloc, ascii_text(0, 24)),
             Start::Static => Some(lasting(alloc)),
             Start::Heap => granted(ration, alloc, 32, 30),
             Start::FullHeap => granted(ration, alloc, 32, 32),
@@ -80,14 +80,14 @@ impl<'a> Start<'a> {
     pub fn seen(self) -> Seen<'a> {
         match self {
             Start::Seen(seen) => seen,
-            Start::Inline => inline(letters(0, 3)),
-            Start::FullInline => inline(letters(0, 24)),
-            Start::Static => fixed(letters(0, 30)),
-            Start::Heap => heap(32, letters(0, 30)),
-            Start::FullHeap => heap(32, letters(0, 32)),
-            Start::Shortened => heap(48, letters(0, 30)),
-            Start::ShortHeap => heap(32, letters(0, 3)),
-            Start::ShortStatic => fixed(letters(0, 3)),
+            Start::Inline => inline(ascii_text(0, 3)),
+            Start::FullInline => inline(ascii_text(0, 24)),
+            Start::Static => fixed(ascii_text(0, 30)),
+            Start::Heap => heap(32, ascii_text(0, 30)),
+            Start::FullHeap => heap(32, ascii_text(0, 32)),
+            Start::Shortened => heap(48, ascii_text(0, 30)),
+            Start::ShortHeap => heap(32, ascii_text(0, 3)),
+            Start::ShortStatic => fixed(ascii_text(0, 3)),
             Start::EmptyHeap => heap(100, ""),
         }
     }
@@ -98,7 +98,7 @@ fn made(seen: Seen<'_>, ration: &mut Ration, alloc: Global) -> Option<CompactStr
     match seen.place {
         "heap" => in_buffer(ration, alloc, seen.capacity?, seen.text),
         "static" => Some(cut(
-            CompactString::const_new(alloc, letters(0, 62)),
+            CompactString::const_new(alloc, ascii_text(0, 62)),
             seen.text.len(),
         )),
         _ => copied(alloc, seen.text),
@@ -112,7 +112,7 @@ fn in_buffer(
     capacity: usize,
     text: &str,
 ) -> Option<CompactString> {
-    ration.grant(Ask::New(capacity));
+    ration.grant(Allocation::New(capacity));
     let mut buffer = string_with_room(alloc, capacity, text).ok()?;
     if !fill(&mut buffer, capacity) {
         return None;
@@ -130,20 +130,25 @@ fn fill(buffer: &mut String, len: usize) -> bool {
 }
 
 /// Makes `len` letters on the heap, granting the allocation.
-fn granted(ration: &mut Ration, alloc: Global, ask: usize, len: usize) -> Option<CompactString> {
-    ration.grant(Ask::New(ask));
-    copied(alloc, letters(0, len))
+fn granted(
+    ration: &mut Ration,
+    alloc: Global,
+    allocation: usize,
+    len: usize,
+) -> Option<CompactString> {
+    ration.grant(Allocation::New(allocation));
+    copied(alloc, ascii_text(0, len))
 }
 
 /// The same, keeping the first `kept` bytes.
 fn granted_and_cut(
     ration: &mut Ration,
     alloc: Global,
-    ask: usize,
+    allocation: usize,
     len: usize,
     kept: usize,
 ) -> Option<CompactString> {
-    match granted(ration, alloc, ask, len) {
+    match granted(ration, alloc, allocation, len) {
         Some(value) => Some(cut(value, kept)),
         None => None,
     }
@@ -151,13 +156,13 @@ fn granted_and_cut(
 
 /// Makes an empty value with this capacity, granting its allocation.
 fn room(ration: &mut Ration, alloc: Global, capacity: usize) -> Option<CompactString> {
-    ration.grant(Ask::New(capacity));
+    ration.grant(Allocation::New(capacity));
     with_room(alloc, capacity).ok()
 }
 
 /// Makes a static value of 30 letters.
 fn lasting(alloc: Global) -> CompactString {
-    CompactString::const_new(alloc, letters(0, 30))
+    CompactString::const_new(alloc, ascii_text(0, 30))
 }
 
 /// Keeps the first `len` bytes of a value.
@@ -179,11 +184,11 @@ pub fn copied(alloc: Global, text: &str) -> Option<CompactString> {
 /// text there. Any other word is copied.
 pub fn source(alloc: Global, name: &str) -> Option<CompactString> {
     match name {
-        "lasting" => Some(CompactString::const_new(alloc, letters(20, 50))),
+        "lasting" => Some(CompactString::const_new(alloc, ascii_text(20, 50))),
         "digits" => Some(CompactString::const_new(alloc, digits())),
         "long" => copied(alloc, digits()),
-        "fresh" => copied(alloc, letters(20, 50)),
-        "shortened" => shortened(alloc, letters(20, 50)),
+        "fresh" => copied(alloc, ascii_text(20, 50)),
+        "shortened" => shortened(alloc, ascii_text(20, 50)),
         "emptied" => shortened(alloc, ""),
         text => copied(alloc, text),
     }
@@ -208,11 +213,11 @@ pub fn seen_of_source(name: &str) -> Seen<'_> {
 
 fn seen_of_name(name: &str) -> Option<Seen<'static>> {
     match name {
-        "lasting" => Some(fixed(letters(20, 50))),
+        "lasting" => Some(fixed(ascii_text(20, 50))),
         "digits" => Some(fixed(digits())),
         "long" => Some(heap(40, digits())),
-        "fresh" => Some(heap(32, letters(20, 50))),
-        "shortened" => Some(heap(40, letters(20, 50))),
+        "fresh" => Some(heap(32, ascii_text(20, 50))),
+        "shortened" => Some(heap(40, ascii_text(20, 50))),
         "emptied" => Some(heap(40, "")),
         _ => None,
     }
@@ -285,13 +290,13 @@ pub fn is_seen(value: &CompactString, seen: Seen<'_>) -> bool {
 /// another value has none.
 fn is_packed(value: &CompactString) -> bool {
     match value.packed() {
-        Some(bytes) => stands_for(value.allocator(), &bytes, value.as_str()),
+        Some(bytes) => is_packed_form_of(value.allocator(), &bytes, value.as_str()),
         None => place_of(value) != "inline",
     }
 }
 
 /// Returns `true` if 24 bytes begin with a text, end with its length, and are read as that text.
-fn stands_for(alloc: Global, bytes: &[u8; 24], text: &str) -> bool {
+fn is_packed_form_of(alloc: Global, bytes: &[u8; 24], text: &str) -> bool {
     let ends_so = text.len() == 24 || usize::from(bytes[23]) == text.len().saturating_add(192);
     let is_read = match CompactString::from_packed(alloc, bytes) {
         Some(read) => read.as_str() == text,

@@ -4,7 +4,7 @@ ghost use Rattle.std.specs.declared.ops.Bound.TheVariants.{Included, Excluded};
 ghost use Rattle.compact_str.specs.Ranges.{IsRange, span};
 
 use crate::calls::done;
-use crate::notation::number;
+use crate::long_texts::number;
 use compact_edit::Reply;
 use compact_str::{CompactString, Standard};
 use std::ops::Bound;

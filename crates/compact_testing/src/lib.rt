@@ -2,9 +2,9 @@
 //! stop, random numbers, and growth policies.
 #![tactic(auto)]
 
+pub mod checks;
 pub mod memory;
-pub mod pieces;
 pub mod policies;
 pub mod random;
-pub mod seen;
+pub mod stopping_io;
 pub mod values;

@@ -7,7 +7,7 @@ use compact_str::{CompactString, Policy, PolicyString, ReserveError};
 use std::alloc::{AllocError, Global};
 
 /// Returns `count` times `a`, at most 80. A function, so that a proof need not carry each one.
-pub fn letters(count: usize) -> &'static str {
+pub fn ascii_text(count: usize) -> &'static str {
     const LETTERS: &str =
         "aaaaaaaaaaaaaaaaaaaaaaaaaaaaaaaaaaaaaaaaaaaaaaaaaaaaaaaaaaaaaaaaaaaaaaaaaaaaaaaa";
     LETTERS.get(..count).unwrap_or("")
@@ -15,7 +15,7 @@ pub fn letters(count: usize) -> &'static str {
 
 /// Creates a static value of `count` times `a`.
 pub fn lasting(alloc: Global, count: usize) -> CompactString {
-    CompactString::const_new(alloc, letters(count))
+    CompactString::const_new(alloc, ascii_text(count))
 }
 
 /// Creates an inline value from a literal of at most 24 bytes. Never allocates.

@@ -8,4 +8,3 @@ use Rattle.compact_text.specs.Text.{text_of}
 is_ascii : (byte : ℕ) → byte < 128 → IsAscii (byte ∷ [])
 is_ascii byte h zero = h
 is_ascii byte h (suc i) = omega arith
-

@@ -1,5 +1,6 @@
 -- Texts with changed ASCII characters: their bytes and boundaries.
-use Rattle.std.proofs.Common.{◌≡◌, ℕ, ◌+◌, ◌-◌, ◌/◌, ◌<◌, ◌≤◌, List, [], ◌∷◌, ◌++◌, length, Bool, true, false, cond, refl, ap, sym, ◌∙◌, map, arith, ⊎_elim}
+use Rattle.std.proofs.Common.{◌≡◌, ℕ, ◌+◌, ◌-◌, ◌/◌, ◌<◌, ◌≤◌, List, [], ◌∷◌, ◌++◌, length, Bool, true, false, cond}
+use Rattle.std.proofs.Common.{refl, ap, sym, ◌∙◌, map, arith, ⊎_elim}
 use Rattle.std.proofs.lemmas.Bool.{cases_lt, le-ltb, and_parts, and_from}
 use Rattle.std.proofs.lemmas.List.{map-append, length-map}
 use Rattle.std.proofs.lemmas.Str.{chars_from_encodes, encode_ascii, length-encode}
@@ -11,13 +12,14 @@ use lib.Utf8.{scalar, scalars, encode, encodes, next, low_scalar}
 use Rattle.compact_text.specs.Text.{size, text_of, ascii_lowercase, ascii_uppercase}
 use Rattle.compact_text.specs.Cut.{IsBoundary, text_before}
 use Rattle.compact_text.specs.Case.{in_case, text_in_case}
-use Rattle.compact_text.specs.declared.slices.bytewise.Case.{Case}
-use Rattle.compact_text.specs.declared.slices.bytewise.Case.TheVariants.{Lower, Upper}
-use Rattle.compact_text.proofs.Cuts.{size-text_before, boundary-from_size}
+use Rattle.compact_text.specs.declared.slices.ascii_case.Case.{Case}
+use Rattle.compact_text.specs.declared.slices.ascii_case.Case.TheVariants.{Lower, Upper}
+use Rattle.compact_text.proofs.CutLemmas.{size-text_before, boundary-from_size}
 
 -- f maps ASCII to ASCII, and changes nothing else
 module _ (f : ℕ → ℕ) (low : (b : ℕ) → b < 128 → f b < 128) (high : (b : ℕ) → 128 ≤ b → f b ≡ b) where
-  same_of_three : (x y : Bool) (p q r : List ℕ) → map f p ≡ p → map f q ≡ q → map f r ≡ r → map f (cond x p (cond y q r)) ≡ cond x p (cond y q r)
+  same_of_three : (x y : Bool) (p q r : List ℕ) → map f p ≡ p → map f q ≡ q → map f r ≡ r
+      → map f (cond x p (cond y q r)) ≡ cond x p (cond y q r)
   same_of_three true y p q r h k l = h
   same_of_three false true p q r h k l = k
   same_of_three false false p q r h k l = l
@@ -27,10 +29,14 @@ module _ (f : ℕ → ℕ) (low : (b : ℕ) → b < 128 → f b < 128) (high : (
   encode-wide c le =
       let two : map f ((192 + c / 64) ∷ next c ∷ []) ≡ (192 + c / 64) ∷ next c ∷ [] =
       (λ i. high (192 + c / 64) (omega arith) i ∷ high (next c) (omega arith) i ∷ []) in
-      let three : map f ((224 + c / 4096) ∷ next (c / 64) ∷ next c ∷ []) ≡ (224 + c / 4096) ∷ next (c / 64) ∷ next c ∷ [] =
-      (λ i. high (224 + c / 4096) (omega arith) i ∷ high (next (c / 64)) (omega arith) i ∷ high (next c) (omega arith) i ∷ []) in
-      let four : map f ((240 + c / 262144) ∷ next (c / 4096) ∷ next (c / 64) ∷ next c ∷ []) ≡ (240 + c / 262144) ∷ next (c / 4096) ∷ next (c / 64) ∷ next c ∷ [] =
-      (λ i. high (240 + c / 262144) (omega arith) i ∷ high (next (c / 4096)) (omega arith) i ∷ high (next (c / 64)) (omega arith) i ∷ high (next c) (omega arith) i ∷ []) in
+      let three : map f ((224 + c / 4096) ∷ next (c / 64) ∷ next c ∷ [])
+      ≡ (224 + c / 4096) ∷ next (c / 64) ∷ next c ∷ [] =
+      (λ i. high (224 + c / 4096) (omega arith) i ∷ high (next (c / 64)) (omega arith) i ∷ high (next c) (omega arith)
+      i ∷ []) in
+      let four : map f ((240 + c / 262144) ∷ next (c / 4096) ∷ next (c / 64) ∷ next c ∷ [])
+      ≡ (240 + c / 262144) ∷ next (c / 4096) ∷ next (c / 64) ∷ next c ∷ [] =
+      (λ i. high (240 + c / 262144) (omega arith) i ∷ high (next (c / 4096)) (omega arith) i ∷ high (next (c / 64))
+      (omega arith) i ∷ high (next c) (omega arith) i ∷ []) in
       rw (le-ltb c 128 le) (same_of_three (ltb c 2048) (ltb c 65536) _ _ _ two three four)
 
   encode-changed : (c : ℕ) → map f (encode c) ≡ encode (f c)
@@ -41,7 +47,8 @@ module _ (f : ℕ → ℕ) (low : (b : ℕ) → b < 128 → f b < 128) (high : (
       (cases_lt c 128)
 
   scalar-changed : (c : ℕ) → scalar c ≡ true → scalar (f c) ≡ true
-  scalar-changed c e = ⊎_elim (λ h. let k = low c h in low_scalar (f c) (omega arith)) (λ h. ap scalar (high c h) ∙ e) (cases_lt c 128)
+  scalar-changed c e = ⊎_elim (λ h. let k = low c h in low_scalar (f c) (omega arith)) (λ h. ap scalar (high c h) ∙ e)
+      (cases_lt c 128)
 
   scalars-changed : (t : List ℕ) → scalars t ≡ true → scalars (map f t) ≡ true
   scalars-changed [] e = refl
@@ -51,7 +58,8 @@ module _ (f : ℕ → ℕ) (low : (b : ℕ) → b < 128 → f b < 128) (high : (
 
   encodes-changed : (t : List ℕ) → encodes (map f t) ≡ map f (encodes t)
   encodes-changed [] = refl
-  encodes-changed (c ∷ cs) = (λ i. sym (encode-changed c) i ++ encodes-changed cs i) ∙ sym (map-append f (encode c) (encodes cs))
+  encodes-changed (c ∷ cs) = (λ i. sym (encode-changed c) i ++ encodes-changed cs i)
+      ∙ sym (map-append f (encode c) (encodes cs))
 
   abbrev utf8-changed : (bytes : List ℕ) → IsUtf8 bytes → IsUtf8 (map f bytes)
   utf8-changed bytes u = (map f u.0, (scalars-changed u.0 u.1.0, encodes-changed u.0 ∙ ap (map f) u.1.1))
@@ -62,7 +70,8 @@ module _ (f : ℕ → ℕ) (low : (b : ℕ) → b < 128 → f b < 128) (high : (
       sym (chars_from_encodes v.0 (map f bytes) v v.1.1) ∙ ap (map f) (chars_from_encodes u.0 bytes u u.1.1 ∙ e)
 
   width-changed : (c : ℕ) → len_utf8 (f c) ≡ len_utf8 c
-  width-changed c = sym (length-encode (f c)) ∙ ap length (sym (encode-changed c)) ∙ length-map (encode c) f ∙ length-encode c
+  width-changed c = sym (length-encode (f c)) ∙ ap length (sym (encode-changed c)) ∙ length-map (encode c) f
+      ∙ length-encode c
 
   size-changed : (t : List ℕ) → size (map f t) ≡ size t
   size-changed [] = refl
@@ -79,7 +88,8 @@ module _ (f : ℕ → ℕ) (low : (b : ℕ) → b < 128 → f b < 128) (high : (
 
   boundary-changed : (t : List ℕ) (p : ℕ) → IsBoundary t p → IsBoundary (map f t) p
   boundary-changed t p h =
-      boundary-from_size (map f t) p (ap size (text_before-map t p) ∙ size-changed (text_before t p) ∙ size-text_before t p h)
+      boundary-from_size (map f t) p (ap size (text_before-map t p) ∙ size-changed (text_before t p)
+      ∙ size-text_before t p h)
 
 lowercase_high : (b : ℕ) → 128 ≤ b → to_ascii_lowercase b ≡ b
 lowercase_high b h = (lowercase_is b).2 (omega arith)
@@ -98,7 +108,8 @@ high Upper = uppercase_high
 pub utf8-in_case : (case : Case) (bytes : List ℕ) → IsUtf8 bytes → IsUtf8 (map (in_case case) bytes)
 utf8-in_case case bytes u = utf8-changed (in_case case) (ascii case) (high case) bytes u
 
-pub text_of-in_case : {t : List ℕ} (case : Case) (bytes : List ℕ) → text_of bytes ≡ t → IsUtf8 bytes → text_of (map (in_case case) bytes) ≡ text_in_case case t
+pub text_of-in_case : {t : List ℕ} (case : Case) (bytes : List ℕ) → text_of bytes ≡ t → IsUtf8 bytes
+    → text_of (map (in_case case) bytes) ≡ text_in_case case t
 text_of-in_case case bytes e u = text_of-changed (in_case case) (ascii case) (high case) bytes e u
 
 pub size-lowercase : (t : List ℕ) → size (ascii_lowercase t) ≡ size t

@@ -1,5 +1,6 @@
 -- Texts and their bytes.
-use Rattle.std.proofs.Common.{◌≡◌, ℕ, ◌+◌, ◌≤◌, List, [], ◌∷◌, ◌++◌, length, take, refl, ap, sym, ◌∙◌, arith, length-append, zero-add}
+use Rattle.std.proofs.Common.{◌≡◌, ℕ, ◌+◌, ◌≤◌, List, [], ◌∷◌, ◌++◌, length, take, refl, ap, sym, ◌∙◌, arith}
+use Rattle.std.proofs.Common.{length-append, zero-add}
 use Rattle.std.proofs.lemmas.List.{length-take-le, nil_from_length}
 use Rattle.std.proofs.lemmas.Str.{length-encode, encodes-chars, len_utf8_bounds, chars-nil}
 use Rattle.std.specs.Str.{IsUtf8}
@@ -20,7 +21,8 @@ pub size-append : (a b : List ℕ) → size (a ++ b) ≡ size a + size b
 size-append [] b = sym (zero-add (size b))
 size-append (c ∷ cs) b = omega (arith, size-append cs b)
 
-pub size-front : {t : List ℕ} (bytes : List ℕ) (n : ℕ) → text_of (take n bytes) ≡ t → IsUtf8 (take n bytes) → n ≤ length bytes → size t ≡ n
+pub size-front : {t : List ℕ} (bytes : List ℕ) (n : ℕ) → text_of (take n bytes) ≡ t → IsUtf8 (take n bytes)
+    → n ≤ length bytes → size t ≡ n
 size-front bytes n e u h = ap size (sym e) ∙ size-text_of (take n bytes) u ∙ length-take-le n bytes h
 
 pub empty_text : (t : List ℕ) → size t ≡ 0 → t ≡ []

@@ -1,12 +1,14 @@
 -- Arrays of 24 bytes as three words.
-use Rattle.std.proofs.Common.{◌≡◌, ℕ, ◌+◌, ◌-◌, ◌≤◌, List, ◌++◌, length, take, drop, refl, ap, sym, ◌∙◌, arith, append_assoc}
+use Rattle.std.proofs.Common.{◌≡◌, ℕ, ◌+◌, ◌-◌, ◌≤◌, List, ◌++◌, length, take, drop, refl, ap, sym, ◌∙◌, arith}
+use Rattle.std.proofs.Common.{append_assoc}
 use Rattle.std.specs.Prelude.{replicate}
 use Rattle.std.proofs.lemmas.List.{length-drop, take-append-drop, take_all, drop-drop, replicate-append-replicate}
 use Rattle.compact_text.specs.WordBytes.{le_number, word_bytes}
-use Rattle.compact_text.proofs.Numbers.{AllBytes, AllBytes-drop, word_bytes-number_short}
+use Rattle.compact_text.proofs.ByteNumbers.{AllBytes, AllBytes-drop, word_bytes-number_short}
 
 -- the words of an array
-pub array_is_three : (xs x y z : List ℕ) → length xs ≡ 24 → x ≡ take 8 xs → y ≡ take 8 (drop 8 xs) → z ≡ take 8 (drop 16 xs) → x ++ y ++ z ≡ xs
+pub array_is_three : (xs x y z : List ℕ) → length xs ≡ 24 → x ≡ take 8 xs → y ≡ take 8 (drop 8 xs)
+    → z ≡ take 8 (drop 16 xs) → x ++ y ++ z ≡ xs
 array_is_three xs x y z long first second third =
     let last : take 8 (drop 16 xs) ≡ drop 16 xs = take_all 8 (drop 16 xs) (omega (arith, length-drop 16 xs)) in
     let whole : take 8 xs ++ (take 8 (drop 8 xs) ++ drop 16 xs) ≡ xs =
@@ -31,7 +33,8 @@ joined xs rest at n =
 
 more_zeros : (xs : List ℕ) (m n k : ℕ) → m + n ≡ k → xs ++ zeros m ++ zeros n ≡ xs ++ zeros k
 more_zeros xs m n k sum =
-    append_assoc xs (zeros m) (zeros n) ∙ ap (λ (ys : List ℕ). xs ++ ys) (replicate-append-replicate m n 0 ∙ ap zeros sum)
+    append_assoc xs (zeros m) (zeros n) ∙ ap (λ (ys : List ℕ). xs ++ ys)
+    (replicate-append-replicate m n 0 ∙ ap zeros sum)
 
 pub array_of_three : (xs : List ℕ) → AllBytes xs → 16 ≤ length xs → length xs ≤ 24
     → take 8 xs ++ take 8 (drop 8 xs) ++ word_bytes (le_number (drop 16 xs)) ≡ xs ++ replicate (24 - length xs) 0
@@ -40,7 +43,8 @@ array_of_three xs all held most =
     let long : length rest ≡ length xs - 16 = length-drop 16 xs in
     let gap : ℕ = 8 - length rest in
     let same : gap ≡ 24 - length xs = omega arith in
-    ap (λ (ys : List ℕ). take 8 xs ++ take 8 (drop 8 xs) ++ ys) (word_bytes-number_short rest (AllBytes-drop 16 xs all) (omega arith))
+    ap (λ (ys : List ℕ). take 8 xs ++ take 8 (drop 8 xs) ++ ys)
+    (word_bytes-number_short rest (AllBytes-drop 16 xs all) (omega arith))
     ∙ append_assoc (take 8 xs) (take 8 (drop 8 xs)) (rest ++ zeros gap)
     ∙ ap (λ (ys : List ℕ). take 8 xs ++ ys) (joined xs (zeros gap) 8 8)
     ∙ joined xs (zeros gap) 0 8
@@ -53,7 +57,8 @@ array_of_two xs all held most =
     let long : length rest ≡ length xs - 8 = length-drop 8 xs in
     let gap : ℕ = 8 - length rest in
     let same : gap + 8 ≡ 24 - length xs = omega arith in
-    ap (λ (ys : List ℕ). take 8 xs ++ ys ++ word_bytes 0) (word_bytes-number_short rest (AllBytes-drop 8 xs all) (omega arith))
+    ap (λ (ys : List ℕ). take 8 xs ++ ys ++ word_bytes 0) (word_bytes-number_short rest (AllBytes-drop 8 xs all)
+    (omega arith))
     ∙ ap (λ (ys : List ℕ). take 8 xs ++ (rest ++ zeros gap) ++ ys) zero_word
     ∙ ap (λ (ys : List ℕ). ys ++ zeros 8) (joined xs (zeros gap) 0 8)
     ∙ more_zeros xs gap 8 (24 - length xs) same

@@ -20,7 +20,7 @@ abbrev pub text_after : List ℕ → ℕ → List ℕ
 text_after [] p = []
 text_after (c ∷ cs) p = if nat_le (len_utf8 c) p then text_after cs (p - len_utf8 c) else c ∷ cs
 
--- the same as a test: what is before p has p bytes
+-- tests whether p is a boundary
 abbrev pub is_boundary : List ℕ → ℕ → Bool
 is_boundary t p = nat_eq (size (text_before t p)) p
 
@@ -36,7 +36,8 @@ substring t start end = text_before (text_after t start) (end - start)
 -- bytes
 abbrev pub CutIsBeforeAndAfter : Type 0
 CutIsBeforeAndAfter =
-    (t : List ℕ) (p : ℕ) (a b : List ℕ) → (IsCut t p a b ↔ ((a ≡ text_before t p) × (b ≡ text_after t p) × (size (text_before t p) ≡ p)))
+    (t : List ℕ) (p : ℕ) (a b : List ℕ) → (IsCut t p a b ↔ ((a ≡ text_before t p) × (b ≡ text_after t p)
+    × (size (text_before t p) ≡ p)))
 
 -- the character of t at p is c
 pub record IsCharAt (t : List ℕ) (p c : ℕ) : Type 0 where

@@ -7,7 +7,8 @@ use Rattle.std.specs.Fn.{Called, Mut}
 -- std's `IsFiltered`, with the final state g of the test, called once for each element
 abbrev pub IsFilteredTo : {F X : Type 0} → (F → X → Bool → F → Type 0) → F → List X → List X → F → Type 0
 IsFilteredTo calls f xs ys g =
-    (answers : List Bool) × (length answers ≡ length xs) × ReturnsInTurn calls f answers xs g × (ys ≡ items_where_true answers xs)
+    (flags : List Bool) × (length flags ≡ length xs) × ReturnsInTurn calls f flags xs g
+    × (ys ≡ items_where_true flags xs)
 
 -- u is t filtered by the test, which is called once for each character, in order, from state f to g
 abbrev pub RetainsCharsTo : {F : Type 0} → Mut F (ℕ × Unit {0}) Bool → F → List ℕ → List ℕ → F → Type 0

@@ -1,19 +1,19 @@
-//! Edits of byte slices, in few wide reads and writes.
-ghost use Rattle.std.specs.Prelude.{◌≡◌, ◌+◌, ◌-◌, ◌≤◌, [], ◌++◌, length, take, drop, None, IfSome};
+//! Editing byte slices by whole-word loads and stores.
+ghost use Rattle.std.specs.Prelude.{◌≡◌, ◌+◌, ◌-◌, ◌≤◌, [], ◌++◌, length, take, drop, None, IfSome, replicate};
 ghost use Rattle.std.specs.Char.{len_utf8, encode_utf8};
 ghost use Rattle.std.specs.List.{replace_range};
 ghost use lib.Seq.{paste};
 
-mod bytewise;
-mod chunks;
-mod filter;
+mod ascii_case;
 mod moves;
+mod retain_chars;
+mod simd;
 
 use crate::str_parts::encoded;
-pub use bytewise::{Case, convert_case, fill_zero};
-use chunks::{chunk, set_chunk};
-pub use filter::retain;
-use moves::{move_up, shift, shift_short};
+pub use ascii_case::{Case, convert_case};
+use moves::{move_bytes, move_short, move_up};
+pub use retain_chars::retain;
+use simd::{load, store};
 
 /// Replaces the bytes from `start` to `end` of the first `len` bytes with `source`. Moves the tail once.
 #[inline]
@@ -25,7 +25,7 @@ pub fn splice(slice: &mut [u8], len: usize, start: usize, end: usize, source: &[
     ensures { take (len - (end - start) + length source.now) slice.new
         ≡ replace_range (take len slice.old) start end source.now }
 {
-    shift(slice, end, start + source.len(), len - end);
+    move_bytes(slice, end, start + source.len(), len - end);
     write(slice, start, source);
 }
 
@@ -41,7 +41,7 @@ pub fn splice_short(slice: &mut [u8], len: usize, start: usize, end: usize, sour
     ensures { take (len - (end - start) + length source.now) slice.new
         ≡ replace_range (take len slice.old) start end source.now }
 {
-    shift_short(slice, end, start + source.len(), len - end);
+    move_short(slice, end, start + source.len(), len - end);
     write_short(slice, start, source);
 }
 
@@ -67,7 +67,7 @@ pub fn remove_range(slice: &mut [u8], len: usize, start: usize, end: usize)
     ensures { take (len - (end - start)) slice.new
         ≡ replace_range (take len slice.old) start end [] }
 {
-    shift(slice, end, start, len - end);
+    move_bytes(slice, end, start, len - end);
 }
 
 /// `remove_range` of at most 32 bytes, without a loop or a call.
@@ -80,7 +80,7 @@ pub fn remove_range_short(slice: &mut [u8], len: usize, start: usize, end: usize
     ensures { take (len - (end - start)) slice.new
         ≡ replace_range (take len slice.old) start end [] }
 {
-    shift_short(slice, end, start, len - end);
+    move_short(slice, end, start, len - end);
 }
 
 /// Writes a character at `at` if four bytes are free there, or one if it is ASCII. Returns its end, or `None` if they are
@@ -106,7 +106,7 @@ pub fn try_write_char(slice: &mut [u8], at: usize, character: char) -> Option<us
     Some(at + len)
 }
 
-/// Replaces four bytes by one write.
+/// Replaces four bytes.
 #[inline(always)]
 fn set_four(slice: &mut [u8], bytes: [u8; 4])
     requires { length slice.old ≡ 4 }
@@ -147,15 +147,15 @@ pub fn write_short(slice: &mut [u8], at: usize, source: &[u8])
 {
     let count = source.len();
     if count > 16 {
-        write_ends::<16>(slice, at, source);
+        write_overlapping::<16>(slice, at, source);
     } else if count >= 8 {
-        write_ends::<8>(slice, at, source);
+        write_overlapping::<8>(slice, at, source);
     } else if count >= 4 {
-        write_ends::<4>(slice, at, source);
+        write_overlapping::<4>(slice, at, source);
     } else if count >= 2 {
-        write_ends::<2>(slice, at, source);
+        write_overlapping::<2>(slice, at, source);
     } else if count == 1 {
-        write_ends::<1>(slice, at, source);
+        write_overlapping::<1>(slice, at, source);
     }
 }
 
@@ -166,10 +166,10 @@ pub fn write_padded(slice: &mut [u8], at: usize, source: &[u8; 16], count: usize
     requires target { at + 16 ≤ length slice.old }
     ensures { take (at + count) slice.new ≡ take at slice.old ++ take count source.now }
 {
-    set_chunk(slice, at, chunk::<16>(source, 0));
+    store(slice, at, load::<16>(source, 0));
 }
 
-/// `write` by one copy. Not inlined, so that a short write can be.
+/// `write` by one copy. Not inlined, so that `write` can be.
 #[inline(never)]
 fn write_long(slice: &mut [u8], at: usize, source: &[u8])
     requires { at + length source.now ≤ length slice.old }
@@ -180,15 +180,23 @@ fn write_long(slice: &mut [u8], at: usize, source: &[u8])
 
 /// Writes `source`, which has `N` to `2 * N` bytes, as its first `N` and its last `N`.
 #[inline(always)]
-fn write_ends<const N: usize>(slice: &mut [u8], at: usize, source: &[u8])
+fn write_overlapping<const N: usize>(slice: &mut [u8], at: usize, source: &[u8])
     requires least { N ≤ length source.now }
     requires most { length source.now ≤ N + N }
     requires target { at + length source.now ≤ length slice.old }
     ensures { slice.new ≡ paste slice.old at source.now (length source.now) }
 {
     let count = source.len();
-    let first = chunk::<N>(source, 0);
-    let last = chunk::<N>(source, count - N);
-    set_chunk(slice, at, first);
-    set_chunk(slice, at + (count - N), last);
+    let first = load::<N>(source, 0);
+    let last = load::<N>(source, count - N);
+    store(slice, at, first);
+    store(slice, at + (count - N), last);
+}
+
+/// Fills the slice with zeros.
+#[inline]
+pub fn fill_zero(slice: &mut [u8])
+    ensures { slice.new ≡ replicate (length slice.old) 0 }
+{
+    slice.fill(0);
 }

@@ -100,8 +100,7 @@ pub fn encoded(character: char) -> ([u8; 4], usize)
     (word.to_le_bytes(), len)
 }
 
-/// The same with the bytes as a word, so that they are stored by one write: a word that is read after its bytes were
-/// written one by one waits for them.
+/// The same, with the bytes as a word.
 #[inline(always)]
 fn encoded_word(character: char) -> (u32, usize)
     ensures bytes { take result.1 (to_le_bytes w32 result.0) ≡ encode_utf8 character }

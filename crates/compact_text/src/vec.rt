@@ -1,6 +1,6 @@
 //! Appends within a vector's reserved capacity.
 //!
-//! A loop through a reference would reload the vector for each byte, so the vector is moved out first.
+//! The loops move the vector out of its reference first.
 ghost use Rattle.std.specs.Prelude.{◌≡◌, ◌+◌, ◌-◌, ◌<◌, ◌≤◌, ◌++◌, length, take, drop, replicate, IsTrue, false};
 ghost use Rattle.std.specs.Char.{len_utf8, encode_utf8};
 ghost use Rattle.std.specs.List.{replace_range};
@@ -18,7 +18,7 @@ const LONG_BLOCK: usize = 128;
 
 /// Appends `source`. A short one is appended inline, without a loop or a call.
 #[inline(always)]
-pub fn append_all(bytes: &mut Vec<u8>, source: &[u8])
+pub fn append_slice(bytes: &mut Vec<u8>, source: &[u8])
     requires { vec_len bytes.old + length source.now ≤ vec_capacity bytes.old }
     ensures items { bytes.new.items ≡ bytes.old.items ++ source.now }
     ensures capacity { vec_capacity bytes.new ≡ vec_capacity bytes.old }
@@ -54,7 +54,7 @@ pub fn try_append_char(bytes: &mut Vec<u8>, character: char) -> bool
     true
 }
 
-/// Appends the first `count` of four bytes, by one write.
+/// Appends the first `count` of four bytes.
 #[inline(always)]
 fn append_front(bytes: &mut Vec<u8>, piece: [u8; 4], count: usize)
     requires most { count ≤ 4 }
@@ -66,7 +66,7 @@ fn append_front(bytes: &mut Vec<u8>, piece: [u8; 4], count: usize)
     let len = vec.len();
     append_array::<4>(&mut vec, piece);
     vec.truncate(len + count);
-    put_back(bytes, vec);
+    restore_vec(bytes, vec);
 }
 
 /// Appends at most 32 bytes.
@@ -79,13 +79,13 @@ fn append_short(bytes: &mut Vec<u8>, source: &[u8])
 {
     let count = source.len();
     if count > 16 {
-        append_ends::<16>(bytes, source);
+        append_overlapping::<16>(bytes, source);
     } else if count >= 8 {
-        append_ends::<8>(bytes, source);
+        append_overlapping::<8>(bytes, source);
     } else if count >= 4 {
-        append_ends::<4>(bytes, source);
+        append_overlapping::<4>(bytes, source);
     } else if count >= 2 {
-        append_ends::<2>(bytes, source);
+        append_overlapping::<2>(bytes, source);
     } else if count == 1 {
         bytes.push_reserved(source[0]);
     }
@@ -93,7 +93,7 @@ fn append_short(bytes: &mut Vec<u8>, source: &[u8])
 
 /// Appends `source` to a vector that is local to the caller.
 #[inline(always)]
-pub fn append_first(vec: &mut Vec<u8>, source: &[u8])
+pub fn append_to_local(vec: &mut Vec<u8>, source: &[u8])
     requires { vec_len vec.old + length source.now ≤ vec_capacity vec.old }
     ensures items { vec.new.items ≡ vec.old.items ++ source.now }
     ensures capacity { vec_capacity vec.new ≡ vec_capacity vec.old }
@@ -101,7 +101,7 @@ pub fn append_first(vec: &mut Vec<u8>, source: &[u8])
     if source.len() <= BLOCK {
         append_short(vec, source);
     } else {
-        append_many(vec, source);
+        append_blocks(vec, source);
     }
 }
 
@@ -114,14 +114,14 @@ fn append_long(bytes: &mut Vec<u8>, source: &[u8])
     ensures capacity { vec_capacity bytes.new ≡ vec_capacity bytes.old }
 {
     let mut vec = take_vec(bytes);
-    append_many(&mut vec, source);
-    put_back(bytes, vec);
+    append_blocks(&mut vec, source);
+    restore_vec(bytes, vec);
 }
 
-/// Appends more than 32 bytes: up to 256 as both ends, with the middle if they leave one, so that no loop has an
-/// unpredictable end; more in long blocks, of which the last overlaps the one before.
+/// Appends more than 32 bytes: up to 256 as both ends, with the middle if they leave one; more in long blocks, of which
+/// the last overlaps the one before.
 #[inline(always)]
-fn append_many(vec: &mut Vec<u8>, source: &[u8])
+fn append_blocks(vec: &mut Vec<u8>, source: &[u8])
     requires long { 32 < length source.now }
     requires room { vec_len vec.old + length source.now ≤ vec_capacity vec.old }
     ensures items { vec.new.items ≡ vec.old.items ++ source.now }
@@ -129,13 +129,13 @@ fn append_many(vec: &mut Vec<u8>, source: &[u8])
 {
     let count = source.len();
     if count <= 64 {
-        append_ends::<32>(vec, source);
+        append_overlapping::<32>(vec, source);
     } else if count <= 128 {
-        append_ends::<64>(vec, source);
+        append_overlapping::<64>(vec, source);
     } else if count <= 192 {
         append_up_to_192(vec, source);
     } else if count <= 256 {
-        append_ends::<128>(vec, source);
+        append_overlapping::<128>(vec, source);
     } else {
         let len = vec.len();
         for i in 0..(count - 1) / LONG_BLOCK {
@@ -198,7 +198,7 @@ fn insert_part<const N: usize>(bytes: &mut Vec<u8>, index: usize, source: &[u8])
     // Only lengthens the vector; the values are overwritten.
     append_array::<N>(&mut vec, array_at::<N>(source, 0));
     slices::insert_part::<N>(vec.as_mut_slice(), len, index, source);
-    put_back(bytes, vec);
+    restore_vec(bytes, vec);
 }
 
 /// Appends zeros up to a length of `len` bytes: one block if that is enough and has room, otherwise one by one.
@@ -215,7 +215,7 @@ pub fn append_zeros(bytes: &mut Vec<u8>, len: usize)
         let mut vec = take_vec(bytes);
         append_array::<BLOCK>(&mut vec, [0; BLOCK]);
         vec.truncate(len);
-        put_back(bytes, vec);
+        restore_vec(bytes, vec);
     } else {
         append_zeros_each(bytes, len);
     }
@@ -235,7 +235,7 @@ pub fn append_zeros_each(bytes: &mut Vec<u8>, len: usize)
     for _ in vec.len()..len {
         vec.push_reserved(0);
     }
-    put_back(bytes, vec);
+    restore_vec(bytes, vec);
 }
 
 /// Appends a part of the vector to its end.
@@ -252,11 +252,10 @@ pub fn append_within(bytes: &mut Vec<u8>, start: usize, end: usize)
     bytes.as_mut_slice().copy_within(start..end, len);
 }
 
-/// Appends `source`, which has `N` to `2 * N` bytes, as its first `N` and its last `N`, cutting off what both have.
-/// Reads each right before appending it, so that it needs no stack slot.
+/// Appends `source`, which has `N` to `2 * N` bytes, as its first `N` and its last `N`, without the overlap twice.
 #[inline(always)]
 #[tactic(auto, using(crate::proofs::Appends::joined_ends))]
-fn append_ends<const N: usize>(bytes: &mut Vec<u8>, source: &[u8])
+fn append_overlapping<const N: usize>(bytes: &mut Vec<u8>, source: &[u8])
     requires least { N ≤ length source.now }
     requires most { length source.now ≤ N + N }
     requires room { vec_len bytes.old + length source.now ≤ vec_capacity bytes.old }
@@ -269,7 +268,7 @@ fn append_ends<const N: usize>(bytes: &mut Vec<u8>, source: &[u8])
     append_array::<N>(&mut vec, array_at::<N>(source, 0));
     vec.truncate(len + rest);
     append_array::<N>(&mut vec, array_at::<N>(source, rest));
-    put_back(bytes, vec);
+    restore_vec(bytes, vec);
 }
 
 /// Appends 128 to 192 bytes as the first 64, the next 64 and the last 64.
@@ -289,7 +288,7 @@ fn append_up_to_192(vec: &mut Vec<u8>, source: &[u8])
     append_array::<64>(vec, array_at::<64>(source, last));
 }
 
-/// Appends `piece`. The compiler makes one write of it.
+/// Appends `piece`.
 #[inline(always)]
 fn append_array<const N: usize>(vec: &mut Vec<u8>, piece: [u8; N])
     requires { vec_len vec.old + N ≤ vec_capacity vec.old }
@@ -314,7 +313,7 @@ fn array_at<const N: usize>(source: &[u8], at: usize) -> [u8; N]
     }
 }
 
-/// Moves the vector out; `put_back` returns it.
+/// Moves the vector out; `restore_vec` returns it.
 #[inline(always)]
 fn take_vec(bytes: &mut Vec<u8>) -> Vec<u8>
     ensures value { result ≡ bytes.old }
@@ -326,7 +325,7 @@ fn take_vec(bytes: &mut Vec<u8>) -> Vec<u8>
 
 /// Moves the vector back. The one it replaces has no buffer to free.
 #[inline(always)]
-fn put_back(bytes: &mut Vec<u8>, vec: Vec<u8>)
+fn restore_vec(bytes: &mut Vec<u8>, vec: Vec<u8>)
     requires { vec_capacity bytes.old ≡ 0 }
     ensures { bytes.new ≡ vec }
 {

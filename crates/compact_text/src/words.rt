@@ -18,7 +18,7 @@ pub fn load8(bytes: &[u8], at: usize) -> u64
     }
 }
 
-/// Returns `true` if two arrays are equal: compares three words, branch-free.
+/// Returns `true` if two arrays are equal. Compares three words.
 #[inline(always)]
 pub fn same_array(array: &[u8; 24], other: &[u8; 24]) -> bool
     ensures same { IsTrue result → array.now ≡ other.now }
@@ -90,7 +90,7 @@ fn without_bytes(word: u64, count: usize) -> u64
 }
 
 /// Returns the second eight bytes of a text, or the fewer that follow the first eight. Reads the last eight of at most
-/// 16 bytes, and shifts out those before the eighth.
+/// 16 bytes, and move_facts out those before the eighth.
 #[inline(always)]
 pub fn second_word(text: &[u8]) -> u64
     requires { 8 ≤ length text.now }
@@ -131,7 +131,7 @@ pub fn load_up_to_8(text: &[u8]) -> u64
     }
 }
 
-/// Returns the last byte. Reads its whole word, so that it is available as soon as the word is.
+/// Returns the last byte, by its word.
 #[inline(always)]
 pub fn last_byte(array: &[u8; 24]) -> usize
     ensures { result ≡ slice_index array.now 23 }

@@ -9,7 +9,8 @@ pub word_count-bound : (tokens : List Token) (i n : ℕ) → word_count (take i 
 word_count-bound tokens i n = omega (arith, count_by-le-length (is_word n) (take i tokens), length-take i tokens)
 
 pub word_count-more : (tokens : List Token) (i n : ℕ) (d : Token) → i < length tokens
-    → word_count (take (i + 1) tokens) n ≡ word_count (take i tokens) n + (if is_word n (slice_index_or tokens i d) then 1 else 0)
+    → word_count (take (i + 1) tokens) n ≡ word_count (take i tokens) n
+    + (if is_word n (slice_index_or tokens i d) then 1 else 0)
 word_count-more tokens i n d within = sum_by_more (λ t. if is_word n t then 1 else 0) tokens i d within
 
 pub ruleset count_facts = (word_count-bound, word_count-more)

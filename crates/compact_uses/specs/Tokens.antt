@@ -65,7 +65,8 @@ pub record IsTokenized (before names : List (List ℕ)) (tokens : List Token) (r
 
 -- the names are those before, and the texts of the first tokens of the text
 abbrev pub IsPartlyTokenized : List (List ℕ) → List (List ℕ) → List ℕ → Type 0
-IsPartlyTokenized before names text = (tokens : List Token) × (rest : List ℕ) × IsTokenized before names tokens rest text
+IsPartlyTokenized before names text = (tokens : List Token) × (rest : List ℕ)
+    × IsTokenized before names tokens rest text
 
 -- the error of a failed tokenization: allocation failed, or no number is left
 abbrev pub IsTokenRefusal : List (List ℕ) → InternError → Type 0

@@ -1,4 +1,4 @@
-//! Small programs to copy, each with what it does as a theorem.
+//! Example programs, each with a proved specification.
 #![tactic(auto, using(compact_str::proofs::ForCallers::caller_facts))]
 
 mod entries;

@@ -31,7 +31,7 @@ pub struct Token {
 /// Cuts a text into tokens. Joined, their texts are the text. None is empty, and each has characters of its kind only.
 /// Each is as long as possible: no token continues the one before it. A mark is one character.
 ///
-/// Appends the new texts to the names, by first occurrence, and at most as many as the text has characters. Names keep
+/// Appends the new texts to the names, by first occurrence, and at most one for each character of the text. Names keep
 /// their numbers.
 ///
 /// # Errors
@@ -69,7 +69,7 @@ pub fn tokenize(
     let _distinct = names.len();
     let mut tokens = Vec::new(alloc);
     let mut rest = text.as_str();
-    while let Some(piece) = first_piece(rest) {
+    while let Some(piece) = next_piece(rest) {
         if tokens.reserve(1).is_err() {
             return Err(InternError::Reserve(ReserveError));
         }
@@ -92,7 +92,7 @@ struct Piece<'a> {
 }
 
 /// Cuts off the first piece, or returns `None` if the text is empty.
-fn first_piece(text: &str) -> Option<Piece<'_>>
+fn next_piece(text: &str) -> Option<Piece<'_>>
     ensures first { MatchOption result (text_of text.now ≡ []) (λ piece. IsFirstPiece piece.kind
         (text_of piece.text.now) (text_of piece.rest.now) (text_of text.now)) }
     ensures shorter { IfSome result (λ piece.
@@ -100,19 +100,19 @@ fn first_piece(text: &str) -> Option<Piece<'_>>
 {
     let (first, others) = first_character(text)?;
     let kind = kind_of(first);
-    let rest = rest_of(kind, others);
+    let rest = skip_kind(kind, others);
     let (text, _) = text.split_at(text.len() - rest.len());
     Some(Piece { kind, text, rest })
 }
 
 /// Returns the text without the characters at its start that continue a piece of this kind.
-fn rest_of(kind: Kind, text: &str) -> &str
+fn skip_kind(kind: Kind, text: &str) -> &str
     ensures more { Continues kind (text_of text.now) (text_of result.now) }
     ensures apart { BeginsApart kind (text_of result.now) }
 {
     let mut rest = text;
     while let Some((character, others)) = first_character(rest) {
-        if !goes_on(kind, kind_of(character)) {
+        if !continues_piece(kind, kind_of(character)) {
             return rest;
         }
         rest = others;
@@ -149,7 +149,7 @@ fn kind_of(character: char) -> Kind
 
 /// Returns `true` if a character of the kind `next` continues a piece of the kind `kind`.
 #[inline]
-fn goes_on(kind: Kind, next: Kind) -> bool
+fn continues_piece(kind: Kind, next: Kind) -> bool
     ensures { MatchBool result ((next ≡ kind) × (kind ≢ Mark)) (next ≡ kind → kind ≡ Mark) }
 {
     kind == next && kind != Kind::Mark

@@ -21,7 +21,7 @@ fn is_entry(entry: Option<&Entry>, count: usize, name: u32) -> bool {
 
 // Words with the numbers 0, 1, 1 and 3, and a mark with number 2, which is no word.
 #[test]
-fn the_most_frequent_word_stands_first(rt: HostRuntime) {
+fn the_most_frequent_word_comes_first(rt: HostRuntime) {
     let rt = &rt;
     let hyphen = Token {
         kind: Kind::Mark,

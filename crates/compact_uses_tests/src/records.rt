@@ -2,8 +2,8 @@
 
 use crate::asserts::{assert_equal, assert_that};
 use compact_str::CompactString;
-use compact_testing::pieces::{Pieces, Stop};
-use compact_testing::seen::are_texts;
+use compact_testing::checks::are_texts;
+use compact_testing::stopping_io::{Pieces, Stop};
 use compact_uses::{aligned_rows, read_records};
 use csv::{Error, ErrorKind};
 use std::alloc::Global;

@@ -33,11 +33,15 @@ fn main(rt: HostRuntime) -> ExitCode {
 fn count_visits<R: Read, W: Write>(alloc: Global, reader: &mut R, writer: &mut W) -> Result<bool> {
     let mut reader = BufReader::new(alloc, reader)?;
     let mut writer = BufWriter::new(alloc, writer)?;
-    answer(alloc, &mut reader, &mut writer)
+    count_and_report(alloc, &mut reader, &mut writer)
 }
 
 /// Counts the visits of lines, and writes the sources. Returns `true` if each line is a visit.
-fn answer<B: BufRead, W: Write>(alloc: Global, reader: &mut B, writer: &mut W) -> Result<bool> {
+fn count_and_report<B: BufRead, W: Write>(
+    alloc: Global,
+    reader: &mut B,
+    writer: &mut W,
+) -> Result<bool> {
     let mut sources = Sources::new(alloc);
     let all_counted = count_lines(alloc, &mut sources, reader, writer)?;
     write_sources(alloc, writer, sources)?;

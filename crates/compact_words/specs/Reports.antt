@@ -1,5 +1,6 @@
 -- The report of the most frequent words of a text.
-use Rattle.std.specs.Prelude.{◌≡◌, ◌≤◌, ℕ, List, [], ◌∷◌, ◌++◌, decimal, Option, flat_map, length, map, slice_get, take, ⊤}
+use Rattle.std.specs.Prelude.{◌≡◌, ◌≤◌, ℕ, List, [], ◌∷◌, ◌++◌, decimal, Option, flat_map, length, map, slice_get, take}
+use Rattle.std.specs.Prelude.{⊤}
 use Rattle.std.specs.Global.{Vec}
 use Rattle.std.specs.Option.{unwrap_or}
 use Rattle.std.specs.Io.KnownBytes.{Appends}
@@ -34,7 +35,7 @@ pub record IsReport (text : List ℕ) (most : ℕ) (lines : List (List ℕ)) : T
   pub fields : map (λ fields. map text_in fields.items) table ≡ map (entry_fields names) (take most ranks)
   pub rows : lines ≡ map (λ fields. row_text (widths_of table) fields.items) table
 
--- why a text has no report: a failed allocation, or so many characters that its tokens may outnumber the numbers
+-- why a text has no report: a failed allocation, or so long a text that its tokens may outnumber the numbers
 abbrev pub IsReportRefusal : List ℕ → InternError → Type 0
 IsReportRefusal text (Reserve error) = ⊤
 IsReportRefusal text Full = MAX_COUNT ≤ length text

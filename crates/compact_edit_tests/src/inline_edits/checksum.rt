@@ -45,7 +45,7 @@ impl Checksum {
     }
 
     /// Mixes in all 24 bytes of a text.
-    pub fn add_row(&mut self, text: &CompactString) {
+    pub fn add_value(&mut self, text: &CompactString) {
         if let Some(row) = text.packed() {
             self.add_bytes(&row);
         }

@@ -31,7 +31,7 @@ const PIECES: [&str; 16] = [
 ];
 
 /// Draws which characters `retain` keeps.
-fn answers(random: &mut Random) -> &'static [bool] {
+fn flags(random: &mut Random) -> &'static [bool] {
     match random.below(4) {
         0 => &[],
         1 => &[false],
@@ -81,7 +81,7 @@ fn edit_of(drawn: u64, random: &mut Random, len: usize) -> Edit<'static, Standar
         14 => Edit::Truncate(place(random, len)),
         15 => Edit::SplitOff(place(random, len)),
         16 => Edit::Pop,
-        17 => Edit::Retain(answers(random)),
+        17 => Edit::Retain(flags(random)),
         _ => rare_edit(random, len),
     }
 }
@@ -99,7 +99,7 @@ fn rare_edit(random: &mut Random, len: usize) -> Edit<'static, Standard> {
     }
 }
 
-/// Returns the greatest length that an edit can give.
+/// Returns the greatest length that an edit can lead to.
 fn len_after(edit: &Edit<Standard>, len: usize) -> usize {
     match edit {
         Edit::Push(character) | Edit::Insert(_, character) => {

@@ -70,7 +70,7 @@ impl Session {
         let mut replies = Vec::new(alloc);
         run(&mut self.value, &[edit], &mut replies)?;
         if is_wiped {
-            self.checksum.add_row(&self.value);
+            self.checksum.add_value(&self.value);
         }
         Ok(replies.pop())
     }

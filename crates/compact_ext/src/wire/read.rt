@@ -74,7 +74,7 @@ fn read_len<R: Read>(reader: &mut R) -> Result<u32, WireError>
         ReadFails (R.remaining reader.old) (R.remaining reader.new) e) }
 {
     let mut head = [0u8; 4];
-    fill(&mut head, reader)?;
+    read_full(&mut head, reader)?;
     Ok(number_of(head))
 }
 
@@ -103,7 +103,7 @@ fn read_short<R: Read>(
         TextFails (R.remaining reader.old) (R.remaining reader.new) len e) }
 {
     let mut room = [0u8; INLINE_CAPACITY];
-    fill(&mut room[..len], reader)?;
+    read_full(&mut room[..len], reader)?;
     packed(alloc, &mut room, len)
 }
 
@@ -118,7 +118,7 @@ fn packed(alloc: Global, room: &mut [u8; 24], len: usize) -> Result<CompactStrin
     ensures place { IfOk result (λ v. v.placement ≡ inline_placement) }
     ensures err { IfErr result (λ e. (e ≡ utf8_fault) × ¬ IsUtf8 (take len room.old)) }
 {
-    if !tell_len(room, len) {
+    if !write_len_byte(room, len) {
         return Err(WireError::Utf8);
     }
     match CompactString::from_packed(alloc, room) {
@@ -127,10 +127,9 @@ fn packed(alloc: Global, room: &mut [u8; 24], len: usize) -> Result<CompactStrin
     }
 }
 
-/// Writes the length into the last byte. 24 bytes need none; if they end in a byte that would be a length, which no
-/// text does, returns `false`.
+/// Writes the length into the last byte. Returns `false` if the 24th byte is above 191: that is not valid UTF-8.
 #[inline(always)]
-fn tell_len(room: &mut [u8; 24], len: usize) -> bool
+fn write_len_byte(room: &mut [u8; 24], len: usize) -> bool
     requires { len ≤ INLINE_CAPACITY }
     ensures written { OnTrue result (packed_len room.new ≡ len) }
     ensures front { OnTrue result (take len room.new ≡ take len room.old) }
@@ -144,7 +143,7 @@ fn tell_len(room: &mut [u8; 24], len: usize) -> bool
 }
 
 /// Reads a text of `len` bytes into the buffer that the string keeps.
-#[tactic(auto, using(crate::proofs::WireForms::made_texts))]
+#[tactic(auto, using(crate::proofs::WireLemmas::read_text_facts))]
 fn read_long<R: Read>(alloc: Global, len: usize, reader: &mut R) -> Result<CompactString, WireError>
     requires long { INLINE_CAPACITY < len }
     requires fits { len < 2 ^ 32 }
@@ -181,7 +180,7 @@ fn read_bytes<R: Read>(alloc: Global, len: usize, reader: &mut R) -> Result<Vec<
         if !make_room(&mut bytes, next_room(filled, len)) {
             return Err(WireError::Reserve(ReserveError));
         }
-        fill(&mut bytes[filled..], reader)?;
+        read_full(&mut bytes[filled..], reader)?;
     }
     Ok(bytes)
 }
@@ -214,7 +213,7 @@ fn make_room(bytes: &mut Vec<u8>, room: usize) -> bool
 
 /// Fills `buffer` from the reader.
 #[inline]
-fn fill<R: Read>(buffer: &mut [u8], reader: &mut R) -> Result<(), WireError>
+fn read_full<R: Read>(buffer: &mut [u8], reader: &mut R) -> Result<(), WireError>
     ensures consumed { OnOk result
         (Consumes (R.remaining reader.old) (R.remaining reader.new) buffer.new) }
     ensures len { length buffer.new ≡ length buffer.old }

@@ -104,7 +104,7 @@ impl<R: BufRead + Drop> Iterator for Records<R> {
     ghost remaining = { λ s. calls_to_come s };
 
     /// Reads the next string, or returns `None` at the end.
-    #[tactic(auto, using(crate::proofs::RecordLists::record_steps))]
+    #[tactic(auto, using(crate::proofs::WireRecordLemmas::record_facts))]
     fn next(&mut self) -> Option<Result<CompactString, WireError>> {
         if self.calls_left == 0 {
             return None;
@@ -118,7 +118,7 @@ impl<R: BufRead + Drop> Iterator for Records<R> {
 }
 
 /// Reads the next string, or returns `None` at the end.
-#[tactic(auto, using(crate::proofs::RecordLists::record_steps))]
+#[tactic(auto, using(crate::proofs::WireRecordLemmas::record_facts))]
 fn next_record<R: BufRead>(
     alloc: Global,
     reader: &mut R,
@@ -132,7 +132,7 @@ fn next_record<R: BufRead>(
     if bytes.is_empty() {
         return None;
     }
-    match shown_text(alloc, bytes) {
+    match valid_prefix(alloc, bytes) {
         Ok(Some(text)) => {
             reader.consume(HEAD + text.len());
             Some(Ok(text))
@@ -148,7 +148,7 @@ fn next_record<R: BufRead>(
 /// Returns the string whose form is a prefix of `bytes`, or `None` if there is no whole and valid one. Fails if
 /// allocation does, past 24 bytes.
 #[inline]
-fn shown_text(alloc: Global, bytes: &[u8]) -> Result<Option<CompactString>, ReserveError>
+fn valid_prefix(alloc: Global, bytes: &[u8]) -> Result<Option<CompactString>, ReserveError>
     ensures shown { IfOk result (λ found.
         MatchOption found (BeginsWithNoForm bytes.now) (BeginsWithForm bytes.now)) }
     ensures allocates { OnErr result
@@ -161,14 +161,14 @@ fn shown_text(alloc: Global, bytes: &[u8]) -> Result<Option<CompactString>, Rese
     if len > rest.len() || !is_utf8(&rest[..len]) {
         return Ok(None);
     }
-    let text = copy_of(alloc, &rest[..len])?;
+    let text = with_exact_capacity(alloc, &rest[..len])?;
     Ok(Some(text))
 }
 
 /// Copies valid UTF-8: inline up to 24 bytes, else on the heap with the exact capacity. Fails if allocation does.
 #[inline]
-#[tactic(auto, using(crate::proofs::WireForms::made_texts))]
-fn copy_of(alloc: Global, bytes: &[u8]) -> Result<CompactString, ReserveError>
+#[tactic(auto, using(crate::proofs::WireLemmas::read_text_facts))]
+fn with_exact_capacity(alloc: Global, bytes: &[u8]) -> Result<CompactString, ReserveError>
     requires { IsUtf8 bytes.now }
     ensures bytes { IfOk result (λ v. utf8 v.text ≡ bytes.now) }
     ensures text { IfOk result (λ v. IsText v.text) }

@@ -50,7 +50,7 @@ pub fn write_wire<W: Write>(text: &CompactString, writer: &mut W) -> Result<(), 
 
 /// Writes the length and then the text.
 #[inline]
-#[tactic(auto, using(crate::proofs::WireForms::fronts))]
+#[tactic(auto, using(crate::proofs::WireLemmas::front_facts))]
 fn write_form<W: Write>(head: &[u8; 4], bytes: &[u8], writer: &mut W) -> Result<(), WireError>
     ensures written { OnOk result
         (Appends (W.contents writer.old) (W.contents writer.new) (head.now ++ bytes.now)) }
@@ -62,7 +62,7 @@ fn write_form<W: Write>(head: &[u8; 4], bytes: &[u8], writer: &mut W) -> Result<
     write_each(bytes, writer)
 }
 
-/// Writes all bytes, by no call if there are none.
+/// Writes all bytes; makes no call if `bytes` is empty.
 #[inline]
 fn write_each<W: Write>(bytes: &[u8], writer: &mut W) -> Result<(), WireError>
     ensures written { OnOk result

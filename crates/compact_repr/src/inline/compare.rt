@@ -11,9 +11,8 @@ use std::cmp::Ordering;
 const EMPTY: u8 = 192;
 
 impl InlineBuffer {
-    /// Returns `true` if the texts are equal. Equal words are equal texts, and different last bytes are different
-    /// texts, since the last byte of a 24-byte text is not a length. Only the bytes between may differ for the same
-    /// text.
+    /// Returns `true` if the texts are equal. If all three words are equal, so are the texts; if the last bytes differ,
+    /// the texts do. Otherwise compares the texts, since padding is unspecified.
     #[inline]
     #[tactic(auto, using(crate::proofs::ByteOrder::order_facts))]
     pub fn same_text(&self, other: &Self) -> bool
@@ -27,7 +26,7 @@ impl InlineBuffer {
     }
 
     /// Compares the texts, by their first bytes alone if these differ and neither text is empty. Not inlined, so that
-    /// the comparison of the two bytes is not a branch.
+    /// no branch is made of the two bytes.
     #[inline(never)]
     #[tactic(auto, using(crate::proofs::ByteOrder::order_facts))]
     pub fn text_cmp(&self, other: &Self) -> Ordering

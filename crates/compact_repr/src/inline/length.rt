@@ -14,8 +14,7 @@ use compact_text::words::{
 /// The largest last byte of a packed text: after a text of 23 bytes.
 const MAX_LAST_BYTE: usize = 215;
 
-/// Returns `true` if the bytes pack a text. Decided by words if the first 23 bytes are ASCII, unless the last byte can
-/// only continue another character.
+/// Returns `true` if the bytes pack a text. Fast for ASCII; otherwise validates the bytes.
 #[inline(always)]
 pub fn is_packed(bytes: &[u8; 24]) -> bool
     ensures { IsTrue result ↔ IsPackedFor bytes.now (packed_text bytes.now) }
@@ -27,9 +26,9 @@ pub fn is_packed(bytes: &[u8; 24]) -> bool
     if first_23_are_ascii(bytes) && (last < 128 || last >= 192) {
         return true;
     }
-    // A copy, so that the caller's bytes can stay in registers.
+    // A copy, so that the caller's bytes need no address.
     let copy = *bytes;
-    match std::str::from_utf8(&copy[..length_of(&copy)]) {
+    match std::str::from_utf8(&copy[..decode_len(&copy)]) {
         Ok(_) => true,
         Err(_) => false,
     }
@@ -38,7 +37,7 @@ pub fn is_packed(bytes: &[u8; 24]) -> bool
 /// Returns the length that the last byte encodes. Branch-free. Reads one byte, as `write_len` writes it: a read of the
 /// whole word would wait for that write.
 #[inline(always)]
-pub fn length_of(bytes: &[u8; 24]) -> usize
+pub fn decode_len(bytes: &[u8; 24]) -> usize
     requires { packed_len bytes.now ≤ INLINE_CAPACITY }
     ensures { result ≡ packed_len bytes.now }
 {

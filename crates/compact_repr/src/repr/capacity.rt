@@ -105,7 +105,7 @@ impl<P: Policy> Repr<P> {
     }
 
     /// Shrinks the capacity to at least the length and `min_capacity`. On the heap this takes a new buffer; if it
-    /// cannot be allocated, nothing is changed.
+    /// cannot be allocated, the value is unchanged.
     pub fn shrink_to(&mut self, min_capacity: usize)
         ensures { Shrinks P.growth self.old min_capacity self.new }
     {

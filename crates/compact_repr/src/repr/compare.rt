@@ -35,8 +35,8 @@ impl<P: Policy> Repr<P> {
 
 /// Compares two texts by their bytes.
 ///
-/// Decides by the first bytes if they differ: the general comparison branches on the lengths, which is hard to predict
-/// for short texts. Not inlined: LLVM would turn the comparison of two bytes into such a branch.
+/// Compares by the first bytes if they differ, without a branch on the lengths. Not inlined, so that none is made of
+/// the two bytes.
 #[inline(never)]
 #[tactic(auto, using(crate::proofs::ByteOrder::order_facts))]
 fn byte_order(text: &str, other: &str) -> Ordering

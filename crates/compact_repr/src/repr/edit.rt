@@ -216,7 +216,7 @@ impl<P: Policy> Repr<P> {
         }
     }
 
-    /// Converts ASCII letters of an owned value to upper or lower case. Keeps the place and the capacity.
+    /// Converts ASCII characters of an owned value to upper or lower case. Keeps the place and the capacity.
     pub fn convert_case(&mut self, case: Case)
         requires { IsOwned self.old }
         ensures { self.new ≡ placed_text (text_in_case case self.old.text) self.old.placement }

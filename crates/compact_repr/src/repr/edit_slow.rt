@@ -16,7 +16,7 @@ impl<P: Policy> Repr<P> {
     /// Returns `AllocError` if a new buffer cannot be allocated.
     #[cold]
     #[inline(never)]
-    #[tactic(auto, using(crate::proofs::Placed::placed_facts))]
+    #[tactic(auto, using(crate::proofs::PlacementLemmas::placed_facts))]
     pub fn push_str_slow(&mut self, text: &str) -> Result<(), AllocError>
         requires { fits_in_place self.old (length text.now) ≡ false }
         ensures text { OnOk result (self.new.text ≡ self.old.text ++ text_of text.now) }
@@ -44,7 +44,7 @@ impl<P: Policy> Repr<P> {
     /// Returns `AllocError` if a new buffer cannot be allocated.
     #[cold]
     #[inline(never)]
-    #[tactic(auto, using(crate::proofs::Placed::placed_facts))]
+    #[tactic(auto, using(crate::proofs::PlacementLemmas::placed_facts))]
     pub fn insert_str_slow(&mut self, index: usize, text: &str) -> Result<(), AllocError>
         requires full { fits_in_place self.old (length text.now) ≡ false }
         requires boundary { IsBoundary self.old.text index }
@@ -91,7 +91,7 @@ impl<P: Policy> Repr<P> {
     /// Returns `AllocError` if a static value cannot be made owned.
     #[cold]
     #[inline(never)]
-    #[tactic(auto, using(crate::proofs::Placed::placed_facts))]
+    #[tactic(auto, using(crate::proofs::PlacementLemmas::placed_facts))]
     pub fn remove_slow(&mut self, index: usize) -> Result<char, AllocError>
         requires boundary { IsBoundary self.old.text index }
         requires inside { index < size self.old.text }
@@ -109,15 +109,15 @@ impl<P: Policy> Repr<P> {
         Ok(character)
     }
 
-    /// Replaces the bytes from one boundary to another with a `text` that does not fit in place. Makes the value owned
-    /// first, or reserves room.
+    /// Replaces `start..end`, both boundaries, with `text`, which does not fit in place. Makes the value owned first,
+    /// or reserves.
     ///
     /// # Errors
     ///
     /// Returns `AllocError` if a new buffer cannot be allocated.
     #[cold]
     #[inline(never)]
-    #[tactic(auto, using(crate::proofs::Placed::placed_facts))]
+    #[tactic(auto, using(crate::proofs::PlacementLemmas::placed_facts))]
     pub fn replace_slow(&mut self, start: usize, end: usize, text: &str) -> Result<(), AllocError>
         requires full { fits_in_place self.old (length text.now - (end - start)) ≡ false }
         requires order { start ≤ end }
@@ -149,7 +149,7 @@ impl<P: Policy> Repr<P> {
     /// # Errors
     ///
     /// Returns `AllocError` if they do not fit and a larger buffer cannot be allocated.
-    #[tactic(auto, using(crate::proofs::Placed::part_facts))]
+    #[tactic(auto, using(crate::proofs::PlacementLemmas::part_facts))]
     pub fn push_within(&mut self, start: usize, end: usize) -> Result<(), AllocError>
         requires order { start ≤ end }
         requires first { IsBoundary self.old.text start }

@@ -17,7 +17,7 @@ impl<P: Policy> Repr<P> {
     pub fn empty(alloc: Global) -> Self
         ensures { result ≡ placed_text [] inline_placement }
     {
-        Self::of(alloc, Buffer::Inline([], InlineBuffer::empty()))
+        Self::from_buffer(alloc, Buffer::Inline([], InlineBuffer::empty()))
     }
 
     /// Copies `text`: inline up to 24 bytes, otherwise into a new heap buffer.
@@ -32,17 +32,16 @@ impl<P: Policy> Repr<P> {
         ensures allocates { OnErr result (INLINE_CAPACITY < length text.now) }
     {
         if text.len() > INLINE_CAPACITY {
-            let heap = Self::long_copy(alloc, text)?;
-            return Ok(Self::of(alloc, Buffer::Heap(heap)));
+            let heap = Self::copy_to_heap(alloc, text)?;
+            return Ok(Self::from_buffer(alloc, Buffer::Heap(heap)));
         }
         let inline = InlineBuffer::new(text);
-        Ok(Self::of(alloc, Buffer::Inline([], inline)))
+        Ok(Self::from_buffer(alloc, Buffer::Inline([], inline)))
     }
 
-    /// Copies a `text` of more than 24 bytes. Not inlined, so that the short case can be. Returns only the buffer,
-    /// which avoids a store-forwarding stall.
+    /// Copies a `text` of more than 24 bytes. Not inlined, so that the short case can be.
     #[inline(never)]
-    fn long_copy(alloc: Global, text: &str) -> Result<HeapBuffer, AllocError>
+    fn copy_to_heap(alloc: Global, text: &str) -> Result<HeapBuffer, AllocError>
         requires { INLINE_CAPACITY < length text.now }
         ensures text { IfOk result (λ h. h.text ≡ text_of text.now) }
         ensures place { IfOk result
@@ -63,10 +62,10 @@ impl<P: Policy> Repr<P> {
         ensures { let t = text_of text.now in result ≡ placed_text t (const_new_placement t) }
     {
         if INLINE_CAPACITY < text.len() {
-            return Self::of(alloc, Buffer::Static(StaticStr::new(text)));
+            return Self::from_buffer(alloc, Buffer::Static(StaticStr::new(text)));
         }
         let inline = InlineBuffer::new(text);
-        Self::of(alloc, Buffer::Inline([], inline))
+        Self::from_buffer(alloc, Buffer::Inline([], inline))
     }
 
     /// Creates an inline value from 24 packed bytes, or returns `None` if they do not pack a text.
@@ -76,7 +75,7 @@ impl<P: Policy> Repr<P> {
             (λ r. IsPackedFor bytes.now r.text × (r.placement ≡ inline_placement)) }
     {
         let inline = InlineBuffer::from_packed(bytes)?;
-        Some(Self::of(alloc, Buffer::Inline([], inline)))
+        Some(Self::from_buffer(alloc, Buffer::Inline([], inline)))
     }
 
     /// Creates an empty text with room for `capacity` bytes: inline up to 24, otherwise in a new heap buffer.
@@ -96,7 +95,7 @@ impl<P: Policy> Repr<P> {
             return Err(AllocError);
         };
         let heap = HeapBuffer::with_capacity(alloc, capacity)?;
-        Ok(Self::of(alloc, Buffer::Heap(heap)))
+        Ok(Self::from_buffer(alloc, Buffer::Heap(heap)))
     }
 
     /// Converts a `String`: copies up to 24 bytes inline, and otherwise reuses its buffer.
@@ -107,9 +106,9 @@ impl<P: Policy> Repr<P> {
         let alloc = *text.allocator();
         if text.len() <= INLINE_CAPACITY {
             let inline = InlineBuffer::new(text.as_str());
-            return Self::of(alloc, Buffer::Inline([], inline));
+            return Self::from_buffer(alloc, Buffer::Inline([], inline));
         }
-        Self::of(alloc, Buffer::Heap(HeapBuffer::from_string(text)))
+        Self::from_buffer(alloc, Buffer::Heap(HeapBuffer::from_string(text)))
     }
 
     /// Reuses the buffer of `text`, without copying. A string with no buffer becomes inline and empty.
@@ -122,7 +121,7 @@ impl<P: Policy> Repr<P> {
         if text.capacity() == 0 {
             return Self::empty(alloc);
         }
-        Self::of(alloc, Buffer::Heap(HeapBuffer::from_string(text)))
+        Self::from_buffer(alloc, Buffer::Heap(HeapBuffer::from_string(text)))
     }
 
     /// Clones the value: a heap text of more than 24 bytes gets a new buffer, a shorter one is copied inline. Inlined,
@@ -137,26 +136,26 @@ impl<P: Policy> Repr<P> {
         ensures err { OnErr result (CloneAllocates self.now) }
     {
         match &self.buffer {
-            Buffer::Static(text) => Ok(Self::of(self.alloc, Buffer::Static(text.clone()))),
-            Buffer::Inline(_, inline) => Ok(Self::of(
+            Buffer::Static(text) => Ok(Self::from_buffer(self.alloc, Buffer::Static(text.clone()))),
+            Buffer::Inline(_, inline) => Ok(Self::from_buffer(
                 self.alloc,
                 Buffer::Inline([], inline.clone()),
             )),
             Buffer::Heap(heap) if heap.len() > INLINE_CAPACITY => {
-                let heap = Self::long_copy(self.alloc, heap.as_str())?;
-                Ok(Self::of(self.alloc, Buffer::Heap(heap)))
+                let heap = Self::copy_to_heap(self.alloc, heap.as_str())?;
+                Ok(Self::from_buffer(self.alloc, Buffer::Heap(heap)))
             }
-            Buffer::Heap(heap) => Ok(Self::short_copy(self.alloc, heap.as_str())),
+            Buffer::Heap(heap) => Ok(Self::copy_inline(self.alloc, heap.as_str())),
         }
     }
 
     /// Copies a `text` of at most 24 bytes inline. Not inlined: a text so short is rarely on the heap.
     #[cold]
     #[inline(never)]
-    fn short_copy(alloc: Global, text: &str) -> Self
+    fn copy_inline(alloc: Global, text: &str) -> Self
         requires { length text.now ≤ INLINE_CAPACITY }
         ensures { result ≡ placed_text (text_of text.now) inline_placement }
     {
-        Self::of(alloc, Buffer::Inline([], InlineBuffer::new(text)))
+        Self::from_buffer(alloc, Buffer::Inline([], InlineBuffer::new(text)))
     }
 }

@@ -32,7 +32,7 @@ impl PolicyString<Standard> {
     /// assert_eq!(rt; name.as_str(), "café");
     /// assert!(rt; !buf.has_remaining());
     /// ```
-    #[tactic(auto, using(crate::proofs::FittedTexts::buf_facts))]
+    #[tactic(auto, using(crate::proofs::DecodedValues::buf_facts))]
     pub fn from_utf8_buf<B: Buf>(alloc: Global, buf: &mut B) -> Result<CompactString, FromUtf8Error>
         // Decodes and consumes all bytes: inline up to 24 bytes, else on the heap.
         ensures text { IfOk result (λ v. BytesEncode (B.unread buf.old) v.text) }
@@ -46,8 +46,8 @@ impl PolicyString<Standard> {
         ensures cause { IfErr result (IsUtf8BufRefusal (B.unread buf.old) (B.unread buf.new)) }
     {
         if buf.remaining() <= INLINE_CAPACITY {
-            let mut row = [0; INLINE_CAPACITY];
-            return Self::from_utf8(alloc, read_short(buf, &mut row));
+            let mut buffer = [0; INLINE_CAPACITY];
+            return Self::from_utf8(alloc, read_short(buf, &mut buffer));
         }
         let bytes = match read_long(alloc, buf) {
             Ok(bytes) => bytes,
@@ -68,7 +68,7 @@ impl PolicyString<Standard> {
     /// # Errors
     ///
     /// [`ReserveError`] if allocation fails, which is never up to 24 bytes. Some bytes may have been consumed.
-    #[tactic(auto, using(crate::proofs::FittedTexts::buf_facts))]
+    #[tactic(auto, using(crate::proofs::DecodedValues::buf_facts))]
     pub fn from_utf8_buf_unchecked<B: Buf>(
         alloc: Global,
         buf: &mut B,
@@ -86,8 +86,8 @@ impl PolicyString<Standard> {
         ensures err { OnErr result (IsSuffixOf (B.unread buf.new) (B.unread buf.old)) }
     {
         if buf.remaining() <= INLINE_CAPACITY {
-            let mut row = [0; INLINE_CAPACITY];
-            return Self::from_utf8_unchecked(alloc, read_short(buf, &mut row));
+            let mut buffer = [0; INLINE_CAPACITY];
+            return Self::from_utf8_unchecked(alloc, read_short(buf, &mut buffer));
         }
         match read_long(alloc, buf) {
             Ok(bytes) => Ok(Self::from(unsafe { String::from_utf8_unchecked(bytes) })),
@@ -96,14 +96,14 @@ impl PolicyString<Standard> {
     }
 }
 
-/// Reads all of `buf` into `row`, and returns the part that it fills.
-fn read_short<'a, B: Buf>(buf: &mut B, row: &'a mut [u8; INLINE_CAPACITY]) -> &'a [u8]
+/// Reads all of `buf` into `buffer`, and returns the part that it fills.
+fn read_short<'a, B: Buf>(buf: &mut B, buffer: &'a mut [u8; INLINE_CAPACITY]) -> &'a [u8]
     requires { length (B.unread buf.old) ≤ INLINE_CAPACITY }
     ensures bytes { result.now ≡ B.unread buf.old }
     ensures consumed { B.unread buf.new ≡ [] }
     ensures kept { B.kept buf.new ≡ B.kept buf.old }
 {
-    let front = &mut row[..buf.remaining()];
+    let front = &mut buffer[..buf.remaining()];
     buf.copy_to_slice(front);
     front
 }

@@ -8,8 +8,8 @@ ghost use Rattle.compact_str.specs.Room.{IsPlacedBySize};
 ghost use Rattle.compact_str.specs.Decoding.{MakesText, IsUtf16Refusal, IsUtf16BytesRefusal, PairsEncode};
 
 use crate::decode::error::{FromUtf16Error, Utf16Error};
-use crate::decode::utf16_block::{ROW, fill, utf8_room};
-use crate::decode::{REPLACEMENT, push_fitted};
+use crate::decode::utf16_block::{BUFFER_LEN, encode_into, utf8_len_hint};
+use crate::decode::{REPLACEMENT, push_or_reserve};
 use crate::error::ReserveError;
 use crate::string::{CompactString, PolicyString};
 use compact_codec::utf16::{self, Units};
@@ -97,7 +97,7 @@ impl PolicyString<Standard> {
             → size text ≤ INLINE_CAPACITY → IsOk result }
         ensures cause { IfErr result (IsUtf16BytesRefusal LittleEndian bytes.now) }
     {
-        from_bytes(alloc, ByteOrder::LittleEndian, bytes)
+        from_utf16_bytes(alloc, ByteOrder::LittleEndian, bytes)
     }
 
     /// Like [`from_utf16`](Self::from_utf16), from pairs of bytes, the high byte first. Keeps a byte order mark.
@@ -123,7 +123,7 @@ impl PolicyString<Standard> {
             → size text ≤ INLINE_CAPACITY → IsOk result }
         ensures cause { IfErr result (IsUtf16BytesRefusal BigEndian bytes.now) }
     {
-        from_bytes(alloc, ByteOrder::BigEndian, bytes)
+        from_utf16_bytes(alloc, ByteOrder::BigEndian, bytes)
     }
 
     /// Like [`from_utf16_lossy`](Self::from_utf16_lossy), from pairs of bytes, the low byte first. An odd last byte
@@ -143,7 +143,7 @@ impl PolicyString<Standard> {
         // As `from_utf8_lossy`.
         ensures { MakesText (utf16_bytes_lossy_text LittleEndian bytes.now) result }
     {
-        from_bytes_lossy(alloc, ByteOrder::LittleEndian, bytes)
+        from_utf16_bytes_lossy(alloc, ByteOrder::LittleEndian, bytes)
     }
 
     /// Like [`from_utf16_lossy`](Self::from_utf16_lossy), from pairs of bytes, the high byte first. An odd last byte
@@ -163,13 +163,13 @@ impl PolicyString<Standard> {
         // As `from_utf8_lossy`.
         ensures { MakesText (utf16_bytes_lossy_text BigEndian bytes.now) result }
     {
-        from_bytes_lossy(alloc, ByteOrder::BigEndian, bytes)
+        from_utf16_bytes_lossy(alloc, ByteOrder::BigEndian, bytes)
     }
 }
 
 /// Converts pairs of bytes, in either order.
 #[tactic(auto, using(compact_codec::proofs::ForDecoders::strict_decoding_facts))]
-fn from_bytes(
+fn from_utf16_bytes(
     alloc: Global,
     order: ByteOrder,
     bytes: &[u8],
@@ -183,14 +183,14 @@ fn from_bytes(
     if !utf16_bytes::is_utf16(order, bytes) {
         return Err(FromUtf16Error::Utf16(Utf16Error));
     }
-    match from_bytes_lossy(alloc, order, bytes) {
+    match from_utf16_bytes_lossy(alloc, order, bytes) {
         Ok(value) => Ok(value),
         Err(error) => Err(FromUtf16Error::Reserve(error)),
     }
 }
 
 /// Converts pairs of bytes, replacing what is invalid with U+FFFD.
-fn from_bytes_lossy(
+fn from_utf16_bytes_lossy(
     alloc: Global,
     order: ByteOrder,
     bytes: &[u8],
@@ -199,7 +199,7 @@ fn from_bytes_lossy(
 {
     let mut made = from_pairs_lossy(alloc, order, bytes)?;
     if bytes.len() % 2 != 0 {
-        push_fitted(&mut made, REPLACEMENT, 0)?;
+        push_or_reserve(&mut made, REPLACEMENT, 0)?;
         return Ok(made);
     }
     Ok(made)
@@ -220,24 +220,24 @@ fn from_pairs_lossy(
 }
 
 /// Converts units, replacing each unpaired surrogate with U+FFFD.
-#[tactic(auto, using(compact_codec::proofs::ForDecoders::lossy_decoding_facts, crate::proofs::FittedTexts::decoded_part_facts))]
+#[tactic(auto, using(compact_codec::proofs::ForDecoders::lossy_decoding_facts, crate::proofs::DecodedValues::decoded_part_facts))]
 fn from_units_lossy<U: Units>(alloc: Global, units: U) -> Result<CompactString, ReserveError>
     ensures { MakesText (utf16_lossy_text (U.units units)) result }
 {
     let count = units.len();
     let mut made = CompactString::default(alloc);
-    let mut row = [0; ROW];
+    let mut buffer = [0; BUFFER_LEN];
     let mut at = 0;
     while at < count {
-        let filled = fill(&mut row, units, at);
+        let filled = encode_into(&mut buffer, units, at);
         at += filled.taken;
         let room = if made.is_heap_allocated() {
             0
         } else {
-            utf8_room(units, at)
+            utf8_len_hint(units, at)
         };
-        let text = unsafe { std::str::from_utf8_unchecked(&row[..filled.len]) };
-        push_fitted(&mut made, text, room)?;
+        let text = unsafe { std::str::from_utf8_unchecked(&buffer[..filled.len]) };
+        push_or_reserve(&mut made, text, room)?;
     }
     Ok(made)
 }

@@ -11,7 +11,7 @@ use compact_codec::utf16::{self, Units};
 use std::simd::prelude::*;
 
 /// The capacity of the buffer.
-pub const ROW: usize = 256;
+pub const BUFFER_LEN: usize = 256;
 
 /// The number of ASCII units that are written at a time.
 const BLOCK: usize = 16;
@@ -30,38 +30,38 @@ pub struct Filled {
     pub len: usize,
 }
 
-/// Writes the lossy text of the units from `from` on to the front of `row`, until they end or the next character may
+/// Writes the lossy text of the units from `from` on to the front of `buffer`, until they end or the next character may
 /// not fit.
 #[inline]
-pub fn fill<U: Units>(row: &mut [u8; 256], units: U, from: usize) -> Filled
+pub fn encode_into<U: Units>(buffer: &mut [u8; 256], units: U, from: usize) -> Filled
     requires { from ≤ length (U.units units) }
 
-    // The row begins with the lossy text of the units that were read, at least one.
+    // The buffer begins with the lossy text of the units that were read, at least one.
     ensures taken { from + result.taken ≤ length (U.units units) }
     ensures some { from < length (U.units units) → 0 < result.taken }
     ensures len { result.len ≤ 256 }
-    ensures utf8 { IsUtf8 (take result.len row.new) }
-    ensures text { text_of (take result.len row.new)
+    ensures utf8 { IsUtf8 (take result.len buffer.new) }
+    ensures text { text_of (take result.len buffer.new)
         ++ utf16_lossy_text (drop (from + result.taken) (U.units units))
         ≡ utf16_lossy_text (drop from (U.units units)) }
 {
     let count = units.len();
     let mut at = from;
     let mut len = 0;
-    while count - at >= BLOCK && len <= ROW - BLOCK {
+    while count - at >= BLOCK && len <= BUFFER_LEN - BLOCK {
         let block = units.block(at);
         if begins_with_ascii(block) {
-            let letters = write_ascii(row, len, block);
+            let letters = write_ascii(buffer, len, block);
             at += letters;
             len += letters;
         } else {
-            let next = write_next(row, len, units, at);
+            let next = write_next(buffer, len, units, at);
             at += next.taken;
             len = next.len;
         }
     }
-    while at < count && len <= ROW - 4 {
-        let next = write_next(row, len, units, at);
+    while at < count && len <= BUFFER_LEN - 4 {
+        let next = write_next(buffer, len, units, at);
         at += next.taken;
         len = next.len;
     }
@@ -71,8 +71,8 @@ pub fn fill<U: Units>(row: &mut [u8; 256], units: U, from: usize) -> Filled
     }
 }
 
-/// Returns `true` if the first four units are ASCII. Tests all four at once, since in text of other scripts a single
-/// ASCII character is common, and a branch on it is unpredictable.
+/// Returns `true` if the first four units are ASCII. Tests all four at once, since a single ASCII character is common
+/// in text of other scripts.
 #[inline(always)]
 fn begins_with_ascii(block: u16x16) -> bool
     ensures { IsTrue result → slice_index block 0 < 128 }
@@ -83,14 +83,14 @@ fn begins_with_ascii(block: u16x16) -> bool
 /// Writes the ASCII units at the front of the block at `at`, and returns their number. Writes a whole block, to avoid a
 /// loop.
 #[inline(always)]
-fn write_ascii(row: &mut [u8; 256], at: usize, block: u16x16) -> usize
+fn write_ascii(buffer: &mut [u8; 256], at: usize, block: u16x16) -> usize
     requires room { at + 16 ≤ 256 }
     requires first { slice_index block 0 < 128 }
     ensures some { (0 < result) × (result ≤ 16) }
-    ensures bytes { take (at + result) row.new ≡ take at row.old ++ take result block }
+    ensures bytes { take (at + result) buffer.new ≡ take at buffer.old ++ take result block }
     ensures ascii { IsAscii (take result block) }
 {
-    let front = &mut row[at..at + BLOCK];
+    let front = &mut buffer[at..at + BLOCK];
     low_bytes(block).copy_to_slice(front);
     ascii_count(block)
 }
@@ -118,25 +118,25 @@ fn ascii_count(block: u16x16) -> usize
 
 /// Writes the next character, or U+FFFD for an unpaired surrogate, after the first `len` bytes.
 #[inline(always)]
-fn write_next<U: Units>(row: &mut [u8; 256], len: usize, units: U, at: usize) -> Filled
+fn write_next<U: Units>(buffer: &mut [u8; 256], len: usize, units: U, at: usize) -> Filled
     requires room { len + 4 ≤ 256 }
     requires some { at < length (U.units units) }
-    requires utf8 { IsUtf8 (take len row.old) }
+    requires utf8 { IsUtf8 (take len buffer.old) }
     ensures taken { (0 < result.taken) × (at + result.taken ≤ length (U.units units)) }
     ensures len { result.len ≤ len + 4 }
-    ensures utf8 { IsUtf8 (take result.len row.new) }
-    ensures text { text_of (take result.len row.new)
+    ensures utf8 { IsUtf8 (take result.len buffer.new) }
+    ensures text { text_of (take result.len buffer.new)
         ++ utf16_lossy_text (drop (at + result.taken) (U.units units))
-        ≡ text_of (take len row.old) ++ utf16_lossy_text (drop at (U.units units)) }
+        ≡ text_of (take len buffer.old) ++ utf16_lossy_text (drop at (U.units units)) }
 {
     let unit = units.unit(at);
     if !is_surrogate(unit) {
-        let end = write_unit(row, len, unit);
+        let end = write_unit(buffer, len, unit);
         return Filled { taken: 1, len: end };
     }
     let step = utf16::character_at(units, at);
     let character = step.character.unwrap_or(char::REPLACEMENT_CHARACTER);
-    let end = write_character(row, len, character);
+    let end = write_character(buffer, len, character);
     Filled {
         taken: step.taken,
         len: end,
@@ -151,28 +151,27 @@ fn is_surrogate(unit: u16) -> bool
     0xD800 <= unit && unit <= 0xDFFF
 }
 
-/// Writes a unit that is no surrogate at `at`, and returns the end. Always writes three bytes, to avoid an
-/// unpredictable branch.
+/// Writes a unit that is no surrogate at `at`, and returns the end. Always writes three bytes, without a branch.
 #[inline]
-fn write_unit(row: &mut [u8; 256], at: usize, unit: u16) -> usize
+fn write_unit(buffer: &mut [u8; 256], at: usize, unit: u16) -> usize
     requires { at + 4 ≤ 256 }
-    ensures bytes { take result row.new ≡ take at row.old ++ encode_utf8 unit }
+    ensures bytes { take result buffer.new ≡ take at buffer.old ++ encode_utf8 unit }
     ensures end { (at < result) × (result ≤ at + 3) }
 {
     let one = unit < 0x80;
     let two = unit < 0x800;
     let last = 0x80 + unit % 64;
-    let first = either(one, unit, either(two, 0xC0 + unit / 64, 0xE0 + unit / 4096));
-    let second = either(two, last, 0x80 + unit / 64 % 64);
-    row[at] = first as u8;
-    row[at + 1] = second as u8;
-    row[at + 2] = last as u8;
-    at + either(one, 1, either(two, 2, 3)) as usize
+    let first = select(one, unit, select(two, 0xC0 + unit / 64, 0xE0 + unit / 4096));
+    let second = select(two, last, 0x80 + unit / 64 % 64);
+    buffer[at] = first as u8;
+    buffer[at + 1] = second as u8;
+    buffer[at + 2] = last as u8;
+    at + select(one, 1, select(two, 2, 3)) as usize
 }
 
 /// Returns `yes` if `test` is true, else `no`.
 #[inline]
-fn either(test: bool, yes: u16, no: u16) -> u16
+fn select(test: bool, yes: u16, no: u16) -> u16
     ensures { result ≡ (if test then yes else no) }
 {
     if test { yes } else { no }
@@ -180,36 +179,36 @@ fn either(test: bool, yes: u16, no: u16) -> u16
 
 /// Writes `character` at `at`, and returns the end.
 #[inline]
-fn write_character(row: &mut [u8; 256], at: usize, character: char) -> usize
+fn write_character(buffer: &mut [u8; 256], at: usize, character: char) -> usize
     requires { at + 4 ≤ 256 }
-    ensures bytes { take result row.new ≡ take at row.old ++ encode_utf8 character }
+    ensures bytes { take result buffer.new ≡ take at buffer.old ++ encode_utf8 character }
     ensures end { (at < result) × (result ≤ at + 4) }
 {
     let code = character as u32;
     if code < 0x80 {
-        row[at] = code as u8;
+        buffer[at] = code as u8;
         return at + 1;
     }
     if code < 0x800 {
-        row[at] = (0xC0 + code / 64) as u8;
-        row[at + 1] = (0x80 + code % 64) as u8;
+        buffer[at] = (0xC0 + code / 64) as u8;
+        buffer[at + 1] = (0x80 + code % 64) as u8;
         return at + 2;
     }
     if code < 0x1_0000 {
-        row[at] = (0xE0 + code / 4096) as u8;
-        row[at + 1] = (0x80 + code / 64 % 64) as u8;
-        row[at + 2] = (0x80 + code % 64) as u8;
+        buffer[at] = (0xE0 + code / 4096) as u8;
+        buffer[at + 1] = (0x80 + code / 64 % 64) as u8;
+        buffer[at + 2] = (0x80 + code % 64) as u8;
         return at + 3;
     }
-    row[at] = (0xF0 + code / 262144) as u8;
-    row[at + 1] = (0x80 + code / 4096 % 64) as u8;
-    row[at + 2] = (0x80 + code / 64 % 64) as u8;
-    row[at + 3] = (0x80 + code % 64) as u8;
+    buffer[at] = (0xF0 + code / 262144) as u8;
+    buffer[at + 1] = (0x80 + code / 4096 % 64) as u8;
+    buffer[at + 2] = (0x80 + code / 64 % 64) as u8;
+    buffer[at + 3] = (0x80 + code % 64) as u8;
     at + 4
 }
 
 /// Returns the length of the units from `from` on in UTF-8, or a few bytes less if they are invalid.
-pub fn utf8_room<U: Units>(units: U, from: usize) -> usize
+pub fn utf8_len_hint<U: Units>(units: U, from: usize) -> usize
     requires { from ≤ length (U.units units) }
     ensures { result ≤ 3 * length (U.units units) }
 {
@@ -218,7 +217,7 @@ pub fn utf8_room<U: Units>(units: U, from: usize) -> usize
     let mut at = from;
     while at < count {
         let end = count.min(at + 256);
-        room += usize::from(part_room(units, at, end));
+        room += usize::from(block_len_hint(units, at, end));
         at = end;
     }
     room
@@ -226,7 +225,7 @@ pub fn utf8_room<U: Units>(units: U, from: usize) -> usize
 
 /// Returns the same for at most 256 units, whose sum fits a `u16`.
 #[inline]
-fn part_room<U: Units>(units: U, from: usize, end: usize) -> u16
+fn block_len_hint<U: Units>(units: U, from: usize, end: usize) -> u16
     requires order { from ≤ end }
     requires within { end ≤ length (U.units units) }
     requires few { end ≤ from + 256 }

@@ -9,7 +9,7 @@ ghost use Rattle.compact_str.specs.Decoding.{MakesText, IsUtf8Refusal};
 ghost use Rattle.compact_str.specs.Conversions.{CopiesText};
 
 use crate::decode::error::FromUtf8Error;
-use crate::decode::{REPLACEMENT, push_fitted};
+use crate::decode::{REPLACEMENT, push_or_reserve};
 use crate::error::ReserveError;
 use crate::string::{CompactString, PolicyString};
 use compact_codec::utf8::{self, Utf8Error};
@@ -35,7 +35,7 @@ impl PolicyString<Standard> {
     /// assert!(rt; error == Some(FromUtf8Error::Utf8 { valid_up_to: 1, error_len: None }));
     /// ```
     #[inline(always)]
-    #[tactic(auto, using(crate::proofs::FittedTexts::strict_facts))]
+    #[tactic(auto, using(crate::proofs::DecodedValues::strict_facts))]
     pub fn from_utf8(alloc: Global, bytes: &[u8]) -> Result<CompactString, FromUtf8Error>
         // Copies valid bytes as `new` does.
         ensures text { IfOk result (λ v. v.text ≡ text_of bytes.now) }
@@ -77,7 +77,7 @@ impl PolicyString<Standard> {
     /// assert_eq!(rt; name.as_str(), "\u{FFFD}\u{FFFD}");
     /// ```
     #[inline]
-    #[tactic(auto, using(compact_codec::proofs::ForDecoders::lossy_decoding_facts, crate::proofs::FittedTexts::new_facts))]
+    #[tactic(auto, using(compact_codec::proofs::ForDecoders::lossy_decoding_facts, crate::proofs::DecodedValues::new_facts))]
     pub fn from_utf8_lossy(alloc: Global, bytes: &[u8]) -> Result<CompactString, ReserveError>
         // Replaces each invalid sequence with U+FFFD: inline up to 24 bytes, else on the heap.
         ensures text { IfOk result (λ v. v.text ≡ utf8_lossy_text bytes.now) }
@@ -89,7 +89,7 @@ impl PolicyString<Standard> {
     {
         match utf8::validate(bytes) {
             Ok(text) => Self::new(alloc, text),
-            Err(error) => from_invalid(alloc, bytes, error),
+            Err(error) => decode_lossy(alloc, bytes, error),
         }
     }
 
@@ -110,8 +110,8 @@ impl PolicyString<Standard> {
 }
 
 /// Converts invalid bytes, chunk by chunk, from their first error on.
-#[tactic(auto, using(compact_codec::proofs::ForDecoders::lossy_decoding_facts, crate::proofs::FittedTexts::decoded_part_facts))]
-fn from_invalid(
+#[tactic(auto, using(compact_codec::proofs::ForDecoders::lossy_decoding_facts, crate::proofs::DecodedValues::decoded_part_facts))]
+fn decode_lossy(
     alloc: Global,
     bytes: &[u8],
     error: Utf8Error,
@@ -122,10 +122,10 @@ fn from_invalid(
     let mut made = CompactString::default(alloc);
     let mut chunk = utf8::chunk_at(bytes, error);
     while !chunk.invalid.is_empty() {
-        push_fitted(&mut made, chunk.valid, chunk.rest.len().saturating_add(3))?;
-        push_fitted(&mut made, REPLACEMENT, chunk.rest.len())?;
+        push_or_reserve(&mut made, chunk.valid, chunk.rest.len().saturating_add(3))?;
+        push_or_reserve(&mut made, REPLACEMENT, chunk.rest.len())?;
         chunk = utf8::first_chunk(chunk.rest);
     }
-    push_fitted(&mut made, chunk.valid, 0)?;
+    push_or_reserve(&mut made, chunk.valid, 0)?;
     Ok(made)
 }

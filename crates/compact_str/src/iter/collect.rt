@@ -7,14 +7,14 @@ ghost use Rattle.compact_str.specs.Collect.{ForItems, ForAllItems, ForDrained, R
 
 use crate::builder::{Builder, COLLECTED};
 use crate::error::ReserveError;
-use crate::iter::piece::Piece;
+use crate::iter::element::Element;
 use crate::iter::{AsText, Items};
 use crate::string::PolicyString;
 use compact_repr::Policy;
 use std::alloc::{AllocError, Global};
 
 /// Concatenates the pieces.
-fn collect_pieces<P: Policy, T: Piece, U: IntoIterator<Item = T>>(
+fn collect_elements<P: Policy, T: Element, U: IntoIterator<Item = T>>(
     alloc: Global,
     iter: U,
 ) -> Result<PolicyString<P>, ReserveError>
@@ -28,7 +28,7 @@ fn collect_pieces<P: Policy, T: Piece, U: IntoIterator<Item = T>>(
 {
     let mut gathered: Builder<P, COLLECTED> = Builder::new(alloc);
     for piece in iter {
-        piece.gather_into(&mut gathered)?;
+        piece.push_to_builder(&mut gathered)?;
     }
     gathered.finish()
 }
@@ -36,8 +36,7 @@ fn collect_pieces<P: Policy, T: Piece, U: IntoIterator<Item = T>>(
 impl<P: Policy> PolicyString<P> {
     /// Concatenates `texts`, like `collect`. The result is inline up to 24 bytes, else on the heap.
     ///
-    /// Ignores `size_hint`. Up to 1024 bytes a heap buffer is allocated once, with the exact or the minimum capacity;
-    /// a longer text grows.
+    /// Does not use `size_hint`. Allocates at most once up to 1024 bytes.
     ///
     /// # Errors
     ///
@@ -78,7 +77,7 @@ impl<P: Policy> PolicyString<P> {
         ensures allocates { OnErr result
             (RunPassesInline (⟦<U as Items>⟧.run texts) (flat_map T.text)) }
     {
-        collect_pieces(alloc, texts)
+        collect_elements(alloc, texts)
     }
 
     /// Collects characters, like `collect`. Allocates like [`from_texts`](Self::from_texts).
@@ -102,7 +101,7 @@ impl<P: Policy> PolicyString<P> {
         // As `from_texts`.
         ensures { Collects (⟦<U as Items>⟧.run characters) (λ xs. xs) result }
     {
-        collect_pieces(alloc, characters)
+        collect_elements(alloc, characters)
     }
 }
 
@@ -168,7 +167,7 @@ impl<'a, P: Policy> FromIterator<&'a char> for PolicyString<P> {
         // As `from_texts`.
         ensures { Collects (⟦<U as Items>⟧.run references) (map (λ c. c.now)) result }
     {
-        match collect_pieces(alloc, references) {
+        match collect_elements(alloc, references) {
             Ok(value) => Ok(value),
             Err(ReserveError) => Err(AllocError),
         }

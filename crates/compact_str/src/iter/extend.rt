@@ -5,14 +5,14 @@ ghost use Rattle.compact_str.specs.Words.{size, IsBoundary, text_before, infalli
 ghost use Rattle.compact_str.specs.Collect.{ForItems, ForAllItems, Appends, AppendsAll, AppendsUpToRefused, Extends, char_text};
 
 use crate::error::ReserveError;
-use crate::iter::piece::Piece;
+use crate::iter::element::Element;
 use crate::iter::{AsText, Items};
 use crate::string::PolicyString;
 use compact_repr::Policy;
 use std::alloc::AllocError;
 
 /// Appends each piece, and stops at the first error.
-fn extend_pieces<P: Policy, T: Piece, U: IntoIterator<Item = T>>(
+fn extend_elements<P: Policy, T: Element, U: IntoIterator<Item = T>>(
     value: &mut PolicyString<P>,
     iter: U,
 ) -> Result<(), ReserveError>
@@ -70,7 +70,7 @@ impl<P: Policy> PolicyString<P> {
         ensures err { OnErr result
             (AppendsUpToRefused (⟦<U as Items>⟧.run texts) P.growth T.text self.old self.new) }
     {
-        extend_pieces(self, texts)
+        extend_elements(self, texts)
     }
 
     /// Appends each character, like `push`. Ignores `size_hint`.
@@ -96,7 +96,7 @@ impl<P: Policy> PolicyString<P> {
         ensures { Extends (⟦<U as Items>⟧.run characters) P.growth char_text (λ xs. xs)
             self.old result self.new }
     {
-        extend_pieces(self, characters)
+        extend_elements(self, characters)
     }
 }
 
@@ -153,7 +153,7 @@ impl<'a, P: Policy> Extend<&'a char> for PolicyString<P> {
         ensures { Extends (⟦<U as Items>⟧.run references) P.growth (λ c. char_text c.now)
             (map (λ c. c.now)) self.old result self.new }
     {
-        match extend_pieces(self, references) {
+        match extend_elements(self, references) {
             Ok(()) => Ok(()),
             Err(_) => Err(AllocError),
         }

@@ -65,14 +65,14 @@ pub trait CompactStringExt: Iterator {
         ensures { Joins Self.next_gives (join (text_of separator.now) Self.Item.text)
             (join separator.now (λ x. utf8 (Self.Item.text x))) self result }
     {
-        join_pieces(alloc, self, separator)
+        join_texts(alloc, self, separator)
     }
 }
 
 impl<I: Iterator> CompactStringExt for I {}
 
 /// Like `join_compact`, for every growth policy.
-fn join_pieces<P: Policy, T: AsText, I: Iterator<Item = T> + Drop>(
+fn join_texts<P: Policy, T: AsText, I: Iterator<Item = T> + Drop>(
     alloc: Global,
     pieces: I,
     separator: &str,

@@ -24,7 +24,7 @@ impl<P: Policy> PolicyString<P> {
         self.repr.allocator()
     }
 
-    /// Returns the text. Every boundary of the result, such as one that `find` returns, is a boundary of the string.
+    /// Returns the text. Positions returned by `find` and others are boundaries of the string.
     ///
     /// # Examples
     ///
@@ -96,7 +96,7 @@ impl<P: Policy> PolicyString<P> {
         self.repr.packed()
     }
 
-    /// Returns the length in bytes. The clause `sound` also states that the text fits its place.
+    /// Returns the length in bytes. In a proof, `sound` says that the text fits its place.
     ///
     /// # Examples
     ///

@@ -1,18 +1,14 @@
-//! Comparing and hashing, by text alone.
+//! Comparing, by text alone.
 ghost use Rattle.std.specs.Prelude.{Some};
 ghost use Rattle.std.specs.Cmp as laws;
 ghost use Rattle.std.specs.Cmp.{on_equiv, on_total, on_per, on_po};
 ghost use Rattle.std.specs.Cmp.Lexicographic.{nat_list_eq_equiv, nat_list_cmp_total, texts_ties, texts_po};
-ghost use Rattle.std.proofs.Common.{refl, rules};
-ghost use Rattle.std.specs.Hash as fed;
-ghost use Rattle.std.specs.Cmp.Rules.{hashing};
-ghost use Rattle.compact_str.specs.Words.{utf8};
+ghost use Rattle.std.proofs.Common.{refl};
 ghost use Rattle.compact_str.specs.Order.{text_in, same_text, text_cmp};
 
 use crate::string::PolicyString;
 use compact_repr::Policy;
 use std::cmp::Ordering;
-use std::hash::{Hash, Hasher};
 
 impl<P: Policy> PartialEq for PolicyString<P> {
     ghost eq = { same_text };
@@ -72,17 +68,5 @@ impl<P: Policy> Ord for PolicyString<P> {
     #[inline]
     fn cmp(&self, other: &Self) -> Ordering {
         self.repr.text_cmp(&other.repr)
-    }
-}
-
-impl<P: Policy> Hash for PolicyString<P> {
-    ghost hash_input = { λ v. fed.str (utf8 v.text) };
-
-    ghost respects_eq = { Prim.search (hashing, rules) };
-
-    /// Hashes like `str`, so that equal strings hash equally.
-    #[inline]
-    fn hash<H: Hasher>(&self, state: &mut H) {
-        self.as_str().hash(state);
     }
 }

@@ -19,8 +19,8 @@ use std::ops::Bound;
 /// Dropping it removes the whole range, even if it was not exhausted. Created by `drain`.
 pub struct Drain<'a, P: Policy> {
     value: &'a mut PolicyString<P>,
-    // The length of the text before the removal. The ghost fields hold after the drop too, when the positions may no
-    // longer be boundaries, so they speak of a text of this length alone.
+    // The length of the text before the removal. The ghost fields must also hold after the drop, so they are
+    // conditional on the text having this length.
     len: usize,
     // The range, in bytes.
     start: usize,
@@ -53,7 +53,7 @@ impl<P: Policy> PolicyString<P> {
     /// assert_eq!(rt; greeting.as_str(), "Hello!");
     /// ```
     #[inline]
-    #[tactic(auto, using(crate::proofs::Drains::owning_drain_facts))]
+    #[tactic(auto, using(crate::proofs::DrainLemmas::owning_drain_facts))]
     pub fn drain(
         &mut self,
         start: Bound<usize>,
@@ -106,7 +106,7 @@ impl<P: Policy> Drain<'_, P> {
     /// assert_eq!(rt; drain.as_str(), "ïve");
     /// ```
     #[inline]
-    #[tactic(auto, using(crate::proofs::Drains::drain_facts))]
+    #[tactic(auto, using(crate::proofs::DrainLemmas::drain_facts))]
     pub fn as_str(&self) -> &str
         ensures bytes { result.now ≡ utf8 (drain_rest self.now) }
         ensures text { text_of result.now ≡ drain_rest self.now }
@@ -117,7 +117,7 @@ impl<P: Policy> Drain<'_, P> {
 
     /// Returns the rest, given the whole text.
     #[inline(always)]
-    #[tactic(auto, using(crate::proofs::Drains::drain_facts))]
+    #[tactic(auto, using(crate::proofs::DrainLemmas::drain_facts))]
     fn rest_of<'t>(&self, text: &'t str) -> &'t str
         requires { text_of text.now ≡ self.now.value.now.text }
         ensures text { text_of result.now ≡ drain_rest self.now }
@@ -130,8 +130,8 @@ impl<P: Policy> Drain<'_, P> {
         }
     }
 
-    /// Returns the first character of the rest, and its width. A heap text has an arm of its own, so that a loop can
-    /// find the place once.
+    /// Returns the first character of the rest, and its width. Heap texts have a separate arm, so that a loop matches
+    /// on the place once.
     #[inline(always)]
     fn first(&self) -> Option<(char, usize)>
         ensures { MatchOption result (drain_rest self.now ≡ [])
@@ -165,9 +165,9 @@ impl<P: Policy> Iterator for Drain<'_, P> {
         Some(character)
     }
 
-    /// Returns a quarter of the remaining bytes, rounded up, and all of them.
+    /// Returns bounds: at least a quarter of the remaining bytes, at most all.
     #[inline]
-    #[tactic(auto, using(crate::proofs::Drains::count_facts))]
+    #[tactic(auto, using(crate::proofs::DrainLemmas::count_facts))]
     fn size_hint(&self) -> (usize, Option<usize>)
         ensures lower { IsWithinCount result.0 (at_most (length (drain_rest self.now))) }
         ensures upper { IfSome result.1 (UpTo (at_most (length (drain_rest self.now)))) }
@@ -198,7 +198,7 @@ impl<P: Policy> Drop for Drain<'_, P> {
     ghost use Rattle.compact_str.specs.Drain.{value_after_drain};
 
     #[inline]
-    #[tactic(auto, using(crate::proofs::Drains::without_range_facts))]
+    #[tactic(auto, using(crate::proofs::DrainLemmas::without_range_facts))]
     fn drop(self)
         ensures { self.exit.0.now ≡ value_after_drain self.entry }
     {
@@ -225,7 +225,7 @@ impl<P: Policy> Display for Drain<'_, P> {
 
     ghost styled_output = { λ d _. Some (utf8 (drain_rest d)) };
 
-    /// Writes the rest of the range, ignoring a width.
+    /// Writes the remaining characters. Formatting options are ignored.
     fn fmt<W: Write>(&self, f: &mut Formatter<W>) -> fmt::Result {
         f.write_str(self.as_str())
     }

@@ -1,67 +1,15 @@
-//! Editing by byte position.
-ghost use Rattle.std.specs.Prelude.{◌≡◌, ℕ, ◌+◌, ◌-◌, ◌^◌, ◌<◌, ◌≤◌, ◌∷◌, [], length, take, drop, Some, None, IfOk, OnOk, OnErr, IsOk, MatchOption};
+//! Inserting and removing by byte position, and splitting.
+ghost use Rattle.std.specs.Prelude.{◌≡◌, ℕ, ◌+◌, ◌-◌, ◌^◌, ◌<◌, ◌≤◌, ◌∷◌, [], length, take, drop, Some, None, IfOk, OnOk, OnErr, IsOk};
 ghost use Rattle.std.specs.Char.{len_utf8, encode_utf8};
-ghost use Rattle.std.specs.List.{insert_slice, remove_range, replace_range};
-ghost use Rattle.compact_str.specs.Words.{size, text_of, utf8, text_before, text_after, replaced_text, IsCut, IsBoundary, IsStatic, IsOwned, INLINE_CAPACITY, KeepsPlace, PlacedFor, AllocatesFor, owned, room, room_to_replace, HasRoomFor, infallible_capacity};
+ghost use Rattle.std.specs.List.{insert_slice, remove_range};
+ghost use Rattle.compact_str.specs.Words.{size, text_of, utf8, text_before, text_after, replaced_text, IsCut, IsBoundary, IsStatic, IsOwned, INLINE_CAPACITY, KeepsPlace, PlacedFor, AllocatesFor, owned, room, HasRoomFor, infallible_capacity};
 ghost use Rattle.compact_str.specs.Edits.{IsPlacedAsTail, SplitAllocates};
-ghost use Rattle.compact_str.specs.Ranges.{IsRange, span, range_start, range_end, part_in, len_in, replaced_in};
 
 use crate::error::ReserveError;
 use crate::string::PolicyString;
 use compact_repr::{Policy, Repr};
-use compact_text::str_parts::is_boundary;
-use std::ops::Bound;
 
 impl<P: Policy> PolicyString<P> {
-    /// Returns where a range starts and where it ends, in bytes, or `None` if it ends before it starts or one of the two is
-    /// not a character boundary. As a start `Excluded(n)` means `n + 1`; as an end `Included(n)` does.
-    ///
-    /// After `Some((first, last))` the same bounds may be passed to `range`, `drain` and `replace_range`, and so may
-    /// `Included(first), Excluded(last)`.
-    ///
-    /// # Examples
-    ///
-    /// ```
-    /// let text = CompactString::new(alloc, "äb")?;
-    /// assert_eq!(rt; text.check_range(Excluded(1), Unbounded), Some((2, 3)));
-    /// assert_eq!(rt; text.check_range(Included(1), Unbounded), None);
-    /// ```
-    #[tactic(auto, using(crate::proofs::EditFacts::position_facts))]
-    pub fn check_range(&self, start: Bound<usize>, end: Bound<usize>) -> Option<(usize, usize)>
-        ensures { MatchOption result (¬ IsRange self.now.text (span start end))
-            (λ range. IsRange self.now.text (span start end) × (range.0 ≡ range_start start)
-            × (range.1 ≡ range_end self.now.text end)) }
-    {
-        let (first, last) = self.byte_range(start, end)?;
-        let text = self.as_str();
-        if first <= last && is_boundary(text, first) && is_boundary(text, last) {
-            Some((first, last))
-        } else {
-            None
-        }
-    }
-
-    /// Returns the text in a range of bytes, which `check_range` must accept.
-    ///
-    /// # Examples
-    ///
-    /// ```
-    /// let field = CompactString::new(alloc, "clé=valeur")?;
-    /// assert_eq!(rt; field.range(Included(5), Unbounded), "valeur");
-    /// ```
-    #[tactic(auto, using(crate::proofs::EditFacts::position_facts))]
-    pub fn range(&self, start: Bound<usize>, end: Bound<usize>) -> &str
-        requires { IsRange self.now.text (span start end) }
-        ensures bytes { result.now ≡ utf8 (part_in self.now.text (span start end)) }
-        ensures text { text_of result.now ≡ part_in self.now.text (span start end) }
-        ensures len { length result.now ≡ len_in self.now.text (span start end) }
-    {
-        let Some((first, last)) = self.byte_range(start, end) else {
-            unreachable!();
-        };
-        self.repr.substring(first, last)
-    }
-
     /// Inserts `text` at byte `index`, which must be a character boundary. Reserves first, so a static string becomes
     /// owned even if `text` is empty. Never shrinks the capacity.
     ///
@@ -190,59 +138,6 @@ impl<P: Policy> PolicyString<P> {
         Ok(self.repr.remove_slow(index)?)
     }
 
-    /// Replaces a range of bytes, which `check_range` must accept. A static string becomes owned. Reserves the
-    /// difference if the string grows.
-    ///
-    /// # Errors
-    ///
-    /// [`ReserveError`] if allocation fails. Never fails if the string is owned and the result fits in its capacity, or
-    /// if both the string and the result have at most 24 bytes.
-    ///
-    /// # Examples
-    ///
-    /// ```
-    /// let mut word = CompactString::new(alloc, "grün")?;
-    /// word.replace_range(Included(2), Excluded(4), "ee")?;
-    /// assert_eq!(rt; word.as_str(), "green");
-    /// ```
-    #[tactic(auto, using(crate::proofs::EditFacts::replacement_facts))]
-    pub fn replace_range(
-        &mut self,
-        start: Bound<usize>,
-        end: Bound<usize>,
-        text: &str,
-    ) -> Result<(), ReserveError>
-        requires { IsRange self.old.text (span start end) }
-
-        // Replaces the range with `text`. A static string becomes owned.
-        ensures text { OnOk result
-            (self.new.text ≡ replaced_in self.old.text (span start end) (text_of text.now)) }
-        ensures bytes { OnOk result (utf8 self.new.text
-            ≡ replace_range (utf8 self.old.text) (range_start start)
-            (range_end self.old.text end) text.now) }
-        ensures place { OnOk result
-            (PlacedFor P.growth self.old self.new
-            (room_to_replace (len_in self.old.text (span start end)) (length text.now))) }
-
-        // Fails only if allocation fails, never if there is room. The string is then unchanged.
-        ensures succeeds { HasRoomFor self.old
-            (length text.now - len_in self.old.text (span start end)) → IsOk result }
-        ensures succeeds_owned { IsOwned self.old
-            → length text.now ≤ len_in self.old.text (span start end) → IsOk result }
-        ensures allocates { OnErr result
-            (AllocatesFor self.old
-            (room_to_replace (len_in self.old.text (span start end)) (length text.now))) }
-        ensures err { OnErr result (self.new ≡ self.old) }
-    {
-        let Some((first, last)) = self.byte_range(start, end) else {
-            unreachable!();
-        };
-        if self.repr.try_replace_range(first, last, text) {
-            return Ok(());
-        }
-        Ok(self.repr.replace_slow(first, last, text)?)
-    }
-
     /// Splits the string at byte `index`, which must be a character boundary. Keeps `[0, index)` in its place and
     /// returns `[index, len)`. If the string is static, a result of more than 24 bytes is static too, and is not
     /// copied.
@@ -287,41 +182,5 @@ impl<P: Policy> PolicyString<P> {
         };
         self.repr.truncate(index);
         Ok(PolicyString { repr })
-    }
-
-    /// Returns the start and end of a range, in bytes, of which it tests neither, or `None` if there is no such range. Reads
-    /// the length only if a bound needs it.
-    #[inline]
-    pub(crate) fn byte_range(
-        &self,
-        start: Bound<usize>,
-        end: Bound<usize>,
-    ) -> Option<(usize, usize)>
-        ensures { MatchOption result (¬ IsRange self.now.text (span start end))
-            (λ range. (range.0 ≡ range_start start) × (range.1 ≡ range_end self.now.text end)) }
-    {
-        let first = match start {
-            Bound::Included(index) => index,
-            Bound::Excluded(index) => self.position_after(index)?,
-            Bound::Unbounded => 0,
-        };
-        let last = match end {
-            Bound::Included(index) => self.position_after(index)?,
-            Bound::Excluded(index) => index,
-            Bound::Unbounded => self.len(),
-        };
-        Some((first, last))
-    }
-
-    /// Returns `index + 1`, or `None` if that is past the end.
-    #[inline]
-    fn position_after(&self, index: usize) -> Option<usize>
-        ensures { MatchOption result (size self.now.text ≤ index) (λ after. after ≡ index + 1) }
-    {
-        if index < self.len() {
-            Some(index + 1)
-        } else {
-            None
-        }
     }
 }

@@ -47,7 +47,7 @@ impl<P: Policy> PolicyString<P> {
             Ok(text) => Ok(text),
             Err(repr) => match String::from_str(repr.allocator(), repr.as_str()) {
                 Ok(copy) => Ok(copy),
-                Err(_) => Err(refused(repr)),
+                Err(_) => Err(with_error(repr)),
             },
         }
     }
@@ -105,7 +105,7 @@ impl<P: Policy> PolicyString<P> {
             Ok(text) => Ok(SmallVec::from_vec(text.into_bytes())),
             Err(repr) => match SmallVec::from_slice(repr.allocator(), repr.as_str().as_bytes()) {
                 Ok(bytes) => Ok(bytes),
-                Err(_) => Err(refused(repr)),
+                Err(_) => Err(with_error(repr)),
             },
         }
     }
@@ -208,7 +208,7 @@ impl<P: Policy> PolicyString<P> {
 }
 
 /// Returns the string in an error.
-fn refused<P: Policy>(repr: Repr<P>) -> Refused<PolicyString<P>>
+fn with_error<P: Policy>(repr: Repr<P>) -> Refused<PolicyString<P>>
     ensures { result.value ≡ repr }
 {
     Refused {

@@ -2,14 +2,12 @@
 ghost use Rattle.std.specs.Prelude.{◌≡◌, ℕ, ◌<◌, ◌≤◌, ◌++◌, ◌∷◌, [], length, take, IsOk, IfOk, IfErr, IfNone, IfSome, OnOk, OnErr, OnSome, MatchOption};
 ghost use Rattle.std.specs.Char.{len_utf8, encode_utf8};
 ghost use Rattle.compact_str.specs.Words.{size, text_of, utf8, IsBoundary, text_before, KeepsPlace, PlacedFor, AllocatesFor, room_to_append, HasRoomFor, infallible_capacity};
-ghost use Rattle.compact_str.specs.Output.{Writes};
 
 use crate::error::ReserveError;
 use crate::refused::Refused;
 use crate::string::PolicyString;
 use compact_repr::Policy;
 use compact_text::str_parts::encode_char;
-use std::fmt;
 
 impl<P: Policy> PolicyString<P> {
     /// Appends `text`. Unless it is empty, reserves as `reserve` does, so a static string is copied and becomes owned. Never
@@ -86,7 +84,7 @@ impl<P: Policy> PolicyString<P> {
 
     /// `push` of a character that `try_push` did not append. Not inlined, so that a loop of appends stays short.
     #[inline(never)]
-    #[tactic(auto, using(compact_repr::proofs::Placed::placed_facts))]
+    #[tactic(auto, using(compact_repr::proofs::PlacementLemmas::placed_facts))]
     fn push_slow(&mut self, character: char) -> Result<(), ReserveError>
         ensures text { OnOk result (self.new.text ≡ self.old.text ++ character ∷ []) }
         ensures place { OnOk result
@@ -209,36 +207,5 @@ impl<P: Policy> PolicyString<P> {
         ensures place { KeepsPlace self.old self.new }
     {
         self.repr.clear();
-    }
-}
-
-impl<P: Policy> fmt::Write for PolicyString<P> {
-    ghost write_str_gives = { Writes P.growth };
-
-    /// Appends `text` like `push_str`, for generic writers.
-    ///
-    /// # Errors
-    ///
-    /// `fmt::Error` if `push_str` fails, leaving the string unchanged. What generic code wrote before stays; `truncate`
-    /// to the old length removes it.
-    #[tactic(auto, using(crate::proofs::EditFacts::append_facts))]
-    fn write_str(&mut self, text: &str) -> fmt::Result
-        ensures ok { OnOk result (Writes P.growth self.old text.now self.new) }
-
-        // As `push_str`.
-        ensures text { OnOk result (self.new.text ≡ self.old.text ++ text_of text.now) }
-        ensures bytes { OnOk result (utf8 self.new.text ≡ utf8 self.old.text ++ text.now) }
-        ensures place { OnOk result
-            (PlacedFor P.growth self.old self.new (room_to_append (length text.now))) }
-        ensures room { OnOk result (infallible_capacity self.old ≤ infallible_capacity self.new) }
-        ensures succeeds { HasRoomFor self.old (length text.now) → IsOk result }
-        ensures allocates { OnErr result
-            (AllocatesFor self.old (room_to_append (length text.now))) }
-        ensures err { OnErr result (self.new ≡ self.old) }
-    {
-        match self.push_str(text) {
-            Ok(()) => Ok(()),
-            Err(ReserveError) => Err(fmt::Error),
-        }
     }
 }

@@ -42,12 +42,12 @@ impl<P: Policy> PolicyString<P> {
         if total == 0 {
             return Ok(all);
         }
-        all.fill(self.as_str(), count);
+        all.append_copies(self.as_str(), count);
         Ok(all)
     }
 
     /// Appends `piece` `count` times to an empty string with room for them all. Doubles what is there.
-    fn fill(&mut self, piece: &str, count: usize)
+    fn append_copies(&mut self, piece: &str, count: usize)
         requires some { 0 < count }
         requires empty { self.old.text ≡ [] }
         requires room { with_capacity_placement P.growth (length piece.now * count)

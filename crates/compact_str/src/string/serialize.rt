@@ -31,7 +31,7 @@ impl<P: Policy> Serialize for PolicyString<P> {
 impl<P: Policy> DeserializeOwned for PolicyString<P> {
     /// Reads a string. Copies one without escapes as `new` does, so that up to 24 bytes never allocate.
     ///
-    /// To a caller with one reader, the clause does not state which text was read.
+    /// For a concrete reader the contract does not say which text was read.
     ///
     /// # Errors
     ///
@@ -73,7 +73,7 @@ fn read_text<P: Policy, F: Format>(
     match from.borrowed_str() {
         Ok(text) => {
             from.release(mark);
-            return match copy_of(alloc, text) {
+            return match new_from(alloc, text) {
                 Ok(value) => Ok(value),
                 Err(_) => Err(from.no_memory()),
             };
@@ -87,12 +87,12 @@ fn read_text<P: Policy, F: Format>(
     from.rewind(mark);
     from.release(mark);
     let text = from.string(alloc)?;
-    Ok(taken_over(text))
+    Ok(from_owned(text))
 }
 
 /// `new`, with a clause in bytes.
 #[inline]
-fn copy_of<P: Policy>(alloc: Global, text: &str) -> Result<PolicyString<P>, ReserveError>
+fn new_from<P: Policy>(alloc: Global, text: &str) -> Result<PolicyString<P>, ReserveError>
     ensures { IfOk result (λ v. utf8 v.text ≡ text.now) }
 {
     PolicyString::new(alloc, text)
@@ -101,7 +101,7 @@ fn copy_of<P: Policy>(alloc: Global, text: &str) -> Result<PolicyString<P>, Rese
 /// `From<String>`, with a clause in bytes.
 #[inline]
 #[tactic(auto, using(crate::proofs::EditFacts::string_facts))]
-fn taken_over<P: Policy>(text: String) -> PolicyString<P>
+fn from_owned<P: Policy>(text: String) -> PolicyString<P>
     ensures { utf8 result.text ≡ string_bytes text }
 {
     PolicyString::from(text)

@@ -5,12 +5,12 @@
 ghost use Rattle.std.specs.Prelude.{◌≡◌, ◌+◌, ◌-◌, ◌≤◌, length, drop};
 ghost use lib.Seq.{paste};
 
-use super::chunks::{chunk, set_chunk};
+use super::simd::{load, store};
 
 /// Moves `count` bytes from `from` to `to`, which may overlap.
 #[inline(always)]
-#[tactic(auto, using(crate::proofs::Shifts::shifts))]
-pub fn shift(slice: &mut [u8], from: usize, to: usize, count: usize)
+#[tactic(auto, using(crate::proofs::MovesByBlock::move_facts))]
+pub fn move_bytes(slice: &mut [u8], from: usize, to: usize, count: usize)
     requires source { from + count ≤ length slice.old }
     requires target { to + count ≤ length slice.old }
     ensures { slice.new ≡ paste slice.old to (drop from slice.old) count }
@@ -19,14 +19,14 @@ pub fn shift(slice: &mut [u8], from: usize, to: usize, count: usize)
         return;
     }
     if count <= 2 * BLOCK {
-        copy_up_to_128(slice, from, to, count);
+        move_up_to_128(slice, from, to, count);
     } else if from < to {
         match to - from {
             1 => move_up::<1>(slice, from, count),
             2 => move_up::<2>(slice, from, count),
             3 => move_up::<3>(slice, from, count),
             4 => move_up::<4>(slice, from, count),
-            _ => shift_up(slice, from, to, count),
+            _ => move_blocks_up(slice, from, to, count),
         }
     } else {
         match from - to {
@@ -34,7 +34,7 @@ pub fn shift(slice: &mut [u8], from: usize, to: usize, count: usize)
             2 => move_down::<2>(slice, to, count),
             3 => move_down::<3>(slice, to, count),
             4 => move_down::<4>(slice, to, count),
-            _ => shift_down(slice, from, to, count),
+            _ => move_blocks_down(slice, from, to, count),
         }
     }
 }
@@ -45,7 +45,7 @@ pub fn move_up<const DISTANCE: usize>(slice: &mut [u8], from: usize, count: usiz
     requires { from + DISTANCE + count ≤ length slice.old }
     ensures { slice.new ≡ paste slice.old (from + DISTANCE) (drop from slice.old) count }
 {
-    move_part_up::<DISTANCE>(&mut slice[from..from + DISTANCE + count]);
+    move_whole_up::<DISTANCE>(&mut slice[from..from + DISTANCE + count]);
 }
 
 /// Moves `count` bytes down by `DISTANCE` places.
@@ -54,14 +54,14 @@ pub fn move_down<const DISTANCE: usize>(slice: &mut [u8], to: usize, count: usiz
     requires { to + DISTANCE + count ≤ length slice.old }
     ensures { slice.new ≡ paste slice.old to (drop (to + DISTANCE) slice.old) count }
 {
-    move_part_down::<DISTANCE>(&mut slice[to..to + DISTANCE + count]);
+    move_whole_down::<DISTANCE>(&mut slice[to..to + DISTANCE + count]);
 }
 
 /// Moves all but the last `DISTANCE` bytes up by `DISTANCE`.
 ///
-/// A separate function with a known distance, so that the compiler makes one `memmove` of it.
+/// A separate function: with a constant distance it is one `memmove`.
 #[inline(never)]
-fn move_part_up<const DISTANCE: usize>(part: &mut [u8])
+fn move_whole_up<const DISTANCE: usize>(part: &mut [u8])
     requires { DISTANCE ≤ length part.old }
     ensures { part.new ≡ paste part.old DISTANCE part.old (length part.old - DISTANCE) }
 {
@@ -71,9 +71,9 @@ fn move_part_up<const DISTANCE: usize>(part: &mut [u8])
 
 /// Moves all but the first `DISTANCE` bytes down by `DISTANCE`.
 ///
-/// A separate function with a known distance, so that the compiler makes one `memmove` of it.
+/// A separate function: with a constant distance it is one `memmove`.
 #[inline(never)]
-fn move_part_down<const DISTANCE: usize>(part: &mut [u8])
+fn move_whole_down<const DISTANCE: usize>(part: &mut [u8])
     requires { DISTANCE ≤ length part.old }
     ensures { part.new ≡ paste part.old 0 (drop DISTANCE part.old) (length part.old - DISTANCE) }
 {
@@ -86,7 +86,7 @@ const BLOCK: usize = 64;
 
 /// Moves bytes up, the last ones first.
 #[inline(never)]
-fn shift_up(slice: &mut [u8], from: usize, to: usize, count: usize)
+fn move_blocks_up(slice: &mut [u8], from: usize, to: usize, count: usize)
     requires upward { from ≤ to }
     requires target { to + count ≤ length slice.old }
     ensures { slice.new ≡ paste slice.old to (drop from slice.old) count }
@@ -94,75 +94,75 @@ fn shift_up(slice: &mut [u8], from: usize, to: usize, count: usize)
     let mut left = count;
     'moves: while BLOCK < left {
         left -= BLOCK;
-        copy_both_ends::<BLOCK>(slice, from + left, to + left, BLOCK);
+        move_overlapping::<BLOCK>(slice, from + left, to + left, BLOCK);
     }
-    copy_up_to_128(slice, from, to, left);
+    move_up_to_128(slice, from, to, left);
 }
 
 /// Moves bytes down, the first ones first.
 #[inline(never)]
-fn shift_down(slice: &mut [u8], from: usize, to: usize, count: usize)
+fn move_blocks_down(slice: &mut [u8], from: usize, to: usize, count: usize)
     requires downward { to ≤ from }
     requires source { from + count ≤ length slice.old }
     ensures { slice.new ≡ paste slice.old to (drop from slice.old) count }
 {
     let mut done = 0;
     'moves: while BLOCK < count - done {
-        copy_both_ends::<BLOCK>(slice, from + done, to + done, BLOCK);
+        move_overlapping::<BLOCK>(slice, from + done, to + done, BLOCK);
         done += BLOCK;
     }
-    copy_up_to_128(slice, from + done, to + done, count - done);
+    move_up_to_128(slice, from + done, to + done, count - done);
 }
 
 /// Moves at most two blocks.
 #[inline(always)]
-fn copy_up_to_128(slice: &mut [u8], from: usize, to: usize, count: usize)
+fn move_up_to_128(slice: &mut [u8], from: usize, to: usize, count: usize)
     requires two_blocks { count ≤ 128 }
     requires source { from + count ≤ length slice.old }
     requires target { to + count ≤ length slice.old }
     ensures { slice.new ≡ paste slice.old to (drop from slice.old) count }
 {
     if count >= 64 {
-        copy_both_ends::<64>(slice, from, to, count);
+        move_overlapping::<64>(slice, from, to, count);
     } else if count >= 32 {
-        copy_both_ends::<32>(slice, from, to, count);
+        move_overlapping::<32>(slice, from, to, count);
     } else {
-        shift_short(slice, from, to, count);
+        move_short(slice, from, to, count);
     }
 }
 
 /// Moves at most 32 bytes: their first and their last 16, 8, 4, 2 or 1, without a loop or a call.
 #[inline(always)]
-pub fn shift_short(slice: &mut [u8], from: usize, to: usize, count: usize)
+pub fn move_short(slice: &mut [u8], from: usize, to: usize, count: usize)
     requires short { count ≤ 32 }
     requires source { from + count ≤ length slice.old }
     requires target { to + count ≤ length slice.old }
     ensures { slice.new ≡ paste slice.old to (drop from slice.old) count }
 {
     if count >= 16 {
-        copy_both_ends::<16>(slice, from, to, count);
+        move_overlapping::<16>(slice, from, to, count);
     } else if count >= 8 {
-        copy_both_ends::<8>(slice, from, to, count);
+        move_overlapping::<8>(slice, from, to, count);
     } else if count >= 4 {
-        copy_both_ends::<4>(slice, from, to, count);
+        move_overlapping::<4>(slice, from, to, count);
     } else if count >= 2 {
-        copy_both_ends::<2>(slice, from, to, count);
+        move_overlapping::<2>(slice, from, to, count);
     } else if count == 1 {
-        copy_both_ends::<1>(slice, from, to, count);
+        move_overlapping::<1>(slice, from, to, count);
     }
 }
 
 /// Moves `count` bytes, `N` to `2 * N`, as the first `N` and the last `N`.
 #[inline(always)]
-pub fn copy_both_ends<const N: usize>(slice: &mut [u8], from: usize, to: usize, count: usize)
+pub fn move_overlapping<const N: usize>(slice: &mut [u8], from: usize, to: usize, count: usize)
     requires least { N ≤ count }
     requires most { count ≤ N + N }
     requires source { from + count ≤ length slice.old }
     requires target { to + count ≤ length slice.old }
     ensures { slice.new ≡ paste slice.old to (drop from slice.old) count }
 {
-    let first = chunk::<N>(slice, from);
-    let last = chunk::<N>(slice, from + (count - N));
-    set_chunk(slice, to, first);
-    set_chunk(slice, to + (count - N), last);
+    let first = load::<N>(slice, from);
+    let last = load::<N>(slice, from + (count - N));
+    store(slice, to, first);
+    store(slice, to + (count - N), last);
 }

@@ -1,4 +1,5 @@
-use Rattle.std.proofs.Common.{◌≡◌, List, ℕ, length, take, Option, None, Some, Result, Ok, Err, MatchResult, IfOk, IfSome, ap, ◌∙◌}
+use Rattle.std.proofs.Common.{◌≡◌, List, ℕ, length, take, Option, None, Some, Result, Ok, Err, MatchResult, IfOk}
+use Rattle.std.proofs.Common.{IfSome, ap, ◌∙◌}
 use Rattle.std.specs.Prelude.{MatchOption}
 use Rattle.std.specs.Io.{StartsWith}
 use Rattle.std.specs.Io.KnownBytes.{Consumes}
@@ -14,15 +15,17 @@ use Rattle.compact_callers.proofs.wire.first_record.Goals as goal
 
 turned : (item : Option (Result PlacedText WireError)) (text : List ℕ) (Rest : Type 0)
     → MatchOption item ⊥ (λ r. MatchResult r (λ v. (v.text ≡ text) × Rest) (IsOutsideForm (size text)))
-    → MatchResult (option_transpose item) (λ found. MatchOption found ⊥ (λ v. v.text ≡ text)) (IsOutsideForm (size text))
+    → MatchResult (option_transpose item) (λ found. MatchOption found ⊥ (λ v. v.text ≡ text))
+    (IsOutsideForm (size text))
 turned None text Rest h = absurd h
 turned (Some (Ok v)) text Rest h = h.0
 turned (Some (Err e)) text Rest h = h
 
--- the text whose form stands first is the one that was asked for
+-- the text of the first form is the one expected
 pub returns-clause-back : goal.returns-clause-back
 returns-clause-back g c = λ text rest form is.
-    rw c.transpose.ensures (turned c.next.result text _ (next-back g.R.Read.remaining c.new.result c.next.new.self _ c.next.ensures.steps text rest form (c.new.ensures ∙ is)))
+    rw c.transpose.ensures (turned c.next.result text _ (next-back g.R.Read.remaining c.new.result c.next.new.self _
+    c.next.ensures.steps text rest form (c.new.ensures ∙ is)))
 
 -- what a form is taken from begins with it
 starts : (old new : Option (List ℕ)) (bs : List ℕ) → Consumes old new bs → IfSome old (λ bytes. StartsWith bytes bs)

@@ -3,7 +3,7 @@ use Rattle.std.specs.Prelude.{◌||◌}
 use Rattle.compact_codec.proofs.UnpairedSurrogates.{has_unpaired}
 use Rattle.compact_codec.proofs.utf16.are_paired.Given as goal
 
--- what was found and what stands in the rest are what stands in all
+-- the result so far and that of the rest are the result of all
 abbrev pub invariant-loop-at : goal.invariant-loop-at
 invariant-loop-at g l = record {
   within : l.at ≤ length (g.U.Units.units l.units);

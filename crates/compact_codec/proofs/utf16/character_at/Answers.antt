@@ -2,7 +2,7 @@ use Rattle.std.proofs.Common.{◌≡◌, ◌+◌, ◌∷◌, Some, arith, ap, �
 use Rattle.std.specs.Prelude.{slice_get, unwrap_or}
 use Rattle.compact_text.specs.Text.{replacement_character}
 use Rattle.compact_codec.specs.Utf16Text.{IsUtf16Step, utf16_lossy_text}
-use Rattle.compact_codec.proofs.UnitsReading.{first_step_within, utf16_lossy_text-step, unit_after, step_in}
+use Rattle.compact_codec.proofs.Utf16TextLemmas.{first_step_within, utf16_lossy_text-step, unit_after, step_in}
 use Rattle.compact_codec.proofs.utf16.character_at.Given.{Over}
 use Rattle.compact_codec.proofs.utf16.character_at.Goals as goal
 use Rattle.compact_codec.proofs.utf16.character_at.Goals.{then-at-len, else-at-len}

@@ -1,4 +1,5 @@
-use Rattle.std.proofs.Common.{◌≡◌, ℕ, ◌^◌, ◌%◌, ◌≤◌, refl, not, cond, leb, List, length, map, take, replicate, ap, sym, ◌∙◌, subst, arith, inl, inr, w8, IsUtf8}
+use Rattle.std.proofs.Common.{◌≡◌, ℕ, ◌^◌, ◌%◌, ◌≤◌, refl, not, cond, leb, List, length, map, take, replicate, ap, sym}
+use Rattle.std.proofs.Common.{◌∙◌, subst, arith, inl, inr, w8, IsUtf8}
 use Rattle.std.specs.List.{prefix_len}
 use Rattle.std.specs.Str.{IsAscii}
 use Rattle.std.proofs.lemmas.Bool.{cases_eq}
@@ -8,7 +9,7 @@ use Rattle.std.proofs.lemmas.Simd.{tops_compared, zip2_splat_left, mask_l-mod, l
 use Rattle.std.proofs.lemmas.Str.{IsUtf8-from_ascii}
 use lib.Count.{count_trailing_zeros}
 use lib.Lanes.{zip2, mask_l, top}
-use Rattle.compact_codec.proofs.Parts.{front_is_ascii}
+use Rattle.compact_codec.proofs.InvalidSequenceLemmas.{front_is_ascii}
 use Rattle.compact_codec.proofs.utf8.ascii_len.Goals as goal
 
 mask_is : (block : List ℕ) → length block ≡ 64
@@ -19,7 +20,7 @@ mask_is block long =
     (tops_compared w8 leb (replicate 64 128) block ∙ zip2_splat_left leb 128 64 block long)
     ∙ mask_l-mod (map (leb 128) block) 64 (omega (arith, length-map block (leb 128), long))
 
--- the trailing zeros are as many as the bytes before the first one that is not ASCII
+-- the number of trailing zeros is that of the bytes before the first one that is not ASCII
 count_is : (block : List ℕ) → length block ≡ 64
     → count_trailing_zeros 64 (mask_l (map (leb 128) block)) ≡ prefix_len (λ b. not (leb 128 b)) block
 unfolding count_trailing_zeros

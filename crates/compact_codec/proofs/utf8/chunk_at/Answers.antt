@@ -2,7 +2,7 @@ use Rattle.std.proofs.Common.{ap, sym, ◌∙◌, ◌++◌, drop, take, length}
 use Rattle.std.specs.Prelude.{unwrap_or}
 use Rattle.compact_text.specs.Text.{text_of}
 use Rattle.compact_codec.specs.Utf8Text.{utf8_lossy_text, replacement_text}
-use Rattle.compact_codec.proofs.LossyReading.{invalid_chunk}
+use Rattle.compact_codec.proofs.Utf8TextLemmas.{invalid_chunk}
 use Rattle.compact_codec.proofs.utf8.chunk_at.Goals as goal
 
 pub returns-clause-lossy : goal.returns-clause-lossy

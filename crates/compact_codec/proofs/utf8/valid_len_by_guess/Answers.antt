@@ -1,5 +1,5 @@
 use Rattle.std.proofs.Common.{arith, ◌≤◌, ◌+◌}
-use Rattle.compact_codec.proofs.Parts.{longer_window}
+use Rattle.compact_codec.proofs.InvalidSequenceLemmas.{longer_window}
 use Rattle.compact_codec.proofs.utf8.valid_len_by_guess.Goals as goal
 
 pub returns-then-is_utf8-clause-text : goal.returns-then-is_utf8-clause-text

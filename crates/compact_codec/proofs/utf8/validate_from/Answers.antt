@@ -1,5 +1,5 @@
 use Rattle.std.proofs.Common.{sym, true≢false}
-use Rattle.compact_codec.proofs.Parts.{whole_from, invalid_from, error_from}
+use Rattle.compact_codec.proofs.InvalidSequenceLemmas.{whole_from, invalid_from, error_from}
 use Rattle.compact_codec.proofs.utf8.validate_from.Goals as goal
 
 pub from_utf8_unchecked-requires : goal.from_utf8_unchecked-requires
@@ -12,6 +12,7 @@ returns-in-Err c =
     record {
       exact = (λ ok. absurd (true≢false (sym ok)), λ whole. absurd (bad whole));
       text = tt;
-      error = error_from c.args.bytes.now c.args.at error.valid_up_to error.error_len c.requires.within c.requires.text c.in-Err.ensures.error;
+      error = error_from c.args.bytes.now c.args.at error.valid_up_to error.error_len c.requires.within
+          c.requires.text c.in-Err.ensures.error;
       invalid = bad;
     }

@@ -7,5 +7,6 @@ loop-edit-preserved g c = record {
   count = omega arith;
   room = omega arith;
   capacity = omega arith;
-  run = rw c.push_reserved.ensures.items (RunsTo-take_more _ _ _ _ _ _ _ _ _ _ c.loop-edit-test.true c.edit-item.is c.loop-edit.invariant.run c.apply-reply.ensures);
+  run = rw c.push_reserved.ensures.items (RunsTo-take_more _ _ _ _ _ _ _ _ _ _ c.loop-edit-test.true c.edit-item.is
+      c.loop-edit.invariant.run c.apply-reply.ensures);
 }

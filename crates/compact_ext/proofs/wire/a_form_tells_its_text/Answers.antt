@@ -1,5 +1,5 @@
-use Rattle.compact_ext.proofs.WireForms.{form-tells}
+use Rattle.compact_ext.proofs.WireLemmas.{form-has_one_text}
 use Rattle.compact_ext.proofs.wire.a_form_tells_its_text.Goals as goal
 
 pub returns : goal.returns
-returns c = form-tells
+returns c = form-has_one_text

@@ -9,6 +9,8 @@ returns-clause-written c =
     let bytes = c.encoded-len.result.0 in
     let slice = c.args.slice.now in
     let four = ap length c.set_four.ensures in
-    ap (take (c.args.at + c.encoded-len.result.1)) (put_mid-paste c.args.at _ slice _ bytes 4 c.set_four.ensures (omega arith) (omega (arith, four)))
-    ∙ padded slice bytes bytes 4 c.args.at c.encoded-len.result.1 c.encoded-len.ensures.most (omega arith) (sym (take_all 4 bytes (omega (arith, four)))) (omega (arith, four))
+    ap (take (c.args.at + c.encoded-len.result.1)) (put_mid-paste c.args.at _ slice _ bytes 4 c.set_four.ensures
+    (omega arith) (omega (arith, four)))
+    ∙ padded slice bytes bytes 4 c.args.at c.encoded-len.result.1 c.encoded-len.ensures.most (omega arith)
+    (sym (take_all 4 bytes (omega (arith, four)))) (omega (arith, four))
     ∙ ap (λ l. take c.args.at slice ++ l) c.encoded-len.ensures.bytes

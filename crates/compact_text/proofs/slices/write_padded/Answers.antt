@@ -4,5 +4,6 @@ use Rattle.compact_text.proofs.slices.write_padded.Goals as goal
 
 pub returns : goal.returns
 returns c =
-    ap (take (c.args.at + c.args.count)) c.set_chunk.ensures
-    ∙ padded c.args.slice.now c.args.source.now c.chunk.result 16 c.args.at c.args.count c.requires.most c.requires.target c.chunk.ensures.bytes c.chunk.ensures.lanes
+    ap (take (c.args.at + c.args.count)) c.store.ensures
+    ∙ padded c.args.slice.now c.args.source.now c.load.result 16 c.args.at c.args.count c.requires.most
+    c.requires.target c.load.ensures.bytes c.load.ensures.lanes

@@ -1,6 +1,6 @@
 use Rattle.std.proofs.Common.{refl}
 use Rattle.compact_text.specs.Text.{text_of}
-use Rattle.compact_text.proofs.Cuts.{boundary-bytes, boundary-text, is_boundary-test}
+use Rattle.compact_text.proofs.CutLemmas.{boundary-bytes, boundary-text, is_boundary-test}
 use Rattle.compact_text.proofs.str_parts.is_boundary.Goals as goal
 
 pub returns-clause-boundary : goal.returns-clause-boundary

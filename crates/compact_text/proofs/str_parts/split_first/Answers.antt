@@ -8,6 +8,16 @@ pub returns-in-Some : goal.returns-in-Some
 returns-in-Some c =
     let first = c.in-Some.character in
     let split = sym c.chars-after.ensures.rest ∙ c.in-Some.ensures.steps.0 in (
-      omega (arith, ap length split, length-append (encode first) c.next.new.self.rest.now, length-encode first, ap length c.as_str.ensures),
-      (text_of c.as_str.result.now, chars_past_char c.args.text.now _ first c.utf8.text split ∙ ap (λ b. first ∷ text_of b) (sym c.as_str.ensures)),
+      omega (
+        arith,
+        ap length split,
+        length-append (encode first) c.next.new.self.rest.now,
+        length-encode first,
+        ap length c.as_str.ensures,
+      ),
+      (
+        text_of c.as_str.result.now,
+        chars_past_char c.args.text.now _ first c.utf8.text split
+            ∙ ap (λ b. first ∷ text_of b) (sym c.as_str.ensures),
+      ),
     )

@@ -2,7 +2,7 @@ use Rattle.std.proofs.Common.{◌≡◌, ◌+◌, ◌++◌, take}
 use Rattle.std.specs.Vec.{vec_len, vec_capacity}
 use Rattle.compact_text.proofs.vec.append_array.Given as goal
 
--- So many bytes of the piece stand behind what stood there.
+-- The first bytes of the piece follow the old bytes.
 abbrev pub invariant-loop-i : goal.invariant-loop-i
 invariant-loop-i n l = (l.vec.items ≡ l.initial.vec.items ++ take l.i l.piece)
     × (vec_len l.vec ≡ vec_len l.initial.vec + l.i)

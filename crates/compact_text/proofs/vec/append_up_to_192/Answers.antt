@@ -12,4 +12,5 @@ returns-clause-items c =
       c.array_at.ensures,
       c.array_at-2.ensures,
       c.array_at-3.ensures,
-    ) (three_blocks c.args.vec.now.items c.args.source.now c.len-len.result (length c.args.source.now - 64) 64 (omega arith) (omega arith) (omega arith))
+    ) (three_blocks c.args.vec.now.items c.args.source.now c.len-len.result (length c.args.source.now - 64) 64
+    (omega arith) (omega arith) (omega arith))

@@ -1,4 +1,4 @@
-use Rattle.compact_text.proofs.Numbers.{word_bytes-high}
+use Rattle.compact_text.proofs.ByteNumbers.{word_bytes-high}
 use Rattle.compact_text.proofs.words.high_byte.Goals as goal
 
 pub returns : goal.returns

@@ -1,5 +1,5 @@
 use Rattle.std.proofs.Common.{ℕ}
-use Rattle.compact_text.proofs.Numbers.{number_second}
+use Rattle.compact_text.proofs.ByteNumbers.{number_second}
 use Rattle.compact_text.proofs.words.second_word.Goals as goal
 
 pub returns : goal.returns

@@ -5,4 +5,5 @@ use Rattle.compact_uses.proofs.report.aligned_rows.Given as goal
 
 -- the lines so far are the rows of the records so far
 abbrev pub invariant-loop-fields : goal.invariant-loop-fields
-invariant-loop-fields l = map text_in l.lines.items ≡ map (λ fields. row_text l.widths.items fields.items) (take l.fields-index l.table)
+invariant-loop-fields l = map text_in l.lines.items ≡ map (λ fields. row_text l.widths.items fields.items)
+    (take l.fields-index l.table)

@@ -1,7 +1,7 @@
 use Rattle.std.proofs.Common.{◌≡◌, ◌++◌, ◌-◌, ◌≤◌, max, replicate}
 use Rattle.compact_uses.proofs.report.push_cell.Given as goal
 
--- behind the field stand as many spaces as places were passed
+-- the field is followed by a space for each place passed
 abbrev pub invariant-loop-place : goal.invariant-loop-place
 invariant-loop-place l = record {
   text : l.line.text ≡ l.initial.line.text ++ replicate (l.place - l.taken) 32;

@@ -1,7 +1,7 @@
 use Rattle.std.proofs.Common.{◌*◌, ◌∙◌, ap, map, take}
 use lib.Lanes.{digits_l, number_l}
-use Rattle.compact_codec.proofs.UnitsReading.{from_at}
-use Rattle.compact_codec.proofs.PairsReading.{high_block, swapped}
+use Rattle.compact_codec.proofs.Utf16TextLemmas.{from_at}
+use Rattle.compact_codec.proofs.Utf16BytesLemmas.{high_block, swapped}
 use Rattle.compact_codec.proofs.utf16_bytes.HighFirstUnits.block.Goals as goal
 
 pub returns : goal.returns

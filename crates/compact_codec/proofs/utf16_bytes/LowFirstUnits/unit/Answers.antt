@@ -1,6 +1,6 @@
 use Rattle.std.proofs.Common.{◌+◌, ◌*◌, ◌∙◌, arith, refl}
 use Rattle.compact_codec.specs.declared.utf16_bytes.ByteOrder.TheVariants.{LittleEndian}
-use Rattle.compact_codec.proofs.PairsReading.{unit_by_place, units_count}
+use Rattle.compact_codec.proofs.Utf16BytesLemmas.{unit_by_place, units_count}
 use Rattle.compact_codec.proofs.utf16_bytes.LowFirstUnits.unit.Goals as goal
 
 pub returns : goal.returns

@@ -1,6 +1,6 @@
 use Rattle.std.proofs.Common.{arith, inr}
 use Rattle.std.proofs.lemmas.Result.{err_from_is_err_and}
-use Rattle.compact_edit.proofs.TakenTexts.{takes-more, stops-at, still-distinct}
+use Rattle.compact_edit.proofs.InternLemmas.{takes-more, stops-at, still-distinct}
 use Rattle.compact_edit.proofs.intern.Interner.intern_all.Goals as goal
 
 pub returns-in_err-number-clause-err : goal.returns-in_err-number-clause-err

@@ -1,6 +1,6 @@
 use Rattle.std.proofs.Common.{rules, Err}
 use Rattle.std.proofs.lemmas.Result.{err_from_is_err_and}
-use Rattle.compact_ext.proofs.WireForms.{IfOk-join, IfErr-map, read-fails, takes-wire, reads-back}
+use Rattle.compact_ext.proofs.WireLemmas.{IfOk-join, IfErr-map, read-fails, takes-wire, reads-back}
 use Rattle.compact_ext.proofs.wire.read.read_wire.Goals as goal
 
 pub returns-in_err-len-clause-back : goal.returns-in_err-len-clause-back
@@ -10,11 +10,13 @@ returns-in_err-len-clause-back g c =
 
 pub returns-then-len-le-INLINE_CAPACITY-clause-consumed : goal.returns-then-len-le-INLINE_CAPACITY-clause-consumed
 returns-then-len-le-INLINE_CAPACITY-clause-consumed g c =
-    IfOk-join _ _ _ c.read_short.result (λ v took size. takes-wire _ _ _ v.text _ c.in_ok-len.ensures.consumed took size) c.read_short.ensures.consumed c.read_short.ensures.len
+    IfOk-join _ _ _ c.read_short.result (λ v took size. takes-wire _ _ _ v.text _ c.in_ok-len.ensures.consumed took
+    size) c.read_short.ensures.consumed c.read_short.ensures.len
 
 pub returns-then-len-le-INLINE_CAPACITY-clause-err : goal.returns-then-len-le-INLINE_CAPACITY-clause-err
 returns-then-len-le-INLINE_CAPACITY-clause-err g c =
-    IfErr-map _ _ c.read_short.result (λ e f. read-fails _ _ _ _ e (search rules) c.in_ok-len.ensures.consumed f) c.read_short.ensures.err
+    IfErr-map _ _ c.read_short.result (λ e f. read-fails _ _ _ _ e (search rules) c.in_ok-len.ensures.consumed f)
+    c.read_short.ensures.err
 
 pub returns-then-len-le-INLINE_CAPACITY-clause-back : goal.returns-then-len-le-INLINE_CAPACITY-clause-back
 returns-then-len-le-INLINE_CAPACITY-clause-back g c =
@@ -22,11 +24,13 @@ returns-then-len-le-INLINE_CAPACITY-clause-back g c =
 
 pub returns-else-len-le-INLINE_CAPACITY-clause-consumed : goal.returns-else-len-le-INLINE_CAPACITY-clause-consumed
 returns-else-len-le-INLINE_CAPACITY-clause-consumed g c =
-    IfOk-join _ _ _ c.read_long.result (λ v took size. takes-wire _ _ _ v.text _ c.in_ok-len.ensures.consumed took size) c.read_long.ensures.consumed c.read_long.ensures.len
+    IfOk-join _ _ _ c.read_long.result (λ v took size. takes-wire _ _ _ v.text _ c.in_ok-len.ensures.consumed took
+    size) c.read_long.ensures.consumed c.read_long.ensures.len
 
 pub returns-else-len-le-INLINE_CAPACITY-clause-err : goal.returns-else-len-le-INLINE_CAPACITY-clause-err
 returns-else-len-le-INLINE_CAPACITY-clause-err g c =
-    IfErr-map _ _ c.read_long.result (λ e f. read-fails _ _ _ _ e (search rules) c.in_ok-len.ensures.consumed f) c.read_long.ensures.err
+    IfErr-map _ _ c.read_long.result (λ e f. read-fails _ _ _ _ e (search rules) c.in_ok-len.ensures.consumed f)
+    c.read_long.ensures.err
 
 pub returns-else-len-le-INLINE_CAPACITY-clause-back : goal.returns-else-len-le-INLINE_CAPACITY-clause-back
 returns-else-len-le-INLINE_CAPACITY-clause-back g c =

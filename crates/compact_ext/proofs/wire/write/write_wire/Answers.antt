@@ -2,7 +2,7 @@ use Rattle.std.proofs.Common.{◌≡◌, ◌^◌, ◌<◌, ◌++◌, rules, arit
 use Rattle.std.specs.Int.{w32, to_le_bytes}
 use Rattle.compact_str.specs.Text.{size, utf8}
 use Rattle.compact_ext.specs.Wire.{WritesFront}
-use Rattle.compact_ext.proofs.WireForms.{IfErr-join, write-fails}
+use Rattle.compact_ext.proofs.WireLemmas.{IfErr-join, write-fails}
 use Rattle.compact_ext.proofs.wire.write.write_wire.Goals as goal
 
 pub returns-clause-err : goal.returns-clause-err

@@ -1,4 +1,4 @@
--- The 30 letters, read as characters.
+-- The 30 ASCII bytes, read as characters.
 use Rattle.std.proofs.Common.{refl}
 use Rattle.std.specs.Str.{chars}
 use Rattle.compact_lines.proofs.session.Session.execute.Goals as goal

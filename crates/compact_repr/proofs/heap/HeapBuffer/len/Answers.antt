@@ -5,4 +5,5 @@ use Rattle.compact_repr.proofs.HeapTexts.{shown-text}
 use Rattle.compact_repr.proofs.heap.HeapBuffer.len.Goals as goal
 
 pub returns-clause-text : goal.returns-clause-text
-returns-clause-text c = subst (λ (t : List ℕ). IsText t) (shown-text _ c.self.view_is) (scalars-chars _ c.self.invariant)
+returns-clause-text c = subst (λ (t : List ℕ). IsText t) (shown-text _ c.self.view_is)
+    (scalars-chars _ c.self.invariant)

@@ -2,4 +2,4 @@ use Rattle.compact_repr.proofs.PackedEdits.{utf8-seen}
 use Rattle.compact_repr.proofs.inline.InlineBuffer.as_str.Goals as goal
 
 pub from_utf8_unchecked-requires : goal.from_utf8_unchecked-requires
-from_utf8_unchecked-requires c = rw c.length_of.ensures (utf8-seen _ c.self.invariant)
+from_utf8_unchecked-requires c = rw c.decode_len.ensures (utf8-seen _ c.self.invariant)

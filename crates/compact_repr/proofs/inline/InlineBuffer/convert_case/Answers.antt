@@ -5,8 +5,10 @@ use Rattle.compact_repr.proofs.PackedEdits.{utf8-seen}
 use Rattle.compact_repr.proofs.inline.InlineBuffer.convert_case.Goals as goal
 
 pub write_len-requires-clause-text : goal.write_len-requires-clause-text
-write_len-requires-clause-text c = rw (c.convert_case.ensures.front, c.length_of-len.ensures) (utf8-in_case c.args.case _ (utf8-seen _ c.self.invariant))
+write_len-requires-clause-text c = rw (c.convert_case.ensures.front, c.decode_len-len.ensures)
+    (utf8-in_case c.args.case _ (utf8-seen _ c.self.invariant))
 
 pub returns : goal.returns
 returns c =
-    packed-text _ _ c.write_len.ensures ∙ rw (c.convert_case.ensures.front, c.length_of-len.ensures) (text_of-in_case c.args.case _ c.self.view_is (utf8-seen _ c.self.invariant))
+    packed-text _ _ c.write_len.ensures ∙ rw (c.convert_case.ensures.front, c.decode_len-len.ensures)
+    (text_of-in_case c.args.case _ c.self.view_is (utf8-seen _ c.self.invariant))

@@ -1,21 +1,30 @@
 use Rattle.std.proofs.Common.{◌∙◌, arith}
-use Rattle.compact_text.proofs.Keeping.{utf8-put, text_of-put}
+use Rattle.compact_text.proofs.RetainLemmas.{utf8-pushed, text_of-pushed}
 use Rattle.compact_repr.proofs.PackedTexts.{packed-text, packed-again}
 use Rattle.compact_repr.proofs.PackedEdits.{len-seen, utf8-seen}
 use Rattle.compact_repr.proofs.inline.InlineBuffer.try_push.Goals as goal
 
 pub write_len-requires-clause-text : goal.write_len-requires-clause-text
 write_len-requires-clause-text c =
-    rw (c.in-Some.ensures.written, c.length_of-len.ensures) (utf8-put _ c.args.character c.ranges.character.0 (utf8-seen _ c.self.invariant))
+    rw (c.in-Some.ensures.written, c.decode_len-len.ensures)
+    (utf8-pushed _ c.args.character c.ranges.character.0 (utf8-seen _ c.self.invariant))
 
 pub invariant_of-self-2 : goal.invariant_of-self-2
 invariant_of-self-2 c = packed-again _ _ c.write_len.ensures
 
 pub returns-clause-fits : goal.returns-clause-fits
 returns-clause-fits c _ =
-    omega (arith, len-seen _ c.self.view_is c.self.invariant, c.length_of-len.ensures, c.in-Some.ensures.end, c.in-Some.ensures.within, c.self.told)
+    omega (
+      arith,
+      len-seen _ c.self.view_is c.self.invariant,
+      c.decode_len-len.ensures,
+      c.in-Some.ensures.end,
+      c.in-Some.ensures.within,
+      c.self.told,
+    )
 
 pub returns-clause-pushed : goal.returns-clause-pushed
 returns-clause-pushed c _ =
     packed-text _ _ c.write_len.ensures
-    ∙ rw (c.in-Some.ensures.written, c.length_of-len.ensures, ← c.self.view_is) (text_of-put _ c.args.character c.ranges.character.0 (utf8-seen _ c.self.invariant))
+    ∙ rw (c.in-Some.ensures.written, c.decode_len-len.ensures, ← c.self.view_is)
+    (text_of-pushed _ c.args.character c.ranges.character.0 (utf8-seen _ c.self.invariant))

@@ -1,4 +1,4 @@
-use Rattle.compact_text.proofs.Cuts.{boundary-bytes, boundary-text}
+use Rattle.compact_text.proofs.CutLemmas.{boundary-bytes, boundary-text}
 use Rattle.compact_repr.proofs.repr.Repr.is_char_boundary.Goals as goal
 
 pub returns-clause-boundary : goal.returns-clause-boundary

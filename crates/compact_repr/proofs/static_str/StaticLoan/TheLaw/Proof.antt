@@ -1,4 +1,4 @@
--- A static reference can be duplicated: one is taken from the borrow, and its copy put back. Assumes `Logic`.
+-- A static reference can be duplicated: one is taken from the borrow, and its copy returned. Assumes `Logic`.
 use mathlib.Core.List.{[], ◌∷◌}
 use seplogic.Ra.Ura.{Ura}
 use mir.Syntax.{named, w8}
@@ -21,10 +21,16 @@ module _ {M : Type 1} {𝓤 : Ura M} (𝓛 : Logic 𝓤) (d : (loan.struct).D) w
 
 pub shares : statement
 shares = of_Lends loan.struct loan.the_codes loan.the_heap loan.the_lent
-    (λ d _. record { contraction = λ M 𝓤 𝓛 κ. twice 𝓛 d; mono = λ M 𝓤 𝓛 κ' κ. snd∗ 𝓤 (sem 𝓛 (before κ' κ)) (sem 𝓛 (static_loan d.bytes)) }) tt
+    (λ d _. record {
+      contraction = λ M 𝓤 𝓛 κ. twice 𝓛 d;
+      mono =
+          λ M 𝓤 𝓛 κ' κ. snd∗ 𝓤 (sem 𝓛 (before κ' κ)) (sem 𝓛 (static_loan d.bytes));
+    }) tt
     (λ M 𝓤 𝓛 d _ κ ts _ alive.
     let F = static_loan d.bytes in let closed = sep 𝓤 (𝓛.A.bor κ F) (lfts 𝓛 ts) in
     qed 𝓛 (‵ (fbor κ F) ∷ raw (lfts 𝓛 ts) ∷ []) ∵ updating ! $
-    use2 𝓛 (later (‵ F ⊛ raw (wand 𝓤 (sem 𝓛 F) (𝓛.H.⇛ closed)))) (𝓛.more.bor_acc_by κ ts F alive) $ await ! tt $ split ! $
+    use2 𝓛 (later (‵ F ⊛ raw (wand 𝓤 (sem 𝓛 F) (𝓛.H.⇛ closed)))) (𝓛.more.bor_acc_by κ ts F alive) $ await ! tt $ split
+    ! $
     use1 𝓛 (‵ F ⊛ ‵ F) (twice 𝓛 d) $ split ! $ move ! (0 ∷ 2 ∷ []) $
-    use2 𝓛 (later (‵ (fbor κ F) ⊛ raw (lfts 𝓛 ts))) (apply∗ 𝓤 (sem 𝓛 F) (𝓛.H.⇛ closed)) $ await ! tt $ split ! $ keep ! (2 ∷ 1 ∷ []) $ now ! $ done !)
+    use2 𝓛 (later (‵ (fbor κ F) ⊛ raw (lfts 𝓛 ts))) (apply∗ 𝓤 (sem 𝓛 F) (𝓛.H.⇛ closed)) $ await ! tt $ split ! $ keep
+    ! (2 ∷ 1 ∷ []) $ now ! $ done !)

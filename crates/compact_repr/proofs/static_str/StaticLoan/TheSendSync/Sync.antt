@@ -9,4 +9,9 @@ sent : IsSend StaticSlice
 sent = search sendable
 
 pub sync : IsSync loan.the_row
-sync = record { shared = λ d b o κ. ((struct_sync (shape loan.the_type) tt).shared tt b o κ, sent.owned d.bytes (shr_slice_vals d.bytes)) }
+sync = record {
+  shared = λ d b o κ. (
+    (struct_sync (shape loan.the_type) tt).shared tt b o κ,
+    sent.owned d.bytes (shr_slice_vals d.bytes),
+  );
+}

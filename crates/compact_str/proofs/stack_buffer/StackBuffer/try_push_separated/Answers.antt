@@ -11,8 +11,13 @@ returns-then-self-lt-MAX_SEPARATED_LEN-clause-fits g c =
 
 pub returns-clause-fits : goal.returns-clause-fits
 returns-clause-fits g c =
-    let stands = size-front _ _ c.self.view_is c.self.invariant.1 (omega arith) in
-    ((λ _. (omega (arith, c.if-text-gt-MAX_SHORT_LEN.false), omega (arith, stands, c.if-self-lt-MAX_SEPARATED_LEN.false))), (λ _. refl))
+    let stands = size-front _ _ c.self.view_is c.self.invariant.1 (omega arith) in (
+      (λ _. (
+        omega (arith, c.if-text-gt-MAX_SHORT_LEN.false),
+        omega (arith, stands, c.if-self-lt-MAX_SEPARATED_LEN.false),
+      )),
+      (λ _. refl),
+    )
 
 pub invariant_of-self : goal.invariant_of-self
 invariant_of-self g c = (

@@ -1,6 +1,6 @@
 use Rattle.std.proofs.Common.{ap, refl}
 use Rattle.compact_repr.specs.Value.{PlacedText}
-use Rattle.compact_str.proofs.Positions.{inserted-boundary, inserted-character_after}
+use Rattle.compact_str.proofs.PositionLemmas.{inserted-boundary, inserted-character_after}
 use Rattle.compact_str.proofs.string.PolicyString.insert.Goals as goal
 
 pub returns-then-try_insert-clause-boundary : goal.returns-then-try_insert-clause-boundary

@@ -7,5 +7,6 @@ use Rattle.compact_str.proofs.string.PolicyString.make_ascii_uppercase.Goals as 
 
 pub returns-clause-boundaries : goal.returns-clause-boundaries
 returns-clause-boundaries g c =
-    let text = ap (λ (v : PlacedText). v.text) c.convert_case.ensures ∙ ap ascii_uppercase (c.make_owned.ensures.text ∙ ap (λ (v : PlacedText). v.text) c.self.view_is) in
+    let text = ap (λ (v : PlacedText). v.text) c.convert_case.ensures
+    ∙ ap ascii_uppercase (c.make_owned.ensures.text ∙ ap (λ (v : PlacedText). v.text) c.self.view_is) in
     λ i h. subst (λ (t : List ℕ). IsBoundary t i) (sym text) (boundary-uppercase c.args.self.now.text i h)

@@ -2,7 +2,7 @@ use Rattle.std.proofs.Common.{◌≡◌, ◌∷◌, [], ◌++◌, Ok, Err, refl,
 use Rattle.std.proofs.lemmas.Result.{err_from_is_err_and}
 use Rattle.compact_ext.specs.declared.wire.WireError.TheVariants.{Reserve}
 use Rattle.compact_ext.specs.WireRecords.{ConsumesForms, FailsAtSome, records_left}
-use Rattle.compact_ext.proofs.RecordLists.{records-back, takes-more, takes-all}
+use Rattle.compact_ext.proofs.WireRecordLemmas.{records-back, takes-more, takes-all}
 use Rattle.compact_ext.proofs.wire.records.Records.into_vec.Goals as goal
 
 -- one more text was taken

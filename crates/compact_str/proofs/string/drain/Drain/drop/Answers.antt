@@ -1,6 +1,6 @@
 use Rattle.std.proofs.Common.{◌≡◌, rules}
 use Rattle.compact_str.specs.Drain.{without_range}
-use Rattle.compact_str.proofs.Drains.{without_range-span}
+use Rattle.compact_str.proofs.DrainLemmas.{without_range-span}
 use Rattle.compact_str.proofs.string.drain.Drain.drop.Goals.{then-len, else-len}
 use Rattle.compact_str.proofs.string.drain.Drain.drop.Goals as goal
 

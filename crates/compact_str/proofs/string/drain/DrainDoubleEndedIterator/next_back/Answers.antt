@@ -1,5 +1,5 @@
 use Rattle.std.proofs.Common.{◌∷◌, [], refl, ap, ◌∙◌, rules, length, length-append}
-use Rattle.compact_str.proofs.Drains.{rest-back}
+use Rattle.compact_str.proofs.DrainLemmas.{rest-back}
 use Rattle.compact_str.proofs.string.drain.DrainDoubleEndedIterator.next_back.Goals as goal
 
 pub overflow_add-self : goal.overflow_add-self

@@ -1,5 +1,5 @@
 use Rattle.std.proofs.Common.{refl, ap, rules, length}
-use Rattle.compact_str.proofs.Drains.{rest-front}
+use Rattle.compact_str.proofs.DrainLemmas.{rest-front}
 use Rattle.compact_str.proofs.string.drain.DrainIterator.next.Goals as goal
 
 pub overflow_add-self : goal.overflow_add-self

@@ -1,5 +1,0 @@
-use Rattle.compact_lines.proofs.LineLemmas.{stopped-at-first}
-use Rattle.compact_lines.proofs.lines.answer_input.Goals as goal
-
-pub returns-in_err-reader-clause-err : goal.returns-in_err-reader-clause-err
-returns-in_err-reader-clause-err g c = stopped-at-first _ _ _ _

@@ -1,8 +1,0 @@
-use Rattle.compact_lines.proofs.LineLemmas.{AnswersSoFar}
-use Rattle.compact_lines.proofs.lines.answer_lines.Given as goal
-
--- the lines so far are answered, and what is left of the known bytes is known
-abbrev pub invariant-loop : goal.invariant-loop
-invariant-loop g l =
-    AnswersSoFar l.fn.session (g.B.Read.remaining l.fn.reader) (g.B.Read.remaining l.reader)
-    (g.W.Write.contents l.fn.writer) (g.W.Write.contents l.writer) l.session

@@ -1,0 +1,26 @@
+-- Invalid bytes are returned with their error.
+use Rattle.std.proofs.Common.{rules, sym}
+use Rattle.std.proofs.lemmas.Bool.{true≢false}
+use Rattle.std.proofs.lemmas.Str.{IsUtf8-string_bytes}
+use Rattle.std.specs.Str.{IsUtf8}
+use Rattle.std.specs.String.{from_utf8_error_cause}
+use Rattle.compact_str.proofs.DecodingLemmas.{std-error}
+use Rattle.compact_str.proofs.string.from.PolicyStringTryFromVecU8.try_from.Goals as goal
+
+pub returns-in-Err : goal.returns-in-Err
+returns-in-Err g c =
+    let bytes = c.args.bytes.items in
+    let got = c.in-Err.ensures in
+    let bad : ¬ (IsUtf8 bytes) = λ is. true≢false (sym (got.succeeds is)) in (
+      (λ is. absurd (true≢false (sym is)), got.succeeds),
+      (
+        got.err,
+        std-error bytes (from_utf8_error_cause c.in-Err.error) bad got.valid_len got.fault,
+      ),
+    )
+
+pub returns-in-Ok : goal.returns-in-Ok
+returns-in-Ok g c =
+    let text = IsUtf8-string_bytes c.in-Ok.text in
+    let same = c.in-Ok.ensures.ok in
+    search rules

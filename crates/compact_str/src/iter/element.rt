@@ -1,0 +1,93 @@
+//! Items to collect or append: texts and characters.
+ghost use Rattle.std.specs.Prelude.{◌≡◌, ℕ, ◌+◌, ◌<◌, List, ◌++◌, OnOk, OnErr, IsOk};
+ghost use Rattle.compact_str.specs.Words.{INLINE_CAPACITY, size, PlacedFor, AllocatesFor, room_to_append, HasRoomFor};
+ghost use Rattle.compact_str.specs.Collect.{char_text};
+
+use crate::builder::{Builder, COLLECTED};
+use crate::error::ReserveError;
+use crate::iter::AsText;
+use crate::string::PolicyString;
+use compact_repr::Policy;
+
+/// A text or a character, which is appended as a whole.
+pub trait Element: Drop {
+    // The characters.
+    ghost text: { Self → List ℕ };
+
+    /// Appends the piece, like `push_str` and `push`.
+    ///
+    /// # Errors
+    ///
+    /// [`ReserveError`] as from `push_str`.
+    fn push_to<P: Policy>(&self, value: &mut PolicyString<P>) -> Result<(), ReserveError>
+        ensures text { OnOk result (value.new.text ≡ value.old.text ++ text self.now) }
+        ensures place { OnOk result
+            (PlacedFor P.growth value.old value.new (room_to_append (size (text self.now)))) }
+        ensures succeeds { HasRoomFor value.old (size (text self.now)) → IsOk result }
+        ensures allocates { OnErr result
+            (AllocatesFor value.old (room_to_append (size (text self.now)))) }
+        ensures err { OnErr result (value.new ≡ value.old) };
+
+    /// Appends the piece to a builder.
+    ///
+    /// # Errors
+    ///
+    /// [`ReserveError`] if allocation fails. Never fails up to 24 bytes.
+    fn push_to_builder<P: Policy>(
+        &self,
+        gathered: &mut Builder<P, COLLECTED>,
+    ) -> Result<(), ReserveError>
+        ensures ok { OnOk result (gathered.new ≡ gathered.old ++ text self.now) }
+        ensures err { OnErr result (INLINE_CAPACITY < size gathered.old + size (text self.now)) };
+}
+
+impl<T: AsText> Element for T {
+    ghost text = { T.text };
+
+    #[inline]
+    fn push_to<P: Policy>(&self, value: &mut PolicyString<P>) -> Result<(), ReserveError> {
+        value.push_str(self.text())
+    }
+
+    #[inline]
+    fn push_to_builder<P: Policy>(
+        &self,
+        gathered: &mut Builder<P, COLLECTED>,
+    ) -> Result<(), ReserveError> {
+        gathered.push_str(self.text())
+    }
+}
+
+impl Element for char {
+    ghost text = { char_text };
+
+    #[inline]
+    fn push_to<P: Policy>(&self, value: &mut PolicyString<P>) -> Result<(), ReserveError> {
+        value.push(*self)
+    }
+
+    #[inline]
+    fn push_to_builder<P: Policy>(
+        &self,
+        gathered: &mut Builder<P, COLLECTED>,
+    ) -> Result<(), ReserveError> {
+        gathered.push(*self)
+    }
+}
+
+impl Element for &char {
+    ghost text = { λ c. char_text c.now };
+
+    #[inline]
+    fn push_to<P: Policy>(&self, value: &mut PolicyString<P>) -> Result<(), ReserveError> {
+        value.push(**self)
+    }
+
+    #[inline]
+    fn push_to_builder<P: Policy>(
+        &self,
+        gathered: &mut Builder<P, COLLECTED>,
+    ) -> Result<(), ReserveError> {
+        gathered.push(**self)
+    }
+}
