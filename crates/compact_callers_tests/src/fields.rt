@@ -5,7 +5,7 @@ use compact_callers::fields::{Visit, seconds_by_host, visits_by_host};
 use compact_testing::values::short;
 use std::alloc::Global;
 
-fn visit(alloc: Global, host: &str, seconds: u32) -> Visit {
+fn visit(alloc: Global, host: &'static str, seconds: u32) -> Visit {
     Visit {
         host: short(alloc, host),
         seconds,
