@@ -2,8 +2,6 @@
 #![tactic(auto)]
 
 #[cfg(test)]
-mod all_memory;
-#[cfg(test)]
 mod asserts;
 #[cfg(test)]
 mod decoding;
@@ -19,3 +17,5 @@ mod results;
 mod size_hints;
 #[cfg(test)]
 mod size_hints_no_memory;
+#[cfg(test)]
+mod taking_memory;
