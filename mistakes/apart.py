@@ -26,6 +26,8 @@ ROOT = os.path.dirname(os.path.dirname(os.path.abspath(__file__)))
 JOBS = int(os.environ.get("RT_JOBS") or os.cpu_count())
 # A function whose own proof fails, in the output of a check.
 UNPROVED = re.compile(r"^fn (\S+): (?:not proved|no proof: (?!it calls))", re.M)
+# A theorem of proofs/ that fails, as a worked example of a definition.
+FALSE = re.compile(r"^\./proofs/\S+: error: `(\S+)`", re.M)
 
 
 def read(path):
@@ -108,7 +110,8 @@ def put_back(crate):
 
 
 def unproved(crate, bodies):
-    """The functions whose proof fails in a check of the crate with these wrong bodies, and whether the crate is refused."""
+    """The functions whose proof fails in a check of the crate with these wrong bodies, or the theorems that fail if no function
+    does; and whether the crate is refused."""
     texts = {}
     for body in bodies:
         body.put_into(texts, crate)
@@ -121,7 +124,7 @@ def unproved(crate, bodies):
     finally:
         for file, text in was.items():
             write(f"{crate}/{file}", text)
-    return UNPROVED.findall(said), is_refused
+    return UNPROVED.findall(said) or FALSE.findall(said), is_refused
 
 
 def try_together(crate, bodies):
