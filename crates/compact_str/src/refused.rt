@@ -13,8 +13,13 @@ use std::{fmt, io};
 ///
 /// # Examples
 ///
-/// ``` let name = CompactString::new(alloc, "é")?; match name.into_string() { Ok(line) => assert_eq!(rt; line.as_str(),
-/// "é"), Err(error) => assert_eq!(rt; error.value.as_str(), "é"), } ```
+/// ```
+/// let name = CompactString::new(alloc, "é")?;
+/// match name.into_string() {
+///     Ok(line) => assert_eq!(rt; line.as_str(), "é"),
+///     Err(error) => assert_eq!(rt; error.value.as_str(), "é"),
+/// }
+/// ```
 #[derive(Debug, Drop)]
 pub struct Refused<T> {
     /// The error.
