@@ -1,7 +1,8 @@
 //! Tests of the callers in `sorted.rt`.
 
-use crate::asserts::assert_equal;
+use crate::asserts::assert_that;
 use compact_callers::sorted::distinct_names;
+use compact_testing::checks::are_texts;
 use compact_testing::values::short;
 
 #[test]
@@ -16,8 +17,5 @@ fn names_are_sorted_and_distinct(rt: HostRuntime) {
     ]
     .expect(rt, "memory");
     let names = distinct_names(names).expect(rt, "memory");
-    assert_equal(rt, names.len(), 3);
-    assert_equal(rt, names[0].as_str(), "");
-    assert_equal(rt, names[1].as_str(), "b");
-    assert_equal(rt, names[2].as_str(), "né");
+    assert_that(rt, are_texts(names.as_slice(), &["", "b", "né"]));
 }
