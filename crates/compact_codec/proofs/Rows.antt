@@ -2,17 +2,13 @@
 use Rattle.std.proofs.Common.{◌≡◌, ℕ, ◌+◌, ◌-◌, ◌*◌, ◌/◌, ◌%◌, ◌<◌, ◌≤◌, ◌⊎◌, true, List, [], ◌∷◌, ◌++◌, refl, sym, ap}
 use Rattle.std.proofs.Common.{subst, ◌∙◌, arith, inl, inr, ⊎_elim, drop}
 use Rattle.std.specs.Char.{IsScalar, encode_utf8}
-use Rattle.std.proofs.lemmas.Bool.{cases_lt, cond-true, lt-ltb, le-ltb}
+use Rattle.std.proofs.lemmas.Bool.{cases_lt, lt-ltb, le-ltb}
 use Rattle.std.proofs.lemmas.Str.{encode_same}
 use lib.Utf8.{encode, scalar, scalar_cases, low_scalar}
-use Rattle.compact_text.proofs.Encodings.{encode_two, encode_three, encode_four}
+use Rattle.compact_text.proofs.Encodings.{encode_one, encode_two, encode_three, encode_four}
 use Rattle.compact_codec.specs.Utf8Table.{ByteRange, TableRow, FitsRow, FitsSomeRow, sequence_table, trailing_bytes}
 use Rattle.compact_codec.specs.Utf8Table.{byte_range, IsInByteRange, IsWellFormedSequence, IsOneCharacter, RowsAreApart}
 use Rattle.compact_codec.specs.Utf8Table.{TableIsTheEncodings}
-
-pub encode_one : (c : ℕ) → c < 0x80 → encode c ≡ c ∷ []
-unfolding encode
-encode_one c h = cond-true _ _ _ (lt-ltb c 128 h)
 
 pub high_scalar : (c : ℕ) → 0xE000 ≤ c → c < 0x11_0000 → scalar c ≡ true
 high_scalar c low high = grind (arith, le-ltb, lt-ltb)

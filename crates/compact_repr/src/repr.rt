@@ -5,12 +5,12 @@ ghost use Rattle.compact_repr.specs.Words.{size, utf8, text_of, inline, is_heap_
 ghost use Rattle.compact_repr.specs.Packed.{IsPackedFor};
 ghost use Rattle.compact_repr.specs.BufferValue.{buffer_value};
 
-pub mod capacity;
 mod compare;
 pub mod edit;
 mod edit_slow;
 mod new;
 mod parts;
+pub mod reserve;
 
 use crate::growth::Policy;
 use crate::heap::HeapBuffer;

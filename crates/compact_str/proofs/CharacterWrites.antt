@@ -10,8 +10,8 @@ use Rattle.std.proofs.lemmas.Str.{chars-append, chars-encodes, IsUtf8-append, Is
 use Rattle.compact_repr.specs.Text.{text_of}
 use Rattle.compact_codec.specs.Utf16Text.{utf16_lossy_text}
 use Rattle.compact_codec.proofs.Utf16TextLemmas.{utf16_lossy_text-step}
-use Rattle.compact_text.proofs.Encodings.{encode_two, encode_three}
-use Rattle.compact_codec.proofs.Rows.{encode_one, high_scalar}
+use Rattle.compact_text.proofs.Encodings.{encode_one, encode_two, encode_three}
+use Rattle.compact_codec.proofs.Rows.{high_scalar}
 use Rattle.std.proofs.str.Utf16.{one_unit}
 use Rattle.std.proofs.lemmas.Bool.{cases_lt, and_from, cond-true, cond-false, lt-ltb, le-ltb, leb-false, and_cases}
 use Rattle.std.proofs.lemmas.List.{take-set-le}

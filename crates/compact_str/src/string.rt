@@ -3,7 +3,6 @@
 mod accessors;
 mod as_ref;
 mod ascii_case;
-mod capacity;
 mod clone;
 mod compare;
 mod constructors;
@@ -22,9 +21,9 @@ mod push_pop;
 mod ranges;
 mod repeat;
 mod replace;
+mod reserve;
 mod retain;
 mod serialize;
-mod write;
 mod zeroize;
 
 use compact_repr::{Policy, Repr, Standard};

@@ -18,4 +18,4 @@ mod size_hints;
 #[cfg(test)]
 mod size_hints_no_memory;
 #[cfg(test)]
-mod taking_memory;
+mod take_all;

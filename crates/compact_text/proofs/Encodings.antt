@@ -1,7 +1,11 @@
--- The bytes of characters that are not ASCII.
+-- The bytes of a character.
 use Rattle.std.proofs.Common.{◌≡◌, ℕ, ◌+◌, ◌/◌, ◌%◌, ◌<◌, ◌≤◌, [], ◌∷◌, ◌∙◌, arith}
 use Rattle.std.proofs.lemmas.Bool.{cond-true, cond-false, lt-ltb, le-ltb}
 use lib.Utf8.{encode}
+
+pub encode_one : (c : ℕ) → c < 0x80 → encode c ≡ c ∷ []
+unfolding encode
+encode_one c h = cond-true _ _ _ (lt-ltb c 128 h)
 
 pub encode_two : (c : ℕ) → 0x80 ≤ c → c < 0x800 → encode c ≡ (192 + c / 64) ∷ (128 + c % 64) ∷ []
 unfolding encode
