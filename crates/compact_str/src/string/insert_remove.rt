@@ -162,7 +162,8 @@ impl<P: Policy> PolicyString<P> {
         ensures text { OnOk result (self.new.text ≡ text_before self.old.text index) }
         ensures bytes { OnOk result (utf8 self.new.text ≡ take index (utf8 self.old.text)) }
         ensures tail { IfOk result (λ tail. tail.text ≡ text_after self.old.text index) }
-        ensures tail_bytes { IfOk result (λ tail. utf8 tail.text ≡ drop index (utf8 self.old.text)) }
+        ensures tail_bytes { IfOk result
+            (λ tail. utf8 tail.text ≡ drop index (utf8 self.old.text)) }
         ensures cut { IfOk result (λ tail. IsCut self.old.text index self.new.text tail.text) }
         ensures boundaries { IsOk result → (i : ℕ) → i ≤ index → IsBoundary self.old.text i
             → IsBoundary self.new.text i }
