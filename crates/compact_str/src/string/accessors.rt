@@ -124,7 +124,8 @@ impl<P: Policy> PolicyString<P> {
     #[inline]
     #[tactic(auto, using(compact_text::proofs::Texts::empty_text))]
     pub fn is_empty(&self) -> bool
-        ensures { IsTrue result ↔ (self.now.text ≡ []) }
+        ensures text { IsTrue result ↔ (self.now.text ≡ []) }
+        ensures size { IsTrue result ↔ (size self.now.text ≡ 0) }
     {
         self.len() == 0
     }
