@@ -94,7 +94,10 @@ pub fn try_write_char(slice: &mut [u8], at: usize, character: char) -> Option<us
     ensures within { IfSome result (λ end. end ≤ length slice.old) }
     ensures full { result ≡ None → slice.new ≡ slice.old }
 {
-    if character.is_ascii() && at < slice.len() {
+    if character.is_ascii() {
+        if at == slice.len() {
+            return None;
+        }
         slice[at] = character as u8;
         return Some(at + 1);
     }
