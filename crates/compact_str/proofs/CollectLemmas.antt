@@ -4,14 +4,13 @@ use Rattle.std.proofs.Common.{ap, sym, subst, ◌∙◌, arith, append_assoc, ap
 use Rattle.std.proofs.lemmas.Grind.{flat_map-append}
 use Rattle.std.proofs.lemmas.List.Folds.{flat_map-map}
 use Rattle.std.proofs.Math.Seq.{drop-append_seam, drop-nil}
-use Rattle.std.proofs.lemmas.Str.{encodes-append}
+use Rattle.std.proofs.lemmas.Str.{chars-nil, encodes-append}
 use Rattle.std.specs.Prelude.{Option, None, Result, Ok, Err, IfOk, OnOk, OnErr, IsOk}
 use Rattle.std.specs.Result.{MatchResult}
 use Rattle.std.specs.Iterator.{Yields, Drains, DrainsIf, HoldsAlong}
 use Rattle.std.specs.Borrow.{Bor}
 use Rattle.std.specs.Iterator.Runs.{WholeRun}
 use Rattle.std.proofs.iter.runs.Made.{run, to_end}
-use Rattle.std.specs.Str.{IsUtf8}
 use Rattle.compact_repr.specs.Text.{size, text_of, utf8}
 use Rattle.compact_repr.specs.Cut.{IsBoundary, text_before}
 use Rattle.compact_text.proofs.CutLemmas.{text_before-append}
@@ -21,7 +20,7 @@ use Rattle.compact_repr.specs.Calls.{push_str}
 use Rattle.compact_str.specs.Room.{HasRoomFor, infallible_capacity, IsPlacedBySize}
 use Rattle.compact_str.specs.Collect.{Appends, AppendsAll, AppendsUpToRefused, PassesInline, RunPassesInline}
 use Rattle.compact_str.specs.Collect.{RunGivesText, StopsWithout, Extends, Collects, run_of, char_text, join}
-use Rattle.compact_text.proofs.Texts.{size-append, size-text_of}
+use Rattle.compact_text.proofs.Texts.{size-append}
 use Rattle.compact_repr.proofs.PlacementLemmas.{push_str-text, edited-from_parts}
 use Rattle.compact_str.proofs.RoomLemmas.{push_str-infallible}
 
@@ -71,11 +70,17 @@ room-left g f v u xs x a h =
       Appends-infallible g f v u xs a,
     )
 
--- the next item
+-- one more item, and those after it
+pub yields-through : {S T : Type 0} (steps : S → Option T → S → Type 0) (s t j u : S) (xs : List T) (x : T)
+    (ys : List T) → Yields steps s xs t → steps t (Some x) j → Yields steps j ys u → Yields steps s (xs ++ x ∷ ys) u
+yields-through steps s t j u [] x ys came next more =
+    (j, subst (λ q. steps q (Some x) j) (sym came) next, more)
+yields-through steps s t j u (z ∷ zs) x ys came next more =
+    (came.0, came.1, yields-through steps came.0 t j u zs x ys came.2 next more)
+
 pub yields-next : {S T : Type 0} (steps : S → Option T → S → Type 0) (s t u : S) (xs : List T) (x : T)
     → Yields steps s xs t → steps t (Some x) u → Yields steps s (xs ++ x ∷ []) u
-yields-next steps s t u [] x y n = (u, subst (λ q. steps q (Some x) u) (sym y) n, refl)
-yields-next steps s t u (z ∷ zs) x y n = (y.0, y.1, yields-next steps y.0 t u zs x y.2 n)
+yields-next steps s t u xs x came next = yields-through steps s t u u xs x [] came next refl
 
 -- a text is its characters, one by one
 pub each-alone : (cs : List ℕ) → flat_map char_text cs ≡ cs
@@ -219,12 +224,24 @@ collected-for_trait from steps W F G (Ok v) (it, xs, b, d, g) f = (it, xs, b, (d
 collected-for_trait from steps W F G (Err _) c f = tt
 
 -- one more item passes 24 bytes
-pub passes : {S T : Type 0} (steps : S → Option T → S → Type 0) (f : T → List ℕ) (s t u : S) (xs : List T) (x : T)
-    (z : List ℕ) → Yields steps s xs t → steps t (Some x) u
-    → z ≡ flat_map f xs → 24 < size z + size (f x) → PassesInline steps (flat_map f) s
-passes steps f s t u xs x z y n e h =
-    let all : size (flat_map f (xs ++ x ∷ [])) ≡ size (flat_map f xs) + size (f x) = size-next f xs x in
-    (xs ++ x ∷ [], u, yields-next steps s t u xs x y n, omega (arith, h, ap size e, all))
+pub passes : {S T : Type 0} (steps : S → Option T → S → Type 0) (read : List T → List ℕ) (s t u : S) (xs : List T)
+    (x : T) → Yields steps s xs t → steps t (Some x) u → 24 < size (read (xs ++ x ∷ [])) → PassesInline steps read s
+passes steps read s t u xs x came next h = (xs ++ x ∷ [], u, yields-next steps s t u xs x came next, h)
+
+-- texts joined by no separator are concatenated
+module _ {U S T E : Type 0} (becomes : U → S → Type 0) (steps : S → Option T → S → Type 0) (f : T → List ℕ) (iter : U)
+    (it : S) (starts : becomes iter it) where
+  pub concatenated-ok : (r : Result PlacedText E)
+      → IfOk r (λ v. (xs : List T) × Drains steps it xs × (v.text ≡ join (text_of []) f xs))
+      → IfOk r (λ v. (it : S) × (xs : List T) × becomes iter it × Drains steps it xs × (v.text ≡ flat_map f xs))
+  concatenated-ok (Ok v) (xs, d, e) = (it, xs, starts, d, subst (λ s. v.text ≡ join s f xs) chars-nil e)
+  concatenated-ok (Err _) h = tt
+
+  pub concatenated-err : (r : Result PlacedText E) → OnErr r (PassesInline steps (join (text_of []) f) it)
+      → OnErr r (RunPassesInline (run_of becomes steps iter) (flat_map f))
+  concatenated-err (Ok v) h = tt
+  concatenated-err (Err _) o =
+      (it, starts, (o.0, o.1, o.2, subst (λ s. 24 < size (join s f o.0)) chars-nil o.3))
 
 -- references to characters
 pub each-referred : (cs : List (Bor ℕ)) → flat_map (λ (c : Bor ℕ). char_text c.now) cs ≡ map (λ (c : Bor ℕ). c.now) cs
@@ -288,81 +305,77 @@ pub ran-bytes : {S T E : Type 0} (steps : S → Option T → S → Type 0) (s : 
 ran-bytes steps s read write same (Ok v) (p, start, whole, e) = (p, start, whole, ap utf8 e ∙ same p.items)
 ran-bytes steps s read write same (Err _) h = tt
 
--- one more item after the first
-pub join-next : {T : Type 0} (f : T → List ℕ) (separator : List ℕ) (z : T) (xs : List T) (x : T)
-    → join separator f (z ∷ (xs ++ x ∷ [])) ≡ (join separator f (z ∷ xs) ++ separator) ++ f x
-join-next f separator z xs x =
-    let others = flat_map (λ y. separator ++ f y) xs in
-    join-cons f separator z (xs ++ x ∷ [])
-    ∙ ap (λ l. f z ++ l) (flat_map-append (λ y. separator ++ f y) xs (x ∷ []))
-    ∙ sym (append_assoc (f z) others ((separator ++ f x) ++ []))
-    ∙ ap (λ l. (f z ++ others) ++ l) (append-nil (separator ++ f x))
-    ∙ sym (append_assoc (f z ++ others) separator (f x))
-    ∙ ap (λ l. (l ++ separator) ++ f x) (sym (join-cons f separator z xs))
+-- the separator before the next item
+abbrev pub between : {T : Type 0} → List ℕ → List T → List ℕ
+between separator [] = []
+between separator (x ∷ xs) = separator
 
--- an item before a loop, and those of the loop
-pub first-drained : {S T : Type 0} (steps : S → Option T → S → Type 0) {s j k t u : S} {x : T} (xs : List T)
-    → steps s (Some x) j → k ≡ j → Yields steps k xs t → steps t None u → Drains steps s (x ∷ xs)
-first-drained steps {s} {j} {k} {t} {u} {x} xs first same rest end =
-    (u, (t, (j, first, subst (λ q. Yields steps q xs t) same rest), end))
+pub between-next : {T : Type 0} (separator : List ℕ) (xs : List T) (x : T)
+    → between separator (xs ++ x ∷ []) ≡ separator
+between-next separator [] x = refl
+between-next separator (z ∷ zs) x = refl
 
-pub first-yields : {S T : Type 0} (steps : S → Option T → S → Type 0) {s j k t u : S} {z : T} (xs : List T) (x : T)
-    → steps s (Some z) j → k ≡ j → Yields steps k xs t → steps t (Some x) u → Yields steps s (z ∷ (xs ++ x ∷ [])) u
-first-yields steps {s} {j} {k} {t} {u} {z} xs x first same rest next =
-    (j, first, subst (λ q. Yields steps q (xs ++ x ∷ []) u) same (yields-next steps k t u xs x rest next))
+pub join-append : {T : Type 0} (f : T → List ℕ) (separator : List ℕ) (xs : List T) (y : T) (ys : List T)
+    → join separator f (xs ++ y ∷ ys) ≡ (join separator f xs ++ between separator xs) ++ join separator f (y ∷ ys)
+join-append f separator [] y ys =
+    ap (λ l. (l ++ []) ++ join separator f (y ∷ ys)) (sym (drop-nil (length separator)))
+join-append f separator (z ∷ zs) y ys =
+    let others = flat_map (λ x. separator ++ f x) zs in
+    let after = flat_map (λ x. separator ++ f x) ys in
+    join-cons f separator z (zs ++ y ∷ ys)
+    ∙ ap (λ l. f z ++ l) (flat_map-append (λ x. separator ++ f x) zs (y ∷ ys))
+    ∙ sym (append_assoc (f z) others ((separator ++ f y) ++ after))
+    ∙ ap (λ l. (f z ++ others) ++ l) (append_assoc separator (f y) after)
+    ∙ sym (append_assoc (f z ++ others) separator (f y ++ after))
+    ∙ ap (λ l. (l ++ separator) ++ (f y ++ after)) (sym (join-cons f separator z zs))
+    ∙ ap (λ l. (join separator f (z ∷ zs) ++ separator) ++ l) (sym (join-cons f separator y ys))
 
-pub size-join : {T : Type 0} (f : T → List ℕ) (separator : List ℕ) (z : T) (xs : List T) (x : T)
-    → size (join separator f (z ∷ (xs ++ x ∷ []))) ≡ size (join separator f (z ∷ xs)) + size separator + size (f x)
-size-join f separator z xs x =
-    let so_far = join separator f (z ∷ xs) in
-    ap size (join-next f separator z xs x) ∙ size-append (so_far ++ separator) (f x)
-    ∙ ap (λ (n : ℕ). n + size (f x)) (size-append so_far separator)
+pub join-next : {T : Type 0} (f : T → List ℕ) (separator : List ℕ) (xs : List T) (x : T)
+    → join separator f (xs ++ x ∷ []) ≡ (join separator f xs ++ between separator xs) ++ f x
+join-next f separator xs x =
+    join-append f separator xs x []
+    ∙ ap (λ l. (join separator f xs ++ between separator xs) ++ l) (join-one f separator x)
 
--- a join that fails has passed 24 bytes
-module _ {S T : Type 0} (steps : S → Option T → S → Type 0) (f : T → List ℕ) (s : S) (separator : List ℕ) where
-  abbrev pub join_of : List T → List ℕ
-  join_of xs = join (text_of separator) f xs
+pub join-more : {T : Type 0} (z : List ℕ) (f : T → List ℕ) (separator : List ℕ) (x : T) (xs : List T) (y : T)
+    → z ++ join separator f (x ∷ (xs ++ y ∷ [])) ≡ ((z ++ join separator f (x ∷ xs)) ++ separator) ++ f y
+join-more z f separator x xs y =
+    let so_far = join separator f (x ∷ xs) in
+    ap (λ l. z ++ l) (join-next f separator (x ∷ xs) y) ∙ sym (append_assoc z (so_far ++ separator) (f y))
+    ∙ ap (λ l. l ++ f y) (sym (append_assoc z so_far separator))
 
-  pub join-first : {j : S} {x : T} {z : List ℕ} (t : List ℕ) → steps s (Some x) j → z ≡ [] → text_of t ≡ f x
-      → IsUtf8 t → 24 < size z + length t → PassesInline steps join_of s
-  join-first {j} {x} t n e k u h = (
-    x ∷ [],
-    j,
-    (j, n, refl),
-    omega (arith, h, ap size e, ap size k, size-text_of t u, ap size (join-one f (text_of separator) x)),
-  )
-
-  pub join-piece : {j k t u : S} {z : T} {w : List ℕ} (xs : List T) (x : T) (p : List ℕ) → steps s (Some z) j → k ≡ j
-      → Yields steps k xs t → steps t (Some x) u
-      → w ≡ join (text_of separator) f (z ∷ xs) → IsUtf8 separator → text_of p ≡ f x → IsUtf8 p
-      → 24 < size w + length separator + length p → PassesInline steps join_of s
-  join-piece {j} {k} {t} {u} {z} xs x p first same rest next e a b v h = (
-    z ∷ (xs ++ x ∷ []),
+-- z is the text of the items xs and the separator before x, and r the outcome of x and those after it
+pub later : {S T E : Type 0} (steps : S → Option T → S → Type 0) (f : T → List ℕ) (separator : List ℕ) (s t j : S)
+    (xs : List T) (x : T) (z : List ℕ) (r : Result PlacedText E) → Yields steps s xs t → steps t (Some x) j
+    → z ≡ join separator f xs ++ between separator xs
+    → IfOk r (λ v. (ys : List T) × Drains steps j ys × (v.text ≡ z ++ join separator f (x ∷ ys)))
+    → OnErr r (PassesInline steps (λ ys. z ++ join separator f (x ∷ ys)) j)
+    → IfOk r (λ v. (zs : List T) × Drains steps s zs × (v.text ≡ join separator f zs))
+    × OnErr r (PassesInline steps (join separator f) s)
+later steps f separator s t j xs x z (Ok v) came next same (ys, d, e) h = (
+  (
+    xs ++ x ∷ ys,
+    (d.0, (d.1.0, yields-through steps s t j d.1.0 xs x ys came next d.1.1, d.1.2)),
+    e ∙ ap (λ l. l ++ join separator f (x ∷ ys)) same ∙ sym (join-append f separator xs x ys),
+  ),
+  tt,
+)
+later steps f separator s t j xs x z (Err _) came next same h (ys, u, more, o) = (
+  tt,
+  (
+    xs ++ x ∷ ys,
     u,
-    first-yields steps xs x first same rest next,
-    omega (
-      arith,
-      h,
-      ap size e,
-      size-text_of separator a,
-      ap size b,
-      size-text_of p v,
-      size-join f (text_of separator) z xs x,
-    ),
-  )
+    yields-through steps s t j u xs x ys came next more,
+    rw (join-append f separator xs x ys, ← same) o,
+  ),
+)
 
--- `finish` returns the text of the items
-module _ {S T E : Type 0} (steps : S → Option T → S → Type 0) (s : S) (read : List T → List ℕ) (z : List ℕ)
-    (xs : List T) where
-  pub finished-ok : (r : Result PlacedText E) → IfOk r (λ v. v.text ≡ z) → z ≡ read xs → Drains steps s xs
-      → IfOk r (λ v. (ys : List T) × Drains steps s ys × (v.text ≡ read ys))
-  finished-ok (Ok v) h e d = (xs, d, h ∙ e)
-  finished-ok (Err _) h e d = tt
-
-  pub finished-err : (t : S) (r : Result PlacedText E) → OnErr r (24 < size z) → z ≡ read xs → Yields steps s xs t
-      → OnErr r (PassesInline steps read s)
-  finished-err t (Ok v) h e y = tt
-  finished-err t (Err _) h e y = (xs, t, y, subst (λ l. 24 < size l) e h)
+-- all items came, z is their text, and r the outcome of `finish` or `new`
+pub finished : {S T E : Type 0} (steps : S → Option T → S → Type 0) (s t u : S) (read : List T → List ℕ) (xs : List T)
+    (z : List ℕ) (r : Result PlacedText E) → Yields steps s xs t → steps t None u → z ≡ read xs
+    → IfOk r (λ v. v.text ≡ z) → OnErr r (24 < size z)
+    → IfOk r (λ v. (ys : List T) × Drains steps s ys × (v.text ≡ read ys)) × OnErr r (PassesInline steps read s)
+finished steps s t u read xs z (Ok v) came end same h o = ((xs, (u, (t, came, end)), h ∙ same), tt)
+finished steps s t u read xs z (Err _) came end same h o = (tt, (xs, t, came, subst (λ l. 24 < size l) same o))
 
 -- texts are appended to a `String` with the text t, whose text is then u, with a capacity
 module _ {U S T : Type 0} (becomes : U → S → Type 0) (steps : S → Option T → S → Type 0) (f : T → List ℕ) (iter : U)

@@ -1,6 +1,5 @@
 //! A builder that collects short pieces on the stack before it appends them.
-ghost use Rattle.std.specs.Prelude.{◌≡◌, ◌+◌, ◌<◌, [], ◌∷◌, ◌++◌, length, OnOk, OnErr, IfOk, IfSome};
-ghost use Rattle.std.specs.Char.{len_utf8};
+ghost use Rattle.std.specs.Prelude.{◌≡◌, ◌<◌, [], ◌∷◌, ◌++◌, OnOk, OnErr, IfOk, IfSome};
 ghost use Rattle.compact_str.specs.Words.{size, text_of, PlacedFor, room_to_append, INLINE_CAPACITY};
 ghost use Rattle.compact_str.specs.Room.{IsPlacedBySize};
 ghost use Rattle.compact_str.specs.Output.{AppendsUtf8};
@@ -18,7 +17,8 @@ use std::{fmt, mem};
 /// The block that collects pieces: a text within it is allocated once.
 pub const COLLECTED: usize = 1024;
 
-/// The block of a `Display`, zeroed at each `write!`: with the fields after it 256 bytes at most, and so without a call.
+/// The block of a `Display` or of a short collection, zeroed at each call: with the fields after it 256 bytes at most,
+/// and so inline.
 pub const SHOWN: usize = 240;
 
 /// A string under construction, and a stack buffer of pieces not yet appended. A contract sees the text of both. A text
@@ -76,7 +76,7 @@ impl<P: Policy, const N: usize> Builder<P, N> {
     #[inline]
     pub fn push_str(&mut self, text: &str) -> Result<(), ReserveError>
         ensures ok { OnOk result (self.new ≡ self.old ++ text_of text.now) }
-        ensures err { OnErr result (INLINE_CAPACITY < size self.old + length text.now) }
+        ensures err { OnErr result (INLINE_CAPACITY < size (self.old ++ text_of text.now)) }
     {
         if self.block.try_push_str(text) {
             return Ok(());
@@ -100,7 +100,7 @@ impl<P: Policy, const N: usize> Builder<P, N> {
         ensures ok { OnOk result
             (self.new ≡ (self.old ++ text_of separator.now) ++ text_of text.now) }
         ensures err { OnErr result
-            (INLINE_CAPACITY < size self.old + length separator.now + length text.now) }
+            (INLINE_CAPACITY < size ((self.old ++ text_of separator.now) ++ text_of text.now)) }
     {
         if let Some(padded) = padded {
             if self.block.try_push_separated(padded, text) {
@@ -116,7 +116,7 @@ impl<P: Policy, const N: usize> Builder<P, N> {
         ensures ok { OnOk result
             (self.new ≡ (self.old ++ text_of separator.now) ++ text_of text.now) }
         ensures err { OnErr result
-            (INLINE_CAPACITY < size self.old + length separator.now + length text.now) }
+            (INLINE_CAPACITY < size ((self.old ++ text_of separator.now) ++ text_of text.now)) }
     {
         self.push_str(separator)?;
         self.push_str(text)
@@ -127,10 +127,10 @@ impl<P: Policy, const N: usize> Builder<P, N> {
     /// # Errors
     ///
     /// [`ReserveError`] if allocation fails. Never fails up to 24 bytes.
-    #[inline]
+    #[inline(always)]
     pub fn push(&mut self, character: char) -> Result<(), ReserveError>
         ensures ok { OnOk result (self.new ≡ self.old ++ character ∷ []) }
-        ensures err { OnErr result (INLINE_CAPACITY < size self.old + len_utf8 character) }
+        ensures err { OnErr result (INLINE_CAPACITY < size (self.old ++ character ∷ [])) }
     {
         if self.block.try_push(character) {
             return Ok(());
@@ -145,7 +145,7 @@ impl<P: Policy, const N: usize> Builder<P, N> {
     #[inline(never)]
     fn push_str_slow(&mut self, text: &str) -> Result<(), ReserveError>
         ensures ok { OnOk result (self.new ≡ self.old ++ text_of text.now) }
-        ensures err { OnErr result (INLINE_CAPACITY < size self.old + length text.now) }
+        ensures err { OnErr result (INLINE_CAPACITY < size (self.old ++ text_of text.now)) }
     {
         let more = COLLECTED.saturating_sub(N);
         push_or_reserve(&mut self.value, self.block.as_str(), more)?;

@@ -5,6 +5,7 @@ mod as_text;
 mod collect;
 mod element;
 mod extend;
+mod gather;
 mod join;
 mod string;
 

@@ -5,9 +5,9 @@ ghost use Rattle.compact_str.specs.Words.{INLINE_CAPACITY, size};
 ghost use Rattle.compact_str.specs.Room.{IsPlacedBySize};
 ghost use Rattle.compact_str.specs.Collect.{ForItems, ForAllItems, ForDrained, RunPassesInline, Collects};
 
-use crate::builder::{Builder, COLLECTED};
 use crate::error::ReserveError;
 use crate::iter::element::Element;
+use crate::iter::gather::gather;
 use crate::iter::{AsText, Items};
 use crate::string::PolicyString;
 use compact_repr::Policy;
@@ -26,11 +26,7 @@ fn collect_elements<P: Policy, T: Element, U: IntoIterator<Item = T>>(
     ensures err { OnErr result
         (RunPassesInline (⟦<U as Items>⟧.run iter) (flat_map T.text)) }
 {
-    let mut gathered: Builder<P, COLLECTED> = Builder::new(alloc);
-    for piece in iter {
-        piece.push_to_builder(&mut gathered)?;
-    }
-    gathered.finish()
+    gather(alloc, iter.into_iter(), "")
 }
 
 impl<P: Policy> PolicyString<P> {

@@ -1,11 +1,12 @@
 //! Items to collect or append: texts and characters.
-ghost use Rattle.std.specs.Prelude.{◌≡◌, ℕ, ◌+◌, ◌<◌, List, ◌++◌, OnOk, OnErr, IsOk};
-ghost use Rattle.compact_str.specs.Words.{INLINE_CAPACITY, size, PlacedFor, AllocatesFor, room_to_append, HasRoomFor};
+ghost use Rattle.std.specs.Prelude.{◌≡◌, ℕ, ◌<◌, List, ◌++◌, OnOk, OnErr, IsOk, IfSome, IsTrue, false};
+ghost use Rattle.compact_str.specs.Words.{INLINE_CAPACITY, size, text_of, PlacedFor, AllocatesFor, room_to_append, HasRoomFor};
 ghost use Rattle.compact_str.specs.Collect.{char_text};
 
-use crate::builder::{Builder, COLLECTED};
+use crate::builder::{Builder, COLLECTED, SHOWN};
 use crate::error::ReserveError;
 use crate::iter::AsText;
+use crate::stack_buffer::{PaddedStr, StackBuffer};
 use crate::string::PolicyString;
 use compact_repr::Policy;
 
@@ -28,17 +29,27 @@ pub trait Element: Drop {
             (AllocatesFor value.old (room_to_append (size (text self.now)))) }
         ensures err { OnErr result (value.new ≡ value.old) };
 
-    /// Appends the piece to a builder.
+    /// Appends the piece to a block, or returns `false` if it may not fit.
+    fn try_push_to_block(&self, block: &mut StackBuffer<SHOWN>) -> bool
+        ensures pushed { IsTrue result → block.new ≡ block.old ++ text self.now }
+        ensures full { result ≡ false → block.new ≡ block.old };
+
+    /// Appends `separator` and then the piece to a builder. `padded` is the same separator, if it is short.
     ///
     /// # Errors
     ///
     /// [`ReserveError`] if allocation fails. Never fails up to 24 bytes.
-    fn push_to_builder<P: Policy>(
+    fn push_separated<P: Policy>(
         &self,
         gathered: &mut Builder<P, COLLECTED>,
+        separator: &str,
+        padded: &Option<PaddedStr>,
     ) -> Result<(), ReserveError>
-        ensures ok { OnOk result (gathered.new ≡ gathered.old ++ text self.now) }
-        ensures err { OnErr result (INLINE_CAPACITY < size gathered.old + size (text self.now)) };
+        requires same { IfSome padded.now (λ p. p ≡ text_of separator.now) }
+        ensures ok { OnOk result
+            (gathered.new ≡ (gathered.old ++ text_of separator.now) ++ text self.now) }
+        ensures err { OnErr result
+            (INLINE_CAPACITY < size ((gathered.old ++ text_of separator.now) ++ text self.now)) };
 }
 
 impl<T: AsText> Element for T {
@@ -50,11 +61,18 @@ impl<T: AsText> Element for T {
     }
 
     #[inline]
-    fn push_to_builder<P: Policy>(
+    fn try_push_to_block(&self, block: &mut StackBuffer<SHOWN>) -> bool {
+        block.try_push_str(self.text())
+    }
+
+    #[inline]
+    fn push_separated<P: Policy>(
         &self,
         gathered: &mut Builder<P, COLLECTED>,
+        separator: &str,
+        padded: &Option<PaddedStr>,
     ) -> Result<(), ReserveError> {
-        gathered.push_str(self.text())
+        gathered.push_separated(separator, padded, self.text())
     }
 }
 
@@ -67,10 +85,18 @@ impl Element for char {
     }
 
     #[inline]
-    fn push_to_builder<P: Policy>(
+    fn try_push_to_block(&self, block: &mut StackBuffer<SHOWN>) -> bool {
+        block.try_push(*self)
+    }
+
+    #[inline(always)]
+    fn push_separated<P: Policy>(
         &self,
         gathered: &mut Builder<P, COLLECTED>,
+        separator: &str,
+        _padded: &Option<PaddedStr>,
     ) -> Result<(), ReserveError> {
+        gathered.push_str(separator)?;
         gathered.push(*self)
     }
 }
@@ -84,10 +110,18 @@ impl Element for &char {
     }
 
     #[inline]
-    fn push_to_builder<P: Policy>(
+    fn try_push_to_block(&self, block: &mut StackBuffer<SHOWN>) -> bool {
+        block.try_push(**self)
+    }
+
+    #[inline(always)]
+    fn push_separated<P: Policy>(
         &self,
         gathered: &mut Builder<P, COLLECTED>,
+        separator: &str,
+        _padded: &Option<PaddedStr>,
     ) -> Result<(), ReserveError> {
+        gathered.push_str(separator)?;
         gathered.push(**self)
     }
 }

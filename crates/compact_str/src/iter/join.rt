@@ -1,16 +1,13 @@
 //! Joining the items of an iterator.
-ghost use Rattle.std.specs.Prelude.{◌≡◌, List, flat_map, IfOk, OnErr};
-ghost use Rattle.std.specs.Iterator.{Drains, IsFinite};
+ghost use Rattle.std.specs.Prelude.{flat_map};
+ghost use Rattle.std.specs.Iterator.{IsFinite};
 ghost use Rattle.compact_str.specs.Words.{text_of, utf8};
-ghost use Rattle.compact_str.specs.Room.{IsPlacedBySize};
-ghost use Rattle.compact_str.specs.Collect.{PassesInline, Joins, join};
+ghost use Rattle.compact_str.specs.Collect.{Joins, join};
 
-use crate::builder::{Builder, COLLECTED};
 use crate::error::ReserveError;
 use crate::iter::AsText;
-use crate::stack_buffer::PaddedStr;
-use crate::string::{CompactString, PolicyString};
-use compact_repr::Policy;
+use crate::iter::gather::gather;
+use crate::string::CompactString;
 use std::alloc::Global;
 
 /// Concatenating and joining, for iterators of texts.
@@ -65,36 +62,8 @@ pub trait CompactStringExt: Iterator {
         ensures { Joins Self.next_gives (join (text_of separator.now) Self.Item.text)
             (join separator.now (λ x. utf8 (Self.Item.text x))) self result }
     {
-        join_texts(alloc, self, separator)
+        gather(alloc, self, separator)
     }
 }
 
 impl<I: Iterator> CompactStringExt for I {}
-
-/// Like `join_compact`, for every growth policy.
-fn join_texts<P: Policy, T: AsText, I: Iterator<Item = T> + Drop>(
-    alloc: Global,
-    pieces: I,
-    separator: &str,
-) -> Result<PolicyString<P>, ReserveError>
-    requires can { I.can_next pieces }
-    requires ends { IsFinite (I.remaining pieces) }
-    ensures ok { IfOk result
-        (λ v. (xs : List T) × Drains I.next_gives pieces xs
-        × (v.text ≡ join (text_of separator.now) T.text xs)) }
-    ensures place { IfOk result IsPlacedBySize }
-    ensures err { OnErr result
-        (PassesInline I.next_gives (join (text_of separator.now) T.text) pieces) }
-{
-    let mut pieces = pieces;
-    let mut gathered: Builder<P, COLLECTED> = Builder::new(alloc);
-    let Some(first) = pieces.next() else {
-        return gathered.finish();
-    };
-    gathered.push_str(first.text())?;
-    let padded = PaddedStr::new(separator);
-    for piece in pieces {
-        gathered.push_separated(separator, &padded, piece.text())?;
-    }
-    gathered.finish()
-}
