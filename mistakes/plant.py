@@ -5,22 +5,22 @@ import sys
 
 def main():
     path, crates = sys.argv[1:]
-    words, edits = {}, []
+    crate, file, old, texts = None, None, None, {}
     for line in open(path, encoding="utf-8"):
         key, _, text = line.rstrip("\n").partition(": ")
-        if key == "old":
-            edits.append([text, None])
+        if key == "crate":
+            crate = text
+        elif key == "file":
+            file = f"{crates}/{crate}/{text}"
+            texts[file] = open(file, encoding="utf-8").read()
+        elif key == "old":
+            old = text
         elif key == "new":
-            edits[-1][1] = text
-        else:
-            words[key] = text
-    source = f"{crates}/{words['crate']}/{words['file']}"
-    body = open(source, encoding="utf-8").read()
-    for old, new in edits:
-        if body.count(old) != 1:
-            sys.exit(f"{path}: the old text stands {body.count(old)} times in {source}")
-        body = body.replace(old, new)
-    open(source, "w", encoding="utf-8").write(body)
+            if texts[file].count(old) != 1:
+                sys.exit(f"{path}: the old text stands {texts[file].count(old)} times in {file}")
+            texts[file] = texts[file].replace(old, text)
+    for file, text in texts.items():
+        open(file, "w", encoding="utf-8").write(text)
 
 
 main()

@@ -4,9 +4,10 @@
 #   mistakes/try.sh [--quick] [NAME..]
 #
 # NAME is a file NAME.mistake beside this script; the default is all. Each names a crate and a file of it, and has
-# pairs of lines `old:` and `new:`; each old text must occur exactly once in that file. A line `fails:` names a crate
-# of tests and a test that must fail; there may be several. `rt test` proves the mistaken crate, those above it and the
-# tests before it runs them, so a failing test also shows that no proof refused the mistake.
+# pairs of lines `old:` and `new:`; each old text must occur exactly once in that file. It may name more files, as one
+# whose answers cite the names of the body. A line `fails:` names a crate of tests and a test that must fail; there may
+# be several. `rt test` proves the mistaken crate, those above it and the tests before it runs them, so a failing test
+# also shows that no proof refused the mistake.
 #
 # --quick runs the tests by `rt try`, before any proof, in one to three minutes each. It skips a mistake with a line
 # `needs:`, whose test takes all memory and always fails there.
@@ -70,7 +71,9 @@ for name in "$@"; do
         echo "$name: NOT FOUND; see $here/out/$name.log"
         status=1
     fi
-    source=crates/$(told "$mistake" crate)/$(told "$mistake" file)
-    cp "$root/$source" "$copy/$source"
+    crate=crates/$(told "$mistake" crate)
+    for file in $(told "$mistake" file); do
+        cp "$root/$crate/$file" "$copy/$crate/$file"
+    done
 done
 exit $status
