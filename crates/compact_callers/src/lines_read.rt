@@ -1,6 +1,7 @@
 //! Lines read into strings that are used again.
-ghost use Rattle.std.specs.Prelude.{◌≡◌, IfOk, IfSome, OnOk};
+ghost use Rattle.std.specs.Prelude.{◌≡◌, IfSome, OnSome, OnOk};
 ghost use Rattle.std.specs.Io.BufRead.{drop_through, take_through};
+ghost use Rattle.std.specs.Io.KnownBytes.{IsAtEnd};
 ghost use Rattle.compact_str.specs.Text.{utf8};
 ghost use Rattle.compact_ext.specs.Lines.{newline};
 
@@ -29,10 +30,13 @@ pub fn next_pair<R: BufRead>(
 }
 
 /// Returns the length of the longest line in bytes, with its newline. Reads to the end.
-pub fn longest_line<R: BufRead>(alloc: Global, reader: &mut R) -> Result<usize, ReadLineError> {
+pub fn longest_line<R: BufRead>(alloc: Global, reader: &mut R) -> Result<usize, ReadLineError>
+    ensures end { OnOk result
+        (OnSome (R.remaining reader.old) (IsAtEnd (R.remaining reader.new))) }
+{
     let mut line = CompactString::default(alloc);
     let mut longest = 0;
-    for _ in 0..u64::MAX {
+    'lines: for _ in 0..u64::MAX {
         line.clear();
         let len = read_line(reader, &mut line)?;
         if len == 0 {

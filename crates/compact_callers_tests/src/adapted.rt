@@ -1,7 +1,7 @@
 //! Tests of the callers in `adapted.rt`.
 
 use crate::asserts::assert_that;
-use compact_callers::adapted::{dashed, front};
+use compact_callers::adapted::{dashed, digits, front};
 use compact_testing::checks::is_inline;
 
 #[test]
@@ -14,4 +14,8 @@ fn adapted_characters_are_collected(rt: HostRuntime) {
     assert_that(rt, is_inline(&line, "né"));
     let line = dashed(alloc, "a é b").expect(rt, "memory");
     assert_that(rt, is_inline(&line, "a-é-b"));
+    let line = digits(alloc, "1é, 22 Zoë 3").expect(rt, "memory");
+    assert_that(rt, is_inline(&line, "1223"));
+    let line = digits(alloc, "é").expect(rt, "memory");
+    assert_that(rt, is_inline(&line, ""));
 }

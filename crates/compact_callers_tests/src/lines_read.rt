@@ -32,6 +32,7 @@ fn the_longest_line_is_measured(rt: HostRuntime) {
     let alloc = rt.alloc();
     let mut reader: &[u8] = b"a\n\xC3\xA9\xC3\xA9\n\nabc";
     assert_equal(rt, longest_line(alloc, &mut reader).expect(rt, "lines"), 5);
+    assert_that(rt, reader.is_empty());
     assert_equal(
         rt,
         longest_line(alloc, &mut reader).expect(rt, "no lines"),

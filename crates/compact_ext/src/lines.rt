@@ -1,5 +1,5 @@
 //! Reading a line into a string that is used again.
-ghost use Rattle.std.specs.Prelude.{◌≡◌, ◌+◌, ◌≤◌, ◌++◌, IfOk, IfErr, IfSome, OnOk, OnErr, MatchOption};
+ghost use Rattle.std.specs.Prelude.{◌≡◌, ◌+◌, ◌≤◌, ◌++◌, IfOk, IfErr, IfSome, OnSome, OnOk, OnErr, MatchOption};
 ghost use Rattle.std.specs.Io.{StartsWith, appended_bytes};
 ghost use Rattle.std.specs.Io.BufRead.{take_through, DropsThrough};
 ghost use Rattle.std.specs.Io.KnownBytes.{Consumes, IsAtEnd, Keeps};
@@ -124,6 +124,8 @@ pub fn read_line<R: BufRead>(
     // Returns how many bytes these are. At any reader, they are one line.
     ensures len { IfOk result (λ n. size line.new.text ≡ size line.old.text + n) }
     ensures end { IfOk result (λ n. n ≡ 0 → IsAtEnd (R.remaining reader.old)) }
+    ensures at_end { IfOk result (λ n. n ≡ 0
+        → OnSome (R.remaining reader.old) (IsAtEnd (R.remaining reader.new))) }
     ensures front { StartsWith (utf8 line.new.text) (utf8 line.old.text) }
     ensures consumed { OnOk result (TakesLine (R.remaining reader.old) (R.remaining reader.new)
         (appended_bytes (utf8 line.old.text) (utf8 line.new.text))) }
